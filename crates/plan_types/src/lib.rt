@@ -1,0 +1,2 @@
+//! Types, schemas and errors of query plans.
+#![tactic(auto)]
