@@ -1,2 +1,12 @@
 //! Types, schemas and errors of query plans.
+//!
+//! Contracts see a text as the list of its characters, a type as a `Ty`, a schema as the list of
+//! its columns and a place as the list of its steps.
 #![tactic(auto)]
+
+pub mod dtype;
+pub mod error;
+pub mod field;
+pub mod schema;
+pub mod supertype;
+pub mod text;

@@ -1,0 +1,73 @@
+-- The columns of a schema follow its map's entries.
+use Rattle.std.proofs.Common.{◌≡◌, List, [], ◌∷◌, ◌++◌, map, Option, Some, None, true, false, cond, is_some, refl, sym, ap, ◌∙◌, subst, Bor, append_assoc}
+use Rattle.std.specs.Option.{option_map, option_copied}
+use Rattle.std.specs.List.{IsDistinct, AllByRecursion}
+use Rattle.std.specs.Map.{lookup, keys_of}
+use Rattle.std.proofs.lemmas.Cmp.{nat_list_eq_equiv}
+use Rattle.indexmap.specs.IndexMap.{insert_entry}
+use Rattle.plan_types.specs.Types.{Ty, ty}
+use Rattle.plan_types.specs.Schemas.{Name, Columns, same_name, column_of, type_at, with_column, IsNewName, HasDistinctNames}
+use Rattle.plan_types.specs.declared.dtype.DataType.{DataType}
+
+-- a name's type is that of its entry
+pub type_at-entries : (es : List (Name × DataType)) (name : Name) → type_at (map column_of es) name ≡ option_map ty (lookup (same_name name) es)
+type_at-entries [] name = refl
+type_at-entries (e ∷ es) name =
+    elim (same_name name e.0) as (λ b. cond b (Some (ty e.1)) (type_at (map column_of es) name) ≡ option_map ty (cond b (Some e.1) (lookup (same_name name) es))) [ true ↦ refl | false ↦ type_at-entries es name ]
+
+pub is_some-option_map : {A B : Type 0} (f : A → B) (o : Option A) → is_some (option_map f o) ≡ is_some o
+is_some-option_map f None = refl
+is_some-option_map f (Some x) = refl
+
+pub option_map-copied : {A B : Type 0} (f : A → B) (o : Option (Bor A)) → option_map (λ x. f x.now) o ≡ option_map f (option_copied o)
+option_map-copied f None = refl
+option_map-copied f (Some x) = refl
+
+-- an entry that is put in is put in among the columns
+pub columns-insert_entry : (es : List (Name × DataType)) (name : Name) (dtype : DataType) → map column_of (insert_entry same_name es name dtype) ≡ with_column (map column_of es) name (ty dtype)
+columns-insert_entry [] name dtype = refl
+columns-insert_entry (e ∷ es) name dtype =
+    elim (same_name name e.0) as (λ b. map column_of (cond b ((e.0, dtype) ∷ es) (e ∷ insert_entry same_name es name dtype)) ≡ cond b ((e.0, ty dtype) ∷ map column_of es) (column_of e ∷ with_column (map column_of es) name (ty dtype))) [ true ↦ refl | false ↦ ap (λ l. column_of e ∷ l) (columns-insert_entry es name dtype) ]
+
+-- a name that no entry has
+new_among : (es : List (Name × DataType)) (name : Name) → AllByRecursion (λ key. same_name name key ≡ false) (keys_of es) → IsNewName (map column_of es) name
+new_among [] name h = refl
+new_among (e ∷ es) name h = ap (λ b. cond b (Some (ty e.1)) (type_at (map column_of es) name)) h.0 ∙ new_among es name h.1
+
+pub HasDistinctNames-entries : (es : List (Name × DataType)) → IsDistinct same_name (keys_of es) → HasDistinctNames (map column_of es)
+unfolding IsDistinct
+HasDistinctNames-entries [] h = tt
+HasDistinctNames-entries (e ∷ es) h = (new_among es e.0 h.0, HasDistinctNames-entries es h.1)
+
+-- a name that is new among columns is new among the later ones, and isn't the first one's
+pub IsNewName-tail : (c : Name × Ty) (cs : Columns) (name : Name) → IsNewName (c ∷ cs) name → IsNewName cs name
+IsNewName-tail c cs name new =
+    elim (same_name name c.0) as (λ b. cond b (Some c.1) (type_at cs name) ≡ None → type_at cs name ≡ None) [ true ↦ λ h. cc | false ↦ λ h. h ] new
+
+pub IsNewName-head : (c : Name × Ty) (cs : Columns) (name : Name) → IsNewName (c ∷ cs) name → same_name name c.0 ≡ false
+IsNewName-head c cs name new =
+    elim (same_name name c.0) as (λ b. cond b (Some c.1) (type_at cs name) ≡ None → b ≡ false) [ true ↦ λ h. cc | false ↦ λ h. refl ] new
+
+-- a new name goes last
+pub with_column-new : (done : Columns) (name : Name) (type : Ty) → IsNewName done name → with_column done name type ≡ done ++ (name, type) ∷ []
+with_column-new [] name type new = refl
+with_column-new (d ∷ ds) name type new =
+    ap (λ b. cond b ((d.0, type) ∷ ds) (d ∷ with_column ds name type)) (IsNewName-head d ds name new)
+    ∙ ap (λ l. d ∷ l) (with_column-new ds name type (IsNewName-tail d ds name new))
+
+not_named : (ds : Columns) (c : Name × Ty) (rest : Columns) (name : Name) → IsNewName (ds ++ (c ∷ rest)) name → same_name name c.0 ≡ false
+not_named [] c rest name new = IsNewName-head c rest name new
+not_named (d ∷ ds) c rest name new = not_named ds c rest name (IsNewName-tail d (ds ++ (c ∷ rest)) name new)
+
+-- among distinct names, each is new among those before it
+pub new_before : (done : Columns) (c : Name × Ty) (rest : Columns) → HasDistinctNames (done ++ (c ∷ rest)) → IsNewName done c.0
+new_before [] c rest h = refl
+new_before (d ∷ ds) c rest h =
+    ap (λ b. cond b (Some d.1) (type_at ds c.0)) (nat_list_eq_equiv.symm c.0 d.0 ∙ not_named ds c rest d.0 h.0)
+    ∙ new_before ds c rest h.1
+
+-- one more column is copied
+pub copied_more : (done : Columns) (c : Name × Ty) (rest all : Columns) → HasDistinctNames all → done ++ (c ∷ rest) ≡ all → with_column done c.0 c.1 ++ rest ≡ all
+copied_more done c rest all distinct e =
+    let new = new_before done c rest (subst HasDistinctNames (sym e) distinct) in
+    ap (λ l. l ++ rest) (with_column-new done c.0 c.1 new) ∙ append_assoc done (c ∷ []) rest ∙ e

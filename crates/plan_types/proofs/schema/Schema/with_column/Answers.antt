@@ -1,0 +1,14 @@
+use Rattle.std.proofs.Common.{map, sym, ap, ◌∙◌}
+use Rattle.std.specs.Option.{option_map}
+use Rattle.plan_types.specs.Types.{ty}
+use Rattle.plan_types.specs.Schemas.{column_of}
+use Rattle.plan_types.proofs.SchemaLemmas.{columns-insert_entry, type_at-entries}
+use Rattle.plan_types.proofs.schema.Schema.with_column.Goals as goal
+
+pub returns-clause-ok : goal.returns-clause-ok
+returns-clause-ok c =
+    ap (map column_of) c.in_ok-before.ensures.entries ∙ columns-insert_entry c.args.self.now.fields.entries c.args.name c.args.dtype
+
+pub returns-clause-before : goal.returns-clause-before
+returns-clause-before c =
+    ap (option_map ty) c.in_ok-before.ensures.old ∙ sym (type_at-entries c.args.self.now.fields.entries c.args.name)

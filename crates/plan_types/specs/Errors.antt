@@ -1,0 +1,17 @@
+-- Refusals.
+use Rattle.std.specs.Prelude.{◌≡◌, ◌⊎◌, []}
+use Rattle.plan_types.specs.declared.error.PlanError.{PlanError}
+use Rattle.plan_types.specs.declared.error.ErrorKind.{ErrorKind}
+use Rattle.plan_types.specs.declared.error.ErrorKind.TheVariants.{NoMemory}
+
+-- a refusal at the top
+abbrev pub at_top : ErrorKind → PlanError
+at_top kind = record { kind = kind; place = [] }
+
+-- the refusal for want of memory, which names no place
+abbrev pub no_memory : PlanError
+no_memory = at_top NoMemory
+
+-- the refusal is want of memory, or that kind at the top, which comes only where the rule is broken
+abbrev pub IsMemoryOr : ErrorKind → Type 0 → PlanError → Type 0
+IsMemoryOr kind Broken error = (error ≡ no_memory) ⊎ ((error ≡ at_top kind) × Broken)

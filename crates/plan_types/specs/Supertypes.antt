@@ -1,0 +1,19 @@
+-- Common types.
+-- Integers of one sign have the wider of the two. A signed and an unsigned one have the least signed
+-- type that holds both, which UInt64 has with none. The relation is symmetric.
+use Rattle.std.specs.Prelude.{ℕ, ◌*◌, true, false, Option, Some, None, max, nat_lt, if◌then◌else◌}
+use Rattle.plan_types.specs.Types.{Ty, Integer}
+
+-- the least signed type that holds a signed and an unsigned type of these widths
+abbrev pub signed_above : ℕ → ℕ → Option Ty
+signed_above signed unsigned =
+    if nat_lt unsigned signed
+    then Some (Integer true signed)
+    else (if nat_lt unsigned 64 then Some (Integer true (2 * unsigned)) else None)
+
+-- the type that holds the values of both
+abbrev pub supertype : Ty → Ty → Option Ty
+supertype (Integer true left) (Integer true right) = Some (Integer true (max left right))
+supertype (Integer false left) (Integer false right) = Some (Integer false (max left right))
+supertype (Integer true left) (Integer false right) = signed_above left right
+supertype (Integer false left) (Integer true right) = signed_above right left

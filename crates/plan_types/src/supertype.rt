@@ -1,0 +1,72 @@
+//! Common types of two types.
+ghost use Rattle.std.specs.Prelude.{◌≡◌, IfOk, IfErr, Some, None, true, false};
+ghost use Rattle.std.specs.Option.{option_map};
+ghost use Rattle.plan_types.specs.Errors.{no_memory, IsMemoryOr};
+ghost use Rattle.plan_types.specs.Supertypes.{supertype, signed_above};
+ghost use Rattle.plan_types.specs.Types.{ty, is_signed_integer, width_of, Integer};
+
+use crate::dtype::DataType;
+use crate::error::{ErrorKind, PlanError};
+use std::alloc::Global;
+
+/// The type that holds the values of both, where there is one.
+pub fn get_supertype(
+    alloc: Global,
+    left: &DataType,
+    right: &DataType,
+) -> Result<Option<DataType>, PlanError>
+    ensures ok { IfOk result (λ found. option_map ty found ≡ supertype (ty left.now) (ty right.now)) }
+    ensures err { IfErr result (λ error. error ≡ no_memory) }
+{
+    if left.is_signed_integer() == right.is_signed_integer() {
+        let wider = if left.width() < right.width() {
+            right
+        } else {
+            left
+        };
+        let found = wider.try_clone(alloc)?;
+        Ok(Some(found))
+    } else if left.is_signed_integer() {
+        signed_above(alloc, left, right)
+    } else {
+        signed_above(alloc, right, left)
+    }
+}
+
+/// `get_supertype`, with a refusal where there is none.
+pub fn try_get_supertype(
+    alloc: Global,
+    left: &DataType,
+    right: &DataType,
+) -> Result<DataType, PlanError>
+    ensures ok { IfOk result (λ found. supertype (ty left.now) (ty right.now) ≡ Some (ty found)) }
+    ensures err { IfErr result (IsMemoryOr ErrorKind.SchemaMismatch (supertype (ty left.now) (ty right.now) ≡ None)) }
+{
+    match get_supertype(alloc, left, right)? {
+        Some(found) => Ok(found),
+        None => Err(PlanError::at_top(ErrorKind::SchemaMismatch)),
+    }
+}
+
+// The least signed type that holds both.
+fn signed_above(
+    alloc: Global,
+    signed: &DataType,
+    unsigned: &DataType,
+) -> Result<Option<DataType>, PlanError>
+    requires signed { is_signed_integer (ty signed.now) ≡ true }
+    requires unsigned { is_signed_integer (ty unsigned.now) ≡ false }
+    ensures ok { IfOk result (λ found. option_map ty found ≡ signed_above (width_of (ty signed.now)) (width_of (ty unsigned.now))) }
+    ensures err { IfErr result (λ error. error ≡ no_memory) }
+{
+    if unsigned.width() < signed.width() {
+        let found = signed.try_clone(alloc)?;
+        return Ok(Some(found));
+    }
+    Ok(match unsigned {
+        DataType::UInt8 => Some(DataType::Int16),
+        DataType::UInt16 => Some(DataType::Int32),
+        DataType::UInt32 => Some(DataType::Int64),
+        _ => None,
+    })
+}

@@ -1,0 +1,84 @@
+//! Texts: names of columns and tables.
+ghost use Rattle.std.specs.Prelude.{◌≡◌, IfOk, IfErr};
+ghost use Rattle.std.specs.Str.{chars};
+ghost use Rattle.plan_types.specs.Errors.{no_memory};
+
+use crate::error::PlanError;
+use std::alloc::Global;
+use std::hash::{Hash, Hasher};
+use std::marker::Model;
+
+/// An owned text. Contracts see the list of its characters.
+#[derive(Debug, Drop)]
+pub struct PlSmallStr {
+    inner: String,
+}
+
+impl Model for PlSmallStr {
+    ghost use Rattle.std.specs.Prelude.{ℕ, List, string_bytes};
+    ghost use Rattle.std.specs.Str.{chars};
+
+    ghost Value = { List ℕ };
+
+    ghost view = { λ text. chars (string_bytes text.inner) };
+}
+
+impl PlSmallStr {
+    /// A copy of the text.
+    pub fn new(alloc: Global, text: &str) -> Result<PlSmallStr, PlanError>
+        ensures ok { IfOk result (λ copy. copy ≡ chars text.now) }
+        ensures err { IfErr result (λ error. error ≡ no_memory) }
+    {
+        let inner = String::from_str(alloc, text)?;
+        Ok(PlSmallStr { inner })
+    }
+
+    pub fn as_str(&self) -> &str
+        ensures { chars result.now ≡ self.now }
+    {
+        self.inner.as_str()
+    }
+
+    pub fn try_clone(&self, alloc: Global) -> Result<PlSmallStr, PlanError>
+        ensures ok { IfOk result (λ copy. copy ≡ self.now) }
+        ensures err { IfErr result (λ error. error ≡ no_memory) }
+    {
+        PlSmallStr::new(alloc, self.as_str())
+    }
+}
+
+impl PartialEq for PlSmallStr {
+    ghost use Rattle.std.specs.Prelude.{nat_eq};
+    ghost use Rattle.std.specs.Cmp.Lexicographic.{pointwise};
+    ghost use Rattle.std.specs.Cmp as Cmp;
+    ghost use Rattle.std.proofs.lemmas.Cmp.{nat_list_eq_equiv};
+
+    ghost eq = { pointwise nat_eq };
+
+    ghost laws = { Cmp.partial_equiv_from_equiv nat_list_eq_equiv };
+
+    fn eq(&self, other: &PlSmallStr) -> bool {
+        self.as_str() == other.as_str()
+    }
+}
+
+impl Eq for PlSmallStr {
+    ghost use Rattle.std.proofs.lemmas.Cmp.{nat_list_eq_equiv};
+
+    ghost laws = { nat_list_eq_equiv };
+}
+
+impl Hash for PlSmallStr {
+    ghost use Rattle.std.specs.Prelude.{encode_utf8_all};
+    ghost use Rattle.std.specs.Hash as fed;
+    ghost use Rattle.std.specs.Cmp.Rules.{hashing};
+    ghost use Rattle.std.proofs.Common.{rules};
+
+    ghost hash_input = { λ text. fed.str (encode_utf8_all text) };
+
+    ghost respects_eq = { Prim.search (hashing, rules) };
+
+    fn hash<H: Hasher>(&self, state: &mut H) {
+        self.as_str().hash(state);
+    }
+}
