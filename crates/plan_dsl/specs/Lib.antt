@@ -1,0 +1,7 @@
+-- What the contracts of this crate cite.
+pub mod Expressions
+pub mod Names
+pub mod Ops
+pub mod Plans
+pub mod Registry
+pub mod Trees

@@ -1,0 +1,19 @@
+-- Names of expressions.
+-- A column has its own name, and any other node that of its first child; one without children is a `literal`.
+use Rattle.std.specs.Prelude.{List, [], ◌∷◌, codes}
+use Rattle.plan_types.specs.Schemas.{Name}
+use Rattle.plan_dsl.specs.Trees.{fold}
+use Rattle.plan_dsl.specs.Ops.{Op, ColumnOp, BinaryOp, CastOp, Expression}
+
+abbrev pub first_name : List Name → Name
+first_name [] = codes "literal"
+first_name (name ∷ names) = name
+
+-- the name of a node, from its children's
+abbrev pub op_name : Op → List Name → Name
+op_name (ColumnOp name) names = name
+op_name (BinaryOp operator) names = first_name names
+op_name (CastOp target mode) names = first_name names
+
+abbrev pub name_of : Expression → Name
+name_of tree = fold op_name tree

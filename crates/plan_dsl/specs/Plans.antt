@@ -1,0 +1,54 @@
+-- The tree of a plan.
+use Rattle.std.specs.Prelude.{ℕ, List, [], map, Option, None}
+use Rattle.plan_types.specs.Schemas.{Columns, Name, columns}
+use Rattle.plan_dsl.specs.declared.expr.Expr.{Expr}
+use Rattle.plan_dsl.specs.declared.plan.DslPlan.{DslPlan}
+use Rattle.plan_dsl.specs.declared.plan.DslPlan.TheVariants.{DataFrameScan, Select'}
+use Rattle.plan_dsl.specs.declared.plan.Exprs.{Exprs}
+use Rattle.plan_dsl.specs.Trees.{Tree, Trees, node, no_more, more}
+use Rattle.plan_dsl.specs.Ops.{Op, Expression}
+use Rattle.plan_dsl.specs.Expressions.{tree_of}
+use Rattle.plan_dsl.specs.Names.{name_of}
+
+-- the kind of a plan's node
+pub data PlanKind : Type 0 where
+  ScanKind : (table : Option ℕ) → PlanKind
+  SelectKind : PlanKind
+
+-- a node's output: an expression and its name
+pub record Named (E : Type 0) : Type 0 where
+  pub name : Name
+  pub expression : E
+
+-- What a node of a plan does, over what an expression is: a tree in the model, a node in the arena.
+-- A scan's schema is its table's. A node of a lowered plan records its frame's schema, and one of a
+-- query records none.
+pub record PlanOp (E : Type 0) : Type 0 where
+  pub kind : PlanKind
+  pub expressions : List (Named E)
+  pub schema : Columns
+
+abbrev pub Plan : Type 0
+Plan = Tree (PlanOp Expression)
+
+-- an expression under its own name
+abbrev pub named : Expression → Named Expression
+named tree = record { name = name_of tree; expression = tree }
+
+-- the trees of expressions
+abbrev pub trees_of : Exprs → List Expression
+trees_of exprs = map tree_of exprs.items.items
+
+abbrev pub scan_op : {E : Type 0} → Option ℕ → Columns → PlanOp E
+scan_op table schema = record { kind = ScanKind table; expressions = []; schema = schema }
+
+abbrev pub select_op : {E : Type 0} → List (Named E) → Columns → PlanOp E
+select_op expressions schema = record { kind = SelectKind; expressions = expressions; schema = schema }
+
+abbrev pub plan_tree : DslPlan → Plan
+plan_tree (DataFrameScan table schema) = node (scan_op table (columns schema)) no_more
+plan_tree (Select' expr p input options) = node (select_op (map named (trees_of expr)) []) (more (plan_tree input) no_more)
+
+-- the empty table without columns
+abbrev pub empty_table : Plan
+empty_table = node (scan_op None []) no_more

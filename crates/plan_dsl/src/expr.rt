@@ -1,0 +1,47 @@
+//! Expressions over the columns of a frame.
+ghost use Rattle.std.specs.Prelude.{◌≡◌, IfOk, IfErr};
+ghost use Rattle.plan_dsl.specs.Expressions.{tree_of};
+ghost use Rattle.plan_types.specs.Errors.{no_memory};
+
+use crate::operator::Operator;
+use plan_types::error::PlanError;
+use plan_types::text::PlSmallStr;
+use std::alloc::Global;
+
+/// An expression. Contracts see its tree.
+#[derive(Drop, PartialEq, Eq, Hash)]
+pub enum Expr {
+    /// The column of that name.
+    Column(PlSmallStr),
+    /// An operator between two expressions.
+    BinaryExpr {
+        left: Box<Expr>,
+        op: Operator,
+        right: Box<Expr>,
+    },
+}
+
+impl Expr {
+    pub fn try_clone(&self, alloc: Global) -> Result<Expr, PlanError>
+        ensures ok { IfOk result (λ copy. tree_of copy ≡ tree_of self.now) }
+        ensures err { IfErr result (λ error. error ≡ no_memory) }
+    {
+        match self {
+            Expr::Column(name) => {
+                let name = name.try_clone(alloc)?;
+                Ok(Expr::Column(name))
+            }
+            Expr::BinaryExpr { left, op, right } => {
+                let left = left.try_clone(alloc)?;
+                let right = right.try_clone(alloc)?;
+                let left = Box::new(alloc, left)?;
+                let right = Box::new(alloc, right)?;
+                Ok(Expr::BinaryExpr {
+                    left,
+                    op: *op,
+                    right,
+                })
+            }
+        }
+    }
+}

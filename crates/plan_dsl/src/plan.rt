@@ -1,0 +1,100 @@
+//! Plans as a user writes them.
+ghost use Rattle.std.specs.Prelude.{◌≡◌, true, IfOk, IfErr};
+ghost use Rattle.plan_dsl.specs.Plans.{plan_tree, empty_table, trees_of};
+ghost use Rattle.plan_types.specs.Errors.{no_memory};
+
+use crate::expr::Expr;
+use plan_types::error::PlanError;
+use plan_types::schema::Schema;
+use std::alloc::Global;
+
+/// Options of a projection. Whether names are checked twice means nothing here: they always are.
+#[derive(Clone, Copy)]
+pub struct ProjectionOptions {
+    pub duplicate_check: bool,
+}
+
+impl Default for ProjectionOptions {
+    ghost is_default = { λ options. options ≡ record { duplicate_check = true } };
+
+    fn default() -> Self {
+        ProjectionOptions {
+            duplicate_check: true,
+        }
+    }
+}
+
+/// The expressions of a node, in order.
+#[derive(Drop)]
+pub struct Exprs {
+    pub items: Vec<Expr>,
+}
+
+impl Exprs {
+    pub fn try_clone(&self, alloc: Global) -> Result<Exprs, PlanError>
+        ensures ok { IfOk result (λ copy. trees_of copy ≡ trees_of self.now) }
+        ensures err { IfErr result (λ error. error ≡ no_memory) }
+    {
+        let mut items = Vec::new(alloc);
+        for expr in self.items.as_slice() {
+            let copy = expr.try_clone(alloc)?;
+            items.push(copy)?;
+        }
+        Ok(Exprs { items })
+    }
+}
+
+/// A plan. Contracts see its tree.
+#[derive(Drop)]
+pub enum DslPlan {
+    /// A scan of a table by its number, or of the empty table.
+    DataFrameScan { table: Option<u32>, schema: Schema },
+    /// A frame of a column for each expression.
+    Select {
+        expr: Exprs,
+        input: Box<DslPlan>,
+        options: ProjectionOptions,
+    },
+}
+
+impl DslPlan {
+    /// The empty table without columns.
+    pub fn default(alloc: Global) -> Result<DslPlan, PlanError>
+        ensures ok { IfOk result (λ plan. plan_tree plan ≡ empty_table) }
+        ensures err { IfErr result (λ error. error ≡ no_memory) }
+    {
+        Ok(DslPlan::DataFrameScan {
+            table: None,
+            schema: Schema::new(alloc),
+        })
+    }
+
+    pub fn try_clone(&self, alloc: Global) -> Result<DslPlan, PlanError>
+        ensures ok { IfOk result (λ copy. plan_tree copy ≡ plan_tree self.now) }
+        ensures err { IfErr result (λ error. error ≡ no_memory) }
+    {
+        match self {
+            DslPlan::DataFrameScan { table, schema } => {
+                let schema = schema.try_clone(alloc)?;
+                Ok(DslPlan::DataFrameScan {
+                    table: *table,
+                    schema,
+                })
+            }
+            DslPlan::Select {
+                expr,
+                input,
+                options,
+            } => {
+                let expr = expr.try_clone(alloc)?;
+                let input = input.try_clone(alloc)?;
+                let input = Box::new(alloc, input)?;
+                Ok(DslPlan::Select {
+                    expr,
+                    input,
+                    options: *options,
+                })
+            }
+        }
+    }
+}
