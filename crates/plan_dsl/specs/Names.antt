@@ -13,7 +13,7 @@ first_name (name ∷ names) = name
 abbrev pub op_name : Op → List Name → Name
 op_name (ColumnOp name) names = name
 op_name (BinaryOp operator) names = first_name names
-op_name (CastOp target mode) names = first_name names
+op_name (CastOp target options) names = first_name names
 
 abbrev pub name_of : Expression → Name
 name_of tree = fold op_name tree

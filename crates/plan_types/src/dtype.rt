@@ -1,11 +1,30 @@
 //! Types of columns.
-ghost use Rattle.std.specs.Prelude.{◌≡◌, IfOk, IfErr, codes};
+ghost use Rattle.std.specs.Prelude.{◌≡◌, ◌↔◌, IsTrue, IfOk, IfErr};
 ghost use Rattle.plan_types.specs.Errors.{no_memory};
 ghost use Rattle.plan_types.specs.Types.{ty, is_signed_integer, width_of};
 
 use crate::error::PlanError;
 use std::alloc::Global;
 use std::hash::{Hash, Hasher};
+
+/// How a cast treats a value that has no place in its target.
+#[derive(Clone, Copy, PartialEq, Eq, Hash)]
+pub enum CastOptions {
+    /// The value is a data fault.
+    Strict,
+    /// The value becomes null.
+    NonStrict,
+    /// The value keeps its low bits.
+    Overflowing,
+}
+
+impl CastOptions {
+    pub fn strict(self) -> bool
+        ensures { IsTrue result ↔ (self ≡ CastOptions.Strict) }
+    {
+        matches!(self, CastOptions::Strict)
+    }
+}
 
 /// The type of a column. Contracts see it as a `Ty`.
 #[derive(Drop)]

@@ -1,0 +1,79 @@
+//! An arena: a list of items, each known by its number.
+ghost use Rattle.std.specs.Prelude.{◌≡◌, ◌<◌, ◌↔◌, [], ◌∷◌, ◌++◌, length, slice_get, slice_set, IsTrue, IfOk, IfErr, OnOk, OnErr, Some};
+ghost use Rattle.plan_types.specs.Errors.{no_memory};
+
+use plan_types::error::PlanError;
+use std::alloc::Global;
+use std::marker::Model;
+use std::mem;
+
+/// The number of an item.
+#[derive(Clone, Copy, Debug, PartialEq, Eq, PartialOrd, Ord, Hash)]
+pub struct Node(pub usize);
+
+/// Items in the order in which they were added. Contracts see their list.
+#[derive(Drop)]
+pub struct Arena<T> {
+    items: Vec<T>,
+}
+
+impl<T> Model for Arena<T> {
+    ghost use Rattle.std.specs.Prelude.{List};
+
+    ghost Value = { List T };
+
+    ghost view = { λ arena. arena.items.items };
+}
+
+impl<T> Arena<T> {
+    pub fn new(alloc: Global) -> Arena<T>
+        ensures { result ≡ [] }
+    {
+        Arena {
+            items: Vec::new(alloc),
+        }
+    }
+
+    /// How many items there are.
+    pub fn len(&self) -> usize
+        ensures { result ≡ length self.now }
+    {
+        self.items.len()
+    }
+
+    pub fn is_empty(&self) -> bool
+        ensures { IsTrue result ↔ (self.now ≡ []) }
+    {
+        self.items.is_empty()
+    }
+
+    pub fn get(&self, node: Node) -> &T
+        requires { node.0 < length self.now }
+        ensures { slice_get self.now node.0 ≡ Some result.now }
+    {
+        &self.items[node.0]
+    }
+
+    /// Puts the item in place of the one at the node, and answers that one.
+    pub fn replace(&mut self, node: Node, item: T) -> T
+        requires { node.0 < length self.old }
+        ensures old { slice_get self.old node.0 ≡ Some result }
+        ensures items { self.new ≡ slice_set self.old node.0 item }
+    {
+        mem::replace(&mut self.items[node.0], item)
+    }
+}
+
+impl<T: Drop> Arena<T> {
+    /// Adds the item at the end, and answers its number.
+    pub fn add(&mut self, item: T) -> Result<Node, PlanError>
+        ensures ok { OnOk result (self.new ≡ self.old ++ item ∷ []) }
+        ensures node { IfOk result (λ node. node.0 ≡ length self.old) }
+        ensures unchanged { OnErr result (self.new ≡ self.old) }
+        ensures err { IfErr result (λ error. error ≡ no_memory) }
+    {
+        let node = Node(self.items.len());
+        self.items.push(item)?;
+        Ok(node)
+    }
+}
