@@ -1,10 +1,10 @@
 -- Laws of denotation, for any arena whose items are known by their inputs.
-use Rattle.std.proofs.Common.{◌≡◌, ◌≢◌, ◌⊎◌, ℕ, zero, suc, ◌+◌, ◌<◌, ◌≤◌, max, List, [], ◌∷◌, length, Bool, true, false, eqb, Option, Some, None, slice_get, unwrap_or, refl, sym, ap, ◌∙◌, ◌||◌, subst, arith, ⊎_elim, inl, inr}
+use Rattle.std.proofs.Common.{◌≡◌, ◌≢◌, ◌⊎◌, ℕ, zero, suc, ◌+◌, ◌<◌, ◌≤◌, max, List, [], ◌∷◌, length, true, false, eqb, Option, Some, slice_get, unwrap_or, refl, sym, ap, ◌∙◌, ◌||◌, subst, arith, ⊎_elim, inl, inr}
 use Rattle.std.specs.List.{IsDistinct, AllByRecursion, list_any}
 use Rattle.std.proofs.lemmas.Bool.{eqb-true, eqb-false, cases_lt}
 use Rattle.std.proofs.lemmas.Map.Steps.{length-le_from_distinct_below}
 use Rattle.plan_dsl.specs.Trees.{Tree, Trees, node, no_more, more, tree_depth, trees_depth}
-use Rattle.plan_arena.specs.Denotation.{Denotes, DenoteAll, DenotesTree, greatest, inputs_at, depth_within, depth_at}
+use Rattle.plan_arena.specs.Denotation.{Denotes, DenoteAll, DenotesTree, greatest, depth_within, depth_at}
 
 -- what an arena holds: the inputs that its shape has, and one op at each node
 pub record HasShape {Op : Type 0} (shape : List (List ℕ)) (holds : ℕ → Op → List ℕ → Type 0) : Type 0 where
@@ -83,6 +83,7 @@ module _ {Op : Type 0} (shape : List (List ℕ)) (holds : ℕ → Op → List �
 
   mutual
     unfolding DenotesWithin IsDistinct
+
     way : (n : ℕ) (t : Tree Op) → Denotes holds n t → Way (tree_depth t)
     way n (node op ts) d =
         let w = way_all d.0 ts d.2 in
@@ -115,6 +116,7 @@ module _ {Op : Type 0} (shape : List (List ℕ)) (holds : ℕ → Op → List �
 
   mutual
     unfolding depth_within
+
     depth_within-denotes : (bound n : ℕ) (t : Tree Op) → Denotes holds n t → tree_depth t ≤ bound → depth_within bound shape n ≡ tree_depth t
     depth_within-denotes zero n (node op ts) d le = absurd (omega arith)
     depth_within-denotes (suc bound) n (node op ts) d le =

@@ -1,1 +1,2 @@
 pub mod DenotationLemmas
+pub mod ItemLemmas

@@ -3,3 +3,6 @@
 
 pub mod aexpr;
 pub mod arena;
+pub mod expr_ir;
+pub mod ir;
+pub mod plan;

@@ -1,12 +1,11 @@
 -- The tree of a plan.
 use Rattle.std.specs.Prelude.{ℕ, List, [], map, Option, None}
 use Rattle.plan_types.specs.Schemas.{Columns, Name, columns}
-use Rattle.plan_dsl.specs.declared.expr.Expr.{Expr}
 use Rattle.plan_dsl.specs.declared.plan.DslPlan.{DslPlan}
 use Rattle.plan_dsl.specs.declared.plan.DslPlan.TheVariants.{DataFrameScan, Select'}
 use Rattle.plan_dsl.specs.declared.plan.Exprs.{Exprs}
-use Rattle.plan_dsl.specs.Trees.{Tree, Trees, node, no_more, more}
-use Rattle.plan_dsl.specs.Ops.{Op, Expression}
+use Rattle.plan_dsl.specs.Trees.{Tree, node, no_more, more}
+use Rattle.plan_dsl.specs.Ops.{Expression}
 use Rattle.plan_dsl.specs.Expressions.{tree_of}
 use Rattle.plan_dsl.specs.Names.{name_of}
 

@@ -48,7 +48,10 @@ impl Exprs {
 #[derive(Drop)]
 pub enum DslPlan {
     /// A scan of a table by its number, or of the empty table.
-    DataFrameScan { table: Option<u32>, schema: Schema },
+    DataFrameScan {
+        table: Option<u32>,
+        schema: Schema,
+    },
     /// A frame of a column for each expression.
     Select {
         expr: Exprs,

@@ -1,6 +1,9 @@
--- Lists that a loop makes, item by item.
-use Rattle.std.proofs.Common.{◌≡◌, ℕ, ◌+◌, ◌<◌, List, [], ◌∷◌, ◌++◌, length, map, take, get_or, sym, ap, ◌∙◌}
-use Rattle.std.proofs.lemmas.List.{take_more, map-append}
+-- Lists that a loop makes, item by item, and the items of lists that grow or change at one place.
+use Rattle.std.proofs.Common.{◌≡◌, ◌≢◌, ℕ, ◌+◌, ◌<◌, List, [], ◌∷◌, ◌++◌, length, map, take, get_or, set, Some, slice_get, sym, ap, ◌∙◌, arith, length-append}
+use Rattle.std.proofs.lemmas.List.{take_more, map-append, get_or-set_same, get_or-set_other}
+use Rattle.std.proofs.lemmas.Option.{slice_get_within, slice_get-get_or, get_or_from_slice_get}
+use Rattle.std.proofs.Math.ListN.{get_or-append, length-set}
+use Rattle.std.proofs.Math.Seq.{get_or-append_seam}
 
 -- one more item, which shows what the item at that place does
 pub mapped_more : {A B C : Type 0} (f : A → C) (g : B → C) (done new : List A) (x : A) (items : List B) (i : ℕ) (y : B) → i < length items → map f done ≡ map g (take i items) → new ≡ done ++ x ∷ [] → f x ≡ g y → y ≡ get_or items i y → map f new ≡ map g (take (i + 1) items)
@@ -9,3 +12,29 @@ mapped_more f g done new x items i y within before grown same at =
     let item = ap (λ l. l ++ f x ∷ []) before ∙ ap (λ z. map g (take i items) ++ z ∷ []) (same ∙ ap g at) in
     let back = sym (map-append g (take i items) (get_or items i y ∷ [])) ∙ ap (map g) (sym (take_more items i y within)) in
     front ∙ item ∙ back
+
+-- an item stays where others come behind it
+pub slice_get-append : {A : Type 0} (xs ys : List A) (n : ℕ) (x : A) → slice_get xs n ≡ Some x → slice_get (xs ++ ys) n ≡ Some x
+slice_get-append xs ys n x h =
+    let within = slice_get_within xs n x h in
+    let longer : n < length (xs ++ ys) = omega (arith, length-append xs ys) in
+    slice_get-get_or (xs ++ ys) n x longer ∙ ap Some (get_or-append xs ys x n within ∙ get_or_from_slice_get xs n x x h)
+
+-- the item behind a list
+pub slice_get-seam : {A : Type 0} (xs : List A) (y : A) (ys : List A) → slice_get (xs ++ y ∷ ys) (length xs) ≡ Some y
+slice_get-seam xs y ys =
+    let longer : length xs < length (xs ++ y ∷ ys) = omega (arith, length-append xs (y ∷ ys)) in
+    slice_get-get_or (xs ++ y ∷ ys) (length xs) y longer ∙ ap Some (get_or-append_seam xs y ys y)
+
+-- a write changes no other item
+pub slice_get-set_other : {A : Type 0} (xs : List A) (i : ℕ) (y : A) (n : ℕ) (x : A) → n ≢ i → slice_get xs n ≡ Some x → slice_get (set xs i y) n ≡ Some x
+slice_get-set_other xs i y n x other h =
+    let within = slice_get_within xs n x h in
+    let longer : n < length (set xs i y) = omega (arith, length-set xs i y) in
+    slice_get-get_or (set xs i y) n x longer ∙ ap Some (get_or-set_other xs i n y x other ∙ get_or_from_slice_get xs n x x h)
+
+-- what was written is there
+pub slice_get-set_same : {A : Type 0} (xs : List A) (i : ℕ) (y : A) → i < length xs → slice_get (set xs i y) i ≡ Some y
+slice_get-set_same xs i y within =
+    let longer : i < length (set xs i y) = omega (arith, length-set xs i y) in
+    slice_get-get_or (set xs i y) i y longer ∙ ap Some (get_or-set_same xs i y y within)

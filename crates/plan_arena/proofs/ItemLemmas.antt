@@ -1,0 +1,91 @@
+-- The two arenas hold what their items say, and keep it as they grow or change at one node.
+use Rattle.std.proofs.Common.{◌≡◌, ◌≢◌, ℕ, ◌<◌, List, [], ◌∷◌, ◌++◌, length, map, set, Option, Some, slice_get, sym, ap, ◌∙◌, subst, refl}
+use Rattle.std.specs.Option.{option_map}
+use Rattle.std.proofs.lemmas.Option.{slice_get-map, slice_get_within}
+use Rattle.std.proofs.lemmas.List.{map-append, map-set}
+use Rattle.plan_types.proofs.ListLemmas.{slice_get-append, slice_get-seam, slice_get-set_other, slice_get-set_same}
+use Rattle.plan_dsl.specs.Ops.{Op, Expression}
+use Rattle.plan_dsl.specs.Plans.{PlanOp, Named}
+use Rattle.plan_arena.specs.Layers.{Layer, layer, inputs_of, shape_of}
+use Rattle.plan_arena.specs.Items.{expression_layer, plan_layer, HoldsExpression, DenoteNamed, DenotesOp, HoldsPlan}
+use Rattle.plan_arena.specs.declared.aexpr.AExpr.{AExpr}
+use Rattle.plan_arena.specs.declared.ir.IR.{IR}
+use Rattle.plan_arena.proofs.DenotationLemmas.{HasShape, denotes_one, kept}
+
+some_same : {A : Type 0} (o : Option A) (x y : A) → o ≡ Some x → o ≡ Some y → x ≡ y
+some_same o x y p q = cc
+
+layer_op : {Op : Type 0} (a b : Op) (ms ns : List ℕ) → layer a ms ≡ layer b ns → a ≡ b
+layer_op a b ms ns e = cc
+
+there : {Op : Type 0} (layers : List (Layer Op)) (n : ℕ) (op : Op) (inputs : List ℕ) → slice_get layers n ≡ Some (layer op inputs) → slice_get (shape_of layers) n ≡ Some inputs
+there layers n op inputs h = slice_get-map inputs_of layers n ∙ ap (option_map inputs_of) h
+
+-- the expressions' arena holds one op at each node
+pub expression_laws : (items : List AExpr) → HasShape (shape_of (map expression_layer items)) (HoldsExpression items)
+expression_laws items = let layers = map expression_layer items in record {
+  there = λ n op inputs h. there layers n op inputs h;
+  below = λ n op inputs h. slice_get_within (shape_of layers) n inputs (there layers n op inputs h);
+  one = λ n op op' inputs inputs' h h'. layer_op op op' inputs inputs' (some_same (slice_get layers n) _ _ h h');
+}
+
+-- what an expressions' arena holds, it holds when it has grown
+pub expression_grown : (items added : List AExpr) (n : ℕ) (op : Op) (inputs : List ℕ) → HoldsExpression items n op inputs → HoldsExpression (items ++ added) n op inputs
+expression_grown items added n op inputs h =
+    ap (λ l. slice_get l n) (map-append expression_layer items added) ∙ slice_get-append (map expression_layer items) (map expression_layer added) n _ h
+
+-- a new item is there
+pub expression_added : (items : List AExpr) (item : AExpr) → slice_get (map expression_layer (items ++ item ∷ [])) (length items) ≡ Some (expression_layer item)
+expression_added items item =
+    slice_get-map expression_layer (items ++ item ∷ []) (length items) ∙ ap (option_map expression_layer) (slice_get-seam items item [])
+
+-- a write at one node changes no other
+pub expression_elsewhere : (items : List AExpr) (at : ℕ) (item : AExpr) (n : ℕ) (op : Op) (inputs : List ℕ) → n ≢ at → HoldsExpression items n op inputs → HoldsExpression (set items at item) n op inputs
+expression_elsewhere items at item n op inputs other h =
+    ap (λ l. slice_get l n) (map-set expression_layer items at item) ∙ slice_get-set_other (map expression_layer items) at (expression_layer item) n _ other h
+
+-- what was written is there
+pub expression_written : (items : List AExpr) (at : ℕ) (item : AExpr) → at < length items → slice_get (map expression_layer (set items at item)) at ≡ Some (expression_layer item)
+expression_written items at item within =
+    slice_get-map expression_layer (set items at item) at ∙ ap (option_map expression_layer) (slice_get-set_same items at item within)
+
+-- what `get` answers is held
+pub expression_got : (items : List AExpr) (n : ℕ) (item : AExpr) → slice_get items n ≡ Some item → slice_get (map expression_layer items) n ≡ Some (expression_layer item)
+expression_got items n item h = slice_get-map expression_layer items n ∙ ap (option_map expression_layer) h
+
+named_one : (items : List AExpr) (ns : List (Named ℕ)) (es fs : List (Named Expression)) → DenoteNamed items ns es → DenoteNamed items ns fs → es ≡ fs
+named_one items [] [] [] d e = refl
+named_one items (n ∷ ns) (x ∷ xs) (y ∷ ys) d e =
+    let name = sym d.0 ∙ e.0 in
+    let tree = denotes_one _ (HoldsExpression items) (expression_laws items) n.expression x.expression y.expression d.1 e.1 in
+    let rest = named_one items ns xs ys d.2 e.2 in
+    λ i. record { name = name i; expression = tree i } ∷ rest i
+named_one items [] (x ∷ xs) fs d e = absurd d
+named_one items [] [] (y ∷ ys) d e = absurd e
+named_one items (n ∷ ns) [] fs d e = absurd d
+named_one items (n ∷ ns) (x ∷ xs) [] d e = absurd e
+
+op_one : (items : List AExpr) (flat : PlanOp ℕ) (a b : PlanOp Expression) → DenotesOp items flat a → DenotesOp items flat b → a ≡ b
+op_one items flat a b d e =
+    let kind = sym d.same_kind ∙ e.same_kind in
+    let schema = sym d.same_schema ∙ e.same_schema in
+    let expressions = named_one items flat.expressions a.expressions b.expressions d.named e.named in
+    λ i. record { kind = kind i; expressions = expressions i; schema = schema i }
+
+-- the plans' arena holds one op at each node
+pub plan_laws : (expressions : List AExpr) (plans : List IR) → HasShape (shape_of (map plan_layer plans)) (HoldsPlan expressions plans)
+plan_laws expressions plans = let layers = map plan_layer plans in record {
+  there = λ n op inputs h. there layers n h.flat inputs h.item;
+  below = λ n op inputs h. slice_get_within (shape_of layers) n inputs (there layers n h.flat inputs h.item);
+  one = λ n op op' inputs inputs' h h'.
+      let flat = layer_op h.flat h'.flat inputs inputs' (some_same (slice_get layers n) _ _ h.item h'.item) in
+      op_one expressions h'.flat op op' (subst (λ f. DenotesOp expressions f op) flat h.denotes) h'.denotes;
+}
+
+-- named nodes denote their expressions when the arena has grown
+pub named_grown : (items added : List AExpr) (ns : List (Named ℕ)) (es : List (Named Expression)) → DenoteNamed items ns es → DenoteNamed (items ++ added) ns es
+named_grown items added [] [] d = tt
+named_grown items added (n ∷ ns) (e ∷ es) d =
+    (d.0, kept (HoldsExpression items) (HoldsExpression (items ++ added)) (expression_grown items added) n.expression e.expression d.1, named_grown items added ns es d.2)
+named_grown items added [] (e ∷ es) d = absurd d
+named_grown items added (n ∷ ns) [] d = absurd d

@@ -1,0 +1,67 @@
+-- The items of the two arenas.
+-- An item of the plans' arena holds a plan's op where its expression nodes denote that op's expressions.
+use Rattle.std.specs.Prelude.{◌≡◌, ℕ, List, [], ◌∷◌, map, Some, slice_get, codes}
+use Rattle.plan_types.specs.Types.{ty}
+use Rattle.plan_types.specs.Schemas.{Name, Columns, columns}
+use Rattle.plan_dsl.specs.Ops.{Op, ColumnOp, BinaryOp, CastOp, Expression}
+use Rattle.plan_dsl.specs.Plans.{PlanOp, Named, scan_op, select_op}
+use Rattle.plan_arena.specs.Denotation.{Denotes}
+use Rattle.plan_arena.specs.Layers.{Layer, layer}
+use Rattle.plan_arena.specs.declared.aexpr.AExpr.{AExpr}
+use Rattle.plan_arena.specs.declared.aexpr.AExpr.TheVariants.{Column, BinaryExpr, Cast}
+use Rattle.plan_arena.specs.declared.expr_ir.OutputName.{OutputName}
+use Rattle.plan_arena.specs.declared.expr_ir.OutputName.TheVariants.{ColumnLhs}
+use Rattle.plan_arena.specs.declared.expr_ir.ExprIR.{ExprIR}
+use Rattle.plan_arena.specs.declared.ir.IR.{IR}
+use Rattle.plan_arena.specs.declared.ir.IR.TheVariants.{DataFrameScan, Select}
+
+-- an expression's item
+abbrev pub expression_layer : AExpr → Layer Op
+expression_layer (Column name) = layer (ColumnOp name) []
+expression_layer (BinaryExpr left operator right) = layer (BinaryOp operator) (left.0 ∷ right.0 ∷ [])
+expression_layer (Cast expr dtype options) = layer (CastOp (ty dtype) options) (expr.0 ∷ [])
+
+abbrev pub output_text : OutputName → Name
+output_text (ColumnLhs name) = name
+
+-- a node with the name of its column
+abbrev pub named_node : ExprIR → Named ℕ
+named_node expr = record { name = output_text expr.output_name; expression = expr.node.0 }
+
+-- a plan's item
+abbrev pub plan_layer : IR → Layer (PlanOp ℕ)
+plan_layer (DataFrameScan table schema) = layer (scan_op table (columns schema)) []
+plan_layer (Select expr input schema options) = layer (select_op (map named_node expr.items.items) (columns schema)) (input.0 ∷ [])
+
+-- what a report calls a node
+abbrev pub node_name : IR → List ℕ
+node_name (DataFrameScan table schema) = codes "df"
+node_name (Select expr input schema options) = codes "projection"
+
+-- the schema that a node records
+abbrev pub recorded_schema : IR → Columns
+recorded_schema (DataFrameScan table schema) = columns schema
+recorded_schema (Select expr input schema options) = columns schema
+
+-- the expression at the node does this, over these inputs
+abbrev pub HoldsExpression : List AExpr → ℕ → Op → List ℕ → Type 0
+HoldsExpression expressions n op inputs = slice_get (map expression_layer expressions) n ≡ Some (layer op inputs)
+
+-- the nodes have the names, and denote the expressions
+abbrev pub DenoteNamed : List AExpr → List (Named ℕ) → List (Named Expression) → Type 0
+DenoteNamed expressions [] [] = Unit {0}
+DenoteNamed expressions (n ∷ ns) (e ∷ es) = (n.name ≡ e.name) × Denotes (HoldsExpression expressions) n.expression e.expression × DenoteNamed expressions ns es
+DenoteNamed expressions [] (e ∷ es) = ⊥
+DenoteNamed expressions (n ∷ ns) [] = ⊥
+
+-- an op over nodes is an op over expressions
+pub record DenotesOp (expressions : List AExpr) (flat : PlanOp ℕ) (op : PlanOp Expression) : Type 0 where
+  pub same_kind : flat.kind ≡ op.kind
+  pub same_schema : flat.schema ≡ op.schema
+  pub named : DenoteNamed expressions flat.expressions op.expressions
+
+-- the plan's item at the node does this, over these inputs
+pub record HoldsPlan (expressions : List AExpr) (plans : List IR) (n : ℕ) (op : PlanOp Expression) (inputs : List ℕ) : Type 0 where
+  pub flat : PlanOp ℕ
+  pub item : slice_get (map plan_layer plans) n ≡ Some (layer flat inputs)
+  pub denotes : DenotesOp expressions flat op
