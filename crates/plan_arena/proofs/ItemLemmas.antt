@@ -1,13 +1,15 @@
 -- The two arenas hold what their items say, and keep it as they grow or change at one node.
-use Rattle.std.proofs.Common.{◌≡◌, ◌≢◌, ℕ, ◌<◌, List, [], ◌∷◌, ◌++◌, length, map, set, Option, Some, slice_get, sym, ap, ◌∙◌, subst, refl}
+use Rattle.std.proofs.Common.{◌≡◌, ◌≢◌, ℕ, ◌<◌, ◌≤◌, List, [], ◌∷◌, ◌++◌, length, map, set, Option, Some, slice_get, sym, ap, ◌∙◌, subst, refl, arith, length-append}
 use Rattle.std.specs.Option.{option_map}
 use Rattle.std.proofs.lemmas.Option.{slice_get-map, slice_get_within}
 use Rattle.std.proofs.lemmas.List.{map-append, map-set}
 use Rattle.plan_types.proofs.ListLemmas.{slice_get-append, slice_get-seam, slice_get-set_other, slice_get-set_same}
 use Rattle.plan_dsl.specs.Ops.{Op, Expression}
 use Rattle.plan_dsl.specs.Plans.{PlanOp, Named}
+use Rattle.plan_dsl.specs.Trees.{Tree, Trees, node}
+use Rattle.plan_arena.specs.Denotation.{Denotes, DenoteAll}
 use Rattle.plan_arena.specs.Layers.{Layer, layer, inputs_of, shape_of}
-use Rattle.plan_arena.specs.Items.{expression_layer, plan_layer, HoldsExpression, DenoteNamed, DenotesOp, HoldsPlan}
+use Rattle.plan_arena.specs.Items.{expression_layer, plan_layer, HoldsExpression, HoldsFrom, DenoteNamed, DenotesOp, HoldsPlan, Grows}
 use Rattle.plan_arena.specs.declared.aexpr.AExpr.{AExpr}
 use Rattle.plan_arena.specs.declared.ir.IR.{IR}
 use Rattle.plan_arena.proofs.DenotationLemmas.{HasShape, denotes_one, kept}
@@ -89,3 +91,23 @@ named_grown items added (n ∷ ns) (e ∷ es) d =
     (d.0, kept (HoldsExpression items) (HoldsExpression (items ++ added)) (expression_grown items added) n.expression e.expression d.1, named_grown items added ns es d.2)
 named_grown items added [] (e ∷ es) d = absurd d
 named_grown items added (n ∷ ns) [] d = absurd d
+
+-- what is held from a number on is held from a lower one, when the arena has grown
+pub from_grown : (first lower : ℕ) (items grown : List AExpr) → lower ≤ first → Grows items grown → (n : ℕ) (op : Op) (inputs : List ℕ) → HoldsFrom first items n op inputs → HoldsFrom lower grown n op inputs
+from_grown first lower items grown le g n op inputs h =
+    (omega (arith, h.0), subst (λ l. HoldsExpression l n op inputs) (sym g.longer) (expression_grown items g.added n op inputs h.1))
+
+-- a tree of nodes from a number on, when the arena has grown
+pub tree_grown : (first lower : ℕ) (items grown : List AExpr) → lower ≤ first → Grows items grown → (n : ℕ) (t : Expression) → Denotes (HoldsFrom first items) n t → Denotes (HoldsFrom lower grown) n t
+tree_grown first lower items grown le g n t d =
+    kept (HoldsFrom first items) (HoldsFrom lower grown) (from_grown first lower items grown le g) n t d
+
+pub length-grown : {T : Type 0} (old new : List T) → Grows old new → length old ≤ length new
+length-grown old new g = omega (arith, ap length g.longer, length-append old g.added)
+
+-- a new item over trees denotes the tree over them
+pub added_denotes : (first : ℕ) (items new : List AExpr) (item : AExpr) (n : ℕ) (op : Op) (inputs : List ℕ) (ts : Trees Op) → first ≤ length items → new ≡ items ++ item ∷ [] → n ≡ length items → expression_layer item ≡ layer op inputs → DenoteAll (HoldsFrom first new) inputs ts → Denotes (HoldsFrom first new) n (node op ts)
+added_denotes first items new item n op inputs ts le grown at is d =
+    let held = expression_added items item ∙ ap Some is in
+    let held' : slice_get (map expression_layer new) n ≡ Some (layer op inputs) = rw (grown, at) held in
+    (inputs, (omega arith, held'), d)

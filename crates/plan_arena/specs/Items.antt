@@ -1,6 +1,6 @@
 -- The items of the two arenas.
 -- An item of the plans' arena holds a plan's op where its expression nodes denote that op's expressions.
-use Rattle.std.specs.Prelude.{◌≡◌, ℕ, List, [], ◌∷◌, map, Some, slice_get, codes}
+use Rattle.std.specs.Prelude.{◌≡◌, ◌≤◌, ℕ, List, [], ◌∷◌, ◌++◌, map, Some, slice_get, codes}
 use Rattle.plan_types.specs.Types.{ty}
 use Rattle.plan_types.specs.Schemas.{Name, Columns, columns}
 use Rattle.plan_dsl.specs.Ops.{Op, ColumnOp, BinaryOp, CastOp, Expression}
@@ -47,6 +47,10 @@ recorded_schema (Select expr input schema options) = columns schema
 abbrev pub HoldsExpression : List AExpr → ℕ → Op → List ℕ → Type 0
 HoldsExpression expressions n op inputs = slice_get (map expression_layer expressions) n ≡ Some (layer op inputs)
 
+-- the same, of a node from that number on
+abbrev pub HoldsFrom : ℕ → List AExpr → ℕ → Op → List ℕ → Type 0
+HoldsFrom first expressions n op inputs = (first ≤ n) × HoldsExpression expressions n op inputs
+
 -- the nodes have the names, and denote the expressions
 abbrev pub DenoteNamed : List AExpr → List (Named ℕ) → List (Named Expression) → Type 0
 DenoteNamed expressions [] [] = Unit {0}
@@ -65,3 +69,8 @@ pub record HoldsPlan (expressions : List AExpr) (plans : List IR) (n : ℕ) (op 
   pub flat : PlanOp ℕ
   pub item : slice_get (map plan_layer plans) n ≡ Some (layer flat inputs)
   pub denotes : DenotesOp expressions flat op
+
+-- the arena has the items that it had, and others behind them
+pub record Grows {T : Type 0} (old new : List T) : Type 0 where
+  pub added : List T
+  pub longer : new ≡ old ++ added

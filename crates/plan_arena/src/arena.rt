@@ -41,6 +41,11 @@ impl<T> Arena<T> {
         self.items.len()
     }
 
+    /// The allocator that the arena keeps.
+    pub fn allocator(&self) -> Global {
+        *self.items.allocator()
+    }
+
     pub fn is_empty(&self) -> bool
         ensures { IsTrue result ↔ (self.now ≡ []) }
     {

@@ -5,3 +5,4 @@ pub mod Ops
 pub mod Plans
 pub mod Registry
 pub mod Trees
+pub mod Typing

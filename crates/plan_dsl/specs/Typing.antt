@@ -1,0 +1,83 @@
+-- Types of expressions.
+-- Typing goes from the leaves up by one rule for a node. The first child that is refused is the answer.
+use Rattle.std.specs.Prelude.{◌≡◌, Bool, true, false, ◌||◌, List, [], ◌∷◌, ◌++◌, map, Option, Some, None, Result, Ok, Err}
+use Rattle.plan_types.specs.Types.{Ty}
+use Rattle.plan_types.specs.Schemas.{Columns, type_at}
+use Rattle.plan_types.specs.Supertypes.{supertype}
+use Rattle.plan_types.specs.declared.error.ErrorKind.{ErrorKind}
+use Rattle.plan_types.specs.declared.error.ErrorKind.TheVariants.{ColumnNotFound, SchemaMismatch}
+use Rattle.plan_dsl.specs.declared.operator.Operator.{Operator}
+use Rattle.plan_dsl.specs.declared.operator.Operator.TheVariants.{Plus}
+use Rattle.plan_dsl.specs.Registry.{Registry}
+use Rattle.plan_dsl.specs.Trees.{Tree, Trees, node, no_more, more}
+use Rattle.plan_dsl.specs.Ops.{Op, ColumnOp, BinaryOp, CastOp, Expression}
+
+-- an expression's type, and whether its column may have another length than one
+pub record Typed : Type 0 where
+  pub type : Ty
+  pub many : Bool
+
+-- the types to which a node's operands are taken, and its own type
+pub record Taken : Type 0 where
+  pub operands : List Ty
+  pub type : Ty
+
+-- both operands are taken to their common type, which is the result's
+abbrev pub both_to : Option Ty → Result Taken ErrorKind
+both_to None = Err SchemaMismatch
+both_to (Some type) = Ok (record { operands = type ∷ type ∷ []; type = type })
+
+-- a column has no operand, and the type that the schema gives it
+abbrev pub column_type : Option Ty → Result Taken ErrorKind
+column_type None = Err ColumnNotFound
+column_type (Some type) = Ok (record { operands = []; type = type })
+
+-- the types to which a node takes operands of these types. A column has none, and a cast takes any type as it is
+abbrev pub operand_types : Columns → Op → List Ty → Result Taken ErrorKind
+operand_types schema (ColumnOp name) types = column_type (type_at schema name)
+operand_types schema (BinaryOp Plus) (left ∷ right ∷ []) = both_to (supertype left right)
+operand_types schema (BinaryOp Plus) [] = Err SchemaMismatch
+operand_types schema (BinaryOp Plus) (left ∷ []) = Err SchemaMismatch
+operand_types schema (BinaryOp Plus) (left ∷ right ∷ third ∷ rest) = Err SchemaMismatch
+operand_types schema (CastOp target options) types = Ok (record { operands = types; type = target })
+
+abbrev pub types_of : List Typed → List Ty
+types_of typed = map (λ t. t.type) typed
+
+-- whether some input may have another length than one
+abbrev pub some_many : List Typed → Bool
+some_many [] = false
+some_many (t ∷ ts) = t.many || some_many ts
+
+-- whether a node's column may have another length than one
+abbrev pub is_many : Op → List Typed → Bool
+is_many (ColumnOp name) children = true
+is_many (BinaryOp operator) children = some_many children
+is_many (CastOp target options) children = some_many children
+
+abbrev pub typed_as : Result Taken ErrorKind → Bool → Result Typed ErrorKind
+typed_as (Err kind) many = Err kind
+typed_as (Ok taken) many = Ok (record { type = taken.type; many = many })
+
+-- a node's typing, from its children's
+abbrev pub typing_rule : Registry → Columns → Op → List Typed → Result Typed ErrorKind
+typing_rule registry schema op children = typed_as (operand_types schema op (types_of children)) (is_many op children)
+
+-- goes on where a child is typed
+abbrev pub then_typed : {A : Type 0} → Result A ErrorKind → (A → Result Typed ErrorKind) → Result Typed ErrorKind
+then_typed (Err kind) rule = Err kind
+then_typed (Ok typed) rule = rule typed
+
+-- one more typing in front
+abbrev pub typed_before : Result Typed ErrorKind → Result (List Typed) ErrorKind → Result (List Typed) ErrorKind
+typed_before (Err kind) rest = Err kind
+typed_before (Ok typed) (Err kind) = Err kind
+typed_before (Ok typed) (Ok rest) = Ok (typed ∷ rest)
+
+abbrev mutual
+  pub typing : Registry → Columns → Expression → Result Typed ErrorKind
+  typing registry schema (node op children) = then_typed (typing_all registry schema children) (typing_rule registry schema op)
+
+  pub typing_all : Registry → Columns → Trees Op → Result (List Typed) ErrorKind
+  typing_all registry schema no_more = Ok []
+  typing_all registry schema (more child rest) = typed_before (typing registry schema child) (typing_all registry schema rest)

@@ -1,0 +1,3 @@
+//! Lowering: expressions to nodes, casts round operands, and plans.
+
+pub mod expr_to_ir;
