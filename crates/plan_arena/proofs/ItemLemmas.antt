@@ -1,24 +1,31 @@
 -- The two arenas hold what their items say, and keep it as they grow or change at one node.
 use Rattle.std.proofs.Common.{◌≡◌, ◌≢◌, ℕ, ◌<◌, ◌≤◌, List, [], ◌∷◌, ◌++◌, length, map, set, Option, Some, slice_get, sym, ap, ◌∙◌, subst, refl, arith, length-append}
+use Rattle.std.specs.List.{AllByRecursion}
 use Rattle.std.specs.Option.{option_map}
 use Rattle.std.proofs.lemmas.Option.{slice_get-map, slice_get_within}
-use Rattle.std.proofs.lemmas.List.{map-append, map-set}
+use Rattle.std.proofs.lemmas.List.{map-append, map-set, length-map}
 use Rattle.plan_types.proofs.ListLemmas.{slice_get-append, slice_get-seam, slice_get-set_other, slice_get-set_same}
 use Rattle.plan_dsl.specs.Ops.{Op, Expression}
 use Rattle.plan_dsl.specs.Plans.{PlanOp, Named}
-use Rattle.plan_dsl.specs.Trees.{Tree, Trees, node}
-use Rattle.plan_arena.specs.Denotation.{Denotes, DenoteAll}
+use Rattle.plan_dsl.specs.Trees.{Trees, node, no_more, more}
+use Rattle.plan_arena.specs.Denotation.{Denotes, DenoteAll, DenotesTree, depth_at}
 use Rattle.plan_arena.specs.Layers.{Layer, layer, inputs_of, shape_of}
 use Rattle.plan_arena.specs.Items.{expression_layer, plan_layer, HoldsExpression, HoldsFrom, DenoteNamed, DenotesOp, HoldsPlan, Grows}
 use Rattle.plan_arena.specs.declared.aexpr.AExpr.{AExpr}
 use Rattle.plan_arena.specs.declared.ir.IR.{IR}
-use Rattle.plan_arena.proofs.DenotationLemmas.{HasShape, denotes_one, kept}
+use Rattle.plan_arena.proofs.DenotationLemmas.{HasShape, denotes_one, kept, inputs_denote}
 
 some_same : {A : Type 0} (o : Option A) (x y : A) → o ≡ Some x → o ≡ Some y → x ≡ y
 some_same o x y p q = cc
 
 layer_op : {Op : Type 0} (a b : Op) (ms ns : List ℕ) → layer a ms ≡ layer b ns → a ≡ b
 layer_op a b ms ns e = cc
+
+layer_inputs : {Op : Type 0} (a b : Op) (ms ns : List ℕ) → layer a ms ≡ layer b ns → ms ≡ ns
+layer_inputs a b ms ns e = cc
+
+layer_node : {Op : Type 0} (a b : Op) (ms ns : List ℕ) (ts : Trees Op) → layer a ms ≡ layer b ns → node a ts ≡ node b ts
+layer_node a b ms ns ts e = ap (λ op. node op ts) (layer_op a b ms ns e)
 
 there : {Op : Type 0} (layers : List (Layer Op)) (n : ℕ) (op : Op) (inputs : List ℕ) → slice_get layers n ≡ Some (layer op inputs) → slice_get (shape_of layers) n ≡ Some inputs
 there layers n op inputs h = slice_get-map inputs_of layers n ∙ ap (option_map inputs_of) h
@@ -111,3 +118,41 @@ added_denotes first items new item n op inputs ts le grown at is d =
     let held = expression_added items item ∙ ap Some is in
     let held' : slice_get (map expression_layer new) n ≡ Some (layer op inputs) = rw (grown, at) held in
     (inputs, (omega arith, held'), d)
+
+-- the tree at a node is the item's op over the trees at its inputs
+pub held_top : (items : List AExpr) (n : ℕ) (op : Op) (inputs : List ℕ) → HoldsExpression items n op inputs → (t : Expression) → Denotes (HoldsExpression items) n t → (ts : Trees Op) × (t ≡ node op ts) × DenoteAll (HoldsExpression items) inputs ts
+held_top items n op inputs h (node op' ts) d =
+    let layers = map expression_layer items in
+    let same = some_same (slice_get layers n) _ _ d.1 h in
+    (ts, layer_node op' op d.0 inputs ts same, subst (λ ns. DenoteAll (HoldsExpression items) ns ts) (layer_inputs op' op d.0 inputs same) d.2)
+
+-- the tree over one input, and over two
+pub one_child : (holds : ℕ → Op → List ℕ → Type 0) (a : ℕ) (ts : Trees Op) → DenoteAll holds (a ∷ []) ts → (x : Expression) × (ts ≡ more x no_more) × Denotes holds a x
+one_child holds a (more x no_more) d = (x, refl, d.0)
+one_child holds a no_more d = absurd d
+one_child holds a (more x (more y ts)) d = absurd d.1
+
+pub two_children : (holds : ℕ → Op → List ℕ → Type 0) (a b : ℕ) (ts : Trees Op) → DenoteAll holds (a ∷ b ∷ []) ts → (x y : Expression) × (ts ≡ more x (more y no_more)) × Denotes holds a x × Denotes holds b y
+two_children holds a b (more x (more y no_more)) d = (x, y, refl, d.0, d.1.0)
+two_children holds a b no_more d = absurd d
+two_children holds a b (more x no_more) d = absurd d.1
+two_children holds a b (more x (more y (more z ts))) d = absurd d.1.1
+
+pub no_children : (holds : ℕ → Op → List ℕ → Type 0) (ts : Trees Op) → DenoteAll holds [] ts → ts ≡ no_more
+no_children holds no_more d = refl
+no_children holds (more x ts) d = absurd d
+
+-- a node that denotes a tree is in the arena
+within : (items : List AExpr) (n : ℕ) (t : Expression) → Denotes (HoldsExpression items) n t → n < length items
+within items n (node op ts) d = omega (arith, slice_get_within (map expression_layer items) n _ d.1, length-map items expression_layer)
+
+pub tree_within : (items : List AExpr) (n : ℕ) → DenotesTree (HoldsExpression items) n → n < length items
+tree_within items n d = within items n d.tree d.denotes
+
+-- what `get` answered is what the arena holds
+pub got_held : (items : List AExpr) (n : ℕ) (item : AExpr) (op : Op) (inputs : List ℕ) → slice_get items n ≡ Some item → expression_layer item ≡ layer op inputs → HoldsExpression items n op inputs
+got_held items n item op inputs got is = expression_got items n item got ∙ ap Some is
+
+-- the inputs of a node that denotes a tree denote trees, and lead less far down
+pub expression_inputs : (items : List AExpr) (n : ℕ) (op : Op) (inputs : List ℕ) → HoldsExpression items n op inputs → DenotesTree (HoldsExpression items) n → AllByRecursion (λ m. DenotesTree (HoldsExpression items) m × (depth_at (shape_of (map expression_layer items)) m < depth_at (shape_of (map expression_layer items)) n)) inputs
+expression_inputs items n op inputs h d = inputs_denote _ (HoldsExpression items) (expression_laws items) n op inputs h d

@@ -1,6 +1,6 @@
 -- Types of expressions.
 -- Typing goes from the leaves up by one rule for a node. The first child that is refused is the answer.
-use Rattle.std.specs.Prelude.{◌≡◌, Bool, true, false, ◌||◌, List, [], ◌∷◌, ◌++◌, map, Option, Some, None, Result, Ok, Err}
+use Rattle.std.specs.Prelude.{Bool, true, false, ◌||◌, List, [], ◌∷◌, map, Option, Some, None, Result, Ok, Err}
 use Rattle.plan_types.specs.Types.{Ty}
 use Rattle.plan_types.specs.Schemas.{Columns, type_at}
 use Rattle.plan_types.specs.Supertypes.{supertype}
@@ -9,7 +9,7 @@ use Rattle.plan_types.specs.declared.error.ErrorKind.TheVariants.{ColumnNotFound
 use Rattle.plan_dsl.specs.declared.operator.Operator.{Operator}
 use Rattle.plan_dsl.specs.declared.operator.Operator.TheVariants.{Plus}
 use Rattle.plan_dsl.specs.Registry.{Registry}
-use Rattle.plan_dsl.specs.Trees.{Tree, Trees, node, no_more, more}
+use Rattle.plan_dsl.specs.Trees.{Trees, node, no_more, more}
 use Rattle.plan_dsl.specs.Ops.{Op, ColumnOp, BinaryOp, CastOp, Expression}
 
 -- an expression's type, and whether its column may have another length than one
@@ -32,13 +32,17 @@ abbrev pub column_type : Option Ty → Result Taken ErrorKind
 column_type None = Err ColumnNotFound
 column_type (Some type) = Ok (record { operands = []; type = type })
 
--- the types to which a node takes operands of these types. A column has none, and a cast takes any type as it is
+-- the types to which an operator takes operands of these types
+abbrev pub operator_types : Operator → List Ty → Result Taken ErrorKind
+operator_types Plus (left ∷ right ∷ []) = both_to (supertype left right)
+operator_types Plus [] = Err SchemaMismatch
+operator_types Plus (left ∷ []) = Err SchemaMismatch
+operator_types Plus (left ∷ right ∷ third ∷ rest) = Err SchemaMismatch
+
+-- the types to which a node takes operands of these types. A cast takes any type as it is
 abbrev pub operand_types : Columns → Op → List Ty → Result Taken ErrorKind
 operand_types schema (ColumnOp name) types = column_type (type_at schema name)
-operand_types schema (BinaryOp Plus) (left ∷ right ∷ []) = both_to (supertype left right)
-operand_types schema (BinaryOp Plus) [] = Err SchemaMismatch
-operand_types schema (BinaryOp Plus) (left ∷ []) = Err SchemaMismatch
-operand_types schema (BinaryOp Plus) (left ∷ right ∷ third ∷ rest) = Err SchemaMismatch
+operand_types schema (BinaryOp operator) types = operator_types operator types
 operand_types schema (CastOp target options) types = Ok (record { operands = types; type = target })
 
 abbrev pub types_of : List Typed → List Ty

@@ -1,3 +1,4 @@
 pub mod ListLemmas
+pub mod ResultLemmas
 pub mod SchemaLemmas
 pub mod TextLemmas

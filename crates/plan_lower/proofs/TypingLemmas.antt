@@ -1,0 +1,119 @@
+-- The type of a node, from those of its inputs.
+use Rattle.std.proofs.Common.{◌≡◌, ℕ, Bool, true, List, [], ◌∷◌, Some, None, Result, Ok, Err, ap, ◌∙◌, ⊎_elim}
+use Rattle.plan_types.specs.Types.{Ty}
+use Rattle.plan_types.specs.Schemas.{Columns, Name, type_at}
+use Rattle.plan_types.specs.Supertypes.{supertype}
+use Rattle.plan_types.specs.Errors.{IsMemoryOr}
+use Rattle.plan_types.specs.declared.error.ErrorKind.{ErrorKind}
+use Rattle.plan_types.specs.declared.error.ErrorKind.TheVariants.{ColumnNotFound, SchemaMismatch}
+use Rattle.plan_types.specs.declared.error.PlanError.{PlanError}
+use Rattle.plan_types.specs.declared.dtype.CastOptions.{CastOptions}
+use Rattle.plan_dsl.specs.declared.operator.Operator.{Operator}
+use Rattle.plan_dsl.specs.declared.operator.Operator.TheVariants.{Plus}
+use Rattle.plan_dsl.specs.Registry.{Registry}
+use Rattle.plan_dsl.specs.Trees.{node}
+use Rattle.plan_dsl.specs.Ops.{ColumnOp, BinaryOp, CastOp, Expression}
+use Rattle.plan_dsl.specs.Typing.{Typed, Taken, both_to, column_type, operator_types, typed_as, typing_rule, then_typed, typed_before, typing, some_many}
+use Rattle.plan_arena.specs.declared.aexpr.AExpr.{AExpr}
+use Rattle.plan_arena.specs.Denotation.{Denotes}
+use Rattle.plan_arena.specs.Items.{HoldsExpression}
+use Rattle.plan_arena.proofs.ItemLemmas.{held_top, one_child, two_children, no_children}
+use Rattle.plan_lower.specs.Typed.{HasType, IsRefusal, no_room, broken}
+
+-- a refusal below is one here, where the kinds are the same
+refused_so : {A B : Type 0} (from : Result A ErrorKind) (to : Result B ErrorKind) (error : PlanError) → ((kind : ErrorKind) → from ≡ Err kind → to ≡ Err kind) → IsRefusal from error → IsRefusal to error
+refused_so from to error same (no_room e) = no_room e
+refused_so from to error same (broken kind e b) = broken kind e (same kind b)
+
+-- operands without a common type are refused
+pub mismatch : (operator : Operator) (left right : Ty) (error : PlanError) → IsMemoryOr SchemaMismatch (supertype left right ≡ None) error → IsRefusal (operator_types operator (left ∷ right ∷ [])) error
+mismatch Plus left right error h =
+    ⊎_elim (λ e. no_room e) (λ p. broken SchemaMismatch p.0 (ap both_to p.1)) h
+
+module _ (items : List AExpr) (registry : Registry) (schema : Columns) where
+  -- the expressions at a node have this type
+  abbrev pub AllHaveType : ℕ → Ty → Type 0
+  AllHaveType n type = (t : Expression) → Denotes (HoldsExpression items) n t → HasType (typing registry schema t) type
+
+  -- the expressions at a node are refused so, or memory ran out
+  abbrev pub AllRefused : ℕ → PlanError → Type 0
+  AllRefused n error = (t : Expression) → Denotes (HoldsExpression items) n t → IsRefusal (typing registry schema t) error
+
+  -- the typing of an operator and of a cast, from those of the operands
+  abbrev binary_typing : Operator → Result Typed ErrorKind → Result Typed ErrorKind → Result Typed ErrorKind
+  binary_typing operator left right = then_typed (typed_before left (typed_before right (Ok []))) (typing_rule registry schema (BinaryOp operator))
+
+  abbrev cast_typing : Ty → CastOptions → Result Typed ErrorKind → Result Typed ErrorKind
+  cast_typing target options input = then_typed (typed_before input (Ok [])) (typing_rule registry schema (CastOp target options))
+
+module _ (items : List AExpr) (registry : Registry) (schema : Columns) (n : ℕ) where
+  column_top : (name : Name) → HoldsExpression items n (ColumnOp name) [] → (t : Expression) → Denotes (HoldsExpression items) n t → typing registry schema t ≡ typed_as (column_type (type_at schema name)) true
+  column_top name h t d =
+      let top = held_top items n (ColumnOp name) [] h t d in
+      ap (typing registry schema) (top.1 ∙ ap (node (ColumnOp name)) (no_children (HoldsExpression items) top.0 top.2))
+
+  pub column_typed : (name : Name) (type : Ty) → HoldsExpression items n (ColumnOp name) [] → type_at schema name ≡ Some type → AllHaveType items registry schema n type
+  column_typed name type h e t d =
+      record { many = true; is = column_top name h t d ∙ ap (λ o. typed_as (column_type o) true) e }
+
+  pub column_refused : (name : Name) (error : PlanError) → HoldsExpression items n (ColumnOp name) [] → IsMemoryOr ColumnNotFound (type_at schema name ≡ None) error → AllRefused items registry schema n error
+  column_refused name error h b t d =
+      ⊎_elim (λ e. no_room e) (λ p. broken ColumnNotFound p.0 (column_top name h t d ∙ ap (λ o. typed_as (column_type o) true) p.1)) b
+
+  module _ (operator : Operator) (l r : ℕ) (h : HoldsExpression items n (BinaryOp operator) (l ∷ r ∷ [])) where
+    binary_top : (t : Expression) → Denotes (HoldsExpression items) n t → (x y : Expression) × (typing registry schema t ≡ binary_typing items registry schema operator (typing registry schema x) (typing registry schema y)) × Denotes (HoldsExpression items) l x × Denotes (HoldsExpression items) r y
+    binary_top t d =
+        let top = held_top items n (BinaryOp operator) (l ∷ r ∷ []) h t d in
+        let two = two_children (HoldsExpression items) l r top.0 top.2 in
+        (two.0, two.1, ap (typing registry schema) (top.1 ∙ ap (node (BinaryOp operator)) two.2), two.3, two.4)
+
+    -- with both operands typed, what the operator says of them decides
+    decided : (left right : Ty) (t : Expression) → Denotes (HoldsExpression items) n t → AllHaveType items registry schema l left → AllHaveType items registry schema r right → (many : Bool) × (typing registry schema t ≡ typed_as (operator_types operator (left ∷ right ∷ [])) many)
+    decided left right t d hl hr =
+        let top = binary_top t d in
+        let tl = hl top.0 top.3 in
+        let tr = hr top.1 top.4 in
+        let typed_left : Typed = record { type = left; many = tl.many } in (
+          some_many (typed_left ∷ record { type = right; many = tr.many } ∷ []),
+          top.2 ∙ ap (λ x. binary_typing items registry schema operator x (typing registry schema top.1)) tl.is ∙ ap (binary_typing items registry schema operator (Ok typed_left)) tr.is,
+        )
+
+    pub binary_typed : (left right : Ty) (taken : Taken) → AllHaveType items registry schema l left → AllHaveType items registry schema r right → operator_types operator (left ∷ right ∷ []) ≡ Ok taken → AllHaveType items registry schema n taken.type
+    binary_typed left right taken hl hr e t d =
+        let b = decided left right t d hl hr in
+        record { many = b.0; is = b.1 ∙ ap (λ o. typed_as o b.0) e }
+
+    pub binary_refused : (left right : Ty) (error : PlanError) → AllHaveType items registry schema l left → AllHaveType items registry schema r right → IsRefusal (operator_types operator (left ∷ right ∷ [])) error → AllRefused items registry schema n error
+    binary_refused left right error hl hr refused t d =
+        let b = decided left right t d hl hr in
+        refused_so _ _ error (λ kind e. b.1 ∙ ap (λ o. typed_as o b.0) e) refused
+
+    pub left_refused : (error : PlanError) → AllRefused items registry schema l error → AllRefused items registry schema n error
+    left_refused error refused t d =
+        let top = binary_top t d in
+        refused_so _ _ error (λ kind e. top.2 ∙ ap (λ x. binary_typing items registry schema operator x (typing registry schema top.1)) e) (refused top.0 top.3)
+
+    pub right_refused : (left : Ty) (error : PlanError) → AllHaveType items registry schema l left → AllRefused items registry schema r error → AllRefused items registry schema n error
+    right_refused left error hl refused t d =
+        let top = binary_top t d in
+        let tl = hl top.0 top.3 in
+        let typed_left : Typed = record { type = left; many = tl.many } in
+        refused_so _ _ error (λ kind e. top.2 ∙ ap (λ x. binary_typing items registry schema operator x (typing registry schema top.1)) tl.is ∙ ap (binary_typing items registry schema operator (Ok typed_left)) e) (refused top.1 top.4)
+
+  module _ (target : Ty) (options : CastOptions) (input : ℕ) (h : HoldsExpression items n (CastOp target options) (input ∷ [])) where
+    cast_top : (t : Expression) → Denotes (HoldsExpression items) n t → (x : Expression) × (typing registry schema t ≡ cast_typing items registry schema target options (typing registry schema x)) × Denotes (HoldsExpression items) input x
+    cast_top t d =
+        let top = held_top items n (CastOp target options) (input ∷ []) h t d in
+        let one = one_child (HoldsExpression items) input top.0 top.2 in
+        (one.0, ap (typing registry schema) (top.1 ∙ ap (node (CastOp target options)) one.1), one.2)
+
+    pub cast_typed : (from : Ty) → AllHaveType items registry schema input from → AllHaveType items registry schema n target
+    cast_typed from hi t d =
+        let top = cast_top t d in
+        let ti = hi top.0 top.2 in
+        record { many = some_many (record { type = from; many = ti.many } ∷ []); is = top.1 ∙ ap (cast_typing items registry schema target options) ti.is }
+
+    pub cast_refused : (error : PlanError) → AllRefused items registry schema input error → AllRefused items registry schema n error
+    cast_refused error refused t d =
+        let top = cast_top t d in
+        refused_so _ _ error (λ kind e. top.1 ∙ ap (cast_typing items registry schema target options) e) (refused top.0 top.2)
