@@ -3,7 +3,7 @@ use Rattle.std.proofs.Common.{◌≡◌, ◌≢◌, ◌⊎◌, ℕ, zero, suc, �
 use Rattle.std.specs.List.{IsDistinct, AllByRecursion, list_any}
 use Rattle.std.proofs.lemmas.Bool.{eqb-true, eqb-false, cases_lt}
 use Rattle.std.proofs.lemmas.Map.Steps.{length-le_from_distinct_below}
-use Rattle.plan_dsl.specs.Trees.{Tree, Trees, node, no_more, more, tree_depth, trees_depth}
+use Rattle.plan_dsl.specs.Trees.{Tree, Trees, node, no_more, more, tree_depth, trees_depth, AllRelated}
 use Rattle.plan_arena.specs.Denotation.{Denotes, DenoteAll, DenotesTree, greatest, depth_within, depth_at}
 
 -- what an arena holds: the inputs that its shape has, and one op at each node
@@ -167,14 +167,6 @@ module _ {Op : Type 0} (holds holds' : ℕ → Op → List ℕ → Type 0) (keep
 
   pub kept_tree : (n : ℕ) → DenotesTree holds n → DenotesTree holds' n
   kept_tree n d = record { tree = d.tree; denotes = kept n d.tree d.denotes }
-
--- one tree for another at each place
-abbrev mutual
-  pub AllRelated : {Op : Type 0} → (Tree Op → Tree Op → Type 0) → Trees Op → Trees Op → Type 0
-  AllRelated R no_more no_more = Unit {0}
-  AllRelated R (more t ts) (more u us) = R t u × AllRelated R ts us
-  AllRelated R no_more (more u us) = ⊥
-  AllRelated R (more t ts) no_more = ⊥
 
 -- a change at one node
 module _ {Op : Type 0} (shape : List (List ℕ)) (holds holds' : ℕ → Op → List ℕ → Type 0) (laws : HasShape shape holds) (at : ℕ) (keeps : (n : ℕ) (op : Op) (inputs : List ℕ) → n ≢ at → holds n op inputs → holds' n op inputs) (t : Tree Op) (d : Denotes holds at t) where

@@ -27,3 +27,10 @@ abbrev mutual
   pub fold_all : {Op A : Type 0} → (Op → List A → A) → Trees Op → List A
   fold_all step no_more = []
   fold_all step (more child rest) = fold step child ∷ fold_all step rest
+
+-- trees that are related one by one
+abbrev pub AllRelated : {Op : Type 0} → (Tree Op → Tree Op → Type 0) → Trees Op → Trees Op → Type 0
+AllRelated R no_more no_more = Unit {0}
+AllRelated R (more t ts) (more u us) = R t u × AllRelated R ts us
+AllRelated R no_more (more u us) = ⊥
+AllRelated R (more t ts) no_more = ⊥

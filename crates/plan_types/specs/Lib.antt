@@ -1,7 +1,10 @@
 -- What the contracts of this crate cite.
+pub mod Casts
 pub mod Errors
+pub mod Frames
 pub mod Places
 pub mod Schemas
 pub mod Supertypes
 pub mod TypeLaws
 pub mod Types
+pub mod Values

@@ -1,0 +1,159 @@
+-- Casts round the operands of an operator keep its type, name and meaning, and leave it strict.
+use Rattle.std.proofs.Common.{◌≡◌, Bool, true, false, cond, ◌||◌, ◌&&◌, List, [], ◌∷◌, Option, Some, None, Result, Ok, Err, refl, sym, ap, ◌∙◌, subst, max, arith, ℕ}
+use Rattle.plan_types.specs.Types.{Ty, Integer, same_type}
+use Rattle.plan_types.specs.TypeLaws.{same_type_own, same_type_exact}
+use Rattle.plan_types.specs.Schemas.{Columns}
+use Rattle.plan_types.specs.Supertypes.{supertype}
+use Rattle.plan_types.specs.Frames.{Frame, Row}
+use Rattle.plan_types.specs.declared.error.ErrorKind.{ErrorKind}
+use Rattle.plan_types.specs.declared.dtype.CastOptions.TheVariants.{NonStrict}
+use Rattle.plan_dsl.specs.declared.operator.Operator.{Operator}
+use Rattle.plan_dsl.specs.declared.operator.Operator.TheVariants.{Plus}
+use Rattle.plan_dsl.specs.Registry.{Registry}
+use Rattle.plan_dsl.specs.Trees.{Tree, Trees, node, no_more, more}
+use Rattle.plan_dsl.specs.Ops.{Op, BinaryOp, CastOp, Expression}
+use Rattle.plan_dsl.specs.Names.{name_of}
+use Rattle.plan_dsl.specs.Typing.{Typed, Taken, both_to, operator_types, some_many, types_of, typed_as, typing, typing_all, typing_rule, then_typed, typed_before}
+use Rattle.plan_dsl.specs.Kernels.{Meaning, cast_meaning, kernel}
+use Rattle.plan_dsl.specs.Meaning.{meaning, meaning_all, node_meaning, taken_meaning, taken_to}
+use Rattle.plan_dsl.specs.Strictness.{IsSame, IsStrictOver, IsStrictNode, same_types, with_cast}
+
+or_false : (b : Bool) → (b || false) ≡ b
+or_false true = refl
+or_false false = refl
+
+max_itself : (n : ℕ) → max n n ≡ n
+max_itself n = omega arith
+
+-- a type is its own common type
+pub supertype_itself : (type : Ty) → supertype type type ≡ Some type
+supertype_itself (Integer true bits) = ap (λ n. Some (Integer true n)) (max_itself bits)
+supertype_itself (Integer false bits) = ap (λ n. Some (Integer false n)) (max_itself bits)
+
+ok_same : (r : Result Taken ErrorKind) (x y : Taken) → r ≡ Ok x → r ≡ Ok y → x ≡ y
+ok_same r x y e f = cc
+
+first_same : {A : Type 0} (a b c d : A) → (a ∷ b ∷ []) ≡ (c ∷ d ∷ []) → a ≡ c
+first_same a b c d e = cc
+
+second_same : {A : Type 0} (a b c d : A) → (a ∷ b ∷ []) ≡ (c ∷ d ∷ []) → b ≡ d
+second_same a b c d e = cc
+
+both_stay : (found : Option Ty) (a b c : Ty) → both_to found ≡ Ok (record { operands = a ∷ b ∷ []; type = c }) → both_to (supertype a b) ≡ Ok (record { operands = a ∷ b ∷ []; type = c })
+both_stay None a b c h = cc
+both_stay (Some s) a b c h =
+    let taken = ok_same (both_to (Some s)) _ _ refl h in
+    let operands = ap (λ t. t.operands) taken in
+    let ea = first_same s s a b operands in
+    let eb = second_same s s a b operands in
+    let same : supertype a b ≡ Some s = ap (λ x. supertype x b) (sym ea) ∙ ap (supertype s) (sym eb) ∙ supertype_itself s in
+    ap both_to same ∙ h
+
+-- operands that were taken stay when they are taken again
+pub taken_stay : (operator : Operator) (left right a b c : Ty) → operator_types operator (left ∷ right ∷ []) ≡ Ok (record { operands = a ∷ b ∷ []; type = c }) → operator_types operator (a ∷ b ∷ []) ≡ Ok (record { operands = a ∷ b ∷ []; type = c })
+taken_stay Plus left right a b c h = both_stay (supertype left right) a b c h
+
+if_true : {A : Type 0} (b : Bool) (x y : A) → b ≡ true → cond b x y ≡ x
+if_true b x y e = ap (λ v. cond v x y) e
+
+if_false : {A : Type 0} (b : Bool) (x y : A) → b ≡ false → cond b x y ≡ y
+if_false b x y e = ap (λ v. cond v x y) e
+
+-- a cast to the own type is the identity
+pub cast_own : (type : Ty) (operand : Meaning) → cast_meaning type type NonStrict operand ≡ operand
+cast_own type operand = if_true (same_type type type) operand _ (same_type_own type)
+
+module _ (registry : Registry) (schema : Columns) (from target : Ty) (t : Expression) (many : Bool) (typed : typing registry schema t ≡ Ok (record { type = from; many = many })) where
+  abbrev cast_node : Expression
+  cast_node = node (CastOp target NonStrict) (more t no_more)
+
+  cast_typing : typing registry schema cast_node ≡ Ok (record { type = target; many = many })
+  cast_typing =
+      ap (λ r. then_typed (typed_before r (Ok [])) (typing_rule registry schema (CastOp target NonStrict))) typed
+      ∙ ap (λ m. Ok (record { type = target; many = m })) (or_false many)
+
+  cast_name : name_of cast_node ≡ name_of t
+  cast_name = refl
+
+  cast_means : (rows : List Row) → meaning registry (record { schema = schema; rows = rows }) cast_node ≡ cast_meaning from target NonStrict (meaning registry (record { schema = schema; rows = rows }) t)
+  cast_means rows =
+      let frame : Frame = record { schema = schema; rows = rows } in
+      ap (λ r. node_meaning frame (CastOp target NonStrict) (typed_before r (Ok [])) (meaning registry frame t ∷ [])) typed
+      ∙ ap (cast_meaning from target NonStrict) (cast_own from (meaning registry frame t))
+
+  -- the operand as it is taken: of the type, with its name, and cast in its meaning
+  pub with_cast_typing : typing registry schema (with_cast from target t) ≡ Ok (record { type = target; many = many })
+  with_cast_typing =
+      elim (same_type from target) as (λ b. same_type from target ≡ b → typing registry schema (cond b t cast_node) ≡ Ok (record { type = target; many = many })) [ true ↦ λ e. typed ∙ ap (λ x. Ok (record { type = x; many = many })) (same_type_exact from target e) | false ↦ λ e. cast_typing ] refl
+
+  pub with_cast_name : name_of (with_cast from target t) ≡ name_of t
+  with_cast_name = elim (same_type from target) as (λ b. name_of (cond b t cast_node) ≡ name_of t) [ true ↦ refl | false ↦ refl ]
+
+  pub with_cast_meaning : (rows : List Row) → meaning registry (record { schema = schema; rows = rows }) (with_cast from target t) ≡ cast_meaning from target NonStrict (meaning registry (record { schema = schema; rows = rows }) t)
+  with_cast_meaning rows =
+      let frame : Frame = record { schema = schema; rows = rows } in
+      let m = meaning registry frame t in
+      elim (same_type from target) as (λ b. same_type from target ≡ b → meaning registry frame (cond b t cast_node) ≡ cast_meaning from target NonStrict m) [ true ↦ λ e. sym (if_true (same_type from target) m _ e) | false ↦ λ e. cast_means rows ] refl
+
+-- an operator over operands of types that it takes to others
+module _ (registry : Registry) (schema : Columns) (operator : Operator) (left right : Expression) (a b : Ty) (manya manyb : Bool) (typed_left : typing registry schema left ≡ Ok (record { type = a; many = manya })) (typed_right : typing registry schema right ≡ Ok (record { type = b; many = manyb })) (c d result : Ty) (takes : operator_types operator (a ∷ b ∷ []) ≡ Ok (record { operands = c ∷ d ∷ []; type = result })) where
+  abbrev operands : Trees Op
+  operands = more left (more right no_more)
+
+  abbrev pub casts : Trees Op
+  casts = more (with_cast a c left) (more (with_cast b d right) no_more)
+
+  operands_typed : typing_all registry schema operands ≡ Ok (record { type = a; many = manya } ∷ record { type = b; many = manyb } ∷ [])
+  operands_typed =
+      ap (λ x. typed_before x (typed_before (typing registry schema right) (Ok []))) typed_left
+      ∙ ap (λ y. typed_before (Ok (record { type = a; many = manya })) (typed_before y (Ok []))) typed_right
+
+  pub casts_typed : typing_all registry schema casts ≡ Ok (record { type = c; many = manya } ∷ record { type = d; many = manyb } ∷ [])
+  casts_typed =
+      ap (λ x. typed_before x (typed_before (typing registry schema (with_cast b d right)) (Ok []))) (with_cast_typing registry schema a c left manya typed_left)
+      ∙ ap (λ y. typed_before (Ok (record { type = c; many = manya })) (typed_before y (Ok []))) (with_cast_typing registry schema b d right manyb typed_right)
+
+  again : operator_types operator (c ∷ d ∷ []) ≡ Ok (record { operands = c ∷ d ∷ []; type = result })
+  again = taken_stay operator a b c d result takes
+
+  own_types : same_types (c ∷ d ∷ []) (c ∷ d ∷ []) ≡ true
+  own_types = ap (λ x. x && (same_type d d && true)) (same_type_own c) ∙ ap (λ x. x && true) (same_type_own d)
+
+  -- the operator over the casts is strict
+  pub casts_strict : IsStrictOver registry schema (BinaryOp operator) casts
+  casts_strict = record {
+    typed = record { type = c; many = manya } ∷ record { type = d; many = manyb } ∷ [];
+    types = casts_typed;
+    strict = record { taken = record { operands = c ∷ d ∷ []; type = result }; takes = again; kept = own_types };
+  }
+
+  same_typing : typing registry schema (node (BinaryOp operator) casts) ≡ typing registry schema (node (BinaryOp operator) operands)
+  same_typing =
+      let many = some_many (record { type = a; many = manya } ∷ record { type = b; many = manyb } ∷ []) in
+      ap (λ r. then_typed r (typing_rule registry schema (BinaryOp operator))) casts_typed
+      ∙ ap (λ o. typed_as o many) (again ∙ sym takes)
+      ∙ sym (ap (λ r. then_typed r (typing_rule registry schema (BinaryOp operator))) operands_typed)
+
+  same_meaning : (rows : List Row) → meaning registry (record { schema = schema; rows = rows }) (node (BinaryOp operator) casts) ≡ meaning registry (record { schema = schema; rows = rows }) (node (BinaryOp operator) operands)
+  same_meaning rows =
+      let frame : Frame = record { schema = schema; rows = rows } in
+      let ml = meaning registry frame left in
+      let mr = meaning registry frame right in
+      let cl = meaning registry frame (with_cast a c left) in
+      let cr = meaning registry frame (with_cast b d right) in
+      let el = cast_own c cl ∙ with_cast_meaning registry schema a c left manya typed_left rows in
+      let er = cast_own d cr ∙ with_cast_meaning registry schema b d right manyb typed_right rows in
+      ap (λ r. node_meaning frame (BinaryOp operator) r (cl ∷ cr ∷ [])) casts_typed
+      ∙ ap (λ o. taken_meaning frame (BinaryOp operator) (c ∷ d ∷ []) o (cl ∷ cr ∷ [])) again
+      ∙ ap (λ x. kernel frame (BinaryOp operator) (c ∷ d ∷ []) result (x ∷ cast_meaning d d NonStrict cr ∷ [])) el
+      ∙ ap (λ y. kernel frame (BinaryOp operator) (c ∷ d ∷ []) result (cast_meaning a c NonStrict ml ∷ y ∷ [])) er
+      ∙ sym (ap (λ o. taken_meaning frame (BinaryOp operator) (a ∷ b ∷ []) o (ml ∷ mr ∷ [])) takes)
+      ∙ sym (ap (λ r. node_meaning frame (BinaryOp operator) r (ml ∷ mr ∷ [])) operands_typed)
+
+  -- and says the same as the operator over its operands
+  pub casts_same : IsSame registry schema (node (BinaryOp operator) operands) (node (BinaryOp operator) casts)
+  casts_same = record {
+    typing = same_typing;
+    name = with_cast_name registry schema a c left manya typed_left;
+    meaning = same_meaning;
+  }

@@ -1,0 +1,106 @@
+-- What a node does with the columns of its operands.
+-- A column is a list of values. Two columns are brought to a common length: one of one value is
+-- repeated, and other unequal lengths are a data fault. Null operands give null, and sums wrap
+-- around in the result's type.
+use Rattle.std.specs.Prelude.{ℕ, ◌+ℤ◌, List, [], ◌∷◌, map, length, replicate, Option, Some, None, Bool, ◌==◌, if◌then◌else◌}
+use Rattle.plan_types.specs.Types.{Ty, same_type}
+use Rattle.plan_types.specs.Schemas.{Name}
+use Rattle.plan_types.specs.Values.{Val, NullValue, IntValue}
+use Rattle.plan_types.specs.Casts.{Converted, Gives, Fails, cast, wrapped}
+use Rattle.plan_types.specs.Frames.{Frame, value_in, row_at}
+use Rattle.plan_types.specs.declared.dtype.CastOptions.{CastOptions}
+use Rattle.plan_dsl.specs.declared.operator.Operator.{Operator}
+use Rattle.plan_dsl.specs.declared.operator.Operator.TheVariants.{Plus}
+use Rattle.plan_dsl.specs.Ops.{Op, ColumnOp, BinaryOp, CastOp}
+
+-- a column, a data fault, or no way to go on
+pub data Outcome : Type 0 where
+  Values : (values : List Val) → Outcome
+  Fault : Outcome
+  Stuck : Outcome
+
+-- what an expression gives on the rows of these numbers
+abbrev pub Meaning : Type 0
+Meaning = List ℕ → Outcome
+
+abbrev pub stuck : Meaning
+stuck rows = Stuck
+
+-- goes on with a column
+abbrev pub then_values : Outcome → (List Val → Outcome) → Outcome
+then_values (Values values) next = next values
+then_values Fault next = Fault
+then_values Stuck next = Stuck
+
+-- goes on with two columns
+abbrev pub then_both : Outcome → Outcome → (List Val → List Val → Outcome) → Outcome
+then_both left right next = then_values left (λ l. then_values right (next l))
+
+-- one more value in front
+abbrev pub value_before : Converted → Outcome → Outcome
+value_before Fails rest = Fault
+value_before (Gives value) (Values values) = Values (value ∷ values)
+value_before (Gives value) Fault = Fault
+value_before (Gives value) Stuck = Stuck
+
+-- a column's cast
+abbrev pub cast_values : Ty → Ty → CastOptions → List Val → Outcome
+cast_values from target options [] = Values []
+cast_values from target options (value ∷ values) = value_before (cast value from target options) (cast_values from target options values)
+
+-- a cast, which to the own type changes nothing
+abbrev pub cast_meaning : Ty → Ty → CastOptions → Meaning → Meaning
+cast_meaning from target options input =
+    if same_type from target then input else (λ rows. then_values (input rows) (cast_values from target options))
+
+-- the length to which two columns are brought
+abbrev pub common_length : ℕ → ℕ → Option ℕ
+common_length left right =
+    if left == right then Some left else (if left == 1 then Some right else (if right == 1 then Some left else None))
+
+-- a column brought to that length
+abbrev pub stretched : ℕ → List Val → List Val
+stretched count [] = []
+stretched count (value ∷ []) = replicate count value
+stretched count (first ∷ second ∷ rest) = first ∷ second ∷ rest
+
+-- the values of an operator at each place
+abbrev pub at_each : (Val → Val → Val) → List Val → List Val → List Val
+at_each f [] right = []
+at_each f (x ∷ left) [] = []
+at_each f (x ∷ left) (y ∷ right) = f x y ∷ at_each f left right
+
+-- a sum in the type
+abbrev pub plus : Ty → Val → Val → Val
+plus type NullValue right = NullValue
+plus type (IntValue left) NullValue = NullValue
+plus type (IntValue left) (IntValue right) = IntValue (wrapped type (left +ℤ right))
+
+abbrev pub operator_value : Operator → Ty → Val → Val → Val
+operator_value Plus type = plus type
+
+abbrev pub at_length : Option ℕ → (ℕ → List Val) → Outcome
+at_length None values = Fault
+at_length (Some count) values = Values (values count)
+
+-- an operator on two columns
+abbrev pub operator_values : Operator → Ty → List Val → List Val → Outcome
+operator_values operator type left right =
+    at_length (common_length (length left) (length right)) (λ count. at_each (operator_value operator type) (stretched count left) (stretched count right))
+
+-- a frame's column at these rows
+abbrev pub column_values : Frame → Name → Meaning
+column_values frame name rows = Values (map (λ number. value_in frame.schema name (row_at frame number)) rows)
+
+-- what a node gives on a frame: its operands' types, its own type, and what its operands give
+abbrev pub kernel : Frame → Op → List Ty → Ty → List Meaning → Meaning
+kernel frame (ColumnOp name) types type operands = column_values frame name
+kernel frame (BinaryOp operator) types type (left ∷ right ∷ []) = λ rows. then_both (left rows) (right rows) (operator_values operator type)
+kernel frame (BinaryOp operator) types type [] = stuck
+kernel frame (BinaryOp operator) types type (left ∷ []) = stuck
+kernel frame (BinaryOp operator) types type (left ∷ right ∷ third ∷ rest) = stuck
+kernel frame (CastOp target options) (from ∷ []) type (operand ∷ []) = cast_meaning from target options operand
+kernel frame (CastOp target options) [] type operands = stuck
+kernel frame (CastOp target options) (from ∷ []) type [] = stuck
+kernel frame (CastOp target options) (from ∷ []) type (first ∷ second ∷ rest) = stuck
+kernel frame (CastOp target options) (from ∷ other ∷ types) type operands = stuck

@@ -1,0 +1,51 @@
+-- Strict expressions, and expressions that say the same.
+-- A node is strict where its operands have the types to which it takes them.
+use Rattle.std.specs.Prelude.{◌≡◌, Bool, true, false, ◌&&◌, List, [], ◌∷◌, Result, Ok, if◌then◌else◌}
+use Rattle.plan_types.specs.Types.{Ty, same_type}
+use Rattle.plan_types.specs.Schemas.{Columns}
+use Rattle.plan_types.specs.Frames.{Row, Frame}
+use Rattle.plan_types.specs.declared.dtype.CastOptions.TheVariants.{NonStrict}
+use Rattle.plan_dsl.specs.Registry.{Registry}
+use Rattle.plan_dsl.specs.Trees.{Tree, Trees, node, no_more, more}
+use Rattle.plan_dsl.specs.Ops.{Op, CastOp, Expression}
+use Rattle.plan_dsl.specs.Names.{name_of}
+use Rattle.plan_dsl.specs.Typing.{Typed, Taken, operand_types, types_of, typing, typing_all}
+use Rattle.plan_dsl.specs.Meaning.{meaning}
+
+-- whether the types are the same, one by one
+abbrev pub same_types : List Ty → List Ty → Bool
+same_types [] [] = true
+same_types [] (target ∷ targets) = false
+same_types (type ∷ types) [] = false
+same_types (type ∷ types) (target ∷ targets) = same_type type target && same_types types targets
+
+-- the node takes operands of these types as they are
+pub record IsStrictNode (schema : Columns) (op : Op) (types : List Ty) : Type 0 where
+  pub taken : Taken
+  pub takes : operand_types schema op types ≡ Ok taken
+  pub kept : same_types types taken.operands ≡ true
+
+-- the node over these children, which are typed, is strict
+pub record IsStrictOver (registry : Registry) (schema : Columns) (op : Op) (children : Trees Op) : Type 0 where
+  pub typed : List Typed
+  pub types : typing_all registry schema children ≡ Ok typed
+  pub strict : IsStrictNode schema op (types_of typed)
+
+-- each node of the expression is strict
+abbrev mutual
+  pub IsStrict : Registry → Columns → Expression → Type 0
+  IsStrict registry schema (node op children) = IsStrictOver registry schema op children × AllStrict registry schema children
+
+  pub AllStrict : Registry → Columns → Trees Op → Type 0
+  AllStrict registry schema no_more = Unit {0}
+  AllStrict registry schema (more child rest) = IsStrict registry schema child × AllStrict registry schema rest
+
+-- an expression of the first type, with a cast round it where the second is another
+abbrev pub with_cast : Ty → Ty → Expression → Expression
+with_cast from target tree = if same_type from target then tree else node (CastOp target NonStrict) (more tree no_more)
+
+-- the one expression has the type, name and meaning of the other, on every frame of the schema
+pub record IsSame (registry : Registry) (schema : Columns) (before after : Expression) : Type 0 where
+  pub typing : typing registry schema after ≡ typing registry schema before
+  pub name : name_of after ≡ name_of before
+  pub meaning : (rows : List Row) → meaning registry (record { schema = schema; rows = rows }) after ≡ meaning registry (record { schema = schema; rows = rows }) before

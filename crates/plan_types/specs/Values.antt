@@ -1,0 +1,31 @@
+-- Values.
+-- A value is null or a whole number. Null fits every type, and a number an integer type whose range has it.
+use Rattle.std.specs.Prelude.{ℕ, ◌-◌, ◌^◌, ℤ, pos, neg_ℤ, int_lt, Bool, true, false, ◌&&◌, not, List, [], ◌∷◌}
+use Rattle.plan_types.specs.Types.{Ty, Integer}
+
+pub data Val : Type 0 where
+  NullValue : Val
+  IntValue : (number : ℤ) → Val
+
+-- the least number of an integer type, and the first number past its greatest
+abbrev pub least : Ty → ℤ
+least (Integer true bits) = neg_ℤ (pos (2 ^ (bits - 1)))
+least (Integer false bits) = pos 0
+
+abbrev pub past_greatest : Ty → ℤ
+past_greatest (Integer true bits) = pos (2 ^ (bits - 1))
+past_greatest (Integer false bits) = pos (2 ^ bits)
+
+-- whether the type's range has the number
+abbrev pub in_range : Ty → ℤ → Bool
+in_range type number = not (int_lt number (least type)) && int_lt number (past_greatest type)
+
+-- whether the value fits the type
+abbrev pub fits : Val → Ty → Bool
+fits NullValue type = true
+fits (IntValue number) type = in_range type number
+
+-- whether each value does
+abbrev pub all_fit : List Val → Ty → Bool
+all_fit [] type = true
+all_fit (value ∷ values) type = fits value type && all_fit values type
