@@ -181,7 +181,7 @@ module _ {Op : Type 0} (shape : List (List ℕ)) (holds holds' : ℕ → Op → 
     kept_below n (node op us) e lt =
         (e.0, keeps n op e.0 (elsewhere n (node op us) e lt) e.1, all_kept_below e.0 us e.2 (omega arith))
 
-    all_kept_below : (ns : List ℕ) (us : Trees Op) → DenoteAll holds ns us → trees_depth us < tree_depth t → DenoteAll holds' ns us
+    pub all_kept_below : (ns : List ℕ) (us : Trees Op) → DenoteAll holds ns us → trees_depth us < tree_depth t → DenoteAll holds' ns us
     all_kept_below [] no_more e lt = tt
     all_kept_below (n ∷ ns) (more u us) e lt = (kept_below n u e.0 (omega arith), all_kept_below ns us e.1 (omega arith))
     all_kept_below [] (more u us) e lt = absurd e

@@ -143,7 +143,7 @@ no_children holds no_more d = refl
 no_children holds (more x ts) d = absurd d
 
 -- a node that denotes a tree is in the arena
-within : (items : List AExpr) (n : ℕ) (t : Expression) → Denotes (HoldsExpression items) n t → n < length items
+pub within : (items : List AExpr) (n : ℕ) (t : Expression) → Denotes (HoldsExpression items) n t → n < length items
 within items n (node op ts) d = omega (arith, slice_get_within (map expression_layer items) n _ d.1, length-map items expression_layer)
 
 pub tree_within : (items : List AExpr) (n : ℕ) → DenotesTree (HoldsExpression items) n → n < length items
@@ -156,3 +156,26 @@ got_held items n item op inputs got is = expression_got items n item got ∙ ap 
 -- the inputs of a node that denotes a tree denote trees, and lead less far down
 pub expression_inputs : (items : List AExpr) (n : ℕ) (op : Op) (inputs : List ℕ) → HoldsExpression items n op inputs → DenotesTree (HoldsExpression items) n → AllByRecursion (λ m. DenotesTree (HoldsExpression items) m × (depth_at (shape_of (map expression_layer items)) m < depth_at (shape_of (map expression_layer items)) n)) inputs
 expression_inputs items n op inputs h d = inputs_denote _ (HoldsExpression items) (expression_laws items) n op inputs h d
+
+-- nodes from a number on are nodes
+pub any_node : (first : ℕ) (items : List AExpr) (n : ℕ) (t : Expression) → Denotes (HoldsFrom first items) n t → Denotes (HoldsExpression items) n t
+any_node first items n t d = kept (HoldsFrom first items) (HoldsExpression items) (λ n op inputs h. h.1) n t d
+
+-- every node is one from 0 on
+pub from_zero : (items : List AExpr) (n : ℕ) (t : Expression) → Denotes (HoldsExpression items) n t → Denotes (HoldsFrom 0 items) n t
+from_zero items n t d = kept (HoldsExpression items) (HoldsFrom 0 items) (λ n op inputs h. (omega arith, h)) n t d
+
+-- the nodes from a number on hold one op each
+pub from_laws : (first : ℕ) (items : List AExpr) → HasShape (shape_of (map expression_layer items)) (HoldsFrom first items)
+from_laws first items = let laws = expression_laws items in record {
+  there = λ n op inputs h. laws.there n op inputs h.1;
+  below = λ n op inputs h. laws.below n op inputs h.1;
+  one = λ n op op' inputs inputs' h h'. laws.one n op op' inputs inputs' h.1 h'.1;
+}
+
+-- `held_top` for nodes from a number on
+pub from_top : (first : ℕ) (items : List AExpr) (n : ℕ) (op : Op) (inputs : List ℕ) → HoldsExpression items n op inputs → (t : Expression) → Denotes (HoldsFrom first items) n t → (ts : Trees Op) × (t ≡ node op ts) × DenoteAll (HoldsFrom first items) inputs ts × (first ≤ n)
+from_top first items n op inputs h (node op' ts) d =
+    let layers = map expression_layer items in
+    let same = some_same (slice_get layers n) _ _ d.1.1 h in
+    (ts, layer_node op' op d.0 inputs ts same, subst (λ ns. DenoteAll (HoldsFrom first items) ns ts) (layer_inputs op' op d.0 inputs same) d.2, d.1.0)

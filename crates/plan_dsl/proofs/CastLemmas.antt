@@ -53,10 +53,10 @@ both_stay (Some s) a b c h =
 pub taken_stay : (operator : Operator) (left right a b c : Ty) → operator_types operator (left ∷ right ∷ []) ≡ Ok (record { operands = a ∷ b ∷ []; type = c }) → operator_types operator (a ∷ b ∷ []) ≡ Ok (record { operands = a ∷ b ∷ []; type = c })
 taken_stay Plus left right a b c h = both_stay (supertype left right) a b c h
 
-if_true : {A : Type 0} (b : Bool) (x y : A) → b ≡ true → cond b x y ≡ x
+pub if_true : {A : Type 0} (b : Bool) (x y : A) → b ≡ true → cond b x y ≡ x
 if_true b x y e = ap (λ v. cond v x y) e
 
-if_false : {A : Type 0} (b : Bool) (x y : A) → b ≡ false → cond b x y ≡ y
+pub if_false : {A : Type 0} (b : Bool) (x y : A) → b ≡ false → cond b x y ≡ y
 if_false b x y e = ap (λ v. cond v x y) e
 
 -- a cast to the own type is the identity

@@ -1,2 +1,3 @@
+pub mod CoercionLemmas
 pub mod NodeLemmas
 pub mod TypingLemmas

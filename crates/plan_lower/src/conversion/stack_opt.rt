@@ -1,0 +1,1 @@
+//! The work stack of coercion.
