@@ -22,7 +22,7 @@ has_each P [] q all found = cc
 has_each P (m ∷ ms) q all found =
     elim (eqb q m) as (λ b. eqb q m ≡ b → (b || list_any (eqb q) ms) ≡ true → P q) [ true ↦ λ e f. subst P (sym (eqb-true q m e)) all.0 | false ↦ λ e f. has_each P ms q all.1 f ] refl found
 
-same_or_other : (m n : ℕ) → (m ≡ n) ⊎ (m ≢ n)
+pub same_or_other : (m n : ℕ) → (m ≡ n) ⊎ (m ≢ n)
 same_or_other m n =
     elim (eqb m n) as (λ b. eqb m n ≡ b → (m ≡ n) ⊎ (m ≢ n)) [ true ↦ λ e. inl (eqb-true m n e) | false ↦ λ e. inr (eqb-false m n e) ] refl
 

@@ -8,7 +8,7 @@ use std::marker::Model;
 use std::mem;
 
 /// The number of an item.
-#[derive(Clone, Copy, Debug, PartialEq, Eq, PartialOrd, Ord, Hash)]
+#[derive(Clone, Copy, Debug, Default, PartialEq, Eq, PartialOrd, Ord, Hash)]
 pub struct Node(pub usize);
 
 /// Items in the order in which they were added. Contracts see their list.

@@ -1,3 +1,4 @@
 pub mod CoercionLemmas
 pub mod NodeLemmas
+pub mod StackLemmas
 pub mod TypingLemmas

@@ -1,0 +1,252 @@
+-- Coercion over a work stack: what is reached is strict, but for what waits.
+use Rattle.std.proofs.Common.{◌≡◌, ◌≢◌, ◌⊎◌, ℕ, ◌<◌, ◌≤◌, List, [], ◌∷◌, ◌++◌, length, map, Option, Some, None, Result, Ok, Err, slice_get, refl, sym, ap, ◌∙◌, subst, arith, true, false, inl, inr, ⊎_elim, append_assoc}
+use Rattle.std.specs.List.{AllByRecursion}
+use Rattle.std.proofs.lemmas.List.{map-append}
+use Rattle.std.proofs.lemmas.Bool.{false≢true}
+use Rattle.plan_types.specs.Schemas.{Columns}
+use Rattle.plan_dsl.specs.Registry.{Registry}
+use Rattle.plan_dsl.specs.Trees.{Tree, Trees, node, no_more, more, AllRelated}
+use Rattle.plan_dsl.specs.Ops.{Op, Expression}
+use Rattle.plan_dsl.specs.Typing.{Typed, typing, typing_all, typed_before}
+use Rattle.plan_dsl.specs.Strictness.{IsSame, IsStrict, AllStrict, IsStrictOver}
+use Rattle.plan_dsl.proofs.SameLemmas.{same_itself, same_then, node_same, typings_same}
+use Rattle.plan_arena.specs.declared.arena.Node.{Node}
+use Rattle.plan_arena.specs.declared.aexpr.AExpr.{AExpr}
+use Rattle.plan_arena.specs.Denotation.{Denotes, DenoteAll}
+use Rattle.plan_arena.specs.Layers.{layer, inputs_of, shape_of}
+use Rattle.plan_arena.specs.Items.{HoldsExpression, HoldsFrom, expression_layer}
+use Rattle.plan_arena.proofs.DenotationLemmas.{denotes_one, replaced, same_or_other}
+use Rattle.plan_arena.proofs.ItemLemmas.{from_laws, expression_got}
+use Rattle.plan_lower.specs.Coercion.{DenotesTyped, DenotesSame, KeepsBelow, Visits, IsCoerced, numbers}
+
+layer_inputs_of : (o : Option _) (op : Op) (inputs : List ℕ) (item : AExpr) → o ≡ Some (expression_layer item) → o ≡ Some (layer op inputs) → inputs ≡ inputs_of (expression_layer item)
+layer_inputs_of o op inputs item p q = let e : layer op inputs ≡ expression_layer item = cc in ap inputs_of e
+
+-- the inputs that a node holds are its item's
+pub inputs_are : (items : List AExpr) (n : ℕ) (item : AExpr) (op : Op) (inputs : List ℕ) → slice_get items n ≡ Some item → HoldsExpression items n op inputs → inputs ≡ inputs_of (expression_layer item)
+inputs_are items n item op inputs got held = layer_inputs_of _ op inputs item (expression_got items n item got) held
+
+pub pushed_one : (old new : List Node) (a : Node) → new ≡ old ++ a ∷ [] → numbers new ≡ numbers old ++ a.0 ∷ []
+pushed_one old new a e = ap numbers e ∙ map-append (λ (n : Node). n.0) old (a ∷ [])
+
+pub pushed_two : (old mid new : List Node) (a b : Node) → mid ≡ old ++ a ∷ [] → new ≡ mid ++ b ∷ [] → numbers new ≡ numbers old ++ (a.0 ∷ b.0 ∷ [])
+pushed_two old mid new a b e f =
+    pushed_one mid new b f ∙ ap (λ l. l ++ b.0 ∷ []) (pushed_one old mid a e) ∙ append_assoc (numbers old) (a.0 ∷ []) (b.0 ∷ [])
+
+-- the node waits on the stack
+abbrev pub Waits : List ℕ → ℕ → Type 0
+Waits [] n = ⊥
+Waits (m ∷ ms) n = (n ≡ m) ⊎ Waits ms n
+
+waits_front : (ms ns : List ℕ) (n : ℕ) → Waits ms n → Waits (ms ++ ns) n
+waits_front [] ns n w = absurd w
+waits_front (m ∷ ms) ns n w = ⊎_elim (λ e. inl e) (λ v. inr (waits_front ms ns n v)) w
+
+waits_back : (ms ns : List ℕ) (n : ℕ) → Waits ns n → Waits (ms ++ ns) n
+waits_back [] ns n w = w
+waits_back (m ∷ ms) ns n w = inr (waits_back ms ns n w)
+
+-- what waited waits still, or was the last
+waits_but_last : (ms : List ℕ) (last n : ℕ) → Waits (ms ++ last ∷ []) n → Waits ms n ⊎ (n ≡ last)
+waits_but_last [] last n w = ⊎_elim (λ e. inr e) (λ v. absurd v) w
+waits_but_last (m ∷ ms) last n w =
+    ⊎_elim (λ e. inl (inl e)) (λ v. ⊎_elim (λ u. inl (inr u)) (λ e. inr e) (waits_but_last ms last n v)) w
+
+all_front : (P : ℕ → Type 0) (ms ns : List ℕ) → AllByRecursion P (ms ++ ns) → AllByRecursion P ms
+all_front P [] ns all = tt
+all_front P (m ∷ ms) ns all = (all.0, all_front P ms ns all.1)
+
+all_joined : (P : ℕ → Type 0) (ms ns : List ℕ) → AllByRecursion P ms → AllByRecursion P ns → AllByRecursion P (ms ++ ns)
+all_joined P [] ns a b = b
+all_joined P (m ∷ ms) ns a b = (a.0, all_joined P ms ns a.1 b)
+
+pub all_weaker : (P Q : ℕ → Type 0) → ((n : ℕ) → P n → Q n) → (ns : List ℕ) → AllByRecursion P ns → AllByRecursion Q ns
+all_weaker P Q h [] all = tt
+all_weaker P Q h (n ∷ ns) all = (h n all.0, all_weaker P Q h ns all.1)
+
+-- each node of a tree is strict, or leads to one that waits
+abbrev mutual
+  pub SettledBut : Registry → Columns → ℕ → List AExpr → List ℕ → ℕ → Expression → Type 0
+  SettledBut registry schema first items stack n (node op ts) =
+      (Waits stack n × Denotes (HoldsFrom first items) n (node op ts)) ⊎ ((inputs : List ℕ) × HoldsFrom first items n op inputs × IsStrictOver registry schema op ts × AllSettledBut registry schema first items stack inputs ts)
+
+  pub AllSettledBut : Registry → Columns → ℕ → List AExpr → List ℕ → List ℕ → Trees Op → Type 0
+  AllSettledBut registry schema first items stack [] no_more = Unit {0}
+  AllSettledBut registry schema first items stack (n ∷ ns) (more t ts) = SettledBut registry schema first items stack n t × AllSettledBut registry schema first items stack ns ts
+  AllSettledBut registry schema first items stack [] (more t ts) = ⊥
+  AllSettledBut registry schema first items stack (n ∷ ns) no_more = ⊥
+
+module _ (registry : Registry) (schema : Columns) (first : ℕ) (items : List AExpr) (stack : List ℕ) where
+  mutual
+    settled_denotes : (n : ℕ) (t : Expression) → SettledBut registry schema first items stack n t → Denotes (HoldsFrom first items) n t
+    settled_denotes n (node op ts) s =
+        ⊎_elim (λ w. w.1) (λ h. (h.0, h.1, all_settled_denotes h.0 ts h.3)) s
+
+    all_settled_denotes : (ns : List ℕ) (ts : Trees Op) → AllSettledBut registry schema first items stack ns ts → DenoteAll (HoldsFrom first items) ns ts
+    all_settled_denotes [] no_more s = tt
+    all_settled_denotes (n ∷ ns) (more t ts) s = (settled_denotes n t s.0, all_settled_denotes ns ts s.1)
+    all_settled_denotes [] (more t ts) s = absurd s
+    all_settled_denotes (n ∷ ns) no_more s = absurd s
+
+  -- nodes that wait are settled but for what waits
+  all_waiting : (ns : List ℕ) (ts : Trees Op) → ((n : ℕ) → Waits ns n → Waits stack n) → DenoteAll (HoldsFrom first items) ns ts → AllSettledBut registry schema first items stack ns ts
+  all_waiting [] no_more w d = tt
+  all_waiting (n ∷ ns) (more (node op us) ts) w d = (inl (w n (inl refl), d.0), all_waiting ns ts (λ m v. w m (inr v)) d.1)
+  all_waiting [] (more t ts) w d = absurd d
+  all_waiting (n ∷ ns) no_more w d = absurd d
+
+module _ (registry : Registry) (schema : Columns) (first : ℕ) (items : List AExpr) where
+  -- where nothing waits, each node is strict
+  mutual
+    pub settled_strict : (n : ℕ) (t : Expression) → SettledBut registry schema first items [] n t → IsStrict registry schema t
+    settled_strict n (node op ts) s =
+        ⊎_elim (λ w. absurd w.0) (λ h. (h.2, all_settled_strict h.0 ts h.3)) s
+
+    all_settled_strict : (ns : List ℕ) (ts : Trees Op) → AllSettledBut registry schema first items [] ns ts → AllStrict registry schema ts
+    all_settled_strict [] no_more s = tt
+    all_settled_strict (n ∷ ns) (more t ts) s = (settled_strict n t s.0, all_settled_strict ns ts s.1)
+    all_settled_strict [] (more t ts) s = absurd s
+    all_settled_strict (n ∷ ns) no_more s = absurd s
+
+waiting_settled : (registry : Registry) (schema : Columns) (first : ℕ) (items : List AExpr) (stack : List ℕ) (n : ℕ) (t : Expression) → Waits stack n → Denotes (HoldsFrom first items) n t → SettledBut registry schema first items stack n t
+waiting_settled registry schema first items stack n (node op ts) w d = inl (w, d)
+
+-- the visit of the last node that waits
+module _ (registry : Registry) (schema : Columns) (first : ℕ) (items items' : List AExpr) (at : ℕ) (rest : List ℕ) (before : Expression) (d : Denotes (HoldsFrom first items) at before) (v : Visits registry schema first items' at before) (elsewhere : (n : ℕ) (op : Op) (inputs : List ℕ) → n ≢ at → HoldsExpression items n op inputs → HoldsExpression items' n op inputs) where
+  keeps : (n : ℕ) (op : Op) (inputs : List ℕ) → n ≢ at → HoldsFrom first items n op inputs → HoldsFrom first items' n op inputs
+  keeps n op inputs other h = (h.0, elsewhere n op inputs other h.1)
+
+  after : Expression
+  after = node v.op v.children
+
+  denotes_after : Denotes (HoldsFrom first items') at (node v.op v.children)
+  denotes_after = (v.inputs, v.held, v.denotes)
+
+  -- every tree becomes one that says the same
+  pub becomes : (n : ℕ) (u : Expression) → Denotes (HoldsFrom first items) n u → (w : Expression) × Denotes (HoldsFrom first items') n w × IsSame registry schema u w
+  becomes n u e =
+      replaced (shape_of (map expression_layer items)) (HoldsFrom first items) (HoldsFrom first items') (from_laws first items) at keeps before d (IsSame registry schema) (node_same registry schema) (node v.op v.children) denotes_after v.same n u e
+
+  visited : SettledBut registry schema first items' (rest ++ v.inputs) at (node v.op v.children)
+  visited = inr (v.inputs, v.held, v.strict, all_waiting registry schema first items' (rest ++ v.inputs) v.inputs v.children (λ n w. waits_back rest v.inputs n w) v.denotes)
+
+  visited_here : (n : ℕ) (u : Expression) → n ≡ at → Denotes (HoldsFrom first items) n u → (w : Expression) × SettledBut registry schema first items' (rest ++ v.inputs) n w × IsSame registry schema u w
+  visited_here n u e du =
+      let one = denotes_one (shape_of (map expression_layer items)) (HoldsFrom first items) (from_laws first items) at before u d (subst (λ k. Denotes (HoldsFrom first items) k u) e du) in
+      (node v.op v.children, subst (λ k. SettledBut registry schema first items' (rest ++ v.inputs) k (node v.op v.children)) (sym e) visited, subst (λ w. IsSame registry schema w (node v.op v.children)) one v.same)
+
+  still_waits : (n : ℕ) (u : Expression) → n ≢ at → Waits (rest ++ at ∷ []) n → Denotes (HoldsFrom first items) n u → (w : Expression) × SettledBut registry schema first items' (rest ++ v.inputs) n w × IsSame registry schema u w
+  still_waits n u other w du =
+      let r = becomes n u du in
+      let waits = ⊎_elim (λ h. h) (λ e. absurd (other e)) (waits_but_last rest at n w) in
+      (r.0, waiting_settled registry schema first items' (rest ++ v.inputs) n r.0 (waits_front rest v.inputs n waits) r.1, r.2)
+
+  mutual
+    step : (n : ℕ) (u : Expression) → SettledBut registry schema first items (rest ++ at ∷ []) n u → (w : Expression) × SettledBut registry schema first items' (rest ++ v.inputs) n w × IsSame registry schema u w
+    step n (node op us) s =
+        ⊎_elim
+        (λ e. visited_here n (node op us) e (settled_denotes registry schema first items (rest ++ at ∷ []) n (node op us) s))
+        (λ other. ⊎_elim
+        (λ w. still_waits n (node op us) other w.0 w.1)
+        (λ h.
+        let kids = step_all h.0 us h.3 in
+        let strict : IsStrictOver registry schema op kids.0 = record { typed = h.2.typed; types = typings_same registry schema us kids.0 kids.2 ∙ h.2.types; strict = h.2.strict } in
+        (node op kids.0, inr (h.0, keeps n op h.0 other h.1, strict, kids.1), node_same registry schema op us kids.0 kids.2))
+        s)
+        (same_or_other n at)
+
+    step_all : (ns : List ℕ) (us : Trees Op) → AllSettledBut registry schema first items (rest ++ at ∷ []) ns us → (ws : Trees Op) × AllSettledBut registry schema first items' (rest ++ v.inputs) ns ws × AllRelated (IsSame registry schema) us ws
+    step_all [] no_more s = (no_more, tt, tt)
+    step_all (n ∷ ns) (more u us) s =
+        let head = step n u s.0 in
+        let tail = step_all ns us s.1 in
+        (more head.0 tail.0, (head.1, tail.1), (head.2, tail.2))
+    step_all [] (more u us) s = absurd s
+    step_all (n ∷ ns) no_more s = absurd s
+
+  pub roots_step : (roots : List ℕ) → AllByRecursion (λ n. (t : Expression) × SettledBut registry schema first items (rest ++ at ∷ []) n t) roots → AllByRecursion (λ n. (t : Expression) × SettledBut registry schema first items' (rest ++ v.inputs) n t) roots
+  roots_step [] all = tt
+  roots_step (n ∷ ns) all = let s = step n all.0.0 all.0.1 in ((s.0, s.1), roots_step ns all.1)
+
+  pub typed_step : (n : ℕ) → DenotesTyped registry schema first items n → DenotesTyped registry schema first items' n
+  typed_step n t =
+      let r = becomes n t.tree t.denotes in
+      record { tree = r.0; denotes = r.1; typed = t.typed; is = r.2.typing ∙ t.is }
+
+before_ok : (a : Result Typed _) (b : Result (List Typed) _) (typed : List Typed) → typed_before a b ≡ Ok typed → (x : Typed) × (a ≡ Ok x) × (xs : List Typed) × (b ≡ Ok xs)
+before_ok (Err kind) b typed e = cc
+before_ok (Ok x) (Err kind) typed e = cc
+before_ok (Ok x) (Ok xs) typed e = (x, refl, xs, refl)
+
+-- the inputs of a typed node are typed
+children_typed : (registry : Registry) (schema : Columns) (first : ℕ) (items : List AExpr) (ns : List ℕ) (ts : Trees Op) (typed : List Typed) → DenoteAll (HoldsFrom first items) ns ts → typing_all registry schema ts ≡ Ok typed → AllByRecursion (DenotesTyped registry schema first items) ns
+children_typed registry schema first items [] no_more typed d e = tt
+children_typed registry schema first items (n ∷ ns) (more t ts) typed d e =
+    let b = before_ok (typing registry schema t) (typing_all registry schema ts) typed e in
+    (record { tree = t; denotes = d.0; typed = b.0; is = b.1 }, children_typed registry schema first items ns ts b.2 d.1 b.3)
+children_typed registry schema first items [] (more t ts) typed d e = absurd d
+children_typed registry schema first items (n ∷ ns) no_more typed d e = absurd d
+
+pub all_last : (P : ℕ → Type 0) (ms : List ℕ) (last : ℕ) → AllByRecursion P (ms ++ last ∷ []) → P last
+all_last P [] last all = all.0
+all_last P (m ∷ ms) last all = all_last P ms last all.1
+
+-- the work so far: what lies below the number stays, trees say the same, what waits is typed, and each
+-- root is settled but for what waits
+pub record Pending (registry : Registry) (schema : Columns) (first : ℕ) (old new : List AExpr) (stack roots : List ℕ) : Type 0 where
+  pub below : KeepsBelow first old new
+  pub trees : (n : ℕ) (t : Expression) → Denotes (HoldsFrom first old) n t → DenotesSame registry schema first new n t
+  pub waiting : AllByRecursion (DenotesTyped registry schema first new) stack
+  pub settled : AllByRecursion (λ n. (t : Expression) × SettledBut registry schema first new stack n t) roots
+
+start_settled : (registry : Registry) (schema : Columns) (first : ℕ) (items : List AExpr) (stack ns : List ℕ) → ((n : ℕ) → Waits ns n → Waits stack n) → AllByRecursion (DenotesTyped registry schema first items) ns → AllByRecursion (λ n. (t : Expression) × SettledBut registry schema first items stack n t) ns
+start_settled registry schema first items stack [] w all = tt
+start_settled registry schema first items stack (n ∷ ns) w all =
+    ((all.0.tree, waiting_settled registry schema first items stack n all.0.tree (w n (inl refl)) all.0.denotes), start_settled registry schema first items stack ns (λ m v. w m (inr v)) all.1)
+
+pub pending_start : (registry : Registry) (schema : Columns) (first : ℕ) (items : List AExpr) (roots : List ℕ) → AllByRecursion (DenotesTyped registry schema first items) roots → Pending registry schema first items items roots roots
+pending_start registry schema first items roots all = record {
+  below = λ n op inputs lower h. h;
+  trees = λ n t d. record { tree = t; denotes = d; same = same_itself registry schema t };
+  waiting = all;
+  settled = start_settled registry schema first items roots roots (λ n w. w) all;
+}
+
+held_from : (first : ℕ) (items : List AExpr) (n : ℕ) (t : Expression) → Denotes (HoldsFrom first items) n t → first ≤ n
+held_from first items n (node op ts) d = d.1.0
+
+pub pending_step : (registry : Registry) (schema : Columns) (first : ℕ) (old items items' : List AExpr) (at : ℕ) (rest stack roots : List ℕ) → Pending registry schema first old items (rest ++ at ∷ []) roots → ((n : ℕ) (op : Op) (inputs : List ℕ) → n ≢ at → HoldsExpression items n op inputs → HoldsExpression items' n op inputs) → ((t : Expression) → Denotes (HoldsFrom first items) at t → Visits registry schema first items' at t) → ((op : Op) (inputs : List ℕ) → HoldsExpression items' at op inputs → stack ≡ rest ++ inputs) → Pending registry schema first old items' stack roots
+pending_step registry schema first old items items' at rest stack roots p elsewhere visit pushed =
+    let here = all_last (DenotesTyped registry schema first items) rest at p.waiting in
+    let v = visit here.tree here.denotes in
+    let grown = pushed v.op v.inputs v.held.1 in
+    let from = held_from first items at here.tree here.denotes in
+    let rest_typed = all_weaker (DenotesTyped registry schema first items) (DenotesTyped registry schema first items') (typed_step registry schema first items items' at rest here.tree here.denotes v elsewhere) rest (all_front (DenotesTyped registry schema first items) rest (at ∷ []) p.waiting) in
+    let inputs_typed = children_typed registry schema first items' v.inputs v.children v.strict.typed v.denotes v.strict.types in
+    record {
+      below = λ n op inputs lower h. elsewhere n op inputs (λ e. lower (omega (arith, from, e))) (p.below n op inputs lower h);
+      trees = λ n t d.
+        let one = p.trees n t d in
+        let two = becomes registry schema first items items' at rest here.tree here.denotes v elsewhere n one.tree one.denotes in
+        record { tree = two.0; denotes = two.1; same = same_then registry schema t one.tree two.0 one.same two.2 };
+      waiting = subst (AllByRecursion (DenotesTyped registry schema first items')) (sym grown) (all_joined (DenotesTyped registry schema first items') rest v.inputs rest_typed inputs_typed);
+      settled = subst (λ s. AllByRecursion (λ n. (t : Expression) × SettledBut registry schema first items' s n t) roots) (sym grown) (roots_step registry schema first items items' at rest here.tree here.denotes v elsewhere roots p.settled);
+    }
+
+end_strict : (registry : Registry) (schema : Columns) (first : ℕ) (items : List AExpr) (ns : List ℕ) → AllByRecursion (λ n. (t : Expression) × SettledBut registry schema first items [] n t) ns → AllByRecursion (λ n. (t : Expression) × Denotes (HoldsFrom first items) n t × IsStrict registry schema t) ns
+end_strict registry schema first items [] all = tt
+end_strict registry schema first items (n ∷ ns) all =
+    ((all.0.0, settled_denotes registry schema first items [] n all.0.0 all.0.1, settled_strict registry schema first items n all.0.0 all.0.1), end_strict registry schema first items ns all.1)
+
+pub pending_end : (registry : Registry) (schema : Columns) (first : ℕ) (old new : List AExpr) (roots : List ℕ) → Pending registry schema first old new [] roots → IsCoerced registry schema first old new roots
+pending_end registry schema first old new roots p =
+    record { below = p.below; trees = p.trees; strict = end_strict registry schema first new roots p.settled }
+
+-- the last that waits is typed
+pub last_typed : (registry : Registry) (schema : Columns) (old new : List AExpr) (rest roots : List ℕ) (at : ℕ) → Pending registry schema 0 old new (rest ++ at ∷ []) roots → DenotesTyped registry schema 0 new at
+last_typed registry schema old new rest roots at p = all_last (DenotesTyped registry schema 0 new) rest at p.waiting
+
+-- a list that has no item
+pub no_numbers : (nodes : List Node) → (0 < length nodes → false ≡ true) → numbers nodes ≡ []
+no_numbers [] h = refl
+no_numbers (x ∷ xs) h = absurd (false≢true (h (omega arith)))
