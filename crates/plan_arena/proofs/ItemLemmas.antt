@@ -1,5 +1,5 @@
 -- The two arenas hold what their items say, and keep it as they grow or change at one node.
-use Rattle.std.proofs.Common.{◌≡◌, ◌≢◌, ℕ, ◌<◌, ◌≤◌, List, [], ◌∷◌, ◌++◌, length, map, set, Option, Some, slice_get, sym, ap, ◌∙◌, subst, refl, arith, length-append}
+use Rattle.std.proofs.Common.{◌≡◌, ◌≢◌, ℕ, ◌<◌, ◌≤◌, List, [], ◌∷◌, ◌++◌, length, map, set, Option, Some, slice_get, sym, ap, ◌∙◌, subst, refl, arith, length-append, append_assoc}
 use Rattle.std.specs.List.{AllByRecursion}
 use Rattle.std.specs.Option.{option_map}
 use Rattle.std.proofs.lemmas.Option.{slice_get-map, slice_get_within}
@@ -179,3 +179,9 @@ from_top first items n op inputs h (node op' ts) d =
     let layers = map expression_layer items in
     let same = some_same (slice_get layers n) _ _ d.1.1 h in
     (ts, layer_node op' op d.0 inputs ts same, subst (λ ns. DenoteAll (HoldsFrom first items) ns ts) (layer_inputs op' op d.0 inputs same) d.2, d.1.0)
+
+pub grows_then : {T : Type 0} (a b c : List T) → Grows a b → Grows b c → Grows a c
+grows_then a b c g h = record {
+  added = g.added ++ h.added;
+  longer = h.longer ∙ ap (λ l. l ++ h.added) g.longer ∙ append_assoc a g.added h.added;
+}

@@ -1,4 +1,5 @@
 pub mod CoercionLemmas
 pub mod NodeLemmas
+pub mod ProjectionLemmas
 pub mod StackLemmas
 pub mod TypingLemmas

@@ -1,0 +1,66 @@
+-- Projections: expressions of one node, lowered together.
+use Rattle.std.specs.Prelude.{◌≡◌, ℕ, List, [], ◌∷◌, ◌++◌, map, true, is_some, Result, Ok, Err}
+use Rattle.std.specs.List.{AllByRecursion}
+use Rattle.plan_types.specs.Types.{Ty}
+use Rattle.plan_types.specs.Schemas.{Name, Columns, type_at}
+use Rattle.plan_types.specs.Errors.{no_memory, at_top}
+use Rattle.plan_types.specs.declared.error.ErrorKind.{ErrorKind}
+use Rattle.plan_types.specs.declared.error.ErrorKind.TheVariants.{Duplicate}
+use Rattle.plan_types.specs.declared.error.PlanError.{PlanError}
+use Rattle.plan_dsl.specs.Registry.{Registry}
+use Rattle.plan_dsl.specs.Ops.{Expression}
+use Rattle.plan_dsl.specs.Names.{name_of}
+use Rattle.plan_dsl.specs.Plans.{Named}
+use Rattle.plan_dsl.specs.Typing.{Typed, typing}
+use Rattle.plan_arena.specs.declared.aexpr.AExpr.{AExpr}
+use Rattle.plan_arena.specs.Denotation.{Denotes}
+use Rattle.plan_arena.specs.Items.{HoldsFrom}
+
+-- an expression, its node and its type
+pub record Output : Type 0 where
+  pub tree : Expression
+  pub node : ℕ
+  pub typed : Typed
+
+abbrev pub output_node : Output → Named ℕ
+output_node output = record { name = name_of output.tree; expression = output.node }
+
+abbrev pub output_column : Output → Name × Ty
+output_column output = (name_of output.tree, output.typed.type)
+
+-- the node denotes the expression, which has the type
+pub record IsOutput (registry : Registry) (schema : Columns) (first : ℕ) (items : List AExpr) (output : Output) : Type 0 where
+  pub denotes : Denotes (HoldsFrom first items) output.node output.tree
+  pub typed : typing registry schema output.tree ≡ Ok output.typed
+
+-- the nodes are those of the expressions, and the columns their names and types
+pub record Projects (registry : Registry) (schema : Columns) (first : ℕ) (items : List AExpr) (trees : List Expression) (nodes : List (Named ℕ)) (columns : Columns) : Type 0 where
+  pub outputs : List Output
+  pub trees_are : map (λ o. o.tree) outputs ≡ trees
+  pub nodes_are : map output_node outputs ≡ nodes
+  pub columns_are : map output_column outputs ≡ columns
+  pub each : AllByRecursion (IsOutput registry schema first items) outputs
+
+-- one more expression's node and column
+pub record AddsOutput (registry : Registry) (schema : Columns) (first : ℕ) (items : List AExpr) (tree : Expression) (node : Named ℕ) (old new : Columns) : Type 0 where
+  pub output : Output
+  pub is : IsOutput registry schema first items output
+  pub tree_is : output.tree ≡ tree
+  pub node_is : output_node output ≡ node
+  pub column_is : new ≡ old ++ output_column output ∷ []
+
+-- why an expression can't be added behind these columns
+pub data IsOutputRefusal (registry : Registry) (schema : Columns) (tree : Expression) (before : Columns) (error : PlanError) : Type 0 where
+  no_room : error ≡ no_memory → IsOutputRefusal registry schema tree before error
+  untyped : (kind : ErrorKind) → error ≡ at_top kind → typing registry schema tree ≡ Err kind → IsOutputRefusal registry schema tree before error
+  repeated : error ≡ at_top Duplicate → is_some (type_at before (name_of tree)) ≡ true → IsOutputRefusal registry schema tree before error
+
+-- why expressions can't be projected: one of them can't be added behind the columns of those before it
+pub record IsProjectionRefusal (registry : Registry) (schema : Columns) (trees : List Expression) (error : PlanError) : Type 0 where
+  pub front : List Expression
+  pub tree : Expression
+  pub back : List Expression
+  pub split : trees ≡ front ++ tree ∷ back
+  pub before : Columns
+  pub names : map (λ c. c.0) before ≡ map name_of front
+  pub refusal : IsOutputRefusal registry schema tree before error

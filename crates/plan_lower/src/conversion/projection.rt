@@ -1,0 +1,74 @@
+//! The expressions of one node, lowered together.
+ghost use Rattle.std.specs.Prelude.{IfOk, IfErr, length, map};
+ghost use Rattle.plan_types.specs.Schemas.{columns};
+ghost use Rattle.plan_dsl.specs.Expressions.{tree_of};
+ghost use Rattle.plan_dsl.specs.Plans.{trees_of};
+ghost use Rattle.plan_dsl.specs.Registry.{registry};
+ghost use Rattle.plan_arena.specs.Items.{named_node, Grows};
+ghost use Rattle.plan_lower.specs.Projection.{Projects, AddsOutput, IsOutputRefusal, IsProjectionRefusal};
+
+use crate::conversion::expr_to_ir::to_expr_ir;
+use crate::typing::dtype_of;
+use plan_arena::aexpr::AExpr;
+use plan_arena::arena::Arena;
+use plan_arena::expr_ir::{ExprIR, ExprIRs};
+use plan_dsl::expr::Expr;
+use plan_dsl::plan::Exprs;
+use plan_dsl::udfs::Udfs;
+use plan_types::error::{ErrorKind, PlanError};
+use plan_types::schema::Schema;
+
+/// Lowered expressions, and the schema of their columns.
+#[derive(Drop)]
+pub struct Projection {
+    pub expr: ExprIRs,
+    pub schema: Schema,
+}
+
+/// Adds the expressions' nodes, and types them over a frame of the schema. No casts are put in yet.
+pub fn project(
+    exprs: Exprs,
+    schema: &Schema,
+    arena: &mut Arena<AExpr>,
+    udfs: &Udfs,
+) -> Result<Projection, PlanError>
+    ensures ok { IfOk result (λ projection. Projects (registry udfs.now) (columns schema.now) (length arena.old) arena.new
+        (trees_of exprs) (map named_node projection.expr.items.items) (columns projection.schema)) }
+    ensures grows { Grows arena.old arena.new }
+    ensures err { IfErr result (IsProjectionRefusal (registry udfs.now) (columns schema.now) (trees_of exprs)) }
+{
+    let alloc = arena.allocator();
+    let mut items = Vec::new(alloc);
+    let mut output = Schema::new(alloc);
+    for expr in exprs.items {
+        let expr_ir = project_one(expr, schema, arena, udfs, &mut output)?;
+        items.push(expr_ir)?;
+    }
+    Ok(Projection {
+        expr: ExprIRs { items },
+        schema: output,
+    })
+}
+
+// Adds one expression's nodes, and its column to the output.
+fn project_one(
+    expr: Expr,
+    schema: &Schema,
+    arena: &mut Arena<AExpr>,
+    udfs: &Udfs,
+    output: &mut Schema,
+) -> Result<ExprIR, PlanError>
+    ensures ok { IfOk result (λ expr_ir. AddsOutput (registry udfs.now) (columns schema.now) (length arena.old) arena.new
+        (tree_of expr) (named_node expr_ir) (columns output.old) (columns output.new)) }
+    ensures grows { Grows arena.old arena.new }
+    ensures err { IfErr result (IsOutputRefusal (registry udfs.now) (columns schema.now) (tree_of expr) (columns output.old)) }
+{
+    let expr_ir = to_expr_ir(expr, arena)?;
+    let dtype = dtype_of(expr_ir.node(), arena, schema, udfs)?;
+    if output.contains(expr_ir.output_name()) {
+        return Err(PlanError::at_top(ErrorKind::Duplicate));
+    }
+    let name = expr_ir.output_name().try_clone(arena.allocator())?;
+    output.with_column(name, dtype)?;
+    Ok(expr_ir)
+}
