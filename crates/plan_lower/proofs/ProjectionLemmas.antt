@@ -1,23 +1,30 @@
 -- Projections, output by output.
 use Rattle.std.proofs.Common.{◌≡◌, ℕ, ◌≤◌, List, [], ◌∷◌, ◌++◌, length, map, Option, Some, None, Bool, true, false, is_some, Result, Ok, Err, refl, sym, ap, ◌∙◌, subst, arith, append_assoc, append-nil}
 use Rattle.std.specs.List.{AllByRecursion}
-use Rattle.std.proofs.lemmas.List.{map-append}
+use Rattle.std.proofs.lemmas.List.{map-append, length-map}
+use Rattle.plan_types.proofs.ListLemmas.{map-map}
 use Rattle.plan_types.specs.Types.{Ty}
-use Rattle.plan_types.specs.Schemas.{Name, Columns, type_at, with_column}
+use Rattle.plan_types.specs.Schemas.{Name, Columns, type_at, with_column, HasDistinctNames}
 use Rattle.plan_types.specs.declared.error.PlanError.{PlanError}
-use Rattle.plan_types.proofs.SchemaLemmas.{with_column-new}
+use Rattle.plan_types.proofs.SchemaLemmas.{with_column-new, HasDistinctNames-push}
 use Rattle.plan_dsl.specs.Registry.{Registry}
-use Rattle.plan_dsl.specs.Ops.{Expression}
+use Rattle.plan_dsl.specs.Ops.{Op, Expression}
+use Rattle.plan_dsl.specs.Strictness.{IsStrict}
 use Rattle.plan_dsl.specs.Names.{name_of}
 use Rattle.plan_dsl.specs.Plans.{Named}
 use Rattle.plan_dsl.specs.Typing.{Typed, typing}
 use Rattle.plan_arena.specs.declared.aexpr.AExpr.{AExpr}
 use Rattle.plan_arena.specs.Denotation.{Denotes}
 use Rattle.plan_arena.specs.declared.expr_ir.ExprIR.{ExprIR}
-use Rattle.plan_arena.specs.Items.{HoldsFrom, HoldsExpression, Grows, named_node}
-use Rattle.plan_arena.proofs.ItemLemmas.{any_node, tree_grown, length-grown}
+use Rattle.plan_arena.specs.Items.{HoldsFrom, HoldsExpression, Grows, DenoteNamed, named_node, expression_layer}
+use Rattle.plan_arena.specs.Layers.{shape_of, inputs_of}
+use Rattle.plan_arena.proofs.DenotationLemmas.{denotes_one}
+use Rattle.plan_arena.proofs.ItemLemmas.{any_node, tree_grown, length-grown, from_laws, expression_laws}
+use Rattle.plan_lower.specs.Coercion.{DenotesTyped, DenotesSame, KeepsBelow, IsCoerced}
+use Rattle.plan_lower.specs.Outputs.{Lowered, lowered_named, lowered_column, IsLowered, SelectsTo, HasOutputs}
+use Rattle.plan_lower.proofs.CoercionLemmas.{grown_elsewhere}
 use Rattle.plan_lower.specs.Typed.{HasType, IsRefusal, no_room as short, broken}
-use Rattle.plan_lower.specs.Projection.{Output, output_node, output_column, IsOutput, Projects, AddsOutput, IsOutputRefusal, no_room, untyped, repeated, IsProjectionRefusal}
+use Rattle.plan_lower.specs.Projection.{Output, output_node, output_column, IsOutput, Projects, AddsOutput, IsOutputRefusal, no_room, untyped, repeated, IsProjectionRefusal, out_of_memory, refused}
 
 pub refused_output : (registry : Registry) (schema : Columns) (tree : Expression) (before : Columns) (error : PlanError) → IsRefusal (typing registry schema tree) error → IsOutputRefusal registry schema tree before error
 refused_output registry schema tree before error (short e) = no_room e
@@ -44,6 +51,7 @@ adds_output registry schema first items tree node asked old new seen copy type n
       is = record { denotes = d; typed = has.is };
       tree_is = refl;
       node_is = ap (λ n. record_of n node.expression) (sym name);
+      new_name = no_type (type_at old (name_of tree)) (ap (λ n. is_some (type_at old n)) (sym (s ∙ name)) ∙ absent);
       column_is = column_added old new seen copy (name_of tree) type absent (s ∙ name) (c ∙ name) e;
     }
 
@@ -70,7 +78,7 @@ pub record Projecting (registry : Registry) (schema : Columns) (first : ℕ) (it
 pub projecting_start : (registry : Registry) (schema : Columns) (first : ℕ) (items : List AExpr) (whole rest : List Expression) (columns : Columns) → rest ≡ whole → columns ≡ [] → Projecting registry schema first items whole rest [] columns
 projecting_start registry schema first items whole rest columns e none = record {
   front = [];
-  projects = record { outputs = []; trees_are = refl; nodes_are = refl; columns_are = sym none; each = tt };
+  projects = record { outputs = []; trees_are = refl; nodes_are = refl; columns_are = sym none; each = tt; distinct = subst HasDistinctNames (sym none) tt };
   split = sym e;
 }
 
@@ -88,6 +96,7 @@ projecting_step registry schema first items grown whole before rest tree nodes n
         nodes_are = map-append output_node outputs (o ∷ []) ∙ ap (λ l. l ++ output_node o ∷ []) p.projects.nodes_are ∙ ap (λ n. nodes ++ n ∷ []) a.node_is ∙ sym pushed;
         columns_are = map-append output_column outputs (o ∷ []) ∙ ap (λ l. l ++ output_column o ∷ []) p.projects.columns_are ∙ sym a.column_is;
         each = all_pushed (IsOutput registry schema first grown) outputs o (outputs_grown registry schema first items grown g outputs p.projects.each) (record { denotes = lower; typed = a.is.typed });
+        distinct = subst HasDistinctNames (sym a.column_is) (HasDistinctNames-push columns (name_of o.tree) o.typed.type p.projects.distinct a.new_name);
       };
       split = p.split ∙ ap (λ l. p.front ++ l) e ∙ sym (append_assoc p.front (tree ∷ []) rest);
     }
@@ -97,7 +106,7 @@ projecting_end registry schema first items whole rest nodes columns p none =
     subst (λ t. Projects registry schema first items t nodes columns) (sym (p.split ∙ ap (λ l. p.front ++ l) none ∙ append-nil p.front)) p.projects
 
 pub projecting_refused : (registry : Registry) (schema : Columns) (first : ℕ) (items : List AExpr) (whole before rest : List Expression) (tree : Expression) (nodes : List (Named ℕ)) (columns : Columns) (error : PlanError) → Projecting registry schema first items whole before nodes columns → before ≡ tree ∷ rest → IsOutputRefusal registry schema tree columns error → IsProjectionRefusal registry schema whole error
-projecting_refused registry schema first items whole before rest tree nodes columns error p e r = record {
+projecting_refused registry schema first items whole before rest tree nodes columns error p e r = refused (record {
   front = p.front;
   tree = tree;
   back = rest;
@@ -105,7 +114,61 @@ projecting_refused registry schema first items whole before rest tree nodes colu
   before = columns;
   names = ap (map (λ (c : Name × Ty). c.0)) (sym p.projects.columns_are) ∙ names_alike p.projects.outputs ∙ ap (map name_of) p.projects.trees_are;
   refusal = r;
-}
+})
 
 pub pushed_node : (old new : List ExprIR) (e : ExprIR) → new ≡ old ++ e ∷ [] → map named_node new ≡ map named_node old ++ named_node e ∷ []
 pushed_node old new e grown = ap (map named_node) grown ∙ map-append named_node old (e ∷ [])
+
+-- the roots of a projection
+pub roots_are : (exprs : List ExprIR) (outputs : List Output) → map output_node outputs ≡ map named_node exprs → map (λ (e : ExprIR). (named_node e).expression) exprs ≡ map (λ (o : Output). o.node) outputs
+roots_are exprs outputs e =
+    sym (map-map (λ (n : Named ℕ). n.expression) named_node exprs) ∙ ap (map (λ (n : Named ℕ). n.expression)) (sym e) ∙ map-map (λ (n : Named ℕ). n.expression) output_node outputs
+
+-- are typed, from each number up to the projection's first
+pub roots_typed : (registry : Registry) (schema : Columns) (lower first : ℕ) (items : List AExpr) → lower ≤ first → (outputs : List Output) → AllByRecursion (IsOutput registry schema first items) outputs → AllByRecursion (DenotesTyped registry schema lower items) (map (λ (o : Output). o.node) outputs)
+roots_typed registry schema lower first items le [] all = tt
+roots_typed registry schema lower first items le (o ∷ os) all =
+    let nothing : Grows items items = record { added = []; longer = sym (append-nil items) } in
+    (record { tree = o.tree; denotes = tree_grown first lower items items le nothing o.node o.tree all.0.denotes; typed = o.typed; is = all.0.typed }, roots_typed registry schema lower first items le os all.1)
+
+-- the outputs with what stands for them after coercion
+record HasLowered (registry : Registry) (schema : Columns) (items : List AExpr) (outputs : List Output) : Type 0 where
+  lowered : List Lowered
+  trees_are : map (λ (l : Lowered). l.tree) lowered ≡ map (λ (o : Output). o.tree) outputs
+  columns_are : map lowered_column lowered ≡ map output_column outputs
+  each : AllByRecursion (IsLowered registry schema) lowered
+  denotes : DenoteNamed items (map output_node outputs) (map lowered_named lowered)
+
+has_lowered : (registry : Registry) (schema : Columns) (first : ℕ) (old new : List AExpr) → ((n : ℕ) (t : Expression) → Denotes (HoldsFrom first old) n t → DenotesSame registry schema first new n t) → (outputs : List Output) → AllByRecursion (IsOutput registry schema first old) outputs → AllByRecursion (λ n. (t : Expression) × Denotes (HoldsFrom first new) n t × IsStrict registry schema t) (map (λ (o : Output). o.node) outputs) → HasLowered registry schema new outputs
+has_lowered registry schema first old new become [] all strict = record { lowered = []; trees_are = refl; columns_are = refl; each = tt; denotes = tt }
+has_lowered registry schema first old new become (o ∷ os) all strict =
+    let same = become o.node o.tree all.0.denotes in
+    let one = denotes_one _ (HoldsFrom first new) (from_laws first new) o.node strict.0.0 same.tree strict.0.1 same.denotes in
+    let rest = has_lowered registry schema first old new become os all.1 strict.1 in
+    let l : Lowered = record { tree = o.tree; typed = o.typed; after = same.tree } in
+    record {
+      lowered = l ∷ rest.lowered;
+      trees_are = ap (λ ts. o.tree ∷ ts) rest.trees_are;
+      columns_are = ap (λ cs. output_column o ∷ cs) rest.columns_are;
+      each = (record { typed = all.0.typed; same = same.same; strict = subst (IsStrict registry schema) one strict.0.2 }, rest.each);
+      denotes = (refl, any_node first new o.node same.tree same.denotes, rest.denotes);
+    }
+
+-- a projection that was coerced
+pub has_outputs : (registry : Registry) (schema : Columns) (first : ℕ) (old new : List AExpr) (trees : List Expression) (nodes : List (Named ℕ)) (columns : Columns) → (p : Projects registry schema first old trees nodes columns) → IsCoerced registry schema first old new (map (λ (o : Output). o.node) p.outputs) → HasOutputs registry schema new trees nodes columns
+has_outputs registry schema first old new trees nodes columns p coerced =
+    let h = has_lowered registry schema first old new coerced.trees p.outputs p.each coerced.strict in
+    let columns_are = sym p.columns_are ∙ sym h.columns_are in
+    record {
+      outputs = h.lowered;
+      selects = record { trees_are = h.trees_are ∙ p.trees_are; each = h.each; distinct = subst HasDistinctNames columns_are p.distinct };
+      denotes = subst (λ ns. DenoteNamed new ns (map lowered_named h.lowered)) p.nodes_are h.denotes;
+      columns_are = columns_are;
+    }
+
+-- earlier items stay
+pub earlier_kept : (old mid new : List AExpr) → Grows old mid → KeepsBelow (length old) mid new → (n : ℕ) (op : Op) (inputs : List ℕ) → HoldsExpression old n op inputs → HoldsExpression new n op inputs
+earlier_kept old mid new g below n op inputs h =
+    let within = (expression_laws old).below n op inputs h in
+    let short : length (shape_of (map expression_layer old)) ≡ length old = length-map (map expression_layer old) inputs_of ∙ length-map old expression_layer in
+    below n op inputs (λ le. absurd (omega (arith, within, short, le))) (grown_elsewhere old mid g n op inputs h)

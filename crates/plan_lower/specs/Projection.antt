@@ -2,7 +2,7 @@
 use Rattle.std.specs.Prelude.{◌≡◌, ℕ, List, [], ◌∷◌, ◌++◌, map, true, is_some, Result, Ok, Err}
 use Rattle.std.specs.List.{AllByRecursion}
 use Rattle.plan_types.specs.Types.{Ty}
-use Rattle.plan_types.specs.Schemas.{Name, Columns, type_at}
+use Rattle.plan_types.specs.Schemas.{Name, Columns, type_at, IsNewName, HasDistinctNames}
 use Rattle.plan_types.specs.Errors.{no_memory, at_top}
 use Rattle.plan_types.specs.declared.error.ErrorKind.{ErrorKind}
 use Rattle.plan_types.specs.declared.error.ErrorKind.TheVariants.{Duplicate}
@@ -40,6 +40,7 @@ pub record Projects (registry : Registry) (schema : Columns) (first : ℕ) (item
   pub nodes_are : map output_node outputs ≡ nodes
   pub columns_are : map output_column outputs ≡ columns
   pub each : AllByRecursion (IsOutput registry schema first items) outputs
+  pub distinct : HasDistinctNames columns
 
 -- one more expression's node and column
 pub record AddsOutput (registry : Registry) (schema : Columns) (first : ℕ) (items : List AExpr) (tree : Expression) (node : Named ℕ) (old new : Columns) : Type 0 where
@@ -47,6 +48,7 @@ pub record AddsOutput (registry : Registry) (schema : Columns) (first : ℕ) (it
   pub is : IsOutput registry schema first items output
   pub tree_is : output.tree ≡ tree
   pub node_is : output_node output ≡ node
+  pub new_name : IsNewName old (name_of output.tree)
   pub column_is : new ≡ old ++ output_column output ∷ []
 
 -- why an expression can't be added behind these columns
@@ -55,8 +57,8 @@ pub data IsOutputRefusal (registry : Registry) (schema : Columns) (tree : Expres
   untyped : (kind : ErrorKind) → error ≡ at_top kind → typing registry schema tree ≡ Err kind → IsOutputRefusal registry schema tree before error
   repeated : error ≡ at_top Duplicate → is_some (type_at before (name_of tree)) ≡ true → IsOutputRefusal registry schema tree before error
 
--- why expressions can't be projected: one of them can't be added behind the columns of those before it
-pub record IsProjectionRefusal (registry : Registry) (schema : Columns) (trees : List Expression) (error : PlanError) : Type 0 where
+-- one of the expressions can't be added behind the columns of those before it
+pub record RefusesOne (registry : Registry) (schema : Columns) (trees : List Expression) (error : PlanError) : Type 0 where
   pub front : List Expression
   pub tree : Expression
   pub back : List Expression
@@ -64,3 +66,8 @@ pub record IsProjectionRefusal (registry : Registry) (schema : Columns) (trees :
   pub before : Columns
   pub names : map (λ c. c.0) before ≡ map name_of front
   pub refusal : IsOutputRefusal registry schema tree before error
+
+-- why expressions can't be projected
+pub data IsProjectionRefusal (registry : Registry) (schema : Columns) (trees : List Expression) (error : PlanError) : Type 0 where
+  out_of_memory : error ≡ no_memory → IsProjectionRefusal registry schema trees error
+  refused : RefusesOne registry schema trees error → IsProjectionRefusal registry schema trees error

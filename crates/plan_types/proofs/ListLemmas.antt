@@ -1,5 +1,5 @@
 -- Lists that a loop makes, item by item, and the items of lists that grow or change at one place.
-use Rattle.std.proofs.Common.{◌≡◌, ◌≢◌, ℕ, ◌+◌, ◌<◌, List, [], ◌∷◌, ◌++◌, length, map, take, get_or, set, Some, slice_get, sym, ap, ◌∙◌, arith, length-append}
+use Rattle.std.proofs.Common.{◌≡◌, ◌≢◌, ℕ, ◌+◌, ◌<◌, List, [], ◌∷◌, ◌++◌, length, map, take, get_or, set, Some, slice_get, refl, sym, ap, ◌∙◌, arith, length-append}
 use Rattle.std.proofs.lemmas.List.{take_more, map-append, get_or-set_same, get_or-set_other}
 use Rattle.std.proofs.lemmas.Option.{slice_get_within, slice_get-get_or, get_or_from_slice_get}
 use Rattle.std.proofs.Math.ListN.{get_or-append, length-set}
@@ -38,3 +38,8 @@ pub slice_get-set_same : {A : Type 0} (xs : List A) (i : ℕ) (y : A) → i < le
 slice_get-set_same xs i y within =
     let longer : i < length (set xs i y) = omega (arith, length-set xs i y) in
     slice_get-get_or (set xs i y) i y longer ∙ ap Some (get_or-set_same xs i y y within)
+
+-- one map after another
+pub map-map : {A B C : Type 0} (g : B → C) (f : A → B) (xs : List A) → map g (map f xs) ≡ map (λ x. g (f x)) xs
+map-map g f [] = refl
+map-map g f (x ∷ xs) = ap (λ l. g (f x) ∷ l) (map-map g f xs)

@@ -71,3 +71,14 @@ pub copied_more : (done : Columns) (c : Name × Ty) (rest all : Columns) → Has
 copied_more done c rest all distinct e =
     let new = new_before done c rest (subst HasDistinctNames (sym e) distinct) in
     ap (λ l. l ++ rest) (with_column-new done c.0 c.1 new) ∙ append_assoc done (c ∷ []) rest ∙ e
+
+not_the_first : (c d : Name × Ty) (cs : Columns) (name : Name) → IsNewName cs name → same_name name d.0 ≡ false → IsNewName (cs ++ d ∷ []) name
+not_the_first c d [] name new other = ap (λ b. cond b (Some d.1) None) other
+not_the_first c d (x ∷ xs) name new other =
+    ap (λ b. cond b (Some x.1) (type_at (xs ++ d ∷ []) name)) (IsNewName-head x xs name new) ∙ not_the_first c d xs name (IsNewName-tail x xs name new) other
+
+-- a new name behind distinct names leaves them distinct
+pub HasDistinctNames-push : (cs : Columns) (name : Name) (type : Ty) → HasDistinctNames cs → IsNewName cs name → HasDistinctNames (cs ++ (name, type) ∷ [])
+HasDistinctNames-push [] name type h new = (refl, tt)
+HasDistinctNames-push (c ∷ cs) name type h new =
+    (not_the_first c (name, type) cs c.0 h.0 (nat_list_eq_equiv.symm c.0 name ∙ IsNewName-head c cs name new), HasDistinctNames-push cs name type h.1 (IsNewName-tail c cs name new))

@@ -1,13 +1,18 @@
 //! The expressions of one node, lowered together.
-ghost use Rattle.std.specs.Prelude.{IfOk, IfErr, length, map};
+ghost use Rattle.std.specs.Prelude.{◌≡◌, ℕ, List, OnOk, IfOk, IfErr, length, map};
+ghost use Rattle.plan_types.specs.Errors.{no_memory};
 ghost use Rattle.plan_types.specs.Schemas.{columns};
 ghost use Rattle.plan_dsl.specs.Expressions.{tree_of};
+ghost use Rattle.plan_dsl.specs.Ops.{Op};
 ghost use Rattle.plan_dsl.specs.Plans.{trees_of};
 ghost use Rattle.plan_dsl.specs.Registry.{registry};
-ghost use Rattle.plan_arena.specs.Items.{named_node, Grows};
+ghost use Rattle.plan_arena.specs.Items.{named_node, Grows, HoldsExpression};
+ghost use Rattle.plan_lower.specs.Coercion.{numbers};
+ghost use Rattle.plan_lower.specs.Outputs.{HasOutputs};
 ghost use Rattle.plan_lower.specs.Projection.{Projects, AddsOutput, IsOutputRefusal, IsProjectionRefusal};
 
 use crate::conversion::expr_to_ir::to_expr_ir;
+use crate::conversion::stack_opt::{Stack, coerce_types};
 use crate::typing::dtype_of;
 use plan_arena::aexpr::AExpr;
 use plan_arena::arena::Arena;
@@ -17,12 +22,45 @@ use plan_dsl::plan::Exprs;
 use plan_dsl::udfs::Udfs;
 use plan_types::error::{ErrorKind, PlanError};
 use plan_types::schema::Schema;
+use smallvec::SmallVec;
+use std::alloc::Global;
 
 /// Lowered expressions, and the schema of their columns.
 #[derive(Drop)]
 pub struct Projection {
     pub expr: ExprIRs,
     pub schema: Schema,
+}
+
+/// Adds the expressions' nodes, types them over a frame of the schema, and puts casts round their operands.
+pub fn project_strictly(
+    exprs: Exprs,
+    schema: &Schema,
+    arena: &mut Arena<AExpr>,
+    udfs: &Udfs,
+) -> Result<Projection, PlanError>
+    ensures ok { IfOk result (λ projection. HasOutputs (registry udfs.now) (columns schema.now) arena.new
+        (trees_of exprs) (map named_node projection.expr.items.items) (columns projection.schema)) }
+    ensures kept { OnOk result ((n : ℕ) (op : Op) (inputs : List ℕ) →
+        HoldsExpression arena.old n op inputs → HoldsExpression arena.new n op inputs) }
+    ensures err { IfErr result (IsProjectionRefusal (registry udfs.now) (columns schema.now) (trees_of exprs)) }
+{
+    let projection = project(exprs, schema, arena, udfs)?;
+    let mut stack = roots_of(&projection.expr, arena.allocator())?;
+    coerce_types(&mut stack, arena, schema, udfs)?;
+    Ok(projection)
+}
+
+// The nodes of the expressions.
+fn roots_of(exprs: &ExprIRs, alloc: Global) -> Result<Stack, PlanError>
+    ensures ok { IfOk result (λ stack. numbers stack.items ≡ map (λ e. (named_node e).expression) exprs.now.items.items) }
+    ensures err { IfErr result (λ error. error ≡ no_memory) }
+{
+    let mut stack = SmallVec::new(alloc);
+    for expr in exprs.items.as_slice() {
+        stack.push(expr.node())?;
+    }
+    Ok(stack)
 }
 
 /// Adds the expressions' nodes, and types them over a frame of the schema. No casts are put in yet.

@@ -1,0 +1,54 @@
+-- A select's outputs: expressions with what lowering makes of them.
+use Rattle.std.specs.Prelude.{◌≡◌, ℕ, List, [], ◌∷◌, map, Result, Ok}
+use Rattle.std.specs.List.{AllByRecursion}
+use Rattle.plan_types.specs.Types.{Ty}
+use Rattle.plan_types.specs.Schemas.{Name, Columns, HasDistinctNames}
+use Rattle.plan_dsl.specs.Registry.{Registry}
+use Rattle.plan_dsl.specs.Trees.{node, no_more, more}
+use Rattle.plan_dsl.specs.Ops.{Expression}
+use Rattle.plan_dsl.specs.Names.{name_of}
+use Rattle.plan_dsl.specs.Plans.{Named, Plan, select_op, empty_table}
+use Rattle.plan_dsl.specs.Typing.{Typed, typing}
+use Rattle.plan_dsl.specs.Strictness.{IsSame, IsStrict}
+use Rattle.plan_arena.specs.declared.aexpr.AExpr.{AExpr}
+use Rattle.plan_arena.specs.Items.{DenoteNamed}
+
+-- an expression of the query, its type, and what stands for it in the lowered plan
+pub record Lowered : Type 0 where
+  pub tree : Expression
+  pub typed : Typed
+  pub after : Expression
+
+abbrev pub lowered_named : Lowered → Named Expression
+lowered_named output = record { name = name_of output.tree; expression = output.after }
+
+abbrev pub lowered_column : Lowered → Name × Ty
+lowered_column output = (name_of output.tree, output.typed.type)
+
+-- the expression is typed, and what stands for it says the same and is strict
+pub record IsLowered (registry : Registry) (schema : Columns) (output : Lowered) : Type 0 where
+  pub typed : typing registry schema output.tree ≡ Ok output.typed
+  pub same : IsSame registry schema output.tree output.after
+  pub strict : IsStrict registry schema output.after
+
+-- the outputs are those of the expressions, under distinct names
+pub record SelectsTo (registry : Registry) (schema : Columns) (trees : List Expression) (outputs : List Lowered) : Type 0 where
+  pub trees_are : map (λ o. o.tree) outputs ≡ trees
+  pub each : AllByRecursion (IsLowered registry schema) outputs
+  pub distinct : HasDistinctNames (map lowered_column outputs)
+
+-- nodes that stand for the expressions, and the schema of their columns
+pub record HasOutputs (registry : Registry) (schema : Columns) (items : List AExpr) (trees : List Expression) (nodes : List (Named ℕ)) (columns : Columns) : Type 0 where
+  pub outputs : List Lowered
+  pub selects : SelectsTo registry schema trees outputs
+  pub denotes : DenoteNamed items nodes (map lowered_named outputs)
+  pub columns_are : columns ≡ map lowered_column outputs
+
+-- a select of nothing stands over the empty table
+abbrev pub over : List Lowered → Plan → Plan
+over [] input = empty_table
+over (output ∷ outputs) input = input
+
+-- a select of the outputs over a lowered plan
+abbrev pub lowered_select : List Lowered → Plan → Plan
+lowered_select outputs input = node (select_op (map lowered_named outputs) (map lowered_column outputs)) (more (over outputs input) no_more)
