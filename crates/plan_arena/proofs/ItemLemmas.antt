@@ -6,7 +6,7 @@ use Rattle.std.proofs.lemmas.Option.{slice_get-map, slice_get_within}
 use Rattle.std.proofs.lemmas.List.{map-append, map-set, length-map}
 use Rattle.plan_types.proofs.ListLemmas.{slice_get-append, slice_get-seam, slice_get-set_other, slice_get-set_same}
 use Rattle.plan_dsl.specs.Ops.{Op, Expression}
-use Rattle.plan_dsl.specs.Plans.{PlanOp, Named}
+use Rattle.plan_dsl.specs.Plans.{PlanOp, Plan, Named}
 use Rattle.plan_dsl.specs.Trees.{Trees, node, no_more, more}
 use Rattle.plan_arena.specs.Denotation.{Denotes, DenoteAll, DenotesTree, depth_at}
 use Rattle.plan_arena.specs.Layers.{Layer, layer, inputs_of, shape_of}
@@ -91,13 +91,53 @@ plan_laws expressions plans = let layers = map plan_layer plans in record {
       op_one expressions h'.flat op op' (subst (λ f. DenotesOp expressions f op) flat h.denotes) h'.denotes;
 }
 
--- named nodes denote their expressions when the arena has grown
-pub named_grown : (items added : List AExpr) (ns : List (Named ℕ)) (es : List (Named Expression)) → DenoteNamed items ns es → DenoteNamed (items ++ added) ns es
-named_grown items added [] [] d = tt
-named_grown items added (n ∷ ns) (e ∷ es) d =
-    (d.0, kept (HoldsExpression items) (HoldsExpression (items ++ added)) (expression_grown items added) n.expression e.expression d.1, named_grown items added ns es d.2)
-named_grown items added [] (e ∷ es) d = absurd d
-named_grown items added (n ∷ ns) [] d = absurd d
+-- named nodes denote their expressions where items stay
+pub named_kept : (items items' : List AExpr) → ((n : ℕ) (op : Op) (inputs : List ℕ) → HoldsExpression items n op inputs → HoldsExpression items' n op inputs) → (ns : List (Named ℕ)) (es : List (Named Expression)) → DenoteNamed items ns es → DenoteNamed items' ns es
+named_kept items items' keeps [] [] d = tt
+named_kept items items' keeps (n ∷ ns) (e ∷ es) d =
+    (d.0, kept (HoldsExpression items) (HoldsExpression items') keeps n.expression e.expression d.1, named_kept items items' keeps ns es d.2)
+named_kept items items' keeps [] (e ∷ es) d = absurd d
+named_kept items items' keeps (n ∷ ns) [] d = absurd d
+
+-- a new plan item is there
+pub plan_added : (plans : List IR) (item : IR) → slice_get (map plan_layer (plans ++ item ∷ [])) (length plans) ≡ Some (plan_layer item)
+plan_added plans item =
+    slice_get-map plan_layer (plans ++ item ∷ []) (length plans) ∙ ap (option_map plan_layer) (slice_get-seam plans item [])
+
+-- what `get` answers is held
+pub plan_got : (plans : List IR) (n : ℕ) (item : IR) → slice_get plans n ≡ Some item → slice_get (map plan_layer plans) n ≡ Some (plan_layer item)
+plan_got plans n item h = slice_get-map plan_layer plans n ∙ ap (option_map plan_layer) h
+
+-- a plan item stays where the arena grows
+pub plan_stays : (plans grown : List IR) → Grows plans grown → (n : ℕ) (l : Layer (PlanOp ℕ)) → slice_get (map plan_layer plans) n ≡ Some l → slice_get (map plan_layer grown) n ≡ Some l
+plan_stays plans grown g n l h =
+    ap (λ (xs : List IR). slice_get (map plan_layer xs) n) g.longer
+    ∙ ap (λ (ls : List (Layer (PlanOp ℕ))). slice_get ls n) (map-append plan_layer plans g.added)
+    ∙ slice_get-append (map plan_layer plans) (map plan_layer g.added) n l h
+
+-- what the plans' arena holds it holds where its items and those of the expressions stay
+pub plan_kept : (items items' : List AExpr) (plans grown : List IR) → ((n : ℕ) (op : Op) (inputs : List ℕ) → HoldsExpression items n op inputs → HoldsExpression items' n op inputs) → Grows plans grown → (n : ℕ) (op : PlanOp Expression) (inputs : List ℕ) → HoldsPlan items plans n op inputs → HoldsPlan items' grown n op inputs
+plan_kept items items' plans grown keeps g n op inputs h = record {
+  flat = h.flat;
+  item = plan_stays plans grown g n (layer h.flat inputs) h.item;
+  denotes = record {
+    same_kind = h.denotes.same_kind;
+    same_schema = h.denotes.same_schema;
+    named = named_kept items items' keeps h.flat.expressions op.expressions h.denotes.named;
+  };
+}
+
+-- a plan stays where items do
+pub plan_tree_kept : (items items' : List AExpr) (plans grown : List IR) → ((n : ℕ) (op : Op) (inputs : List ℕ) → HoldsExpression items n op inputs → HoldsExpression items' n op inputs) → Grows plans grown → (n : ℕ) (t : Plan) → Denotes (HoldsPlan items plans) n t → Denotes (HoldsPlan items' grown) n t
+plan_tree_kept items items' plans grown keeps g n t d =
+    kept (HoldsPlan items plans) (HoldsPlan items' grown) (plan_kept items items' plans grown keeps g) n t d
+
+plan_here : (items : List AExpr) (plans : List IR) (n : ℕ) (t : Plan) → Denotes (HoldsPlan items plans) n t → n < length plans
+plan_here items plans n (node op ts) d = omega (arith, slice_get_within (map plan_layer plans) n _ d.1.item, length-map plans plan_layer)
+
+-- a node that denotes a plan is in the arena
+pub plan_within : (items : List AExpr) (plans : List IR) (n : ℕ) → DenotesTree (HoldsPlan items plans) n → n < length plans
+plan_within items plans n d = plan_here items plans n d.tree d.denotes
 
 -- what is held from a number on is held from a lower one, when the arena has grown
 pub from_grown : (first lower : ℕ) (items grown : List AExpr) → lower ≤ first → Grows items grown → (n : ℕ) (op : Op) (inputs : List ℕ) → HoldsFrom first items n op inputs → HoldsFrom lower grown n op inputs

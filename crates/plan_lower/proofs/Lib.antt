@@ -1,5 +1,6 @@
 pub mod CoercionLemmas
 pub mod NodeLemmas
+pub mod PlanLemmas
 pub mod ProjectionLemmas
 pub mod StackLemmas
 pub mod TypingLemmas

@@ -1,1 +1,154 @@
-//! Plans.
+//! Plans to nodes of an arena.
+ghost use Rattle.std.specs.Prelude.{◌≡◌, ◌<◌, ◌⊎◌, ℕ, List, [], ◌∷◌, length, slice_get, Some, IfOk, IfErr};
+ghost use Rattle.plan_types.specs.Errors.{no_memory};
+ghost use Rattle.plan_types.specs.Schemas.{columns};
+ghost use Rattle.plan_dsl.specs.Ops.{Op};
+ghost use Rattle.plan_dsl.specs.Plans.{Plan, plan_tree, trees_of};
+ghost use Rattle.plan_dsl.specs.Registry.{registry};
+ghost use Rattle.plan_arena.specs.Denotation.{Denotes, DenotesTree};
+ghost use Rattle.plan_arena.specs.Items.{HoldsExpression, HoldsPlan, Grows, recorded_schema};
+ghost use Rattle.plan_lower.specs.Lowering.{IsSelect, StandsFor, IsPlanRefusal, IsEmptyTableAt, top_schema};
+ghost use Rattle.plan_lower.specs.Projection.{IsProjectionRefusal};
+
+use crate::conversion::projection::project_strictly;
+use plan_arena::aexpr::AExpr;
+use plan_arena::arena::{Arena, Node};
+use plan_arena::expr_ir::ExprIRs;
+use plan_arena::ir::IR;
+use plan_arena::plan::IRPlan;
+use plan_dsl::plan::{DslPlan, Exprs, ProjectionOptions};
+use plan_dsl::udfs::Udfs;
+use plan_types::error::{ErrorKind, PlanError};
+use plan_types::schema::Schema;
+use std::alloc::Global;
+
+/// Lowering of a query's plan.
+pub trait PlanLowering {
+    /// The typed plan in two arenas of its own.
+    fn to_alp(self, alloc: Global, udfs: &Udfs) -> Result<IRPlan, PlanError>;
+}
+
+impl PlanLowering for DslPlan {
+    fn to_alp(self, alloc: Global, udfs: &Udfs) -> Result<IRPlan, PlanError>
+        ensures ok { IfOk result (λ plan. StandsFor (registry udfs.now) plan.expr_arena plan.lp_arena plan.lp_top.0 (plan_tree self)) }
+        ensures err { IfErr result (IsPlanRefusal (registry udfs.now) (plan_tree self)) }
+    {
+        let mut lp_arena = Arena::new(alloc);
+        let mut expr_arena = Arena::new(alloc);
+        let lp_top = lower(self, &mut expr_arena, &mut lp_arena, udfs)?;
+        Ok(IRPlan::new(lp_top, lp_arena, expr_arena))
+    }
+}
+
+// Adds a plan's nodes, its input first.
+fn lower(
+    plan: DslPlan,
+    expr_arena: &mut Arena<AExpr>,
+    lp_arena: &mut Arena<IR>,
+    udfs: &Udfs,
+) -> Result<Node, PlanError>
+    ensures ok { IfOk result (λ node. StandsFor (registry udfs.now) expr_arena.new lp_arena.new node.0 (plan_tree plan)) }
+    ensures err { IfErr result (IsPlanRefusal (registry udfs.now) (plan_tree plan)) }
+{
+    match plan {
+        DslPlan::DataFrameScan { table, schema } => {
+            let node = lp_arena.add(IR::DataFrameScan { table, schema })?;
+            Ok(node)
+        }
+        DslPlan::Select {
+            expr,
+            input,
+            options,
+        } => match lower(Box::into_inner(input), expr_arena, lp_arena, udfs) {
+            Ok(input) => {
+                let node = lower_select(expr, input, options, expr_arena, lp_arena, udfs)?;
+                Ok(node)
+            }
+            Err(error) => Err(below(lp_arena.allocator(), error)),
+        },
+    }
+}
+
+// The refusal of a node's only input, as the node sees it.
+fn below(alloc: Global, error: PlanError) -> PlanError
+    ensures { (result ≡ no_memory) ⊎ (result ≡ record { kind = error.kind; place = 0 ∷ error.place }) }
+{
+    let PlanError { kind, place } = error;
+    if kind == ErrorKind::NoMemory {
+        return PlanError::at_top(ErrorKind::NoMemory);
+    }
+    match place.below(alloc, 0) {
+        Ok(place) => PlanError { kind, place },
+        Err(_) => PlanError::at_top(ErrorKind::NoMemory),
+    }
+}
+
+// Adds a select over a lowered input.
+fn lower_select(
+    expr: Exprs,
+    input: Node,
+    options: ProjectionOptions,
+    expr_arena: &mut Arena<AExpr>,
+    lp_arena: &mut Arena<IR>,
+    udfs: &Udfs,
+) -> Result<Node, PlanError>
+    requires { DenotesTree (HoldsPlan expr_arena.old lp_arena.old) input.0 }
+    ensures ok { IfOk result (λ node. (t : Plan) → Denotes (HoldsPlan expr_arena.old lp_arena.old) input.0 t →
+        IsSelect (registry udfs.now) expr_arena.new lp_arena.new node.0 (trees_of expr) t) }
+    ensures err { IfErr result (λ error. (t : Plan) → Denotes (HoldsPlan expr_arena.old lp_arena.old) input.0 t →
+        IsProjectionRefusal (registry udfs.now) (top_schema t) (trees_of expr) error) }
+{
+    let schema = schema_at(input, lp_arena);
+    let projection = project_strictly(expr, schema, expr_arena, udfs)?;
+    let input = input_of(&projection.expr, input, lp_arena)?;
+    let node = lp_arena.add(IR::Select {
+        expr: projection.expr,
+        input,
+        schema: projection.schema,
+        options,
+    })?;
+    Ok(node)
+}
+
+// The input of a select: the empty table where nothing is selected.
+fn input_of(
+    exprs: &ExprIRs,
+    input: Node,
+    lp_arena: &mut Arena<IR>,
+) -> Result<Node, PlanError>
+    ensures nothing { IfOk result (λ node. length exprs.now.items.items ≡ 0 → IsEmptyTableAt lp_arena.new node.0) }
+    ensures something { IfOk result (λ node. 0 < length exprs.now.items.items → node.0 ≡ input.0) }
+    ensures grows { Grows lp_arena.old lp_arena.new }
+    ensures err { IfErr result (λ error. error ≡ no_memory) }
+{
+    if exprs.items.is_empty() {
+        let node = add_empty_table(lp_arena)?;
+        return Ok(node);
+    }
+    Ok(input)
+}
+
+// The schema of the frame of a node.
+fn schema_at(node: Node, arena: &Arena<IR>) -> &Schema
+    requires { node.0 < length arena.now }
+    ensures { (item : IR) → slice_get arena.now node.0 ≡ Some item → columns result.now ≡ recorded_schema item }
+{
+    match arena.get(node) {
+        IR::DataFrameScan { schema, .. } => schema,
+        IR::Select { schema, .. } => schema,
+    }
+}
+
+// Adds the empty table without columns.
+fn add_empty_table(arena: &mut Arena<IR>) -> Result<Node, PlanError>
+    ensures ok { IfOk result (λ node. IsEmptyTableAt arena.new node.0) }
+    ensures grows { Grows arena.old arena.new }
+    ensures err { IfErr result (λ error. error ≡ no_memory) }
+{
+    let schema = Schema::new(arena.allocator());
+    let node = arena.add(IR::DataFrameScan {
+        table: None,
+        schema,
+    })?;
+    Ok(node)
+}
