@@ -1,0 +1,9 @@
+pub mod ColumnLemmas
+pub mod DeclarationLemmas
+pub mod FaultLemmas
+pub mod FormLemmas
+pub mod ItemLemmas
+pub mod LookingLemmas
+pub mod NameLemmas
+pub mod NoFaults
+pub mod TableLemmas

@@ -1,0 +1,162 @@
+-- Looking into a value, beside what the value's type holds.
+use Rattle.std.proofs.Common.{◌≡◌, ℕ, suc, ◌+◌, ◌<◌, ◌≤◌, ◌==◌, List, [], ◌∷◌, ◌++◌, length, get_or, slice_get, map, Option, Some, None, option_map, String, Global, string_bytes, Bool, true, false, cond, refl, sym, ap, ◌∙◌, subst, arith, ne_eqb, max}
+use Rattle.serde_json.specs.Data.{Data, null, boolean, number, string, array, object, Items, no_items, item, Members, no_members, member, depth, items_depth, members_depth}
+use Rattle.serde_json.specs.Events.{items_len, members_len}
+use Rattle.serde_json.specs.Find.{get, get_member, as_array, as_object}
+use Rattle.serde_json.specs.View.{view, items_view, members_view}
+use Rattle.serde_json.specs.declared.value.Value.{Value}
+use Rattle.serde_json.proofs.Views.{members_len-members_view, items_len-items_view}
+use Rattle.plan_json.specs.Looking.{both, only_member, two_members, two_items, three_items}
+
+abbrev pub Entry : Type 0
+Entry = String Global × Value
+
+-- ---- a value is what it is seen as
+
+pub object-from_as_object : (d : Data) (ms : Members) → Some ms ≡ as_object d → d ≡ object ms
+object-from_as_object null ms e = cc
+object-from_as_object (boolean b) ms e = cc
+object-from_as_object (number n) ms e = cc
+object-from_as_object (string s) ms e = cc
+object-from_as_object (array ds) ms e = cc
+object-from_as_object (object es) ms e = cc
+
+pub array-from_as_array : (d : Data) (ds : Items) → Some ds ≡ as_array d → d ≡ array ds
+array-from_as_array null ds e = cc
+array-from_as_array (boolean b) ds e = cc
+array-from_as_array (number n) ds e = cc
+array-from_as_array (string s) ds e = cc
+array-from_as_array (array es) ds e = cc
+array-from_as_array (object ms) ds e = cc
+
+-- ---- objects
+
+one_entry : (es : List Entry) (k : String Global) (v : Value) → length es ≡ 1 → slice_get es 0 ≡ Some (k, v) → Some (string_bytes k, view v) ≡ only_member (object (members_view es))
+one_entry [] k v one first = absurd (omega arith)
+one_entry (e ∷ []) k v one first = ap (option_map (λ (p : Entry). (string_bytes p.0, view p.1))) (sym first)
+one_entry (e ∷ f ∷ es) k v one first = absurd (omega arith)
+
+other_entries : (es : List Entry) → (length es ≡ 1 → ⊥) → None ≡ only_member (object (members_view es))
+other_entries [] other = refl
+other_entries (e ∷ []) other = absurd (other refl)
+other_entries (e ∷ f ∷ es) other = refl
+
+pub only_member-one : (d : Data) (es : List Entry) (k : String Global) (v : Value) → Some (members_view es) ≡ as_object d → length es ≡ 1 → slice_get es 0 ≡ Some (k, v) → Some (string_bytes k, view v) ≡ only_member d
+only_member-one d es k v is one first = one_entry es k v one first ∙ ap only_member (sym (object-from_as_object d _ is))
+
+pub only_member-other : (d : Data) (es : List Entry) → Some (members_view es) ≡ as_object d → (length es ≡ 1 → ⊥) → None ≡ only_member d
+only_member-other d es is other = other_entries es other ∙ ap only_member (sym (object-from_as_object d _ is))
+
+two_of : (first second : List ℕ) (ms : Members) (n : ℕ) → members_len ms ≡ n → n ≡ 2 → both (get_member first ms) (get_member second ms) ≡ two_members first second (object ms)
+two_of first second ms n has two = rw (has, two) refl
+
+pub two_members-two : (first second : List ℕ) (d : Data) (es : List Entry) → Some (members_view es) ≡ as_object d → length es ≡ 2 → both (get first d) (get second d) ≡ two_members first second d
+two_members-two first second d es is two =
+    let e = object-from_as_object d _ is in
+    ap (λ x. both (get first x) (get second x)) e ∙ two_of first second (members_view es) (length es) (members_len-members_view es) two ∙ ap (two_members first second) (sym e)
+
+pub two_members-other : (first second : List ℕ) (d : Data) (es : List Entry) → Some (members_view es) ≡ as_object d → (length es ≡ 2 → ⊥) → None ≡ two_members first second d
+two_members-other first second d es is other =
+    let unlike = ne_eqb (length es) 2 other in
+    let n = members_len-members_view es in
+    sym (ap (λ b. cond b (both (get_member first (members_view es)) (get_member second (members_view es))) None) (ap (λ k. k == 2) n ∙ unlike)) ∙ ap (two_members first second) (sym (object-from_as_object d _ is))
+
+both_first_none : {A B : Type 0} (x : Option B) → None ≡ both {A = A} None x
+both_first_none x = refl
+
+both_second_none : {A B : Type 0} (x : Option A) → None ≡ both {B = B} x None
+both_second_none None = refl
+both_second_none (Some x) = refl
+
+pub both-none_first : {A B : Type 0} (x : Option A) (y : Option B) → None ≡ x → None ≡ both x y
+both-none_first x y none = subst (λ z. None ≡ both z y) none refl
+
+pub both-none_second : {A B : Type 0} (x : Option A) (y : Option B) → None ≡ y → None ≡ both x y
+both-none_second x y none = subst (λ z. None ≡ both x z) none (both_second_none x)
+
+pub both-some : {A B : Type 0} (x : Option A) (y : Option B) (a : A) (b : B) → Some a ≡ x → Some b ≡ y → Some (a, b) ≡ both x y
+both-some x y a b is_a is_b = subst (λ z. Some (a, b) ≡ both z y) is_a (subst (λ z. Some (a, b) ≡ both (Some a) z) is_b refl)
+
+-- ---- lists
+
+two_others : (vs : List Value) → (length vs ≡ 2 → ⊥) → None ≡ two_items (array (items_view vs))
+two_others [] other = refl
+two_others (a ∷ []) other = refl
+two_others (a ∷ b ∷ []) other = absurd (other refl)
+two_others (a ∷ b ∷ c ∷ vs) other = refl
+
+pub two_items-other : (d : Data) (vs : List Value) → Some (items_view vs) ≡ as_array d → (length vs ≡ 2 → ⊥) → None ≡ two_items d
+two_items-other d vs is other = two_others vs other ∙ ap two_items (sym (array-from_as_array d _ is))
+
+three_others : (vs : List Value) → (length vs ≡ 3 → ⊥) → None ≡ three_items (array (items_view vs))
+three_others [] other = refl
+three_others (a ∷ []) other = refl
+three_others (a ∷ b ∷ []) other = refl
+three_others (a ∷ b ∷ c ∷ []) other = absurd (other refl)
+three_others (a ∷ b ∷ c ∷ d ∷ vs) other = refl
+
+pub three_items-other : (d : Data) (vs : List Value) → Some (items_view vs) ≡ as_array d → (length vs ≡ 3 → ⊥) → None ≡ three_items d
+three_items-other d vs is other = three_others vs other ∙ ap three_items (sym (array-from_as_array d _ is))
+
+-- ---- parts are less deep
+
+pub object-from_only_member : (d : Data) (word : List ℕ) (value : Data) → Some (word, value) ≡ only_member d → d ≡ object (member word value no_members)
+object-from_only_member null word value e = cc
+object-from_only_member (boolean b) word value e = cc
+object-from_only_member (number n) word value e = cc
+object-from_only_member (string s) word value e = cc
+object-from_only_member (array ds) word value e = cc
+object-from_only_member (object no_members) word value e = cc
+object-from_only_member (object (member k v no_members)) word value e =
+    let p : ◌≡◌ {A = List ℕ × Data} (word, value) (k, v) = cc in
+    ap (λ q. object (member q.0 q.1 no_members)) (sym p)
+object-from_only_member (object (member k v (member l w ms))) word value e = cc
+
+pub array-from_two_items : (d a b : Data) → Some (a, b) ≡ two_items d → d ≡ array (item a (item b no_items))
+array-from_two_items null a b e = cc
+array-from_two_items (boolean x) a b e = cc
+array-from_two_items (number n) a b e = cc
+array-from_two_items (string s) a b e = cc
+array-from_two_items (object ms) a b e = cc
+array-from_two_items (array no_items) a b e = cc
+array-from_two_items (array (item x no_items)) a b e = cc
+array-from_two_items (array (item x (item y no_items))) a b e =
+    let p : ◌≡◌ {A = Data × Data} (a, b) (x, y) = cc in
+    ap (λ q. array (item q.0 (item q.1 no_items))) (sym p)
+array-from_two_items (array (item x (item y (item z ds)))) a b e = cc
+
+pub array-from_three_items : (d a b c : Data) → Some (a, b, c) ≡ three_items d → d ≡ array (item a (item b (item c no_items)))
+array-from_three_items null a b c e = cc
+array-from_three_items (boolean x) a b c e = cc
+array-from_three_items (number n) a b c e = cc
+array-from_three_items (string s) a b c e = cc
+array-from_three_items (object ms) a b c e = cc
+array-from_three_items (array no_items) a b c e = cc
+array-from_three_items (array (item x no_items)) a b c e = cc
+array-from_three_items (array (item x (item y no_items))) a b c e = cc
+array-from_three_items (array (item x (item y (item z no_items)))) a b c e =
+    let p : ◌≡◌ {A = Data × Data × Data} (a, b, c) (x, y, z) = cc in
+    ap (λ q. array (item q.0 (item q.1 (item q.2 no_items)))) (sym p)
+array-from_three_items (array (item x (item y (item z (item w ds))))) a b c e = cc
+
+below_max : (n m k : ℕ) → n ≤ k → n < suc (max k m)
+below_max n m k h = omega arith
+
+pub depth-only_member : (d : Data) (word : List ℕ) (value : Data) → Some (word, value) ≡ only_member d → depth value < depth d
+depth-only_member d word value e = subst (λ x. depth value < depth x) (sym (object-from_only_member d word value e)) (below_max (depth value) 0 (depth value) (omega arith))
+
+pub depth-two_items : (d a b : Data) → Some (a, b) ≡ two_items d → depth a < depth d
+depth-two_items d a b e = subst (λ x. depth a < depth x) (sym (array-from_two_items d a b e)) (below_max (depth a) _ (depth a) (omega arith))
+
+below_second : (n m : ℕ) → n < suc (max m (max n 0))
+below_second n m = omega arith
+
+below_third : (n m k : ℕ) → n < suc (max m (max k (max n 0)))
+below_third n m k = omega arith
+
+below_middle : (n m k : ℕ) → n < suc (max m (max n k))
+below_middle n m k = omega arith
+
+pub depth-three_items : (d a b c : Data) → Some (a, b, c) ≡ three_items d → (depth b < depth d) × (depth c < depth d)
+depth-three_items d a b c e =
+    subst (λ x. (depth b < depth x) × (depth c < depth x)) (sym (array-from_three_items d a b c e)) (below_middle (depth b) (depth a) _, below_third (depth c) (depth a) (depth b))

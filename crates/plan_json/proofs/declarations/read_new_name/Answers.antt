@@ -1,0 +1,17 @@
+use Rattle.std.proofs.Common.{◌∙◌, sym, ap, not}
+use Rattle.plan_json.specs.Faults.{a_new_name}
+use Rattle.plan_json.specs.Tables.{declared, names_of, is_among}
+use Rattle.plan_json.proofs.FaultLemmas.{IfErr-handed, IsErrorOf-text, IsErrorOf-name, name_fault-none, name_fault-failed}
+use Rattle.plan_json.proofs.declarations.read_new_name.Goals as goal
+
+pub returns-in_err-name-clause-err : goal.returns-in_err-name-clause-err
+returns-in_err-name-clause-err c =
+    let names = names_of (declared c.args.before.now) in
+    IfErr-handed _ _ _ c.from_residual.ensures.1
+    (IsErrorOf-text (a_new_name names) _ _ (name_fault-none (λ name. not (is_among name names)) _) c.in_err-name.ensures.err)
+
+pub returns-then-contains-clause-err : goal.returns-then-contains-clause-err
+returns-then-contains-clause-err c =
+    let names = names_of (declared c.args.before.now) in
+    let taken = ap not (sym c.contains.ensures ∙ c.if-contains.true) in
+    IsErrorOf-name (a_new_name names) _ _ c.name-then-contains.ensures (name_fault-failed (λ name. not (is_among name names)) _ _ c.in_ok-name.ensures.ok taken)

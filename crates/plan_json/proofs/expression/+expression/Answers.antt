@@ -1,0 +1,47 @@
+use Rattle.std.proofs.Common.{◌∙◌, codes, refl, arith}
+use Rattle.std.proofs.lemmas.Result.{IfOk-at_ok}
+use Rattle.serde_json.specs.View.{view}
+use Rattle.plan_json.specs.Faults.{an_expression, an_operator, a_text, operands, part, key, number, expression_form, operand_parts}
+use Rattle.plan_json.proofs.FaultLemmas.{IfErr-below, in_parts, only_member-part}
+use Rattle.plan_json.proofs.FormLemmas.{expression_of-bin}
+use Rattle.plan_json.proofs.LookingLemmas.{depth-only_member, depth-three_items}
+use Rattle.plan_json.proofs.expression.+expression.Goals as goal
+
+pub read_binary-returns-in_err-op-in-Some-clause-err :
+    goal.read_binary-returns-in_err-op-in-Some-clause-err
+read_binary-returns-in_err-op-in-Some-clause-err t c =
+    IfErr-below _ _ operands _ (part (number 0) an_operator (view c.in-Some.operator.now)) _ c.from_residual.ensures.1
+    (in_parts operand_parts _ _ _ c.in-Some.ensures (0, omega arith, refl)) c.read_operator.ensures.err c.in_err-op-in-Some.ensures.err
+
+pub read_binary-returns-in_err-left-in-Some-clause-err :
+    goal.read_binary-returns-in_err-left-in-Some-clause-err
+read_binary-returns-in_err-left-in-Some-clause-err t c =
+    IfErr-below _ _ operands _ (part (number 1) an_expression (view c.in-Some.left.now)) _ c.from_residual-in_err-left-in-Some.ensures.1
+    (in_parts operand_parts _ _ _ c.in-Some.ensures (1, omega arith, refl)) c.read_expression.ensures.err c.in_err-left-in-Some.ensures.err
+
+pub read_binary-read_expression-requires-in-Some : goal.read_binary-read_expression-requires-in-Some
+read_binary-read_expression-requires-in-Some t c =
+    let below = (depth-three_items _ _ _ _ c.in-Some.ensures).1 in (omega (arith, below, c.decreases), tt)
+
+pub read_binary-returns-in_err-right-in-Some-clause-err :
+    goal.read_binary-returns-in_err-right-in-Some-clause-err
+read_binary-returns-in_err-right-in-Some-clause-err t c =
+    IfErr-below _ _ operands _ (part (number 2) an_expression (view c.in-Some.right.now)) _ c.from_residual-in_err-right-in-Some.ensures.1
+    (in_parts operand_parts _ _ _ c.in-Some.ensures (2, omega arith, refl)) c.read_expression-in-Some.ensures.err c.in_err-right-in-Some.ensures.err
+
+pub read_expression-returns-in_err-name-in-col-clause-err :
+    goal.read_expression-returns-in_err-name-in-col-clause-err
+read_expression-returns-in_err-name-in-col-clause-err t c =
+    IfErr-below _ _ an_expression _ (part (key (codes "col")) a_text (view c.in-Some.inner.now)) _ c.from_residual.ensures.1
+    (only_member-part expression_form _ _ (codes "col") _ a_text c.in-Some.ensures c.in-col.is refl) c.read_text.ensures.err c.in_err-name-in-col.ensures.err
+
+pub read_expression-returns-in_err-expr-in-bin-clause-err :
+    goal.read_expression-returns-in_err-expr-in-bin-clause-err
+read_expression-returns-in_err-expr-in-bin-clause-err t c =
+    IfErr-below _ _ an_expression _ (part (key (codes "bin")) operands (view c.in-Some.inner.now)) _ c.from_residual-in_err-expr-in-bin.ensures.1
+    (only_member-part expression_form _ _ (codes "bin") _ operands c.in-Some.ensures c.in-bin.is refl) c.read_binary.ensures.err c.in_err-expr-in-bin.ensures.err
+
+pub read_expression-returns-in_ok-expr-in-bin-clause-ok :
+    goal.read_expression-returns-in_ok-expr-in-bin-clause-ok
+read_expression-returns-in_ok-expr-in-bin-clause-ok t c =
+    expression_of-bin _ _ _ c.in-Some.ensures c.in-bin.is ∙ IfOk-at_ok _ c.in_ok-expr-in-bin.ensures.ok c.read_binary.ensures.ok

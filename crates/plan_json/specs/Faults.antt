@@ -1,0 +1,159 @@
+-- Faults of a value that is to be a query.
+-- A place in the value asks for a form. A value can break the form itself, and it asks for forms of
+-- its parts. So a fault stands at the end of a path of such parts.
+use Rattle.std.specs.Prelude.{◌≡◌, ℕ, ◌+◌, List, [], ◌∷◌, ◌++◌, Bool, true, false, not, Option, Some, None, option_map, option_and_then, is_some, codes, nat_lt, Contains, if◌then◌else◌}
+use Rattle.std.specs.Option.{option_map_or}
+use Rattle.std.specs.Str.{bytes_eq}
+use Rattle.serde_json.specs.Data.{Data, Items, no_items, item}
+use Rattle.serde_json.specs.Events.{items_len}
+use Rattle.serde_json.specs.Find.{as_array}
+use Rattle.plan_types.specs.Schemas.{Name}
+use Rattle.plan_json.specs.Looking.{both, only_member, two_members, two_items, three_items, some_of}
+use Rattle.plan_json.specs.Queries.{text_of, type_of, operator_of, column_name, table_name, table_limit}
+use Rattle.plan_json.specs.Tables.{is_among, repeats}
+
+pub data FaultKind : Type 0 where
+  -- the value breaks the form
+  BadShape : FaultKind
+  -- the value names a table that isn't declared, or that is declared again
+  BadName : FaultKind
+
+-- a step from a value to a part of it
+pub data Step : Type 0 where
+  -- the value of a key
+  key : List ℕ → Step
+  -- the item of a number
+  number : ℕ → Step
+
+abbrev pub Path : Type 0
+Path = List Step
+
+-- What a place asks for. A table and its name come with the names of the tables before it, and a
+-- plan with those of all tables.
+pub data Form : Type 0 where
+  a_query table_list column_list a_column a_type a_text : Form
+  a_table a_new_name a_plan a_scan a_selection : List Name → Form
+  expression_list an_expression operands an_operator : Form
+
+-- a part of a value: the step to it, what its place asks for, and the part itself
+pub record Part : Type 0 where
+  pub step : Step
+  pub form : Form
+  pub value : Data
+
+abbrev pub part : Step → Form → Data → Part
+part step form value = record { step = step; form = form; value = value }
+
+-- ---- forms that are named by a key
+
+-- what an expression's only key asks of its value
+abbrev pub expression_form : List ℕ → Option Form
+expression_form word =
+    if bytes_eq word (codes "col") then Some a_text else (
+    if bytes_eq word (codes "bin") then Some operands else None)
+
+-- what a plan's only key asks of its value
+abbrev pub plan_form : List Name → List ℕ → Option Form
+plan_form tables word =
+    if bytes_eq word (codes "scan") then Some (a_scan tables) else (
+    if bytes_eq word (codes "empty") then Some column_list else (
+    if bytes_eq word (codes "select") then Some (a_selection tables) else None))
+
+-- the part of an object of one key whose form that key names
+abbrev pub only_part : (List ℕ → Option Form) → Data → Option Part
+only_part form_of d = option_and_then (λ m. option_map (λ form. part (key m.0) form m.1) (form_of m.0)) (only_member d)
+
+-- ---- faults of the value itself
+
+abbrev pub unless : FaultKind → Bool → Option FaultKind
+unless kind true = None
+unless kind false = Some kind
+
+-- a value must be a text, and the text must pass the test
+abbrev pub name_fault : (Name → Bool) → Data → Option FaultKind
+name_fault test d = option_map_or (λ name. unless BadName (test name)) (text_of d) (Some BadShape)
+
+-- a value must be a list, and the list must pass the test
+abbrev pub list_fault : (Items → Bool) → Data → Option FaultKind
+list_fault test d = unless BadShape (option_map_or test (as_array d) false)
+
+-- how a value itself breaks the form
+abbrev pub own_fault : Form → Data → Option FaultKind
+own_fault a_query d = unless BadShape (is_some (two_members (codes "tables") (codes "plan") d))
+own_fault table_list d = list_fault (λ items. nat_lt (items_len items) table_limit) d
+own_fault column_list d = list_fault (λ items. not (repeats [] (some_of column_name items))) d
+own_fault a_column d = unless BadShape (is_some (two_items d))
+own_fault a_type d = unless BadShape (is_some (type_of d))
+own_fault a_text d = unless BadShape (is_some (text_of d))
+own_fault (a_table before) d = unless BadShape (is_some (two_members (codes "name") (codes "columns") d))
+own_fault (a_new_name before) d = name_fault (λ name. not (is_among name before)) d
+own_fault (a_plan tables) d = unless BadShape (is_some (only_part (plan_form tables) d))
+own_fault (a_scan tables) d = name_fault (λ name. is_among name tables) d
+own_fault (a_selection tables) d = unless BadShape (is_some (two_items d))
+own_fault expression_list d = list_fault (λ items. true) d
+own_fault an_expression d = unless BadShape (is_some (only_part expression_form d))
+own_fault operands d = unless BadShape (is_some (three_items d))
+own_fault an_operator d = unless BadShape (is_some (operator_of d))
+
+-- ---- parts of a value
+
+-- the items from that number on, each of the form
+abbrev pub each : Form → ℕ → Items → List Part
+each form n no_items = []
+each form n (item d ds) = part (number n) form d ∷ each form (n + 1) ds
+
+-- the names that the tables of a list give themselves
+abbrev pub declared_names : Data → List Name
+declared_names d = option_map_or (some_of table_name) (as_array d) []
+
+-- the tables from that number on, behind tables of these names
+abbrev pub each_table : List Name → ℕ → Items → List Part
+each_table before n no_items = []
+each_table before n (item d ds) =
+    part (number n) (a_table before) d ∷ each_table (option_map_or (λ name. before ++ name ∷ []) (table_name d) before) (n + 1) ds
+
+abbrev pub query_parts : Data × Data → List Part
+query_parts pair = part (key (codes "tables")) table_list pair.0 ∷ part (key (codes "plan")) (a_plan (declared_names pair.0)) pair.1 ∷ []
+
+abbrev pub table_parts : List Name → Data × Data → List Part
+table_parts before pair = part (key (codes "name")) (a_new_name before) pair.0 ∷ part (key (codes "columns")) column_list pair.1 ∷ []
+
+abbrev pub column_parts : Data × Data → List Part
+column_parts pair = part (number 0) a_text pair.0 ∷ part (number 1) a_type pair.1 ∷ []
+
+abbrev pub selection_parts : List Name → Data × Data → List Part
+selection_parts tables pair = part (number 0) (a_plan tables) pair.0 ∷ part (number 1) expression_list pair.1 ∷ []
+
+abbrev pub operand_parts : Data × Data × Data → List Part
+operand_parts triple =
+    part (number 0) an_operator triple.0 ∷ part (number 1) an_expression triple.1 ∷ part (number 2) an_expression triple.2 ∷ []
+
+abbrev pub one_part : Option Part → List Part
+one_part None = []
+one_part (Some x) = x ∷ []
+
+-- the parts of a value that are of some form, as far as it has them
+abbrev pub parts_of : Form → Data → List Part
+parts_of a_query d = option_map_or query_parts (two_members (codes "tables") (codes "plan") d) []
+parts_of table_list d = option_map_or (each_table [] 0) (as_array d) []
+parts_of column_list d = option_map_or (each a_column 0) (as_array d) []
+parts_of a_column d = option_map_or column_parts (two_items d) []
+parts_of a_type d = []
+parts_of a_text d = []
+parts_of (a_table before) d = option_map_or (table_parts before) (two_members (codes "name") (codes "columns") d) []
+parts_of (a_new_name before) d = []
+parts_of (a_plan tables) d = one_part (only_part (plan_form tables) d)
+parts_of (a_scan tables) d = []
+parts_of (a_selection tables) d = option_map_or (selection_parts tables) (two_items d) []
+parts_of expression_list d = option_map_or (each an_expression 0) (as_array d) []
+parts_of an_expression d = one_part (only_part expression_form d)
+parts_of operands d = option_map_or operand_parts (three_items d) []
+parts_of an_operator d = []
+
+-- ---- faults along a path
+
+-- the part at the path's end breaks its form in this way
+abbrev pub IsBad : Form → Data → FaultKind → Path → Type 0
+IsBad form d kind [] = own_fault form d ≡ Some kind
+IsBad form d kind (step ∷ path) =
+    (below : Part) × Contains (parts_of form d) below × (below.step ≡ step) × IsBad below.form below.value kind path

@@ -1,0 +1,7 @@
+-- What the contracts of this crate cite.
+pub mod Bytes
+pub mod Errors
+pub mod Faults
+pub mod Looking
+pub mod Queries
+pub mod Tables

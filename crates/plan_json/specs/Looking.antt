@@ -1,0 +1,42 @@
+-- Looking into a value that a text reads to.
+use Rattle.std.specs.Prelude.{ℕ, List, [], ◌∷◌, ◌==◌, Option, Some, None, option_map, option_and_then, if◌then◌else◌}
+use Rattle.std.specs.Option.{option_map_or}
+use Rattle.serde_json.specs.Data.{Data, array, object, Items, no_items, item, Members, no_members, member}
+use Rattle.serde_json.specs.Events.{members_len}
+use Rattle.serde_json.specs.Find.{get_member}
+
+-- two values, if both are there
+abbrev pub both : {A B : Type 0} → Option A → Option B → Option (A × B)
+both (Some x) (Some y) = Some (x, y)
+both _ _ = None
+
+-- the key and the value of an object of one key
+abbrev pub only_member : Data → Option (List ℕ × Data)
+only_member (object (member key value no_members)) = Some (key, value)
+only_member _ = None
+
+-- the values of an object of these two keys alone
+abbrev pub two_members : List ℕ → List ℕ → Data → Option (Data × Data)
+two_members first second (object members) =
+    if members_len members == 2 then both (get_member first members) (get_member second members) else None
+two_members first second _ = None
+
+-- the items of a list of two
+abbrev pub two_items : Data → Option (Data × Data)
+two_items (array (item first (item second no_items))) = Some (first, second)
+two_items _ = None
+
+-- the items of a list of three
+abbrev pub three_items : Data → Option (Data × Data × Data)
+three_items (array (item first (item second (item third no_items)))) = Some (first, second, third)
+three_items _ = None
+
+-- what each item reads to, if each does
+abbrev pub all_of : {A : Type 0} → (Data → Option A) → Items → Option (List A)
+all_of read no_items = Some []
+all_of read (item d ds) = option_map (λ p. p.0 ∷ p.1) (both (read d) (all_of read ds))
+
+-- what those items read to that read to something
+abbrev pub some_of : {A : Type 0} → (Data → Option A) → Items → List A
+some_of read no_items = []
+some_of read (item d ds) = option_map_or (λ x. x ∷ some_of read ds) (read d) (some_of read ds)

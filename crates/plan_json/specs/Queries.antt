@@ -1,0 +1,163 @@
+-- The query that a value is.
+-- There is one function for each form. Each gives what a value of that form means, and nothing
+-- where the value hasn't the form.
+use Rattle.std.specs.Prelude.{ℕ, ◌^◌, ◌&&◌, List, [], ◌∷◌, map, Bool, not, Option, Some, None, option_map, option_and_then, codes, nat_lt, position, if◌then◌else◌, true, false}
+use Rattle.std.specs.Map.{lookup}
+use Rattle.std.specs.Str.{chars, bytes_eq}
+use Rattle.serde_json.specs.Data.{Data, array, object, Items, no_items, item, no_members, member}
+use Rattle.serde_json.specs.Events.{items_len}
+use Rattle.serde_json.specs.Find.{get, as_str, as_array}
+use Rattle.plan_types.specs.Schemas.{Name, Columns, same_name}
+use Rattle.plan_types.specs.Types.{Ty, Integer}
+use Rattle.plan_dsl.specs.Ops.{ColumnOp, BinaryOp, Expression}
+use Rattle.plan_dsl.specs.Plans.{Plan, named, scan_op, select_op, plan_tree}
+use Rattle.plan_dsl.specs.Trees.{node, no_more, more}
+use Rattle.plan_dsl.specs.declared.operator.Operator.{Operator}
+use Rattle.plan_dsl.specs.declared.operator.Operator.TheVariants.{Plus}
+use Rattle.plan_json.specs.Looking.{both, only_member, two_members, two_items, all_of, some_of}
+use Rattle.plan_json.specs.Tables.{Declared, declared, names_of, repeats}
+use Rattle.plan_json.specs.declared.query.Query.{Query}
+
+-- a query: its tables, and its plan over them
+pub record QueryModel : Type 0 where
+  pub tables : Declared
+  pub plan : Plan
+
+abbrev pub query_model : Query → QueryModel
+query_model query = record { tables = declared query.tables; plan = plan_tree query.plan }
+
+-- ---- names and types
+
+-- the characters of a text
+abbrev pub text_of : Data → Option Name
+text_of d = option_map chars (as_str d)
+
+abbrev pub type_named : List ℕ → Option Ty
+type_named name =
+    if bytes_eq name (codes "Int8") then Some (Integer true 8) else (
+    if bytes_eq name (codes "Int16") then Some (Integer true 16) else (
+    if bytes_eq name (codes "Int32") then Some (Integer true 32) else (
+    if bytes_eq name (codes "Int64") then Some (Integer true 64) else (
+    if bytes_eq name (codes "UInt8") then Some (Integer false 8) else (
+    if bytes_eq name (codes "UInt16") then Some (Integer false 16) else (
+    if bytes_eq name (codes "UInt32") then Some (Integer false 32) else (
+    if bytes_eq name (codes "UInt64") then Some (Integer false 64) else None)))))))
+
+abbrev pub type_of : Data → Option Ty
+type_of d = option_and_then type_named (as_str d)
+
+abbrev pub operator_named : List ℕ → Option Operator
+operator_named name = if bytes_eq name (codes "Plus") then Some Plus else None
+
+abbrev pub operator_of : Data → Option Operator
+operator_of d = option_and_then operator_named (as_str d)
+
+-- ---- columns
+
+-- `[name, type]`
+abbrev pub column_of : Data → Option (Name × Ty)
+column_of d = option_and_then (λ pair. both (text_of pair.0) (type_of pair.1)) (two_items d)
+
+-- the name that a column gives itself, whatever its type
+abbrev pub column_name : Data → Option Name
+column_name d = option_and_then (λ pair. text_of pair.0) (two_items d)
+
+abbrev pub columns_from : Items → Option Columns
+columns_from items = if repeats [] (some_of column_name items) then None else all_of column_of items
+
+-- a list of columns, no two of one name
+abbrev pub columns_of : Data → Option Columns
+columns_of d = option_and_then columns_from (as_array d)
+
+-- ---- tables
+
+-- `{"name": name, "columns": columns}`
+abbrev pub table_of : Data → Option (Name × Columns)
+table_of d = option_and_then (λ pair. both (text_of pair.0) (columns_of pair.1)) (two_members (codes "name") (codes "columns") d)
+
+-- the name that a table gives itself, whatever its columns
+abbrev pub table_name : Data → Option Name
+table_name d = option_and_then text_of (get (codes "name") d)
+
+-- the number of a table is below this
+abbrev pub table_limit : ℕ
+table_limit = 2 ^ 32
+
+abbrev pub tables_from : Items → Option Declared
+tables_from items =
+    if nat_lt (items_len items) table_limit && not (repeats [] (some_of table_name items)) then all_of table_of items else None
+
+-- a list of fewer than 2^32 tables, no two of one name
+abbrev pub tables_of : Data → Option Declared
+tables_of d = option_and_then tables_from (as_array d)
+
+-- ---- expressions
+
+abbrev pub column_expression : Name → Expression
+column_expression name = node (ColumnOp name) no_more
+
+abbrev pub binary_expression : Option Operator → Option Expression → Option Expression → Option Expression
+binary_expression (Some operator) (Some left) (Some right) = Some (node (BinaryOp operator) (more left (more right no_more)))
+binary_expression _ _ _ = None
+
+abbrev mutual
+  -- an object of one key, which names its form
+  pub expression_of : Data → Option Expression
+  expression_of (object (member key value no_members)) =
+      if bytes_eq key (codes "col") then option_map column_expression (text_of value) else (
+      if bytes_eq key (codes "bin") then binary_of value else None)
+  expression_of _ = None
+
+  -- `[operator, expression, expression]`
+  pub binary_of : Data → Option Expression
+  binary_of (array (item operator (item left (item right no_items)))) =
+      binary_expression (operator_of operator) (expression_of left) (expression_of right)
+  binary_of _ = None
+
+-- a list of expressions
+abbrev pub expressions_of : Data → Option (List Expression)
+expressions_of d = option_and_then (all_of expression_of) (as_array d)
+
+-- ---- plans
+
+-- the number and the columns of the table of that name
+abbrev pub table_at : Declared → Name → Option (ℕ × Columns)
+table_at tables name = both (position (same_name name) (names_of tables)) (lookup (same_name name) tables)
+
+abbrev pub scan_plan : ℕ × Columns → Plan
+scan_plan table = node (scan_op (Some table.0) table.1) no_more
+
+abbrev pub empty_plan : Columns → Plan
+empty_plan columns = node (scan_op None columns) no_more
+
+abbrev pub select_plan : Plan × List Expression → Plan
+select_plan parts = node (select_op (map named parts.1) []) (more parts.0 no_more)
+
+-- the name of a table
+abbrev pub scan_of : Declared → Data → Option Plan
+scan_of tables d = option_map scan_plan (option_and_then (table_at tables) (text_of d))
+
+abbrev mutual
+  -- an object of one key, which names its form
+  pub plan_of : Declared → Data → Option Plan
+  plan_of tables (object (member key value no_members)) =
+      if bytes_eq key (codes "scan") then scan_of tables value else (
+      if bytes_eq key (codes "empty") then option_map empty_plan (columns_of value) else (
+      if bytes_eq key (codes "select") then select_of tables value else None))
+  plan_of tables _ = None
+
+  -- `[plan, expressions]`
+  pub select_of : Declared → Data → Option Plan
+  select_of tables (array (item input (item expressions no_items))) =
+      option_map select_plan (both (plan_of tables input) (expressions_of expressions))
+  select_of tables _ = None
+
+-- ---- queries
+
+abbrev pub query_from : Data × Data → Option QueryModel
+query_from parts =
+    option_and_then (λ tables. option_map (λ plan. record { tables = tables; plan = plan }) (plan_of tables parts.1)) (tables_of parts.0)
+
+-- `{"tables": tables, "plan": plan}`
+abbrev pub query_of : Data → Option QueryModel
+query_of d = option_and_then query_from (two_members (codes "tables") (codes "plan") d)

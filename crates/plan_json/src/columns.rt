@@ -1,0 +1,101 @@
+//! Names, types and columns.
+ghost use Rattle.std.specs.Prelude.{◌≡◌, Some, IfOk, IfErr};
+ghost use Rattle.std.specs.Option.{option_map};
+ghost use Rattle.serde_json.specs.View.{view};
+ghost use Rattle.plan_types.specs.Schemas.{columns};
+ghost use Rattle.plan_types.specs.Types.{ty};
+ghost use Rattle.plan_json.specs.Errors.{IsErrorOf};
+ghost use Rattle.plan_json.specs.Faults.{a_text, a_type, a_column, column_list};
+ghost use Rattle.plan_json.specs.Queries.{text_of, type_named, type_of, column_of, columns_of};
+
+use crate::error::{JsonError, Step, at};
+use crate::value::two_items;
+use plan_types::dtype::DataType;
+use plan_types::field::Field;
+use plan_types::schema::Schema;
+use plan_types::text::PlSmallStr;
+use serde_json::Value;
+use std::alloc::Global;
+
+// A text.
+pub(crate) fn read_text(alloc: Global, value: &Value) -> Result<PlSmallStr, JsonError>
+    ensures ok { IfOk result (λ text. text_of (view value.now) ≡ Some text) }
+    ensures err { IfErr result (IsErrorOf a_text (view value.now)) }
+{
+    match value.as_str() {
+        None => Err(JsonError::shape(alloc)),
+        Some(text) => {
+            let text = PlSmallStr::new(alloc, text)?;
+            Ok(text)
+        }
+    }
+}
+
+// A type, by its name.
+pub(crate) fn read_type(alloc: Global, value: &Value) -> Result<DataType, JsonError>
+    ensures ok { IfOk result (λ dtype. type_of (view value.now) ≡ Some (ty dtype)) }
+    ensures err { IfErr result (IsErrorOf a_type (view value.now)) }
+{
+    match value.as_str() {
+        None => Err(JsonError::shape(alloc)),
+        Some(name) => match type_named(name) {
+            None => Err(JsonError::shape(alloc)),
+            Some(dtype) => Ok(dtype),
+        },
+    }
+}
+
+// The type of that name.
+fn type_named(name: &str) -> Option<DataType>
+    ensures { option_map ty result ≡ type_named name.now }
+{
+    match name {
+        "Int8" => Some(DataType::Int8),
+        "Int16" => Some(DataType::Int16),
+        "Int32" => Some(DataType::Int32),
+        "Int64" => Some(DataType::Int64),
+        "UInt8" => Some(DataType::UInt8),
+        "UInt16" => Some(DataType::UInt16),
+        "UInt32" => Some(DataType::UInt32),
+        "UInt64" => Some(DataType::UInt64),
+        _ => None,
+    }
+}
+
+// A column: `[name, type]`.
+pub(crate) fn read_column(alloc: Global, value: &Value) -> Result<Field, JsonError>
+    ensures ok { IfOk result (λ field. column_of (view value.now) ≡ Some (field.name, ty field.dtype)) }
+    ensures err { IfErr result (IsErrorOf a_column (view value.now)) }
+{
+    match two_items(value) {
+        None => Err(JsonError::shape(alloc)),
+        Some((name, dtype)) => {
+            let name = at(alloc, Step::Item(0), read_text(alloc, name))?;
+            let dtype = at(alloc, Step::Item(1), read_type(alloc, dtype))?;
+            Ok(Field::new(name, dtype))
+        }
+    }
+}
+
+// A list of columns, no two of one name.
+pub(crate) fn read_columns(alloc: Global, value: &Value) -> Result<Schema, JsonError>
+    ensures ok { IfOk result (λ schema. columns_of (view value.now) ≡ Some (columns schema)) }
+    ensures err { IfErr result (IsErrorOf column_list (view value.now)) }
+{
+    match value.as_array() {
+        None => Err(JsonError::shape(alloc)),
+        Some(items) => {
+            let items = items.as_slice();
+            let mut schema = Schema::new(alloc);
+            for (number, item) in items.iter().enumerate() {
+                let column = at(alloc, Step::Item(number), read_column(alloc, item))?;
+                let Field { name, dtype } = column;
+                let before = schema.with_column(name, dtype)?;
+                if before.is_some() {
+                    return Err(JsonError::shape(alloc));
+                }
+            }
+            Ok(schema)
+        }
+    }
+}

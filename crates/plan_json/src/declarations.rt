@@ -1,0 +1,67 @@
+//! Reading the tables that a query declares.
+ghost use Rattle.std.specs.Prelude.{◌≡◌, Some, false, IfOk, IfErr};
+ghost use Rattle.serde_json.specs.View.{view};
+ghost use Rattle.plan_types.specs.Schemas.{columns};
+ghost use Rattle.plan_json.specs.Errors.{IsErrorOf};
+ghost use Rattle.plan_json.specs.Faults.{table_list, a_table, a_new_name};
+ghost use Rattle.plan_json.specs.Queries.{text_of, table_of, tables_of};
+ghost use Rattle.plan_json.specs.Tables.{declared, names_of, is_among};
+
+use crate::columns::{read_columns, read_text};
+use crate::error::{JsonError, Step, at};
+use crate::tables::{Table, Tables};
+use crate::value::two_members;
+use plan_types::text::PlSmallStr;
+use serde_json::Value;
+use std::alloc::Global;
+
+// A list of tables, no two of one name.
+pub(crate) fn read_tables(alloc: Global, value: &Value) -> Result<Tables, JsonError>
+    ensures ok { IfOk result (λ tables. tables_of (view value.now) ≡ Some (declared tables)) }
+    ensures err { IfErr result (IsErrorOf table_list (view value.now)) }
+{
+    match value.as_array() {
+        None => Err(JsonError::shape(alloc)),
+        Some(values) => {
+            let values = values.as_slice();
+            if values.len() >= 1 << 32 {
+                return Err(JsonError::shape(alloc));
+            }
+            let mut tables = Tables::new(alloc);
+            for (number, value) in values.iter().enumerate() {
+                let table = at(alloc, Step::Item(number), read_table(alloc, &tables, value))?;
+                tables.push(table)?;
+            }
+            Ok(tables)
+        }
+    }
+}
+
+// A table: `{"name": name, "columns": columns}`. None of those before it has its name.
+pub(crate) fn read_table(alloc: Global, before: &Tables, value: &Value) -> Result<Table, JsonError>
+    ensures ok { IfOk result (λ table. table_of (view value.now) ≡ Some (table.name, columns table.schema)) }
+    ensures new { IfOk result (λ table. is_among table.name (names_of (declared before.now)) ≡ false) }
+    ensures err { IfErr result (IsErrorOf (a_table (names_of (declared before.now))) (view value.now)) }
+{
+    match two_members(value, "name", "columns") {
+        None => Err(JsonError::shape(alloc)),
+        Some((name, columns)) => {
+            let name = at(alloc, Step::Key("name"), read_new_name(alloc, before, name))?;
+            let schema = at(alloc, Step::Key("columns"), read_columns(alloc, columns))?;
+            Ok(Table { name, schema })
+        }
+    }
+}
+
+// A name that no table has.
+fn read_new_name(alloc: Global, before: &Tables, value: &Value) -> Result<PlSmallStr, JsonError>
+    ensures ok { IfOk result (λ name. text_of (view value.now) ≡ Some name) }
+    ensures new { IfOk result (λ name. is_among name (names_of (declared before.now)) ≡ false) }
+    ensures err { IfErr result (IsErrorOf (a_new_name (names_of (declared before.now))) (view value.now)) }
+{
+    let name = read_text(alloc, value)?;
+    if before.contains(&name) {
+        return Err(JsonError::name(alloc));
+    }
+    Ok(name)
+}

@@ -1,0 +1,129 @@
+//! Why bytes are no query, and where.
+ghost use Rattle.std.specs.Prelude.{◌≡◌, ◌++◌, [], Ok, IfOk, IfErr, string_bytes};
+ghost use Rattle.plan_json.specs.Errors.{IsBelow, IsErrBelow, IsPlain, step_of, step_text};
+
+use plan_types::error::PlanError;
+use std::alloc::{AllocError, AllocFailed, Global};
+use thiserror::Error;
+
+/// Why bytes are no query. A path is a JSON pointer to the value at fault.
+#[derive(Debug, Drop, Error)]
+pub enum JsonError {
+    /// The bytes are no JSON text.
+    #[error("NotJson")]
+    NotJson,
+    /// The value breaks the shape that its place asks for.
+    #[error("Shape {path}")]
+    Shape { path: String },
+    /// The value names a table that isn't declared, or that is declared again.
+    #[error("Name {path}")]
+    Name { path: String },
+    /// Memory ran out. It may stand in place of any other answer.
+    #[error("NoMemory")]
+    NoMemory,
+}
+
+// A step from a value to a part of it.
+#[derive(Clone, Copy)]
+pub(crate) enum Step {
+    // The value of a key.
+    Key(&'static str),
+    // The item of a number.
+    Item(usize),
+}
+
+impl JsonError {
+    // The value itself breaks the shape.
+    pub(crate) fn shape(alloc: Global) -> JsonError
+        ensures { (path : _) × (result ≡ JsonError.Shape path) × (string_bytes path ≡ []) }
+    {
+        JsonError::Shape {
+            path: String::new(alloc),
+        }
+    }
+
+    // The value itself is the wrong name.
+    pub(crate) fn name(alloc: Global) -> JsonError
+        ensures { (path : _) × (result ≡ JsonError.Name path) × (string_bytes path ≡ []) }
+    {
+        JsonError::Name {
+            path: String::new(alloc),
+        }
+    }
+
+    // The error of a part, as the value sees it that has the part at the step.
+    pub(crate) fn below(self, alloc: Global, step: Step) -> JsonError
+        requires { IsPlain (step_of step) }
+        ensures { IsBelow (step_of step) self result }
+    {
+        match self {
+            JsonError::Shape { path } => match longer(alloc, step, path.as_str()) {
+                Ok(path) => JsonError::Shape { path },
+                Err(_) => JsonError::NoMemory,
+            },
+            JsonError::Name { path } => match longer(alloc, step, path.as_str()) {
+                Ok(path) => JsonError::Name { path },
+                Err(_) => JsonError::NoMemory,
+            },
+            JsonError::NotJson => JsonError::NotJson,
+            JsonError::NoMemory => JsonError::NoMemory,
+        }
+    }
+}
+
+// What was read of a part, with an error as the value sees it that has the part at the step.
+pub(crate) fn at<T>(alloc: Global, step: Step, read: Result<T, JsonError>) -> Result<T, JsonError>
+    requires { IsPlain (step_of step) }
+    ensures ok { IfOk result (λ found. read ≡ Ok found) }
+    ensures err { IfErr result (IsErrBelow (step_of step) read) }
+{
+    match read {
+        Ok(part) => Ok(part),
+        Err(error) => Err(error.below(alloc, step)),
+    }
+}
+
+// The pointer that goes by the step, and then by the path.
+fn longer(alloc: Global, step: Step, path: &str) -> Result<String, AllocError>
+    requires { IsPlain (step_of step) }
+    ensures { IfOk result (λ text. string_bytes text ≡ step_text (step_of step) ++ path.now) }
+{
+    match step {
+        Step::Key(key) => format!(in alloc; "/{key}{path}"),
+        Step::Item(number) => format!(in alloc; "/{number}{path}"),
+    }
+}
+
+impl From<AllocError> for JsonError {
+    ghost use Rattle.std.specs.Prelude.{◌≡◌};
+    ghost use Rattle.plan_json.specs.declared.error.JsonError.TheVariants.{NoMemory};
+
+    ghost from_gives = { λ _ error. error ≡ NoMemory };
+
+    fn from(_error: AllocError) -> JsonError {
+        JsonError::NoMemory
+    }
+}
+
+impl<T: Drop> From<AllocFailed<T>> for JsonError {
+    ghost use Rattle.std.specs.Prelude.{◌≡◌};
+    ghost use Rattle.plan_json.specs.declared.error.JsonError.TheVariants.{NoMemory};
+
+    ghost from_gives = { λ _ error. error ≡ NoMemory };
+
+    fn from(_error: AllocFailed<T>) -> JsonError {
+        JsonError::NoMemory
+    }
+}
+
+// The calls of `plan_types` that reading makes refuse for want of memory alone.
+impl From<PlanError> for JsonError {
+    ghost use Rattle.std.specs.Prelude.{◌≡◌};
+    ghost use Rattle.plan_json.specs.declared.error.JsonError.TheVariants.{NoMemory};
+
+    ghost from_gives = { λ _ error. error ≡ NoMemory };
+
+    fn from(_error: PlanError) -> JsonError {
+        JsonError::NoMemory
+    }
+}

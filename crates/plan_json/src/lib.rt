@@ -1,0 +1,16 @@
+//! Queries written as JSON: the tables that a query declares, and its plan.
+//!
+//! There is one small function for each form that a value of the text can have. Its clauses speak of
+//! the value as `serde_json` reads it: what it reads to, or where it is at fault.
+#![tactic(auto)]
+
+mod columns;
+mod declarations;
+pub mod error;
+mod expression;
+mod plan;
+pub mod query;
+pub mod tables;
+#[cfg(test)]
+mod tests;
+mod value;

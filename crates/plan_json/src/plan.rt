@@ -1,0 +1,91 @@
+//! Plans.
+ghost use Rattle.std.specs.Prelude.{◌≡◌, Some, IfOk, IfErr};
+ghost use Rattle.serde_json.specs.View.{view};
+ghost use Rattle.plan_dsl.specs.Plans.{plan_tree};
+ghost use Rattle.plan_json.specs.Errors.{IsErrorOf};
+ghost use Rattle.plan_json.specs.Faults.{a_plan, a_scan, a_selection};
+ghost use Rattle.plan_json.specs.Queries.{plan_of, scan_of, select_of};
+ghost use Rattle.plan_json.specs.Tables.{declared, names_of};
+
+use crate::columns::{read_columns, read_text};
+use crate::error::{JsonError, Step, at};
+use crate::expression::read_expressions;
+use crate::tables::Tables;
+use crate::value::{only_member, two_items};
+use plan_dsl::plan::{DslPlan, ProjectionOptions};
+use serde_json::Value;
+use std::alloc::Global;
+
+// A plan over the tables: an object of one key, which names its form.
+#[cycle(plan)]
+pub(crate) fn read_plan(alloc: Global, tables: &Tables, value: &Value) -> Result<DslPlan, JsonError>
+    ensures ok { IfOk result (λ plan. plan_of (declared tables.now) (view value.now) ≡ Some (plan_tree plan)) }
+    ensures err { IfErr result (IsErrorOf (a_plan (names_of (declared tables.now))) (view value.now)) }
+{
+    match only_member(value) {
+        None => Err(JsonError::shape(alloc)),
+        Some((key, inner)) => match key {
+            "scan" => {
+                let plan = at(alloc, Step::Key("scan"), read_scan(alloc, tables, inner))?;
+                Ok(plan)
+            }
+            "empty" => {
+                let schema = at(alloc, Step::Key("empty"), read_columns(alloc, inner))?;
+                Ok(DslPlan::DataFrameScan {
+                    table: None,
+                    schema,
+                })
+            }
+            "select" => {
+                let plan = at(
+                    alloc,
+                    Step::Key("select"),
+                    read_select(alloc, tables, inner),
+                )?;
+                Ok(plan)
+            }
+            _ => Err(JsonError::shape(alloc)),
+        },
+    }
+}
+
+// A scan of a table by its name.
+fn read_scan(alloc: Global, tables: &Tables, value: &Value) -> Result<DslPlan, JsonError>
+    ensures ok { IfOk result (λ plan. scan_of (declared tables.now) (view value.now) ≡ Some (plan_tree plan)) }
+    ensures err { IfErr result (IsErrorOf (a_scan (names_of (declared tables.now))) (view value.now)) }
+{
+    let name = read_text(alloc, value)?;
+    match tables.find(&name) {
+        None => Err(JsonError::name(alloc)),
+        Some((number, schema)) => {
+            let schema = schema.try_clone(alloc)?;
+            Ok(DslPlan::DataFrameScan {
+                table: Some(number),
+                schema,
+            })
+        }
+    }
+}
+
+// A frame of a column for each expression: `[plan, expressions]`.
+#[cycle(plan)]
+fn read_select(alloc: Global, tables: &Tables, value: &Value) -> Result<DslPlan, JsonError>
+    ensures ok { IfOk result (λ plan. select_of (declared tables.now) (view value.now) ≡ Some (plan_tree plan)) }
+    ensures err { IfErr result (IsErrorOf (a_selection (names_of (declared tables.now))) (view value.now)) }
+{
+    match two_items(value) {
+        None => Err(JsonError::shape(alloc)),
+        Some((input, expressions)) => {
+            let input = at(alloc, Step::Item(0), read_plan(alloc, tables, input))?;
+            let expr = at(alloc, Step::Item(1), read_expressions(alloc, expressions))?;
+            let input = Box::new(alloc, input)?;
+            Ok(DslPlan::Select {
+                expr,
+                input,
+                options: ProjectionOptions {
+                    duplicate_check: false,
+                },
+            })
+        }
+    }
+}

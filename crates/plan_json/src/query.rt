@@ -1,0 +1,61 @@
+//! Queries.
+ghost use Rattle.std.specs.Prelude.{◌≡◌, Some, IfOk, IfErr};
+ghost use Rattle.serde_json.specs.Data.{Data};
+ghost use Rattle.serde_json.specs.View.{view};
+ghost use Rattle.plan_json.specs.Bytes.{IsTextOf, IsRefusalOf, WritesQuery};
+ghost use Rattle.plan_json.specs.Errors.{IsErrorOf};
+ghost use Rattle.plan_json.specs.Faults.{a_query};
+ghost use Rattle.plan_json.specs.Queries.{QueryModel, query_of, query_model};
+
+use crate::declarations::read_tables;
+use crate::error::{JsonError, Step, at};
+use crate::plan::read_plan;
+use crate::tables::Tables;
+use crate::value::two_members;
+use plan_dsl::plan::DslPlan;
+use serde_json::Value;
+use std::alloc::Global;
+
+/// The tables that a query declares, and its plan over them.
+#[derive(Drop)]
+pub struct Query {
+    pub tables: Tables,
+    pub plan: DslPlan,
+}
+
+/// Reads the query that the bytes write.
+pub fn read_query(alloc: Global, bytes: &[u8]) -> Result<Query, JsonError>
+    ensures ok { IfOk result (λ query. WritesQuery bytes.now (query_model query)) }
+    ensures err { IfErr result (IsRefusalOf bytes.now) }
+    // The bytes of a query are refused for want of memory alone.
+    ensures complete { (query : QueryModel) → WritesQuery bytes.now query → IfErr result (λ error. error ≡ JsonError.NoMemory) }
+{
+    match Value::from_slice(alloc, bytes) {
+        Err(error) => {
+            if error.is_memory() {
+                Err(JsonError::NoMemory)
+            } else {
+                Err(JsonError::NotJson)
+            }
+        }
+        Ok(value) => {
+            let query = read_value(alloc, &value)?;
+            Ok(query)
+        }
+    }
+}
+
+// A query: `{"tables": tables, "plan": plan}`.
+fn read_value(alloc: Global, value: &Value) -> Result<Query, JsonError>
+    ensures ok { IfOk result (λ query. query_of (view value.now) ≡ Some (query_model query)) }
+    ensures err { IfErr result (IsErrorOf a_query (view value.now)) }
+{
+    match two_members(value, "tables", "plan") {
+        None => Err(JsonError::shape(alloc)),
+        Some((tables, plan)) => {
+            let tables = at(alloc, Step::Key("tables"), read_tables(alloc, tables))?;
+            let plan = at(alloc, Step::Key("plan"), read_plan(alloc, &tables, plan))?;
+            Ok(Query { tables, plan })
+        }
+    }
+}

@@ -1,0 +1,199 @@
+//! Outside texts, and what reading them says.
+
+use crate::query::read_query;
+use std::alloc::{AllocError, Global};
+use std::test::Fail;
+
+const QUERY: &str =
+    "{\"tables\":[{\"name\":\"t\",\"columns\":[[\"a\",\"Int8\"],[\"b\",\"Int32\"]]}],\"plan\":{\"select\":[{\"scan\":\"t\"},[{\"bin\":[\"Plus\",{\"col\":\"a\"},{\"col\":\"b\"}]}]]}}";
+
+// What reading says of the bytes.
+fn answer(alloc: Global, bytes: &[u8]) -> Result<String, AllocError> {
+    match read_query(alloc, bytes) {
+        Ok(_) => String::from_str(alloc, "query"),
+        Err(error) => format!(in alloc; "{error}"),
+    }
+}
+
+// What reading says of a query of these tables and this plan.
+fn query_answer(alloc: Global, tables: &str, plan: &str) -> Result<String, AllocError> {
+    let mut text = String::from_str(alloc, "{\"tables\":")?;
+    text.push_str(tables)?;
+    text.push_str(",\"plan\":")?;
+    text.push_str(plan)?;
+    text.push_str("}")?;
+    answer(alloc, text.as_bytes())
+}
+
+// The text, so many times.
+fn repeated(alloc: Global, text: &str, times: u8) -> Result<String, AllocError> {
+    let mut all = String::new(alloc);
+    for _ in 0..times {
+        all.push_str(text)?;
+    }
+    Ok(all)
+}
+
+#[test]
+fn reads_a_query(rt: HostRuntime) -> Result<(), Fail> {
+    let query = read_query(rt.alloc(), QUERY.as_bytes())?;
+    assert_eq!(rt; query.tables.len(), 1);
+    assert!(rt; !query.tables.is_empty());
+    let (name, schema) = query.tables.get_at_index(0).ok_or("no table")?;
+    assert!(rt; name.as_str() == "t");
+    assert_eq!(rt; schema.len(), 2);
+    assert_eq!(rt; query.tables.find(name).ok_or("no table")?.0, 0);
+    Ok(())
+}
+
+#[test]
+fn refuses_bytes_that_are_no_json(rt: HostRuntime) -> Result<(), Fail> {
+    for bytes in [
+        b"".as_slice(),
+        b"{\"tables\":[".as_slice(),
+        b"{\"tables\":[],\"plan\":{\"empty\":[]}} ]".as_slice(),
+        b"\xef\xbb\xbf{\"tables\":[],\"plan\":{\"empty\":[]}}".as_slice(),
+        b"{\"tables\":[],\"plan\":{\"empty\":[[\"\xff\",\"Int8\"]]}}".as_slice(),
+        b"{\"tables\":[],\"plan\":{\"empty\":[[\"\\ud800\",\"Int8\"]]}}".as_slice(),
+    ] {
+        let found = answer(rt.alloc(), bytes)?;
+        assert!(rt; found.as_str() == "NotJson");
+    }
+    Ok(())
+}
+
+#[test]
+fn reads_whole_texts(rt: HostRuntime) -> Result<(), Fail> {
+    for (text, want) in [
+        (" {\"plan\": {\"empty\": []}, \"tables\": []}\n", "query"),
+        (
+            "{\"tables\":[],\"plan\":1,\"plan\":{\"empty\":[]}}",
+            "query",
+        ),
+        ("[]", "Shape "),
+        ("1.5", "Shape "),
+        ("{\"tables\":[]}", "Shape "),
+        ("{\"tables\":[],\"plan\":{\"empty\":[]},\"x\":1}", "Shape "),
+        ("{\"tables\":[],\"plans\":{\"empty\":[]}}", "Shape "),
+    ] {
+        let found = answer(rt.alloc(), text.as_bytes())?;
+        assert!(rt; found.as_str() == want, "{found} in place of {want}");
+    }
+    Ok(())
+}
+
+#[test]
+fn reads_tables(rt: HostRuntime) -> Result<(), Fail> {
+    for (tables, want) in [
+        (
+            "[{\"name\":\"a\",\"columns\":[]},{\"columns\":[],\"name\":\"b\"}]",
+            "query",
+        ),
+        (
+            "[{\"name\":\"\\u00e9\\n~/\",\"columns\":[[\"\\\"\",\"UInt64\"],[\"\\\\\",\"Int64\"]]}]",
+            "query",
+        ),
+        ("{}", "Shape /tables"),
+        ("[1]", "Shape /tables/0"),
+        ("[{\"name\":\"t\"}]", "Shape /tables/0"),
+        ("[{\"name\":1,\"columns\":[]}]", "Shape /tables/0/name"),
+        (
+            "[{\"name\":\"t\",\"columns\":[]},{\"name\":\"t\",\"columns\":[]}]",
+            "Name /tables/1/name",
+        ),
+        (
+            "[{\"name\":\"t\",\"columns\":[[\"a\",\"Int8\"],[\"a\",\"Int8\"]]}]",
+            "Shape /tables/0/columns",
+        ),
+        (
+            "[{\"name\":\"t\",\"columns\":[[\"a\",\"Int8\",1]]}]",
+            "Shape /tables/0/columns/0",
+        ),
+        (
+            "[{\"name\":\"t\",\"columns\":[[\"a\",\"Int8\"],[\"b\",\"int8\"]]}]",
+            "Shape /tables/0/columns/1/1",
+        ),
+        (
+            "[{\"name\":\"t\",\"columns\":[[0,\"Int8\"]]}]",
+            "Shape /tables/0/columns/0/0",
+        ),
+    ] {
+        let found = query_answer(rt.alloc(), tables, "{\"empty\":[]}")?;
+        assert!(rt; found.as_str() == want, "{found} in place of {want}");
+    }
+    Ok(())
+}
+
+#[test]
+fn reads_plans(rt: HostRuntime) -> Result<(), Fail> {
+    let tables = "[{\"name\":\"t\",\"columns\":[]},{\"name\":\"\\n\",\"columns\":[]}]";
+    for (plan, want) in [
+        ("{\"scan\":\"\\u000a\"}", "query"),
+        ("null", "Shape /plan"),
+        ("{}", "Shape /plan"),
+        ("{\"scan\":\"u\"}", "Name /plan/scan"),
+        ("{\"scan\":\"t\",\"x\":1}", "Shape /plan"),
+        ("{\"scan\":7}", "Shape /plan/scan"),
+        ("{\"filter\":[{\"empty\":[]},{\"lit\":1.5}]}", "Shape /plan"),
+        (
+            "{\"empty\":[[\"a\",\"Int8\"],[\"a\",\"Int16\"]]}",
+            "Shape /plan/empty",
+        ),
+        ("{\"select\":[{\"empty\":[]}]}", "Shape /plan/select"),
+        ("{\"select\":[{\"empty\":[]},{}]}", "Shape /plan/select/1"),
+        (
+            "{\"select\":[{\"select\":[{\"scan\":\"u\"},[]]},[]]}",
+            "Name /plan/select/0/select/0/scan",
+        ),
+    ] {
+        let found = query_answer(rt.alloc(), tables, plan)?;
+        assert!(rt; found.as_str() == want, "{found} in place of {want}");
+    }
+    Ok(())
+}
+
+#[test]
+fn reads_expressions(rt: HostRuntime) -> Result<(), Fail> {
+    for (plan, want) in [
+        (
+            "{\"select\":[{\"empty\":[]},[{\"col\":\"\\\"~/\"}]]}",
+            "query",
+        ),
+        (
+            "{\"select\":[{\"empty\":[]},[{\"col\":\"a\"},{\"lit\":1}]]}",
+            "Shape /plan/select/1/1",
+        ),
+        (
+            "{\"select\":[{\"empty\":[]},[{\"bin\":[\"Minus\",{\"col\":\"a\"},{\"col\":\"a\"}]}]]}",
+            "Shape /plan/select/1/0/bin/0",
+        ),
+        (
+            "{\"select\":[{\"empty\":[]},[{\"bin\":[\"Plus\",{\"col\":\"a\"}]}]]}",
+            "Shape /plan/select/1/0/bin",
+        ),
+        (
+            "{\"select\":[{\"empty\":[]},[{\"bin\":[\"Plus\",{\"col\":\"a\"},{\"col\":null}]}]]}",
+            "Shape /plan/select/1/0/bin/2/col",
+        ),
+    ] {
+        let found = query_answer(rt.alloc(), "[]", plan)?;
+        assert!(rt; found.as_str() == want, "{found} in place of {want}");
+    }
+    Ok(())
+}
+
+#[test]
+fn stops_at_127_levels(rt: HostRuntime) -> Result<(), Fail> {
+    let alloc = rt.alloc();
+    for (lists, want) in [(126, "Shape /plan"), (127, "NotJson")] {
+        let mut plan = repeated(alloc, "[", lists)?;
+        plan.push_str(repeated(alloc, "]", lists)?.as_str())?;
+        let found = query_answer(alloc, "[]", plan.as_str())?;
+        assert!(rt; found.as_str() == want, "{found} in place of {want}");
+    }
+    let mut plan = repeated(alloc, "{\"select\":[", 62)?;
+    plan.push_str("{\"empty\":[]}")?;
+    plan.push_str(repeated(alloc, ",[]]}", 62)?.as_str())?;
+    assert!(rt; query_answer(alloc, "[]", plan.as_str())?.as_str() == "query");
+    Ok(())
+}

@@ -1,0 +1,80 @@
+//! Looking into a value.
+ghost use Rattle.std.specs.Prelude.{◌≡◌};
+ghost use Rattle.std.specs.Option.{option_map};
+ghost use Rattle.serde_json.specs.View.{view};
+ghost use Rattle.plan_json.specs.Looking.{only_member, two_members, two_items, three_items};
+
+use serde_json::Value;
+
+// The key and the value of an object of one key.
+pub(crate) fn only_member(value: &Value) -> Option<(&str, &Value)>
+    ensures { option_map (λ m. (m.0.now, view m.1.now)) result ≡ only_member (view value.now) }
+{
+    match value.as_object() {
+        None => None,
+        Some(members) => {
+            if members.len() != 1 {
+                return None;
+            }
+            match members.first_key_value() {
+                None => None,
+                Some((key, inner)) => Some((key.as_str(), inner)),
+            }
+        }
+    }
+}
+
+// The values of an object of these two keys alone.
+pub(crate) fn two_members<'v>(
+    value: &'v Value,
+    first: &'static str,
+    second: &'static str,
+) -> Option<(&'v Value, &'v Value)>
+    ensures { option_map (λ m. (view m.0.now, view m.1.now)) result ≡ two_members first.now second.now (view value.now) }
+{
+    match value.as_object() {
+        None => None,
+        Some(members) => {
+            if members.len() != 2 {
+                return None;
+            }
+            match value.get(first) {
+                None => None,
+                Some(left) => match value.get(second) {
+                    None => None,
+                    Some(right) => Some((left, right)),
+                },
+            }
+        }
+    }
+}
+
+// The items of a list of two.
+pub(crate) fn two_items(value: &Value) -> Option<(&Value, &Value)>
+    ensures { option_map (λ m. (view m.0.now, view m.1.now)) result ≡ two_items (view value.now) }
+{
+    match value.as_array() {
+        None => None,
+        Some(items) => {
+            if items.len() != 2 {
+                return None;
+            }
+            Some((&items[0], &items[1]))
+        }
+    }
+}
+
+// The items of a list of three.
+pub(crate) fn three_items(value: &Value) -> Option<(&Value, &Value, &Value)>
+    ensures { option_map (λ m. (view m.0.now, view m.1.now, view m.2.now)) result ≡ three_items (view value.now) }
+{
+    match value.as_array() {
+        None => None,
+        Some(items) => {
+            if items.len() != 3 {
+                return None;
+            }
+            Some((&items[0], &items[1], &items[2]))
+        }
+    }
+}

@@ -1,0 +1,100 @@
+-- Counts of casts.
+use Rattle.std.proofs.Common.{◌≡◌, ℕ, zero, suc, ◌+◌, ◌<◌, ◌≤◌, List, [], ◌∷◌, length, map, take, get_or, sum, Some, slice_get, refl, sym, ap, ◌∙◌, subst, arith}
+use Rattle.std.specs.Option.{option_map}
+use Rattle.std.proofs.lemmas.List.{take_all}
+use Rattle.std.proofs.lemmas.List.Sums.{sum_by_more}
+use Rattle.std.proofs.lemmas.Option.{slice_get-map, slice_get-get_or, slice_get_within, get_or_from_slice_get}
+use Rattle.plan_dsl.specs.Trees.{Tree, Trees, node, no_more, more, fold, fold_all}
+use Rattle.plan_dsl.specs.Ops.{Op, Expression}
+use Rattle.plan_dsl.specs.Plans.{PlanOp, Plan, Named}
+use Rattle.plan_arena.specs.Denotation.{Denotes, DenoteAll, DenotesTree}
+use Rattle.plan_arena.specs.Layers.{layer}
+use Rattle.plan_arena.specs.Items.{named_node, expression_layer, plan_layer, HoldsExpression, DenoteNamed, HoldsPlan}
+use Rattle.plan_arena.specs.declared.aexpr.AExpr.{AExpr}
+use Rattle.plan_arena.specs.declared.expr_ir.ExprIR.{ExprIR}
+use Rattle.plan_arena.specs.declared.ir.IR.{IR}
+use Rattle.plan_arena.proofs.ItemLemmas.{expression_got}
+use Rattle.plan_report.specs.Casts.{op_casts, expression_casts, outputs_casts, plan_op_casts, cast_count}
+use Rattle.plan_report.proofs.NodeLemmas.{some_same, layer_op, layer_inputs, held_op, held_children}
+
+-- a count for each node, of the tree that it denotes
+abbrev pub CountAll : {Op : Type 0} → (ℕ → Op → List ℕ → Type 0) → (Tree Op → ℕ) → List ℕ → List ℕ → Type 0
+CountAll holds count [] [] = Unit {0}
+CountAll {Op} holds count (n ∷ ns) (c ∷ cs) = ((t : Tree Op) → Denotes holds n t → c ≡ count t) × CountAll holds count ns cs
+CountAll holds count [] (c ∷ cs) = ⊥
+CountAll holds count (n ∷ ns) [] = ⊥
+
+counts_of : {Op : Type 0} (holds : ℕ → Op → List ℕ → Type 0) (step : Op → List ℕ → ℕ) (ns cs : List ℕ) (ts : Trees Op) → CountAll holds (fold step) ns cs → DenoteAll holds ns ts → cs ≡ fold_all step ts
+counts_of holds step [] [] no_more each d = refl
+counts_of holds step (n ∷ ns) (c ∷ cs) (more t ts) each d =
+    let first = each.0 t d.0 in
+    let rest = counts_of holds step ns cs ts each.1 d.1 in
+    λ i. first i ∷ rest i
+counts_of holds step [] [] (more t ts) each d = absurd d
+counts_of holds step [] (c ∷ cs) ts each d = absurd each
+counts_of holds step (n ∷ ns) [] ts each d = absurd each
+counts_of holds step (n ∷ ns) (c ∷ cs) no_more each d = absurd d
+
+-- the count of an expression, from its inputs'
+pub expression_counted : (items : List AExpr) (n : ℕ) (item : AExpr) → slice_get items n ≡ Some item → (op : Op) (inputs cs : List ℕ) → expression_layer item ≡ layer op inputs → CountAll (HoldsExpression items) expression_casts inputs cs → (t : Expression) → Denotes (HoldsExpression items) n t → op_casts op cs ≡ expression_casts t
+expression_counted items n item got op inputs cs is each (node op' ts) d =
+    let at = expression_got items n item got ∙ ap Some is in
+    let same = some_same (slice_get (map expression_layer items) n) (layer op inputs) (layer op' d.0) at d.1 in
+    let ops = layer_op op op' inputs d.0 same in
+    let children = subst (λ ms. DenoteAll (HoldsExpression items) ms ts) (sym (layer_inputs op op' inputs d.0 same)) d.2 in
+    let counts = counts_of (HoldsExpression items) op_casts inputs cs ts each children in
+    λ i. op_casts (ops i) (counts i)
+
+-- the count of a plan, from its expressions' and its inputs'
+pub plan_counted : (expressions : List AExpr) (plans : List IR) (n : ℕ) (item : IR) → slice_get plans n ≡ Some item → (flat : PlanOp ℕ) (inputs : List ℕ) (here : ℕ) (cs : List ℕ) → plan_layer item ≡ layer flat inputs → ((outputs : List (Named Expression)) → DenoteNamed expressions flat.expressions outputs → here ≡ outputs_casts outputs) → CountAll (HoldsPlan expressions plans) cast_count inputs cs → (t : Plan) → Denotes (HoldsPlan expressions plans) n t → here + sum cs ≡ cast_count t
+plan_counted expressions plans n item got flat inputs here cs is outputs each (node op ts) d =
+    let flats = held_op expressions plans n item got flat inputs is op d.0 d.1 in
+    let named = subst (λ f. DenoteNamed expressions f.expressions op.expressions) flats d.1.denotes.named in
+    let children = held_children expressions plans n item got flat inputs is op d.0 d.1 ts d.2 in
+    let own = outputs op.expressions named in
+    let counts = counts_of (HoldsPlan expressions plans) plan_op_casts inputs cs ts each children in
+    λ i. own i + sum (counts i)
+
+-- as many nodes as expressions
+length-named : (items : List AExpr) (ns : List (Named ℕ)) (es : List (Named Expression)) → DenoteNamed items ns es → length es ≡ length ns
+length-named items [] [] d = refl
+length-named items (n ∷ ns) (e ∷ es) d = ap suc (length-named items ns es d.2)
+length-named items [] (e ∷ es) d = absurd d
+length-named items (n ∷ ns) [] d = absurd d
+
+-- no output is left to count
+pub outputs_end : (items : List AExpr) (ns : List (Named ℕ)) (i count : ℕ) → length ns ≤ i → ((es : List (Named Expression)) → DenoteNamed items ns es → count ≡ outputs_casts (take i es)) → (es : List (Named Expression)) → DenoteNamed items ns es → count ≡ outputs_casts es
+outputs_end items ns i count past all es d = all es d ∙ ap outputs_casts (take_all i es (omega (arith, length-named items ns es d)))
+
+-- the expression that a named node denotes
+pub named_at : (items : List AExpr) (ns : List (Named ℕ)) (es : List (Named Expression)) → DenoteNamed items ns es → (i : ℕ) (n : Named ℕ) → slice_get ns i ≡ Some n → (e : Named Expression) × (slice_get es i ≡ Some e) × Denotes (HoldsExpression items) n.expression e.expression
+named_at items [] [] d i n at = cc
+named_at items (m ∷ ns) (e ∷ es) d zero n at =
+    let same : m ≡ n = cc in (e, refl, subst (λ x. Denotes (HoldsExpression items) x.expression e.expression) same d.1)
+named_at items (m ∷ ns) (e ∷ es) d (suc i) n at = named_at items ns es d.2 i n at
+named_at items [] (e ∷ es) d i n at = absurd d
+named_at items (m ∷ ns) [] d i n at = absurd d
+
+-- one more output is counted
+pub outputs_more : (items : List AExpr) (ns : List (Named ℕ)) (i count casts new : ℕ) (n : Named ℕ) → slice_get ns i ≡ Some n → ((es : List (Named Expression)) → DenoteNamed items ns es → count ≡ outputs_casts (take i es)) → ((t : Expression) → Denotes (HoldsExpression items) n.expression t → casts ≡ expression_casts t) → new ≡ count + casts → (es : List (Named Expression)) → DenoteNamed items ns es → new ≡ outputs_casts (take (i + 1) es)
+outputs_more items ns i count casts new n at so_far one added es d =
+    let found = named_at items ns es d i n at in
+    let within = slice_get_within es i found.0 found.1 in
+    let here = one found.0.expression found.2 in
+    let same = get_or_from_slice_get es i found.0 found.0 found.1 in
+    let sums = sum_by_more (λ (e : Named Expression). expression_casts e.expression) es i found.0 within in
+    added ∙ (λ k. so_far es d k + here k) ∙ ap (λ (e : Named Expression). outputs_casts (take i es) + expression_casts e.expression) (sym same) ∙ sym sums
+
+-- each named node denotes an expression
+pub named_tree : (items : List AExpr) (ns : List (Named ℕ)) (es : List (Named Expression)) → DenoteNamed items ns es → (i : ℕ) (n : Named ℕ) → slice_get ns i ≡ Some n → DenotesTree (HoldsExpression items) n.expression
+named_tree items ns es d i n at = let found = named_at items ns es d i n at in record { tree = found.0.expression; denotes = found.2 }
+
+-- no node, no cast
+pub no_outputs : (items : List AExpr) (es : List (Named Expression)) → DenoteNamed items [] es → 0 ≡ outputs_casts es
+no_outputs items [] d = refl
+no_outputs items (e ∷ es) d = absurd d
+
+-- an output that the list has is there, with its name
+pub named_there : (items : List ExprIR) (i : ℕ) (item : ExprIR) → i < length items → item ≡ get_or items i item → slice_get (map named_node items) i ≡ Some (named_node item)
+named_there items i item within is =
+    slice_get-map named_node items i ∙ ap (option_map named_node) (slice_get-get_or items i item within ∙ ap Some (sym is))

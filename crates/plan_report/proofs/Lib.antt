@@ -1,0 +1,5 @@
+pub mod CastLemmas
+pub mod NodeLemmas
+pub mod OnLiterals
+pub mod TestLemmas
+pub mod TextLemmas

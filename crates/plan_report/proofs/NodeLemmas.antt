@@ -1,0 +1,119 @@
+-- What the nodes of the two arenas lead to.
+use Rattle.std.proofs.Common.{◌≡◌, ℕ, ◌<◌, List, [], ◌∷◌, ◌++◌, length, map, Option, Some, slice_get, sym, ap, ◌∙◌, subst, arith, append_assoc}
+use Rattle.std.specs.List.{AllByRecursion}
+use Rattle.std.specs.Option.{option_map}
+use Rattle.std.proofs.lemmas.List.{length-map, append-nil}
+use Rattle.std.proofs.lemmas.Option.{slice_get-map, slice_get_within}
+use Rattle.plan_dsl.specs.Trees.{Trees, node, no_more, more}
+use Rattle.plan_dsl.specs.Ops.{Op, Expression}
+use Rattle.plan_dsl.specs.Plans.{PlanOp, Plan}
+use Rattle.plan_arena.specs.Denotation.{Denotes, DenoteAll, DenotesTree, depth_at}
+use Rattle.plan_arena.specs.Layers.{layer, shape_of}
+use Rattle.plan_arena.specs.Items.{expression_layer, plan_layer, node_name, recorded_schema, HoldsExpression, HoldsPlan}
+use Rattle.plan_arena.specs.declared.aexpr.AExpr.{AExpr}
+use Rattle.plan_arena.specs.declared.ir.IR.{IR}
+use Rattle.plan_arena.specs.declared.ir.IR.TheVariants.{DataFrameScan, Select}
+use Rattle.plan_arena.proofs.DenotationLemmas.{inputs_denote}
+use Rattle.plan_arena.proofs.ItemLemmas.{expression_laws, plan_laws, expression_got}
+use Rattle.plan_report.specs.Casts.{DenoteOutputs}
+use Rattle.plan_report.specs.Texts.{kind_text}
+use Rattle.plan_report.specs.Report.{line_text, node_line, plan_lines}
+
+pub some_same : {A : Type 0} (o : Option A) (x y : A) → o ≡ Some x → o ≡ Some y → x ≡ y
+some_same o x y p q = cc
+
+pub layer_op : {Op : Type 0} (a b : Op) (ms ns : List ℕ) → layer a ms ≡ layer b ns → a ≡ b
+layer_op a b ms ns e = cc
+
+pub layer_inputs : {Op : Type 0} (a b : Op) (ms ns : List ℕ) → layer a ms ≡ layer b ns → ms ≡ ns
+layer_inputs a b ms ns e = cc
+
+-- each input denotes a tree, and leads less far down than the node
+abbrev pub LeadsDown : {Op : Type 0} → (ℕ → Op → List ℕ → Type 0) → List (List ℕ) → ℕ → List ℕ → Type 0
+LeadsDown holds shape n inputs = AllByRecursion (λ m. DenotesTree holds m × (depth_at shape m < depth_at shape n)) inputs
+
+expression_there : (items : List AExpr) (n : ℕ) (t : Expression) → Denotes (HoldsExpression items) n t → n < length (map expression_layer items)
+expression_there items n (node op ts) d = slice_get_within (map expression_layer items) n _ d.1
+
+-- a node that denotes an expression is in the arena
+pub expression_within : (items : List AExpr) (n : ℕ) → DenotesTree (HoldsExpression items) n → n < length items
+expression_within items n d = let there = expression_there items n d.tree d.denotes in omega (arith, length-map items expression_layer)
+
+-- an expression's inputs denote expressions
+pub expression_inputs : (items : List AExpr) (n : ℕ) (item : AExpr) → slice_get items n ≡ Some item → (op : Op) (inputs : List ℕ) → expression_layer item ≡ layer op inputs → DenotesTree (HoldsExpression items) n → LeadsDown (HoldsExpression items) (shape_of (map expression_layer items)) n inputs
+expression_inputs items n item got op inputs is d =
+    inputs_denote (shape_of (map expression_layer items)) (HoldsExpression items) (expression_laws items) n op inputs (expression_got items n item got ∙ ap Some is) d
+
+-- what `get` answers is held
+pub plan_got : (plans : List IR) (n : ℕ) (item : IR) → slice_get plans n ≡ Some item → slice_get (map plan_layer plans) n ≡ Some (plan_layer item)
+plan_got plans n item h = slice_get-map plan_layer plans n ∙ ap (option_map plan_layer) h
+
+plan_there : (expressions : List AExpr) (plans : List IR) (n : ℕ) (t : Plan) → Denotes (HoldsPlan expressions plans) n t → n < length (map plan_layer plans)
+plan_there expressions plans n (node op ts) d = slice_get_within (map plan_layer plans) n _ d.1.item
+
+-- a node that denotes a plan is in the arena
+pub plan_within : (expressions : List AExpr) (plans : List IR) (n : ℕ) → DenotesTree (HoldsPlan expressions plans) n → n < length plans
+plan_within expressions plans n d = let there = plan_there expressions plans n d.tree d.denotes in omega (arith, length-map plans plan_layer)
+
+module _ (expressions : List AExpr) (plans : List IR) (n : ℕ) (item : IR) (got : slice_get plans n ≡ Some item) (flat : PlanOp ℕ) (inputs : List ℕ) (is : plan_layer item ≡ layer flat inputs) where
+  held : (op : PlanOp Expression) (ms : List ℕ) (h : HoldsPlan expressions plans n op ms) → layer h.flat ms ≡ layer flat inputs
+  held op ms h = some_same _ _ _ h.item (plan_got plans n item got) ∙ is
+
+  -- what a node holds is what its item says
+  pub held_op : (op : PlanOp Expression) (ms : List ℕ) (h : HoldsPlan expressions plans n op ms) → h.flat ≡ flat
+  held_op op ms h = layer_op _ _ _ _ (held op ms h)
+
+  pub held_children : (op : PlanOp Expression) (ms : List ℕ) → HoldsPlan expressions plans n op ms → (ts : Trees (PlanOp Expression)) → DenoteAll (HoldsPlan expressions plans) ms ts → DenoteAll (HoldsPlan expressions plans) inputs ts
+  held_children op ms h ts d = subst (λ ns. DenoteAll (HoldsPlan expressions plans) ns ts) (layer_inputs _ _ _ _ (held op ms h)) d
+
+  plan_leads : (t : Plan) → Denotes (HoldsPlan expressions plans) n t → LeadsDown (HoldsPlan expressions plans) (shape_of (map plan_layer plans)) n inputs
+  plan_leads (node op ts) d =
+      subst (λ ms. LeadsDown (HoldsPlan expressions plans) (shape_of (map plan_layer plans)) n ms) (layer_inputs _ _ _ _ (held op d.0 d.1))
+      (inputs_denote (shape_of (map plan_layer plans)) (HoldsPlan expressions plans) (plan_laws expressions plans) n op d.0 d.1 (record { tree = node op ts; denotes = d }))
+
+  -- a plan's inputs denote plans
+  pub plan_inputs : DenotesTree (HoldsPlan expressions plans) n → LeadsDown (HoldsPlan expressions plans) (shape_of (map plan_layer plans)) n inputs
+  plan_inputs d = plan_leads d.tree d.denotes
+
+  outputs_of : (t : Plan) → Denotes (HoldsPlan expressions plans) n t → DenoteOutputs expressions flat.expressions
+  outputs_of (node op ts) d =
+      subst (λ f. DenoteOutputs expressions f.expressions) (held_op op d.0 d.1) (record { outputs = op.expressions; denote = d.1.denotes.named })
+
+  -- a plan's expressions denote expressions
+  pub plan_outputs : DenotesTree (HoldsPlan expressions plans) n → DenoteOutputs expressions flat.expressions
+  plan_outputs d = outputs_of d.tree d.denotes
+
+-- an item's name and schema are its op's
+item_line : (item : IR) (flat : PlanOp ℕ) (inputs path : List ℕ) → plan_layer item ≡ layer flat inputs → line_text path (node_name item) (recorded_schema item) ≡ line_text path (kind_text flat.kind) flat.schema
+item_line (DataFrameScan table schema) flat inputs path e = ap (λ f. line_text path (kind_text f.kind) f.schema) (layer_op _ flat [] inputs e)
+item_line (Select expr input schema options) flat inputs path e = ap (λ f. line_text path (kind_text f.kind) f.schema) (layer_op _ flat (input.0 ∷ []) inputs e)
+
+module _ (expressions : List AExpr) (plans : List IR) (n : ℕ) (item : IR) (got : slice_get plans n ≡ Some item) (path before : List ℕ) where
+  held_line : (op : PlanOp Expression) (ms : List ℕ) → HoldsPlan expressions plans n op ms → line_text path (node_name item) (recorded_schema item) ≡ node_line path op
+  held_line op ms h =
+      item_line item h.flat ms path (some_same _ _ _ (plan_got plans n item got) h.item)
+      ∙ (λ i. line_text path (kind_text (h.denotes.same_kind i)) (h.denotes.same_schema i))
+
+  leaf_children : (op : PlanOp Expression) (lined : List ℕ) (ts : Trees (PlanOp Expression)) → DenoteAll (HoldsPlan expressions plans) [] ts → lined ≡ before ++ node_line path op → lined ≡ before ++ plan_lines path (node op ts)
+  leaf_children op lined no_more d line = line ∙ ap (λ t. before ++ t) (sym (append-nil (node_line path op)))
+  leaf_children op lined (more u us) d line = absurd d
+
+  -- the lines of a node without children
+  pub leaf_lines : (flat : PlanOp ℕ) → plan_layer item ≡ layer flat [] → (lined : List ℕ) → lined ≡ before ++ line_text path (node_name item) (recorded_schema item) → (t : Plan) → Denotes (HoldsPlan expressions plans) n t → lined ≡ before ++ plan_lines path t
+  leaf_lines flat is lined line (node op ts) d =
+      leaf_children op lined ts (held_children expressions plans n item got flat [] is op d.0 d.1 ts d.2) (line ∙ ap (λ t. before ++ t) (held_line op d.0 d.1))
+
+  one_child : (op : PlanOp Expression) (m : ℕ) (lined text : List ℕ) (ts : Trees (PlanOp Expression)) → DenoteAll (HoldsPlan expressions plans) (m ∷ []) ts → lined ≡ before ++ node_line path op → ((u : Plan) → Denotes (HoldsPlan expressions plans) m u → text ≡ lined ++ plan_lines (path ++ 0 ∷ []) u) → text ≡ before ++ plan_lines path (node op ts)
+  one_child op m lined text no_more d line below = absurd d
+  one_child op m lined text (more u no_more) d line below =
+      let child = plan_lines (path ++ 0 ∷ []) u in
+      below u d.0
+      ∙ ap (λ t. t ++ child) line
+      ∙ append_assoc before (node_line path op) child
+      ∙ ap (λ t. before ++ (node_line path op ++ t)) (sym (append-nil child))
+  one_child op m lined text (more u (more v vs)) d line below = absurd d.1
+
+  -- the lines of a node with one child
+  pub one_lines : (flat : PlanOp ℕ) (m : ℕ) → plan_layer item ≡ layer flat (m ∷ []) → (lined text : List ℕ) → lined ≡ before ++ line_text path (node_name item) (recorded_schema item) → ((u : Plan) → Denotes (HoldsPlan expressions plans) m u → text ≡ lined ++ plan_lines (path ++ 0 ∷ []) u) → (t : Plan) → Denotes (HoldsPlan expressions plans) n t → text ≡ before ++ plan_lines path t
+  one_lines flat m is lined text line below (node op ts) d =
+      one_child op m lined text ts (held_children expressions plans n item got flat (m ∷ []) is op d.0 d.1 ts d.2) (line ∙ ap (λ t. before ++ t) (held_line op d.0 d.1)) below

@@ -1,0 +1,8 @@
+use Rattle.std.proofs.Common.{◌≡◌, ◌++◌, take, string_bytes, codes}
+use Rattle.std.specs.List.{join_by}
+use Rattle.plan_types.specs.Schemas.{columns}
+use Rattle.plan_report.specs.Texts.{field_text}
+use Rattle.plan_report.proofs.texts.push_schema.Given as goal
+
+abbrev pub invariant-loop-index : goal.invariant-loop-index
+invariant-loop-index l = string_bytes l.text ≡ (string_bytes l.fn.text ++ codes "(") ++ join_by field_text (codes ", ") (take l.index (columns l.schema))

@@ -1,0 +1,4 @@
+-- What the contracts of this crate cite.
+pub mod Casts
+pub mod Report
+pub mod Texts

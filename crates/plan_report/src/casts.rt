@@ -1,0 +1,76 @@
+//! How many casts the expressions of a lowered plan have.
+ghost use Rattle.std.specs.Prelude.{◌≡◌, ◌+◌, List, map, IfOk};
+ghost use Rattle.plan_dsl.specs.Ops.{Expression};
+ghost use Rattle.plan_dsl.specs.Plans.{Plan, Named};
+ghost use Rattle.plan_arena.specs.Denotation.{Denotes, DenotesTree};
+ghost use Rattle.plan_arena.specs.Items.{named_node, HoldsExpression, DenoteNamed, HoldsPlan};
+ghost use Rattle.plan_report.specs.Casts.{expression_casts, outputs_casts, cast_count, DenoteOutputs};
+
+use plan_arena::aexpr::AExpr;
+use plan_arena::arena::{Arena, Node};
+use plan_arena::expr_ir::ExprIRs;
+use plan_arena::ir::IR;
+use plan_arena::plan::IRPlan;
+use std::alloc::AllocError;
+
+// The sum. A count past the counter's range is answered as want of memory.
+fn add(left: u64, right: u64) -> Result<u64, AllocError>
+    ensures { IfOk result (λ sum. sum ≡ left + right) }
+{
+    left.checked_add(right).ok_or(AllocError)
+}
+
+/// How many casts the expression at the node has.
+pub(crate) fn expression_casts(arena: &Arena<AExpr>, node: Node) -> Result<u64, AllocError>
+    requires { DenotesTree (HoldsExpression arena.now) node.0 }
+    ensures { IfOk result (λ count. (tree : Expression) → Denotes (HoldsExpression arena.now) node.0 tree
+        → count ≡ expression_casts tree) }
+{
+    let item = arena.get(node);
+    match item {
+        AExpr::Column(_) => Ok(0),
+        AExpr::BinaryExpr { left, right, .. } => {
+            let left = expression_casts(arena, *left)?;
+            let right = expression_casts(arena, *right)?;
+            let count = add(left, right)?;
+            Ok(count)
+        }
+        AExpr::Cast { expr, .. } => {
+            let below = expression_casts(arena, *expr)?;
+            let count = add(below, 1)?;
+            Ok(count)
+        }
+    }
+}
+
+/// How many casts the expressions of a node have.
+pub(crate) fn outputs_casts(arena: &Arena<AExpr>, outputs: &ExprIRs) -> Result<u64, AllocError>
+    requires { DenoteOutputs arena.now (map named_node outputs.now.items.items) }
+    ensures { IfOk result (λ count. (trees : List (Named Expression))
+        → DenoteNamed arena.now (map named_node outputs.now.items.items) trees → count ≡ outputs_casts trees) }
+{
+    let mut count = 0;
+    for output in outputs.items.as_slice() {
+        let casts = expression_casts(arena, output.node())?;
+        count = add(count, casts)?;
+    }
+    Ok(count)
+}
+
+/// How many casts the expressions of the plan at the node have.
+pub(crate) fn plan_casts(plan: &IRPlan, node: Node) -> Result<u64, AllocError>
+    requires { DenotesTree (HoldsPlan plan.now.expr_arena plan.now.lp_arena) node.0 }
+    ensures { IfOk result (λ count. (tree : Plan) → Denotes (HoldsPlan plan.now.expr_arena plan.now.lp_arena) node.0 tree
+        → count ≡ cast_count tree) }
+{
+    let item = plan.lp_arena.get(node);
+    match item {
+        IR::DataFrameScan { .. } => Ok(0),
+        IR::Select { expr, input, .. } => {
+            let here = outputs_casts(&plan.expr_arena, expr)?;
+            let below = plan_casts(plan, *input)?;
+            let count = add(here, below)?;
+            Ok(count)
+        }
+    }
+}

@@ -1,0 +1,58 @@
+//! Worked examples of the definitions. The functions do nothing: their clauses are the examples.
+#![tactic(auto, unfolding(crate::proofs::OnLiterals::texts_on_literals))]
+
+ghost use Rattle.std.specs.Prelude.{◌≡◌, [], ◌∷◌, codes, true, false, Some};
+ghost use Rattle.plan_types.specs.Types.{Integer};
+ghost use Rattle.plan_dsl.specs.Ops.{ColumnOp, BinaryOp, CastOp};
+ghost use Rattle.plan_dsl.specs.Plans.{empty_table, named, scan_op, select_op};
+ghost use Rattle.plan_dsl.specs.Trees.{node, no_more, more};
+ghost use Rattle.plan_types.specs.declared.dtype.CastOptions.TheVariants.{Strict};
+ghost use Rattle.plan_types.specs.declared.error.ErrorKind.TheVariants.{ColumnNotFound, Duplicate};
+ghost use Rattle.plan_dsl.specs.declared.operator.Operator.TheVariants.{Plus};
+ghost use Rattle.plan_report.specs.Report.{report_text, refusal_text};
+ghost use Rattle.plan_report.specs.Texts.{name_text, type_text, schema_text, path_text};
+
+/// A place is a dot, or a dot and a number for each step.
+pub fn path_examples()
+    ensures top { path_text [] ≡ codes "." }
+    ensures child { path_text (0 ∷ []) ≡ codes ".0" }
+    ensures deep { path_text (0 ∷ 12 ∷ 1 ∷ []) ≡ codes ".0.12.1" }
+{}
+
+/// A schema is a list of names and types in parentheses.
+pub fn schema_examples()
+    ensures none { schema_text [] ≡ codes "()" }
+    ensures one { schema_text ((codes "a", Integer true 8) ∷ []) ≡ codes "(\"a\" Int8)" }
+    ensures two { schema_text ((codes "a", Integer true 64) ∷ (codes "b", Integer false 16) ∷ [])
+        ≡ codes "(\"a\" Int64, \"b\" UInt16)" }
+{}
+
+/// A name has JSON's quotes and escapes, and its characters in UTF-8.
+pub fn name_examples()
+    ensures quote { name_text (codes "a\"b") ≡ codes "\"a\\\"b\"" }
+    ensures control { name_text (1 ∷ 10 ∷ []) ≡ codes "\"\\u0001\\n\"" }
+    ensures wide { name_text (0x1f600 ∷ []) ≡ 34 ∷ 0xf0 ∷ 0x9f ∷ 0x98 ∷ 0x80 ∷ 34 ∷ [] }
+{}
+
+/// A refusal is the broken rule and the place.
+pub fn refusal_examples()
+    ensures top { refusal_text Duplicate [] ≡ codes "refused Duplicate .\n" }
+    ensures deep { refusal_text ColumnNotFound (0 ∷ 1 ∷ []) ≡ codes "refused ColumnNotFound .0.1\n" }
+{}
+
+/// A report has a line for each node, and one for the casts.
+pub fn report_examples()
+    ensures empty { report_text empty_table ≡ codes ". df ()\ncasts 0\n" }
+    ensures sum { let a = node (ColumnOp (codes "a")) no_more in
+        let b = node (ColumnOp (codes "b")) no_more in
+        let wide = node (CastOp (Integer true 32) Strict) (more a no_more) in
+        let sum = node (BinaryOp Plus) (more wide (more b no_more)) in
+        let table = (codes "a", Integer true 8) ∷ (codes "b", Integer true 32) ∷ [] in
+        let scan = node (scan_op (Some 0) table) no_more in
+        let top = select_op (named sum ∷ []) ((codes "a", Integer true 32) ∷ []) in
+        report_text (node top (more scan no_more))
+        ≡ codes ". projection (\"a\" Int32)\n.0 df (\"a\" Int8, \"b\" Int32)\ncasts 1\n" }
+    ensures levels { let top = select_op [] [] in
+        report_text (node top (more (node top (more empty_table no_more)) no_more))
+        ≡ codes ". projection ()\n.0 projection ()\n.0.0 df ()\ncasts 0\n" }
+{}

@@ -1,0 +1,116 @@
+//! The report of a lowered plan, and of a refusal.
+ghost use Rattle.std.specs.Prelude.{◌≡◌, ◌++◌, string_bytes, IfOk, OnOk};
+ghost use Rattle.plan_types.specs.Schemas.{columns};
+ghost use Rattle.plan_dsl.specs.Plans.{Plan};
+ghost use Rattle.plan_arena.specs.Denotation.{Denotes, DenotesTree};
+ghost use Rattle.plan_arena.specs.Items.{HoldsPlan, node_name, recorded_schema};
+ghost use Rattle.plan_report.specs.Report.{line_text, plan_lines, casts_line, report_text, refusal_text};
+
+use crate::casts::plan_casts;
+use crate::texts::{kind_name, push_number, push_path, push_schema};
+use plan_arena::arena::Node;
+use plan_arena::ir::IR;
+use plan_arena::plan::IRPlan;
+use plan_types::error::{Place, PlanError};
+use plan_types::schema::Schema;
+use std::alloc::{AllocError, Global};
+
+/// The report of a lowered plan.
+pub fn report(alloc: Global, plan: &IRPlan) -> Result<String, AllocError>
+    requires { DenotesTree (HoldsPlan plan.now.expr_arena plan.now.lp_arena) plan.now.lp_top.0 }
+    ensures { IfOk result (λ text. (tree : Plan)
+        → Denotes (HoldsPlan plan.now.expr_arena plan.now.lp_arena) plan.now.lp_top.0 tree
+        → string_bytes text ≡ report_text tree) }
+{
+    let mut text = String::new(alloc);
+    let mut path = Vec::new(alloc);
+    push_lines(alloc, &mut text, &mut path, plan, plan.lp_top)?;
+    let casts = plan_casts(plan, plan.lp_top)?;
+    push_casts_line(alloc, &mut text, casts)?;
+    Ok(text)
+}
+
+/// The line that is printed of a refusal.
+pub fn refusal(alloc: Global, error: &PlanError) -> Result<String, AllocError>
+    ensures { IfOk result (λ text. string_bytes text ≡ refusal_text error.now.kind error.now.place) }
+{
+    let mut text = String::from_str(alloc, "refused ")?;
+    text.push_str(kind_name(error.kind))?;
+    text.push_str(" ")?;
+    let steps = steps_of(alloc, &error.place)?;
+    push_path(alloc, &mut text, steps.as_slice())?;
+    text.push_str("\n")?;
+    Ok(text)
+}
+
+// The steps from the top to the place.
+fn steps_of(alloc: Global, place: &Place) -> Result<Vec<u64>, AllocError>
+    ensures { IfOk result (λ steps. steps.items ≡ place.now) }
+{
+    let mut steps = Vec::new(alloc);
+    for number in 0..place.depth() {
+        steps.push(place.step(number))?;
+    }
+    Ok(steps)
+}
+
+// Appends the lines of the plan at the node, to which the path leads.
+fn push_lines(
+    alloc: Global,
+    text: &mut String,
+    path: &mut Vec<u64>,
+    plan: &IRPlan,
+    node: Node,
+) -> Result<(), AllocError>
+    requires { DenotesTree (HoldsPlan plan.now.expr_arena plan.now.lp_arena) node.0 }
+    ensures lines { OnOk result ((tree : Plan)
+        → Denotes (HoldsPlan plan.now.expr_arena plan.now.lp_arena) node.0 tree
+        → string_bytes text.new ≡ string_bytes text.old ++ plan_lines path.old.items tree) }
+    ensures path { OnOk result (path.new.items ≡ path.old.items) }
+{
+    let item = plan.lp_arena.get(node);
+    push_line(alloc, text, path.as_slice(), item)?;
+    match item {
+        IR::DataFrameScan { .. } => Ok(()),
+        IR::Select { input, .. } => {
+            path.push(0)?;
+            push_lines(alloc, text, path, plan, *input)?;
+            path.pop();
+            Ok(())
+        }
+    }
+}
+
+// Appends the line of one node.
+fn push_line(alloc: Global, text: &mut String, path: &[u64], item: &IR) -> Result<(), AllocError>
+    ensures { OnOk result (string_bytes text.new
+        ≡ string_bytes text.old ++ line_text path.now (node_name item.now) (recorded_schema item.now)) }
+{
+    push_path(alloc, text, path)?;
+    text.push_str(" ")?;
+    text.push_str(item.name())?;
+    text.push_str(" ")?;
+    push_schema(alloc, text, schema_of(item))?;
+    text.push_str("\n")
+}
+
+fn push_casts_line(alloc: Global, text: &mut String, casts: u64) -> Result<(), AllocError>
+    ensures { OnOk result (string_bytes text.new ≡ string_bytes text.old ++ casts_line casts) }
+{
+    text.push_str("casts ")?;
+    push_number(alloc, text, casts)?;
+    text.push_str("\n")
+}
+
+// The schema of the node's frame.
+fn schema_of(item: &IR) -> &Schema
+    ensures { columns result.now ≡ recorded_schema item.now }
+{
+    match item {
+        IR::DataFrameScan { schema, .. } => schema,
+        IR::Select { schema, .. } => schema,
+    }
+}
+
+#[cfg(test)]
+mod tests;

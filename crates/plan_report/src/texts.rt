@@ -1,0 +1,119 @@
+//! Texts of names, types, schemas and places.
+ghost use Rattle.std.specs.Prelude.{◌≡◌, ◌++◌, decimal, string_bytes, IfOk, OnOk};
+ghost use Rattle.serde_json.specs.Data.{string};
+ghost use Rattle.serde_json.specs.Written.{compact_text};
+ghost use Rattle.plan_types.specs.Schemas.{columns};
+ghost use Rattle.plan_types.specs.Types.{ty};
+ghost use Rattle.plan_report.specs.Texts.{name_text, type_text, field_text, schema_text, path_text, error_kind_text};
+
+use plan_types::dtype::DataType;
+use plan_types::error::ErrorKind;
+use plan_types::schema::Schema;
+use plan_types::text::PlSmallStr;
+use serde_json::Value;
+use std::alloc::{AllocError, Global};
+
+/// The name of the rule that a plan breaks.
+pub(crate) fn kind_name(kind: ErrorKind) -> &'static str
+    ensures { result.now ≡ error_kind_text kind }
+{
+    match kind {
+        ErrorKind::ColumnNotFound => "ColumnNotFound",
+        ErrorKind::Duplicate => "Duplicate",
+        ErrorKind::SchemaMismatch => "SchemaMismatch",
+        ErrorKind::NoMemory => "NoMemory",
+    }
+}
+
+/// The name of the type.
+#[tactic(auto, unfolding(crate::proofs::OnLiterals::texts_on_literals))]
+pub(crate) fn type_name(dtype: &DataType) -> &'static str
+    ensures { result.now ≡ type_text (ty dtype.now) }
+{
+    match dtype {
+        DataType::Int8 => "Int8",
+        DataType::Int16 => "Int16",
+        DataType::Int32 => "Int32",
+        DataType::Int64 => "Int64",
+        DataType::UInt8 => "UInt8",
+        DataType::UInt16 => "UInt16",
+        DataType::UInt32 => "UInt32",
+        DataType::UInt64 => "UInt64",
+    }
+}
+
+/// The text as a JSON string.
+pub(crate) fn quoted(alloc: Global, text: &str) -> Result<String, AllocError>
+    ensures { IfOk result (λ json. string_bytes json ≡ compact_text (string text.now)) }
+{
+    let text = String::from_str(alloc, text)?;
+    Value::String(text).to_string(alloc)
+}
+
+/// Appends the name as a JSON string.
+pub(crate) fn push_name(
+    alloc: Global,
+    text: &mut String,
+    name: &PlSmallStr,
+) -> Result<(), AllocError>
+    ensures { OnOk result (string_bytes text.new ≡ string_bytes text.old ++ name_text name.now) }
+{
+    let name = quoted(alloc, name.as_str())?;
+    text.push_str(name.as_str())
+}
+
+/// Appends the number in decimal.
+pub(crate) fn push_number(alloc: Global, text: &mut String, number: u64) -> Result<(), AllocError>
+    ensures { OnOk result (string_bytes text.new ≡ string_bytes text.old ++ decimal number) }
+{
+    let digits = number.to_string(alloc)?;
+    text.push_str(digits.as_str())
+}
+
+/// Appends the place to which the steps lead from the top.
+pub(crate) fn push_path(alloc: Global, text: &mut String, steps: &[u64]) -> Result<(), AllocError>
+    ensures { OnOk result (string_bytes text.new ≡ string_bytes text.old ++ path_text steps.now) }
+{
+    if steps.is_empty() {
+        return text.push_str(".");
+    }
+    for step in steps {
+        text.push_str(".")?;
+        push_number(alloc, text, *step)?;
+    }
+    Ok(())
+}
+
+/// Appends a column's name and type.
+pub(crate) fn push_field(
+    alloc: Global,
+    text: &mut String,
+    name: &PlSmallStr,
+    dtype: &DataType,
+) -> Result<(), AllocError>
+    ensures { OnOk result (string_bytes text.new ≡ string_bytes text.old ++ field_text (name.now, ty dtype.now)) }
+{
+    push_name(alloc, text, name)?;
+    text.push_str(" ")?;
+    text.push_str(type_name(dtype))
+}
+
+/// Appends the columns of a schema.
+pub(crate) fn push_schema(
+    alloc: Global,
+    text: &mut String,
+    schema: &Schema,
+) -> Result<(), AllocError>
+    ensures { OnOk result (string_bytes text.new ≡ string_bytes text.old ++ schema_text (columns schema.now)) }
+{
+    text.push_str("(")?;
+    for index in 0..schema.len() {
+        if index > 0 {
+            text.push_str(", ")?;
+        }
+        if let Some((name, dtype)) = schema.get_at_index(index) {
+            push_field(alloc, text, name, dtype)?;
+        }
+    }
+    text.push_str(")")
+}
