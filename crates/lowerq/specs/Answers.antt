@@ -1,5 +1,5 @@
 -- What is answered to words and to an input, and what is written of it.
-use Rattle.std.specs.Prelude.{◌≡◌, ¬◌, ℕ, ◌<◌, ◌≤◌, List, [], ◌∷◌, ◌++◌, length, take, Option, Some, None, IfSome, codes, string_bytes}
+use Rattle.std.specs.Prelude.{◌≡◌, ℕ, ◌<◌, ◌≤◌, List, [], ◌∷◌, ◌++◌, length, take, Option, Some, None, IfSome, codes, string_bytes}
 use Rattle.std.specs.Io.KnownBytes.{Appends}
 use Rattle.byte_streams.specs.declared.stream.TheConstants.{INPUT_LIMIT}
 use Rattle.plan_types.specs.Schemas.{Name}

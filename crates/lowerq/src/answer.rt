@@ -14,7 +14,7 @@ use plan_json::error::JsonError;
 use plan_json::query::read_query;
 use plan_lower::conversion::dsl_to_ir::PlanLowering;
 use plan_report::report::{refusal, report};
-use plan_types::error::ErrorKind;
+use plan_types::error::{ErrorKind, PlanError};
 use plan_types::text::PlSmallStr;
 use std::alloc::{AllocError, Global};
 
@@ -129,11 +129,21 @@ fn answer_plan(alloc: Global, plan: DslPlan, udfs: &Udfs) -> Result<Answer, Allo
             Ok(Answer { done, text })
         }
         Err(error) => {
-            if error.kind == ErrorKind::NoMemory {
+            if is_memory(&error) {
                 return Err(AllocError);
             }
             let text = refusal(alloc, &error)?;
             Ok(Answer::new(Status::Refused(error), text))
         }
+    }
+}
+
+// Tells whether the error is want of memory.
+fn is_memory(error: &PlanError) -> bool
+    ensures { IsTrue result ↔ (error.now.kind ≡ ErrorKind.NoMemory) }
+{
+    match error.kind {
+        ErrorKind::NoMemory => true,
+        ErrorKind::ColumnNotFound | ErrorKind::Duplicate | ErrorKind::SchemaMismatch => false,
     }
 }

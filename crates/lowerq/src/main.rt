@@ -4,6 +4,8 @@
 mod answer;
 pub mod run;
 pub mod status;
+#[cfg(test)]
+mod tests;
 
 use byte_streams::sink::WriteAdapter;
 use byte_streams::source::ReadAdapter;
