@@ -21,13 +21,14 @@ const EMPTY: &str = "{\"tables\":[],\"plan\":{\"empty\":[]}}";
 const USAGE: &str = "usage: lowerq lower, schema or gen N\n";
 
 // What a run gave: the number of its status, whether there is a plan, and the bytes written.
+#[derive(Drop)]
 struct Seen {
     number: u8,
     has_plan: bool,
     written: Vec<u8>,
 }
 
-fn seen(alloc: Global, done: &Done, written: &[u8]) -> Result<Seen, AllocError> {
+fn seen_of(alloc: Global, done: &Done, written: &[u8]) -> Result<Seen, AllocError> {
     Ok(Seen {
         number: done.status.number(),
         has_plan: done.plan.is_some(),
@@ -49,7 +50,7 @@ fn run_words(alloc: Global, words: &[&str], input: &[u8]) -> Result<Seen, Fail> 
     let mut source = PlainSource::new(input);
     let mut sink = PlainSink::new(alloc, ROOM)?;
     let done = run(alloc, words.as_slice(), &mut source, &mut sink, &Udfs::new(alloc));
-    Ok(seen(alloc, &done, sink.written())?)
+    Ok(seen_of(alloc, &done, sink.written())?)
 }
 
 fn lower(alloc: Global, input: &str) -> Result<Seen, Fail> {
@@ -112,14 +113,13 @@ fn bad_queries_are_told_with_their_place(rt: HostRuntime) -> Result<(), Fail> {
 
 #[test]
 fn other_words_are_told_the_usage(rt: HostRuntime) -> Result<(), Fail> {
-    for words in [
-        [].as_slice(),
-        ["schema"].as_slice(),
-        ["lower", "lower"].as_slice(),
-        ["Lower"].as_slice(),
-        [""].as_slice(),
+    let alloc = rt.alloc();
+    for seen in [
+        run_words(alloc, &[], ADD.as_bytes())?,
+        run_words(alloc, &["schema"], ADD.as_bytes())?,
+        run_words(alloc, &["Lower"], ADD.as_bytes())?,
+        run_words(alloc, &["lower", "lower"], ADD.as_bytes())?,
     ] {
-        let seen = run_words(rt.alloc(), words, ADD.as_bytes())?;
         assert_eq!(rt; seen.number, 2);
         assert_eq!(rt; seen.written.as_slice(), USAGE.as_bytes());
     }
@@ -172,8 +172,9 @@ fn an_input_over_the_limit_is_too_long(rt: HostRuntime) -> Result<(), Fail> {
         (1usize << 24, 0, ". df ()\ncasts 0\n"),
         ((1usize << 24) + 1, 7, "too long\n"),
     ] {
-        let mut input = vec![in alloc; b' '; length]?;
-        input[..EMPTY.len()].copy_from_slice(EMPTY.as_bytes());
+        let spaces = vec![in alloc; b' '; length.saturating_sub(EMPTY.len())]?;
+        let mut input = EMPTY.as_bytes().to_vec(alloc)?;
+        input.extend_from_slice(spaces.as_slice())?;
         let seen = run_words(alloc, &["lower"], input.as_slice())?;
         assert_eq!(rt; seen.number, number);
         assert_eq!(rt; seen.written.as_slice(), text.as_bytes());
