@@ -6,3 +6,5 @@ pub mod arena;
 pub mod expr_ir;
 pub mod ir;
 pub mod plan;
+#[cfg(test)]
+mod tests;

@@ -4,4 +4,6 @@
 pub mod expr;
 pub mod operator;
 pub mod plan;
+#[cfg(test)]
+mod tests;
 pub mod udfs;

@@ -9,4 +9,6 @@ pub mod error;
 pub mod field;
 pub mod schema;
 pub mod supertype;
+#[cfg(test)]
+mod tests;
 pub mod text;

@@ -58,6 +58,7 @@ impl Schema {
     pub fn try_get(&self, name: &PlSmallStr) -> Result<&DataType, PlanError>
         ensures ok { IfOk result (λ dtype. type_at (columns self.now) name.now ≡ Some (ty dtype.now)) }
         ensures err { IfErr result (IsMemoryOr ErrorKind.ColumnNotFound (IsNewName (columns self.now) name.now)) }
+        ensures kind { IfErr result (λ error. error.kind ≡ ErrorKind.ColumnNotFound) }
     {
         match self.get(name) {
             Some(dtype) => Ok(dtype),

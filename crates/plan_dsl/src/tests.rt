@@ -1,0 +1,134 @@
+use crate::expr::Expr;
+use crate::operator::Operator;
+use crate::plan::{DslPlan, Exprs, ProjectionOptions};
+use crate::udfs::Udfs;
+use plan_types::dtype::DataType;
+use plan_types::error::PlanError;
+use plan_types::schema::Schema;
+use plan_types::text::PlSmallStr;
+use std::alloc::Global;
+use std::hash::{FoldHasher, Hash, Hasher};
+use std::process::Abort;
+use std::test::Fail;
+
+fn hash_of<T: Hash>(value: &T) -> u64 {
+    let mut hasher = FoldHasher::default();
+    value.hash(&mut hasher);
+    hasher.finish()
+}
+
+fn column(alloc: Global, name: &str) -> Result<Expr, PlanError> {
+    Ok(Expr::Column(PlSmallStr::new(alloc, name)?))
+}
+
+fn sum(alloc: Global, left: &str, right: &str) -> Result<Expr, PlanError> {
+    let left = column(alloc, left)?;
+    let right = column(alloc, right)?;
+    Ok(Expr::BinaryExpr {
+        left: Box::new(alloc, left)?,
+        op: Operator::Plus,
+        right: Box::new(alloc, right)?,
+    })
+}
+
+fn scan(alloc: Global) -> Result<DslPlan, PlanError> {
+    let name = PlSmallStr::new(alloc, "first")?;
+    let mut schema = Schema::new(alloc);
+    schema.with_column(name, DataType::Int8)?;
+    Ok(DslPlan::DataFrameScan {
+        table: Some(3),
+        schema,
+    })
+}
+
+fn projection(alloc: Global) -> Result<DslPlan, PlanError> {
+    let mut items = Vec::new(alloc);
+    items.push(column(alloc, "first")?)?;
+    items.push(sum(alloc, "first", "second")?)?;
+    let input = scan(alloc)?;
+    Ok(DslPlan::Select {
+        expr: Exprs { items },
+        input: Box::new(alloc, input)?,
+        options: ProjectionOptions {
+            duplicate_check: false,
+        },
+    })
+}
+
+fn assert_is_scan(rt: &impl Abort, plan: &DslPlan) {
+    match plan {
+        DslPlan::Select { .. } => panic!(rt; "a projection"),
+        DslPlan::DataFrameScan { table, schema } => {
+            assert_eq!(rt; *table, Some(3));
+            assert_eq!(rt; schema.len(), 1);
+            match schema.get_at_index(0) {
+                Some((name, dtype)) => {
+                    assert_eq!(rt; name.as_str(), "first");
+                    assert!(rt; *dtype == DataType::Int8);
+                }
+                None => panic!(rt; "no column"),
+            }
+        }
+    }
+}
+
+#[test]
+fn operators_are_written_as_signs(rt: HostRuntime) -> Result<(), Fail> {
+    let text = format!(in rt.alloc(); "{}", Operator::Plus)?;
+    assert_eq!(rt; text.as_str(), "+");
+    Ok(())
+}
+
+#[test]
+fn copies_of_expressions_are_equal(rt: HostRuntime) -> Result<(), Fail> {
+    let expressions = [
+        column(rt.alloc(), "first")?,
+        column(rt.alloc(), "second")?,
+        sum(rt.alloc(), "first", "second")?,
+        sum(rt.alloc(), "second", "first")?,
+    ];
+    for (number, expression) in expressions.iter().enumerate() {
+        let copy = expression.try_clone(rt.alloc())?;
+        assert_eq!(rt; hash_of(&copy), hash_of(expression));
+        for (other_number, other) in expressions.iter().enumerate() {
+            assert_eq!(rt; copy == *other, number == other_number);
+        }
+    }
+    Ok(())
+}
+
+#[test]
+fn the_default_plan_is_the_empty_table(rt: HostRuntime) -> Result<(), Fail> {
+    let _registry = Udfs::new(rt.alloc());
+    assert!(rt; ProjectionOptions::default().duplicate_check);
+    match DslPlan::default(rt.alloc())? {
+        DslPlan::DataFrameScan { table, schema } => {
+            assert_eq!(rt; table, None);
+            assert!(rt; schema.is_empty());
+        }
+        DslPlan::Select { .. } => panic!(rt; "a projection"),
+    }
+    Ok(())
+}
+
+#[test]
+fn copies_of_plans_keep_every_part(rt: HostRuntime) -> Result<(), Fail> {
+    let plan = projection(rt.alloc())?;
+    match plan.try_clone(rt.alloc())? {
+        DslPlan::DataFrameScan { .. } => panic!(rt; "a scan"),
+        DslPlan::Select {
+            expr,
+            input,
+            options,
+        } => {
+            assert!(rt; !options.duplicate_check);
+            assert_eq!(rt; expr.items.len(), 2);
+            let first = column(rt.alloc(), "first")?;
+            assert!(rt; expr.items[0] == first);
+            let second = sum(rt.alloc(), "first", "second")?;
+            assert!(rt; expr.items[1] == second);
+            assert_is_scan(&rt, &input);
+        }
+    }
+    Ok(())
+}
