@@ -11,7 +11,7 @@ use byte_streams::stream::{ReadOutcome, read_all};
 use plan_dsl::plan::DslPlan;
 use plan_dsl::udfs::Udfs;
 use plan_json::error::JsonError;
-use plan_json::query::read_query;
+use plan_json::read::read_query;
 use plan_lower::conversion::dsl_to_ir::PlanLowering;
 use plan_report::report::{refusal, report};
 use plan_types::error::{ErrorKind, PlanError};

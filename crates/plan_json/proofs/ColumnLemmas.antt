@@ -1,20 +1,20 @@
 -- Columns that are read one by one.
-use Rattle.std.proofs.Common.{◌≡◌, ℕ, suc, ◌+◌, ◌<◌, List, [], ◌∷◌, ◌++◌, length, get_or, take, drop, Option, Some, None, option_map, option_and_then, Bool, true, false, cond, not, is_some, refl, sym, ap, subst, ◌∙◌, arith}
+use Rattle.std.proofs.Common.{◌≡◌, ℕ, suc, ◌<◌, List, [], ◌∷◌, ◌++◌, length, get_or, take, drop, Option, Some, None, option_and_then, Bool, true, false, cond, not, is_some, refl, sym, ap, ◌∙◌, arith}
 use Rattle.std.proofs.lemmas.List.{take_all, take-append-drop, map-append}
 use Rattle.std.proofs.Math.Seq.{drop-cons}
 use Rattle.std.specs.Option.{option_map_or}
-use Rattle.plan_types.specs.Schemas.{Name, Columns, type_at, with_column, IsNewName}
+use Rattle.plan_types.specs.Schemas.{Name, Columns, type_at, with_column}
 use Rattle.plan_types.specs.Types.{Ty}
 use Rattle.plan_types.proofs.SchemaLemmas.{with_column-new}
-use Rattle.serde_json.specs.Data.{Data, Items, array}
+use Rattle.serde_json.specs.Data.{Data, Items}
 use Rattle.serde_json.specs.Find.{as_array}
 use Rattle.serde_json.specs.View.{view, items_view}
 use Rattle.serde_json.specs.declared.value.Value.{Value}
 use Rattle.plan_json.specs.Faults.{FaultKind, BadShape, column_list, own_fault, unless}
 use Rattle.plan_json.specs.Looking.{both, two_items, all_of, some_of}
 use Rattle.plan_json.specs.Queries.{text_of, type_of, column_of, column_name, columns_of, columns_from}
-use Rattle.plan_json.specs.Tables.{names_of, is_among, repeats}
-use Rattle.plan_json.proofs.ItemLemmas.{all_of-more, some_of-append, some_of-names}
+use Rattle.plan_json.specs.Tables.{names_of, repeats}
+use Rattle.plan_json.proofs.ItemLemmas.{some_of-append, some_of-names}
 use Rattle.plan_json.proofs.NameLemmas.{is_among-type_at, repeats-push, repeats-again}
 
 -- a column that is read gives itself the name that is read

@@ -1,16 +1,16 @@
 -- Tables that are read one by one.
-use Rattle.std.proofs.Common.{◌≡◌, ℕ, zero, suc, ◌+◌, ◌<◌, ◌≤◌, ◌==◌, List, [], ◌∷◌, ◌++◌, length, get_or, take, Option, Some, None, option_map, option_and_then, Bool, true, false, cond, not, ◌&&◌, is_some, codes, nat_lt, refl, sym, ap, subst, ◌∙◌, arith}
+use Rattle.std.proofs.Common.{◌≡◌, ℕ, suc, ◌<◌, ◌≤◌, ◌==◌, List, [], ◌∷◌, ◌++◌, length, take, Option, Some, None, option_map, option_and_then, Bool, true, false, cond, not, ◌&&◌, codes, nat_lt, refl, sym, ap, ◌∙◌, arith}
 use Rattle.std.proofs.lemmas.List.{take_all, map-append, length-take-le}
 use Rattle.std.proofs.lemmas.Bool.{ltb-true, lt-ltb}
 use Rattle.std.specs.Option.{option_map_or}
 use Rattle.plan_types.specs.Schemas.{Name, Columns}
-use Rattle.serde_json.specs.Data.{Data, Items, Members, null, boolean, number, string, array, object, no_items, item}
+use Rattle.serde_json.specs.Data.{Data, Items, null, boolean, number, string, array, object}
 use Rattle.serde_json.specs.Events.{items_len, members_len}
 use Rattle.serde_json.specs.Find.{as_array, get, get_member}
 use Rattle.serde_json.specs.View.{view, items_view}
 use Rattle.serde_json.specs.declared.value.Value.{Value}
 use Rattle.serde_json.proofs.Views.{items_len-items_view}
-use Rattle.plan_json.specs.Faults.{BadShape, FaultKind, table_list, own_fault, unless, declared_names}
+use Rattle.plan_json.specs.Faults.{BadShape, table_list, own_fault, unless, declared_names}
 use Rattle.plan_json.specs.Looking.{both, two_members, all_of, some_of}
 use Rattle.plan_json.specs.Queries.{text_of, table_of, table_name, tables_of, tables_from, table_limit, columns_of}
 use Rattle.plan_json.specs.Tables.{Declared, names_of, is_among, repeats}

@@ -1,5 +1,5 @@
 -- An error of a part is an error of the value that has the part.
-use Rattle.std.proofs.Common.{◌≡◌, ℕ, ◌<◌, List, [], ◌∷◌, ◌++◌, length, Contains, Option, Some, None, option_map, option_and_then, is_some, Bool, false, Result, Ok, Err, IfErr, IsErrAnd, String, Global, string_bytes, refl, sym, ap, subst, ◌∙◌, arith}
+use Rattle.std.proofs.Common.{◌≡◌, ℕ, List, [], ◌∷◌, ◌++◌, Contains, Option, Some, None, option_map, option_and_then, is_some, Bool, false, Result, Ok, Err, IfErr, IsErrAnd, String, Global, string_bytes, refl, sym, ap, subst, ◌∙◌, arith}
 use Rattle.std.specs.Option.{option_map_or}
 use Rattle.serde_json.specs.Data.{Data}
 use Rattle.plan_json.specs.Errors.{IsErrorOf, IsBelow, IsErrBelow, step_text, pointer_text}

@@ -1,11 +1,11 @@
 -- Looking into a value, beside what the value's type holds.
-use Rattle.std.proofs.Common.{◌≡◌, ℕ, suc, ◌+◌, ◌<◌, ◌≤◌, ◌==◌, List, [], ◌∷◌, ◌++◌, length, get_or, slice_get, map, Option, Some, None, option_map, String, Global, string_bytes, Bool, true, false, cond, refl, sym, ap, ◌∙◌, subst, arith, ne_eqb, max}
-use Rattle.serde_json.specs.Data.{Data, null, boolean, number, string, array, object, Items, no_items, item, Members, no_members, member, depth, items_depth, members_depth}
-use Rattle.serde_json.specs.Events.{items_len, members_len}
+use Rattle.std.proofs.Common.{◌≡◌, ℕ, suc, ◌<◌, ◌≤◌, ◌==◌, List, [], ◌∷◌, length, slice_get, Option, Some, None, option_map, String, Global, string_bytes, cond, refl, sym, ap, ◌∙◌, subst, arith, ne_eqb, max}
+use Rattle.serde_json.specs.Data.{Data, null, boolean, number, string, array, object, Items, no_items, item, Members, no_members, member, depth}
+use Rattle.serde_json.specs.Events.{members_len}
 use Rattle.serde_json.specs.Find.{get, get_member, as_array, as_object}
 use Rattle.serde_json.specs.View.{view, items_view, members_view}
 use Rattle.serde_json.specs.declared.value.Value.{Value}
-use Rattle.serde_json.proofs.Views.{members_len-members_view, items_len-items_view}
+use Rattle.serde_json.proofs.Views.{members_len-members_view}
 use Rattle.plan_json.specs.Looking.{both, only_member, two_members, two_items, three_items}
 
 abbrev pub Entry : Type 0
@@ -60,9 +60,6 @@ two_members-other first second d es is other =
     let unlike = ne_eqb (length es) 2 other in
     let n = members_len-members_view es in
     sym (ap (λ b. cond b (both (get_member first (members_view es)) (get_member second (members_view es))) None) (ap (λ k. k == 2) n ∙ unlike)) ∙ ap (two_members first second) (sym (object-from_as_object d _ is))
-
-both_first_none : {A B : Type 0} (x : Option B) → None ≡ both {A = A} None x
-both_first_none x = refl
 
 both_second_none : {A B : Type 0} (x : Option A) → None ≡ both {B = B} x None
 both_second_none None = refl

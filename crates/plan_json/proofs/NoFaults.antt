@@ -1,20 +1,18 @@
 -- A value that is a query has no fault, along any path.
-use Rattle.std.proofs.Common.{◌≡◌, ℕ, zero, suc, ◌+◌, ◌<◌, List, [], ◌∷◌, ◌++◌, ◌⊎◌, length, get_or, Contains, Option, Some, None, option_map, option_and_then, Bool, true, false, cond, not, ◌&&◌, ◌||◌, is_some, codes, nat_lt, bytes_eq, refl, sym, ap, subst, ◌∙◌, inl, inr, arith}
+use Rattle.std.proofs.Common.{◌≡◌, ℕ, zero, suc, ◌+◌, ◌<◌, List, [], ◌∷◌, ◌++◌, length, get_or, Contains, Option, Some, None, option_map, option_and_then, Bool, true, false, cond, not, ◌&&◌, is_some, codes, nat_lt, bytes_eq, refl, sym, ap, subst, ◌∙◌, arith}
 use Rattle.std.proofs.lemmas.Bool.{or_parts}
 use Rattle.std.specs.Option.{option_map_or}
 use Rattle.plan_types.specs.Schemas.{Name, Columns}
-use Rattle.plan_types.specs.Types.{Ty}
 use Rattle.plan_dsl.specs.Ops.{Expression}
-use Rattle.plan_dsl.specs.Plans.{Plan}
 use Rattle.plan_dsl.specs.declared.operator.Operator.{Operator}
 use Rattle.serde_json.specs.Data.{Data, Items, array, object, no_items, item, member, no_members}
 use Rattle.serde_json.specs.Events.{items_len}
-use Rattle.serde_json.specs.Find.{as_array, as_str}
+use Rattle.serde_json.specs.Find.{as_array}
 use Rattle.plan_json.specs.Errors.{IsErrorOf}
 use Rattle.plan_json.specs.declared.error.JsonError.{JsonError}
 use Rattle.plan_json.specs.declared.error.JsonError.TheVariants.{NotJson, Shape, Name as Name', NoMemory}
-use Rattle.plan_json.specs.Faults.{FaultKind, BadShape, BadName, Step, key, number, Path, Form, a_query, table_list, column_list, a_column, a_type, a_text, a_table, a_new_name, a_plan, a_scan, a_selection, expression_list, an_expression, operands, an_operator, Part, part, own_fault, parts_of, unless, name_fault, each, each_table, query_parts, table_parts, column_parts, selection_parts, operand_parts, one_part, declared_names, IsBad}
-use Rattle.plan_json.specs.Looking.{both, only_member, two_members, two_items, three_items, all_of, some_of}
+use Rattle.plan_json.specs.Faults.{FaultKind, BadShape, BadName, key, number, Path, Form, a_query, table_list, column_list, a_column, a_type, a_text, a_table, a_new_name, a_plan, a_scan, a_selection, expression_list, an_expression, operands, an_operator, Part, part, own_fault, parts_of, unless, each, each_table, query_parts, table_parts, column_parts, one_part, declared_names, IsBad}
+use Rattle.plan_json.specs.Looking.{both, two_members, two_items, three_items, all_of, some_of}
 use Rattle.plan_json.specs.Queries.{QueryModel, text_of, type_of, operator_of, column_of, column_name, columns_of, columns_from, table_of, table_name, table_limit, tables_of, tables_from, expression_of, binary_of, binary_expression, expressions_of, column_expression, table_at, scan_plan, scan_of, empty_plan, select_plan, plan_of, select_of, query_of, query_from}
 use Rattle.plan_json.specs.Tables.{Declared, names_of, is_among, repeats}
 use Rattle.plan_json.proofs.DeclarationLemmas.{table_name-read, declared_names-read}

@@ -1,12 +1,11 @@
 -- Declared tables, beside the map's entries.
-use Rattle.std.proofs.Common.{◌≡◌, ℕ, List, [], ◌∷◌, ◌++◌, ◌&&◌, ◌||◌, map, position, Bool, true, false, cond, Option, Some, None, is_some, refl, sym, ap, ◌∙◌}
-use Rattle.std.specs.List.{list_any}
+use Rattle.std.proofs.Common.{◌≡◌, ℕ, List, [], ◌∷◌, ◌++◌, map, position, Bool, true, false, cond, Option, Some, None, is_some, refl, sym, ap, ◌∙◌}
 use Rattle.std.specs.Map.{lookup}
 use Rattle.std.specs.Option.{option_map}
 use Rattle.std.proofs.lemmas.Bool.{or_parts}
 use Rattle.indexmap.specs.IndexMap.{insert_entry}
 use Rattle.indexmap.proofs.MapLemmas.{some_index}
-use Rattle.plan_types.specs.Schemas.{Name, Columns, columns, same_name}
+use Rattle.plan_types.specs.Schemas.{Name, columns, same_name}
 use Rattle.plan_types.specs.declared.schema.Schema.{Schema}
 use Rattle.plan_json.specs.Looking.{both}
 use Rattle.plan_json.specs.Queries.{table_at}

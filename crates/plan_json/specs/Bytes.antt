@@ -1,5 +1,5 @@
 -- The query that bytes write.
-use Rattle.std.specs.Prelude.{◌≡◌, ℕ, List, Some, IsUtf8, string_bytes}
+use Rattle.std.specs.Prelude.{◌≡◌, ℕ, List, Some, IsUtf8}
 use Rattle.serde_json.specs.Data.{Data}
 use Rattle.serde_json.specs.Read.{read}
 use Rattle.plan_json.specs.Errors.{IsErrorOf}

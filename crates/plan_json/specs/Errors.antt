@@ -1,5 +1,5 @@
 -- Errors, and the faults that they tell.
-use Rattle.std.specs.Prelude.{◌≡◌, ◌⊎◌, ℕ, ◌==◌, List, [], ◌∷◌, ◌++◌, Result, Ok, Err, decimal, string_bytes, if◌then◌else◌}
+use Rattle.std.specs.Prelude.{◌≡◌, ℕ, ◌==◌, List, [], ◌∷◌, ◌++◌, Result, Ok, Err, decimal, string_bytes, if◌then◌else◌}
 use Rattle.serde_json.specs.Data.{Data}
 use Rattle.plan_json.specs.Faults.{FaultKind, BadShape, BadName, Step, key, number, Path, Form, IsBad}
 use Rattle.plan_json.specs.declared.error.JsonError.{JsonError}

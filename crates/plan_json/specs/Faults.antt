@@ -8,7 +8,7 @@ use Rattle.serde_json.specs.Data.{Data, Items, no_items, item}
 use Rattle.serde_json.specs.Events.{items_len}
 use Rattle.serde_json.specs.Find.{as_array}
 use Rattle.plan_types.specs.Schemas.{Name}
-use Rattle.plan_json.specs.Looking.{both, only_member, two_members, two_items, three_items, some_of}
+use Rattle.plan_json.specs.Looking.{only_member, two_members, two_items, three_items, some_of}
 use Rattle.plan_json.specs.Queries.{text_of, type_of, operator_of, column_name, table_name, table_limit}
 use Rattle.plan_json.specs.Tables.{is_among, repeats}
 

@@ -1,7 +1,7 @@
 -- The query that a value is.
 -- There is one function for each form. Each gives what a value of that form means, and nothing
 -- where the value hasn't the form.
-use Rattle.std.specs.Prelude.{ℕ, ◌^◌, ◌&&◌, List, [], ◌∷◌, map, Bool, not, Option, Some, None, option_map, option_and_then, codes, nat_lt, position, if◌then◌else◌, true, false}
+use Rattle.std.specs.Prelude.{ℕ, ◌^◌, ◌&&◌, List, [], map, not, Option, Some, None, option_map, option_and_then, codes, nat_lt, position, if◌then◌else◌, true, false}
 use Rattle.std.specs.Map.{lookup}
 use Rattle.std.specs.Str.{chars, bytes_eq}
 use Rattle.serde_json.specs.Data.{Data, array, object, Items, no_items, item, no_members, member}
@@ -14,9 +14,9 @@ use Rattle.plan_dsl.specs.Plans.{Plan, named, scan_op, select_op, plan_tree}
 use Rattle.plan_dsl.specs.Trees.{node, no_more, more}
 use Rattle.plan_dsl.specs.declared.operator.Operator.{Operator}
 use Rattle.plan_dsl.specs.declared.operator.Operator.TheVariants.{Plus}
-use Rattle.plan_json.specs.Looking.{both, only_member, two_members, two_items, all_of, some_of}
+use Rattle.plan_json.specs.Looking.{both, two_members, two_items, all_of, some_of}
 use Rattle.plan_json.specs.Tables.{Declared, declared, names_of, repeats}
-use Rattle.plan_json.specs.declared.query.Query.{Query}
+use Rattle.plan_json.specs.declared.read.Query.{Query}
 
 -- a query: its tables, and its plan over them
 pub record QueryModel : Type 0 where

@@ -8,8 +8,8 @@ ghost use Rattle.plan_json.specs.Errors.{IsErrorOf};
 ghost use Rattle.plan_json.specs.Faults.{a_text, a_type, a_column, column_list};
 ghost use Rattle.plan_json.specs.Queries.{text_of, type_named, type_of, column_of, columns_of};
 
-use crate::error::{JsonError, Step, at};
-use crate::value::two_items;
+use super::error::{JsonError, Step, at};
+use super::value::two_items;
 use plan_types::dtype::DataType;
 use plan_types::field::Field;
 use plan_types::schema::Schema;
@@ -64,7 +64,8 @@ fn type_named(name: &str) -> Option<DataType>
 
 // A column: `[name, type]`.
 pub(crate) fn read_column(alloc: Global, value: &Value) -> Result<Field, JsonError>
-    ensures ok { IfOk result (λ field. column_of (view value.now) ≡ Some (field.name, ty field.dtype)) }
+    ensures ok { IfOk result (λ field. column_of (view value.now)
+        ≡ Some (field.name, ty field.dtype)) }
     ensures err { IfErr result (IsErrorOf a_column (view value.now)) }
 {
     match two_items(value) {

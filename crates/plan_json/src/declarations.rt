@@ -7,10 +7,10 @@ ghost use Rattle.plan_json.specs.Faults.{table_list, a_table, a_new_name};
 ghost use Rattle.plan_json.specs.Queries.{text_of, table_of, tables_of};
 ghost use Rattle.plan_json.specs.Tables.{declared, names_of, is_among};
 
-use crate::columns::{read_columns, read_text};
-use crate::error::{JsonError, Step, at};
-use crate::tables::{Table, Tables};
-use crate::value::two_members;
+use super::columns::{read_columns, read_text};
+use super::error::{JsonError, Step, at};
+use super::tables::{Table, Tables};
+use super::value::two_members;
 use plan_types::text::PlSmallStr;
 use serde_json::Value;
 use std::alloc::Global;
@@ -39,8 +39,10 @@ pub(crate) fn read_tables(alloc: Global, value: &Value) -> Result<Tables, JsonEr
 
 // A table: `{"name": name, "columns": columns}`. None of those before it has its name.
 pub(crate) fn read_table(alloc: Global, before: &Tables, value: &Value) -> Result<Table, JsonError>
-    ensures ok { IfOk result (λ table. table_of (view value.now) ≡ Some (table.name, columns table.schema)) }
-    ensures new { IfOk result (λ table. is_among table.name (names_of (declared before.now)) ≡ false) }
+    ensures ok { IfOk result (λ table. table_of (view value.now)
+        ≡ Some (table.name, columns table.schema)) }
+    ensures new { IfOk result (λ table. is_among table.name (names_of (declared before.now))
+        ≡ false) }
     ensures err { IfErr result (IsErrorOf (a_table (names_of (declared before.now))) (view value.now)) }
 {
     match two_members(value, "name", "columns") {

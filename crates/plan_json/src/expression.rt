@@ -7,9 +7,9 @@ ghost use Rattle.plan_json.specs.Errors.{IsErrorOf};
 ghost use Rattle.plan_json.specs.Faults.{an_expression, operands, an_operator, expression_list};
 ghost use Rattle.plan_json.specs.Queries.{expression_of, binary_of, operator_of, expressions_of};
 
-use crate::columns::read_text;
-use crate::error::{JsonError, Step, at};
-use crate::value::{only_member, three_items};
+use super::columns::read_text;
+use super::error::{JsonError, Step, at};
+use super::value::{only_member, three_items};
 use plan_dsl::expr::Expr;
 use plan_dsl::operator::Operator;
 use plan_dsl::plan::Exprs;

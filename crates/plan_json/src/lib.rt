@@ -9,7 +9,7 @@ mod declarations;
 pub mod error;
 mod expression;
 mod plan;
-pub mod query;
+pub mod read;
 pub mod tables;
 #[cfg(test)]
 mod tests;

@@ -7,11 +7,11 @@ ghost use Rattle.plan_json.specs.Faults.{a_plan, a_scan, a_selection};
 ghost use Rattle.plan_json.specs.Queries.{plan_of, scan_of, select_of};
 ghost use Rattle.plan_json.specs.Tables.{declared, names_of};
 
-use crate::columns::{read_columns, read_text};
-use crate::error::{JsonError, Step, at};
-use crate::expression::read_expressions;
-use crate::tables::Tables;
-use crate::value::{only_member, two_items};
+use super::columns::{read_columns, read_text};
+use super::error::{JsonError, Step, at};
+use super::expression::read_expressions;
+use super::tables::Tables;
+use super::value::{only_member, two_items};
 use plan_dsl::plan::{DslPlan, ProjectionOptions};
 use serde_json::Value;
 use std::alloc::Global;
@@ -19,7 +19,8 @@ use std::alloc::Global;
 // A plan over the tables: an object of one key, which names its form.
 #[cycle(plan)]
 pub(crate) fn read_plan(alloc: Global, tables: &Tables, value: &Value) -> Result<DslPlan, JsonError>
-    ensures ok { IfOk result (λ plan. plan_of (declared tables.now) (view value.now) ≡ Some (plan_tree plan)) }
+    ensures ok { IfOk result (λ plan. plan_of (declared tables.now) (view value.now)
+        ≡ Some (plan_tree plan)) }
     ensures err { IfErr result (IsErrorOf (a_plan (names_of (declared tables.now))) (view value.now)) }
 {
     match only_member(value) {
@@ -51,7 +52,8 @@ pub(crate) fn read_plan(alloc: Global, tables: &Tables, value: &Value) -> Result
 
 // A scan of a table by its name.
 fn read_scan(alloc: Global, tables: &Tables, value: &Value) -> Result<DslPlan, JsonError>
-    ensures ok { IfOk result (λ plan. scan_of (declared tables.now) (view value.now) ≡ Some (plan_tree plan)) }
+    ensures ok { IfOk result (λ plan. scan_of (declared tables.now) (view value.now)
+        ≡ Some (plan_tree plan)) }
     ensures err { IfErr result (IsErrorOf (a_scan (names_of (declared tables.now))) (view value.now)) }
 {
     let name = read_text(alloc, value)?;
@@ -70,7 +72,8 @@ fn read_scan(alloc: Global, tables: &Tables, value: &Value) -> Result<DslPlan, J
 // A frame of a column for each expression: `[plan, expressions]`.
 #[cycle(plan)]
 fn read_select(alloc: Global, tables: &Tables, value: &Value) -> Result<DslPlan, JsonError>
-    ensures ok { IfOk result (λ plan. select_of (declared tables.now) (view value.now) ≡ Some (plan_tree plan)) }
+    ensures ok { IfOk result (λ plan. select_of (declared tables.now) (view value.now)
+        ≡ Some (plan_tree plan)) }
     ensures err { IfErr result (IsErrorOf (a_selection (names_of (declared tables.now))) (view value.now)) }
 {
     match two_items(value) {

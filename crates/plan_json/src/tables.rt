@@ -1,7 +1,7 @@
 //! The tables that a query declares.
 ghost use Rattle.std.specs.Prelude.{◌<◌, ◌^◌, length};
 
-use crate::error::JsonError;
+use super::error::JsonError;
 use indexmap::IndexMap;
 use plan_types::schema::Schema;
 use plan_types::text::PlSmallStr;
@@ -52,7 +52,8 @@ impl Tables {
 
     /// The name and the columns of the table of that number.
     pub fn get_at_index(&self, number: usize) -> Option<(&PlSmallStr, &Schema)>
-        ensures { option_map (λ table. (table.0.now, columns table.1.now)) result ≡ slice_get (declared self.now) number }
+        ensures { option_map (λ table. (table.0.now, columns table.1.now)) result
+            ≡ slice_get (declared self.now) number }
     {
         self.items.get_index(number)
     }
@@ -65,7 +66,8 @@ impl Tables {
 
     /// The number and the columns of the table of that name.
     pub fn find(&self, name: &PlSmallStr) -> Option<(u32, &Schema)>
-        ensures { option_map (λ table. (table.0, columns table.1.now)) result ≡ table_at (declared self.now) name.now }
+        ensures { option_map (λ table. (table.0, columns table.1.now)) result
+            ≡ table_at (declared self.now) name.now }
     {
         match self.items.get_full(name) {
             None => None,
@@ -77,7 +79,8 @@ impl Tables {
     pub fn push(&mut self, table: Table) -> Result<(), JsonError>
         requires new { is_among table.name (names_of (declared self.old)) ≡ false }
         requires room { length (declared self.old) + 1 < 2 ^ 32 }
-        ensures ok { OnOk result (declared self.new ≡ declared self.old ++ (table.name, columns table.schema) ∷ []) }
+        ensures ok { OnOk result (declared self.new
+            ≡ declared self.old ++ (table.name, columns table.schema) ∷ []) }
         ensures unchanged { OnErr result (declared self.new ≡ declared self.old) }
         ensures err { IfErr result (λ error. error ≡ JsonError.NoMemory) }
     {

@@ -1,6 +1,6 @@
 //! Outside texts, and what reading them says.
 
-use crate::query::read_query;
+use super::read::read_query;
 use std::alloc::{AllocError, Global};
 use std::test::Fail;
 
@@ -89,10 +89,6 @@ fn reads_tables(rt: HostRuntime) -> Result<(), Fail> {
             "[{\"name\":\"a\",\"columns\":[]},{\"columns\":[],\"name\":\"b\"}]",
             "query",
         ),
-        (
-            "[{\"name\":\"\\u00e9\\n~/\",\"columns\":[[\"\\\"\",\"UInt64\"],[\"\\\\\",\"Int64\"]]}]",
-            "query",
-        ),
         ("{}", "Shape /tables"),
         ("[1]", "Shape /tables/0"),
         ("[{\"name\":\"t\"}]", "Shape /tables/0"),
@@ -100,6 +96,20 @@ fn reads_tables(rt: HostRuntime) -> Result<(), Fail> {
         (
             "[{\"name\":\"t\",\"columns\":[]},{\"name\":\"t\",\"columns\":[]}]",
             "Name /tables/1/name",
+        ),
+    ] {
+        let found = query_answer(rt.alloc(), tables, "{\"empty\":[]}")?;
+        assert!(rt; found.as_str() == want, "{found} in place of {want}");
+    }
+    Ok(())
+}
+
+#[test]
+fn reads_columns(rt: HostRuntime) -> Result<(), Fail> {
+    for (tables, want) in [
+        (
+            "[{\"name\":\"\\u00e9\\n~/\",\"columns\":[[\"\\\"\",\"UInt64\"],[\"\\\\\",\"Int64\"]]}]",
+            "query",
         ),
         (
             "[{\"name\":\"t\",\"columns\":[[\"a\",\"Int8\"],[\"a\",\"Int8\"]]}]",
@@ -134,6 +144,16 @@ fn reads_plans(rt: HostRuntime) -> Result<(), Fail> {
         ("{\"scan\":\"u\"}", "Name /plan/scan"),
         ("{\"scan\":\"t\",\"x\":1}", "Shape /plan"),
         ("{\"scan\":7}", "Shape /plan/scan"),
+    ] {
+        let found = query_answer(rt.alloc(), tables, plan)?;
+        assert!(rt; found.as_str() == want, "{found} in place of {want}");
+    }
+    Ok(())
+}
+
+#[test]
+fn reads_plans_over_plans(rt: HostRuntime) -> Result<(), Fail> {
+    for (plan, want) in [
         ("{\"filter\":[{\"empty\":[]},{\"lit\":1.5}]}", "Shape /plan"),
         (
             "{\"empty\":[[\"a\",\"Int8\"],[\"a\",\"Int16\"]]}",
@@ -146,7 +166,7 @@ fn reads_plans(rt: HostRuntime) -> Result<(), Fail> {
             "Name /plan/select/0/select/0/scan",
         ),
     ] {
-        let found = query_answer(rt.alloc(), tables, plan)?;
+        let found = query_answer(rt.alloc(), "[]", plan)?;
         assert!(rt; found.as_str() == want, "{found} in place of {want}");
     }
     Ok(())

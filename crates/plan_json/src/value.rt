@@ -30,7 +30,8 @@ pub(crate) fn two_members<'v>(
     first: &'static str,
     second: &'static str,
 ) -> Option<(&'v Value, &'v Value)>
-    ensures { option_map (λ m. (view m.0.now, view m.1.now)) result ≡ two_members first.now second.now (view value.now) }
+    ensures { option_map (λ m. (view m.0.now, view m.1.now)) result
+        ≡ two_members first.now second.now (view value.now) }
 {
     match value.as_object() {
         None => None,
@@ -66,7 +67,8 @@ pub(crate) fn two_items(value: &Value) -> Option<(&Value, &Value)>
 
 // The items of a list of three.
 pub(crate) fn three_items(value: &Value) -> Option<(&Value, &Value, &Value)>
-    ensures { option_map (λ m. (view m.0.now, view m.1.now, view m.2.now)) result ≡ three_items (view value.now) }
+    ensures { option_map (λ m. (view m.0.now, view m.1.now, view m.2.now)) result
+        ≡ three_items (view value.now) }
 {
     match value.as_array() {
         None => None,

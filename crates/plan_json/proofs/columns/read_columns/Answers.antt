@@ -10,7 +10,6 @@ use Rattle.plan_json.specs.Faults.{a_column, column_list, part, number, each}
 use Rattle.plan_json.proofs.ColumnLemmas.{columns_more, columns_all, column_repeated}
 use Rattle.plan_json.proofs.FaultLemmas.{IfErr-below, IsErrorOf-shape, in_parts}
 use Rattle.plan_json.proofs.ItemLemmas.{all_of-more, each-at}
-use Rattle.plan_json.proofs.columns.read_columns.Invariants.{ColumnsRead}
 use Rattle.plan_json.proofs.columns.read_columns.Goals as goal
 
 pub returns-in_err-column-in-Some-clause-err : goal.returns-in_err-column-in-Some-clause-err

@@ -1,7 +1,6 @@
 use Rattle.std.proofs.Common.{[], take, Some, ◌∙◌, sym, ap, arith}
 use Rattle.std.proofs.lemmas.Result.{IfOk-at_ok}
 use Rattle.serde_json.specs.View.{view, items_view}
-use Rattle.plan_types.specs.Schemas.{columns}
 use Rattle.plan_json.specs.Faults.{a_table, table_list, part, number, each_table}
 use Rattle.plan_json.specs.Queries.{table_of}
 use Rattle.plan_json.specs.Tables.{declared, names_of, repeats}

@@ -4,7 +4,7 @@ use Rattle.serde_json.specs.View.{view}
 use Rattle.plan_json.specs.Faults.{an_expression, an_operator, a_text, operands, part, key, number, expression_form, operand_parts}
 use Rattle.plan_json.proofs.FaultLemmas.{IfErr-below, in_parts, only_member-part}
 use Rattle.plan_json.proofs.FormLemmas.{expression_of-bin}
-use Rattle.plan_json.proofs.LookingLemmas.{depth-only_member, depth-three_items}
+use Rattle.plan_json.proofs.LookingLemmas.{depth-three_items}
 use Rattle.plan_json.proofs.expression.+expression.Goals as goal
 
 pub read_binary-returns-in_err-op-in-Some-clause-err :

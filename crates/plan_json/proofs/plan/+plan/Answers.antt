@@ -7,7 +7,7 @@ use Rattle.plan_json.specs.Queries.{empty_plan}
 use Rattle.plan_json.specs.Tables.{declared, names_of}
 use Rattle.plan_json.proofs.FaultLemmas.{IfErr-below, in_parts, only_member-part}
 use Rattle.plan_json.proofs.FormLemmas.{plan_of-empty, plan_of-select, select_of-parts}
-use Rattle.plan_json.proofs.LookingLemmas.{depth-only_member, depth-two_items}
+use Rattle.plan_json.proofs.LookingLemmas.{depth-only_member}
 use Rattle.plan_json.proofs.plan.+plan.Goals as goal
 
 pub read_plan-returns-in_err-plan-in-scan-clause-err :

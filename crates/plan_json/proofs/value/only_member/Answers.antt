@@ -1,5 +1,4 @@
-use Rattle.std.proofs.Common.{sym, ◌∙◌, subst, ap, Some}
-use Rattle.plan_json.specs.Looking.{only_member}
+use Rattle.std.proofs.Common.{sym, ◌∙◌, ap, Some}
 use Rattle.serde_json.specs.View.{view}
 use Rattle.plan_json.proofs.LookingLemmas.{only_member-one, only_member-other}
 use Rattle.plan_json.proofs.value.only_member.Goals as goal

@@ -1,11 +1,10 @@
-use Rattle.std.proofs.Common.{◌≡◌, Some, sym, ap, ◌∙◌}
-use Rattle.serde_json.specs.Data.{Data}
+use Rattle.std.proofs.Common.{◌≡◌, sym, ap, ◌∙◌}
 use Rattle.serde_json.specs.View.{view}
 use Rattle.plan_json.specs.Queries.{query_of}
 use Rattle.plan_json.specs.declared.error.JsonError.TheVariants.{NoMemory}
 use Rattle.plan_json.proofs.FaultLemmas.{IfErr-handed}
 use Rattle.plan_json.proofs.NoFaults.{query_has_no_fault}
-use Rattle.plan_json.proofs.query.read_query.Goals as goal
+use Rattle.plan_json.proofs.read.read_query.Goals as goal
 
 pub returns-in_err-query-in-Ok-clause-complete : goal.returns-in_err-query-in-Ok-clause-complete
 returns-in_err-query-in-Ok-clause-complete c query (d, (text, read), is) =

@@ -7,11 +7,11 @@ ghost use Rattle.plan_json.specs.Errors.{IsErrorOf};
 ghost use Rattle.plan_json.specs.Faults.{a_query};
 ghost use Rattle.plan_json.specs.Queries.{QueryModel, query_of, query_model};
 
-use crate::declarations::read_tables;
-use crate::error::{JsonError, Step, at};
-use crate::plan::read_plan;
-use crate::tables::Tables;
-use crate::value::two_members;
+use super::declarations::read_tables;
+use super::error::{JsonError, Step, at};
+use super::plan::read_plan;
+use super::tables::Tables;
+use super::value::two_members;
 use plan_dsl::plan::DslPlan;
 use serde_json::Value;
 use std::alloc::Global;
@@ -28,7 +28,8 @@ pub fn read_query(alloc: Global, bytes: &[u8]) -> Result<Query, JsonError>
     ensures ok { IfOk result (λ query. WritesQuery bytes.now (query_model query)) }
     ensures err { IfErr result (IsRefusalOf bytes.now) }
     // The bytes of a query are refused for want of memory alone.
-    ensures complete { (query : QueryModel) → WritesQuery bytes.now query → IfErr result (λ error. error ≡ JsonError.NoMemory) }
+    ensures complete { (query : QueryModel) → WritesQuery bytes.now query
+        → IfErr result (λ error. error ≡ JsonError.NoMemory) }
 {
     match Value::from_slice(alloc, bytes) {
         Err(error) => {

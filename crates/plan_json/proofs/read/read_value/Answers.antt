@@ -6,7 +6,7 @@ use Rattle.plan_json.specs.Tables.{declared}
 use Rattle.plan_json.specs.Faults.{a_query, a_plan, table_list, part, key, query_parts, declared_names}
 use Rattle.plan_json.proofs.DeclarationLemmas.{declared_names-read}
 use Rattle.plan_json.proofs.FaultLemmas.{IfErr-below, in_parts}
-use Rattle.plan_json.proofs.query.read_value.Goals as goal
+use Rattle.plan_json.proofs.read.read_value.Goals as goal
 
 pub returns-in_err-tables-in-Some-clause-err : goal.returns-in_err-tables-in-Some-clause-err
 returns-in_err-tables-in-Some-clause-err c =
