@@ -11,10 +11,10 @@ use std::test::Fail;
 
 const ROOM: usize = 1 << 12;
 
-const ADD: &str = "{\"tables\":[{\"name\":\"t\",\"columns\":[[\"a\",\"Int8\"],[\"b\",\"Int32\"]]}],\"plan\":{\"select\":[{\"scan\":\"t\"},[{\"bin\":[\"Plus\",{\"col\":\"a\"},{\"col\":\"b\"}]}]]}}";
+const ADD: &str =
+    "{\"tables\":[{\"name\":\"t\",\"columns\":[[\"a\",\"Int8\"],[\"b\",\"Int32\"]]}],\"plan\":{\"select\":[{\"scan\":\"t\"},[{\"bin\":[\"Plus\",{\"col\":\"a\"},{\"col\":\"b\"}]}]]}}";
 
-const ADD_REPORT: &str =
-    ". projection (\"a\" Int32)\n.0 df (\"a\" Int8, \"b\" Int32)\ncasts 1\n";
+const ADD_REPORT: &str = ". projection (\"a\" Int32)\n.0 df (\"a\" Int8, \"b\" Int32)\ncasts 1\n";
 
 const EMPTY: &str = "{\"tables\":[],\"plan\":{\"empty\":[]}}";
 
@@ -49,7 +49,13 @@ fn run_words(alloc: Global, words: &[&str], input: &[u8]) -> Result<Seen, Fail> 
     let words = words_of(alloc, words)?;
     let mut source = PlainSource::new(input);
     let mut sink = PlainSink::new(alloc, ROOM)?;
-    let done = run(alloc, words.as_slice(), &mut source, &mut sink, &Udfs::new(alloc));
+    let done = run(
+        alloc,
+        words.as_slice(),
+        &mut source,
+        &mut sink,
+        &Udfs::new(alloc),
+    );
     Ok(seen_of(alloc, &done, sink.written())?)
 }
 
@@ -97,7 +103,10 @@ fn bad_queries_are_told_with_their_place(rt: HostRuntime) -> Result<(), Fail> {
         ("", "bad query NotJson\n"),
         ("{\"tables\":[", "bad query NotJson\n"),
         ("[]", "bad query Shape \n"),
-        ("{\"tables\":[],\"plan\":{\"drop\":[]}}", "bad query Shape /plan\n"),
+        (
+            "{\"tables\":[],\"plan\":{\"drop\":[]}}",
+            "bad query Shape /plan\n",
+        ),
         (
             "{\"tables\":[],\"plan\":{\"scan\":\"t\"}}",
             "bad query Name /plan/scan\n",
@@ -132,7 +141,13 @@ fn one_byte_a_read_is_the_same(rt: HostRuntime) -> Result<(), Fail> {
     let words = words_of(alloc, &["lower"])?;
     let mut source = MemSource::new(ADD.as_bytes(), Vec::new(alloc)).in_steps(1);
     let mut sink = MemSink::new(alloc, ROOM, Vec::new(alloc))?.in_steps(1);
-    let done = run(alloc, words.as_slice(), &mut source, &mut sink, &Udfs::new(alloc));
+    let done = run(
+        alloc,
+        words.as_slice(),
+        &mut source,
+        &mut sink,
+        &Udfs::new(alloc),
+    );
     assert_eq!(rt; done.status.number(), 0);
     assert_eq!(rt; sink.written(), ADD_REPORT.as_bytes());
     Ok(())
@@ -144,7 +159,13 @@ fn a_failing_read_leaves_nothing_written(rt: HostRuntime) -> Result<(), Fail> {
     let words = words_of(alloc, &["lower"])?;
     let mut source = MemSource::new(ADD.as_bytes(), vec![in alloc; 1]?).in_steps(8);
     let mut sink = PlainSink::new(alloc, ROOM)?;
-    let done = run(alloc, words.as_slice(), &mut source, &mut sink, &Udfs::new(alloc));
+    let done = run(
+        alloc,
+        words.as_slice(),
+        &mut source,
+        &mut sink,
+        &Udfs::new(alloc),
+    );
     assert_eq!(rt; done.status.number(), 4);
     assert_eq!(rt; source.faults(), 1);
     assert!(rt; sink.written().is_empty());
@@ -157,7 +178,13 @@ fn a_failing_write_leaves_the_front_of_the_text(rt: HostRuntime) -> Result<(), F
     let words = words_of(alloc, &["lower"])?;
     let mut source = PlainSource::new(ADD.as_bytes());
     let mut sink = MemSink::new(alloc, ROOM, vec![in alloc; 2]?)?.in_steps(1);
-    let done = run(alloc, words.as_slice(), &mut source, &mut sink, &Udfs::new(alloc));
+    let done = run(
+        alloc,
+        words.as_slice(),
+        &mut source,
+        &mut sink,
+        &Udfs::new(alloc),
+    );
     assert_eq!(rt; done.status.number(), 5);
     assert!(rt; done.plan.is_none());
     assert_eq!(rt; sink.faults(), 1);
