@@ -226,9 +226,9 @@ pending_step registry schema first old items items' at rest stack roots p elsewh
     record {
       below = λ n op inputs lower h. elsewhere n op inputs (λ e. lower (omega (arith, from, e))) (p.below n op inputs lower h);
       trees = λ n t d.
-        let one = p.trees n t d in
-        let two = becomes registry schema first items items' at rest here.tree here.denotes v elsewhere n one.tree one.denotes in
-        record { tree = two.0; denotes = two.1; same = same_then registry schema t one.tree two.0 one.same two.2 };
+          let one = p.trees n t d in
+          let two = becomes registry schema first items items' at rest here.tree here.denotes v elsewhere n one.tree one.denotes in
+          record { tree = two.0; denotes = two.1; same = same_then registry schema t one.tree two.0 one.same two.2 };
       waiting = subst (AllByRecursion (DenotesTyped registry schema first items')) (sym grown) (all_joined (DenotesTyped registry schema first items') rest v.inputs rest_typed inputs_typed);
       settled = subst (λ s. AllByRecursion (λ n. (t : Expression) × SettledBut registry schema first items' s n t) roots) (sym grown) (roots_step registry schema first items items' at rest here.tree here.denotes v elsewhere roots p.settled);
     }

@@ -111,11 +111,7 @@ fn lower_select(
 }
 
 // The input of a select: the empty table where nothing is selected.
-fn input_of(
-    exprs: &ExprIRs,
-    input: Node,
-    lp_arena: &mut Arena<IR>,
-) -> Result<Node, PlanError>
+fn input_of(exprs: &ExprIRs, input: Node, lp_arena: &mut Arena<IR>) -> Result<Node, PlanError>
     ensures nothing { IfOk result (λ node. length exprs.now.items.items ≡ 0 → IsEmptyTableAt lp_arena.new node.0) }
     ensures something { IfOk result (λ node. 0 < length exprs.now.items.items → node.0 ≡ input.0) }
     ensures grows { Grows lp_arena.old lp_arena.new }

@@ -40,6 +40,6 @@ loop-turn-preserved c =
     record {
       longer = omega (arith, c.loop-turn.invariant.longer, c.in_ok-coerce_node.ensures.longer);
       pending = λ first le all.
-        let p = subst (λ s. Pending (registry c.args.udfs.now) (columns c.args.schema.now) first c.args.arena.now c.loop-turn.arena s (numbers c.args.stack.now.items)) popped (c.loop-turn.invariant.pending first le all) in
-        pending_step (registry c.args.udfs.now) (columns c.args.schema.now) first c.args.arena.now c.loop-turn.arena c.coerce_node.new.arena c.in-Some.node.0 (numbers c.pop.new.self.items) (numbers c.push_inputs.new.stack.items) (numbers c.args.stack.now.items) p c.in_ok-coerce_node.ensures.elsewhere (λ t d. c.in_ok-coerce_node.ensures.ok first t (omega (arith, le, c.loop-turn.invariant.longer)) d) c.in_ok-push_inputs.ensures.ok;
+          let p = subst (λ s. Pending (registry c.args.udfs.now) (columns c.args.schema.now) first c.args.arena.now c.loop-turn.arena s (numbers c.args.stack.now.items)) popped (c.loop-turn.invariant.pending first le all) in
+          pending_step (registry c.args.udfs.now) (columns c.args.schema.now) first c.args.arena.now c.loop-turn.arena c.coerce_node.new.arena c.in-Some.node.0 (numbers c.pop.new.self.items) (numbers c.push_inputs.new.stack.items) (numbers c.args.stack.now.items) p c.in_ok-coerce_node.ensures.elsewhere (λ t d. c.in_ok-coerce_node.ensures.ok first t (omega (arith, le, c.loop-turn.invariant.longer)) d) c.in_ok-push_inputs.ensures.ok;
     }
