@@ -2,4 +2,6 @@
 #![tactic(auto)]
 
 pub mod conversion;
+#[cfg(test)]
+mod tests;
 pub mod typing;
