@@ -6,6 +6,7 @@ use Rattle.std.specs.Prelude.{ℕ, ◌+ℤ◌, List, [], ◌∷◌, map, length,
 use Rattle.plan_types.specs.Types.{Ty, same_type}
 use Rattle.plan_types.specs.Schemas.{Name}
 use Rattle.plan_types.specs.Values.{Val, NullValue, IntValue}
+use Rattle.plan_types.specs.Outcomes.{Outcome, Done, Fault, Stuck, then_do}
 use Rattle.plan_types.specs.Casts.{Converted, Gives, Fails, cast, wrapped}
 use Rattle.plan_types.specs.Frames.{Frame, value_in, row_at}
 use Rattle.plan_types.specs.declared.dtype.CastOptions.{CastOptions}
@@ -13,45 +14,31 @@ use Rattle.plan_dsl.specs.declared.operator.Operator.{Operator}
 use Rattle.plan_dsl.specs.declared.operator.Operator.TheVariants.{Plus}
 use Rattle.plan_dsl.specs.Ops.{Op, ColumnOp, BinaryOp, CastOp}
 
--- a column, a data fault, or no way to go on
-pub data Outcome : Type 0 where
-  Values : (values : List Val) → Outcome
-  Fault : Outcome
-  Stuck : Outcome
-
 -- what an expression gives on the rows of these numbers
 abbrev pub Meaning : Type 0
-Meaning = List ℕ → Outcome
+Meaning = List ℕ → Outcome (List Val)
 
 abbrev pub stuck : Meaning
 stuck rows = Stuck
 
--- goes on with a column
-abbrev pub then_values : Outcome → (List Val → Outcome) → Outcome
-then_values (Values values) next = next values
-then_values Fault next = Fault
-then_values Stuck next = Stuck
-
 -- goes on with two columns
-abbrev pub then_both : Outcome → Outcome → (List Val → List Val → Outcome) → Outcome
-then_both left right next = then_values left (λ l. then_values right (next l))
+abbrev pub then_both : Outcome (List Val) → Outcome (List Val) → (List Val → List Val → Outcome (List Val)) → Outcome (List Val)
+then_both left right next = then_do left (λ l. then_do right (next l))
 
 -- one more value in front
-abbrev pub value_before : Converted → Outcome → Outcome
+abbrev pub value_before : Converted → Outcome (List Val) → Outcome (List Val)
 value_before Fails rest = Fault
-value_before (Gives value) (Values values) = Values (value ∷ values)
-value_before (Gives value) Fault = Fault
-value_before (Gives value) Stuck = Stuck
+value_before (Gives value) rest = then_do rest (λ values. Done (value ∷ values))
 
 -- a column's cast
-abbrev pub cast_values : Ty → Ty → CastOptions → List Val → Outcome
-cast_values from target options [] = Values []
+abbrev pub cast_values : Ty → Ty → CastOptions → List Val → Outcome (List Val)
+cast_values from target options [] = Done []
 cast_values from target options (value ∷ values) = value_before (cast value from target options) (cast_values from target options values)
 
 -- a cast, which to the own type changes nothing
 abbrev pub cast_meaning : Ty → Ty → CastOptions → Meaning → Meaning
 cast_meaning from target options input =
-    if same_type from target then input else (λ rows. then_values (input rows) (cast_values from target options))
+    if same_type from target then input else (λ rows. then_do (input rows) (cast_values from target options))
 
 -- the length to which two columns are brought
 abbrev pub common_length : ℕ → ℕ → Option ℕ
@@ -79,18 +66,19 @@ plus type (IntValue left) (IntValue right) = IntValue (wrapped type (left +ℤ r
 abbrev pub operator_value : Operator → Ty → Val → Val → Val
 operator_value Plus type = plus type
 
-abbrev pub at_length : Option ℕ → (ℕ → List Val) → Outcome
-at_length None values = Fault
-at_length (Some count) values = Values (values count)
+-- what is made at the common length, which is a fault where there is none
+abbrev pub at_length : {A : Type 0} → Option ℕ → (ℕ → A) → Outcome A
+at_length None make = Fault
+at_length (Some count) make = Done (make count)
 
 -- an operator on two columns
-abbrev pub operator_values : Operator → Ty → List Val → List Val → Outcome
+abbrev pub operator_values : Operator → Ty → List Val → List Val → Outcome (List Val)
 operator_values operator type left right =
     at_length (common_length (length left) (length right)) (λ count. at_each (operator_value operator type) (stretched count left) (stretched count right))
 
 -- a frame's column at these rows
 abbrev pub column_values : Frame → Name → Meaning
-column_values frame name rows = Values (map (λ number. value_in frame.schema name (row_at frame number)) rows)
+column_values frame name rows = Done (map (λ number. value_in frame.schema name (row_at frame number)) rows)
 
 -- what a node gives on a frame: its operands' types, its own type, and what its operands give
 abbrev pub kernel : Frame → Op → List Ty → Ty → List Meaning → Meaning

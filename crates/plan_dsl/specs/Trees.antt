@@ -1,6 +1,6 @@
 -- Trees.
 -- Expressions and plans are trees: what a node does, and its children in order.
-use Rattle.std.specs.Prelude.{ℕ, ◌+◌, max, List, [], ◌∷◌}
+use Rattle.std.specs.Prelude.{ℕ, zero, suc, ◌+◌, max, List, [], ◌∷◌, Option, Some, None}
 
 mutual
   pub data Tree (Op : Type 0) : Type 0 where
@@ -27,6 +27,21 @@ abbrev mutual
   pub fold_all : {Op A : Type 0} → (Op → List A → A) → Trees Op → List A
   fold_all step no_more = []
   fold_all step (more child rest) = fold step child ∷ fold_all step rest
+
+-- the child of that number
+abbrev pub child_at : {Op : Type 0} → Trees Op → ℕ → Option (Tree Op)
+child_at no_more number = None
+child_at (more child rest) zero = Some child
+child_at (more child rest) (suc number) = child_at rest number
+
+abbrev pub child_of : {Op : Type 0} → Option (Tree Op) → ℕ → Option (Tree Op)
+child_of None number = None
+child_of (Some (node op children)) number = child_at children number
+
+-- the tree at a place: by the child numbers on the way from the top
+abbrev pub tree_at : {Op : Type 0} → Option (Tree Op) → List ℕ → Option (Tree Op)
+tree_at tree [] = tree
+tree_at tree (number ∷ place) = tree_at (child_of tree number) place
 
 -- trees that are related one by one
 abbrev pub AllRelated : {Op : Type 0} → (Tree Op → Tree Op → Type 0) → Trees Op → Trees Op → Type 0

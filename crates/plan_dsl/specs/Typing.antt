@@ -1,6 +1,6 @@
 -- Types of expressions.
 -- Typing goes from the leaves up by one rule for a node. The first child that is refused is the answer.
-use Rattle.std.specs.Prelude.{Bool, true, false, ◌||◌, List, [], ◌∷◌, map, Option, Some, None, Result, Ok, Err}
+use Rattle.std.specs.Prelude.{Bool, true, false, ◌||◌, List, [], ◌∷◌, ◌++◌, map, Option, Some, None, Result, Ok, Err}
 use Rattle.plan_types.specs.Types.{Ty}
 use Rattle.plan_types.specs.Schemas.{Columns, type_at}
 use Rattle.plan_types.specs.Supertypes.{supertype}
@@ -39,11 +39,15 @@ operator_types Plus [] = Err SchemaMismatch
 operator_types Plus (left ∷ []) = Err SchemaMismatch
 operator_types Plus (left ∷ right ∷ third ∷ rest) = Err SchemaMismatch
 
--- the types to which a node takes operands of these types. A cast takes any type as it is
+-- The types to which a node takes operands of these types. A cast takes any type as it is. A node with
+-- another number of operands than its own, which no expression has, has no type.
 abbrev pub operand_types : Columns → Op → List Ty → Result Taken ErrorKind
-operand_types schema (ColumnOp name) types = column_type (type_at schema name)
+operand_types schema (ColumnOp name) [] = column_type (type_at schema name)
+operand_types schema (ColumnOp name) (type ∷ types) = Err SchemaMismatch
 operand_types schema (BinaryOp operator) types = operator_types operator types
-operand_types schema (CastOp target options) types = Ok (record { operands = types; type = target })
+operand_types schema (CastOp target options) [] = Err SchemaMismatch
+operand_types schema (CastOp target options) (from ∷ []) = Ok (record { operands = from ∷ []; type = target })
+operand_types schema (CastOp target options) (from ∷ other ∷ types) = Err SchemaMismatch
 
 abbrev pub types_of : List Typed → List Ty
 types_of typed = map (λ t. t.type) typed
@@ -85,3 +89,22 @@ abbrev mutual
   pub typing_all : Registry → Columns → Trees Op → Result (List Typed) ErrorKind
   typing_all registry schema no_more = Ok []
   typing_all registry schema (more child rest) = typed_before (typing registry schema child) (typing_all registry schema rest)
+
+-- the kind of a refusal, where it is one
+abbrev pub kind_of : Result Typed ErrorKind → List ErrorKind
+kind_of (Err kind) = kind ∷ []
+kind_of (Ok typed) = []
+
+-- the kind that a node breaks itself, where its children are typed
+abbrev pub own_kind : Result (List Typed) ErrorKind → (List Typed → Result Typed ErrorKind) → List ErrorKind
+own_kind (Err kind) rule = []
+own_kind (Ok typed) rule = kind_of (rule typed)
+
+-- the kinds that an expression breaks: those of each node whose children are typed
+abbrev mutual
+  pub kinds_in : Registry → Columns → Expression → List ErrorKind
+  kinds_in registry schema (node op children) = kinds_in_all registry schema children ++ own_kind (typing_all registry schema children) (typing_rule registry schema op)
+
+  pub kinds_in_all : Registry → Columns → Trees Op → List ErrorKind
+  kinds_in_all registry schema no_more = []
+  kinds_in_all registry schema (more child rest) = kinds_in registry schema child ++ kinds_in_all registry schema rest

@@ -1,8 +1,8 @@
 -- Frames.
 -- A frame is a schema and a list of rows, each with a fitting value for every column. The names are
 -- distinct, and without columns there are no rows.
-use Rattle.std.specs.Prelude.{◌≡◌, ℕ, List, [], ◌∷◌, Bool, true, false, IsTrue, if◌then◌else◌, slice_get, unwrap_or}
-use Rattle.std.specs.List.{AllByRecursion}
+use Rattle.std.specs.Prelude.{◌≡◌, ℕ, List, [], ◌∷◌, length, Bool, true, false, IsTrue, if◌then◌else◌, slice_get, unwrap_or}
+use Rattle.std.specs.List.{AllByRecursion, range_with_len}
 use Rattle.plan_types.specs.Values.{Val, NullValue, fits}
 use Rattle.plan_types.specs.Schemas.{Name, Columns, same_name, HasDistinctNames}
 
@@ -42,3 +42,12 @@ value_in (column ∷ columns) name (value ∷ values) = if same_name name column
 -- the row of that number
 abbrev pub row_at : Frame → ℕ → Row
 row_at frame number = unwrap_or (slice_get frame.rows number) []
+
+-- the numbers of all rows
+abbrev pub row_numbers : Frame → List ℕ
+row_numbers frame = range_with_len 0 (length frame.rows)
+
+-- a frame of exactly these columns
+pub record IsFrameOf (schema : Columns) (frame : Frame) : Type 0 where
+  pub schema_is : frame.schema ≡ schema
+  pub frame_is : IsFrame frame

@@ -2,6 +2,7 @@
 pub mod Casts
 pub mod Errors
 pub mod Frames
+pub mod Outcomes
 pub mod Places
 pub mod Schemas
 pub mod Supertypes

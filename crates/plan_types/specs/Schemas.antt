@@ -1,6 +1,7 @@
 -- Schemas.
 -- A schema is the list of its columns, each a name and a type. No name stands twice.
-use Rattle.std.specs.Prelude.{◌≡◌, ℕ, List, [], ◌∷◌, map, Option, Some, None, Bool, if◌then◌else◌}
+use Rattle.std.specs.Prelude.{◌≡◌, ℕ, List, [], ◌∷◌, ◌||◌, map, Option, Some, None, Bool, false, if◌then◌else◌}
+use Rattle.std.specs.List.{list_any}
 use Rattle.std.specs.Str.{bytes_eq}
 use Rattle.plan_types.specs.Types.{Ty, ty}
 use Rattle.plan_types.specs.declared.dtype.DataType.{DataType}
@@ -45,3 +46,12 @@ IsNewName columns name = type_at columns name ≡ None
 abbrev pub HasDistinctNames : Columns → Type 0
 HasDistinctNames [] = Unit {0}
 HasDistinctNames (column ∷ rest) = IsNewName rest column.0 × HasDistinctNames rest
+
+-- whether some name stands twice
+abbrev pub repeats : List Name → Bool
+repeats [] = false
+repeats (name ∷ names) = list_any (same_name name) names || repeats names
+
+-- the names of columns
+abbrev pub names_of : Columns → List Name
+names_of columns = map (λ column. column.0) columns
