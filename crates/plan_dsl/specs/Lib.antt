@@ -2,6 +2,7 @@
 pub mod Counts
 pub mod Expressions
 pub mod Kernels
+pub mod Laws
 pub mod Meaning
 pub mod Names
 pub mod Ops

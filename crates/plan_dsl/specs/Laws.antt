@@ -1,0 +1,51 @@
+-- Laws of the definitions, for all expressions and plans.
+use Rattle.std.specs.Prelude.{◌≡◌, ℕ, List, [], ◌∷◌, length, Some, Ok, Err, IsTrue, false}
+use Rattle.std.specs.List.{Contains}
+use Rattle.plan_types.specs.Types.{Ty}
+use Rattle.plan_types.specs.Schemas.{Columns}
+use Rattle.plan_types.specs.Values.{Val, all_fit}
+use Rattle.plan_types.specs.Outcomes.{Meets}
+use Rattle.plan_types.specs.Frames.{Frame, IsFrame, IsFrameOf}
+use Rattle.plan_types.specs.declared.error.ErrorKind.{ErrorKind}
+use Rattle.plan_dsl.specs.Registry.{Registry}
+use Rattle.plan_dsl.specs.Ops.{Op, Expression}
+use Rattle.plan_dsl.specs.Plans.{Plan}
+use Rattle.plan_dsl.specs.Typing.{Typed, Taken, operand_types, typing, kinds_in}
+use Rattle.plan_dsl.specs.Meaning.{meaning}
+use Rattle.plan_dsl.specs.Strictness.{IsStrict}
+use Rattle.plan_dsl.specs.StrictRun.{strict_run}
+use Rattle.plan_dsl.specs.PlanRules.{schema_of, IsWellFormed, Breaks}
+use Rattle.plan_dsl.specs.PlanMeaning.{source_meaning, FitsPlan}
+
+-- operands that were taken to their types are taken as they are
+abbrev pub TakenTypesStay : Type 0
+TakenTypesStay = (schema : Columns) (op : Op) (types : List Ty) (taken : Taken) → operand_types schema op types ≡ Ok taken → operand_types schema op taken.operands ≡ Ok taken
+
+-- a strict expression gives what it means
+abbrev pub StrictRunIsMeaning : Type 0
+StrictRunIsMeaning = (registry : Registry) (frame : Frame) (tree : Expression) → IsStrict registry frame.schema tree → strict_run registry frame tree ≡ meaning registry frame tree
+
+-- values of the type, and one alone where there are not many
+pub record AreOf (typed : Typed) (values : List Val) : Type 0 where
+  pub fitting : IsTrue (all_fit values typed.type)
+  pub single : typed.many ≡ false → length values ≡ 1
+
+-- a typed expression is not stuck on a frame, and gives values of its type
+abbrev pub MeaningHasType : Type 0
+MeaningHasType = (registry : Registry) (frame : Frame) (tree : Expression) (typed : Typed) → IsFrame frame → typing registry frame.schema tree ≡ Ok typed → (rows : List ℕ) → Meets (AreOf typed) (meaning registry frame tree rows)
+
+-- a typed expression breaks no rule
+abbrev pub TypedBreaksNothing : Type 0
+TypedBreaksNothing = (registry : Registry) (schema : Columns) (tree : Expression) (typed : Typed) → typing registry schema tree ≡ Ok typed → kinds_in registry schema tree ≡ []
+
+-- the kind for which an expression is refused is one that it breaks
+abbrev pub RefusalIsBroken : Type 0
+RefusalIsBroken = (registry : Registry) (schema : Columns) (tree : Expression) (kind : ErrorKind) → typing registry schema tree ≡ Err kind → Contains (kinds_in registry schema tree) kind
+
+-- a plan in which a rule is broken at some place is not well formed
+abbrev pub BrokenIsIllFormed : Type 0
+BrokenIsIllFormed = (registry : Registry) (kind : ErrorKind) (place : List ℕ) (plan : Plan) → Breaks registry kind place plan → ¬ (IsWellFormed registry plan)
+
+-- a well-formed plan is not stuck on fitting tables, and its frame has its schema
+abbrev pub MeaningHasSchema : Type 0
+MeaningHasSchema = (registry : Registry) (tables : List Frame) (plan : Plan) (schema : Columns) → FitsPlan tables plan → IsWellFormed registry plan → schema_of registry plan ≡ Some schema → Meets (IsFrameOf schema) (source_meaning registry tables plan)
