@@ -1,2 +1,3 @@
 pub mod CastLemmas
+pub mod KernelLemmas
 pub mod SameLemmas
