@@ -1,3 +1,4 @@
 pub mod CastLemmas
 pub mod KernelLemmas
+pub mod RuleLemmas
 pub mod SameLemmas

@@ -1,3 +1,5 @@
+pub mod Assumed
+pub mod BuiltLemmas
 pub mod CoercionLemmas
 pub mod NodeLemmas
 pub mod PlanLemmas

@@ -91,7 +91,7 @@ fn lower_scan(
 
 // The refusal of a node's only input, as the node sees it.
 fn below(alloc: Global, error: PlanError) -> PlanError
-    ensures { (result ≡ no_memory) ⊎ (result ≡ record { kind = error.kind; place = 0 ∷ error.place }) }
+    ensures { (result ≡ no_memory) ⊎ ((¬ (error.kind ≡ ErrorKind.NoMemory)) × (result ≡ record { kind = error.kind; place = 0 ∷ error.place })) }
 {
     let PlanError { kind, place } = error;
     if kind == ErrorKind::NoMemory {
