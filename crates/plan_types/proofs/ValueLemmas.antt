@@ -1,18 +1,19 @@
--- Values of a type: numbers that wrap around, casts, and lists of values.
-use Rattle.std.proofs.Common.{◌≡◌, ℕ, zero, suc, ◌+◌, ◌-◌, ◌*◌, ◌^◌, ◌<◌, ◌≤◌, Bool, true, false, ◌&&◌, not, cond, List, [], ◌∷◌, IsTrue, refl, sym, ap, ◌∙◌, arith, rules, subst, replicate, map, Some, slice_get, unwrap_or}
+-- Values of a type: numbers that wrap around, casts, columns of frames; outcomes that are not stuck.
+use Rattle.std.proofs.Common.{◌≡◌, ℕ, zero, suc, ◌+◌, ◌-◌, ◌^◌, ◌<◌, ◌≤◌, true, false, ◌&&◌, not, cond, List, [], ◌∷◌, IsTrue, refl, ap, arith, subst, replicate, map, Some, slice_get, unwrap_or}
 use Rattle.std.specs.List.{AllByRecursion}
 use Rattle.std.specs.Prelude.{ℤ, pos, negsuc, neg_ℤ, ◌-ℤ◌, int_lt, nat_lt}
 use Rattle.std.proofs.Math.Nat.{mod-lt, pow-suc}
 use Rattle.std.proofs.lemmas.Nat.{pow_pos}
 use Rattle.std.proofs.lemmas.Int.{ints}
-use Rattle.std.proofs.lemmas.Bool.{ltb-true, ltb-false, lt-ltb, le-ltb, and_parts, and_from}
+use Rattle.std.proofs.lemmas.Bool.{ltb-true, ltb-false, and_from}
 use Rattle.plan_types.specs.Types.{Ty, Integer, same_type}
 use Rattle.plan_types.specs.TypeLaws.{same_type_exact}
-use Rattle.plan_types.specs.Values.{Val, NullValue, IntValue, least, past_greatest, in_range, fits, all_fit}
+use Rattle.plan_types.specs.Values.{Val, NullValue, IntValue, in_range, fits, all_fit}
 use Rattle.plan_types.specs.Schemas.{Name, Columns, same_name, type_at}
 use Rattle.plan_types.specs.Frames.{Row, Frame, RowFits, IsFrame, value_in, row_at}
 use Rattle.plan_types.specs.declared.dtype.CastOptions.{CastOptions}
 use Rattle.plan_types.specs.declared.dtype.CastOptions.TheVariants.{Strict, NonStrict, Overflowing}
+use Rattle.plan_types.specs.Outcomes.{Outcome, Done, Fault, Stuck, Meets, then_do}
 use Rattle.plan_types.specs.Casts.{Converted, Gives, Fails, cast, wrapped, low_bits, out_of_range}
 
 -- the low bits are as few as they are
@@ -84,3 +85,14 @@ pub column_fits : (frame : Frame) (name : Name) (type : Ty) → IsFrame frame �
 column_fits frame name type h at [] = refl
 column_fits frame name type h at (number ∷ rows) =
     and_from _ _ (value_at_fits frame.schema frame.rows name type h.fitting at number) (column_fits frame name type h at rows)
+
+-- what is not stuck goes on to what is not
+pub meets_then : {A B : Type 0} (P : A → Type 0) (Q : B → Type 0) (outcome : Outcome A) (next : A → Outcome B) → Meets P outcome → ((found : A) → P found → Meets Q (next found)) → Meets Q (then_do outcome next)
+meets_then P Q (Done found) next h each = each found h
+meets_then P Q Fault next h each = tt
+meets_then P Q Stuck next h each = absurd h
+
+pub meets_as : {A : Type 0} (P Q : A → Type 0) (outcome : Outcome A) → Meets P outcome → ((found : A) → P found → Q found) → Meets Q outcome
+meets_as P Q (Done found) h each = each found h
+meets_as P Q Fault h each = tt
+meets_as P Q Stuck h each = absurd h
