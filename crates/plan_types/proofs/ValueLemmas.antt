@@ -1,5 +1,5 @@
 -- Values of a type: numbers that wrap around, casts, columns of frames; outcomes that are not stuck.
-use Rattle.std.proofs.Common.{◌≡◌, ℕ, zero, suc, ◌+◌, ◌-◌, ◌^◌, ◌<◌, ◌≤◌, true, false, ◌&&◌, not, cond, List, [], ◌∷◌, IsTrue, refl, ap, arith, subst, replicate, map, Some, slice_get, unwrap_or}
+use Rattle.std.proofs.Common.{◌≡◌, ℕ, zero, suc, ◌+◌, ◌-◌, ◌^◌, ◌<◌, ◌≤◌, true, false, ◌&&◌, not, cond, List, [], ◌∷◌, IsTrue, refl, ap, arith, subst, map, Some, slice_get, unwrap_or}
 use Rattle.std.specs.List.{AllByRecursion}
 use Rattle.std.specs.Prelude.{ℤ, pos, negsuc, neg_ℤ, ◌-ℤ◌, int_lt, nat_lt}
 use Rattle.std.proofs.Math.Nat.{mod-lt, pow-suc}
@@ -57,11 +57,6 @@ pub cast_fits : (value : Val) (from target : Ty) (options : CastOptions) → IsT
 cast_fits NullValue from target options h = refl
 cast_fits (IntValue number) from target options h =
     elim (same_type from target) as (λ b. same_type from target ≡ b → ConvertedFits target (cond b (Gives (IntValue number)) (cond (in_range target number) (Gives (IntValue number)) (out_of_range options target number)))) [ true ↦ λ e. subst (λ t. in_range t number ≡ true) (same_type_exact from target e) h | false ↦ λ e. elim (in_range target number) as (λ b. in_range target number ≡ b → ConvertedFits target (cond b (Gives (IntValue number)) (out_of_range options target number))) [ true ↦ λ r. r | false ↦ λ r. out_of_range_fits options target number ] refl ] refl
-
--- a value that is repeated fits as it does once
-pub replicated_fits : (count : ℕ) (value : Val) (type : Ty) → IsTrue (fits value type) → IsTrue (all_fit (replicate count value) type)
-replicated_fits zero value type h = refl
-replicated_fits (suc count) value type h = and_from (fits value type) (all_fit (replicate count value) type) h (replicated_fits count value type h)
 
 -- a row's value in a column fits the column's type
 pub value_in_fits : (columns : Columns) (name : Name) (row : Row) (type : Ty) → RowFits columns row → type_at columns name ≡ Some type → IsTrue (fits (value_in columns name row) type)
