@@ -1,4 +1,7 @@
 pub mod CastLemmas
+pub mod FitLemmas
 pub mod KernelLemmas
 pub mod RuleLemmas
+pub mod RunLemmas
 pub mod SameLemmas
+pub mod TypingLemmas

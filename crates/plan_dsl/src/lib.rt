@@ -2,6 +2,7 @@
 #![tactic(auto)]
 
 pub mod expr;
+pub mod laws;
 pub mod operator;
 pub mod plan;
 #[cfg(test)]
