@@ -4,6 +4,7 @@
 pub mod expr;
 pub mod operator;
 pub mod plan;
+pub mod plan_laws;
 #[cfg(test)]
 mod tests;
 pub mod udfs;
