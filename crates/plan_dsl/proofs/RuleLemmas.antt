@@ -1,21 +1,20 @@
 -- Rules and what breaks them: of expressions, of a select's expressions, and of plans.
-use Rattle.std.proofs.Common.{◌≡◌, ℕ, zero, suc, ◌<◌, List, [], ◌∷◌, ◌++◌, length, map, Option, Some, None, Bool, true, false, is_some, IsTrue, Result, Ok, Err, refl, sym, ap, ◌∙◌, subst, arith}
+use Rattle.std.proofs.Common.{◌≡◌, ℕ, zero, suc, List, [], ◌∷◌, ◌++◌, map, Option, Some, None, Bool, true, false, is_some, Result, Ok, Err, refl, sym, ap, ◌∙◌, subst, arith}
 use Rattle.std.specs.List.{Contains, AllByRecursion}
 use Rattle.std.proofs.lemmas.List.{map-append}
 use Rattle.std.proofs.lemmas.List.Elements.{Contains-append_left, Contains-append_right, Contains-push}
-use Rattle.plan_types.specs.Types.{Ty}
 use Rattle.plan_types.specs.Schemas.{Name, Columns, type_at, repeats, names_of, HasDistinctNames}
 use Rattle.plan_types.specs.declared.error.ErrorKind.{ErrorKind}
 use Rattle.plan_types.specs.declared.error.ErrorKind.TheVariants.{Duplicate}
 use Rattle.plan_types.proofs.SchemaLemmas.{repeated_test, test_from_distinct}
 use Rattle.plan_types.proofs.ListLemmas.{map-map}
 use Rattle.plan_dsl.specs.Registry.{Registry}
-use Rattle.plan_dsl.specs.Trees.{Tree, Trees, node, no_more, more, child_at, child_of, tree_at}
+use Rattle.plan_dsl.specs.Trees.{Trees, node, no_more, more, child_at, child_of, tree_at}
 use Rattle.plan_dsl.specs.Ops.{Op, Expression}
 use Rattle.plan_dsl.specs.Names.{name_of}
 use Rattle.plan_dsl.specs.Plans.{PlanOp, Plan, Named, named}
 use Rattle.plan_dsl.specs.Typing.{Typed, typing, typing_all, typing_rule, then_typed, typed_before, kind_of, own_kind, kinds_in, kinds_in_all}
-use Rattle.plan_dsl.specs.PlanRules.{Signature, signature, signatures, all_kinds, kind_where, select_kinds, column_before, columns_of, where_unbroken, plan_rule, schema_of, schemas_of, IsWellFormed, AllWellFormed, top_kinds, Breaks}
+use Rattle.plan_dsl.specs.PlanRules.{Signature, signature, signatures, all_kinds, kind_where, select_kinds, column_before, columns_of, where_unbroken, schema_of, IsWellFormed, AllWellFormed, top_kinds, Breaks}
 
 same_kind : {A : Type 0} (r : Result A ErrorKind) (k kind : ErrorKind) → r ≡ Err k → r ≡ Err kind → k ≡ kind
 same_kind r k kind e f = cc

@@ -5,6 +5,7 @@ pub mod expr;
 pub mod laws;
 pub mod operator;
 pub mod plan;
+pub mod plan_laws;
 #[cfg(test)]
 mod tests;
 pub mod udfs;
