@@ -6,6 +6,7 @@
 
 pub mod dtype;
 pub mod error;
+pub mod examples;
 pub mod field;
 pub mod schema;
 pub mod supertype;
