@@ -1,5 +1,5 @@
 -- Common types: of a type with itself, in either order, and that they hold both.
-use Rattle.std.proofs.Common.{◌≡◌, ◌⊎◌, ℕ, ◌-◌, ◌*◌, ◌^◌, ◌≤◌, ◌<◌, ℤ, pos, neg_ℤ, ◌≤ℤ◌, Bool, true, false, not, ◌&&◌, cond, int_lt, nat_lt, max, Option, Some, None, refl, sym, ap, ◌∙◌, subst, arith}
+use Rattle.std.proofs.Common.{◌≡◌, ◌⊎◌, inl, inr, ℕ, ◌-◌, ◌*◌, ◌^◌, ◌≤◌, ℤ, pos, neg_ℤ, ◌≤ℤ◌, Bool, true, false, not, ◌&&◌, cond, int_lt, nat_lt, max, Option, Some, None, refl, ap, subst, arith}
 use Rattle.std.proofs.lemmas.Int.{ints}
 use Rattle.std.proofs.lemmas.Bool.{ltb-true, ltb-false}
 use Rattle.std.proofs.Math.Nat.{pow-le-pow_right}
@@ -54,3 +54,38 @@ signed_above_unsigned : (m n : ℕ) (number : ℤ) → m ≤ n - 1 → in_range 
 signed_above_unsigned m n number h b =
     let more = pow_grows m (n - 1) h in
     between number _ _ _ _ (not_above_zero _) (omega (arith, ints, more)) b
+
+some_same : (a b : Ty) → Some a ≡ Some b → a ≡ b
+some_same a b e = cc
+
+-- what the two have, the one has that each is wider than
+held : (a b c : Ty) (number : ℤ) → (in_range a number ≡ true → in_range c number ≡ true) → (in_range b number ≡ true → in_range c number ≡ true) → (in_range a number ≡ true) ⊎ (in_range b number ≡ true) → in_range c number ≡ true
+held a b c number f g h = elim h [ inl x ↦ f x | inr y ↦ g y ]
+
+mixed_holds : (m n : ℕ) (c : Ty) (number : ℤ) → signed_above m n ≡ Some c → (in_range (Integer true m) number ≡ true) ⊎ (in_range (Integer false n) number ≡ true) → in_range c number ≡ true
+mixed_holds m n c number e h =
+    elim (nat_lt n m) as (λ b. nat_lt n m ≡ b → cond b (Some (Integer true m)) (cond (nat_lt n 64) (Some (Integer true (2 * n))) None) ≡ Some c → in_range c number ≡ true) [
+      | true ↦ λ t e. let fewer = ltb-true n m t in
+          subst (λ type. in_range type number ≡ true) (some_same _ _ e)
+          (held (Integer true m) (Integer false n) (Integer true m) number (λ x. x) (signed_above_unsigned n m number (omega arith)) h)
+      | false ↦ λ t e. let more = ltb-false n m t in
+          elim (nat_lt n 64) as (λ b. cond b (Some (Integer true (2 * n))) None ≡ Some c → in_range c number ≡ true) [
+            | true ↦ λ e. subst (λ type. in_range type number ≡ true) (some_same _ _ e)
+                (held (Integer true m) (Integer false n) (Integer true (2 * n)) number (signed_wider m (2 * n) number (omega arith)) (signed_above_unsigned n (2 * n) number (omega arith)) h)
+            | false ↦ λ e. cc
+          ] e
+    ] refl e
+
+turned : {A B : Type 0} → A ⊎ B → B ⊎ A
+turned h = elim h [ inl x ↦ inr x | inr y ↦ inl y ]
+
+-- the common type has the numbers of both
+pub supertype_holds : (a b c : Ty) (number : ℤ) → supertype a b ≡ Some c → (in_range a number ≡ true) ⊎ (in_range b number ≡ true) → in_range c number ≡ true
+supertype_holds (Integer true m) (Integer true n) c number e h =
+    subst (λ type. in_range type number ≡ true) (some_same _ _ e)
+    (held (Integer true m) (Integer true n) (Integer true (max m n)) number (signed_wider m (max m n) number (omega arith)) (signed_wider n (max m n) number (omega arith)) h)
+supertype_holds (Integer false m) (Integer false n) c number e h =
+    subst (λ type. in_range type number ≡ true) (some_same _ _ e)
+    (held (Integer false m) (Integer false n) (Integer false (max m n)) number (unsigned_wider m (max m n) number (omega arith)) (unsigned_wider n (max m n) number (omega arith)) h)
+supertype_holds (Integer true m) (Integer false n) c number e h = mixed_holds m n c number e h
+supertype_holds (Integer false m) (Integer true n) c number e h = mixed_holds n m c number e (turned h)
