@@ -1,9 +1,10 @@
 -- Casts round the operands of an operator keep its type, name and meaning, and leave it strict.
-use Rattle.std.proofs.Common.{◌≡◌, Bool, true, false, cond, ◌||◌, ◌&&◌, List, [], ◌∷◌, Option, Some, None, Result, Ok, Err, refl, sym, ap, ◌∙◌, subst, max, arith, ℕ}
-use Rattle.plan_types.specs.Types.{Ty, Integer, same_type}
+use Rattle.std.proofs.Common.{◌≡◌, Bool, true, false, cond, ◌||◌, ◌&&◌, List, [], ◌∷◌, Option, Some, None, Result, Ok, Err, refl, sym, ap, ◌∙◌, subst}
+use Rattle.plan_types.specs.Types.{Ty, same_type}
 use Rattle.plan_types.specs.TypeLaws.{same_type_own, same_type_exact}
 use Rattle.plan_types.specs.Schemas.{Columns}
 use Rattle.plan_types.specs.Supertypes.{supertype}
+use Rattle.plan_types.proofs.SupertypeLemmas.{supertype_itself}
 use Rattle.plan_types.specs.Frames.{Frame, Row}
 use Rattle.plan_types.specs.declared.error.ErrorKind.{ErrorKind}
 use Rattle.plan_types.specs.declared.dtype.CastOptions.TheVariants.{NonStrict}
@@ -21,14 +22,6 @@ use Rattle.plan_dsl.specs.Strictness.{IsSame, IsStrictOver, IsStrictNode, same_t
 or_false : (b : Bool) → (b || false) ≡ b
 or_false true = refl
 or_false false = refl
-
-max_itself : (n : ℕ) → max n n ≡ n
-max_itself n = omega arith
-
--- a type is its own common type
-pub supertype_itself : (type : Ty) → supertype type type ≡ Some type
-supertype_itself (Integer true bits) = ap (λ n. Some (Integer true n)) (max_itself bits)
-supertype_itself (Integer false bits) = ap (λ n. Some (Integer false n)) (max_itself bits)
 
 ok_same : (r : Result Taken ErrorKind) (x y : Taken) → r ≡ Ok x → r ≡ Ok y → x ≡ y
 ok_same r x y e f = cc

@@ -1,10 +1,10 @@
 -- Common types: of a type with itself, in either order, and that they hold both.
-use Rattle.std.proofs.Common.{◌≡◌, ◌⊎◌, inl, inr, ℕ, ◌-◌, ◌*◌, ◌^◌, ◌≤◌, ℤ, pos, neg_ℤ, ◌≤ℤ◌, Bool, true, false, not, ◌&&◌, cond, int_lt, nat_lt, max, Option, Some, None, refl, ap, subst, arith}
+use Rattle.std.proofs.Common.{◌≡◌, ◌⊎◌, inl, inr, ℕ, ◌-◌, ◌*◌, ◌^◌, ◌≤◌, ℤ, pos, neg_ℤ, ◌≤ℤ◌, true, false, not, ◌&&◌, cond, int_lt, nat_lt, max, Some, None, refl, ap, subst, arith}
 use Rattle.std.proofs.lemmas.Int.{ints}
 use Rattle.std.proofs.lemmas.Bool.{ltb-true, ltb-false}
 use Rattle.std.proofs.Math.Nat.{pow-le-pow_right}
 use Rattle.plan_types.specs.Types.{Ty, Integer}
-use Rattle.plan_types.specs.Values.{least, past_greatest, in_range}
+use Rattle.plan_types.specs.Values.{in_range}
 use Rattle.plan_types.specs.Supertypes.{supertype, signed_above}
 
 max_itself : (n : ℕ) → max n n ≡ n

@@ -4,7 +4,7 @@ ghost use Rattle.std.specs.Prelude.{◌≡◌, ℕ, ◌+◌, [], ◌∷◌, pos,
 ghost use Rattle.std.specs.Global.{Vec};
 ghost use Rattle.plan_types.specs.Types.{Integer, ty, same_type};
 ghost use Rattle.plan_types.specs.Supertypes.{supertype};
-ghost use Rattle.plan_types.specs.Schemas.{HasDistinctNames, type_at, with_column, repeats, names_of};
+ghost use Rattle.plan_types.specs.Schemas.{type_at, with_column, repeats, names_of};
 ghost use Rattle.plan_types.specs.Values.{NullValue, IntValue, in_range, fits, all_fit};
 ghost use Rattle.plan_types.specs.Casts.{Gives, Fails, can_cast, cast, wrapped};
 ghost use Rattle.plan_types.specs.Outcomes.{Outcome, Done, Fault, Stuck, Meets, then_do};
