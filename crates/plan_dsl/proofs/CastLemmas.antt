@@ -1,10 +1,11 @@
 -- Operands that are taken to their types stay. Casts round the operands of an operator keep its type, name
 -- and meaning, and leave it strict.
-use Rattle.std.proofs.Common.{◌≡◌, Bool, true, false, cond, ◌||◌, ◌&&◌, List, [], ◌∷◌, Option, Some, None, Ok, refl, sym, ap, ◌∙◌, subst, max, arith, ℕ}
-use Rattle.plan_types.specs.Types.{Ty, Integer, same_type}
+use Rattle.std.proofs.Common.{◌≡◌, Bool, true, false, cond, ◌||◌, ◌&&◌, List, [], ◌∷◌, Option, Some, None, Ok, refl, sym, ap, ◌∙◌, subst}
+use Rattle.plan_types.specs.Types.{Ty, same_type}
 use Rattle.plan_types.specs.TypeLaws.{same_type_own, same_type_exact}
 use Rattle.plan_types.specs.Schemas.{Name, Columns, type_at}
 use Rattle.plan_types.specs.Supertypes.{supertype}
+use Rattle.plan_types.proofs.SupertypeLemmas.{supertype_itself}
 use Rattle.plan_types.specs.Frames.{Frame, Row}
 use Rattle.plan_types.specs.declared.dtype.CastOptions.TheVariants.{NonStrict}
 use Rattle.plan_dsl.specs.declared.operator.Operator.{Operator}
@@ -22,14 +23,6 @@ use Rattle.plan_dsl.specs.Strictness.{IsSame, IsStrictOver, same_types, with_cas
 pub or_false : (b : Bool) → (b || false) ≡ b
 or_false true = refl
 or_false false = refl
-
-max_itself : (n : ℕ) → max n n ≡ n
-max_itself n = omega arith
-
--- a type is its own common type
-pub supertype_itself : (type : Ty) → supertype type type ≡ Some type
-supertype_itself (Integer true bits) = ap (λ n. Some (Integer true n)) (max_itself bits)
-supertype_itself (Integer false bits) = ap (λ n. Some (Integer false n)) (max_itself bits)
 
 both_stay : (found : Option Ty) (taken : Taken) → both_to found ≡ Ok taken → operator_types Plus taken.operands ≡ Ok taken
 both_stay None taken h = cc

@@ -1,5 +1,6 @@
 pub mod ListLemmas
 pub mod ResultLemmas
 pub mod SchemaLemmas
+pub mod SupertypeLemmas
 pub mod TextLemmas
 pub mod ValueLemmas
