@@ -65,6 +65,16 @@ abbrev pub GivesSameFrame : Registry → Plan → IRPlan → Type 0
 GivesSameFrame registry plan lowering =
     (tree : Plan) → DenotesPlan lowering tree → (tables : List Frame) → FitsPlan tables plan → plan_run registry tables tree ≡ source_meaning registry tables plan
 
+-- all that lowering promises of the plan that the top denotes
+pub record IsLoweringOf (registry : Registry) (plan : Plan) (lowering : IRPlan) (tree : Plan) : Type 0 where
+  pub well_formed : IsWellFormed registry plan
+  pub denotes : DenotesPlan lowering tree
+  pub accepted : IsAccepted registry tree
+  pub strict : IsStrictPlan registry tree
+  pub schema : schema_of registry plan ≡ Some (top_schema tree)
+  pub sound : (tables : List Frame) → FitsPlan tables plan → RunsSoundly registry tables tree
+  pub same_frame : (tables : List Frame) → FitsPlan tables plan → plan_run registry tables tree ≡ source_meaning registry tables plan
+
 -- the tree of a select in a query
 abbrev pub source_select : List Expression → Plan → Plan
 source_select trees input = node (select_op (map named trees) []) (more input no_more)
