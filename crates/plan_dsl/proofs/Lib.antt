@@ -1,3 +1,4 @@
 pub mod CastLemmas
+pub mod FrameLemmas
 pub mod RuleLemmas
 pub mod SameLemmas
