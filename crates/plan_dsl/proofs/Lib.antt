@@ -1,5 +1,6 @@
 pub mod CastLemmas
 pub mod FitLemmas
+pub mod FrameLemmas
 pub mod KernelLemmas
 pub mod RuleLemmas
 pub mod RunLemmas

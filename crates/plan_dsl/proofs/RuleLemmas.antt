@@ -1,20 +1,20 @@
 -- Rules and what breaks them: of expressions, of a select's expressions, and of plans.
-use Rattle.std.proofs.Common.{◌≡◌, ℕ, zero, suc, List, [], ◌∷◌, ◌++◌, map, Option, Some, None, Bool, true, false, is_some, Result, Ok, Err, refl, sym, ap, ◌∙◌, subst, arith}
+use Rattle.std.proofs.Common.{◌≡◌, ℕ, zero, suc, List, [], ◌∷◌, ◌++◌, map, Option, Some, None, Bool, true, false, cond, is_some, Result, Ok, Err, refl, sym, ap, ◌∙◌, subst, arith}
 use Rattle.std.specs.List.{Contains, AllByRecursion}
 use Rattle.std.proofs.lemmas.List.{map-append}
 use Rattle.std.proofs.lemmas.List.Elements.{Contains-append_left, Contains-append_right, Contains-push}
 use Rattle.plan_types.specs.Schemas.{Name, Columns, type_at, repeats, names_of, HasDistinctNames}
 use Rattle.plan_types.specs.declared.error.ErrorKind.{ErrorKind}
 use Rattle.plan_types.specs.declared.error.ErrorKind.TheVariants.{Duplicate}
-use Rattle.plan_types.proofs.SchemaLemmas.{repeated_test, test_from_distinct}
+use Rattle.plan_types.proofs.SchemaLemmas.{repeated_test, test_from_distinct, distinct_from_test}
 use Rattle.plan_types.proofs.ListLemmas.{map-map}
 use Rattle.plan_dsl.specs.Registry.{Registry}
 use Rattle.plan_dsl.specs.Trees.{Trees, node, no_more, more, child_at, child_of, tree_at}
 use Rattle.plan_dsl.specs.Ops.{Op, Expression}
 use Rattle.plan_dsl.specs.Names.{name_of}
-use Rattle.plan_dsl.specs.Plans.{PlanOp, Plan, Named, named}
+use Rattle.plan_dsl.specs.Plans.{PlanOp, Plan, Named, named, scan_op, select_op}
 use Rattle.plan_dsl.specs.Typing.{Typed, typing, typing_all, typing_rule, then_typed, typed_before, kind_of, own_kind, kinds_in, kinds_in_all}
-use Rattle.plan_dsl.specs.PlanRules.{Signature, signature, signatures, all_kinds, kind_where, select_kinds, column_before, columns_of, where_unbroken, schema_of, IsWellFormed, AllWellFormed, top_kinds, Breaks}
+use Rattle.plan_dsl.specs.PlanRules.{Signature, signature, signatures, all_kinds, kind_where, select_kinds, column_before, columns_of, as_schema, where_unbroken, plan_rule, schema_of, IsWellFormed, AllWellFormed, top_kinds, Breaks}
 
 same_kind : {A : Type 0} (r : Result A ErrorKind) (k kind : ErrorKind) → r ≡ Err k → r ≡ Err kind → k ≡ kind
 same_kind r k kind e f = cc
@@ -115,6 +115,15 @@ module _ (registry : Registry) (schema : Columns) where
         ap (λ k. k ++ kind_where (repeats (map (λ s. s.name) (signatures registry (map output outputs) schema))) Duplicate) (named_no_kinds_from_typed outputs h)
         ∙ ap (λ b. kind_where b Duplicate) test
 
+    -- and has their columns
+    pub select_schema : (own : Columns) (outputs : List A) → AllByRecursion (λ a. typing registry schema (tree a) ≡ Ok (typed a)) outputs → HasDistinctNames (map (λ a. (name a, (typed a).type)) outputs) → plan_rule registry (select_op (map output outputs) own) (Some schema ∷ []) ≡ Some (map (λ a. (name a, (typed a).type)) outputs)
+    select_schema own outputs h distinct =
+        ap (λ kinds. where_unbroken kinds (columns_of (signatures registry (map output outputs) schema))) (select_unbroken outputs h distinct) ∙ named_columns_from_typed outputs h
+
+-- a scan has its table's schema
+pub scan_schema : (registry : Registry) (table : Option ℕ) (own : Columns) → HasDistinctNames own → plan_rule registry (scan_op table own) [] ≡ Some own
+scan_schema registry table own distinct = ap (λ b. cond b None (Some own)) (test_from_distinct own distinct)
+
 -- a node that breaks a kind of rule has no schema
 broken_has_none : (kinds : List ErrorKind) (kind : ErrorKind) (found : Option Columns) → Contains kinds kind → is_some (where_unbroken kinds found) ≡ false
 broken_has_none [] kind found h = absurd (omega (arith, h.1))
@@ -122,6 +131,40 @@ broken_has_none (k ∷ ks) kind found h = refl
 
 not_both : (b : Bool) → b ≡ false → b ≡ true → ⊥
 not_both b none some = cc
+
+-- a node that has a schema breaks no rule, and has the schema that its kind gives it
+pub unbroken_kinds : (kinds : List ErrorKind) (found : Option Columns) (schema : Columns) → where_unbroken kinds found ≡ Some schema → kinds ≡ []
+unbroken_kinds [] found schema h = refl
+unbroken_kinds (k ∷ ks) found schema h = cc
+
+pub unbroken_schema : (kinds : List ErrorKind) (found : Option Columns) (schema : Columns) → where_unbroken kinds found ≡ Some schema → found ≡ Some schema
+unbroken_schema [] found schema h = h
+unbroken_schema (k ∷ ks) found schema h = cc
+
+-- columns that are a schema have distinct names
+pub as_schema_is : (own schema : Columns) → as_schema own ≡ Some schema → (own ≡ schema) × HasDistinctNames own
+as_schema_is own schema h =
+    elim (repeats (names_of own)) as (λ b. repeats (names_of own) ≡ b → cond b None (Some own) ≡ Some schema → (own ≡ schema) × HasDistinctNames own) [ true ↦ λ e h. cc | false ↦ λ e h. (cc, distinct_from_test own e) ] refl h
+
+-- the names of expressions are those of their columns
+pub column_names : (ss : List Signature) (schema : Columns) → columns_of ss ≡ Some schema → map (λ s. s.name) ss ≡ names_of schema
+column_names [] schema h = let e : [] ≡ schema = cc in ap names_of e
+column_names (s ∷ ss) schema h =
+    elim (s.typing) as (λ t. column_before s.name t (columns_of ss) ≡ Some schema → s.name ∷ map (λ s. s.name) ss ≡ names_of schema) [ Ok typed ↦ λ h. elim (columns_of ss) as (λ o. columns_of ss ≡ o → column_before s.name (Ok typed) o ≡ Some schema → s.name ∷ map (λ s. s.name) ss ≡ names_of schema) [ Some columns ↦ λ e h. let same : (s.name, typed.type) ∷ columns ≡ schema = cc in ap (λ l. s.name ∷ l) (column_names ss columns e) ∙ ap names_of same | None ↦ λ e h. cc ] refl h | Err kind ↦ λ h. cc ] h
+
+no_tail : (kinds tail : List ErrorKind) → kinds ++ tail ≡ [] → tail ≡ []
+no_tail [] tail h = h
+no_tail (k ∷ ks) tail h = cc
+
+not_repeated : (b : Bool) → kind_where b Duplicate ≡ [] → b ≡ false
+not_repeated true h = cc
+not_repeated false h = refl
+
+-- a select that breaks no rule has columns of distinct names
+pub selected_distinct : (ss : List Signature) (schema : Columns) → select_kinds ss ≡ [] → columns_of ss ≡ Some schema → HasDistinctNames schema
+selected_distinct ss schema none columns =
+    let test = not_repeated (repeats (map (λ s. s.name) ss)) (no_tail (all_kinds ss) _ none) in
+    distinct_from_test schema (ap repeats (sym (column_names ss schema columns)) ∙ test)
 
 module _ (registry : Registry) where
   -- there is no plan, or it is well formed
