@@ -11,27 +11,18 @@ use Rattle.plan_dsl.specs.Plans.{PlanKind, ScanKind, SelectKind, PlanOp, Plan, N
 use Rattle.plan_dsl.specs.Typing.{typing}
 use Rattle.plan_dsl.specs.Kernels.{Meaning}
 use Rattle.plan_dsl.specs.Strictness.{IsStrict}
-use Rattle.plan_dsl.specs.Laws.{StrictRunIsMeaning}
 use Rattle.plan_dsl.specs.PlanRules.{plan_rule, schema_of, schemas_of}
 use Rattle.plan_dsl.specs.PlanKernels.{Evaluated, plan_kernel, frame_by}
 use Rattle.plan_dsl.specs.PlanMeaning.{by_meaning, FitsNode, FitsPlan, AllFitPlans}
+use Rattle.plan_dsl.proofs.FrameLemmas.{AllMeet, kernel_meets}
 use Rattle.plan_dsl.proofs.KernelLemmas.{AgreeOn, selected_agrees}
+use Rattle.plan_dsl.proofs.RunLemmas.{strict_is_meaning}
 use Rattle.plan_arena.specs.Runs.{top_schema, first_schema, IsAccepted, AllAccepted, IsStrictPlan, AllStrictPlans, by_running, plan_run, RunsSoundly, AllRunSoundly}
-
-abbrev pub AllMeet : List (Option Columns) → List (Outcome Frame) → Type 0
-AllMeet [] [] = Unit {0}
-AllMeet (None ∷ ss) (o ∷ os) = ⊥
-AllMeet (Some s ∷ ss) (o ∷ os) = Meets (IsFrameOf s) o × AllMeet ss os
-AllMeet [] (o ∷ os) = ⊥
-AllMeet (s ∷ ss) [] = ⊥
-
-abbrev pub KernelMeets : Type 0
-KernelMeets = (registry : Registry) (tables : List Frame) (op : PlanOp Expression) (inputs : List (Option Columns)) (outcomes : List (Outcome Frame)) (schema : Columns) → FitsNode tables op.kind op.schema → plan_rule registry op inputs ≡ Some schema → AllMeet inputs outcomes → Meets (IsFrameOf schema) (plan_kernel tables (by_meaning registry) op outcomes)
 
 abbrev evaluated_as : Registry → Columns → Named Expression → Meaning → Evaluated
 evaluated_as registry schema output gives = record { name = output.name; typing = typing registry schema output.expression; gives = gives }
 
-module _ (strict_is_meaning : StrictRunIsMeaning) (kernel_meets : KernelMeets) (registry : Registry) where
+module _ (registry : Registry) where
   -- strict expressions give what they mean
   pub strict_agree : (schema : Columns) (outputs : List (Named Expression)) → AllByRecursion (λ output. IsStrict registry schema output.expression) outputs → AgreeOn schema (by_running registry) (by_meaning registry) outputs outputs
   strict_agree schema [] strict rows = refl

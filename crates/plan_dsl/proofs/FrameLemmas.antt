@@ -18,6 +18,7 @@ use Rattle.plan_dsl.specs.PlanKernels.{Series, series_typed, all_series, shared_
 use Rattle.plan_dsl.specs.PlanRules.{signatures, select_kinds, column_before, columns_of, where_unbroken, kinds_by, schema_by, plan_rule, schema_of, schemas_of, IsWellFormed, AllWellFormed}
 use Rattle.plan_dsl.specs.PlanMeaning.{by_meaning, source_meaning, HasTable, FitsNode, FitsPlan, AllFitPlans}
 use Rattle.plan_dsl.specs.Laws.{AreOf, MeaningHasType, MeaningHasSchema}
+use Rattle.plan_dsl.proofs.FitLemmas.{meaning_has_type}
 use Rattle.plan_dsl.proofs.RuleLemmas.{unbroken_kinds, unbroken_schema, as_schema_is, selected_distinct, well_formed_schema}
 
 -- what goes on with what has a property
@@ -146,7 +147,7 @@ empty_meets own schema e distinct = record {
 without_columns : (schema : Columns) → [] ≡ schema → IsFrameOf schema empty_frame
 without_columns schema e = record { schema_is = e; frame_is = record { distinct = tt; fitting = tt; bare = refl } }
 
-module _ (law : MeaningHasType) (registry : Registry) (frame : Frame) (is_frame : IsFrame frame) (rows : List ℕ) where
+module _ (registry : Registry) (frame : Frame) (is_frame : IsFrame frame) (rows : List ℕ) where
   -- expressions that have columns give columns of them
   series_meet : (outputs : List (Named Expression)) (schema : Columns) → columns_of (signatures registry outputs frame.schema) ≡ Some schema → Meets (AreSeriesOf schema) (all_series rows (map (by_meaning registry frame) outputs))
   series_meet [] schema h = let e : [] ≡ schema = cc in record { columns = e; fitting = tt }
@@ -154,20 +155,20 @@ module _ (law : MeaningHasType) (registry : Registry) (frame : Frame) (is_frame 
       let later = columns_of (signatures registry os frame.schema) in
       let gives = meaning registry frame o.expression rows in
       let rest = all_series rows (map (by_meaning registry frame) os) in
-      elim (typing registry frame.schema o.expression) as (λ t. typing registry frame.schema o.expression ≡ t → column_before o.name t later ≡ Some schema → Meets (AreSeriesOf schema) (then_do (series_typed o.name t gives) (λ s. then_do rest (λ ss. Done (s ∷ ss))))) [ Err kind ↦ λ e h. absurd (absurd_none schema h) | Ok typed ↦ λ e h. elim later as (λ l. later ≡ l → column_before o.name (Ok typed) l ≡ Some schema → Meets (AreSeriesOf schema) (then_do (series_typed o.name (Ok typed) gives) (λ s. then_do rest (λ ss. Done (s ∷ ss))))) [ None ↦ λ el h. absurd (absurd_none schema h) | Some columns ↦ λ el h. one_meets o.name typed columns schema gives rest (some_same _ _ h) (law registry frame o.expression typed is_frame e rows) (series_meet os columns el) ] refl h ] refl h
+      elim (typing registry frame.schema o.expression) as (λ t. typing registry frame.schema o.expression ≡ t → column_before o.name t later ≡ Some schema → Meets (AreSeriesOf schema) (then_do (series_typed o.name t gives) (λ s. then_do rest (λ ss. Done (s ∷ ss))))) [ Err kind ↦ λ e h. absurd (absurd_none schema h) | Ok typed ↦ λ e h. elim later as (λ l. later ≡ l → column_before o.name (Ok typed) l ≡ Some schema → Meets (AreSeriesOf schema) (then_do (series_typed o.name (Ok typed) gives) (λ s. then_do rest (λ ss. Done (s ∷ ss))))) [ None ↦ λ el h. absurd (absurd_none schema h) | Some columns ↦ λ el h. one_meets o.name typed columns schema gives rest (some_same _ _ h) (meaning_has_type registry frame is_frame o.expression typed e rows) (series_meet os columns el) ] refl h ] refl h
 
 none_never : (kinds : List ErrorKind) (schema : Columns) → ¬ (where_unbroken kinds None ≡ Some schema)
 none_never [] schema h = absurd_none schema h
 none_never (k ∷ ks) schema h = absurd_none schema h
 
-module _ (law : MeaningHasType) (registry : Registry) where
+module _ (registry : Registry) where
   -- a select of expressions that break no rule
   outputs_meet : (output : Named Expression) (outputs : List (Named Expression)) (under schema : Columns) (frame : Frame) → IsFrameOf under frame → select_kinds (signatures registry (output ∷ outputs) under) ≡ [] → columns_of (signatures registry (output ∷ outputs) under) ≡ Some schema → Meets (IsFrameOf schema) (then_do (all_series (row_numbers frame) (map (by_meaning registry frame) (output ∷ outputs))) framed)
   outputs_meet output outputs under schema frame h none columns =
       let there = subst (λ c. columns_of (signatures registry (output ∷ outputs) c) ≡ Some schema) (sym h.schema_is) columns in
       let distinct = selected_distinct (signatures registry (output ∷ outputs) under) schema none columns in
       let some = has_column output.name (typing registry under output.expression) (columns_of (signatures registry outputs under)) schema columns in
-      meets_then (AreSeriesOf schema) (IsFrameOf schema) _ framed (series_meet law registry frame h.frame_is (row_numbers frame) (output ∷ outputs) schema there) (λ ss. framed_meets schema ss distinct some)
+      meets_then (AreSeriesOf schema) (IsFrameOf schema) _ framed (series_meet registry frame h.frame_is (row_numbers frame) (output ∷ outputs) schema there) (λ ss. framed_meets schema ss distinct some)
 
   select_meets : (outputs : List (Named Expression)) (under schema : Columns) (input : Outcome Frame) → Meets (IsFrameOf under) input → select_kinds (signatures registry outputs under) ≡ [] → columns_of (signatures registry outputs under) ≡ Some schema → Meets (IsFrameOf schema) (selected (by_meaning registry) outputs input)
   select_meets [] under schema input h none columns = without_columns schema (some_same _ _ columns)
@@ -208,5 +209,5 @@ module _ (law : MeaningHasType) (registry : Registry) where
         (subst (λ o. MeetsWhere o (source_meaning registry tables plan)) (sym found.1) (plan_meets tables plan found.0 fits.0 well.0 found.1), inputs_meet tables rest fits.1 well.1)
 
 -- a well-formed plan is not stuck on fitting tables, and its frame has its schema
-pub meaning_has_schema : MeaningHasType → MeaningHasSchema
-meaning_has_schema law registry tables plan schema fits well e = plan_meets law registry tables plan schema fits well e
+pub meaning_has_schema : MeaningHasSchema
+meaning_has_schema registry tables plan schema fits well e = plan_meets registry tables plan schema fits well e

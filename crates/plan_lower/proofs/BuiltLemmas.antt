@@ -23,16 +23,16 @@ use Rattle.plan_dsl.specs.Strictness.{IsSame, IsStrict}
 use Rattle.plan_dsl.specs.PlanRules.{signatures, columns_of, select_kinds, where_unbroken, plan_rule, schema_of, schemas_of, broken_kinds, IsWellFormed, Breaks}
 use Rattle.plan_dsl.specs.PlanKernels.{Evaluated, selected}
 use Rattle.plan_dsl.specs.PlanMeaning.{by_meaning, source_meaning, FitsPlan}
-use Rattle.plan_dsl.specs.Laws.{StrictRunIsMeaning}
 use Rattle.plan_dsl.proofs.KernelLemmas.{AgreeOn, selected_agrees}
+use Rattle.plan_dsl.proofs.RunLemmas.{strict_is_meaning}
 use Rattle.plan_dsl.proofs.RuleLemmas.{select_unbroken, named_columns_from_typed, select_refused_kind, select_repeated_name, broken_is_ill_formed}
 use Rattle.plan_arena.specs.Runs.{top_schema, by_running, plan_run, IsAccepted, IsStrictPlan, RunsSoundly}
-use Rattle.plan_arena.proofs.RunLemmas.{KernelMeets, runs_soundly}
+use Rattle.plan_arena.proofs.RunLemmas.{runs_soundly}
 use Rattle.plan_lower.specs.Outputs.{Lowered, IsLowered, lowered_named, lowered_column, over, lowered_select, SelectsTo}
 use Rattle.plan_lower.specs.Projection.{IsOutputRefusal, no_room, untyped, repeated, RefusesOne, IsProjectionRefusal, out_of_memory as no_space, refused}
 use Rattle.plan_lower.specs.Lowering.{IsBuilt, IsPlanRefusal, out_of_memory, broken, source_select}
 
-module _ (strict_is_meaning : StrictRunIsMeaning) (kernel_meets : KernelMeets) (registry : Registry) where
+module _ (registry : Registry) where
   -- a scan is built from itself
   pub scan_built : (table : Option ℕ) (schema : Columns) → HasDistinctNames schema → IsBuilt registry (node (scan_op table schema) no_more) (node (scan_op table schema) no_more)
   scan_built table schema distinct =
@@ -85,7 +85,7 @@ module _ (strict_is_meaning : StrictRunIsMeaning) (kernel_meets : KernelMeets) (
   -- what was built gives on fitting tables a frame of its schema
   built_meets : (source lowered : Plan) (tables : List Frame) → IsBuilt registry source lowered → FitsPlan tables source → Meets (IsFrameOf (top_schema lowered)) (plan_run registry tables lowered)
   built_meets source lowered tables built fits =
-      sound_top tables lowered (runs_soundly strict_is_meaning kernel_meets registry tables lowered built.accepted built.strict (built.fits tables fits))
+      sound_top tables lowered (runs_soundly registry tables lowered built.accepted built.strict (built.fits tables fits))
 
   abbrev source_outputs : List Lowered → List (Named Expression)
   source_outputs outputs = map (λ (o : Lowered). named o.tree) outputs

@@ -1,4 +1,3 @@
-pub mod Assumed
 pub mod BuiltLemmas
 pub mod CoercionLemmas
 pub mod NodeLemmas

@@ -19,8 +19,7 @@ use Rattle.plan_arena.specs.Items.{HoldsExpression, HoldsPlan, DenoteNamed, Grow
 use Rattle.plan_arena.specs.Runs.{top_schema}
 use Rattle.plan_arena.proofs.DenotationLemmas.{denotes_one}
 use Rattle.plan_arena.proofs.ItemLemmas.{plan_added, plan_got, plan_stays, plan_tree_kept, plan_laws}
-use Rattle.plan_arena.proofs.RunLemmas.{KernelMeets, runs_soundly}
-use Rattle.plan_dsl.specs.Laws.{StrictRunIsMeaning}
+use Rattle.plan_arena.proofs.RunLemmas.{runs_soundly}
 use Rattle.plan_lower.specs.Outputs.{Lowered, lowered_named, lowered_column, over, lowered_select, SelectsTo, HasOutputs}
 use Rattle.plan_lower.specs.Projection.{IsProjectionRefusal}
 use Rattle.plan_lower.specs.Lowering.{source_select, IsBuilt, IsPlanRefusal, IsSelect, StandsFor, IsEmptyTableAt, IsTyped, IsSound, GivesSameFrame}
@@ -71,14 +70,14 @@ pub schema_is : (items : List AExpr) (plans : List IR) (n : ℕ) (t : Plan) (col
 schema_is items plans n (node op ts) cols d h =
     found_schema (slice_get plans n) d.1.flat d.0 cols (sym (slice_get-map plan_layer plans n) ∙ d.1.item) h ∙ d.1.denotes.same_schema
 
-module _ (strict_is_meaning : StrictRunIsMeaning) (kernel_meets : KernelMeets) (registry : Registry) where
+module _ (registry : Registry) where
   -- a scan that was added
   pub scan_stands : (items : List AExpr) (plans : List IR) (n : ℕ) (table : Option ℕ) (schema : Columns) (plan : Plan) → slice_get (map plan_layer plans) n ≡ Some (layer (scan_op table schema) []) → HasDistinctNames schema → plan ≡ node (scan_op table schema) no_more → StandsFor registry items plans n plan
   scan_stands items plans n table schema plan held distinct same =
       record {
         lowered = node (scan_op table schema) no_more;
         denotes = ([], record { flat = scan_op table schema; item = held; denotes = record { same_kind = refl; same_schema = refl; named = tt } }, tt);
-        built = subst (λ p. IsBuilt registry p (node (scan_op table schema) no_more)) (sym same) (scan_built strict_is_meaning kernel_meets registry table schema distinct);
+        built = subst (λ p. IsBuilt registry p (node (scan_op table schema) no_more)) (sym same) (scan_built registry table schema distinct);
       }
 
   -- a select over what its input becomes
@@ -88,18 +87,18 @@ module _ (strict_is_meaning : StrictRunIsMeaning) (kernel_meets : KernelMeets) (
       record {
         lowered = lowered_select is.outputs s.lowered;
         denotes = is.denotes;
-        built = subst (λ p. IsBuilt registry p (lowered_select is.outputs s.lowered)) (sym same) (select_built strict_is_meaning kernel_meets registry source s.lowered trees is.outputs s.built is.selects);
+        built = subst (λ p. IsBuilt registry p (lowered_select is.outputs s.lowered)) (sym same) (select_built registry source s.lowered trees is.outputs s.built is.selects);
       }
 
   -- a refusal of one of a select's expressions
   pub select_refused : (items : List AExpr) (plans : List IR) (input : ℕ) (trees : List Expression) (source plan : Plan) (error : PlanError) → (s : StandsFor registry items plans input source) → ((t : Plan) → Denotes (HoldsPlan items plans) input t → IsProjectionRefusal registry (top_schema t) trees error) → plan ≡ source_select trees source → IsPlanRefusal registry plan error
   select_refused items plans input trees source plan error s r same =
-      subst (λ p. IsPlanRefusal registry p error) (sym same) (select_refused_at strict_is_meaning kernel_meets registry source s.lowered trees error s.built (r s.lowered s.denotes))
+      subst (λ p. IsPlanRefusal registry p error) (sym same) (select_refused_at registry source s.lowered trees error s.built (r s.lowered s.denotes))
 
   -- a refusal of a select's input
   pub refused_below : (trees : List Expression) (source plan : Plan) (inner error : PlanError) → IsPlanRefusal registry source inner → (error ≡ no_memory) ⊎ (¬ (inner.kind ≡ NoMemory) × (error ≡ record { kind = inner.kind; place = 0 ∷ inner.place })) → plan ≡ source_select trees source → IsPlanRefusal registry plan error
   refused_below trees source plan inner error r below same =
-      subst (λ p. IsPlanRefusal registry p error) (sym same) (select_refused_below strict_is_meaning kernel_meets registry source trees inner error r below)
+      subst (λ p. IsPlanRefusal registry p error) (sym same) (select_refused_below registry source trees inner error r below)
 
   -- what a node that stands for a plan denotes was built from the plan
   built_one : (items : List AExpr) (plans : List IR) (n : ℕ) (plan tree : Plan) → StandsFor registry items plans n plan → Denotes (HoldsPlan items plans) n tree → IsBuilt registry plan tree
@@ -113,7 +112,7 @@ module _ (strict_is_meaning : StrictRunIsMeaning) (kernel_meets : KernelMeets) (
   pub stands_sound : (lowering : IRPlan) (plan : Plan) → StandsFor registry lowering.expr_arena lowering.lp_arena lowering.lp_top.0 plan → IsSound registry plan lowering
   stands_sound lowering plan s tree d tables fits =
       let built = built_one lowering.expr_arena lowering.lp_arena lowering.lp_top.0 plan tree s d in
-      runs_soundly strict_is_meaning kernel_meets registry tables tree built.accepted built.strict (built.fits tables fits)
+      runs_soundly registry tables tree built.accepted built.strict (built.fits tables fits)
 
   pub stands_same : (lowering : IRPlan) (plan : Plan) → StandsFor registry lowering.expr_arena lowering.lp_arena lowering.lp_top.0 plan → GivesSameFrame registry plan lowering
   stands_same lowering plan s tree d tables fits =

@@ -4,7 +4,6 @@ use Rattle.plan_types.proofs.ResultLemmas.{passed_on}
 use Rattle.plan_dsl.specs.Plans.{plan_tree, trees_of}
 use Rattle.plan_dsl.specs.Registry.{registry}
 use Rattle.plan_lower.specs.Lowering.{out_of_memory, source_select}
-use Rattle.plan_lower.proofs.Assumed.{strict_is_meaning, kernel_meets}
 use Rattle.plan_lower.proofs.PlanLemmas.{scan_stands, select_stands, select_refused, refused_below}
 use Rattle.plan_lower.proofs.conversion.dsl_to_ir.+lower.Goals as goal
 
@@ -16,19 +15,19 @@ returns-in_err-node-in-DataFrameScan-clause-err t c =
 pub returns-in_ok-node-in-DataFrameScan-clause-ok :
     goal.returns-in_ok-node-in-DataFrameScan-clause-ok
 returns-in_ok-node-in-DataFrameScan-clause-ok t c =
-    scan_stands strict_is_meaning kernel_meets (registry c.args.udfs.now) c.args.expr_arena.now c.lower_scan.new.lp_arena c.in_ok-node-in-DataFrameScan.node.0 c.in-DataFrameScan.table (columns c.in-DataFrameScan.schema) (plan_tree c.args.plan) c.in_ok-node-in-DataFrameScan.ensures.ok c.in_ok-node-in-DataFrameScan.ensures.distinct (ap plan_tree c.in-DataFrameScan.is)
+    scan_stands (registry c.args.udfs.now) c.args.expr_arena.now c.lower_scan.new.lp_arena c.in_ok-node-in-DataFrameScan.node.0 c.in-DataFrameScan.table (columns c.in-DataFrameScan.schema) (plan_tree c.args.plan) c.in_ok-node-in-DataFrameScan.ensures.ok c.in_ok-node-in-DataFrameScan.ensures.distinct (ap plan_tree c.in-DataFrameScan.is)
 
 pub returns-in_err-node-in-Ok-clause-err : goal.returns-in_err-node-in-Ok-clause-err
 returns-in_err-node-in-Ok-clause-err t c =
     let same = ap plan_tree c.in-Select.is ∙ ap (λ p. source_select (trees_of c.in-Select.expr) (plan_tree p)) (sym c.into_inner.ensures) in
-    passed_on c.from_residual-in_err-node-in-Ok.result c.in_err-node-in-Ok.field-0.0 _ c.from_residual-in_err-node-in-Ok.ensures.1 (select_refused strict_is_meaning kernel_meets (registry c.args.udfs.now) c.lower.new.expr_arena c.lower.new.lp_arena c.in-Ok.input.0 (trees_of c.in-Select.expr) (plan_tree c.into_inner.result) (plan_tree c.args.plan) _ c.in-Ok.ensures.ok c.in_err-node-in-Ok.ensures.err same)
+    passed_on c.from_residual-in_err-node-in-Ok.result c.in_err-node-in-Ok.field-0.0 _ c.from_residual-in_err-node-in-Ok.ensures.1 (select_refused (registry c.args.udfs.now) c.lower.new.expr_arena c.lower.new.lp_arena c.in-Ok.input.0 (trees_of c.in-Select.expr) (plan_tree c.into_inner.result) (plan_tree c.args.plan) _ c.in-Ok.ensures.ok c.in_err-node-in-Ok.ensures.err same)
 
 pub returns-in_ok-node-in-Ok-clause-ok : goal.returns-in_ok-node-in-Ok-clause-ok
 returns-in_ok-node-in-Ok-clause-ok t c =
     let same = ap plan_tree c.in-Select.is ∙ ap (λ p. source_select (trees_of c.in-Select.expr) (plan_tree p)) (sym c.into_inner.ensures) in
-    select_stands strict_is_meaning kernel_meets (registry c.args.udfs.now) c.lower.new.expr_arena c.lower_select.new.expr_arena c.lower.new.lp_arena c.lower_select.new.lp_arena c.in-Ok.input.0 c.in_ok-node-in-Ok.node.0 (trees_of c.in-Select.expr) (plan_tree c.into_inner.result) (plan_tree c.args.plan) c.in-Ok.ensures.ok c.in_ok-node-in-Ok.ensures.ok same
+    select_stands (registry c.args.udfs.now) c.lower.new.expr_arena c.lower_select.new.expr_arena c.lower.new.lp_arena c.lower_select.new.lp_arena c.in-Ok.input.0 c.in_ok-node-in-Ok.node.0 (trees_of c.in-Select.expr) (plan_tree c.into_inner.result) (plan_tree c.args.plan) c.in-Ok.ensures.ok c.in_ok-node-in-Ok.ensures.ok same
 
 pub returns-in-Err-clause-err : goal.returns-in-Err-clause-err
 returns-in-Err-clause-err t c =
     let same = ap plan_tree c.in-Select.is ∙ ap (λ p. source_select (trees_of c.in-Select.expr) (plan_tree p)) (sym c.into_inner.ensures) in
-    refused_below strict_is_meaning kernel_meets (registry c.args.udfs.now) (trees_of c.in-Select.expr) (plan_tree c.into_inner.result) (plan_tree c.args.plan) c.in-Err.error c.below.result c.in-Err.ensures.err c.below.ensures same
+    refused_below (registry c.args.udfs.now) (trees_of c.in-Select.expr) (plan_tree c.into_inner.result) (plan_tree c.args.plan) c.in-Err.error c.below.result c.in-Err.ensures.err c.below.ensures same
