@@ -1,5 +1,5 @@
 -- Casts round the operands of an operator keep its type, name and meaning, and leave it strict.
-use Rattle.std.proofs.Common.{◌≡◌, Bool, true, false, cond, ◌||◌, ◌&&◌, List, [], ◌∷◌, Option, Some, None, Result, Ok, refl, sym, ap, ◌∙◌}
+use Rattle.std.proofs.Common.{◌≡◌, Bool, true, false, cond, ◌||◌, ◌&&◌, List, [], ◌∷◌, Option, Some, None, Result, Ok, Err, refl, sym, ap, ◌∙◌, subst}
 use Rattle.plan_types.specs.Types.{Ty, same_type}
 use Rattle.plan_types.specs.TypeLaws.{same_type_own, same_type_exact}
 use Rattle.plan_types.specs.Schemas.{Columns}
@@ -11,13 +11,13 @@ use Rattle.plan_types.specs.declared.dtype.CastOptions.TheVariants.{NonStrict}
 use Rattle.plan_dsl.specs.declared.operator.Operator.{Operator}
 use Rattle.plan_dsl.specs.declared.operator.Operator.TheVariants.{Plus}
 use Rattle.plan_dsl.specs.Registry.{Registry}
-use Rattle.plan_dsl.specs.Trees.{Trees, node, no_more, more}
+use Rattle.plan_dsl.specs.Trees.{Tree, Trees, node, no_more, more}
 use Rattle.plan_dsl.specs.Ops.{Op, BinaryOp, CastOp, Expression}
 use Rattle.plan_dsl.specs.Names.{name_of}
-use Rattle.plan_dsl.specs.Typing.{Taken, both_to, operator_types, some_many, typed_as, typing, typing_all, typing_rule, then_typed, typed_before}
+use Rattle.plan_dsl.specs.Typing.{Typed, Taken, both_to, operator_types, some_many, types_of, typed_as, typing, typing_all, typing_rule, then_typed, typed_before}
 use Rattle.plan_dsl.specs.Kernels.{Meaning, cast_meaning, kernel}
-use Rattle.plan_dsl.specs.Meaning.{meaning, node_meaning, taken_meaning}
-use Rattle.plan_dsl.specs.Strictness.{IsSame, IsStrictOver, same_types, with_cast}
+use Rattle.plan_dsl.specs.Meaning.{meaning, meaning_all, node_meaning, taken_meaning, taken_to}
+use Rattle.plan_dsl.specs.Strictness.{IsSame, IsStrictOver, IsStrictNode, same_types, with_cast}
 
 or_false : (b : Bool) → (b || false) ≡ b
 or_false true = refl

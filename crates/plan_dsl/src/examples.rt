@@ -148,13 +148,15 @@ pub fn kinds_that_expressions_break()
         let c = node (ColumnOp (codes "c")) no_more in
         let u = node (ColumnOp (codes "u")) no_more in
         let mismatch = node (BinaryOp Plus) (more u (more a no_more)) in
-        kinds_in [] schema (node (BinaryOp Plus) (more c (more mismatch no_more))) ≡ ColumnNotFound ∷ SchemaMismatch ∷ [] }
+        kinds_in [] schema (node (BinaryOp Plus) (more c (more mismatch no_more)))
+        ≡ ColumnNotFound ∷ SchemaMismatch ∷ [] }
     ensures both_children_turned_round { let schema = (codes "a", Integer true 8) ∷ (codes "b", Integer true 32) ∷ (codes "u", Integer false 64) ∷ [] in
         let a = node (ColumnOp (codes "a")) no_more in
         let c = node (ColumnOp (codes "c")) no_more in
         let u = node (ColumnOp (codes "u")) no_more in
         let mismatch = node (BinaryOp Plus) (more u (more a no_more)) in
-        kinds_in [] schema (node (BinaryOp Plus) (more mismatch (more c no_more))) ≡ SchemaMismatch ∷ ColumnNotFound ∷ [] }
+        kinds_in [] schema (node (BinaryOp Plus) (more mismatch (more c no_more)))
+        ≡ SchemaMismatch ∷ ColumnNotFound ∷ [] }
     ensures one_kind_twice { let schema = (codes "a", Integer true 8) ∷ (codes "b", Integer true 32) ∷ (codes "u", Integer false 64) ∷ [] in
         let c = node (ColumnOp (codes "c")) no_more in
         let d = node (ColumnOp (codes "d")) no_more in
@@ -172,33 +174,62 @@ pub fn kinds_that_expressions_break()
 
 /// A sum is made in the common type, and null in an operand gives null.
 pub fn meanings_of_sums()
-    ensures column { let frame : Frame = record { schema = (codes "a", Integer true 8) ∷ (codes "b", Integer true 32) ∷ []; rows = (IntValue (pos 1) ∷ IntValue (pos 10) ∷ []) ∷ (NullValue ∷ IntValue (pos 20) ∷ []) ∷ (IntValue (pos 100) ∷ IntValue (pos 200) ∷ []) ∷ [] } in
+    ensures column { let frame : Frame = record {
+      schema = (codes "a", Integer true 8) ∷ (codes "b", Integer true 32) ∷ [];
+      rows = (IntValue (pos 1) ∷ IntValue (pos 10) ∷ []) ∷ (NullValue ∷ IntValue (pos 20) ∷ []) ∷ (IntValue (pos 100) ∷ IntValue (pos 200) ∷ []) ∷ [];
+    } in
         let a = node (ColumnOp (codes "a")) no_more in
         meaning [] frame a (0 ∷ 1 ∷ 2 ∷ []) ≡ Done (IntValue (pos 1) ∷ NullValue ∷ IntValue (pos 100) ∷ []) }
-    ensures sum { let frame : Frame = record { schema = (codes "a", Integer true 8) ∷ (codes "b", Integer true 32) ∷ []; rows = (IntValue (pos 1) ∷ IntValue (pos 10) ∷ []) ∷ (NullValue ∷ IntValue (pos 20) ∷ []) ∷ (IntValue (pos 100) ∷ IntValue (pos 200) ∷ []) ∷ [] } in
+    ensures sum { let frame : Frame = record {
+      schema = (codes "a", Integer true 8) ∷ (codes "b", Integer true 32) ∷ [];
+      rows = (IntValue (pos 1) ∷ IntValue (pos 10) ∷ []) ∷ (NullValue ∷ IntValue (pos 20) ∷ []) ∷ (IntValue (pos 100) ∷ IntValue (pos 200) ∷ []) ∷ [];
+    } in
         let a = node (ColumnOp (codes "a")) no_more in
         let b = node (ColumnOp (codes "b")) no_more in
-        meaning [] frame (node (BinaryOp Plus) (more a (more b no_more))) (0 ∷ 1 ∷ 2 ∷ []) ≡ Done (IntValue (pos 11) ∷ NullValue ∷ IntValue (pos 300) ∷ []) }
-    ensures null_on_the_right { let frame : Frame = record { schema = (codes "a", Integer true 8) ∷ (codes "b", Integer true 32) ∷ []; rows = (IntValue (pos 1) ∷ IntValue (pos 10) ∷ []) ∷ (NullValue ∷ IntValue (pos 20) ∷ []) ∷ (IntValue (pos 100) ∷ IntValue (pos 200) ∷ []) ∷ [] } in
+        meaning [] frame (node (BinaryOp Plus) (more a (more b no_more))) (0 ∷ 1 ∷ 2 ∷ [])
+        ≡ Done (IntValue (pos 11) ∷ NullValue ∷ IntValue (pos 300) ∷ []) }
+    ensures null_on_the_right { let frame : Frame = record {
+      schema = (codes "a", Integer true 8) ∷ (codes "b", Integer true 32) ∷ [];
+      rows = (IntValue (pos 1) ∷ IntValue (pos 10) ∷ []) ∷ (NullValue ∷ IntValue (pos 20) ∷ []) ∷ (IntValue (pos 100) ∷ IntValue (pos 200) ∷ []) ∷ [];
+    } in
         let a = node (ColumnOp (codes "a")) no_more in
         let b = node (ColumnOp (codes "b")) no_more in
-        meaning [] frame (node (BinaryOp Plus) (more b (more a no_more))) (0 ∷ 1 ∷ 2 ∷ []) ≡ Done (IntValue (pos 11) ∷ NullValue ∷ IntValue (pos 300) ∷ []) }
-    ensures sum_that_wraps { let frame : Frame = record { schema = (codes "a", Integer true 8) ∷ (codes "b", Integer true 32) ∷ []; rows = (IntValue (pos 1) ∷ IntValue (pos 10) ∷ []) ∷ (NullValue ∷ IntValue (pos 20) ∷ []) ∷ (IntValue (pos 100) ∷ IntValue (pos 200) ∷ []) ∷ [] } in
+        meaning [] frame (node (BinaryOp Plus) (more b (more a no_more))) (0 ∷ 1 ∷ 2 ∷ [])
+        ≡ Done (IntValue (pos 11) ∷ NullValue ∷ IntValue (pos 300) ∷ []) }
+    ensures sum_that_wraps { let frame : Frame = record {
+      schema = (codes "a", Integer true 8) ∷ (codes "b", Integer true 32) ∷ [];
+      rows = (IntValue (pos 1) ∷ IntValue (pos 10) ∷ []) ∷ (NullValue ∷ IntValue (pos 20) ∷ []) ∷ (IntValue (pos 100) ∷ IntValue (pos 200) ∷ []) ∷ [];
+    } in
         let a = node (ColumnOp (codes "a")) no_more in
-        meaning [] frame (node (BinaryOp Plus) (more a (more a no_more))) (0 ∷ 1 ∷ 2 ∷ []) ≡ Done (IntValue (pos 2) ∷ NullValue ∷ IntValue (neg_ℤ (pos 56)) ∷ []) }
-    ensures sum_of_casts { let frame : Frame = record { schema = (codes "a", Integer true 8) ∷ (codes "b", Integer true 32) ∷ []; rows = (IntValue (pos 1) ∷ IntValue (pos 10) ∷ []) ∷ (NullValue ∷ IntValue (pos 20) ∷ []) ∷ (IntValue (pos 100) ∷ IntValue (pos 200) ∷ []) ∷ [] } in
+        meaning [] frame (node (BinaryOp Plus) (more a (more a no_more))) (0 ∷ 1 ∷ 2 ∷ [])
+        ≡ Done (IntValue (pos 2) ∷ NullValue ∷ IntValue (neg_ℤ (pos 56)) ∷ []) }
+    ensures sum_of_casts { let frame : Frame = record {
+      schema = (codes "a", Integer true 8) ∷ (codes "b", Integer true 32) ∷ [];
+      rows = (IntValue (pos 1) ∷ IntValue (pos 10) ∷ []) ∷ (NullValue ∷ IntValue (pos 20) ∷ []) ∷ (IntValue (pos 100) ∷ IntValue (pos 200) ∷ []) ∷ [];
+    } in
         let a = node (ColumnOp (codes "a")) no_more in
         let wide = node (CastOp (Integer true 16) NonStrict) (more a no_more) in
-        meaning [] frame (node (BinaryOp Plus) (more wide (more wide no_more))) (0 ∷ 1 ∷ 2 ∷ []) ≡ Done (IntValue (pos 2) ∷ NullValue ∷ IntValue (pos 200) ∷ []) }
-    ensures sum_of_sum { let frame : Frame = record { schema = (codes "a", Integer true 8) ∷ (codes "b", Integer true 32) ∷ []; rows = (IntValue (pos 1) ∷ IntValue (pos 10) ∷ []) ∷ (NullValue ∷ IntValue (pos 20) ∷ []) ∷ (IntValue (pos 100) ∷ IntValue (pos 200) ∷ []) ∷ [] } in
+        meaning [] frame (node (BinaryOp Plus) (more wide (more wide no_more))) (0 ∷ 1 ∷ 2 ∷ [])
+        ≡ Done (IntValue (pos 2) ∷ NullValue ∷ IntValue (pos 200) ∷ []) }
+    ensures sum_of_sum { let frame : Frame = record {
+      schema = (codes "a", Integer true 8) ∷ (codes "b", Integer true 32) ∷ [];
+      rows = (IntValue (pos 1) ∷ IntValue (pos 10) ∷ []) ∷ (NullValue ∷ IntValue (pos 20) ∷ []) ∷ (IntValue (pos 100) ∷ IntValue (pos 200) ∷ []) ∷ [];
+    } in
         let a = node (ColumnOp (codes "a")) no_more in
         let b = node (ColumnOp (codes "b")) no_more in
         let sum = node (BinaryOp Plus) (more a (more a no_more)) in
-        meaning [] frame (node (BinaryOp Plus) (more sum (more b no_more))) (0 ∷ 1 ∷ 2 ∷ []) ≡ Done (IntValue (pos 12) ∷ NullValue ∷ IntValue (pos 144) ∷ []) }
-    ensures unknown_column { let frame : Frame = record { schema = (codes "a", Integer true 8) ∷ (codes "b", Integer true 32) ∷ []; rows = (IntValue (pos 1) ∷ IntValue (pos 10) ∷ []) ∷ (NullValue ∷ IntValue (pos 20) ∷ []) ∷ (IntValue (pos 100) ∷ IntValue (pos 200) ∷ []) ∷ [] } in
+        meaning [] frame (node (BinaryOp Plus) (more sum (more b no_more))) (0 ∷ 1 ∷ 2 ∷ [])
+        ≡ Done (IntValue (pos 12) ∷ NullValue ∷ IntValue (pos 144) ∷ []) }
+    ensures unknown_column { let frame : Frame = record {
+      schema = (codes "a", Integer true 8) ∷ (codes "b", Integer true 32) ∷ [];
+      rows = (IntValue (pos 1) ∷ IntValue (pos 10) ∷ []) ∷ (NullValue ∷ IntValue (pos 20) ∷ []) ∷ (IntValue (pos 100) ∷ IntValue (pos 200) ∷ []) ∷ [];
+    } in
         let c = node (ColumnOp (codes "c")) no_more in
         meaning [] frame c (0 ∷ 1 ∷ 2 ∷ []) ≡ Stuck }
-    ensures unknown_operand { let frame : Frame = record { schema = (codes "a", Integer true 8) ∷ (codes "b", Integer true 32) ∷ []; rows = (IntValue (pos 1) ∷ IntValue (pos 10) ∷ []) ∷ (NullValue ∷ IntValue (pos 20) ∷ []) ∷ (IntValue (pos 100) ∷ IntValue (pos 200) ∷ []) ∷ [] } in
+    ensures unknown_operand { let frame : Frame = record {
+      schema = (codes "a", Integer true 8) ∷ (codes "b", Integer true 32) ∷ [];
+      rows = (IntValue (pos 1) ∷ IntValue (pos 10) ∷ []) ∷ (NullValue ∷ IntValue (pos 20) ∷ []) ∷ (IntValue (pos 100) ∷ IntValue (pos 200) ∷ []) ∷ [];
+    } in
         let a = node (ColumnOp (codes "a")) no_more in
         let c = node (ColumnOp (codes "c")) no_more in
         meaning [] frame (node (BinaryOp Plus) (more a (more c no_more))) (0 ∷ 1 ∷ 2 ∷ []) ≡ Stuck }
@@ -206,51 +237,92 @@ pub fn meanings_of_sums()
 
 /// An expression gives a value for each row that it is asked on, in the order of the rows.
 pub fn meanings_on_some_rows()
-    ensures no_rows { let frame : Frame = record { schema = (codes "a", Integer true 8) ∷ (codes "b", Integer true 32) ∷ []; rows = (IntValue (pos 1) ∷ IntValue (pos 10) ∷ []) ∷ (NullValue ∷ IntValue (pos 20) ∷ []) ∷ (IntValue (pos 100) ∷ IntValue (pos 200) ∷ []) ∷ [] } in
+    ensures no_rows { let frame : Frame = record {
+      schema = (codes "a", Integer true 8) ∷ (codes "b", Integer true 32) ∷ [];
+      rows = (IntValue (pos 1) ∷ IntValue (pos 10) ∷ []) ∷ (NullValue ∷ IntValue (pos 20) ∷ []) ∷ (IntValue (pos 100) ∷ IntValue (pos 200) ∷ []) ∷ [];
+    } in
         let a = node (ColumnOp (codes "a")) no_more in
         let b = node (ColumnOp (codes "b")) no_more in
         meaning [] frame (node (BinaryOp Plus) (more a (more b no_more))) [] ≡ Done [] }
-    ensures last_row { let frame : Frame = record { schema = (codes "a", Integer true 8) ∷ (codes "b", Integer true 32) ∷ []; rows = (IntValue (pos 1) ∷ IntValue (pos 10) ∷ []) ∷ (NullValue ∷ IntValue (pos 20) ∷ []) ∷ (IntValue (pos 100) ∷ IntValue (pos 200) ∷ []) ∷ [] } in
+    ensures last_row { let frame : Frame = record {
+      schema = (codes "a", Integer true 8) ∷ (codes "b", Integer true 32) ∷ [];
+      rows = (IntValue (pos 1) ∷ IntValue (pos 10) ∷ []) ∷ (NullValue ∷ IntValue (pos 20) ∷ []) ∷ (IntValue (pos 100) ∷ IntValue (pos 200) ∷ []) ∷ [];
+    } in
         let a = node (ColumnOp (codes "a")) no_more in
         let b = node (ColumnOp (codes "b")) no_more in
         meaning [] frame (node (BinaryOp Plus) (more a (more b no_more))) (2 ∷ []) ≡ Done (IntValue (pos 300) ∷ []) }
-    ensures repeated_and_out_of_order { let frame : Frame = record { schema = (codes "a", Integer true 8) ∷ (codes "b", Integer true 32) ∷ []; rows = (IntValue (pos 1) ∷ IntValue (pos 10) ∷ []) ∷ (NullValue ∷ IntValue (pos 20) ∷ []) ∷ (IntValue (pos 100) ∷ IntValue (pos 200) ∷ []) ∷ [] } in
+    ensures repeated_and_out_of_order { let frame : Frame = record {
+      schema = (codes "a", Integer true 8) ∷ (codes "b", Integer true 32) ∷ [];
+      rows = (IntValue (pos 1) ∷ IntValue (pos 10) ∷ []) ∷ (NullValue ∷ IntValue (pos 20) ∷ []) ∷ (IntValue (pos 100) ∷ IntValue (pos 200) ∷ []) ∷ [];
+    } in
         let a = node (ColumnOp (codes "a")) no_more in
         let b = node (ColumnOp (codes "b")) no_more in
-        meaning [] frame (node (BinaryOp Plus) (more a (more b no_more))) (2 ∷ 0 ∷ 2 ∷ 1 ∷ []) ≡ Done (IntValue (pos 300) ∷ IntValue (pos 11) ∷ IntValue (pos 300) ∷ NullValue ∷ []) }
-    ensures column_out_of_order { let frame : Frame = record { schema = (codes "a", Integer true 8) ∷ (codes "b", Integer true 32) ∷ []; rows = (IntValue (pos 1) ∷ IntValue (pos 10) ∷ []) ∷ (NullValue ∷ IntValue (pos 20) ∷ []) ∷ (IntValue (pos 100) ∷ IntValue (pos 200) ∷ []) ∷ [] } in
+        meaning [] frame (node (BinaryOp Plus) (more a (more b no_more))) (2 ∷ 0 ∷ 2 ∷ 1 ∷ [])
+        ≡ Done (IntValue (pos 300) ∷ IntValue (pos 11) ∷ IntValue (pos 300) ∷ NullValue ∷ []) }
+    ensures column_out_of_order { let frame : Frame = record {
+      schema = (codes "a", Integer true 8) ∷ (codes "b", Integer true 32) ∷ [];
+      rows = (IntValue (pos 1) ∷ IntValue (pos 10) ∷ []) ∷ (NullValue ∷ IntValue (pos 20) ∷ []) ∷ (IntValue (pos 100) ∷ IntValue (pos 200) ∷ []) ∷ [];
+    } in
         let b = node (ColumnOp (codes "b")) no_more in
         meaning [] frame b (1 ∷ 0 ∷ 0 ∷ []) ≡ Done (IntValue (pos 20) ∷ IntValue (pos 10) ∷ IntValue (pos 10) ∷ []) }
 {}
 
 /// A strict cast of a value out of range is a fault, and so is each node above it.
 pub fn meanings_of_casts()
-    ensures strict { let frame : Frame = record { schema = (codes "a", Integer true 8) ∷ (codes "b", Integer true 32) ∷ []; rows = (IntValue (pos 1) ∷ IntValue (pos 10) ∷ []) ∷ (NullValue ∷ IntValue (pos 20) ∷ []) ∷ (IntValue (pos 100) ∷ IntValue (pos 200) ∷ []) ∷ [] } in
+    ensures strict { let frame : Frame = record {
+      schema = (codes "a", Integer true 8) ∷ (codes "b", Integer true 32) ∷ [];
+      rows = (IntValue (pos 1) ∷ IntValue (pos 10) ∷ []) ∷ (NullValue ∷ IntValue (pos 20) ∷ []) ∷ (IntValue (pos 100) ∷ IntValue (pos 200) ∷ []) ∷ [];
+    } in
         let b = node (ColumnOp (codes "b")) no_more in
         meaning [] frame (node (CastOp (Integer true 8) Strict) (more b no_more)) (0 ∷ 1 ∷ 2 ∷ []) ≡ Fault }
-    ensures not_strict { let frame : Frame = record { schema = (codes "a", Integer true 8) ∷ (codes "b", Integer true 32) ∷ []; rows = (IntValue (pos 1) ∷ IntValue (pos 10) ∷ []) ∷ (NullValue ∷ IntValue (pos 20) ∷ []) ∷ (IntValue (pos 100) ∷ IntValue (pos 200) ∷ []) ∷ [] } in
+    ensures not_strict { let frame : Frame = record {
+      schema = (codes "a", Integer true 8) ∷ (codes "b", Integer true 32) ∷ [];
+      rows = (IntValue (pos 1) ∷ IntValue (pos 10) ∷ []) ∷ (NullValue ∷ IntValue (pos 20) ∷ []) ∷ (IntValue (pos 100) ∷ IntValue (pos 200) ∷ []) ∷ [];
+    } in
         let b = node (ColumnOp (codes "b")) no_more in
-        meaning [] frame (node (CastOp (Integer true 8) NonStrict) (more b no_more)) (0 ∷ 1 ∷ 2 ∷ []) ≡ Done (IntValue (pos 10) ∷ IntValue (pos 20) ∷ NullValue ∷ []) }
-    ensures overflowing { let frame : Frame = record { schema = (codes "a", Integer true 8) ∷ (codes "b", Integer true 32) ∷ []; rows = (IntValue (pos 1) ∷ IntValue (pos 10) ∷ []) ∷ (NullValue ∷ IntValue (pos 20) ∷ []) ∷ (IntValue (pos 100) ∷ IntValue (pos 200) ∷ []) ∷ [] } in
+        meaning [] frame (node (CastOp (Integer true 8) NonStrict) (more b no_more)) (0 ∷ 1 ∷ 2 ∷ [])
+        ≡ Done (IntValue (pos 10) ∷ IntValue (pos 20) ∷ NullValue ∷ []) }
+    ensures overflowing { let frame : Frame = record {
+      schema = (codes "a", Integer true 8) ∷ (codes "b", Integer true 32) ∷ [];
+      rows = (IntValue (pos 1) ∷ IntValue (pos 10) ∷ []) ∷ (NullValue ∷ IntValue (pos 20) ∷ []) ∷ (IntValue (pos 100) ∷ IntValue (pos 200) ∷ []) ∷ [];
+    } in
         let b = node (ColumnOp (codes "b")) no_more in
-        meaning [] frame (node (CastOp (Integer true 8) Overflowing) (more b no_more)) (0 ∷ 1 ∷ 2 ∷ []) ≡ Done (IntValue (pos 10) ∷ IntValue (pos 20) ∷ IntValue (neg_ℤ (pos 56)) ∷ []) }
-    ensures strict_on_rows_in_range { let frame : Frame = record { schema = (codes "a", Integer true 8) ∷ (codes "b", Integer true 32) ∷ []; rows = (IntValue (pos 1) ∷ IntValue (pos 10) ∷ []) ∷ (NullValue ∷ IntValue (pos 20) ∷ []) ∷ (IntValue (pos 100) ∷ IntValue (pos 200) ∷ []) ∷ [] } in
+        meaning [] frame (node (CastOp (Integer true 8) Overflowing) (more b no_more)) (0 ∷ 1 ∷ 2 ∷ [])
+        ≡ Done (IntValue (pos 10) ∷ IntValue (pos 20) ∷ IntValue (neg_ℤ (pos 56)) ∷ []) }
+    ensures strict_on_rows_in_range { let frame : Frame = record {
+      schema = (codes "a", Integer true 8) ∷ (codes "b", Integer true 32) ∷ [];
+      rows = (IntValue (pos 1) ∷ IntValue (pos 10) ∷ []) ∷ (NullValue ∷ IntValue (pos 20) ∷ []) ∷ (IntValue (pos 100) ∷ IntValue (pos 200) ∷ []) ∷ [];
+    } in
         let b = node (ColumnOp (codes "b")) no_more in
-        meaning [] frame (node (CastOp (Integer true 8) Strict) (more b no_more)) (0 ∷ 1 ∷ []) ≡ Done (IntValue (pos 10) ∷ IntValue (pos 20) ∷ []) }
-    ensures null_under_strict { let frame : Frame = record { schema = (codes "a", Integer true 8) ∷ (codes "b", Integer true 32) ∷ []; rows = (IntValue (pos 1) ∷ IntValue (pos 10) ∷ []) ∷ (NullValue ∷ IntValue (pos 20) ∷ []) ∷ (IntValue (pos 100) ∷ IntValue (pos 200) ∷ []) ∷ [] } in
+        meaning [] frame (node (CastOp (Integer true 8) Strict) (more b no_more)) (0 ∷ 1 ∷ [])
+        ≡ Done (IntValue (pos 10) ∷ IntValue (pos 20) ∷ []) }
+    ensures null_under_strict { let frame : Frame = record {
+      schema = (codes "a", Integer true 8) ∷ (codes "b", Integer true 32) ∷ [];
+      rows = (IntValue (pos 1) ∷ IntValue (pos 10) ∷ []) ∷ (NullValue ∷ IntValue (pos 20) ∷ []) ∷ (IntValue (pos 100) ∷ IntValue (pos 200) ∷ []) ∷ [];
+    } in
         let a = node (ColumnOp (codes "a")) no_more in
-        meaning [] frame (node (CastOp (Integer false 8) Strict) (more a no_more)) (0 ∷ 1 ∷ 2 ∷ []) ≡ Done (IntValue (pos 1) ∷ NullValue ∷ IntValue (pos 100) ∷ []) }
-    ensures fault_on_the_left { let frame : Frame = record { schema = (codes "a", Integer true 8) ∷ (codes "b", Integer true 32) ∷ []; rows = (IntValue (pos 1) ∷ IntValue (pos 10) ∷ []) ∷ (NullValue ∷ IntValue (pos 20) ∷ []) ∷ (IntValue (pos 100) ∷ IntValue (pos 200) ∷ []) ∷ [] } in
+        meaning [] frame (node (CastOp (Integer false 8) Strict) (more a no_more)) (0 ∷ 1 ∷ 2 ∷ [])
+        ≡ Done (IntValue (pos 1) ∷ NullValue ∷ IntValue (pos 100) ∷ []) }
+    ensures fault_on_the_left { let frame : Frame = record {
+      schema = (codes "a", Integer true 8) ∷ (codes "b", Integer true 32) ∷ [];
+      rows = (IntValue (pos 1) ∷ IntValue (pos 10) ∷ []) ∷ (NullValue ∷ IntValue (pos 20) ∷ []) ∷ (IntValue (pos 100) ∷ IntValue (pos 200) ∷ []) ∷ [];
+    } in
         let a = node (ColumnOp (codes "a")) no_more in
         let b = node (ColumnOp (codes "b")) no_more in
         let narrow = node (CastOp (Integer true 8) Strict) (more b no_more) in
         meaning [] frame (node (BinaryOp Plus) (more narrow (more a no_more))) (0 ∷ 1 ∷ 2 ∷ []) ≡ Fault }
-    ensures fault_on_the_right { let frame : Frame = record { schema = (codes "a", Integer true 8) ∷ (codes "b", Integer true 32) ∷ []; rows = (IntValue (pos 1) ∷ IntValue (pos 10) ∷ []) ∷ (NullValue ∷ IntValue (pos 20) ∷ []) ∷ (IntValue (pos 100) ∷ IntValue (pos 200) ∷ []) ∷ [] } in
+    ensures fault_on_the_right { let frame : Frame = record {
+      schema = (codes "a", Integer true 8) ∷ (codes "b", Integer true 32) ∷ [];
+      rows = (IntValue (pos 1) ∷ IntValue (pos 10) ∷ []) ∷ (NullValue ∷ IntValue (pos 20) ∷ []) ∷ (IntValue (pos 100) ∷ IntValue (pos 200) ∷ []) ∷ [];
+    } in
         let a = node (ColumnOp (codes "a")) no_more in
         let b = node (ColumnOp (codes "b")) no_more in
         let narrow = node (CastOp (Integer true 8) Strict) (more b no_more) in
         meaning [] frame (node (BinaryOp Plus) (more a (more narrow no_more))) (0 ∷ 1 ∷ 2 ∷ []) ≡ Fault }
-    ensures fault_under_a_cast { let frame : Frame = record { schema = (codes "a", Integer true 8) ∷ (codes "b", Integer true 32) ∷ []; rows = (IntValue (pos 1) ∷ IntValue (pos 10) ∷ []) ∷ (NullValue ∷ IntValue (pos 20) ∷ []) ∷ (IntValue (pos 100) ∷ IntValue (pos 200) ∷ []) ∷ [] } in
+    ensures fault_under_a_cast { let frame : Frame = record {
+      schema = (codes "a", Integer true 8) ∷ (codes "b", Integer true 32) ∷ [];
+      rows = (IntValue (pos 1) ∷ IntValue (pos 10) ∷ []) ∷ (NullValue ∷ IntValue (pos 20) ∷ []) ∷ (IntValue (pos 100) ∷ IntValue (pos 200) ∷ []) ∷ [];
+    } in
         let b = node (ColumnOp (codes "b")) no_more in
         let narrow = node (CastOp (Integer true 8) Strict) (more b no_more) in
         meaning [] frame (node (CastOp (Integer true 64) NonStrict) (more narrow no_more)) (0 ∷ 1 ∷ 2 ∷ []) ≡ Fault }
@@ -258,39 +330,64 @@ pub fn meanings_of_casts()
 
 /// As it is written an expression runs only where each operand has the type to which it is taken.
 pub fn expressions_run_as_written()
-    ensures column { let frame : Frame = record { schema = (codes "a", Integer true 8) ∷ (codes "b", Integer true 32) ∷ []; rows = (IntValue (pos 1) ∷ IntValue (pos 10) ∷ []) ∷ (NullValue ∷ IntValue (pos 20) ∷ []) ∷ (IntValue (pos 100) ∷ IntValue (pos 200) ∷ []) ∷ [] } in
+    ensures column { let frame : Frame = record {
+      schema = (codes "a", Integer true 8) ∷ (codes "b", Integer true 32) ∷ [];
+      rows = (IntValue (pos 1) ∷ IntValue (pos 10) ∷ []) ∷ (NullValue ∷ IntValue (pos 20) ∷ []) ∷ (IntValue (pos 100) ∷ IntValue (pos 200) ∷ []) ∷ [];
+    } in
         let a = node (ColumnOp (codes "a")) no_more in
         strict_run [] frame a (0 ∷ 1 ∷ 2 ∷ []) ≡ Done (IntValue (pos 1) ∷ NullValue ∷ IntValue (pos 100) ∷ []) }
-    ensures sum_of_two_types { let frame : Frame = record { schema = (codes "a", Integer true 8) ∷ (codes "b", Integer true 32) ∷ []; rows = (IntValue (pos 1) ∷ IntValue (pos 10) ∷ []) ∷ (NullValue ∷ IntValue (pos 20) ∷ []) ∷ (IntValue (pos 100) ∷ IntValue (pos 200) ∷ []) ∷ [] } in
+    ensures sum_of_two_types { let frame : Frame = record {
+      schema = (codes "a", Integer true 8) ∷ (codes "b", Integer true 32) ∷ [];
+      rows = (IntValue (pos 1) ∷ IntValue (pos 10) ∷ []) ∷ (NullValue ∷ IntValue (pos 20) ∷ []) ∷ (IntValue (pos 100) ∷ IntValue (pos 200) ∷ []) ∷ [];
+    } in
         let a = node (ColumnOp (codes "a")) no_more in
         let b = node (ColumnOp (codes "b")) no_more in
         strict_run [] frame (node (BinaryOp Plus) (more a (more b no_more))) (0 ∷ 1 ∷ 2 ∷ []) ≡ Stuck }
-    ensures sum_with_its_cast { let frame : Frame = record { schema = (codes "a", Integer true 8) ∷ (codes "b", Integer true 32) ∷ []; rows = (IntValue (pos 1) ∷ IntValue (pos 10) ∷ []) ∷ (NullValue ∷ IntValue (pos 20) ∷ []) ∷ (IntValue (pos 100) ∷ IntValue (pos 200) ∷ []) ∷ [] } in
+    ensures sum_with_its_cast { let frame : Frame = record {
+      schema = (codes "a", Integer true 8) ∷ (codes "b", Integer true 32) ∷ [];
+      rows = (IntValue (pos 1) ∷ IntValue (pos 10) ∷ []) ∷ (NullValue ∷ IntValue (pos 20) ∷ []) ∷ (IntValue (pos 100) ∷ IntValue (pos 200) ∷ []) ∷ [];
+    } in
         let a = node (ColumnOp (codes "a")) no_more in
         let b = node (ColumnOp (codes "b")) no_more in
         let wide = node (CastOp (Integer true 32) NonStrict) (more a no_more) in
         let sum = node (BinaryOp Plus) (more wide (more b no_more)) in
         strict_run [] frame sum (0 ∷ 1 ∷ 2 ∷ []) ≡ Done (IntValue (pos 11) ∷ NullValue ∷ IntValue (pos 300) ∷ []) }
-    ensures the_same_as_meant { let frame : Frame = record { schema = (codes "a", Integer true 8) ∷ (codes "b", Integer true 32) ∷ []; rows = (IntValue (pos 1) ∷ IntValue (pos 10) ∷ []) ∷ (NullValue ∷ IntValue (pos 20) ∷ []) ∷ (IntValue (pos 100) ∷ IntValue (pos 200) ∷ []) ∷ [] } in
+    ensures the_same_as_meant { let frame : Frame = record {
+      schema = (codes "a", Integer true 8) ∷ (codes "b", Integer true 32) ∷ [];
+      rows = (IntValue (pos 1) ∷ IntValue (pos 10) ∷ []) ∷ (NullValue ∷ IntValue (pos 20) ∷ []) ∷ (IntValue (pos 100) ∷ IntValue (pos 200) ∷ []) ∷ [];
+    } in
         let a = node (ColumnOp (codes "a")) no_more in
         let b = node (ColumnOp (codes "b")) no_more in
         let wide = node (CastOp (Integer true 32) NonStrict) (more a no_more) in
         let sum = node (BinaryOp Plus) (more wide (more b no_more)) in
         strict_run [] frame sum (0 ∷ 1 ∷ 2 ∷ []) ≡ meaning [] frame sum (0 ∷ 1 ∷ 2 ∷ []) }
-    ensures sum_of_one_type { let frame : Frame = record { schema = (codes "a", Integer true 8) ∷ (codes "b", Integer true 32) ∷ []; rows = (IntValue (pos 1) ∷ IntValue (pos 10) ∷ []) ∷ (NullValue ∷ IntValue (pos 20) ∷ []) ∷ (IntValue (pos 100) ∷ IntValue (pos 200) ∷ []) ∷ [] } in
+    ensures sum_of_one_type { let frame : Frame = record {
+      schema = (codes "a", Integer true 8) ∷ (codes "b", Integer true 32) ∷ [];
+      rows = (IntValue (pos 1) ∷ IntValue (pos 10) ∷ []) ∷ (NullValue ∷ IntValue (pos 20) ∷ []) ∷ (IntValue (pos 100) ∷ IntValue (pos 200) ∷ []) ∷ [];
+    } in
         let a = node (ColumnOp (codes "a")) no_more in
-        strict_run [] frame (node (BinaryOp Plus) (more a (more a no_more))) (0 ∷ 1 ∷ 2 ∷ []) ≡ Done (IntValue (pos 2) ∷ NullValue ∷ IntValue (neg_ℤ (pos 56)) ∷ []) }
-    ensures under_a_cast { let frame : Frame = record { schema = (codes "a", Integer true 8) ∷ (codes "b", Integer true 32) ∷ []; rows = (IntValue (pos 1) ∷ IntValue (pos 10) ∷ []) ∷ (NullValue ∷ IntValue (pos 20) ∷ []) ∷ (IntValue (pos 100) ∷ IntValue (pos 200) ∷ []) ∷ [] } in
+        strict_run [] frame (node (BinaryOp Plus) (more a (more a no_more))) (0 ∷ 1 ∷ 2 ∷ [])
+        ≡ Done (IntValue (pos 2) ∷ NullValue ∷ IntValue (neg_ℤ (pos 56)) ∷ []) }
+    ensures under_a_cast { let frame : Frame = record {
+      schema = (codes "a", Integer true 8) ∷ (codes "b", Integer true 32) ∷ [];
+      rows = (IntValue (pos 1) ∷ IntValue (pos 10) ∷ []) ∷ (NullValue ∷ IntValue (pos 20) ∷ []) ∷ (IntValue (pos 100) ∷ IntValue (pos 200) ∷ []) ∷ [];
+    } in
         let a = node (ColumnOp (codes "a")) no_more in
         let b = node (ColumnOp (codes "b")) no_more in
         let sum = node (BinaryOp Plus) (more a (more b no_more)) in
         strict_run [] frame (node (CastOp (Integer true 64) NonStrict) (more sum no_more)) (0 ∷ 1 ∷ 2 ∷ []) ≡ Stuck }
-    ensures fault { let frame : Frame = record { schema = (codes "a", Integer true 8) ∷ (codes "b", Integer true 32) ∷ []; rows = (IntValue (pos 1) ∷ IntValue (pos 10) ∷ []) ∷ (NullValue ∷ IntValue (pos 20) ∷ []) ∷ (IntValue (pos 100) ∷ IntValue (pos 200) ∷ []) ∷ [] } in
+    ensures fault { let frame : Frame = record {
+      schema = (codes "a", Integer true 8) ∷ (codes "b", Integer true 32) ∷ [];
+      rows = (IntValue (pos 1) ∷ IntValue (pos 10) ∷ []) ∷ (NullValue ∷ IntValue (pos 20) ∷ []) ∷ (IntValue (pos 100) ∷ IntValue (pos 200) ∷ []) ∷ [];
+    } in
         let a = node (ColumnOp (codes "a")) no_more in
         let b = node (ColumnOp (codes "b")) no_more in
         let narrow = node (CastOp (Integer true 8) Strict) (more b no_more) in
         strict_run [] frame (node (BinaryOp Plus) (more a (more narrow no_more))) (0 ∷ 1 ∷ 2 ∷ []) ≡ Fault }
-    ensures unknown_column { let frame : Frame = record { schema = (codes "a", Integer true 8) ∷ (codes "b", Integer true 32) ∷ []; rows = (IntValue (pos 1) ∷ IntValue (pos 10) ∷ []) ∷ (NullValue ∷ IntValue (pos 20) ∷ []) ∷ (IntValue (pos 100) ∷ IntValue (pos 200) ∷ []) ∷ [] } in
+    ensures unknown_column { let frame : Frame = record {
+      schema = (codes "a", Integer true 8) ∷ (codes "b", Integer true 32) ∷ [];
+      rows = (IntValue (pos 1) ∷ IntValue (pos 10) ∷ []) ∷ (NullValue ∷ IntValue (pos 20) ∷ []) ∷ (IntValue (pos 100) ∷ IntValue (pos 200) ∷ []) ∷ [];
+    } in
         let c = node (ColumnOp (codes "c")) no_more in
         strict_run [] frame c (0 ∷ 1 ∷ 2 ∷ []) ≡ Stuck }
 {}
@@ -345,12 +442,19 @@ pub fn nodes_of_wrong_numbers_of_operands()
     ensures column_of_one { let schema = (codes "a", Integer true 8) ∷ (codes "b", Integer true 32) ∷ (codes "u", Integer false 64) ∷ [] in
         let a = node (ColumnOp (codes "a")) no_more in
         is_err (typing [] schema (node (ColumnOp (codes "a")) (more a no_more))) ≡ true }
-    ensures meaning_of_one { let frame : Frame = record { schema = (codes "a", Integer true 8) ∷ (codes "b", Integer true 32) ∷ []; rows = (IntValue (pos 1) ∷ IntValue (pos 10) ∷ []) ∷ (NullValue ∷ IntValue (pos 20) ∷ []) ∷ (IntValue (pos 100) ∷ IntValue (pos 200) ∷ []) ∷ [] } in
+    ensures meaning_of_one { let frame : Frame = record {
+      schema = (codes "a", Integer true 8) ∷ (codes "b", Integer true 32) ∷ [];
+      rows = (IntValue (pos 1) ∷ IntValue (pos 10) ∷ []) ∷ (NullValue ∷ IntValue (pos 20) ∷ []) ∷ (IntValue (pos 100) ∷ IntValue (pos 200) ∷ []) ∷ [];
+    } in
         let a = node (ColumnOp (codes "a")) no_more in
         meaning [] frame (node (BinaryOp Plus) (more a no_more)) (0 ∷ 1 ∷ 2 ∷ []) ≡ Stuck }
-    ensures meaning_of_two { let frame : Frame = record { schema = (codes "a", Integer true 8) ∷ (codes "b", Integer true 32) ∷ []; rows = (IntValue (pos 1) ∷ IntValue (pos 10) ∷ []) ∷ (NullValue ∷ IntValue (pos 20) ∷ []) ∷ (IntValue (pos 100) ∷ IntValue (pos 200) ∷ []) ∷ [] } in
+    ensures meaning_of_two { let frame : Frame = record {
+      schema = (codes "a", Integer true 8) ∷ (codes "b", Integer true 32) ∷ [];
+      rows = (IntValue (pos 1) ∷ IntValue (pos 10) ∷ []) ∷ (NullValue ∷ IntValue (pos 20) ∷ []) ∷ (IntValue (pos 100) ∷ IntValue (pos 200) ∷ []) ∷ [];
+    } in
         let a = node (ColumnOp (codes "a")) no_more in
-        meaning [] frame (node (CastOp (Integer true 32) NonStrict) (more a (more a no_more))) (0 ∷ 1 ∷ 2 ∷ []) ≡ Stuck }
+        meaning [] frame (node (CastOp (Integer true 32) NonStrict) (more a (more a no_more))) (0 ∷ 1 ∷ 2 ∷ [])
+        ≡ Stuck }
 {}
 
 /// Expressions say the same where type, name and meaning are the same on every frame.
@@ -388,14 +492,20 @@ pub fn common_lengths()
 
 /// A column of one value is repeated beside a longer one, and to nothing beside one without values.
 pub fn columns_side_by_side()
-    ensures repeated { stretched 3 (IntValue (pos 5) ∷ []) ≡ IntValue (pos 5) ∷ IntValue (pos 5) ∷ IntValue (pos 5) ∷ [] }
+    ensures repeated { stretched 3 (IntValue (pos 5) ∷ [])
+        ≡ IntValue (pos 5) ∷ IntValue (pos 5) ∷ IntValue (pos 5) ∷ [] }
     ensures to_nothing { stretched 0 (IntValue (pos 5) ∷ []) ≡ [] }
-    ensures as_long { stretched 2 (IntValue (pos 5) ∷ IntValue (pos 6) ∷ []) ≡ IntValue (pos 5) ∷ IntValue (pos 6) ∷ [] }
-    ensures equal { operator_values Plus (Integer true 8) (IntValue (pos 1) ∷ IntValue (pos 2) ∷ []) (IntValue (pos 10) ∷ IntValue (pos 20) ∷ []) ≡ Done (IntValue (pos 11) ∷ IntValue (pos 22) ∷ []) }
-    ensures one_on_the_left { operator_values Plus (Integer true 8) (IntValue (pos 1) ∷ []) (IntValue (pos 10) ∷ NullValue ∷ IntValue (pos 127) ∷ []) ≡ Done (IntValue (pos 11) ∷ NullValue ∷ IntValue (neg_ℤ (pos 128)) ∷ []) }
-    ensures one_on_the_right { operator_values Plus (Integer true 8) (IntValue (pos 1) ∷ IntValue (pos 2) ∷ []) (NullValue ∷ []) ≡ Done (NullValue ∷ NullValue ∷ []) }
+    ensures as_long { stretched 2 (IntValue (pos 5) ∷ IntValue (pos 6) ∷ [])
+        ≡ IntValue (pos 5) ∷ IntValue (pos 6) ∷ [] }
+    ensures equal { operator_values Plus (Integer true 8) (IntValue (pos 1) ∷ IntValue (pos 2) ∷ []) (IntValue (pos 10) ∷ IntValue (pos 20) ∷ [])
+        ≡ Done (IntValue (pos 11) ∷ IntValue (pos 22) ∷ []) }
+    ensures one_on_the_left { operator_values Plus (Integer true 8) (IntValue (pos 1) ∷ []) (IntValue (pos 10) ∷ NullValue ∷ IntValue (pos 127) ∷ [])
+        ≡ Done (IntValue (pos 11) ∷ NullValue ∷ IntValue (neg_ℤ (pos 128)) ∷ []) }
+    ensures one_on_the_right { operator_values Plus (Integer true 8) (IntValue (pos 1) ∷ IntValue (pos 2) ∷ []) (NullValue ∷ [])
+        ≡ Done (NullValue ∷ NullValue ∷ []) }
     ensures one_beside_none { operator_values Plus (Integer true 8) (IntValue (pos 1) ∷ []) ([]) ≡ Done [] }
-    ensures unequal { operator_values Plus (Integer true 8) (IntValue (pos 1) ∷ IntValue (pos 2) ∷ []) (IntValue (pos 1) ∷ IntValue (pos 2) ∷ IntValue (pos 3) ∷ []) ≡ Fault }
+    ensures unequal { operator_values Plus (Integer true 8) (IntValue (pos 1) ∷ IntValue (pos 2) ∷ []) (IntValue (pos 1) ∷ IntValue (pos 2) ∷ IntValue (pos 3) ∷ [])
+        ≡ Fault }
 {}
 
 /// Values of a type fit it, and there is one alone where there are not many.
@@ -455,91 +565,148 @@ pub fn parts_of_trees()
 
 /// A scan gives its table, and the empty table of its schema has no rows.
 pub fn frames_of_scans()
-    ensures table { let table : Frame = record { schema = (codes "a", Integer true 8) ∷ (codes "b", Integer true 32) ∷ []; rows = (IntValue (pos 1) ∷ IntValue (pos 10) ∷ []) ∷ (NullValue ∷ IntValue (pos 20) ∷ []) ∷ (IntValue (pos 100) ∷ IntValue (pos 200) ∷ []) ∷ [] } in
+    ensures table { let table : Frame = record {
+      schema = (codes "a", Integer true 8) ∷ (codes "b", Integer true 32) ∷ [];
+      rows = (IntValue (pos 1) ∷ IntValue (pos 10) ∷ []) ∷ (NullValue ∷ IntValue (pos 20) ∷ []) ∷ (IntValue (pos 100) ∷ IntValue (pos 200) ∷ []) ∷ [];
+    } in
         let scan = node (scan_op (Some 0) ((codes "a", Integer true 8) ∷ (codes "b", Integer true 32) ∷ [])) no_more in
         source_meaning [] (table ∷ []) scan ≡ Done table }
-    ensures second_table { let table : Frame = record { schema = (codes "a", Integer true 8) ∷ (codes "b", Integer true 32) ∷ []; rows = (IntValue (pos 1) ∷ IntValue (pos 10) ∷ []) ∷ (NullValue ∷ IntValue (pos 20) ∷ []) ∷ (IntValue (pos 100) ∷ IntValue (pos 200) ∷ []) ∷ [] } in
-        let other : Frame = record { schema = (codes "a", Integer true 8) ∷ (codes "u", Integer false 64) ∷ []; rows = [] } in
+    ensures second_table { let table : Frame = record {
+      schema = (codes "a", Integer true 8) ∷ (codes "b", Integer true 32) ∷ [];
+      rows = (IntValue (pos 1) ∷ IntValue (pos 10) ∷ []) ∷ (NullValue ∷ IntValue (pos 20) ∷ []) ∷ (IntValue (pos 100) ∷ IntValue (pos 200) ∷ []) ∷ [];
+    } in
+        let other : Frame = record {
+          schema = (codes "a", Integer true 8) ∷ (codes "u", Integer false 64) ∷ [];
+          rows = [];
+        } in
         let scan = node (scan_op (Some 1) ((codes "a", Integer true 8) ∷ (codes "u", Integer false 64) ∷ [])) no_more in
         source_meaning [] (table ∷ other ∷ []) scan ≡ Done other }
-    ensures no_such_table { let table : Frame = record { schema = (codes "a", Integer true 8) ∷ (codes "b", Integer true 32) ∷ []; rows = (IntValue (pos 1) ∷ IntValue (pos 10) ∷ []) ∷ (NullValue ∷ IntValue (pos 20) ∷ []) ∷ (IntValue (pos 100) ∷ IntValue (pos 200) ∷ []) ∷ [] } in
+    ensures no_such_table { let table : Frame = record {
+      schema = (codes "a", Integer true 8) ∷ (codes "b", Integer true 32) ∷ [];
+      rows = (IntValue (pos 1) ∷ IntValue (pos 10) ∷ []) ∷ (NullValue ∷ IntValue (pos 20) ∷ []) ∷ (IntValue (pos 100) ∷ IntValue (pos 200) ∷ []) ∷ [];
+    } in
         let scan = node (scan_op (Some 1) ((codes "a", Integer true 8) ∷ (codes "b", Integer true 32) ∷ [])) no_more in
         source_meaning [] (table ∷ []) scan ≡ Stuck }
     ensures empty_table { source_meaning [] [] empty_table ≡ Done empty_frame }
-    ensures empty_table_with_columns { let none : Frame = record { schema = (codes "a", Integer true 8) ∷ (codes "b", Integer true 32) ∷ []; rows = [] } in
+    ensures empty_table_with_columns { let none : Frame = record {
+      schema = (codes "a", Integer true 8) ∷ (codes "b", Integer true 32) ∷ [];
+      rows = [];
+    } in
         let scan = node (scan_op None ((codes "a", Integer true 8) ∷ (codes "b", Integer true 32) ∷ [])) no_more in
         source_meaning [] [] scan ≡ Done none }
 {}
 
 /// A select has a column for each expression. One of nothing is the frame without columns, whatever its input gives.
 pub fn frames_of_selects()
-    ensures two_columns { let table : Frame = record { schema = (codes "a", Integer true 8) ∷ (codes "b", Integer true 32) ∷ []; rows = (IntValue (pos 1) ∷ IntValue (pos 10) ∷ []) ∷ (NullValue ∷ IntValue (pos 20) ∷ []) ∷ (IntValue (pos 100) ∷ IntValue (pos 200) ∷ []) ∷ [] } in
+    ensures two_columns { let table : Frame = record {
+      schema = (codes "a", Integer true 8) ∷ (codes "b", Integer true 32) ∷ [];
+      rows = (IntValue (pos 1) ∷ IntValue (pos 10) ∷ []) ∷ (NullValue ∷ IntValue (pos 20) ∷ []) ∷ (IntValue (pos 100) ∷ IntValue (pos 200) ∷ []) ∷ [];
+    } in
         let scan = node (scan_op (Some 0) ((codes "a", Integer true 8) ∷ (codes "b", Integer true 32) ∷ [])) no_more in
         let a = node (ColumnOp (codes "a")) no_more in
         let b = node (ColumnOp (codes "b")) no_more in
         let sum = node (BinaryOp Plus) (more b (more a no_more)) in
-        let chosen : Frame = record { schema = (codes "b", Integer true 32) ∷ (codes "a", Integer true 8) ∷ []; rows = (IntValue (pos 11) ∷ IntValue (pos 1) ∷ []) ∷ (NullValue ∷ NullValue ∷ []) ∷ (IntValue (pos 300) ∷ IntValue (pos 100) ∷ []) ∷ [] } in
-        source_meaning [] (table ∷ []) (node (select_op (named sum ∷ named a ∷ []) []) (more scan no_more)) ≡ Done chosen }
-    ensures over_a_select { let table : Frame = record { schema = (codes "a", Integer true 8) ∷ (codes "b", Integer true 32) ∷ []; rows = (IntValue (pos 1) ∷ IntValue (pos 10) ∷ []) ∷ (NullValue ∷ IntValue (pos 20) ∷ []) ∷ (IntValue (pos 100) ∷ IntValue (pos 200) ∷ []) ∷ [] } in
+        let chosen : Frame = record {
+          schema = (codes "b", Integer true 32) ∷ (codes "a", Integer true 8) ∷ [];
+          rows = (IntValue (pos 11) ∷ IntValue (pos 1) ∷ []) ∷ (NullValue ∷ NullValue ∷ []) ∷ (IntValue (pos 300) ∷ IntValue (pos 100) ∷ []) ∷ [];
+        } in
+        source_meaning [] (table ∷ []) (node (select_op (named sum ∷ named a ∷ []) []) (more scan no_more))
+        ≡ Done chosen }
+    ensures over_a_select { let table : Frame = record {
+      schema = (codes "a", Integer true 8) ∷ (codes "b", Integer true 32) ∷ [];
+      rows = (IntValue (pos 1) ∷ IntValue (pos 10) ∷ []) ∷ (NullValue ∷ IntValue (pos 20) ∷ []) ∷ (IntValue (pos 100) ∷ IntValue (pos 200) ∷ []) ∷ [];
+    } in
         let scan = node (scan_op (Some 0) ((codes "a", Integer true 8) ∷ (codes "b", Integer true 32) ∷ [])) no_more in
         let a = node (ColumnOp (codes "a")) no_more in
         let b = node (ColumnOp (codes "b")) no_more in
         let sum = node (BinaryOp Plus) (more b (more a no_more)) in
         let inner = node (select_op (named sum ∷ named a ∷ []) []) (more scan no_more) in
-        let chosen : Frame = record { schema = (codes "a", Integer true 32) ∷ []; rows = (IntValue (pos 12) ∷ []) ∷ (NullValue ∷ []) ∷ (IntValue (pos 400) ∷ []) ∷ [] } in
-        source_meaning [] (table ∷ []) (node (select_op (named (node (BinaryOp Plus) (more a (more b no_more))) ∷ []) []) (more inner no_more)) ≡ Done chosen }
+        let chosen : Frame = record {
+          schema = (codes "a", Integer true 32) ∷ [];
+          rows = (IntValue (pos 12) ∷ []) ∷ (NullValue ∷ []) ∷ (IntValue (pos 400) ∷ []) ∷ [];
+        } in
+        source_meaning [] (table ∷ []) (node (select_op (named (node (BinaryOp Plus) (more a (more b no_more))) ∷ []) []) (more inner no_more))
+        ≡ Done chosen }
     ensures no_rows { let a = node (ColumnOp (codes "a")) no_more in
         let b = node (ColumnOp (codes "b")) no_more in
         let sum = node (BinaryOp Plus) (more b (more a no_more)) in
         let scan = node (scan_op None ((codes "a", Integer true 8) ∷ (codes "b", Integer true 32) ∷ [])) no_more in
         let chosen : Frame = record { schema = (codes "b", Integer true 32) ∷ []; rows = [] } in
         source_meaning [] [] (node (select_op (named sum ∷ []) []) (more scan no_more)) ≡ Done chosen }
-    ensures nothing { let table : Frame = record { schema = (codes "a", Integer true 8) ∷ (codes "b", Integer true 32) ∷ []; rows = (IntValue (pos 1) ∷ IntValue (pos 10) ∷ []) ∷ (NullValue ∷ IntValue (pos 20) ∷ []) ∷ (IntValue (pos 100) ∷ IntValue (pos 200) ∷ []) ∷ [] } in
+    ensures nothing { let table : Frame = record {
+      schema = (codes "a", Integer true 8) ∷ (codes "b", Integer true 32) ∷ [];
+      rows = (IntValue (pos 1) ∷ IntValue (pos 10) ∷ []) ∷ (NullValue ∷ IntValue (pos 20) ∷ []) ∷ (IntValue (pos 100) ∷ IntValue (pos 200) ∷ []) ∷ [];
+    } in
         let scan = node (scan_op (Some 0) ((codes "a", Integer true 8) ∷ (codes "b", Integer true 32) ∷ [])) no_more in
         source_meaning [] (table ∷ []) (node (select_op [] []) (more scan no_more)) ≡ Done empty_frame }
-    ensures fault { let table : Frame = record { schema = (codes "a", Integer true 8) ∷ (codes "b", Integer true 32) ∷ []; rows = (IntValue (pos 1) ∷ IntValue (pos 10) ∷ []) ∷ (NullValue ∷ IntValue (pos 20) ∷ []) ∷ (IntValue (pos 100) ∷ IntValue (pos 200) ∷ []) ∷ [] } in
+    ensures fault { let table : Frame = record {
+      schema = (codes "a", Integer true 8) ∷ (codes "b", Integer true 32) ∷ [];
+      rows = (IntValue (pos 1) ∷ IntValue (pos 10) ∷ []) ∷ (NullValue ∷ IntValue (pos 20) ∷ []) ∷ (IntValue (pos 100) ∷ IntValue (pos 200) ∷ []) ∷ [];
+    } in
         let scan = node (scan_op (Some 0) ((codes "a", Integer true 8) ∷ (codes "b", Integer true 32) ∷ [])) no_more in
         let a = node (ColumnOp (codes "a")) no_more in
         let b = node (ColumnOp (codes "b")) no_more in
         let narrow = node (CastOp (Integer true 8) Strict) (more b no_more) in
         source_meaning [] (table ∷ []) (node (select_op (named a ∷ named narrow ∷ []) []) (more scan no_more)) ≡ Fault }
-    ensures over_a_fault { let table : Frame = record { schema = (codes "a", Integer true 8) ∷ (codes "b", Integer true 32) ∷ []; rows = (IntValue (pos 1) ∷ IntValue (pos 10) ∷ []) ∷ (NullValue ∷ IntValue (pos 20) ∷ []) ∷ (IntValue (pos 100) ∷ IntValue (pos 200) ∷ []) ∷ [] } in
+    ensures over_a_fault { let table : Frame = record {
+      schema = (codes "a", Integer true 8) ∷ (codes "b", Integer true 32) ∷ [];
+      rows = (IntValue (pos 1) ∷ IntValue (pos 10) ∷ []) ∷ (NullValue ∷ IntValue (pos 20) ∷ []) ∷ (IntValue (pos 100) ∷ IntValue (pos 200) ∷ []) ∷ [];
+    } in
         let scan = node (scan_op (Some 0) ((codes "a", Integer true 8) ∷ (codes "b", Integer true 32) ∷ [])) no_more in
         let a = node (ColumnOp (codes "a")) no_more in
         let b = node (ColumnOp (codes "b")) no_more in
         let narrow = node (CastOp (Integer true 8) Strict) (more b no_more) in
         let inner = node (select_op (named a ∷ named narrow ∷ []) []) (more scan no_more) in
         source_meaning [] (table ∷ []) (node (select_op (named a ∷ []) []) (more inner no_more)) ≡ Fault }
-    ensures nothing_over_a_fault { let table : Frame = record { schema = (codes "a", Integer true 8) ∷ (codes "b", Integer true 32) ∷ []; rows = (IntValue (pos 1) ∷ IntValue (pos 10) ∷ []) ∷ (NullValue ∷ IntValue (pos 20) ∷ []) ∷ (IntValue (pos 100) ∷ IntValue (pos 200) ∷ []) ∷ [] } in
+    ensures nothing_over_a_fault { let table : Frame = record {
+      schema = (codes "a", Integer true 8) ∷ (codes "b", Integer true 32) ∷ [];
+      rows = (IntValue (pos 1) ∷ IntValue (pos 10) ∷ []) ∷ (NullValue ∷ IntValue (pos 20) ∷ []) ∷ (IntValue (pos 100) ∷ IntValue (pos 200) ∷ []) ∷ [];
+    } in
         let scan = node (scan_op (Some 0) ((codes "a", Integer true 8) ∷ (codes "b", Integer true 32) ∷ [])) no_more in
         let a = node (ColumnOp (codes "a")) no_more in
         let b = node (ColumnOp (codes "b")) no_more in
         let narrow = node (CastOp (Integer true 8) Strict) (more b no_more) in
         let inner = node (select_op (named a ∷ named narrow ∷ []) []) (more scan no_more) in
         source_meaning [] (table ∷ []) (node (select_op [] []) (more inner no_more)) ≡ Done empty_frame }
-    ensures nothing_over_what_is_stuck { plan_kernel [] (by_meaning []) (select_op [] []) (Stuck ∷ []) ≡ Done empty_frame }
+    ensures nothing_over_what_is_stuck { plan_kernel [] (by_meaning []) (select_op [] []) (Stuck ∷ [])
+        ≡ Done empty_frame }
 {}
 
 /// Columns side by side are a frame of their common length.
 pub fn frames_of_columns()
     ensures one_column { let a : Series = record { name = codes "a"; type = Integer true 8; values = IntValue (pos 1) ∷ NullValue ∷ [] } in
-        let frame : Frame = record { schema = (codes "a", Integer true 8) ∷ []; rows = (IntValue (pos 1) ∷ []) ∷ (NullValue ∷ []) ∷ [] } in
+        let frame : Frame = record {
+          schema = (codes "a", Integer true 8) ∷ [];
+          rows = (IntValue (pos 1) ∷ []) ∷ (NullValue ∷ []) ∷ [];
+        } in
         framed (a ∷ []) ≡ Done frame }
     ensures one_value_first { let a : Series = record { name = codes "a"; type = Integer true 8; values = IntValue (pos 7) ∷ [] } in
         let b : Series = record { name = codes "b"; type = Integer true 32; values = IntValue (pos 1) ∷ IntValue (pos 2) ∷ IntValue (pos 3) ∷ [] } in
-        let frame : Frame = record { schema = (codes "a", Integer true 8) ∷ (codes "b", Integer true 32) ∷ []; rows = (IntValue (pos 7) ∷ IntValue (pos 1) ∷ []) ∷ (IntValue (pos 7) ∷ IntValue (pos 2) ∷ []) ∷ (IntValue (pos 7) ∷ IntValue (pos 3) ∷ []) ∷ [] } in
+        let frame : Frame = record {
+          schema = (codes "a", Integer true 8) ∷ (codes "b", Integer true 32) ∷ [];
+          rows = (IntValue (pos 7) ∷ IntValue (pos 1) ∷ []) ∷ (IntValue (pos 7) ∷ IntValue (pos 2) ∷ []) ∷ (IntValue (pos 7) ∷ IntValue (pos 3) ∷ []) ∷ [];
+        } in
         framed (a ∷ b ∷ []) ≡ Done frame }
     ensures one_value_last { let a : Series = record { name = codes "a"; type = Integer true 8; values = IntValue (pos 1) ∷ IntValue (pos 2) ∷ [] } in
         let b : Series = record { name = codes "b"; type = Integer true 32; values = NullValue ∷ [] } in
-        let frame : Frame = record { schema = (codes "a", Integer true 8) ∷ (codes "b", Integer true 32) ∷ []; rows = (IntValue (pos 1) ∷ NullValue ∷ []) ∷ (IntValue (pos 2) ∷ NullValue ∷ []) ∷ [] } in
+        let frame : Frame = record {
+          schema = (codes "a", Integer true 8) ∷ (codes "b", Integer true 32) ∷ [];
+          rows = (IntValue (pos 1) ∷ NullValue ∷ []) ∷ (IntValue (pos 2) ∷ NullValue ∷ []) ∷ [];
+        } in
         framed (a ∷ b ∷ []) ≡ Done frame }
     ensures single_values { let a : Series = record { name = codes "a"; type = Integer true 8; values = IntValue (pos 1) ∷ [] } in
         let b : Series = record { name = codes "b"; type = Integer true 32; values = IntValue (pos 2) ∷ [] } in
-        let frame : Frame = record { schema = (codes "a", Integer true 8) ∷ (codes "b", Integer true 32) ∷ []; rows = (IntValue (pos 1) ∷ IntValue (pos 2) ∷ []) ∷ [] } in
+        let frame : Frame = record {
+          schema = (codes "a", Integer true 8) ∷ (codes "b", Integer true 32) ∷ [];
+          rows = (IntValue (pos 1) ∷ IntValue (pos 2) ∷ []) ∷ [];
+        } in
         framed (a ∷ b ∷ []) ≡ Done frame }
     ensures one_value_beside_none { let a : Series = record { name = codes "a"; type = Integer true 8; values = IntValue (pos 1) ∷ [] } in
         let b : Series = record { name = codes "b"; type = Integer true 32; values = [] } in
-        let frame : Frame = record { schema = (codes "a", Integer true 8) ∷ (codes "b", Integer true 32) ∷ []; rows = [] } in
+        let frame : Frame = record {
+          schema = (codes "a", Integer true 8) ∷ (codes "b", Integer true 32) ∷ [];
+          rows = [];
+        } in
         framed (a ∷ b ∷ []) ≡ Done frame }
     ensures unequal { let a : Series = record { name = codes "a"; type = Integer true 8; values = IntValue (pos 1) ∷ IntValue (pos 2) ∷ [] } in
         let b : Series = record { name = codes "b"; type = Integer true 32; values = IntValue (pos 1) ∷ IntValue (pos 2) ∷ IntValue (pos 3) ∷ [] } in
@@ -560,13 +727,15 @@ pub fn schemas_of_plans()
         let a = node (ColumnOp (codes "a")) no_more in
         let b = node (ColumnOp (codes "b")) no_more in
         let sum = node (BinaryOp Plus) (more b (more a no_more)) in
-        schema_of [] (node (select_op (named sum ∷ named a ∷ []) []) (more scan no_more)) ≡ Some ((codes "b", Integer true 32) ∷ (codes "a", Integer true 8) ∷ []) }
+        schema_of [] (node (select_op (named sum ∷ named a ∷ []) []) (more scan no_more))
+        ≡ Some ((codes "b", Integer true 32) ∷ (codes "a", Integer true 8) ∷ []) }
     ensures over_a_select { let scan = node (scan_op (Some 0) ((codes "a", Integer true 8) ∷ (codes "b", Integer true 32) ∷ [])) no_more in
         let a = node (ColumnOp (codes "a")) no_more in
         let b = node (ColumnOp (codes "b")) no_more in
         let sum = node (BinaryOp Plus) (more b (more a no_more)) in
         let inner = node (select_op (named sum ∷ named a ∷ []) []) (more scan no_more) in
-        schema_of [] (node (select_op (named b ∷ []) []) (more inner no_more)) ≡ Some ((codes "b", Integer true 32) ∷ []) }
+        schema_of [] (node (select_op (named b ∷ []) []) (more inner no_more))
+        ≡ Some ((codes "b", Integer true 32) ∷ []) }
     ensures nothing { let scan = node (scan_op (Some 0) ((codes "a", Integer true 8) ∷ (codes "b", Integer true 32) ∷ [])) no_more in
         schema_of [] (node (select_op [] []) (more scan no_more)) ≡ Some [] }
     ensures unknown_column { let scan = node (scan_op (Some 0) ((codes "a", Integer true 8) ∷ (codes "b", Integer true 32) ∷ [])) no_more in
@@ -601,7 +770,8 @@ pub fn kinds_that_selects_break()
     ensures both_at_once { let schema = (codes "a", Integer true 8) ∷ (codes "u", Integer false 64) ∷ [] in
         let a = node (ColumnOp (codes "a")) no_more in
         let c = node (ColumnOp (codes "c")) no_more in
-        broken_kinds [] (select_op (named a ∷ named c ∷ named a ∷ []) []) (Some schema ∷ []) ≡ ColumnNotFound ∷ Duplicate ∷ [] }
+        broken_kinds [] (select_op (named a ∷ named c ∷ named a ∷ []) []) (Some schema ∷ [])
+        ≡ ColumnNotFound ∷ Duplicate ∷ [] }
     ensures no_common_type { let schema = (codes "a", Integer true 8) ∷ (codes "u", Integer false 64) ∷ [] in
         let a = node (ColumnOp (codes "a")) no_more in
         let u = node (ColumnOp (codes "u")) no_more in
@@ -612,7 +782,8 @@ pub fn kinds_that_selects_break()
         let c = node (ColumnOp (codes "c")) no_more in
         let u = node (ColumnOp (codes "u")) no_more in
         let mismatch = node (BinaryOp Plus) (more u (more a no_more)) in
-        broken_kinds [] (select_op (named mismatch ∷ named a ∷ named c ∷ []) []) (Some schema ∷ []) ≡ SchemaMismatch ∷ ColumnNotFound ∷ [] }
+        broken_kinds [] (select_op (named mismatch ∷ named a ∷ named c ∷ []) []) (Some schema ∷ [])
+        ≡ SchemaMismatch ∷ ColumnNotFound ∷ [] }
     ensures nothing { let schema = (codes "a", Integer true 8) ∷ (codes "u", Integer false 64) ∷ [] in
         broken_kinds [] (select_op [] []) (Some schema ∷ []) ≡ [] }
     ensures over_an_input_without_schema { let c = node (ColumnOp (codes "c")) no_more in
@@ -669,7 +840,8 @@ pub fn schemas_at_places()
         let a = node (ColumnOp (codes "a")) no_more in
         let c = node (ColumnOp (codes "c")) no_more in
         let inner = node (select_op (named c ∷ []) []) (more scan no_more) in
-        schema_at [] (node (select_op (named a ∷ []) []) (more inner no_more)) (0 ∷ 0 ∷ []) ≡ Some ((codes "a", Integer true 8) ∷ (codes "b", Integer true 32) ∷ []) }
+        schema_at [] (node (select_op (named a ∷ []) []) (more inner no_more)) (0 ∷ 0 ∷ [])
+        ≡ Some ((codes "a", Integer true 8) ∷ (codes "b", Integer true 32) ∷ []) }
 {}
 
 /// A rule is broken at the place of the node that breaks it, and at none above it.
@@ -743,17 +915,26 @@ pub fn sizes_of_plans()
 
 /// Tables fit a plan where each scan's number names a frame of exactly the scan's schema.
 pub fn tables_that_fit()
-    ensures fitting { let table : Frame = record { schema = (codes "a", Integer true 8) ∷ (codes "b", Integer true 32) ∷ []; rows = (IntValue (pos 1) ∷ IntValue (pos 10) ∷ []) ∷ (NullValue ∷ IntValue (pos 20) ∷ []) ∷ (IntValue (pos 100) ∷ IntValue (pos 200) ∷ []) ∷ [] } in
+    ensures fitting { let table : Frame = record {
+      schema = (codes "a", Integer true 8) ∷ (codes "b", Integer true 32) ∷ [];
+      rows = (IntValue (pos 1) ∷ IntValue (pos 10) ∷ []) ∷ (NullValue ∷ IntValue (pos 20) ∷ []) ∷ (IntValue (pos 100) ∷ IntValue (pos 200) ∷ []) ∷ [];
+    } in
         let scan = node (scan_op (Some 0) ((codes "a", Integer true 8) ∷ (codes "b", Integer true 32) ∷ [])) no_more in
         let a = node (ColumnOp (codes "a")) no_more in
         FitsPlan (table ∷ []) (node (select_op (named a ∷ []) []) (more scan no_more)) }
     ensures no_table_asked_for { FitsPlan [] empty_table }
-    ensures other_schema { let table : Frame = record { schema = (codes "a", Integer true 8) ∷ (codes "b", Integer true 32) ∷ []; rows = (IntValue (pos 1) ∷ IntValue (pos 10) ∷ []) ∷ (NullValue ∷ IntValue (pos 20) ∷ []) ∷ (IntValue (pos 100) ∷ IntValue (pos 200) ∷ []) ∷ [] } in
+    ensures other_schema { let table : Frame = record {
+      schema = (codes "a", Integer true 8) ∷ (codes "b", Integer true 32) ∷ [];
+      rows = (IntValue (pos 1) ∷ IntValue (pos 10) ∷ []) ∷ (NullValue ∷ IntValue (pos 20) ∷ []) ∷ (IntValue (pos 100) ∷ IntValue (pos 200) ∷ []) ∷ [];
+    } in
         let scan = node (scan_op (Some 0) ((codes "a", Integer true 8) ∷ (codes "u", Integer false 64) ∷ [])) no_more in
         ¬ (FitsPlan (table ∷ []) scan) }
     ensures no_such_table { let scan = node (scan_op (Some 0) ((codes "a", Integer true 8) ∷ (codes "b", Integer true 32) ∷ [])) no_more in
         ¬ (FitsPlan [] scan) }
     ensures misfit { let scan = node (scan_op (Some 0) ((codes "a", Integer true 8) ∷ (codes "b", Integer true 32) ∷ [])) no_more in
-        let table : Frame = record { schema = (codes "a", Integer true 8) ∷ (codes "b", Integer true 32) ∷ []; rows = (IntValue (pos 128) ∷ IntValue (pos 1) ∷ []) ∷ [] } in
+        let table : Frame = record {
+          schema = (codes "a", Integer true 8) ∷ (codes "b", Integer true 32) ∷ [];
+          rows = (IntValue (pos 128) ∷ IntValue (pos 1) ∷ []) ∷ [];
+        } in
         ¬ (FitsPlan (table ∷ []) scan) }
 {}
