@@ -12,7 +12,7 @@ ghost use Rattle.plan_dsl.specs.Trees.{node, no_more, more, fold, tree_at, tree_
 ghost use Rattle.plan_dsl.specs.Ops.{Op, ColumnOp, BinaryOp, CastOp};
 ghost use Rattle.plan_dsl.specs.Names.{name_of};
 ghost use Rattle.plan_dsl.specs.Plans.{empty_table, named, scan_op, select_op};
-ghost use Rattle.plan_dsl.specs.Typing.{Typed, typing, kinds_in};
+ghost use Rattle.plan_dsl.specs.Typing.{Typed, is_many, typing, kinds_in};
 ghost use Rattle.plan_dsl.specs.Kernels.{common_length, stretched, operator_values};
 ghost use Rattle.plan_dsl.specs.Meaning.{meaning};
 ghost use Rattle.plan_dsl.specs.Strictness.{IsSame, IsStrict, with_cast};
@@ -86,6 +86,23 @@ pub fn types_of_expressions()
         let sum = node (BinaryOp Plus) (more a (more a no_more)) in
         let typed : Typed = record { type = Integer true 32; many = true } in
         typing [] schema (node (BinaryOp Plus) (more sum (more b no_more))) ≡ Ok typed }
+{}
+
+/// A column may have another length than one, and any other node where some input may.
+pub fn lengths_of_nodes()
+    ensures column { is_many (ColumnOp (codes "a")) [] ≡ true }
+    ensures sum_of_single_values { let one : Typed = record { type = Integer true 8; many = false } in
+        is_many (BinaryOp Plus) (one ∷ one ∷ []) ≡ false }
+    ensures many_on_the_left { let one : Typed = record { type = Integer true 8; many = false } in
+        let many : Typed = record { type = Integer true 8; many = true } in
+        is_many (BinaryOp Plus) (many ∷ one ∷ []) ≡ true }
+    ensures many_on_the_right { let one : Typed = record { type = Integer true 8; many = false } in
+        let many : Typed = record { type = Integer true 8; many = true } in
+        is_many (BinaryOp Plus) (one ∷ many ∷ []) ≡ true }
+    ensures cast_of_a_single_value { let one : Typed = record { type = Integer true 8; many = false } in
+        is_many (CastOp (Integer true 32) Strict) (one ∷ []) ≡ false }
+    ensures cast_of_many { let many : Typed = record { type = Integer true 8; many = true } in
+        is_many (CastOp (Integer true 32) Strict) (many ∷ []) ≡ true }
 {}
 
 /// Typing refuses for what the first refused child is refused.
