@@ -3,4 +3,5 @@ pub mod NodeLemmas
 pub mod PlanLemmas
 pub mod ProjectionLemmas
 pub mod StackLemmas
+pub mod TableLemmas
 pub mod TypingLemmas
