@@ -1,5 +1,5 @@
 -- Types that are kept by node: what is known of a node, and what stays as the table, the arena or one item changes.
-use Rattle.std.proofs.Common.{◌≡◌, ◌≢◌, ◌⊎◌, ◌↔◌, ℕ, ◌<◌, ◌≤◌, ◌-◌, List, [], ◌∷◌, ◌++◌, length, map, get_or, set, true, is_some, MatchOption, Option, Some, None, Result, Ok, Err, slice_get, refl, sym, ap, ◌∙◌, subst, arith, zero-le, inl, inr, ⊎_elim, length-append}
+use Rattle.std.proofs.Common.{◌≡◌, ◌≢◌, ◌⊎◌, ◌↔◌, ℕ, ◌<◌, ◌≤◌, ◌-◌, List, [], ◌∷◌, ◌++◌, length, map, get_or, set, true, is_some, MatchOption, Option, Some, None, Result, Ok, Err, slice_get, refl, sym, ap, ◌∙◌, subst, arith, zero-le, inl, inr, ⊎_elim, length-append, append-nil}
 use Rattle.std.specs.List.{AllByRecursion}
 use Rattle.std.proofs.lemmas.Option.{slice_get_within, slice_get-get_or}
 use Rattle.std.proofs.lemmas.Bool.{cases_lt}
@@ -9,6 +9,7 @@ use Rattle.plan_types.specs.Types.{Ty, ty}
 use Rattle.plan_types.specs.Schemas.{Columns}
 use Rattle.plan_types.specs.declared.dtype.DataType.{DataType}
 use Rattle.plan_types.specs.declared.dtype.CastOptions.{CastOptions}
+use Rattle.plan_types.specs.declared.dtype.CastOptions.TheVariants.{NonStrict}
 use Rattle.plan_dsl.specs.declared.operator.Operator.{Operator}
 use Rattle.plan_dsl.specs.Registry.{Registry}
 use Rattle.plan_dsl.specs.Trees.{Tree, Trees, node, no_more, more}
@@ -22,13 +23,13 @@ use Rattle.plan_arena.specs.Denotation.{Denotes, DenotesTree, depth_at}
 use Rattle.plan_arena.specs.Layers.{Layer, layer, shape_of}
 use Rattle.plan_arena.specs.Items.{HoldsExpression, HoldsFrom, Grows, expression_layer}
 use Rattle.plan_arena.proofs.DenotationLemmas.{denotes_one, kept, same_or_other, inputs_denote}
-use Rattle.plan_arena.proofs.ItemLemmas.{expression_laws, from_laws, any_node, from_zero, got_held}
+use Rattle.plan_arena.proofs.ItemLemmas.{expression_laws, from_laws, any_node, from_zero, got_held, expression_elsewhere, expression_written, expression_added, tree_grown, within}
 use Rattle.plan_lower.specs.declared.type_table.TypeTable.{TypeTable}
 use Rattle.plan_lower.specs.Coercion.{DenotesTyped, Visits}
-use Rattle.plan_lower.specs.KeptTypes.{Keeps, IsKept, Extends, IsKnown, by_table, by_cast, IsTypedNode, IsRight, first_node}
+use Rattle.plan_lower.specs.KeptTypes.{Keeps, IsKept, Extends, IsKnown, by_table, by_cast, IsTypedNode, IsRight, HasRightTypes, first_node}
 use Rattle.plan_lower.specs.Typed.{HasType}
-use Rattle.plan_lower.proofs.CoercionLemmas.{grown_elsewhere}
-use Rattle.plan_lower.proofs.StackLemmas.{becomes, all_weaker}
+use Rattle.plan_lower.proofs.CoercionLemmas.{grown_elsewhere, written_elsewhere}
+use Rattle.plan_lower.proofs.StackLemmas.{becomes, all_weaker, all_front, all_joined, all_last}
 use Rattle.plan_lower.proofs.TypingLemmas.{AllHaveType, cast_typed}
 
 layer_op : (a b : Op) (ms ns : List ℕ) → layer a ms ≡ layer b ns → a ≡ b
@@ -211,10 +212,22 @@ tree_from first items n d = from_number first items n d.tree d.denotes
 pub any_tree : (first : ℕ) (items : List AExpr) (n : ℕ) → DenotesTree (HoldsFrom first items) n → DenotesTree (HoldsExpression items) n
 any_tree first items n d = record { tree = d.tree; denotes = any_node first items n d.tree d.denotes }
 
+-- the tree that was added from there on
+pub tree_added : (first at : ℕ) (items : List AExpr) (asked n : ℕ) (t : Expression) → first ≤ at → asked ≡ n → Denotes (HoldsFrom at items) n t → DenotesTree (HoldsFrom first items) asked
+tree_added first at items asked n t le same d =
+    let nothing : Grows items items = record { added = []; longer = sym (append-nil items) } in
+    record { tree = t; denotes = subst (λ m. Denotes (HoldsFrom first items) m t) (sym same) (tree_grown at first items items le nothing n t d) }
+
 -- their inputs are trees of such nodes, and lead less far down
 pub inputs_from : (first : ℕ) (items : List AExpr) (n : ℕ) (op : Op) (inputs : List ℕ) → HoldsExpression items n op inputs → DenotesTree (HoldsFrom first items) n → AllByRecursion (λ m. DenotesTree (HoldsFrom first items) m × (depth_at (shape_of (map expression_layer items)) m < depth_at (shape_of (map expression_layer items)) n)) inputs
 inputs_from first items n op inputs held d =
     inputs_denote _ (HoldsFrom first items) (from_laws first items) n op inputs (tree_from first items n d, held) d
+
+-- a cast that was added round a node whose type is known
+pub cast_known : (old new : List AExpr) (table : TypeTable) (input cast : Node) (target : DataType) → new ≡ old ++ Cast input target NonStrict ∷ [] → cast.0 ≡ length old → IsKnown old table input.0 → IsKnown new table cast.0
+cast_known old new table input cast target grown at k =
+    let held : HoldsExpression new cast.0 (CastOp (ty target) NonStrict) (input.0 ∷ []) = rw (grown, at) (expression_added old (Cast input target NonStrict)) in
+    by_cast cast.0 input.0 (ty target) NonStrict held (known_grown old new table (record { added = Cast input target NonStrict ∷ []; longer = grown }) input.0 k)
 
 -- a typed node stays one where its tree becomes one that is typed alike, its item stays, and so does what is known
 node_stays : (registry : Registry) (schema : Columns) (items items' : List AExpr) (table table' : TypeTable) (n : ℕ) (type : Ty) (e : IsTypedNode registry schema items table n type) (w : Expression) → Denotes (HoldsExpression items') n w → typing registry schema w ≡ typing registry schema e.tree → ((op : Op) (inputs : List ℕ) → HoldsExpression items n op inputs → HoldsExpression items' n op inputs) → ((m : ℕ) → IsKnown items table m → IsKnown items' table' m) → IsTypedNode registry schema items' table' n type
@@ -273,3 +286,58 @@ extends_same old new first same = record { first = first; kept = kept_same old n
 
 pub extends_more : (old new : TypeTable) (at : ℕ) (dtype : DataType) → first_node new ≡ first_node old → Keeps new at dtype → ((n : ℕ) (other : DataType) → n ≢ at → Keeps old n other ↔ Keeps new n other) → Extends old new
 extends_more old new at dtype first keeps others = record { first = first; kept = kept_more old new at dtype keeps others }
+
+-- kept types stay right where one item is written
+right_written : (registry : Registry) (schema : Columns) (old new : List AExpr) (table : TypeTable) (at : ℕ) (op : Op) (inputs : List ℕ) (before : Expression) → Denotes (HoldsFrom 0 old) at before → Visits registry schema 0 new at before → ((n : ℕ) (op : Op) (inputs : List ℕ) → n ≢ at → HoldsExpression old n op inputs → HoldsExpression new n op inputs) → HoldsExpression new at op inputs → AllByRecursion (IsKnown new table) inputs → ((n : ℕ) → IsKnown old table n → IsKnown new table n) → IsRight registry schema old table → IsRight registry schema new table
+right_written registry schema old new table at op inputs before d v elsewhere held known knows right = record { each = λ n dtype k.
+    let e = right.each n dtype k in
+    let r = becomes registry schema 0 old new at [] before d v elsewhere n e.tree (from_zero old n e.tree e.denotes) in
+    let there = any_node 0 new n r.0 r.1 in
+    ⊎_elim
+    (λ same. record {
+      tree = r.0;
+      denotes = there;
+      typed = record { many = e.typed.many; is = r.2.typing ∙ e.typed.is };
+      inputs = λ op' inputs' h.
+          let here = subst (λ m. HoldsExpression new m op' inputs') same h in
+          subst (AllByRecursion (IsKnown new table)) (held_inputs new at op op' inputs inputs' held here) known;
+    })
+    (λ differs. node_stays registry schema old new table table n (ty dtype) e r.0 there r.2.typing (λ op inputs h. elsewhere n op inputs differs h) knows)
+    (same_or_other n at) }
+
+-- an operator that was written over operands with casts round them
+module _ (old mid new : List AExpr) (table : TypeTable) (at l r : ℕ) (left right : Node) (operator : Operator) (held : HoldsExpression old at (BinaryOp operator) (l ∷ r ∷ [])) (g1 : Grows old mid) (g2 : Grows mid new) where
+  before_write : HoldsExpression new at (BinaryOp operator) (l ∷ r ∷ [])
+  before_write = grown_elsewhere mid new g2 at _ _ (grown_elsewhere old mid g1 at _ _ held)
+
+  known_over_write : (n : ℕ) → IsKnown new table n → IsKnown (set new at (BinaryExpr left operator right)) table n
+  known_over_write =
+      let written = set new at (BinaryExpr left operator right) in
+      known_stays new written table table
+      (λ n input target options h. expression_elsewhere new at (BinaryExpr left operator right) n _ _ (λ e.
+      let same = held_op new at (BinaryOp operator) (CastOp target options) (l ∷ r ∷ []) (input ∷ []) before_write (subst (λ m. HoldsExpression new m (CastOp target options) (input ∷ [])) e h) in
+      cc) h)
+      (λ n k. k)
+
+  pub known_over_casts : (n : ℕ) → IsKnown old table n → IsKnown (set new at (BinaryExpr left operator right)) table n
+  known_over_casts n k = known_over_write n (known_grown mid new table g2 n (known_grown old mid table g1 n k))
+
+  pub right_over_casts : (registry : Registry) (schema : Columns) → ((t : Expression) → Denotes (HoldsFrom 0 old) at t → Visits registry schema 0 (set new at (BinaryExpr left operator right)) at t) → IsKnown old table at → (IsKnown old table l → IsKnown mid table left.0) → (IsKnown mid table r → IsKnown new table right.0) → IsRight registry schema old table → IsRight registry schema (set new at (BinaryExpr left operator right)) table
+  right_over_casts registry schema visit known left_known right_known is =
+      let d = known_typed registry schema old table is at known in
+      let inputs = known_inputs registry schema old table is at (BinaryOp operator) (l ∷ r ∷ []) known held in
+      let known_left = known_over_write left.0 (known_grown mid new table g2 left.0 (left_known inputs.0)) in
+      let known_right = known_over_write right.0 (right_known (known_grown old mid table g1 r inputs.1.0)) in
+      let elsewhere = λ (n : ℕ) (op : Op) (inputs : List ℕ) (differs : n ≢ at) (h : HoldsExpression old n op inputs). written_elsewhere mid new at (BinaryExpr left operator right) g2 n op inputs differs (grown_elsewhere old mid g1 n op inputs h) in
+      let there : at < length new = within new at d.tree (any_node 0 new at d.tree (tree_grown 0 0 mid new zero-le g2 at d.tree (tree_grown 0 0 old mid zero-le g1 at d.tree d.denotes))) in
+      right_written registry schema old (set new at (BinaryExpr left operator right)) table at (BinaryOp operator) (left.0 ∷ right.0 ∷ []) d.tree d.denotes (visit d.tree d.denotes) elsewhere (expression_written new at (BinaryExpr left operator right) there) (known_left, (known_right, tt)) known_over_casts is
+
+-- what is known of the nodes that wait, when the last was visited and its inputs took its place
+pub waiting_known : (items items' : List AExpr) (table : TypeTable) (at : ℕ) (rest stack : List ℕ) → AllByRecursion (IsKnown items table) (rest ++ at ∷ []) → ((n : ℕ) → IsKnown items table n → IsKnown items' table n) → HasRightTypes items' table → ((op : Op) (inputs : List ℕ) → HoldsExpression items' at op inputs → stack ≡ rest ++ inputs) → AllByRecursion (IsKnown items' table) stack
+waiting_known items items' table at rest stack known knows is pushed =
+    let here = knows at (all_last (IsKnown items table) rest at known) in
+    let typed = known_typed is.registry is.schema items' table is.right at here in
+    let top = top_held items' at typed.tree (any_node 0 items' at typed.tree typed.denotes) in
+    let inputs = known_inputs is.registry is.schema items' table is.right at top.0 top.1 here top.2 in
+    let waits = all_weaker (IsKnown items table) (IsKnown items' table) knows rest (all_front (IsKnown items table) rest (at ∷ []) known) in
+    subst (AllByRecursion (IsKnown items' table)) (sym (pushed top.0 top.1 top.2)) (all_joined (IsKnown items' table) rest top.1 waits inputs)
