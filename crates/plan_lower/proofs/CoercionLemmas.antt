@@ -1,5 +1,5 @@
 -- What the visit of a node leaves.
-use Rattle.std.proofs.Common.{◌≡◌, ◌≢◌, ℕ, ◌<◌, ◌≤◌, Bool, true, false, cond, List, [], ◌∷◌, ◌++◌, length, set, ◌&&◌, Option, Some, None, IsSome, Result, Ok, Err, refl, sym, ap, ◌∙◌, subst, arith, map}
+use Rattle.std.proofs.Common.{◌≡◌, ◌≢◌, ℕ, ◌<◌, ◌≤◌, true, false, cond, List, [], ◌∷◌, ◌++◌, length, set, ◌&&◌, Option, Some, None, IsSome, Result, Ok, Err, refl, sym, ap, ◌∙◌, subst, arith, map}
 use Rattle.std.proofs.lemmas.Bool.{false≢true}
 use Rattle.plan_types.specs.Types.{Ty, ty, same_type}
 use Rattle.plan_types.specs.Schemas.{Columns, Name, type_at}
@@ -12,22 +12,22 @@ use Rattle.plan_types.specs.declared.dtype.CastOptions.{CastOptions}
 use Rattle.plan_types.specs.declared.dtype.CastOptions.TheVariants.{NonStrict}
 use Rattle.plan_dsl.specs.declared.operator.Operator.{Operator}
 use Rattle.plan_dsl.specs.Registry.{Registry}
-use Rattle.plan_dsl.specs.Trees.{Tree, Trees, node, no_more, more, tree_depth}
+use Rattle.plan_dsl.specs.Trees.{node, no_more, more, tree_depth}
 use Rattle.plan_dsl.specs.Ops.{Op, ColumnOp, BinaryOp, CastOp, Expression}
 use Rattle.plan_dsl.specs.Typing.{Typed, Taken, typing, typed_as, column_type, then_typed, typed_before, typing_rule, operator_types}
-use Rattle.plan_dsl.specs.Strictness.{IsSame, IsStrictOver, with_cast, same_types}
+use Rattle.plan_dsl.specs.Strictness.{IsSame, with_cast, same_types}
 use Rattle.plan_dsl.proofs.SameLemmas.{same_itself}
 use Rattle.plan_dsl.proofs.CastLemmas.{if_true, if_false, casts, casts_strict, casts_same}
 use Rattle.plan_arena.specs.declared.arena.Node.{Node}
 use Rattle.plan_arena.specs.declared.aexpr.AExpr.{AExpr}
 use Rattle.plan_arena.specs.declared.aexpr.AExpr.TheVariants.{BinaryExpr, Cast}
-use Rattle.plan_arena.specs.Denotation.{Denotes, DenoteAll, DenotesTree}
+use Rattle.plan_arena.specs.Denotation.{Denotes, DenotesTree}
 use Rattle.plan_arena.specs.Layers.{shape_of}
 use Rattle.plan_arena.specs.Items.{HoldsExpression, HoldsFrom, Grows, expression_layer}
 use Rattle.plan_arena.proofs.DenotationLemmas.{denotes_one, kept_below, all_kept_below}
 use Rattle.plan_arena.proofs.ItemLemmas.{tree_grown, added_denotes, length-grown, any_node, from_laws, from_top, one_child, two_children, no_children, expression_laws, expression_elsewhere, expression_written, expression_grown, within}
 use Rattle.plan_lower.specs.Coercion.{DenotesTyped, Visits, IsCastFor, cast_round, CastsOperands}
-use Rattle.plan_lower.specs.Typed.{HasType, IsRefusal, no_room, broken}
+use Rattle.plan_lower.specs.Typed.{IsRefusal, no_room, broken}
 use Rattle.plan_lower.proofs.TypingLemmas.{AllHaveType, AllRefused}
 
 -- a typed expression is a tree

@@ -1,5 +1,5 @@
 -- Projections, output by output.
-use Rattle.std.proofs.Common.{◌≡◌, ℕ, ◌≤◌, List, [], ◌∷◌, ◌++◌, length, map, Option, Some, None, Bool, true, false, is_some, Result, Ok, Err, refl, sym, ap, ◌∙◌, subst, arith, append_assoc, append-nil}
+use Rattle.std.proofs.Common.{◌≡◌, ℕ, ◌≤◌, List, [], ◌∷◌, ◌++◌, length, map, Option, Some, None, false, is_some, refl, sym, ap, ◌∙◌, subst, arith, append_assoc, append-nil}
 use Rattle.std.specs.List.{AllByRecursion}
 use Rattle.std.proofs.lemmas.List.{map-append, length-map}
 use Rattle.plan_types.proofs.ListLemmas.{map-map}
@@ -12,23 +12,23 @@ use Rattle.plan_dsl.specs.Ops.{Op, Expression}
 use Rattle.plan_dsl.specs.Strictness.{IsStrict}
 use Rattle.plan_dsl.specs.Names.{name_of}
 use Rattle.plan_dsl.specs.Plans.{Named}
-use Rattle.plan_dsl.specs.Typing.{Typed, typing}
+use Rattle.plan_dsl.specs.Typing.{typing}
 use Rattle.plan_arena.specs.declared.aexpr.AExpr.{AExpr}
 use Rattle.plan_arena.specs.Denotation.{Denotes}
 use Rattle.plan_arena.specs.declared.expr_ir.ExprIR.{ExprIR}
 use Rattle.plan_arena.specs.Items.{HoldsFrom, HoldsExpression, Grows, DenoteNamed, named_node, expression_layer}
 use Rattle.plan_arena.specs.Layers.{shape_of, inputs_of}
 use Rattle.plan_arena.proofs.DenotationLemmas.{denotes_one}
-use Rattle.plan_arena.proofs.ItemLemmas.{any_node, tree_grown, length-grown, from_laws, expression_laws}
+use Rattle.plan_arena.proofs.ItemLemmas.{any_node, tree_grown, from_laws, expression_laws}
 use Rattle.plan_lower.specs.Coercion.{DenotesTyped, DenotesSame, KeepsBelow, IsCoerced}
 use Rattle.plan_lower.specs.KeptTypes.{IsKnown, Extends}
-use Rattle.plan_lower.specs.Outputs.{Lowered, lowered_named, lowered_column, IsLowered, SelectsTo, HasOutputs}
+use Rattle.plan_lower.specs.Outputs.{Lowered, lowered_named, lowered_column, IsLowered, HasOutputs}
 use Rattle.plan_lower.specs.declared.type_table.TypeTable.{TypeTable}
 use Rattle.plan_lower.proofs.CoercionLemmas.{grown_elsewhere}
 use Rattle.plan_lower.proofs.StackLemmas.{all_weaker, all_joined}
 use Rattle.plan_lower.proofs.TableLemmas.{known_grown, known_extended}
 use Rattle.plan_lower.specs.Typed.{HasType, IsRefusal, no_room as short, broken}
-use Rattle.plan_lower.specs.Projection.{Output, output_node, output_column, IsOutput, Projects, AddsOutput, IsOutputRefusal, no_room, untyped, repeated, IsProjectionRefusal, out_of_memory, refused}
+use Rattle.plan_lower.specs.Projection.{Output, output_node, output_column, IsOutput, Projects, AddsOutput, IsOutputRefusal, no_room, untyped, IsProjectionRefusal, refused}
 
 pub refused_output : (registry : Registry) (schema : Columns) (tree : Expression) (before : Columns) (error : PlanError) → IsRefusal (typing registry schema tree) error → IsOutputRefusal registry schema tree before error
 refused_output registry schema tree before error (short e) = no_room e

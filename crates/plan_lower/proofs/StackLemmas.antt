@@ -1,11 +1,11 @@
 -- Coercion over a work stack: what is reached is strict, but for what waits.
-use Rattle.std.proofs.Common.{◌≡◌, ◌≢◌, ◌⊎◌, ℕ, ◌<◌, ◌≤◌, List, [], ◌∷◌, ◌++◌, length, map, Option, Some, None, Result, Ok, Err, slice_get, refl, sym, ap, ◌∙◌, subst, arith, true, false, inl, inr, ⊎_elim, append_assoc}
+use Rattle.std.proofs.Common.{◌≡◌, ◌≢◌, ◌⊎◌, ℕ, ◌<◌, ◌≤◌, List, [], ◌∷◌, ◌++◌, length, map, Option, Some, Result, Ok, Err, slice_get, refl, sym, ap, ◌∙◌, subst, arith, true, false, inl, inr, ⊎_elim, append_assoc}
 use Rattle.std.specs.List.{AllByRecursion}
 use Rattle.std.proofs.lemmas.List.{map-append}
 use Rattle.std.proofs.lemmas.Bool.{false≢true}
 use Rattle.plan_types.specs.Schemas.{Columns}
 use Rattle.plan_dsl.specs.Registry.{Registry}
-use Rattle.plan_dsl.specs.Trees.{Tree, Trees, node, no_more, more, AllRelated}
+use Rattle.plan_dsl.specs.Trees.{Trees, node, no_more, more, AllRelated}
 use Rattle.plan_dsl.specs.Ops.{Op, Expression}
 use Rattle.plan_dsl.specs.Typing.{Typed, typing, typing_all, typed_before}
 use Rattle.plan_dsl.specs.Strictness.{IsSame, IsStrict, AllStrict, IsStrictOver}

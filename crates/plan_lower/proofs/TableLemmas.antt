@@ -1,5 +1,5 @@
 -- Types that are kept by node: what is known of a node, and what stays as the table, the arena or one item changes.
-use Rattle.std.proofs.Common.{◌≡◌, ◌≢◌, ◌⊎◌, ◌↔◌, ℕ, ◌<◌, ◌≤◌, ◌-◌, List, [], ◌∷◌, ◌++◌, length, map, get_or, set, true, is_some, MatchOption, Option, Some, None, Result, Ok, Err, slice_get, refl, sym, ap, ◌∙◌, subst, arith, zero-le, inl, inr, ⊎_elim, length-append, append-nil}
+use Rattle.std.proofs.Common.{◌≡◌, ◌≢◌, ◌↔◌, ℕ, ◌<◌, ◌≤◌, ◌-◌, List, [], ◌∷◌, ◌++◌, length, map, get_or, set, true, is_some, MatchOption, Option, Some, None, Ok, slice_get, refl, sym, ap, ◌∙◌, subst, arith, zero-le, ⊎_elim, length-append, append-nil}
 use Rattle.std.specs.List.{AllByRecursion}
 use Rattle.std.proofs.lemmas.Option.{slice_get_within, slice_get-get_or}
 use Rattle.std.proofs.lemmas.Bool.{cases_lt}
@@ -12,15 +12,14 @@ use Rattle.plan_types.specs.declared.dtype.CastOptions.{CastOptions}
 use Rattle.plan_types.specs.declared.dtype.CastOptions.TheVariants.{NonStrict}
 use Rattle.plan_dsl.specs.declared.operator.Operator.{Operator}
 use Rattle.plan_dsl.specs.Registry.{Registry}
-use Rattle.plan_dsl.specs.Trees.{Tree, Trees, node, no_more, more}
+use Rattle.plan_dsl.specs.Trees.{node, no_more, more}
 use Rattle.plan_dsl.specs.Ops.{Op, ColumnOp, BinaryOp, CastOp, Expression}
-use Rattle.plan_dsl.specs.Typing.{Typed, typing, then_typed, typed_before, typing_rule, typed_as, some_many}
-use Rattle.plan_dsl.specs.Strictness.{IsSame}
+use Rattle.plan_dsl.specs.Typing.{typing, then_typed, typed_before, typing_rule, some_many}
 use Rattle.plan_arena.specs.declared.arena.Node.{Node}
 use Rattle.plan_arena.specs.declared.aexpr.AExpr.{AExpr}
 use Rattle.plan_arena.specs.declared.aexpr.AExpr.TheVariants.{Column, BinaryExpr, Cast}
 use Rattle.plan_arena.specs.Denotation.{Denotes, DenotesTree, depth_at}
-use Rattle.plan_arena.specs.Layers.{Layer, layer, shape_of}
+use Rattle.plan_arena.specs.Layers.{layer, shape_of}
 use Rattle.plan_arena.specs.Items.{HoldsExpression, HoldsFrom, Grows, expression_layer}
 use Rattle.plan_arena.proofs.DenotationLemmas.{denotes_one, kept, same_or_other, inputs_denote}
 use Rattle.plan_arena.proofs.ItemLemmas.{expression_laws, from_laws, any_node, from_zero, got_held, expression_elsewhere, expression_written, expression_added, tree_grown, within}
@@ -63,9 +62,9 @@ kept_same old new same n k = record { dtype = k.dtype; keeps = (same n k.dtype).
 
 kept_more : (old new : TypeTable) (at : ℕ) (dtype : DataType) → Keeps new at dtype → ((n : ℕ) (other : DataType) → n ≢ at → Keeps old n other ↔ Keeps new n other) → (n : ℕ) → IsKept old n → IsKept new n
 kept_more old new at dtype keeps others n k = ⊎_elim
-  (λ e. record { dtype = dtype; keeps = subst (λ m. Keeps new m dtype) (sym e) keeps })
-  (λ differs. record { dtype = k.dtype; keeps = (others n k.dtype differs).0 k.keeps })
-  (same_or_other n at)
+    (λ e. record { dtype = dtype; keeps = subst (λ m. Keeps new m dtype) (sym e) keeps })
+    (λ differs. record { dtype = k.dtype; keeps = (others n k.dtype differs).0 k.keeps })
+    (same_or_other n at)
 
 -- an item of a longer list is one of the list, or behind it
 item_before : {A : Type 0} (xs : List (Option A)) (i : ℕ) (a : A) → slice_get (xs ++ None ∷ []) i ≡ Some (Some a) → slice_get xs i ≡ Some (Some a)
@@ -93,8 +92,7 @@ item_unwritten xs at y i x other h =
 -- one more empty place
 pub place_added : (old new : TypeTable) → first_node new ≡ first_node old → new.types.items ≡ old.types.items ++ None ∷ [] → (n : ℕ) (dtype : DataType) → Keeps old n dtype ↔ Keeps new n dtype
 place_added old new first grown n dtype =
-    let place = ap (λ m. n - m) first in
-    (
+    let place = ap (λ m. n - m) first in (
       λ k. (omega (arith, first), ap (λ l. slice_get l (n - new.first)) grown ∙ ap (slice_get (old.types.items ++ None ∷ [])) place ∙ slice_get-append old.types.items (None ∷ []) (n - old.first) _ k.1),
       λ k. (omega (arith, first), item_before old.types.items (n - old.first) dtype (ap (slice_get (old.types.items ++ None ∷ [])) (sym place) ∙ ap (λ l. slice_get l (n - new.first)) (sym grown) ∙ k.1)),
     )
@@ -119,15 +117,14 @@ module _ (old new : TypeTable) (at index : ℕ) (dtype : DataType) (le : first_n
   pub others_unwritten : (n : ℕ) (other : DataType) → n ≢ at → Keeps old n other ↔ Keeps new n other
   others_unwritten n other differs =
       let same = ap (λ m. n - m) first in
-      let places = set old.types.items index (Some dtype) in
-      (
+      let places = set old.types.items index (Some dtype) in (
         λ k.
-          let elsewhere : (n - old.first) ≢ index = λ e. differs (omega (arith, e, k.0)) in
-          (omega (arith, first), ap (λ l. slice_get l (n - new.first)) written ∙ ap (slice_get places) same ∙ slice_get-set_other old.types.items index (Some dtype) (n - old.first) (Some other) elsewhere k.1),
+            let elsewhere : (n - old.first) ≢ index = λ e. differs (omega (arith, e, k.0)) in
+            (omega (arith, first), ap (λ l. slice_get l (n - new.first)) written ∙ ap (slice_get places) same ∙ slice_get-set_other old.types.items index (Some dtype) (n - old.first) (Some other) elsewhere k.1),
         λ k.
-          let from : old.first ≤ n = omega (arith, first) in
-          let elsewhere : (n - old.first) ≢ index = λ e. differs (omega (arith, e, from)) in
-          (from, item_unwritten old.types.items index (Some dtype) (n - old.first) (Some other) elsewhere (ap (slice_get places) (sym same) ∙ ap (λ l. slice_get l (n - new.first)) (sym written) ∙ k.1)),
+            let from : old.first ≤ n = omega (arith, first) in
+            let elsewhere : (n - old.first) ≢ index = λ e. differs (omega (arith, e, from)) in
+            (from, item_unwritten old.types.items index (Some dtype) (n - old.first) (Some other) elsewhere (ap (slice_get places) (sym same) ∙ ap (λ l. slice_get l (n - new.first)) (sym written) ∙ k.1)),
       )
 
 -- a node with a kept type is known
@@ -242,18 +239,26 @@ node_stays registry schema items items' table table' n type e w d same stays kno
           subst (AllByRecursion (IsKnown items' table')) one (all_weaker (IsKnown items table) (IsKnown items' table') knows top.1 (e.inputs top.0 top.1 top.2));
     }
 
+-- a table that keeps nothing is right
+pub right_start : (registry : Registry) (schema : Columns) (items : List AExpr) (table : TypeTable) → ((n : ℕ) → ¬ (IsKept table n)) → IsRight registry schema items table
+right_start registry schema items table empty = record { each = λ n dtype k. absurd (empty n (record { dtype = dtype; keeps = k })) }
+
 -- kept types stay right as the arena grows
 pub right_grown : (registry : Registry) (schema : Columns) (old new : List AExpr) (table : TypeTable) → Grows old new → IsRight registry schema old table → IsRight registry schema new table
-right_grown registry schema old new table g right = record { each = λ n dtype k.
-    let e = right.each n dtype k in
-    let stays = grown_elsewhere old new g in
-    node_stays registry schema old new table table n (ty dtype) e e.tree (kept (HoldsExpression old) (HoldsExpression new) stays n e.tree e.denotes) refl (stays n) (known_grown old new table g) }
+right_grown registry schema old new table g right = record {
+  each = λ n dtype k.
+      let e = right.each n dtype k in
+      let stays = grown_elsewhere old new g in
+      node_stays registry schema old new table table n (ty dtype) e e.tree (kept (HoldsExpression old) (HoldsExpression new) stays n e.tree e.denotes) refl (stays n) (known_grown old new table g);
+}
 
 -- and where the table keeps the same
 pub right_same : (registry : Registry) (schema : Columns) (items : List AExpr) (old new : TypeTable) → ((n : ℕ) (dtype : DataType) → Keeps old n dtype ↔ Keeps new n dtype) → IsRight registry schema items old → IsRight registry schema items new
-right_same registry schema items old new same right = record { each = λ n dtype k.
-    let e = right.each n dtype ((same n dtype).1 k) in
-    node_stays registry schema items items old new n (ty dtype) e e.tree e.denotes refl (λ op inputs h. h) (known_stays items items old new (λ n input target options h. h) (kept_same old new same)) }
+right_same registry schema items old new same right = record {
+  each = λ n dtype k.
+      let e = right.each n dtype ((same n dtype).1 k) in
+      node_stays registry schema items items old new n (ty dtype) e e.tree e.denotes refl (λ op inputs h. h) (known_stays items items old new (λ n input target options h. h) (kept_same old new same));
+}
 
 -- and where it keeps the type of one more node
 pub right_more : (registry : Registry) (schema : Columns) (items : List AExpr) (old new : TypeTable) (at : ℕ) (dtype : DataType) (op : Op) (inputs : List ℕ) → HoldsExpression items at op inputs → DenotesTree (HoldsExpression items) at → AllHaveType items registry schema at (ty dtype) → AllByRecursion (IsKnown items old) inputs → Keeps new at dtype → ((n : ℕ) (other : DataType) → n ≢ at → Keeps old n other ↔ Keeps new n other) → IsRight registry schema items old → IsRight registry schema items new
@@ -266,14 +271,16 @@ right_more registry schema items old new at dtype op inputs held d typed known k
       typed = typed d.tree d.denotes;
       inputs = λ op' inputs' h. subst (AllByRecursion (IsKnown items new)) (held_inputs items at op op' inputs inputs' held h) (all_weaker (IsKnown items old) (IsKnown items new) knows inputs known);
     } in
-    record { each = λ n other k. ⊎_elim
-      (λ e.
-      let one : ty dtype ≡ ty other = ap ty (keeps_one new at dtype other keeps (subst (λ m. Keeps new m other) e k)) in
-      subst (λ m. IsTypedNode registry schema items new m (ty other)) (sym e) (subst (IsTypedNode registry schema items new at) one here))
-      (λ differs.
-      let e = right.each n other ((others n other differs).1 k) in
-      node_stays registry schema items items old new n (ty other) e e.tree e.denotes refl (λ op inputs h. h) knows)
-      (same_or_other n at) }
+    record {
+      each = λ n other k. ⊎_elim
+          (λ e.
+          let one : ty dtype ≡ ty other = ap ty (keeps_one new at dtype other keeps (subst (λ m. Keeps new m other) e k)) in
+          subst (λ m. IsTypedNode registry schema items new m (ty other)) (sym e) (subst (IsTypedNode registry schema items new at) one here))
+          (λ differs.
+          let e = right.each n other ((others n other differs).1 k) in
+          node_stays registry schema items items old new n (ty other) e e.tree e.denotes refl (λ op inputs h. h) knows)
+          (same_or_other n at);
+    }
 
 pub extends_itself : (table : TypeTable) → Extends table table
 extends_itself table = record { first = refl; kept = λ n k. k }
@@ -289,21 +296,23 @@ extends_more old new at dtype first keeps others = record { first = first; kept 
 
 -- kept types stay right where one item is written
 right_written : (registry : Registry) (schema : Columns) (old new : List AExpr) (table : TypeTable) (at : ℕ) (op : Op) (inputs : List ℕ) (before : Expression) → Denotes (HoldsFrom 0 old) at before → Visits registry schema 0 new at before → ((n : ℕ) (op : Op) (inputs : List ℕ) → n ≢ at → HoldsExpression old n op inputs → HoldsExpression new n op inputs) → HoldsExpression new at op inputs → AllByRecursion (IsKnown new table) inputs → ((n : ℕ) → IsKnown old table n → IsKnown new table n) → IsRight registry schema old table → IsRight registry schema new table
-right_written registry schema old new table at op inputs before d v elsewhere held known knows right = record { each = λ n dtype k.
-    let e = right.each n dtype k in
-    let r = becomes registry schema 0 old new at [] before d v elsewhere n e.tree (from_zero old n e.tree e.denotes) in
-    let there = any_node 0 new n r.0 r.1 in
-    ⊎_elim
-    (λ same. record {
-      tree = r.0;
-      denotes = there;
-      typed = record { many = e.typed.many; is = r.2.typing ∙ e.typed.is };
-      inputs = λ op' inputs' h.
-          let here = subst (λ m. HoldsExpression new m op' inputs') same h in
-          subst (AllByRecursion (IsKnown new table)) (held_inputs new at op op' inputs inputs' held here) known;
-    })
-    (λ differs. node_stays registry schema old new table table n (ty dtype) e r.0 there r.2.typing (λ op inputs h. elsewhere n op inputs differs h) knows)
-    (same_or_other n at) }
+right_written registry schema old new table at op inputs before d v elsewhere held known knows right = record {
+  each = λ n dtype k.
+      let e = right.each n dtype k in
+      let r = becomes registry schema 0 old new at [] before d v elsewhere n e.tree (from_zero old n e.tree e.denotes) in
+      let there = any_node 0 new n r.0 r.1 in
+      ⊎_elim
+      (λ same. record {
+        tree = r.0;
+        denotes = there;
+        typed = record { many = e.typed.many; is = r.2.typing ∙ e.typed.is };
+        inputs = λ op' inputs' h.
+            let here = subst (λ m. HoldsExpression new m op' inputs') same h in
+            subst (AllByRecursion (IsKnown new table)) (held_inputs new at op op' inputs inputs' held here) known;
+      })
+      (λ differs. node_stays registry schema old new table table n (ty dtype) e r.0 there r.2.typing (λ op inputs h. elsewhere n op inputs differs h) knows)
+      (same_or_other n at);
+}
 
 -- an operator that was written over operands with casts round them
 module _ (old mid new : List AExpr) (table : TypeTable) (at l r : ℕ) (left right : Node) (operator : Operator) (held : HoldsExpression old at (BinaryOp operator) (l ∷ r ∷ [])) (g1 : Grows old mid) (g2 : Grows mid new) where

@@ -1,6 +1,6 @@
 -- What coercion leaves.
 -- A node that was visited is strict over its inputs, and says the same as before. Other items stay.
-use Rattle.std.specs.Prelude.{◌≡◌, ◌≤◌, ℕ, Bool, true, false, List, [], ◌∷◌, map, Option, Some, None, Result, Ok}
+use Rattle.std.specs.Prelude.{◌≡◌, ◌≤◌, ℕ, true, false, List, [], ◌∷◌, map, Option, Some, None, Ok}
 use Rattle.std.specs.List.{AllByRecursion}
 use Rattle.plan_types.specs.Types.{Ty, ty, same_type}
 use Rattle.plan_types.specs.Schemas.{Columns}
@@ -8,7 +8,7 @@ use Rattle.plan_types.specs.declared.dtype.DataType.{DataType}
 use Rattle.plan_types.specs.declared.dtype.CastOptions.TheVariants.{NonStrict}
 use Rattle.plan_dsl.specs.declared.operator.Operator.{Operator}
 use Rattle.plan_dsl.specs.Registry.{Registry}
-use Rattle.plan_dsl.specs.Trees.{Tree, Trees, node, no_more, more}
+use Rattle.plan_dsl.specs.Trees.{Trees, node, no_more, more}
 use Rattle.plan_dsl.specs.Ops.{Op, CastOp, Expression}
 use Rattle.plan_dsl.specs.Typing.{Typed, typing, operator_types}
 use Rattle.plan_dsl.specs.Strictness.{IsSame, IsStrict, IsStrictOver}

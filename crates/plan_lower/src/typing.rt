@@ -42,8 +42,7 @@ pub fn type_nodes(
     }
     match arena.get(node) {
         AExpr::Column(name) => {
-            let dtype = schema.try_get(name)?;
-            let dtype = dtype.try_clone(arena.allocator())?;
+            let dtype = schema.try_get(name)?.try_clone(arena.allocator())?;
             types.keep(node, dtype)?;
             Ok(())
         }

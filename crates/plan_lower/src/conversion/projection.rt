@@ -123,7 +123,9 @@ fn project_one(
         return Err(PlanError::at_top(ErrorKind::Duplicate));
     }
     let name = expr_ir.output_name().try_clone(arena.allocator())?;
-    let dtype = types.get(expr_ir.node(), arena).try_clone(arena.allocator())?;
+    let dtype = types
+        .get(expr_ir.node(), arena)
+        .try_clone(arena.allocator())?;
     output.with_column(name, dtype)?;
     Ok(expr_ir)
 }

@@ -20,11 +20,7 @@ use plan_types::dtype::{CastOptions, DataType};
 use plan_types::error::PlanError;
 
 /// Puts casts round the operands of the node, where the types to which it takes them are others.
-pub fn coerce_node(
-    node: Node,
-    arena: &mut Arena<AExpr>,
-    types: &TypeTable,
-) -> Result<(), PlanError>
+pub fn coerce_node(node: Node, arena: &mut Arena<AExpr>, types: &TypeTable) -> Result<(), PlanError>
     requires right { HasRightTypes arena.old types.now }
     requires known { IsKnown arena.old types.now node.0 }
     ensures ok { OnOk result ((registry : Registry) (schema : Columns) (first : ℕ) (t : Expression) → IsRight registry schema arena.old types.now →

@@ -1,4 +1,4 @@
-use Rattle.std.proofs.Common.{[], ◌∷◌, sym, ap, ◌∙◌, subst, arith}
+use Rattle.std.proofs.Common.{[], sym, ap, ◌∙◌, subst, arith}
 use Rattle.plan_types.specs.Schemas.{columns}
 use Rattle.plan_types.specs.Types.{ty}
 use Rattle.plan_types.proofs.ResultLemmas.{passed_on}
@@ -19,10 +19,10 @@ pub get-requires : goal.get-requires
 get-requires t c =
     tree_within c.args.arena.now c.args.node.0 (any_tree (first_node c.args.types.now) c.args.arena.now c.args.node.0 c.requires.tree)
 
-pub returns-in_err-dtype-in-Column-clause-err : goal.returns-in_err-dtype-in-Column-clause-err
-returns-in_err-dtype-in-Column-clause-err t c =
+pub returns-in_err-try_get-in-Column-clause-err : goal.returns-in_err-try_get-in-Column-clause-err
+returns-in_err-try_get-in-Column-clause-err t c =
     let held = got_held c.args.arena.now c.args.node.0 c.get.result.now _ _ c.get.ensures (ap expression_layer c.in-Column.is) in
-    passed_on c.from_residual.result c.in_err-dtype-in-Column.field-0.0 _ c.from_residual.ensures.1 (column_refused c.args.arena.now (registry c.args.udfs.now) (columns c.args.schema.now) c.args.node.0 c.in-Column.name _ held c.in_err-dtype-in-Column.ensures.err)
+    passed_on c.from_residual.result c.in_err-try_get-in-Column.field-0.0 _ c.from_residual.ensures.1 (column_refused c.args.arena.now (registry c.args.udfs.now) (columns c.args.schema.now) c.args.node.0 c.in-Column.name _ held c.in_err-try_get-in-Column.ensures.err)
 
 pub keep-requires : goal.keep-requires
 keep-requires t c =
@@ -100,19 +100,19 @@ returns-in_err-type_nodes-in-Cast-clause-err t c =
 
 pub returns-in_ok-keep-in-Column-clause-known : goal.returns-in_ok-keep-in-Column-clause-known
 returns-in_ok-keep-in-Column-clause-known t c =
-    by_table c.args.node.0 (record { dtype = c.in_ok-dtype-in-Column-2.dtype; keeps = c.in_ok-keep-in-Column.ensures.kept })
+    by_table c.args.node.0 (record { dtype = c.in_ok-dtype-in-Column.dtype; keeps = c.in_ok-keep-in-Column.ensures.kept })
 
 pub returns-in_ok-keep-in-Column-clause-right : goal.returns-in_ok-keep-in-Column-clause-right
 returns-in_ok-keep-in-Column-clause-right t c =
     let held = got_held c.args.arena.now c.args.node.0 c.get.result.now _ _ c.get.ensures (ap expression_layer c.in-Column.is) in
     let tree = any_tree (first_node c.args.types.now) c.args.arena.now c.args.node.0 c.requires.tree in
-    let typed = column_typed c.args.arena.now (registry c.args.udfs.now) (columns c.args.schema.now) c.args.node.0 c.in-Column.name _ held c.in_ok-dtype-in-Column.ensures.ok in
-    let copied = subst (λ d. AllHaveType c.args.arena.now (registry c.args.udfs.now) (columns c.args.schema.now) c.args.node.0 (ty d)) (sym c.in_ok-dtype-in-Column-2.ensures.ok) typed in
-    right_more (registry c.args.udfs.now) (columns c.args.schema.now) c.args.arena.now c.args.types.now c.keep.new.self c.args.node.0 c.in_ok-dtype-in-Column-2.dtype _ [] held tree copied tt c.in_ok-keep-in-Column.ensures.kept c.in_ok-keep-in-Column.ensures.others c.requires.right
+    let typed = column_typed c.args.arena.now (registry c.args.udfs.now) (columns c.args.schema.now) c.args.node.0 c.in-Column.name _ held c.in_ok-try_get-in-Column.ensures.ok in
+    let copied = subst (λ d. AllHaveType c.args.arena.now (registry c.args.udfs.now) (columns c.args.schema.now) c.args.node.0 (ty d)) (sym c.in_ok-dtype-in-Column.ensures.ok) typed in
+    right_more (registry c.args.udfs.now) (columns c.args.schema.now) c.args.arena.now c.args.types.now c.keep.new.self c.args.node.0 c.in_ok-dtype-in-Column.dtype _ [] held tree copied tt c.in_ok-keep-in-Column.ensures.kept c.in_ok-keep-in-Column.ensures.others c.requires.right
 
 pub returns-in_ok-keep-in-Column-clause-extends : goal.returns-in_ok-keep-in-Column-clause-extends
 returns-in_ok-keep-in-Column-clause-extends t c =
-    extends_more c.args.types.now c.keep.new.self c.args.node.0 c.in_ok-dtype-in-Column-2.dtype c.in_ok-keep-in-Column.ensures.first c.in_ok-keep-in-Column.ensures.kept c.in_ok-keep-in-Column.ensures.others
+    extends_more c.args.types.now c.keep.new.self c.args.node.0 c.in_ok-dtype-in-Column.dtype c.in_ok-keep-in-Column.ensures.first c.in_ok-keep-in-Column.ensures.kept c.in_ok-keep-in-Column.ensures.others
 
 pub returns-in_ok-keep-in-BinaryExpr-clause-known : goal.returns-in_ok-keep-in-BinaryExpr-clause-known
 returns-in_ok-keep-in-BinaryExpr-clause-known t c =

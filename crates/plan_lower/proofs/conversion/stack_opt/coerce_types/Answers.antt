@@ -1,8 +1,8 @@
-use Rattle.std.proofs.Common.{◌≡◌, ℕ, ◌<◌, List, [], ◌∷◌, ◌++◌, length, subst, arith}
+use Rattle.std.proofs.Common.{◌<◌, length, subst, arith}
 use Rattle.std.specs.List.{AllByRecursion}
 use Rattle.plan_arena.proofs.ItemLemmas.{tree_within}
 use Rattle.plan_lower.specs.Coercion.{numbers}
-use Rattle.plan_lower.specs.KeptTypes.{HasRightTypes, IsKnown}
+use Rattle.plan_lower.specs.KeptTypes.{IsKnown}
 use Rattle.plan_lower.proofs.CoercionLemmas.{plain_tree}
 use Rattle.plan_lower.proofs.StackLemmas.{Pending, pending_start, pending_step, pending_end, pushed_one, all_last, no_numbers}
 use Rattle.plan_lower.proofs.TableLemmas.{known_typed, waiting_known}

@@ -3,7 +3,7 @@ use Rattle.std.specs.List.{AllByRecursion}
 use Rattle.plan_types.specs.Schemas.{Columns}
 use Rattle.plan_dsl.specs.Registry.{Registry}
 use Rattle.plan_lower.specs.Coercion.{DenotesTyped, numbers}
-use Rattle.plan_lower.specs.KeptTypes.{HasRightTypes, IsKnown, IsRight}
+use Rattle.plan_lower.specs.KeptTypes.{IsKnown, IsRight}
 use Rattle.plan_lower.proofs.StackLemmas.{Pending}
 use Rattle.plan_lower.proofs.conversion.stack_opt.coerce_types.Given as goal
 

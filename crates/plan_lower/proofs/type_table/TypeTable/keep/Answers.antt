@@ -1,8 +1,7 @@
-use Rattle.std.proofs.Common.{◌≡◌, ◌≤◌, ◌-◌, Some, refl, arith}
+use Rattle.std.proofs.Common.{◌-◌, Some, refl, arith}
 use Rattle.std.specs.Vec.{with_item}
-use Rattle.plan_lower.specs.KeptTypes.{first_node}
 use Rattle.plan_lower.specs.declared.type_table.TypeTable.{TypeTable}
-use Rattle.plan_lower.proofs.TableLemmas.{type_written, others_unwritten, keeps_then}
+use Rattle.plan_lower.proofs.TableLemmas.{type_written, others_unwritten}
 use Rattle.plan_lower.proofs.type_table.TypeTable.keep.Goals as goal
 
 pub returns-in_err-make_room-clause-others : goal.returns-in_err-make_room-clause-others
