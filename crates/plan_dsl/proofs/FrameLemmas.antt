@@ -7,6 +7,7 @@ use Rattle.plan_types.specs.Values.{Val, fits, all_fit}
 use Rattle.plan_types.specs.Outcomes.{Outcome, Done, Fault, Stuck, then_do, Meets}
 use Rattle.plan_types.specs.Frames.{Row, Frame, RowFits, HasNoRowsWithoutColumns, IsFrame, IsFrameOf, empty_frame, row_numbers}
 use Rattle.plan_types.specs.declared.error.ErrorKind.{ErrorKind}
+use Rattle.plan_types.proofs.ValueLemmas.{meets_then}
 use Rattle.plan_dsl.specs.Registry.{Registry}
 use Rattle.plan_dsl.specs.Trees.{Trees, node, no_more, more, fold_all}
 use Rattle.plan_dsl.specs.Ops.{Expression}
@@ -20,12 +21,6 @@ use Rattle.plan_dsl.specs.PlanMeaning.{by_meaning, source_meaning, HasTable, Fit
 use Rattle.plan_dsl.specs.Laws.{AreOf, MeaningHasType, MeaningHasSchema}
 use Rattle.plan_dsl.proofs.FitLemmas.{meaning_has_type}
 use Rattle.plan_dsl.proofs.RuleLemmas.{unbroken_kinds, unbroken_schema, as_schema_is, selected_distinct, well_formed_schema}
-
--- what goes on with what has a property
-pub meets_then : {A B : Type 0} (P : A → Type 0) (Q : B → Type 0) (o : Outcome A) (next : A → Outcome B) → Meets P o → ((a : A) → P a → Meets Q (next a)) → Meets Q (then_do o next)
-meets_then P Q (Done found) next h then = then found h
-meets_then P Q Fault next h then = tt
-meets_then P Q Stuck next h then = absurd h
 
 -- an input has a schema, and gives a frame of it unless there is a fault
 abbrev pub MeetsWhere : Option Columns → Outcome Frame → Type 0

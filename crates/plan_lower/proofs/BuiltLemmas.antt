@@ -25,18 +25,24 @@ use Rattle.plan_dsl.specs.PlanKernels.{Evaluated, selected}
 use Rattle.plan_dsl.specs.PlanMeaning.{by_meaning, source_meaning, FitsPlan}
 use Rattle.plan_dsl.proofs.KernelLemmas.{AgreeOn, selected_agrees}
 use Rattle.plan_dsl.proofs.RunLemmas.{strict_is_meaning}
-use Rattle.plan_dsl.proofs.RuleLemmas.{select_unbroken, named_columns_from_typed, select_refused_kind, select_repeated_name, broken_is_ill_formed}
+use Rattle.plan_dsl.proofs.RuleLemmas.{scan_schema, select_schema, select_refused_kind, select_repeated_name, broken_is_ill_formed}
 use Rattle.plan_arena.specs.Runs.{top_schema, by_running, plan_run, IsAccepted, IsStrictPlan, RunsSoundly}
 use Rattle.plan_arena.proofs.RunLemmas.{runs_soundly}
 use Rattle.plan_lower.specs.Outputs.{Lowered, IsLowered, lowered_named, lowered_column, over, lowered_select, SelectsTo}
 use Rattle.plan_lower.specs.Projection.{IsOutputRefusal, no_room, untyped, repeated, RefusesOne, IsProjectionRefusal, out_of_memory as no_space, refused}
 use Rattle.plan_lower.specs.Lowering.{IsBuilt, IsPlanRefusal, out_of_memory, broken, source_select}
 
+abbrev output_name : Lowered → Name
+output_name o = name_of o.tree
+
+abbrev output_typed : Lowered → Typed
+output_typed o = o.typed
+
 module _ (registry : Registry) where
   -- a scan is built from itself
   pub scan_built : (table : Option ℕ) (schema : Columns) → HasDistinctNames schema → IsBuilt registry (node (scan_op table schema) no_more) (node (scan_op table schema) no_more)
   scan_built table schema distinct =
-      let there : schema_of registry (node (scan_op table schema) no_more) ≡ Some schema = ap (λ b. cond b None (Some schema)) (test_from_distinct schema distinct) in
+      let there : schema_of registry (node (scan_op table schema) no_more) ≡ Some schema = scan_schema registry table schema distinct in
       record {
         well_formed = (ap is_some there, tt);
         schema = there;
@@ -68,14 +74,6 @@ module _ (registry : Registry) where
       let rest = agree schema os each.1 rows in
       λ i. record { name = name_of o.tree; typing = typed i; gives = gives i } ∷ rest i
 
-  -- the schema of a select whose expressions are typed, under distinct names
-  select_schema : (tree : Lowered → Expression) (outputs : List Lowered) (own schema : Columns) → AllByRecursion (λ o. typing registry schema (tree o) ≡ Ok o.typed) outputs → HasDistinctNames (map lowered_column outputs) → plan_rule registry (select_op (map (λ o. record { name = name_of o.tree; expression = tree o }) outputs) own) (Some schema ∷ []) ≡ Some (map lowered_column outputs)
-  select_schema tree outputs own schema typed distinct =
-      let name = λ (o : Lowered). name_of o.tree in
-      let type = λ (o : Lowered). o.typed in
-      ap (λ kinds. where_unbroken kinds (columns_of (signatures registry (map (λ o. record { name = name_of o.tree; expression = tree o }) outputs) schema))) (select_unbroken registry schema name tree type outputs typed distinct)
-      ∙ named_columns_from_typed registry schema name tree type outputs typed
-
   accepted_schema : (plan : Plan) → IsAccepted registry plan → schema_of registry plan ≡ Some (top_schema plan)
   accepted_schema (node op inputs) accepted = accepted.0
 
@@ -96,7 +94,7 @@ module _ (registry : Registry) where
   source_schema : (source lowered : Plan) → IsBuilt registry source lowered → (outputs : List Lowered) → AllByRecursion (IsLowered registry (top_schema lowered)) outputs → HasDistinctNames (map lowered_column outputs) → schema_of registry (source_plan outputs source) ≡ Some (map lowered_column outputs)
   source_schema source lowered built outputs each distinct =
       ap (λ s. plan_rule registry (select_op (source_outputs outputs) []) (s ∷ [])) built.schema
-      ∙ select_schema (λ o. o.tree) outputs [] (top_schema lowered) (each_typed (top_schema lowered) outputs each) distinct
+      ∙ select_schema registry (top_schema lowered) output_name (λ (o : Lowered). o.tree) output_typed [] outputs (each_typed (top_schema lowered) outputs each) distinct
 
   -- a select over what was built from its input
   built_over : (source lowered : Plan) → IsBuilt registry source lowered → (outputs : List Lowered) → AllByRecursion (IsLowered registry (top_schema lowered)) outputs → HasDistinctNames (map lowered_column outputs) → IsBuilt registry (source_plan outputs source) (lowered_select outputs lowered)
@@ -115,7 +113,7 @@ module _ (registry : Registry) where
       let schema = top_schema lowered in
       let there = source_schema source lowered built outputs each distinct in
       let here = ap (λ s. plan_rule registry (select_op (map lowered_named outputs) (map lowered_column outputs)) (s ∷ [])) (accepted_schema lowered built.accepted)
-          ∙ select_schema (λ o. o.after) outputs (map lowered_column outputs) schema (each_after_typed schema outputs each) distinct in
+          ∙ select_schema registry schema output_name (λ (o : Lowered). o.after) output_typed (map lowered_column outputs) outputs (each_after_typed schema outputs each) distinct in
       record {
         well_formed = (ap is_some there, (built.well_formed, tt));
         schema = there;
