@@ -4,7 +4,6 @@ pub mod FaultLemmas
 pub mod FormLemmas
 pub mod ItemLemmas
 pub mod LookingLemmas
-pub mod NameLemmas
 pub mod NoFaults
 pub mod QueryLaws
 pub mod TableLemmas
