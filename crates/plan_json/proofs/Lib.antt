@@ -5,5 +5,6 @@ pub mod FormLemmas
 pub mod ItemLemmas
 pub mod LookingLemmas
 pub mod NoFaults
+pub mod OnLiterals
 pub mod QueryLaws
 pub mod TableLemmas
