@@ -7,6 +7,7 @@
 mod columns;
 mod declarations;
 pub mod error;
+pub mod examples;
 mod expression;
 pub mod laws;
 mod plan;

@@ -1,4 +1,5 @@
 pub mod ListLemmas
+pub mod NameLemmas
 pub mod ResultLemmas
 pub mod SchemaLemmas
 pub mod SupertypeLemmas

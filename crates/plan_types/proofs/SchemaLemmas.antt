@@ -1,13 +1,15 @@
 -- The columns of a schema follow its map's entries. Names that are new, distinct, or repeated.
-use Rattle.std.proofs.Common.{◌≡◌, List, [], ◌∷◌, ◌++◌, map, Option, Some, None, Bool, true, false, ◌||◌, cond, is_some, refl, sym, ap, ◌∙◌, subst, Bor, append_assoc}
+use Rattle.std.proofs.Common.{◌≡◌, List, [], ◌∷◌, ◌++◌, map, Option, Some, None, true, false, ◌||◌, cond, is_some, refl, sym, ap, ◌∙◌, subst, Bor, append_assoc}
 use Rattle.std.specs.Option.{option_map, option_copied}
-use Rattle.std.specs.List.{IsDistinct, AllByRecursion, list_any}
+use Rattle.std.specs.List.{IsDistinct, AllByRecursion}
 use Rattle.std.specs.Map.{lookup, keys_of}
+use Rattle.std.proofs.lemmas.Bool.{or_parts}
 use Rattle.std.proofs.lemmas.Cmp.{nat_list_eq_equiv}
 use Rattle.indexmap.specs.IndexMap.{insert_entry}
 use Rattle.plan_types.specs.Types.{Ty, ty}
-use Rattle.plan_types.specs.Schemas.{Name, Columns, same_name, column_of, type_at, with_column, IsNewName, HasDistinctNames, repeats, names_of}
+use Rattle.plan_types.specs.Schemas.{Name, Columns, same_name, column_of, type_at, with_column, IsNewName, HasDistinctNames, is_among, repeats, names_of}
 use Rattle.plan_types.specs.declared.dtype.DataType.{DataType}
+use Rattle.plan_types.proofs.NameLemmas.{repeats-again}
 
 -- a name's type is that of its entry
 pub type_at-entries : (es : List (Name × DataType)) (name : Name) → type_at (map column_of es) name ≡ option_map ty (lookup (same_name name) es)
@@ -84,45 +86,30 @@ HasDistinctNames-push (c ∷ cs) name type h new =
     (not_the_first c (name, type) cs c.0 h.0 (nat_list_eq_equiv.symm c.0 name ∙ IsNewName-head c cs name new), HasDistinctNames-push cs name type h.1 (IsNewName-tail c cs name new))
 
 -- a name is among those of columns where it has a type
-pub any_named : (cs : Columns) (name : Name) → list_any (same_name name) (names_of cs) ≡ is_some (type_at cs name)
-any_named [] name = refl
-any_named (c ∷ cs) name =
-    elim (same_name name c.0) as (λ b. (b || list_any (same_name name) (names_of cs)) ≡ is_some (cond b (Some c.1) (type_at cs name))) [ true ↦ refl | false ↦ any_named cs name ]
-
-neither_left : (a b : Bool) → (a || b) ≡ false → a ≡ false
-neither_left true b h = h
-neither_left false b h = refl
-
-neither_right : (a b : Bool) → (a || b) ≡ false → b ≡ false
-neither_right true b h = cc
-neither_right false b h = h
+pub is_among-type_at : (cs : Columns) (name : Name) → is_among name (names_of cs) ≡ is_some (type_at cs name)
+is_among-type_at [] name = refl
+is_among-type_at (c ∷ cs) name =
+    elim (same_name name c.0) as (λ b. (b || is_among name (names_of cs)) ≡ is_some (cond b (Some c.1) (type_at cs name))) [ true ↦ refl | false ↦ is_among-type_at cs name ]
 
 none_there : (o : Option Ty) → is_some o ≡ false → o ≡ None
 none_there None h = refl
 none_there (Some x) h = cc
 
+-- a name that isn't among those of columns is new
+pub IsNewName-test : (cs : Columns) (name : Name) → is_among name (names_of cs) ≡ false → IsNewName cs name
+IsNewName-test cs name h = none_there _ (sym (is_among-type_at cs name) ∙ h)
+
 -- names are distinct where the test finds none that stands twice, and the other way round
 pub distinct_from_test : (columns : Columns) → repeats (names_of columns) ≡ false → HasDistinctNames columns
 distinct_from_test [] h = tt
 distinct_from_test (c ∷ cs) h =
-    (none_there _ (sym (any_named cs c.0) ∙ neither_left (list_any (same_name c.0) (names_of cs)) _ h), distinct_from_test cs (neither_right (list_any (same_name c.0) (names_of cs)) _ h))
+    let parts = or_parts (is_among c.0 (names_of cs)) _ h in (IsNewName-test cs c.0 parts.0, distinct_from_test cs parts.1)
 
 pub test_from_distinct : (columns : Columns) → HasDistinctNames columns → repeats (names_of columns) ≡ false
 test_from_distinct [] h = refl
 test_from_distinct (c ∷ cs) h =
-    ap (λ b. b || repeats (names_of cs)) (any_named cs c.0 ∙ ap is_some h.0) ∙ test_from_distinct cs h.1
+    ap (λ b. b || repeats (names_of cs)) (is_among-type_at cs c.0 ∙ ap is_some h.0) ∙ test_from_distinct cs h.1
 
-or_true : (a b : Bool) → b ≡ true → (a || b) ≡ true
-or_true true b h = refl
-or_true false b h = h
-
-found_among : (before : Columns) (x name : Name) (back : List Name) → same_name x name ≡ true → list_any (same_name x) (names_of before ++ name ∷ back) ≡ true
-found_among [] x name back h = ap (λ b. b || list_any (same_name x) back) h
-found_among (c ∷ cs) x name back h = or_true (same_name x c.0) _ (found_among cs x name back h)
-
--- a name that stands among earlier ones is found by the test, whatever comes behind it
+-- a name that columns have is found by the test behind theirs, whatever comes after it
 pub repeated_test : (before : Columns) (name : Name) (back : List Name) → is_some (type_at before name) ≡ true → repeats (names_of before ++ name ∷ back) ≡ true
-repeated_test [] name back h = cc
-repeated_test (c ∷ cs) name back h =
-    let later = names_of cs ++ name ∷ back in
-    elim (same_name name c.0) as (λ b. same_name name c.0 ≡ b → is_some (cond b (Some c.1) (type_at cs name)) ≡ true → (list_any (same_name c.0) later || repeats later) ≡ true) [ true ↦ λ e t. ap (λ b. b || repeats later) (found_among cs c.0 name back (nat_list_eq_equiv.symm c.0 name ∙ e)) | false ↦ λ e t. or_true (list_any (same_name c.0) later) _ (repeated_test cs name back t) ] refl h
+repeated_test before name back h = repeats-again (names_of before) name back (is_among-type_at before name ∙ h)

@@ -4,7 +4,7 @@ ghost use Rattle.std.specs.Prelude.{◌≡◌, ℕ, ◌+◌, [], ◌∷◌, pos,
 ghost use Rattle.std.specs.Global.{Vec};
 ghost use Rattle.plan_types.specs.Types.{Integer, ty, same_type};
 ghost use Rattle.plan_types.specs.Supertypes.{supertype};
-ghost use Rattle.plan_types.specs.Schemas.{type_at, with_column, repeats, names_of};
+ghost use Rattle.plan_types.specs.Schemas.{type_at, with_column, is_among, repeats, names_of};
 ghost use Rattle.plan_types.specs.Values.{NullValue, IntValue, in_range, fits, all_fit};
 ghost use Rattle.plan_types.specs.Casts.{Gives, Fails, can_cast, cast, wrapped};
 ghost use Rattle.plan_types.specs.Outcomes.{Outcome, Done, Fault, Stuck, Meets, then_do};
@@ -171,8 +171,10 @@ pub fn columns_put_in()
         ≡ (codes "a", ty Int8) ∷ (codes "b", ty Int32) ∷ (codes "c", ty UInt64) ∷ [] }
 {}
 
-/// Whether some name stands twice.
+/// Whether a name is one of a list, and whether some name stands twice.
 pub fn repeated_names()
+    ensures among { is_among (codes "b") (codes "a" ∷ codes "b" ∷ []) ≡ true }
+    ensures not_among { is_among (codes "a") (codes "ab" ∷ codes "A" ∷ []) ≡ false }
     ensures none { repeats [] ≡ false }
     ensures one { repeats (codes "a" ∷ []) ≡ false }
     ensures distinct { repeats (codes "a" ∷ codes "b" ∷ codes "ab" ∷ []) ≡ false }
