@@ -3,6 +3,7 @@
 
 pub mod aexpr;
 pub mod arena;
+pub mod examples;
 pub mod expr_ir;
 pub mod ir;
 pub mod plan;

@@ -6,4 +6,5 @@ pub mod ItemLemmas
 pub mod LookingLemmas
 pub mod NameLemmas
 pub mod NoFaults
+pub mod QueryLaws
 pub mod TableLemmas

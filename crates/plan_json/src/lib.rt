@@ -8,6 +8,7 @@ mod columns;
 mod declarations;
 pub mod error;
 mod expression;
+pub mod laws;
 mod plan;
 pub mod read;
 pub mod tables;

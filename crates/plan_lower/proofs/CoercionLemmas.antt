@@ -1,5 +1,6 @@
 -- What the visit of a node leaves.
-use Rattle.std.proofs.Common.{◌≡◌, ◌≢◌, ℕ, ◌<◌, ◌≤◌, Bool, true, false, cond, List, [], ◌∷◌, ◌++◌, length, set, ◌&&◌, Option, Some, None, Result, Ok, Err, refl, sym, ap, ◌∙◌, subst, arith, map}
+use Rattle.std.proofs.Common.{◌≡◌, ◌≢◌, ℕ, ◌<◌, ◌≤◌, true, false, cond, List, [], ◌∷◌, ◌++◌, length, set, ◌&&◌, Option, Some, None, IsSome, Result, Ok, Err, refl, sym, ap, ◌∙◌, subst, arith, map}
+use Rattle.std.proofs.lemmas.Bool.{false≢true}
 use Rattle.plan_types.specs.Types.{Ty, ty, same_type}
 use Rattle.plan_types.specs.Schemas.{Columns, Name, type_at}
 use Rattle.plan_types.specs.TypeLaws.{same_type_own}
@@ -11,22 +12,22 @@ use Rattle.plan_types.specs.declared.dtype.CastOptions.{CastOptions}
 use Rattle.plan_types.specs.declared.dtype.CastOptions.TheVariants.{NonStrict}
 use Rattle.plan_dsl.specs.declared.operator.Operator.{Operator}
 use Rattle.plan_dsl.specs.Registry.{Registry}
-use Rattle.plan_dsl.specs.Trees.{Tree, Trees, node, no_more, more, tree_depth}
+use Rattle.plan_dsl.specs.Trees.{node, no_more, more, tree_depth}
 use Rattle.plan_dsl.specs.Ops.{Op, ColumnOp, BinaryOp, CastOp, Expression}
 use Rattle.plan_dsl.specs.Typing.{Typed, Taken, typing, typed_as, column_type, then_typed, typed_before, typing_rule, operator_types}
-use Rattle.plan_dsl.specs.Strictness.{IsSame, IsStrictOver, with_cast, same_types}
+use Rattle.plan_dsl.specs.Strictness.{IsSame, with_cast, same_types}
 use Rattle.plan_dsl.proofs.SameLemmas.{same_itself}
-use Rattle.plan_dsl.proofs.CastLemmas.{if_false, casts, casts_strict, casts_same}
+use Rattle.plan_dsl.proofs.CastLemmas.{if_true, if_false, casts, casts_strict, casts_same}
 use Rattle.plan_arena.specs.declared.arena.Node.{Node}
 use Rattle.plan_arena.specs.declared.aexpr.AExpr.{AExpr}
 use Rattle.plan_arena.specs.declared.aexpr.AExpr.TheVariants.{BinaryExpr, Cast}
-use Rattle.plan_arena.specs.Denotation.{Denotes, DenoteAll, DenotesTree}
+use Rattle.plan_arena.specs.Denotation.{Denotes, DenotesTree}
 use Rattle.plan_arena.specs.Layers.{shape_of}
 use Rattle.plan_arena.specs.Items.{HoldsExpression, HoldsFrom, Grows, expression_layer}
 use Rattle.plan_arena.proofs.DenotationLemmas.{denotes_one, kept_below, all_kept_below}
 use Rattle.plan_arena.proofs.ItemLemmas.{tree_grown, added_denotes, length-grown, any_node, from_laws, from_top, one_child, two_children, no_children, expression_laws, expression_elsewhere, expression_written, expression_grown, within}
-use Rattle.plan_lower.specs.Coercion.{DenotesTyped, Visits}
-use Rattle.plan_lower.specs.Typed.{HasType, IsRefusal, no_room, broken}
+use Rattle.plan_lower.specs.Coercion.{DenotesTyped, Visits, IsCastFor, cast_round, CastsOperands}
+use Rattle.plan_lower.specs.Typed.{IsRefusal, no_room, broken}
 use Rattle.plan_lower.proofs.TypingLemmas.{AllHaveType, AllRefused}
 
 -- a typed expression is a tree
@@ -51,11 +52,20 @@ refused_typed items registry schema n error d refused =
     refused_as _ d.typed error d.is (refused d.tree (any_node 0 items n d.tree d.denotes))
 
 -- a cast that was added round a tree
-pub cast_denotes : (first : ℕ) (old new : List AExpr) (input cast : Node) (from : Ty) (target : DataType) (t : Expression) → same_type from (ty target) ≡ false → first ≤ length old → new ≡ old ++ Cast input target NonStrict ∷ [] → cast.0 ≡ length old → Denotes (HoldsFrom first old) input.0 t → Denotes (HoldsFrom first new) cast.0 (with_cast from (ty target) t)
-cast_denotes first old new input cast from target t other le grown at d =
+pub cast_denotes : (first : ℕ) (old new : List AExpr) (input cast : Node) (target : DataType) (t : Expression) → first ≤ length old → new ≡ old ++ Cast input target NonStrict ∷ [] → cast.0 ≡ length old → Denotes (HoldsFrom first old) input.0 t → Denotes (HoldsFrom first new) cast.0 (cast_round (Some target) t)
+cast_denotes first old new input cast target t le grown at d =
     let g : Grows old new = record { added = Cast input target NonStrict ∷ []; longer = grown } in
-    let made = added_denotes first old new (Cast input target NonStrict) cast.0 (CastOp (ty target) NonStrict) (input.0 ∷ []) (more t no_more) le grown at refl (tree_grown first first old new (omega arith) g input.0 t d, tt) in
-    subst (λ u. Denotes (HoldsFrom first new) cast.0 u) (sym (if_false (same_type from (ty target)) t _ other)) made
+    added_denotes first old new (Cast input target NonStrict) cast.0 (CastOp (ty target) NonStrict) (input.0 ∷ []) (more t no_more) le grown at refl (tree_grown first first old new (omega arith) g input.0 t d, tt)
+
+-- the cast that an operand needs puts a cast round it where its type is another
+round_is : (from target : Ty) (cast : Option DataType) (t : Expression) → IsCastFor from target cast → cast_round cast t ≡ with_cast from target t
+round_is from target None t is = sym (if_true (same_type from target) t _ is)
+round_is from target (Some dtype) t is =
+    ap (λ u. node (CastOp u NonStrict) (more t no_more)) is.1 ∙ sym (if_false (same_type from target) t _ is.0)
+
+has_cast : (from target : Ty) (cast : Option DataType) → IsCastFor from target cast → same_type from target ≡ false → IsSome cast
+has_cast from target None is other = absurd (false≢true (sym other ∙ is))
+has_cast from target (Some dtype) is other = refl
 
 -- a write at one node
 module _ (first : ℕ) (items : List AExpr) (at : ℕ) (item : AExpr) (t : Expression) (d : Denotes (HoldsFrom first items) at t) where
@@ -71,12 +81,16 @@ module _ (first : ℕ) (items : List AExpr) (at : ℕ) (item : AExpr) (t : Expre
       let laws = from_laws first items in
       elim (same_type from target) as (λ b. same_type from target ≡ b → Denotes holds m (cond b x (node (CastOp target NonStrict) (more x no_more))) → Denotes holds' m (cond b x (node (CastOp target NonStrict) (more x no_more)))) [ true ↦ λ e dx. kept_below shape holds holds' laws at keeps t d m x dx lt | false ↦ λ e dx. (dx.0, keeps m _ dx.0 (other e) dx.1, all_kept_below shape holds holds' laws at keeps t d dx.0 (more x no_more) dx.2 (omega arith)) ] refl dm
 
--- what `cast_to` says of the node that it answers
-abbrev pub CastsTo : List AExpr → List AExpr → ℕ → ℕ → Ty → Ty → Type 0
+-- the node stands for the operand with a cast round it where its type is another
+abbrev CastsTo : List AExpr → List AExpr → ℕ → ℕ → Ty → Ty → Type 0
 CastsTo old new n m from target = (first : ℕ) (t : Expression) → first ≤ length old → Denotes (HoldsFrom first old) n t → Denotes (HoldsFrom first new) m (with_cast from target t)
 
+casts_to : (old new : List AExpr) (n m : ℕ) (from target : Ty) (cast : Option DataType) → IsCastFor from target cast → ((first : ℕ) (t : Expression) → first ≤ length old → Denotes (HoldsFrom first old) n t → Denotes (HoldsFrom first new) m (cast_round cast t)) → CastsTo old new n m from target
+casts_to old new n m from target cast is denotes first t le d =
+    subst (Denotes (HoldsFrom first new) m) (round_is from target cast t is) (denotes first t le d)
+
 -- the visit of an operator
-pub visits_binary : (registry : Registry) (schema : Columns) (old mid new : List AExpr) (at l r : ℕ) (left right : Node) (operator : Operator) (a b c d result : Ty) → HoldsExpression old at (BinaryOp operator) (l ∷ r ∷ []) → AllHaveType old registry schema l a → AllHaveType old registry schema r b → operator_types operator (a ∷ b ∷ []) ≡ Ok (record { operands = c ∷ d ∷ []; type = result }) → Grows old mid → Grows mid new → CastsTo old mid l left.0 a c → (same_type a c ≡ false → length old ≤ left.0) → CastsTo mid new r right.0 b d → (same_type b d ≡ false → length mid ≤ right.0) → (first : ℕ) (t : Expression) → first ≤ length old → Denotes (HoldsFrom first old) at t → Visits registry schema first (set new at (BinaryExpr left operator right)) at t
+visits_binary : (registry : Registry) (schema : Columns) (old mid new : List AExpr) (at l r : ℕ) (left right : Node) (operator : Operator) (a b c d result : Ty) → HoldsExpression old at (BinaryOp operator) (l ∷ r ∷ []) → AllHaveType old registry schema l a → AllHaveType old registry schema r b → operator_types operator (a ∷ b ∷ []) ≡ Ok (record { operands = c ∷ d ∷ []; type = result }) → Grows old mid → Grows mid new → CastsTo old mid l left.0 a c → (same_type a c ≡ false → length old ≤ left.0) → CastsTo mid new r right.0 b d → (same_type b d ≡ false → length mid ≤ right.0) → (first : ℕ) (t : Expression) → first ≤ length old → Denotes (HoldsFrom first old) at t → Visits registry schema first (set new at (BinaryExpr left operator right)) at t
 visits_binary registry schema old mid new at l r left right operator a b c d result held typed_l typed_r takes g1 g2 cast_l fresh_l cast_r fresh_r first t le dt =
     let item = BinaryExpr left operator right in
     let le1 = length-grown old mid g1 in
@@ -107,6 +121,11 @@ visits_binary registry schema old mid new at l r left right operator a b c d res
       same = subst (λ u. IsSame registry schema u (node (BinaryOp operator) children)) (sym is) (casts_same registry schema operator x y a b hx.many hy.many hx.is hy.is c d result takes);
       strict = casts_strict registry schema operator x y a b hx.many hy.many hx.is hy.is c d result takes;
     }
+
+-- the same with the casts that the operands need
+pub visits_casts : (registry : Registry) (schema : Columns) (old mid new : List AExpr) (at l r : ℕ) (left right : Node) (operator : Operator) (left_cast right_cast : Option DataType) → HoldsExpression old at (BinaryOp operator) (l ∷ r ∷ []) → CastsOperands registry schema old l operator r left_cast right_cast → Grows old mid → Grows mid new → ((first : ℕ) (t : Expression) → first ≤ length old → Denotes (HoldsFrom first old) l t → Denotes (HoldsFrom first mid) left.0 (cast_round left_cast t)) → (IsSome left_cast → length old ≤ left.0) → ((first : ℕ) (t : Expression) → first ≤ length mid → Denotes (HoldsFrom first mid) r t → Denotes (HoldsFrom first new) right.0 (cast_round right_cast t)) → (IsSome right_cast → length mid ≤ right.0) → (first : ℕ) (t : Expression) → first ≤ length old → Denotes (HoldsFrom first old) at t → Visits registry schema first (set new at (BinaryExpr left operator right)) at t
+visits_casts registry schema old mid new at l r left right operator left_cast right_cast held c g1 g2 left_denotes left_fresh right_denotes right_fresh =
+    visits_binary registry schema old mid new at l r left right operator c.left_from c.right_from c.left_to c.right_to c.result held c.left_typed c.right_typed c.takes g1 g2 (casts_to old mid l left.0 c.left_from c.left_to left_cast c.left_casts left_denotes) (λ e. left_fresh (has_cast c.left_from c.left_to left_cast c.left_casts e)) (casts_to mid new r right.0 c.right_from c.right_to right_cast c.right_casts right_denotes) (λ e. right_fresh (has_cast c.right_from c.right_to right_cast c.right_casts e))
 
 -- the type of a typed expression at a node
 typed_here : (registry : Registry) (schema : Columns) (items : List AExpr) (at first : ℕ) (t : Expression) (d : DenotesTyped registry schema 0 items at) → Denotes (HoldsFrom first items) at t → typing registry schema t ≡ Ok d.typed

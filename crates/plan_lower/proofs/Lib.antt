@@ -4,4 +4,5 @@ pub mod NodeLemmas
 pub mod PlanLemmas
 pub mod ProjectionLemmas
 pub mod StackLemmas
+pub mod TableLemmas
 pub mod TypingLemmas

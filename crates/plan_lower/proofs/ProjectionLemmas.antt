@@ -1,5 +1,5 @@
 -- Projections, output by output.
-use Rattle.std.proofs.Common.{◌≡◌, ℕ, ◌≤◌, List, [], ◌∷◌, ◌++◌, length, map, Option, Some, None, Bool, true, false, is_some, Result, Ok, Err, refl, sym, ap, ◌∙◌, subst, arith, append_assoc, append-nil}
+use Rattle.std.proofs.Common.{◌≡◌, ℕ, ◌≤◌, List, [], ◌∷◌, ◌++◌, length, map, Option, Some, None, false, is_some, refl, sym, ap, ◌∙◌, subst, arith, append_assoc, append-nil}
 use Rattle.std.specs.List.{AllByRecursion}
 use Rattle.std.proofs.lemmas.List.{map-append, length-map}
 use Rattle.plan_types.proofs.ListLemmas.{map-map}
@@ -12,19 +12,23 @@ use Rattle.plan_dsl.specs.Ops.{Op, Expression}
 use Rattle.plan_dsl.specs.Strictness.{IsStrict}
 use Rattle.plan_dsl.specs.Names.{name_of}
 use Rattle.plan_dsl.specs.Plans.{Named}
-use Rattle.plan_dsl.specs.Typing.{Typed, typing}
+use Rattle.plan_dsl.specs.Typing.{typing}
 use Rattle.plan_arena.specs.declared.aexpr.AExpr.{AExpr}
 use Rattle.plan_arena.specs.Denotation.{Denotes}
 use Rattle.plan_arena.specs.declared.expr_ir.ExprIR.{ExprIR}
 use Rattle.plan_arena.specs.Items.{HoldsFrom, HoldsExpression, Grows, DenoteNamed, named_node, expression_layer}
 use Rattle.plan_arena.specs.Layers.{shape_of, inputs_of}
 use Rattle.plan_arena.proofs.DenotationLemmas.{denotes_one}
-use Rattle.plan_arena.proofs.ItemLemmas.{any_node, tree_grown, length-grown, from_laws, expression_laws}
+use Rattle.plan_arena.proofs.ItemLemmas.{any_node, tree_grown, from_laws, expression_laws}
 use Rattle.plan_lower.specs.Coercion.{DenotesTyped, DenotesSame, KeepsBelow, IsCoerced}
-use Rattle.plan_lower.specs.Outputs.{Lowered, lowered_named, lowered_column, IsLowered, SelectsTo, HasOutputs}
+use Rattle.plan_lower.specs.KeptTypes.{IsKnown, Extends}
+use Rattle.plan_lower.specs.Outputs.{Lowered, lowered_named, lowered_column, IsLowered, HasOutputs}
+use Rattle.plan_lower.specs.declared.type_table.TypeTable.{TypeTable}
 use Rattle.plan_lower.proofs.CoercionLemmas.{grown_elsewhere}
+use Rattle.plan_lower.proofs.StackLemmas.{all_weaker, all_joined}
+use Rattle.plan_lower.proofs.TableLemmas.{known_grown, known_extended}
 use Rattle.plan_lower.specs.Typed.{HasType, IsRefusal, no_room as short, broken}
-use Rattle.plan_lower.specs.Projection.{Output, output_node, output_column, IsOutput, Projects, AddsOutput, IsOutputRefusal, no_room, untyped, repeated, IsProjectionRefusal, out_of_memory, refused}
+use Rattle.plan_lower.specs.Projection.{Output, output_node, output_column, IsOutput, Projects, AddsOutput, IsOutputRefusal, no_room, untyped, IsProjectionRefusal, refused}
 
 pub refused_output : (registry : Registry) (schema : Columns) (tree : Expression) (before : Columns) (error : PlanError) → IsRefusal (typing registry schema tree) error → IsOutputRefusal registry schema tree before error
 refused_output registry schema tree before error (short e) = no_room e
@@ -118,6 +122,14 @@ projecting_refused registry schema first items whole before rest tree nodes colu
 
 pub pushed_node : (old new : List ExprIR) (e : ExprIR) → new ≡ old ++ e ∷ [] → map named_node new ≡ map named_node old ++ named_node e ∷ []
 pushed_node old new e grown = ap (map named_node) grown ∙ map-append named_node old (e ∷ [])
+
+-- one more root whose type is known
+pub roots_known : (items grown : List AExpr) (table table' : TypeTable) (exprs exprs' : List ExprIR) (e : ExprIR) → Grows items grown → Extends table table' → exprs' ≡ exprs ++ e ∷ [] → AllByRecursion (IsKnown items table) (map (λ (x : ExprIR). (named_node x).expression) exprs) → IsKnown grown table' (named_node e).expression → AllByRecursion (IsKnown grown table') (map (λ (x : ExprIR). (named_node x).expression) exprs')
+roots_known items grown table table' exprs exprs' e g x pushed known here =
+    let stays = λ (n : ℕ) (k : IsKnown items table n). known_extended grown table table' x n (known_grown items grown table g n k) in
+    let before = all_weaker (IsKnown items table) (IsKnown grown table') stays (map (λ (x : ExprIR). (named_node x).expression) exprs) known in
+    let roots = ap (map (λ (x : ExprIR). (named_node x).expression)) pushed ∙ map-append (λ (x : ExprIR). (named_node x).expression) exprs (e ∷ []) in
+    subst (AllByRecursion (IsKnown grown table')) (sym roots) (all_joined (IsKnown grown table') (map (λ (x : ExprIR). (named_node x).expression) exprs) ((named_node e).expression ∷ []) before (here, tt))
 
 -- the roots of a projection
 pub roots_are : (exprs : List ExprIR) (outputs : List Output) → map output_node outputs ≡ map named_node exprs → map (λ (e : ExprIR). (named_node e).expression) exprs ≡ map (λ (o : Output). o.node) outputs

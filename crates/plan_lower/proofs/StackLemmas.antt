@@ -1,11 +1,11 @@
 -- Coercion over a work stack: what is reached is strict, but for what waits.
-use Rattle.std.proofs.Common.{◌≡◌, ◌≢◌, ◌⊎◌, ℕ, ◌<◌, ◌≤◌, List, [], ◌∷◌, ◌++◌, length, map, Option, Some, None, Result, Ok, Err, slice_get, refl, sym, ap, ◌∙◌, subst, arith, true, false, inl, inr, ⊎_elim, append_assoc}
+use Rattle.std.proofs.Common.{◌≡◌, ◌≢◌, ◌⊎◌, ℕ, ◌<◌, ◌≤◌, List, [], ◌∷◌, ◌++◌, length, map, Option, Some, Result, Ok, Err, slice_get, refl, sym, ap, ◌∙◌, subst, arith, true, false, inl, inr, ⊎_elim, append_assoc}
 use Rattle.std.specs.List.{AllByRecursion}
 use Rattle.std.proofs.lemmas.List.{map-append}
 use Rattle.std.proofs.lemmas.Bool.{false≢true}
 use Rattle.plan_types.specs.Schemas.{Columns}
 use Rattle.plan_dsl.specs.Registry.{Registry}
-use Rattle.plan_dsl.specs.Trees.{Tree, Trees, node, no_more, more, AllRelated}
+use Rattle.plan_dsl.specs.Trees.{Trees, node, no_more, more, AllRelated}
 use Rattle.plan_dsl.specs.Ops.{Op, Expression}
 use Rattle.plan_dsl.specs.Typing.{Typed, typing, typing_all, typed_before}
 use Rattle.plan_dsl.specs.Strictness.{IsSame, IsStrict, AllStrict, IsStrictOver}
@@ -52,11 +52,11 @@ waits_but_last [] last n w = ⊎_elim (λ e. inr e) (λ v. absurd v) w
 waits_but_last (m ∷ ms) last n w =
     ⊎_elim (λ e. inl (inl e)) (λ v. ⊎_elim (λ u. inl (inr u)) (λ e. inr e) (waits_but_last ms last n v)) w
 
-all_front : (P : ℕ → Type 0) (ms ns : List ℕ) → AllByRecursion P (ms ++ ns) → AllByRecursion P ms
+pub all_front : (P : ℕ → Type 0) (ms ns : List ℕ) → AllByRecursion P (ms ++ ns) → AllByRecursion P ms
 all_front P [] ns all = tt
 all_front P (m ∷ ms) ns all = (all.0, all_front P ms ns all.1)
 
-all_joined : (P : ℕ → Type 0) (ms ns : List ℕ) → AllByRecursion P ms → AllByRecursion P ns → AllByRecursion P (ms ++ ns)
+pub all_joined : (P : ℕ → Type 0) (ms ns : List ℕ) → AllByRecursion P ms → AllByRecursion P ns → AllByRecursion P (ms ++ ns)
 all_joined P [] ns a b = b
 all_joined P (m ∷ ms) ns a b = (a.0, all_joined P ms ns a.1 b)
 
@@ -241,10 +241,6 @@ end_strict registry schema first items (n ∷ ns) all =
 pub pending_end : (registry : Registry) (schema : Columns) (first : ℕ) (old new : List AExpr) (roots : List ℕ) → Pending registry schema first old new [] roots → IsCoerced registry schema first old new roots
 pending_end registry schema first old new roots p =
     record { below = p.below; trees = p.trees; strict = end_strict registry schema first new roots p.settled }
-
--- the last that waits is typed
-pub last_typed : (registry : Registry) (schema : Columns) (old new : List AExpr) (rest roots : List ℕ) (at : ℕ) → Pending registry schema 0 old new (rest ++ at ∷ []) roots → DenotesTyped registry schema 0 new at
-last_typed registry schema old new rest roots at p = all_last (DenotesTyped registry schema 0 new) rest at p.waiting
 
 -- a list that has no item
 pub no_numbers : (nodes : List Node) → (0 < length nodes → false ≡ true) → numbers nodes ≡ []

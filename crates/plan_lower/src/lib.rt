@@ -4,4 +4,5 @@
 pub mod conversion;
 #[cfg(test)]
 mod tests;
+pub mod type_table;
 pub mod typing;

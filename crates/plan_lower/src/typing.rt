@@ -1,14 +1,16 @@
 //! Types of expressions in an arena.
-ghost use Rattle.std.specs.Prelude.{◌≡◌, [], ◌∷◌, Ok, IfOk, IfErr};
+ghost use Rattle.std.specs.Prelude.{◌≡◌, [], ◌∷◌, Ok, IfOk, IfErr, OnOk};
 ghost use Rattle.plan_types.specs.Schemas.{columns};
 ghost use Rattle.plan_types.specs.Types.{ty};
 ghost use Rattle.plan_dsl.specs.Ops.{Expression};
 ghost use Rattle.plan_dsl.specs.Registry.{registry};
 ghost use Rattle.plan_dsl.specs.Typing.{typing, operator_types};
 ghost use Rattle.plan_arena.specs.Denotation.{Denotes, DenotesTree};
-ghost use Rattle.plan_arena.specs.Items.{HoldsExpression};
-ghost use Rattle.plan_lower.specs.Typed.{HasType, IsRefusal};
+ghost use Rattle.plan_arena.specs.Items.{HoldsExpression, HoldsFrom};
+ghost use Rattle.plan_lower.specs.KeptTypes.{Extends, IsKnown, IsRight, first_node};
+ghost use Rattle.plan_lower.specs.Typed.{IsRefusal};
 
+use crate::type_table::TypeTable;
 use plan_arena::aexpr::AExpr;
 use plan_arena::arena::{Arena, Node};
 use plan_dsl::operator::Operator;
@@ -19,35 +21,43 @@ use plan_types::schema::Schema;
 use plan_types::supertype::try_get_supertype;
 use std::alloc::Global;
 
-/// The type of the expression at a node, over a frame of the schema.
-pub fn dtype_of(
+/// Types the expression at a node, over a frame of the schema. A node whose type is kept is not typed anew.
+pub fn type_nodes(
     node: Node,
     arena: &Arena<AExpr>,
     schema: &Schema,
     udfs: &Udfs,
-) -> Result<DataType, PlanError>
-    requires { DenotesTree (HoldsExpression arena.now) node.0 }
-    ensures ok { IfOk result (λ dtype. (t : Expression) → Denotes (HoldsExpression arena.now) node.0 t →
-        HasType (typing (registry udfs.now) (columns schema.now) t) (ty dtype)) }
+    types: &mut TypeTable,
+) -> Result<(), PlanError>
+    requires tree { DenotesTree (HoldsFrom (first_node types.old) arena.now) node.0 }
+    requires right { IsRight (registry udfs.now) (columns schema.now) arena.now types.old }
+    ensures known { OnOk result (IsKnown arena.now types.new node.0) }
+    ensures right { IsRight (registry udfs.now) (columns schema.now) arena.now types.new }
+    ensures extends { Extends types.old types.new }
     ensures err { IfErr result (λ error. (t : Expression) → Denotes (HoldsExpression arena.now) node.0 t →
         IsRefusal (typing (registry udfs.now) (columns schema.now) t) error) }
 {
+    if types.kept(node).is_some() {
+        return Ok(());
+    }
     match arena.get(node) {
         AExpr::Column(name) => {
-            let dtype = schema.try_get(name)?;
-            let dtype = dtype.try_clone(arena.allocator())?;
-            Ok(dtype)
+            let dtype = schema.try_get(name)?.try_clone(arena.allocator())?;
+            types.keep(node, dtype)?;
+            Ok(())
         }
         AExpr::BinaryExpr { left, op, right } => {
-            let left = dtype_of(*left, arena, schema, udfs)?;
-            let right = dtype_of(*right, arena, schema, udfs)?;
-            let taken = operand_types(arena.allocator(), &left, *op, &right)?;
-            Ok(taken.result)
+            type_nodes(*left, arena, schema, udfs, types)?;
+            type_nodes(*right, arena, schema, udfs, types)?;
+            let left = types.get(*left, arena);
+            let right = types.get(*right, arena);
+            let taken = operand_types(arena.allocator(), left, *op, right)?;
+            types.keep(node, taken.result)?;
+            Ok(())
         }
-        AExpr::Cast { expr, dtype, .. } => {
-            let _input = dtype_of(*expr, arena, schema, udfs)?;
-            let dtype = dtype.try_clone(arena.allocator())?;
-            Ok(dtype)
+        AExpr::Cast { expr, .. } => {
+            type_nodes(*expr, arena, schema, udfs, types)?;
+            Ok(())
         }
     }
 }

@@ -1,5 +1,6 @@
 //! The expressions of one node, lowered together.
-ghost use Rattle.std.specs.Prelude.{◌≡◌, ℕ, List, OnOk, IfOk, IfErr, length, map};
+ghost use Rattle.std.specs.Prelude.{◌≡◌, ◌≤◌, ℕ, List, OnOk, IfOk, IfErr, length, map};
+ghost use Rattle.std.specs.List.{AllByRecursion};
 ghost use Rattle.plan_types.specs.Errors.{no_memory};
 ghost use Rattle.plan_types.specs.Schemas.{columns};
 ghost use Rattle.plan_dsl.specs.Expressions.{tree_of};
@@ -8,12 +9,14 @@ ghost use Rattle.plan_dsl.specs.Plans.{trees_of};
 ghost use Rattle.plan_dsl.specs.Registry.{registry};
 ghost use Rattle.plan_arena.specs.Items.{named_node, Grows, HoldsExpression};
 ghost use Rattle.plan_lower.specs.Coercion.{numbers};
+ghost use Rattle.plan_lower.specs.KeptTypes.{Extends, IsKnown, IsRight, first_node};
 ghost use Rattle.plan_lower.specs.Outputs.{HasOutputs};
 ghost use Rattle.plan_lower.specs.Projection.{Projects, AddsOutput, IsOutputRefusal, IsProjectionRefusal};
 
 use crate::conversion::expr_to_ir::to_expr_ir;
 use crate::conversion::stack_opt::{Stack, coerce_types};
-use crate::typing::dtype_of;
+use crate::type_table::TypeTable;
+use crate::typing::type_nodes;
 use plan_arena::aexpr::AExpr;
 use plan_arena::arena::Arena;
 use plan_arena::expr_ir::{ExprIR, ExprIRs};
@@ -45,9 +48,10 @@ pub fn project_strictly(
         HoldsExpression arena.old n op inputs → HoldsExpression arena.new n op inputs) }
     ensures err { IfErr result (IsProjectionRefusal (registry udfs.now) (columns schema.now) (trees_of exprs)) }
 {
-    let projection = project(exprs, schema, arena, udfs)?;
+    let mut types = TypeTable::new(arena.allocator(), arena.len());
+    let projection = project(exprs, schema, arena, udfs, &mut types)?;
     let mut stack = roots_of(&projection.expr, arena.allocator())?;
-    coerce_types(&mut stack, arena, schema, udfs)?;
+    coerce_types(&mut stack, arena, &types)?;
     Ok(projection)
 }
 
@@ -69,17 +73,23 @@ pub fn project(
     schema: &Schema,
     arena: &mut Arena<AExpr>,
     udfs: &Udfs,
+    types: &mut TypeTable,
 ) -> Result<Projection, PlanError>
+    requires from { first_node types.old ≤ length arena.old }
+    requires right { IsRight (registry udfs.now) (columns schema.now) arena.old types.old }
     ensures ok { IfOk result (λ projection. Projects (registry udfs.now) (columns schema.now) (length arena.old) arena.new
         (trees_of exprs) (map named_node projection.expr.items.items) (columns projection.schema)) }
     ensures grows { Grows arena.old arena.new }
+    ensures known { IfOk result (λ projection. AllByRecursion (IsKnown arena.new types.new)
+        (map (λ e. (named_node e).expression) projection.expr.items.items)) }
+    ensures right { OnOk result (IsRight (registry udfs.now) (columns schema.now) arena.new types.new) }
     ensures err { IfErr result (IsProjectionRefusal (registry udfs.now) (columns schema.now) (trees_of exprs)) }
 {
     let alloc = arena.allocator();
     let mut items = Vec::new(alloc);
     let mut output = Schema::new(alloc);
     for expr in exprs.items {
-        let expr_ir = project_one(expr, schema, arena, udfs, &mut output)?;
+        let expr_ir = project_one(expr, schema, arena, udfs, types, &mut output)?;
         items.push(expr_ir)?;
     }
     Ok(Projection {
@@ -94,19 +104,28 @@ fn project_one(
     schema: &Schema,
     arena: &mut Arena<AExpr>,
     udfs: &Udfs,
+    types: &mut TypeTable,
     output: &mut Schema,
 ) -> Result<ExprIR, PlanError>
+    requires from { first_node types.old ≤ length arena.old }
+    requires right { IsRight (registry udfs.now) (columns schema.now) arena.old types.old }
     ensures ok { IfOk result (λ expr_ir. AddsOutput (registry udfs.now) (columns schema.now) (length arena.old) arena.new
         (tree_of expr) (named_node expr_ir) (columns output.old) (columns output.new)) }
     ensures grows { Grows arena.old arena.new }
+    ensures known { IfOk result (λ expr_ir. IsKnown arena.new types.new (named_node expr_ir).expression) }
+    ensures right { OnOk result (IsRight (registry udfs.now) (columns schema.now) arena.new types.new) }
+    ensures extends { OnOk result (Extends types.old types.new) }
     ensures err { IfErr result (IsOutputRefusal (registry udfs.now) (columns schema.now) (tree_of expr) (columns output.old)) }
 {
     let expr_ir = to_expr_ir(expr, arena)?;
-    let dtype = dtype_of(expr_ir.node(), arena, schema, udfs)?;
+    type_nodes(expr_ir.node(), arena, schema, udfs, types)?;
     if output.contains(expr_ir.output_name()) {
         return Err(PlanError::at_top(ErrorKind::Duplicate));
     }
     let name = expr_ir.output_name().try_clone(arena.allocator())?;
+    let dtype = types
+        .get(expr_ir.node(), arena)
+        .try_clone(arena.allocator())?;
     output.with_column(name, dtype)?;
     Ok(expr_ir)
 }

@@ -2,18 +2,18 @@
 ghost use Rattle.std.specs.Prelude.{◌≡◌, ℕ, ◌<◌, ◌≤◌, List, [], ◌++◌, length, IfErr, OnOk};
 ghost use Rattle.std.specs.List.{AllByRecursion};
 ghost use Rattle.plan_types.specs.Errors.{no_memory};
-ghost use Rattle.plan_types.specs.Schemas.{columns};
+ghost use Rattle.plan_types.specs.Schemas.{Columns};
 ghost use Rattle.plan_dsl.specs.Ops.{Op};
-ghost use Rattle.plan_dsl.specs.Registry.{registry};
+ghost use Rattle.plan_dsl.specs.Registry.{Registry};
 ghost use Rattle.plan_arena.specs.Items.{HoldsExpression};
 ghost use Rattle.plan_lower.specs.Coercion.{DenotesTyped, IsCoerced, numbers};
+ghost use Rattle.plan_lower.specs.KeptTypes.{HasRightTypes, IsKnown, IsRight};
 
 use crate::conversion::type_coercion::coerce_node;
+use crate::type_table::TypeTable;
 use plan_arena::aexpr::AExpr;
 use plan_arena::arena::{Arena, Node};
-use plan_dsl::udfs::Udfs;
 use plan_types::error::{ErrorKind, PlanError};
-use plan_types::schema::Schema;
 use smallvec::SmallVec;
 
 /// Nodes that wait to be visited. Most expressions need no allocation for them.
@@ -23,13 +23,13 @@ pub type Stack = SmallVec<Node, 8>;
 pub fn coerce_types(
     stack: &mut Stack,
     arena: &mut Arena<AExpr>,
-    schema: &Schema,
-    udfs: &Udfs,
+    types: &TypeTable,
 ) -> Result<(), PlanError>
-    requires { AllByRecursion (DenotesTyped (registry udfs.now) (columns schema.now) 0 arena.old) (numbers stack.old.items) }
-    ensures ok { OnOk result ((first : ℕ) → first ≤ length arena.old →
-        AllByRecursion (DenotesTyped (registry udfs.now) (columns schema.now) first arena.old) (numbers stack.old.items) →
-        IsCoerced (registry udfs.now) (columns schema.now) first arena.old arena.new (numbers stack.old.items)) }
+    requires right { HasRightTypes arena.old types.now }
+    requires known { AllByRecursion (IsKnown arena.old types.now) (numbers stack.old.items) }
+    ensures ok { OnOk result ((registry : Registry) (schema : Columns) (first : ℕ) → IsRight registry schema arena.old types.now →
+        first ≤ length arena.old → AllByRecursion (DenotesTyped registry schema first arena.old) (numbers stack.old.items) →
+        IsCoerced registry schema first arena.old arena.new (numbers stack.old.items)) }
     ensures empty { OnOk result (stack.new.items ≡ []) }
     ensures longer { length arena.old ≤ length arena.new }
     ensures err { IfErr result (λ error. error ≡ no_memory) }
@@ -40,7 +40,7 @@ pub fn coerce_types(
             None => return Ok(()),
             Some(node) => node,
         };
-        coerce_node(node, arena, schema, udfs)?;
+        coerce_node(node, arena, types)?;
         push_inputs(node, arena, stack)?;
     }
     Err(PlanError::at_top(ErrorKind::NoMemory))

@@ -1,16 +1,13 @@
-use Rattle.std.proofs.Common.{length, map, refl, ap, arith}
+use Rattle.std.proofs.Common.{map, refl, ap}
 use Rattle.std.specs.Vec.Iter.{into_iter_items}
-use Rattle.std.proofs.lemmas.List.{map-append}
-use Rattle.plan_types.specs.Schemas.{columns}
 use Rattle.plan_types.specs.Errors.{no_memory}
 use Rattle.plan_types.proofs.ResultLemmas.{passed_on}
 use Rattle.plan_dsl.specs.Expressions.{tree_of}
-use Rattle.plan_dsl.specs.Plans.{trees_of}
-use Rattle.plan_dsl.specs.Registry.{registry}
 use Rattle.plan_arena.specs.Items.{named_node}
 use Rattle.plan_arena.proofs.ItemLemmas.{length-grown, grows_then}
 use Rattle.plan_lower.specs.Projection.{no_room}
-use Rattle.plan_lower.proofs.ProjectionLemmas.{projecting_step, projecting_refused, pushed_node}
+use Rattle.plan_lower.proofs.ProjectionLemmas.{projecting_step, projecting_refused, pushed_node, roots_known}
+use Rattle.plan_lower.proofs.TableLemmas.{extends_then}
 use Rattle.plan_lower.proofs.conversion.projection.project.Goals as goal
 
 pub returns-in_err-expr_ir-clause-err : goal.returns-in_err-expr_ir-clause-err
@@ -26,5 +23,8 @@ loop-expr-preserved c = record {
   can = tt;
   finite = tt;
   grows = grows_then _ _ _ c.loop-expr.invariant.grows c.in_ok-expr_ir.ensures.grows;
+  extends = extends_then _ _ _ c.loop-expr.invariant.extends c.in_ok-expr_ir.ensures.extends;
+  right = c.in_ok-expr_ir.ensures.right;
+  known = roots_known _ _ _ _ c.loop-expr.items.items c.push.new.self.items c.in_ok-expr_ir.expr_ir c.in_ok-expr_ir.ensures.grows c.in_ok-expr_ir.ensures.extends c.in_ok-push.ensures.items c.loop-expr.invariant.known c.in_ok-expr_ir.ensures.known;
   so_far = projecting_step _ _ _ _ _ _ _ _ (tree_of c.in-Some.expr) _ _ (named_node c.in_ok-expr_ir.expr_ir) _ _ c.loop-expr.invariant.so_far (ap (map tree_of) c.in-Some.ensures.steps.0) (length-grown _ _ c.loop-expr.invariant.grows) c.in_ok-expr_ir.ensures.grows c.in_ok-expr_ir.ensures.ok (pushed_node _ _ _ c.in_ok-push.ensures.items);
 }

@@ -1,10 +1,12 @@
 use Rattle.std.proofs.Common.{length, map}
+use Rattle.std.specs.List.{AllByRecursion}
 use Rattle.std.specs.Vec.Iter.{into_iter_items}
 use Rattle.plan_types.specs.Schemas.{columns}
 use Rattle.plan_dsl.specs.Expressions.{tree_of}
 use Rattle.plan_dsl.specs.Plans.{trees_of}
 use Rattle.plan_dsl.specs.Registry.{registry}
 use Rattle.plan_arena.specs.Items.{named_node, Grows}
+use Rattle.plan_lower.specs.KeptTypes.{Extends, IsKnown, IsRight}
 use Rattle.plan_lower.proofs.ProjectionLemmas.{Projecting}
 use Rattle.plan_lower.proofs.conversion.projection.project.Given as goal
 
@@ -13,5 +15,8 @@ invariant-loop-expr l = record {
   can : (goal.iterator-loop-expr).can_next l.expr-iterator;
   finite : (goal.iterator-loop-expr).is_finite l.expr-iterator;
   grows : Grows l.initial.arena l.arena;
+  extends : Extends l.initial.types l.types;
+  right : IsRight (registry l.udfs) (columns l.schema) l.arena l.types;
+  known : AllByRecursion (IsKnown l.arena l.types) (map (λ e. (named_node e).expression) l.items.items);
   so_far : Projecting (registry l.udfs) (columns l.schema) (length l.initial.arena) l.arena (trees_of l.fn.exprs) (map tree_of (into_iter_items l.expr-iterator)) (map named_node l.items.items) (columns l.output);
 }

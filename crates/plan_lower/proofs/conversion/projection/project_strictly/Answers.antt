@@ -1,17 +1,25 @@
-use Rattle.std.proofs.Common.{ℕ, map, length, sym, ◌∙◌, subst, arith}
+use Rattle.std.proofs.Common.{length, sym, ◌∙◌, subst, arith}
 use Rattle.std.specs.List.{AllByRecursion}
 use Rattle.plan_types.specs.Schemas.{columns}
 use Rattle.plan_dsl.specs.Registry.{registry}
 use Rattle.plan_arena.proofs.ItemLemmas.{length-grown}
 use Rattle.plan_lower.specs.Coercion.{DenotesTyped, IsCoerced}
+use Rattle.plan_lower.specs.KeptTypes.{IsKnown}
 use Rattle.plan_lower.proofs.ProjectionLemmas.{roots_are, roots_typed, has_outputs, earlier_kept}
+use Rattle.plan_lower.proofs.TableLemmas.{right_start}
 use Rattle.plan_lower.proofs.conversion.projection.project_strictly.Goals as goal
 
+pub project-requires : goal.project-requires
+project-requires c = record {
+  from = omega (arith, c.new-types.ensures.first, c.len.ensures);
+  right = right_start (registry c.args.udfs.now) (columns c.args.schema.now) c.args.arena.now c.new-types.result c.new-types.ensures.empty;
+}
+
 pub coerce_types-requires : goal.coerce_types-requires
-coerce_types-requires c =
-    let p = c.in_ok-projection.ensures.ok in
-    let roots = c.in_ok-stack.ensures.ok ∙ roots_are c.in_ok-projection.projection.expr.items.items p.outputs p.nodes_are in
-    subst (AllByRecursion (DenotesTyped (registry c.args.udfs.now) (columns c.args.schema.now) 0 c.project.new.arena)) (sym roots) (roots_typed (registry c.args.udfs.now) (columns c.args.schema.now) 0 (length c.args.arena.now) c.project.new.arena (omega arith) p.outputs p.each)
+coerce_types-requires c = record {
+  right = record { registry = registry c.args.udfs.now; schema = columns c.args.schema.now; right = c.in_ok-projection.ensures.right };
+  known = subst (AllByRecursion (IsKnown c.project.new.arena c.project.new.types)) (sym c.in_ok-stack.ensures.ok) c.in_ok-projection.ensures.known;
+}
 
 pub returns-clause-ok : goal.returns-clause-ok
 returns-clause-ok c =
@@ -19,7 +27,7 @@ returns-clause-ok c =
     let first = length c.args.arena.now in
     let roots = c.in_ok-stack.ensures.ok ∙ roots_are c.in_ok-projection.projection.expr.items.items p.outputs p.nodes_are in
     let typed = subst (AllByRecursion (DenotesTyped (registry c.args.udfs.now) (columns c.args.schema.now) first c.project.new.arena)) (sym roots) (roots_typed (registry c.args.udfs.now) (columns c.args.schema.now) first first c.project.new.arena (omega arith) p.outputs p.each) in
-    let coerced = c.in_ok-coerce_types.ensures.ok first (length-grown _ _ c.in_ok-projection.ensures.grows) typed in
+    let coerced = c.in_ok-coerce_types.ensures.ok (registry c.args.udfs.now) (columns c.args.schema.now) first c.in_ok-projection.ensures.right (length-grown _ _ c.in_ok-projection.ensures.grows) typed in
     has_outputs (registry c.args.udfs.now) (columns c.args.schema.now) first c.project.new.arena c.coerce_types.new.arena _ _ _ p (subst (IsCoerced (registry c.args.udfs.now) (columns c.args.schema.now) first c.project.new.arena c.coerce_types.new.arena) roots coerced)
 
 pub returns-clause-kept : goal.returns-clause-kept
@@ -28,5 +36,5 @@ returns-clause-kept c =
     let first = length c.args.arena.now in
     let roots = c.in_ok-stack.ensures.ok ∙ roots_are c.in_ok-projection.projection.expr.items.items p.outputs p.nodes_are in
     let typed = subst (AllByRecursion (DenotesTyped (registry c.args.udfs.now) (columns c.args.schema.now) first c.project.new.arena)) (sym roots) (roots_typed (registry c.args.udfs.now) (columns c.args.schema.now) first first c.project.new.arena (omega arith) p.outputs p.each) in
-    let coerced = c.in_ok-coerce_types.ensures.ok first (length-grown _ _ c.in_ok-projection.ensures.grows) typed in
+    let coerced = c.in_ok-coerce_types.ensures.ok (registry c.args.udfs.now) (columns c.args.schema.now) first c.in_ok-projection.ensures.right (length-grown _ _ c.in_ok-projection.ensures.grows) typed in
     earlier_kept c.args.arena.now c.project.new.arena c.coerce_types.new.arena c.in_ok-projection.ensures.grows coerced.below

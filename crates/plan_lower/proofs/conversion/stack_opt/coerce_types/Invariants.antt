@@ -1,8 +1,9 @@
 use Rattle.std.proofs.Common.{ℕ, ◌≤◌, length}
 use Rattle.std.specs.List.{AllByRecursion}
-use Rattle.plan_types.specs.Schemas.{columns}
-use Rattle.plan_dsl.specs.Registry.{registry}
+use Rattle.plan_types.specs.Schemas.{Columns}
+use Rattle.plan_dsl.specs.Registry.{Registry}
 use Rattle.plan_lower.specs.Coercion.{DenotesTyped, numbers}
+use Rattle.plan_lower.specs.KeptTypes.{IsKnown, IsRight}
 use Rattle.plan_lower.proofs.StackLemmas.{Pending}
 use Rattle.plan_lower.proofs.conversion.stack_opt.coerce_types.Given as goal
 
@@ -10,5 +11,7 @@ abbrev pub invariant-loop-turn : goal.invariant-loop-turn
 invariant-loop-turn l =
     record {
       longer : length l.initial.arena ≤ length l.arena;
-      pending : (first : ℕ) → first ≤ length l.initial.arena → AllByRecursion (DenotesTyped (registry l.udfs) (columns l.schema) first l.initial.arena) (numbers l.initial.stack.items) → Pending (registry l.udfs) (columns l.schema) first l.initial.arena l.arena (numbers l.stack.items) (numbers l.initial.stack.items);
+      known : AllByRecursion (IsKnown l.arena l.types) (numbers l.stack.items);
+      right : (registry : Registry) (schema : Columns) → IsRight registry schema l.initial.arena l.types → IsRight registry schema l.arena l.types;
+      pending : (registry : Registry) (schema : Columns) (first : ℕ) → IsRight registry schema l.initial.arena l.types → first ≤ length l.initial.arena → AllByRecursion (DenotesTyped registry schema first l.initial.arena) (numbers l.initial.stack.items) → Pending registry schema first l.initial.arena l.arena (numbers l.stack.items) (numbers l.initial.stack.items);
     }

@@ -1,0 +1,352 @@
+-- Types that are kept by node: what is known of a node, and what stays as the table, the arena or one item changes.
+use Rattle.std.proofs.Common.{◌≡◌, ◌≢◌, ◌↔◌, ℕ, ◌<◌, ◌≤◌, ◌-◌, List, [], ◌∷◌, ◌++◌, length, map, get_or, set, true, is_some, MatchOption, Option, Some, None, Ok, slice_get, refl, sym, ap, ◌∙◌, subst, arith, zero-le, ⊎_elim, length-append, append-nil}
+use Rattle.std.specs.List.{AllByRecursion}
+use Rattle.std.proofs.lemmas.Option.{slice_get_within, slice_get-get_or}
+use Rattle.std.proofs.lemmas.Bool.{cases_lt}
+use Rattle.std.proofs.Math.ListN.{length-set}
+use Rattle.plan_types.proofs.ListLemmas.{slice_get-append, slice_get-seam, slice_get-set_other, slice_get-set_same}
+use Rattle.plan_types.specs.Types.{Ty, ty}
+use Rattle.plan_types.specs.Schemas.{Columns}
+use Rattle.plan_types.specs.declared.dtype.DataType.{DataType}
+use Rattle.plan_types.specs.declared.dtype.CastOptions.{CastOptions}
+use Rattle.plan_types.specs.declared.dtype.CastOptions.TheVariants.{NonStrict}
+use Rattle.plan_dsl.specs.declared.operator.Operator.{Operator}
+use Rattle.plan_dsl.specs.Registry.{Registry}
+use Rattle.plan_dsl.specs.Trees.{node, no_more, more}
+use Rattle.plan_dsl.specs.Ops.{Op, ColumnOp, BinaryOp, CastOp, Expression}
+use Rattle.plan_dsl.specs.Typing.{typing, then_typed, typed_before, typing_rule, some_many}
+use Rattle.plan_arena.specs.declared.arena.Node.{Node}
+use Rattle.plan_arena.specs.declared.aexpr.AExpr.{AExpr}
+use Rattle.plan_arena.specs.declared.aexpr.AExpr.TheVariants.{Column, BinaryExpr, Cast}
+use Rattle.plan_arena.specs.Denotation.{Denotes, DenotesTree, depth_at}
+use Rattle.plan_arena.specs.Layers.{layer, shape_of}
+use Rattle.plan_arena.specs.Items.{HoldsExpression, HoldsFrom, Grows, expression_layer}
+use Rattle.plan_arena.proofs.DenotationLemmas.{denotes_one, kept, same_or_other, inputs_denote}
+use Rattle.plan_arena.proofs.ItemLemmas.{expression_laws, from_laws, any_node, from_zero, got_held, expression_elsewhere, expression_written, expression_added, tree_grown, within}
+use Rattle.plan_lower.specs.declared.type_table.TypeTable.{TypeTable}
+use Rattle.plan_lower.specs.Coercion.{DenotesTyped, Visits}
+use Rattle.plan_lower.specs.KeptTypes.{Keeps, IsKept, Extends, IsKnown, by_table, by_cast, IsTypedNode, IsRight, HasRightTypes, first_node}
+use Rattle.plan_lower.specs.Typed.{HasType}
+use Rattle.plan_lower.proofs.CoercionLemmas.{grown_elsewhere, written_elsewhere}
+use Rattle.plan_lower.proofs.StackLemmas.{becomes, all_weaker, all_front, all_joined, all_last}
+use Rattle.plan_lower.proofs.TypingLemmas.{AllHaveType, cast_typed}
+
+layer_op : (a b : Op) (ms ns : List ℕ) → layer a ms ≡ layer b ns → a ≡ b
+layer_op a b ms ns e = cc
+
+layer_inputs : (a b : Op) (ms ns : List ℕ) → layer a ms ≡ layer b ns → ms ≡ ns
+layer_inputs a b ms ns e = cc
+
+some_same : {A : Type 0} (o : Option A) (x y : A) → o ≡ Some x → o ≡ Some y → x ≡ y
+some_same o x y p q = cc
+
+-- a node holds one op over one list of inputs
+held_op : (items : List AExpr) (n : ℕ) (a b : Op) (ms ns : List ℕ) → HoldsExpression items n a ms → HoldsExpression items n b ns → a ≡ b
+held_op items n a b ms ns h k = layer_op a b ms ns (some_same (slice_get (map expression_layer items) n) _ _ h k)
+
+held_inputs : (items : List AExpr) (n : ℕ) (a b : Op) (ms ns : List ℕ) → HoldsExpression items n a ms → HoldsExpression items n b ns → ms ≡ ns
+held_inputs items n a b ms ns h k = layer_inputs a b ms ns (some_same (slice_get (map expression_layer items) n) _ _ h k)
+
+-- the items of typed casts stay, and so do kept types
+known_stays : (items items' : List AExpr) (table table' : TypeTable) → ((n input : ℕ) (target : Ty) (options : CastOptions) → HoldsExpression items n (CastOp target options) (input ∷ []) → HoldsExpression items' n (CastOp target options) (input ∷ [])) → ((n : ℕ) → IsKept table n → IsKept table' n) → (n : ℕ) → IsKnown items table n → IsKnown items' table' n
+known_stays items items' table table' holds keeps n (by_table m k) = by_table m (keeps m k)
+known_stays items items' table table' holds keeps n (by_cast m input target options h k) =
+    by_cast m input target options (holds m input target options h) (known_stays items items' table table' holds keeps input k)
+
+-- a table keeps one type for a node
+keeps_one : (table : TypeTable) (n : ℕ) (a b : DataType) → Keeps table n a → Keeps table n b → a ≡ b
+keeps_one table n a b k l = let e = some_same (slice_get table.types.items (n - table.first)) (Some a) (Some b) k.1 l.1 in cc
+
+kept_same : (old new : TypeTable) → ((n : ℕ) (dtype : DataType) → Keeps old n dtype ↔ Keeps new n dtype) → (n : ℕ) → IsKept old n → IsKept new n
+kept_same old new same n k = record { dtype = k.dtype; keeps = (same n k.dtype).0 k.keeps }
+
+kept_more : (old new : TypeTable) (at : ℕ) (dtype : DataType) → Keeps new at dtype → ((n : ℕ) (other : DataType) → n ≢ at → Keeps old n other ↔ Keeps new n other) → (n : ℕ) → IsKept old n → IsKept new n
+kept_more old new at dtype keeps others n k = ⊎_elim
+    (λ e. record { dtype = dtype; keeps = subst (λ m. Keeps new m dtype) (sym e) keeps })
+    (λ differs. record { dtype = k.dtype; keeps = (others n k.dtype differs).0 k.keeps })
+    (same_or_other n at)
+
+-- an item of a longer list is one of the list, or behind it
+item_before : {A : Type 0} (xs : List (Option A)) (i : ℕ) (a : A) → slice_get (xs ++ None ∷ []) i ≡ Some (Some a) → slice_get xs i ≡ Some (Some a)
+item_before xs i a h =
+    let within = slice_get_within (xs ++ None ∷ []) i (Some a) h in
+    ⊎_elim
+    (λ lt.
+    let got = slice_get-get_or xs i None lt in
+    got ∙ ap Some (some_same (slice_get (xs ++ None ∷ []) i) (get_or xs i None) (Some a) (slice_get-append xs (None ∷ []) i (get_or xs i None) got) h))
+    (λ le.
+    let e : length xs ≡ i = omega (arith, length-append xs (None ∷ [])) in
+    let last = subst (λ j. slice_get (xs ++ None ∷ []) j ≡ Some None) e (slice_get-seam xs None []) in
+    let none : None ≡ Some a = some_same (slice_get (xs ++ None ∷ []) i) None (Some a) last h in
+    cc)
+    (cases_lt i (length xs))
+
+-- an item that was there before a write elsewhere
+item_unwritten : {A : Type 0} (xs : List A) (at : ℕ) (y : A) (i : ℕ) (x : A) → i ≢ at → slice_get (set xs at y) i ≡ Some x → slice_get xs i ≡ Some x
+item_unwritten xs at y i x other h =
+    let within = slice_get_within (set xs at y) i x h in
+    let here : i < length xs = omega (arith, length-set xs at y) in
+    let got = slice_get-get_or xs i x here in
+    got ∙ ap Some (some_same (slice_get (set xs at y) i) (get_or xs i x) x (slice_get-set_other xs at y i (get_or xs i x) other got) h)
+
+-- one more empty place
+pub place_added : (old new : TypeTable) → first_node new ≡ first_node old → new.types.items ≡ old.types.items ++ None ∷ [] → (n : ℕ) (dtype : DataType) → Keeps old n dtype ↔ Keeps new n dtype
+place_added old new first grown n dtype =
+    let place = ap (λ m. n - m) first in (
+      λ k. (omega (arith, first), ap (λ l. slice_get l (n - new.first)) grown ∙ ap (slice_get (old.types.items ++ None ∷ [])) place ∙ slice_get-append old.types.items (None ∷ []) (n - old.first) _ k.1),
+      λ k. (omega (arith, first), item_before old.types.items (n - old.first) dtype (ap (slice_get (old.types.items ++ None ∷ [])) (sym place) ∙ ap (λ l. slice_get l (n - new.first)) (sym grown) ∙ k.1)),
+    )
+
+-- the same places
+pub places_same : (old new : TypeTable) → first_node new ≡ first_node old → new.types.items ≡ old.types.items → (n : ℕ) (dtype : DataType) → Keeps old n dtype ↔ Keeps new n dtype
+places_same old new first same n dtype =
+    let place = ap (λ m. n - m) first in
+    let one = ap (λ l. slice_get l (n - new.first)) same ∙ ap (slice_get old.types.items) place in
+    (λ k. (omega (arith, first), one ∙ k.1), λ k. (omega (arith, first), sym one ∙ k.1))
+
+pub keeps_then : (a b c : TypeTable) → ((n : ℕ) (dtype : DataType) → Keeps a n dtype ↔ Keeps b n dtype) → ((n : ℕ) (dtype : DataType) → Keeps b n dtype ↔ Keeps c n dtype) → (n : ℕ) (dtype : DataType) → Keeps a n dtype ↔ Keeps c n dtype
+keeps_then a b c p q n dtype = (λ k. (q n dtype).0 ((p n dtype).0 k), λ k. (p n dtype).1 ((q n dtype).1 k))
+
+-- a type that was written at its place
+module _ (old new : TypeTable) (at index : ℕ) (dtype : DataType) (le : first_node old ≤ at) (place : index ≡ at - first_node old) (first : first_node new ≡ first_node old) (written : new.types.items ≡ set old.types.items index (Some dtype)) where
+  pub type_written : index < length old.types.items → Keeps new at dtype
+  type_written within =
+      let here = ap (λ m. at - m) first ∙ sym place in
+      (omega (arith, first), ap (λ l. slice_get l (at - new.first)) written ∙ ap (slice_get (set old.types.items index (Some dtype))) here ∙ slice_get-set_same old.types.items index (Some dtype) within)
+
+  pub others_unwritten : (n : ℕ) (other : DataType) → n ≢ at → Keeps old n other ↔ Keeps new n other
+  others_unwritten n other differs =
+      let same = ap (λ m. n - m) first in
+      let places = set old.types.items index (Some dtype) in (
+        λ k.
+            let elsewhere : (n - old.first) ≢ index = λ e. differs (omega (arith, e, k.0)) in
+            (omega (arith, first), ap (λ l. slice_get l (n - new.first)) written ∙ ap (slice_get places) same ∙ slice_get-set_other old.types.items index (Some dtype) (n - old.first) (Some other) elsewhere k.1),
+        λ k.
+            let from : old.first ≤ n = omega (arith, first) in
+            let elsewhere : (n - old.first) ≢ index = λ e. differs (omega (arith, e, from)) in
+            (from, item_unwritten old.types.items index (Some dtype) (n - old.first) (Some other) elsewhere (ap (slice_get places) (sym same) ∙ ap (λ l. slice_get l (n - new.first)) (sym written) ∙ k.1)),
+      )
+
+-- a node with a kept type is known
+pub found_known : {A : Type 0} (items : List AExpr) (table : TypeTable) (n : ℕ) (value : A → DataType) (found : Option A) → MatchOption found (¬ (IsKept table n)) (λ x. Keeps table n (value x)) → is_some found ≡ true → IsKnown items table n
+found_known items table n value None m e = cc
+found_known items table n value (Some x) m e = by_table n (record { dtype = value x; keeps = m })
+
+-- what is known stays as the arena grows
+pub known_grown : (old new : List AExpr) (table : TypeTable) → Grows old new → (n : ℕ) → IsKnown old table n → IsKnown new table n
+known_grown old new table g =
+    known_stays old new table table (λ n input target options h. grown_elsewhere old new g n _ _ h) (λ n k. k)
+
+-- and as the table keeps more
+pub known_extended : (items : List AExpr) (old new : TypeTable) → Extends old new → (n : ℕ) → IsKnown items old n → IsKnown items new n
+known_extended items old new longer = known_stays items items old new (λ n input target options h. h) longer.kept
+
+-- what is held at the top of a tree
+top_held : (items : List AExpr) (n : ℕ) (t : Expression) → Denotes (HoldsExpression items) n t → (op : Op) × (inputs : List ℕ) × HoldsExpression items n op inputs
+top_held items n (node op ts) d = (op, d.0, d.1)
+
+-- the type of a node that is no cast is known where it is kept
+pub known_kept : (items : List AExpr) (table : TypeTable) (n : ℕ) (op : Op) (inputs : List ℕ) → IsKnown items table n → HoldsExpression items n op inputs → ((target : Ty) (options : CastOptions) → op ≢ CastOp target options) → IsKept table n
+known_kept items table n op inputs (by_table m k) held other = k
+known_kept items table n op inputs (by_cast m input target options h k) held other =
+    absurd (other target options (held_op items m op (CastOp target options) inputs (input ∷ []) held h))
+
+-- such a node by its item
+pub got_kept : (items : List AExpr) (table : TypeTable) (n : ℕ) (item : AExpr) → slice_get items n ≡ Some item → ((input : Node) (dtype : DataType) (options : CastOptions) → item ≢ Cast input dtype options) → IsKnown items table n → IsKept table n
+got_kept items table n (Column name) got other k =
+    known_kept items table n (ColumnOp _) [] k (got_held items n (Column name) _ _ got refl) (λ target options e. cc)
+got_kept items table n (BinaryExpr left operator right) got other k =
+    known_kept items table n (BinaryOp operator) _ k (got_held items n (BinaryExpr left operator right) _ _ got refl) (λ target options e. cc)
+got_kept items table n (Cast input dtype options) got other k = absurd (other input dtype options refl)
+
+module _ (registry : Registry) (schema : Columns) (items : List AExpr) (table : TypeTable) (right : IsRight registry schema items table) where
+  -- a node whose type is known denotes a typed expression
+  pub known_typed : (n : ℕ) → IsKnown items table n → DenotesTyped registry schema 0 items n
+  known_typed n (by_table m k) =
+      let e = right.each m k.dtype k.keeps in
+      record { tree = e.tree; denotes = from_zero items m e.tree e.denotes; typed = record { type = ty k.dtype; many = e.typed.many }; is = e.typed.is }
+  known_typed n (by_cast m input target options h k) =
+      let d = known_typed input k in
+      record {
+        tree = node (CastOp target options) (more d.tree no_more);
+        denotes = (input ∷ [], (zero-le, h), (d.denotes, tt));
+        typed = record { type = target; many = some_many (d.typed ∷ []) };
+        is = ap (λ r. then_typed (typed_before r (Ok [])) (typing_rule registry schema (CastOp target options))) d.is;
+      }
+
+  -- so do its inputs
+  pub known_inputs : (n : ℕ) (op : Op) (inputs : List ℕ) → IsKnown items table n → HoldsExpression items n op inputs → AllByRecursion (IsKnown items table) inputs
+  known_inputs n op inputs (by_table m k) held = (right.each m k.dtype k.keeps).inputs op inputs held
+  known_inputs n op inputs (by_cast m input target options h k) held =
+      subst (AllByRecursion (IsKnown items table)) (held_inputs items m (CastOp target options) op (input ∷ []) inputs h held) (k, tt)
+
+  -- each expression at the node has one type
+  pub known_type : (n : ℕ) (k : IsKnown items table n) → AllHaveType items registry schema n (known_typed n k).typed.type
+  known_type n k t d =
+      let e = known_typed n k in
+      let one = denotes_one _ (HoldsExpression items) (expression_laws items) n e.tree t (any_node 0 items n e.tree e.denotes) d in
+      record { many = e.typed.many; is = ap (typing registry schema) (sym one) ∙ e.is }
+
+  -- which is the kept one
+  pub kept_type : (n : ℕ) (dtype : DataType) → Keeps table n dtype → AllHaveType items registry schema n (ty dtype)
+  kept_type n dtype k t d =
+      let e = right.each n dtype k in
+      subst (λ u. HasType (typing registry schema u) (ty dtype)) (denotes_one _ (HoldsExpression items) (expression_laws items) n e.tree t e.denotes d) e.typed
+
+  -- or a cast's target
+  pub cast_type : (n input : ℕ) (target : Ty) (options : CastOptions) → IsKnown items table n → HoldsExpression items n (CastOp target options) (input ∷ []) → AllHaveType items registry schema n target
+  cast_type n input target options k held =
+      let below = known_inputs n (CastOp target options) (input ∷ []) k held in
+      cast_typed items registry schema n target options input held _ (known_type input below.0)
+
+-- trees of nodes from a number on
+from_number : (first : ℕ) (items : List AExpr) (n : ℕ) (t : Expression) → Denotes (HoldsFrom first items) n t → first ≤ n
+from_number first items n (node op ts) d = d.1.0
+
+pub tree_from : (first : ℕ) (items : List AExpr) (n : ℕ) → DenotesTree (HoldsFrom first items) n → first ≤ n
+tree_from first items n d = from_number first items n d.tree d.denotes
+
+pub any_tree : (first : ℕ) (items : List AExpr) (n : ℕ) → DenotesTree (HoldsFrom first items) n → DenotesTree (HoldsExpression items) n
+any_tree first items n d = record { tree = d.tree; denotes = any_node first items n d.tree d.denotes }
+
+-- the tree that was added from there on
+pub tree_added : (first at : ℕ) (items : List AExpr) (asked n : ℕ) (t : Expression) → first ≤ at → asked ≡ n → Denotes (HoldsFrom at items) n t → DenotesTree (HoldsFrom first items) asked
+tree_added first at items asked n t le same d =
+    let nothing : Grows items items = record { added = []; longer = sym (append-nil items) } in
+    record { tree = t; denotes = subst (λ m. Denotes (HoldsFrom first items) m t) (sym same) (tree_grown at first items items le nothing n t d) }
+
+-- their inputs are trees of such nodes, and lead less far down
+pub inputs_from : (first : ℕ) (items : List AExpr) (n : ℕ) (op : Op) (inputs : List ℕ) → HoldsExpression items n op inputs → DenotesTree (HoldsFrom first items) n → AllByRecursion (λ m. DenotesTree (HoldsFrom first items) m × (depth_at (shape_of (map expression_layer items)) m < depth_at (shape_of (map expression_layer items)) n)) inputs
+inputs_from first items n op inputs held d =
+    inputs_denote _ (HoldsFrom first items) (from_laws first items) n op inputs (tree_from first items n d, held) d
+
+-- a cast that was added round a node whose type is known
+pub cast_known : (old new : List AExpr) (table : TypeTable) (input cast : Node) (target : DataType) → new ≡ old ++ Cast input target NonStrict ∷ [] → cast.0 ≡ length old → IsKnown old table input.0 → IsKnown new table cast.0
+cast_known old new table input cast target grown at k =
+    let held : HoldsExpression new cast.0 (CastOp (ty target) NonStrict) (input.0 ∷ []) = rw (grown, at) (expression_added old (Cast input target NonStrict)) in
+    by_cast cast.0 input.0 (ty target) NonStrict held (known_grown old new table (record { added = Cast input target NonStrict ∷ []; longer = grown }) input.0 k)
+
+-- a typed node stays one where its tree becomes one that is typed alike, its item stays, and so does what is known
+node_stays : (registry : Registry) (schema : Columns) (items items' : List AExpr) (table table' : TypeTable) (n : ℕ) (type : Ty) (e : IsTypedNode registry schema items table n type) (w : Expression) → Denotes (HoldsExpression items') n w → typing registry schema w ≡ typing registry schema e.tree → ((op : Op) (inputs : List ℕ) → HoldsExpression items n op inputs → HoldsExpression items' n op inputs) → ((m : ℕ) → IsKnown items table m → IsKnown items' table' m) → IsTypedNode registry schema items' table' n type
+node_stays registry schema items items' table table' n type e w d same stays knows =
+    let top = top_held items n e.tree e.denotes in
+    record {
+      tree = w;
+      denotes = d;
+      typed = record { many = e.typed.many; is = same ∙ e.typed.is };
+      inputs = λ op inputs h.
+          let one = held_inputs items' n top.0 op top.1 inputs (stays top.0 top.1 top.2) h in
+          subst (AllByRecursion (IsKnown items' table')) one (all_weaker (IsKnown items table) (IsKnown items' table') knows top.1 (e.inputs top.0 top.1 top.2));
+    }
+
+-- a table that keeps nothing is right
+pub right_start : (registry : Registry) (schema : Columns) (items : List AExpr) (table : TypeTable) → ((n : ℕ) → ¬ (IsKept table n)) → IsRight registry schema items table
+right_start registry schema items table empty = record { each = λ n dtype k. absurd (empty n (record { dtype = dtype; keeps = k })) }
+
+-- kept types stay right as the arena grows
+pub right_grown : (registry : Registry) (schema : Columns) (old new : List AExpr) (table : TypeTable) → Grows old new → IsRight registry schema old table → IsRight registry schema new table
+right_grown registry schema old new table g right = record {
+  each = λ n dtype k.
+      let e = right.each n dtype k in
+      let stays = grown_elsewhere old new g in
+      node_stays registry schema old new table table n (ty dtype) e e.tree (kept (HoldsExpression old) (HoldsExpression new) stays n e.tree e.denotes) refl (stays n) (known_grown old new table g);
+}
+
+-- and where the table keeps the same
+pub right_same : (registry : Registry) (schema : Columns) (items : List AExpr) (old new : TypeTable) → ((n : ℕ) (dtype : DataType) → Keeps old n dtype ↔ Keeps new n dtype) → IsRight registry schema items old → IsRight registry schema items new
+right_same registry schema items old new same right = record {
+  each = λ n dtype k.
+      let e = right.each n dtype ((same n dtype).1 k) in
+      node_stays registry schema items items old new n (ty dtype) e e.tree e.denotes refl (λ op inputs h. h) (known_stays items items old new (λ n input target options h. h) (kept_same old new same));
+}
+
+-- and where it keeps the type of one more node
+pub right_more : (registry : Registry) (schema : Columns) (items : List AExpr) (old new : TypeTable) (at : ℕ) (dtype : DataType) (op : Op) (inputs : List ℕ) → HoldsExpression items at op inputs → DenotesTree (HoldsExpression items) at → AllHaveType items registry schema at (ty dtype) → AllByRecursion (IsKnown items old) inputs → Keeps new at dtype → ((n : ℕ) (other : DataType) → n ≢ at → Keeps old n other ↔ Keeps new n other) → IsRight registry schema items old → IsRight registry schema items new
+right_more registry schema items old new at dtype op inputs held d typed known keeps others right =
+    let stays = kept_more old new at dtype keeps others in
+    let knows = known_stays items items old new (λ n input target options h. h) stays in
+    let here : IsTypedNode registry schema items new at (ty dtype) = record {
+      tree = d.tree;
+      denotes = d.denotes;
+      typed = typed d.tree d.denotes;
+      inputs = λ op' inputs' h. subst (AllByRecursion (IsKnown items new)) (held_inputs items at op op' inputs inputs' held h) (all_weaker (IsKnown items old) (IsKnown items new) knows inputs known);
+    } in
+    record {
+      each = λ n other k. ⊎_elim
+          (λ e.
+          let one : ty dtype ≡ ty other = ap ty (keeps_one new at dtype other keeps (subst (λ m. Keeps new m other) e k)) in
+          subst (λ m. IsTypedNode registry schema items new m (ty other)) (sym e) (subst (IsTypedNode registry schema items new at) one here))
+          (λ differs.
+          let e = right.each n other ((others n other differs).1 k) in
+          node_stays registry schema items items old new n (ty other) e e.tree e.denotes refl (λ op inputs h. h) knows)
+          (same_or_other n at);
+    }
+
+pub extends_itself : (table : TypeTable) → Extends table table
+extends_itself table = record { first = refl; kept = λ n k. k }
+
+pub extends_then : (a b c : TypeTable) → Extends a b → Extends b c → Extends a c
+extends_then a b c x y = record { first = y.first ∙ x.first; kept = λ n k. y.kept n (x.kept n k) }
+
+pub extends_same : (old new : TypeTable) → first_node new ≡ first_node old → ((n : ℕ) (dtype : DataType) → Keeps old n dtype ↔ Keeps new n dtype) → Extends old new
+extends_same old new first same = record { first = first; kept = kept_same old new same }
+
+pub extends_more : (old new : TypeTable) (at : ℕ) (dtype : DataType) → first_node new ≡ first_node old → Keeps new at dtype → ((n : ℕ) (other : DataType) → n ≢ at → Keeps old n other ↔ Keeps new n other) → Extends old new
+extends_more old new at dtype first keeps others = record { first = first; kept = kept_more old new at dtype keeps others }
+
+-- kept types stay right where one item is written
+right_written : (registry : Registry) (schema : Columns) (old new : List AExpr) (table : TypeTable) (at : ℕ) (op : Op) (inputs : List ℕ) (before : Expression) → Denotes (HoldsFrom 0 old) at before → Visits registry schema 0 new at before → ((n : ℕ) (op : Op) (inputs : List ℕ) → n ≢ at → HoldsExpression old n op inputs → HoldsExpression new n op inputs) → HoldsExpression new at op inputs → AllByRecursion (IsKnown new table) inputs → ((n : ℕ) → IsKnown old table n → IsKnown new table n) → IsRight registry schema old table → IsRight registry schema new table
+right_written registry schema old new table at op inputs before d v elsewhere held known knows right = record {
+  each = λ n dtype k.
+      let e = right.each n dtype k in
+      let r = becomes registry schema 0 old new at [] before d v elsewhere n e.tree (from_zero old n e.tree e.denotes) in
+      let there = any_node 0 new n r.0 r.1 in
+      ⊎_elim
+      (λ same. record {
+        tree = r.0;
+        denotes = there;
+        typed = record { many = e.typed.many; is = r.2.typing ∙ e.typed.is };
+        inputs = λ op' inputs' h.
+            let here = subst (λ m. HoldsExpression new m op' inputs') same h in
+            subst (AllByRecursion (IsKnown new table)) (held_inputs new at op op' inputs inputs' held here) known;
+      })
+      (λ differs. node_stays registry schema old new table table n (ty dtype) e r.0 there r.2.typing (λ op inputs h. elsewhere n op inputs differs h) knows)
+      (same_or_other n at);
+}
+
+-- an operator that was written over operands with casts round them
+module _ (old mid new : List AExpr) (table : TypeTable) (at l r : ℕ) (left right : Node) (operator : Operator) (held : HoldsExpression old at (BinaryOp operator) (l ∷ r ∷ [])) (g1 : Grows old mid) (g2 : Grows mid new) where
+  before_write : HoldsExpression new at (BinaryOp operator) (l ∷ r ∷ [])
+  before_write = grown_elsewhere mid new g2 at _ _ (grown_elsewhere old mid g1 at _ _ held)
+
+  known_over_write : (n : ℕ) → IsKnown new table n → IsKnown (set new at (BinaryExpr left operator right)) table n
+  known_over_write =
+      let written = set new at (BinaryExpr left operator right) in
+      known_stays new written table table
+      (λ n input target options h. expression_elsewhere new at (BinaryExpr left operator right) n _ _ (λ e.
+      let same = held_op new at (BinaryOp operator) (CastOp target options) (l ∷ r ∷ []) (input ∷ []) before_write (subst (λ m. HoldsExpression new m (CastOp target options) (input ∷ [])) e h) in
+      cc) h)
+      (λ n k. k)
+
+  pub known_over_casts : (n : ℕ) → IsKnown old table n → IsKnown (set new at (BinaryExpr left operator right)) table n
+  known_over_casts n k = known_over_write n (known_grown mid new table g2 n (known_grown old mid table g1 n k))
+
+  pub right_over_casts : (registry : Registry) (schema : Columns) → ((t : Expression) → Denotes (HoldsFrom 0 old) at t → Visits registry schema 0 (set new at (BinaryExpr left operator right)) at t) → IsKnown old table at → (IsKnown old table l → IsKnown mid table left.0) → (IsKnown mid table r → IsKnown new table right.0) → IsRight registry schema old table → IsRight registry schema (set new at (BinaryExpr left operator right)) table
+  right_over_casts registry schema visit known left_known right_known is =
+      let d = known_typed registry schema old table is at known in
+      let inputs = known_inputs registry schema old table is at (BinaryOp operator) (l ∷ r ∷ []) known held in
+      let known_left = known_over_write left.0 (known_grown mid new table g2 left.0 (left_known inputs.0)) in
+      let known_right = known_over_write right.0 (right_known (known_grown old mid table g1 r inputs.1.0)) in
+      let elsewhere = λ (n : ℕ) (op : Op) (inputs : List ℕ) (differs : n ≢ at) (h : HoldsExpression old n op inputs). written_elsewhere mid new at (BinaryExpr left operator right) g2 n op inputs differs (grown_elsewhere old mid g1 n op inputs h) in
+      let there : at < length new = within new at d.tree (any_node 0 new at d.tree (tree_grown 0 0 mid new zero-le g2 at d.tree (tree_grown 0 0 old mid zero-le g1 at d.tree d.denotes))) in
+      right_written registry schema old (set new at (BinaryExpr left operator right)) table at (BinaryOp operator) (left.0 ∷ right.0 ∷ []) d.tree d.denotes (visit d.tree d.denotes) elsewhere (expression_written new at (BinaryExpr left operator right) there) (known_left, (known_right, tt)) known_over_casts is
+
+-- what is known of the nodes that wait, when the last was visited and its inputs took its place
+pub waiting_known : (items items' : List AExpr) (table : TypeTable) (at : ℕ) (rest stack : List ℕ) → AllByRecursion (IsKnown items table) (rest ++ at ∷ []) → ((n : ℕ) → IsKnown items table n → IsKnown items' table n) → HasRightTypes items' table → ((op : Op) (inputs : List ℕ) → HoldsExpression items' at op inputs → stack ≡ rest ++ inputs) → AllByRecursion (IsKnown items' table) stack
+waiting_known items items' table at rest stack known knows is pushed =
+    let here = knows at (all_last (IsKnown items table) rest at known) in
+    let typed = known_typed is.registry is.schema items' table is.right at here in
+    let top = top_held items' at typed.tree (any_node 0 items' at typed.tree typed.denotes) in
+    let inputs = known_inputs is.registry is.schema items' table is.right at top.0 top.1 here top.2 in
+    let waits = all_weaker (IsKnown items table) (IsKnown items' table) knows rest (all_front (IsKnown items table) rest (at ∷ []) known) in
+    subst (AllByRecursion (IsKnown items' table)) (sym (pushed top.0 top.1 top.2)) (all_joined (IsKnown items' table) rest top.1 waits inputs)

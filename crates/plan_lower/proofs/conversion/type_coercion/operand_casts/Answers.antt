@@ -1,0 +1,40 @@
+use Rattle.std.proofs.Common.{◌≡◌}
+use Rattle.plan_types.specs.Errors.{no_memory}
+use Rattle.plan_types.specs.Types.{ty}
+use Rattle.plan_types.proofs.ResultLemmas.{passed_on}
+use Rattle.plan_lower.proofs.CoercionLemmas.{refused_typed}
+use Rattle.plan_lower.proofs.TableLemmas.{known_inputs, known_typed}
+use Rattle.plan_lower.proofs.TypingLemmas.{AllHaveType, binary_refused}
+use Rattle.plan_lower.proofs.conversion.type_coercion.operand_casts.Goals as goal
+
+pub get-left-requires-clause-known : goal.get-left-requires-clause-known
+get-left-requires-clause-known c =
+    let is = c.requires.right in
+    (known_inputs is.registry is.schema c.args.arena.now c.args.types.now is.right c.args.node.0 _ _ c.requires.known c.requires.held).0
+
+pub get-right-requires-clause-known : goal.get-right-requires-clause-known
+get-right-requires-clause-known c =
+    let is = c.requires.right in
+    (known_inputs is.registry is.schema c.args.arena.now c.args.types.now is.right c.args.node.0 _ _ c.requires.known c.requires.held).1.0
+
+pub returns-in_err-taken-clause-err : goal.returns-in_err-taken-clause-err
+returns-in_err-taken-clause-err c =
+    let is = c.requires.right in
+    let typed = known_typed is.registry is.schema c.args.arena.now c.args.types.now is.right c.args.node.0 c.requires.known in
+    let typed_left : AllHaveType c.args.arena.now is.registry is.schema c.args.left.0 (ty c.get-left.result.now) = λ t d. c.get-left.ensures is.registry is.schema t is.right d in
+    let typed_right : AllHaveType c.args.arena.now is.registry is.schema c.args.right.0 (ty c.get-right.result.now) = λ t d. c.get-right.ensures is.registry is.schema t is.right d in
+    passed_on c.from_residual.result c.in_err-taken.field-0.0 (λ e. e ≡ no_memory) c.from_residual.ensures.1 (refused_typed c.args.arena.now is.registry is.schema c.args.node.0 _ typed (binary_refused c.args.arena.now is.registry is.schema c.args.node.0 c.args.op _ _ c.requires.held _ _ _ typed_left typed_right c.in_err-taken.ensures.err))
+
+pub returns-clause-ok : goal.returns-clause-ok
+returns-clause-ok c = λ registry schema right. record {
+  left_from = ty c.get-left.result.now;
+  left_to = ty c.in_ok-taken.taken.left;
+  right_from = ty c.get-right.result.now;
+  right_to = ty c.in_ok-taken.taken.right;
+  result = ty c.in_ok-taken.taken.result;
+  left_typed = λ t d. c.get-left.ensures registry schema t right d;
+  right_typed = λ t d. c.get-right.ensures registry schema t right d;
+  takes = c.in_ok-taken.ensures.ok;
+  left_casts = c.needed_cast.ensures;
+  right_casts = c.needed_cast-2.ensures;
+}

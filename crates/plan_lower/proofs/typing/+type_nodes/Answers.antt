@@ -1,0 +1,139 @@
+use Rattle.std.proofs.Common.{[], sym, ap, ◌∙◌, subst, arith}
+use Rattle.plan_types.specs.Schemas.{columns}
+use Rattle.plan_types.specs.Types.{ty}
+use Rattle.plan_types.proofs.ResultLemmas.{passed_on}
+use Rattle.plan_dsl.specs.Registry.{registry}
+use Rattle.plan_arena.specs.Denotation.{DenotesTree}
+use Rattle.plan_arena.specs.Items.{HoldsFrom, expression_layer}
+use Rattle.plan_arena.proofs.ItemLemmas.{tree_within, got_held}
+use Rattle.plan_lower.specs.KeptTypes.{by_table, by_cast, first_node}
+use Rattle.plan_lower.proofs.TableLemmas.{found_known, tree_from, any_tree, inputs_from, known_extended, known_type, right_same, right_more, extends_same, extends_more, extends_then}
+use Rattle.plan_lower.proofs.TypingLemmas.{AllHaveType, column_typed, column_refused, binary_typed, binary_refused, left_refused, right_refused, cast_refused}
+use Rattle.plan_lower.proofs.typing.+type_nodes.Goals as goal
+
+pub returns-then-is_some-clause-known : goal.returns-then-is_some-clause-known
+returns-then-is_some-clause-known t c =
+    found_known c.args.arena.now c.args.types.now c.args.node.0 (λ dtype. dtype.now) c.kept.result c.kept.ensures (sym c.is_some.ensures ∙ c.if-is_some.true)
+
+pub get-requires : goal.get-requires
+get-requires t c =
+    tree_within c.args.arena.now c.args.node.0 (any_tree (first_node c.args.types.now) c.args.arena.now c.args.node.0 c.requires.tree)
+
+pub returns-in_err-try_get-in-Column-clause-err : goal.returns-in_err-try_get-in-Column-clause-err
+returns-in_err-try_get-in-Column-clause-err t c =
+    let held = got_held c.args.arena.now c.args.node.0 c.get.result.now _ _ c.get.ensures (ap expression_layer c.in-Column.is) in
+    passed_on c.from_residual.result c.in_err-try_get-in-Column.field-0.0 _ c.from_residual.ensures.1 (column_refused c.args.arena.now (registry c.args.udfs.now) (columns c.args.schema.now) c.args.node.0 c.in-Column.name _ held c.in_err-try_get-in-Column.ensures.err)
+
+pub keep-requires : goal.keep-requires
+keep-requires t c =
+    tree_from (first_node c.args.types.now) c.args.arena.now c.args.node.0 c.requires.tree
+
+pub returns-in_err-keep-in-Column-clause-right : goal.returns-in_err-keep-in-Column-clause-right
+returns-in_err-keep-in-Column-clause-right t c =
+    right_same (registry c.args.udfs.now) (columns c.args.schema.now) c.args.arena.now c.args.types.now c.keep.new.self c.in_err-keep-in-Column.ensures.unchanged c.requires.right
+
+pub returns-in_err-keep-in-Column-clause-extends : goal.returns-in_err-keep-in-Column-clause-extends
+returns-in_err-keep-in-Column-clause-extends t c =
+    extends_same c.args.types.now c.keep.new.self c.in_err-keep-in-Column.ensures.first c.in_err-keep-in-Column.ensures.unchanged
+
+pub type_nodes-requires : goal.type_nodes-requires
+type_nodes-requires t c =
+    let held = got_held c.args.arena.now c.args.node.0 c.get.result.now _ _ c.get.ensures (ap expression_layer c.in-BinaryExpr.is) in
+    let inputs = inputs_from (first_node c.args.types.now) c.args.arena.now c.args.node.0 _ _ held c.requires.tree in
+    (omega (arith, inputs.0.1, c.decreases), (inputs.0.0, c.requires.right))
+
+pub returns-in_err-type_nodes-in-BinaryExpr-clause-err : goal.returns-in_err-type_nodes-in-BinaryExpr-clause-err
+returns-in_err-type_nodes-in-BinaryExpr-clause-err t c =
+    let held = got_held c.args.arena.now c.args.node.0 c.get.result.now _ _ c.get.ensures (ap expression_layer c.in-BinaryExpr.is) in
+    passed_on c.from_residual-in_err-type_nodes-in-BinaryExpr.result c.in_err-type_nodes-in-BinaryExpr.field-0.0 _ c.from_residual-in_err-type_nodes-in-BinaryExpr.ensures.1 (left_refused c.args.arena.now (registry c.args.udfs.now) (columns c.args.schema.now) c.args.node.0 c.in-BinaryExpr.op _ _ held _ c.in_err-type_nodes-in-BinaryExpr.ensures.err)
+
+pub type_nodes-requires-in-BinaryExpr : goal.type_nodes-requires-in-BinaryExpr
+type_nodes-requires-in-BinaryExpr t c =
+    let held = got_held c.args.arena.now c.args.node.0 c.get.result.now _ _ c.get.ensures (ap expression_layer c.in-BinaryExpr.is) in
+    let inputs = inputs_from (first_node c.args.types.now) c.args.arena.now c.args.node.0 _ _ held c.requires.tree in
+    let first = c.in_ok-type_nodes-in-BinaryExpr.ensures.extends.first in
+    let tree = subst (λ k. DenotesTree (HoldsFrom k c.args.arena.now) c.in-BinaryExpr.right.0) (sym first) inputs.1.0.0 in
+    (omega (arith, inputs.1.0.1, c.decreases), (tree, c.in_ok-type_nodes-in-BinaryExpr.ensures.right))
+
+pub returns-in_err-type_nodes-in-BinaryExpr-2-clause-err : goal.returns-in_err-type_nodes-in-BinaryExpr-2-clause-err
+returns-in_err-type_nodes-in-BinaryExpr-2-clause-err t c =
+    let held = got_held c.args.arena.now c.args.node.0 c.get.result.now _ _ c.get.ensures (ap expression_layer c.in-BinaryExpr.is) in
+    let ok = c.in_ok-type_nodes-in-BinaryExpr.ensures in
+    let left = known_type (registry c.args.udfs.now) (columns c.args.schema.now) c.args.arena.now c.type_nodes.new.types ok.right c.in-BinaryExpr.left.0 ok.known in
+    passed_on c.from_residual-in_err-type_nodes-in-BinaryExpr-2.result c.in_err-type_nodes-in-BinaryExpr-2.field-0.0 _ c.from_residual-in_err-type_nodes-in-BinaryExpr-2.ensures.1 (right_refused c.args.arena.now (registry c.args.udfs.now) (columns c.args.schema.now) c.args.node.0 c.in-BinaryExpr.op _ _ held _ _ left c.in_err-type_nodes-in-BinaryExpr-2.ensures.err)
+
+pub get-left-requires-clause-known : goal.get-left-requires-clause-known
+get-left-requires-clause-known t c =
+    known_extended c.args.arena.now c.type_nodes.new.types c.type_nodes-in-BinaryExpr.new.types c.in_ok-type_nodes-in-BinaryExpr-2.ensures.extends c.in-BinaryExpr.left.0 c.in_ok-type_nodes-in-BinaryExpr.ensures.known
+
+pub returns-in_err-taken-in-BinaryExpr-clause-err : goal.returns-in_err-taken-in-BinaryExpr-clause-err
+returns-in_err-taken-in-BinaryExpr-clause-err t c =
+    let held = got_held c.args.arena.now c.args.node.0 c.get.result.now _ _ c.get.ensures (ap expression_layer c.in-BinaryExpr.is) in
+    let right = c.in_ok-type_nodes-in-BinaryExpr-2.ensures.right in
+    let typed_left : AllHaveType c.args.arena.now (registry c.args.udfs.now) (columns c.args.schema.now) c.in-BinaryExpr.left.0 (ty c.get-left.result.now) = λ t d. c.get-left.ensures (registry c.args.udfs.now) (columns c.args.schema.now) t right d in
+    let typed_right : AllHaveType c.args.arena.now (registry c.args.udfs.now) (columns c.args.schema.now) c.in-BinaryExpr.right.0 (ty c.get-right.result.now) = λ t d. c.get-right.ensures (registry c.args.udfs.now) (columns c.args.schema.now) t right d in
+    passed_on c.from_residual-in_err-taken-in-BinaryExpr.result c.in_err-taken-in-BinaryExpr.field-0.0 _ c.from_residual-in_err-taken-in-BinaryExpr.ensures.1 (binary_refused c.args.arena.now (registry c.args.udfs.now) (columns c.args.schema.now) c.args.node.0 c.in-BinaryExpr.op _ _ held _ _ _ typed_left typed_right c.in_err-taken-in-BinaryExpr.ensures.err)
+
+pub keep-requires-in-BinaryExpr : goal.keep-requires-in-BinaryExpr
+keep-requires-in-BinaryExpr t c =
+    let more = extends_then c.args.types.now c.type_nodes.new.types c.type_nodes-in-BinaryExpr.new.types c.in_ok-type_nodes-in-BinaryExpr.ensures.extends c.in_ok-type_nodes-in-BinaryExpr-2.ensures.extends in
+    omega (arith, more.first, tree_from (first_node c.args.types.now) c.args.arena.now c.args.node.0 c.requires.tree)
+
+pub returns-in_err-keep-in-BinaryExpr-clause-right : goal.returns-in_err-keep-in-BinaryExpr-clause-right
+returns-in_err-keep-in-BinaryExpr-clause-right t c =
+    right_same (registry c.args.udfs.now) (columns c.args.schema.now) c.args.arena.now c.type_nodes-in-BinaryExpr.new.types c.keep-in-BinaryExpr.new.self c.in_err-keep-in-BinaryExpr.ensures.unchanged c.in_ok-type_nodes-in-BinaryExpr-2.ensures.right
+
+pub returns-in_err-keep-in-BinaryExpr-clause-extends : goal.returns-in_err-keep-in-BinaryExpr-clause-extends
+returns-in_err-keep-in-BinaryExpr-clause-extends t c =
+    extends_then c.args.types.now c.type_nodes-in-BinaryExpr.new.types c.keep-in-BinaryExpr.new.self (extends_then c.args.types.now c.type_nodes.new.types c.type_nodes-in-BinaryExpr.new.types c.in_ok-type_nodes-in-BinaryExpr.ensures.extends c.in_ok-type_nodes-in-BinaryExpr-2.ensures.extends) (extends_same c.type_nodes-in-BinaryExpr.new.types c.keep-in-BinaryExpr.new.self c.in_err-keep-in-BinaryExpr.ensures.first c.in_err-keep-in-BinaryExpr.ensures.unchanged)
+
+pub type_nodes-requires-in-Cast : goal.type_nodes-requires-in-Cast
+type_nodes-requires-in-Cast t c =
+    let held = got_held c.args.arena.now c.args.node.0 c.get.result.now _ _ c.get.ensures (ap expression_layer c.in-Cast.is) in
+    let inputs = inputs_from (first_node c.args.types.now) c.args.arena.now c.args.node.0 _ _ held c.requires.tree in
+    (omega (arith, inputs.0.1, c.decreases), (inputs.0.0, c.requires.right))
+
+pub returns-in_err-type_nodes-in-Cast-clause-err : goal.returns-in_err-type_nodes-in-Cast-clause-err
+returns-in_err-type_nodes-in-Cast-clause-err t c =
+    let held = got_held c.args.arena.now c.args.node.0 c.get.result.now _ _ c.get.ensures (ap expression_layer c.in-Cast.is) in
+    passed_on c.from_residual-in_err-type_nodes-in-Cast.result c.in_err-type_nodes-in-Cast.field-0.0 _ c.from_residual-in_err-type_nodes-in-Cast.ensures.1 (cast_refused c.args.arena.now (registry c.args.udfs.now) (columns c.args.schema.now) c.args.node.0 _ _ _ held _ c.in_err-type_nodes-in-Cast.ensures.err)
+
+pub returns-in_ok-keep-in-Column-clause-known : goal.returns-in_ok-keep-in-Column-clause-known
+returns-in_ok-keep-in-Column-clause-known t c =
+    by_table c.args.node.0 (record { dtype = c.in_ok-dtype-in-Column.dtype; keeps = c.in_ok-keep-in-Column.ensures.kept })
+
+pub returns-in_ok-keep-in-Column-clause-right : goal.returns-in_ok-keep-in-Column-clause-right
+returns-in_ok-keep-in-Column-clause-right t c =
+    let held = got_held c.args.arena.now c.args.node.0 c.get.result.now _ _ c.get.ensures (ap expression_layer c.in-Column.is) in
+    let tree = any_tree (first_node c.args.types.now) c.args.arena.now c.args.node.0 c.requires.tree in
+    let typed = column_typed c.args.arena.now (registry c.args.udfs.now) (columns c.args.schema.now) c.args.node.0 c.in-Column.name _ held c.in_ok-try_get-in-Column.ensures.ok in
+    let copied = subst (λ d. AllHaveType c.args.arena.now (registry c.args.udfs.now) (columns c.args.schema.now) c.args.node.0 (ty d)) (sym c.in_ok-dtype-in-Column.ensures.ok) typed in
+    right_more (registry c.args.udfs.now) (columns c.args.schema.now) c.args.arena.now c.args.types.now c.keep.new.self c.args.node.0 c.in_ok-dtype-in-Column.dtype _ [] held tree copied tt c.in_ok-keep-in-Column.ensures.kept c.in_ok-keep-in-Column.ensures.others c.requires.right
+
+pub returns-in_ok-keep-in-Column-clause-extends : goal.returns-in_ok-keep-in-Column-clause-extends
+returns-in_ok-keep-in-Column-clause-extends t c =
+    extends_more c.args.types.now c.keep.new.self c.args.node.0 c.in_ok-dtype-in-Column.dtype c.in_ok-keep-in-Column.ensures.first c.in_ok-keep-in-Column.ensures.kept c.in_ok-keep-in-Column.ensures.others
+
+pub returns-in_ok-keep-in-BinaryExpr-clause-known : goal.returns-in_ok-keep-in-BinaryExpr-clause-known
+returns-in_ok-keep-in-BinaryExpr-clause-known t c =
+    by_table c.args.node.0 (record { dtype = c.in_ok-taken-in-BinaryExpr.taken.result; keeps = c.in_ok-keep-in-BinaryExpr.ensures.kept })
+
+pub returns-in_ok-keep-in-BinaryExpr-clause-right : goal.returns-in_ok-keep-in-BinaryExpr-clause-right
+returns-in_ok-keep-in-BinaryExpr-clause-right t c =
+    let held = got_held c.args.arena.now c.args.node.0 c.get.result.now _ _ c.get.ensures (ap expression_layer c.in-BinaryExpr.is) in
+    let right = c.in_ok-type_nodes-in-BinaryExpr-2.ensures.right in
+    let typed_left : AllHaveType c.args.arena.now (registry c.args.udfs.now) (columns c.args.schema.now) c.in-BinaryExpr.left.0 (ty c.get-left.result.now) = λ t d. c.get-left.ensures (registry c.args.udfs.now) (columns c.args.schema.now) t right d in
+    let typed_right : AllHaveType c.args.arena.now (registry c.args.udfs.now) (columns c.args.schema.now) c.in-BinaryExpr.right.0 (ty c.get-right.result.now) = λ t d. c.get-right.ensures (registry c.args.udfs.now) (columns c.args.schema.now) t right d in
+    let known_left = known_extended c.args.arena.now c.type_nodes.new.types c.type_nodes-in-BinaryExpr.new.types c.in_ok-type_nodes-in-BinaryExpr-2.ensures.extends c.in-BinaryExpr.left.0 c.in_ok-type_nodes-in-BinaryExpr.ensures.known in
+    let tree = any_tree (first_node c.args.types.now) c.args.arena.now c.args.node.0 c.requires.tree in
+    let typed = binary_typed c.args.arena.now (registry c.args.udfs.now) (columns c.args.schema.now) c.args.node.0 c.in-BinaryExpr.op _ _ held _ _ _ typed_left typed_right c.in_ok-taken-in-BinaryExpr.ensures.ok in
+    right_more (registry c.args.udfs.now) (columns c.args.schema.now) c.args.arena.now c.type_nodes-in-BinaryExpr.new.types c.keep-in-BinaryExpr.new.self c.args.node.0 c.in_ok-taken-in-BinaryExpr.taken.result _ _ held tree typed (known_left, (c.in_ok-type_nodes-in-BinaryExpr-2.ensures.known, tt)) c.in_ok-keep-in-BinaryExpr.ensures.kept c.in_ok-keep-in-BinaryExpr.ensures.others right
+
+pub returns-in_ok-keep-in-BinaryExpr-clause-extends : goal.returns-in_ok-keep-in-BinaryExpr-clause-extends
+returns-in_ok-keep-in-BinaryExpr-clause-extends t c =
+    extends_then c.args.types.now c.type_nodes-in-BinaryExpr.new.types c.keep-in-BinaryExpr.new.self (extends_then c.args.types.now c.type_nodes.new.types c.type_nodes-in-BinaryExpr.new.types c.in_ok-type_nodes-in-BinaryExpr.ensures.extends c.in_ok-type_nodes-in-BinaryExpr-2.ensures.extends) (extends_more c.type_nodes-in-BinaryExpr.new.types c.keep-in-BinaryExpr.new.self c.args.node.0 c.in_ok-taken-in-BinaryExpr.taken.result c.in_ok-keep-in-BinaryExpr.ensures.first c.in_ok-keep-in-BinaryExpr.ensures.kept c.in_ok-keep-in-BinaryExpr.ensures.others)
+
+pub returns-in_ok-type_nodes-in-Cast-clause-known : goal.returns-in_ok-type_nodes-in-Cast-clause-known
+returns-in_ok-type_nodes-in-Cast-clause-known t c =
+    let held = got_held c.args.arena.now c.args.node.0 c.get.result.now _ _ c.get.ensures (ap expression_layer c.in-Cast.is) in
+    by_cast c.args.node.0 _ _ _ held c.in_ok-type_nodes-in-Cast.ensures.known
