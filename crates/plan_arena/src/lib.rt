@@ -6,6 +6,7 @@ pub mod arena;
 pub mod examples;
 pub mod expr_ir;
 pub mod ir;
+pub mod laws;
 pub mod plan;
 #[cfg(test)]
 mod tests;
