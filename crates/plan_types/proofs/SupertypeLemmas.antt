@@ -3,7 +3,7 @@ use Rattle.std.proofs.Common.{◌≡◌, ◌⊎◌, inl, inr, ℕ, ◌-◌, ◌*
 use Rattle.std.proofs.lemmas.Int.{ints}
 use Rattle.std.proofs.lemmas.Bool.{ltb-true, ltb-false}
 use Rattle.std.proofs.Math.Nat.{pow-le-pow_right}
-use Rattle.plan_types.specs.Types.{Ty, Integer}
+use Rattle.plan_types.specs.Types.{Ty, Truth, Integer}
 use Rattle.plan_types.specs.Values.{in_range}
 use Rattle.plan_types.specs.Supertypes.{supertype, signed_above}
 
@@ -15,11 +15,15 @@ max_turned m n = omega arith
 
 -- a type is its own common type
 pub supertype_itself : (type : Ty) → supertype type type ≡ Some type
+supertype_itself Truth = refl
 supertype_itself (Integer true bits) = ap (λ n. Some (Integer true n)) (max_itself bits)
 supertype_itself (Integer false bits) = ap (λ n. Some (Integer false n)) (max_itself bits)
 
 -- the order of the two doesn't matter
 pub supertype_symmetric : (a b : Ty) → supertype a b ≡ supertype b a
+supertype_symmetric Truth Truth = refl
+supertype_symmetric Truth (Integer s n) = refl
+supertype_symmetric (Integer s m) Truth = refl
 supertype_symmetric (Integer true m) (Integer true n) = ap (λ k. Some (Integer true k)) (max_turned m n)
 supertype_symmetric (Integer false m) (Integer false n) = ap (λ k. Some (Integer false k)) (max_turned m n)
 supertype_symmetric (Integer true m) (Integer false n) = refl
@@ -79,8 +83,15 @@ mixed_holds m n c number e h =
 turned : {A B : Type 0} → A ⊎ B → B ⊎ A
 turned h = elim h [ inl x ↦ inr x | inr y ↦ inl y ]
 
+-- truth values are no numbers
+no_number : (number : ℤ) → in_range Truth number ≡ true → ⊥
+no_number number h = grind (arith, ints)
+
 -- the common type has the numbers of both
 pub supertype_holds : (a b c : Ty) (number : ℤ) → supertype a b ≡ Some c → (in_range a number ≡ true) ⊎ (in_range b number ≡ true) → in_range c number ≡ true
+supertype_holds Truth Truth c number e h = elim h [ inl x ↦ absurd (no_number number x) | inr y ↦ absurd (no_number number y) ]
+supertype_holds Truth (Integer s n) c number e h = elim h [ inl x ↦ absurd (no_number number x) | inr y ↦ subst (λ type. in_range type number ≡ true) (some_same _ _ e) y ]
+supertype_holds (Integer s m) Truth c number e h = elim h [ inl x ↦ subst (λ type. in_range type number ≡ true) (some_same _ _ e) x | inr y ↦ absurd (no_number number y) ]
 supertype_holds (Integer true m) (Integer true n) c number e h =
     subst (λ type. in_range type number ≡ true) (some_same _ _ e)
     (held (Integer true m) (Integer true n) (Integer true (max m n)) number (signed_wider m (max m n) number (omega arith)) (signed_wider n (max m n) number (omega arith)) h)

@@ -1,20 +1,20 @@
 -- Values of a type: numbers that wrap around, casts, columns of frames; outcomes that are not stuck.
-use Rattle.std.proofs.Common.{◌≡◌, ℕ, zero, suc, ◌+◌, ◌-◌, ◌^◌, ◌<◌, ◌≤◌, true, false, ◌&&◌, not, cond, List, [], ◌∷◌, IsTrue, refl, ap, arith, subst, map, Some, slice_get, unwrap_or}
+use Rattle.std.proofs.Common.{◌≡◌, ℕ, zero, suc, ◌+◌, ◌-◌, ◌^◌, ◌<◌, ◌≤◌, Bool, true, false, ◌&&◌, not, cond, List, [], ◌∷◌, IsTrue, refl, ap, arith, subst, map, Some, slice_get, unwrap_or}
 use Rattle.std.specs.List.{AllByRecursion}
 use Rattle.std.specs.Prelude.{ℤ, pos, negsuc, neg_ℤ, ◌-ℤ◌, int_lt, nat_lt}
 use Rattle.std.proofs.Math.Nat.{mod-lt, pow-suc}
 use Rattle.std.proofs.lemmas.Nat.{pow_pos}
 use Rattle.std.proofs.lemmas.Int.{ints}
 use Rattle.std.proofs.lemmas.Bool.{ltb-true, ltb-false, and_from}
-use Rattle.plan_types.specs.Types.{Ty, Integer, same_type}
+use Rattle.plan_types.specs.Types.{Ty, Truth, Integer, same_type}
 use Rattle.plan_types.specs.TypeLaws.{same_type_exact}
-use Rattle.plan_types.specs.Values.{Val, NullValue, IntValue, in_range, fits, all_fit}
+use Rattle.plan_types.specs.Values.{Val, NullValue, TruthValue, IntValue, in_range, fits, all_fit}
 use Rattle.plan_types.specs.Schemas.{Name, Columns, same_name, type_at}
 use Rattle.plan_types.specs.Frames.{Row, Frame, RowFits, IsFrame, value_in, row_at}
 use Rattle.plan_types.specs.declared.dtype.CastOptions.{CastOptions}
 use Rattle.plan_types.specs.declared.dtype.CastOptions.TheVariants.{Strict, NonStrict, Overflowing}
 use Rattle.plan_types.specs.Outcomes.{Outcome, Done, Fault, Stuck, Meets, then_do}
-use Rattle.plan_types.specs.Casts.{Converted, Gives, Fails, cast, wrapped, low_bits, out_of_range}
+use Rattle.plan_types.specs.Casts.{Converted, Gives, Fails, cast, wrapped, low_bits, out_of_range, number_of, number_to, truth_to}
 
 -- the low bits are as few as they are
 low_bits_below : (bits : ℕ) (number : ℤ) → low_bits bits number < 2 ^ bits
@@ -34,10 +34,10 @@ half_of : (bits : ℕ) → 2 ^ bits ≤ 2 ^ (bits - 1) + 2 ^ (bits - 1)
 half_of zero = omega arith
 half_of (suc bits) = let e : suc bits - 1 ≡ bits = omega arith in omega (arith, pow-suc 2 bits, ap (λ n. 2 ^ n) e)
 
--- a number that wraps around in a type is in its range
-pub wrapped_in_range : (type : Ty) (number : ℤ) → in_range type (wrapped type number) ≡ true
-wrapped_in_range (Integer false bits) number = within_unsigned (low_bits bits number) (2 ^ bits) (low_bits_below bits number)
-wrapped_in_range (Integer true bits) number =
+-- a number that wraps around in an integer type is in its range
+pub wrapped_in_range : (signed : Bool) (bits : ℕ) (number : ℤ) → in_range (Integer signed bits) (wrapped (Integer signed bits) number) ≡ true
+wrapped_in_range false bits number = within_unsigned (low_bits bits number) (2 ^ bits) (low_bits_below bits number)
+wrapped_in_range true bits number =
     let low = low_bits bits number in
     let half = 2 ^ (bits - 1) in
     elim (nat_lt low half) as (λ b. nat_lt low half ≡ b → in_range (Integer true bits) (cond b (pos low) (pos low -ℤ pos (2 ^ bits))) ≡ true) [ true ↦ λ e. within_upper low half (ltb-true low half e) | false ↦ λ e. within_lower low half (2 ^ bits) (low_bits_below bits number) (ltb-false low half e) (half_of bits) ] refl
@@ -47,16 +47,26 @@ abbrev pub ConvertedFits : Ty → Converted → Type 0
 ConvertedFits type (Gives value) = IsTrue (fits value type)
 ConvertedFits type Fails = Unit {0}
 
-out_of_range_fits : (options : CastOptions) (target : Ty) (number : ℤ) → ConvertedFits target (out_of_range options target number)
-out_of_range_fits Strict target number = tt
-out_of_range_fits NonStrict target number = refl
-out_of_range_fits Overflowing target number = wrapped_in_range target number
+out_of_range_fits : (options : CastOptions) (signed : Bool) (bits : ℕ) (number : ℤ) → ConvertedFits (Integer signed bits) (out_of_range options (Integer signed bits) number)
+out_of_range_fits Strict signed bits number = tt
+out_of_range_fits NonStrict signed bits number = refl
+out_of_range_fits Overflowing signed bits number = wrapped_in_range signed bits number
+
+number_to_fits : (number : ℤ) (target : Ty) (options : CastOptions) → ConvertedFits target (number_to number target options)
+number_to_fits number Truth options = refl
+number_to_fits number (Integer signed bits) options =
+    elim (in_range (Integer signed bits) number) as (λ b. in_range (Integer signed bits) number ≡ b → ConvertedFits (Integer signed bits) (cond b (Gives (IntValue number)) (out_of_range options (Integer signed bits) number))) [ true ↦ λ r. r | false ↦ λ r. out_of_range_fits options signed bits number ] refl
+
+truth_to_fits : (truth : Bool) (target : Ty) (options : CastOptions) → ConvertedFits target (truth_to truth target options)
+truth_to_fits truth Truth options = refl
+truth_to_fits truth (Integer signed bits) options = number_to_fits (number_of truth) (Integer signed bits) options
 
 -- a cast of a fitting value fits the target
 pub cast_fits : (value : Val) (from target : Ty) (options : CastOptions) → IsTrue (fits value from) → ConvertedFits target (cast value from target options)
 cast_fits NullValue from target options h = refl
+cast_fits (TruthValue truth) from target options h = truth_to_fits truth target options
 cast_fits (IntValue number) from target options h =
-    elim (same_type from target) as (λ b. same_type from target ≡ b → ConvertedFits target (cond b (Gives (IntValue number)) (cond (in_range target number) (Gives (IntValue number)) (out_of_range options target number)))) [ true ↦ λ e. subst (λ t. in_range t number ≡ true) (same_type_exact from target e) h | false ↦ λ e. elim (in_range target number) as (λ b. in_range target number ≡ b → ConvertedFits target (cond b (Gives (IntValue number)) (out_of_range options target number))) [ true ↦ λ r. r | false ↦ λ r. out_of_range_fits options target number ] refl ] refl
+    elim (same_type from target) as (λ b. same_type from target ≡ b → ConvertedFits target (cond b (Gives (IntValue number)) (number_to number target options))) [ true ↦ λ e. subst (λ t. IsTrue (fits (IntValue number) t)) (same_type_exact from target e) h | false ↦ λ e. number_to_fits number target options ] refl
 
 -- a row's value in a column fits the column's type
 pub value_in_fits : (columns : Columns) (name : Name) (row : Row) (type : Ty) → RowFits columns row → type_at columns name ≡ Some type → IsTrue (fits (value_in columns name row) type)

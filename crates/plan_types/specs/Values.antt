@@ -1,18 +1,22 @@
 -- Values.
--- A value is null or a whole number. Null fits every type, and a number an integer type whose range has it.
+-- A value is null, a truth value or a whole number. Null fits every type, a truth value its own type, and a
+-- number an integer type whose range has it.
 use Rattle.std.specs.Prelude.{ℕ, ◌-◌, ◌^◌, ℤ, pos, neg_ℤ, int_lt, Bool, true, false, ◌&&◌, not, List, [], ◌∷◌}
-use Rattle.plan_types.specs.Types.{Ty, Integer}
+use Rattle.plan_types.specs.Types.{Ty, Truth, Integer}
 
 pub data Val : Type 0 where
   NullValue : Val
+  TruthValue : (truth : Bool) → Val
   IntValue : (number : ℤ) → Val
 
--- the least number of an integer type, and the first number past its greatest
+-- the least number of a type, and the first number past its greatest: truth values are no numbers
 abbrev pub least : Ty → ℤ
+least Truth = pos 0
 least (Integer true bits) = neg_ℤ (pos (2 ^ (bits - 1)))
 least (Integer false bits) = pos 0
 
 abbrev pub past_greatest : Ty → ℤ
+past_greatest Truth = pos 0
 past_greatest (Integer true bits) = pos (2 ^ (bits - 1))
 past_greatest (Integer false bits) = pos (2 ^ bits)
 
@@ -23,6 +27,8 @@ in_range type number = not (int_lt number (least type)) && int_lt number (past_g
 -- whether the value fits the type
 abbrev pub fits : Val → Ty → Bool
 fits NullValue type = true
+fits (TruthValue truth) Truth = true
+fits (TruthValue truth) (Integer signed bits) = false
 fits (IntValue number) type = in_range type number
 
 -- whether each value does

@@ -29,6 +29,7 @@ impl CastOptions {
 /// The type of a column. Contracts see it as a `Ty`.
 #[derive(Drop)]
 pub enum DataType {
+    Boolean,
     Int8,
     Int16,
     Int32,
@@ -45,15 +46,20 @@ impl DataType {
     {
         match self {
             DataType::Int8 | DataType::Int16 | DataType::Int32 | DataType::Int64 => true,
-            DataType::UInt8 | DataType::UInt16 | DataType::UInt32 | DataType::UInt64 => false,
+            DataType::Boolean
+            | DataType::UInt8
+            | DataType::UInt16
+            | DataType::UInt32
+            | DataType::UInt64 => false,
         }
     }
 
-    /// How many bits a value of the integer type has.
+    /// How many bits a value of the type has: a truth value has one.
     pub fn width(&self) -> u32
         ensures { result ≡ width_of (ty self.now) }
     {
         match self {
+            DataType::Boolean => 1,
             DataType::Int8 | DataType::UInt8 => 8,
             DataType::Int16 | DataType::UInt16 => 16,
             DataType::Int32 | DataType::UInt32 => 32,
@@ -66,6 +72,7 @@ impl DataType {
         ensures err { IfErr result (λ error. error ≡ no_memory) }
     {
         Ok(match self {
+            DataType::Boolean => DataType::Boolean,
             DataType::Int8 => DataType::Int8,
             DataType::Int16 => DataType::Int16,
             DataType::Int32 => DataType::Int32,
