@@ -9,7 +9,7 @@ use Rattle.plan_types.proofs.SupertypeLemmas.{supertype_itself}
 use Rattle.plan_types.specs.Frames.{Frame, Row}
 use Rattle.plan_types.specs.declared.dtype.CastOptions.TheVariants.{NonStrict}
 use Rattle.plan_dsl.specs.declared.operator.Operator.{Operator}
-use Rattle.plan_dsl.specs.declared.operator.Operator.TheVariants.{Plus}
+use Rattle.plan_dsl.specs.Operators.{result_type}
 use Rattle.plan_dsl.specs.Registry.{Registry}
 use Rattle.plan_dsl.specs.Trees.{Trees, node, no_more, more}
 use Rattle.plan_dsl.specs.Ops.{Op, ColumnOp, BinaryOp, CastOp, Expression}
@@ -24,17 +24,17 @@ pub or_false : (b : Bool) → (b || false) ≡ b
 or_false true = refl
 or_false false = refl
 
-both_stay : (found : Option Ty) (taken : Taken) → both_to found ≡ Ok taken → operator_types Plus taken.operands ≡ Ok taken
-both_stay None taken h = cc
-both_stay (Some s) taken h =
-    let again : operator_types Plus (s ∷ s ∷ []) ≡ Ok (record { operands = s ∷ s ∷ []; type = s }) = ap both_to (supertype_itself s) in
-    subst (λ t. operator_types Plus t.operands ≡ Ok t) (ok_same (both_to (Some s)) _ taken refl h) again
+both_stay : (operator : Operator) (found : Option Ty) (taken : Taken) → both_to operator found ≡ Ok taken → operator_types operator taken.operands ≡ Ok taken
+both_stay operator None taken h = cc
+both_stay operator (Some s) taken h =
+    let again : operator_types operator (s ∷ s ∷ []) ≡ Ok (record { operands = s ∷ s ∷ []; type = result_type operator s }) = ap (both_to operator) (supertype_itself s) in
+    subst (λ t. operator_types operator t.operands ≡ Ok t) (ok_same (both_to operator (Some s)) _ taken refl h) again
 
 operator_stay : (operator : Operator) (types : List Ty) (taken : Taken) → operator_types operator types ≡ Ok taken → operator_types operator taken.operands ≡ Ok taken
-operator_stay Plus [] taken h = cc
-operator_stay Plus (left ∷ []) taken h = cc
-operator_stay Plus (left ∷ right ∷ []) taken h = both_stay (supertype left right) taken h
-operator_stay Plus (left ∷ right ∷ third ∷ types) taken h = cc
+operator_stay operator [] taken h = cc
+operator_stay operator (left ∷ []) taken h = cc
+operator_stay operator (left ∷ right ∷ []) taken h = both_stay operator (supertype left right) taken h
+operator_stay operator (left ∷ right ∷ third ∷ types) taken h = cc
 
 -- operands that were taken stay when they are taken again
 pub taken_stay : (operator : Operator) (left right a b c : Ty) → operator_types operator (left ∷ right ∷ []) ≡ Ok (record { operands = a ∷ b ∷ []; type = c }) → operator_types operator (a ∷ b ∷ []) ≡ Ok (record { operands = a ∷ b ∷ []; type = c })

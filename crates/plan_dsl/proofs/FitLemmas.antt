@@ -1,27 +1,29 @@
 -- A typed expression is not stuck on a frame, and gives values of its type.
 -- Only `op_means` knows the ops: by a lemma for each it says what the kernel gives over operands of the
 -- types to which it takes them.
+use Rattle.std.specs.Prelude.{ℤ, not}
 use Rattle.std.proofs.Common.{◌≡◌, ℕ, suc, Bool, true, false, ◌||◌, cond, List, [], ◌∷◌, length, replicate, Option, Some, None, Result, Ok, Err, IsTrue, refl, sym, ap, ◌∙◌, subst, arith}
 use Rattle.std.proofs.lemmas.Bool.{and_parts, and_from, or_parts}
-use Rattle.plan_types.specs.Types.{Ty, same_type}
+use Rattle.plan_types.specs.Types.{Ty, Truth, Integer, same_type}
 use Rattle.plan_types.specs.TypeLaws.{same_type_exact}
 use Rattle.plan_types.specs.Schemas.{Name, type_at}
 use Rattle.plan_types.specs.Supertypes.{supertype}
-use Rattle.plan_types.specs.Values.{Val, NullValue, IntValue, fits, all_fit}
+use Rattle.plan_types.specs.Values.{Val, NullValue, TruthValue, IntValue, fits, all_fit}
 use Rattle.plan_types.specs.Outcomes.{Outcome, Done, Meets, then_do}
-use Rattle.plan_types.specs.Casts.{Converted, Gives, Fails, cast}
+use Rattle.plan_types.specs.Casts.{Converted, Gives, Fails, cast, number_of}
 use Rattle.plan_types.specs.Frames.{Frame, IsFrame}
 use Rattle.plan_types.specs.declared.error.ErrorKind.{ErrorKind}
 use Rattle.plan_types.specs.declared.dtype.CastOptions.{CastOptions}
 use Rattle.plan_types.specs.declared.dtype.CastOptions.TheVariants.{NonStrict}
 use Rattle.plan_types.proofs.ValueLemmas.{meets_then, meets_as, ConvertedFits, cast_fits, wrapped_in_range, column_fits}
 use Rattle.plan_dsl.specs.declared.operator.Operator.{Operator}
-use Rattle.plan_dsl.specs.declared.operator.Operator.TheVariants.{Plus}
+use Rattle.plan_dsl.specs.declared.operator.Operator.TheVariants.{Eq, NotEq, Lt, LtEq, Gt, GtEq, Plus}
+use Rattle.plan_dsl.specs.Operators.{result_type, sum_type, plus, plus_number, compared, compared_to, is_less, is_same, operator_value}
 use Rattle.plan_dsl.specs.Registry.{Registry}
 use Rattle.plan_dsl.specs.Trees.{Trees, node, no_more, more}
 use Rattle.plan_dsl.specs.Ops.{Op, ColumnOp, BinaryOp, CastOp, Expression}
 use Rattle.plan_dsl.specs.Typing.{Typed, Taken, both_to, column_type, operator_types, operand_types, types_of, is_many, typed_as, typing_rule, then_typed, typing, typing_all}
-use Rattle.plan_dsl.specs.Kernels.{Meaning, cast_values, cast_meaning, common_length, stretched, at_each, plus, operator_value, at_length, operator_values, value_before, kernel}
+use Rattle.plan_dsl.specs.Kernels.{Meaning, cast_values, cast_meaning, common_length, stretched, at_each, at_length, operator_values, value_before, kernel}
 use Rattle.plan_dsl.specs.Meaning.{meaning, meaning_all, node_meaning, taken_meaning, taken_to}
 use Rattle.plan_dsl.specs.Laws.{AreOf}
 use Rattle.plan_dsl.proofs.CastLemmas.{or_false}
@@ -77,13 +79,38 @@ taken_mean (t ∷ ts) (target ∷ targets) (m ∷ ms) h = (cast_means t.type tar
 
 -- ---- operators
 
-plus_fits : (type : Ty) (left right : Val) → IsTrue (fits (plus type left right) type)
-plus_fits type NullValue right = refl
-plus_fits type (IntValue left) NullValue = refl
-plus_fits type (IntValue left) (IntValue right) = wrapped_in_range type _
+plus_number_fits : (signed : Bool) (bits : ℕ) (left : ℤ) (right : Val) → IsTrue (fits (plus_number (Integer signed bits) left right) (Integer signed bits))
+plus_number_fits signed bits left NullValue = refl
+plus_number_fits signed bits left (TruthValue right) = wrapped_in_range signed bits _
+plus_number_fits signed bits left (IntValue right) = wrapped_in_range signed bits _
 
-operator_value_fits : (operator : Operator) (type : Ty) (left right : Val) → IsTrue (fits (operator_value operator type left right) type)
-operator_value_fits Plus type left right = plus_fits type left right
+plus_fits : (signed : Bool) (bits : ℕ) (left right : Val) → IsTrue (fits (plus (Integer signed bits) left right) (Integer signed bits))
+plus_fits signed bits NullValue right = refl
+plus_fits signed bits (TruthValue left) right = plus_number_fits signed bits (number_of left) right
+plus_fits signed bits (IntValue left) right = plus_number_fits signed bits left right
+
+sum_fits : (common : Ty) (left right : Val) → IsTrue (fits (plus (sum_type common) left right) (sum_type common))
+sum_fits Truth left right = plus_fits false 32 left right
+sum_fits (Integer signed bits) left right = plus_fits signed bits left right
+
+compared_to_fits : (test : Val → Val → Bool) (left right : Val) → IsTrue (fits (compared_to test left right) Truth)
+compared_to_fits test left NullValue = refl
+compared_to_fits test left (TruthValue right) = refl
+compared_to_fits test left (IntValue right) = refl
+
+compared_fits : (test : Val → Val → Bool) (left right : Val) → IsTrue (fits (compared test left right) Truth)
+compared_fits test NullValue right = refl
+compared_fits test (TruthValue left) right = compared_to_fits test (TruthValue left) right
+compared_fits test (IntValue left) right = compared_to_fits test (IntValue left) right
+
+operator_value_fits : (operator : Operator) (common : Ty) (left right : Val) → IsTrue (fits (operator_value operator (result_type operator common) left right) (result_type operator common))
+operator_value_fits Eq common left right = compared_fits is_same left right
+operator_value_fits NotEq common left right = compared_fits (λ l r. not (is_same l r)) left right
+operator_value_fits Lt common left right = compared_fits is_less left right
+operator_value_fits LtEq common left right = compared_fits (λ l r. not (is_less r l)) left right
+operator_value_fits Gt common left right = compared_fits (λ l r. is_less r l) left right
+operator_value_fits GtEq common left right = compared_fits (λ l r. not (is_less l r)) left right
+operator_value_fits Plus common left right = sum_fits common left right
 
 at_each_fits : (f : Val → Val → Val) (type : Ty) → ((x y : Val) → IsTrue (fits (f x y) type)) → (left right : List Val) → IsTrue (all_fit (at_each f left right) type)
 at_each_fits f type each [] right = refl
@@ -99,10 +126,11 @@ single_each f (x ∷ []) (y ∷ second ∷ right) count c l r = omega arith
 single_each f (x ∷ []) (y ∷ []) count c l r =
     let one : 1 ≡ count = cc in subst (λ n. length (at_each f (replicate n x) (replicate n y)) ≡ 1) one refl
 
-operator_values_fit : (operator : Operator) (type : Ty) (many : Bool) (left right : List Val) → (many ≡ false → (length left ≡ 1) × (length right ≡ 1)) → Meets (AreOf (record { type = type; many = many })) (operator_values operator type left right)
-operator_values_fit operator type many left right single =
+operator_values_fit : (operator : Operator) (common : Ty) (many : Bool) (left right : List Val) → (many ≡ false → (length left ≡ 1) × (length right ≡ 1)) → Meets (AreOf (record { type = result_type operator common; many = many })) (operator_values operator (result_type operator common) left right)
+operator_values_fit operator common many left right single =
+    let type = result_type operator common in
     let f = operator_value operator type in
-    elim (common_length (length left) (length right)) as (λ o. common_length (length left) (length right) ≡ o → Meets (AreOf (record { type = type; many = many })) (at_length o (λ count. at_each f (stretched count left) (stretched count right)))) [ None ↦ λ e. tt | Some count ↦ λ e. record { fitting = at_each_fits f type (operator_value_fits operator type) (stretched count left) (stretched count right); single = λ one. single_each f left right count e (single one).0 (single one).1 } ] refl
+    elim (common_length (length left) (length right)) as (λ o. common_length (length left) (length right) ≡ o → Meets (AreOf (record { type = type; many = many })) (at_length o (λ count. at_each f (stretched count left) (stretched count right)))) [ None ↦ λ e. tt | Some count ↦ λ e. record { fitting = at_each_fits f type (operator_value_fits operator common) (stretched count left) (stretched count right); single = λ one. single_each f left right count e (single one).0 (single one).1 } ] refl
 
 -- ---- the ops
 
@@ -125,25 +153,26 @@ cast_node_means frame target options from (m ∷ []) h rows =
     subst (λ many. Meets (AreOf (record { type = target; many = many })) (cast_meaning from.type target options m rows)) (sym (or_false from.many)) (cast_means from.type target options from.many m h.0 rows)
 cast_node_means frame target options from (m ∷ n ∷ ms) h rows = absurd h.1
 
-operator_node_means : (frame : Frame) (operator : Operator) (left right : Typed) (types : List Ty) (type : Ty) (operands : List Meaning) → AllMean (left ∷ right ∷ []) operands → MeansType (record { type = type; many = is_many (BinaryOp operator) (left ∷ right ∷ []) }) (kernel frame (BinaryOp operator) types type operands)
-operator_node_means frame operator left right types type [] h rows = absurd h
-operator_node_means frame operator left right types type (l ∷ []) h rows = absurd h.1
-operator_node_means frame operator left right types type (l ∷ r ∷ []) h rows =
+operator_node_means : (frame : Frame) (operator : Operator) (left right : Typed) (types : List Ty) (common : Ty) (operands : List Meaning) → AllMean (left ∷ right ∷ []) operands → MeansType (record { type = result_type operator common; many = is_many (BinaryOp operator) (left ∷ right ∷ []) }) (kernel frame (BinaryOp operator) types (result_type operator common) operands)
+operator_node_means frame operator left right types common [] h rows = absurd h
+operator_node_means frame operator left right types common (l ∷ []) h rows = absurd h.1
+operator_node_means frame operator left right types common (l ∷ r ∷ []) h rows =
     let many = left.many || (right.many || false) in
+    let type = result_type operator common in
     let Q = AreOf (record { type = type; many = many }) in
-    meets_then (AreOf left) Q (l rows) (λ ls. then_do (r rows) (operator_values operator type ls)) (h.0 rows) (λ ls of_left. meets_then (AreOf right) Q (r rows) (operator_values operator type ls) (h.1.0 rows) (λ rs of_right. operator_values_fit operator type many ls rs (λ one. let parts = or_parts left.many (right.many || false) one in (of_left.single parts.0, of_right.single (or_parts right.many false parts.1).0))))
-operator_node_means frame operator left right types type (l ∷ r ∷ m ∷ ms) h rows = absurd h.1.1
+    meets_then (AreOf left) Q (l rows) (λ ls. then_do (r rows) (operator_values operator type ls)) (h.0 rows) (λ ls of_left. meets_then (AreOf right) Q (r rows) (operator_values operator type ls) (h.1.0 rows) (λ rs of_right. operator_values_fit operator common many ls rs (λ one. let parts = or_parts left.many (right.many || false) one in (of_left.single parts.0, of_right.single (or_parts right.many false parts.1).0))))
+operator_node_means frame operator left right types common (l ∷ r ∷ m ∷ ms) h rows = absurd h.1.1
 
-both_mean : (frame : Frame) (operator : Operator) (left right : Typed) (found : Option Ty) (taken : Taken) → both_to found ≡ Ok taken → NodeMeans frame (BinaryOp operator) (left ∷ right ∷ []) taken
+both_mean : (frame : Frame) (operator : Operator) (left right : Typed) (found : Option Ty) (taken : Taken) → both_to operator found ≡ Ok taken → NodeMeans frame (BinaryOp operator) (left ∷ right ∷ []) taken
 both_mean frame operator left right None taken takes operands h = cc
 both_mean frame operator left right (Some type) taken takes operands h =
-    subst (NodeMeans frame (BinaryOp operator) (left ∷ right ∷ [])) (ok_same (both_to (Some type)) _ taken refl takes) (operator_node_means frame operator (record { type = type; many = left.many }) (record { type = type; many = right.many }) (type ∷ type ∷ []) type) operands h
+    subst (NodeMeans frame (BinaryOp operator) (left ∷ right ∷ [])) (ok_same (both_to operator (Some type)) _ taken refl takes) (operator_node_means frame operator (record { type = type; many = left.many }) (record { type = type; many = right.many }) (type ∷ type ∷ []) type) operands h
 
 operator_means : (frame : Frame) (operator : Operator) (typed : List Typed) (taken : Taken) → operator_types operator (types_of typed) ≡ Ok taken → NodeMeans frame (BinaryOp operator) typed taken
-operator_means frame Plus [] taken takes operands h = cc
-operator_means frame Plus (left ∷ []) taken takes operands h = cc
-operator_means frame Plus (left ∷ right ∷ []) taken takes operands h = both_mean frame Plus left right (supertype left.type right.type) taken takes operands h
-operator_means frame Plus (left ∷ right ∷ third ∷ typed) taken takes operands h = cc
+operator_means frame operator [] taken takes operands h = cc
+operator_means frame operator (left ∷ []) taken takes operands h = cc
+operator_means frame operator (left ∷ right ∷ []) taken takes operands h = both_mean frame operator left right (supertype left.type right.type) taken takes operands h
+operator_means frame operator (left ∷ right ∷ third ∷ typed) taken takes operands h = cc
 
 -- a node's kernel over operands of the types to which it takes them, by its op
 op_means : (frame : Frame) (op : Op) (typed : List Typed) (taken : Taken) → IsFrame frame → operand_types frame.schema op (types_of typed) ≡ Ok taken → NodeMeans frame op typed taken

@@ -1,7 +1,6 @@
 -- What a node does with the columns of its operands.
 -- A column is a list of values. Two columns are brought to a common length: one of one value is
--- repeated, and other unequal lengths are a data fault. Null operands give null, and sums wrap
--- around in the result's type.
+-- repeated, and other unequal lengths are a data fault.
 use Rattle.std.specs.Prelude.{ℕ, ◌+ℤ◌, List, [], ◌∷◌, map, length, replicate, Option, Some, None, Bool, ◌==◌, if◌then◌else◌}
 use Rattle.plan_types.specs.Types.{Ty, same_type}
 use Rattle.plan_types.specs.Schemas.{Name}
@@ -11,7 +10,7 @@ use Rattle.plan_types.specs.Casts.{Converted, Gives, Fails, cast, wrapped}
 use Rattle.plan_types.specs.Frames.{Frame, value_in, row_at}
 use Rattle.plan_types.specs.declared.dtype.CastOptions.{CastOptions}
 use Rattle.plan_dsl.specs.declared.operator.Operator.{Operator}
-use Rattle.plan_dsl.specs.declared.operator.Operator.TheVariants.{Plus}
+use Rattle.plan_dsl.specs.Operators.{operator_value}
 use Rattle.plan_dsl.specs.Ops.{Op, ColumnOp, BinaryOp, CastOp}
 
 -- what an expression gives on the rows of these numbers
@@ -56,15 +55,6 @@ abbrev pub at_each : (Val → Val → Val) → List Val → List Val → List Va
 at_each f [] right = []
 at_each f (x ∷ left) [] = []
 at_each f (x ∷ left) (y ∷ right) = f x y ∷ at_each f left right
-
--- a sum in the type
-abbrev pub plus : Ty → Val → Val → Val
-plus type NullValue right = NullValue
-plus type (IntValue left) NullValue = NullValue
-plus type (IntValue left) (IntValue right) = IntValue (wrapped type (left +ℤ right))
-
-abbrev pub operator_value : Operator → Ty → Val → Val → Val
-operator_value Plus type = plus type
 
 -- what is made at the common length, which is a fault where there is none
 abbrev pub at_length : {A : Type 0} → Option ℕ → (ℕ → A) → Outcome A

@@ -5,6 +5,7 @@ pub mod Kernels
 pub mod Laws
 pub mod Meaning
 pub mod Names
+pub mod Operators
 pub mod Ops
 pub mod PlanKernels
 pub mod PlanMeaning

@@ -7,7 +7,7 @@ use Rattle.plan_types.specs.Supertypes.{supertype}
 use Rattle.plan_types.specs.declared.error.ErrorKind.{ErrorKind}
 use Rattle.plan_types.specs.declared.error.ErrorKind.TheVariants.{ColumnNotFound, SchemaMismatch}
 use Rattle.plan_dsl.specs.declared.operator.Operator.{Operator}
-use Rattle.plan_dsl.specs.declared.operator.Operator.TheVariants.{Plus}
+use Rattle.plan_dsl.specs.Operators.{result_type}
 use Rattle.plan_dsl.specs.Registry.{Registry}
 use Rattle.plan_dsl.specs.Trees.{Trees, node, no_more, more}
 use Rattle.plan_dsl.specs.Ops.{Op, ColumnOp, BinaryOp, CastOp, Expression}
@@ -22,10 +22,10 @@ pub record Taken : Type 0 where
   pub operands : List Ty
   pub type : Ty
 
--- both operands are taken to their common type, which is the result's
-abbrev pub both_to : Option Ty → Result Taken ErrorKind
-both_to None = Err SchemaMismatch
-both_to (Some type) = Ok (record { operands = type ∷ type ∷ []; type = type })
+-- both operands are taken to their common type
+abbrev pub both_to : Operator → Option Ty → Result Taken ErrorKind
+both_to operator None = Err SchemaMismatch
+both_to operator (Some type) = Ok (record { operands = type ∷ type ∷ []; type = result_type operator type })
 
 -- a column has no operand, and the type that the schema gives it
 abbrev pub column_type : Option Ty → Result Taken ErrorKind
@@ -34,10 +34,10 @@ column_type (Some type) = Ok (record { operands = []; type = type })
 
 -- the types to which an operator takes operands of these types
 abbrev pub operator_types : Operator → List Ty → Result Taken ErrorKind
-operator_types Plus (left ∷ right ∷ []) = both_to (supertype left right)
-operator_types Plus [] = Err SchemaMismatch
-operator_types Plus (left ∷ []) = Err SchemaMismatch
-operator_types Plus (left ∷ right ∷ third ∷ rest) = Err SchemaMismatch
+operator_types operator [] = Err SchemaMismatch
+operator_types operator (left ∷ []) = Err SchemaMismatch
+operator_types operator (left ∷ right ∷ []) = both_to operator (supertype left right)
+operator_types operator (left ∷ right ∷ third ∷ rest) = Err SchemaMismatch
 
 -- The types to which a node takes operands of these types. A cast takes any type as it is. A node with
 -- another number of operands than its own, which no expression has, has no type.

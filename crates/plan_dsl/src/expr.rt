@@ -4,6 +4,7 @@ ghost use Rattle.plan_dsl.specs.Expressions.{tree_of};
 ghost use Rattle.plan_types.specs.Errors.{no_memory};
 
 use crate::operator::Operator;
+use plan_types::dtype::{CastOptions, DataType};
 use plan_types::error::PlanError;
 use plan_types::text::PlSmallStr;
 use std::alloc::Global;
@@ -18,6 +19,12 @@ pub enum Expr {
         left: Box<Expr>,
         op: Operator,
         right: Box<Expr>,
+    },
+    /// A cast to another type.
+    Cast {
+        expr: Box<Expr>,
+        dtype: DataType,
+        options: CastOptions,
     },
 }
 
@@ -40,6 +47,20 @@ impl Expr {
                     left,
                     op: *op,
                     right,
+                })
+            }
+            Expr::Cast {
+                expr,
+                dtype,
+                options,
+            } => {
+                let expr = expr.try_clone(alloc)?;
+                let expr = Box::new(alloc, expr)?;
+                let dtype = dtype.try_clone(alloc)?;
+                Ok(Expr::Cast {
+                    expr,
+                    dtype,
+                    options: *options,
                 })
             }
         }
