@@ -14,8 +14,6 @@ pub enum ErrorKind {
     Duplicate,
     /// A place that needs a common type has none.
     SchemaMismatch,
-    /// An expression or a node asks for what its rule doesn't allow.
-    InvalidOperation,
     /// Memory ran out. It may stand in place of any other answer.
     NoMemory,
 }
