@@ -9,7 +9,6 @@ use Rattle.plan_types.specs.declared.error.ErrorKind.TheVariants.{ColumnNotFound
 use Rattle.plan_types.specs.declared.error.PlanError.{PlanError}
 use Rattle.plan_types.specs.declared.dtype.CastOptions.{CastOptions}
 use Rattle.plan_dsl.specs.declared.operator.Operator.{Operator}
-use Rattle.plan_dsl.specs.declared.operator.Operator.TheVariants.{Plus}
 use Rattle.plan_dsl.specs.Registry.{Registry}
 use Rattle.plan_dsl.specs.Trees.{node}
 use Rattle.plan_dsl.specs.Ops.{ColumnOp, BinaryOp, CastOp, Expression}
@@ -27,8 +26,8 @@ refused_so from to error same (broken kind e b) = broken kind e (same kind b)
 
 -- operands without a common type are refused
 pub mismatch : (operator : Operator) (left right : Ty) (error : PlanError) → IsMemoryOr SchemaMismatch (supertype left right ≡ None) error → IsRefusal (operator_types operator (left ∷ right ∷ [])) error
-mismatch Plus left right error h =
-    ⊎_elim (λ e. no_room e) (λ p. broken SchemaMismatch p.0 (ap both_to p.1)) h
+mismatch operator left right error h =
+    ⊎_elim (λ e. no_room e) (λ p. broken SchemaMismatch p.0 (ap (both_to operator) p.1)) h
 
 module _ (items : List AExpr) (registry : Registry) (schema : Columns) where
   -- the expressions at a node have this type

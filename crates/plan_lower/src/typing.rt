@@ -2,6 +2,7 @@
 ghost use Rattle.std.specs.Prelude.{◌≡◌, [], ◌∷◌, Ok, IfOk, IfErr, OnOk};
 ghost use Rattle.plan_types.specs.Schemas.{columns};
 ghost use Rattle.plan_types.specs.Types.{ty};
+ghost use Rattle.plan_dsl.specs.Operators.{result_type, sum_type};
 ghost use Rattle.plan_dsl.specs.Ops.{Expression};
 ghost use Rattle.plan_dsl.specs.Registry.{registry};
 ghost use Rattle.plan_dsl.specs.Typing.{typing, operator_types};
@@ -81,16 +82,38 @@ pub fn operand_types(
         ≡ Ok (record { operands = ty taken.left ∷ ty taken.right ∷ []; type = ty taken.result })) }
     ensures err { IfErr result (IsRefusal (operator_types op (ty left.now ∷ ty right.now ∷ []))) }
 {
+    let common = try_get_supertype(alloc, left, right)?;
+    let left = common.try_clone(alloc)?;
+    let right = common.try_clone(alloc)?;
+    let result = result_type(op, common);
+    Ok(OperandTypes {
+        left,
+        right,
+        result,
+    })
+}
+
+// The type of an operator's result, from the type to which both operands are taken.
+fn result_type(op: Operator, common: DataType) -> DataType
+    ensures { ty result ≡ result_type op (ty common) }
+{
     match op {
-        Operator::Plus => {
-            let result = try_get_supertype(alloc, left, right)?;
-            let left = result.try_clone(alloc)?;
-            let right = result.try_clone(alloc)?;
-            Ok(OperandTypes {
-                left,
-                right,
-                result,
-            })
-        }
+        Operator::Eq
+        | Operator::NotEq
+        | Operator::Lt
+        | Operator::LtEq
+        | Operator::Gt
+        | Operator::GtEq => DataType::Boolean,
+        Operator::Plus => sum_type(common),
     }
+}
+
+// The type of a sum: truth values are counted.
+fn sum_type(common: DataType) -> DataType
+    ensures { ty result ≡ sum_type (ty common) }
+{
+    if common == DataType::Boolean {
+        return DataType::UInt32;
+    }
+    common
 }

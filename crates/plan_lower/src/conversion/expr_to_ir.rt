@@ -32,6 +32,7 @@ fn leftmost_name(expr: &Expr) -> &PlSmallStr
     match expr {
         Expr::Column(name) => name,
         Expr::BinaryExpr { left, .. } => leftmost_name(left),
+        Expr::Cast { expr, .. } => leftmost_name(expr),
     }
 }
 
@@ -50,6 +51,19 @@ fn add_nodes(expr: Expr, arena: &mut Arena<AExpr>) -> Result<Node, PlanError>
             let left = add_nodes(Box::into_inner(left), arena)?;
             let right = add_nodes(Box::into_inner(right), arena)?;
             let node = arena.add(AExpr::BinaryExpr { left, op, right })?;
+            Ok(node)
+        }
+        Expr::Cast {
+            expr,
+            dtype,
+            options,
+        } => {
+            let expr = add_nodes(Box::into_inner(expr), arena)?;
+            let node = arena.add(AExpr::Cast {
+                expr,
+                dtype,
+                options,
+            })?;
             Ok(node)
         }
     }
