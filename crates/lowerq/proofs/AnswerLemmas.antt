@@ -11,10 +11,10 @@ use Rattle.plan_types.specs.Schemas.{Name}
 use Rattle.plan_types.proofs.TextLemmas.{eq_by_chars}
 use Rattle.plan_dsl.specs.Plans.{Plan}
 use Rattle.plan_dsl.specs.Registry.{Registry}
-use Rattle.plan_arena.specs.Denotation.{Denotes}
-use Rattle.plan_arena.specs.Items.{HoldsPlan}
+use Rattle.plan_arena.specs.Items.{DenotesPlan}
 use Rattle.plan_arena.specs.declared.plan.IRPlan.{IRPlan}
-use Rattle.plan_lower.specs.Lowering.{StandsFor}
+use Rattle.plan_lower.specs.Lowering.{IsTyped, IsSound, GivesSameFrame, IsLoweringOf}
+use Rattle.plan_dsl.specs.PlanRules.{IsWellFormed}
 use Rattle.plan_report.specs.Report.{report_text}
 use Rattle.lowerq.specs.Answers.{IsAnswer, IsQueryAnswer, IsPlanAnswer, lowered, refused, planned, bad, usage, read, too_long, read_fault, no_memory, right_words, without_plan}
 use Rattle.lowerq.specs.declared.answer.Answer.{Answer}
@@ -27,10 +27,19 @@ pub of_answer : (P : Done → List ℕ → Type 0) (answer : Answer) (ending : S
 of_answer P answer ending text bytes made told p =
     subst (λ a. P a.done (string_bytes a.text)) (sym made) (subst (λ b. P (without_plan ending) b) (sym told) p)
 
--- a report of what stands for the plan
-pub reported : (registry : Registry) (plan : Plan) (lowering : IRPlan) (text : List ℕ) → StandsFor registry lowering.expr_arena lowering.lp_arena lowering.lp_top.0 plan → ((tree : Plan) → Denotes (HoldsPlan lowering.expr_arena lowering.lp_arena) lowering.lp_top.0 tree → text ≡ report_text tree) → IsPlanAnswer registry plan (record { status = status.Lowered; plan = Some lowering }) text
-reported registry plan lowering text stands tells =
-    subst (λ b. IsPlanAnswer registry plan (record { status = status.Lowered; plan = Some lowering }) b) (sym (tells stands.lowered stands.denotes)) (lowered lowering stands.lowered stands.lowers stands.denotes)
+-- a report of what was lowered
+pub reported : (registry : Registry) (plan : Plan) (lowering : IRPlan) (text : List ℕ) → IsWellFormed registry plan → (t : IsTyped registry plan lowering) → IsSound registry plan lowering → GivesSameFrame registry plan lowering → ((tree : Plan) → DenotesPlan lowering tree → text ≡ report_text tree) → IsPlanAnswer registry plan (record { status = status.Lowered; plan = Some lowering }) text
+reported registry plan lowering text well_formed t sound same_frame tells =
+    let is : IsLoweringOf registry plan lowering t.tree = record {
+      well_formed = well_formed;
+      denotes = t.denotes;
+      accepted = t.accepted;
+      strict = t.strict;
+      schema = t.schema;
+      sound = sound t.tree t.denotes;
+      same_frame = same_frame t.tree t.denotes;
+    } in
+    subst (λ b. IsPlanAnswer registry plan (record { status = status.Lowered; plan = Some lowering }) b) (sym (tells t.tree t.denotes)) (lowered lowering t.tree is)
 
 -- the only word of some words
 one_word : (words : List Name) (word : Name) → length words ≡ 1 → word ≡ get_or words 0 word → words ≡ word ∷ []
@@ -76,7 +85,7 @@ NoWriteFault status.TooLong = Unit {0}
 
 plan_writes : (registry : Registry) (plan : Plan) (done : Done) (text : List ℕ) → IsPlanAnswer registry plan done text → NoWriteFault done.status
 unfolding NoWriteFault
-plan_writes registry plan done text (lowered lowering tree lowers denotes) = tt
+plan_writes registry plan done text (lowered lowering tree is) = tt
 plan_writes registry plan done text (refused error refuses other) = tt
 
 query_writes : (registry : Registry) (bytes : List ℕ) (done : Done) (text : List ℕ) → IsQueryAnswer registry bytes done text → NoWriteFault done.status

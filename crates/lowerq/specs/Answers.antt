@@ -7,10 +7,8 @@ use Rattle.plan_types.specs.declared.error.ErrorKind.TheVariants as kinds
 use Rattle.plan_types.specs.declared.error.PlanError.{PlanError}
 use Rattle.plan_dsl.specs.Plans.{Plan}
 use Rattle.plan_dsl.specs.Registry.{Registry}
-use Rattle.plan_arena.specs.Denotation.{Denotes}
-use Rattle.plan_arena.specs.Items.{HoldsPlan}
 use Rattle.plan_arena.specs.declared.plan.IRPlan.{IRPlan}
-use Rattle.plan_lower.specs.Lowering.{LowersTo, IsPlanRefusal}
+use Rattle.plan_lower.specs.Lowering.{IsLoweringOf, IsPlanRefusal}
 use Rattle.plan_json.specs.Bytes.{WritesQuery, IsRefusalOf}
 use Rattle.plan_json.specs.Queries.{QueryModel}
 use Rattle.plan_json.specs.declared.error.JsonError.{JsonError}
@@ -52,9 +50,9 @@ bad_query_text json.NoMemory = None
 abbrev pub without_plan : Status → Done
 without_plan ending = record { status = ending; plan = None }
 
--- the answer to a plan: the report of a lowered plan that says the same, or a refusal
+-- the answer to a plan: the report of a plan that is its lowering, or a refusal
 pub data IsPlanAnswer (registry : Registry) (plan : Plan) : Done → List ℕ → Type 0 where
-  lowered : (lowering : IRPlan) (tree : Plan) → LowersTo registry plan tree → Denotes (HoldsPlan lowering.expr_arena lowering.lp_arena) lowering.lp_top.0 tree → IsPlanAnswer registry plan (record { status = status.Lowered; plan = Some lowering }) (report_text tree)
+  lowered : (lowering : IRPlan) (tree : Plan) → IsLoweringOf registry plan lowering tree → IsPlanAnswer registry plan (record { status = status.Lowered; plan = Some lowering }) (report_text tree)
   refused : (error : PlanError) → IsPlanRefusal registry plan error → ¬ (error.kind ≡ kinds.NoMemory) → IsPlanAnswer registry plan (without_plan (status.Refused error)) (refusal_text error.kind error.place)
 
 -- the answer to the bytes of an input: that to the plan of the query that they write, or why they write none

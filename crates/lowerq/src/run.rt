@@ -1,8 +1,10 @@
 //! The top call.
-ghost use Rattle.std.specs.Prelude.{◌≡◌, ℕ, ◌≤◌};
+ghost use Rattle.std.specs.Prelude.{◌≡◌, ◌⊎◌, ℕ, ◌≤◌, [], None};
+ghost use Rattle.std.specs.Io.KnownBytes.{Appends};
 ghost use Rattle.plan_dsl.specs.Registry.{registry};
 ghost use Rattle.byte_streams.specs.Streams.{Rose};
 ghost use Rattle.lowerq.specs.Answers.{Ended};
+ghost use Rattle.lowerq.specs.Endings.{SaysLowered, SaysRefused, SaysUsage, SaysBadQuery, SaysTooLong, SaysWriteFault, UsageCalledFor, TooLongCalledFor, BadQueryCalledFor, RefusalCalledFor, LoweringCalledFor, IsComplete};
 
 use crate::answer::{Answer, answer_to};
 use crate::status::{Done, Status};
@@ -10,6 +12,8 @@ use byte_streams::sink::Sink;
 use byte_streams::source::Source;
 use byte_streams::stream::write_all;
 use plan_dsl::udfs::Udfs;
+use plan_json::error::JsonError;
+use plan_types::error::PlanError;
 use plan_types::text::PlSmallStr;
 use std::alloc::Global;
 
@@ -22,9 +26,31 @@ pub fn run<S: Source, K: Sink>(
     sink: &mut K,
     udfs: &Udfs,
 ) -> Done
+    // What each status says.
     ensures ended { Ended (registry udfs.now) words.now (S.left source.old) (K.written sink.old) (K.written sink.new) result }
+    ensures lowered { result.status ≡ Status.Lowered → SaysLowered (registry udfs.now) words.now (S.left source.old) (K.written sink.old) (K.written sink.new) result.plan }
+    ensures refused { (error : PlanError) → result.status ≡ Status.Refused error
+        → SaysRefused (registry udfs.now) words.now (S.left source.old) (K.written sink.old) (K.written sink.new) error }
+    ensures usage { result.status ≡ Status.Usage → SaysUsage words.now (K.written sink.old) (K.written sink.new) }
+    ensures bad_query { (error : JsonError) → result.status ≡ Status.BadQuery error
+        → SaysBadQuery words.now (S.left source.old) (K.written sink.old) (K.written sink.new) error }
+    ensures too_long { result.status ≡ Status.TooLong → SaysTooLong words.now (S.left source.old) (K.written sink.old) (K.written sink.new) }
     ensures read_fault { result.status ≡ Status.ReadFault → Rose (S.faults source.old) (S.faults source.new) }
     ensures write_fault { result.status ≡ Status.WriteFault → Rose (K.faults sink.old) (K.faults sink.new) }
+    ensures cut { result.status ≡ Status.WriteFault → SaysWriteFault (registry udfs.now) words.now (S.left source.old) (K.written sink.old) (K.written sink.new) }
+    ensures nothing_written { (result.status ≡ Status.ReadFault) ⊎ (result.status ≡ Status.NoMemory) → Appends (K.written sink.old) (K.written sink.new) [] }
+    ensures no_plan { (¬ (result.status ≡ Status.Lowered)) → result.plan ≡ None }
+
+    // Which status is called for, where memory doesn't run out and no read or write fails.
+    ensures usage_where { UsageCalledFor words.now result.status }
+    ensures too_long_where { TooLongCalledFor words.now (S.left source.old) result.status }
+    ensures bad_query_where { BadQueryCalledFor words.now (S.left source.old) result.status }
+    ensures refused_where { RefusalCalledFor (registry udfs.now) words.now (S.left source.old) result.status }
+    ensures lowered_where { LoweringCalledFor (registry udfs.now) words.now (S.left source.old) result.status }
+    ensures complete { (¬ (Rose (S.faults source.old) (S.faults source.new))) → (¬ (Rose (K.faults sink.old) (K.faults sink.new)))
+        → IsComplete (registry udfs.now) words.now (S.left source.old) result.status }
+
+    // Counts of faults never fall.
     ensures source_later { S.faults source.old ≤ S.faults source.new }
     ensures sink_later { K.faults sink.old ≤ K.faults sink.new }
 {

@@ -1,2 +1,3 @@
 pub mod DenotationLemmas
 pub mod ItemLemmas
+pub mod RunLemmas

@@ -4,9 +4,9 @@ use Rattle.std.specs.Prelude.{◌≡◌, ◌≤◌, ℕ, List, [], ◌∷◌, �
 use Rattle.plan_types.specs.Types.{ty}
 use Rattle.plan_types.specs.Schemas.{Name, Columns, columns}
 use Rattle.plan_dsl.specs.Ops.{Op, ColumnOp, BinaryOp, CastOp, Expression}
-use Rattle.plan_dsl.specs.Plans.{PlanOp, Named, scan_op, select_op}
+use Rattle.plan_dsl.specs.Plans.{PlanOp, Plan, Named, scan_op, select_op}
 use Rattle.plan_arena.specs.Denotation.{Denotes}
-use Rattle.plan_arena.specs.Layers.{Layer, layer}
+use Rattle.plan_arena.specs.Layers.{Layer, layer, op_of}
 use Rattle.plan_arena.specs.declared.aexpr.AExpr.{AExpr}
 use Rattle.plan_arena.specs.declared.aexpr.AExpr.TheVariants.{Column, BinaryExpr, Cast}
 use Rattle.plan_arena.specs.declared.expr_ir.OutputName.{OutputName}
@@ -14,6 +14,7 @@ use Rattle.plan_arena.specs.declared.expr_ir.OutputName.TheVariants.{ColumnLhs}
 use Rattle.plan_arena.specs.declared.expr_ir.ExprIR.{ExprIR}
 use Rattle.plan_arena.specs.declared.ir.IR.{IR}
 use Rattle.plan_arena.specs.declared.ir.IR.TheVariants.{DataFrameScan, Select}
+use Rattle.plan_arena.specs.declared.plan.IRPlan.{IRPlan}
 
 -- an expression's item
 abbrev pub expression_layer : AExpr → Layer Op
@@ -40,8 +41,7 @@ node_name (Select expr input schema options) = codes "projection"
 
 -- the schema that a node records
 abbrev pub recorded_schema : IR → Columns
-recorded_schema (DataFrameScan table schema) = columns schema
-recorded_schema (Select expr input schema options) = columns schema
+recorded_schema item = (op_of (plan_layer item)).schema
 
 -- the expression at the node does this, over these inputs
 abbrev pub HoldsExpression : List AExpr → ℕ → Op → List ℕ → Type 0
@@ -69,6 +69,10 @@ pub record HoldsPlan (expressions : List AExpr) (plans : List IR) (n : ℕ) (op 
   pub flat : PlanOp ℕ
   pub item : slice_get (map plan_layer plans) n ≡ Some (layer flat inputs)
   pub denotes : DenotesOp expressions flat op
+
+-- the top of a lowered plan denotes the plan
+abbrev pub DenotesPlan : IRPlan → Plan → Type 0
+DenotesPlan lowering plan = Denotes (HoldsPlan lowering.expr_arena lowering.lp_arena) lowering.lp_top.0 plan
 
 -- the arena has the items that it had, and others behind them
 pub record Grows {T : Type 0} (old new : List T) : Type 0 where

@@ -3,8 +3,10 @@
 
 pub mod aexpr;
 pub mod arena;
+pub mod examples;
 pub mod expr_ir;
 pub mod ir;
+pub mod laws;
 pub mod plan;
 #[cfg(test)]
 mod tests;

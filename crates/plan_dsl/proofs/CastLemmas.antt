@@ -1,57 +1,59 @@
--- Casts round the operands of an operator keep its type, name and meaning, and leave it strict.
-use Rattle.std.proofs.Common.{◌≡◌, Bool, true, false, cond, ◌||◌, ◌&&◌, List, [], ◌∷◌, Option, Some, None, Result, Ok, Err, refl, sym, ap, ◌∙◌, subst, max, arith, ℕ}
-use Rattle.plan_types.specs.Types.{Ty, Integer, same_type}
+-- Operands that are taken to their types stay. Casts round the operands of an operator keep its type, name
+-- and meaning, and leave it strict.
+use Rattle.std.proofs.Common.{◌≡◌, Bool, true, false, cond, ◌||◌, ◌&&◌, List, [], ◌∷◌, Option, Some, None, Ok, refl, sym, ap, ◌∙◌, subst}
+use Rattle.plan_types.specs.Types.{Ty, same_type}
 use Rattle.plan_types.specs.TypeLaws.{same_type_own, same_type_exact}
-use Rattle.plan_types.specs.Schemas.{Columns}
+use Rattle.plan_types.specs.Schemas.{Name, Columns, type_at}
 use Rattle.plan_types.specs.Supertypes.{supertype}
+use Rattle.plan_types.proofs.SupertypeLemmas.{supertype_itself}
 use Rattle.plan_types.specs.Frames.{Frame, Row}
-use Rattle.plan_types.specs.declared.error.ErrorKind.{ErrorKind}
 use Rattle.plan_types.specs.declared.dtype.CastOptions.TheVariants.{NonStrict}
 use Rattle.plan_dsl.specs.declared.operator.Operator.{Operator}
 use Rattle.plan_dsl.specs.declared.operator.Operator.TheVariants.{Plus}
 use Rattle.plan_dsl.specs.Registry.{Registry}
-use Rattle.plan_dsl.specs.Trees.{Tree, Trees, node, no_more, more}
-use Rattle.plan_dsl.specs.Ops.{Op, BinaryOp, CastOp, Expression}
+use Rattle.plan_dsl.specs.Trees.{Trees, node, no_more, more}
+use Rattle.plan_dsl.specs.Ops.{Op, ColumnOp, BinaryOp, CastOp, Expression}
 use Rattle.plan_dsl.specs.Names.{name_of}
-use Rattle.plan_dsl.specs.Typing.{Typed, Taken, both_to, operator_types, some_many, types_of, typed_as, typing, typing_all, typing_rule, then_typed, typed_before}
+use Rattle.plan_dsl.specs.Typing.{Taken, both_to, column_type, operator_types, operand_types, some_many, typed_as, typing, typing_all, typing_rule, then_typed, typed_before}
 use Rattle.plan_dsl.specs.Kernels.{Meaning, cast_meaning, kernel}
-use Rattle.plan_dsl.specs.Meaning.{meaning, meaning_all, node_meaning, taken_meaning, taken_to}
-use Rattle.plan_dsl.specs.Strictness.{IsSame, IsStrictOver, IsStrictNode, same_types, with_cast}
+use Rattle.plan_dsl.specs.Meaning.{meaning, node_meaning, taken_meaning}
+use Rattle.plan_dsl.proofs.TypingLemmas.{ok_same}
+use Rattle.plan_dsl.specs.Strictness.{IsSame, IsStrictOver, same_types, with_cast}
 
-or_false : (b : Bool) → (b || false) ≡ b
+pub or_false : (b : Bool) → (b || false) ≡ b
 or_false true = refl
 or_false false = refl
 
-max_itself : (n : ℕ) → max n n ≡ n
-max_itself n = omega arith
+both_stay : (found : Option Ty) (taken : Taken) → both_to found ≡ Ok taken → operator_types Plus taken.operands ≡ Ok taken
+both_stay None taken h = cc
+both_stay (Some s) taken h =
+    let again : operator_types Plus (s ∷ s ∷ []) ≡ Ok (record { operands = s ∷ s ∷ []; type = s }) = ap both_to (supertype_itself s) in
+    subst (λ t. operator_types Plus t.operands ≡ Ok t) (ok_same (both_to (Some s)) _ taken refl h) again
 
--- a type is its own common type
-pub supertype_itself : (type : Ty) → supertype type type ≡ Some type
-supertype_itself (Integer true bits) = ap (λ n. Some (Integer true n)) (max_itself bits)
-supertype_itself (Integer false bits) = ap (λ n. Some (Integer false n)) (max_itself bits)
-
-ok_same : (r : Result Taken ErrorKind) (x y : Taken) → r ≡ Ok x → r ≡ Ok y → x ≡ y
-ok_same r x y e f = cc
-
-first_same : {A : Type 0} (a b c d : A) → (a ∷ b ∷ []) ≡ (c ∷ d ∷ []) → a ≡ c
-first_same a b c d e = cc
-
-second_same : {A : Type 0} (a b c d : A) → (a ∷ b ∷ []) ≡ (c ∷ d ∷ []) → b ≡ d
-second_same a b c d e = cc
-
-both_stay : (found : Option Ty) (a b c : Ty) → both_to found ≡ Ok (record { operands = a ∷ b ∷ []; type = c }) → both_to (supertype a b) ≡ Ok (record { operands = a ∷ b ∷ []; type = c })
-both_stay None a b c h = cc
-both_stay (Some s) a b c h =
-    let taken = ok_same (both_to (Some s)) _ _ refl h in
-    let operands = ap (λ t. t.operands) taken in
-    let ea = first_same s s a b operands in
-    let eb = second_same s s a b operands in
-    let same : supertype a b ≡ Some s = ap (λ x. supertype x b) (sym ea) ∙ ap (supertype s) (sym eb) ∙ supertype_itself s in
-    ap both_to same ∙ h
+operator_stay : (operator : Operator) (types : List Ty) (taken : Taken) → operator_types operator types ≡ Ok taken → operator_types operator taken.operands ≡ Ok taken
+operator_stay Plus [] taken h = cc
+operator_stay Plus (left ∷ []) taken h = cc
+operator_stay Plus (left ∷ right ∷ []) taken h = both_stay (supertype left right) taken h
+operator_stay Plus (left ∷ right ∷ third ∷ types) taken h = cc
 
 -- operands that were taken stay when they are taken again
 pub taken_stay : (operator : Operator) (left right a b c : Ty) → operator_types operator (left ∷ right ∷ []) ≡ Ok (record { operands = a ∷ b ∷ []; type = c }) → operator_types operator (a ∷ b ∷ []) ≡ Ok (record { operands = a ∷ b ∷ []; type = c })
-taken_stay Plus left right a b c h = both_stay (supertype left right) a b c h
+taken_stay operator left right a b c h = operator_stay operator (left ∷ right ∷ []) (record { operands = a ∷ b ∷ []; type = c }) h
+
+column_stays : (schema : Columns) (name : Name) (found : Option Ty) (taken : Taken) → type_at schema name ≡ found → column_type found ≡ Ok taken → operand_types schema (ColumnOp name) taken.operands ≡ Ok taken
+column_stays schema name None taken at h = cc
+column_stays schema name (Some type) taken at h =
+    subst (λ t. operand_types schema (ColumnOp name) t.operands ≡ Ok t) (ok_same (column_type (Some type)) _ taken refl h) (ap column_type at)
+
+-- and so do those of any node
+pub taken_types_stay : (schema : Columns) (op : Op) (types : List Ty) (taken : Taken) → operand_types schema op types ≡ Ok taken → operand_types schema op taken.operands ≡ Ok taken
+taken_types_stay schema (ColumnOp name) [] taken h = column_stays schema name (type_at schema name) taken refl h
+taken_types_stay schema (ColumnOp name) (type ∷ types) taken h = cc
+taken_types_stay schema (BinaryOp operator) types taken h = operator_stay operator types taken h
+taken_types_stay schema (CastOp target options) [] taken h = cc
+taken_types_stay schema (CastOp target options) (from ∷ []) taken h =
+    subst (λ t. operand_types schema (CastOp target options) t.operands ≡ Ok t) (ok_same (operand_types schema (CastOp target options) (from ∷ [])) _ taken refl h) refl
+taken_types_stay schema (CastOp target options) (from ∷ other ∷ types) taken h = cc
 
 pub if_true : {A : Type 0} (b : Bool) (x y : A) → b ≡ true → cond b x y ≡ x
 if_true b x y e = ap (λ v. cond v x y) e

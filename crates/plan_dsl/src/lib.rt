@@ -1,9 +1,12 @@
 //! Queries as a user writes them: expressions, plans, and the registry of functions.
 #![tactic(auto)]
 
+pub mod examples;
 pub mod expr;
+pub mod laws;
 pub mod operator;
 pub mod plan;
+pub mod plan_laws;
 #[cfg(test)]
 mod tests;
 pub mod udfs;

@@ -1,11 +1,12 @@
 -- Columns that are read one by one.
-use Rattle.std.proofs.Common.{◌≡◌, ℕ, suc, ◌<◌, List, [], ◌∷◌, ◌++◌, length, get_or, take, drop, Option, Some, None, option_and_then, Bool, true, false, cond, not, is_some, refl, sym, ap, ◌∙◌, arith}
+use Rattle.std.proofs.Common.{◌≡◌, ℕ, suc, ◌<◌, List, [], ◌∷◌, ◌++◌, length, get_or, take, drop, Option, Some, None, option_and_then, Bool, true, false, cond, not, is_some, sym, ap, ◌∙◌, arith}
 use Rattle.std.proofs.lemmas.List.{take_all, take-append-drop, map-append}
 use Rattle.std.proofs.Math.Seq.{drop-cons}
 use Rattle.std.specs.Option.{option_map_or}
-use Rattle.plan_types.specs.Schemas.{Name, Columns, type_at, with_column}
+use Rattle.plan_types.specs.Schemas.{Name, Columns, type_at, with_column, names_of, repeats}
 use Rattle.plan_types.specs.Types.{Ty}
-use Rattle.plan_types.proofs.SchemaLemmas.{with_column-new}
+use Rattle.plan_types.proofs.NameLemmas.{repeats-push, repeats-again}
+use Rattle.plan_types.proofs.SchemaLemmas.{with_column-new, is_among-type_at, IsNewName-test}
 use Rattle.serde_json.specs.Data.{Data, Items}
 use Rattle.serde_json.specs.Find.{as_array}
 use Rattle.serde_json.specs.View.{view, items_view}
@@ -13,9 +14,7 @@ use Rattle.serde_json.specs.declared.value.Value.{Value}
 use Rattle.plan_json.specs.Faults.{FaultKind, BadShape, column_list, own_fault, unless}
 use Rattle.plan_json.specs.Looking.{both, two_items, all_of, some_of}
 use Rattle.plan_json.specs.Queries.{text_of, type_of, column_of, column_name, columns_of, columns_from}
-use Rattle.plan_json.specs.Tables.{names_of, repeats}
 use Rattle.plan_json.proofs.ItemLemmas.{some_of-append, some_of-names}
-use Rattle.plan_json.proofs.NameLemmas.{is_among-type_at, repeats-push, repeats-again}
 
 -- a column that is read gives itself the name that is read
 pub column_name-read : (d : Data) (c : Name × Ty) → column_of d ≡ Some c → column_name d ≡ Some c.0
@@ -30,21 +29,14 @@ column_name-read d c e = go (two_items d) e
     go None h = cc
     go (Some p) h = named (text_of p.0) (type_of p.1) h
 
-new_type_at : (cs : Columns) (name : Name) → is_some (type_at cs name) ≡ false → type_at cs name ≡ None
-new_type_at cs name e = go (type_at cs name) e
-  where
-    go : (o : Option Ty) → is_some o ≡ false → o ≡ None
-    go None h = refl
-    go (Some t) h = cc
-
 -- all columns are read, and no name repeats
-pub columns_all : (d : Data) (vs : List Value) (n : ℕ) (cs : Columns) → Some (items_view vs) ≡ as_array d → length vs ≡ n → all_of column_of (items_view (take n vs)) ≡ Some cs → repeats [] (names_of cs) ≡ false → columns_of d ≡ Some cs
+pub columns_all : (d : Data) (vs : List Value) (n : ℕ) (cs : Columns) → Some (items_view vs) ≡ as_array d → length vs ≡ n → all_of column_of (items_view (take n vs)) ≡ Some cs → repeats (names_of cs) ≡ false → columns_of d ≡ Some cs
 columns_all d vs n cs is all read distinct =
     let whole = take_all n vs (omega arith) in
     let here = ap (λ l. all_of column_of (items_view l)) (sym whole) ∙ read in
     let names = some_of-names column_of column_name column_name-read (items_view vs) cs here in
     ap (option_and_then columns_from) (sym is)
-    ∙ ap (λ b. cond b None (all_of column_of (items_view vs))) (ap (repeats []) names ∙ distinct)
+    ∙ ap (λ b. cond b None (all_of column_of (items_view vs))) (ap repeats names ∙ distinct)
     ∙ here
 
 -- a name that earlier columns have repeats among all
@@ -54,15 +46,16 @@ column_repeated d vs i v cs c found within is read now there =
     let front = some_of-names column_of column_name column_name-read (items_view (take i vs)) cs read in
     let back = ap (λ name. option_map_or (λ n. n ∷ some_of column_name (items_view (drop (suc i) vs))) name (some_of column_name (items_view (drop (suc i) vs)))) (column_name-read (view v) c now) in
     let names = ap (λ l. some_of column_name (items_view l)) (sym parted) ∙ some_of-append column_name (take i vs) (v ∷ drop (suc i) vs) ∙ ap (λ l. l ++ some_of column_name (items_view (v ∷ drop (suc i) vs))) front ∙ ap (λ l. names_of cs ++ l) back in
-    let again = ap (repeats []) names ∙ repeats-again [] (names_of cs) c.0 _ (sym (is_among-type_at cs c.0) ∙ there) in
-    ap (list_fault_of (λ items. not (repeats [] (some_of column_name items)))) (sym found) ∙ ap (λ b. unless BadShape (not b)) again
+    let again = ap repeats names ∙ repeats-again (names_of cs) c.0 _ (is_among-type_at cs c.0 ∙ there) in
+    ap (list_fault_of (λ items. not (repeats (some_of column_name items)))) (sym found) ∙ ap (λ b. unless BadShape (not b)) again
   where
     list_fault_of : (Items → Bool) → Option Items → Option FaultKind
     list_fault_of test o = unless BadShape (option_map_or test o false)
 
 -- one more column is read
-pub columns_more : (cs : Columns) (name : Name) (type : Ty) → is_some (type_at cs name) ≡ false → repeats [] (names_of cs) ≡ false → (with_column cs name type ≡ cs ++ (name, type) ∷ []) × (repeats [] (names_of (cs ++ (name, type) ∷ [])) ≡ false)
-columns_more cs name type new distinct = (
-  with_column-new cs name type (new_type_at cs name new),
-  ap (repeats []) (map-append (λ (c : Name × Ty). c.0) cs ((name, type) ∷ [])) ∙ repeats-push [] (names_of cs) name distinct (sym (is_among-type_at cs name) ∙ new),
-)
+pub columns_more : (cs : Columns) (name : Name) (type : Ty) → is_some (type_at cs name) ≡ false → repeats (names_of cs) ≡ false → (with_column cs name type ≡ cs ++ (name, type) ∷ []) × (repeats (names_of (cs ++ (name, type) ∷ [])) ≡ false)
+columns_more cs name type new distinct =
+    let apart = is_among-type_at cs name ∙ new in (
+      with_column-new cs name type (IsNewName-test cs name apart),
+      ap repeats (map-append (λ (c : Name × Ty). c.0) cs ((name, type) ∷ [])) ∙ repeats-push (names_of cs) name distinct apart,
+    )

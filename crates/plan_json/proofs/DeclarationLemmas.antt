@@ -3,7 +3,8 @@ use Rattle.std.proofs.Common.{◌≡◌, ℕ, suc, ◌<◌, ◌≤◌, ◌==◌,
 use Rattle.std.proofs.lemmas.List.{take_all, map-append, length-take-le}
 use Rattle.std.proofs.lemmas.Bool.{ltb-true, lt-ltb}
 use Rattle.std.specs.Option.{option_map_or}
-use Rattle.plan_types.specs.Schemas.{Name, Columns}
+use Rattle.plan_types.specs.Schemas.{Name, Columns, names_of, is_among, repeats}
+use Rattle.plan_types.proofs.NameLemmas.{repeats-push}
 use Rattle.serde_json.specs.Data.{Data, Items, null, boolean, number, string, array, object}
 use Rattle.serde_json.specs.Events.{items_len, members_len}
 use Rattle.serde_json.specs.Find.{as_array, get, get_member}
@@ -13,9 +14,8 @@ use Rattle.serde_json.proofs.Views.{items_len-items_view}
 use Rattle.plan_json.specs.Faults.{BadShape, table_list, own_fault, unless, declared_names}
 use Rattle.plan_json.specs.Looking.{both, two_members, all_of, some_of}
 use Rattle.plan_json.specs.Queries.{text_of, table_of, table_name, tables_of, tables_from, table_limit, columns_of}
-use Rattle.plan_json.specs.Tables.{Declared, names_of, is_among, repeats}
+use Rattle.plan_json.specs.Tables.{Declared}
 use Rattle.plan_json.proofs.ItemLemmas.{some_of-names}
-use Rattle.plan_json.proofs.NameLemmas.{repeats-push}
 
 first_of_both : {A B : Type 0} (x : Option A) (y : Option B) (p : A × B) → both x y ≡ Some p → x ≡ Some p.0
 first_of_both None y p e = cc
@@ -77,19 +77,19 @@ not_less a b h = go (nat_lt a b) refl
 pub tables_too_many : (d : Data) (vs : List Value) → Some (items_view vs) ≡ as_array d → table_limit ≤ length vs → own_fault table_list d ≡ Some BadShape
 tables_too_many d vs is many = ap (λ o. unless BadShape (option_map_or (λ items. nat_lt (items_len items) table_limit) o false)) (sym is) ∙ ap (unless BadShape) (few vs false (not_less (length vs) table_limit many))
 
-pub tables_all : (d : Data) (vs : List Value) (n : ℕ) (ts : Declared) → Some (items_view vs) ≡ as_array d → length vs < table_limit → length vs ≡ n → all_of table_of (items_view (take n vs)) ≡ Some ts → repeats [] (names_of ts) ≡ false → tables_of d ≡ Some ts
+pub tables_all : (d : Data) (vs : List Value) (n : ℕ) (ts : Declared) → Some (items_view vs) ≡ as_array d → length vs < table_limit → length vs ≡ n → all_of table_of (items_view (take n vs)) ≡ Some ts → repeats (names_of ts) ≡ false → tables_of d ≡ Some ts
 tables_all d vs n ts is some all read distinct =
     let whole = take_all n vs (omega arith) in
     let here = ap (λ l. all_of table_of (items_view l)) (sym whole) ∙ read in
     let names = table_names-read (items_view vs) ts here in
     ap (option_and_then tables_from) (sym is)
-    ∙ ap (λ b. cond (b && not (repeats [] (some_of table_name (items_view vs)))) (all_of table_of (items_view vs)) None) (few vs true (lt-ltb (length vs) table_limit some))
-    ∙ ap (λ b. cond (not b) (all_of table_of (items_view vs)) None) (ap (repeats []) names ∙ distinct)
+    ∙ ap (λ b. cond (b && not (repeats (some_of table_name (items_view vs)))) (all_of table_of (items_view vs)) None) (few vs true (lt-ltb (length vs) table_limit some))
+    ∙ ap (λ b. cond (not b) (all_of table_of (items_view vs)) None) (ap repeats names ∙ distinct)
     ∙ here
 
-pub tables_more : (ts : Declared) (name : Name) (cs : Columns) → is_among name (names_of ts) ≡ false → repeats [] (names_of ts) ≡ false → repeats [] (names_of (ts ++ (name, cs) ∷ [])) ≡ false
+pub tables_more : (ts : Declared) (name : Name) (cs : Columns) → is_among name (names_of ts) ≡ false → repeats (names_of ts) ≡ false → repeats (names_of (ts ++ (name, cs) ∷ [])) ≡ false
 tables_more ts name cs new distinct =
-    ap (repeats []) (map-append (λ (t : Name × Columns). t.0) ts ((name, cs) ∷ [])) ∙ repeats-push [] (names_of ts) name distinct new
+    ap repeats (map-append (λ (t : Name × Columns). t.0) ts ((name, cs) ∷ [])) ∙ repeats-push (names_of ts) name distinct new
 
 -- tables that are read have the names that they give themselves
 pub declared_names-read : (d : Data) (ts : Declared) → tables_of d ≡ Some ts → declared_names d ≡ names_of ts
@@ -101,4 +101,4 @@ declared_names-read d ts e = go (as_array d) e
 
     go : (o : Option Items) → option_and_then tables_from o ≡ Some ts → option_map_or (some_of table_name) o [] ≡ names_of ts
     go None h = cc
-    go (Some items) h = tested items (nat_lt (items_len items) table_limit && not (repeats [] (some_of table_name items))) h
+    go (Some items) h = tested items (nat_lt (items_len items) table_limit && not (repeats (some_of table_name items))) h

@@ -3,7 +3,7 @@ use Rattle.std.proofs.Common.{◌≡◌, ℕ, List, [], ◌∷◌, ◌++◌, Con
 use Rattle.std.specs.Option.{option_map_or}
 use Rattle.serde_json.specs.Data.{Data}
 use Rattle.plan_json.specs.Errors.{IsErrorOf, IsBelow, IsErrBelow, step_text, pointer_text}
-use Rattle.plan_json.specs.Faults.{BadShape, BadName, Path, Form, a_text, Part, part, own_fault, parts_of, unless, name_fault, IsBad, key, one_part, only_part}
+use Rattle.plan_json.specs.Faults.{BadShape, BadName, Path, Form, a_text, Part, part, own_fault, parts_of, unless, name_fault, IsBadAt, key, one_part, only_part}
 use Rattle.plan_types.specs.Schemas.{Name as Name'}
 use Rattle.plan_json.specs.Queries.{text_of}
 use Rattle.plan_json.specs.Looking.{only_member}
@@ -46,7 +46,7 @@ IsErrorOf-text form d (Shape path) no_text (steps, is, bad) = go steps is bad
     absent None h = refl
     absent (Some x) h = cc
 
-    go : (steps : Path) → string_bytes path ≡ pointer_text steps → IsBad a_text d BadShape steps → IsErrorOf form d (Shape path)
+    go : (steps : Path) → string_bytes path ≡ pointer_text steps → IsBadAt a_text d BadShape steps → IsErrorOf form d (Shape path)
     go [] is bad = ([], is, no_text (absent (text_of d) bad))
     go (step ∷ steps) is (below, (k, within, there), same, more) = absurd (omega arith)
 IsErrorOf-text form d (Name path) no_text (steps, is, bad) = absurd (go steps bad)
@@ -55,7 +55,7 @@ IsErrorOf-text form d (Name path) no_text (steps, is, bad) = absurd (go steps ba
     other None h = cc
     other (Some x) h = cc
 
-    go : (steps : Path) → IsBad a_text d BadName steps → ⊥
+    go : (steps : Path) → IsBadAt a_text d BadName steps → ⊥
     go [] bad = other (text_of d) bad
     go (step ∷ steps) (below, (k, within, there), same, more) = absurd (omega arith)
 IsErrorOf-text form d NoMemory no_text bad = tt

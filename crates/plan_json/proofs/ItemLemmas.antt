@@ -2,7 +2,7 @@
 use Rattle.std.proofs.Common.{◌≡◌, ℕ, zero, suc, ◌+◌, ◌<◌, List, [], ◌∷◌, ◌++◌, length, get_or, take, Contains, Option, Some, None, option_map, option_and_then, refl, sym, ap, ◌∙◌, arith, append_assoc, append-nil}
 use Rattle.std.proofs.lemmas.List.{take_more, take_all}
 use Rattle.std.specs.Option.{option_map_or}
-use Rattle.plan_types.specs.Schemas.{Name}
+use Rattle.plan_types.specs.Schemas.{Name, names_of}
 use Rattle.serde_json.specs.Data.{Data, Items, no_items, item}
 use Rattle.serde_json.specs.Find.{as_array}
 use Rattle.serde_json.specs.View.{view, items_view}
@@ -10,7 +10,6 @@ use Rattle.serde_json.specs.declared.value.Value.{Value}
 use Rattle.plan_json.specs.Faults.{Form, a_table, part, number, each, each_table}
 use Rattle.plan_json.specs.Looking.{both, all_of, some_of}
 use Rattle.plan_json.specs.Queries.{table_name}
-use Rattle.plan_json.specs.Tables.{names_of}
 
 -- ---- what all items read to
 

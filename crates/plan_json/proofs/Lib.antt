@@ -4,6 +4,7 @@ pub mod FaultLemmas
 pub mod FormLemmas
 pub mod ItemLemmas
 pub mod LookingLemmas
-pub mod NameLemmas
 pub mod NoFaults
+pub mod OnLiterals
+pub mod QueryLaws
 pub mod TableLemmas

@@ -1,8 +1,8 @@
 -- A value that is a query has no fault, along any path.
-use Rattle.std.proofs.Common.{◌≡◌, ℕ, zero, suc, ◌+◌, ◌<◌, List, [], ◌∷◌, ◌++◌, length, get_or, Contains, Option, Some, None, option_map, option_and_then, Bool, true, false, cond, not, ◌&&◌, is_some, codes, nat_lt, bytes_eq, refl, sym, ap, subst, ◌∙◌, arith}
-use Rattle.std.proofs.lemmas.Bool.{or_parts}
+use Rattle.std.proofs.Common.{◌≡◌, ℕ, zero, suc, ◌+◌, ◌<◌, List, [], ◌∷◌, ◌++◌, length, get_or, Contains, Option, Some, None, option_map, option_and_then, Bool, true, false, cond, not, ◌&&◌, is_some, codes, nat_lt, bytes_eq, refl, sym, ap, subst, ◌∙◌, arith, append_assoc}
 use Rattle.std.specs.Option.{option_map_or}
-use Rattle.plan_types.specs.Schemas.{Name, Columns}
+use Rattle.plan_types.specs.Schemas.{Name, Columns, names_of, is_among, repeats}
+use Rattle.plan_types.proofs.NameLemmas.{repeats-apart}
 use Rattle.plan_dsl.specs.Ops.{Expression}
 use Rattle.plan_dsl.specs.declared.operator.Operator.{Operator}
 use Rattle.serde_json.specs.Data.{Data, Items, array, object, no_items, item, member, no_members}
@@ -11,10 +11,10 @@ use Rattle.serde_json.specs.Find.{as_array}
 use Rattle.plan_json.specs.Errors.{IsErrorOf}
 use Rattle.plan_json.specs.declared.error.JsonError.{JsonError}
 use Rattle.plan_json.specs.declared.error.JsonError.TheVariants.{NotJson, Shape, Name as Name', NoMemory}
-use Rattle.plan_json.specs.Faults.{FaultKind, BadShape, BadName, key, number, Path, Form, a_query, table_list, column_list, a_column, a_type, a_text, a_table, a_new_name, a_plan, a_scan, a_selection, expression_list, an_expression, operands, an_operator, Part, part, own_fault, parts_of, unless, each, each_table, query_parts, table_parts, column_parts, one_part, declared_names, IsBad}
+use Rattle.plan_json.specs.Faults.{FaultKind, BadShape, BadName, key, number, Path, Form, a_query, table_list, column_list, a_column, a_type, a_text, a_table, a_new_name, a_plan, a_scan, a_selection, expression_list, an_expression, operands, an_operator, Part, part, own_fault, parts_of, unless, each, each_table, query_parts, table_parts, column_parts, one_part, declared_names, IsBadAt}
 use Rattle.plan_json.specs.Looking.{both, two_members, two_items, three_items, all_of, some_of}
-use Rattle.plan_json.specs.Queries.{QueryModel, text_of, type_of, operator_of, column_of, column_name, columns_of, columns_from, table_of, table_name, table_limit, tables_of, tables_from, expression_of, binary_of, binary_expression, expressions_of, column_expression, table_at, scan_plan, scan_of, empty_plan, select_plan, plan_of, select_of, query_of, query_from}
-use Rattle.plan_json.specs.Tables.{Declared, names_of, is_among, repeats}
+use Rattle.plan_json.specs.Queries.{QueryModel, text_of, type_of, operator_of, column_of, column_name, columns_of, columns_from, table_of, table_name, table_limit, tables_of, tables_from, expression_of, binary_of, binary_expression, expressions_of, column_expression, table_at, scan_plan, scan_of, empty_plan, select_plan, plan_of, select_of, query_of, query_from, IsQueryOf}
+use Rattle.plan_json.specs.Tables.{Declared}
 use Rattle.plan_json.proofs.DeclarationLemmas.{table_name-read, declared_names-read}
 use Rattle.plan_json.proofs.TableLemmas.{is_some-table_at}
 
@@ -78,14 +78,14 @@ own_list test f passes (Some items) kind well bad =
     let none : None ≡ Some kind = ap (unless BadShape) (sym passed) ∙ bad in cc
 
 few_enough : (items : Items) → Given (tables_from items) → nat_lt (items_len items) table_limit ≡ true
-few_enough items well = go (nat_lt (items_len items) table_limit) (not (repeats [] (some_of table_name items))) well
+few_enough items well = go (nat_lt (items_len items) table_limit) (not (repeats (some_of table_name items))) well
   where
     go : (few new : Bool) → Given (cond (few && new) (all_of table_of items) None) → few ≡ true
     go true new h = refl
     go false new (x, e) = cc
 
-no_repeat : (items : Items) → Given (columns_from items) → not (repeats [] (some_of column_name items)) ≡ true
-no_repeat items well = go (repeats [] (some_of column_name items)) well
+no_repeat : (items : Items) → Given (columns_from items) → not (repeats (some_of column_name items)) ≡ true
+no_repeat items well = go (repeats (some_of column_name items)) well
   where
     go : (again : Bool) → Given (cond again None (all_of column_of items)) → not again ≡ true
     go true (x, e) = cc
@@ -136,7 +136,7 @@ own_selection tables _ kind (x, e) bad = cc
 own_none : (form : Form) (d : Data) (kind : FaultKind) → IsWell form d → own_fault form d ≡ Some kind → ⊥
 own_none a_query d kind well bad = there_first query_from (two_members (codes "tables") (codes "plan") d) kind well bad
 own_none table_list d kind well bad = own_list (λ items. nat_lt (items_len items) table_limit) tables_from few_enough (as_array d) kind well bad
-own_none column_list d kind well bad = own_list (λ items. not (repeats [] (some_of column_name items))) columns_from no_repeat (as_array d) kind well bad
+own_none column_list d kind well bad = own_list (λ items. not (repeats (some_of column_name items))) columns_from no_repeat (as_array d) kind well bad
 own_none a_column d kind well bad = there_first _ (two_items d) kind well bad
 own_none a_type d kind well bad = there (type_of d) kind well bad
 own_none a_text d kind well bad = there (text_of d) kind well bad
@@ -184,16 +184,17 @@ each_of {A} form read well n (item d ds) xs p e (suc k, within, is) =
     each_of form read well (n + 1) ds rest.0 p rest.1 (k, omega arith, is)
 
 -- so is each table, whose name is new
-tables_of_list : (before : List Name) (n : ℕ) (ds : Items) (ts : Declared) (p : Part) → all_of table_of ds ≡ Some ts → repeats before (some_of table_name ds) ≡ false → Contains (each_table before n ds) p → WellPart p
+tables_of_list : (before : List Name) (n : ℕ) (ds : Items) (ts : Declared) (p : Part) → all_of table_of ds ≡ Some ts → repeats (before ++ some_of table_name ds) ≡ false → Contains (each_table before n ds) p → WellPart p
 tables_of_list before n no_items ts p e new here = none_of p here
 tables_of_list before n (item d ds) ts p e new (k, within, is) =
     let pair = mapped (λ (q : (Name × Columns) × List (Name × Columns)). q.0 ∷ q.1) (both (table_of d) (all_of table_of ds)) ts e in
     let parts = paired (table_of d) (all_of table_of ds) pair.0 pair.1 in
     let name = table_name-read d parts.0.0 parts.0.1 in
-    let apart = or_parts (is_among parts.0.0.0 before) _ (ap (λ o. repeats before (option_map_or (λ x. x ∷ some_of table_name ds) o (some_of table_name ds))) (sym name) ∙ new) in
+    let unlike = ap (λ o. repeats (before ++ option_map_or (λ x. x ∷ some_of table_name ds) o (some_of table_name ds))) (sym name) ∙ new in
+    let later = ap repeats (append_assoc before (parts.0.0.0 ∷ []) (some_of table_name ds)) ∙ unlike in
     let grown = ap (λ o. option_map_or (λ x. before ++ x ∷ []) o before) name in
-    at k (parts.0.0, parts.0.1, apart.0) within is
-    (λ j less there. tables_of_list (before ++ parts.0.0.0 ∷ []) (n + 1) ds parts.1.0 p parts.1.1 apart.1 (subst (λ l. Contains (each_table l (n + 1) ds) p) grown (j, less, there)))
+    at k (parts.0.0, parts.0.1, repeats-apart before parts.0.0.0 (some_of table_name ds) unlike) within is
+    (λ j less there. tables_of_list (before ++ parts.0.0.0 ∷ []) (n + 1) ds parts.1.0 p parts.1.1 later (subst (λ l. Contains (each_table l (n + 1) ds) p) grown (j, less, there)))
   where
     at : (k : ℕ) → IsWell (a_table before) d → k < length (each_table before n (item d ds)) → get_or (each_table before n (item d ds)) k p ≡ p
         → ((j : ℕ) → j < length (each_table (option_map_or (λ x. before ++ x ∷ []) (table_name d) before) (n + 1) ds) → get_or (each_table (option_map_or (λ x. before ++ x ∷ []) (table_name d) before) (n + 1) ds) j p ≡ p → WellPart p)
@@ -211,8 +212,8 @@ both_are {A = A} {B = B} (Some x) (Some y) p e =
 held : {A : Type 0} (parts : A → List Part) (o : Option A) (x : A) (p : Part) → o ≡ Some x → Contains (option_map_or parts o []) p → Contains (parts x) p
 held parts o x p is here = subst (λ q. Contains (option_map_or parts q []) p) is here
 
-tables_are : (items : Items) (ts : Declared) → tables_from items ≡ Some ts → (all_of table_of items ≡ Some ts) × (repeats [] (some_of table_name items) ≡ false)
-tables_are items ts e = go (nat_lt (items_len items) table_limit) (repeats [] (some_of table_name items)) e
+tables_are : (items : Items) (ts : Declared) → tables_from items ≡ Some ts → (all_of table_of items ≡ Some ts) × (repeats (some_of table_name items) ≡ false)
+tables_are items ts e = go (nat_lt (items_len items) table_limit) (repeats (some_of table_name items)) e
   where
     go : (few again : Bool) → cond (few && not again) (all_of table_of items) None ≡ Some ts → (all_of table_of items ≡ Some ts) × (again ≡ false)
     go true true h = cc
@@ -220,7 +221,7 @@ tables_are items ts e = go (nat_lt (items_len items) table_limit) (repeats [] (s
     go false again h = cc
 
 columns_are : (items : Items) (cs : Columns) → columns_from items ≡ Some cs → all_of column_of items ≡ Some cs
-columns_are items cs e = go (repeats [] (some_of column_name items)) e
+columns_are items cs e = go (repeats (some_of column_name items)) e
   where
     go : (again : Bool) → cond again None (all_of column_of items) ≡ Some cs → all_of column_of items ≡ Some cs
     go true h = cc
@@ -321,13 +322,13 @@ parts_well an_operator d p well here = none_of p here
 
 -- ---- so it has no fault along any path
 
-no_fault : (form : Form) (d : Data) (kind : FaultKind) (path : Path) → IsWell form d → IsBad form d kind path → ⊥
+no_fault : (form : Form) (d : Data) (kind : FaultKind) (path : Path) → IsWell form d → IsBadAt form d kind path → ⊥
 no_fault form d kind [] well bad = own_none form d kind well bad
 no_fault form d kind (step ∷ path) well (below, here, same, bad) =
     no_fault below.form below.value kind path (parts_well form d below well here) bad
 
 -- an error of a value that is a query is want of memory
-pub query_has_no_fault : (d : Data) (query : QueryModel) (error : JsonError) → query_of d ≡ Some query → IsErrorOf a_query d error → error ≡ NoMemory
+pub query_has_no_fault : (d : Data) (query : QueryModel) (error : JsonError) → IsQueryOf d query → IsErrorOf a_query d error → error ≡ NoMemory
 query_has_no_fault d query NotJson is bad = absurd bad
 query_has_no_fault d query (Shape path) is (steps, text, bad) = absurd (no_fault a_query d BadShape steps (query, is) bad)
 query_has_no_fault d query (Name' path) is (steps, text, bad) = absurd (no_fault a_query d BadName steps (query, is) bad)

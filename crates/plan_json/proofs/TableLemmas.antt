@@ -1,17 +1,16 @@
 -- Declared tables, beside the map's entries.
-use Rattle.std.proofs.Common.{◌≡◌, ℕ, List, [], ◌∷◌, ◌++◌, map, position, Bool, true, false, cond, Option, Some, None, is_some, refl, sym, ap, ◌∙◌}
+use Rattle.std.proofs.Common.{◌≡◌, ℕ, List, [], ◌∷◌, ◌++◌, map, position, Bool, true, false, ◌||◌, cond, Option, Some, None, is_some, refl, sym, ap, ◌∙◌}
 use Rattle.std.specs.Map.{lookup}
 use Rattle.std.specs.Option.{option_map}
 use Rattle.std.proofs.lemmas.Bool.{or_parts}
 use Rattle.indexmap.specs.IndexMap.{insert_entry}
 use Rattle.indexmap.proofs.MapLemmas.{some_index}
-use Rattle.plan_types.specs.Schemas.{Name, columns, same_name}
+use Rattle.plan_types.specs.Schemas.{Name, columns, same_name, names_of, is_among}
 use Rattle.plan_types.specs.declared.schema.Schema.{Schema}
 use Rattle.plan_json.specs.Looking.{both}
 use Rattle.plan_json.specs.Queries.{table_at}
-use Rattle.plan_json.specs.Tables.{Declared, table_entry, names_of, is_among}
+use Rattle.plan_json.specs.Tables.{Declared, table_entry}
 use Rattle.plan_json.proofs.LookingLemmas.{both-some, both-none_first}
-use Rattle.plan_json.proofs.NameLemmas.{is_among-lookup}
 
 abbrev Entries : Type 0
 Entries = List (Name × Schema)
@@ -24,6 +23,11 @@ lookup-entries : (test : Name → Bool) (es : Entries) → lookup test (map tabl
 lookup-entries test [] = refl
 lookup-entries test (e ∷ es) =
     elim (test e.0) as (λ b. cond b (Some (columns e.1)) (lookup test (map table_entry es)) ≡ option_map columns (cond b (Some e.1) (lookup test es))) [ true ↦ refl | false ↦ lookup-entries test es ]
+
+is_among-lookup : {A : Type 0} (es : List (Name × A)) (name : Name) → is_some (lookup (same_name name) es) ≡ is_among name (names_of es)
+is_among-lookup [] name = refl
+is_among-lookup (e ∷ es) name =
+    elim (same_name name e.0) as (λ b. is_some (cond b (Some e.1) (lookup (same_name name) es)) ≡ (b || is_among name (names_of es))) [ true ↦ refl | false ↦ is_among-lookup es name ]
 
 -- whether a table is found is whether its name is among them
 pub is_among-entries : (es : Entries) (name : Name) → is_some (lookup (same_name name) es) ≡ is_among name (names_of (map table_entry es))

@@ -4,7 +4,7 @@ use Rattle.serde_json.specs.Data.{Data}
 use Rattle.serde_json.specs.Read.{read}
 use Rattle.plan_json.specs.Errors.{IsErrorOf}
 use Rattle.plan_json.specs.Faults.{a_query}
-use Rattle.plan_json.specs.Queries.{QueryModel, query_of}
+use Rattle.plan_json.specs.Queries.{QueryModel, IsQueryOf}
 use Rattle.plan_json.specs.declared.error.JsonError.{JsonError}
 use Rattle.plan_json.specs.declared.error.JsonError.TheVariants.{NotJson, Shape, Name, NoMemory}
 
@@ -14,7 +14,7 @@ IsTextOf bytes d = IsUtf8 bytes × (read bytes ≡ Some d)
 
 -- the bytes write the query
 abbrev pub WritesQuery : List ℕ → QueryModel → Type 0
-WritesQuery bytes query = (d : Data) × IsTextOf bytes d × (query_of d ≡ Some query)
+WritesQuery bytes query = (d : Data) × IsTextOf bytes d × IsQueryOf d query
 
 -- The error says why the bytes write no query: they are no JSON text, or a part of their value is at
 -- fault. Want of memory may come always.

@@ -1,7 +1,7 @@
 -- Errors, and the faults that they tell.
 use Rattle.std.specs.Prelude.{◌≡◌, ℕ, ◌==◌, List, [], ◌∷◌, ◌++◌, Result, Ok, Err, decimal, string_bytes, if◌then◌else◌}
 use Rattle.serde_json.specs.Data.{Data}
-use Rattle.plan_json.specs.Faults.{FaultKind, BadShape, BadName, Step, key, number, Path, Form, IsBad}
+use Rattle.plan_json.specs.Faults.{FaultKind, BadShape, BadName, Step, key, number, Path, Form, IsBadAt}
 use Rattle.plan_json.specs.declared.error.JsonError.{JsonError}
 use Rattle.plan_json.specs.declared.error.JsonError.TheVariants.{NotJson, Shape, Name, NoMemory}
 use Rattle.plan_json.specs.declared.error.Step.{Step as CodeStep}
@@ -36,14 +36,14 @@ IsPlain (number n) = Unit {0}
 -- ---- what an error tells
 
 -- the value at the end of the pointer breaks what its place asks for, in this way
-abbrev pub IsBadAt : Form → Data → FaultKind → List ℕ → Type 0
-IsBadAt form d kind text = (path : Path) × (text ≡ pointer_text path) × IsBad form d kind path
+abbrev pub IsBadAtPointer : Form → Data → FaultKind → List ℕ → Type 0
+IsBadAtPointer form d kind text = (path : Path) × (text ≡ pointer_text path) × IsBadAt form d kind path
 
 -- The error tells a fault of a value that is to be of the form. Want of memory may come always.
 abbrev pub IsErrorOf : Form → Data → JsonError → Type 0
 IsErrorOf form d NotJson = ⊥
-IsErrorOf form d (Shape path) = IsBadAt form d BadShape (string_bytes path)
-IsErrorOf form d (Name path) = IsBadAt form d BadName (string_bytes path)
+IsErrorOf form d (Shape path) = IsBadAtPointer form d BadShape (string_bytes path)
+IsErrorOf form d (Name path) = IsBadAtPointer form d BadName (string_bytes path)
 IsErrorOf form d NoMemory = Unit {0}
 
 -- the error of a part, told with the step to the part, or want of memory

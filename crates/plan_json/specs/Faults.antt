@@ -7,10 +7,9 @@ use Rattle.std.specs.Str.{bytes_eq}
 use Rattle.serde_json.specs.Data.{Data, Items, no_items, item}
 use Rattle.serde_json.specs.Events.{items_len}
 use Rattle.serde_json.specs.Find.{as_array}
-use Rattle.plan_types.specs.Schemas.{Name}
+use Rattle.plan_types.specs.Schemas.{Name, is_among, repeats}
 use Rattle.plan_json.specs.Looking.{only_member, two_members, two_items, three_items, some_of}
 use Rattle.plan_json.specs.Queries.{text_of, type_of, operator_of, column_name, table_name, table_limit}
-use Rattle.plan_json.specs.Tables.{is_among, repeats}
 
 pub data FaultKind : Type 0 where
   -- the value breaks the form
@@ -81,7 +80,7 @@ list_fault test d = unless BadShape (option_map_or test (as_array d) false)
 abbrev pub own_fault : Form → Data → Option FaultKind
 own_fault a_query d = unless BadShape (is_some (two_members (codes "tables") (codes "plan") d))
 own_fault table_list d = list_fault (λ items. nat_lt (items_len items) table_limit) d
-own_fault column_list d = list_fault (λ items. not (repeats [] (some_of column_name items))) d
+own_fault column_list d = list_fault (λ items. not (repeats (some_of column_name items))) d
 own_fault a_column d = unless BadShape (is_some (two_items d))
 own_fault a_type d = unless BadShape (is_some (type_of d))
 own_fault a_text d = unless BadShape (is_some (text_of d))
@@ -153,7 +152,7 @@ parts_of an_operator d = []
 -- ---- faults along a path
 
 -- the part at the path's end breaks its form in this way
-abbrev pub IsBad : Form → Data → FaultKind → Path → Type 0
-IsBad form d kind [] = own_fault form d ≡ Some kind
-IsBad form d kind (step ∷ path) =
-    (below : Part) × Contains (parts_of form d) below × (below.step ≡ step) × IsBad below.form below.value kind path
+abbrev pub IsBadAt : Form → Data → FaultKind → Path → Type 0
+IsBadAt form d kind [] = own_fault form d ≡ Some kind
+IsBadAt form d kind (step ∷ path) =
+    (below : Part) × Contains (parts_of form d) below × (below.step ≡ step) × IsBadAt below.form below.value kind path

@@ -1,13 +1,13 @@
 -- The query that a value is.
 -- There is one function for each form. Each gives what a value of that form means, and nothing
 -- where the value hasn't the form.
-use Rattle.std.specs.Prelude.{ℕ, ◌^◌, ◌&&◌, List, [], map, not, Option, Some, None, option_map, option_and_then, codes, nat_lt, position, if◌then◌else◌, true, false}
+use Rattle.std.specs.Prelude.{◌≡◌, ℕ, ◌^◌, ◌&&◌, List, [], map, not, Option, Some, None, option_map, option_and_then, codes, nat_lt, position, if◌then◌else◌, true, false}
 use Rattle.std.specs.Map.{lookup}
 use Rattle.std.specs.Str.{chars, bytes_eq}
 use Rattle.serde_json.specs.Data.{Data, array, object, Items, no_items, item, no_members, member}
 use Rattle.serde_json.specs.Events.{items_len}
 use Rattle.serde_json.specs.Find.{get, as_str, as_array}
-use Rattle.plan_types.specs.Schemas.{Name, Columns, same_name}
+use Rattle.plan_types.specs.Schemas.{Name, Columns, same_name, names_of, repeats}
 use Rattle.plan_types.specs.Types.{Ty, Integer}
 use Rattle.plan_dsl.specs.Ops.{ColumnOp, BinaryOp, Expression}
 use Rattle.plan_dsl.specs.Plans.{Plan, named, scan_op, select_op, plan_tree}
@@ -15,7 +15,7 @@ use Rattle.plan_dsl.specs.Trees.{node, no_more, more}
 use Rattle.plan_dsl.specs.declared.operator.Operator.{Operator}
 use Rattle.plan_dsl.specs.declared.operator.Operator.TheVariants.{Plus}
 use Rattle.plan_json.specs.Looking.{both, two_members, two_items, all_of, some_of}
-use Rattle.plan_json.specs.Tables.{Declared, declared, names_of, repeats}
+use Rattle.plan_json.specs.Tables.{Declared, declared}
 use Rattle.plan_json.specs.declared.read.Query.{Query}
 
 -- a query: its tables, and its plan over them
@@ -63,7 +63,7 @@ abbrev pub column_name : Data → Option Name
 column_name d = option_and_then (λ pair. text_of pair.0) (two_items d)
 
 abbrev pub columns_from : Items → Option Columns
-columns_from items = if repeats [] (some_of column_name items) then None else all_of column_of items
+columns_from items = if repeats (some_of column_name items) then None else all_of column_of items
 
 -- a list of columns, no two of one name
 abbrev pub columns_of : Data → Option Columns
@@ -85,7 +85,7 @@ table_limit = 2 ^ 32
 
 abbrev pub tables_from : Items → Option Declared
 tables_from items =
-    if nat_lt (items_len items) table_limit && not (repeats [] (some_of table_name items)) then all_of table_of items else None
+    if nat_lt (items_len items) table_limit && not (repeats (some_of table_name items)) then all_of table_of items else None
 
 -- a list of fewer than 2^32 tables, no two of one name
 abbrev pub tables_of : Data → Option Declared
@@ -161,3 +161,7 @@ query_from parts =
 -- `{"tables": tables, "plan": plan}`
 abbrev pub query_of : Data → Option QueryModel
 query_of d = option_and_then query_from (two_members (codes "tables") (codes "plan") d)
+
+-- the value is the query
+abbrev pub IsQueryOf : Data → QueryModel → Type 0
+IsQueryOf d query = query_of d ≡ Some query

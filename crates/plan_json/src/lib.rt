@@ -7,7 +7,9 @@
 mod columns;
 mod declarations;
 pub mod error;
+pub mod examples;
 mod expression;
+pub mod laws;
 mod plan;
 pub mod read;
 pub mod tables;

@@ -2,10 +2,11 @@
 ghost use Rattle.std.specs.Prelude.{◌≡◌, Some, IfOk, IfErr};
 ghost use Rattle.serde_json.specs.View.{view};
 ghost use Rattle.plan_dsl.specs.Plans.{plan_tree};
+ghost use Rattle.plan_types.specs.Schemas.{names_of};
 ghost use Rattle.plan_json.specs.Errors.{IsErrorOf};
 ghost use Rattle.plan_json.specs.Faults.{a_plan, a_scan, a_selection};
 ghost use Rattle.plan_json.specs.Queries.{plan_of, scan_of, select_of};
-ghost use Rattle.plan_json.specs.Tables.{declared, names_of};
+ghost use Rattle.plan_json.specs.Tables.{declared};
 
 use super::columns::{read_columns, read_text};
 use super::error::{JsonError, Step, at};

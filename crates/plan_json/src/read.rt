@@ -5,7 +5,7 @@ ghost use Rattle.serde_json.specs.View.{view};
 ghost use Rattle.plan_json.specs.Bytes.{IsTextOf, IsRefusalOf, WritesQuery};
 ghost use Rattle.plan_json.specs.Errors.{IsErrorOf};
 ghost use Rattle.plan_json.specs.Faults.{a_query};
-ghost use Rattle.plan_json.specs.Queries.{QueryModel, query_of, query_model};
+ghost use Rattle.plan_json.specs.Queries.{QueryModel, IsQueryOf, query_model};
 
 use super::declarations::read_tables;
 use super::error::{JsonError, Step, at};
@@ -48,7 +48,7 @@ pub fn read_query(alloc: Global, bytes: &[u8]) -> Result<Query, JsonError>
 
 // A query: `{"tables": tables, "plan": plan}`.
 fn read_value(alloc: Global, value: &Value) -> Result<Query, JsonError>
-    ensures ok { IfOk result (λ query. query_of (view value.now) ≡ Some (query_model query)) }
+    ensures ok { IfOk result (λ query. IsQueryOf (view value.now) (query_model query)) }
     ensures err { IfErr result (IsErrorOf a_query (view value.now)) }
 {
     match two_members(value, "tables", "plan") {

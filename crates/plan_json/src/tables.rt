@@ -24,9 +24,9 @@ pub struct Tables {
 impl Tables {
     ghost use Rattle.std.specs.Prelude.{◌≡◌, ◌+◌, ◌↔◌, [], ◌∷◌, ◌++◌, false, slice_get, IsTrue, OnOk, OnErr, IfErr};
     ghost use Rattle.std.specs.Option.{option_map};
-    ghost use Rattle.plan_types.specs.Schemas.{columns};
+    ghost use Rattle.plan_types.specs.Schemas.{columns, names_of, is_among};
     ghost use Rattle.plan_json.specs.Queries.{table_at};
-    ghost use Rattle.plan_json.specs.Tables.{declared, names_of, is_among};
+    ghost use Rattle.plan_json.specs.Tables.{declared};
 
     /// No tables.
     pub fn new(alloc: Global) -> Tables

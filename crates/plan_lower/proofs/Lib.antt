@@ -1,3 +1,4 @@
+pub mod BuiltLemmas
 pub mod CoercionLemmas
 pub mod NodeLemmas
 pub mod PlanLemmas

@@ -2,7 +2,8 @@
 use Rattle.std.proofs.Common.{◌≡◌, ◌⊎◌, ℕ, ◌<◌, List, [], ◌∷◌, ◌++◌, length, map, Option, Some, None, slice_get, refl, sym, ap, ◌∙◌, subst, arith, ⊎_elim, append_assoc}
 use Rattle.std.specs.Option.{option_map}
 use Rattle.std.proofs.lemmas.Option.{slice_get-map}
-use Rattle.plan_types.specs.Schemas.{Columns, columns}
+use Rattle.plan_types.specs.Schemas.{Columns, columns, HasDistinctNames}
+use Rattle.plan_types.specs.declared.error.ErrorKind.TheVariants.{NoMemory}
 use Rattle.plan_types.specs.Errors.{no_memory}
 use Rattle.plan_types.specs.declared.error.PlanError.{PlanError}
 use Rattle.plan_dsl.specs.Registry.{Registry}
@@ -11,14 +12,18 @@ use Rattle.plan_dsl.specs.Ops.{Op, Expression}
 use Rattle.plan_dsl.specs.Plans.{PlanOp, Plan, Named, scan_op, select_op, empty_table}
 use Rattle.plan_arena.specs.declared.aexpr.AExpr.{AExpr}
 use Rattle.plan_arena.specs.declared.ir.IR.{IR}
-use Rattle.plan_arena.specs.declared.ir.IR.TheVariants.{DataFrameScan, Select}
+use Rattle.plan_arena.specs.declared.plan.IRPlan.{IRPlan}
 use Rattle.plan_arena.specs.Denotation.{Denotes, DenoteAll}
-use Rattle.plan_arena.specs.Layers.{Layer, layer}
+use Rattle.plan_arena.specs.Layers.{Layer, layer, op_of}
 use Rattle.plan_arena.specs.Items.{HoldsExpression, HoldsPlan, DenoteNamed, Grows, plan_layer, recorded_schema}
-use Rattle.plan_arena.proofs.ItemLemmas.{plan_added, plan_got, plan_stays, plan_tree_kept}
+use Rattle.plan_arena.specs.Runs.{top_schema}
+use Rattle.plan_arena.proofs.DenotationLemmas.{denotes_one}
+use Rattle.plan_arena.proofs.ItemLemmas.{plan_added, plan_got, plan_stays, plan_tree_kept, plan_laws}
+use Rattle.plan_arena.proofs.RunLemmas.{runs_soundly}
 use Rattle.plan_lower.specs.Outputs.{Lowered, lowered_named, lowered_column, over, lowered_select, SelectsTo, HasOutputs}
-use Rattle.plan_lower.specs.Projection.{IsProjectionRefusal, out_of_memory as no_space, refused}
-use Rattle.plan_lower.specs.Lowering.{top_schema, source_select, LowersTo, scanned, selected, IsPlanRefusal, out_of_memory, at_select, below_select, IsSelect, StandsFor, IsEmptyTableAt}
+use Rattle.plan_lower.specs.Projection.{IsProjectionRefusal}
+use Rattle.plan_lower.specs.Lowering.{source_select, IsBuilt, IsPlanRefusal, IsSelect, StandsFor, IsEmptyTableAt, IsTyped, IsSound, GivesSameFrame}
+use Rattle.plan_lower.proofs.BuiltLemmas.{scan_built, select_built, select_refused_at, select_refused_below}
 
 -- the empty table
 empty_denoted : (items : List AExpr) (plans : List IR) (n : ℕ) → IsEmptyTableAt plans n → Denotes (HoldsPlan items plans) n empty_table
@@ -52,56 +57,64 @@ select_added registry items items' plans mid new item n input below trees nodes 
       denotes = (below ∷ [], record { flat = select_op nodes schema; item = held; denotes = record { same_kind = refl; same_schema = h.columns_are; named = h.denotes } }, (child, tt));
     }
 
-layer_op : (a b : PlanOp ℕ) (ms ns : List ℕ) → layer a ms ≡ layer b ns → a ≡ b
-layer_op a b ms ns e = cc
-
 some_same : {A : Type 0} (x y : A) (o : Option A) → o ≡ Some x → o ≡ Some y → x ≡ y
 some_same x y o p q = cc
-
-item_schema : (item : IR) (flat : PlanOp ℕ) (inputs : List ℕ) → plan_layer item ≡ layer flat inputs → recorded_schema item ≡ flat.schema
-item_schema (DataFrameScan table schema) flat inputs e = ap (λ (op : PlanOp ℕ). op.schema) (layer_op _ flat [] inputs e)
-item_schema (Select expr input schema options) flat inputs e = ap (λ (op : PlanOp ℕ). op.schema) (layer_op _ flat (input.0 ∷ []) inputs e)
 
 found_schema : (o : Option IR) (flat : PlanOp ℕ) (inputs : List ℕ) (cols : Columns) → option_map plan_layer o ≡ Some (layer flat inputs) → ((item : IR) → o ≡ Some item → cols ≡ recorded_schema item) → cols ≡ flat.schema
 found_schema None flat inputs cols e h = cc
 found_schema (Some item) flat inputs cols e h =
-    h item refl ∙ item_schema item flat inputs (some_same (plan_layer item) (layer flat inputs) (Some (plan_layer item)) refl e)
+    h item refl ∙ ap (λ (l : Layer (PlanOp ℕ)). (op_of l).schema) (some_same (plan_layer item) (layer flat inputs) (Some (plan_layer item)) refl e)
 
 -- the schema that a node's item records is that of the plan that it stands for
 pub schema_is : (items : List AExpr) (plans : List IR) (n : ℕ) (t : Plan) (cols : Columns) → Denotes (HoldsPlan items plans) n t → ((item : IR) → slice_get plans n ≡ Some item → cols ≡ recorded_schema item) → cols ≡ top_schema t
 schema_is items plans n (node op ts) cols d h =
     found_schema (slice_get plans n) d.1.flat d.0 cols (sym (slice_get-map plan_layer plans n) ∙ d.1.item) h ∙ d.1.denotes.same_schema
 
--- a scan that was added
-pub scan_stands : (registry : Registry) (items : List AExpr) (plans new : List IR) (item : IR) (n : ℕ) (table : Option ℕ) (schema : Columns) (plan : Plan) → new ≡ plans ++ item ∷ [] → n ≡ length plans → plan_layer item ≡ layer (scan_op table schema) [] → plan ≡ node (scan_op table schema) no_more → StandsFor registry items new n plan
-scan_stands registry items plans new item n table schema plan grown at is same =
-    let held : slice_get (map plan_layer new) n ≡ Some (layer (scan_op table schema) []) = rw (grown, at) (plan_added plans item ∙ ap Some is) in
-    record {
-      lowered = node (scan_op table schema) no_more;
-      denotes = ([], record { flat = scan_op table schema; item = held; denotes = record { same_kind = refl; same_schema = refl; named = tt } }, tt);
-      lowers = subst (λ p. LowersTo registry p (node (scan_op table schema) no_more)) (sym same) (scanned table schema);
-    }
+module _ (registry : Registry) where
+  -- a scan that was added
+  pub scan_stands : (items : List AExpr) (plans : List IR) (n : ℕ) (table : Option ℕ) (schema : Columns) (plan : Plan) → slice_get (map plan_layer plans) n ≡ Some (layer (scan_op table schema) []) → HasDistinctNames schema → plan ≡ node (scan_op table schema) no_more → StandsFor registry items plans n plan
+  scan_stands items plans n table schema plan held distinct same =
+      record {
+        lowered = node (scan_op table schema) no_more;
+        denotes = ([], record { flat = scan_op table schema; item = held; denotes = record { same_kind = refl; same_schema = refl; named = tt } }, tt);
+        built = subst (λ p. IsBuilt registry p (node (scan_op table schema) no_more)) (sym same) (scan_built registry table schema distinct);
+      }
 
--- a select over what its input becomes
-pub select_stands : (registry : Registry) (items items' : List AExpr) (plans new : List IR) (input n : ℕ) (trees : List Expression) (source plan : Plan) → (s : StandsFor registry items plans input source) → ((t : Plan) → Denotes (HoldsPlan items plans) input t → IsSelect registry items' new n trees t) → plan ≡ source_select trees source → StandsFor registry items' new n plan
-select_stands registry items items' plans new input n trees source plan s select same =
-    let is = select s.lowered s.denotes in
-    record {
-      lowered = lowered_select is.outputs s.lowered;
-      denotes = is.denotes;
-      lowers = subst (λ p. LowersTo registry p (lowered_select is.outputs s.lowered)) (sym same) (selected source s.lowered trees is.outputs s.lowers is.selects);
-    }
+  -- a select over what its input becomes
+  pub select_stands : (items items' : List AExpr) (plans new : List IR) (input n : ℕ) (trees : List Expression) (source plan : Plan) → (s : StandsFor registry items plans input source) → ((t : Plan) → Denotes (HoldsPlan items plans) input t → IsSelect registry items' new n trees t) → plan ≡ source_select trees source → StandsFor registry items' new n plan
+  select_stands items items' plans new input n trees source plan s select same =
+      let is = select s.lowered s.denotes in
+      record {
+        lowered = lowered_select is.outputs s.lowered;
+        denotes = is.denotes;
+        built = subst (λ p. IsBuilt registry p (lowered_select is.outputs s.lowered)) (sym same) (select_built registry source s.lowered trees is.outputs s.built is.selects);
+      }
 
--- a refusal of one of a select's expressions
-refused_at : (registry : Registry) (source lowered : Plan) (trees : List Expression) (error : PlanError) → LowersTo registry source lowered → IsProjectionRefusal registry (top_schema lowered) trees error → IsPlanRefusal registry (source_select trees source) error
-refused_at registry source lowered trees error l (no_space e) = out_of_memory (source_select trees source) error e
-refused_at registry source lowered trees error l (refused r) = at_select source lowered trees error l r
+  -- a refusal of one of a select's expressions
+  pub select_refused : (items : List AExpr) (plans : List IR) (input : ℕ) (trees : List Expression) (source plan : Plan) (error : PlanError) → (s : StandsFor registry items plans input source) → ((t : Plan) → Denotes (HoldsPlan items plans) input t → IsProjectionRefusal registry (top_schema t) trees error) → plan ≡ source_select trees source → IsPlanRefusal registry plan error
+  select_refused items plans input trees source plan error s r same =
+      subst (λ p. IsPlanRefusal registry p error) (sym same) (select_refused_at registry source s.lowered trees error s.built (r s.lowered s.denotes))
 
-pub select_refused : (registry : Registry) (items : List AExpr) (plans : List IR) (input : ℕ) (trees : List Expression) (source plan : Plan) (error : PlanError) → (s : StandsFor registry items plans input source) → ((t : Plan) → Denotes (HoldsPlan items plans) input t → IsProjectionRefusal registry (top_schema t) trees error) → plan ≡ source_select trees source → IsPlanRefusal registry plan error
-select_refused registry items plans input trees source plan error s r same =
-    subst (λ p. IsPlanRefusal registry p error) (sym same) (refused_at registry source s.lowered trees error s.lowers (r s.lowered s.denotes))
+  -- a refusal of a select's input
+  pub refused_below : (trees : List Expression) (source plan : Plan) (inner error : PlanError) → IsPlanRefusal registry source inner → (error ≡ no_memory) ⊎ (¬ (inner.kind ≡ NoMemory) × (error ≡ record { kind = inner.kind; place = 0 ∷ inner.place })) → plan ≡ source_select trees source → IsPlanRefusal registry plan error
+  refused_below trees source plan inner error r below same =
+      subst (λ p. IsPlanRefusal registry p error) (sym same) (select_refused_below registry source trees inner error r below)
 
--- a refusal of a select's input
-pub refused_below : (registry : Registry) (trees : List Expression) (source plan : Plan) (inner error : PlanError) → IsPlanRefusal registry source inner → (error ≡ no_memory) ⊎ (error ≡ record { kind = inner.kind; place = 0 ∷ inner.place }) → plan ≡ source_select trees source → IsPlanRefusal registry plan error
-refused_below registry trees source plan inner error r below same =
-    subst (λ p. IsPlanRefusal registry p error) (sym same) (⊎_elim (λ e. out_of_memory (source_select trees source) error e) (λ e. below_select source trees inner error r e) below)
+  -- what a node that stands for a plan denotes was built from the plan
+  built_one : (items : List AExpr) (plans : List IR) (n : ℕ) (plan tree : Plan) → StandsFor registry items plans n plan → Denotes (HoldsPlan items plans) n tree → IsBuilt registry plan tree
+  built_one items plans n plan tree s d =
+      subst (IsBuilt registry plan) (denotes_one _ (HoldsPlan items plans) (plan_laws items plans) n s.lowered tree s.denotes d) s.built
+
+  pub stands_typed : (lowering : IRPlan) (plan : Plan) → StandsFor registry lowering.expr_arena lowering.lp_arena lowering.lp_top.0 plan → IsTyped registry plan lowering
+  stands_typed lowering plan s =
+      record { tree = s.lowered; denotes = s.denotes; accepted = s.built.accepted; strict = s.built.strict; schema = s.built.schema }
+
+  pub stands_sound : (lowering : IRPlan) (plan : Plan) → StandsFor registry lowering.expr_arena lowering.lp_arena lowering.lp_top.0 plan → IsSound registry plan lowering
+  stands_sound lowering plan s tree d tables fits =
+      let built = built_one lowering.expr_arena lowering.lp_arena lowering.lp_top.0 plan tree s d in
+      runs_soundly registry tables tree built.accepted built.strict (built.fits tables fits)
+
+  pub stands_same : (lowering : IRPlan) (plan : Plan) → StandsFor registry lowering.expr_arena lowering.lp_arena lowering.lp_top.0 plan → GivesSameFrame registry plan lowering
+  stands_same lowering plan s tree d tables fits =
+      let built = built_one lowering.expr_arena lowering.lp_arena lowering.lp_top.0 plan tree s d in
+      built.same tables fits

@@ -1,29 +1,9 @@
--- How many casts an expression and a plan have.
-use Rattle.std.specs.Prelude.{ℕ, ◌+◌, List, sum, sum_by}
-use Rattle.plan_dsl.specs.Trees.{fold}
-use Rattle.plan_dsl.specs.Ops.{Op, ColumnOp, BinaryOp, CastOp, Expression}
-use Rattle.plan_dsl.specs.Plans.{PlanOp, Named, Plan}
+-- Outputs of a node whose casts are counted.
+use Rattle.std.specs.Prelude.{ℕ, List}
+use Rattle.plan_dsl.specs.Ops.{Expression}
+use Rattle.plan_dsl.specs.Plans.{Named}
 use Rattle.plan_arena.specs.Items.{DenoteNamed}
 use Rattle.plan_arena.specs.declared.aexpr.AExpr.{AExpr}
-
--- the casts at and below a node, from those below each child
-abbrev pub op_casts : Op → List ℕ → ℕ
-op_casts (ColumnOp name) below = sum below
-op_casts (BinaryOp operator) below = sum below
-op_casts (CastOp target options) below = 1 + sum below
-
-abbrev pub expression_casts : Expression → ℕ
-expression_casts tree = fold op_casts tree
-
-abbrev pub outputs_casts : List (Named Expression) → ℕ
-outputs_casts outputs = sum_by (λ output. expression_casts output.expression) outputs
-
--- the casts at and below a plan's node, from those below each child
-abbrev pub plan_op_casts : PlanOp Expression → List ℕ → ℕ
-plan_op_casts op below = outputs_casts op.expressions + sum below
-
-abbrev pub cast_count : Plan → ℕ
-cast_count plan = fold plan_op_casts plan
 
 -- the nodes denote some expressions, under their names
 pub record DenoteOutputs (expressions : List AExpr) (nodes : List (Named ℕ)) : Type 0 where

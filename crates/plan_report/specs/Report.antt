@@ -6,7 +6,7 @@ use Rattle.plan_types.specs.declared.error.ErrorKind.{ErrorKind}
 use Rattle.plan_dsl.specs.Trees.{Trees, node, no_more, more}
 use Rattle.plan_dsl.specs.Ops.{Expression}
 use Rattle.plan_dsl.specs.Plans.{PlanOp, Plan}
-use Rattle.plan_report.specs.Casts.{cast_count}
+use Rattle.plan_dsl.specs.Counts.{cast_count}
 use Rattle.plan_report.specs.Texts.{schema_text, path_text, kind_text, error_kind_text}
 
 -- a line: the place, the name and the schema

@@ -4,7 +4,8 @@ ghost use Rattle.plan_dsl.specs.Ops.{Expression};
 ghost use Rattle.plan_dsl.specs.Plans.{Plan, Named};
 ghost use Rattle.plan_arena.specs.Denotation.{Denotes, DenotesTree};
 ghost use Rattle.plan_arena.specs.Items.{named_node, HoldsExpression, DenoteNamed, HoldsPlan};
-ghost use Rattle.plan_report.specs.Casts.{expression_casts, outputs_casts, cast_count, DenoteOutputs};
+ghost use Rattle.plan_dsl.specs.Counts.{expression_casts, outputs_casts, cast_count};
+ghost use Rattle.plan_report.specs.Casts.{DenoteOutputs};
 
 use plan_arena::aexpr::AExpr;
 use plan_arena::arena::{Arena, Node};

@@ -1,4 +1,7 @@
 pub mod ListLemmas
+pub mod NameLemmas
 pub mod ResultLemmas
 pub mod SchemaLemmas
+pub mod SupertypeLemmas
 pub mod TextLemmas
+pub mod ValueLemmas

@@ -1,13 +1,15 @@
--- The columns of a schema follow its map's entries.
-use Rattle.std.proofs.Common.{◌≡◌, List, [], ◌∷◌, ◌++◌, map, Option, Some, None, true, false, cond, is_some, refl, sym, ap, ◌∙◌, subst, Bor, append_assoc}
+-- The columns of a schema follow its map's entries. Names that are new, distinct, or repeated.
+use Rattle.std.proofs.Common.{◌≡◌, List, [], ◌∷◌, ◌++◌, map, Option, Some, None, true, false, ◌||◌, cond, is_some, refl, sym, ap, ◌∙◌, subst, Bor, append_assoc}
 use Rattle.std.specs.Option.{option_map, option_copied}
 use Rattle.std.specs.List.{IsDistinct, AllByRecursion}
 use Rattle.std.specs.Map.{lookup, keys_of}
+use Rattle.std.proofs.lemmas.Bool.{or_parts}
 use Rattle.std.proofs.lemmas.Cmp.{nat_list_eq_equiv}
 use Rattle.indexmap.specs.IndexMap.{insert_entry}
 use Rattle.plan_types.specs.Types.{Ty, ty}
-use Rattle.plan_types.specs.Schemas.{Name, Columns, same_name, column_of, type_at, with_column, IsNewName, HasDistinctNames}
+use Rattle.plan_types.specs.Schemas.{Name, Columns, same_name, column_of, type_at, with_column, IsNewName, HasDistinctNames, is_among, repeats, names_of}
 use Rattle.plan_types.specs.declared.dtype.DataType.{DataType}
+use Rattle.plan_types.proofs.NameLemmas.{repeats-again}
 
 -- a name's type is that of its entry
 pub type_at-entries : (es : List (Name × DataType)) (name : Name) → type_at (map column_of es) name ≡ option_map ty (lookup (same_name name) es)
@@ -82,3 +84,32 @@ pub HasDistinctNames-push : (cs : Columns) (name : Name) (type : Ty) → HasDist
 HasDistinctNames-push [] name type h new = (refl, tt)
 HasDistinctNames-push (c ∷ cs) name type h new =
     (not_the_first c (name, type) cs c.0 h.0 (nat_list_eq_equiv.symm c.0 name ∙ IsNewName-head c cs name new), HasDistinctNames-push cs name type h.1 (IsNewName-tail c cs name new))
+
+-- a name is among those of columns where it has a type
+pub is_among-type_at : (cs : Columns) (name : Name) → is_among name (names_of cs) ≡ is_some (type_at cs name)
+is_among-type_at [] name = refl
+is_among-type_at (c ∷ cs) name =
+    elim (same_name name c.0) as (λ b. (b || is_among name (names_of cs)) ≡ is_some (cond b (Some c.1) (type_at cs name))) [ true ↦ refl | false ↦ is_among-type_at cs name ]
+
+none_there : (o : Option Ty) → is_some o ≡ false → o ≡ None
+none_there None h = refl
+none_there (Some x) h = cc
+
+-- a name that isn't among those of columns is new
+pub IsNewName-test : (cs : Columns) (name : Name) → is_among name (names_of cs) ≡ false → IsNewName cs name
+IsNewName-test cs name h = none_there _ (sym (is_among-type_at cs name) ∙ h)
+
+-- names are distinct where the test finds none that stands twice, and the other way round
+pub distinct_from_test : (columns : Columns) → repeats (names_of columns) ≡ false → HasDistinctNames columns
+distinct_from_test [] h = tt
+distinct_from_test (c ∷ cs) h =
+    let parts = or_parts (is_among c.0 (names_of cs)) _ h in (IsNewName-test cs c.0 parts.0, distinct_from_test cs parts.1)
+
+pub test_from_distinct : (columns : Columns) → HasDistinctNames columns → repeats (names_of columns) ≡ false
+test_from_distinct [] h = refl
+test_from_distinct (c ∷ cs) h =
+    ap (λ b. b || repeats (names_of cs)) (is_among-type_at cs c.0 ∙ ap is_some h.0) ∙ test_from_distinct cs h.1
+
+-- a name that columns have is found by the test behind theirs, whatever comes after it
+pub repeated_test : (before : Columns) (name : Name) (back : List Name) → is_some (type_at before name) ≡ true → repeats (names_of before ++ name ∷ back) ≡ true
+repeated_test before name back h = repeats-again (names_of before) name back (is_among-type_at before name ∙ h)

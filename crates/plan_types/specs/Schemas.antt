@@ -47,11 +47,15 @@ abbrev pub HasDistinctNames : Columns → Type 0
 HasDistinctNames [] = Unit {0}
 HasDistinctNames (column ∷ rest) = IsNewName rest column.0 × HasDistinctNames rest
 
+-- whether the name is one of the names
+abbrev pub is_among : Name → List Name → Bool
+is_among name names = list_any (same_name name) names
+
 -- whether some name stands twice
 abbrev pub repeats : List Name → Bool
 repeats [] = false
-repeats (name ∷ names) = list_any (same_name name) names || repeats names
+repeats (name ∷ names) = is_among name names || repeats names
 
--- the names of columns
-abbrev pub names_of : Columns → List Name
-names_of columns = map (λ column. column.0) columns
+-- the names of columns, or of other things that have one
+abbrev pub names_of : {A : Type 0} → List (Name × A) → List Name
+names_of named = map (λ entry. entry.0) named

@@ -6,7 +6,9 @@
 
 pub mod dtype;
 pub mod error;
+pub mod examples;
 pub mod field;
+pub mod laws;
 pub mod schema;
 pub mod supertype;
 #[cfg(test)]

@@ -1,13 +1,15 @@
 //! Plans to nodes of an arena.
-ghost use Rattle.std.specs.Prelude.{◌≡◌, ◌<◌, ◌⊎◌, ℕ, List, [], ◌∷◌, length, slice_get, Some, IfOk, IfErr};
+ghost use Rattle.std.specs.Prelude.{◌≡◌, ◌<◌, ◌⊎◌, ℕ, List, [], ◌∷◌, length, map, slice_get, Some, IfOk, IfErr};
 ghost use Rattle.plan_types.specs.Errors.{no_memory};
-ghost use Rattle.plan_types.specs.Schemas.{columns};
+ghost use Rattle.plan_types.specs.Schemas.{columns, HasDistinctNames};
 ghost use Rattle.plan_dsl.specs.Ops.{Op};
-ghost use Rattle.plan_dsl.specs.Plans.{Plan, plan_tree, trees_of};
+ghost use Rattle.plan_dsl.specs.Plans.{Plan, plan_tree, trees_of, scan_op};
 ghost use Rattle.plan_dsl.specs.Registry.{registry};
 ghost use Rattle.plan_arena.specs.Denotation.{Denotes, DenotesTree};
-ghost use Rattle.plan_arena.specs.Items.{HoldsExpression, HoldsPlan, Grows, recorded_schema};
-ghost use Rattle.plan_lower.specs.Lowering.{IsSelect, StandsFor, IsPlanRefusal, IsEmptyTableAt, top_schema};
+ghost use Rattle.plan_arena.specs.Items.{HoldsExpression, HoldsPlan, Grows, recorded_schema, plan_layer};
+ghost use Rattle.plan_arena.specs.Layers.{layer};
+ghost use Rattle.plan_arena.specs.Runs.{top_schema};
+ghost use Rattle.plan_lower.specs.Lowering.{IsSelect, StandsFor, IsPlanRefusal, IsEmptyTableAt, Answers, IsTyped, IsSound, GivesSameFrame};
 ghost use Rattle.plan_lower.specs.Projection.{IsProjectionRefusal};
 
 use crate::conversion::projection::project_strictly;
@@ -24,14 +26,17 @@ use std::alloc::Global;
 
 /// Lowering of a query's plan.
 pub trait PlanLowering {
-    /// The typed plan in two arenas of its own.
+    /// The typed plan in two arenas of its own: a plan for each query that is well formed, else the kind and
+    /// the place of a rule that it breaks.
     fn to_alp(self, alloc: Global, udfs: &Udfs) -> Result<IRPlan, PlanError>;
 }
 
 impl PlanLowering for DslPlan {
     fn to_alp(self, alloc: Global, udfs: &Udfs) -> Result<IRPlan, PlanError>
-        ensures ok { IfOk result (λ plan. StandsFor (registry udfs.now) plan.expr_arena plan.lp_arena plan.lp_top.0 (plan_tree self)) }
-        ensures err { IfErr result (IsPlanRefusal (registry udfs.now) (plan_tree self)) }
+        ensures answers { Answers (registry udfs.now) (plan_tree self) result }
+        ensures typed { IfOk result (IsTyped (registry udfs.now) (plan_tree self)) }
+        ensures sound { IfOk result (IsSound (registry udfs.now) (plan_tree self)) }
+        ensures same_frame { IfOk result (GivesSameFrame (registry udfs.now) (plan_tree self)) }
     {
         let mut lp_arena = Arena::new(alloc);
         let mut expr_arena = Arena::new(alloc);
@@ -52,7 +57,7 @@ fn lower(
 {
     match plan {
         DslPlan::DataFrameScan { table, schema } => {
-            let node = lp_arena.add(IR::DataFrameScan { table, schema })?;
+            let node = lower_scan(table, schema, lp_arena)?;
             Ok(node)
         }
         DslPlan::Select {
@@ -69,9 +74,24 @@ fn lower(
     }
 }
 
+// Adds a scan.
+fn lower_scan(
+    table: Option<u32>,
+    schema: Schema,
+    lp_arena: &mut Arena<IR>,
+) -> Result<Node, PlanError>
+    ensures distinct { HasDistinctNames (columns schema) }
+    ensures ok { IfOk result (λ node. slice_get (map plan_layer lp_arena.new) node.0 ≡ Some (layer (scan_op table (columns schema)) [])) }
+    ensures err { IfErr result (λ error. error ≡ no_memory) }
+{
+    let _width = schema.len();
+    let node = lp_arena.add(IR::DataFrameScan { table, schema })?;
+    Ok(node)
+}
+
 // The refusal of a node's only input, as the node sees it.
 fn below(alloc: Global, error: PlanError) -> PlanError
-    ensures { (result ≡ no_memory) ⊎ (result ≡ record { kind = error.kind; place = 0 ∷ error.place }) }
+    ensures { (result ≡ no_memory) ⊎ ((¬ (error.kind ≡ ErrorKind.NoMemory)) × (result ≡ record { kind = error.kind; place = 0 ∷ error.place })) }
 {
     let PlanError { kind, place } = error;
     if kind == ErrorKind::NoMemory {

@@ -1,11 +1,10 @@
-use Rattle.std.proofs.Common.{[], Some, is_some, ◌∙◌, sym, ap, arith}
+use Rattle.std.proofs.Common.{Some, is_some, ◌∙◌, sym, ap, arith}
 use Rattle.std.proofs.lemmas.Result.{IfOk-at_ok}
 use Rattle.plan_types.proofs.SchemaLemmas.{is_some-option_map}
 use Rattle.serde_json.specs.View.{view, items_view}
-use Rattle.plan_types.specs.Schemas.{columns}
+use Rattle.plan_types.specs.Schemas.{columns, names_of, repeats}
 use Rattle.plan_types.specs.Types.{ty}
 use Rattle.plan_json.specs.Queries.{column_of}
-use Rattle.plan_json.specs.Tables.{names_of, repeats}
 use Rattle.plan_json.specs.Faults.{a_column, column_list, part, number, each}
 use Rattle.plan_json.proofs.ColumnLemmas.{columns_more, columns_all, column_repeated}
 use Rattle.plan_json.proofs.FaultLemmas.{IfErr-below, IsErrorOf-shape, in_parts}
@@ -34,7 +33,7 @@ loop-number-preserved c =
     let all = c.in_ok-before-in-Some.ensures.ok ∙ more.0 in
     record {
       read = all_of-more column_of c.as_slice-items.result.now c.loop-number.number _ _ _ c.loop-number-test.true c.index-items-number.is c.loop-number.invariant.read column ∙ ap Some (sym all);
-      distinct = ap (λ cs. repeats [] (names_of cs)) all ∙ more.1;
+      distinct = ap (λ cs. repeats (names_of cs)) all ∙ more.1;
     }
 
 pub returns-after-loop-number-clause-ok : goal.returns-after-loop-number-clause-ok

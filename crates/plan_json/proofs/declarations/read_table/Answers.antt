@@ -1,7 +1,8 @@
 use Rattle.std.proofs.Common.{codes, refl, arith}
 use Rattle.serde_json.specs.View.{view}
+use Rattle.plan_types.specs.Schemas.{names_of}
 use Rattle.plan_json.specs.Faults.{a_table, a_new_name, column_list, part, key, table_parts}
-use Rattle.plan_json.specs.Tables.{declared, names_of}
+use Rattle.plan_json.specs.Tables.{declared}
 use Rattle.plan_json.proofs.FaultLemmas.{IfErr-below, in_parts}
 use Rattle.plan_json.proofs.declarations.read_table.Goals as goal
 

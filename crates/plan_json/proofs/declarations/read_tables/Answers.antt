@@ -1,9 +1,10 @@
 use Rattle.std.proofs.Common.{[], take, Some, ◌∙◌, sym, ap, arith}
 use Rattle.std.proofs.lemmas.Result.{IfOk-at_ok}
 use Rattle.serde_json.specs.View.{view, items_view}
+use Rattle.plan_types.specs.Schemas.{names_of, repeats}
 use Rattle.plan_json.specs.Faults.{a_table, table_list, part, number, each_table}
 use Rattle.plan_json.specs.Queries.{table_of}
-use Rattle.plan_json.specs.Tables.{declared, names_of, repeats}
+use Rattle.plan_json.specs.Tables.{declared}
 use Rattle.plan_json.proofs.DeclarationLemmas.{tables_all, tables_more, tables_too_many, table_names-read, length-tables}
 use Rattle.plan_json.proofs.FaultLemmas.{IfErr-below, IsErrorOf-shape, in_parts}
 use Rattle.plan_json.proofs.ItemLemmas.{all_of-more, each_table-at}
@@ -34,7 +35,7 @@ loop-number-preserved c =
     let all = c.in_ok-push-in-Some.ensures.ok in
     record {
       read = all_of-more table_of c.as_slice-values.result.now c.loop-number.number _ _ _ c.loop-number-test.true c.index-values-number.is c.loop-number.invariant.read table ∙ ap Some (sym all);
-      distinct = ap (λ ts. repeats [] (names_of ts)) all ∙ tables_more (declared c.loop-number.tables) _ _ new c.loop-number.invariant.distinct;
+      distinct = ap (λ ts. repeats (names_of ts)) all ∙ tables_more (declared c.loop-number.tables) _ _ new c.loop-number.invariant.distinct;
     }
 
 pub returns-after-loop-number-clause-ok : goal.returns-after-loop-number-clause-ok

@@ -2,9 +2,10 @@ use Rattle.std.proofs.Common.{Some, ◌∙◌, codes, option_map, sym, ap, refl,
 use Rattle.std.proofs.lemmas.Result.{IfOk-at_ok}
 use Rattle.serde_json.specs.View.{view}
 use Rattle.plan_dsl.specs.Plans.{plan_tree}
+use Rattle.plan_types.specs.Schemas.{names_of}
 use Rattle.plan_json.specs.Faults.{a_plan, a_scan, a_selection, column_list, expression_list, part, key, number, plan_form, selection_parts}
 use Rattle.plan_json.specs.Queries.{empty_plan}
-use Rattle.plan_json.specs.Tables.{declared, names_of}
+use Rattle.plan_json.specs.Tables.{declared}
 use Rattle.plan_json.proofs.FaultLemmas.{IfErr-below, in_parts, only_member-part}
 use Rattle.plan_json.proofs.FormLemmas.{plan_of-empty, plan_of-select, select_of-parts}
 use Rattle.plan_json.proofs.LookingLemmas.{depth-only_member}

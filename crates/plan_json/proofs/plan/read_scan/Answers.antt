@@ -1,6 +1,7 @@
 use Rattle.std.proofs.Common.{sym, ap, ◌∙◌, is_some}
+use Rattle.plan_types.specs.Schemas.{names_of, is_among}
 use Rattle.plan_json.specs.Faults.{a_scan}
-use Rattle.plan_json.specs.Tables.{declared, names_of, is_among}
+use Rattle.plan_json.specs.Tables.{declared}
 use Rattle.plan_json.proofs.FaultLemmas.{IfErr-handed, IsErrorOf-text, IsErrorOf-name, name_fault-none, name_fault-failed}
 use Rattle.plan_json.proofs.TableLemmas.{is_some-table_at}
 use Rattle.plan_json.proofs.plan.read_scan.Goals as goal

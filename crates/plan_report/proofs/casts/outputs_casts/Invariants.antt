@@ -2,7 +2,7 @@ use Rattle.std.proofs.Common.{◌≡◌, List, map, take}
 use Rattle.plan_dsl.specs.Ops.{Expression}
 use Rattle.plan_dsl.specs.Plans.{Named}
 use Rattle.plan_arena.specs.Items.{named_node, DenoteNamed}
-use Rattle.plan_report.specs.Casts.{outputs_casts}
+use Rattle.plan_dsl.specs.Counts.{outputs_casts}
 use Rattle.plan_report.proofs.casts.outputs_casts.Given as goal
 
 abbrev pub invariant-loop-output : goal.invariant-loop-output

@@ -10,12 +10,12 @@ use Rattle.plan_lower.proofs.conversion.dsl_to_ir.+lower.Goals as goal
 pub returns-in_err-node-in-DataFrameScan-clause-err :
     goal.returns-in_err-node-in-DataFrameScan-clause-err
 returns-in_err-node-in-DataFrameScan-clause-err t c =
-    passed_on c.from_residual.result c.in_err-node-in-DataFrameScan.field-0.0 _ c.from_residual.ensures.1 (out_of_memory (plan_tree c.args.plan) _ c.in_err-node-in-DataFrameScan.ensures.err)
+    passed_on c.from_residual.result c.in_err-node-in-DataFrameScan.field-0.0 _ c.from_residual.ensures.1 (out_of_memory c.in_err-node-in-DataFrameScan.ensures.err)
 
 pub returns-in_ok-node-in-DataFrameScan-clause-ok :
     goal.returns-in_ok-node-in-DataFrameScan-clause-ok
 returns-in_ok-node-in-DataFrameScan-clause-ok t c =
-    scan_stands (registry c.args.udfs.now) c.args.expr_arena.now c.args.lp_arena.now c.add.new.self _ c.in_ok-node-in-DataFrameScan.node.0 c.in-DataFrameScan.table (columns c.in-DataFrameScan.schema) (plan_tree c.args.plan) c.in_ok-node-in-DataFrameScan.ensures.ok c.in_ok-node-in-DataFrameScan.ensures.node refl (ap plan_tree c.in-DataFrameScan.is)
+    scan_stands (registry c.args.udfs.now) c.args.expr_arena.now c.lower_scan.new.lp_arena c.in_ok-node-in-DataFrameScan.node.0 c.in-DataFrameScan.table (columns c.in-DataFrameScan.schema) (plan_tree c.args.plan) c.in_ok-node-in-DataFrameScan.ensures.ok c.in_ok-node-in-DataFrameScan.ensures.distinct (ap plan_tree c.in-DataFrameScan.is)
 
 pub returns-in_err-node-in-Ok-clause-err : goal.returns-in_err-node-in-Ok-clause-err
 returns-in_err-node-in-Ok-clause-err t c =

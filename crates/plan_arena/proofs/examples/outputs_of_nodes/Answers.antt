@@ -1,0 +1,14 @@
+use Rattle.std.proofs.Common.{[], ◌∷◌, Some, refl}
+use Rattle.plan_types.specs.Schemas.{columns}
+use Rattle.plan_dsl.specs.Plans.{scan_op}
+use Rattle.plan_arena.proofs.examples.outputs_of_nodes.Goals as goal
+
+pub returns-clause-sum : goal.returns-clause-sum
+returns-clause-sum c = (refl, (2 ∷ 1 ∷ [], refl, ((0 ∷ [], refl, (([], refl, tt), tt)), (([], refl, tt), tt))), tt)
+
+pub returns-clause-scan : goal.returns-clause-scan
+returns-clause-scan c = λ schema. record {
+  flat = scan_op (Some 0) (columns schema);
+  item = refl;
+  denotes = record { same_kind = refl; same_schema = refl; named = tt };
+}

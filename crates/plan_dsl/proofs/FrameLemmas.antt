@@ -1,0 +1,208 @@
+-- A plan's node over frames of the schemas of its inputs gives a frame of its own schema.
+use Rattle.std.proofs.Common.{◌≡◌, ℕ, zero, suc, List, [], ◌∷◌, map, replicate, slice_get, Option, Some, None, Bool, true, false, ◌&&◌, IsTrue, Result, Ok, Err, refl, sym, ap, ◌∙◌, subst}
+use Rattle.std.specs.List.{AllByRecursion}
+use Rattle.plan_types.specs.Types.{Ty}
+use Rattle.plan_types.specs.Schemas.{Name, Columns, HasDistinctNames}
+use Rattle.plan_types.specs.Values.{Val, fits, all_fit}
+use Rattle.plan_types.specs.Outcomes.{Outcome, Done, Fault, Stuck, then_do, Meets}
+use Rattle.plan_types.specs.Frames.{Row, Frame, RowFits, HasNoRowsWithoutColumns, IsFrame, IsFrameOf, empty_frame, row_numbers}
+use Rattle.plan_types.specs.declared.error.ErrorKind.{ErrorKind}
+use Rattle.plan_types.proofs.ValueLemmas.{meets_then}
+use Rattle.plan_dsl.specs.Registry.{Registry}
+use Rattle.plan_dsl.specs.Trees.{Trees, node, no_more, more, fold_all}
+use Rattle.plan_dsl.specs.Ops.{Expression}
+use Rattle.plan_dsl.specs.Plans.{PlanKind, ScanKind, SelectKind, PlanOp, Plan, Named}
+use Rattle.plan_dsl.specs.Typing.{Typed, typing}
+use Rattle.plan_dsl.specs.Meaning.{meaning}
+use Rattle.plan_dsl.specs.Kernels.{stretched, at_length}
+use Rattle.plan_dsl.specs.PlanKernels.{Series, series_typed, all_series, shared_length, in_front, rows_of, series_columns, framed, selected, table_frame, frame_by, plan_kernel}
+use Rattle.plan_dsl.specs.PlanRules.{signatures, select_kinds, column_before, columns_of, where_unbroken, kinds_by, schema_by, plan_rule, schema_of, schemas_of, IsWellFormed, AllWellFormed}
+use Rattle.plan_dsl.specs.PlanMeaning.{by_meaning, source_meaning, HasTable, FitsNode, FitsPlan, AllFitPlans}
+use Rattle.plan_dsl.specs.Laws.{AreOf, MeaningHasType, MeaningHasSchema}
+use Rattle.plan_dsl.proofs.FitLemmas.{meaning_has_type}
+use Rattle.plan_dsl.proofs.RuleLemmas.{unbroken_kinds, unbroken_schema, as_schema_is, selected_distinct, well_formed_schema}
+
+-- an input has a schema, and gives a frame of it unless there is a fault
+abbrev pub MeetsWhere : Option Columns → Outcome Frame → Type 0
+MeetsWhere None outcome = ⊥
+MeetsWhere (Some schema) outcome = Meets (IsFrameOf schema) outcome
+
+-- so does each input
+abbrev pub AllMeet : List (Option Columns) → List (Outcome Frame) → Type 0
+AllMeet [] [] = Unit {0}
+AllMeet [] (outcome ∷ outcomes) = ⊥
+AllMeet (schema ∷ schemas) [] = ⊥
+AllMeet (schema ∷ schemas) (outcome ∷ outcomes) = MeetsWhere schema outcome × AllMeet schemas outcomes
+
+both : (a b : Bool) → IsTrue a → IsTrue b → IsTrue (a && b)
+both a b p q = ap (λ x. x && b) p ∙ q
+
+first_of_both : (a b : Bool) → IsTrue (a && b) → IsTrue a
+first_of_both true b h = refl
+first_of_both false b h = cc
+
+second_of_both : (a b : Bool) → IsTrue (a && b) → IsTrue b
+second_of_both true b h = h
+second_of_both false b h = cc
+
+all_fit-replicate : (count : ℕ) (value : Val) (type : Ty) → IsTrue (fits value type) → IsTrue (all_fit (replicate count value) type)
+all_fit-replicate zero value type h = refl
+all_fit-replicate (suc count) value type h = both (fits value type) _ h (all_fit-replicate count value type h)
+
+-- a column that is brought to another length keeps fitting
+all_fit-stretched : (count : ℕ) (values : List Val) (type : Ty) → IsTrue (all_fit values type) → IsTrue (all_fit (stretched count values) type)
+all_fit-stretched count [] type h = refl
+all_fit-stretched count (value ∷ []) type h = all_fit-replicate count value type (first_of_both (fits value type) true h)
+all_fit-stretched count (first ∷ second ∷ rest) type h = h
+
+-- a fitting value in front of each fitting row
+rows_in_front : (columns : Columns) (name : Name) (type : Ty) (values : List Val) (rows : List Row) → IsTrue (all_fit values type) → AllByRecursion (RowFits columns) rows → AllByRecursion (RowFits ((name, type) ∷ columns)) (in_front values rows)
+rows_in_front columns name type [] rows h k = tt
+rows_in_front columns name type (value ∷ values) [] h k = tt
+rows_in_front columns name type (value ∷ values) (row ∷ rows) h k =
+    ((first_of_both (fits value type) (all_fit values type) h, k.0), rows_in_front columns name type values rows (second_of_both (fits value type) (all_fit values type) h) k.1)
+
+bare_rows : (count : ℕ) → AllByRecursion (RowFits []) (replicate count [])
+bare_rows zero = tt
+bare_rows (suc count) = (tt, bare_rows count)
+
+abbrev FitsSeries : Series → Type 0
+FitsSeries s = IsTrue (all_fit s.values s.type)
+
+-- rows of fitting columns fit
+rows_fit : (count : ℕ) (ss : List Series) → AllByRecursion FitsSeries ss → AllByRecursion (RowFits (series_columns ss)) (rows_of count ss)
+rows_fit count [] h = bare_rows count
+rows_fit count (s ∷ ss) h = rows_in_front (series_columns ss) s.name s.type (stretched count s.values) (rows_of count ss) (all_fit-stretched count s.values s.type h.0) (rows_fit count ss h.1)
+
+-- fitting columns of a schema
+record AreSeriesOf (schema : Columns) (ss : List Series) : Type 0 where
+  columns : series_columns ss ≡ schema
+  fitting : AllByRecursion FitsSeries ss
+
+-- they make a frame of it, where it has a column and distinct names
+framed_meets : (schema : Columns) (ss : List Series) → HasDistinctNames schema → ¬ (schema ≡ []) → AreSeriesOf schema ss → Meets (IsFrameOf schema) (framed ss)
+framed_meets schema [] distinct some h = absurd (some (sym h.columns))
+framed_meets schema (s ∷ ss) distinct some h =
+    elim (shared_length (s ∷ ss)) as (λ o. Meets (IsFrameOf schema) (at_length o (λ count. record { schema = series_columns (s ∷ ss); rows = rows_of count (s ∷ ss) }))) [
+      | None ↦ tt
+      | Some count ↦ record {
+        schema_is = h.columns;
+        frame_is = record { distinct = subst HasDistinctNames (sym h.columns) distinct; fitting = rows_fit count (s ∷ ss) h.fitting; bare = tt };
+      }
+    ]
+
+absurd_none : {A : Type 0} (x : A) → ¬ (None ≡ Some x)
+absurd_none x h = cc
+
+not_empty : (c : Name × Ty) (cs schema : Columns) → Some (c ∷ cs) ≡ Some schema → ¬ (schema ≡ [])
+not_empty c cs schema h e = cc
+
+some_same : {A : Type 0} (x y : A) → Some x ≡ Some y → x ≡ y
+some_same x y h = cc
+
+-- one more column
+one_more : (schema rest : Columns) (name : Name) (type : Ty) (values : List Val) (ss : List Series) → (name, type) ∷ rest ≡ schema → IsTrue (all_fit values type) → AreSeriesOf rest ss → AreSeriesOf schema (record { name = name; type = type; values = values } ∷ ss)
+one_more schema rest name type values ss e h k = record {
+  columns = ap (λ l. (name, type) ∷ l) k.columns ∙ e;
+  fitting = (h, k.fitting);
+}
+
+one_meets : (name : Name) (typed : Typed) (rest schema : Columns) (gives : Outcome (List Val)) (later : Outcome (List Series)) → (name, typed.type) ∷ rest ≡ schema → Meets (AreOf typed) gives → Meets (AreSeriesOf rest) later → Meets (AreSeriesOf schema) (then_do (series_typed name (Ok typed) gives) (λ s. then_do later (λ ss. Done (s ∷ ss))))
+one_meets name typed rest schema (Done values) (Done ss) e h k = one_more schema rest name typed.type values ss e h.fitting k
+one_meets name typed rest schema (Done values) Fault e h k = tt
+one_meets name typed rest schema (Done values) Stuck e h k = absurd k
+one_meets name typed rest schema Fault later e h k = tt
+one_meets name typed rest schema Stuck later e h k = absurd h
+
+-- where an expression has a column, there are columns
+has_column : (name : Name) (t : Result Typed ErrorKind) (rest : Option Columns) (schema : Columns) → column_before name t rest ≡ Some schema → ¬ (schema ≡ [])
+has_column name (Err kind) rest schema h e = absurd_none schema h
+has_column name (Ok typed) None schema h e = absurd_none schema h
+has_column name (Ok typed) (Some columns) schema h e = not_empty _ _ schema h e
+
+no_rows : (own : Columns) → HasNoRowsWithoutColumns own []
+no_rows [] = refl
+no_rows (c ∷ cs) = tt
+
+frame_of_same : (own schema : Columns) (frame : Frame) → own ≡ schema → IsFrameOf own frame → IsFrameOf schema frame
+frame_of_same own schema frame e h = record { schema_is = h.schema_is ∙ e; frame_is = h.frame_is }
+
+-- a table that is there
+found_meets : (own schema : Columns) (found : Option Frame) → own ≡ schema → HasTable own found → Meets (IsFrameOf schema) (table_frame found)
+found_meets own schema None e h = absurd h
+found_meets own schema (Some frame) e h = frame_of_same own schema frame e h
+
+-- the empty table of a schema
+empty_meets : (own schema : Columns) → own ≡ schema → HasDistinctNames own → IsFrameOf schema (record { schema = own; rows = [] })
+empty_meets own schema e distinct = record {
+  schema_is = e;
+  frame_is = record { distinct = distinct; fitting = tt; bare = no_rows own };
+}
+
+without_columns : (schema : Columns) → [] ≡ schema → IsFrameOf schema empty_frame
+without_columns schema e = record { schema_is = e; frame_is = record { distinct = tt; fitting = tt; bare = refl } }
+
+module _ (registry : Registry) (frame : Frame) (is_frame : IsFrame frame) (rows : List ℕ) where
+  -- expressions that have columns give columns of them
+  series_meet : (outputs : List (Named Expression)) (schema : Columns) → columns_of (signatures registry outputs frame.schema) ≡ Some schema → Meets (AreSeriesOf schema) (all_series rows (map (by_meaning registry frame) outputs))
+  series_meet [] schema h = let e : [] ≡ schema = cc in record { columns = e; fitting = tt }
+  series_meet (o ∷ os) schema h =
+      let later = columns_of (signatures registry os frame.schema) in
+      let gives = meaning registry frame o.expression rows in
+      let rest = all_series rows (map (by_meaning registry frame) os) in
+      elim (typing registry frame.schema o.expression) as (λ t. typing registry frame.schema o.expression ≡ t → column_before o.name t later ≡ Some schema → Meets (AreSeriesOf schema) (then_do (series_typed o.name t gives) (λ s. then_do rest (λ ss. Done (s ∷ ss))))) [ Err kind ↦ λ e h. absurd (absurd_none schema h) | Ok typed ↦ λ e h. elim later as (λ l. later ≡ l → column_before o.name (Ok typed) l ≡ Some schema → Meets (AreSeriesOf schema) (then_do (series_typed o.name (Ok typed) gives) (λ s. then_do rest (λ ss. Done (s ∷ ss))))) [ None ↦ λ el h. absurd (absurd_none schema h) | Some columns ↦ λ el h. one_meets o.name typed columns schema gives rest (some_same _ _ h) (meaning_has_type registry frame is_frame o.expression typed e rows) (series_meet os columns el) ] refl h ] refl h
+
+none_never : (kinds : List ErrorKind) (schema : Columns) → ¬ (where_unbroken kinds None ≡ Some schema)
+none_never [] schema h = absurd_none schema h
+none_never (k ∷ ks) schema h = absurd_none schema h
+
+module _ (registry : Registry) where
+  -- a select of expressions that break no rule
+  outputs_meet : (output : Named Expression) (outputs : List (Named Expression)) (under schema : Columns) (frame : Frame) → IsFrameOf under frame → select_kinds (signatures registry (output ∷ outputs) under) ≡ [] → columns_of (signatures registry (output ∷ outputs) under) ≡ Some schema → Meets (IsFrameOf schema) (then_do (all_series (row_numbers frame) (map (by_meaning registry frame) (output ∷ outputs))) framed)
+  outputs_meet output outputs under schema frame h none columns =
+      let there = subst (λ c. columns_of (signatures registry (output ∷ outputs) c) ≡ Some schema) (sym h.schema_is) columns in
+      let distinct = selected_distinct (signatures registry (output ∷ outputs) under) schema none columns in
+      let some = has_column output.name (typing registry under output.expression) (columns_of (signatures registry outputs under)) schema columns in
+      meets_then (AreSeriesOf schema) (IsFrameOf schema) _ framed (series_meet registry frame h.frame_is (row_numbers frame) (output ∷ outputs) schema there) (λ ss. framed_meets schema ss distinct some)
+
+  select_meets : (outputs : List (Named Expression)) (under schema : Columns) (input : Outcome Frame) → Meets (IsFrameOf under) input → select_kinds (signatures registry outputs under) ≡ [] → columns_of (signatures registry outputs under) ≡ Some schema → Meets (IsFrameOf schema) (selected (by_meaning registry) outputs input)
+  select_meets [] under schema input h none columns = without_columns schema (some_same _ _ columns)
+  select_meets (output ∷ outputs) under schema input h none columns =
+      meets_then (IsFrameOf under) (IsFrameOf schema) input _ h (λ frame k. outputs_meet output outputs under schema frame k none columns)
+
+  node_meets : (kind : PlanKind) (tables : List Frame) (op : PlanOp Expression) (inputs : List (Option Columns)) (outcomes : List (Outcome Frame)) (schema : Columns) → FitsNode tables kind op.schema → where_unbroken (kinds_by kind (signatures registry op.expressions) inputs) (schema_by kind op.schema (signatures registry op.expressions) inputs) ≡ Some schema → AllMeet inputs outcomes → Meets (IsFrameOf schema) (frame_by kind tables (by_meaning registry) op outcomes)
+  node_meets (ScanKind (Some number)) tables op [] [] schema fits h k =
+      found_meets op.schema schema (slice_get tables number) (as_schema_is op.schema schema h).0 fits
+  node_meets (ScanKind None) tables op [] [] schema fits h k =
+      let is = as_schema_is op.schema schema h in empty_meets op.schema schema is.0 is.1
+  node_meets (ScanKind table) tables op [] (outcome ∷ outcomes) schema fits h k = absurd k
+  node_meets (ScanKind table) tables op (input ∷ inputs) outcomes schema fits h k = absurd (absurd_none schema h)
+  node_meets SelectKind tables op [] outcomes schema fits h k = absurd (absurd_none schema h)
+  node_meets SelectKind tables op (None ∷ inputs) outcomes schema fits h k = absurd (absurd_none schema h)
+  node_meets SelectKind tables op (Some under ∷ []) [] schema fits h k = absurd k
+  node_meets SelectKind tables op (Some under ∷ []) (outcome ∷ []) schema fits h k =
+      let kinds = select_kinds (signatures registry op.expressions under) in
+      let columns = columns_of (signatures registry op.expressions under) in
+      select_meets op.expressions under schema outcome k.0 (unbroken_kinds kinds columns schema h) (unbroken_schema kinds columns schema h)
+  node_meets SelectKind tables op (Some under ∷ []) (outcome ∷ other ∷ outcomes) schema fits h k = absurd k.1
+  node_meets SelectKind tables op (Some under ∷ other ∷ inputs) outcomes schema fits h k =
+      absurd (none_never (select_kinds (signatures registry op.expressions under)) schema h)
+
+  -- a node that has a schema gives a frame of it, unless there is a fault
+  pub kernel_meets : (tables : List Frame) (op : PlanOp Expression) (inputs : List (Option Columns)) (outcomes : List (Outcome Frame)) (schema : Columns) → FitsNode tables op.kind op.schema → plan_rule registry op inputs ≡ Some schema → AllMeet inputs outcomes → Meets (IsFrameOf schema) (plan_kernel tables (by_meaning registry) op outcomes)
+  kernel_meets tables op = node_meets op.kind tables op
+
+  mutual
+    plan_meets : (tables : List Frame) (plan : Plan) (schema : Columns) → FitsPlan tables plan → IsWellFormed registry plan → schema_of registry plan ≡ Some schema → Meets (IsFrameOf schema) (source_meaning registry tables plan)
+    plan_meets tables (node op inputs) schema fits well e =
+        kernel_meets tables op (schemas_of registry inputs) (fold_all (plan_kernel tables (by_meaning registry)) inputs) schema fits.0 e (inputs_meet tables inputs fits.1 well.1)
+
+    inputs_meet : (tables : List Frame) (inputs : Trees (PlanOp Expression)) → AllFitPlans tables inputs → AllWellFormed registry inputs → AllMeet (schemas_of registry inputs) (fold_all (plan_kernel tables (by_meaning registry)) inputs)
+    inputs_meet tables no_more fits well = tt
+    inputs_meet tables (more plan rest) fits well =
+        let found = well_formed_schema registry plan well.0 in
+        (subst (λ o. MeetsWhere o (source_meaning registry tables plan)) (sym found.1) (plan_meets tables plan found.0 fits.0 well.0 found.1), inputs_meet tables rest fits.1 well.1)
+
+-- a well-formed plan is not stuck on fitting tables, and its frame has its schema
+pub meaning_has_schema : MeaningHasSchema
+meaning_has_schema registry tables plan schema fits well e = plan_meets registry tables plan schema fits well e

@@ -1,0 +1,28 @@
+-- Plan nodes whose expressions are evaluated in two ways that agree.
+use Rattle.std.proofs.Common.{◌≡◌, List, [], ◌∷◌, map, refl, sym, ap, ◌∙◌, subst}
+use Rattle.std.specs.List.{AllByRecursion}
+use Rattle.plan_types.specs.Schemas.{Columns}
+use Rattle.plan_types.specs.Outcomes.{Outcome, Done, Fault, Stuck, Meets}
+use Rattle.plan_types.specs.Frames.{Row, Frame, IsFrameOf, row_numbers}
+use Rattle.plan_dsl.specs.Registry.{Registry}
+use Rattle.plan_dsl.specs.Ops.{Expression}
+use Rattle.plan_dsl.specs.Plans.{Named}
+use Rattle.plan_dsl.specs.PlanKernels.{Evaluated, Evaluation, selected, selected_on}
+
+-- two evaluations say the same of expressions side by side, on every frame of the columns
+abbrev pub AgreeOn : Columns → Evaluation → Evaluation → List (Named Expression) → List (Named Expression) → Type 0
+AgreeOn schema e f xs ys = (rows : List Row) → map (e (record { schema = schema; rows = rows })) xs ≡ map (f (record { schema = schema; rows = rows })) ys
+
+on_frame : (e f : Evaluation) (xs ys : List (Named Expression)) (schema : Columns) (frame : Frame) → frame.schema ≡ schema → AgreeOn schema e f xs ys → map (e frame) xs ≡ map (f frame) ys
+on_frame e f xs ys schema frame is agree =
+    subst (λ s. map (e (record { schema = s; rows = frame.rows })) xs ≡ map (f (record { schema = s; rows = frame.rows })) ys) (sym is) (agree frame.rows)
+
+-- then a select gives the same
+pub selected_agrees : (e f : Evaluation) (xs ys : List (Named Expression)) (schema : Columns) (input : Outcome Frame) → AgreeOn schema e f xs ys → Meets (IsFrameOf schema) input → selected e xs input ≡ selected f ys input
+selected_agrees e f [] [] schema input agree meets = refl
+selected_agrees e f (x ∷ xs) (y ∷ ys) schema (Done frame) agree meets =
+    ap (λ es. selected_on es (row_numbers frame)) (on_frame e f (x ∷ xs) (y ∷ ys) schema frame meets.schema_is agree)
+selected_agrees e f (x ∷ xs) (y ∷ ys) schema Fault agree meets = refl
+selected_agrees e f (x ∷ xs) (y ∷ ys) schema Stuck agree meets = refl
+selected_agrees e f [] (y ∷ ys) schema input agree meets = let none = agree [] in cc
+selected_agrees e f (x ∷ xs) [] schema input agree meets = let none = agree [] in cc

@@ -1,0 +1,13 @@
+use Rattle.plan_dsl.proofs.CastLemmas.{taken_types_stay}
+use Rattle.plan_dsl.proofs.FitLemmas.{meaning_has_type}
+use Rattle.plan_dsl.proofs.RunLemmas.{strict_is_meaning}
+use Rattle.plan_dsl.proofs.laws.expression_laws.Goals as goal
+
+pub returns-clause-taken_stay : goal.returns-clause-taken_stay
+returns-clause-taken_stay c = taken_types_stay
+
+pub returns-clause-strict_run : goal.returns-clause-strict_run
+returns-clause-strict_run c = strict_is_meaning
+
+pub returns-clause-has_type : goal.returns-clause-has_type
+returns-clause-has_type c registry frame tree typed of typing rows = meaning_has_type registry frame of tree typed typing rows

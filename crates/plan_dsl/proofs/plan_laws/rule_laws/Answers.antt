@@ -1,0 +1,11 @@
+use Rattle.plan_dsl.proofs.RuleLemmas.{typed_breaks_nothing, refusal_is_broken, broken_is_ill_formed}
+use Rattle.plan_dsl.proofs.plan_laws.rule_laws.Goals as goal
+
+pub returns-clause-typed : goal.returns-clause-typed
+returns-clause-typed c = typed_breaks_nothing
+
+pub returns-clause-refused : goal.returns-clause-refused
+returns-clause-refused c = refusal_is_broken
+
+pub returns-clause-broken : goal.returns-clause-broken
+returns-clause-broken c = broken_is_ill_formed

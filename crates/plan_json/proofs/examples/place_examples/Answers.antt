@@ -1,0 +1,88 @@
+use Rattle.std.proofs.Common.{[], ◌∷◌, codes, refl, arith}
+use Rattle.serde_json.specs.Data.{Data, array, no_items, item, no_members, member, null, number, object, string, unsigned}
+use Rattle.plan_json.specs.Faults as fault
+use Rattle.plan_json.specs.Faults.{key, part}
+use Rattle.plan_json.proofs.OnLiterals.{values_on_literals}
+use Rattle.plan_json.proofs.examples.place_examples.Goals as goal
+
+abbrev scan : Data
+scan = object (member (codes "scan") (string (codes "t")) no_members)
+
+pub returns-clause-undeclared_table : goal.returns-clause-undeclared_table
+unfolding values_on_literals
+returns-clause-undeclared_table c = (
+  part (key (codes "plan")) (fault.a_plan []) scan,
+  (1, omega arith, refl),
+  refl,
+  (part (key (codes "scan")) (fault.a_scan []) (string (codes "t")), (0, omega arith, refl), refl, refl),
+)
+
+abbrev table : Data → Data
+table columns = object (member (codes "columns") columns (member (codes "name") (string (codes "t")) no_members))
+
+pub returns-clause-second_table : goal.returns-clause-second_table
+unfolding values_on_literals
+returns-clause-second_table c =
+    let empty = table (array no_items) in
+    let names = codes "t" ∷ [] in (
+      part (key (codes "tables")) fault.table_list (array (item empty (item empty no_items))),
+      (0, omega arith, refl),
+      refl,
+      (
+        part (fault.number 1) (fault.a_table names) empty,
+        (1, omega arith, refl),
+        refl,
+        (part (key (codes "name")) (fault.a_new_name names) (string (codes "t")), (0, omega arith, refl), refl, refl),
+      ),
+    )
+
+pub returns-clause-column_list : goal.returns-clause-column_list
+unfolding values_on_literals
+returns-clause-column_list c =
+    let column = array (item (string (codes "a")) (item (string (codes "Int8")) no_items)) in
+    let columns = array (item column (item column no_items)) in (
+      part (key (codes "tables")) fault.table_list (array (item (table columns) no_items)),
+      (0, omega arith, refl),
+      refl,
+      (
+        part (fault.number 0) (fault.a_table []) (table columns),
+        (0, omega arith, refl),
+        refl,
+        (part (key (codes "columns")) fault.column_list columns, (1, omega arith, refl), refl, refl),
+      ),
+    )
+
+pub returns-clause-unknown_expression : goal.returns-clause-unknown_expression
+unfolding values_on_literals
+returns-clause-unknown_expression c =
+    let lit = object (member (codes "lit") (number (unsigned 1)) no_members) in
+    let col = object (member (codes "col") (string (codes "a")) no_members) in
+    let operands = array (item (string (codes "Plus")) (item col (item lit no_items))) in
+    let sum = object (member (codes "bin") operands no_members) in
+    let list = array (item col (item sum no_items)) in
+    let selection = array (item null (item list no_items)) in (
+      part (key (codes "plan")) (fault.a_plan []) (object (member (codes "select") selection no_members)),
+      (1, omega arith, refl),
+      refl,
+      (
+        part (key (codes "select")) (fault.a_selection []) selection,
+        (0, omega arith, refl),
+        refl,
+        (
+          part (fault.number 1) fault.expression_list list,
+          (1, omega arith, refl),
+          refl,
+          (
+            part (fault.number 1) fault.an_expression sum,
+            (1, omega arith, refl),
+            refl,
+            (
+              part (key (codes "bin")) fault.operands operands,
+              (0, omega arith, refl),
+              refl,
+              (part (fault.number 2) fault.an_expression lit, (2, omega arith, refl), refl, refl),
+            ),
+          ),
+        ),
+      ),
+    )

@@ -1,0 +1,57 @@
+use Rattle.std.proofs.Common.{◌≡◌, [], ◌∷◌, Some, None, codes, refl, ap, ◌∙◌, rules, arith}
+use Rattle.serde_json.specs.Data.{array, no_items, item, no_members, member, object, string}
+use Rattle.plan_json.specs.Faults as fault
+use Rattle.plan_json.specs.Faults.{key, part}
+use Rattle.plan_json.specs.Queries.{query_of}
+use Rattle.plan_json.proofs.OnLiterals.{values_on_literals}
+use Rattle.plan_json.proofs.examples.text_examples.Goals as goal
+
+pub returns-clause-least : goal.returns-clause-least
+unfolding values_on_literals
+returns-clause-least c =
+    let empty = object (member (codes "empty") (array no_items) no_members) in
+    (object (member (codes "plan") empty (member (codes "tables") (array no_items) no_members)), (search rules, refl), refl)
+
+pub returns-clause-escaped_name : goal.returns-clause-escaped_name
+unfolding values_on_literals
+returns-clause-escaped_name c =
+    let column = array (item (string (0xf0 ∷ 0x9f ∷ 0x98 ∷ 0x80 ∷ [])) (item (string (codes "Int64")) no_items)) in
+    let empty = object (member (codes "empty") (array (item column no_items)) no_members) in
+    (object (member (codes "plan") empty (member (codes "tables") (array no_items) no_members)), (search rules, refl), refl)
+
+pub returns-clause-other_value : goal.returns-clause-other_value
+unfolding values_on_literals
+returns-clause-other_value c query (d, (utf8, is), found) =
+    let same : array no_items ≡ d = cc in
+    let none : None ≡ Some query = ap query_of same ∙ found in cc
+
+pub returns-clause-cut : goal.returns-clause-cut
+unfolding values_on_literals
+returns-clause-cut c d (utf8, is) = cc
+
+pub returns-clause-unknown_plan : goal.returns-clause-unknown_plan
+unfolding values_on_literals
+returns-clause-unknown_plan c path is =
+    let plan = object (member (codes "drop") (array no_items) no_members) in (
+      object (member (codes "plan") plan (member (codes "tables") (array no_items) no_members)),
+      (search rules, refl),
+      (key (codes "plan") ∷ [], is, (part (key (codes "plan")) (fault.a_plan []) plan, (1, omega arith, refl), refl, refl)),
+    )
+
+pub returns-clause-undeclared_table : goal.returns-clause-undeclared_table
+unfolding values_on_literals
+returns-clause-undeclared_table c path is =
+    let scan = object (member (codes "scan") (string (codes "t")) no_members) in (
+      object (member (codes "plan") scan (member (codes "tables") (array no_items) no_members)),
+      (search rules, refl),
+      (
+        key (codes "plan") ∷ key (codes "scan") ∷ [],
+        is,
+        (
+          part (key (codes "plan")) (fault.a_plan []) scan,
+          (1, omega arith, refl),
+          refl,
+          (part (key (codes "scan")) (fault.a_scan []) (string (codes "t")), (0, omega arith, refl), refl, refl),
+        ),
+      ),
+    )

@@ -1,0 +1,152 @@
+//! Worked examples of the definitions. The functions do nothing: their clauses are the examples.
+#![tactic(auto, unfolding(crate::proofs::OnLiterals::values_on_literals))]
+
+ghost use Rattle.std.specs.Prelude.{◌≡◌, [], ◌∷◌, List, Some, None, String, codes, string_bytes, true, false};
+ghost use Rattle.std.specs.Global.{Global};
+ghost use Rattle.plan_types.specs.Types.{Integer};
+ghost use Rattle.plan_dsl.specs.Ops.{ColumnOp, BinaryOp};
+ghost use Rattle.plan_dsl.specs.Plans.{empty_table, named, scan_op, select_op};
+ghost use Rattle.plan_dsl.specs.Trees.{node, no_more, more};
+ghost use Rattle.plan_dsl.specs.declared.operator.Operator.TheVariants.{Plus};
+ghost use Rattle.serde_json.specs.Data.{array, boolean, no_items, item, no_members, member, null, number, object, string, unsigned};
+ghost use Rattle.plan_json.specs.Bytes.{IsRefusalOf, WritesQuery};
+ghost use Rattle.plan_json.specs.Errors.{escaped, pointer_text};
+ghost use Rattle.plan_json.specs.Faults as fault;
+ghost use Rattle.plan_json.specs.Faults.{BadName, BadShape, IsBadAt, key, own_fault};
+ghost use Rattle.plan_json.specs.Queries.{QueryModel, query_of};
+ghost use Rattle.plan_json.specs.declared.error.JsonError.TheVariants.{NotJson, Shape, Name};
+
+/// A query: its tables by name and columns, and its plan over them.
+pub fn query_examples()
+    ensures least { let empty = object (member (codes "empty") (array no_items) no_members) in
+        query_of (object (member (codes "plan") empty (member (codes "tables") (array no_items) no_members)))
+        ≡ Some (record { tables = []; plan = empty_table }) }
+    ensures whole { let a = string (codes "a") in
+        let b = string (codes "b") in
+        let first = array (item a (item (string (codes "Int8")) no_items)) in
+        let second = array (item b (item (string (codes "UInt32")) no_items)) in
+        let columns = array (item first (item second no_items)) in
+        let table = object (member (codes "columns") columns (member (codes "name") (string (codes "t")) no_members)) in
+        let left = object (member (codes "col") a no_members) in
+        let right = object (member (codes "col") b no_members) in
+        let operands = array (item (string (codes "Plus")) (item left (item right no_items))) in
+        let sum = object (member (codes "bin") operands no_members) in
+        let scan = object (member (codes "scan") (string (codes "t")) no_members) in
+        let selection = array (item scan (item (array (item sum (item right no_items))) no_items)) in
+        let plan = object (member (codes "select") selection no_members) in
+        let d = object (member (codes "plan") plan (member (codes "tables") (array (item table no_items)) no_members)) in
+        let schema = (codes "a", Integer true 8) ∷ (codes "b", Integer false 32) ∷ [] in
+        let column_a = node (ColumnOp (codes "a")) no_more in
+        let column_b = node (ColumnOp (codes "b")) no_more in
+        let total = node (BinaryOp Plus) (more column_a (more column_b no_more)) in
+        let top = select_op (named total ∷ named column_b ∷ []) [] in
+        query_of d ≡ Some (record {
+          tables = (codes "t", schema) ∷ [];
+          plan = node top (more (node (scan_op (Some 0) schema) no_more) no_more);
+        }) }
+    ensures second_table { let first = object (member (codes "columns") (array no_items) (member (codes "name") (string (codes "t")) no_members)) in
+        let second = object (member (codes "columns") (array no_items) (member (codes "name") (string []) no_members)) in
+        let scan = object (member (codes "scan") (string []) no_members) in
+        query_of (object (member (codes "plan") scan (member (codes "tables") (array (item first (item second no_items))) no_members)))
+        ≡ Some (record { tables = (codes "t", []) ∷ ([], []) ∷ []; plan = node (scan_op (Some 1) []) no_more }) }
+    ensures key_too_many { let empty = object (member (codes "empty") (array no_items) no_members) in
+        query_of (object (member (codes "plan") empty (member (codes "tables") (array no_items) (member (codes "x") null no_members)))) ≡ None }
+    ensures no_plan { query_of (object (member (codes "tables") (array no_items) no_members)) ≡ None }
+    ensures unknown_key { let empty = object (member (codes "empty") (array no_items) no_members) in
+        query_of (object (member (codes "plans") empty (member (codes "tables") (array no_items) no_members))) ≡ None }
+    ensures other_kind { query_of (boolean true) ≡ None }
+    ensures unknown_plan { let plan = object (member (codes "drop") (array no_items) no_members) in
+        query_of (object (member (codes "plan") plan (member (codes "tables") (array no_items) no_members))) ≡ None }
+    ensures undeclared_table { let scan = object (member (codes "scan") (string (codes "t")) no_members) in
+        query_of (object (member (codes "plan") scan (member (codes "tables") (array no_items) no_members))) ≡ None }
+    ensures table_twice { let table = object (member (codes "columns") (array no_items) (member (codes "name") (string (codes "t")) no_members)) in
+        let scan = object (member (codes "scan") (string (codes "t")) no_members) in
+        query_of (object (member (codes "plan") scan (member (codes "tables") (array (item table (item table no_items))) no_members))) ≡ None }
+    ensures column_twice { let column = array (item (string (codes "a")) (item (string (codes "Int8")) no_items)) in
+        let empty = object (member (codes "empty") (array (item column (item column no_items))) no_members) in
+        query_of (object (member (codes "plan") empty (member (codes "tables") (array no_items) no_members))) ≡ None }
+{}
+
+/// Bytes that write a query, and bytes that write none.
+pub fn text_examples()
+    ensures least { WritesQuery (codes " {\"tables\": [], \"plan\": {\"empty\": []}}\n") (record { tables = []; plan = empty_table }) }
+    ensures escaped_name { WritesQuery (codes "{\"tables\":[],\"plan\":{\"empty\":[[\"\\ud83d\\ude00\",\"Int64\"]]}}")
+        (record { tables = []; plan = node (scan_op None ((0x1f600 ∷ [], Integer true 64) ∷ [])) no_more }) }
+    ensures other_value { (query : QueryModel) → ¬ (WritesQuery (codes "[]") query) }
+    ensures cut { IsRefusalOf (codes "{\"tables\":[") NotJson }
+    ensures unknown_plan { (path : String Global) → string_bytes path ≡ codes "/plan"
+        → IsRefusalOf (codes "{\"tables\":[],\"plan\":{\"drop\":[]}}") (Shape path) }
+    ensures undeclared_table { (path : String Global) → string_bytes path ≡ codes "/plan/scan"
+        → IsRefusalOf (codes "{\"tables\":[],\"plan\":{\"scan\":\"t\"}}") (Name path) }
+{}
+
+/// How a value itself breaks the form that its place asks for.
+pub fn fault_examples()
+    ensures key_too_many { own_fault fault.a_query (object (member (codes "plan") null (member (codes "tables") null (member (codes "x") null no_members))))
+        ≡ Some BadShape }
+    ensures two_keys { own_fault fault.a_query (object (member (codes "plan") null (member (codes "tables") null no_members))) ≡ None }
+    ensures other_kind { own_fault fault.a_text (number (unsigned 1)) ≡ Some BadShape }
+    ensures text { own_fault fault.a_text (string (codes "a")) ≡ None }
+    ensures unknown_type { own_fault fault.a_type (string (codes "int8")) ≡ Some BadShape }
+    ensures known_type { own_fault fault.a_type (string (codes "UInt64")) ≡ None }
+    ensures long_column { own_fault fault.a_column (array (item null (item null (item null no_items)))) ≡ Some BadShape }
+    ensures short_column { own_fault fault.a_column (array (item null no_items)) ≡ Some BadShape }
+    ensures column_twice { let column = array (item (string (codes "a")) (item null no_items)) in
+        own_fault fault.column_list (array (item column (item null (item column no_items)))) ≡ Some BadShape }
+    ensures two_columns { let first = array (item (string (codes "a")) (item null no_items)) in
+        let second = array (item (string (codes "A")) (item null no_items)) in
+        own_fault fault.column_list (array (item first (item second no_items))) ≡ None }
+    ensures table_twice { own_fault (fault.a_new_name (codes "s" ∷ codes "t" ∷ [])) (string (codes "t")) ≡ Some BadName }
+    ensures new_table { own_fault (fault.a_new_name (codes "s" ∷ [])) (string (codes "t")) ≡ None }
+    ensures nameless_table { own_fault (fault.a_new_name (codes "s" ∷ [])) null ≡ Some BadShape }
+    ensures undeclared_table { own_fault (fault.a_scan (codes "s" ∷ [])) (string (codes "t")) ≡ Some BadName }
+    ensures declared_table { own_fault (fault.a_scan (codes "s" ∷ codes "t" ∷ [])) (string (codes "t")) ≡ None }
+    ensures unknown_plan { own_fault (fault.a_plan []) (object (member (codes "drop") null no_members)) ≡ Some BadShape }
+    ensures two_plans { own_fault (fault.a_plan []) (object (member (codes "empty") null (member (codes "scan") null no_members))) ≡ Some BadShape }
+    ensures known_plan { own_fault (fault.a_plan []) (object (member (codes "scan") null no_members)) ≡ None }
+    ensures unknown_expression { own_fault fault.an_expression (object (member (codes "lit") (number (unsigned 1)) no_members)) ≡ Some BadShape }
+    ensures known_expression { own_fault fault.an_expression (object (member (codes "bin") null no_members)) ≡ None }
+    ensures unknown_operator { own_fault fault.an_operator (string (codes "Minus")) ≡ Some BadShape }
+    ensures short_operands { own_fault fault.operands (array (item (string (codes "Plus")) (item null no_items))) ≡ Some BadShape }
+    ensures empty_list { own_fault fault.expression_list (array no_items) ≡ None }
+    ensures no_list { own_fault fault.table_list (object no_members) ≡ Some BadShape }
+{}
+
+/// A fault stands at the end of a path of keys and item numbers.
+pub fn place_examples()
+    ensures whole { IsBadAt fault.a_query null BadShape [] }
+    ensures undeclared_table { let scan = object (member (codes "scan") (string (codes "t")) no_members) in
+        let d = object (member (codes "plan") scan (member (codes "tables") (array no_items) no_members)) in
+        IsBadAt fault.a_query d BadName (key (codes "plan") ∷ key (codes "scan") ∷ []) }
+    ensures second_table { let table = object (member (codes "columns") (array no_items) (member (codes "name") (string (codes "t")) no_members)) in
+        let d = object (member (codes "plan") null (member (codes "tables") (array (item table (item table no_items))) no_members)) in
+        IsBadAt fault.a_query d BadName (key (codes "tables") ∷ fault.number 1 ∷ key (codes "name") ∷ []) }
+    ensures column_list { let column = array (item (string (codes "a")) (item (string (codes "Int8")) no_items)) in
+        let table = object (member (codes "columns") (array (item column (item column no_items))) (member (codes "name") (string (codes "t")) no_members)) in
+        let d = object (member (codes "plan") null (member (codes "tables") (array (item table no_items)) no_members)) in
+        IsBadAt fault.a_query d BadShape (key (codes "tables") ∷ fault.number 0 ∷ key (codes "columns") ∷ []) }
+    ensures unknown_expression { let lit = object (member (codes "lit") (number (unsigned 1)) no_members) in
+        let col = object (member (codes "col") (string (codes "a")) no_members) in
+        let sum = object (member (codes "bin") (array (item (string (codes "Plus")) (item col (item lit no_items)))) no_members) in
+        let selection = array (item null (item (array (item col (item sum no_items))) no_items)) in
+        let d = object (member (codes "plan") (object (member (codes "select") selection no_members)) (member (codes "tables") (array no_items) no_members)) in
+        IsBadAt fault.a_query d BadShape (key (codes "plan") ∷ key (codes "select") ∷ fault.number 1 ∷ fault.number 1 ∷ key (codes "bin") ∷ fault.number 2 ∷ []) }
+    ensures first_table_stays { let table = object (member (codes "columns") (array no_items) (member (codes "name") (string (codes "t")) no_members)) in
+        let d = object (member (codes "plan") null (member (codes "tables") (array (item table (item table no_items))) no_members)) in
+        ¬ (IsBadAt fault.a_query d BadName (key (codes "tables") ∷ fault.number 0 ∷ key (codes "name") ∷ [])) }
+    ensures none_below_an_unknown_key { (kind : fault.FaultKind) (path : List fault.Step)
+        → let d = object (member (codes "plan") null (member (codes "tables") null (member (codes "x/y") null no_members))) in
+        ¬ (IsBadAt fault.a_query d kind (key (codes "x/y") ∷ path)) }
+{}
+
+/// A pointer has each step behind a slash. In a key, `~` is `~0` and `/` is `~1`.
+pub fn pointer_examples()
+    ensures plain { escaped (codes "columns") ≡ codes "columns" }
+    ensures slash { escaped (codes "a/b") ≡ codes "a~1b" }
+    ensures tilde { escaped (codes "m~n") ≡ codes "m~0n" }
+    ensures like_escapes { escaped (codes "~1/~0") ≡ codes "~01~1~00" }
+    ensures whole { pointer_text [] ≡ [] }
+    ensures steps { pointer_text (key (codes "tables") ∷ fault.number 0 ∷ key (codes "columns") ∷ fault.number 12 ∷ [])
+        ≡ codes "/tables/0/columns/12" }
+    ensures escapes { pointer_text (key (codes "~/") ∷ key [] ∷ key (codes "0") ∷ []) ≡ codes "/~0~1//0" }
+{}

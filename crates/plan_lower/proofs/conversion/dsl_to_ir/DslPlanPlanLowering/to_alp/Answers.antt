@@ -1,0 +1,19 @@
+use Rattle.std.proofs.Common.{subst, sym}
+use Rattle.plan_arena.specs.declared.plan.IRPlan.{IRPlan}
+use Rattle.plan_dsl.specs.Plans.{plan_tree}
+use Rattle.plan_dsl.specs.Registry.{registry}
+use Rattle.plan_lower.specs.Lowering.{StandsFor, IsSound, GivesSameFrame}
+use Rattle.plan_lower.proofs.PlanLemmas.{stands_sound, stands_same}
+use Rattle.plan_lower.proofs.conversion.dsl_to_ir.DslPlanPlanLowering.to_alp.Goals as goal
+
+pub returns-clause-sound : goal.returns-clause-sound
+returns-clause-sound c =
+    let plan = plan_tree c.args.self in
+    let r = registry c.args.udfs.now in
+    subst (IsSound r plan) (sym c.new.ensures) (stands_sound r (record { lp_top = c.in_ok-lp_top.lp_top; lp_arena = c.lower.new.lp_arena; expr_arena = c.lower.new.expr_arena }) plan c.in_ok-lp_top.ensures.ok)
+
+pub returns-clause-same_frame : goal.returns-clause-same_frame
+returns-clause-same_frame c =
+    let plan = plan_tree c.args.self in
+    let r = registry c.args.udfs.now in
+    subst (GivesSameFrame r plan) (sym c.new.ensures) (stands_same r (record { lp_top = c.in_ok-lp_top.lp_top; lp_arena = c.lower.new.lp_arena; expr_arena = c.lower.new.expr_arena }) plan c.in_ok-lp_top.ensures.ok)

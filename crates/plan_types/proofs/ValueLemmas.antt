@@ -1,0 +1,93 @@
+-- Values of a type: numbers that wrap around, casts, columns of frames; outcomes that are not stuck.
+use Rattle.std.proofs.Common.{◌≡◌, ℕ, zero, suc, ◌+◌, ◌-◌, ◌^◌, ◌<◌, ◌≤◌, true, false, ◌&&◌, not, cond, List, [], ◌∷◌, IsTrue, refl, ap, arith, subst, map, Some, slice_get, unwrap_or}
+use Rattle.std.specs.List.{AllByRecursion}
+use Rattle.std.specs.Prelude.{ℤ, pos, negsuc, neg_ℤ, ◌-ℤ◌, int_lt, nat_lt}
+use Rattle.std.proofs.Math.Nat.{mod-lt, pow-suc}
+use Rattle.std.proofs.lemmas.Nat.{pow_pos}
+use Rattle.std.proofs.lemmas.Int.{ints}
+use Rattle.std.proofs.lemmas.Bool.{ltb-true, ltb-false, and_from}
+use Rattle.plan_types.specs.Types.{Ty, Integer, same_type}
+use Rattle.plan_types.specs.TypeLaws.{same_type_exact}
+use Rattle.plan_types.specs.Values.{Val, NullValue, IntValue, in_range, fits, all_fit}
+use Rattle.plan_types.specs.Schemas.{Name, Columns, same_name, type_at}
+use Rattle.plan_types.specs.Frames.{Row, Frame, RowFits, IsFrame, value_in, row_at}
+use Rattle.plan_types.specs.declared.dtype.CastOptions.{CastOptions}
+use Rattle.plan_types.specs.declared.dtype.CastOptions.TheVariants.{Strict, NonStrict, Overflowing}
+use Rattle.plan_types.specs.Outcomes.{Outcome, Done, Fault, Stuck, Meets, then_do}
+use Rattle.plan_types.specs.Casts.{Converted, Gives, Fails, cast, wrapped, low_bits, out_of_range}
+
+-- the low bits are as few as they are
+low_bits_below : (bits : ℕ) (number : ℤ) → low_bits bits number < 2 ^ bits
+low_bits_below bits (pos n) = mod-lt n (pow_pos bits)
+low_bits_below bits (negsuc n) = let p = pow_pos bits in omega arith
+
+within_unsigned : (low whole : ℕ) → low < whole → (not (int_lt (pos low) (pos 0)) && int_lt (pos low) (pos whole)) ≡ true
+within_unsigned low whole h = grind (arith, ints)
+
+within_upper : (low half : ℕ) → low < half → (not (int_lt (pos low) (neg_ℤ (pos half))) && int_lt (pos low) (pos half)) ≡ true
+within_upper low half h = grind (arith, ints)
+
+within_lower : (low half whole : ℕ) → low < whole → half ≤ low → whole ≤ half + half → (not (int_lt (pos low -ℤ pos whole) (neg_ℤ (pos half))) && int_lt (pos low -ℤ pos whole) (pos half)) ≡ true
+within_lower low half whole h k l = grind (arith, ints)
+
+half_of : (bits : ℕ) → 2 ^ bits ≤ 2 ^ (bits - 1) + 2 ^ (bits - 1)
+half_of zero = omega arith
+half_of (suc bits) = let e : suc bits - 1 ≡ bits = omega arith in omega (arith, pow-suc 2 bits, ap (λ n. 2 ^ n) e)
+
+-- a number that wraps around in a type is in its range
+pub wrapped_in_range : (type : Ty) (number : ℤ) → in_range type (wrapped type number) ≡ true
+wrapped_in_range (Integer false bits) number = within_unsigned (low_bits bits number) (2 ^ bits) (low_bits_below bits number)
+wrapped_in_range (Integer true bits) number =
+    let low = low_bits bits number in
+    let half = 2 ^ (bits - 1) in
+    elim (nat_lt low half) as (λ b. nat_lt low half ≡ b → in_range (Integer true bits) (cond b (pos low) (pos low -ℤ pos (2 ^ bits))) ≡ true) [ true ↦ λ e. within_upper low half (ltb-true low half e) | false ↦ λ e. within_lower low half (2 ^ bits) (low_bits_below bits number) (ltb-false low half e) (half_of bits) ] refl
+
+-- what a cast gives, where it gives a value, fits the type
+abbrev pub ConvertedFits : Ty → Converted → Type 0
+ConvertedFits type (Gives value) = IsTrue (fits value type)
+ConvertedFits type Fails = Unit {0}
+
+out_of_range_fits : (options : CastOptions) (target : Ty) (number : ℤ) → ConvertedFits target (out_of_range options target number)
+out_of_range_fits Strict target number = tt
+out_of_range_fits NonStrict target number = refl
+out_of_range_fits Overflowing target number = wrapped_in_range target number
+
+-- a cast of a fitting value fits the target
+pub cast_fits : (value : Val) (from target : Ty) (options : CastOptions) → IsTrue (fits value from) → ConvertedFits target (cast value from target options)
+cast_fits NullValue from target options h = refl
+cast_fits (IntValue number) from target options h =
+    elim (same_type from target) as (λ b. same_type from target ≡ b → ConvertedFits target (cond b (Gives (IntValue number)) (cond (in_range target number) (Gives (IntValue number)) (out_of_range options target number)))) [ true ↦ λ e. subst (λ t. in_range t number ≡ true) (same_type_exact from target e) h | false ↦ λ e. elim (in_range target number) as (λ b. in_range target number ≡ b → ConvertedFits target (cond b (Gives (IntValue number)) (out_of_range options target number))) [ true ↦ λ r. r | false ↦ λ r. out_of_range_fits options target number ] refl ] refl
+
+-- a row's value in a column fits the column's type
+pub value_in_fits : (columns : Columns) (name : Name) (row : Row) (type : Ty) → RowFits columns row → type_at columns name ≡ Some type → IsTrue (fits (value_in columns name row) type)
+value_in_fits [] name row type h at = refl
+value_in_fits (column ∷ columns) name [] type h at = refl
+value_in_fits (column ∷ columns) name (value ∷ values) type h at =
+    elim (same_name name column.0) as (λ b. cond b (Some column.1) (type_at columns name) ≡ Some type → IsTrue (fits (cond b value (value_in columns name values)) type)) [ true ↦ λ e. let same : column.1 ≡ type = cc in subst (λ t. IsTrue (fits value t)) same h.0 | false ↦ λ e. value_in_fits columns name values type h.1 e ] at
+
+value_in_none : (columns : Columns) (name : Name) → value_in columns name [] ≡ NullValue
+value_in_none [] name = refl
+value_in_none (column ∷ columns) name = refl
+
+-- also where there is no row of the number
+pub value_at_fits : (columns : Columns) (rows : List Row) (name : Name) (type : Ty) → AllByRecursion (RowFits columns) rows → type_at columns name ≡ Some type → (number : ℕ) → IsTrue (fits (value_in columns name (unwrap_or (slice_get rows number) [])) type)
+value_at_fits columns [] name type h at number = ap (λ value. fits value type) (value_in_none columns name)
+value_at_fits columns (row ∷ rows) name type h at zero = value_in_fits columns name row type h.0 at
+value_at_fits columns (row ∷ rows) name type h at (suc number) = value_at_fits columns rows name type h.1 at number
+
+-- a column of a frame fits its type, at any rows
+pub column_fits : (frame : Frame) (name : Name) (type : Ty) → IsFrame frame → type_at frame.schema name ≡ Some type → (rows : List ℕ) → IsTrue (all_fit (map (λ number. value_in frame.schema name (row_at frame number)) rows) type)
+column_fits frame name type h at [] = refl
+column_fits frame name type h at (number ∷ rows) =
+    and_from _ _ (value_at_fits frame.schema frame.rows name type h.fitting at number) (column_fits frame name type h at rows)
+
+-- what is not stuck goes on to what is not
+pub meets_then : {A B : Type 0} (P : A → Type 0) (Q : B → Type 0) (outcome : Outcome A) (next : A → Outcome B) → Meets P outcome → ((found : A) → P found → Meets Q (next found)) → Meets Q (then_do outcome next)
+meets_then P Q (Done found) next h each = each found h
+meets_then P Q Fault next h each = tt
+meets_then P Q Stuck next h each = absurd h
+
+pub meets_as : {A : Type 0} (P Q : A → Type 0) (outcome : Outcome A) → Meets P outcome → ((found : A) → P found → Q found) → Meets Q outcome
+meets_as P Q (Done found) h each = each found h
+meets_as P Q Fault h each = tt
+meets_as P Q Stuck h each = absurd h
