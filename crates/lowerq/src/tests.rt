@@ -1,5 +1,9 @@
 //! Whole runs, from words and bytes to a status and a text.
 
+mod bad_queries;
+mod faults;
+mod names;
+
 use crate::run::run;
 use crate::status::{Done, Status};
 use byte_streams::sink::{MemSink, PlainSink};
@@ -9,7 +13,7 @@ use plan_types::text::PlSmallStr;
 use std::alloc::{AllocError, Global};
 use std::test::Fail;
 
-const ROOM: usize = 1 << 12;
+const ROOM: usize = 1 << 13;
 
 const ADD: &str =
     "{\"tables\":[{\"name\":\"t\",\"columns\":[[\"a\",\"Int8\"],[\"b\",\"Int32\"]]}],\"plan\":{\"select\":[{\"scan\":\"t\"},[{\"bin\":[\"Plus\",{\"col\":\"a\"},{\"col\":\"b\"}]}]]}}";
@@ -128,6 +132,9 @@ fn other_words_are_told_the_usage(rt: HostRuntime) -> Result<(), Fail> {
         run_words(alloc, &["schema"], ADD.as_bytes())?,
         run_words(alloc, &["Lower"], ADD.as_bytes())?,
         run_words(alloc, &["lower", "lower"], ADD.as_bytes())?,
+        run_words(alloc, &["gen", "3"], ADD.as_bytes())?,
+        run_words(alloc, &["lower "], ADD.as_bytes())?,
+        run_words(alloc, &[""], ADD.as_bytes())?,
     ] {
         assert_eq!(rt; seen.number, 2);
         assert_eq!(rt; seen.written.as_slice(), USAGE.as_bytes());

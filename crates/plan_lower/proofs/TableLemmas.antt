@@ -47,7 +47,7 @@ held_op items n a b ms ns h k = layer_op a b ms ns (some_same (slice_get (map ex
 held_inputs : (items : List AExpr) (n : ℕ) (a b : Op) (ms ns : List ℕ) → HoldsExpression items n a ms → HoldsExpression items n b ns → ms ≡ ns
 held_inputs items n a b ms ns h k = layer_inputs a b ms ns (some_same (slice_get (map expression_layer items) n) _ _ h k)
 
--- the items of typed casts stay, and so do kept types
+-- what is known stays where casts and kept types do
 known_stays : (items items' : List AExpr) (table table' : TypeTable) → ((n input : ℕ) (target : Ty) (options : CastOptions) → HoldsExpression items n (CastOp target options) (input ∷ []) → HoldsExpression items' n (CastOp target options) (input ∷ [])) → ((n : ℕ) → IsKept table n → IsKept table' n) → (n : ℕ) → IsKnown items table n → IsKnown items' table' n
 known_stays items items' table table' holds keeps n (by_table m k) = by_table m (keeps m k)
 known_stays items items' table table' holds keeps n (by_cast m input target options h k) =
@@ -66,7 +66,7 @@ kept_more old new at dtype keeps others n k = ⊎_elim
     (λ differs. record { dtype = k.dtype; keeps = (others n k.dtype differs).0 k.keeps })
     (same_or_other n at)
 
--- an item of a longer list is one of the list, or behind it
+-- a list with an empty place behind it has no other items
 item_before : {A : Type 0} (xs : List (Option A)) (i : ℕ) (a : A) → slice_get (xs ++ None ∷ []) i ≡ Some (Some a) → slice_get xs i ≡ Some (Some a)
 item_before xs i a h =
     let within = slice_get_within (xs ++ None ∷ []) i (Some a) h in
@@ -174,7 +174,7 @@ module _ (registry : Registry) (schema : Columns) (items : List AExpr) (table : 
         is = ap (λ r. then_typed (typed_before r (Ok [])) (typing_rule registry schema (CastOp target options))) d.is;
       }
 
-  -- so do its inputs
+  -- the types of its inputs are known
   pub known_inputs : (n : ℕ) (op : Op) (inputs : List ℕ) → IsKnown items table n → HoldsExpression items n op inputs → AllByRecursion (IsKnown items table) inputs
   known_inputs n op inputs (by_table m k) held = (right.each m k.dtype k.keeps).inputs op inputs held
   known_inputs n op inputs (by_cast m input target options h k) held =
@@ -187,7 +187,7 @@ module _ (registry : Registry) (schema : Columns) (items : List AExpr) (table : 
       let one = denotes_one _ (HoldsExpression items) (expression_laws items) n e.tree t (any_node 0 items n e.tree e.denotes) d in
       record { many = e.typed.many; is = ap (typing registry schema) (sym one) ∙ e.is }
 
-  -- which is the kept one
+  -- it is the kept one
   pub kept_type : (n : ℕ) (dtype : DataType) → Keeps table n dtype → AllHaveType items registry schema n (ty dtype)
   kept_type n dtype k t d =
       let e = right.each n dtype k in
@@ -282,9 +282,7 @@ right_more registry schema items old new at dtype op inputs held d typed known k
           (same_or_other n at);
     }
 
-pub extends_itself : (table : TypeTable) → Extends table table
-extends_itself table = record { first = refl; kept = λ n k. k }
-
+-- a table that keeps more
 pub extends_then : (a b c : TypeTable) → Extends a b → Extends b c → Extends a c
 extends_then a b c x y = record { first = y.first ∙ x.first; kept = λ n k. y.kept n (x.kept n k) }
 
