@@ -154,6 +154,6 @@ below_third n m k = omega arith
 below_middle : (n m k : ℕ) → n < suc (max m (max n k))
 below_middle n m k = omega arith
 
-pub depth-three_items : (d a b c : Data) → Some (a, b, c) ≡ three_items d → (depth b < depth d) × (depth c < depth d)
+pub depth-three_items : (d a b c : Data) → Some (a, b, c) ≡ three_items d → (depth a < depth d) × (depth b < depth d) × (depth c < depth d)
 depth-three_items d a b c e =
-    subst (λ x. (depth b < depth x) × (depth c < depth x)) (sym (array-from_three_items d a b c e)) (below_middle (depth b) (depth a) _, below_third (depth c) (depth a) (depth b))
+    subst (λ x. (depth a < depth x) × (depth b < depth x) × (depth c < depth x)) (sym (array-from_three_items d a b c e)) (below_max (depth a) _ (depth a) (omega arith), below_middle (depth b) (depth a) _, below_third (depth c) (depth a) (depth b))

@@ -3,6 +3,8 @@ use Rattle.std.proofs.Common.{◌≡◌, ℕ, zero, suc, ◌+◌, ◌<◌, List,
 use Rattle.std.specs.Option.{option_map_or}
 use Rattle.plan_types.specs.Schemas.{Name, Columns, names_of, is_among, repeats}
 use Rattle.plan_types.proofs.NameLemmas.{repeats-apart}
+use Rattle.plan_types.specs.Types.{Ty}
+use Rattle.plan_types.specs.declared.dtype.CastOptions.{CastOptions}
 use Rattle.plan_dsl.specs.Ops.{Expression}
 use Rattle.plan_dsl.specs.declared.operator.Operator.{Operator}
 use Rattle.serde_json.specs.Data.{Data, Items, array, object, no_items, item, member, no_members}
@@ -11,9 +13,9 @@ use Rattle.serde_json.specs.Find.{as_array}
 use Rattle.plan_json.specs.Errors.{IsErrorOf}
 use Rattle.plan_json.specs.declared.error.JsonError.{JsonError}
 use Rattle.plan_json.specs.declared.error.JsonError.TheVariants.{NotJson, Shape, Name as Name', NoMemory}
-use Rattle.plan_json.specs.Faults.{FaultKind, BadShape, BadName, key, number, Path, Form, a_query, table_list, column_list, a_column, a_type, a_text, a_table, a_new_name, a_plan, a_scan, a_selection, expression_list, an_expression, operands, an_operator, Part, part, own_fault, parts_of, unless, each, each_table, query_parts, table_parts, column_parts, one_part, declared_names, IsBadAt}
+use Rattle.plan_json.specs.Faults.{FaultKind, BadShape, BadName, key, number, Path, Form, a_query, table_list, column_list, a_column, a_type, a_text, a_table, a_new_name, a_plan, a_scan, a_selection, expression_list, an_expression, operands, an_operator, a_cast, a_mode, Part, part, own_fault, parts_of, unless, each, each_table, query_parts, table_parts, column_parts, one_part, declared_names, IsBadAt}
 use Rattle.plan_json.specs.Looking.{both, two_members, two_items, three_items, all_of, some_of}
-use Rattle.plan_json.specs.Queries.{QueryModel, text_of, type_of, operator_of, column_of, column_name, columns_of, columns_from, table_of, table_name, table_limit, tables_of, tables_from, expression_of, binary_of, binary_expression, expressions_of, column_expression, table_at, scan_plan, scan_of, empty_plan, select_plan, plan_of, select_of, query_of, query_from, IsQueryOf}
+use Rattle.plan_json.specs.Queries.{QueryModel, text_of, type_of, operator_of, mode_of, column_of, column_name, columns_of, columns_from, table_of, table_name, table_limit, tables_of, tables_from, expression_of, binary_of, binary_expression, cast_of, cast_expression, expressions_of, column_expression, table_at, scan_plan, scan_of, empty_plan, select_plan, plan_of, select_of, query_of, query_from, IsQueryOf}
 use Rattle.plan_json.specs.Tables.{Declared}
 use Rattle.plan_json.proofs.DeclarationLemmas.{table_name-read, declared_names-read}
 use Rattle.plan_json.proofs.TableLemmas.{is_some-table_at}
@@ -42,6 +44,12 @@ tripled (Some x) None c tree e = cc
 tripled (Some x) (Some y) None tree e = cc
 tripled (Some x) (Some y) (Some z) tree e = ((x, refl), (y, refl), (z, refl))
 
+cast_given : (a : Option Expression) (b : Option Ty) (c : Option CastOptions) (tree : Expression) → cast_expression a b c ≡ Some tree → Given a × Given b × Given c
+cast_given None b c tree e = cc
+cast_given (Some x) None c tree e = cc
+cast_given (Some x) (Some y) None tree e = cc
+cast_given (Some x) (Some y) (Some z) tree e = ((x, refl), (y, refl), (z, refl))
+
 -- ---- a value that reads to something for its place
 
 abbrev IsWell : Form → Data → Type 0
@@ -60,6 +68,8 @@ IsWell expression_list d = Given (expressions_of d)
 IsWell an_expression d = Given (expression_of d)
 IsWell operands d = Given (binary_of d)
 IsWell an_operator d = Given (operator_of d)
+IsWell a_cast d = Given (cast_of d)
+IsWell a_mode d = Given (mode_of d)
 
 -- ---- such a value has no fault of its own
 
@@ -106,12 +116,13 @@ bad_member word value form = unless BadShape (is_some (option_map (λ f. part (k
 
 own_expression : (d : Data) (kind : FaultKind) → Given (expression_of d) → own_fault an_expression d ≡ Some kind → ⊥
 own_expression (object (member word value no_members)) kind well bad =
-    go (bytes_eq word (codes "col")) (bytes_eq word (codes "bin")) well bad
+    go (bytes_eq word (codes "col")) (bytes_eq word (codes "bin")) (bytes_eq word (codes "cast")) well bad
   where
-    go : (a b : Bool) → Given (cond a (option_map column_expression (text_of value)) (cond b (binary_of value) None)) → bad_member word value (cond a (Some a_text) (cond b (Some operands) None)) ≡ Some kind → ⊥
-    go true b h bad = cc
-    go false true h bad = cc
-    go false false (x, e) bad = cc
+    go : (a b c : Bool) → Given (cond a (option_map column_expression (text_of value)) (cond b (binary_of value) (cond c (cast_of value) None))) → bad_member word value (cond a (Some a_text) (cond b (Some operands) (cond c (Some a_cast) None))) ≡ Some kind → ⊥
+    go true b c h bad = cc
+    go false true c h bad = cc
+    go false false true h bad = cc
+    go false false false (x, e) bad = cc
 own_expression _ kind (x, e) bad = cc
 
 own_plan : (names : List Name) (tables : Declared) (d : Data) (kind : FaultKind) → Given (plan_of tables d) → own_fault (a_plan names) d ≡ Some kind → ⊥
@@ -128,6 +139,10 @@ own_plan names tables _ kind (x, e) bad = cc
 own_operands : (d : Data) (kind : FaultKind) → Given (binary_of d) → unless BadShape (is_some (three_items d)) ≡ Some kind → ⊥
 own_operands (array (item x (item y (item z no_items)))) kind well bad = cc
 own_operands _ kind (x, e) bad = cc
+
+own_cast : (d : Data) (kind : FaultKind) → Given (cast_of d) → unless BadShape (is_some (three_items d)) ≡ Some kind → ⊥
+own_cast (array (item x (item y (item z no_items)))) kind well bad = cc
+own_cast _ kind (x, e) bad = cc
 
 own_selection : (tables : Declared) (d : Data) (kind : FaultKind) → Given (select_of tables d) → unless BadShape (is_some (two_items d)) ≡ Some kind → ⊥
 own_selection tables (array (item x (item y no_items))) kind well bad = cc
@@ -151,6 +166,8 @@ own_none expression_list d kind well bad = own_list (λ items. true) (all_of exp
 own_none an_expression d kind well bad = own_expression d kind well bad
 own_none operands d kind well bad = own_operands d kind well bad
 own_none an_operator d kind well bad = there (operator_of d) kind well bad
+own_none a_cast d kind well bad = own_cast d kind well bad
+own_none a_mode d kind well bad = there (mode_of d) kind well bad
 
 -- ---- and each of its parts reads to something for its own place
 
@@ -271,12 +288,13 @@ only word value form = one_part (option_map (λ f. part (key word) f value) form
 
 parts_expression : (d : Data) (p : Part) → Given (expression_of d) → Contains (parts_of an_expression d) p → WellPart p
 parts_expression (object (member word value no_members)) p well here =
-    go (bytes_eq word (codes "col")) (bytes_eq word (codes "bin")) well here
+    go (bytes_eq word (codes "col")) (bytes_eq word (codes "bin")) (bytes_eq word (codes "cast")) well here
   where
-    go : (a b : Bool) → Given (cond a (option_map column_expression (text_of value)) (cond b (binary_of value) None)) → Contains (only word value (cond a (Some a_text) (cond b (Some operands) None))) p → WellPart p
-    go true b (tree, e) h = one_of (part (key word) a_text value) p (mapped column_expression (text_of value) tree e) h
-    go false true given h = one_of (part (key word) operands value) p given h
-    go false false given h = none_of p h
+    go : (a b c : Bool) → Given (cond a (option_map column_expression (text_of value)) (cond b (binary_of value) (cond c (cast_of value) None))) → Contains (only word value (cond a (Some a_text) (cond b (Some operands) (cond c (Some a_cast) None)))) p → WellPart p
+    go true b c (tree, e) h = one_of (part (key word) a_text value) p (mapped column_expression (text_of value) tree e) h
+    go false true c given h = one_of (part (key word) operands value) p given h
+    go false false true given h = one_of (part (key word) a_cast value) p given h
+    go false false false given h = none_of p h
 parts_expression _ p (x, e) here = cc
 
 parts_operands : (d : Data) (p : Part) → Given (binary_of d) → Contains (parts_of operands d) p → WellPart p
@@ -284,6 +302,12 @@ parts_operands (array (item x (item y (item z no_items)))) p (tree, e) here =
     let are = tripled (operator_of x) (expression_of y) (expression_of z) tree e in
     three_of (part (number 0) an_operator x) (part (number 1) an_expression y) (part (number 2) an_expression z) p are.0 are.1 are.2 here
 parts_operands _ p (x, e) here = cc
+
+parts_cast : (d : Data) (p : Part) → Given (cast_of d) → Contains (parts_of a_cast d) p → WellPart p
+parts_cast (array (item x (item y (item z no_items)))) p (tree, e) here =
+    let are = cast_given (expression_of x) (type_of y) (mode_of z) tree e in
+    three_of (part (number 0) an_expression x) (part (number 1) a_type y) (part (number 2) a_mode z) p are.0 are.1 are.2 here
+parts_cast _ p (x, e) here = cc
 
 parts_plan : (names : List Name) (tables : Declared) (same : names_of tables ≡ names) (d : Data) (p : Part) → Given (plan_of tables d) → Contains (parts_of (a_plan names) d) p → WellPart p
 parts_plan names tables same (object (member word value no_members)) p well here =
@@ -319,6 +343,8 @@ parts_well expression_list d p well here = parts_expressions d p well here
 parts_well an_expression d p well here = parts_expression d p well here
 parts_well operands d p well here = parts_operands d p well here
 parts_well an_operator d p well here = none_of p here
+parts_well a_cast d p well here = parts_cast d p well here
+parts_well a_mode d p well here = none_of p here
 
 -- ---- so it has no fault along any path
 

@@ -9,7 +9,7 @@ use Rattle.serde_json.specs.Events.{items_len}
 use Rattle.serde_json.specs.Find.{as_array}
 use Rattle.plan_types.specs.Schemas.{Name, is_among, repeats}
 use Rattle.plan_json.specs.Looking.{only_member, two_members, two_items, three_items, some_of}
-use Rattle.plan_json.specs.Queries.{text_of, type_of, operator_of, column_name, table_name, table_limit}
+use Rattle.plan_json.specs.Queries.{text_of, type_of, operator_of, mode_of, column_name, table_name, table_limit}
 
 pub data FaultKind : Type 0 where
   -- the value breaks the form
@@ -32,7 +32,7 @@ Path = List Step
 pub data Form : Type 0 where
   a_query table_list column_list a_column a_type a_text : Form
   a_table a_new_name a_plan a_scan a_selection : List Name → Form
-  expression_list an_expression operands an_operator : Form
+  expression_list an_expression operands an_operator a_cast a_mode : Form
 
 -- a part of a value: the step to it, what its place asks for, and the part itself
 pub record Part : Type 0 where
@@ -49,7 +49,8 @@ part step form value = record { step = step; form = form; value = value }
 abbrev pub expression_form : List ℕ → Option Form
 expression_form word =
     if bytes_eq word (codes "col") then Some a_text else (
-    if bytes_eq word (codes "bin") then Some operands else None)
+    if bytes_eq word (codes "bin") then Some operands else (
+    if bytes_eq word (codes "cast") then Some a_cast else None))
 
 -- what a plan's only key asks of its value
 abbrev pub plan_form : List Name → List ℕ → Option Form
@@ -93,6 +94,8 @@ own_fault expression_list d = list_fault (λ items. true) d
 own_fault an_expression d = unless BadShape (is_some (only_part expression_form d))
 own_fault operands d = unless BadShape (is_some (three_items d))
 own_fault an_operator d = unless BadShape (is_some (operator_of d))
+own_fault a_cast d = unless BadShape (is_some (three_items d))
+own_fault a_mode d = unless BadShape (is_some (mode_of d))
 
 -- ---- parts of a value
 
@@ -127,6 +130,10 @@ abbrev pub operand_parts : Data × Data × Data → List Part
 operand_parts triple =
     part (number 0) an_operator triple.0 ∷ part (number 1) an_expression triple.1 ∷ part (number 2) an_expression triple.2 ∷ []
 
+abbrev pub cast_parts : Data × Data × Data → List Part
+cast_parts triple =
+    part (number 0) an_expression triple.0 ∷ part (number 1) a_type triple.1 ∷ part (number 2) a_mode triple.2 ∷ []
+
 abbrev pub one_part : Option Part → List Part
 one_part None = []
 one_part (Some x) = x ∷ []
@@ -148,6 +155,8 @@ parts_of expression_list d = option_map_or (each an_expression 0) (as_array d) [
 parts_of an_expression d = one_part (only_part expression_form d)
 parts_of operands d = option_map_or operand_parts (three_items d) []
 parts_of an_operator d = []
+parts_of a_cast d = option_map_or cast_parts (three_items d) []
+parts_of a_mode d = []
 
 -- ---- faults along a path
 

@@ -8,12 +8,14 @@ use Rattle.serde_json.specs.Data.{Data, array, object, Items, no_items, item, no
 use Rattle.serde_json.specs.Events.{items_len}
 use Rattle.serde_json.specs.Find.{get, as_str, as_array}
 use Rattle.plan_types.specs.Schemas.{Name, Columns, same_name, names_of, repeats}
-use Rattle.plan_types.specs.Types.{Ty, Integer}
-use Rattle.plan_dsl.specs.Ops.{ColumnOp, BinaryOp, Expression}
+use Rattle.plan_types.specs.Types.{Ty, Truth, Integer}
+use Rattle.plan_types.specs.declared.dtype.CastOptions.{CastOptions}
+use Rattle.plan_types.specs.declared.dtype.CastOptions.TheVariants.{Strict, NonStrict, Overflowing}
+use Rattle.plan_dsl.specs.Ops.{ColumnOp, BinaryOp, CastOp, Expression}
 use Rattle.plan_dsl.specs.Plans.{Plan, named, scan_op, select_op, plan_tree}
 use Rattle.plan_dsl.specs.Trees.{node, no_more, more}
 use Rattle.plan_dsl.specs.declared.operator.Operator.{Operator}
-use Rattle.plan_dsl.specs.declared.operator.Operator.TheVariants.{Plus}
+use Rattle.plan_dsl.specs.declared.operator.Operator.TheVariants.{Eq, NotEq, Lt, LtEq, Gt, GtEq, Plus}
 use Rattle.plan_json.specs.Looking.{both, two_members, two_items, all_of, some_of}
 use Rattle.plan_json.specs.Tables.{Declared, declared}
 use Rattle.plan_json.specs.declared.read.Query.{Query}
@@ -34,6 +36,7 @@ text_of d = option_map chars (as_str d)
 
 abbrev pub type_named : List ℕ → Option Ty
 type_named name =
+    if bytes_eq name (codes "Boolean") then Some Truth else (
     if bytes_eq name (codes "Int8") then Some (Integer true 8) else (
     if bytes_eq name (codes "Int16") then Some (Integer true 16) else (
     if bytes_eq name (codes "Int32") then Some (Integer true 32) else (
@@ -41,16 +44,33 @@ type_named name =
     if bytes_eq name (codes "UInt8") then Some (Integer false 8) else (
     if bytes_eq name (codes "UInt16") then Some (Integer false 16) else (
     if bytes_eq name (codes "UInt32") then Some (Integer false 32) else (
-    if bytes_eq name (codes "UInt64") then Some (Integer false 64) else None)))))))
+    if bytes_eq name (codes "UInt64") then Some (Integer false 64) else None))))))))
 
 abbrev pub type_of : Data → Option Ty
 type_of d = option_and_then type_named (as_str d)
 
 abbrev pub operator_named : List ℕ → Option Operator
-operator_named name = if bytes_eq name (codes "Plus") then Some Plus else None
+operator_named name =
+    if bytes_eq name (codes "Eq") then Some Eq else (
+    if bytes_eq name (codes "NotEq") then Some NotEq else (
+    if bytes_eq name (codes "Lt") then Some Lt else (
+    if bytes_eq name (codes "LtEq") then Some LtEq else (
+    if bytes_eq name (codes "Gt") then Some Gt else (
+    if bytes_eq name (codes "GtEq") then Some GtEq else (
+    if bytes_eq name (codes "Plus") then Some Plus else None))))))
 
 abbrev pub operator_of : Data → Option Operator
 operator_of d = option_and_then operator_named (as_str d)
+
+-- what a cast does with a value that has no place in its target
+abbrev pub mode_named : List ℕ → Option CastOptions
+mode_named name =
+    if bytes_eq name (codes "Strict") then Some Strict else (
+    if bytes_eq name (codes "NonStrict") then Some NonStrict else (
+    if bytes_eq name (codes "Overflowing") then Some Overflowing else None))
+
+abbrev pub mode_of : Data → Option CastOptions
+mode_of d = option_and_then mode_named (as_str d)
 
 -- ---- columns
 
@@ -100,12 +120,17 @@ abbrev pub binary_expression : Option Operator → Option Expression → Option 
 binary_expression (Some operator) (Some left) (Some right) = Some (node (BinaryOp operator) (more left (more right no_more)))
 binary_expression _ _ _ = None
 
+abbrev pub cast_expression : Option Expression → Option Ty → Option CastOptions → Option Expression
+cast_expression (Some operand) (Some target) (Some mode) = Some (node (CastOp target mode) (more operand no_more))
+cast_expression _ _ _ = None
+
 abbrev mutual
   -- an object of one key, which names its form
   pub expression_of : Data → Option Expression
   expression_of (object (member key value no_members)) =
       if bytes_eq key (codes "col") then option_map column_expression (text_of value) else (
-      if bytes_eq key (codes "bin") then binary_of value else None)
+      if bytes_eq key (codes "bin") then binary_of value else (
+      if bytes_eq key (codes "cast") then cast_of value else None))
   expression_of _ = None
 
   -- `[operator, expression, expression]`
@@ -113,6 +138,12 @@ abbrev mutual
   binary_of (array (item operator (item left (item right no_items)))) =
       binary_expression (operator_of operator) (expression_of left) (expression_of right)
   binary_of _ = None
+
+  -- `[expression, type, mode]`
+  pub cast_of : Data → Option Expression
+  cast_of (array (item operand (item target (item mode no_items)))) =
+      cast_expression (expression_of operand) (type_of target) (mode_of mode)
+  cast_of _ = None
 
 -- a list of expressions
 abbrev pub expressions_of : Data → Option (List Expression)

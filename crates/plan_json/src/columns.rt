@@ -50,6 +50,7 @@ fn type_named(name: &str) -> Option<DataType>
     ensures { option_map ty result ≡ type_named name.now }
 {
     match name {
+        "Boolean" => Some(DataType::Boolean),
         "Int8" => Some(DataType::Int8),
         "Int16" => Some(DataType::Int16),
         "Int32" => Some(DataType::Int32),

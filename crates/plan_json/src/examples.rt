@@ -3,17 +3,18 @@
 
 ghost use Rattle.std.specs.Prelude.{◌≡◌, [], ◌∷◌, List, Some, None, String, codes, string_bytes, true, false};
 ghost use Rattle.std.specs.Global.{Global};
-ghost use Rattle.plan_types.specs.Types.{Integer};
-ghost use Rattle.plan_dsl.specs.Ops.{ColumnOp, BinaryOp};
+ghost use Rattle.plan_types.specs.Types.{Truth, Integer};
+ghost use Rattle.plan_types.specs.declared.dtype.CastOptions.TheVariants.{Strict, NonStrict, Overflowing};
+ghost use Rattle.plan_dsl.specs.Ops.{ColumnOp, BinaryOp, CastOp};
 ghost use Rattle.plan_dsl.specs.Plans.{empty_table, named, scan_op, select_op};
 ghost use Rattle.plan_dsl.specs.Trees.{node, no_more, more};
-ghost use Rattle.plan_dsl.specs.declared.operator.Operator.TheVariants.{Plus};
+ghost use Rattle.plan_dsl.specs.declared.operator.Operator.TheVariants.{Eq, Lt, GtEq, Plus};
 ghost use Rattle.serde_json.specs.Data.{array, boolean, no_items, item, no_members, member, null, number, object, string, unsigned};
 ghost use Rattle.plan_json.specs.Bytes.{IsRefusalOf, WritesQuery};
 ghost use Rattle.plan_json.specs.Errors.{escaped, pointer_text};
 ghost use Rattle.plan_json.specs.Faults as fault;
 ghost use Rattle.plan_json.specs.Faults.{BadName, BadShape, IsBadAt, key, own_fault};
-ghost use Rattle.plan_json.specs.Queries.{QueryModel, query_of};
+ghost use Rattle.plan_json.specs.Queries.{QueryModel, expression_of, operator_of, query_of, type_of};
 ghost use Rattle.plan_json.specs.declared.error.JsonError.TheVariants.{NotJson, Shape, Name};
 
 /// A query: its tables by name and columns, and its plan over them.
@@ -67,6 +68,44 @@ pub fn query_examples()
         query_of (object (member (codes "plan") empty (member (codes "tables") (array no_items) no_members))) ≡ None }
 {}
 
+/// An expression: an object of one key, which names its form.
+pub fn expression_examples()
+    ensures comparison { let left = object (member (codes "col") (string (codes "a")) no_members) in
+        let right = object (member (codes "col") (string (codes "b")) no_members) in
+        let operands = array (item (string (codes "GtEq")) (item left (item right no_items))) in
+        expression_of (object (member (codes "bin") operands no_members))
+        ≡ Some (node (BinaryOp GtEq) (more (node (ColumnOp (codes "a")) no_more) (more (node (ColumnOp (codes "b")) no_more) no_more))) }
+    ensures cast_to_truth { let operand = object (member (codes "col") (string (codes "a")) no_members) in
+        let parts = array (item operand (item (string (codes "Boolean")) (item (string (codes "NonStrict")) no_items))) in
+        expression_of (object (member (codes "cast") parts no_members))
+        ≡ Some (node (CastOp Truth NonStrict) (more (node (ColumnOp (codes "a")) no_more) no_more)) }
+    ensures cast_of_cast { let operand = object (member (codes "col") (string (codes "a")) no_members) in
+        let below = array (item operand (item (string (codes "Int64")) (item (string (codes "Strict")) no_items))) in
+        let inner = object (member (codes "cast") below no_members) in
+        let parts = array (item inner (item (string (codes "UInt8")) (item (string (codes "Overflowing")) no_items))) in
+        expression_of (object (member (codes "cast") parts no_members))
+        ≡ Some (node (CastOp (Integer false 8) Overflowing) (more (node (CastOp (Integer true 64) Strict) (more (node (ColumnOp (codes "a")) no_more) no_more)) no_more)) }
+    ensures compared_cast { let left = object (member (codes "col") (string (codes "a")) no_members) in
+        let parts = array (item left (item (string (codes "Int64")) (item (string (codes "Strict")) no_items))) in
+        let cast = object (member (codes "cast") parts no_members) in
+        let right = object (member (codes "col") (string (codes "b")) no_members) in
+        let operands = array (item (string (codes "Lt")) (item cast (item right no_items))) in
+        expression_of (object (member (codes "bin") operands no_members))
+        ≡ Some (node (BinaryOp Lt) (more (node (CastOp (Integer true 64) Strict) (more (node (ColumnOp (codes "a")) no_more) no_more)) (more (node (ColumnOp (codes "b")) no_more) no_more))) }
+    ensures unknown_mode { let operand = object (member (codes "col") (string (codes "a")) no_members) in
+        let parts = array (item operand (item (string (codes "Int64")) (item (string (codes "strict")) no_items))) in
+        expression_of (object (member (codes "cast") parts no_members)) ≡ None }
+    ensures short_cast { let operand = object (member (codes "col") (string (codes "a")) no_members) in
+        let parts = array (item operand (item (string (codes "Int64")) no_items)) in
+        expression_of (object (member (codes "cast") parts no_members)) ≡ None }
+    ensures cast_of_none { let parts = array (item null (item (string (codes "Int64")) (item (string (codes "Strict")) no_items))) in
+        expression_of (object (member (codes "cast") parts no_members)) ≡ None }
+    ensures operator { operator_of (string (codes "Eq")) ≡ Some Eq }
+    ensures sign { operator_of (string (codes "==")) ≡ None }
+    ensures truth { type_of (string (codes "Boolean")) ≡ Some Truth }
+    ensures short_truth { type_of (string (codes "Bool")) ≡ None }
+{}
+
 /// Bytes that write a query, and bytes that write none.
 pub fn text_examples()
     ensures least { WritesQuery (codes " {\"tables\": [], \"plan\": {\"empty\": []}}\n") (record { tables = []; plan = empty_table }) }
@@ -107,6 +146,11 @@ pub fn fault_examples()
     ensures unknown_expression { own_fault fault.an_expression (object (member (codes "lit") (number (unsigned 1)) no_members)) ≡ Some BadShape }
     ensures known_expression { own_fault fault.an_expression (object (member (codes "bin") null no_members)) ≡ None }
     ensures unknown_operator { own_fault fault.an_operator (string (codes "Minus")) ≡ Some BadShape }
+    ensures known_operator { own_fault fault.an_operator (string (codes "NotEq")) ≡ None }
+    ensures short_cast { own_fault fault.a_cast (array (item null (item (string (codes "Int8")) no_items))) ≡ Some BadShape }
+    ensures whole_cast { own_fault fault.a_cast (array (item null (item null (item null no_items)))) ≡ None }
+    ensures unknown_mode { own_fault fault.a_mode (string (codes "strict")) ≡ Some BadShape }
+    ensures known_mode { own_fault fault.a_mode (string (codes "Overflowing")) ≡ None }
     ensures short_operands { own_fault fault.operands (array (item (string (codes "Plus")) (item null no_items))) ≡ Some BadShape }
     ensures empty_list { own_fault fault.expression_list (array no_items) ≡ None }
     ensures no_list { own_fault fault.table_list (object no_members) ≡ Some BadShape }
@@ -131,6 +175,15 @@ pub fn place_examples()
         let selection = array (item null (item (array (item col (item sum no_items))) no_items)) in
         let d = object (member (codes "plan") (object (member (codes "select") selection no_members)) (member (codes "tables") (array no_items) no_members)) in
         IsBadAt fault.a_query d BadShape (key (codes "plan") ∷ key (codes "select") ∷ fault.number 1 ∷ fault.number 1 ∷ key (codes "bin") ∷ fault.number 2 ∷ []) }
+    ensures cast_of_unknown { let lit = object (member (codes "lit") (number (unsigned 1)) no_members) in
+        let cast = object (member (codes "cast") (array (item lit (item null (item null no_items)))) no_members) in
+        IsBadAt fault.an_expression cast BadShape (key (codes "cast") ∷ fault.number 0 ∷ []) }
+    ensures cast_to_unknown { let cast = object (member (codes "cast") (array (item null (item (string (codes "bool")) (item null no_items)))) no_members) in
+        IsBadAt fault.an_expression cast BadShape (key (codes "cast") ∷ fault.number 1 ∷ []) }
+    ensures unknown_mode { let below = array (item null (item null (item (string (codes "Wrapping")) no_items))) in
+        let inner = object (member (codes "cast") below no_members) in
+        let cast = object (member (codes "cast") (array (item inner (item null (item null no_items)))) no_members) in
+        IsBadAt fault.an_expression cast BadShape (key (codes "cast") ∷ fault.number 0 ∷ key (codes "cast") ∷ fault.number 2 ∷ []) }
     ensures first_table_stays { let table = object (member (codes "columns") (array no_items) (member (codes "name") (string (codes "t")) no_members)) in
         let d = object (member (codes "plan") null (member (codes "tables") (array (item table (item table no_items))) no_members)) in
         ¬ (IsBadAt fault.a_query d BadName (key (codes "tables") ∷ fault.number 0 ∷ key (codes "name") ∷ [])) }

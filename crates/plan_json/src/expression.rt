@@ -4,15 +4,16 @@ ghost use Rattle.serde_json.specs.View.{view};
 ghost use Rattle.plan_dsl.specs.Expressions.{tree_of};
 ghost use Rattle.plan_dsl.specs.Plans.{trees_of};
 ghost use Rattle.plan_json.specs.Errors.{IsErrorOf};
-ghost use Rattle.plan_json.specs.Faults.{an_expression, operands, an_operator, expression_list};
-ghost use Rattle.plan_json.specs.Queries.{expression_of, binary_of, operator_of, expressions_of};
+ghost use Rattle.plan_json.specs.Faults.{an_expression, operands, an_operator, a_cast, a_mode, expression_list};
+ghost use Rattle.plan_json.specs.Queries.{expression_of, binary_of, operator_named, operator_of, cast_of, mode_named, mode_of, expressions_of};
 
-use super::columns::read_text;
+use super::columns::{read_text, read_type};
 use super::error::{JsonError, Step, at};
 use super::value::{only_member, three_items};
 use plan_dsl::expr::Expr;
 use plan_dsl::operator::Operator;
 use plan_dsl::plan::Exprs;
+use plan_types::dtype::CastOptions;
 use serde_json::Value;
 use std::alloc::Global;
 
@@ -31,6 +32,10 @@ pub(crate) fn read_expression(alloc: Global, value: &Value) -> Result<Expr, Json
             }
             "bin" => {
                 let expr = at(alloc, Step::Key("bin"), read_binary(alloc, inner))?;
+                Ok(expr)
+            }
+            "cast" => {
+                let expr = at(alloc, Step::Key("cast"), read_cast(alloc, inner))?;
                 Ok(expr)
             }
             _ => Err(JsonError::shape(alloc)),
@@ -64,10 +69,74 @@ fn read_operator(alloc: Global, value: &Value) -> Result<Operator, JsonError>
 {
     match value.as_str() {
         None => Err(JsonError::shape(alloc)),
-        Some(name) => match name {
-            "Plus" => Ok(Operator::Plus),
-            _ => Err(JsonError::shape(alloc)),
+        Some(name) => match operator_named(name) {
+            None => Err(JsonError::shape(alloc)),
+            Some(operator) => Ok(operator),
         },
+    }
+}
+
+// The operator of that name.
+fn operator_named(name: &str) -> Option<Operator>
+    ensures { result ≡ operator_named name.now }
+{
+    match name {
+        "Eq" => Some(Operator::Eq),
+        "NotEq" => Some(Operator::NotEq),
+        "Lt" => Some(Operator::Lt),
+        "LtEq" => Some(Operator::LtEq),
+        "Gt" => Some(Operator::Gt),
+        "GtEq" => Some(Operator::GtEq),
+        "Plus" => Some(Operator::Plus),
+        _ => None,
+    }
+}
+
+// A cast: `[expression, type, mode]`.
+#[cycle(expression)]
+fn read_cast(alloc: Global, value: &Value) -> Result<Expr, JsonError>
+    ensures ok { IfOk result (λ expr. cast_of (view value.now) ≡ Some (tree_of expr)) }
+    ensures err { IfErr result (IsErrorOf a_cast (view value.now)) }
+{
+    match three_items(value) {
+        None => Err(JsonError::shape(alloc)),
+        Some((operand, target, mode)) => {
+            let expr = at(alloc, Step::Item(0), read_expression(alloc, operand))?;
+            let dtype = at(alloc, Step::Item(1), read_type(alloc, target))?;
+            let options = at(alloc, Step::Item(2), read_mode(alloc, mode))?;
+            let expr = Box::new(alloc, expr)?;
+            Ok(Expr::Cast {
+                expr,
+                dtype,
+                options,
+            })
+        }
+    }
+}
+
+// What a cast does with a value that has no place in its target, by its name.
+fn read_mode(alloc: Global, value: &Value) -> Result<CastOptions, JsonError>
+    ensures ok { IfOk result (λ mode. mode_of (view value.now) ≡ Some mode) }
+    ensures err { IfErr result (IsErrorOf a_mode (view value.now)) }
+{
+    match value.as_str() {
+        None => Err(JsonError::shape(alloc)),
+        Some(name) => match mode_named(name) {
+            None => Err(JsonError::shape(alloc)),
+            Some(mode) => Ok(mode),
+        },
+    }
+}
+
+// The mode of that name.
+fn mode_named(name: &str) -> Option<CastOptions>
+    ensures { result ≡ mode_named name.now }
+{
+    match name {
+        "Strict" => Some(CastOptions::Strict),
+        "NonStrict" => Some(CastOptions::NonStrict),
+        "Overflowing" => Some(CastOptions::Overflowing),
+        _ => None,
     }
 }
 

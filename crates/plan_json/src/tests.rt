@@ -25,6 +25,14 @@ fn query_answer(alloc: Global, tables: &str, plan: &str) -> Result<String, Alloc
     answer(alloc, text.as_bytes())
 }
 
+// What reading says of a query that selects the expression of the empty table.
+fn expression_answer(alloc: Global, expression: &str) -> Result<String, AllocError> {
+    let mut plan = String::from_str(alloc, "{\"select\":[{\"empty\":[]},[")?;
+    plan.push_str(expression)?;
+    plan.push_str("]]}")?;
+    query_answer(alloc, "[]", plan.as_str())
+}
+
 // The text, so many times.
 fn repeated(alloc: Global, text: &str, times: u8) -> Result<String, AllocError> {
     let mut all = String::new(alloc);
@@ -116,6 +124,10 @@ fn reads_columns(rt: HostRuntime) -> Result<(), Fail> {
             "Shape /tables/0/columns",
         ),
         (
+            "[{\"name\":\"t\",\"columns\":[[\"a\",\"Boolean\"]]}]",
+            "query",
+        ),
+        (
             "[{\"name\":\"t\",\"columns\":[[\"a\",\"Int8\",1]]}]",
             "Shape /tables/0/columns/0",
         ),
@@ -197,6 +209,70 @@ fn reads_expressions(rt: HostRuntime) -> Result<(), Fail> {
         ),
     ] {
         let found = query_answer(rt.alloc(), "[]", plan)?;
+        assert!(rt; found.as_str() == want, "{found} in place of {want}");
+    }
+    Ok(())
+}
+
+#[test]
+fn reads_each_name(rt: HostRuntime) -> Result<(), Fail> {
+    let alloc = rt.alloc();
+    for (operator, want) in [
+        ("Eq", "query"),
+        ("NotEq", "query"),
+        ("Lt", "query"),
+        ("LtEq", "query"),
+        ("Gt", "query"),
+        ("GtEq", "query"),
+        ("Plus", "query"),
+        ("<", "Shape /plan/select/1/0/bin/0"),
+    ] {
+        let text = format!(in alloc;
+            "{{\"bin\":[\"{operator}\",{{\"col\":\"a\"}},{{\"col\":\"b\"}}]}}"
+        )?;
+        let found = expression_answer(alloc, text.as_str())?;
+        assert!(rt; found.as_str() == want, "{found} in place of {want}");
+    }
+    for (dtype, mode, want) in [
+        ("Boolean", "Strict", "query"),
+        ("Int8", "NonStrict", "query"),
+        ("UInt64", "Overflowing", "query"),
+        ("Bool", "Strict", "Shape /plan/select/1/0/cast/1"),
+        ("Boolean", "strict", "Shape /plan/select/1/0/cast/2"),
+    ] {
+        let text = format!(in alloc; "{{\"cast\":[{{\"col\":\"a\"}},\"{dtype}\",\"{mode}\"]}}")?;
+        let found = expression_answer(alloc, text.as_str())?;
+        assert!(rt; found.as_str() == want, "{found} in place of {want}");
+    }
+    Ok(())
+}
+
+#[test]
+fn reads_casts(rt: HostRuntime) -> Result<(), Fail> {
+    for (expression, want) in [
+        (
+            "{\"bin\":[\"Lt\",{\"cast\":[{\"col\":\"a\"},\"Int64\",\"Strict\"]},{\"col\":\"b\"}]}",
+            "query",
+        ),
+        (
+            "{\"cast\":[{\"cast\":[{\"col\":\"a\"},\"Boolean\",\"Strict\"]},\"UInt8\",\"Strict\"]}",
+            "query",
+        ),
+        (
+            "{\"cast\":[{\"col\":\"a\"},\"Int8\"]}",
+            "Shape /plan/select/1/0/cast",
+        ),
+        (
+            "{\"cast\":[{\"col\":\"a\"},\"Int8\",true]}",
+            "Shape /plan/select/1/0/cast/2",
+        ),
+        (
+            "{\"cast\":[{\"cast\":[{\"lit\":1},\"Int8\",\"Strict\"]},\"Int8\",\"Strict\"]}",
+            "Shape /plan/select/1/0/cast/0/cast/0",
+        ),
+        ("{\"cast\":{}}", "Shape /plan/select/1/0/cast"),
+    ] {
+        let found = expression_answer(rt.alloc(), expression)?;
         assert!(rt; found.as_str() == want, "{found} in place of {want}");
     }
     Ok(())

@@ -2,13 +2,13 @@
 #![tactic(auto, unfolding(crate::proofs::OnLiterals::texts_on_literals))]
 
 ghost use Rattle.std.specs.Prelude.{◌≡◌, [], ◌∷◌, codes, true, false, Some};
-ghost use Rattle.plan_types.specs.Types.{Integer};
+ghost use Rattle.plan_types.specs.Types.{Truth, Integer};
 ghost use Rattle.plan_dsl.specs.Ops.{ColumnOp, BinaryOp, CastOp};
 ghost use Rattle.plan_dsl.specs.Plans.{empty_table, named, scan_op, select_op};
 ghost use Rattle.plan_dsl.specs.Trees.{node, no_more, more};
 ghost use Rattle.plan_types.specs.declared.dtype.CastOptions.TheVariants.{Strict};
 ghost use Rattle.plan_types.specs.declared.error.ErrorKind.TheVariants.{ColumnNotFound, Duplicate};
-ghost use Rattle.plan_dsl.specs.declared.operator.Operator.TheVariants.{Plus};
+ghost use Rattle.plan_dsl.specs.declared.operator.Operator.TheVariants.{Lt, Plus};
 ghost use Rattle.plan_report.specs.Report.{report_text, refusal_text};
 ghost use Rattle.plan_report.specs.Texts.{name_text, type_text, schema_text, path_text};
 
@@ -25,6 +25,7 @@ pub fn schema_examples()
     ensures one { schema_text ((codes "a", Integer true 8) ∷ []) ≡ codes "(\"a\" Int8)" }
     ensures two { schema_text ((codes "a", Integer true 64) ∷ (codes "b", Integer false 16) ∷ [])
         ≡ codes "(\"a\" Int64, \"b\" UInt16)" }
+    ensures truth { schema_text ((codes "a", Truth) ∷ []) ≡ codes "(\"a\" Boolean)" }
 {}
 
 /// A name has JSON's quotes and escapes, and its characters in UTF-8.
@@ -52,6 +53,16 @@ pub fn report_examples()
         let top = select_op (named sum ∷ []) ((codes "a", Integer true 32) ∷ []) in
         report_text (node top (more scan no_more))
         ≡ codes ". projection (\"a\" Int32)\n.0 df (\"a\" Int8, \"b\" Int32)\ncasts 1\n" }
+    ensures comparison { let a = node (ColumnOp (codes "a")) no_more in
+        let b = node (ColumnOp (codes "b")) no_more in
+        let wide = node (CastOp (Integer true 64) Strict) (more a no_more) in
+        let wide_b = node (CastOp (Integer true 64) Strict) (more b no_more) in
+        let less = node (BinaryOp Lt) (more wide (more wide_b no_more)) in
+        let table = (codes "a", Integer true 8) ∷ (codes "b", Integer true 32) ∷ [] in
+        let scan = node (scan_op (Some 0) table) no_more in
+        let top = select_op (named less ∷ []) ((codes "a", Truth) ∷ []) in
+        report_text (node top (more scan no_more))
+        ≡ codes ". projection (\"a\" Boolean)\n.0 df (\"a\" Int8, \"b\" Int32)\ncasts 2\n" }
     ensures levels { let top = select_op [] [] in
         report_text (node top (more (node top (more empty_table no_more)) no_more))
         ≡ codes ". projection ()\n.0 projection ()\n.0.0 df ()\ncasts 0\n" }

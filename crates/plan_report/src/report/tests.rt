@@ -150,6 +150,7 @@ fn escapes_names(rt: HostRuntime) -> Result<(), Fail> {
 fn names_each_type(rt: HostRuntime) -> Result<(), Fail> {
     let alloc = rt.alloc();
     for (dtype, want) in [
+        (DataType::Boolean, ". df (\"x\" Boolean)\ncasts 0\n"),
         (DataType::Int8, ". df (\"x\" Int8)\ncasts 0\n"),
         (DataType::Int16, ". df (\"x\" Int16)\ncasts 0\n"),
         (DataType::Int32, ". df (\"x\" Int32)\ncasts 0\n"),

@@ -86,3 +86,45 @@ returns-clause-unknown_expression c =
         ),
       ),
     )
+
+abbrev unknown : Data
+unknown = object (member (codes "lit") (number (unsigned 1)) no_members)
+
+pub returns-clause-cast_of_unknown : goal.returns-clause-cast_of_unknown
+unfolding values_on_literals
+returns-clause-cast_of_unknown c = (
+  part (key (codes "cast")) fault.a_cast (array (item unknown (item null (item null no_items)))),
+  (0, omega arith, refl),
+  refl,
+  (part (fault.number 0) fault.an_expression unknown, (0, omega arith, refl), refl, refl),
+)
+
+pub returns-clause-cast_to_unknown : goal.returns-clause-cast_to_unknown
+unfolding values_on_literals
+returns-clause-cast_to_unknown c = (
+  part (key (codes "cast")) fault.a_cast (array (item null (item (string (codes "bool")) (item null no_items)))),
+  (0, omega arith, refl),
+  refl,
+  (part (fault.number 1) fault.a_type (string (codes "bool")), (1, omega arith, refl), refl, refl),
+)
+
+pub returns-clause-unknown_mode : goal.returns-clause-unknown_mode
+unfolding values_on_literals
+returns-clause-unknown_mode c =
+    let below = array (item null (item null (item (string (codes "Wrapping")) no_items))) in
+    let inner = object (member (codes "cast") below no_members) in (
+      part (key (codes "cast")) fault.a_cast (array (item inner (item null (item null no_items)))),
+      (0, omega arith, refl),
+      refl,
+      (
+        part (fault.number 0) fault.an_expression inner,
+        (0, omega arith, refl),
+        refl,
+        (
+          part (key (codes "cast")) fault.a_cast below,
+          (0, omega arith, refl),
+          refl,
+          (part (fault.number 2) fault.a_mode (string (codes "Wrapping")), (2, omega arith, refl), refl, refl),
+        ),
+      ),
+    )

@@ -1,9 +1,9 @@
 use Rattle.std.proofs.Common.{◌∙◌, codes, refl, arith}
 use Rattle.std.proofs.lemmas.Result.{IfOk-at_ok}
 use Rattle.serde_json.specs.View.{view}
-use Rattle.plan_json.specs.Faults.{an_expression, an_operator, a_text, operands, part, key, number, expression_form, operand_parts}
+use Rattle.plan_json.specs.Faults.{an_expression, an_operator, a_cast, a_mode, a_text, a_type, operands, part, key, number, expression_form, operand_parts, cast_parts}
 use Rattle.plan_json.proofs.FaultLemmas.{IfErr-below, in_parts, only_member-part}
-use Rattle.plan_json.proofs.FormLemmas.{expression_of-bin}
+use Rattle.plan_json.proofs.FormLemmas.{expression_of-bin, expression_of-cast}
 use Rattle.plan_json.proofs.LookingLemmas.{depth-three_items}
 use Rattle.plan_json.proofs.expression.+expression.Goals as goal
 
@@ -21,13 +21,35 @@ read_binary-returns-in_err-left-in-Some-clause-err t c =
 
 pub read_binary-read_expression-requires-in-Some : goal.read_binary-read_expression-requires-in-Some
 read_binary-read_expression-requires-in-Some t c =
-    let below = (depth-three_items _ _ _ _ c.in-Some.ensures).1 in (omega (arith, below, c.decreases), tt)
+    let below = depth-three_items _ _ _ _ c.in-Some.ensures in (omega (arith, below.1, below.2, c.decreases), tt)
 
 pub read_binary-returns-in_err-right-in-Some-clause-err :
     goal.read_binary-returns-in_err-right-in-Some-clause-err
 read_binary-returns-in_err-right-in-Some-clause-err t c =
     IfErr-below _ _ operands _ (part (number 2) an_expression (view c.in-Some.right.now)) _ c.from_residual-in_err-right-in-Some.ensures.1
     (in_parts operand_parts _ _ _ c.in-Some.ensures (2, omega arith, refl)) c.read_expression-in-Some.ensures.err c.in_err-right-in-Some.ensures.err
+
+pub read_cast-read_expression-requires : goal.read_cast-read_expression-requires
+read_cast-read_expression-requires t c =
+    let below = depth-three_items _ _ _ _ c.in-Some.ensures in (omega (arith, below.0, c.decreases), tt)
+
+pub read_cast-returns-in_err-expr-in-Some-clause-err :
+    goal.read_cast-returns-in_err-expr-in-Some-clause-err
+read_cast-returns-in_err-expr-in-Some-clause-err t c =
+    IfErr-below _ _ a_cast _ (part (number 0) an_expression (view c.in-Some.operand.now)) _ c.from_residual.ensures.1
+    (in_parts cast_parts _ _ _ c.in-Some.ensures (0, omega arith, refl)) c.read_expression.ensures.err c.in_err-expr-in-Some.ensures.err
+
+pub read_cast-returns-in_err-dtype-in-Some-clause-err :
+    goal.read_cast-returns-in_err-dtype-in-Some-clause-err
+read_cast-returns-in_err-dtype-in-Some-clause-err t c =
+    IfErr-below _ _ a_cast _ (part (number 1) a_type (view c.in-Some.target.now)) _ c.from_residual-in_err-dtype-in-Some.ensures.1
+    (in_parts cast_parts _ _ _ c.in-Some.ensures (1, omega arith, refl)) c.read_type.ensures.err c.in_err-dtype-in-Some.ensures.err
+
+pub read_cast-returns-in_err-options-in-Some-clause-err :
+    goal.read_cast-returns-in_err-options-in-Some-clause-err
+read_cast-returns-in_err-options-in-Some-clause-err t c =
+    IfErr-below _ _ a_cast _ (part (number 2) a_mode (view c.in-Some.mode.now)) _ c.from_residual-in_err-options-in-Some.ensures.1
+    (in_parts cast_parts _ _ _ c.in-Some.ensures (2, omega arith, refl)) c.read_mode.ensures.err c.in_err-options-in-Some.ensures.err
 
 pub read_expression-returns-in_err-name-in-col-clause-err :
     goal.read_expression-returns-in_err-name-in-col-clause-err
@@ -45,3 +67,14 @@ pub read_expression-returns-in_ok-expr-in-bin-clause-ok :
     goal.read_expression-returns-in_ok-expr-in-bin-clause-ok
 read_expression-returns-in_ok-expr-in-bin-clause-ok t c =
     expression_of-bin _ _ _ c.in-Some.ensures c.in-bin.is ∙ IfOk-at_ok _ c.in_ok-expr-in-bin.ensures.ok c.read_binary.ensures.ok
+
+pub read_expression-returns-in_err-expr-in-cast-clause-err :
+    goal.read_expression-returns-in_err-expr-in-cast-clause-err
+read_expression-returns-in_err-expr-in-cast-clause-err t c =
+    IfErr-below _ _ an_expression _ (part (key (codes "cast")) a_cast (view c.in-Some.inner.now)) _ c.from_residual-in_err-expr-in-cast.ensures.1
+    (only_member-part expression_form _ _ (codes "cast") _ a_cast c.in-Some.ensures c.in-cast.is refl) c.read_cast.ensures.err c.in_err-expr-in-cast.ensures.err
+
+pub read_expression-returns-in_ok-expr-in-cast-clause-ok :
+    goal.read_expression-returns-in_ok-expr-in-cast-clause-ok
+read_expression-returns-in_ok-expr-in-cast-clause-ok t c =
+    expression_of-cast _ _ _ c.in-Some.ensures c.in-cast.is ∙ IfOk-at_ok _ c.in_ok-expr-in-cast.ensures.ok c.read_cast.ensures.ok

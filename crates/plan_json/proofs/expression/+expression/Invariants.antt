@@ -7,3 +7,6 @@ decreases-read_expression l = depth (view l.value.now)
 
 abbrev pub decreases-read_binary : goal.decreases-read_binary
 decreases-read_binary l = depth (view l.value.now)
+
+abbrev pub decreases-read_cast : goal.decreases-read_cast
+decreases-read_cast l = depth (view l.value.now)
