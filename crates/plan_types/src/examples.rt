@@ -1,20 +1,21 @@
 //! Worked examples of the definitions. The functions do nothing: their clauses are the examples.
 
-ghost use Rattle.std.specs.Prelude.{◌≡◌, ℕ, ◌+◌, [], ◌∷◌, pos, neg_ℤ, map, codes, true, false, Some, None};
+ghost use Rattle.std.specs.Prelude.{◌≡◌, ℕ, ◌+◌, ℤ, [], ◌∷◌, pos, neg_ℤ, map, codes, true, false, Some, None};
 ghost use Rattle.std.specs.Global.{Vec};
-ghost use Rattle.plan_types.specs.Types.{Integer, ty, same_type};
+ghost use Rattle.plan_types.specs.Types.{Truth, Integer, ty, is_signed_integer, width_of, same_type};
 ghost use Rattle.plan_types.specs.Supertypes.{supertype};
 ghost use Rattle.plan_types.specs.Schemas.{type_at, with_column, is_among, repeats, names_of};
-ghost use Rattle.plan_types.specs.Values.{NullValue, IntValue, in_range, fits, all_fit};
-ghost use Rattle.plan_types.specs.Casts.{Gives, Fails, can_cast, cast, wrapped};
+ghost use Rattle.plan_types.specs.Values.{NullValue, TruthValue, IntValue, in_range, fits, all_fit};
+ghost use Rattle.plan_types.specs.Casts.{Gives, Fails, can_cast, cast, wrapped, number_of, is_nonzero};
 ghost use Rattle.plan_types.specs.Outcomes.{Outcome, Done, Fault, Stuck, Meets, then_do};
 ghost use Rattle.plan_types.specs.Frames.{Frame, IsFrame, value_in, row_at, row_numbers, empty_frame};
 ghost use Rattle.plan_types.specs.Places.{outermost_first};
 ghost use Rattle.plan_types.specs.declared.dtype.CastOptions.TheVariants.{Strict, NonStrict, Overflowing};
-ghost use Rattle.plan_types.specs.declared.dtype.DataType.TheVariants.{Int8, Int16, Int32, Int64, UInt8, UInt16, UInt32, UInt64};
+ghost use Rattle.plan_types.specs.declared.dtype.DataType.TheVariants.{Boolean, Int8, Int16, Int32, Int64, UInt8, UInt16, UInt32, UInt64};
 
-/// An integer type is its sign and its bits.
+/// An integer type is its sign and its bits, and truth values have a type of their own.
 pub fn type_examples()
+    ensures boolean { ty Boolean ≡ Truth }
     ensures int8 { ty Int8 ≡ Integer true 8 }
     ensures int16 { ty Int16 ≡ Integer true 16 }
     ensures int32 { ty Int32 ≡ Integer true 32 }
@@ -23,15 +24,24 @@ pub fn type_examples()
     ensures uint16 { ty UInt16 ≡ Integer false 16 }
     ensures uint32 { ty UInt32 ≡ Integer false 32 }
     ensures uint64 { ty UInt64 ≡ Integer false 64 }
+    ensures signed { map is_signed_integer (map ty (Boolean ∷ Int8 ∷ Int16 ∷ Int32 ∷ Int64 ∷ UInt8 ∷ UInt16 ∷ UInt32 ∷ UInt64 ∷ []))
+        ≡ false ∷ true ∷ true ∷ true ∷ true ∷ false ∷ false ∷ false ∷ false ∷ [] }
+    ensures widths { map width_of (map ty (Boolean ∷ Int8 ∷ Int16 ∷ Int32 ∷ Int64 ∷ UInt8 ∷ UInt16 ∷ UInt32 ∷ UInt64 ∷ []))
+        ≡ 1 ∷ 8 ∷ 16 ∷ 32 ∷ 64 ∷ 8 ∷ 16 ∷ 32 ∷ 64 ∷ [] }
 {}
 
-/// Two types are one where both sign and bits are.
+/// Two integer types are one where both sign and bits are, and that of truth values is none of them.
 pub fn same_type_examples()
     ensures itself { same_type (ty Int8) (ty Int8) ≡ true }
     ensures unsigned_itself { same_type (ty UInt64) (ty UInt64) ≡ true }
     ensures other_width { same_type (ty Int8) (ty Int16) ≡ false }
     ensures other_sign { same_type (ty Int8) (ty UInt8) ≡ false }
     ensures other_sign_first { same_type (ty UInt32) (ty Int32) ≡ false }
+    ensures boolean_itself { same_type (ty Boolean) (ty Boolean) ≡ true }
+    ensures boolean_beside_integers { map (λ type. same_type (ty Boolean) (ty type)) (Int8 ∷ Int16 ∷ Int32 ∷ Int64 ∷ UInt8 ∷ UInt16 ∷ UInt32 ∷ UInt64 ∷ [])
+        ≡ false ∷ false ∷ false ∷ false ∷ false ∷ false ∷ false ∷ false ∷ [] }
+    ensures integers_beside_boolean { map (λ type. same_type (ty type) (ty Boolean)) (Int8 ∷ Int16 ∷ Int32 ∷ Int64 ∷ UInt8 ∷ UInt16 ∷ UInt32 ∷ UInt64 ∷ [])
+        ≡ false ∷ false ∷ false ∷ false ∷ false ∷ false ∷ false ∷ false ∷ [] }
 {}
 
 /// Types of one sign have the wider of the two.
@@ -61,6 +71,19 @@ pub fn common_types_above_both()
     ensures none { supertype (ty UInt64) (ty Int8) ≡ None }
     ensures none_unsigned_right { supertype (ty Int8) (ty UInt64) ≡ None }
     ensures none_of_equal_width { supertype (ty Int64) (ty UInt64) ≡ None }
+{}
+
+/// Truth values have their own type in common, and beside an integer the integer's.
+pub fn common_types_with_truth_values()
+    ensures itself { supertype (ty Boolean) (ty Boolean) ≡ Some (ty Boolean) }
+    ensures signed_right { map (λ type. supertype (ty Boolean) (ty type)) (Int8 ∷ Int16 ∷ Int32 ∷ Int64 ∷ [])
+        ≡ Some (ty Int8) ∷ Some (ty Int16) ∷ Some (ty Int32) ∷ Some (ty Int64) ∷ [] }
+    ensures signed_left { map (λ type. supertype (ty type) (ty Boolean)) (Int8 ∷ Int16 ∷ Int32 ∷ Int64 ∷ [])
+        ≡ Some (ty Int8) ∷ Some (ty Int16) ∷ Some (ty Int32) ∷ Some (ty Int64) ∷ [] }
+    ensures unsigned_right { map (λ type. supertype (ty Boolean) (ty type)) (UInt8 ∷ UInt16 ∷ UInt32 ∷ UInt64 ∷ [])
+        ≡ Some (ty UInt8) ∷ Some (ty UInt16) ∷ Some (ty UInt32) ∷ Some (ty UInt64) ∷ [] }
+    ensures unsigned_left { map (λ type. supertype (ty type) (ty Boolean)) (UInt8 ∷ UInt16 ∷ UInt32 ∷ UInt64 ∷ [])
+        ≡ Some (ty UInt8) ∷ Some (ty UInt16) ∷ Some (ty UInt32) ∷ Some (ty UInt64) ∷ [] }
 {}
 
 /// The numbers on both sides of a signed type's ends.
@@ -100,6 +123,22 @@ pub fn fitting_values()
     ensures first_too_great { all_fit (IntValue (pos 256) ∷ NullValue ∷ []) (ty UInt8) ≡ false }
 {}
 
+/// A truth value fits its own type alone, and no number fits that.
+pub fn fitting_truth_values()
+    ensures own_type { map (λ truth. fits (TruthValue truth) (ty Boolean)) (false ∷ true ∷ []) ≡ true ∷ true ∷ [] }
+    ensures null { fits NullValue (ty Boolean) ≡ true }
+    ensures false_beside_integers { map (λ type. fits (TruthValue false) (ty type)) (Int8 ∷ Int16 ∷ Int32 ∷ Int64 ∷ UInt8 ∷ UInt16 ∷ UInt32 ∷ UInt64 ∷ [])
+        ≡ false ∷ false ∷ false ∷ false ∷ false ∷ false ∷ false ∷ false ∷ [] }
+    ensures true_beside_integers { map (λ type. fits (TruthValue true) (ty type)) (Int8 ∷ Int16 ∷ Int32 ∷ Int64 ∷ UInt8 ∷ UInt16 ∷ UInt32 ∷ UInt64 ∷ [])
+        ≡ false ∷ false ∷ false ∷ false ∷ false ∷ false ∷ false ∷ false ∷ [] }
+    ensures small_numbers { map (λ number. fits (IntValue number) (ty Boolean)) (neg_ℤ (pos 1) ∷ pos 0 ∷ pos 1 ∷ pos 2 ∷ [])
+        ≡ false ∷ false ∷ false ∷ false ∷ [] }
+    ensures no_number { (number : ℤ) → fits (IntValue number) (ty Boolean) ≡ false }
+    ensures all_truths { all_fit (TruthValue true ∷ NullValue ∷ TruthValue false ∷ []) (ty Boolean) ≡ true }
+    ensures number_among_truths { all_fit (TruthValue true ∷ IntValue (pos 1) ∷ []) (ty Boolean) ≡ false }
+    ensures truth_among_numbers { all_fit (IntValue (pos 1) ∷ TruthValue true ∷ []) (ty UInt64) ≡ false }
+{}
+
 /// 200 as an Int8, whose greatest number is 127.
 pub fn casts_out_of_range()
     ensures strict { cast (IntValue (pos 200)) (ty UInt8) (ty Int8) Strict ≡ Fails }
@@ -124,12 +163,56 @@ pub fn casts_that_keep()
     ensures null_of_own_type { cast NullValue (ty Int8) (ty Int8) Strict ≡ Gives NullValue }
 {}
 
-/// There is a cast from each integer type to each.
+/// As a number false is 0 and true is 1, in each type and whatever the cast does with other numbers.
+pub fn casts_of_truth_values_to_integers()
+    ensures numbers { map number_of (false ∷ true ∷ []) ≡ pos 0 ∷ pos 1 ∷ [] }
+    ensures false_strict { map (λ type. cast (TruthValue false) (ty Boolean) (ty type) Strict) (Int8 ∷ Int16 ∷ Int32 ∷ Int64 ∷ [])
+        ≡ Gives (IntValue (pos 0)) ∷ Gives (IntValue (pos 0)) ∷ Gives (IntValue (pos 0)) ∷ Gives (IntValue (pos 0)) ∷ [] }
+    ensures true_strict { map (λ type. cast (TruthValue true) (ty Boolean) (ty type) Strict) (Int8 ∷ Int16 ∷ Int32 ∷ Int64 ∷ [])
+        ≡ Gives (IntValue (pos 1)) ∷ Gives (IntValue (pos 1)) ∷ Gives (IntValue (pos 1)) ∷ Gives (IntValue (pos 1)) ∷ [] }
+    ensures false_strict_unsigned { map (λ type. cast (TruthValue false) (ty Boolean) (ty type) Strict) (UInt8 ∷ UInt16 ∷ UInt32 ∷ UInt64 ∷ [])
+        ≡ Gives (IntValue (pos 0)) ∷ Gives (IntValue (pos 0)) ∷ Gives (IntValue (pos 0)) ∷ Gives (IntValue (pos 0)) ∷ [] }
+    ensures true_strict_unsigned { map (λ type. cast (TruthValue true) (ty Boolean) (ty type) Strict) (UInt8 ∷ UInt16 ∷ UInt32 ∷ UInt64 ∷ [])
+        ≡ Gives (IntValue (pos 1)) ∷ Gives (IntValue (pos 1)) ∷ Gives (IntValue (pos 1)) ∷ Gives (IntValue (pos 1)) ∷ [] }
+    ensures not_strict { map (λ truth. cast (TruthValue truth) (ty Boolean) (ty Int8) NonStrict) (false ∷ true ∷ [])
+        ≡ Gives (IntValue (pos 0)) ∷ Gives (IntValue (pos 1)) ∷ [] }
+    ensures overflowing { map (λ truth. cast (TruthValue truth) (ty Boolean) (ty UInt64) Overflowing) (false ∷ true ∷ [])
+        ≡ Gives (IntValue (pos 0)) ∷ Gives (IntValue (pos 1)) ∷ [] }
+    ensures null { map (cast NullValue (ty Boolean) (ty Int8)) (Strict ∷ NonStrict ∷ Overflowing ∷ [])
+        ≡ Gives NullValue ∷ Gives NullValue ∷ Gives NullValue ∷ [] }
+{}
+
+/// Each number but 0 is true, and a truth value stays as it is.
+pub fn casts_to_truth_values()
+    ensures nonzero { map is_nonzero (pos 0 ∷ pos 1 ∷ neg_ℤ (pos 1) ∷ pos 200 ∷ []) ≡ false ∷ true ∷ true ∷ true ∷ [] }
+    ensures strict { map (λ number. cast (IntValue number) (ty Int64) (ty Boolean) Strict) (pos 0 ∷ pos 1 ∷ neg_ℤ (pos 1) ∷ pos 200 ∷ [])
+        ≡ Gives (TruthValue false) ∷ Gives (TruthValue true) ∷ Gives (TruthValue true) ∷ Gives (TruthValue true) ∷ [] }
+    ensures not_strict { map (λ number. cast (IntValue number) (ty Int64) (ty Boolean) NonStrict) (pos 0 ∷ pos 1 ∷ neg_ℤ (pos 1) ∷ pos 200 ∷ [])
+        ≡ Gives (TruthValue false) ∷ Gives (TruthValue true) ∷ Gives (TruthValue true) ∷ Gives (TruthValue true) ∷ [] }
+    ensures overflowing { map (λ number. cast (IntValue number) (ty Int64) (ty Boolean) Overflowing) (pos 0 ∷ pos 1 ∷ neg_ℤ (pos 1) ∷ pos 200 ∷ [])
+        ≡ Gives (TruthValue false) ∷ Gives (TruthValue true) ∷ Gives (TruthValue true) ∷ Gives (TruthValue true) ∷ [] }
+    ensures unsigned { map (λ number. cast (IntValue number) (ty UInt8) (ty Boolean) Strict) (pos 0 ∷ pos 2 ∷ pos 255 ∷ [])
+        ≡ Gives (TruthValue false) ∷ Gives (TruthValue true) ∷ Gives (TruthValue true) ∷ [] }
+    ensures zero_low_bits { cast (IntValue (pos 256)) (ty Int64) (ty Boolean) Overflowing ≡ Gives (TruthValue true) }
+    ensures false_stays { map (cast (TruthValue false) (ty Boolean) (ty Boolean)) (Strict ∷ NonStrict ∷ Overflowing ∷ [])
+        ≡ Gives (TruthValue false) ∷ Gives (TruthValue false) ∷ Gives (TruthValue false) ∷ [] }
+    ensures true_stays { map (cast (TruthValue true) (ty Boolean) (ty Boolean)) (Strict ∷ NonStrict ∷ Overflowing ∷ [])
+        ≡ Gives (TruthValue true) ∷ Gives (TruthValue true) ∷ Gives (TruthValue true) ∷ [] }
+    ensures null { map (cast NullValue (ty Int64) (ty Boolean)) (Strict ∷ NonStrict ∷ Overflowing ∷ [])
+        ≡ Gives NullValue ∷ Gives NullValue ∷ Gives NullValue ∷ [] }
+    ensures null_of_own_type { map (cast NullValue (ty Boolean) (ty Boolean)) (Strict ∷ NonStrict ∷ Overflowing ∷ [])
+        ≡ Gives NullValue ∷ Gives NullValue ∷ Gives NullValue ∷ [] }
+{}
+
+/// There is a cast from each type to each.
 pub fn cast_pairs()
     ensures own_type { can_cast (ty Int8) (ty Int8) ≡ true }
     ensures narrower { can_cast (ty Int64) (ty Int8) ≡ true }
     ensures other_sign { can_cast (ty UInt64) (ty Int8) ≡ true }
     ensures to_unsigned { can_cast (ty Int8) (ty UInt16) ≡ true }
+    ensures boolean { can_cast (ty Boolean) (ty Boolean) ≡ true }
+    ensures from_boolean { map (λ type. can_cast (ty Boolean) (ty type)) (Int8 ∷ UInt64 ∷ []) ≡ true ∷ true ∷ [] }
+    ensures to_boolean { map (λ type. can_cast (ty type) (ty Boolean)) (Int8 ∷ UInt64 ∷ []) ≡ true ∷ true ∷ [] }
 {}
 
 /// The number of a type with the same low bits.
@@ -237,6 +320,9 @@ pub fn lists_of_rows_that_are_frames()
     ensures rows { let frame : Frame = record { schema = (codes "a", ty Int8) ∷ (codes "b", ty UInt8) ∷ []; rows = (IntValue (pos 127) ∷ NullValue ∷ []) ∷ (NullValue ∷ IntValue (pos 255) ∷ []) ∷ [] } in IsFrame frame }
     ensures repeated_name { let frame : Frame = record { schema = (codes "a", ty Int8) ∷ (codes "a", ty UInt8) ∷ []; rows = [] } in ¬ (IsFrame frame) }
     ensures misfit { let frame : Frame = record { schema = (codes "a", ty Int8) ∷ []; rows = (IntValue (pos 1) ∷ []) ∷ (IntValue (pos 128) ∷ []) ∷ [] } in ¬ (IsFrame frame) }
+    ensures truths { let frame : Frame = record { schema = (codes "t", ty Boolean) ∷ (codes "a", ty Int8) ∷ []; rows = (TruthValue true ∷ IntValue (pos 1) ∷ []) ∷ (NullValue ∷ NullValue ∷ []) ∷ (TruthValue false ∷ NullValue ∷ []) ∷ [] } in IsFrame frame }
+    ensures number_as_truth { let frame : Frame = record { schema = (codes "t", ty Boolean) ∷ []; rows = (IntValue (pos 1) ∷ []) ∷ [] } in ¬ (IsFrame frame) }
+    ensures truth_as_number { let frame : Frame = record { schema = (codes "a", ty Int8) ∷ []; rows = (TruthValue true ∷ []) ∷ [] } in ¬ (IsFrame frame) }
     ensures short_row { let frame : Frame = record { schema = (codes "a", ty Int8) ∷ []; rows = [] ∷ [] } in ¬ (IsFrame frame) }
     ensures long_row { let frame : Frame = record { schema = (codes "a", ty Int8) ∷ []; rows = (NullValue ∷ NullValue ∷ []) ∷ [] } in ¬ (IsFrame frame) }
     ensures rows_without_columns { let frame : Frame = record { schema = []; rows = [] ∷ [] } in ¬ (IsFrame frame) }

@@ -18,6 +18,7 @@ fn hash_of<T: Hash>(value: &T) -> u64 {
 #[test]
 fn types_tell_sign_and_width(rt: HostRuntime) -> Result<(), Fail> {
     for (dtype, signed, width) in [
+        (DataType::Boolean, false, 1),
         (DataType::Int8, true, 8),
         (DataType::Int16, true, 16),
         (DataType::Int32, true, 32),
@@ -34,6 +35,19 @@ fn types_tell_sign_and_width(rt: HostRuntime) -> Result<(), Fail> {
         assert_eq!(rt; hash_of(&copy), hash_of(&dtype));
     }
     assert!(rt; DataType::Int8 != DataType::UInt8);
+    for integer in [
+        DataType::Int8,
+        DataType::Int16,
+        DataType::Int32,
+        DataType::Int64,
+        DataType::UInt8,
+        DataType::UInt16,
+        DataType::UInt32,
+        DataType::UInt64,
+    ] {
+        assert!(rt; integer != DataType::Boolean);
+        assert!(rt; DataType::Boolean != integer);
+    }
     for (options, strict) in [
         (CastOptions::Strict, true),
         (CastOptions::NonStrict, false),
@@ -83,6 +97,19 @@ fn common_types_of_every_pair(rt: HostRuntime) -> Result<(), Fail> {
         (DataType::Int64, DataType::UInt16, Some(DataType::Int64)),
         (DataType::Int64, DataType::UInt32, Some(DataType::Int64)),
         (DataType::Int64, DataType::UInt64, None),
+        (
+            DataType::Boolean,
+            DataType::Boolean,
+            Some(DataType::Boolean),
+        ),
+        (DataType::Boolean, DataType::Int8, Some(DataType::Int8)),
+        (DataType::Boolean, DataType::Int16, Some(DataType::Int16)),
+        (DataType::Boolean, DataType::Int32, Some(DataType::Int32)),
+        (DataType::Boolean, DataType::Int64, Some(DataType::Int64)),
+        (DataType::Boolean, DataType::UInt8, Some(DataType::UInt8)),
+        (DataType::Boolean, DataType::UInt16, Some(DataType::UInt16)),
+        (DataType::Boolean, DataType::UInt32, Some(DataType::UInt32)),
+        (DataType::Boolean, DataType::UInt64, Some(DataType::UInt64)),
     ] {
         let found = get_supertype(rt.alloc(), &left, &right)?;
         assert!(rt; found == want);
