@@ -19,7 +19,7 @@ use Rattle.plan_json.specs.declared.error.JsonError.{JsonError}
 use Rattle.plan_json.specs.declared.error.JsonError.TheVariants as json
 use Rattle.plan_json.proofs.QueryLaws.{writes_one_query, refused_query_is_memory}
 use Rattle.lowerq.specs.Answers.{IsAnswer, IsQueryAnswer, IsPlanAnswer, lowered, refused, planned, bad, usage, read, too_long, read_fault, no_memory, right_words, bad_query_text}
-use Rattle.lowerq.specs.Endings.{IsInput, SaysLowered, SaysRefused, SaysUsage, SaysBadQuery, SaysTooLong, SaysWriteFault, IsFault, IsExcused, Ends, IsRefused, IsBadQuery, UsageCalledFor, TooLongCalledFor, BadQueryCalledFor, RefusalCalledFor, LoweringCalledFor, IsComplete}
+use Rattle.lowerq.specs.Endings.{IsInput, SaysLowered, SaysRefused, SaysUsage, SaysBadQuery, SaysTooLong, SaysWriteFault, IsFault, IsExcused, Ends, IsRefused, IsBadQuery, UsageCalledFor, TooLongCalledFor, BadQueryCalledFor, RefusalCalledFor, LoweringCalledFor, IsComplete, IsOfInput}
 use Rattle.lowerq.specs.declared.status.Done.{Done}
 use Rattle.lowerq.specs.declared.status.Status.{Status}
 use Rattle.lowerq.specs.declared.status.Status.TheVariants as status
@@ -105,6 +105,18 @@ fault_is_silent registry words input done text count (read bytes done' text' rig
 fault_is_silent registry words input done text count (too_long right long) short f = f
 fault_is_silent registry words input done text count (read_fault right) short f = omega (arith, short)
 fault_is_silent registry words input done text count no_memory short f = f
+
+-- the answer to an input is no other end
+plan_of_input : (registry : Registry) (plan : Plan) (done : Done) (text : List ℕ) → IsPlanAnswer registry plan done text → IsOfInput done.status
+plan_of_input registry plan done text (lowered lowering tree is) = tt
+plan_of_input registry plan done text (refused error refusal other) = tt
+
+query_of_input : (registry : Registry) (bytes : List ℕ) (done : Done) (text : List ℕ) → IsQueryAnswer registry bytes done text → IsOfInput done.status
+query_of_input registry bytes done text (planned query done' text' writes answers) = plan_of_input registry query.plan done' text' answers
+query_of_input registry bytes done text (bad error text' refusal told) = tt
+
+pub query_not_too_long : (registry : Registry) (bytes : List ℕ) (done : Done) (text : List ℕ) → IsQueryAnswer registry bytes done text → ¬ (done.status ≡ status.TooLong)
+query_not_too_long registry bytes done text answers e = subst IsOfInput e (query_of_input registry bytes done text answers)
 
 -- ---- the answer that is called for
 

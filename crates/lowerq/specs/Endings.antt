@@ -1,7 +1,8 @@
 -- What the status of a run says of the words, the input, the plan and the bytes written; and which status
 -- words and an input call for, where memory doesn't run out and no read or write fails.
-use Rattle.std.specs.Prelude.{◌≡◌, ◌⊎◌, ℕ, ◌<◌, ◌≤◌, List, [], length, take, Option, Some, None, IfSome}
+use Rattle.std.specs.Prelude.{◌≡◌, ◌⊎◌, ℕ, ◌+◌, ◌<◌, ◌≤◌, List, [], length, take, Option, Some, None, IfSome}
 use Rattle.std.specs.Io.KnownBytes.{Appends}
+use Rattle.byte_streams.specs.Reading.{Took}
 use Rattle.byte_streams.specs.declared.stream.TheConstants.{INPUT_LIMIT}
 use Rattle.plan_types.specs.Schemas.{Name}
 use Rattle.plan_types.specs.declared.error.ErrorKind.TheVariants as kinds
@@ -91,6 +92,21 @@ pub record SaysWriteFault (registry : Registry) (words : List Name) (input befor
   pub count : ℕ
   pub short : count < length text
   pub written : Appends before after (take count text)
+
+-- the status is that of an input that was read
+abbrev pub IsOfInput : Status → Type 0
+IsOfInput status.Lowered = Unit {0}
+IsOfInput (status.Refused error) = Unit {0}
+IsOfInput (status.BadQuery error) = Unit {0}
+IsOfInput status.Usage = ⊥
+IsOfInput status.ReadFault = ⊥
+IsOfInput status.WriteFault = ⊥
+IsOfInput status.NoMemory = ⊥
+IsOfInput status.TooLong = ⊥
+
+-- the bytes taken from a source are one more than the limit
+abbrev pub TookTooMany : Option (List ℕ) → Option (List ℕ) → Type 0
+TookTooMany before after = Took before after (λ taken. length taken ≡ INPUT_LIMIT + 1)
 
 -- ---- which status is called for
 

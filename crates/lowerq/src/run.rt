@@ -1,10 +1,10 @@
 //! The top call.
 ghost use Rattle.std.specs.Prelude.{◌≡◌, ◌⊎◌, ℕ, ◌≤◌, [], None};
-ghost use Rattle.std.specs.Io.KnownBytes.{Appends};
+ghost use Rattle.std.specs.Io.KnownBytes.{Appends, IsAtEnd};
 ghost use Rattle.plan_dsl.specs.Registry.{registry};
 ghost use Rattle.byte_streams.specs.Streams.{Rose};
-ghost use Rattle.lowerq.specs.Answers.{Ended};
-ghost use Rattle.lowerq.specs.Endings.{SaysLowered, SaysRefused, SaysUsage, SaysBadQuery, SaysTooLong, SaysWriteFault, UsageCalledFor, TooLongCalledFor, BadQueryCalledFor, RefusalCalledFor, LoweringCalledFor, IsComplete};
+ghost use Rattle.lowerq.specs.Answers.{Ended, right_words};
+ghost use Rattle.lowerq.specs.Endings.{SaysLowered, SaysRefused, SaysUsage, SaysBadQuery, SaysTooLong, SaysWriteFault, UsageCalledFor, TooLongCalledFor, BadQueryCalledFor, RefusalCalledFor, LoweringCalledFor, IsComplete, IsOfInput, TookTooMany};
 
 use crate::answer::{Answer, answer_to};
 use crate::status::{Done, Status};
@@ -39,6 +39,9 @@ pub fn run<S: Source, K: Sink>(
     ensures write_fault { result.status ≡ Status.WriteFault → Rose (K.faults sink.old) (K.faults sink.new) }
     ensures cut { result.status ≡ Status.WriteFault → SaysWriteFault (registry udfs.now) words.now (S.left source.old) (K.written sink.old) (K.written sink.new) }
     ensures nothing_written { (result.status ≡ Status.ReadFault) ⊎ (result.status ≡ Status.NoMemory) → Appends (K.written sink.old) (K.written sink.new) [] }
+    ensures end { IsOfInput result.status → IsAtEnd (S.left source.new) }
+    ensures past { result.status ≡ Status.TooLong → TookTooMany (S.left source.old) (S.left source.new) }
+    ensures untouched { (¬ (words.now ≡ right_words)) → source.new ≡ source.old }
     ensures no_plan { (¬ (result.status ≡ Status.Lowered)) → result.plan ≡ None }
 
     // Which status is called for, where memory doesn't run out and no read or write fails.

@@ -3,6 +3,7 @@ use Rattle.plan_dsl.specs.Registry.{registry}
 use Rattle.lowerq.specs.Answers.{IsAnswer, IsQueryAnswer, usage, read, too_long, read_fault}
 use Rattle.lowerq.specs.declared.status.Status.TheVariants.{Usage, TooLong, ReadFault}
 use Rattle.lowerq.proofs.AnswerLemmas.{of_answer, denied}
+use Rattle.lowerq.proofs.EndingLemmas.{query_not_too_long}
 use Rattle.lowerq.proofs.answer.answer_words.Goals as goal
 
 pub returns-then-not-asks_lower-clause-answers : goal.returns-then-not-asks_lower-clause-answers
@@ -22,3 +23,7 @@ pub returns-in_ok-text-in-TooLong-clause-answers :
     goal.returns-in_ok-text-in-TooLong-clause-answers
 returns-in_ok-text-in-TooLong-clause-answers g c =
     of_answer (IsAnswer (registry c.args.udfs.now) c.args.words.now (g.S.Source.left c.args.source.now)) c.new-in-TooLong.result TooLong c.in_ok-text-in-TooLong.text _ c.new-in-TooLong.ensures c.in_ok-text-in-TooLong.ensures.ok (too_long (c.if-not-asks_lower.ensures.0 refl) (c.in-TooLong.ensures.too_long refl))
+
+pub returns-in_ok-answer-in-Bytes-clause-past : goal.returns-in_ok-answer-in-Bytes-clause-past
+returns-in_ok-answer-in-Bytes-clause-past g c e =
+    absurd (query_not_too_long (registry c.args.udfs.now) c.as_slice.result.now c.in_ok-answer-in-Bytes.answer.done (string_bytes c.in_ok-answer-in-Bytes.answer.text) c.in_ok-answer-in-Bytes.ensures e)
