@@ -2,7 +2,7 @@ use crate::expr::Expr;
 use crate::operator::Operator;
 use crate::plan::{DslPlan, Exprs, ProjectionOptions};
 use crate::udfs::Udfs;
-use plan_types::dtype::DataType;
+use plan_types::dtype::{CastOptions, DataType};
 use plan_types::error::PlanError;
 use plan_types::schema::Schema;
 use plan_types::text::PlSmallStr;
@@ -21,13 +21,30 @@ fn column(alloc: Global, name: &str) -> Result<Expr, PlanError> {
     Ok(Expr::Column(PlSmallStr::new(alloc, name)?))
 }
 
-fn sum(alloc: Global, left: &str, right: &str) -> Result<Expr, PlanError> {
+fn binary(alloc: Global, left: &str, op: Operator, right: &str) -> Result<Expr, PlanError> {
     let left = column(alloc, left)?;
     let right = column(alloc, right)?;
     Ok(Expr::BinaryExpr {
         left: Box::new(alloc, left)?,
-        op: Operator::Plus,
+        op,
         right: Box::new(alloc, right)?,
+    })
+}
+
+fn sum(alloc: Global, left: &str, right: &str) -> Result<Expr, PlanError> {
+    binary(alloc, left, Operator::Plus, right)
+}
+
+fn cast(
+    alloc: Global,
+    expr: Expr,
+    dtype: DataType,
+    options: CastOptions,
+) -> Result<Expr, PlanError> {
+    Ok(Expr::Cast {
+        expr: Box::new(alloc, expr)?,
+        dtype,
+        options,
     })
 }
 
@@ -74,18 +91,39 @@ fn assert_is_scan(rt: &impl Abort, plan: &DslPlan) {
 
 #[test]
 fn operators_are_written_as_signs(rt: HostRuntime) -> Result<(), Fail> {
-    let text = format!(in rt.alloc(); "{}", Operator::Plus)?;
-    assert_eq!(rt; text.as_str(), "+");
+    for (operator, sign) in [
+        (Operator::Eq, "=="),
+        (Operator::NotEq, "!="),
+        (Operator::Lt, "<"),
+        (Operator::LtEq, "<="),
+        (Operator::Gt, ">"),
+        (Operator::GtEq, ">="),
+        (Operator::Plus, "+"),
+    ] {
+        let text = format!(in rt.alloc(); "{}", operator)?;
+        assert_eq!(rt; text.as_str(), sign);
+    }
     Ok(())
 }
 
 #[test]
 fn copies_of_expressions_are_equal(rt: HostRuntime) -> Result<(), Fail> {
+    let alloc = rt.alloc();
+    let first = column(alloc, "first")?;
+    let same = column(alloc, "first")?;
+    let other = column(alloc, "first")?;
+    let less = binary(alloc, "first", Operator::Lt, "second")?;
     let expressions = [
-        column(rt.alloc(), "first")?,
-        column(rt.alloc(), "second")?,
-        sum(rt.alloc(), "first", "second")?,
-        sum(rt.alloc(), "second", "first")?,
+        column(alloc, "first")?,
+        column(alloc, "second")?,
+        sum(alloc, "first", "second")?,
+        sum(alloc, "second", "first")?,
+        binary(alloc, "first", Operator::Lt, "second")?,
+        binary(alloc, "first", Operator::LtEq, "second")?,
+        cast(alloc, first, DataType::Int8, CastOptions::Strict)?,
+        cast(alloc, same, DataType::Int8, CastOptions::NonStrict)?,
+        cast(alloc, other, DataType::Boolean, CastOptions::Strict)?,
+        cast(alloc, less, DataType::Int8, CastOptions::Strict)?,
     ];
     for (number, expression) in expressions.iter().enumerate() {
         let copy = expression.try_clone(rt.alloc())?;

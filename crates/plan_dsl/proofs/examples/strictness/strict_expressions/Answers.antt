@@ -1,12 +1,12 @@
 use Rattle.std.proofs.Common.{List, [], ◌∷◌, ℕ, codes, true, false, refl}
-use Rattle.plan_types.specs.Types.{Ty, Integer}
+use Rattle.plan_types.specs.Types.{Ty, Truth, Integer}
 use Rattle.plan_types.specs.Schemas.{Columns}
 use Rattle.plan_types.specs.declared.dtype.CastOptions.TheVariants.{NonStrict}
 use Rattle.plan_dsl.specs.Trees.{node, no_more, more}
 use Rattle.plan_dsl.specs.Ops.{ColumnOp, CastOp, Expression}
 use Rattle.plan_dsl.specs.Typing.{Typed, Taken}
 use Rattle.plan_dsl.specs.Strictness.{IsStrict}
-use Rattle.plan_dsl.proofs.examples.strict_expressions.Goals as goal
+use Rattle.plan_dsl.proofs.examples.strictness.strict_expressions.Goals as goal
 
 abbrev schema : Columns
 schema = (codes "a", Integer true 8) ∷ (codes "b", Integer true 32) ∷ (codes "u", Integer false 64) ∷ []
@@ -41,3 +41,8 @@ pub returns-clause-sum_with_its_cast : goal.returns-clause-sum_with_its_cast
 returns-clause-sum_with_its_cast c =
     let type = Integer true 32 in
     (record { typed = of_type type ∷ of_type type ∷ []; types = refl; strict = record { taken = taken_as (type ∷ type ∷ []) type; takes = refl; kept = refl } }, (cast_strict, (b_strict, tt)))
+
+pub returns-clause-comparison_with_its_cast : goal.returns-clause-comparison_with_its_cast
+returns-clause-comparison_with_its_cast c =
+    let type = Integer true 32 in
+    (record { typed = of_type type ∷ of_type type ∷ []; types = refl; strict = record { taken = taken_as (type ∷ type ∷ []) Truth; takes = refl; kept = refl } }, (cast_strict, (b_strict, tt)))
