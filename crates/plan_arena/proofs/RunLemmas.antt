@@ -55,8 +55,7 @@ module _ (registry : Registry) where
     all_run_soundly tables no_more accepted strict fits = (tt, tt, λ o e. cc)
     all_run_soundly tables (more (node op inputs) rest) accepted strict fits =
         let head = runs_soundly tables (node op inputs) accepted.0 strict.0 fits.0 in
-        let tail = all_run_soundly tables rest accepted.1 strict.1 fits.1 in
-        (
+        let tail = all_run_soundly tables rest accepted.1 strict.1 fits.1 in (
           (head, tail.0),
           subst (λ s. AllMeet (s ∷ schemas_of registry rest) (plan_run registry tables (node op inputs) ∷ fold_all (plan_kernel tables (by_running registry)) rest)) (sym accepted.0.0) (head.0, tail.1),
           λ o e. subst (Meets (IsFrameOf op.schema)) (first_is (plan_run registry tables (node op inputs)) o (fold_all (plan_kernel tables (by_running registry)) rest) [] e) head.0,

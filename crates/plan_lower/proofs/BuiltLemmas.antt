@@ -113,7 +113,7 @@ module _ (registry : Registry) where
       let schema = top_schema lowered in
       let there = source_schema source lowered built outputs each distinct in
       let here = ap (λ s. plan_rule registry (select_op (map lowered_named outputs) (map lowered_column outputs)) (s ∷ [])) (accepted_schema lowered built.accepted)
-          ∙ select_schema registry schema output_name (λ (o : Lowered). o.after) output_typed (map lowered_column outputs) outputs (each_after_typed schema outputs each) distinct in
+      ∙ select_schema registry schema output_name (λ (o : Lowered). o.after) output_typed (map lowered_column outputs) outputs (each_after_typed schema outputs each) distinct in
       record {
         well_formed = (ap is_some there, (built.well_formed, tt));
         schema = there;

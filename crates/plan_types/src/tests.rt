@@ -59,7 +59,7 @@ fn types_tell_sign_and_width(rt: HostRuntime) -> Result<(), Fail> {
 }
 
 #[test]
-fn common_types_of_every_pair(rt: HostRuntime) -> Result<(), Fail> {
+fn common_types_of_integers(rt: HostRuntime) -> Result<(), Fail> {
     for (left, right, want) in [
         (DataType::Int8, DataType::Int8, Some(DataType::Int8)),
         (DataType::Int8, DataType::Int16, Some(DataType::Int16)),
@@ -97,6 +97,18 @@ fn common_types_of_every_pair(rt: HostRuntime) -> Result<(), Fail> {
         (DataType::Int64, DataType::UInt16, Some(DataType::Int64)),
         (DataType::Int64, DataType::UInt32, Some(DataType::Int64)),
         (DataType::Int64, DataType::UInt64, None),
+    ] {
+        let found = get_supertype(rt.alloc(), &left, &right)?;
+        assert!(rt; found == want);
+        let swapped = get_supertype(rt.alloc(), &right, &left)?;
+        assert!(rt; swapped == want);
+    }
+    Ok(())
+}
+
+#[test]
+fn common_types_of_truth_values(rt: HostRuntime) -> Result<(), Fail> {
+    for (left, right, want) in [
         (
             DataType::Boolean,
             DataType::Boolean,
@@ -116,6 +128,11 @@ fn common_types_of_every_pair(rt: HostRuntime) -> Result<(), Fail> {
         let swapped = get_supertype(rt.alloc(), &right, &left)?;
         assert!(rt; swapped == want);
     }
+    Ok(())
+}
+
+#[test]
+fn types_without_a_common_one_are_refused(rt: HostRuntime) -> Result<(), Fail> {
     let found = try_get_supertype(rt.alloc(), &DataType::UInt32, &DataType::Int32)?;
     assert!(rt; found == DataType::Int64);
     match try_get_supertype(rt.alloc(), &DataType::UInt64, &DataType::Int8) {
