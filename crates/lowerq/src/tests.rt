@@ -3,6 +3,7 @@
 mod bad_queries;
 mod faults;
 mod names;
+mod types;
 
 use crate::run::run;
 use crate::status::{Done, Status};
