@@ -1,8 +1,9 @@
 //! The top call.
-ghost use Rattle.std.specs.Prelude.{◌≡◌, ◌⊎◌, ℕ, ◌≤◌, [], None};
+ghost use Rattle.std.specs.Prelude.{◌≡◌, ◌⊎◌, ℕ, ◌≤◌, ◌^◌, [], None};
 ghost use Rattle.std.specs.Io.KnownBytes.{Appends, IsAtEnd};
 ghost use Rattle.plan_dsl.specs.Registry.{registry};
 ghost use Rattle.byte_streams.specs.Streams.{Rose};
+ghost use Rattle.byte_streams.specs.declared.stream.TheConstants.{INPUT_LIMIT};
 ghost use Rattle.lowerq.specs.Answers.{Ended, right_words};
 ghost use Rattle.lowerq.specs.Endings.{SaysLowered, SaysRefused, SaysUsage, SaysBadQuery, SaysTooLong, SaysWriteFault, UsageCalledFor, TooLongCalledFor, BadQueryCalledFor, RefusalCalledFor, LoweringCalledFor, IsComplete, IsOfInput, TookTooMany};
 
@@ -53,7 +54,8 @@ pub fn run<S: Source, K: Sink>(
     ensures complete { (¬ (Rose (S.faults source.old) (S.faults source.new))) → (¬ (Rose (K.faults sink.old) (K.faults sink.new)))
         → IsComplete (registry udfs.now) words.now (S.left source.old) result.status }
 
-    // Counts of faults never fall.
+    // The limit of an input, and that counts of faults never fall.
+    ensures limit { INPUT_LIMIT ≡ 2 ^ 24 }
     ensures source_later { S.faults source.old ≤ S.faults source.new }
     ensures sink_later { K.faults sink.old ≤ K.faults sink.new }
 {

@@ -106,29 +106,45 @@ fn operators_are_written_as_signs(rt: HostRuntime) -> Result<(), Fail> {
     Ok(())
 }
 
+// Expressions of which no two are equal.
+fn expressions(alloc: Global) -> Result<Vec<Expr>, Fail> {
+    let mut expressions = Vec::new(alloc);
+    for name in ["first", "second"] {
+        expressions.push(column(alloc, name)?)?;
+    }
+    for (left, operator, right) in [
+        ("first", Operator::Plus, "second"),
+        ("second", Operator::Plus, "first"),
+        ("first", Operator::Lt, "second"),
+        ("first", Operator::LtEq, "second"),
+    ] {
+        expressions.push(binary(alloc, left, operator, right)?)?;
+    }
+    push_casts(alloc, &mut expressions)?;
+    Ok(expressions)
+}
+
+fn push_casts(alloc: Global, expressions: &mut Vec<Expr>) -> Result<(), Fail> {
+    for (name, options) in [
+        ("first", CastOptions::Strict),
+        ("first", CastOptions::NonStrict),
+        ("second", CastOptions::Strict),
+    ] {
+        let input = column(alloc, name)?;
+        expressions.push(cast(alloc, input, DataType::Int8, options)?)?;
+    }
+    let input = binary(alloc, "first", Operator::Lt, "second")?;
+    expressions.push(cast(alloc, input, DataType::Boolean, CastOptions::Strict)?)?;
+    Ok(())
+}
+
 #[test]
 fn copies_of_expressions_are_equal(rt: HostRuntime) -> Result<(), Fail> {
-    let alloc = rt.alloc();
-    let first = column(alloc, "first")?;
-    let same = column(alloc, "first")?;
-    let other = column(alloc, "first")?;
-    let less = binary(alloc, "first", Operator::Lt, "second")?;
-    let expressions = [
-        column(alloc, "first")?,
-        column(alloc, "second")?,
-        sum(alloc, "first", "second")?,
-        sum(alloc, "second", "first")?,
-        binary(alloc, "first", Operator::Lt, "second")?,
-        binary(alloc, "first", Operator::LtEq, "second")?,
-        cast(alloc, first, DataType::Int8, CastOptions::Strict)?,
-        cast(alloc, same, DataType::Int8, CastOptions::NonStrict)?,
-        cast(alloc, other, DataType::Boolean, CastOptions::Strict)?,
-        cast(alloc, less, DataType::Int8, CastOptions::Strict)?,
-    ];
-    for (number, expression) in expressions.iter().enumerate() {
+    let expressions = expressions(rt.alloc())?;
+    for (number, expression) in expressions.as_slice().iter().enumerate() {
         let copy = expression.try_clone(rt.alloc())?;
         assert_eq!(rt; hash_of(&copy), hash_of(expression));
-        for (other_number, other) in expressions.iter().enumerate() {
+        for (other_number, other) in expressions.as_slice().iter().enumerate() {
             assert_eq!(rt; copy == *other, number == other_number);
         }
     }

@@ -87,6 +87,7 @@ fn item<T>(arena: &Arena<T>, node: Node) -> Result<&T, Fail> {
 
 fn type_name(dtype: &DataType) -> &'static str {
     match dtype {
+        DataType::Boolean => "Boolean",
         DataType::Int8 => "Int8",
         DataType::Int16 => "Int16",
         DataType::Int32 => "Int32",
