@@ -214,25 +214,39 @@ fn reads_expressions(rt: HostRuntime) -> Result<(), Fail> {
     Ok(())
 }
 
+// The answer to a select of one operator of that name.
+fn operator_answer(alloc: Global, name: &str) -> Result<String, Fail> {
+    let mut text = String::from_str(alloc, "{\"bin\":[\"")?;
+    text.push_str(name)?;
+    text.push_str("\",{\"col\":\"a\"},{\"col\":\"b\"}]}")?;
+    let found = expression_answer(alloc, text.as_str())?;
+    Ok(found)
+}
+
 #[test]
-fn reads_each_name(rt: HostRuntime) -> Result<(), Fail> {
-    let alloc = rt.alloc();
-    for (operator, want) in [
-        ("Eq", "query"),
-        ("NotEq", "query"),
-        ("Lt", "query"),
-        ("LtEq", "query"),
-        ("Gt", "query"),
-        ("GtEq", "query"),
-        ("Plus", "query"),
-        ("<", "Shape /plan/select/1/0/bin/0"),
-    ] {
-        let text = format!(in alloc;
-            "{{\"bin\":[\"{operator}\",{{\"col\":\"a\"}},{{\"col\":\"b\"}}]}}"
-        )?;
-        let found = expression_answer(alloc, text.as_str())?;
-        assert!(rt; found.as_str() == want, "{found} in place of {want}");
+fn reads_each_operator(rt: HostRuntime) -> Result<(), Fail> {
+    for name in ["Eq", "NotEq", "Lt", "LtEq", "Gt", "GtEq", "Plus"] {
+        let found = operator_answer(rt.alloc(), name)?;
+        assert!(rt; found.as_str() == "query");
     }
+    let found = operator_answer(rt.alloc(), "<")?;
+    assert!(rt; found.as_str() == "Shape /plan/select/1/0/bin/0");
+    Ok(())
+}
+
+// The answer to a select of one cast to that type in that mode.
+fn cast_answer(alloc: Global, dtype: &str, mode: &str) -> Result<String, Fail> {
+    let mut text = String::from_str(alloc, "{\"cast\":[{\"col\":\"a\"},\"")?;
+    text.push_str(dtype)?;
+    text.push_str("\",\"")?;
+    text.push_str(mode)?;
+    text.push_str("\"]}")?;
+    let found = expression_answer(alloc, text.as_str())?;
+    Ok(found)
+}
+
+#[test]
+fn reads_each_mode(rt: HostRuntime) -> Result<(), Fail> {
     for (dtype, mode, want) in [
         ("Boolean", "Strict", "query"),
         ("Int8", "NonStrict", "query"),
@@ -240,9 +254,8 @@ fn reads_each_name(rt: HostRuntime) -> Result<(), Fail> {
         ("Bool", "Strict", "Shape /plan/select/1/0/cast/1"),
         ("Boolean", "strict", "Shape /plan/select/1/0/cast/2"),
     ] {
-        let text = format!(in alloc; "{{\"cast\":[{{\"col\":\"a\"}},\"{dtype}\",\"{mode}\"]}}")?;
-        let found = expression_answer(alloc, text.as_str())?;
-        assert!(rt; found.as_str() == want, "{found} in place of {want}");
+        let found = cast_answer(rt.alloc(), dtype, mode)?;
+        assert!(rt; found.as_str() == want);
     }
     Ok(())
 }
