@@ -152,6 +152,9 @@ fn is_memory(error: &PlanError) -> bool
 {
     match error.kind {
         ErrorKind::NoMemory => true,
-        ErrorKind::ColumnNotFound | ErrorKind::Duplicate | ErrorKind::SchemaMismatch => false,
+        ErrorKind::ColumnNotFound
+        | ErrorKind::Duplicate
+        | ErrorKind::SchemaMismatch
+        | ErrorKind::InvalidOperation => false,
     }
 }

@@ -6,7 +6,7 @@ use Rattle.serde_json.specs.Written.{compact_text}
 use Rattle.plan_types.specs.Types.{Ty, Truth, Integer}
 use Rattle.plan_types.specs.Schemas.{Name, Columns}
 use Rattle.plan_types.specs.declared.error.ErrorKind.{ErrorKind}
-use Rattle.plan_types.specs.declared.error.ErrorKind.TheVariants.{ColumnNotFound, Duplicate, SchemaMismatch, NoMemory}
+use Rattle.plan_types.specs.declared.error.ErrorKind.TheVariants.{ColumnNotFound, Duplicate, SchemaMismatch, InvalidOperation, NoMemory}
 use Rattle.plan_dsl.specs.Plans.{PlanKind, ScanKind, SelectKind}
 
 -- a name as JSON, with its quotes and escapes
@@ -40,4 +40,5 @@ abbrev pub error_kind_text : ErrorKind → List ℕ
 error_kind_text ColumnNotFound = codes "ColumnNotFound"
 error_kind_text Duplicate = codes "Duplicate"
 error_kind_text SchemaMismatch = codes "SchemaMismatch"
+error_kind_text InvalidOperation = codes "InvalidOperation"
 error_kind_text NoMemory = codes "NoMemory"

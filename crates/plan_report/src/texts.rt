@@ -21,6 +21,7 @@ pub(crate) fn kind_name(kind: ErrorKind) -> &'static str
         ErrorKind::ColumnNotFound => "ColumnNotFound",
         ErrorKind::Duplicate => "Duplicate",
         ErrorKind::SchemaMismatch => "SchemaMismatch",
+        ErrorKind::InvalidOperation => "InvalidOperation",
         ErrorKind::NoMemory => "NoMemory",
     }
 }

@@ -14,6 +14,8 @@ pub enum ErrorKind {
     Duplicate,
     /// A place that needs a common type has none.
     SchemaMismatch,
+    /// A rule of types that names this kind is broken.
+    InvalidOperation,
     /// Memory ran out. It may stand in place of any other answer.
     NoMemory,
 }

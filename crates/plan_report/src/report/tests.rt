@@ -174,6 +174,7 @@ fn reports_refusals(rt: HostRuntime) -> Result<(), Fail> {
         (ErrorKind::ColumnNotFound, "refused ColumnNotFound .\n"),
         (ErrorKind::Duplicate, "refused Duplicate .\n"),
         (ErrorKind::SchemaMismatch, "refused SchemaMismatch .\n"),
+        (ErrorKind::InvalidOperation, "refused InvalidOperation .\n"),
         (ErrorKind::NoMemory, "refused NoMemory .\n"),
     ] {
         let error = PlanError::at_top(kind);
