@@ -1,3 +1,4 @@
+pub mod CommonLemmas
 pub mod ListLemmas
 pub mod NameLemmas
 pub mod ResultLemmas

@@ -1,9 +1,11 @@
 -- Common types: of a type with itself, in either order, and that they hold both.
-use Rattle.std.proofs.Common.{◌≡◌, ◌⊎◌, inl, inr, ℕ, ◌-◌, ◌*◌, ◌^◌, ◌≤◌, ℤ, pos, neg_ℤ, ◌≤ℤ◌, true, false, not, ◌&&◌, cond, int_lt, nat_lt, max, Some, None, refl, ap, subst, arith}
+use Rattle.std.proofs.Common.{◌≡◌, ◌⊎◌, inl, inr, ℕ, ◌-◌, ◌*◌, ◌^◌, ◌≤◌, ℤ, pos, neg_ℤ, ◌≤ℤ◌, true, false, not, ◌&&◌, cond, int_lt, nat_lt, max, Some, None, refl, sym, ap, ◌∙◌, subst, arith}
 use Rattle.std.proofs.lemmas.Int.{ints}
 use Rattle.std.proofs.lemmas.Bool.{ltb-true, ltb-false}
+use Rattle.std.proofs.lemmas.Bool.Decides.{Decides-int_eq}
+use Rattle.std.specs.Ordering.{int_eq}
 use Rattle.std.proofs.Math.Nat.{pow-le-pow_right}
-use Rattle.plan_types.specs.Types.{Ty, Truth, Integer}
+use Rattle.plan_types.specs.Types.{Ty, Truth, Integer, Untyped}
 use Rattle.plan_types.specs.Values.{in_range}
 use Rattle.plan_types.specs.Supertypes.{supertype, signed_above}
 
@@ -18,12 +20,33 @@ pub supertype_itself : (type : Ty) → supertype type type ≡ Some type
 supertype_itself Truth = refl
 supertype_itself (Integer true bits) = ap (λ n. Some (Integer true n)) (max_itself bits)
 supertype_itself (Integer false bits) = ap (λ n. Some (Integer false n)) (max_itself bits)
+supertype_itself (Untyped number) = ap (λ b. cond b (Some (Untyped number)) None) ((Decides-int_eq number number).1 refl)
+
+-- two numbers without a type have one where they are the same
+untyped_same : (m n : ℤ) (c : Ty) → cond (int_eq m n) (Some (Untyped m)) None ≡ Some c → (m ≡ n) × (Untyped m ≡ c)
+untyped_same m n c h =
+    elim (int_eq m n) as (λ b. int_eq m n ≡ b → cond b (Some (Untyped m)) None ≡ Some c → (m ≡ n) × (Untyped m ≡ c)) [ true ↦ λ e h. ((Decides-int_eq m n).0 e, cc) | false ↦ λ e h. cc ] refl h
+
+untyped_symmetric : (m n : ℤ) → supertype (Untyped m) (Untyped n) ≡ supertype (Untyped n) (Untyped m)
+untyped_symmetric m n =
+    elim (int_eq m n) as (λ b. int_eq m n ≡ b → cond b (Some (Untyped m)) None ≡ cond (int_eq n m) (Some (Untyped n)) None) [
+      | true ↦ λ e. let same = (Decides-int_eq m n).0 e in subst (λ k. Some (Untyped m) ≡ cond (int_eq k m) (Some (Untyped k)) None) same (ap (λ b. cond b (Some (Untyped m)) None) (sym ((Decides-int_eq m m).1 refl)))
+      | false ↦ λ e. elim (int_eq n m) as (λ b. int_eq n m ≡ b → None ≡ cond b (Some (Untyped n)) None) [
+          | true ↦ λ f. let back = (Decides-int_eq m n).1 (sym ((Decides-int_eq n m).0 f)) in cc
+          | false ↦ λ f. refl
+        ] refl
+    ] refl
 
 -- the order of the two doesn't matter
 pub supertype_symmetric : (a b : Ty) → supertype a b ≡ supertype b a
 supertype_symmetric Truth Truth = refl
 supertype_symmetric Truth (Integer s n) = refl
+supertype_symmetric Truth (Untyped n) = refl
 supertype_symmetric (Integer s m) Truth = refl
+supertype_symmetric (Integer s m) (Untyped n) = refl
+supertype_symmetric (Untyped m) Truth = refl
+supertype_symmetric (Untyped m) (Integer s n) = refl
+supertype_symmetric (Untyped m) (Untyped n) = untyped_symmetric m n
 supertype_symmetric (Integer true m) (Integer true n) = ap (λ k. Some (Integer true k)) (max_turned m n)
 supertype_symmetric (Integer false m) (Integer false n) = ap (λ k. Some (Integer false k)) (max_turned m n)
 supertype_symmetric (Integer true m) (Integer false n) = refl
@@ -91,6 +114,13 @@ no_number number h = grind (arith, ints)
 pub supertype_holds : (a b c : Ty) (number : ℤ) → supertype a b ≡ Some c → (in_range a number ≡ true) ⊎ (in_range b number ≡ true) → in_range c number ≡ true
 supertype_holds Truth Truth c number e h = elim h [ inl x ↦ absurd (no_number number x) | inr y ↦ absurd (no_number number y) ]
 supertype_holds Truth (Integer s n) c number e h = elim h [ inl x ↦ absurd (no_number number x) | inr y ↦ subst (λ type. in_range type number ≡ true) (some_same _ _ e) y ]
+supertype_holds Truth (Untyped n) c number e h = cc
+supertype_holds (Integer s m) (Untyped n) c number e h = cc
+supertype_holds (Untyped m) Truth c number e h = cc
+supertype_holds (Untyped m) (Integer s n) c number e h = cc
+supertype_holds (Untyped m) (Untyped n) c number e h =
+    let is = untyped_same m n c e in
+    elim h [ inl x ↦ subst (λ type. in_range type number ≡ true) is.1 x | inr y ↦ subst (λ type. in_range type number ≡ true) (ap Untyped (sym is.0) ∙ is.1) y ]
 supertype_holds (Integer s m) Truth c number e h = elim h [ inl x ↦ subst (λ type. in_range type number ≡ true) (some_same _ _ e) x | inr y ↦ absurd (no_number number y) ]
 supertype_holds (Integer true m) (Integer true n) c number e h =
     subst (λ type. in_range type number ≡ true) (some_same _ _ e)

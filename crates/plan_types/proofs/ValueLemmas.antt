@@ -6,7 +6,7 @@ use Rattle.std.proofs.Math.Nat.{mod-lt, pow-suc}
 use Rattle.std.proofs.lemmas.Nat.{pow_pos}
 use Rattle.std.proofs.lemmas.Int.{ints}
 use Rattle.std.proofs.lemmas.Bool.{ltb-true, ltb-false, and_from}
-use Rattle.plan_types.specs.Types.{Ty, Truth, Integer, same_type}
+use Rattle.plan_types.specs.Types.{Ty, Truth, Integer, Untyped, same_type}
 use Rattle.plan_types.specs.TypeLaws.{same_type_exact}
 use Rattle.plan_types.specs.Values.{Val, NullValue, TruthValue, IntValue, in_range, fits, all_fit}
 use Rattle.plan_types.specs.Schemas.{Name, Columns, same_name, type_at}
@@ -14,7 +14,7 @@ use Rattle.plan_types.specs.Frames.{Row, Frame, RowFits, IsFrame, value_in, row_
 use Rattle.plan_types.specs.declared.dtype.CastOptions.{CastOptions}
 use Rattle.plan_types.specs.declared.dtype.CastOptions.TheVariants.{Strict, NonStrict, Overflowing}
 use Rattle.plan_types.specs.Outcomes.{Outcome, Done, Fault, Stuck, Meets, then_do}
-use Rattle.plan_types.specs.Casts.{Converted, Gives, Fails, cast, wrapped, low_bits, out_of_range, number_of, number_to, truth_to}
+use Rattle.plan_types.specs.Casts.{Converted, Gives, Fails, cast, wrapped, low_bits, no_place, out_of_range, number_of, number_to, truth_to}
 
 -- the low bits are as few as they are
 low_bits_below : (bits : ℕ) (number : ℤ) → low_bits bits number < 2 ^ bits
@@ -52,13 +52,20 @@ out_of_range_fits Strict signed bits number = tt
 out_of_range_fits NonStrict signed bits number = refl
 out_of_range_fits Overflowing signed bits number = wrapped_in_range signed bits number
 
+no_place_fits : (options : CastOptions) (type : Ty) → ConvertedFits type (no_place options)
+no_place_fits Strict type = tt
+no_place_fits NonStrict type = refl
+no_place_fits Overflowing type = refl
+
 number_to_fits : (number : ℤ) (target : Ty) (options : CastOptions) → ConvertedFits target (number_to number target options)
 number_to_fits number Truth options = refl
+number_to_fits number (Untyped other) options = no_place_fits options (Untyped other)
 number_to_fits number (Integer signed bits) options =
     elim (in_range (Integer signed bits) number) as (λ b. in_range (Integer signed bits) number ≡ b → ConvertedFits (Integer signed bits) (cond b (Gives (IntValue number)) (out_of_range options (Integer signed bits) number))) [ true ↦ λ r. r | false ↦ λ r. out_of_range_fits options signed bits number ] refl
 
 truth_to_fits : (truth : Bool) (target : Ty) (options : CastOptions) → ConvertedFits target (truth_to truth target options)
 truth_to_fits truth Truth options = refl
+truth_to_fits truth (Untyped other) options = no_place_fits options (Untyped other)
 truth_to_fits truth (Integer signed bits) options = number_to_fits (number_of truth) (Integer signed bits) options
 
 -- a cast of a fitting value fits the target

@@ -1,13 +1,14 @@
 -- Laws of comparing types.
 use Rattle.std.specs.Prelude.{◌≡◌, ◌++◌, Bool, true, false}
+use Rattle.std.specs.Ordering.{int_eq}
 use Rattle.std.specs.Cmp.{IsEquivalence}
 use Rattle.std.specs.Hash as fed
 use Rattle.std.proofs.Common.{refl, sym, ap, subst, rules}
 use Rattle.std.proofs.lemmas.Bool.{eqb-true}
-use Rattle.std.proofs.lemmas.Bool.Decides.{same_from_decides}
+use Rattle.std.proofs.lemmas.Bool.Decides.{same_from_decides, Decides-int_eq}
 use Rattle.std.proofs.lemmas.Cmp.{on_equiv}
 use Rattle.std.specs.Ordering.{on}
-use Rattle.plan_types.specs.Types.{Ty, Truth, Integer, ty, is_signed_integer, width_of, same_type}
+use Rattle.plan_types.specs.Types.{Ty, Truth, Integer, Untyped, ty, is_signed_integer, width_of, same_type}
 use Rattle.plan_types.specs.declared.dtype.DataType.{DataType}
 
 -- a test that answers yes for equal values alone is an equivalence
@@ -22,7 +23,12 @@ equivalence_from_exact E exact own = record {
 pub same_type_exact : (a b : Ty) → same_type a b ≡ true → a ≡ b
 same_type_exact Truth Truth h = refl
 same_type_exact Truth (Integer s n) h = cc
+same_type_exact Truth (Untyped n) h = cc
 same_type_exact (Integer s m) Truth h = cc
+same_type_exact (Integer s m) (Untyped n) h = cc
+same_type_exact (Untyped m) Truth h = cc
+same_type_exact (Untyped m) (Integer s n) h = cc
+same_type_exact (Untyped m) (Untyped n) h = ap Untyped ((Decides-int_eq m n).0 h)
 same_type_exact (Integer true m) (Integer true n) h = ap (Integer true) (eqb-true m n h)
 same_type_exact (Integer false m) (Integer false n) h = ap (Integer false) (eqb-true m n h)
 same_type_exact (Integer true m) (Integer false n) h = cc
@@ -32,6 +38,7 @@ pub same_type_own : (a : Ty) → same_type a a ≡ true
 same_type_own Truth = refl
 same_type_own (Integer true m) = search rules
 same_type_own (Integer false m) = search rules
+same_type_own (Untyped m) = (Decides-int_eq m m).1 refl
 
 pub same_type_is_equivalence : IsEquivalence (on ty same_type)
 same_type_is_equivalence = on_equiv ty (equivalence_from_exact same_type same_type_exact same_type_own)

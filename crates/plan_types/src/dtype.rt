@@ -1,7 +1,8 @@
 //! Types of columns.
 ghost use Rattle.std.specs.Prelude.{◌≡◌, ◌↔◌, IsTrue, IfOk, IfErr};
 ghost use Rattle.plan_types.specs.Errors.{no_memory};
-ghost use Rattle.plan_types.specs.Types.{ty, is_signed_integer, width_of};
+ghost use Rattle.plan_types.specs.Types.{ty, is_integer, is_known, is_signed_integer, width_of};
+ghost use Rattle.plan_types.specs.Values.{in_range};
 
 use crate::error::PlanError;
 use std::alloc::Global;
@@ -26,7 +27,14 @@ impl CastOptions {
     }
 }
 
-/// The type of a column. Contracts see it as a `Ty`.
+/// A type that isn't known yet.
+#[derive(Clone, Copy, PartialEq, Eq, Hash)]
+pub enum UnknownKind {
+    /// That of a whole number which is written without a type.
+    Int(i128),
+}
+
+/// The type of a column, or of a number without one. Contracts see it as a `Ty`.
 #[derive(Drop)]
 pub enum DataType {
     Boolean,
@@ -38,6 +46,8 @@ pub enum DataType {
     UInt16,
     UInt32,
     UInt64,
+    /// The type of an untyped literal. No column has it.
+    Unknown(UnknownKind),
 }
 
 impl DataType {
@@ -50,15 +60,48 @@ impl DataType {
             | DataType::UInt8
             | DataType::UInt16
             | DataType::UInt32
-            | DataType::UInt64 => false,
+            | DataType::UInt64
+            | DataType::Unknown(_) => false,
         }
     }
 
-    /// How many bits a value of the type has: a truth value has one.
+    pub fn is_integer(&self) -> bool
+        ensures { result ≡ is_integer (ty self.now) }
+    {
+        !matches!(self, DataType::Boolean | DataType::Unknown(_))
+    }
+
+    /// Whether it is the type of a column.
+    pub fn is_known(&self) -> bool
+        ensures { result ≡ is_known (ty self.now) }
+    {
+        !matches!(self, DataType::Unknown(_))
+    }
+
+    /// Whether the type's range has the number: truth values are no numbers.
+    pub fn has_number(&self, number: i128) -> bool
+        ensures { result ≡ in_range (ty self.now) number }
+    {
+        match self {
+            DataType::Boolean => false,
+            DataType::Int8 => i8::try_from(number).is_ok(),
+            DataType::Int16 => i16::try_from(number).is_ok(),
+            DataType::Int32 => i32::try_from(number).is_ok(),
+            DataType::Int64 => i64::try_from(number).is_ok(),
+            DataType::UInt8 => u8::try_from(number).is_ok(),
+            DataType::UInt16 => u16::try_from(number).is_ok(),
+            DataType::UInt32 => u32::try_from(number).is_ok(),
+            DataType::UInt64 => u64::try_from(number).is_ok(),
+            DataType::Unknown(UnknownKind::Int(own)) => *own == number,
+        }
+    }
+
+    /// How many bits a value of the type has: a truth value has one, and one of a type that isn't known none.
     pub fn width(&self) -> u32
         ensures { result ≡ width_of (ty self.now) }
     {
         match self {
+            DataType::Unknown(_) => 0,
             DataType::Boolean => 1,
             DataType::Int8 | DataType::UInt8 => 8,
             DataType::Int16 | DataType::UInt16 => 16,
@@ -81,6 +124,7 @@ impl DataType {
             DataType::UInt16 => DataType::UInt16,
             DataType::UInt32 => DataType::UInt32,
             DataType::UInt64 => DataType::UInt64,
+            DataType::Unknown(kind) => DataType::Unknown(*kind),
         })
     }
 }
@@ -95,7 +139,13 @@ impl PartialEq for DataType {
     ghost laws = { partial_equiv_from_equiv same_type_is_equivalence };
 
     fn eq(&self, other: &DataType) -> bool {
-        self.is_signed_integer() == other.is_signed_integer() && self.width() == other.width()
+        match (self, other) {
+            (DataType::Unknown(kind), DataType::Unknown(other)) => kind == other,
+            _ => {
+                self.is_signed_integer() == other.is_signed_integer()
+                    && self.width() == other.width()
+            }
+        }
     }
 }
 

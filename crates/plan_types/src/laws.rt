@@ -1,7 +1,8 @@
 //! Laws of the definitions. The functions do nothing: their clauses are the laws.
 
-ghost use Rattle.std.specs.Prelude.{◌≡◌, ◌⊎◌, ℤ, true, Some};
-ghost use Rattle.plan_types.specs.Types.{Ty};
+ghost use Rattle.std.specs.Prelude.{◌≡◌, ◌⊎◌, ℤ, true, Some, Ok};
+ghost use Rattle.plan_types.specs.Types.{Ty, Untyped, is_known};
+ghost use Rattle.plan_types.specs.CommonTypes.{common_type};
 ghost use Rattle.plan_types.specs.Supertypes.{supertype};
 ghost use Rattle.plan_types.specs.Values.{in_range};
 
@@ -12,4 +13,13 @@ pub fn supertype_laws()
     ensures itself { (a : Ty) → supertype a a ≡ Some a }
     ensures holds_both { (a b c : Ty) (number : ℤ) → supertype a b ≡ Some c
         → (in_range a number ≡ true) ⊎ (in_range b number ≡ true) → in_range c number ≡ true }
+{}
+
+/// The common type of two operands doesn't depend on the order and is a type of columns. Of operands of one
+/// such type it is that type, and it has the number of an operand without a type.
+pub fn common_type_laws()
+    ensures symmetric { (a b : Ty) → common_type a b ≡ common_type b a }
+    ensures known { (a b c : Ty) → common_type a b ≡ Ok c → is_known c ≡ true }
+    ensures itself { (a : Ty) → is_known a ≡ true → common_type a a ≡ Ok a }
+    ensures has_number { (number : ℤ) (b c : Ty) → common_type (Untyped number) b ≡ Ok c → in_range c number ≡ true }
 {}

@@ -4,6 +4,7 @@
 //! its columns and a place as the list of its steps.
 #![tactic(auto)]
 
+pub mod common_type;
 pub mod dtype;
 pub mod error;
 pub mod examples;

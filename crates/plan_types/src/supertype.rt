@@ -1,9 +1,9 @@
 //! Common types of two types.
-ghost use Rattle.std.specs.Prelude.{◌≡◌, IfOk, IfErr, Some, None, true, false};
+ghost use Rattle.std.specs.Prelude.{◌≡◌, IfOk, IfErr, Some, None, true, false, if◌then◌else◌};
 ghost use Rattle.std.specs.Option.{option_map};
 ghost use Rattle.plan_types.specs.Errors.{no_memory, IsMemoryOr};
 ghost use Rattle.plan_types.specs.Supertypes.{supertype, signed_above};
-ghost use Rattle.plan_types.specs.Types.{ty, is_signed_integer, width_of, Integer};
+ghost use Rattle.plan_types.specs.Types.{ty, same_type, is_signed_integer, width_of, Integer};
 
 use crate::dtype::DataType;
 use crate::error::{ErrorKind, PlanError};
@@ -18,6 +18,9 @@ pub fn get_supertype(
     ensures ok { IfOk result (λ found. option_map ty found ≡ supertype (ty left.now) (ty right.now)) }
     ensures err { IfErr result (λ error. error ≡ no_memory) }
 {
+    if !left.is_known() || !right.is_known() {
+        return itself(alloc, left, right);
+    }
     if left.is_signed_integer() == right.is_signed_integer() {
         let wider = if left.width() < right.width() {
             right
@@ -31,6 +34,18 @@ pub fn get_supertype(
     } else {
         signed_above(alloc, right, left)
     }
+}
+
+// The type, where the other is the same.
+fn itself(alloc: Global, left: &DataType, right: &DataType) -> Result<Option<DataType>, PlanError>
+    ensures ok { IfOk result (λ found. option_map ty found ≡ (if same_type (ty left.now) (ty right.now) then Some (ty left.now) else None)) }
+    ensures err { IfErr result (λ error. error ≡ no_memory) }
+{
+    if *left != *right {
+        return Ok(None);
+    }
+    let found = left.try_clone(alloc)?;
+    Ok(Some(found))
 }
 
 /// `get_supertype`, with a refusal where there is none.
