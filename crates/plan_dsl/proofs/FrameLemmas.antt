@@ -12,11 +12,12 @@ use Rattle.plan_dsl.specs.Registry.{Registry}
 use Rattle.plan_dsl.specs.Trees.{Trees, node, no_more, more, fold_all}
 use Rattle.plan_dsl.specs.Ops.{Expression}
 use Rattle.plan_dsl.specs.Plans.{PlanKind, ScanKind, SelectKind, PlanOp, Plan, Named}
+use Rattle.plan_dsl.specs.Literals.{settled}
 use Rattle.plan_dsl.specs.Typing.{Typed, typing}
 use Rattle.plan_dsl.specs.Meaning.{meaning}
 use Rattle.plan_dsl.specs.Kernels.{stretched, at_length}
 use Rattle.plan_dsl.specs.PlanKernels.{Series, series_typed, all_series, shared_length, in_front, rows_of, series_columns, framed, selected, table_frame, frame_by, plan_kernel}
-use Rattle.plan_dsl.specs.PlanRules.{signatures, select_kinds, column_before, columns_of, where_unbroken, kinds_by, schema_by, plan_rule, schema_of, schemas_of, IsWellFormed, AllWellFormed}
+use Rattle.plan_dsl.specs.PlanRules.{signatures, scan_kinds, select_kinds, column_before, columns_of, as_schema, where_unbroken, kinds_by, schema_by, plan_rule, schema_of, schemas_of, IsWellFormed, AllWellFormed}
 use Rattle.plan_dsl.specs.PlanMeaning.{by_meaning, source_meaning, HasTable, FitsNode, FitsPlan, AllFitPlans}
 use Rattle.plan_dsl.specs.Laws.{AreOf, MeaningHasType, MeaningHasSchema}
 use Rattle.plan_dsl.proofs.FitLemmas.{meaning_has_type}
@@ -148,9 +149,9 @@ module _ (registry : Registry) (frame : Frame) (is_frame : IsFrame frame) (rows 
   series_meet [] schema h = let e : [] ≡ schema = cc in record { columns = e; fitting = tt }
   series_meet (o ∷ os) schema h =
       let later = columns_of (signatures registry os frame.schema) in
-      let gives = meaning registry frame o.expression rows in
+      let gives = meaning registry frame (settled o.expression) rows in
       let rest = all_series rows (map (by_meaning registry frame) os) in
-      elim (typing registry frame.schema o.expression) as (λ t. typing registry frame.schema o.expression ≡ t → column_before o.name t later ≡ Some schema → Meets (AreSeriesOf schema) (then_do (series_typed o.name t gives) (λ s. then_do rest (λ ss. Done (s ∷ ss))))) [ Err kind ↦ λ e h. absurd (absurd_none schema h) | Ok typed ↦ λ e h. elim later as (λ l. later ≡ l → column_before o.name (Ok typed) l ≡ Some schema → Meets (AreSeriesOf schema) (then_do (series_typed o.name (Ok typed) gives) (λ s. then_do rest (λ ss. Done (s ∷ ss))))) [ None ↦ λ el h. absurd (absurd_none schema h) | Some columns ↦ λ el h. one_meets o.name typed columns schema gives rest (some_same _ _ h) (meaning_has_type registry frame is_frame o.expression typed e rows) (series_meet os columns el) ] refl h ] refl h
+      elim (typing registry frame.schema (settled o.expression)) as (λ t. typing registry frame.schema (settled o.expression) ≡ t → column_before o.name t later ≡ Some schema → Meets (AreSeriesOf schema) (then_do (series_typed o.name t gives) (λ s. then_do rest (λ ss. Done (s ∷ ss))))) [ Err kind ↦ λ e h. absurd (absurd_none schema h) | Ok typed ↦ λ e h. elim later as (λ l. later ≡ l → column_before o.name (Ok typed) l ≡ Some schema → Meets (AreSeriesOf schema) (then_do (series_typed o.name (Ok typed) gives) (λ s. then_do rest (λ ss. Done (s ∷ ss))))) [ None ↦ λ el h. absurd (absurd_none schema h) | Some columns ↦ λ el h. one_meets o.name typed columns schema gives rest (some_same _ _ h) (meaning_has_type registry frame is_frame (settled o.expression) typed e rows) (series_meet os columns el) ] refl h ] refl h
 
 none_never : (kinds : List ErrorKind) (schema : Columns) → ¬ (where_unbroken kinds None ≡ Some schema)
 none_never [] schema h = absurd_none schema h
@@ -162,7 +163,7 @@ module _ (registry : Registry) where
   outputs_meet output outputs under schema frame h none columns =
       let there = subst (λ c. columns_of (signatures registry (output ∷ outputs) c) ≡ Some schema) (sym h.schema_is) columns in
       let distinct = selected_distinct (signatures registry (output ∷ outputs) under) schema none columns in
-      let some = has_column output.name (typing registry under output.expression) (columns_of (signatures registry outputs under)) schema columns in
+      let some = has_column output.name (typing registry under (settled output.expression)) (columns_of (signatures registry outputs under)) schema columns in
       meets_then (AreSeriesOf schema) (IsFrameOf schema) _ framed (series_meet registry frame h.frame_is (row_numbers frame) (output ∷ outputs) schema there) (λ ss. framed_meets schema ss distinct some)
 
   select_meets : (outputs : List (Named Expression)) (under schema : Columns) (input : Outcome Frame) → Meets (IsFrameOf under) input → select_kinds (signatures registry outputs under) ≡ [] → columns_of (signatures registry outputs under) ≡ Some schema → Meets (IsFrameOf schema) (selected (by_meaning registry) outputs input)
@@ -170,13 +171,13 @@ module _ (registry : Registry) where
   select_meets (output ∷ outputs) under schema input h none columns =
       meets_then (IsFrameOf under) (IsFrameOf schema) input _ h (λ frame k. outputs_meet output outputs under schema frame k none columns)
 
-  node_meets : (kind : PlanKind) (tables : List Frame) (op : PlanOp Expression) (inputs : List (Option Columns)) (outcomes : List (Outcome Frame)) (schema : Columns) → FitsNode tables kind op.schema → where_unbroken (kinds_by kind (signatures registry op.expressions) inputs) (schema_by kind op.schema (signatures registry op.expressions) inputs) ≡ Some schema → AllMeet inputs outcomes → Meets (IsFrameOf schema) (frame_by kind tables (by_meaning registry) op outcomes)
+  node_meets : (kind : PlanKind) (tables : List Frame) (op : PlanOp Expression) (inputs : List (Option Columns)) (outcomes : List (Outcome Frame)) (schema : Columns) → FitsNode tables kind op.schema → where_unbroken (kinds_by kind op.schema (signatures registry op.expressions) inputs) (schema_by kind op.schema (signatures registry op.expressions) inputs) ≡ Some schema → AllMeet inputs outcomes → Meets (IsFrameOf schema) (frame_by kind tables (by_meaning registry) op outcomes)
   node_meets (ScanKind (Some number)) tables op [] [] schema fits h k =
-      found_meets op.schema schema (slice_get tables number) (as_schema_is op.schema schema h).0 fits
+      found_meets op.schema schema (slice_get tables number) (as_schema_is op.schema schema (unbroken_schema (scan_kinds op.schema) (as_schema op.schema) schema h)).0 fits
   node_meets (ScanKind None) tables op [] [] schema fits h k =
-      let is = as_schema_is op.schema schema h in empty_meets op.schema schema is.0 is.1
+      let is = as_schema_is op.schema schema (unbroken_schema (scan_kinds op.schema) (as_schema op.schema) schema h) in empty_meets op.schema schema is.0 is.1
   node_meets (ScanKind table) tables op [] (outcome ∷ outcomes) schema fits h k = absurd k
-  node_meets (ScanKind table) tables op (input ∷ inputs) outcomes schema fits h k = absurd (absurd_none schema h)
+  node_meets (ScanKind table) tables op (input ∷ inputs) outcomes schema fits h k = absurd (none_never (scan_kinds op.schema) schema h)
   node_meets SelectKind tables op [] outcomes schema fits h k = absurd (absurd_none schema h)
   node_meets SelectKind tables op (None ∷ inputs) outcomes schema fits h k = absurd (absurd_none schema h)
   node_meets SelectKind tables op (Some under ∷ []) [] schema fits h k = absurd k

@@ -2,6 +2,7 @@ pub mod CastLemmas
 pub mod FitLemmas
 pub mod FrameLemmas
 pub mod KernelLemmas
+pub mod LiteralLemmas
 pub mod RuleLemmas
 pub mod RunLemmas
 pub mod SameLemmas

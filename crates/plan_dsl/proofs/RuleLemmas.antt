@@ -1,11 +1,11 @@
 -- Rules and what breaks them: of expressions, of a select's expressions, and of plans.
-use Rattle.std.proofs.Common.{◌≡◌, ℕ, zero, suc, List, [], ◌∷◌, ◌++◌, map, Option, Some, None, Bool, true, false, cond, is_some, Result, Ok, Err, refl, sym, ap, ◌∙◌, subst, arith}
+use Rattle.std.proofs.Common.{◌≡◌, ℕ, zero, suc, List, [], ◌∷◌, ◌++◌, map, Option, Some, None, Bool, true, false, not, cond, is_some, Result, Ok, Err, refl, sym, ap, ◌∙◌, subst, arith}
 use Rattle.std.specs.List.{Contains, AllByRecursion}
 use Rattle.std.proofs.lemmas.List.{map-append}
 use Rattle.std.proofs.lemmas.List.Elements.{Contains-append_left, Contains-append_right, Contains-push}
-use Rattle.plan_types.specs.Schemas.{Name, Columns, type_at, repeats, names_of, HasDistinctNames}
+use Rattle.plan_types.specs.Schemas.{Name, Columns, type_at, repeats, names_of, HasDistinctNames, all_known}
 use Rattle.plan_types.specs.declared.error.ErrorKind.{ErrorKind}
-use Rattle.plan_types.specs.declared.error.ErrorKind.TheVariants.{Duplicate}
+use Rattle.plan_types.specs.declared.error.ErrorKind.TheVariants.{Duplicate, InvalidOperation}
 use Rattle.plan_types.proofs.SchemaLemmas.{repeated_test, test_from_distinct, distinct_from_test}
 use Rattle.plan_types.proofs.ListLemmas.{map-map}
 use Rattle.plan_dsl.specs.Registry.{Registry}
@@ -13,8 +13,9 @@ use Rattle.plan_dsl.specs.Trees.{Trees, node, no_more, more, child_at, child_of,
 use Rattle.plan_dsl.specs.Ops.{Op, Expression}
 use Rattle.plan_dsl.specs.Names.{name_of}
 use Rattle.plan_dsl.specs.Plans.{PlanOp, Plan, Named, named, scan_op, select_op}
+use Rattle.plan_dsl.specs.Literals.{settled}
 use Rattle.plan_dsl.specs.Typing.{Typed, typing, typing_all, typing_rule, then_typed, typed_before, kind_of, own_kind, kinds_in, kinds_in_all}
-use Rattle.plan_dsl.specs.PlanRules.{Signature, signature, signatures, all_kinds, kind_where, select_kinds, column_before, columns_of, as_schema, where_unbroken, plan_rule, schema_of, IsWellFormed, AllWellFormed, top_kinds, Breaks}
+use Rattle.plan_dsl.specs.PlanRules.{Signature, signature, signatures, all_kinds, kind_where, select_kinds, scan_kinds, column_before, columns_of, as_schema, where_unbroken, plan_rule, schema_of, IsWellFormed, AllWellFormed, top_kinds, Breaks}
 
 same_kind : {A : Type 0} (r : Result A ErrorKind) (k kind : ErrorKind) → r ≡ Err k → r ≡ Err kind → k ≡ kind
 same_kind r k kind e f = cc
@@ -50,15 +51,15 @@ module _ (registry : Registry) (schema : Columns) where
   abbrev selected : List Expression → List Signature
   selected trees = signatures registry (map named trees) schema
 
-  kinds_of_one : (front : List Expression) (tree : Expression) (back : List Expression) (kind : ErrorKind) → Contains (kinds_in registry schema tree) kind → Contains (all_kinds (selected (front ++ tree ∷ back))) kind
-  kinds_of_one [] tree back kind h = Contains-append_left (kinds_in registry schema tree) (all_kinds (selected back)) kind h
+  kinds_of_one : (front : List Expression) (tree : Expression) (back : List Expression) (kind : ErrorKind) → Contains (kinds_in registry schema (settled tree)) kind → Contains (all_kinds (selected (front ++ tree ∷ back))) kind
+  kinds_of_one [] tree back kind h = Contains-append_left (kinds_in registry schema (settled tree)) (all_kinds (selected back)) kind h
   kinds_of_one (t ∷ front) tree back kind h =
-      Contains-append_right (kinds_in registry schema t) (all_kinds (selected (front ++ tree ∷ back))) kind (kinds_of_one front tree back kind h)
+      Contains-append_right (kinds_in registry schema (settled t)) (all_kinds (selected (front ++ tree ∷ back))) kind (kinds_of_one front tree back kind h)
 
   -- a select breaks the kind for which one of its expressions is refused
-  pub select_refused_kind : (front : List Expression) (tree : Expression) (back : List Expression) (kind : ErrorKind) → typing registry schema tree ≡ Err kind → Contains (select_kinds (selected (front ++ tree ∷ back))) kind
+  pub select_refused_kind : (front : List Expression) (tree : Expression) (back : List Expression) (kind : ErrorKind) → typing registry schema (settled tree) ≡ Err kind → Contains (select_kinds (selected (front ++ tree ∷ back))) kind
   select_refused_kind front tree back kind h =
-      Contains-append_left _ (kind_where (repeats (map (λ s. s.name) (selected (front ++ tree ∷ back)))) Duplicate) kind (kinds_of_one front tree back kind (refusal_is_broken tree kind h))
+      Contains-append_left _ (kind_where (repeats (map (λ s. s.name) (selected (front ++ tree ∷ back)))) Duplicate) kind (kinds_of_one front tree back kind (refusal_is_broken (settled tree) kind h))
 
   selected_names : (trees : List Expression) → map (λ s. s.name) (selected trees) ≡ map name_of trees
   selected_names [] = refl
@@ -82,26 +83,26 @@ module _ (registry : Registry) (schema : Columns) where
     output a = record { name = name a; expression = tree a }
 
     -- they have these columns
-    pub columns_from_typed : (outputs : List A) → AllByRecursion (λ a. typing registry schema (tree a) ≡ Ok (typed a)) outputs → columns_of (map (λ a. signature registry schema (output a)) outputs) ≡ Some (map (λ a. (name a, (typed a).type)) outputs)
+    pub columns_from_typed : (outputs : List A) → AllByRecursion (λ a. typing registry schema (settled (tree a)) ≡ Ok (typed a)) outputs → columns_of (map (λ a. signature registry schema (output a)) outputs) ≡ Some (map (λ a. (name a, (typed a).type)) outputs)
     columns_from_typed [] h = refl
     columns_from_typed (a ∷ rest) h =
         ap (λ r. column_before (name a) r (columns_of (map (λ a. signature registry schema (output a)) rest))) h.0
         ∙ ap (column_before (name a) (Ok (typed a))) (columns_from_typed rest h.1)
 
     -- and break no rule
-    pub no_kinds_from_typed : (outputs : List A) → AllByRecursion (λ a. typing registry schema (tree a) ≡ Ok (typed a)) outputs → all_kinds (map (λ a. signature registry schema (output a)) outputs) ≡ []
+    pub no_kinds_from_typed : (outputs : List A) → AllByRecursion (λ a. typing registry schema (settled (tree a)) ≡ Ok (typed a)) outputs → all_kinds (map (λ a. signature registry schema (output a)) outputs) ≡ []
     no_kinds_from_typed [] h = refl
     no_kinds_from_typed (a ∷ rest) h =
-        ap (λ k. k ++ all_kinds (map (λ a. signature registry schema (output a)) rest)) (typed_breaks_nothing (tree a) (typed a) h.0) ∙ no_kinds_from_typed rest h.1
+        ap (λ k. k ++ all_kinds (map (λ a. signature registry schema (output a)) rest)) (typed_breaks_nothing (settled (tree a)) (typed a) h.0) ∙ no_kinds_from_typed rest h.1
 
     signatures_are : (outputs : List A) → signatures registry (map output outputs) schema ≡ map (λ a. signature registry schema (output a)) outputs
     signatures_are outputs = map-map (signature registry schema) output outputs
 
     -- the same of a node's list of named expressions
-    pub named_columns_from_typed : (outputs : List A) → AllByRecursion (λ a. typing registry schema (tree a) ≡ Ok (typed a)) outputs → columns_of (signatures registry (map output outputs) schema) ≡ Some (map (λ a. (name a, (typed a).type)) outputs)
+    pub named_columns_from_typed : (outputs : List A) → AllByRecursion (λ a. typing registry schema (settled (tree a)) ≡ Ok (typed a)) outputs → columns_of (signatures registry (map output outputs) schema) ≡ Some (map (λ a. (name a, (typed a).type)) outputs)
     named_columns_from_typed outputs h = ap columns_of (signatures_are outputs) ∙ columns_from_typed outputs h
 
-    pub named_no_kinds_from_typed : (outputs : List A) → AllByRecursion (λ a. typing registry schema (tree a) ≡ Ok (typed a)) outputs → all_kinds (signatures registry (map output outputs) schema) ≡ []
+    pub named_no_kinds_from_typed : (outputs : List A) → AllByRecursion (λ a. typing registry schema (settled (tree a)) ≡ Ok (typed a)) outputs → all_kinds (signatures registry (map output outputs) schema) ≡ []
     named_no_kinds_from_typed outputs h = ap all_kinds (signatures_are outputs) ∙ no_kinds_from_typed outputs h
 
     names_are : (outputs : List A) → map (λ s. s.name) (signatures registry (map output outputs) schema) ≡ names_of (map (λ a. (name a, (typed a).type)) outputs)
@@ -109,20 +110,25 @@ module _ (registry : Registry) (schema : Columns) where
     names_are (a ∷ rest) = ap (λ l. name a ∷ l) (names_are rest)
 
     -- with distinct names a select of them breaks no rule
-    pub select_unbroken : (outputs : List A) → AllByRecursion (λ a. typing registry schema (tree a) ≡ Ok (typed a)) outputs → HasDistinctNames (map (λ a. (name a, (typed a).type)) outputs) → select_kinds (signatures registry (map output outputs) schema) ≡ []
+    pub select_unbroken : (outputs : List A) → AllByRecursion (λ a. typing registry schema (settled (tree a)) ≡ Ok (typed a)) outputs → HasDistinctNames (map (λ a. (name a, (typed a).type)) outputs) → select_kinds (signatures registry (map output outputs) schema) ≡ []
     select_unbroken outputs h distinct =
         let test = ap repeats (names_are outputs) ∙ test_from_distinct _ distinct in
         ap (λ k. k ++ kind_where (repeats (map (λ s. s.name) (signatures registry (map output outputs) schema))) Duplicate) (named_no_kinds_from_typed outputs h)
         ∙ ap (λ b. kind_where b Duplicate) test
 
     -- and has their columns
-    pub select_schema : (own : Columns) (outputs : List A) → AllByRecursion (λ a. typing registry schema (tree a) ≡ Ok (typed a)) outputs → HasDistinctNames (map (λ a. (name a, (typed a).type)) outputs) → plan_rule registry (select_op (map output outputs) own) (Some schema ∷ []) ≡ Some (map (λ a. (name a, (typed a).type)) outputs)
+    pub select_schema : (own : Columns) (outputs : List A) → AllByRecursion (λ a. typing registry schema (settled (tree a)) ≡ Ok (typed a)) outputs → HasDistinctNames (map (λ a. (name a, (typed a).type)) outputs) → plan_rule registry (select_op (map output outputs) own) (Some schema ∷ []) ≡ Some (map (λ a. (name a, (typed a).type)) outputs)
     select_schema own outputs h distinct =
         ap (λ kinds. where_unbroken kinds (columns_of (signatures registry (map output outputs) schema))) (select_unbroken outputs h distinct) ∙ named_columns_from_typed outputs h
 
--- a scan has its table's schema
-pub scan_schema : (registry : Registry) (table : Option ℕ) (own : Columns) → HasDistinctNames own → plan_rule registry (scan_op table own) [] ≡ Some own
-scan_schema registry table own distinct = ap (λ b. cond b None (Some own)) (test_from_distinct own distinct)
+-- a scan of columns with types has its table's schema
+pub scan_schema : (registry : Registry) (table : Option ℕ) (own : Columns) → HasDistinctNames own → all_known own ≡ true → plan_rule registry (scan_op table own) [] ≡ Some own
+scan_schema registry table own distinct known =
+    ap (λ b. where_unbroken (kind_where (not b) InvalidOperation) (as_schema own)) known ∙ ap (λ b. cond b None (Some own)) (test_from_distinct own distinct)
+
+-- a scan of a column whose type isn't known breaks that rule
+pub scan_unknown_kind : (own : Columns) → all_known own ≡ false → Contains (scan_kinds own) InvalidOperation
+scan_unknown_kind own h = subst (λ b. Contains (kind_where (not b) InvalidOperation) InvalidOperation) (sym h) (Contains-push [] InvalidOperation)
 
 -- a node that breaks a kind of rule has no schema
 broken_has_none : (kinds : List ErrorKind) (kind : ErrorKind) (found : Option Columns) → Contains kinds kind → is_some (where_unbroken kinds found) ≡ false

@@ -1,7 +1,7 @@
 -- A strict expression gives what it means: its operands have the types to which they would be cast.
-use Rattle.std.proofs.Common.{◌≡◌, true, List, [], ◌∷◌, Ok, refl, sym, ap, ◌∙◌}
-use Rattle.std.proofs.lemmas.Bool.{and_parts}
-use Rattle.plan_types.specs.Types.{Ty, same_type}
+use Rattle.std.proofs.Common.{◌≡◌, true, ◌&&◌, List, [], ◌∷◌, Ok, refl, sym, ap, ◌∙◌}
+use Rattle.std.proofs.lemmas.Bool.{and_parts, and_from}
+use Rattle.plan_types.specs.Types.{Ty, is_known, same_type}
 use Rattle.plan_types.specs.TypeLaws.{same_type_exact}
 use Rattle.plan_types.specs.Frames.{Frame}
 use Rattle.plan_dsl.specs.Registry.{Registry}
@@ -43,7 +43,7 @@ module _ (registry : Registry) (frame : Frame) where
       let own : taken_to types taken.operands means ≡ means = ap (λ ts. taken_to types ts means) (sym kept) ∙ own_taken children strict.typed strict.types in
       ap (λ r. node_run frame op r operands) strict.types
       ∙ ap (λ r. taken_run frame op types r operands) strict.strict.takes
-      ∙ if_true (same_types types taken.operands) (kernel frame op types taken.type operands) stuck strict.strict.kept
+      ∙ if_true (same_types types taken.operands && is_known taken.type) (kernel frame op types taken.type operands) stuck (and_from (same_types types taken.operands) (is_known taken.type) strict.strict.kept strict.strict.known)
       ∙ ap (kernel frame op types taken.type) (same ∙ sym own)
       ∙ ap (λ ts. kernel frame op ts taken.type (taken_to types taken.operands means)) kept
       ∙ sym (ap (λ r. taken_meaning frame op types r means) strict.strict.takes)

@@ -1,7 +1,11 @@
 -- What is typed has one typing, and children that are typed are so one by one.
-use Rattle.std.proofs.Common.{◌≡◌, List, [], ◌∷◌, Result, Ok, Err, refl, subst}
+use Rattle.std.proofs.Common.{◌≡◌, Bool, true, false, cond, List, [], ◌∷◌, Result, Ok, Err, refl, subst}
+use Rattle.plan_types.specs.Schemas.{Columns}
 use Rattle.plan_types.specs.declared.error.ErrorKind.{ErrorKind}
-use Rattle.plan_dsl.specs.Typing.{Typed, typed_before}
+use Rattle.plan_dsl.specs.Registry.{Registry}
+use Rattle.plan_dsl.specs.Trees.{Trees, node}
+use Rattle.plan_dsl.specs.Ops.{Op}
+use Rattle.plan_dsl.specs.Typing.{Typed, Taken, operand_types, types_of, is_many, typed_as, typing_rule, then_typed, typed_before, typing, typing_all}
 
 -- what was found is one
 pub ok_same : {A E : Type 0} (found : Result A E) (x y : A) → found ≡ Ok x → found ≡ Ok y → x ≡ y
@@ -16,3 +20,26 @@ by_children P (Ok t) (Ok ts) typed h each = let e : (t ∷ ts) ≡ typed = cc in
 -- and no children have no typings
 pub by_no_children : (P : List Typed → Type 0) (typed : List Typed) → (let none : Result (List Typed) ErrorKind = Ok [] in none ≡ Ok typed) → P [] → P typed
 by_no_children P typed h none = let e : [] ≡ typed = cc in subst P e none
+
+-- what is there where a test says so
+pub ok_where : {A E : Type 0} (test : Bool) (x y : A) (error : E) → cond test (Ok x) (Err error) ≡ Ok y → (test ≡ true) × (x ≡ y)
+ok_where true x y error h = (refl, ok_same (Ok x) x y refl h)
+ok_where false x y error h = cc
+
+-- the parts of a typing
+pub record TypedParts (registry : Registry) (schema : Columns) (op : Op) (children : Trees Op) (typed : Typed) : Type 0 where
+  pub below : List Typed
+  pub children_typed : typing_all registry schema children ≡ Ok below
+  pub taken : Taken
+  pub takes : operand_types schema op (types_of below) ≡ Ok taken
+  pub is : record { type = taken.type; many = is_many op below } ≡ typed
+
+pub typed_parts : (registry : Registry) (schema : Columns) (op : Op) (children : Trees Op) (typed : Typed) → typing registry schema (node op children) ≡ Ok typed → TypedParts registry schema op children typed
+typed_parts registry schema op children typed h =
+    elim (typing_all registry schema children) as (λ r. typing_all registry schema children ≡ r → then_typed r (typing_rule registry schema op) ≡ Ok typed → TypedParts registry schema op children typed) [
+      | Err kind ↦ λ e h. cc
+      | Ok below ↦ λ e h. elim (operand_types schema op (types_of below)) as (λ r. operand_types schema op (types_of below) ≡ r → typed_as r (is_many op below) ≡ Ok typed → TypedParts registry schema op children typed) [
+          | Err kind ↦ λ f h. cc
+          | Ok taken ↦ λ f h. record { below = below; children_typed = e; taken = taken; takes = f; is = ok_same (typed_as (Ok taken) (is_many op below)) _ typed refl h }
+        ] refl h
+    ] refl h

@@ -11,7 +11,7 @@ use Rattle.plan_types.specs.Frames.{Frame, value_in, row_at}
 use Rattle.plan_types.specs.declared.dtype.CastOptions.{CastOptions}
 use Rattle.plan_dsl.specs.declared.operator.Operator.{Operator}
 use Rattle.plan_dsl.specs.Operators.{operator_value}
-use Rattle.plan_dsl.specs.Ops.{Op, ColumnOp, BinaryOp, CastOp}
+use Rattle.plan_dsl.specs.Ops.{Op, ColumnOp, LiteralOp, BinaryOp, CastOp}
 
 -- what an expression gives on the rows of these numbers
 abbrev pub Meaning : Type 0
@@ -73,6 +73,7 @@ column_values frame name rows = Done (map (λ number. value_in frame.schema name
 -- what a node gives on a frame: its operands' types, its own type, and what its operands give
 abbrev pub kernel : Frame → Op → List Ty → Ty → List Meaning → Meaning
 kernel frame (ColumnOp name) types type operands = column_values frame name
+kernel frame (LiteralOp own value) types type operands = λ rows. Done (value ∷ [])
 kernel frame (BinaryOp operator) types type (left ∷ right ∷ []) = λ rows. then_both (left rows) (right rows) (operator_values operator type)
 kernel frame (BinaryOp operator) types type [] = stuck
 kernel frame (BinaryOp operator) types type (left ∷ []) = stuck

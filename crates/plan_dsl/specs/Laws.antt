@@ -1,14 +1,15 @@
 -- Laws of the definitions, for all expressions and plans.
-use Rattle.std.specs.Prelude.{◌≡◌, ℕ, List, [], ◌∷◌, length, Some, Ok, Err, IsTrue, false}
+use Rattle.std.specs.Prelude.{◌≡◌, ℕ, ℤ, List, [], ◌∷◌, length, Some, Ok, Err, IsTrue, false}
 use Rattle.std.specs.List.{Contains}
-use Rattle.plan_types.specs.Types.{Ty}
+use Rattle.plan_types.specs.Types.{Ty, Untyped}
 use Rattle.plan_types.specs.Schemas.{Columns}
-use Rattle.plan_types.specs.Values.{Val, all_fit}
+use Rattle.plan_types.specs.Values.{Val, IntValue, all_fit}
 use Rattle.plan_types.specs.Outcomes.{Meets}
 use Rattle.plan_types.specs.Frames.{Frame, IsFrame, IsFrameOf}
 use Rattle.plan_types.specs.declared.error.ErrorKind.{ErrorKind}
 use Rattle.plan_dsl.specs.Registry.{Registry}
-use Rattle.plan_dsl.specs.Ops.{Op, Expression}
+use Rattle.plan_dsl.specs.Ops.{Op, LiteralOp, Expression}
+use Rattle.plan_dsl.specs.Trees.{node, no_more}
 use Rattle.plan_dsl.specs.Plans.{Plan}
 use Rattle.plan_dsl.specs.Typing.{Typed, Taken, operand_types, typing, kinds_in}
 use Rattle.plan_dsl.specs.Meaning.{meaning}
@@ -33,6 +34,10 @@ pub record AreOf (typed : Typed) (values : List Val) : Type 0 where
 -- a typed expression is not stuck on a frame, and gives values of its type
 abbrev pub MeaningHasType : Type 0
 MeaningHasType = (registry : Registry) (frame : Frame) (tree : Expression) (typed : Typed) → IsFrame frame → typing registry frame.schema tree ≡ Ok typed → (rows : List ℕ) → Meets (AreOf typed) (meaning registry frame tree rows)
+
+-- an expression of a number's own type is that number, written without a type
+abbrev pub OnlyNumbersAreUntyped : Type 0
+OnlyNumbersAreUntyped = (registry : Registry) (schema : Columns) (number : ℤ) (tree : Expression) (typed : Typed) → typing registry schema tree ≡ Ok typed → typed.type ≡ Untyped number → tree ≡ node (LiteralOp (Untyped number) (IntValue number)) no_more
 
 -- a typed expression breaks no rule
 abbrev pub TypedBreaksNothing : Type 0

@@ -3,6 +3,7 @@ pub mod Counts
 pub mod Expressions
 pub mod Kernels
 pub mod Laws
+pub mod Literals
 pub mod Meaning
 pub mod Names
 pub mod Operators

@@ -1,9 +1,9 @@
 -- Names of expressions.
--- A column has its own name, and any other node that of its first child; one without children is a `literal`.
+-- A column has its own name, a literal is named `literal`, and any other node has the name of its first child.
 use Rattle.std.specs.Prelude.{List, [], ◌∷◌, codes}
 use Rattle.plan_types.specs.Schemas.{Name}
 use Rattle.plan_dsl.specs.Trees.{fold}
-use Rattle.plan_dsl.specs.Ops.{Op, ColumnOp, BinaryOp, CastOp, Expression}
+use Rattle.plan_dsl.specs.Ops.{Op, ColumnOp, LiteralOp, BinaryOp, CastOp, Expression}
 
 abbrev pub first_name : List Name → Name
 first_name [] = codes "literal"
@@ -12,6 +12,7 @@ first_name (name ∷ names) = name
 -- the name of a node, from its children's
 abbrev pub op_name : Op → List Name → Name
 op_name (ColumnOp name) names = name
+op_name (LiteralOp type value) names = codes "literal"
 op_name (BinaryOp operator) names = first_name names
 op_name (CastOp target options) names = first_name names
 

@@ -2,7 +2,7 @@
 -- Null beside anything is null. Sums wrap around in the result's type, and a true value counts as 1.
 -- Comparisons give truth values: false is less than true, and numbers are ordered by size.
 use Rattle.std.specs.Prelude.{ℕ, ◌+ℤ◌, ℤ, int_lt, List, Bool, true, false, not, ◌&&◌, codes}
-use Rattle.plan_types.specs.Types.{Ty, Truth, Integer}
+use Rattle.plan_types.specs.Types.{Ty, Truth, Integer, Untyped}
 use Rattle.plan_types.specs.Values.{Val, NullValue, TruthValue, IntValue}
 use Rattle.plan_types.specs.Casts.{wrapped, number_of}
 use Rattle.plan_dsl.specs.declared.operator.Operator.{Operator}
@@ -21,6 +21,7 @@ operator_sign Plus = codes "+"
 abbrev pub sum_type : Ty → Ty
 sum_type Truth = Integer false 32
 sum_type (Integer signed bits) = Integer signed bits
+sum_type (Untyped number) = Untyped number
 
 -- the result's type, from the type to which both operands are taken
 abbrev pub result_type : Operator → Ty → Ty

@@ -9,6 +9,7 @@ use Rattle.plan_dsl.specs.Registry.{Registry}
 use Rattle.plan_dsl.specs.Trees.{Trees, node, no_more, more, fold}
 use Rattle.plan_dsl.specs.Ops.{Expression}
 use Rattle.plan_dsl.specs.Plans.{PlanKind, ScanKind, SelectKind, PlanOp, Plan, Named}
+use Rattle.plan_dsl.specs.Literals.{settled}
 use Rattle.plan_dsl.specs.Typing.{typing}
 use Rattle.plan_dsl.specs.Meaning.{meaning}
 use Rattle.plan_dsl.specs.PlanKernels.{Evaluated, Evaluation, plan_kernel}
@@ -16,7 +17,7 @@ use Rattle.plan_dsl.specs.PlanKernels.{Evaluated, Evaluation, plan_kernel}
 -- evaluation by meaning
 abbrev pub by_meaning : Registry → Evaluation
 by_meaning registry frame output =
-    record { name = output.name; typing = typing registry frame.schema output.expression; gives = meaning registry frame output.expression }
+    record { name = output.name; typing = typing registry frame.schema (settled output.expression); gives = meaning registry frame (settled output.expression) }
 
 -- what a plan means: a frame or a data fault
 abbrev pub source_meaning : Registry → List Frame → Plan → Outcome Frame

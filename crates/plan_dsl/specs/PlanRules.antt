@@ -1,15 +1,16 @@
 -- The rules of plans.
 -- A node breaks some kinds of rule, where what they read is there, over inputs that have a schema or none.
 -- Where it breaks none it has a schema. A plan is well formed where each of its nodes has one.
-use Rattle.std.specs.Prelude.{◌≡◌, ℕ, List, [], ◌∷◌, ◌++◌, map, Option, Some, None, Bool, is_some, IsTrue, Result, Ok, Err, if◌then◌else◌}
+use Rattle.std.specs.Prelude.{◌≡◌, ℕ, List, [], ◌∷◌, ◌++◌, map, Option, Some, None, Bool, not, is_some, IsTrue, Result, Ok, Err, if◌then◌else◌}
 use Rattle.std.specs.List.{Contains}
-use Rattle.plan_types.specs.Schemas.{Name, Columns, repeats, names_of}
+use Rattle.plan_types.specs.Schemas.{Name, Columns, repeats, names_of, all_known}
 use Rattle.plan_types.specs.declared.error.ErrorKind.{ErrorKind}
-use Rattle.plan_types.specs.declared.error.ErrorKind.TheVariants.{Duplicate}
+use Rattle.plan_types.specs.declared.error.ErrorKind.TheVariants.{Duplicate, InvalidOperation}
 use Rattle.plan_dsl.specs.Registry.{Registry}
 use Rattle.plan_dsl.specs.Trees.{Tree, Trees, node, no_more, more, fold, fold_all, tree_at}
 use Rattle.plan_dsl.specs.Ops.{Expression}
 use Rattle.plan_dsl.specs.Plans.{PlanKind, ScanKind, SelectKind, PlanOp, Plan, Named}
+use Rattle.plan_dsl.specs.Literals.{settled}
 use Rattle.plan_dsl.specs.Typing.{Typed, typing, kinds_in}
 
 -- an expression as the rules see it: its name, its typing, and the kinds that it breaks
@@ -20,7 +21,7 @@ pub record Signature : Type 0 where
 
 abbrev pub signature : Registry → Columns → Named Expression → Signature
 signature registry schema output =
-    record { name = output.name; typing = typing registry schema output.expression; kinds = kinds_in registry schema output.expression }
+    record { name = output.name; typing = typing registry schema (settled output.expression); kinds = kinds_in registry schema (settled output.expression) }
 
 abbrev pub signatures : Registry → List (Named Expression) → Columns → List Signature
 signatures registry outputs schema = map (signature registry schema) outputs
@@ -37,15 +38,19 @@ kind_where test kind = if test then kind ∷ [] else []
 abbrev pub select_kinds : List Signature → List ErrorKind
 select_kinds outputs = all_kinds outputs ++ kind_where (repeats (map (λ s. s.name) outputs)) Duplicate
 
--- the kinds that a node breaks, by its expressions over a schema and by the schemas of its inputs
-abbrev pub kinds_by : PlanKind → (Columns → List Signature) → List (Option Columns) → List ErrorKind
-kinds_by (ScanKind table) outputs inputs = []
-kinds_by SelectKind outputs [] = []
-kinds_by SelectKind outputs (None ∷ inputs) = []
-kinds_by SelectKind outputs (Some schema ∷ inputs) = select_kinds (outputs schema)
+-- a scan's columns have types of columns
+abbrev pub scan_kinds : Columns → List ErrorKind
+scan_kinds own = kind_where (not (all_known own)) InvalidOperation
+
+-- the kinds that a node breaks, by its schema, its expressions over a schema and the schemas of its inputs
+abbrev pub kinds_by : PlanKind → Columns → (Columns → List Signature) → List (Option Columns) → List ErrorKind
+kinds_by (ScanKind table) own outputs inputs = scan_kinds own
+kinds_by SelectKind own outputs [] = []
+kinds_by SelectKind own outputs (None ∷ inputs) = []
+kinds_by SelectKind own outputs (Some schema ∷ inputs) = select_kinds (outputs schema)
 
 abbrev pub broken_kinds : Registry → PlanOp Expression → List (Option Columns) → List ErrorKind
-broken_kinds registry op inputs = kinds_by op.kind (signatures registry op.expressions) inputs
+broken_kinds registry op inputs = kinds_by op.kind op.schema (signatures registry op.expressions) inputs
 
 abbrev pub column_before : Name → Result Typed ErrorKind → Option Columns → Option Columns
 column_before name (Err kind) rest = None

@@ -1,8 +1,9 @@
 -- How an expression runs as it is written.
 -- Nothing is cast but by the casts that are written: a node whose operands have other types than those to
--- which it takes them is stuck, and so is what has no type. Else the node does what its kernel says.
-use Rattle.std.specs.Prelude.{List, [], ◌∷◌, Result, Ok, Err, if◌then◌else◌}
-use Rattle.plan_types.specs.Types.{Ty}
+-- which it takes them is stuck, and so is a number without a type, and what has no type at all. Else the node
+-- does what its kernel says.
+use Rattle.std.specs.Prelude.{◌&&◌, List, [], ◌∷◌, Result, Ok, Err, if◌then◌else◌}
+use Rattle.plan_types.specs.Types.{Ty, is_known}
 use Rattle.plan_types.specs.Frames.{Frame}
 use Rattle.plan_types.specs.declared.error.ErrorKind.{ErrorKind}
 use Rattle.plan_dsl.specs.Registry.{Registry}
@@ -16,7 +17,7 @@ use Rattle.plan_dsl.specs.Strictness.{same_types}
 abbrev pub taken_run : Frame → Op → List Ty → Result Taken ErrorKind → List Meaning → Meaning
 taken_run frame op types (Err kind) operands = stuck
 taken_run frame op types (Ok taken) operands =
-    if same_types types taken.operands then kernel frame op types taken.type operands else stuck
+    if same_types types taken.operands && is_known taken.type then kernel frame op types taken.type operands else stuck
 
 abbrev pub node_run : Frame → Op → Result (List Typed) ErrorKind → List Meaning → Meaning
 node_run frame op (Err kind) operands = stuck

@@ -1,13 +1,14 @@
 -- Strict expressions, and expressions that say the same.
--- A node is strict where its operands have the types to which it takes them.
+-- A node is strict where its operands have the types to which it takes them, and it is no number without a type.
 use Rattle.std.specs.Prelude.{◌≡◌, Bool, true, false, ◌&&◌, List, [], ◌∷◌, Result, Ok, if◌then◌else◌}
-use Rattle.plan_types.specs.Types.{Ty, same_type}
+use Rattle.plan_types.specs.Types.{Ty, Truth, Integer, Untyped, is_known, same_type}
+use Rattle.plan_types.specs.Values.{IntValue}
 use Rattle.plan_types.specs.Schemas.{Columns}
 use Rattle.plan_types.specs.Frames.{Row, Frame}
 use Rattle.plan_types.specs.declared.dtype.CastOptions.TheVariants.{NonStrict}
 use Rattle.plan_dsl.specs.Registry.{Registry}
 use Rattle.plan_dsl.specs.Trees.{Tree, Trees, node, no_more, more}
-use Rattle.plan_dsl.specs.Ops.{Op, CastOp, Expression}
+use Rattle.plan_dsl.specs.Ops.{Op, LiteralOp, CastOp, Expression}
 use Rattle.plan_dsl.specs.Names.{name_of}
 use Rattle.plan_dsl.specs.Typing.{Typed, Taken, operand_types, types_of, typing, typing_all}
 use Rattle.plan_dsl.specs.Meaning.{meaning}
@@ -19,11 +20,12 @@ same_types [] (target ∷ targets) = false
 same_types (type ∷ types) [] = false
 same_types (type ∷ types) (target ∷ targets) = same_type type target && same_types types targets
 
--- the node takes operands of these types as they are
+-- the node takes operands of these types as they are, and its own type is one of columns
 pub record IsStrictNode (schema : Columns) (op : Op) (types : List Ty) : Type 0 where
   pub taken : Taken
   pub takes : operand_types schema op types ≡ Ok taken
   pub kept : same_types types taken.operands ≡ true
+  pub known : is_known taken.type ≡ true
 
 -- the node over these children, which are typed, is strict
 pub record IsStrictOver (registry : Registry) (schema : Columns) (op : Op) (children : Trees Op) : Type 0 where
@@ -40,9 +42,16 @@ abbrev mutual
   AllStrict registry schema no_more = Unit {0}
   AllStrict registry schema (more child rest) = IsStrict registry schema child × AllStrict registry schema rest
 
--- an expression of the first type, with a cast round it where the second is another
-abbrev pub with_cast : Ty → Ty → Expression → Expression
-with_cast from target tree = if same_type from target then tree else node (CastOp target NonStrict) (more tree no_more)
+-- an expression of the first type, made one of the second: a cast stands round it, and a number without a type
+-- becomes a literal
+abbrev pub changed : Ty → Ty → Expression → Expression
+changed Truth target tree = node (CastOp target NonStrict) (more tree no_more)
+changed (Integer signed bits) target tree = node (CastOp target NonStrict) (more tree no_more)
+changed (Untyped number) target tree = node (LiteralOp target (IntValue number)) no_more
+
+-- the same, where the types aren't one
+abbrev pub as_operand : Ty → Ty → Expression → Expression
+as_operand from target tree = if same_type from target then tree else changed from target tree
 
 -- the one expression has the type, name and meaning of the other, on every frame of the schema
 pub record IsSame (registry : Registry) (schema : Columns) (before after : Expression) : Type 0 where

@@ -1,16 +1,19 @@
 -- Types of expressions.
 -- Typing goes from the leaves up by one rule for a node. The first child that is refused is the answer.
-use Rattle.std.specs.Prelude.{Bool, true, false, ◌||◌, List, [], ◌∷◌, ◌++◌, map, Option, Some, None, Result, Ok, Err}
-use Rattle.plan_types.specs.Types.{Ty}
+use Rattle.std.specs.Prelude.{Bool, true, false, ◌||◌, List, [], ◌∷◌, ◌++◌, map, Option, Some, None, Result, Ok, Err, if◌then◌else◌}
+use Rattle.plan_types.specs.Types.{Ty, is_known}
+use Rattle.plan_types.specs.Values.{Val}
 use Rattle.plan_types.specs.Schemas.{Columns, type_at}
-use Rattle.plan_types.specs.Supertypes.{supertype}
+use Rattle.plan_types.specs.Casts.{can_cast}
+use Rattle.plan_types.specs.CommonTypes.{type_alone, common_type}
 use Rattle.plan_types.specs.declared.error.ErrorKind.{ErrorKind}
-use Rattle.plan_types.specs.declared.error.ErrorKind.TheVariants.{ColumnNotFound, SchemaMismatch}
+use Rattle.plan_types.specs.declared.error.ErrorKind.TheVariants.{ColumnNotFound, SchemaMismatch, InvalidOperation}
 use Rattle.plan_dsl.specs.declared.operator.Operator.{Operator}
 use Rattle.plan_dsl.specs.Operators.{result_type}
+use Rattle.plan_dsl.specs.Literals.{is_literal}
 use Rattle.plan_dsl.specs.Registry.{Registry}
 use Rattle.plan_dsl.specs.Trees.{Trees, node, no_more, more}
-use Rattle.plan_dsl.specs.Ops.{Op, ColumnOp, BinaryOp, CastOp, Expression}
+use Rattle.plan_dsl.specs.Ops.{Op, ColumnOp, LiteralOp, BinaryOp, CastOp, Expression}
 
 -- an expression's type, and whether its column may have another length than one
 pub record Typed : Type 0 where
@@ -23,30 +26,42 @@ pub record Taken : Type 0 where
   pub type : Ty
 
 -- both operands are taken to their common type
-abbrev pub both_to : Operator → Option Ty → Result Taken ErrorKind
-both_to operator None = Err SchemaMismatch
-both_to operator (Some type) = Ok (record { operands = type ∷ type ∷ []; type = result_type operator type })
+abbrev pub both_to : Operator → Result Ty ErrorKind → Result Taken ErrorKind
+both_to operator (Err kind) = Err kind
+both_to operator (Ok type) = Ok (record { operands = type ∷ type ∷ []; type = result_type operator type })
 
--- a column has no operand, and the type that the schema gives it
+-- a column has no operand, and the type that the schema gives it, which is one of columns
 abbrev pub column_type : Option Ty → Result Taken ErrorKind
 column_type None = Err ColumnNotFound
-column_type (Some type) = Ok (record { operands = []; type = type })
+column_type (Some type) = if is_known type then Ok (record { operands = []; type = type }) else Err InvalidOperation
+
+-- a literal has its own type
+abbrev pub literal_taken : Ty → Val → Result Taken ErrorKind
+literal_taken type value = if is_literal type value then Ok (record { operands = []; type = type }) else Err InvalidOperation
+
+-- a cast takes its operand as it is, where there is such a cast. A number without a type gets the one that it has alone
+abbrev pub cast_taken : Ty → Option Ty → Result Taken ErrorKind
+cast_taken target None = Err InvalidOperation
+cast_taken target (Some from) =
+    if can_cast from target then Ok (record { operands = from ∷ []; type = target }) else Err InvalidOperation
 
 -- the types to which an operator takes operands of these types
 abbrev pub operator_types : Operator → List Ty → Result Taken ErrorKind
 operator_types operator [] = Err SchemaMismatch
 operator_types operator (left ∷ []) = Err SchemaMismatch
-operator_types operator (left ∷ right ∷ []) = both_to operator (supertype left right)
+operator_types operator (left ∷ right ∷ []) = both_to operator (common_type left right)
 operator_types operator (left ∷ right ∷ third ∷ rest) = Err SchemaMismatch
 
--- The types to which a node takes operands of these types. A cast takes any type as it is. A node with
--- another number of operands than its own, which no expression has, has no type.
+-- The types to which a node takes operands of these types. A node with another number of operands than its
+-- own, which no expression has, has no type.
 abbrev pub operand_types : Columns → Op → List Ty → Result Taken ErrorKind
 operand_types schema (ColumnOp name) [] = column_type (type_at schema name)
 operand_types schema (ColumnOp name) (type ∷ types) = Err SchemaMismatch
+operand_types schema (LiteralOp type value) [] = literal_taken type value
+operand_types schema (LiteralOp type value) (operand ∷ types) = Err SchemaMismatch
 operand_types schema (BinaryOp operator) types = operator_types operator types
 operand_types schema (CastOp target options) [] = Err SchemaMismatch
-operand_types schema (CastOp target options) (from ∷ []) = Ok (record { operands = from ∷ []; type = target })
+operand_types schema (CastOp target options) (from ∷ []) = cast_taken target (type_alone from)
 operand_types schema (CastOp target options) (from ∷ other ∷ types) = Err SchemaMismatch
 
 abbrev pub types_of : List Typed → List Ty
@@ -60,6 +75,7 @@ some_many (t ∷ ts) = t.many || some_many ts
 -- whether a node's column may have another length than one
 abbrev pub is_many : Op → List Typed → Bool
 is_many (ColumnOp name) children = true
+is_many (LiteralOp type value) children = false
 is_many (BinaryOp operator) children = some_many children
 is_many (CastOp target options) children = some_many children
 

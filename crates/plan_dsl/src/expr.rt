@@ -3,6 +3,7 @@ ghost use Rattle.std.specs.Prelude.{◌≡◌, IfOk, IfErr};
 ghost use Rattle.plan_dsl.specs.Expressions.{tree_of};
 ghost use Rattle.plan_types.specs.Errors.{no_memory};
 
+use crate::literal::LiteralValue;
 use crate::operator::Operator;
 use plan_types::dtype::{CastOptions, DataType};
 use plan_types::error::PlanError;
@@ -14,6 +15,8 @@ use std::alloc::Global;
 pub enum Expr {
     /// The column of that name.
     Column(PlSmallStr),
+    /// A value.
+    Literal(LiteralValue),
     /// An operator between two expressions.
     BinaryExpr {
         left: Box<Expr>,
@@ -37,6 +40,10 @@ impl Expr {
             Expr::Column(name) => {
                 let name = name.try_clone(alloc)?;
                 Ok(Expr::Column(name))
+            }
+            Expr::Literal(value) => {
+                let value = value.try_clone(alloc)?;
+                Ok(Expr::Literal(value))
             }
             Expr::BinaryExpr { left, op, right } => {
                 let left = left.try_clone(alloc)?;

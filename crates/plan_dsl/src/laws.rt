@@ -1,10 +1,12 @@
 //! Laws of the definitions. The functions do nothing: their clauses are the laws.
-ghost use Rattle.plan_dsl.specs.Laws.{TakenTypesStay, StrictRunIsMeaning, MeaningHasType};
+ghost use Rattle.plan_dsl.specs.Laws.{TakenTypesStay, StrictRunIsMeaning, MeaningHasType, OnlyNumbersAreUntyped};
 
 /// Operands that were taken to their types stay. A strict expression gives what it means as it is written.
 /// What a typed expression means has its type on every frame, and is never stuck.
+/// Only a number that is written without a type has no type of columns.
 pub fn expression_laws()
     ensures taken_stay { TakenTypesStay }
     ensures strict_run { StrictRunIsMeaning }
     ensures has_type { MeaningHasType }
+    ensures untyped { OnlyNumbersAreUntyped }
 {}

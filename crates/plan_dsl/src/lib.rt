@@ -4,6 +4,7 @@
 pub mod examples;
 pub mod expr;
 pub mod laws;
+pub mod literal;
 pub mod operator;
 pub mod plan;
 pub mod plan_laws;

@@ -5,7 +5,7 @@ use Rattle.std.specs.List.{AllByRecursion}
 use Rattle.plan_types.specs.Types.{Ty, Truth, Integer, Untyped, is_known}
 use Rattle.plan_types.specs.Values.{in_range}
 use Rattle.plan_types.specs.Supertypes.{supertype, signed_above}
-use Rattle.plan_types.specs.CommonTypes.{first_with, types_alone, signed_types, unsigned_types, literal_type, least_signed, least_unsigned, least_type, own_type, type_beside, found_common, common_of, common_type}
+use Rattle.plan_types.specs.CommonTypes.{first_with, types_alone, signed_types, unsigned_types, literal_type, type_alone, least_signed, least_unsigned, least_type, own_type, type_beside, found_common, common_of, common_type}
 use Rattle.plan_types.specs.Errors.{IsMemoryOr, IsRefusal, no_room, broken}
 use Rattle.plan_types.specs.declared.error.ErrorKind.TheVariants.{SchemaMismatch, InvalidOperation}
 use Rattle.plan_types.specs.declared.error.PlanError.{PlanError}
@@ -31,6 +31,17 @@ least_has : (signed : Bool) (number : ℤ) (found : Ty) → least_type signed nu
 least_has true number found h = least_signed_has number found h
 least_has false number found h =
     elim (int_lt number (pos 0)) as (λ b. cond b (least_signed number) (least_unsigned number) ≡ Some found → HasNumber number found) [ true ↦ λ h. least_signed_has number found h | false ↦ λ h. first_has unsigned_types number found (refl, (refl, (refl, (refl, tt)))) h ] h
+
+-- an operand alone has a type of columns, and one that has such a type keeps it
+pub alone_known : (type found : Ty) → type_alone type ≡ Some found → is_known found ≡ true
+alone_known Truth found h = let same : Truth ≡ found = cc in subst (λ t. is_known t ≡ true) same refl
+alone_known (Integer signed bits) found h = let same : Integer signed bits ≡ found = cc in subst (λ t. is_known t ≡ true) same refl
+alone_known (Untyped number) found h = (literal_has number found h).1
+
+pub alone_itself : (type : Ty) → is_known type ≡ true → type_alone type ≡ Some type
+alone_itself Truth k = refl
+alone_itself (Integer signed bits) k = refl
+alone_itself (Untyped number) k = cc
 
 -- and so does that beside another operand
 pub own_has : (number : ℤ) (other found : Ty) → own_type number other ≡ Some found → HasNumber number found

@@ -107,7 +107,7 @@ turned : {A B : Type 0} → A ⊎ B → B ⊎ A
 turned h = elim h [ inl x ↦ inr x | inr y ↦ inl y ]
 
 -- truth values are no numbers
-no_number : (number : ℤ) → in_range Truth number ≡ true → ⊥
+pub no_number : (number : ℤ) → in_range Truth number ≡ true → ⊥
 no_number number h = grind (arith, ints)
 
 -- the common type has the numbers of both

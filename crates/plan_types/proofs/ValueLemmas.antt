@@ -1,7 +1,7 @@
 -- Values of a type: numbers that wrap around, casts, columns of frames; outcomes that are not stuck.
 use Rattle.std.proofs.Common.{◌≡◌, ℕ, zero, suc, ◌+◌, ◌-◌, ◌^◌, ◌<◌, ◌≤◌, Bool, true, false, ◌&&◌, not, cond, List, [], ◌∷◌, IsTrue, refl, ap, arith, subst, map, Some, slice_get, unwrap_or}
 use Rattle.std.specs.List.{AllByRecursion}
-use Rattle.std.specs.Prelude.{ℤ, pos, negsuc, neg_ℤ, ◌-ℤ◌, int_lt, nat_lt}
+use Rattle.std.specs.Prelude.{ℤ, pos, negsuc, neg_ℤ, ◌-ℤ◌, ◌≤ℤ◌, int_lt, nat_lt}
 use Rattle.std.proofs.Math.Nat.{mod-lt, pow-suc}
 use Rattle.std.proofs.lemmas.Nat.{pow_pos}
 use Rattle.std.proofs.lemmas.Int.{ints}
@@ -108,3 +108,7 @@ pub meets_as : {A : Type 0} (P Q : A → Type 0) (outcome : Outcome A) → Meets
 meets_as P Q (Done found) h each = each found h
 meets_as P Q Fault h each = tt
 meets_as P Q Stuck h each = absurd h
+
+-- a number that fits the type of a number without one is that number
+pub int_eq_exact : (own number : ℤ) → in_range (Untyped own) number ≡ true → own ≡ number
+int_eq_exact own number h = let parts : (own ≤ℤ number) × (number ≤ℤ own) = grind (arith, ints) in omega (arith, ints, parts)

@@ -27,6 +27,12 @@ unsigned_types = Integer false 8 ∷ Integer false 16 ∷ Integer false 32 ∷ I
 abbrev pub literal_type : ℤ → Option Ty
 literal_type number = first_with types_alone number
 
+-- an operand's type where nothing stands beside it
+abbrev pub type_alone : Ty → Option Ty
+type_alone Truth = Some Truth
+type_alone (Integer signed bits) = Some (Integer signed bits)
+type_alone (Untyped number) = literal_type number
+
 -- the least signed type, and UInt64 where no signed one has the number
 abbrev pub least_signed : ℤ → Option Ty
 least_signed number = first_with signed_types number

@@ -1,9 +1,9 @@
 -- Schemas.
 -- A schema is the list of its columns, each a name and a type. No name stands twice.
 use Rattle.std.specs.Prelude.{◌≡◌, ℕ, List, [], ◌∷◌, ◌||◌, map, Option, Some, None, Bool, false, if◌then◌else◌}
-use Rattle.std.specs.List.{list_any}
+use Rattle.std.specs.List.{list_any, list_all}
 use Rattle.std.specs.Str.{bytes_eq}
-use Rattle.plan_types.specs.Types.{Ty, ty}
+use Rattle.plan_types.specs.Types.{Ty, ty, is_known}
 use Rattle.plan_types.specs.declared.dtype.DataType.{DataType}
 use Rattle.plan_types.specs.declared.schema.Schema.{Schema}
 
@@ -59,3 +59,7 @@ repeats (name ∷ names) = is_among name names || repeats names
 -- the names of columns, or of other things that have one
 abbrev pub names_of : {A : Type 0} → List (Name × A) → List Name
 names_of named = map (λ entry. entry.0) named
+
+-- whether each column has a type of columns
+abbrev pub all_known : Columns → Bool
+all_known columns = list_all (λ column. is_known column.1) columns

@@ -6,20 +6,20 @@ ghost use Rattle.plan_types.specs.declared.dtype.CastOptions.TheVariants.{Strict
 ghost use Rattle.plan_dsl.specs.declared.operator.Operator.TheVariants.{Lt, Plus};
 ghost use Rattle.plan_dsl.specs.Trees.{node, no_more, more};
 ghost use Rattle.plan_dsl.specs.Ops.{ColumnOp, BinaryOp, CastOp};
-ghost use Rattle.plan_dsl.specs.Strictness.{IsSame, IsStrict, with_cast};
+ghost use Rattle.plan_dsl.specs.Strictness.{IsSame, IsStrict, as_operand};
 
 /// A cast stands round an expression of another type, and each operand of a strict node has the type to which it is taken.
 pub fn strict_expressions()
     ensures other_type { let a = node (ColumnOp (codes "a")) no_more in
         let wide = node (CastOp (Integer true 16) NonStrict) (more a no_more) in
-        with_cast (Integer true 8) (Integer true 16) a ≡ wide }
+        as_operand (Integer true 8) (Integer true 16) a ≡ wide }
     ensures own_type { let a = node (ColumnOp (codes "a")) no_more in
-        with_cast (Integer true 8) (Integer true 8) a ≡ a }
+        as_operand (Integer true 8) (Integer true 8) a ≡ a }
     ensures truth_beside_a_number { let t = node (ColumnOp (codes "t")) no_more in
         let number = node (CastOp (Integer true 8) NonStrict) (more t no_more) in
-        with_cast Truth (Integer true 8) t ≡ number }
+        as_operand Truth (Integer true 8) t ≡ number }
     ensures truth_beside_a_truth { let t = node (ColumnOp (codes "t")) no_more in
-        with_cast Truth Truth t ≡ t }
+        as_operand Truth Truth t ≡ t }
     ensures column { let schema = (codes "a", Integer true 8) ∷ (codes "b", Integer true 32) ∷ (codes "u", Integer false 64) ∷ [] in
         let a = node (ColumnOp (codes "a")) no_more in
         IsStrict [] schema a }

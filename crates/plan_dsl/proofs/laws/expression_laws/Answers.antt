@@ -1,3 +1,5 @@
+use Rattle.std.proofs.Common.{Ok, ap, ◌∙◌}
+use Rattle.plan_dsl.proofs.LiteralLemmas.{untyped_is_number}
 use Rattle.plan_dsl.proofs.CastLemmas.{taken_types_stay}
 use Rattle.plan_dsl.proofs.FitLemmas.{meaning_has_type}
 use Rattle.plan_dsl.proofs.RunLemmas.{strict_is_meaning}
@@ -11,3 +13,7 @@ returns-clause-strict_run c = strict_is_meaning
 
 pub returns-clause-has_type : goal.returns-clause-has_type
 returns-clause-has_type c registry frame tree typed of typing rows = meaning_has_type registry frame of tree typed typing rows
+
+pub returns-clause-untyped : goal.returns-clause-untyped
+returns-clause-untyped c registry schema number tree typed typing is =
+    (untyped_is_number registry schema number tree typed.many (typing ∙ ap (λ type. Ok (record { type = type; many = typed.many })) is)).tree_is

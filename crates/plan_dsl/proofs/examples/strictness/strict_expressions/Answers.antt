@@ -21,13 +21,13 @@ abbrev taken_as : List Ty → Ty → Taken
 taken_as operands type = record { operands = operands; type = type }
 
 a_strict : IsStrict [] schema (column (codes "a"))
-a_strict = (record { typed = []; types = refl; strict = record { taken = taken_as [] (Integer true 8); takes = refl; kept = refl } }, tt)
+a_strict = (record { typed = []; types = refl; strict = record { taken = taken_as [] (Integer true 8); takes = refl; kept = refl; known = refl } }, tt)
 
 b_strict : IsStrict [] schema (column (codes "b"))
-b_strict = (record { typed = []; types = refl; strict = record { taken = taken_as [] (Integer true 32); takes = refl; kept = refl } }, tt)
+b_strict = (record { typed = []; types = refl; strict = record { taken = taken_as [] (Integer true 32); takes = refl; kept = refl; known = refl } }, tt)
 
 cast_strict : IsStrict [] schema (node (CastOp (Integer true 32) NonStrict) (more (column (codes "a")) no_more))
-cast_strict = (record { typed = of_type (Integer true 8) ∷ []; types = refl; strict = record { taken = taken_as (Integer true 8 ∷ []) (Integer true 32); takes = refl; kept = refl } }, (a_strict, tt))
+cast_strict = (record { typed = of_type (Integer true 8) ∷ []; types = refl; strict = record { taken = taken_as (Integer true 8 ∷ []) (Integer true 32); takes = refl; kept = refl; known = refl } }, (a_strict, tt))
 
 pub returns-clause-column : goal.returns-clause-column
 returns-clause-column c = a_strict
@@ -35,14 +35,14 @@ returns-clause-column c = a_strict
 pub returns-clause-sum_of_one_type : goal.returns-clause-sum_of_one_type
 returns-clause-sum_of_one_type c =
     let type = Integer true 8 in
-    (record { typed = of_type type ∷ of_type type ∷ []; types = refl; strict = record { taken = taken_as (type ∷ type ∷ []) type; takes = refl; kept = refl } }, (a_strict, (a_strict, tt)))
+    (record { typed = of_type type ∷ of_type type ∷ []; types = refl; strict = record { taken = taken_as (type ∷ type ∷ []) type; takes = refl; kept = refl; known = refl } }, (a_strict, (a_strict, tt)))
 
 pub returns-clause-sum_with_its_cast : goal.returns-clause-sum_with_its_cast
 returns-clause-sum_with_its_cast c =
     let type = Integer true 32 in
-    (record { typed = of_type type ∷ of_type type ∷ []; types = refl; strict = record { taken = taken_as (type ∷ type ∷ []) type; takes = refl; kept = refl } }, (cast_strict, (b_strict, tt)))
+    (record { typed = of_type type ∷ of_type type ∷ []; types = refl; strict = record { taken = taken_as (type ∷ type ∷ []) type; takes = refl; kept = refl; known = refl } }, (cast_strict, (b_strict, tt)))
 
 pub returns-clause-comparison_with_its_cast : goal.returns-clause-comparison_with_its_cast
 returns-clause-comparison_with_its_cast c =
     let type = Integer true 32 in
-    (record { typed = of_type type ∷ of_type type ∷ []; types = refl; strict = record { taken = taken_as (type ∷ type ∷ []) Truth; takes = refl; kept = refl } }, (cast_strict, (b_strict, tt)))
+    (record { typed = of_type type ∷ of_type type ∷ []; types = refl; strict = record { taken = taken_as (type ∷ type ∷ []) Truth; takes = refl; kept = refl; known = refl } }, (cast_strict, (b_strict, tt)))

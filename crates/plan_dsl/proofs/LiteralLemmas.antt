@@ -1,0 +1,183 @@
+-- Numbers without a type: which expressions they are, what they mean, and that strict expressions are none.
+use Rattle.std.proofs.Common.{◌≡◌, ◌∙◌, Bool, true, false, ◌&&◌, cond, List, [], ◌∷◌, Option, Some, None, is_some, Ok, Err, refl, sym, ap, subst}
+use Rattle.std.specs.Prelude.{ℕ, ℤ, unwrap_or}
+use Rattle.std.proofs.lemmas.Bool.{and_parts, and_from}
+use Rattle.plan_types.specs.Types.{Ty, Truth, Integer, Untyped, is_known, same_type}
+use Rattle.plan_types.specs.Schemas.{Columns, type_at}
+use Rattle.plan_types.specs.Values.{Val, NullValue, TruthValue, IntValue, in_range}
+use Rattle.plan_types.specs.Outcomes.{Done}
+use Rattle.plan_types.specs.Casts.{Gives, can_cast, cast, out_of_range}
+use Rattle.plan_types.specs.CommonTypes.{type_alone, common_type}
+use Rattle.plan_types.specs.Frames.{Frame}
+use Rattle.plan_types.specs.declared.error.ErrorKind.TheVariants.{InvalidOperation}
+use Rattle.plan_types.specs.declared.dtype.CastOptions.TheVariants.{NonStrict}
+use Rattle.plan_types.proofs.SupertypeLemmas.{no_number}
+use Rattle.plan_types.proofs.CommonLemmas.{alone_known, alone_itself, common_known}
+use Rattle.plan_types.proofs.ValueLemmas.{int_eq_exact}
+use Rattle.plan_dsl.specs.declared.operator.Operator.{Operator}
+use Rattle.plan_dsl.specs.declared.operator.Operator.TheVariants.{Eq, NotEq, Lt, LtEq, Gt, GtEq, Plus}
+use Rattle.plan_dsl.specs.Operators.{result_type}
+use Rattle.plan_dsl.specs.Registry.{Registry}
+use Rattle.plan_dsl.specs.Trees.{Trees, node, no_more, more}
+use Rattle.plan_dsl.specs.Ops.{Op, ColumnOp, LiteralOp, BinaryOp, CastOp, Expression}
+use Rattle.plan_dsl.specs.Names.{name_of}
+use Rattle.plan_dsl.specs.Literals.{is_literal, is_literal_of, settled, settled_type}
+use Rattle.plan_dsl.specs.Typing.{Typed, Taken, both_to, column_type, cast_taken, operator_types, operand_types, types_of, is_many, typed_as, typed_before, typing, typing_all}
+use Rattle.plan_dsl.specs.Kernels.{Meaning, cast_meaning, value_before}
+use Rattle.plan_dsl.specs.Meaning.{meaning, taken_meaning}
+use Rattle.plan_dsl.specs.Strictness.{IsStrict}
+use Rattle.plan_dsl.proofs.TypingLemmas.{ok_same, ok_where, typed_parts}
+
+not_both : (type : Ty) (number : ℤ) → is_known type ≡ true → type ≡ Untyped number → ⊥
+not_both type number k e = let unknown : is_known type ≡ false = ap is_known e in cc
+
+-- an operator's result is a type of columns where the operands' common type is one
+pub result_known : (operator : Operator) (common : Ty) → is_known common ≡ true → is_known (result_type operator common) ≡ true
+result_known Eq common k = refl
+result_known NotEq common k = refl
+result_known Lt common k = refl
+result_known LtEq common k = refl
+result_known Gt common k = refl
+result_known GtEq common k = refl
+result_known Plus Truth k = refl
+result_known Plus (Integer signed bits) k = refl
+result_known Plus (Untyped number) k = cc
+
+both_known : (operator : Operator) (left right : Ty) (taken : Taken) → both_to operator (common_type left right) ≡ Ok taken → is_known taken.type ≡ true
+both_known operator left right taken h =
+    elim (common_type left right) as (λ r. common_type left right ≡ r → both_to operator r ≡ Ok taken → is_known taken.type ≡ true) [
+      | Err kind ↦ λ e h. cc
+      | Ok common ↦ λ e h. subst (λ (t : Taken). is_known t.type ≡ true) (ok_same (both_to operator (Ok common)) _ taken refl h) (result_known operator common (common_known left right common e))
+    ] refl h
+
+pub operator_known : (operator : Operator) (types : List Ty) (taken : Taken) → operator_types operator types ≡ Ok taken → is_known taken.type ≡ true
+operator_known operator [] taken h = cc
+operator_known operator (left ∷ []) taken h = cc
+operator_known operator (left ∷ right ∷ []) taken h = both_known operator left right taken h
+operator_known operator (left ∷ right ∷ third ∷ types) taken h = cc
+
+-- what a literal of a number's own type is
+number_literal : (number : ℤ) (value : Val) → is_literal (Untyped number) value ≡ true → value ≡ IntValue number
+number_literal number NullValue h = cc
+number_literal number (TruthValue truth) h = cc
+number_literal number (IntValue other) h =
+    let parts = and_parts (in_range (Untyped number) other) (is_some (type_alone (Untyped number))) h in
+    sym (ap IntValue (int_eq_exact number other parts.0))
+
+-- a node of a number's own type is that literal
+pub record IsNumberOp (number : ℤ) (op : Op) (types : List Ty) : Type 0 where
+  pub op_is : op ≡ LiteralOp (Untyped number) (IntValue number)
+  pub bare : types ≡ []
+  pub literal : is_literal (Untyped number) (IntValue number) ≡ true
+
+column_known : (schema : Columns) (found : Option Ty) (taken : Taken) → column_type found ≡ Ok taken → is_known taken.type ≡ true
+column_known schema None taken h = cc
+column_known schema (Some type) taken h =
+    let p = ok_where (is_known type) _ taken InvalidOperation h in
+    subst (λ (t : Taken). is_known t.type ≡ true) p.1 p.0
+
+cast_known : (target : Ty) (own : Option Ty) (taken : Taken) → cast_taken target own ≡ Ok taken → is_known taken.type ≡ true
+cast_known target None taken h = cc
+cast_known target (Some from) taken h =
+    let p = ok_where (can_cast from target) _ taken InvalidOperation h in
+    subst (λ (t : Taken). is_known t.type ≡ true) p.1 p.0
+
+number_here : (type : Ty) (value : Val) (number : ℤ) (taken : Taken) → type ≡ Untyped number → is_literal type value ≡ true → IsNumberOp number (LiteralOp type value) []
+number_here type value number taken e literal =
+    let here = subst (λ t. is_literal t value ≡ true) e literal in
+    let same = number_literal number value here in
+    record {
+      op_is = ap (λ t. LiteralOp t value) e ∙ ap (LiteralOp (Untyped number)) same;
+      bare = refl;
+      literal = subst (λ v. is_literal (Untyped number) v ≡ true) same here;
+    }
+
+untyped_op : (schema : Columns) (op : Op) (types : List Ty) (taken : Taken) (number : ℤ) → operand_types schema op types ≡ Ok taken → taken.type ≡ Untyped number → IsNumberOp number op types
+untyped_op schema (ColumnOp name) [] taken number h e = absurd (not_both taken.type number (column_known schema (type_at schema name) taken h) e)
+untyped_op schema (ColumnOp name) (type ∷ types) taken number h e = cc
+untyped_op schema (LiteralOp type value) [] taken number h e =
+    let p = ok_where (is_literal type value) _ taken InvalidOperation h in
+    number_here type value number taken (ap (λ (t : Taken). t.type) p.1 ∙ e) p.0
+untyped_op schema (LiteralOp type value) (operand ∷ types) taken number h e = cc
+untyped_op schema (BinaryOp operator) types taken number h e = absurd (not_both taken.type number (operator_known operator types taken h) e)
+untyped_op schema (CastOp target options) [] taken number h e = cc
+untyped_op schema (CastOp target options) (from ∷ []) taken number h e = absurd (not_both taken.type number (cast_known target (type_alone from) taken h) e)
+untyped_op schema (CastOp target options) (from ∷ other ∷ types) taken number h e = cc
+
+-- an expression of a number's own type is that literal
+pub record IsNumber (number : ℤ) (tree : Expression) (many : Bool) : Type 0 where
+  pub tree_is : tree ≡ node (LiteralOp (Untyped number) (IntValue number)) no_more
+  pub single : many ≡ false
+  pub literal : is_literal (Untyped number) (IntValue number) ≡ true
+
+no_types : (typed : List Typed) → types_of typed ≡ [] → typed ≡ []
+no_types [] h = refl
+no_types (t ∷ ts) h = cc
+
+no_children : (registry : Registry) (schema : Columns) (children : Trees Op) → typing_all registry schema children ≡ Ok [] → children ≡ no_more
+no_children registry schema no_more h = refl
+no_children registry schema (more child rest) h =
+    elim (typing registry schema child) as (λ r. typed_before r (typing_all registry schema rest) ≡ Ok [] → more child rest ≡ no_more) [
+      | Err kind ↦ λ h. cc
+      | Ok t ↦ λ h. elim (typing_all registry schema rest) as (λ r. typed_before (Ok t) r ≡ Ok [] → more child rest ≡ no_more) [ Err kind ↦ λ h. cc | Ok ts ↦ λ h. cc ] h
+    ] h
+
+pub untyped_is_number : (registry : Registry) (schema : Columns) (number : ℤ) (tree : Expression) (many : Bool) → typing registry schema tree ≡ Ok (record { type = Untyped number; many = many }) → IsNumber number tree many
+untyped_is_number registry schema number (node op children) many h =
+    let p = typed_parts registry schema op children _ h in
+    let is = untyped_op schema op (types_of p.below) p.taken number p.takes (ap (λ (t : Typed). t.type) p.is) in
+    let none = no_types p.below is.bare in
+    let bare = no_children registry schema children (p.children_typed ∙ ap Ok none) in
+    record {
+      tree_is = ap (λ o. node o children) is.op_is ∙ ap (node (LiteralOp (Untyped number) (IntValue number))) bare;
+      single = sym (ap (λ (t : Typed). t.many) p.is) ∙ ap (λ o. is_many o p.below) is.op_is;
+      literal = is.literal;
+    }
+
+-- a literal means its value
+pub literal_means : (registry : Registry) (frame : Frame) (type : Ty) (value : Val) → is_literal type value ≡ true → meaning registry frame (node (LiteralOp type value) no_more) ≡ (λ rows. Done (value ∷ []))
+literal_means registry frame type value h =
+    ap (λ b. taken_meaning frame (LiteralOp type value) [] (cond b (Ok (record { operands = []; type = type })) (Err InvalidOperation)) []) h
+
+pub literal_typing : (registry : Registry) (schema : Columns) (type : Ty) (value : Val) → is_literal type value ≡ true → typing registry schema (node (LiteralOp type value) no_more) ≡ Ok (record { type = type; many = false })
+literal_typing registry schema type value h =
+    ap (λ b. typed_as (cond b (Ok (record { operands = []; type = type })) (Err InvalidOperation)) false) h
+
+-- an operand of the first type can become one of the second: it is a type of columns, and has the number that
+-- had none
+pub record CanBecome (from target : Ty) : Type 0 where
+  pub known : is_known target ≡ true
+  pub has : (number : ℤ) → from ≡ Untyped number → in_range target number ≡ true
+
+pub becomes_literal : (target : Ty) (number : ℤ) → is_known target ≡ true → in_range target number ≡ true → is_literal target (IntValue number) ≡ true
+becomes_literal target number known has = and_from (in_range target number) (is_some (type_alone target)) has (ap is_some (alone_itself target known))
+
+-- a number that is cast to a type that has it
+pub number_cast : (number : ℤ) (target : Ty) → is_known target ≡ true → in_range target number ≡ true → cast_meaning (Untyped number) target NonStrict (λ rows. Done (IntValue number ∷ [])) ≡ (λ rows. Done (IntValue number ∷ []))
+number_cast number Truth known has = absurd (no_number number has)
+number_cast number (Integer signed bits) known has =
+    ap (λ b. λ rows. value_before (cond b (Gives (IntValue number)) (out_of_range NonStrict (Integer signed bits) number)) (Done [])) has
+number_cast number (Untyped other) known has = cc
+
+-- the number that has no type gets one at the top, and nothing else changes
+pub settled_name : (tree : Expression) → name_of (settled tree) ≡ name_of tree
+settled_name (node (ColumnOp name) children) = refl
+settled_name (node (LiteralOp type value) children) = refl
+settled_name (node (BinaryOp operator) children) = refl
+settled_name (node (CastOp target options) children) = refl
+
+literal_type_is : (schema : Columns) (type : Ty) (value : Val) (types : List Ty) (taken : Taken) → operand_types schema (LiteralOp type value) types ≡ Ok taken → type ≡ taken.type
+literal_type_is schema type value [] taken h =
+    ap (λ (t : Taken). t.type) (ok_where (is_literal type value) _ taken InvalidOperation h).1
+literal_type_is schema type value (operand ∷ types) taken h = cc
+
+-- so a strict expression stays
+pub strict_settled : (registry : Registry) (schema : Columns) (tree : Expression) → IsStrict registry schema tree → settled tree ≡ tree
+strict_settled registry schema (node (ColumnOp name) children) strict = refl
+strict_settled registry schema (node (LiteralOp type value) children) strict =
+    let s = strict.0.strict in
+    let same = literal_type_is schema type value (types_of strict.0.typed) s.taken s.takes in
+    let known = ap is_known same ∙ s.known in
+    ap (λ t. node (LiteralOp t value) children) (ap (λ o. unwrap_or o type) (alone_itself type known))
+strict_settled registry schema (node (BinaryOp operator) children) strict = refl
+strict_settled registry schema (node (CastOp target options) children) strict = refl

@@ -1,0 +1,46 @@
+-- Literals.
+-- A literal is a value of a type. A whole number may be written without a type: then it has one for itself,
+-- until it gets that of what stands beside it.
+use Rattle.std.specs.Prelude.{ℤ, pos, Bool, true, false, Option, Some, None, is_some, ◌&&◌, unwrap_or}
+use Rattle.plan_types.specs.Types.{Ty, Truth, Integer, Untyped}
+use Rattle.plan_types.specs.Values.{Val, NullValue, TruthValue, IntValue, fits}
+use Rattle.plan_types.specs.CommonTypes.{type_alone}
+use Rattle.plan_dsl.specs.declared.literal.LiteralValue.{LiteralValue}
+use Rattle.plan_dsl.specs.declared.literal.LiteralValue.TheVariants.{Int, Int8, Int16, Int32, Int64, UInt8, UInt16, UInt32, UInt64}
+use Rattle.plan_dsl.specs.Trees.{node}
+use Rattle.plan_dsl.specs.Ops.{Op, ColumnOp, LiteralOp, BinaryOp, CastOp, Expression}
+
+abbrev pub literal_op : LiteralValue → Op
+literal_op (Int number) = LiteralOp (Untyped number) (IntValue number)
+literal_op (Int8 number) = LiteralOp (Integer true 8) (IntValue number)
+literal_op (Int16 number) = LiteralOp (Integer true 16) (IntValue number)
+literal_op (Int32 number) = LiteralOp (Integer true 32) (IntValue number)
+literal_op (Int64 number) = LiteralOp (Integer true 64) (IntValue number)
+literal_op (UInt8 number) = LiteralOp (Integer false 8) (IntValue (pos number))
+literal_op (UInt16 number) = LiteralOp (Integer false 16) (IntValue (pos number))
+literal_op (UInt32 number) = LiteralOp (Integer false 32) (IntValue (pos number))
+literal_op (UInt64 number) = LiteralOp (Integer false 64) (IntValue (pos number))
+
+-- whether a literal of the type may have the value: null is one of no type
+abbrev pub is_literal_of : Ty → Val → Bool
+is_literal_of type NullValue = false
+is_literal_of type (TruthValue truth) = fits (TruthValue truth) type
+is_literal_of type (IntValue number) = fits (IntValue number) type
+
+-- whether there is a literal of the type with the value: a number without a type has one alone
+abbrev pub is_literal : Ty → Val → Bool
+is_literal type value = is_literal_of type value && is_some (type_alone type)
+
+-- a number without a type gets that which it has alone, if there is one
+abbrev pub settled_type : Ty → Ty
+settled_type type = unwrap_or (type_alone type) type
+
+abbrev pub settled_op : Op → Op
+settled_op (ColumnOp name) = ColumnOp name
+settled_op (LiteralOp type value) = LiteralOp (settled_type type) value
+settled_op (BinaryOp operator) = BinaryOp operator
+settled_op (CastOp target options) = CastOp target options
+
+-- an expression as a plan's node takes it: a number without a type at its top gets one
+abbrev pub settled : Expression → Expression
+settled (node op children) = node (settled_op op) children
