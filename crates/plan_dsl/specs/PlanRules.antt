@@ -1,15 +1,16 @@
 -- The rules of plans.
 -- A node breaks some kinds of rule, where what they read is there, over inputs that have a schema or none.
 -- Where it breaks none it has a schema. A plan is well formed where each of its nodes has one.
-use Rattle.std.specs.Prelude.{◌≡◌, ℕ, List, [], ◌∷◌, ◌++◌, map, Option, Some, None, Bool, is_some, IsTrue, Result, Ok, Err, if◌then◌else◌}
+use Rattle.std.specs.Prelude.{◌≡◌, ℕ, List, [], ◌∷◌, ◌++◌, map, Option, Some, None, Bool, is_some, IsTrue, not, Result, Ok, Err, if◌then◌else◌}
 use Rattle.std.specs.List.{Contains}
+use Rattle.plan_types.specs.Types.{Truth, same_type}
 use Rattle.plan_types.specs.Schemas.{Name, Columns, repeats, names_of}
 use Rattle.plan_types.specs.declared.error.ErrorKind.{ErrorKind}
-use Rattle.plan_types.specs.declared.error.ErrorKind.TheVariants.{Duplicate}
+use Rattle.plan_types.specs.declared.error.ErrorKind.TheVariants.{Duplicate, InvalidOperation}
 use Rattle.plan_dsl.specs.Registry.{Registry}
 use Rattle.plan_dsl.specs.Trees.{Tree, Trees, node, no_more, more, fold, fold_all, tree_at}
 use Rattle.plan_dsl.specs.Ops.{Expression}
-use Rattle.plan_dsl.specs.Plans.{PlanKind, ScanKind, SelectKind, PlanOp, Plan, Named}
+use Rattle.plan_dsl.specs.Plans.{PlanKind, ScanKind, SelectKind, FilterKind, PlanOp, Plan, Named}
 use Rattle.plan_dsl.specs.Typing.{Typed, typing, kinds_in}
 
 -- an expression as the rules see it: its name, its typing, and the kinds that it breaks
@@ -37,12 +38,26 @@ kind_where test kind = if test then kind ∷ [] else []
 abbrev pub select_kinds : List Signature → List ErrorKind
 select_kinds outputs = all_kinds outputs ++ kind_where (repeats (map (λ s. s.name) outputs)) Duplicate
 
+-- a typed predicate is of the type of truth values: what one that isn't typed breaks, its expression says
+abbrev pub predicate_kinds : Result Typed ErrorKind → List ErrorKind
+predicate_kinds (Err kind) = []
+predicate_kinds (Ok typed) = kind_where (not (same_type typed.type Truth)) InvalidOperation
+
+-- a filter breaks what its one expression breaks, as an expression and as a predicate
+abbrev pub filter_kinds : List Signature → List ErrorKind
+filter_kinds [] = []
+filter_kinds (s ∷ []) = s.kinds ++ predicate_kinds s.typing
+filter_kinds (s ∷ other ∷ ss) = []
+
 -- the kinds that a node breaks, by its expressions over a schema and by the schemas of its inputs
 abbrev pub kinds_by : PlanKind → (Columns → List Signature) → List (Option Columns) → List ErrorKind
 kinds_by (ScanKind table) outputs inputs = []
 kinds_by SelectKind outputs [] = []
 kinds_by SelectKind outputs (None ∷ inputs) = []
 kinds_by SelectKind outputs (Some schema ∷ inputs) = select_kinds (outputs schema)
+kinds_by FilterKind outputs [] = []
+kinds_by FilterKind outputs (None ∷ inputs) = []
+kinds_by FilterKind outputs (Some schema ∷ inputs) = filter_kinds (outputs schema)
 
 abbrev pub broken_kinds : Registry → PlanOp Expression → List (Option Columns) → List ErrorKind
 broken_kinds registry op inputs = kinds_by op.kind (signatures registry op.expressions) inputs
@@ -61,6 +76,12 @@ columns_of (s ∷ ss) = column_before s.name s.typing (columns_of ss)
 abbrev pub as_schema : Columns → Option Columns
 as_schema columns = if repeats (names_of columns) then None else Some columns
 
+-- the schema under one expression
+abbrev pub under_one : List Signature → Columns → Option Columns
+under_one [] schema = None
+under_one (s ∷ []) schema = Some schema
+under_one (s ∷ other ∷ ss) schema = None
+
 -- the schema of a node that breaks no rule
 abbrev pub schema_by : PlanKind → Columns → (Columns → List Signature) → List (Option Columns) → Option Columns
 schema_by (ScanKind table) own outputs [] = as_schema own
@@ -69,6 +90,10 @@ schema_by SelectKind own outputs [] = None
 schema_by SelectKind own outputs (None ∷ inputs) = None
 schema_by SelectKind own outputs (Some schema ∷ []) = columns_of (outputs schema)
 schema_by SelectKind own outputs (Some schema ∷ other ∷ inputs) = None
+schema_by FilterKind own outputs [] = None
+schema_by FilterKind own outputs (None ∷ inputs) = None
+schema_by FilterKind own outputs (Some schema ∷ []) = under_one (outputs schema) schema
+schema_by FilterKind own outputs (Some schema ∷ other ∷ inputs) = None
 
 abbrev pub where_unbroken : List ErrorKind → Option Columns → Option Columns
 where_unbroken [] schema = schema
