@@ -1,5 +1,5 @@
 -- A plan's node over frames of the schemas of its inputs gives a frame of its own schema.
-use Rattle.std.proofs.Common.{◌≡◌, ℕ, zero, suc, List, [], ◌∷◌, map, replicate, slice_get, Option, Some, None, Bool, true, false, ◌&&◌, IsTrue, Result, Ok, Err, refl, sym, ap, ◌∙◌, subst}
+use Rattle.std.proofs.Common.{◌≡◌, ℕ, zero, suc, List, [], ◌∷◌, map, replicate, slice_get, Option, Some, None, Bool, true, false, ◌&&◌, ◌||◌, ◌==◌, length, cond, IsTrue, Result, Ok, Err, refl, sym, ap, ◌∙◌, subst}
 use Rattle.std.specs.List.{AllByRecursion}
 use Rattle.plan_types.specs.Types.{Ty}
 use Rattle.plan_types.specs.Schemas.{Name, Columns, HasDistinctNames}
@@ -11,17 +11,17 @@ use Rattle.plan_types.proofs.ValueLemmas.{meets_then}
 use Rattle.plan_dsl.specs.Registry.{Registry}
 use Rattle.plan_dsl.specs.Trees.{Trees, node, no_more, more, fold_all}
 use Rattle.plan_dsl.specs.Ops.{Expression}
-use Rattle.plan_dsl.specs.Plans.{PlanKind, ScanKind, SelectKind, PlanOp, Plan, Named}
+use Rattle.plan_dsl.specs.Plans.{PlanKind, ScanKind, SelectKind, PlanOp, Plan, Named, FilterKind}
 use Rattle.plan_dsl.specs.Literals.{settled}
 use Rattle.plan_dsl.specs.Typing.{Typed, typing}
 use Rattle.plan_dsl.specs.Meaning.{meaning}
 use Rattle.plan_dsl.specs.Kernels.{stretched, at_length}
-use Rattle.plan_dsl.specs.PlanKernels.{Series, series_typed, all_series, shared_length, in_front, rows_of, series_columns, framed, selected, table_frame, frame_by, plan_kernel}
-use Rattle.plan_dsl.specs.PlanRules.{signatures, scan_kinds, select_kinds, column_before, columns_of, as_schema, where_unbroken, kinds_by, schema_by, plan_rule, schema_of, schemas_of, IsWellFormed, AllWellFormed}
+use Rattle.plan_dsl.specs.PlanKernels.{Series, series_typed, all_series, shared_length, in_front, rows_of, series_columns, framed, selected, table_frame, frame_by, plan_kernel, is_true, rows_where_true, kept_rows, filtered_on, filtered}
+use Rattle.plan_dsl.specs.PlanRules.{signatures, scan_kinds, select_kinds, column_before, columns_of, as_schema, where_unbroken, kinds_by, schema_by, plan_rule, schema_of, schemas_of, IsWellFormed, AllWellFormed, filter_kinds, under_one}
 use Rattle.plan_dsl.specs.PlanMeaning.{by_meaning, source_meaning, HasTable, FitsNode, FitsPlan, AllFitPlans}
 use Rattle.plan_dsl.specs.Laws.{AreOf, MeaningHasType, MeaningHasSchema}
 use Rattle.plan_dsl.proofs.FitLemmas.{meaning_has_type}
-use Rattle.plan_dsl.proofs.RuleLemmas.{unbroken_kinds, unbroken_schema, as_schema_is, selected_distinct, well_formed_schema}
+use Rattle.plan_dsl.proofs.RuleLemmas.{unbroken_kinds, unbroken_schema, as_schema_is, selected_distinct, predicate_typed, well_formed_schema}
 
 -- an input has a schema, and gives a frame of it unless there is a fault
 abbrev pub MeetsWhere : Option Columns → Outcome Frame → Type 0
@@ -143,6 +143,38 @@ empty_meets own schema e distinct = record {
 without_columns : (schema : Columns) → [] ≡ schema → IsFrameOf schema empty_frame
 without_columns schema e = record { schema_is = e; frame_is = record { distinct = tt; fitting = tt; bare = refl } }
 
+-- rows that are kept still fit
+kept_fit : (columns : Columns) (values : List Val) (rows : List Row) → AllByRecursion (RowFits columns) rows → AllByRecursion (RowFits columns) (rows_where_true values rows)
+kept_fit columns [] rows h = tt
+kept_fit columns (value ∷ values) [] h = tt
+kept_fit columns (value ∷ values) (row ∷ rows) h =
+    let rest = kept_fit columns values rows h.1 in
+    elim (is_true value) as (λ b. AllByRecursion (RowFits columns) (cond b (row ∷ rows_where_true values rows) (rows_where_true values rows))) [ true ↦ (h.0, rest) | false ↦ rest ]
+
+kept_of_none : (values : List Val) → rows_where_true values [] ≡ []
+kept_of_none [] = refl
+kept_of_none (value ∷ values) = refl
+
+kept_bare : (columns : Columns) (values : List Val) (rows : List Row) → HasNoRowsWithoutColumns columns rows → HasNoRowsWithoutColumns columns (rows_where_true values rows)
+kept_bare [] values rows h = ap (rows_where_true values) h ∙ kept_of_none values
+kept_bare (c ∷ cs) values rows h = tt
+
+kept_frame : (schema : Columns) (frame : Frame) (values : List Val) → IsFrameOf schema frame → IsFrameOf schema (record { schema = frame.schema; rows = rows_where_true values frame.rows })
+kept_frame schema frame values h = record {
+  schema_is = h.schema_is;
+  frame_is = record {
+    distinct = h.frame_is.distinct;
+    fitting = kept_fit frame.schema values frame.rows h.frame_is.fitting;
+    bare = kept_bare frame.schema values frame.rows h.frame_is.bare;
+  };
+}
+
+-- they are a frame of the same columns, or their number is a fault
+kept_meets : (schema : Columns) (frame : Frame) (values : List Val) → IsFrameOf schema frame → Meets (IsFrameOf schema) (kept_rows frame values)
+kept_meets schema frame values h =
+    let count = length frame.rows in
+    elim (length values == count || length values == 1) as (λ b. Meets (IsFrameOf schema) (then_do (cond b (Done (stretched count values)) Fault) (λ each. Done (record { schema = frame.schema; rows = rows_where_true each frame.rows })))) [ true ↦ kept_frame schema frame (stretched count values) h | false ↦ tt ]
+
 module _ (registry : Registry) (frame : Frame) (is_frame : IsFrame frame) (rows : List ℕ) where
   -- expressions that have columns give columns of them
   series_meet : (outputs : List (Named Expression)) (schema : Columns) → columns_of (signatures registry outputs frame.schema) ≡ Some schema → Meets (AreSeriesOf schema) (all_series rows (map (by_meaning registry frame) outputs))
@@ -171,6 +203,19 @@ module _ (registry : Registry) where
   select_meets (output ∷ outputs) under schema input h none columns =
       meets_then (IsFrameOf under) (IsFrameOf schema) input _ h (λ frame k. outputs_meet output outputs under schema frame k none columns)
 
+  -- a filter by a predicate that breaks no rule
+  predicate_meets : (predicate : Named Expression) (schema : Columns) (frame : Frame) → IsFrameOf schema frame → filter_kinds (signatures registry (predicate ∷ []) schema) ≡ [] → Meets (IsFrameOf schema) (filtered_on (by_meaning registry frame predicate ∷ []) frame)
+  predicate_meets predicate schema frame h none =
+      let typed = predicate_typed registry schema predicate none in
+      let there = subst (λ c. typing registry c (settled predicate.expression) ≡ Ok typed.0) (sym h.schema_is) typed.1 in
+      meets_then (AreOf typed.0) (IsFrameOf schema) _ (kept_rows frame) (meaning_has_type registry frame h.frame_is (settled predicate.expression) typed.0 there (row_numbers frame)) (λ values k. kept_meets schema frame values h)
+
+  filter_meets : (outputs : List (Named Expression)) (under schema : Columns) (input : Outcome Frame) → Meets (IsFrameOf under) input → filter_kinds (signatures registry outputs under) ≡ [] → under_one (signatures registry outputs under) under ≡ Some schema → Meets (IsFrameOf schema) (filtered (by_meaning registry) outputs input)
+  filter_meets [] under schema input h none is = absurd (absurd_none schema is)
+  filter_meets (predicate ∷ []) under schema input h none is =
+      subst (λ s. Meets (IsFrameOf s) (filtered (by_meaning registry) (predicate ∷ []) input)) (some_same _ _ is) (meets_then (IsFrameOf under) (IsFrameOf under) input _ h (λ frame k. predicate_meets predicate under frame k none))
+  filter_meets (first ∷ second ∷ rest) under schema input h none is = absurd (absurd_none schema is)
+
   node_meets : (kind : PlanKind) (tables : List Frame) (op : PlanOp Expression) (inputs : List (Option Columns)) (outcomes : List (Outcome Frame)) (schema : Columns) → FitsNode tables kind op.schema → where_unbroken (kinds_by kind op.schema (signatures registry op.expressions) inputs) (schema_by kind op.schema (signatures registry op.expressions) inputs) ≡ Some schema → AllMeet inputs outcomes → Meets (IsFrameOf schema) (frame_by kind tables (by_meaning registry) op outcomes)
   node_meets (ScanKind (Some number)) tables op [] [] schema fits h k =
       found_meets op.schema schema (slice_get tables number) (as_schema_is op.schema schema (unbroken_schema (scan_kinds op.schema) (as_schema op.schema) schema h)).0 fits
@@ -188,6 +233,16 @@ module _ (registry : Registry) where
   node_meets SelectKind tables op (Some under ∷ []) (outcome ∷ other ∷ outcomes) schema fits h k = absurd k.1
   node_meets SelectKind tables op (Some under ∷ other ∷ inputs) outcomes schema fits h k =
       absurd (none_never (select_kinds (signatures registry op.expressions under)) schema h)
+  node_meets FilterKind tables op [] outcomes schema fits h k = absurd (absurd_none schema h)
+  node_meets FilterKind tables op (None ∷ inputs) outcomes schema fits h k = absurd (absurd_none schema h)
+  node_meets FilterKind tables op (Some under ∷ []) [] schema fits h k = absurd k
+  node_meets FilterKind tables op (Some under ∷ []) (outcome ∷ []) schema fits h k =
+      let kinds = filter_kinds (signatures registry op.expressions under) in
+      let columns = under_one (signatures registry op.expressions under) under in
+      filter_meets op.expressions under schema outcome k.0 (unbroken_kinds kinds columns schema h) (unbroken_schema kinds columns schema h)
+  node_meets FilterKind tables op (Some under ∷ []) (outcome ∷ other ∷ outcomes) schema fits h k = absurd k.1
+  node_meets FilterKind tables op (Some under ∷ other ∷ inputs) outcomes schema fits h k =
+      absurd (none_never (filter_kinds (signatures registry op.expressions under)) schema h)
 
   -- a node that has a schema gives a frame of it, unless there is a fault
   pub kernel_meets : (tables : List Frame) (op : PlanOp Expression) (inputs : List (Option Columns)) (outcomes : List (Outcome Frame)) (schema : Columns) → FitsNode tables op.kind op.schema → plan_rule registry op inputs ≡ Some schema → AllMeet inputs outcomes → Meets (IsFrameOf schema) (plan_kernel tables (by_meaning registry) op outcomes)

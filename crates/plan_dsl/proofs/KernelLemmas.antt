@@ -7,7 +7,7 @@ use Rattle.plan_types.specs.Frames.{Row, Frame, IsFrameOf, row_numbers}
 use Rattle.plan_dsl.specs.Registry.{Registry}
 use Rattle.plan_dsl.specs.Ops.{Expression}
 use Rattle.plan_dsl.specs.Plans.{Named}
-use Rattle.plan_dsl.specs.PlanKernels.{Evaluated, Evaluation, selected, selected_on}
+use Rattle.plan_dsl.specs.PlanKernels.{Evaluated, Evaluation, selected, selected_on, filtered, filtered_on}
 
 -- two evaluations say the same of expressions side by side, on every frame of the columns
 abbrev pub AgreeOn : Columns → Evaluation → Evaluation → List (Named Expression) → List (Named Expression) → Type 0
@@ -26,3 +26,9 @@ selected_agrees e f (x ∷ xs) (y ∷ ys) schema Fault agree meets = refl
 selected_agrees e f (x ∷ xs) (y ∷ ys) schema Stuck agree meets = refl
 selected_agrees e f [] (y ∷ ys) schema input agree meets = let none = agree [] in cc
 selected_agrees e f (x ∷ xs) [] schema input agree meets = let none = agree [] in cc
+
+-- and so does a filter
+pub filtered_agrees : (e f : Evaluation) (xs ys : List (Named Expression)) (schema : Columns) (input : Outcome Frame) → AgreeOn schema e f xs ys → Meets (IsFrameOf schema) input → filtered e xs input ≡ filtered f ys input
+filtered_agrees e f xs ys schema (Done frame) agree meets = ap (λ es. filtered_on es frame) (on_frame e f xs ys schema frame meets.schema_is agree)
+filtered_agrees e f xs ys schema Fault agree meets = refl
+filtered_agrees e f xs ys schema Stuck agree meets = refl

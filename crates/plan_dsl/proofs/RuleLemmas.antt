@@ -1,9 +1,10 @@
--- Rules and what breaks them: of expressions, of a select's expressions, and of plans.
+-- Rules and what breaks them: of expressions, of a select's expressions, of a predicate, and of plans.
 use Rattle.std.proofs.Common.{◌≡◌, ℕ, zero, suc, List, [], ◌∷◌, ◌++◌, map, Option, Some, None, Bool, true, false, not, cond, is_some, Result, Ok, Err, refl, sym, ap, ◌∙◌, subst, arith}
 use Rattle.std.specs.List.{Contains, AllByRecursion}
 use Rattle.std.proofs.lemmas.List.{map-append}
 use Rattle.std.proofs.lemmas.List.Elements.{Contains-append_left, Contains-append_right, Contains-push}
 use Rattle.plan_types.specs.Schemas.{Name, Columns, type_at, repeats, names_of, HasDistinctNames, all_known}
+use Rattle.plan_types.specs.Types.{Truth, same_type}
 use Rattle.plan_types.specs.declared.error.ErrorKind.{ErrorKind}
 use Rattle.plan_types.specs.declared.error.ErrorKind.TheVariants.{Duplicate, InvalidOperation}
 use Rattle.plan_types.proofs.SchemaLemmas.{repeated_test, test_from_distinct, distinct_from_test}
@@ -12,10 +13,10 @@ use Rattle.plan_dsl.specs.Registry.{Registry}
 use Rattle.plan_dsl.specs.Trees.{Trees, node, no_more, more, child_at, child_of, tree_at}
 use Rattle.plan_dsl.specs.Ops.{Op, Expression}
 use Rattle.plan_dsl.specs.Names.{name_of}
-use Rattle.plan_dsl.specs.Plans.{PlanOp, Plan, Named, named, scan_op, select_op}
+use Rattle.plan_dsl.specs.Plans.{PlanOp, Plan, Named, named, scan_op, select_op, filter_op}
 use Rattle.plan_dsl.specs.Literals.{settled}
 use Rattle.plan_dsl.specs.Typing.{Typed, typing, typing_all, typing_rule, then_typed, typed_before, kind_of, own_kind, kinds_in, kinds_in_all}
-use Rattle.plan_dsl.specs.PlanRules.{Signature, signature, signatures, all_kinds, kind_where, select_kinds, scan_kinds, column_before, columns_of, as_schema, where_unbroken, plan_rule, schema_of, IsWellFormed, AllWellFormed, top_kinds, Breaks}
+use Rattle.plan_dsl.specs.PlanRules.{Signature, signature, signatures, all_kinds, kind_where, select_kinds, scan_kinds, column_before, columns_of, as_schema, where_unbroken, plan_rule, schema_of, IsWellFormed, AllWellFormed, top_kinds, Breaks, predicate_kinds, filter_kinds}
 
 same_kind : {A : Type 0} (r : Result A ErrorKind) (k kind : ErrorKind) → r ≡ Err k → r ≡ Err kind → k ≡ kind
 same_kind r k kind e f = cc
@@ -76,6 +77,32 @@ module _ (registry : Registry) (schema : Columns) where
   select_repeated_name before front tree back names found =
       let whole = map-append name_of front (tree ∷ back) ∙ ap (λ l. l ++ name_of tree ∷ map name_of back) (sym names) in
       select_repeated_kind (front ++ tree ∷ back) (ap repeats whole ∙ repeated_test before (name_of tree) (map name_of back) found)
+
+  -- a filter breaks the kind for which its predicate is refused
+  pub filter_refused_kind : (predicate : Named Expression) (kind : ErrorKind) → typing registry schema (settled predicate.expression) ≡ Err kind → Contains (filter_kinds (signatures registry (predicate ∷ []) schema)) kind
+  filter_refused_kind predicate kind h =
+      Contains-append_left (kinds_in registry schema (settled predicate.expression)) _ kind (refusal_is_broken (settled predicate.expression) kind h)
+
+  -- one whose predicate has another type than that of truth values breaks the rule of its type
+  pub filter_other_type : (predicate : Named Expression) (typed : Typed) → typing registry schema (settled predicate.expression) ≡ Ok typed → same_type typed.type Truth ≡ false → Contains (filter_kinds (signatures registry (predicate ∷ []) schema)) InvalidOperation
+  filter_other_type predicate typed h other =
+      let broken = subst (λ b. Contains (kind_where (not b) InvalidOperation) InvalidOperation) (sym other) (Contains-push [] InvalidOperation) in
+      Contains-append_right (kinds_in registry schema (settled predicate.expression)) _ InvalidOperation (subst (λ r. Contains (predicate_kinds r) InvalidOperation) (sym h) broken)
+
+  not_contained : (kinds : List ErrorKind) (kind : ErrorKind) → kinds ≡ [] → Contains kinds kind → ⊥
+  not_contained [] kind e h = omega (arith, h.1)
+  not_contained (k ∷ ks) kind e h = cc
+
+  -- the predicate of a filter that breaks no rule has a type
+  pub predicate_typed : (predicate : Named Expression) → filter_kinds (signatures registry (predicate ∷ []) schema) ≡ [] → (typed : Typed) × (typing registry schema (settled predicate.expression) ≡ Ok typed)
+  predicate_typed predicate none =
+      elim (typing registry schema (settled predicate.expression)) as (λ r. typing registry schema (settled predicate.expression) ≡ r → (typed : Typed) × (typing registry schema (settled predicate.expression) ≡ Ok typed)) [ Ok typed ↦ λ e. (typed, e) | Err kind ↦ λ e. absurd (not_contained _ kind none (filter_refused_kind predicate kind e)) ] refl
+
+  -- a filter by a typed predicate of truth values has the schema of its input
+  pub filter_schema : (predicate : Named Expression) (typed : Typed) → typing registry schema (settled predicate.expression) ≡ Ok typed → typed.type ≡ Truth → plan_rule registry (filter_op predicate) (Some schema ∷ []) ≡ Some schema
+  filter_schema predicate typed h truth =
+      let unbroken = ap (λ k. k ++ predicate_kinds (typing registry schema (settled predicate.expression))) (typed_breaks_nothing (settled predicate.expression) typed h) ∙ ap predicate_kinds h ∙ ap (λ t. kind_where (not (same_type t Truth)) InvalidOperation) truth in
+      ap (λ kinds. where_unbroken kinds (Some schema)) unbroken
 
   -- expressions that are typed, each with its name, tree and type
   module _ {A : Type 0} (name : A → Name) (tree : A → Expression) (typed : A → Typed) where

@@ -1,15 +1,16 @@
 -- What a plan's node does with the frames of its inputs.
 -- A scan gives its table, and the empty table has no rows. A select gives a column for each expression,
 -- brought to a common length; one of nothing gives the frame without columns, whatever its input gives.
-use Rattle.std.specs.Prelude.{ℕ, List, [], ◌∷◌, map, length, replicate, slice_get, Option, Some, None, Result, Ok, Err}
+-- A filter keeps the rows for which its predicate is true: null is not true.
+use Rattle.std.specs.Prelude.{ℕ, List, [], ◌∷◌, map, length, replicate, slice_get, Option, Some, None, Bool, false, ◌||◌, ◌==◌, if◌then◌else◌, Result, Ok, Err}
 use Rattle.plan_types.specs.Types.{Ty}
 use Rattle.plan_types.specs.Schemas.{Name, Columns}
-use Rattle.plan_types.specs.Values.{Val}
-use Rattle.plan_types.specs.Outcomes.{Outcome, Done, Stuck, then_do}
+use Rattle.plan_types.specs.Values.{Val, NullValue, TruthValue, IntValue}
+use Rattle.plan_types.specs.Outcomes.{Outcome, Done, Fault, Stuck, then_do}
 use Rattle.plan_types.specs.Frames.{Row, Frame, empty_frame, row_numbers}
 use Rattle.plan_types.specs.declared.error.ErrorKind.{ErrorKind}
 use Rattle.plan_dsl.specs.Ops.{Expression}
-use Rattle.plan_dsl.specs.Plans.{PlanKind, ScanKind, SelectKind, PlanOp, Named}
+use Rattle.plan_dsl.specs.Plans.{PlanKind, ScanKind, SelectKind, FilterKind, PlanOp, Named}
 use Rattle.plan_dsl.specs.Typing.{Typed}
 use Rattle.plan_dsl.specs.Kernels.{Meaning, common_length, stretched, at_length}
 
@@ -78,6 +79,36 @@ selected evaluate [] input = Done empty_frame
 selected evaluate (output ∷ outputs) input =
     then_do input (λ frame. selected_on (map (evaluate frame) (output ∷ outputs)) (row_numbers frame))
 
+-- values for that many rows: one for each, or a single one that is repeated
+abbrev pub for_rows : ℕ → List Val → Outcome (List Val)
+for_rows count values = if length values == count || length values == 1 then Done (stretched count values) else Fault
+
+abbrev pub is_true : Val → Bool
+is_true NullValue = false
+is_true (TruthValue truth) = truth
+is_true (IntValue number) = false
+
+-- the rows beside a true value
+abbrev pub rows_where_true : List Val → List Row → List Row
+rows_where_true [] rows = []
+rows_where_true (value ∷ values) [] = []
+rows_where_true (value ∷ values) (row ∷ rows) =
+    if is_true value then row ∷ rows_where_true values rows else rows_where_true values rows
+
+-- the frame of the rows for which the values are true
+abbrev pub kept_rows : Frame → List Val → Outcome Frame
+kept_rows frame values =
+    then_do (for_rows (length frame.rows) values) (λ each. Done (record { schema = frame.schema; rows = rows_where_true each frame.rows }))
+
+-- the rows of a frame for which its one expression is true
+abbrev pub filtered_on : List Evaluated → Frame → Outcome Frame
+filtered_on [] frame = Stuck
+filtered_on (e ∷ []) frame = then_do (e.gives (row_numbers frame)) (kept_rows frame)
+filtered_on (e ∷ other ∷ es) frame = Stuck
+
+abbrev pub filtered : Evaluation → List (Named Expression) → Outcome Frame → Outcome Frame
+filtered evaluate outputs input = then_do input (λ frame. filtered_on (map (evaluate frame) outputs) frame)
+
 abbrev pub table_frame : Option Frame → Outcome Frame
 table_frame None = Stuck
 table_frame (Some frame) = Done frame
@@ -93,6 +124,9 @@ frame_by (ScanKind table) tables evaluate op (input ∷ inputs) = Stuck
 frame_by SelectKind tables evaluate op [] = Stuck
 frame_by SelectKind tables evaluate op (input ∷ []) = selected evaluate op.expressions input
 frame_by SelectKind tables evaluate op (input ∷ other ∷ inputs) = Stuck
+frame_by FilterKind tables evaluate op [] = Stuck
+frame_by FilterKind tables evaluate op (input ∷ []) = filtered evaluate op.expressions input
+frame_by FilterKind tables evaluate op (input ∷ other ∷ inputs) = Stuck
 
 -- what a node gives, from what its inputs give
 abbrev pub plan_kernel : List Frame → Evaluation → PlanOp Expression → List (Outcome Frame) → Outcome Frame

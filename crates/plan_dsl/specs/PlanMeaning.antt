@@ -8,7 +8,7 @@ use Rattle.plan_types.specs.Frames.{Frame, IsFrameOf}
 use Rattle.plan_dsl.specs.Registry.{Registry}
 use Rattle.plan_dsl.specs.Trees.{Trees, node, no_more, more, fold}
 use Rattle.plan_dsl.specs.Ops.{Expression}
-use Rattle.plan_dsl.specs.Plans.{PlanKind, ScanKind, SelectKind, PlanOp, Plan, Named}
+use Rattle.plan_dsl.specs.Plans.{PlanKind, ScanKind, SelectKind, PlanOp, Plan, Named, FilterKind}
 use Rattle.plan_dsl.specs.Literals.{settled}
 use Rattle.plan_dsl.specs.Typing.{typing}
 use Rattle.plan_dsl.specs.Meaning.{meaning}
@@ -33,6 +33,7 @@ abbrev pub FitsNode : List Frame → PlanKind → Columns → Type 0
 FitsNode tables (ScanKind (Some number)) schema = HasTable schema (slice_get tables number)
 FitsNode tables (ScanKind None) schema = Unit {0}
 FitsNode tables SelectKind schema = Unit {0}
+FitsNode tables FilterKind schema = Unit {0}
 
 abbrev mutual
   pub FitsPlan : List Frame → Plan → Type 0

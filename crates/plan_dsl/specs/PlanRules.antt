@@ -4,12 +4,13 @@
 use Rattle.std.specs.Prelude.{◌≡◌, ℕ, List, [], ◌∷◌, ◌++◌, map, Option, Some, None, Bool, not, is_some, IsTrue, Result, Ok, Err, if◌then◌else◌}
 use Rattle.std.specs.List.{Contains}
 use Rattle.plan_types.specs.Schemas.{Name, Columns, repeats, names_of, all_known}
+use Rattle.plan_types.specs.Types.{Truth, same_type}
 use Rattle.plan_types.specs.declared.error.ErrorKind.{ErrorKind}
 use Rattle.plan_types.specs.declared.error.ErrorKind.TheVariants.{Duplicate, InvalidOperation}
 use Rattle.plan_dsl.specs.Registry.{Registry}
 use Rattle.plan_dsl.specs.Trees.{Tree, Trees, node, no_more, more, fold, fold_all, tree_at}
 use Rattle.plan_dsl.specs.Ops.{Expression}
-use Rattle.plan_dsl.specs.Plans.{PlanKind, ScanKind, SelectKind, PlanOp, Plan, Named}
+use Rattle.plan_dsl.specs.Plans.{PlanKind, ScanKind, SelectKind, PlanOp, Plan, Named, FilterKind}
 use Rattle.plan_dsl.specs.Literals.{settled}
 use Rattle.plan_dsl.specs.Typing.{Typed, typing, kinds_in}
 
@@ -42,12 +43,26 @@ select_kinds outputs = all_kinds outputs ++ kind_where (repeats (map (λ s. s.na
 abbrev pub scan_kinds : Columns → List ErrorKind
 scan_kinds own = kind_where (not (all_known own)) InvalidOperation
 
+-- a typed predicate is of the type of truth values: what one that isn't typed breaks, its expression says
+abbrev pub predicate_kinds : Result Typed ErrorKind → List ErrorKind
+predicate_kinds (Err kind) = []
+predicate_kinds (Ok typed) = kind_where (not (same_type typed.type Truth)) InvalidOperation
+
+-- a filter breaks what its one expression breaks, as an expression and as a predicate
+abbrev pub filter_kinds : List Signature → List ErrorKind
+filter_kinds [] = []
+filter_kinds (s ∷ []) = s.kinds ++ predicate_kinds s.typing
+filter_kinds (s ∷ other ∷ ss) = []
+
 -- the kinds that a node breaks, by its schema, its expressions over a schema and the schemas of its inputs
 abbrev pub kinds_by : PlanKind → Columns → (Columns → List Signature) → List (Option Columns) → List ErrorKind
 kinds_by (ScanKind table) own outputs inputs = scan_kinds own
 kinds_by SelectKind own outputs [] = []
 kinds_by SelectKind own outputs (None ∷ inputs) = []
 kinds_by SelectKind own outputs (Some schema ∷ inputs) = select_kinds (outputs schema)
+kinds_by FilterKind own outputs [] = []
+kinds_by FilterKind own outputs (None ∷ inputs) = []
+kinds_by FilterKind own outputs (Some schema ∷ inputs) = filter_kinds (outputs schema)
 
 abbrev pub broken_kinds : Registry → PlanOp Expression → List (Option Columns) → List ErrorKind
 broken_kinds registry op inputs = kinds_by op.kind op.schema (signatures registry op.expressions) inputs
@@ -66,6 +81,12 @@ columns_of (s ∷ ss) = column_before s.name s.typing (columns_of ss)
 abbrev pub as_schema : Columns → Option Columns
 as_schema columns = if repeats (names_of columns) then None else Some columns
 
+-- the schema under one expression
+abbrev pub under_one : List Signature → Columns → Option Columns
+under_one [] schema = None
+under_one (s ∷ []) schema = Some schema
+under_one (s ∷ other ∷ ss) schema = None
+
 -- the schema of a node that breaks no rule
 abbrev pub schema_by : PlanKind → Columns → (Columns → List Signature) → List (Option Columns) → Option Columns
 schema_by (ScanKind table) own outputs [] = as_schema own
@@ -74,6 +95,10 @@ schema_by SelectKind own outputs [] = None
 schema_by SelectKind own outputs (None ∷ inputs) = None
 schema_by SelectKind own outputs (Some schema ∷ []) = columns_of (outputs schema)
 schema_by SelectKind own outputs (Some schema ∷ other ∷ inputs) = None
+schema_by FilterKind own outputs [] = None
+schema_by FilterKind own outputs (None ∷ inputs) = None
+schema_by FilterKind own outputs (Some schema ∷ []) = under_one (outputs schema) schema
+schema_by FilterKind own outputs (Some schema ∷ other ∷ inputs) = None
 
 abbrev pub where_unbroken : List ErrorKind → Option Columns → Option Columns
 where_unbroken [] schema = schema

@@ -1,8 +1,8 @@
 -- The tree of a plan.
-use Rattle.std.specs.Prelude.{ℕ, List, [], map, Option, None}
+use Rattle.std.specs.Prelude.{ℕ, List, [], ◌∷◌, map, Option, None}
 use Rattle.plan_types.specs.Schemas.{Columns, Name, columns}
 use Rattle.plan_dsl.specs.declared.plan.DslPlan.{DslPlan}
-use Rattle.plan_dsl.specs.declared.plan.DslPlan.TheVariants.{DataFrameScan, Select'}
+use Rattle.plan_dsl.specs.declared.plan.DslPlan.TheVariants.{DataFrameScan, Filter', Select'}
 use Rattle.plan_dsl.specs.declared.plan.Exprs.{Exprs}
 use Rattle.plan_dsl.specs.Trees.{Tree, node, no_more, more}
 use Rattle.plan_dsl.specs.Ops.{Expression}
@@ -13,6 +13,7 @@ use Rattle.plan_dsl.specs.Names.{name_of}
 pub data PlanKind : Type 0 where
   ScanKind : (table : Option ℕ) → PlanKind
   SelectKind : PlanKind
+  FilterKind : PlanKind
 
 -- a node's output: an expression and its name
 pub record Named (E : Type 0) : Type 0 where
@@ -20,8 +21,8 @@ pub record Named (E : Type 0) : Type 0 where
   pub expression : E
 
 -- What a node of a plan does, over what an expression is: a tree in the model, a node in the arena.
--- A scan's schema is its table's. A node of a lowered plan records its frame's schema, and one of a
--- query records none.
+-- A scan's schema is its table's. A select of a lowered plan records its frame's schema, and one of a
+-- query records none. A filter, whose frame has the schema of its input, records none.
 pub record PlanOp (E : Type 0) : Type 0 where
   pub kind : PlanKind
   pub expressions : List (Named E)
@@ -44,9 +45,13 @@ scan_op table schema = record { kind = ScanKind table; expressions = []; schema 
 abbrev pub select_op : {E : Type 0} → List (Named E) → Columns → PlanOp E
 select_op expressions schema = record { kind = SelectKind; expressions = expressions; schema = schema }
 
+abbrev pub filter_op : {E : Type 0} → Named E → PlanOp E
+filter_op predicate = record { kind = FilterKind; expressions = predicate ∷ []; schema = [] }
+
 abbrev pub plan_tree : DslPlan → Plan
 plan_tree (DataFrameScan table schema) = node (scan_op table (columns schema)) no_more
 plan_tree (Select' expr p input options) = node (select_op (map named (trees_of expr)) []) (more (plan_tree input) no_more)
+plan_tree (Filter' p input predicate) = node (filter_op (named (tree_of predicate))) (more (plan_tree input) no_more)
 
 -- the empty table without columns
 abbrev pub empty_table : Plan

@@ -1,6 +1,7 @@
 //! Worked examples of the definitions. The functions do nothing: their clauses are the examples.
 
 pub mod expressions;
+pub mod filters;
 pub mod meanings;
 pub mod operators;
 pub mod plans;

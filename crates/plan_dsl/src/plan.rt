@@ -52,6 +52,11 @@ pub enum DslPlan {
         table: Option<u32>,
         schema: Schema,
     },
+    /// The rows of a frame for which the predicate is true.
+    Filter {
+        input: Box<DslPlan>,
+        predicate: Expr,
+    },
     /// A frame of a column for each expression.
     Select {
         expr: Exprs,
@@ -82,6 +87,14 @@ impl DslPlan {
                 Ok(DslPlan::DataFrameScan {
                     table: *table,
                     schema,
+                })
+            }
+            DslPlan::Filter { input, predicate } => {
+                let input = input.try_clone(alloc)?;
+                let predicate = predicate.try_clone(alloc)?;
+                Ok(DslPlan::Filter {
+                    input: Box::new(alloc, input)?,
+                    predicate,
                 })
             }
             DslPlan::Select {

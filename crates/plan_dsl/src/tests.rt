@@ -72,8 +72,18 @@ fn projection(alloc: Global) -> Result<DslPlan, PlanError> {
     })
 }
 
+fn filter(alloc: Global) -> Result<DslPlan, PlanError> {
+    let input = scan(alloc)?;
+    let predicate = binary(alloc, "first", Operator::Lt, "second")?;
+    Ok(DslPlan::Filter {
+        input: Box::new(alloc, input)?,
+        predicate,
+    })
+}
+
 fn assert_is_scan(rt: &impl Abort, plan: &DslPlan) {
     match plan {
+        DslPlan::Filter { .. } => panic!(rt; "a filter"),
         DslPlan::Select { .. } => panic!(rt; "a projection"),
         DslPlan::DataFrameScan { table, schema } => {
             assert_eq!(rt; *table, Some(3));
@@ -160,6 +170,7 @@ fn the_default_plan_is_the_empty_table(rt: HostRuntime) -> Result<(), Fail> {
             assert_eq!(rt; table, None);
             assert!(rt; schema.is_empty());
         }
+        DslPlan::Filter { .. } => panic!(rt; "a filter"),
         DslPlan::Select { .. } => panic!(rt; "a projection"),
     }
     Ok(())
@@ -170,6 +181,7 @@ fn copies_of_plans_keep_every_part(rt: HostRuntime) -> Result<(), Fail> {
     let plan = projection(rt.alloc())?;
     match plan.try_clone(rt.alloc())? {
         DslPlan::DataFrameScan { .. } => panic!(rt; "a scan"),
+        DslPlan::Filter { .. } => panic!(rt; "a filter"),
         DslPlan::Select {
             expr,
             input,
@@ -181,6 +193,21 @@ fn copies_of_plans_keep_every_part(rt: HostRuntime) -> Result<(), Fail> {
             assert!(rt; expr.items[0] == first);
             let second = sum(rt.alloc(), "first", "second")?;
             assert!(rt; expr.items[1] == second);
+            assert_is_scan(&rt, &input);
+        }
+    }
+    Ok(())
+}
+
+#[test]
+fn copies_of_filters_keep_both_parts(rt: HostRuntime) -> Result<(), Fail> {
+    let plan = filter(rt.alloc())?;
+    match plan.try_clone(rt.alloc())? {
+        DslPlan::DataFrameScan { .. } => panic!(rt; "a scan"),
+        DslPlan::Select { .. } => panic!(rt; "a projection"),
+        DslPlan::Filter { input, predicate } => {
+            let less = binary(rt.alloc(), "first", Operator::Lt, "second")?;
+            assert!(rt; predicate == less);
             assert_is_scan(&rt, &input);
         }
     }
