@@ -10,12 +10,14 @@ use Rattle.plan_dsl.specs.Ops.{Expression}
 use Rattle.plan_dsl.specs.Plans.{PlanKind, ScanKind, SelectKind, PlanOp, Plan, Named}
 use Rattle.plan_dsl.specs.Typing.{typing}
 use Rattle.plan_dsl.specs.Kernels.{Meaning}
+use Rattle.plan_dsl.specs.Meaning.{meaning}
 use Rattle.plan_dsl.specs.Strictness.{IsStrict}
 use Rattle.plan_dsl.specs.PlanRules.{plan_rule, schema_of, schemas_of}
 use Rattle.plan_dsl.specs.PlanKernels.{Evaluated, plan_kernel, frame_by}
 use Rattle.plan_dsl.specs.PlanMeaning.{by_meaning, FitsNode, FitsPlan, AllFitPlans}
 use Rattle.plan_dsl.proofs.FrameLemmas.{AllMeet, kernel_meets}
 use Rattle.plan_dsl.proofs.KernelLemmas.{AgreeOn, selected_agrees}
+use Rattle.plan_dsl.proofs.LiteralLemmas.{strict_settled}
 use Rattle.plan_dsl.proofs.RunLemmas.{strict_is_meaning}
 use Rattle.plan_arena.specs.Runs.{top_schema, first_schema, IsAccepted, AllAccepted, IsStrictPlan, AllStrictPlans, by_running, plan_run, RunsSoundly, AllRunSoundly}
 
@@ -29,6 +31,7 @@ module _ (registry : Registry) where
   strict_agree schema (output ∷ outputs) strict rows =
       let frame : Frame = record { schema = schema; rows = rows } in
       ap (λ gives. evaluated_as registry schema output gives ∷ map (by_running registry frame) outputs) (strict_is_meaning registry frame output.expression strict.0)
+      ∙ ap (λ tree. record { name = output.name; typing = typing registry schema tree; gives = meaning registry frame tree } ∷ map (by_running registry frame) outputs) (sym (strict_settled registry schema output.expression strict.0))
       ∙ ap (λ rest. by_meaning registry frame output ∷ rest) (strict_agree schema outputs strict.1 rows)
 
   -- a strict node gives what it means

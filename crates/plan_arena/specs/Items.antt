@@ -4,13 +4,14 @@ use Rattle.std.specs.Prelude.{◌≡◌, ◌≤◌, ℕ, List, [], ◌∷◌, �
 use Rattle.plan_types.specs.Types.{ty}
 use Rattle.plan_types.specs.Schemas.{Name, Columns, columns}
 use Rattle.plan_dsl.specs.Ops.{Op, ColumnOp, BinaryOp, CastOp, Expression}
+use Rattle.plan_dsl.specs.Literals.{literal_op}
 use Rattle.plan_dsl.specs.Plans.{PlanOp, Plan, Named, scan_op, select_op}
 use Rattle.plan_arena.specs.Denotation.{Denotes}
 use Rattle.plan_arena.specs.Layers.{Layer, layer, op_of}
 use Rattle.plan_arena.specs.declared.aexpr.AExpr.{AExpr}
-use Rattle.plan_arena.specs.declared.aexpr.AExpr.TheVariants.{Column, BinaryExpr, Cast}
+use Rattle.plan_arena.specs.declared.aexpr.AExpr.TheVariants.{Column, Literal, BinaryExpr, Cast}
 use Rattle.plan_arena.specs.declared.expr_ir.OutputName.{OutputName}
-use Rattle.plan_arena.specs.declared.expr_ir.OutputName.TheVariants.{ColumnLhs}
+use Rattle.plan_arena.specs.declared.expr_ir.OutputName.TheVariants.{ColumnLhs, LiteralLhs}
 use Rattle.plan_arena.specs.declared.expr_ir.ExprIR.{ExprIR}
 use Rattle.plan_arena.specs.declared.ir.IR.{IR}
 use Rattle.plan_arena.specs.declared.ir.IR.TheVariants.{DataFrameScan, Select}
@@ -19,11 +20,13 @@ use Rattle.plan_arena.specs.declared.plan.IRPlan.{IRPlan}
 -- an expression's item
 abbrev pub expression_layer : AExpr → Layer Op
 expression_layer (Column name) = layer (ColumnOp name) []
+expression_layer (Literal value) = layer (literal_op value) []
 expression_layer (BinaryExpr left operator right) = layer (BinaryOp operator) (left.0 ∷ right.0 ∷ [])
 expression_layer (Cast expr dtype options) = layer (CastOp (ty dtype) options) (expr.0 ∷ [])
 
 abbrev pub output_text : OutputName → Name
 output_text (ColumnLhs name) = name
+output_text (LiteralLhs name) = name
 
 -- a node with the name of its column
 abbrev pub named_node : ExprIR → Named ℕ

@@ -1,6 +1,7 @@
 //! Expressions in an arena.
 
 use crate::arena::Node;
+use plan_dsl::literal::LiteralValue;
 use plan_dsl::operator::Operator;
 use plan_types::dtype::{CastOptions, DataType};
 use plan_types::text::PlSmallStr;
@@ -10,6 +11,8 @@ use plan_types::text::PlSmallStr;
 pub enum AExpr {
     /// The column of that name.
     Column(PlSmallStr),
+    /// A value.
+    Literal(LiteralValue),
     /// An operator between two nodes.
     BinaryExpr {
         left: Node,

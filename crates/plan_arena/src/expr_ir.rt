@@ -13,6 +13,8 @@ use std::alloc::Global;
 pub enum OutputName {
     /// The leftmost column of the expression.
     ColumnLhs(PlSmallStr),
+    /// A literal at the left end of the expression.
+    LiteralLhs(PlSmallStr),
 }
 
 impl OutputName {
@@ -21,7 +23,7 @@ impl OutputName {
         ensures { result.now ≡ output_text self.now }
     {
         match self {
-            OutputName::ColumnLhs(name) => name,
+            OutputName::ColumnLhs(name) | OutputName::LiteralLhs(name) => name,
         }
     }
 }
