@@ -136,6 +136,23 @@ module _ {Op : Type 0} (shape : List (List ℕ)) (holds : ℕ → Op → List �
   unfolding depth_at
   depth_at-denotes n t d = depth_within-denotes (length shape) n t d (depth_bound n t d)
 
+  greatest_depth : (ns : List ℕ) (ts : Trees Op) → DenoteAll holds ns ts → greatest (depth_at shape) ns ≡ trees_depth ts
+  greatest_depth [] no_more d = refl
+  greatest_depth (n ∷ ns) (more t ts) d =
+      ap (λ k. max k (greatest (depth_at shape) ns)) (depth_at-denotes n t d.0) ∙ ap (max (tree_depth t)) (greatest_depth ns ts d.1)
+  greatest_depth [] (more t ts) d = absurd d
+  greatest_depth (n ∷ ns) no_more d = absurd d
+
+  depth_of_tree : (n : ℕ) (op : Op) (inputs : List ℕ) → holds n op inputs → (t : Tree Op) → Denotes holds n t → depth_at shape n ≡ 1 + greatest (depth_at shape) inputs
+  depth_of_tree n op inputs h (node op' ts) d =
+      let same = same_inputs n op' op d.0 inputs d.1 h in
+      let below = greatest_depth inputs ts (subst (λ ns. DenoteAll holds ns ts) same d.2) in
+      depth_at-denotes n (node op' ts) d ∙ ap (λ k. 1 + k) (sym below)
+
+  -- a node that denotes a tree leads one further down than its inputs
+  pub depth_of_inputs : (n : ℕ) (op : Op) (inputs : List ℕ) → holds n op inputs → DenotesTree holds n → depth_at shape n ≡ 1 + greatest (depth_at shape) inputs
+  depth_of_inputs n op inputs h d = depth_of_tree n op inputs h d.tree d.denotes
+
   each_input : (ns : List ℕ) (ts : Trees Op) (depth : ℕ) → DenoteAll holds ns ts → trees_depth ts < depth → AllByRecursion (λ m. DenotesTree holds m × (depth_at shape m < depth)) ns
   each_input [] no_more depth d lt = tt
   each_input (n ∷ ns) (more t ts) depth d lt =

@@ -1,5 +1,5 @@
 -- The two arenas hold what their items say, and keep it as they grow or change at one node.
-use Rattle.std.proofs.Common.{◌≡◌, ◌≢◌, ℕ, ◌<◌, ◌≤◌, List, [], ◌∷◌, ◌++◌, length, map, set, Option, Some, slice_get, sym, ap, ◌∙◌, subst, refl, arith, length-append, append_assoc}
+use Rattle.std.proofs.Common.{◌≡◌, ◌≢◌, ℕ, ◌+◌, ◌<◌, ◌≤◌, List, [], ◌∷◌, ◌++◌, length, map, set, Option, Some, slice_get, sym, ap, ◌∙◌, subst, refl, arith, length-append, append_assoc}
 use Rattle.std.specs.List.{AllByRecursion}
 use Rattle.std.specs.Option.{option_map}
 use Rattle.std.proofs.lemmas.Option.{slice_get-map, slice_get_within}
@@ -8,12 +8,13 @@ use Rattle.plan_types.proofs.ListLemmas.{slice_get-append, slice_get-seam, slice
 use Rattle.plan_dsl.specs.Ops.{Op, Expression}
 use Rattle.plan_dsl.specs.Plans.{PlanOp, Plan, Named}
 use Rattle.plan_dsl.specs.Trees.{Trees, node, no_more, more}
-use Rattle.plan_arena.specs.Denotation.{Denotes, DenoteAll, DenotesTree, depth_at}
+use Rattle.plan_arena.specs.Denotation.{Denotes, DenoteAll, DenotesTree, greatest, depth_at}
 use Rattle.plan_arena.specs.Layers.{Layer, layer, inputs_of, shape_of}
-use Rattle.plan_arena.specs.Items.{expression_layer, plan_layer, HoldsExpression, HoldsFrom, DenoteNamed, DenotesOp, HoldsPlan, Grows}
+use Rattle.plan_arena.specs.Items.{expression_layer, plan_layer, HoldsExpression, HoldsFrom, DenoteNamed, DenotesOp, HoldsPlan, IsPlanItem, DenotesItem, HasInputs, Grows}
+use Rattle.plan_arena.specs.Runs.{own_schema, top_schema, first_schema}
 use Rattle.plan_arena.specs.declared.aexpr.AExpr.{AExpr}
 use Rattle.plan_arena.specs.declared.ir.IR.{IR}
-use Rattle.plan_arena.proofs.DenotationLemmas.{HasShape, denotes_one, kept, inputs_denote}
+use Rattle.plan_arena.proofs.DenotationLemmas.{HasShape, denotes_one, kept, inputs_denote, depth_of_inputs}
 
 some_same : {A : Type 0} (o : Option A) (x y : A) → o ≡ Some x → o ≡ Some y → x ≡ y
 some_same o x y p q = cc
@@ -138,6 +139,73 @@ plan_here items plans n (node op ts) d = omega (arith, slice_get_within (map pla
 -- a node that denotes a plan is in the arena
 pub plan_within : (items : List AExpr) (plans : List IR) (n : ℕ) → DenotesTree (HoldsPlan items plans) n → n < length plans
 plan_within items plans n d = plan_here items plans n d.tree d.denotes
+
+-- how far down an item leads
+abbrev pub item_depth : List IR → IR → ℕ
+item_depth plans item = 1 + greatest (depth_at (shape_of (map plan_layer plans))) (inputs_of (plan_layer item))
+
+module _ (expressions : List AExpr) (plans : List IR) where
+  -- a node that denotes a plan, with the item that `get` answers
+  module _ (n : ℕ) (item : IR) (got : slice_get plans n ≡ Some item) where
+    item_is : (op : PlanOp Expression) (inputs : List ℕ) (h : HoldsPlan expressions plans n op inputs) → plan_layer item ≡ layer h.flat inputs
+    item_is op inputs h = some_same (slice_get (map plan_layer plans) n) _ _ (plan_got plans n item got) h.item
+
+    -- the item denotes what the node denotes
+    pub item_denotes : (t : Plan) → Denotes (HoldsPlan expressions plans) n t → DenotesItem expressions plans item t
+    item_denotes (node op ts) d = (d.0, record { flat = d.1.flat; is = item_is op d.0 d.1; denotes = d.1.denotes }, d.2)
+
+    each_denotes : (ns : List ℕ) (ts : Trees (PlanOp Expression)) → DenoteAll (HoldsPlan expressions plans) ns ts → AllByRecursion (DenotesTree (HoldsPlan expressions plans)) ns
+    each_denotes [] ts d = tt
+    each_denotes (m ∷ ms) (more t ts) d = (record { tree = t; denotes = d.0 }, each_denotes ms ts d.1)
+    each_denotes (m ∷ ms) no_more d = absurd d
+
+    inputs_of_plan : (t : Plan) → Denotes (HoldsPlan expressions plans) n t → HasInputs plans item
+    inputs_of_plan (node op ts) d =
+        let same = ap inputs_of (item_is op d.0 d.1) in
+        record { expressions = expressions; each = subst (AllByRecursion (DenotesTree (HoldsPlan expressions plans))) (sym same) (each_denotes d.0 ts d.2) }
+
+    -- the item's inputs denote plans
+    pub item_inputs : DenotesTree (HoldsPlan expressions plans) n → HasInputs plans item
+    item_inputs d = inputs_of_plan d.tree d.denotes
+
+    depth_of_plan : (t : Plan) → Denotes (HoldsPlan expressions plans) n t → depth_at (shape_of (map plan_layer plans)) n ≡ item_depth plans item
+    depth_of_plan (node op ts) d =
+        let shape = shape_of (map plan_layer plans) in
+        depth_of_inputs shape (HoldsPlan expressions plans) (plan_laws expressions plans) n op d.0 d.1 (record { tree = node op ts; denotes = d })
+        ∙ ap (λ ns. 1 + greatest (depth_at shape) ns) (sym (ap inputs_of (item_is op d.0 d.1)))
+
+    -- the item leads as far down as the node
+    pub depth_of_item : DenotesTree (HoldsPlan expressions plans) n → depth_at (shape_of (map plan_layer plans)) n ≡ item_depth plans item
+    depth_of_item d = depth_of_plan d.tree d.denotes
+
+  -- an item that denotes a plan, by what it does
+  module _ (item : IR) (flat : PlanOp ℕ) (inputs : List ℕ) (is : plan_layer item ≡ layer flat inputs) where
+    -- the plan's schema is the item's own, over the first of the plans that its inputs denote
+    pub item_schema : (t : Plan) → DenotesItem expressions plans item t → (ts : Trees (PlanOp Expression)) × (own_schema flat.kind flat.schema (first_schema ts) ≡ top_schema t) × DenoteAll (HoldsPlan expressions plans) inputs ts
+    item_schema (node op ts) d =
+        let flats = layer_op flat d.1.flat inputs d.0 (sym is ∙ d.1.is) in
+        let same = layer_inputs flat d.1.flat inputs d.0 (sym is ∙ d.1.is) in (
+          ts,
+          ap (λ (f : PlanOp ℕ). own_schema f.kind f.schema (first_schema ts)) flats ∙ (λ i. own_schema (d.1.denotes.same_kind i) (d.1.denotes.same_schema i) (first_schema ts)),
+          subst (λ ns. DenoteAll (HoldsPlan expressions plans) ns ts) (sym same) d.2,
+        )
+
+  -- the first of the plans that one node denotes is its plan
+  pub first_of_one : (n : ℕ) (ts : Trees (PlanOp Expression)) → DenoteAll (HoldsPlan expressions plans) (n ∷ []) ts → (t : Plan) × (first_schema ts ≡ top_schema t) × Denotes (HoldsPlan expressions plans) n t
+  first_of_one n (more t ts) d = (t, refl, d.0)
+  first_of_one n no_more d = absurd d
+
+-- what an item with one input stands over, and how much further down the item leads
+module _ (plans : List IR) (item : IR) (flat : PlanOp ℕ) (n : ℕ) (is : plan_layer item ≡ layer flat (n ∷ [])) (h : HasInputs plans item) where
+  pub only_input : DenotesTree (HoldsPlan h.expressions plans) n
+  only_input = (subst (AllByRecursion (DenotesTree (HoldsPlan h.expressions plans))) (ap inputs_of is) h.each).0
+
+  pub only_input_less_deep : (below : IR) → slice_get plans n ≡ Some below → item_depth plans below < item_depth plans item
+  only_input_less_deep below got =
+      let shape = shape_of (map plan_layer plans) in
+      let there = depth_of_item h.expressions plans n below got only_input in
+      let here = ap (λ ns. 1 + greatest (depth_at shape) ns) (ap inputs_of is) in
+      omega (arith, there, here)
 
 -- what is held from a number on is held from a lower one, when the arena has grown
 pub from_grown : (first lower : ℕ) (items grown : List AExpr) → lower ≤ first → Grows items grown → (n : ℕ) (op : Op) (inputs : List ℕ) → HoldsFrom first items n op inputs → HoldsFrom lower grown n op inputs

@@ -7,7 +7,7 @@ use Rattle.plan_types.specs.Frames.{Row, Frame, IsFrameOf}
 use Rattle.plan_dsl.specs.Registry.{Registry}
 use Rattle.plan_dsl.specs.Trees.{Trees, node, no_more, more, fold_all}
 use Rattle.plan_dsl.specs.Ops.{Expression}
-use Rattle.plan_dsl.specs.Plans.{PlanKind, ScanKind, SelectKind, PlanOp, Plan, Named}
+use Rattle.plan_dsl.specs.Plans.{PlanKind, ScanKind, SelectKind, FilterKind, PlanOp, Plan, Named}
 use Rattle.plan_dsl.specs.Typing.{typing}
 use Rattle.plan_dsl.specs.Kernels.{Meaning}
 use Rattle.plan_dsl.specs.Meaning.{meaning}
@@ -16,7 +16,7 @@ use Rattle.plan_dsl.specs.PlanRules.{plan_rule, schema_of, schemas_of}
 use Rattle.plan_dsl.specs.PlanKernels.{Evaluated, plan_kernel, frame_by}
 use Rattle.plan_dsl.specs.PlanMeaning.{by_meaning, FitsNode, FitsPlan, AllFitPlans}
 use Rattle.plan_dsl.proofs.FrameLemmas.{AllMeet, kernel_meets}
-use Rattle.plan_dsl.proofs.KernelLemmas.{AgreeOn, selected_agrees}
+use Rattle.plan_dsl.proofs.KernelLemmas.{AgreeOn, selected_agrees, filtered_agrees}
 use Rattle.plan_dsl.proofs.LiteralLemmas.{strict_settled}
 use Rattle.plan_dsl.proofs.RunLemmas.{strict_is_meaning}
 use Rattle.plan_arena.specs.Runs.{top_schema, first_schema, IsAccepted, AllAccepted, IsStrictPlan, AllStrictPlans, by_running, plan_run, RunsSoundly, AllRunSoundly}
@@ -42,6 +42,10 @@ module _ (registry : Registry) where
   strict_node tables SelectKind op schema schemas (o ∷ []) strict meet =
       selected_agrees (by_running registry) (by_meaning registry) op.expressions op.expressions schema o (strict_agree schema op.expressions strict) (meet o refl)
   strict_node tables SelectKind op schema schemas (o ∷ p ∷ os) strict meet = refl
+  strict_node tables FilterKind op schema schemas [] strict meet = refl
+  strict_node tables FilterKind op schema schemas (o ∷ []) strict meet =
+      filtered_agrees (by_running registry) (by_meaning registry) op.expressions op.expressions schema o (strict_agree schema op.expressions strict) (meet o refl)
+  strict_node tables FilterKind op schema schemas (o ∷ p ∷ os) strict meet = refl
 
   first_is : {A : Type 0} (x y : A) (xs ys : List A) → (x ∷ xs) ≡ (y ∷ ys) → x ≡ y
   first_is x y xs ys e = cc
@@ -51,8 +55,8 @@ module _ (registry : Registry) where
     runs_soundly tables (node op inputs) accepted strict fits =
         let below = all_run_soundly tables inputs accepted.1 strict.1 fits.1 in
         let runs = fold_all (plan_kernel tables (by_running registry)) inputs in
-        let meets = kernel_meets registry tables op (schemas_of registry inputs) runs op.schema fits.0 accepted.0 below.1 in
-        (subst (Meets (IsFrameOf op.schema)) (sym (strict_node tables op.kind op (first_schema inputs) (schemas_of registry inputs) runs strict.0 below.2)) meets, below.0)
+        let meets = kernel_meets registry tables op (schemas_of registry inputs) runs (top_schema (node op inputs)) fits.0 accepted.0 below.1 in
+        (subst (Meets (IsFrameOf (top_schema (node op inputs)))) (sym (strict_node tables op.kind op (first_schema inputs) (schemas_of registry inputs) runs strict.0 below.2)) meets, below.0)
 
     all_run_soundly : (tables : List Frame) (inputs : Trees (PlanOp Expression)) → AllAccepted registry inputs → AllStrictPlans registry inputs → AllFitPlans tables inputs → AllRunSoundly registry tables inputs × AllMeet (schemas_of registry inputs) (fold_all (plan_kernel tables (by_running registry)) inputs) × ((o : Outcome Frame) → fold_all (plan_kernel tables (by_running registry)) inputs ≡ o ∷ [] → Meets (IsFrameOf (first_schema inputs)) o)
     all_run_soundly tables no_more accepted strict fits = (tt, tt, λ o e. cc)
@@ -61,5 +65,5 @@ module _ (registry : Registry) where
         let tail = all_run_soundly tables rest accepted.1 strict.1 fits.1 in (
           (head, tail.0),
           subst (λ s. AllMeet (s ∷ schemas_of registry rest) (plan_run registry tables (node op inputs) ∷ fold_all (plan_kernel tables (by_running registry)) rest)) (sym accepted.0.0) (head.0, tail.1),
-          λ o e. subst (Meets (IsFrameOf op.schema)) (first_is (plan_run registry tables (node op inputs)) o (fold_all (plan_kernel tables (by_running registry)) rest) [] e) head.0,
+          λ o e. subst (Meets (IsFrameOf (top_schema (node op inputs)))) (first_is (plan_run registry tables (node op inputs)) o (fold_all (plan_kernel tables (by_running registry)) rest) [] e) head.0,
         )

@@ -1,20 +1,22 @@
 -- The items of the two arenas.
 -- An item of the plans' arena holds a plan's op where its expression nodes denote that op's expressions.
 use Rattle.std.specs.Prelude.{◌≡◌, ◌≤◌, ℕ, List, [], ◌∷◌, ◌++◌, map, Some, slice_get, codes}
+use Rattle.std.specs.List.{AllByRecursion}
 use Rattle.plan_types.specs.Types.{ty}
-use Rattle.plan_types.specs.Schemas.{Name, Columns, columns}
+use Rattle.plan_types.specs.Schemas.{Name, columns}
 use Rattle.plan_dsl.specs.Ops.{Op, ColumnOp, BinaryOp, CastOp, Expression}
 use Rattle.plan_dsl.specs.Literals.{literal_op}
-use Rattle.plan_dsl.specs.Plans.{PlanOp, Plan, Named, scan_op, select_op}
-use Rattle.plan_arena.specs.Denotation.{Denotes}
-use Rattle.plan_arena.specs.Layers.{Layer, layer, op_of}
+use Rattle.plan_dsl.specs.Plans.{PlanOp, Plan, Named, scan_op, select_op, filter_op}
+use Rattle.plan_arena.specs.Denotation.{Denotes, DenoteAll, DenotesTree}
+use Rattle.plan_arena.specs.Layers.{Layer, layer, op_of, inputs_of}
+use Rattle.plan_dsl.specs.Trees.{node}
 use Rattle.plan_arena.specs.declared.aexpr.AExpr.{AExpr}
 use Rattle.plan_arena.specs.declared.aexpr.AExpr.TheVariants.{Column, Literal, BinaryExpr, Cast}
 use Rattle.plan_arena.specs.declared.expr_ir.OutputName.{OutputName}
 use Rattle.plan_arena.specs.declared.expr_ir.OutputName.TheVariants.{ColumnLhs, LiteralLhs}
 use Rattle.plan_arena.specs.declared.expr_ir.ExprIR.{ExprIR}
 use Rattle.plan_arena.specs.declared.ir.IR.{IR}
-use Rattle.plan_arena.specs.declared.ir.IR.TheVariants.{DataFrameScan, Select}
+use Rattle.plan_arena.specs.declared.ir.IR.TheVariants.{DataFrameScan, Filter, Select}
 use Rattle.plan_arena.specs.declared.plan.IRPlan.{IRPlan}
 
 -- an expression's item
@@ -36,15 +38,13 @@ named_node expr = record { name = output_text expr.output_name; expression = exp
 abbrev pub plan_layer : IR → Layer (PlanOp ℕ)
 plan_layer (DataFrameScan table schema) = layer (scan_op table (columns schema)) []
 plan_layer (Select expr input schema options) = layer (select_op (map named_node expr.items.items) (columns schema)) (input.0 ∷ [])
+plan_layer (Filter input predicate) = layer (filter_op (named_node predicate)) (input.0 ∷ [])
 
 -- what a report calls a node
 abbrev pub node_name : IR → List ℕ
 node_name (DataFrameScan table schema) = codes "df"
 node_name (Select expr input schema options) = codes "projection"
-
--- the schema that a node records
-abbrev pub recorded_schema : IR → Columns
-recorded_schema item = (op_of (plan_layer item)).schema
+node_name (Filter input predicate) = codes "selection"
 
 -- the expression at the node does this, over these inputs
 abbrev pub HoldsExpression : List AExpr → ℕ → Op → List ℕ → Type 0
@@ -72,6 +72,22 @@ pub record HoldsPlan (expressions : List AExpr) (plans : List IR) (n : ℕ) (op 
   pub flat : PlanOp ℕ
   pub item : slice_get (map plan_layer plans) n ≡ Some (layer flat inputs)
   pub denotes : DenotesOp expressions flat op
+
+-- an item does this, over these inputs
+pub record IsPlanItem (expressions : List AExpr) (item : IR) (op : PlanOp Expression) (inputs : List ℕ) : Type 0 where
+  pub flat : PlanOp ℕ
+  pub is : plan_layer item ≡ layer flat inputs
+  pub denotes : DenotesOp expressions flat op
+
+-- an item denotes a plan as a node that has it would
+abbrev pub DenotesItem : List AExpr → List IR → IR → Plan → Type 0
+DenotesItem expressions plans item (node op children) =
+    (inputs : List ℕ) × IsPlanItem expressions item op inputs × DenoteAll (HoldsPlan expressions plans) inputs children
+
+-- an item's inputs denote plans, with some arena of expressions
+pub record HasInputs (plans : List IR) (item : IR) : Type 0 where
+  pub expressions : List AExpr
+  pub each : AllByRecursion (DenotesTree (HoldsPlan expressions plans)) (inputs_of (plan_layer item))
 
 -- the top of a lowered plan denotes the plan
 abbrev pub DenotesPlan : IRPlan → Plan → Type 0

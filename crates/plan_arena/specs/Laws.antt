@@ -8,7 +8,7 @@ use Rattle.plan_arena.specs.declared.plan.IRPlan.{IRPlan}
 use Rattle.plan_arena.specs.Items.{DenotesPlan}
 use Rattle.plan_arena.specs.Runs.{IsAccepted, IsStrictPlan, RunsSoundly}
 
--- an accepted and strict plan is nowhere stuck on fitting tables, and each frame has the schema that its node records
+-- an accepted and strict plan is nowhere stuck on fitting tables, and each frame has its node's own schema
 abbrev pub AcceptedRunsSoundly : Type 0
 AcceptedRunsSoundly = (registry : Registry) (tables : List Frame) (plan : Plan) → IsAccepted registry plan → IsStrictPlan registry plan → FitsPlan tables plan → RunsSoundly registry tables plan
 

@@ -1,6 +1,7 @@
 -- Lowered plans: which are accepted and strict, and how they run on tables.
--- A plan is accepted where each of its nodes has the schema that it records, and strict where each of its
--- expressions is. It runs by what its expressions give as they are written.
+-- A scan and a select have the schema that they record, and a filter that of its input. A plan is accepted
+-- where each of its nodes has that schema by the rules, and strict where each of its expressions is. It runs
+-- by what its expressions give as they are written.
 use Rattle.std.specs.Prelude.{◌≡◌, List, [], ◌∷◌, Some}
 use Rattle.std.specs.List.{AllByRecursion}
 use Rattle.plan_types.specs.Schemas.{Columns}
@@ -9,26 +10,33 @@ use Rattle.plan_types.specs.Frames.{Frame, IsFrameOf}
 use Rattle.plan_dsl.specs.Registry.{Registry}
 use Rattle.plan_dsl.specs.Trees.{Tree, Trees, node, no_more, more, fold}
 use Rattle.plan_dsl.specs.Ops.{Expression}
-use Rattle.plan_dsl.specs.Plans.{PlanOp, Plan, Named}
+use Rattle.plan_dsl.specs.Plans.{PlanKind, ScanKind, SelectKind, FilterKind, PlanOp, Plan, Named}
 use Rattle.plan_dsl.specs.PlanRules.{schema_of}
 use Rattle.plan_dsl.specs.PlanKernels.{Evaluation, plan_kernel}
 use Rattle.plan_dsl.specs.Strictness.{IsStrict}
 use Rattle.plan_dsl.specs.StrictRun.{strict_run}
 use Rattle.plan_dsl.specs.Typing.{typing}
 
--- the schema that a plan's top records
-abbrev pub top_schema : Plan → Columns
-top_schema (node op inputs) = op.schema
-
--- the schema that the first of the plans records
-abbrev pub first_schema : Trees (PlanOp Expression) → Columns
-first_schema no_more = []
-first_schema (more plan rest) = top_schema plan
+-- a node's own schema: the one that it records, or that of its first input
+abbrev pub own_schema : PlanKind → Columns → Columns → Columns
+own_schema (ScanKind table) recorded first = recorded
+own_schema SelectKind recorded first = recorded
+own_schema FilterKind recorded first = first
 
 abbrev mutual
-  -- each node has the schema that it records
+  -- the schema of a plan's top
+  pub top_schema : Plan → Columns
+  top_schema (node op inputs) = own_schema op.kind op.schema (first_schema inputs)
+
+  -- the schema of the first of the plans
+  pub first_schema : Trees (PlanOp Expression) → Columns
+  first_schema no_more = []
+  first_schema (more plan rest) = top_schema plan
+
+abbrev mutual
+  -- each node has its own schema by the rules
   pub IsAccepted : Registry → Plan → Type 0
-  IsAccepted registry (node op inputs) = (schema_of registry (node op inputs) ≡ Some op.schema) × AllAccepted registry inputs
+  IsAccepted registry (node op inputs) = (schema_of registry (node op inputs) ≡ Some (top_schema (node op inputs))) × AllAccepted registry inputs
 
   pub AllAccepted : Registry → Trees (PlanOp Expression) → Type 0
   AllAccepted registry no_more = Unit {0}
@@ -54,10 +62,10 @@ abbrev pub plan_run : Registry → List Frame → Plan → Outcome Frame
 plan_run registry tables plan = fold (plan_kernel tables (by_running registry)) plan
 
 abbrev mutual
-  -- no node is stuck, and the frame of each has exactly the schema that the node records, with fitting values
+  -- no node is stuck, and the frame of each has exactly the node's own schema, with fitting values
   pub RunsSoundly : Registry → List Frame → Plan → Type 0
   RunsSoundly registry tables (node op inputs) =
-      Meets (IsFrameOf op.schema) (plan_run registry tables (node op inputs)) × AllRunSoundly registry tables inputs
+      Meets (IsFrameOf (top_schema (node op inputs))) (plan_run registry tables (node op inputs)) × AllRunSoundly registry tables inputs
 
   pub AllRunSoundly : Registry → List Frame → Trees (PlanOp Expression) → Type 0
   AllRunSoundly registry tables no_more = Unit {0}

@@ -2,26 +2,28 @@
 #![tactic(auto, unfolding(crate::specs::Denotation::depth_within, crate::specs::Denotation::depth_at))]
 
 ghost use Rattle.std.specs.Prelude.{◌≡◌, ℕ, [], ◌∷◌, pos, neg_ℤ, codes, true, false, Some};
-ghost use Rattle.plan_types.specs.Types.{Integer};
+ghost use Rattle.plan_types.specs.Types.{Truth, Integer};
 ghost use Rattle.plan_types.specs.Schemas.{columns};
 ghost use Rattle.plan_types.specs.declared.schema.Schema.{Schema};
-ghost use Rattle.plan_types.specs.Values.{NullValue, IntValue};
+ghost use Rattle.plan_types.specs.Values.{NullValue, TruthValue, IntValue};
 ghost use Rattle.plan_types.specs.Outcomes.{Done, Fault, Stuck};
 ghost use Rattle.plan_types.specs.Frames.{Frame, empty_frame};
 ghost use Rattle.plan_types.specs.declared.dtype.DataType.TheVariants.{Int32, UInt16};
 ghost use Rattle.plan_types.specs.declared.dtype.CastOptions.TheVariants.{Strict, NonStrict};
 ghost use Rattle.plan_dsl.specs.declared.operator.Operator.TheVariants.{Plus};
 ghost use Rattle.plan_dsl.specs.Trees.{node, no_more, more};
-ghost use Rattle.plan_dsl.specs.Ops.{ColumnOp, BinaryOp, CastOp};
-ghost use Rattle.plan_dsl.specs.Plans.{Named, empty_table, named, scan_op, select_op};
+ghost use Rattle.plan_dsl.specs.Ops.{ColumnOp, BinaryOp, CastOp, Expression};
+ghost use Rattle.plan_dsl.specs.Plans.{Named, empty_table, named, scan_op, select_op, filter_op};
 ghost use Rattle.plan_dsl.specs.PlanMeaning.{source_meaning};
 ghost use Rattle.plan_arena.specs.declared.arena.Node.{Node};
 ghost use Rattle.plan_arena.specs.declared.aexpr.AExpr.TheVariants.{Column, BinaryExpr, Cast};
-ghost use Rattle.plan_arena.specs.declared.ir.IR.TheVariants.{DataFrameScan};
+ghost use Rattle.plan_arena.specs.declared.ir.IR.TheVariants.{DataFrameScan, Filter};
+ghost use Rattle.plan_arena.specs.declared.expr_ir.ExprIR.{ExprIR};
+ghost use Rattle.plan_arena.specs.declared.expr_ir.OutputName.{OutputName};
 ghost use Rattle.plan_arena.specs.Layers.{layer};
 ghost use Rattle.plan_arena.specs.Denotation.{Denotes, DenotesTree, depth_at};
-ghost use Rattle.plan_arena.specs.Items.{expression_layer, HoldsExpression, DenoteNamed, HoldsPlan};
-ghost use Rattle.plan_arena.specs.Runs.{IsAccepted, IsStrictPlan, plan_run, RunsSoundly};
+ghost use Rattle.plan_arena.specs.Items.{expression_layer, output_text, HoldsExpression, DenoteNamed, HoldsPlan};
+ghost use Rattle.plan_arena.specs.Runs.{top_schema, IsAccepted, IsStrictPlan, plan_run, RunsSoundly};
 
 /// The layer of an expression's item is what it does, and the numbers of its inputs.
 pub fn layers_of_expressions()
@@ -138,6 +140,12 @@ pub fn outputs_of_nodes()
         let output : Named ℕ = record { name = codes "a"; expression = 0 } in
         ¬ (DenoteNamed items (output ∷ output ∷ []) (named a ∷ [])) }
     ensures scan { (schema : Schema) → HoldsPlan [] (DataFrameScan (Some 0) schema ∷ []) 0 (scan_op (Some 0) (columns schema)) [] }
+    ensures filter { (name : OutputName) →
+        let zero : Node = record { 0 = 0 } in
+        let items = Column (codes "a") ∷ [] in
+        let a : Named Expression = record { name = output_text name; expression = node (ColumnOp (codes "a")) no_more } in
+        let predicate : ExprIR = record { node = zero; output_name = name } in
+        HoldsPlan items (Filter zero predicate ∷ []) 0 (filter_op a) (0 ∷ []) }
     ensures other_table { (schema : Schema) → ¬ (HoldsPlan [] (DataFrameScan (Some 0) schema ∷ []) 0 (scan_op (Some 1) (columns schema)) []) }
 {}
 
@@ -228,7 +236,7 @@ pub fn plans_run_as_written()
         plan_run [] (table ∷ []) lowered ≡ Done empty_frame }
 {}
 
-/// A plan is accepted where each node has the schema that it records, and strict where each expression is.
+/// A plan is accepted where each node has its own schema by the rules, and strict where each expression is.
 pub fn plans_that_are_accepted()
     ensures lowered { let scan = node (scan_op (Some 0) ((codes "a", Integer true 8) ∷ (codes "b", Integer true 32) ∷ [])) no_more in
         let a = node (ColumnOp (codes "a")) no_more in
@@ -265,7 +273,93 @@ pub fn plans_that_are_accepted()
         ¬ (IsStrictPlan [] query) }
 {}
 
-/// A plan runs soundly where no node is stuck, and each node's frame has exactly the schema that it records.
+/// A filter has the schema of its input, and it is accepted where the rules give it that.
+pub fn filters_that_are_accepted()
+    ensures schema { let scan = node (scan_op (Some 0) ((codes "a", Integer true 8) ∷ (codes "keep", Truth) ∷ [])) no_more in
+        let a = node (ColumnOp (codes "a")) no_more in
+        let keep = node (ColumnOp (codes "keep")) no_more in
+        top_schema (node (filter_op (named keep)) (more scan no_more)) ≡ (codes "a", Integer true 8) ∷ (codes "keep", Truth) ∷ [] }
+    ensures schema_over_filters { let scan = node (scan_op (Some 0) ((codes "a", Integer true 8) ∷ (codes "keep", Truth) ∷ [])) no_more in
+        let a = node (ColumnOp (codes "a")) no_more in
+        let keep = node (ColumnOp (codes "keep")) no_more in
+        let inner = node (filter_op (named keep)) (more (node (filter_op (named keep)) (more scan no_more)) no_more) in
+        top_schema (node (filter_op (named a)) (more inner no_more)) ≡ (codes "a", Integer true 8) ∷ (codes "keep", Truth) ∷ [] }
+    ensures accepted { let scan = node (scan_op (Some 0) ((codes "a", Integer true 8) ∷ (codes "keep", Truth) ∷ [])) no_more in
+        let a = node (ColumnOp (codes "a")) no_more in
+        let keep = node (ColumnOp (codes "keep")) no_more in
+        IsAccepted [] (node (filter_op (named keep)) (more scan no_more)) }
+    ensures under_a_select { let scan = node (scan_op (Some 0) ((codes "a", Integer true 8) ∷ (codes "keep", Truth) ∷ [])) no_more in
+        let a = node (ColumnOp (codes "a")) no_more in
+        let keep = node (ColumnOp (codes "keep")) no_more in
+        let inner = node (filter_op (named keep)) (more scan no_more) in
+        IsAccepted [] (node (select_op (named a ∷ []) ((codes "a", Integer true 8) ∷ [])) (more inner no_more)) }
+    ensures number { let scan = node (scan_op (Some 0) ((codes "a", Integer true 8) ∷ (codes "keep", Truth) ∷ [])) no_more in
+        let a = node (ColumnOp (codes "a")) no_more in
+        let keep = node (ColumnOp (codes "keep")) no_more in
+        ¬ (IsAccepted [] (node (filter_op (named a)) (more scan no_more))) }
+    ensures strict { let scan = node (scan_op (Some 0) ((codes "a", Integer true 8) ∷ (codes "keep", Truth) ∷ [])) no_more in
+        let a = node (ColumnOp (codes "a")) no_more in
+        let keep = node (ColumnOp (codes "keep")) no_more in
+        IsStrictPlan [] (node (filter_op (named keep)) (more scan no_more)) }
+    ensures sum_of_two_types { let scan = node (scan_op (Some 0) ((codes "a", Integer true 8) ∷ (codes "keep", Truth) ∷ [])) no_more in
+        let a = node (ColumnOp (codes "a")) no_more in
+        let keep = node (ColumnOp (codes "keep")) no_more in
+        let sum = node (BinaryOp Plus) (more a (more keep no_more)) in
+        ¬ (IsStrictPlan [] (node (filter_op (named sum)) (more scan no_more))) }
+{}
+
+/// A lowered filter gives the rows that the query's filter means, and its frame has the schema of its input.
+pub fn filters_that_run_soundly()
+    ensures kept { let table : Frame = record {
+      schema = (codes "a", Integer true 8) ∷ (codes "keep", Truth) ∷ [];
+      rows = (IntValue (pos 1) ∷ TruthValue true ∷ []) ∷ (NullValue ∷ NullValue ∷ []) ∷ (IntValue (pos 100) ∷ TruthValue false ∷ []) ∷ [];
+    } in
+        let scan = node (scan_op (Some 0) ((codes "a", Integer true 8) ∷ (codes "keep", Truth) ∷ [])) no_more in
+        let a = node (ColumnOp (codes "a")) no_more in
+        let keep = node (ColumnOp (codes "keep")) no_more in
+        let kept : Frame = record {
+          schema = (codes "a", Integer true 8) ∷ (codes "keep", Truth) ∷ [];
+          rows = (IntValue (pos 1) ∷ TruthValue true ∷ []) ∷ [];
+        } in
+        plan_run [] (table ∷ []) (node (filter_op (named keep)) (more scan no_more)) ≡ Done kept }
+    ensures the_same_as_meant { let table : Frame = record {
+      schema = (codes "a", Integer true 8) ∷ (codes "keep", Truth) ∷ [];
+      rows = (IntValue (pos 1) ∷ TruthValue true ∷ []) ∷ (NullValue ∷ NullValue ∷ []) ∷ (IntValue (pos 100) ∷ TruthValue false ∷ []) ∷ [];
+    } in
+        let scan = node (scan_op (Some 0) ((codes "a", Integer true 8) ∷ (codes "keep", Truth) ∷ [])) no_more in
+        let a = node (ColumnOp (codes "a")) no_more in
+        let keep = node (ColumnOp (codes "keep")) no_more in
+        let filter = node (filter_op (named keep)) (more scan no_more) in
+        plan_run [] (table ∷ []) filter ≡ source_meaning [] (table ∷ []) filter }
+    ensures predicate_of_two_types { let table : Frame = record {
+      schema = (codes "a", Integer true 8) ∷ (codes "keep", Truth) ∷ [];
+      rows = (IntValue (pos 1) ∷ TruthValue true ∷ []) ∷ (NullValue ∷ NullValue ∷ []) ∷ (IntValue (pos 100) ∷ TruthValue false ∷ []) ∷ [];
+    } in
+        let scan = node (scan_op (Some 0) ((codes "a", Integer true 8) ∷ (codes "keep", Truth) ∷ [])) no_more in
+        let a = node (ColumnOp (codes "a")) no_more in
+        let keep = node (ColumnOp (codes "keep")) no_more in
+        let truth = node (CastOp Truth Strict) (more (node (BinaryOp Plus) (more a (more keep no_more))) no_more) in
+        plan_run [] (table ∷ []) (node (filter_op (named truth)) (more scan no_more)) ≡ Stuck }
+    ensures sound { let table : Frame = record {
+      schema = (codes "a", Integer true 8) ∷ (codes "keep", Truth) ∷ [];
+      rows = (IntValue (pos 1) ∷ TruthValue true ∷ []) ∷ (NullValue ∷ NullValue ∷ []) ∷ (IntValue (pos 100) ∷ TruthValue false ∷ []) ∷ [];
+    } in
+        let scan = node (scan_op (Some 0) ((codes "a", Integer true 8) ∷ (codes "keep", Truth) ∷ [])) no_more in
+        let a = node (ColumnOp (codes "a")) no_more in
+        let keep = node (ColumnOp (codes "keep")) no_more in
+        RunsSoundly [] (table ∷ []) (node (filter_op (named keep)) (more scan no_more)) }
+    ensures sound_under_a_select { let table : Frame = record {
+      schema = (codes "a", Integer true 8) ∷ (codes "keep", Truth) ∷ [];
+      rows = (IntValue (pos 1) ∷ TruthValue true ∷ []) ∷ (NullValue ∷ NullValue ∷ []) ∷ (IntValue (pos 100) ∷ TruthValue false ∷ []) ∷ [];
+    } in
+        let scan = node (scan_op (Some 0) ((codes "a", Integer true 8) ∷ (codes "keep", Truth) ∷ [])) no_more in
+        let a = node (ColumnOp (codes "a")) no_more in
+        let keep = node (ColumnOp (codes "keep")) no_more in
+        let inner = node (filter_op (named keep)) (more scan no_more) in
+        RunsSoundly [] (table ∷ []) (node (select_op (named a ∷ []) ((codes "a", Integer true 8) ∷ [])) (more inner no_more)) }
+{}
+
+/// A plan runs soundly where no node is stuck, and each node's frame has exactly the node's own schema.
 pub fn plans_that_run_soundly()
     ensures lowered { let table : Frame = record {
       schema = (codes "a", Integer true 8) ∷ (codes "b", Integer true 32) ∷ [];

@@ -1,11 +1,14 @@
 //! Lowered plans in an arena.
-ghost use Rattle.std.specs.Prelude.{◌≡◌, IfOk, IfErr};
+ghost use Rattle.std.specs.Prelude.{◌≡◌, List, IfOk, IfErr};
 ghost use Rattle.plan_types.specs.Errors.{no_memory};
 ghost use Rattle.plan_types.specs.Schemas.{columns};
-ghost use Rattle.plan_arena.specs.Items.{node_name, recorded_schema};
+ghost use Rattle.plan_dsl.specs.Plans.{Plan};
+ghost use Rattle.plan_arena.specs.Items.{node_name, DenotesItem, HasInputs};
+ghost use Rattle.plan_arena.specs.Runs.{top_schema};
+ghost use Rattle.plan_arena.specs.declared.aexpr.AExpr.{AExpr};
 
 use crate::arena::{Arena, Node};
-use crate::expr_ir::ExprIRs;
+use crate::expr_ir::{ExprIR, ExprIRs};
 use plan_dsl::plan::ProjectionOptions;
 use plan_dsl::udfs::Udfs;
 use plan_types::error::PlanError;
@@ -19,6 +22,11 @@ pub enum IR {
     DataFrameScan {
         table: Option<u32>,
         schema: Schema,
+    },
+    /// The rows of a frame for which the predicate is true. The frame has the schema of the input's.
+    Filter {
+        input: Node,
+        predicate: ExprIR,
     },
     /// A frame of a column for each expression.
     Select {
@@ -36,23 +44,36 @@ impl IR {
     {
         match self {
             IR::DataFrameScan { .. } => "df",
+            IR::Filter { .. } => "selection",
             IR::Select { .. } => "projection",
         }
     }
 
-    /// The schema of the node's frame.
+    /// The schema of the node's frame. The node's inputs lie in the arena.
     pub fn schema(
         &self,
         alloc: Global,
-        _arena: &Arena<IR>,
+        arena: &Arena<IR>,
         _udfs: &Udfs,
     ) -> Result<Schema, PlanError>
-        ensures ok { IfOk result (λ schema. columns schema ≡ recorded_schema self.now) }
+        requires { HasInputs arena.now self.now }
+        ensures ok { IfOk result (λ schema. (expressions : List AExpr) (plan : Plan) →
+            DenotesItem expressions arena.now self.now plan → columns schema ≡ top_schema plan) }
         ensures err { IfErr result (λ error. error ≡ no_memory) }
     {
+        self.schema_ref(arena).try_clone(alloc)
+    }
+
+    /// The schema of the node's frame, where it is kept: at the node, or at one below it.
+    pub fn schema_ref<'a>(&'a self, arena: &'a Arena<IR>) -> &'a Schema
+        requires { HasInputs arena.now self.now }
+        ensures { (expressions : List AExpr) (plan : Plan) →
+            DenotesItem expressions arena.now self.now plan → columns result.now ≡ top_schema plan }
+    {
         match self {
-            IR::DataFrameScan { schema, .. } => schema.try_clone(alloc),
-            IR::Select { schema, .. } => schema.try_clone(alloc),
+            IR::DataFrameScan { schema, .. } => schema,
+            IR::Filter { input, .. } => arena.get(*input).schema_ref(arena),
+            IR::Select { schema, .. } => schema,
         }
     }
 }

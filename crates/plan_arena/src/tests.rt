@@ -1,3 +1,8 @@
+ghost use Rattle.std.specs.Prelude.{◌≡◌, [], ◌∷◌, IfOk};
+ghost use Rattle.plan_arena.specs.Denotation.{DenotesTree};
+ghost use Rattle.plan_arena.specs.Items.{HoldsPlan, HasInputs, plan_layer};
+ghost use Rattle.plan_arena.specs.Layers.{inputs_of};
+
 use crate::aexpr::AExpr;
 use crate::arena::{Arena, Node};
 use crate::expr_ir::{ExprIR, ExprIRs, OutputName};
@@ -25,6 +30,65 @@ fn schema_of(alloc: Global, name: &str) -> Result<Schema, PlanError> {
     let mut schema = Schema::new(alloc);
     schema.with_column(name, DataType::Int8)?;
     Ok(schema)
+}
+
+fn column(alloc: Global) -> Result<ExprIR, PlanError> {
+    let name = PlSmallStr::new(alloc, "first")?;
+    Ok(ExprIR::new(Node(0), OutputName::ColumnLhs(name)))
+}
+
+fn scan(alloc: Global) -> Result<IR, PlanError>
+    ensures { IfOk result (λ item. inputs_of (plan_layer item) ≡ []) }
+{
+    let schema = schema_of(alloc, "read")?;
+    Ok(IR::DataFrameScan {
+        table: Some(3),
+        schema,
+    })
+}
+
+fn filter(alloc: Global, input: Node) -> Result<IR, PlanError>
+    ensures { IfOk result (λ item. inputs_of (plan_layer item) ≡ input.0 ∷ []) }
+{
+    let predicate = column(alloc)?;
+    Ok(IR::Filter { input, predicate })
+}
+
+fn projection(alloc: Global, input: Node) -> Result<IR, PlanError>
+    ensures { IfOk result (λ item. inputs_of (plan_layer item) ≡ input.0 ∷ []) }
+{
+    let mut items = Vec::new(alloc);
+    items.push(column(alloc)?)?;
+    let schema = schema_of(alloc, "first")?;
+    Ok(IR::Select {
+        expr: ExprIRs { items },
+        input,
+        schema,
+        options: ProjectionOptions::default(),
+    })
+}
+
+// A scan, alone in its arena.
+fn one_scan(alloc: Global) -> Result<Arena<IR>, PlanError>
+    ensures { IfOk result (λ plans. DenotesTree (HoldsPlan [] plans) 0) }
+{
+    let schema = schema_of(alloc, "read")?;
+    let mut plans = Arena::new(alloc);
+    plans.add(IR::DataFrameScan {
+        table: Some(3),
+        schema,
+    })?;
+    Ok(plans)
+}
+
+// Whether the item tells the schema of one column, of that name.
+fn tells(alloc: Global, plans: &Arena<IR>, item: &IR, name: &str) -> Result<bool, PlanError>
+    requires { HasInputs plans.now item.now }
+{
+    let registry = Udfs::new(alloc);
+    let schema = item.schema(alloc, plans, &registry)?;
+    let name = PlSmallStr::new(alloc, name)?;
+    Ok(schema.len() == 1 && schema.contains(&name))
 }
 
 #[test]
@@ -76,36 +140,39 @@ fn expressions_keep_node_and_name(rt: HostRuntime) -> Result<(), Fail> {
 }
 
 #[test]
-fn plans_tell_names_and_schemas(rt: HostRuntime) -> Result<(), Fail> {
-    let mut plans = Arena::new(rt.alloc());
-    let mut expressions = Arena::new(rt.alloc());
-    let column = PlSmallStr::new(rt.alloc(), "first")?;
-    let expression = expressions.add(AExpr::Column(column))?;
-    let column = PlSmallStr::new(rt.alloc(), "first")?;
-    let mut items = Vec::new(rt.alloc());
-    items.push(ExprIR::new(expression, OutputName::ColumnLhs(column)))?;
-    let scan = plans.add(IR::DataFrameScan {
-        table: Some(3),
-        schema: schema_of(rt.alloc(), "read")?,
-    })?;
-    let projection = plans.add(IR::Select {
-        expr: ExprIRs { items },
-        input: scan,
-        schema: schema_of(rt.alloc(), "first")?,
-        options: ProjectionOptions::default(),
-    })?;
-    assert_eq!(rt; plans.len(), 2);
-    let registry = Udfs::new(rt.alloc());
-    for (number, name, column) in [(0, "df", "read"), (1, "projection", "first")] {
-        let plan = plans.get(Node(number));
-        assert_eq!(rt; plan.name(), name);
-        let schema = plan.schema(rt.alloc(), &plans, &registry)?;
-        assert_eq!(rt; schema.len(), 1);
-        let column = PlSmallStr::new(rt.alloc(), column)?;
-        assert!(rt; schema.contains(&column));
+fn plans_tell_names(rt: HostRuntime) -> Result<(), Fail> {
+    let alloc = rt.alloc();
+    let mut plans = Arena::new(alloc);
+    let read = plans.add(scan(alloc)?)?;
+    let kept = plans.add(filter(alloc, read)?)?;
+    let top = plans.add(projection(alloc, kept)?)?;
+    for (number, name) in [(0, "df"), (1, "selection"), (2, "projection")] {
+        assert_eq!(rt; plans.get(Node(number)).name(), name);
     }
-    assert!(rt; projection.0 < plans.len());
-    let plan = IRPlan::new(projection, plans, expressions);
+    let mut expressions = Arena::new(alloc);
+    let name = PlSmallStr::new(alloc, "first")?;
+    expressions.add(AExpr::Column(name))?;
+    let plan = IRPlan::new(top, plans, expressions);
     assert_eq!(rt; plan.root().name(), "projection");
+    Ok(())
+}
+
+#[test]
+fn scans_and_projections_tell_their_own_schema(rt: HostRuntime) -> Result<(), Fail> {
+    let alloc = rt.alloc();
+    let plans = one_scan(alloc)?;
+    let read = scan(alloc)?;
+    assert!(rt; tells(alloc, &plans, &read, "read")?);
+    let top = projection(alloc, Node(0))?;
+    assert!(rt; tells(alloc, &plans, &top, "first")?);
+    Ok(())
+}
+
+#[test]
+fn filters_tell_the_schema_of_their_input(rt: HostRuntime) -> Result<(), Fail> {
+    let alloc = rt.alloc();
+    let plans = one_scan(alloc)?;
+    let kept = filter(alloc, Node(0))?;
+    assert!(rt; tells(alloc, &plans, &kept, "read")?);
     Ok(())
 }

@@ -1,6 +1,7 @@
 use Rattle.std.proofs.Common.{[], ◌∷◌, Some, refl}
 use Rattle.plan_types.specs.Schemas.{columns}
-use Rattle.plan_dsl.specs.Plans.{scan_op}
+use Rattle.plan_dsl.specs.Plans.{scan_op, filter_op}
+use Rattle.plan_arena.specs.Items.{output_text}
 use Rattle.plan_arena.proofs.examples.outputs_of_nodes.Goals as goal
 
 pub returns-clause-sum : goal.returns-clause-sum
@@ -11,4 +12,11 @@ returns-clause-scan c = λ schema. record {
   flat = scan_op (Some 0) (columns schema);
   item = refl;
   denotes = record { same_kind = refl; same_schema = refl; named = tt };
+}
+
+pub returns-clause-filter : goal.returns-clause-filter
+returns-clause-filter c = λ name. record {
+  flat = filter_op (record { name = output_text name; expression = 0 });
+  item = refl;
+  denotes = record { same_kind = refl; same_schema = refl; named = (refl, ([], refl, tt), tt) };
 }
