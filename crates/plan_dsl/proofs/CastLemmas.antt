@@ -198,71 +198,16 @@ right_becomes operator a b c d result h =
     let common = t.is ∙ ap Ok t.right in
     record { known = common_known a b d common; has = λ number e. common_has_right number a d (ap (λ x. common_type a x) (sym e) ∙ common) }
 
--- an operator over operands of types that it takes to others
-module _ (registry : Registry) (schema : Columns) (operator : Operator) (left right : Expression) (a b : Ty) (manya manyb : Bool) (typed_left : typing registry schema left ≡ Ok (record { type = a; many = manya })) (typed_right : typing registry schema right ≡ Ok (record { type = b; many = manyb })) (c d result : Ty) (takes : operator_types operator (a ∷ b ∷ []) ≡ Ok (record { operands = c ∷ d ∷ []; type = result })) where
-  abbrev operands : Trees Op
-  operands = more left (more right no_more)
+-- an operator has two operands
+abbrev pub HasTwo : List Ty → Type 0
+HasTwo [] = ⊥
+HasTwo (a ∷ []) = ⊥
+HasTwo (a ∷ b ∷ []) = Unit {0}
+HasTwo (a ∷ b ∷ c ∷ types) = ⊥
 
-  abbrev pub casts : Trees Op
-  casts = more (as_operand a c left) (more (as_operand b d right) no_more)
-
-  can_left : CanBecome a c
-  can_left = left_becomes operator a b c d result takes
-
-  can_right : CanBecome b d
-  can_right = right_becomes operator a b c d result takes
-
-  operands_typed : typing_all registry schema operands ≡ Ok (record { type = a; many = manya } ∷ record { type = b; many = manyb } ∷ [])
-  operands_typed =
-      ap (λ x. typed_before x (typed_before (typing registry schema right) (Ok []))) typed_left
-      ∙ ap (λ y. typed_before (Ok (record { type = a; many = manya })) (typed_before y (Ok []))) typed_right
-
-  pub casts_typed : typing_all registry schema casts ≡ Ok (record { type = c; many = manya } ∷ record { type = d; many = manyb } ∷ [])
-  casts_typed =
-      ap (λ x. typed_before x (typed_before (typing registry schema (as_operand b d right)) (Ok []))) (as_operand_typing registry schema a c left manya typed_left can_left)
-      ∙ ap (λ y. typed_before (Ok (record { type = c; many = manya })) (typed_before y (Ok []))) (as_operand_typing registry schema b d right manyb typed_right can_right)
-
-  again : operator_types operator (c ∷ d ∷ []) ≡ Ok (record { operands = c ∷ d ∷ []; type = result })
-  again = taken_stay operator a b c d result takes
-
-  own_types : same_types (c ∷ d ∷ []) (c ∷ d ∷ []) ≡ true
-  own_types = ap (λ x. x && (same_type d d && true)) (same_type_own c) ∙ ap (λ x. x && true) (same_type_own d)
-
-  -- the operator over the casts is strict
-  pub casts_strict : IsStrictOver registry schema (BinaryOp operator) casts
-  casts_strict = record {
-    typed = record { type = c; many = manya } ∷ record { type = d; many = manyb } ∷ [];
-    types = casts_typed;
-    strict = record { taken = record { operands = c ∷ d ∷ []; type = result }; takes = again; kept = own_types; known = operator_known operator (a ∷ b ∷ []) _ takes };
-  }
-
-  same_typing : typing registry schema (node (BinaryOp operator) casts) ≡ typing registry schema (node (BinaryOp operator) operands)
-  same_typing =
-      let many = some_many (record { type = a; many = manya } ∷ record { type = b; many = manyb } ∷ []) in
-      ap (λ r. then_typed r (typing_rule registry schema (BinaryOp operator))) casts_typed
-      ∙ ap (λ o. typed_as o many) (again ∙ sym takes)
-      ∙ sym (ap (λ r. then_typed r (typing_rule registry schema (BinaryOp operator))) operands_typed)
-
-  same_meaning : (rows : List Row) → meaning registry (record { schema = schema; rows = rows }) (node (BinaryOp operator) casts) ≡ meaning registry (record { schema = schema; rows = rows }) (node (BinaryOp operator) operands)
-  same_meaning rows =
-      let frame : Frame = record { schema = schema; rows = rows } in
-      let ml = meaning registry frame left in
-      let mr = meaning registry frame right in
-      let cl = meaning registry frame (as_operand a c left) in
-      let cr = meaning registry frame (as_operand b d right) in
-      let el = cast_own c cl ∙ as_operand_meaning registry schema a c left manya typed_left can_left rows in
-      let er = cast_own d cr ∙ as_operand_meaning registry schema b d right manyb typed_right can_right rows in
-      ap (λ r. node_meaning frame (BinaryOp operator) r (cl ∷ cr ∷ [])) casts_typed
-      ∙ ap (λ o. taken_meaning frame (BinaryOp operator) (c ∷ d ∷ []) o (cl ∷ cr ∷ [])) again
-      ∙ ap (λ x. kernel frame (BinaryOp operator) (c ∷ d ∷ []) result (x ∷ cast_meaning d d NonStrict cr ∷ [])) el
-      ∙ ap (λ y. kernel frame (BinaryOp operator) (c ∷ d ∷ []) result (cast_meaning a c NonStrict ml ∷ y ∷ [])) er
-      ∙ sym (ap (λ o. taken_meaning frame (BinaryOp operator) (a ∷ b ∷ []) o (ml ∷ mr ∷ [])) takes)
-      ∙ sym (ap (λ r. node_meaning frame (BinaryOp operator) r (ml ∷ mr ∷ [])) operands_typed)
-
-  -- and says the same as the operator over its operands
-  pub casts_same : IsSame registry schema (node (BinaryOp operator) operands) (node (BinaryOp operator) casts)
-  casts_same = record {
-    typing = same_typing;
-    name = as_operand_name registry schema a c left manya typed_left can_left;
-    meaning = same_meaning;
-  }
+pub two_taken : (operator : Operator) (left right : Ty) (targets : List Ty) (type : Ty) → operator_types operator (left ∷ right ∷ []) ≡ Ok (record { operands = targets; type = type }) → HasTwo targets
+two_taken operator left right targets type h =
+    elim (common_type left right) as (λ r. both_to operator r ≡ Ok (record { operands = targets; type = type }) → HasTwo targets) [
+      | Err kind ↦ λ h. cc
+      | Ok common ↦ λ h. subst (λ (t : Taken). HasTwo t.operands) (ok_same (both_to operator (Ok common)) _ _ refl h) tt
+    ] h

@@ -3,6 +3,7 @@ pub mod FitLemmas
 pub mod FrameLemmas
 pub mod KernelLemmas
 pub mod LiteralLemmas
+pub mod OperandLemmas
 pub mod RuleLemmas
 pub mod RunLemmas
 pub mod SameLemmas

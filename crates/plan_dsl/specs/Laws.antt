@@ -1,7 +1,7 @@
 -- Laws of the definitions, for all expressions and plans.
-use Rattle.std.specs.Prelude.{◌≡◌, ℕ, ℤ, List, [], ◌∷◌, length, Some, Ok, Err, IsTrue, false}
+use Rattle.std.specs.Prelude.{◌≡◌, ℕ, ℤ, List, [], ◌∷◌, length, Some, Ok, Err, IsTrue, true, false}
 use Rattle.std.specs.List.{Contains}
-use Rattle.plan_types.specs.Types.{Ty, Untyped}
+use Rattle.plan_types.specs.Types.{Ty, Untyped, is_known}
 use Rattle.plan_types.specs.Schemas.{Columns}
 use Rattle.plan_types.specs.Values.{Val, IntValue, all_fit}
 use Rattle.plan_types.specs.Outcomes.{Meets}
@@ -9,11 +9,11 @@ use Rattle.plan_types.specs.Frames.{Frame, IsFrame, IsFrameOf}
 use Rattle.plan_types.specs.declared.error.ErrorKind.{ErrorKind}
 use Rattle.plan_dsl.specs.Registry.{Registry}
 use Rattle.plan_dsl.specs.Ops.{Op, LiteralOp, Expression}
-use Rattle.plan_dsl.specs.Trees.{node, no_more}
+use Rattle.plan_dsl.specs.Trees.{Trees, node, no_more}
 use Rattle.plan_dsl.specs.Plans.{Plan}
-use Rattle.plan_dsl.specs.Typing.{Typed, Taken, operand_types, typing, kinds_in}
+use Rattle.plan_dsl.specs.Typing.{Typed, Taken, operand_types, types_of, typing, typing_all, kinds_in}
 use Rattle.plan_dsl.specs.Meaning.{meaning}
-use Rattle.plan_dsl.specs.Strictness.{IsStrict}
+use Rattle.plan_dsl.specs.Strictness.{IsStrict, IsSame, IsStrictOver, as_operands}
 use Rattle.plan_dsl.specs.StrictRun.{strict_run}
 use Rattle.plan_dsl.specs.PlanRules.{schema_of, IsWellFormed, Breaks}
 use Rattle.plan_dsl.specs.PlanMeaning.{source_meaning, FitsPlan}
@@ -21,6 +21,11 @@ use Rattle.plan_dsl.specs.PlanMeaning.{source_meaning, FitsPlan}
 -- operands that were taken to their types are taken as they are
 abbrev pub TakenTypesStay : Type 0
 TakenTypesStay = (schema : Columns) (op : Op) (types : List Ty) (taken : Taken) → operand_types schema op types ≡ Ok taken → operand_types schema op taken.operands ≡ Ok taken
+
+-- a node over operands that were made of the types to which it takes them says the same, and is strict
+abbrev pub TakenOperandsSaySame : Type 0
+TakenOperandsSaySame = (registry : Registry) (schema : Columns) (op : Op) (trees : Trees Op) (typed : List Typed) (taken : Taken) → typing_all registry schema trees ≡ Ok typed → operand_types schema op (types_of typed) ≡ Ok taken → is_known taken.type ≡ true
+    → IsSame registry schema (node op trees) (node op (as_operands (types_of typed) taken.operands trees)) × IsStrictOver registry schema op (as_operands (types_of typed) taken.operands trees)
 
 -- a strict expression gives what it means
 abbrev pub StrictRunIsMeaning : Type 0

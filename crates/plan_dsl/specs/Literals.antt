@@ -10,16 +10,30 @@ use Rattle.plan_dsl.specs.declared.literal.LiteralValue.TheVariants.{Int, Int8, 
 use Rattle.plan_dsl.specs.Trees.{node}
 use Rattle.plan_dsl.specs.Ops.{Op, ColumnOp, LiteralOp, BinaryOp, CastOp, Expression}
 
+abbrev pub literal_type : LiteralValue → Ty
+literal_type (Int number) = Untyped number
+literal_type (Int8 number) = Integer true 8
+literal_type (Int16 number) = Integer true 16
+literal_type (Int32 number) = Integer true 32
+literal_type (Int64 number) = Integer true 64
+literal_type (UInt8 number) = Integer false 8
+literal_type (UInt16 number) = Integer false 16
+literal_type (UInt32 number) = Integer false 32
+literal_type (UInt64 number) = Integer false 64
+
+abbrev pub literal_value : LiteralValue → Val
+literal_value (Int number) = IntValue number
+literal_value (Int8 number) = IntValue number
+literal_value (Int16 number) = IntValue number
+literal_value (Int32 number) = IntValue number
+literal_value (Int64 number) = IntValue number
+literal_value (UInt8 number) = IntValue (pos number)
+literal_value (UInt16 number) = IntValue (pos number)
+literal_value (UInt32 number) = IntValue (pos number)
+literal_value (UInt64 number) = IntValue (pos number)
+
 abbrev pub literal_op : LiteralValue → Op
-literal_op (Int number) = LiteralOp (Untyped number) (IntValue number)
-literal_op (Int8 number) = LiteralOp (Integer true 8) (IntValue number)
-literal_op (Int16 number) = LiteralOp (Integer true 16) (IntValue number)
-literal_op (Int32 number) = LiteralOp (Integer true 32) (IntValue number)
-literal_op (Int64 number) = LiteralOp (Integer true 64) (IntValue number)
-literal_op (UInt8 number) = LiteralOp (Integer false 8) (IntValue (pos number))
-literal_op (UInt16 number) = LiteralOp (Integer false 16) (IntValue (pos number))
-literal_op (UInt32 number) = LiteralOp (Integer false 32) (IntValue (pos number))
-literal_op (UInt64 number) = LiteralOp (Integer false 64) (IntValue (pos number))
+literal_op value = LiteralOp (literal_type value) (literal_value value)
 
 -- whether a literal of the type may have the value: null is one of no type
 abbrev pub is_literal_of : Ty → Val → Bool

@@ -53,6 +53,13 @@ changed (Untyped number) target tree = node (LiteralOp target (IntValue number))
 abbrev pub as_operand : Ty → Ty → Expression → Expression
 as_operand from target tree = if same_type from target then tree else changed from target tree
 
+-- operands of the first types, made ones of the second
+abbrev pub as_operands : List Ty → List Ty → Trees Op → Trees Op
+as_operands [] targets trees = no_more
+as_operands (from ∷ types) [] trees = no_more
+as_operands (from ∷ types) (target ∷ targets) no_more = no_more
+as_operands (from ∷ types) (target ∷ targets) (more tree trees) = more (as_operand from target tree) (as_operands types targets trees)
+
 -- the one expression has the type, name and meaning of the other, on every frame of the schema
 pub record IsSame (registry : Registry) (schema : Columns) (before after : Expression) : Type 0 where
   pub typing : typing registry schema after ≡ typing registry schema before

@@ -1,8 +1,12 @@
 //! Literals: values that are written in an expression.
-ghost use Rattle.std.specs.Prelude.{◌≡◌, IfOk, IfErr};
-ghost use Rattle.plan_dsl.specs.Literals.{literal_op};
+ghost use Rattle.std.specs.Prelude.{◌≡◌, ◌&&◌, false, MatchOption, IfOk, IfErr};
+ghost use Rattle.plan_dsl.specs.Literals.{literal_op, literal_type};
+ghost use Rattle.plan_dsl.specs.Ops.{LiteralOp};
 ghost use Rattle.plan_types.specs.Errors.{no_memory};
+ghost use Rattle.plan_types.specs.Types.{ty, is_integer, is_known};
+ghost use Rattle.plan_types.specs.Values.{IntValue, in_range};
 
+use plan_types::dtype::DataType;
 use plan_types::error::PlanError;
 use std::alloc::Global;
 
@@ -22,6 +26,41 @@ pub enum LiteralValue {
 }
 
 impl LiteralValue {
+    /// The literal's type, where it has one.
+    pub fn known_type(&self) -> Option<&'static DataType>
+        ensures { MatchOption result (is_known (literal_type self.now) ≡ false) (λ dtype. ty dtype.now ≡ literal_type self.now) }
+    {
+        match self {
+            LiteralValue::Int(_) => None,
+            LiteralValue::Int8(_) => Some(&DataType::Int8),
+            LiteralValue::Int16(_) => Some(&DataType::Int16),
+            LiteralValue::Int32(_) => Some(&DataType::Int32),
+            LiteralValue::Int64(_) => Some(&DataType::Int64),
+            LiteralValue::UInt8(_) => Some(&DataType::UInt8),
+            LiteralValue::UInt16(_) => Some(&DataType::UInt16),
+            LiteralValue::UInt32(_) => Some(&DataType::UInt32),
+            LiteralValue::UInt64(_) => Some(&DataType::UInt64),
+        }
+    }
+
+    /// The literal of that type and number, where the type's range has the number and is one of integers.
+    pub fn of_number(dtype: &DataType, number: i128) -> Option<LiteralValue>
+        ensures { MatchOption result ((is_integer (ty dtype.now) && in_range (ty dtype.now) number) ≡ false)
+            (λ value. literal_op value ≡ LiteralOp (ty dtype.now) (IntValue number)) }
+    {
+        match dtype {
+            DataType::Boolean | DataType::Unknown(_) => None,
+            DataType::Int8 => i8::try_from(number).ok().map(LiteralValue::Int8),
+            DataType::Int16 => i16::try_from(number).ok().map(LiteralValue::Int16),
+            DataType::Int32 => i32::try_from(number).ok().map(LiteralValue::Int32),
+            DataType::Int64 => i64::try_from(number).ok().map(LiteralValue::Int64),
+            DataType::UInt8 => u8::try_from(number).ok().map(LiteralValue::UInt8),
+            DataType::UInt16 => u16::try_from(number).ok().map(LiteralValue::UInt16),
+            DataType::UInt32 => u32::try_from(number).ok().map(LiteralValue::UInt32),
+            DataType::UInt64 => u64::try_from(number).ok().map(LiteralValue::UInt64),
+        }
+    }
+
     pub fn try_clone(&self, _alloc: Global) -> Result<LiteralValue, PlanError>
         ensures ok { IfOk result (λ copy. literal_op copy ≡ literal_op self.now) }
         ensures err { IfErr result (λ error. error ≡ no_memory) }

@@ -1,5 +1,6 @@
 use Rattle.std.proofs.Common.{Ok, ap, ◌∙◌}
 use Rattle.plan_dsl.proofs.LiteralLemmas.{untyped_is_number}
+use Rattle.plan_dsl.proofs.OperandLemmas.{operands_same, operands_strict}
 use Rattle.plan_dsl.proofs.CastLemmas.{taken_types_stay}
 use Rattle.plan_dsl.proofs.FitLemmas.{meaning_has_type}
 use Rattle.plan_dsl.proofs.RunLemmas.{strict_is_meaning}
@@ -17,3 +18,7 @@ returns-clause-has_type c registry frame tree typed of typing rows = meaning_has
 pub returns-clause-untyped : goal.returns-clause-untyped
 returns-clause-untyped c registry schema number tree typed typing is =
     (untyped_is_number registry schema number tree typed.many (typing ∙ ap (λ type. Ok (record { type = type; many = typed.many })) is)).tree_is
+
+pub returns-clause-taken_operands : goal.returns-clause-taken_operands
+returns-clause-taken_operands c registry schema op trees typed taken h takes known =
+    (operands_same registry schema op trees typed h taken takes, operands_strict registry schema op trees typed h taken takes known)
