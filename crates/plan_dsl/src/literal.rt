@@ -1,6 +1,6 @@
 //! Literals: values that are written in an expression.
 ghost use Rattle.std.specs.Prelude.{◌≡◌, ◌&&◌, false, MatchOption, IfOk, IfErr};
-ghost use Rattle.plan_dsl.specs.Literals.{literal_op, literal_type};
+ghost use Rattle.plan_dsl.specs.Literals.{literal_op, literal_type, literal_value};
 ghost use Rattle.plan_dsl.specs.Ops.{LiteralOp};
 ghost use Rattle.plan_types.specs.Errors.{no_memory};
 ghost use Rattle.plan_types.specs.Types.{ty, is_integer, is_known};
@@ -40,6 +40,23 @@ impl LiteralValue {
             LiteralValue::UInt16(_) => Some(&DataType::UInt16),
             LiteralValue::UInt32(_) => Some(&DataType::UInt32),
             LiteralValue::UInt64(_) => Some(&DataType::UInt64),
+        }
+    }
+
+    /// The number that is written.
+    pub fn number(&self) -> i128
+        ensures { literal_value self.now ≡ IntValue result }
+    {
+        match self {
+            LiteralValue::Int(number) => *number,
+            LiteralValue::Int8(number) => i128::from(*number),
+            LiteralValue::Int16(number) => i128::from(*number),
+            LiteralValue::Int32(number) => i128::from(*number),
+            LiteralValue::Int64(number) => i128::from(*number),
+            LiteralValue::UInt8(number) => i128::from(*number),
+            LiteralValue::UInt16(number) => i128::from(*number),
+            LiteralValue::UInt32(number) => i128::from(*number),
+            LiteralValue::UInt64(number) => i128::from(*number),
         }
     }
 
