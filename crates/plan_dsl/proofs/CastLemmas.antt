@@ -25,8 +25,8 @@ use Rattle.plan_dsl.specs.Typing.{Taken, both_to, column_type, literal_taken, ca
 use Rattle.plan_dsl.specs.Kernels.{Meaning, cast_meaning, kernel}
 use Rattle.plan_dsl.specs.Meaning.{meaning, node_meaning, taken_meaning}
 use Rattle.plan_dsl.proofs.TypingLemmas.{ok_same, ok_where}
-use Rattle.plan_dsl.proofs.LiteralLemmas.{CanBecome, operator_known, untyped_is_number, literal_means, literal_typing, becomes_literal, number_cast}
-use Rattle.plan_dsl.specs.Strictness.{IsSame, IsStrictOver, same_types, changed, as_operand}
+use Rattle.plan_dsl.proofs.LiteralLemmas.{operator_known, untyped_is_number, literal_means, literal_typing, becomes_literal, number_cast}
+use Rattle.plan_dsl.specs.Strictness.{CanBecome, IsSame, IsStrictOver, same_types, changed, as_operand}
 
 pub or_false : (b : Bool) → (b || false) ≡ b
 or_false true = refl

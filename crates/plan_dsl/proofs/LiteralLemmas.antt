@@ -14,6 +14,8 @@ use Rattle.plan_types.specs.declared.dtype.CastOptions.TheVariants.{NonStrict}
 use Rattle.plan_types.proofs.SupertypeLemmas.{no_number}
 use Rattle.plan_types.proofs.CommonLemmas.{alone_known, alone_itself, common_known}
 use Rattle.plan_types.proofs.ValueLemmas.{int_eq_exact}
+use Rattle.plan_dsl.specs.declared.literal.LiteralValue.{LiteralValue}
+use Rattle.plan_dsl.specs.declared.literal.LiteralValue.TheVariants.{Int, Int8, Int16, Int32, Int64, UInt8, UInt16, UInt32, UInt64}
 use Rattle.plan_dsl.specs.declared.operator.Operator.{Operator}
 use Rattle.plan_dsl.specs.declared.operator.Operator.TheVariants.{Eq, NotEq, Lt, LtEq, Gt, GtEq, Plus}
 use Rattle.plan_dsl.specs.Operators.{result_type}
@@ -21,11 +23,11 @@ use Rattle.plan_dsl.specs.Registry.{Registry}
 use Rattle.plan_dsl.specs.Trees.{Trees, node, no_more, more}
 use Rattle.plan_dsl.specs.Ops.{Op, ColumnOp, LiteralOp, BinaryOp, CastOp, Expression}
 use Rattle.plan_dsl.specs.Names.{name_of}
-use Rattle.plan_dsl.specs.Literals.{is_literal, is_literal_of, settled, settled_type}
+use Rattle.plan_dsl.specs.Literals.{literal_type, literal_value, is_literal, is_literal_of, settled, settled_type}
 use Rattle.plan_dsl.specs.Typing.{Typed, Taken, both_to, column_type, cast_taken, operator_types, operand_types, types_of, is_many, typed_as, typed_before, typing, typing_all}
 use Rattle.plan_dsl.specs.Kernels.{Meaning, cast_meaning, value_before}
 use Rattle.plan_dsl.specs.Meaning.{meaning, taken_meaning}
-use Rattle.plan_dsl.specs.Strictness.{IsStrict}
+use Rattle.plan_dsl.specs.Strictness.{IsStrict, CanBecome}
 use Rattle.plan_dsl.proofs.TypingLemmas.{ok_same, ok_where, typed_parts}
 
 not_both : (type : Ty) (number : ℤ) → is_known type ≡ true → type ≡ Untyped number → ⊥
@@ -143,12 +145,6 @@ pub literal_typing : (registry : Registry) (schema : Columns) (type : Ty) (value
 literal_typing registry schema type value h =
     ap (λ b. typed_as (cond b (Ok (record { operands = []; type = type })) (Err InvalidOperation)) false) h
 
--- an operand of the first type can become one of the second: it is a type of columns, and has the number that
--- had none
-pub record CanBecome (from target : Ty) : Type 0 where
-  pub known : is_known target ≡ true
-  pub has : (number : ℤ) → from ≡ Untyped number → in_range target number ≡ true
-
 pub becomes_literal : (target : Ty) (number : ℤ) → is_known target ≡ true → in_range target number ≡ true → is_literal target (IntValue number) ≡ true
 becomes_literal target number known has = and_from (in_range target number) (is_some (type_alone target)) has (ap is_some (alone_itself target known))
 
@@ -181,3 +177,15 @@ strict_settled registry schema (node (LiteralOp type value) children) strict =
     ap (λ t. node (LiteralOp t value) children) (ap (λ o. unwrap_or o type) (alone_itself type known))
 strict_settled registry schema (node (BinaryOp operator) children) strict = refl
 strict_settled registry schema (node (CastOp target options) children) strict = refl
+
+-- a literal whose type isn't known is a number without one
+pub unknown_literal : (value : LiteralValue) (number : ℤ) → is_known (literal_type value) ≡ false → literal_value value ≡ IntValue number → literal_type value ≡ Untyped number
+unknown_literal (Int own) number u h = let same : own ≡ number = cc in ap Untyped same
+unknown_literal (Int8 own) number u h = cc
+unknown_literal (Int16 own) number u h = cc
+unknown_literal (Int32 own) number u h = cc
+unknown_literal (Int64 own) number u h = cc
+unknown_literal (UInt8 own) number u h = cc
+unknown_literal (UInt16 own) number u h = cc
+unknown_literal (UInt32 own) number u h = cc
+unknown_literal (UInt64 own) number u h = cc

@@ -22,9 +22,8 @@ use Rattle.plan_dsl.specs.Literals.{is_literal}
 use Rattle.plan_dsl.specs.Typing.{Typed, Taken, column_type, cast_taken, operator_types, operand_types, types_of, some_many, is_many, typed_as, typing, typing_all, typing_rule, then_typed, typed_before}
 use Rattle.plan_dsl.specs.Kernels.{Meaning, cast_meaning, kernel}
 use Rattle.plan_dsl.specs.Meaning.{meaning, meaning_all, node_meaning, taken_meaning, taken_to}
-use Rattle.plan_dsl.specs.Strictness.{IsSame, IsStrictOver, same_types, as_operand, as_operands}
+use Rattle.plan_dsl.specs.Strictness.{CanBecome, IsSame, IsStrictOver, same_types, as_operand, as_operands}
 use Rattle.plan_dsl.proofs.TypingLemmas.{ok_same, ok_where, by_children, by_no_children}
-use Rattle.plan_dsl.proofs.LiteralLemmas.{CanBecome}
 use Rattle.plan_dsl.proofs.CastLemmas.{cast_own, as_operand_typing, as_operand_name, as_operand_meaning, left_becomes, right_becomes, two_taken, taken_types_stay}
 
 -- each can become one of its type

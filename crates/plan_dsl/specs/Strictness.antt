@@ -1,8 +1,8 @@
 -- Strict expressions, and expressions that say the same.
 -- A node is strict where its operands have the types to which it takes them, and it is no number without a type.
-use Rattle.std.specs.Prelude.{◌≡◌, Bool, true, false, ◌&&◌, List, [], ◌∷◌, Result, Ok, if◌then◌else◌}
+use Rattle.std.specs.Prelude.{◌≡◌, ℤ, Bool, true, false, ◌&&◌, List, [], ◌∷◌, Result, Ok, if◌then◌else◌}
 use Rattle.plan_types.specs.Types.{Ty, Truth, Integer, Untyped, is_known, same_type}
-use Rattle.plan_types.specs.Values.{IntValue}
+use Rattle.plan_types.specs.Values.{IntValue, in_range}
 use Rattle.plan_types.specs.Schemas.{Columns}
 use Rattle.plan_types.specs.Frames.{Row, Frame}
 use Rattle.plan_types.specs.declared.dtype.CastOptions.TheVariants.{NonStrict}
@@ -52,6 +52,12 @@ changed (Untyped number) target tree = node (LiteralOp target (IntValue number))
 -- the same, where the types aren't one
 abbrev pub as_operand : Ty → Ty → Expression → Expression
 as_operand from target tree = if same_type from target then tree else changed from target tree
+
+-- an operand of the first type can become one of the second: it is a type of columns, and has the number that
+-- had none
+pub record CanBecome (from target : Ty) : Type 0 where
+  pub known : is_known target ≡ true
+  pub has : (number : ℤ) → from ≡ Untyped number → in_range target number ≡ true
 
 -- operands of the first types, made ones of the second
 abbrev pub as_operands : List Ty → List Ty → Trees Op → Trees Op

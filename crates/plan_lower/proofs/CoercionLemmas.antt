@@ -27,7 +27,7 @@ use Rattle.plan_arena.specs.Items.{HoldsExpression, HoldsFrom, Grows, expression
 use Rattle.plan_arena.proofs.DenotationLemmas.{denotes_one, kept_below, all_kept_below}
 use Rattle.plan_arena.proofs.ItemLemmas.{tree_grown, added_denotes, length-grown, any_node, from_laws, from_top, one_child, two_children, no_children, expression_laws, expression_elsewhere, expression_written, expression_grown, within}
 use Rattle.plan_lower.specs.Coercion.{DenotesTyped, Visits, IsCastFor, cast_round, CastsOperands}
-use Rattle.plan_lower.specs.Typed.{IsRefusal, no_room, broken}
+use Rattle.plan_types.specs.Errors.{IsRefusal, no_room, broken}
 use Rattle.plan_lower.proofs.TypingLemmas.{AllHaveType, AllRefused}
 
 -- a typed expression is a tree

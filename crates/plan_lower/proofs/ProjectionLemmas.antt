@@ -27,7 +27,8 @@ use Rattle.plan_lower.specs.declared.type_table.TypeTable.{TypeTable}
 use Rattle.plan_lower.proofs.CoercionLemmas.{grown_elsewhere}
 use Rattle.plan_lower.proofs.StackLemmas.{all_weaker, all_joined}
 use Rattle.plan_lower.proofs.TableLemmas.{known_grown, known_extended}
-use Rattle.plan_lower.specs.Typed.{HasType, IsRefusal, no_room as short, broken}
+use Rattle.plan_types.specs.Errors.{IsRefusal, no_room as short, broken}
+use Rattle.plan_lower.specs.Typed.{HasType}
 use Rattle.plan_lower.specs.Projection.{Output, output_node, output_column, IsOutput, Projects, AddsOutput, IsOutputRefusal, no_room, untyped, IsProjectionRefusal, refused}
 
 pub refused_output : (registry : Registry) (schema : Columns) (tree : Expression) (before : Columns) (error : PlanError) → IsRefusal (typing registry schema tree) error → IsOutputRefusal registry schema tree before error

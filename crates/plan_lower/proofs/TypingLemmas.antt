@@ -17,7 +17,8 @@ use Rattle.plan_arena.specs.declared.aexpr.AExpr.{AExpr}
 use Rattle.plan_arena.specs.Denotation.{Denotes}
 use Rattle.plan_arena.specs.Items.{HoldsExpression}
 use Rattle.plan_arena.proofs.ItemLemmas.{held_top, one_child, two_children, no_children}
-use Rattle.plan_lower.specs.Typed.{HasType, IsRefusal, no_room, broken}
+use Rattle.plan_types.specs.Errors.{IsRefusal, no_room, broken}
+use Rattle.plan_lower.specs.Typed.{HasType}
 
 -- a refusal below is one here, where the kinds are the same
 refused_so : {A B : Type 0} (from : Result A ErrorKind) (to : Result B ErrorKind) (error : PlanError) → ((kind : ErrorKind) → from ≡ Err kind → to ≡ Err kind) → IsRefusal from error → IsRefusal to error

@@ -1,21 +1,24 @@
 -- What coercion leaves.
 -- A node that was visited is strict over its inputs, and says the same as before. Other items stay.
-use Rattle.std.specs.Prelude.{◌≡◌, ◌≤◌, ℕ, true, false, List, [], ◌∷◌, map, Option, Some, None, Ok}
+use Rattle.std.specs.Prelude.{◌≡◌, ◌≤◌, ℕ, ℤ, Bool, true, false, List, [], ◌∷◌, map, Ok}
 use Rattle.std.specs.List.{AllByRecursion}
-use Rattle.plan_types.specs.Types.{Ty, ty, same_type}
+use Rattle.plan_types.specs.Types.{Ty, Untyped, ty, is_known, same_type}
+use Rattle.plan_types.specs.Values.{IntValue}
 use Rattle.plan_types.specs.Schemas.{Columns}
-use Rattle.plan_types.specs.declared.dtype.DataType.{DataType}
 use Rattle.plan_types.specs.declared.dtype.CastOptions.TheVariants.{NonStrict}
 use Rattle.plan_dsl.specs.declared.operator.Operator.{Operator}
 use Rattle.plan_dsl.specs.Registry.{Registry}
 use Rattle.plan_dsl.specs.Trees.{Trees, node, no_more, more}
-use Rattle.plan_dsl.specs.Ops.{Op, CastOp, Expression}
+use Rattle.plan_dsl.specs.Ops.{Op, LiteralOp, CastOp, Expression}
+use Rattle.plan_dsl.specs.Literals.{literal_op, literal_type, literal_value, is_literal}
 use Rattle.plan_dsl.specs.Typing.{Typed, typing, operator_types}
 use Rattle.plan_dsl.specs.Strictness.{IsSame, IsStrict, IsStrictOver}
 use Rattle.plan_arena.specs.declared.arena.Node.{Node}
 use Rattle.plan_arena.specs.declared.aexpr.AExpr.{AExpr}
 use Rattle.plan_arena.specs.Denotation.{Denotes, DenoteAll}
 use Rattle.plan_arena.specs.Items.{HoldsExpression, HoldsFrom}
+use Rattle.plan_lower.specs.declared.conversion.type_coercion.Change.{Change}
+use Rattle.plan_lower.specs.declared.conversion.type_coercion.Change.TheVariants.{Keep, Cast, Literal}
 use Rattle.plan_lower.specs.Typed.{HasType}
 
 -- the node denotes a typed expression of nodes from that number on
@@ -45,18 +48,33 @@ pub record Visits (registry : Registry) (schema : Columns) (first : ℕ) (items 
   pub same : IsSame registry schema before (node op children)
   pub strict : IsStrictOver registry schema op children
 
--- the cast that an operand of the first type needs to be one of the second: its target, or none
-abbrev pub IsCastFor : Ty → Ty → Option DataType → Type 0
-IsCastFor from target None = same_type from target ≡ true
-IsCastFor from target (Some dtype) = (same_type from target ≡ false) × (ty dtype ≡ target)
+-- what makes an operand of the first type one of the second: nothing, a cast, or a literal in place of a number
+-- without a type
+abbrev pub IsChangeFor : Ty → Ty → Change → Type 0
+IsChangeFor from target Keep = same_type from target ≡ true
+IsChangeFor from target (Cast dtype) = (same_type from target ≡ false) × (is_known from ≡ true) × (ty dtype ≡ target)
+IsChangeFor from target (Literal value) =
+    (same_type from target ≡ false) × (number : ℤ) × (from ≡ Untyped number) × (literal_op value ≡ LiteralOp target (IntValue number)) × (is_literal (literal_type value) (literal_value value) ≡ true) × (is_known (literal_type value) ≡ true)
 
--- an expression with the cast round it
-abbrev pub cast_round : Option DataType → Expression → Expression
-cast_round None tree = tree
-cast_round (Some dtype) tree = node (CastOp (ty dtype) NonStrict) (more tree no_more)
+-- an expression that is changed so
+abbrev pub changed_by : Change → Expression → Expression
+changed_by Keep tree = tree
+changed_by (Cast dtype) tree = node (CastOp (ty dtype) NonStrict) (more tree no_more)
+changed_by (Literal value) tree = node (literal_op value) no_more
 
--- the casts that an operator's operands need
-pub record CastsOperands (registry : Registry) (schema : Columns) (items : List AExpr) (left : ℕ) (operator : Operator) (right : ℕ) (left_cast right_cast : Option DataType) : Type 0 where
+-- a literal that takes the place of a number has a type
+abbrev pub IsTypedChange : Change → Type 0
+IsTypedChange Keep = Unit {0}
+IsTypedChange (Cast dtype) = Unit {0}
+IsTypedChange (Literal value) = (is_literal (literal_type value) (literal_value value) ≡ true) × (is_known (literal_type value) ≡ true)
+
+abbrev pub is_kept : Change → Bool
+is_kept Keep = true
+is_kept (Cast dtype) = false
+is_kept (Literal value) = false
+
+-- what an operator's operands need
+pub record ChangesOperands (registry : Registry) (schema : Columns) (items : List AExpr) (left : ℕ) (operator : Operator) (right : ℕ) (left_change right_change : Change) : Type 0 where
   pub left_from : Ty
   pub left_to : Ty
   pub right_from : Ty
@@ -65,8 +83,8 @@ pub record CastsOperands (registry : Registry) (schema : Columns) (items : List 
   pub left_typed : (t : Expression) → Denotes (HoldsExpression items) left t → HasType (typing registry schema t) left_from
   pub right_typed : (t : Expression) → Denotes (HoldsExpression items) right t → HasType (typing registry schema t) right_from
   pub takes : operator_types operator (left_from ∷ right_from ∷ []) ≡ Ok (record { operands = left_to ∷ right_to ∷ []; type = result })
-  pub left_casts : IsCastFor left_from left_to left_cast
-  pub right_casts : IsCastFor right_from right_to right_cast
+  pub left_changes : IsChangeFor left_from left_to left_change
+  pub right_changes : IsChangeFor right_from right_to right_change
 
 -- the numbers of nodes
 abbrev pub numbers : List Node → List ℕ

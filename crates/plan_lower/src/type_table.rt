@@ -50,15 +50,21 @@ impl TypeTable {
         }
     }
 
-    /// The type of a node: a cast's is its target, another's is kept.
+    /// The type of a node: a cast's is its target, a literal's its own, and another's is kept.
     pub fn get<'a>(&'a self, node: Node, arena: &'a Arena<AExpr>) -> &'a DataType
         requires right { HasRightTypes arena.now self.now }
         requires known { IsKnown arena.now self.now node.0 }
         ensures { (registry : Registry) (schema : Columns) (t : Expression) → IsRight registry schema arena.now self.now →
             Denotes (HoldsExpression arena.now) node.0 t → HasType (typing registry schema t) (ty result.now) }
     {
-        if let AExpr::Cast { dtype, .. } = arena.get(node) {
-            return dtype;
+        match arena.get(node) {
+            AExpr::Cast { dtype, .. } => return dtype,
+            AExpr::Literal(value) => {
+                if let Some(dtype) = value.known_type() {
+                    return dtype;
+                }
+            }
+            _ => {}
         }
         match self.kept(node) {
             Some(dtype) => dtype,

@@ -1,25 +1,27 @@
 //! Types of expressions in an arena.
 ghost use Rattle.std.specs.Prelude.{◌≡◌, [], ◌∷◌, Ok, IfOk, IfErr, OnOk};
+ghost use Rattle.plan_types.specs.Errors.{IsRefusal};
 ghost use Rattle.plan_types.specs.Schemas.{columns};
 ghost use Rattle.plan_types.specs.Types.{ty};
 ghost use Rattle.plan_dsl.specs.Operators.{result_type, sum_type};
 ghost use Rattle.plan_dsl.specs.Ops.{Expression};
 ghost use Rattle.plan_dsl.specs.Registry.{registry};
-ghost use Rattle.plan_dsl.specs.Typing.{typing, operator_types};
+ghost use Rattle.plan_dsl.specs.Literals.{literal_type, literal_value};
+ghost use Rattle.plan_dsl.specs.Typing.{typing, literal_taken, operator_types};
 ghost use Rattle.plan_arena.specs.Denotation.{Denotes, DenotesTree};
 ghost use Rattle.plan_arena.specs.Items.{HoldsExpression, HoldsFrom};
 ghost use Rattle.plan_lower.specs.KeptTypes.{Extends, IsKnown, IsRight, first_node};
-ghost use Rattle.plan_lower.specs.Typed.{IsRefusal};
 
 use crate::type_table::TypeTable;
 use plan_arena::aexpr::AExpr;
 use plan_arena::arena::{Arena, Node};
+use plan_dsl::literal::LiteralValue;
 use plan_dsl::operator::Operator;
 use plan_dsl::udfs::Udfs;
-use plan_types::dtype::DataType;
-use plan_types::error::PlanError;
+use plan_types::common_type::{materialize_dyn_int, try_get_common_type};
+use plan_types::dtype::{DataType, UnknownKind};
+use plan_types::error::{ErrorKind, PlanError};
 use plan_types::schema::Schema;
-use plan_types::supertype::try_get_supertype;
 use std::alloc::Global;
 
 /// Types the expression at a node, over a frame of the schema. A node whose type is kept is not typed anew.
@@ -43,7 +45,16 @@ pub fn type_nodes(
     }
     match arena.get(node) {
         AExpr::Column(name) => {
-            let dtype = schema.try_get(name)?.try_clone(arena.allocator())?;
+            let dtype = schema.try_get(name)?;
+            if !dtype.is_known() {
+                return Err(PlanError::at_top(ErrorKind::InvalidOperation));
+            }
+            let dtype = dtype.try_clone(arena.allocator())?;
+            types.keep(node, dtype)?;
+            Ok(())
+        }
+        AExpr::Literal(value) => {
+            let dtype = literal_dtype(arena.allocator(), value)?;
             types.keep(node, dtype)?;
             Ok(())
         }
@@ -56,11 +67,34 @@ pub fn type_nodes(
             types.keep(node, taken.result)?;
             Ok(())
         }
-        AExpr::Cast { expr, .. } => {
+        AExpr::Cast { expr, dtype, .. } => {
             type_nodes(*expr, arena, schema, udfs, types)?;
+            if !dtype.is_known() {
+                return Err(PlanError::at_top(ErrorKind::InvalidOperation));
+            }
             Ok(())
         }
     }
+}
+
+// The type of a literal: a number without a type has one for itself.
+fn literal_dtype(alloc: Global, value: &LiteralValue) -> Result<DataType, PlanError>
+    ensures ok { IfOk result (λ dtype. literal_taken (literal_type value.now) (literal_value value.now)
+        ≡ Ok (record { operands = []; type = ty dtype })) }
+    ensures err { IfErr result (IsRefusal (literal_taken (literal_type value.now) (literal_value value.now))) }
+{
+    let number = value.number();
+    let Some(dtype) = value.known_type() else {
+        if materialize_dyn_int(number).is_none() {
+            return Err(PlanError::at_top(ErrorKind::InvalidOperation));
+        }
+        return Ok(DataType::Unknown(UnknownKind::Int(number)));
+    };
+    if !dtype.has_number(number) {
+        return Err(PlanError::at_top(ErrorKind::InvalidOperation));
+    }
+    let dtype = dtype.try_clone(alloc)?;
+    Ok(dtype)
 }
 
 /// The types to which an operator takes its operands, and the type of its result.
@@ -82,7 +116,7 @@ pub fn operand_types(
         ≡ Ok (record { operands = ty taken.left ∷ ty taken.right ∷ []; type = ty taken.result })) }
     ensures err { IfErr result (IsRefusal (operator_types op (ty left.now ∷ ty right.now ∷ []))) }
 {
-    let common = try_get_supertype(alloc, left, right)?;
+    let common = try_get_common_type(alloc, left, right)?;
     let left = common.try_clone(alloc)?;
     let right = common.try_clone(alloc)?;
     let result = result_type(op, common);

@@ -4,7 +4,7 @@ ghost use Rattle.plan_types.specs.Errors.{no_memory};
 ghost use Rattle.plan_dsl.specs.Expressions.{tree_of};
 ghost use Rattle.plan_dsl.specs.Names.{name_of};
 ghost use Rattle.plan_arena.specs.Denotation.{Denotes};
-ghost use Rattle.plan_arena.specs.Items.{named_node, HoldsFrom, Grows};
+ghost use Rattle.plan_arena.specs.Items.{named_node, output_text, HoldsFrom, Grows};
 
 use plan_arena::aexpr::AExpr;
 use plan_arena::arena::{Arena, Node};
@@ -12,6 +12,7 @@ use plan_arena::expr_ir::{ExprIR, OutputName};
 use plan_dsl::expr::Expr;
 use plan_types::error::PlanError;
 use plan_types::text::PlSmallStr;
+use std::alloc::Global;
 
 /// Adds an expression's nodes, and answers the top one with the expression's name.
 pub fn to_expr_ir(expr: Expr, arena: &mut Arena<AExpr>) -> Result<ExprIR, PlanError>
@@ -20,19 +21,33 @@ pub fn to_expr_ir(expr: Expr, arena: &mut Arena<AExpr>) -> Result<ExprIR, PlanEr
     ensures grows { Grows arena.old arena.new }
     ensures err { IfErr result (λ error. error ≡ no_memory) }
 {
-    let name = leftmost_name(&expr).try_clone(arena.allocator())?;
+    let name = output_name(&expr, arena.allocator())?;
     let node = add_nodes(expr, arena)?;
-    Ok(ExprIR::new(node, OutputName::ColumnLhs(name)))
+    Ok(ExprIR::new(node, name))
 }
 
-// The name of the leftmost column.
-fn leftmost_name(expr: &Expr) -> &PlSmallStr
-    ensures { result.now ≡ name_of (tree_of expr.now) }
+// The name, which is that of the leftmost column or literal.
+fn output_name(expr: &Expr, alloc: Global) -> Result<OutputName, PlanError>
+    ensures ok { IfOk result (λ name. output_text name ≡ name_of (tree_of expr.now)) }
+    ensures err { IfErr result (λ error. error ≡ no_memory) }
 {
     match expr {
-        Expr::Column(name) => name,
-        Expr::BinaryExpr { left, .. } => leftmost_name(left),
-        Expr::Cast { expr, .. } => leftmost_name(expr),
+        Expr::Column(name) => {
+            let name = name.try_clone(alloc)?;
+            Ok(OutputName::ColumnLhs(name))
+        }
+        Expr::Literal(_) => {
+            let name = PlSmallStr::new(alloc, "literal")?;
+            Ok(OutputName::LiteralLhs(name))
+        }
+        Expr::BinaryExpr { left, .. } => {
+            let name = output_name(left, alloc)?;
+            Ok(name)
+        }
+        Expr::Cast { expr, .. } => {
+            let name = output_name(expr, alloc)?;
+            Ok(name)
+        }
     }
 }
 
@@ -45,6 +60,10 @@ fn add_nodes(expr: Expr, arena: &mut Arena<AExpr>) -> Result<Node, PlanError>
     match expr {
         Expr::Column(name) => {
             let node = arena.add(AExpr::Column(name))?;
+            Ok(node)
+        }
+        Expr::Literal(value) => {
+            let node = arena.add(AExpr::Literal(value))?;
             Ok(node)
         }
         Expr::BinaryExpr { left, op, right } => {

@@ -54,7 +54,7 @@ fn push_inputs(node: Node, arena: &Arena<AExpr>, stack: &mut Stack) -> Result<()
     ensures err { IfErr result (λ error. error ≡ no_memory) }
 {
     match arena.get(node) {
-        AExpr::Column(_) => Ok(()),
+        AExpr::Column(_) | AExpr::Literal(_) => Ok(()),
         AExpr::BinaryExpr { left, right, .. } => {
             stack.push(*left)?;
             stack.push(*right)?;

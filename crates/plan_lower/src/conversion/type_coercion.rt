@@ -1,25 +1,30 @@
-//! Casts round operands whose type differs from the one to which their node takes them.
-ghost use Rattle.std.specs.Prelude.{◌≡◌, ◌≢◌, ℕ, ◌≤◌, List, [], ◌∷◌, length, IsSome, IfOk, IfErr, OnOk};
+//! Operands are made of the types to which their node takes them: by casts, or as literals.
+ghost use Rattle.std.specs.Prelude.{◌≡◌, ◌≢◌, ℕ, ◌≤◌, List, [], ◌∷◌, length, false, IfOk, IfErr, OnOk};
 ghost use Rattle.plan_types.specs.Errors.{no_memory};
 ghost use Rattle.plan_types.specs.Schemas.{Columns};
-ghost use Rattle.plan_types.specs.Types.{ty};
-ghost use Rattle.plan_dsl.specs.Ops.{Op, BinaryOp, Expression};
+ghost use Rattle.plan_types.specs.Types.{ty, Untyped};
+ghost use Rattle.plan_dsl.specs.Ops.{Op, BinaryOp, CastOp, Expression};
+ghost use Rattle.plan_dsl.specs.Strictness.{CanBecome};
+ghost use Rattle.plan_dsl.specs.Typing.{typing};
 ghost use Rattle.plan_dsl.specs.Registry.{Registry};
 ghost use Rattle.plan_arena.specs.Denotation.{Denotes};
 ghost use Rattle.plan_arena.specs.Items.{HoldsExpression, HoldsFrom, Grows};
-ghost use Rattle.plan_lower.specs.Coercion.{CastsOperands, IsCastFor, Visits, cast_round};
+ghost use Rattle.plan_lower.specs.Coercion.{ChangesOperands, IsChangeFor, IsTypedChange, Visits, changed_by, is_kept};
 ghost use Rattle.plan_lower.specs.KeptTypes.{HasRightTypes, IsKnown, IsRight};
+ghost use Rattle.plan_lower.specs.Typed.{HasType};
 ghost use Rattle.plan_lower.specs.declared.type_table.TypeTable.{TypeTable};
 
 use crate::type_table::TypeTable;
 use crate::typing::operand_types;
 use plan_arena::aexpr::AExpr;
 use plan_arena::arena::{Arena, Node};
+use plan_dsl::literal::LiteralValue;
 use plan_dsl::operator::Operator;
-use plan_types::dtype::{CastOptions, DataType};
+use plan_types::common_type::materialize_dyn_int;
+use plan_types::dtype::{CastOptions, DataType, UnknownKind};
 use plan_types::error::PlanError;
 
-/// Puts casts round the operands of the node, where the types to which it takes them are others.
+/// Makes the operands of the node of the types to which it takes them, where theirs are others.
 pub fn coerce_node(node: Node, arena: &mut Arena<AExpr>, types: &TypeTable) -> Result<(), PlanError>
     requires right { HasRightTypes arena.old types.now }
     requires known { IsKnown arena.old types.now node.0 }
@@ -35,8 +40,21 @@ pub fn coerce_node(node: Node, arena: &mut Arena<AExpr>, types: &TypeTable) -> R
     ensures err { IfErr result (λ error. error ≡ no_memory) }
 {
     match arena.get(node) {
-        AExpr::Column(_) => Ok(()),
-        AExpr::Cast { .. } => Ok(()),
+        AExpr::Column(_) | AExpr::Literal(_) => Ok(()),
+        AExpr::Cast {
+            expr,
+            dtype,
+            options,
+        } => {
+            let (expr, options) = (*expr, *options);
+            let DataType::Unknown(UnknownKind::Int(number)) = types.get(expr, arena) else {
+                return Ok(());
+            };
+            let number = *number;
+            let dtype = dtype.try_clone(arena.allocator())?;
+            coerce_cast(node, expr, number, dtype, options, arena, types)?;
+            Ok(())
+        }
         AExpr::BinaryExpr { left, op, right } => {
             let (left, op, right) = (*left, *op, *right);
             coerce_binary(node, left, op, right, arena, types)?;
@@ -68,76 +86,139 @@ fn coerce_binary(
     ensures longer { length arena.old ≤ length arena.new }
     ensures err { IfErr result (λ error. error ≡ no_memory) }
 {
-    let casts = operand_casts(node, left, op, right, arena, types)?;
-    let left = cast_to(left, casts.left, arena)?;
-    let right = cast_to(right, casts.right, arena)?;
+    let changes = operand_changes(node, left, op, right, arena, types)?;
+    let left = change_to(left, changes.left, arena)?;
+    let right = change_to(right, changes.right, arena)?;
     arena.replace(node, AExpr::BinaryExpr { left, op, right });
     Ok(())
 }
 
-// The types to which the operands are to be cast: none for an operand that stays.
-#[derive(Drop)]
-struct OperandCasts {
-    left: Option<DataType>,
-    right: Option<DataType>,
+// `coerce_node` at a cast of a number without a type, which gets the one that it has alone.
+fn coerce_cast(
+    node: Node,
+    expr: Node,
+    number: i128,
+    dtype: DataType,
+    options: CastOptions,
+    arena: &mut Arena<AExpr>,
+    types: &TypeTable,
+) -> Result<(), PlanError>
+    requires held { HoldsExpression arena.old node.0 (CastOp (ty dtype) options) (expr.0 ∷ []) }
+    requires right { HasRightTypes arena.old types.now }
+    requires known { IsKnown arena.old types.now node.0 }
+    requires untyped { (registry : Registry) (schema : Columns) (t : Expression) → IsRight registry schema arena.old types.now →
+        Denotes (HoldsExpression arena.old) expr.0 t → HasType (typing registry schema t) (Untyped number) }
+    ensures ok { OnOk result ((registry : Registry) (schema : Columns) (first : ℕ) (t : Expression) → IsRight registry schema arena.old types.now →
+        first ≤ length arena.old → Denotes (HoldsFrom first arena.old) node.0 t →
+        Visits registry schema first arena.new node.0 t) }
+    ensures right { OnOk result ((registry : Registry) (schema : Columns) →
+        IsRight registry schema arena.old types.now → IsRight registry schema arena.new types.now) }
+    ensures known { OnOk result ((n : ℕ) → IsKnown arena.old types.now n → IsKnown arena.new types.now n) }
+    ensures elsewhere { (n : ℕ) (op : Op) (inputs : List ℕ) → n ≢ node.0 →
+        HoldsExpression arena.old n op inputs → HoldsExpression arena.new n op inputs }
+    ensures longer { length arena.old ≤ length arena.new }
+    ensures err { IfErr result (λ error. error ≡ no_memory) }
+{
+    let Some(alone) = materialize_dyn_int(number) else {
+        unreachable!();
+    };
+    let from = DataType::Unknown(UnknownKind::Int(number));
+    let change = needed_change(&from, alone);
+    let expr = change_to(expr, change, arena)?;
+    arena.replace(
+        node,
+        AExpr::Cast {
+            expr,
+            dtype,
+            options,
+        },
+    );
+    Ok(())
 }
 
-// The casts round the operands of a node.
-fn operand_casts(
+/// What makes an operand of one type one of another.
+#[derive(Drop)]
+pub enum Change {
+    /// It is of that type already.
+    Keep,
+    /// A cast to the type stands round it.
+    Cast(DataType),
+    /// A number without a type becomes a literal of the type.
+    Literal(LiteralValue),
+}
+
+// What is done to the operands.
+#[derive(Drop)]
+struct OperandChanges {
+    left: Change,
+    right: Change,
+}
+
+// What is done to the operands of a node.
+fn operand_changes(
     node: Node,
     left: Node,
     op: Operator,
     right: Node,
     arena: &Arena<AExpr>,
     types: &TypeTable,
-) -> Result<OperandCasts, PlanError>
+) -> Result<OperandChanges, PlanError>
     requires held { HoldsExpression arena.now node.0 (BinaryOp op) (left.0 ∷ right.0 ∷ []) }
     requires right { HasRightTypes arena.now types.now }
     requires known { IsKnown arena.now types.now node.0 }
-    ensures ok { IfOk result (λ casts. (registry : Registry) (schema : Columns) → IsRight registry schema arena.now types.now →
-        CastsOperands registry schema arena.now left.0 op right.0 casts.left casts.right) }
+    ensures ok { IfOk result (λ changes. (registry : Registry) (schema : Columns) → IsRight registry schema arena.now types.now →
+        ChangesOperands registry schema arena.now left.0 op right.0 changes.left changes.right) }
     ensures err { IfErr result (λ error. error ≡ no_memory) }
 {
     let left = types.get(left, arena);
     let right = types.get(right, arena);
     let taken = operand_types(arena.allocator(), left, op, right)?;
-    Ok(OperandCasts {
-        left: needed_cast(left, taken.left),
-        right: needed_cast(right, taken.right),
+    Ok(OperandChanges {
+        left: needed_change(left, taken.left),
+        right: needed_change(right, taken.right),
     })
 }
 
-// The target of a cast from the first type to the second, where they differ.
-fn needed_cast(from: &DataType, target: DataType) -> Option<DataType>
-    ensures { IsCastFor (ty from.now) (ty target) result }
+// What makes an operand of the first type one of the second.
+fn needed_change(from: &DataType, target: DataType) -> Change
+    requires { CanBecome (ty from.now) (ty target) }
+    ensures { IsChangeFor (ty from.now) (ty target) result }
 {
     if *from == target {
-        return None;
+        return Change::Keep;
     }
-    Some(target)
+    let DataType::Unknown(UnknownKind::Int(number)) = from else {
+        return Change::Cast(target);
+    };
+    match LiteralValue::of_number(&target, *number) {
+        Some(value) => Change::Literal(value),
+        None => unreachable!(),
+    }
 }
 
-// The node, with a cast round it where there is a target.
-fn cast_to(
-    node: Node,
-    target: Option<DataType>,
-    arena: &mut Arena<AExpr>,
-) -> Result<Node, PlanError>
-    ensures denotes { IfOk result (λ cast. (first : ℕ) (t : Expression) → first ≤ length arena.old →
+// The node that stands for the operand when it is changed.
+fn change_to(node: Node, change: Change, arena: &mut Arena<AExpr>) -> Result<Node, PlanError>
+    ensures denotes { IfOk result (λ changed. (first : ℕ) (t : Expression) → first ≤ length arena.old →
         Denotes (HoldsFrom first arena.old) node.0 t →
-        Denotes (HoldsFrom first arena.new) cast.0 (cast_round target t)) }
-    ensures fresh { IfOk result (λ cast. IsSome target → length arena.old ≤ cast.0) }
-    ensures known { IfOk result (λ cast. (types : TypeTable) → IsKnown arena.old types node.0 → IsKnown arena.new types cast.0) }
+        Denotes (HoldsFrom first arena.new) changed.0 (changed_by change t)) }
+    ensures fresh { IfOk result (λ changed. is_kept change ≡ false → length arena.old ≤ changed.0) }
+    ensures known { IfOk result (λ changed. (types : TypeTable) → IsTypedChange change → IsKnown arena.old types node.0 → IsKnown arena.new types changed.0) }
     ensures grows { Grows arena.old arena.new }
     ensures err { IfErr result (λ error. error ≡ no_memory) }
 {
-    let Some(dtype) = target else {
-        return Ok(node);
-    };
-    let cast = arena.add(AExpr::Cast {
-        expr: node,
-        dtype,
-        options: CastOptions::NonStrict,
-    })?;
-    Ok(cast)
+    match change {
+        Change::Keep => Ok(node),
+        Change::Cast(dtype) => {
+            let cast = arena.add(AExpr::Cast {
+                expr: node,
+                dtype,
+                options: CastOptions::NonStrict,
+            })?;
+            Ok(cast)
+        }
+        Change::Literal(value) => {
+            let literal = arena.add(AExpr::Literal(value))?;
+            Ok(literal)
+        }
+    }
 }
