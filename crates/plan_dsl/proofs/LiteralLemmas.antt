@@ -10,6 +10,7 @@ use Rattle.plan_types.specs.Casts.{Gives, can_cast, cast, out_of_range}
 use Rattle.plan_types.specs.CommonTypes.{type_alone, common_type}
 use Rattle.plan_types.specs.Frames.{Frame}
 use Rattle.plan_types.specs.declared.error.ErrorKind.TheVariants.{InvalidOperation}
+use Rattle.plan_types.specs.declared.dtype.CastOptions.{CastOptions}
 use Rattle.plan_types.specs.declared.dtype.CastOptions.TheVariants.{NonStrict}
 use Rattle.plan_types.proofs.SupertypeLemmas.{no_number}
 use Rattle.plan_types.proofs.CommonLemmas.{alone_known, alone_itself, common_known}
@@ -83,6 +84,12 @@ cast_known target None taken h = cc
 cast_known target (Some from) taken h =
     let p = ok_where (can_cast from target) _ taken InvalidOperation h in
     subst (λ (t : Taken). is_known t.type ≡ true) p.1 p.0
+
+cast_target_is : (target : Ty) (own : Option Ty) (taken : Taken) → cast_taken target own ≡ Ok taken → (target ≡ taken.type) × (is_known target ≡ true)
+cast_target_is target None taken h = cc
+cast_target_is target (Some from) taken h =
+    let p = ok_where (can_cast from target) _ taken InvalidOperation h in
+    (ap (λ (t : Taken). t.type) p.1, p.0)
 
 number_here : (type : Ty) (value : Val) (number : ℤ) (taken : Taken) → type ≡ Untyped number → is_literal type value ≡ true → IsNumberOp number (LiteralOp type value) []
 number_here type value number taken e literal =
@@ -162,7 +169,8 @@ settled_name (node (LiteralOp type value) children) = refl
 settled_name (node (BinaryOp operator) children) = refl
 settled_name (node (CastOp target options) children) = refl
 
-literal_type_is : (schema : Columns) (type : Ty) (value : Val) (types : List Ty) (taken : Taken) → operand_types schema (LiteralOp type value) types ≡ Ok taken → type ≡ taken.type
+-- a literal has its own type
+pub literal_type_is : (schema : Columns) (type : Ty) (value : Val) (types : List Ty) (taken : Taken) → operand_types schema (LiteralOp type value) types ≡ Ok taken → type ≡ taken.type
 literal_type_is schema type value [] taken h =
     ap (λ (t : Taken). t.type) (ok_where (is_literal type value) _ taken InvalidOperation h).1
 literal_type_is schema type value (operand ∷ types) taken h = cc
@@ -189,3 +197,22 @@ unknown_literal (UInt8 own) number u h = cc
 unknown_literal (UInt16 own) number u h = cc
 unknown_literal (UInt32 own) number u h = cc
 unknown_literal (UInt64 own) number u h = cc
+
+alone_is_some : (o : Option Ty) → is_some o ≡ true → (own : Ty) × (o ≡ Some own)
+alone_is_some None h = cc
+alone_is_some (Some own) h = (own, refl)
+
+-- a typed expression has a type alone
+pub typed_alone : (registry : Registry) (schema : Columns) (tree : Expression) (type : Ty) (many : Bool) → typing registry schema tree ≡ Ok (record { type = type; many = many }) → (own : Ty) × (type_alone type ≡ Some own)
+typed_alone registry schema tree Truth many h = (Truth, refl)
+typed_alone registry schema tree (Integer signed bits) many h = (Integer signed bits, refl)
+typed_alone registry schema tree (Untyped number) many h =
+    let is = untyped_is_number registry schema number tree many h in
+    alone_is_some (type_alone (Untyped number)) (and_parts (is_literal_of (Untyped number) (IntValue number)) (is_some (type_alone (Untyped number))) is.literal).1
+
+-- the types of casts and literals
+pub cast_has_target : (schema : Columns) (target : Ty) (options : CastOptions) (types : List Ty) (taken : Taken) → operand_types schema (CastOp target options) types ≡ Ok taken → (target ≡ taken.type) × (is_known target ≡ true)
+cast_has_target schema target options [] taken h = cc
+cast_has_target schema target options (from ∷ []) taken h = cast_target_is target (type_alone from) taken h
+cast_has_target schema target options (from ∷ other ∷ types) taken h = cc
+

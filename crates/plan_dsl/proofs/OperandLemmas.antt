@@ -2,6 +2,7 @@
 -- that it had, and is strict. So it is for each op.
 use Rattle.std.proofs.Common.{◌≡◌, Bool, true, ◌||◌, ◌&&◌, List, [], ◌∷◌, Option, Some, None, Ok, refl, sym, ap, ◌∙◌, subst}
 use Rattle.std.specs.Prelude.{ℤ}
+use Rattle.std.specs.List.{AllByRecursion}
 use Rattle.std.proofs.lemmas.Bool.{and_from}
 use Rattle.plan_types.specs.Types.{Ty, Untyped, is_known, same_type}
 use Rattle.plan_types.specs.TypeLaws.{same_type_own}
@@ -22,8 +23,9 @@ use Rattle.plan_dsl.specs.Literals.{is_literal}
 use Rattle.plan_dsl.specs.Typing.{Typed, Taken, column_type, cast_taken, operator_types, operand_types, types_of, some_many, is_many, typed_as, typing, typing_all, typing_rule, then_typed, typed_before}
 use Rattle.plan_dsl.specs.Kernels.{Meaning, cast_meaning, kernel}
 use Rattle.plan_dsl.specs.Meaning.{meaning, meaning_all, node_meaning, taken_meaning, taken_to}
-use Rattle.plan_dsl.specs.Strictness.{CanBecome, IsSame, IsStrictOver, same_types, as_operand, as_operands}
+use Rattle.plan_dsl.specs.Strictness.{CanBecome, IsSame, IsStrictNode, IsStrictOver, same_types, as_operand, as_operands}
 use Rattle.plan_dsl.proofs.TypingLemmas.{ok_same, ok_where, by_children, by_no_children}
+use Rattle.plan_dsl.proofs.RunLemmas.{same_types_exact}
 use Rattle.plan_dsl.proofs.CastLemmas.{cast_own, as_operand_typing, as_operand_name, as_operand_meaning, left_becomes, right_becomes, two_taken, taken_types_stay}
 
 -- each can become one of its type
@@ -192,3 +194,14 @@ module _ (registry : Registry) (schema : Columns) where
       name = ap (op_name op) (operands_named trees typed taken.operands h become);
       meaning = same_meaning;
     }
+
+-- the operands of a strict node have types of columns
+become_known : (types targets : List Ty) → AllBecome types targets → AllByRecursion (λ type. is_known type ≡ true) targets
+become_known [] [] h = tt
+become_known [] (target ∷ targets) h = absurd h
+become_known (from ∷ types) [] h = absurd h
+become_known (from ∷ types) (target ∷ targets) h = (h.0.known, become_known types targets h.1)
+
+pub operands_known : (schema : Columns) (op : Op) (types : List Ty) → IsStrictNode schema op types → AllByRecursion (λ type. is_known type ≡ true) types
+operands_known schema op types strict =
+    subst (AllByRecursion (λ type. is_known type ≡ true)) (sym (same_types_exact types strict.taken.operands strict.kept)) (become_known types strict.taken.operands (op_becomes schema op types strict.taken strict.takes))

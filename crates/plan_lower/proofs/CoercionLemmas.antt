@@ -1,33 +1,47 @@
 -- What the visit of a node leaves.
-use Rattle.std.proofs.Common.{◌≡◌, ◌≢◌, ℕ, ◌<◌, ◌≤◌, true, false, cond, List, [], ◌∷◌, ◌++◌, length, set, ◌&&◌, Option, Some, None, IsSome, Result, Ok, Err, refl, sym, ap, ◌∙◌, subst, arith, map}
+use Rattle.std.proofs.Common.{◌≡◌, ◌≢◌, ℕ, ◌<◌, ◌≤◌, true, false, cond, List, [], ◌∷◌, ◌++◌, length, set, ◌&&◌, Option, Some, None, Result, Ok, Err, refl, sym, ap, ◌∙◌, subst, arith, map}
+use Rattle.std.specs.Prelude.{ℤ}
 use Rattle.std.proofs.lemmas.Bool.{false≢true}
-use Rattle.plan_types.specs.Types.{Ty, ty, same_type}
+use Rattle.plan_types.specs.Types.{Ty, Truth, Integer, Untyped, ty, is_integer, is_known, same_type}
 use Rattle.plan_types.specs.Schemas.{Columns, Name, type_at}
+use Rattle.plan_types.specs.Values.{Val, IntValue, in_range}
+use Rattle.plan_types.specs.Casts.{can_cast}
+use Rattle.plan_types.specs.CommonTypes.{type_alone}
 use Rattle.plan_types.specs.TypeLaws.{same_type_own}
-use Rattle.plan_types.specs.Errors.{no_memory}
+use Rattle.plan_types.specs.Errors.{no_memory, IsRefusal, no_room, broken}
 use Rattle.plan_types.specs.declared.error.PlanError.{PlanError}
 use Rattle.plan_types.specs.declared.error.ErrorKind.{ErrorKind}
+use Rattle.plan_types.specs.declared.error.ErrorKind.TheVariants.{InvalidOperation}
 use Rattle.plan_types.specs.declared.dtype.DataType.{DataType}
 use Rattle.plan_types.specs.declared.dtype.CastOptions.{CastOptions}
 use Rattle.plan_types.specs.declared.dtype.CastOptions.TheVariants.{NonStrict}
+use Rattle.plan_types.proofs.CommonLemmas.{alone_itself}
+use Rattle.plan_types.proofs.SupertypeLemmas.{no_number}
+use Rattle.plan_dsl.specs.declared.literal.LiteralValue.{LiteralValue}
 use Rattle.plan_dsl.specs.declared.operator.Operator.{Operator}
 use Rattle.plan_dsl.specs.Registry.{Registry}
-use Rattle.plan_dsl.specs.Trees.{node, no_more, more, tree_depth}
-use Rattle.plan_dsl.specs.Ops.{Op, ColumnOp, BinaryOp, CastOp, Expression}
-use Rattle.plan_dsl.specs.Typing.{Typed, Taken, typing, typed_as, column_type, then_typed, typed_before, typing_rule, operator_types}
-use Rattle.plan_dsl.specs.Strictness.{IsSame, with_cast, same_types}
+use Rattle.plan_dsl.specs.Trees.{Trees, node, no_more, more, tree_depth, trees_depth}
+use Rattle.plan_dsl.specs.Ops.{Op, ColumnOp, LiteralOp, BinaryOp, CastOp, Expression}
+use Rattle.plan_dsl.specs.Literals.{literal_op, literal_type, literal_value, is_literal}
+use Rattle.plan_dsl.specs.Typing.{Typed, Taken, typing, typing_all, types_of, operand_types, typed_before, column_type, cast_taken}
+use Rattle.plan_dsl.specs.Strictness.{CanBecome, IsSame, IsStrictNode, changed, as_operand, as_operands, same_types}
 use Rattle.plan_dsl.proofs.SameLemmas.{same_itself}
-use Rattle.plan_dsl.proofs.CastLemmas.{if_true, if_false, casts, casts_strict, casts_same}
+use Rattle.plan_dsl.proofs.TypingLemmas.{ok_same, ok_where, typed_parts}
+use Rattle.plan_dsl.proofs.LiteralLemmas.{becomes_literal, operator_known}
+use Rattle.plan_dsl.proofs.CastLemmas.{if_true, if_false}
+use Rattle.plan_dsl.proofs.OperandLemmas.{operands_same, operands_strict}
 use Rattle.plan_arena.specs.declared.arena.Node.{Node}
 use Rattle.plan_arena.specs.declared.aexpr.AExpr.{AExpr}
-use Rattle.plan_arena.specs.declared.aexpr.AExpr.TheVariants.{BinaryExpr, Cast}
-use Rattle.plan_arena.specs.Denotation.{Denotes, DenotesTree}
-use Rattle.plan_arena.specs.Layers.{shape_of}
+use Rattle.plan_arena.specs.declared.aexpr.AExpr.TheVariants.{Literal, BinaryExpr, Cast}
+use Rattle.plan_arena.specs.Denotation.{Denotes, DenoteAll, DenotesTree}
+use Rattle.plan_arena.specs.Layers.{layer, shape_of}
 use Rattle.plan_arena.specs.Items.{HoldsExpression, HoldsFrom, Grows, expression_layer}
 use Rattle.plan_arena.proofs.DenotationLemmas.{denotes_one, kept_below, all_kept_below}
-use Rattle.plan_arena.proofs.ItemLemmas.{tree_grown, added_denotes, length-grown, any_node, from_laws, from_top, one_child, two_children, no_children, expression_laws, expression_elsewhere, expression_written, expression_grown, within}
-use Rattle.plan_lower.specs.Coercion.{DenotesTyped, Visits, IsCastFor, cast_round, CastsOperands}
-use Rattle.plan_types.specs.Errors.{IsRefusal, no_room, broken}
+use Rattle.plan_arena.proofs.ItemLemmas.{tree_grown, added_denotes, length-grown, grows_then, any_node, from_laws, from_top, one_child, no_children, expression_laws, expression_elsewhere, expression_written, expression_grown, within}
+use Rattle.plan_lower.specs.declared.conversion.type_coercion.Change.{Change}
+use Rattle.plan_lower.specs.declared.conversion.type_coercion.Change.TheVariants.{Keep, CastTo, Become}
+use Rattle.plan_lower.specs.Coercion.{DenotesTyped, Visits, IsChangeFor, IsTypedChange, changed_by, is_kept, ChangesOperands}
+use Rattle.plan_lower.specs.Typed.{HasKnownType}
 use Rattle.plan_lower.proofs.TypingLemmas.{AllHaveType, AllRefused}
 
 -- a typed expression is a tree
@@ -52,132 +66,283 @@ refused_typed items registry schema n error d refused =
     refused_as _ d.typed error d.is (refused d.tree (any_node 0 items n d.tree d.denotes))
 
 -- a cast that was added round a tree
-pub cast_denotes : (first : ℕ) (old new : List AExpr) (input cast : Node) (target : DataType) (t : Expression) → first ≤ length old → new ≡ old ++ Cast input target NonStrict ∷ [] → cast.0 ≡ length old → Denotes (HoldsFrom first old) input.0 t → Denotes (HoldsFrom first new) cast.0 (cast_round (Some target) t)
+pub cast_denotes : (first : ℕ) (old new : List AExpr) (input cast : Node) (target : DataType) (t : Expression) → first ≤ length old → new ≡ old ++ Cast input target NonStrict ∷ [] → cast.0 ≡ length old → Denotes (HoldsFrom first old) input.0 t → Denotes (HoldsFrom first new) cast.0 (node (CastOp (ty target) NonStrict) (more t no_more))
 cast_denotes first old new input cast target t le grown at d =
     let g : Grows old new = record { added = Cast input target NonStrict ∷ []; longer = grown } in
     added_denotes first old new (Cast input target NonStrict) cast.0 (CastOp (ty target) NonStrict) (input.0 ∷ []) (more t no_more) le grown at refl (tree_grown first first old new (omega arith) g input.0 t d, tt)
 
--- the cast that an operand needs puts a cast round it where its type is another
-round_is : (from target : Ty) (cast : Option DataType) (t : Expression) → IsCastFor from target cast → cast_round cast t ≡ with_cast from target t
-round_is from target None t is = sym (if_true (same_type from target) t _ is)
-round_is from target (Some dtype) t is =
-    ap (λ u. node (CastOp u NonStrict) (more t no_more)) is.1 ∙ sym (if_false (same_type from target) t _ is.0)
+-- a literal that was added
+pub literal_denotes : (first : ℕ) (old new : List AExpr) (n : Node) (value : LiteralValue) → first ≤ length old → new ≡ old ++ Literal value ∷ [] → n.0 ≡ length old → Denotes (HoldsFrom first new) n.0 (node (literal_op value) no_more)
+literal_denotes first old new n value le grown at =
+    added_denotes first old new (Literal value) n.0 (literal_op value) [] no_more le grown at refl tt
 
-has_cast : (from target : Ty) (cast : Option DataType) → IsCastFor from target cast → same_type from target ≡ false → IsSome cast
-has_cast from target None is other = absurd (false≢true (sym other ∙ is))
-has_cast from target (Some dtype) is other = refl
+change_literal : (target : Ty) (value : LiteralValue) (number : ℤ) (from : Ty) (t : Expression) → from ≡ Untyped number → literal_op value ≡ LiteralOp target (IntValue number) → node (literal_op value) no_more ≡ changed from target t
+change_literal target value number from t e is = ap (λ op. node op no_more) is ∙ sym (ap (λ f. changed f target t) e)
+
+change_cast : (from target : Ty) (dtype : DataType) (t : Expression) → is_known from ≡ true → ty dtype ≡ target → node (CastOp (ty dtype) NonStrict) (more t no_more) ≡ changed from target t
+change_cast Truth target dtype t known is = ap (λ u. node (CastOp u NonStrict) (more t no_more)) is
+change_cast (Integer signed bits) target dtype t known is = ap (λ u. node (CastOp u NonStrict) (more t no_more)) is
+change_cast (Untyped number) target dtype t known is = cc
+
+-- what an operand needs makes it one of its type
+change_is : (from target : Ty) (change : Change) (t : Expression) → IsChangeFor from target change → changed_by change t ≡ as_operand from target t
+change_is from target Keep t is = sym (if_true (same_type from target) t _ is)
+change_is from target (CastTo dtype) t is =
+    change_cast from target dtype t is.1 is.2 ∙ sym (if_false (same_type from target) t _ is.0)
+change_is from target (Become value) t is =
+    change_literal target value is.1 from t is.2 is.3 ∙ sym (if_false (same_type from target) t _ is.0)
+
+is_changed : (from target : Ty) (change : Change) → IsChangeFor from target change → same_type from target ≡ false → is_kept change ≡ false
+is_changed from target Keep is other = absurd (false≢true (sym other ∙ is))
+is_changed from target (CastTo dtype) is other = refl
+is_changed from target (Become value) is other = refl
+
+pub typed_change : (from target : Ty) (change : Change) → IsChangeFor from target change → IsTypedChange change
+typed_change from target Keep is = tt
+typed_change from target (CastTo dtype) is = ap is_known is.2 ∙ is.3
+typed_change from target (Become value) is = (is.4, is.5)
+
+op_type : (a b : Ty) (v w : Val) → LiteralOp a v ≡ LiteralOp b w → a ≡ b
+op_type a b v w e = cc
+
+op_value : (a b : Ty) (v w : Val) → LiteralOp a v ≡ LiteralOp b w → v ≡ w
+op_value a b v w e = cc
+
+-- why a number without a type becomes a literal
+pub becomes_value : (from target : Ty) (number : ℤ) (value : LiteralValue) → same_type from target ≡ false → from ≡ Untyped number → CanBecome from target → literal_op value ≡ LiteralOp target (IntValue number) → IsChangeFor from target (Become value)
+becomes_value from target number value other e can is =
+    let type_is : literal_type value ≡ target = op_type (literal_type value) target (literal_value value) (IntValue number) is in
+    let value_is = op_value (literal_type value) target (literal_value value) (IntValue number) is in
+    let literal = becomes_literal target number can.known (can.has number e) in (
+      other, number, e, is,
+      subst (λ v. is_literal (literal_type value) v ≡ true) (sym value_is) (subst (λ u. is_literal u (IntValue number) ≡ true) (sym type_is) literal),
+      ap is_known type_is ∙ can.known,
+    )
+
+no_number_of : (target : Ty) (number : ℤ) → is_known target ≡ true → in_range target number ≡ true → (is_integer target && in_range target number) ≡ true
+no_number_of Truth number known has = absurd (no_number number has)
+no_number_of (Integer signed bits) number known has = has
+no_number_of (Untyped other) number known has = cc
+
+-- there is such a literal
+pub has_literal : (from target : Ty) (number : ℤ) → from ≡ Untyped number → CanBecome from target → (is_integer target && in_range target number) ≡ false → ⊥
+has_literal from target number e can none =
+    false≢true (sym none ∙ no_number_of target number can.known (can.has number e))
+
+bare_kept : {first : ℕ} {items items' : List AExpr} (ns : List ℕ) → DenoteAll (HoldsFrom first items) ns no_more → DenoteAll (HoldsFrom first items') ns no_more
+bare_kept [] d = tt
+bare_kept (n ∷ ns) d = absurd d
 
 -- a write at one node
 module _ (first : ℕ) (items : List AExpr) (at : ℕ) (item : AExpr) (t : Expression) (d : Denotes (HoldsFrom first items) at t) where
   keeps : (n : ℕ) (op : Op) (inputs : List ℕ) → n ≢ at → HoldsFrom first items n op inputs → HoldsFrom first (set items at item) n op inputs
   keeps n op inputs other h = (h.0, expression_elsewhere items at item n op inputs other h.1)
 
+  small_kept : (m : ℕ) (x : Expression) → tree_depth x < tree_depth t → Denotes (HoldsFrom first items) m x → Denotes (HoldsFrom first (set items at item)) m x
+  small_kept m x lt dx =
+      kept_below (shape_of (map expression_layer items)) (HoldsFrom first items) (HoldsFrom first (set items at item)) (from_laws first items) at keeps t d m x dx lt
+
+  cast_kept : (m : ℕ) (target : Ty) (x : Expression) → tree_depth x < tree_depth t → m ≢ at → Denotes (HoldsFrom first items) m (node (CastOp target NonStrict) (more x no_more)) → Denotes (HoldsFrom first (set items at item)) m (node (CastOp target NonStrict) (more x no_more))
+  cast_kept m target x lt other dx =
+      (dx.0, keeps m _ dx.0 other dx.1, all_kept_below (shape_of (map expression_layer items)) (HoldsFrom first items) (HoldsFrom first (set items at item)) (from_laws first items) at keeps t d dx.0 (more x no_more) dx.2 (omega arith))
+
+  changed_kept : (from : Ty) (m : ℕ) (target : Ty) (x : Expression) → tree_depth x < tree_depth t → m ≢ at → Denotes (HoldsFrom first items) m (changed from target x) → Denotes (HoldsFrom first (set items at item)) m (changed from target x)
+  changed_kept Truth m target x lt other dx = cast_kept m target x lt other dx
+  changed_kept (Integer signed bits) m target x lt other dx = cast_kept m target x lt other dx
+  changed_kept (Untyped number) m target x lt other dx = (dx.0, keeps m _ dx.0 other dx.1, bare_kept dx.0 dx.2)
+
   -- keeps an operand that was taken from below the node
-  operand_kept : (m : ℕ) (from target : Ty) (x : Expression) → tree_depth x < tree_depth t → (same_type from target ≡ false → m ≢ at) → Denotes (HoldsFrom first items) m (with_cast from target x) → Denotes (HoldsFrom first (set items at item)) m (with_cast from target x)
+  operand_kept : (m : ℕ) (from target : Ty) (x : Expression) → tree_depth x < tree_depth t → (same_type from target ≡ false → m ≢ at) → Denotes (HoldsFrom first items) m (as_operand from target x) → Denotes (HoldsFrom first (set items at item)) m (as_operand from target x)
   operand_kept m from target x lt other dm =
       let holds = HoldsFrom first items in
       let holds' = HoldsFrom first (set items at item) in
-      let shape = shape_of (map expression_layer items) in
-      let laws = from_laws first items in
-      elim (same_type from target) as (λ b. same_type from target ≡ b → Denotes holds m (cond b x (node (CastOp target NonStrict) (more x no_more))) → Denotes holds' m (cond b x (node (CastOp target NonStrict) (more x no_more)))) [ true ↦ λ e dx. kept_below shape holds holds' laws at keeps t d m x dx lt | false ↦ λ e dx. (dx.0, keeps m _ dx.0 (other e) dx.1, all_kept_below shape holds holds' laws at keeps t d dx.0 (more x no_more) dx.2 (omega arith)) ] refl dm
+      elim (same_type from target) as (λ b. same_type from target ≡ b → Denotes holds m (cond b x (changed from target x)) → Denotes holds' m (cond b x (changed from target x))) [ true ↦ λ e dx. small_kept m x lt dx | false ↦ λ e dx. changed_kept from m target x lt (other e) dx ] refl dm
 
--- the node stands for the operand with a cast round it where its type is another
-abbrev CastsTo : List AExpr → List AExpr → ℕ → ℕ → Ty → Ty → Type 0
-CastsTo old new n m from target = (first : ℕ) (t : Expression) → first ≤ length old → Denotes (HoldsFrom first old) n t → Denotes (HoldsFrom first new) m (with_cast from target t)
+-- the nodes stand for the operands, made of the types to which they are taken
+abbrev pub TakenTo : List AExpr → List AExpr → ℕ → ℕ → Ty → Ty → Type 0
+TakenTo old new n m from target = (first : ℕ) (t : Expression) → first ≤ length old → Denotes (HoldsFrom first old) n t → Denotes (HoldsFrom first new) m (as_operand from target t)
 
-casts_to : (old new : List AExpr) (n m : ℕ) (from target : Ty) (cast : Option DataType) → IsCastFor from target cast → ((first : ℕ) (t : Expression) → first ≤ length old → Denotes (HoldsFrom first old) n t → Denotes (HoldsFrom first new) m (cast_round cast t)) → CastsTo old new n m from target
-casts_to old new n m from target cast is denotes first t le d =
-    subst (Denotes (HoldsFrom first new) m) (round_is from target cast t is) (denotes first t le d)
+abbrev pub AllTaken : List AExpr → List AExpr → List ℕ → List ℕ → List Ty → List Ty → Type 0
+AllTaken old new [] [] [] [] = Unit {0}
+AllTaken old new (n ∷ ns) (m ∷ ms) (from ∷ types) (target ∷ targets) =
+    TakenTo old new n m from target × (same_type from target ≡ false → length old ≤ m) × AllTaken old new ns ms types targets
+AllTaken old new [] (m ∷ ms) types targets = ⊥
+AllTaken old new [] [] (from ∷ types) targets = ⊥
+AllTaken old new [] [] [] (target ∷ targets) = ⊥
+AllTaken old new (n ∷ ns) [] types targets = ⊥
+AllTaken old new (n ∷ ns) (m ∷ ms) [] targets = ⊥
+AllTaken old new (n ∷ ns) (m ∷ ms) (from ∷ types) [] = ⊥
+
+-- what one change leaves
+pub taken_to : (old new : List AExpr) (n m : ℕ) (from target : Ty) (change : Change) → IsChangeFor from target change → ((first : ℕ) (t : Expression) → first ≤ length old → Denotes (HoldsFrom first old) n t → Denotes (HoldsFrom first new) m (changed_by change t)) → TakenTo old new n m from target
+taken_to old new n m from target change is denotes first t le d =
+    subst (Denotes (HoldsFrom first new) m) (change_is from target change t is) (denotes first t le d)
+
+pub fresh_where : (old : List AExpr) (m : ℕ) (from target : Ty) (change : Change) → IsChangeFor from target change → (is_kept change ≡ false → length old ≤ m) → same_type from target ≡ false → length old ≤ m
+fresh_where old m from target change is fresh other = fresh (is_changed from target change is other)
+
+-- and what is added later keeps
+pub taken_grown : (old mid new : List AExpr) (n m : ℕ) (from target : Ty) → Grows mid new → TakenTo old mid n m from target → TakenTo old new n m from target
+taken_grown old mid new n m from target g taken first t le d = tree_grown first first mid new (omega arith) g m _ (taken first t le d)
+
+pub taken_later : (old mid new : List AExpr) (n m : ℕ) (from target : Ty) → Grows old mid → TakenTo mid new n m from target → TakenTo old new n m from target
+taken_later old mid new n m from target g taken first t le d =
+    let longer = length-grown old mid g in
+    taken first t (omega arith) (tree_grown first first old mid (omega arith) g n t d)
+
+-- the inputs have these types
+abbrev pub AllHaveTypes : List AExpr → Registry → Columns → List ℕ → List Ty → Type 0
+AllHaveTypes items registry schema [] [] = Unit {0}
+AllHaveTypes items registry schema (n ∷ ns) (type ∷ types) = AllHaveType items registry schema n type × AllHaveTypes items registry schema ns types
+AllHaveTypes items registry schema [] (type ∷ types) = ⊥
+AllHaveTypes items registry schema (n ∷ ns) [] = ⊥
+
+record ChildrenTyped (registry : Registry) (schema : Columns) (ts : Trees Op) (types : List Ty) : Type 0 where
+  typed : List Typed
+  is : typing_all registry schema ts ≡ Ok typed
+  types_are : types_of typed ≡ types
+
+children_types : (registry : Registry) (schema : Columns) (first : ℕ) (items : List AExpr) (ns : List ℕ) (ts : Trees Op) (types : List Ty) → DenoteAll (HoldsFrom first items) ns ts → AllHaveTypes items registry schema ns types → ChildrenTyped registry schema ts types
+children_types registry schema first items [] no_more [] d h = record { typed = []; is = refl; types_are = refl }
+children_types registry schema first items (n ∷ ns) (more t ts) (type ∷ types) d h =
+    let has = h.0 t (any_node first items n t d.0) in
+    let rest = children_types registry schema first items ns ts types d.1 h.1 in
+    record {
+      typed = record { type = type; many = has.many } ∷ rest.typed;
+      is = ap (λ r. typed_before r (typing_all registry schema ts)) has.is ∙ ap (typed_before (Ok (record { type = type; many = has.many }))) rest.is;
+      types_are = ap (λ l. type ∷ l) rest.types_are;
+    }
+children_types registry schema first items [] (more t ts) types d h = absurd d
+children_types registry schema first items (n ∷ ns) no_more types d h = absurd d
+children_types registry schema first items [] no_more (type ∷ types) d h = absurd h
+children_types registry schema first items (n ∷ ns) (more t ts) [] d h = absurd h
+
+-- the visit of a node whose operands were made of the types to which it takes them
+module _ (registry : Registry) (schema : Columns) (old new : List AExpr) (at : ℕ) (op : Op) (item : AExpr) (types : List Ty) (taken : Taken) (takes : operand_types schema op types ≡ Ok taken) (known : is_known taken.type ≡ true) (g : Grows old new) where
+  operands_kept : (first : ℕ) (t : Expression) → first ≤ length old → at < length old → Denotes (HoldsFrom first new) at t → (ns ms : List ℕ) (froms targets : List Ty) (ts : Trees Op) → trees_depth ts < tree_depth t → DenoteAll (HoldsFrom first old) ns ts → AllTaken old new ns ms froms targets → DenoteAll (HoldsFrom first (set new at item)) ms (as_operands froms targets ts)
+  operands_kept first t le here d [] [] [] [] no_more lt dts all = tt
+  operands_kept first t le here d (n ∷ ns) (m ∷ ms) (from ∷ froms) (target ∷ targets) (more x ts) lt dts all = (
+    operand_kept first new at item t d m from target x (omega arith) (λ e s. absurd (omega (arith, all.1 e, s, here))) (all.0 first x le dts.0),
+    operands_kept first t le here d ns ms froms targets ts (omega arith) dts.1 all.2,
+  )
+  operands_kept first t le here d [] ms froms targets (more x ts) lt dts all = absurd dts
+  operands_kept first t le here d (n ∷ ns) ms froms targets no_more lt dts all = absurd dts
+  operands_kept first t le here d [] (m ∷ ms) froms targets no_more lt dts all = absurd all
+  operands_kept first t le here d [] [] (from ∷ froms) targets no_more lt dts all = absurd all
+  operands_kept first t le here d [] [] [] (target ∷ targets) no_more lt dts all = absurd all
+  operands_kept first t le here d (n ∷ ns) [] froms targets (more x ts) lt dts all = absurd all
+  operands_kept first t le here d (n ∷ ns) (m ∷ ms) [] targets (more x ts) lt dts all = absurd all
+  operands_kept first t le here d (n ∷ ns) (m ∷ ms) (from ∷ froms) [] (more x ts) lt dts all = absurd all
+
+  pub visits_operands : (ns ms : List ℕ) → expression_layer item ≡ layer op ms → HoldsExpression old at op ns → AllHaveTypes old registry schema ns types → AllTaken old new ns ms types taken.operands → (first : ℕ) (t : Expression) → first ≤ length old → Denotes (HoldsFrom first old) at t → Visits registry schema first (set new at item) at t
+  visits_operands ns ms is held have all first t le dt =
+      let longer = length-grown old new g in
+      let top = from_top first old at op ns held t dt in
+      let here = within old at t (any_node first old at t dt) in
+      let there : at < length new = omega arith in
+      let depth = ap tree_depth top.1 in
+      let below = children_types registry schema first old ns top.0 types top.2 have in
+      let takes' = ap (operand_types schema op) below.types_are ∙ takes in
+      let later = tree_grown first first old new (omega arith) g at t dt in
+      let kept = operands_kept first t le here later ns ms types taken.operands top.0 (omega arith) top.2 all in
+      record {
+        op = op;
+        inputs = ms;
+        children = as_operands (types_of below.typed) taken.operands top.0;
+        held = (top.3, expression_written new at item there ∙ ap Some is);
+        denotes = subst (λ froms. DenoteAll (HoldsFrom first (set new at item)) ms (as_operands froms taken.operands top.0)) (sym below.types_are) kept;
+        same = subst (λ u. IsSame registry schema u (node op (as_operands (types_of below.typed) taken.operands top.0))) (sym top.1) (operands_same registry schema op top.0 below.typed below.is taken takes');
+        strict = operands_strict registry schema op top.0 below.typed below.is taken takes' known;
+      }
 
 -- the visit of an operator
-visits_binary : (registry : Registry) (schema : Columns) (old mid new : List AExpr) (at l r : ℕ) (left right : Node) (operator : Operator) (a b c d result : Ty) → HoldsExpression old at (BinaryOp operator) (l ∷ r ∷ []) → AllHaveType old registry schema l a → AllHaveType old registry schema r b → operator_types operator (a ∷ b ∷ []) ≡ Ok (record { operands = c ∷ d ∷ []; type = result }) → Grows old mid → Grows mid new → CastsTo old mid l left.0 a c → (same_type a c ≡ false → length old ≤ left.0) → CastsTo mid new r right.0 b d → (same_type b d ≡ false → length mid ≤ right.0) → (first : ℕ) (t : Expression) → first ≤ length old → Denotes (HoldsFrom first old) at t → Visits registry schema first (set new at (BinaryExpr left operator right)) at t
-visits_binary registry schema old mid new at l r left right operator a b c d result held typed_l typed_r takes g1 g2 cast_l fresh_l cast_r fresh_r first t le dt =
-    let item = BinaryExpr left operator right in
-    let le1 = length-grown old mid g1 in
-    let le2 = length-grown mid new g2 in
-    let top = from_top first old at (BinaryOp operator) (l ∷ r ∷ []) held t dt in
-    let two = two_children (HoldsFrom first old) l r top.0 top.2 in
-    let x = two.0 in
-    let y = two.1 in
-    let is : t ≡ node (BinaryOp operator) (more x (more y no_more)) = top.1 ∙ ap (node (BinaryOp operator)) two.2 in
-    let depth = ap tree_depth is in
-    let hx = typed_l x (any_node first old l x two.3) in
-    let hy = typed_r y (any_node first old r y two.4) in
-    let here = within old at t (any_node first old at t dt) in
-    let there : at < length new = omega arith in
-    let dt1 = tree_grown first first old mid (omega arith) g1 at t dt in
-    let dt2 = tree_grown first first mid new (omega arith) g2 at t dt1 in
-    let dx = tree_grown first first mid new (omega arith) g2 left.0 _ (cast_l first x le two.3) in
-    let dy = cast_r first y (omega arith) (tree_grown first first old mid (omega arith) g1 r y two.4) in
-    let kept_x = operand_kept first new at item t dt2 left.0 a c x (omega arith) (λ e s. absurd (omega (arith, fresh_l e))) dx in
-    let kept_y = operand_kept first new at item t dt2 right.0 b d y (omega arith) (λ e s. absurd (omega (arith, fresh_r e))) dy in
-    let children = casts registry schema operator x y a b hx.many hy.many hx.is hy.is c d result takes in
+pub visits_binary : (registry : Registry) (schema : Columns) (old mid new : List AExpr) (at l r : ℕ) (left right : Node) (operator : Operator) (left_change right_change : Change) → HoldsExpression old at (BinaryOp operator) (l ∷ r ∷ []) → ChangesOperands registry schema old l operator r left_change right_change → Grows old mid → Grows mid new → ((first : ℕ) (t : Expression) → first ≤ length old → Denotes (HoldsFrom first old) l t → Denotes (HoldsFrom first mid) left.0 (changed_by left_change t)) → (is_kept left_change ≡ false → length old ≤ left.0) → ((first : ℕ) (t : Expression) → first ≤ length mid → Denotes (HoldsFrom first mid) r t → Denotes (HoldsFrom first new) right.0 (changed_by right_change t)) → (is_kept right_change ≡ false → length mid ≤ right.0) → (first : ℕ) (t : Expression) → first ≤ length old → Denotes (HoldsFrom first old) at t → Visits registry schema first (set new at (BinaryExpr left operator right)) at t
+visits_binary registry schema old mid new at l r left right operator left_change right_change held c g1 g2 left_denotes left_fresh right_denotes right_fresh =
+    let taken : Taken = record { operands = c.left_to ∷ c.right_to ∷ []; type = c.result } in
+    let longer = length-grown old mid g1 in
+    let left_taken = taken_grown old mid new l left.0 c.left_from c.left_to g2 (taken_to old mid l left.0 c.left_from c.left_to left_change c.left_changes left_denotes) in
+    let right_taken = taken_later old mid new r right.0 c.right_from c.right_to g1 (taken_to mid new r right.0 c.right_from c.right_to right_change c.right_changes right_denotes) in
+    let fresh_l = fresh_where old left.0 c.left_from c.left_to left_change c.left_changes left_fresh in
+    let fresh_r = fresh_where mid right.0 c.right_from c.right_to right_change c.right_changes right_fresh in
+    visits_operands registry schema old new at (BinaryOp operator) (BinaryExpr left operator right) (c.left_from ∷ c.right_from ∷ []) taken c.takes (operator_known operator (c.left_from ∷ c.right_from ∷ []) taken c.takes) (grows_then old mid new g1 g2) (l ∷ r ∷ []) (left.0 ∷ right.0 ∷ []) refl held (c.left_typed, (c.right_typed, tt)) (left_taken, fresh_l, (right_taken, (λ e. omega (arith, longer, fresh_r e)), tt))
+
+-- a node whose operands are none of them changed
+record UnchangedNode (registry : Registry) (schema : Columns) (op : Op) (ts : Trees Op) : Type 0 where
+  typed : List Typed
+  types : typing_all registry schema ts ≡ Ok typed
+  strict : IsStrictNode schema op (types_of typed)
+
+unchanged_visit : (registry : Registry) (schema : Columns) (items : List AExpr) (at : ℕ) (op : Op) (inputs : List ℕ) → HoldsExpression items at op inputs → (first : ℕ) (t : Expression) → first ≤ length items → Denotes (HoldsFrom first items) at t → ((ts : Trees Op) → t ≡ node op ts → DenoteAll (HoldsFrom first items) inputs ts → UnchangedNode registry schema op ts) → Visits registry schema first items at t
+unchanged_visit registry schema items at op inputs held first t le dt unchanged =
+    let top = from_top first items at op inputs held t dt in
+    let u = unchanged top.0 top.1 top.2 in
     record {
-      op = BinaryOp operator;
-      inputs = left.0 ∷ right.0 ∷ [];
-      children = children;
-      held = (top.3, expression_written new at item there);
-      denotes = (kept_x, (kept_y, tt));
-      same = subst (λ u. IsSame registry schema u (node (BinaryOp operator) children)) (sym is) (casts_same registry schema operator x y a b hx.many hy.many hx.is hy.is c d result takes);
-      strict = casts_strict registry schema operator x y a b hx.many hy.many hx.is hy.is c d result takes;
-    }
-
--- the same with the casts that the operands need
-pub visits_casts : (registry : Registry) (schema : Columns) (old mid new : List AExpr) (at l r : ℕ) (left right : Node) (operator : Operator) (left_cast right_cast : Option DataType) → HoldsExpression old at (BinaryOp operator) (l ∷ r ∷ []) → CastsOperands registry schema old l operator r left_cast right_cast → Grows old mid → Grows mid new → ((first : ℕ) (t : Expression) → first ≤ length old → Denotes (HoldsFrom first old) l t → Denotes (HoldsFrom first mid) left.0 (cast_round left_cast t)) → (IsSome left_cast → length old ≤ left.0) → ((first : ℕ) (t : Expression) → first ≤ length mid → Denotes (HoldsFrom first mid) r t → Denotes (HoldsFrom first new) right.0 (cast_round right_cast t)) → (IsSome right_cast → length mid ≤ right.0) → (first : ℕ) (t : Expression) → first ≤ length old → Denotes (HoldsFrom first old) at t → Visits registry schema first (set new at (BinaryExpr left operator right)) at t
-visits_casts registry schema old mid new at l r left right operator left_cast right_cast held c g1 g2 left_denotes left_fresh right_denotes right_fresh =
-    visits_binary registry schema old mid new at l r left right operator c.left_from c.right_from c.left_to c.right_to c.result held c.left_typed c.right_typed c.takes g1 g2 (casts_to old mid l left.0 c.left_from c.left_to left_cast c.left_casts left_denotes) (λ e. left_fresh (has_cast c.left_from c.left_to left_cast c.left_casts e)) (casts_to mid new r right.0 c.right_from c.right_to right_cast c.right_casts right_denotes) (λ e. right_fresh (has_cast c.right_from c.right_to right_cast c.right_casts e))
-
--- the type of a typed expression at a node
-typed_here : (registry : Registry) (schema : Columns) (items : List AExpr) (at first : ℕ) (t : Expression) (d : DenotesTyped registry schema 0 items at) → Denotes (HoldsFrom first items) at t → typing registry schema t ≡ Ok d.typed
-typed_here registry schema items at first t d dt =
-    let one = denotes_one _ (HoldsExpression items) (expression_laws items) at d.tree t (any_node 0 items at d.tree d.denotes) (any_node first items at t dt) in
-    ap (typing registry schema) (sym one) ∙ d.is
-
-column_taken : (o : Option Ty) (typed : Typed) → typed_as (column_type o) true ≡ Ok typed → (taken : Taken) × (column_type o ≡ Ok taken) × (same_types [] taken.operands ≡ true)
-column_taken None typed e = cc
-column_taken (Some type) typed e = (record { operands = []; type = type }, refl, refl)
-
--- a node without operands is strict as it is
-pub visits_column : (registry : Registry) (schema : Columns) (items : List AExpr) (at : ℕ) (name : Name) → HoldsExpression items at (ColumnOp name) [] → DenotesTyped registry schema 0 items at → (first : ℕ) (t : Expression) → first ≤ length items → Denotes (HoldsFrom first items) at t → Visits registry schema first items at t
-visits_column registry schema items at name held typed first t le dt =
-    let top = from_top first items at (ColumnOp name) [] held t dt in
-    let bare = no_children (HoldsFrom first items) top.0 top.2 in
-    let is : t ≡ node (ColumnOp name) no_more = top.1 ∙ ap (node (ColumnOp name)) bare in
-    let has = ap (typing registry schema) (sym is) ∙ typed_here registry schema items at first t typed dt in
-    let taken = column_taken (type_at schema name) typed.typed has in
-    record {
-      op = ColumnOp name;
-      inputs = [];
-      children = no_more;
+      op = op;
+      inputs = inputs;
+      children = top.0;
       held = (top.3, held);
-      denotes = tt;
-      same = subst (λ u. IsSame registry schema u (node (ColumnOp name) no_more)) (sym is) (same_itself registry schema (node (ColumnOp name) no_more));
-      strict = record { typed = []; types = refl; strict = record { taken = taken.0; takes = taken.1; kept = taken.2 } };
+      denotes = top.2;
+      same = subst (λ x. IsSame registry schema x (node op top.0)) (sym top.1) (same_itself registry schema (node op top.0));
+      strict = record { typed = u.typed; types = u.types; strict = u.strict };
     }
 
-cast_taken : (registry : Registry) (schema : Columns) (target : Ty) (options : CastOptions) (r : Result Typed ErrorKind) (typed : Typed) → then_typed (typed_before r (Ok [])) (typing_rule registry schema (CastOp target options)) ≡ Ok typed → (input : Typed) × (r ≡ Ok input)
-cast_taken registry schema target options (Err kind) typed e = cc
-cast_taken registry schema target options (Ok input) typed e = (input, refl)
+-- a node without operands
+module _ (registry : Registry) (schema : Columns) (items : List AExpr) (at : ℕ) (op : Op) (held : HoldsExpression items at op []) (bare : (types : List Ty) (taken : Taken) → operand_types schema op types ≡ Ok taken → (types ≡ []) × (taken.operands ≡ [])) where
+  leaf_unchanged : (ts : Trees Op) → ts ≡ no_more → HasKnownType (typing registry schema (node op ts)) → UnchangedNode registry schema op ts
+  leaf_unchanged ts none has =
+      let p = typed_parts registry schema op ts has.typed has.is in
+      let types = bare (types_of p.below) p.taken p.takes in
+      let known = ap is_known (ap (λ (x : Typed). x.type) p.is) ∙ has.known in
+      record {
+        typed = p.below;
+        types = p.children_typed;
+        strict = record { taken = p.taken; takes = p.takes; kept = ap (λ l. same_types l p.taken.operands) types.0 ∙ ap (same_types []) types.1; known = known };
+      }
 
--- a cast is strict as it is
-pub visits_cast : (registry : Registry) (schema : Columns) (items : List AExpr) (at : ℕ) (target : Ty) (options : CastOptions) (input : ℕ) → HoldsExpression items at (CastOp target options) (input ∷ []) → DenotesTyped registry schema 0 items at → (first : ℕ) (t : Expression) → first ≤ length items → Denotes (HoldsFrom first items) at t → Visits registry schema first items at t
-visits_cast registry schema items at target options input held typed first t le dt =
-    let top = from_top first items at (CastOp target options) (input ∷ []) held t dt in
-    let one = one_child (HoldsFrom first items) input top.0 top.2 in
-    let x = one.0 in
-    let is : t ≡ node (CastOp target options) (more x no_more) = top.1 ∙ ap (node (CastOp target options)) one.1 in
-    let has = ap (typing registry schema) (sym is) ∙ typed_here registry schema items at first t typed dt in
-    let of_x = cast_taken registry schema target options (typing registry schema x) typed.typed has in
+  pub visits_leaf : (first : ℕ) (t : Expression) → first ≤ length items → Denotes (HoldsFrom first items) at t → HasKnownType (typing registry schema t) → Visits registry schema first items at t
+  visits_leaf first t le dt has =
+      unchanged_visit registry schema items at op [] held first t le dt (λ ts is d. leaf_unchanged ts (no_children (HoldsFrom first items) ts d) (subst (λ u. HasKnownType (typing registry schema u)) is has))
+
+column_bare : (o : Option Ty) (taken : Taken) → column_type o ≡ Ok taken → taken.operands ≡ []
+column_bare None taken h = cc
+column_bare (Some type) taken h = sym (ap (λ (x : Taken). x.operands) (ok_where (is_known type) _ taken InvalidOperation h).1)
+
+pub column_leaf : (schema : Columns) (name : Name) (types : List Ty) (taken : Taken) → operand_types schema (ColumnOp name) types ≡ Ok taken → (types ≡ []) × (taken.operands ≡ [])
+column_leaf schema name [] taken h = (refl, column_bare (type_at schema name) taken h)
+column_leaf schema name (type ∷ types) taken h = cc
+
+pub literal_leaf : (schema : Columns) (type : Ty) (value : Val) (types : List Ty) (taken : Taken) → operand_types schema (LiteralOp type value) types ≡ Ok taken → (types ≡ []) × (taken.operands ≡ [])
+literal_leaf schema type value [] taken h = (refl, sym (ap (λ (x : Taken). x.operands) (ok_where (is_literal type value) _ taken InvalidOperation h).1))
+literal_leaf schema type value (operand ∷ types) taken h = cc
+
+-- a cast of an operand that has a type of columns
+cast_unchanged : (schema : Columns) (target : Ty) (options : CastOptions) (from : Ty) (taken : Taken) → is_known from ≡ true → operand_types schema (CastOp target options) (from ∷ []) ≡ Ok taken → IsStrictNode schema (CastOp target options) (from ∷ [])
+cast_unchanged schema target options from taken known h =
+    let alone = ap (cast_taken target) (alone_itself from known) in
+    let p = ok_where (can_cast from target) _ taken InvalidOperation (sym alone ∙ h) in
+    record { taken = record { operands = from ∷ []; type = target }; takes = h ∙ ap Ok (sym p.1); kept = ap (λ b. b && true) (same_type_own from); known = p.0 }
+
+one_type : (registry : Registry) (schema : Columns) (x : Expression) (from : Ty) (many : Bool) (below : List Typed) → typing registry schema x ≡ Ok (record { type = from; many = many }) → typing_all registry schema (more x no_more) ≡ Ok below → types_of below ≡ from ∷ []
+one_type registry schema x from many below h all =
+    sym (ap types_of (ok_same (typed_before (Ok (record { type = from; many = many })) (Ok [])) _ below refl (sym (ap (λ r. typed_before r (Ok [])) h) ∙ all)))
+
+pub visits_cast : (registry : Registry) (schema : Columns) (items : List AExpr) (at : ℕ) (target : Ty) (options : CastOptions) (input : ℕ) (from : Ty) → HoldsExpression items at (CastOp target options) (input ∷ []) → AllHaveType items registry schema input from → is_known from ≡ true → (first : ℕ) (t : Expression) → first ≤ length items → Denotes (HoldsFrom first items) at t → HasKnownType (typing registry schema t) → Visits registry schema first items at t
+visits_cast registry schema items at target options input from held has_from known first t le dt has =
+    unchanged_visit registry schema items at (CastOp target options) (input ∷ []) held first t le dt (λ ts is d.
+    let one = one_child (HoldsFrom first items) input ts d in
+    let here = ap (typing registry schema) (sym is) ∙ has.is in
+    let p = typed_parts registry schema (CastOp target options) ts has.typed here in
+    let hx = has_from one.0 (any_node first items input one.0 one.2) in
+    let types = one_type registry schema one.0 from hx.many p.below hx.is (sym (ap (typing_all registry schema) one.1) ∙ p.children_typed) in
     record {
-      op = CastOp target options;
-      inputs = input ∷ [];
-      children = more x no_more;
-      held = (top.3, held);
-      denotes = (one.2, tt);
-      same = subst (λ u. IsSame registry schema u (node (CastOp target options) (more x no_more))) (sym is) (same_itself registry schema (node (CastOp target options) (more x no_more)));
-      strict = record {
-        typed = of_x.0 ∷ [];
-        types = ap (λ r. typed_before r (Ok [])) of_x.1;
-        strict = record { taken = record { operands = of_x.0.type ∷ []; type = target }; takes = refl; kept = ap (λ b. b && true) (same_type_own of_x.0.type) };
-      };
-    }
+      typed = p.below;
+      types = p.children_typed;
+      strict = subst (IsStrictNode schema (CastOp target options)) (sym types) (cast_unchanged schema target options from p.taken known (sym (ap (operand_types schema (CastOp target options)) types) ∙ p.takes));
+    })
+
+-- the visit of a cast of a number without a type
+pub visits_number : (registry : Registry) (schema : Columns) (old new : List AExpr) (at input : ℕ) (target : DataType) (options : CastOptions) (number : ℤ) (alone : Ty) (fresh : Node) (change : Change) → HoldsExpression old at (CastOp (ty target) options) (input ∷ []) → AllHaveType old registry schema input (Untyped number) → type_alone (Untyped number) ≡ Some alone → is_known (ty target) ≡ true → IsChangeFor (Untyped number) alone change → Grows old new → ((first : ℕ) (t : Expression) → first ≤ length old → Denotes (HoldsFrom first old) input t → Denotes (HoldsFrom first new) fresh.0 (changed_by change t)) → (is_kept change ≡ false → length old ≤ fresh.0) → (first : ℕ) (t : Expression) → first ≤ length old → Denotes (HoldsFrom first old) at t → Visits registry schema first (set new at (Cast fresh target options)) at t
+visits_number registry schema old new at input target options number alone fresh change held has is_alone known is g denotes is_fresh =
+    let taken : Taken = record { operands = alone ∷ []; type = ty target } in
+    let takes : operand_types schema (CastOp (ty target) options) (Untyped number ∷ []) ≡ Ok taken = ap (cast_taken (ty target)) is_alone ∙ if_true (is_known (ty target)) (Ok taken) (Err InvalidOperation) known in
+    visits_operands registry schema old new at (CastOp (ty target) options) (Cast fresh target options) (Untyped number ∷ []) taken takes known g (input ∷ []) (fresh.0 ∷ []) refl held (has, tt) (taken_to old new input fresh.0 (Untyped number) alone change is denotes, fresh_where old fresh.0 (Untyped number) alone change is is_fresh, tt)

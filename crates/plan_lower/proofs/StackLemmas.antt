@@ -168,24 +168,19 @@ module _ (registry : Registry) (schema : Columns) (first : ℕ) (items items' : 
   roots_step [] all = tt
   roots_step (n ∷ ns) all = let s = step n all.0.0 all.0.1 in ((s.0, s.1), roots_step ns all.1)
 
-  pub typed_step : (n : ℕ) → DenotesTyped registry schema first items n → DenotesTyped registry schema first items' n
+  pub typed_step : (n : ℕ) → DenotesKnown registry schema first items n → DenotesKnown registry schema first items' n
   typed_step n t =
       let r = becomes n t.tree t.denotes in
-      record { tree = r.0; denotes = r.1; typed = t.typed; is = r.2.typing ∙ t.is }
+      record { tree = r.0; denotes = r.1; has = record { typed = t.has.typed; is = r.2.typing ∙ t.has.is; known = t.has.known } }
 
-before_ok : (a : Result Typed _) (b : Result (List Typed) _) (typed : List Typed) → typed_before a b ≡ Ok typed → (x : Typed) × (a ≡ Ok x) × (xs : List Typed) × (b ≡ Ok xs)
-before_ok (Err kind) b typed e = cc
-before_ok (Ok x) (Err kind) typed e = cc
-before_ok (Ok x) (Ok xs) typed e = (x, refl, xs, refl)
-
--- the inputs of a typed node are typed
-children_typed : (registry : Registry) (schema : Columns) (first : ℕ) (items : List AExpr) (ns : List ℕ) (ts : Trees Op) (typed : List Typed) → DenoteAll (HoldsFrom first items) ns ts → typing_all registry schema ts ≡ Ok typed → AllByRecursion (DenotesTyped registry schema first items) ns
-children_typed registry schema first items [] no_more typed d e = tt
-children_typed registry schema first items (n ∷ ns) (more t ts) typed d e =
-    let b = before_ok (typing registry schema t) (typing_all registry schema ts) typed e in
-    (record { tree = t; denotes = d.0; typed = b.0; is = b.1 }, children_typed registry schema first items ns ts b.2 d.1 b.3)
-children_typed registry schema first items [] (more t ts) typed d e = absurd d
-children_typed registry schema first items (n ∷ ns) no_more typed d e = absurd d
+-- the inputs of a node that are typed, with types of columns
+children_typed : (registry : Registry) (schema : Columns) (first : ℕ) (items : List AExpr) (ns : List ℕ) (ts : Trees Op) (typed : List Typed) → DenoteAll (HoldsFrom first items) ns ts → typing_all registry schema ts ≡ Ok typed → AllByRecursion (λ type. is_known type ≡ true) (types_of typed) → AllByRecursion (DenotesKnown registry schema first items) ns
+children_typed registry schema first items [] no_more typed d e known = tt
+children_typed registry schema first items (n ∷ ns) (more t ts) typed d e known =
+    by_children (λ xs. AllByRecursion (λ type. is_known type ≡ true) (types_of xs) → AllByRecursion (DenotesKnown registry schema first items) (n ∷ ns)) _ _ typed e (λ x xs is rest k.
+    (record { tree = t; denotes = d.0; has = record { typed = x; is = is; known = k.0 } }, children_typed registry schema first items ns ts xs d.1 rest k.1)) known
+children_typed registry schema first items [] (more t ts) typed d e known = absurd d
+children_typed registry schema first items (n ∷ ns) no_more typed d e known = absurd d
 
 pub all_last : (P : ℕ → Type 0) (ms : List ℕ) (last : ℕ) → AllByRecursion P (ms ++ last ∷ []) → P last
 all_last P [] last all = all.0
@@ -196,15 +191,15 @@ all_last P (m ∷ ms) last all = all_last P ms last all.1
 pub record Pending (registry : Registry) (schema : Columns) (first : ℕ) (old new : List AExpr) (stack roots : List ℕ) : Type 0 where
   pub below : KeepsBelow first old new
   pub trees : (n : ℕ) (t : Expression) → Denotes (HoldsFrom first old) n t → DenotesSame registry schema first new n t
-  pub waiting : AllByRecursion (DenotesTyped registry schema first new) stack
+  pub waiting : AllByRecursion (DenotesKnown registry schema first new) stack
   pub settled : AllByRecursion (λ n. (t : Expression) × SettledBut registry schema first new stack n t) roots
 
-start_settled : (registry : Registry) (schema : Columns) (first : ℕ) (items : List AExpr) (stack ns : List ℕ) → ((n : ℕ) → Waits ns n → Waits stack n) → AllByRecursion (DenotesTyped registry schema first items) ns → AllByRecursion (λ n. (t : Expression) × SettledBut registry schema first items stack n t) ns
+start_settled : (registry : Registry) (schema : Columns) (first : ℕ) (items : List AExpr) (stack ns : List ℕ) → ((n : ℕ) → Waits ns n → Waits stack n) → AllByRecursion (DenotesKnown registry schema first items) ns → AllByRecursion (λ n. (t : Expression) × SettledBut registry schema first items stack n t) ns
 start_settled registry schema first items stack [] w all = tt
 start_settled registry schema first items stack (n ∷ ns) w all =
     ((all.0.tree, waiting_settled registry schema first items stack n all.0.tree (w n (inl refl)) all.0.denotes), start_settled registry schema first items stack ns (λ m v. w m (inr v)) all.1)
 
-pub pending_start : (registry : Registry) (schema : Columns) (first : ℕ) (items : List AExpr) (roots : List ℕ) → AllByRecursion (DenotesTyped registry schema first items) roots → Pending registry schema first items items roots roots
+pub pending_start : (registry : Registry) (schema : Columns) (first : ℕ) (items : List AExpr) (roots : List ℕ) → AllByRecursion (DenotesKnown registry schema first items) roots → Pending registry schema first items items roots roots
 pending_start registry schema first items roots all = record {
   below = λ n op inputs lower h. h;
   trees = λ n t d. record { tree = t; denotes = d; same = same_itself registry schema t };
@@ -215,21 +210,21 @@ pending_start registry schema first items roots all = record {
 held_from : (first : ℕ) (items : List AExpr) (n : ℕ) (t : Expression) → Denotes (HoldsFrom first items) n t → first ≤ n
 held_from first items n (node op ts) d = d.1.0
 
-pub pending_step : (registry : Registry) (schema : Columns) (first : ℕ) (old items items' : List AExpr) (at : ℕ) (rest stack roots : List ℕ) → Pending registry schema first old items (rest ++ at ∷ []) roots → ((n : ℕ) (op : Op) (inputs : List ℕ) → n ≢ at → HoldsExpression items n op inputs → HoldsExpression items' n op inputs) → ((t : Expression) → Denotes (HoldsFrom first items) at t → Visits registry schema first items' at t) → ((op : Op) (inputs : List ℕ) → HoldsExpression items' at op inputs → stack ≡ rest ++ inputs) → Pending registry schema first old items' stack roots
+pub pending_step : (registry : Registry) (schema : Columns) (first : ℕ) (old items items' : List AExpr) (at : ℕ) (rest stack roots : List ℕ) → Pending registry schema first old items (rest ++ at ∷ []) roots → ((n : ℕ) (op : Op) (inputs : List ℕ) → n ≢ at → HoldsExpression items n op inputs → HoldsExpression items' n op inputs) → ((t : Expression) → Denotes (HoldsFrom first items) at t → HasKnownType (typing registry schema t) → Visits registry schema first items' at t) → ((op : Op) (inputs : List ℕ) → HoldsExpression items' at op inputs → stack ≡ rest ++ inputs) → Pending registry schema first old items' stack roots
 pending_step registry schema first old items items' at rest stack roots p elsewhere visit pushed =
-    let here = all_last (DenotesTyped registry schema first items) rest at p.waiting in
-    let v = visit here.tree here.denotes in
+    let here = all_last (DenotesKnown registry schema first items) rest at p.waiting in
+    let v = visit here.tree here.denotes here.has in
     let grown = pushed v.op v.inputs v.held.1 in
     let from = held_from first items at here.tree here.denotes in
-    let rest_typed = all_weaker (DenotesTyped registry schema first items) (DenotesTyped registry schema first items') (typed_step registry schema first items items' at rest here.tree here.denotes v elsewhere) rest (all_front (DenotesTyped registry schema first items) rest (at ∷ []) p.waiting) in
-    let inputs_typed = children_typed registry schema first items' v.inputs v.children v.strict.typed v.denotes v.strict.types in
+    let rest_typed = all_weaker (DenotesKnown registry schema first items) (DenotesKnown registry schema first items') (typed_step registry schema first items items' at rest here.tree here.denotes v elsewhere) rest (all_front (DenotesKnown registry schema first items) rest (at ∷ []) p.waiting) in
+    let inputs_typed = children_typed registry schema first items' v.inputs v.children v.strict.typed v.denotes v.strict.types (operands_known schema v.op (types_of v.strict.typed) v.strict.strict) in
     record {
       below = λ n op inputs lower h. elsewhere n op inputs (λ e. lower (omega (arith, from, e))) (p.below n op inputs lower h);
       trees = λ n t d.
           let one = p.trees n t d in
           let two = becomes registry schema first items items' at rest here.tree here.denotes v elsewhere n one.tree one.denotes in
           record { tree = two.0; denotes = two.1; same = same_then registry schema t one.tree two.0 one.same two.2 };
-      waiting = subst (AllByRecursion (DenotesTyped registry schema first items')) (sym grown) (all_joined (DenotesTyped registry schema first items') rest v.inputs rest_typed inputs_typed);
+      waiting = subst (AllByRecursion (DenotesKnown registry schema first items')) (sym grown) (all_joined (DenotesKnown registry schema first items') rest v.inputs rest_typed inputs_typed);
       settled = subst (λ s. AllByRecursion (λ n. (t : Expression) × SettledBut registry schema first items' s n t) roots) (sym grown) (roots_step registry schema first items items' at rest here.tree here.denotes v elsewhere roots p.settled);
     }
 

@@ -1,35 +1,41 @@
 -- Types that are kept by node: what is known of a node, and what stays as the table, the arena or one item changes.
-use Rattle.std.proofs.Common.{◌≡◌, ◌≢◌, ◌↔◌, ℕ, ◌<◌, ◌≤◌, ◌-◌, List, [], ◌∷◌, ◌++◌, length, map, get_or, set, true, is_some, MatchOption, Option, Some, None, Ok, slice_get, refl, sym, ap, ◌∙◌, subst, arith, zero-le, ⊎_elim, length-append, append-nil}
+use Rattle.std.proofs.Common.{◌≡◌, ◌≢◌, ◌↔◌, ℕ, ◌<◌, ◌≤◌, ◌-◌, List, [], ◌∷◌, ◌++◌, length, map, get_or, set, true, false, cond, is_some, MatchOption, Option, Some, None, Ok, Err, slice_get, refl, sym, ap, ◌∙◌, subst, arith, zero-le, ⊎_elim, length-append, append-nil}
 use Rattle.std.specs.List.{AllByRecursion}
 use Rattle.std.proofs.lemmas.Option.{slice_get_within, slice_get-get_or}
 use Rattle.std.proofs.lemmas.Bool.{cases_lt}
+use Rattle.std.proofs.lemmas.List.{length-map}
 use Rattle.std.proofs.Math.ListN.{length-set}
 use Rattle.plan_types.proofs.ListLemmas.{slice_get-append, slice_get-seam, slice_get-set_other, slice_get-set_same}
-use Rattle.plan_types.specs.Types.{Ty, ty}
+use Rattle.plan_types.specs.Types.{Ty, ty, is_known}
+use Rattle.plan_types.specs.Values.{Val}
+use Rattle.plan_types.specs.declared.error.ErrorKind.TheVariants.{InvalidOperation}
 use Rattle.plan_types.specs.Schemas.{Columns}
 use Rattle.plan_types.specs.declared.dtype.DataType.{DataType}
 use Rattle.plan_types.specs.declared.dtype.CastOptions.{CastOptions}
 use Rattle.plan_types.specs.declared.dtype.CastOptions.TheVariants.{NonStrict}
-use Rattle.plan_dsl.specs.declared.operator.Operator.{Operator}
+use Rattle.plan_dsl.specs.declared.literal.LiteralValue.{LiteralValue}
 use Rattle.plan_dsl.specs.Registry.{Registry}
 use Rattle.plan_dsl.specs.Trees.{node, no_more, more}
-use Rattle.plan_dsl.specs.Ops.{Op, ColumnOp, BinaryOp, CastOp, Expression}
-use Rattle.plan_dsl.specs.Typing.{typing, then_typed, typed_before, typing_rule, some_many}
+use Rattle.plan_dsl.specs.Ops.{Op, ColumnOp, LiteralOp, BinaryOp, CastOp, Expression}
+use Rattle.plan_dsl.specs.Literals.{literal_op, literal_type, literal_value, is_literal}
+use Rattle.plan_dsl.specs.Typing.{Typed, Taken, operand_types, types_of, cast_taken, typed_as, typing, then_typed, typed_before, typing_rule, some_many}
+use Rattle.plan_dsl.proofs.TypingLemmas.{typed_parts}
+use Rattle.plan_dsl.proofs.LiteralLemmas.{typed_alone, literal_typing, cast_has_target, literal_type_is}
 use Rattle.plan_arena.specs.declared.arena.Node.{Node}
 use Rattle.plan_arena.specs.declared.aexpr.AExpr.{AExpr}
-use Rattle.plan_arena.specs.declared.aexpr.AExpr.TheVariants.{Column, BinaryExpr, Cast}
+use Rattle.plan_arena.specs.declared.aexpr.AExpr.TheVariants.{Column, Literal, BinaryExpr, Cast}
 use Rattle.plan_arena.specs.Denotation.{Denotes, DenotesTree, depth_at}
-use Rattle.plan_arena.specs.Layers.{layer, shape_of}
+use Rattle.plan_arena.specs.Layers.{layer, shape_of, inputs_of}
 use Rattle.plan_arena.specs.Items.{HoldsExpression, HoldsFrom, Grows, expression_layer}
 use Rattle.plan_arena.proofs.DenotationLemmas.{denotes_one, kept, same_or_other, inputs_denote}
-use Rattle.plan_arena.proofs.ItemLemmas.{expression_laws, from_laws, any_node, from_zero, got_held, expression_elsewhere, expression_written, expression_added, tree_grown, within}
+use Rattle.plan_arena.proofs.ItemLemmas.{held_top, expression_laws, from_laws, any_node, from_zero, got_held, expression_elsewhere, expression_written, expression_added, tree_grown, within}
 use Rattle.plan_lower.specs.declared.type_table.TypeTable.{TypeTable}
 use Rattle.plan_lower.specs.Coercion.{DenotesTyped, Visits}
-use Rattle.plan_lower.specs.KeptTypes.{Keeps, IsKept, Extends, IsKnown, by_table, by_cast, IsTypedNode, IsRight, HasRightTypes, first_node}
+use Rattle.plan_lower.specs.KeptTypes.{Keeps, IsKept, Extends, IsKnown, by_table, by_literal, by_cast, IsTypedNode, IsRight, HasRightTypes, first_node}
 use Rattle.plan_lower.specs.Typed.{HasType}
 use Rattle.plan_lower.proofs.CoercionLemmas.{grown_elsewhere, written_elsewhere}
 use Rattle.plan_lower.proofs.StackLemmas.{becomes, all_weaker, all_front, all_joined, all_last}
-use Rattle.plan_lower.proofs.TypingLemmas.{AllHaveType, cast_typed}
+use Rattle.plan_lower.proofs.TypingLemmas.{AllHaveType}
 
 layer_op : (a b : Op) (ms ns : List ℕ) → layer a ms ≡ layer b ns → a ≡ b
 layer_op a b ms ns e = cc
@@ -47,11 +53,18 @@ held_op items n a b ms ns h k = layer_op a b ms ns (some_same (slice_get (map ex
 held_inputs : (items : List AExpr) (n : ℕ) (a b : Op) (ms ns : List ℕ) → HoldsExpression items n a ms → HoldsExpression items n b ns → ms ≡ ns
 held_inputs items n a b ms ns h k = layer_inputs a b ms ns (some_same (slice_get (map expression_layer items) n) _ _ h k)
 
--- what is known stays where casts and kept types do
-known_stays : (items items' : List AExpr) (table table' : TypeTable) → ((n input : ℕ) (target : Ty) (options : CastOptions) → HoldsExpression items n (CastOp target options) (input ∷ []) → HoldsExpression items' n (CastOp target options) (input ∷ [])) → ((n : ℕ) → IsKept table n → IsKept table' n) → (n : ℕ) → IsKnown items table n → IsKnown items' table' n
-known_stays items items' table table' holds keeps n (by_table m k) = by_table m (keeps m k)
-known_stays items items' table table' holds keeps n (by_cast m input target options h k) =
-    by_cast m input target options (holds m input target options h) (known_stays items items' table table' holds keeps input k)
+-- what is known stays where literals, casts and kept types do
+known_stays : (items items' : List AExpr) (table table' : TypeTable) → ((n : ℕ) (type : Ty) (value : Val) → HoldsExpression items n (LiteralOp type value) [] → HoldsExpression items' n (LiteralOp type value) []) → ((n input : ℕ) (target : Ty) (options : CastOptions) → HoldsExpression items n (CastOp target options) (input ∷ []) → is_known target ≡ true → IsKnown items' table' input → IsKnown items' table' n) → ((n : ℕ) → IsKept table n → IsKept table' n) → (n : ℕ) → IsKnown items table n → IsKnown items' table' n
+known_stays items items' table table' literals casts keeps n (by_table m k) = by_table m (keeps m k)
+known_stays items items' table table' literals casts keeps n (by_literal m type value h literal known) =
+    by_literal m type value (literals m type value h) literal known
+known_stays items items' table table' literals casts keeps n (by_cast m input target options h known k) =
+    casts m input target options h known (known_stays items items' table table' literals casts keeps input k)
+
+-- where all items do
+known_same : (items items' : List AExpr) (table table' : TypeTable) → ((n : ℕ) (op : Op) (inputs : List ℕ) → HoldsExpression items n op inputs → HoldsExpression items' n op inputs) → ((n : ℕ) → IsKept table n → IsKept table' n) → (n : ℕ) → IsKnown items table n → IsKnown items' table' n
+known_same items items' table table' holds keeps =
+    known_stays items items' table table' (λ n type value h. holds n _ _ h) (λ n input target options h known k. by_cast n input target options (holds n _ _ h) known k) keeps
 
 -- a table keeps one type for a node
 keeps_one : (table : TypeTable) (n : ℕ) (a b : DataType) → Keeps table n a → Keeps table n b → a ≡ b
@@ -135,29 +148,39 @@ found_known items table n value (Some x) m e = by_table n (record { dtype = valu
 -- what is known stays as the arena grows
 pub known_grown : (old new : List AExpr) (table : TypeTable) → Grows old new → (n : ℕ) → IsKnown old table n → IsKnown new table n
 known_grown old new table g =
-    known_stays old new table table (λ n input target options h. grown_elsewhere old new g n _ _ h) (λ n k. k)
+    known_same old new table table (grown_elsewhere old new g) (λ n k. k)
 
 -- and as the table keeps more
 pub known_extended : (items : List AExpr) (old new : TypeTable) → Extends old new → (n : ℕ) → IsKnown items old n → IsKnown items new n
-known_extended items old new longer = known_stays items items old new (λ n input target options h. h) longer.kept
+known_extended items old new longer = known_same items items old new (λ n op inputs h. h) longer.kept
 
 -- what is held at the top of a tree
 top_held : (items : List AExpr) (n : ℕ) (t : Expression) → Denotes (HoldsExpression items) n t → (op : Op) × (inputs : List ℕ) × HoldsExpression items n op inputs
 top_held items n (node op ts) d = (op, d.0, d.1)
 
--- the type of a node that is no cast is known where it is kept
-pub known_kept : (items : List AExpr) (table : TypeTable) (n : ℕ) (op : Op) (inputs : List ℕ) → IsKnown items table n → HoldsExpression items n op inputs → ((target : Ty) (options : CastOptions) → op ≢ CastOp target options) → IsKept table n
-known_kept items table n op inputs (by_table m k) held other = k
-known_kept items table n op inputs (by_cast m input target options h k) held other =
-    absurd (other target options (held_op items m op (CastOp target options) inputs (input ∷ []) held h))
+-- the type of a node that is no cast, and no literal of some type, is known where it is kept
+pub known_kept : (items : List AExpr) (table : TypeTable) (n : ℕ) (op : Op) (inputs : List ℕ) → IsKnown items table n → HoldsExpression items n op inputs → ((type : Ty) (value : Val) → is_known type ≡ true → op ≢ LiteralOp type value) → ((target : Ty) (options : CastOptions) → op ≢ CastOp target options) → IsKept table n
+known_kept items table n op inputs (by_table m k) held literal cast = k
+known_kept items table n op inputs (by_literal m type value h is known) held literal cast =
+    absurd (literal type value known (held_op items m op (LiteralOp type value) inputs [] held h))
+known_kept items table n op inputs (by_cast m input target options h known k) held literal cast =
+    absurd (cast target options (held_op items m op (CastOp target options) inputs (input ∷ []) held h))
+
+same_literal : (a b : Ty) (v w : Val) → LiteralOp a v ≡ LiteralOp b w → a ≡ b
+same_literal a b v w e = cc
+
+unknown_type : (type other : Ty) → is_known type ≡ false → is_known other ≡ true → type ≡ other → ⊥
+unknown_type type other u k e = let same : is_known type ≡ is_known other = ap is_known e in cc
 
 -- such a node by its item
-pub got_kept : (items : List AExpr) (table : TypeTable) (n : ℕ) (item : AExpr) → slice_get items n ≡ Some item → ((input : Node) (dtype : DataType) (options : CastOptions) → item ≢ Cast input dtype options) → IsKnown items table n → IsKept table n
-got_kept items table n (Column name) got other k =
-    known_kept items table n (ColumnOp _) [] k (got_held items n (Column name) _ _ got refl) (λ target options e. cc)
-got_kept items table n (BinaryExpr left operator right) got other k =
-    known_kept items table n (BinaryOp operator) _ k (got_held items n (BinaryExpr left operator right) _ _ got refl) (λ target options e. cc)
-got_kept items table n (Cast input dtype options) got other k = absurd (other input dtype options refl)
+pub got_kept : (items : List AExpr) (table : TypeTable) (n : ℕ) (item : AExpr) → slice_get items n ≡ Some item → ((value : LiteralValue) → item ≡ Literal value → is_known (literal_type value) ≡ false) → ((input : Node) (dtype : DataType) (options : CastOptions) → item ≢ Cast input dtype options) → IsKnown items table n → IsKept table n
+got_kept items table n (Column name) got literal cast k =
+    known_kept items table n (ColumnOp _) [] k (got_held items n (Column name) _ _ got refl) (λ type value known e. cc) (λ target options e. cc)
+got_kept items table n (Literal value) got literal cast k =
+    known_kept items table n (literal_op value) [] k (got_held items n (Literal value) _ _ got refl) (λ type other known e. unknown_type (literal_type value) type (literal value refl) known (same_literal (literal_type value) type (literal_value value) other e)) (λ target options e. cc)
+got_kept items table n (BinaryExpr left operator right) got literal cast k =
+    known_kept items table n (BinaryOp operator) _ k (got_held items n (BinaryExpr left operator right) _ _ got refl) (λ type value known e. cc) (λ target options e. cc)
+got_kept items table n (Cast input dtype options) got literal cast k = absurd (cast input dtype options refl)
 
 module _ (registry : Registry) (schema : Columns) (items : List AExpr) (table : TypeTable) (right : IsRight registry schema items table) where
   -- a node whose type is known denotes a typed expression
@@ -165,19 +188,30 @@ module _ (registry : Registry) (schema : Columns) (items : List AExpr) (table : 
   known_typed n (by_table m k) =
       let e = right.each m k.dtype k.keeps in
       record { tree = e.tree; denotes = from_zero items m e.tree e.denotes; typed = record { type = ty k.dtype; many = e.typed.many }; is = e.typed.is }
-  known_typed n (by_cast m input target options h k) =
+  known_typed n (by_literal m type value h literal known) = record {
+    tree = node (LiteralOp type value) no_more;
+    denotes = ([], (zero-le, h), tt);
+    typed = record { type = type; many = false };
+    is = literal_typing registry schema type value literal;
+  }
+  known_typed n (by_cast m input target options h known k) =
       let d = known_typed input k in
+      let alone = typed_alone registry schema d.tree d.typed.type d.typed.many d.is in
       record {
         tree = node (CastOp target options) (more d.tree no_more);
         denotes = (input ∷ [], (zero-le, h), (d.denotes, tt));
         typed = record { type = target; many = some_many (d.typed ∷ []) };
-        is = ap (λ r. then_typed (typed_before r (Ok [])) (typing_rule registry schema (CastOp target options))) d.is;
+        is = ap (λ r. then_typed (typed_before r (Ok [])) (typing_rule registry schema (CastOp target options))) d.is
+        ∙ ap (λ o. typed_as (cast_taken target o) (some_many (d.typed ∷ []))) alone.1
+        ∙ ap (λ b. typed_as (cond b (Ok (record { operands = alone.0 ∷ []; type = target })) (Err InvalidOperation)) (some_many (d.typed ∷ []))) known;
       }
 
   -- the types of its inputs are known
   pub known_inputs : (n : ℕ) (op : Op) (inputs : List ℕ) → IsKnown items table n → HoldsExpression items n op inputs → AllByRecursion (IsKnown items table) inputs
   known_inputs n op inputs (by_table m k) held = (right.each m k.dtype k.keeps).inputs op inputs held
-  known_inputs n op inputs (by_cast m input target options h k) held =
+  known_inputs n op inputs (by_literal m type value h literal known) held =
+      subst (AllByRecursion (IsKnown items table)) (held_inputs items m (LiteralOp type value) op [] inputs h held) tt
+  known_inputs n op inputs (by_cast m input target options h known k) held =
       subst (AllByRecursion (IsKnown items table)) (held_inputs items m (CastOp target options) op (input ∷ []) inputs h held) (k, tt)
 
   -- each expression at the node has one type
@@ -193,11 +227,22 @@ module _ (registry : Registry) (schema : Columns) (items : List AExpr) (table : 
       let e = right.each n dtype k in
       subst (λ u. HasType (typing registry schema u) (ty dtype)) (denotes_one _ (HoldsExpression items) (expression_laws items) n e.tree t e.denotes d) e.typed
 
-  -- or a cast's target
+  -- or a cast's target, or a literal's own
+  item_type : (n : ℕ) (op : Op) (inputs : List ℕ) (type : Ty) → IsKnown items table n → HoldsExpression items n op inputs → ((types : List Ty) (taken : Taken) → operand_types schema op types ≡ Ok taken → type ≡ taken.type) → AllHaveType items registry schema n type
+  item_type n op inputs type k held own t d =
+      let e = known_type n k t d in
+      let top = held_top items n op inputs held t d in
+      let p = typed_parts registry schema op top.0 _ (ap (typing registry schema) (sym top.1) ∙ e.is) in
+      let same = own (types_of p.below) p.taken p.takes ∙ ap (λ (x : Typed). x.type) p.is in
+      record { many = e.many; is = e.is ∙ ap (λ x. Ok (record { type = x; many = e.many })) (sym same) }
+
   pub cast_type : (n input : ℕ) (target : Ty) (options : CastOptions) → IsKnown items table n → HoldsExpression items n (CastOp target options) (input ∷ []) → AllHaveType items registry schema n target
   cast_type n input target options k held =
-      let below = known_inputs n (CastOp target options) (input ∷ []) k held in
-      cast_typed items registry schema n target options input held _ (known_type input below.0)
+      item_type n (CastOp target options) (input ∷ []) target k held (λ types taken h. (cast_has_target schema target options types taken h).0)
+
+  pub literal_type_known : (n : ℕ) (type : Ty) (value : Val) → IsKnown items table n → HoldsExpression items n (LiteralOp type value) [] → AllHaveType items registry schema n type
+  literal_type_known n type value k held =
+      item_type n (LiteralOp type value) [] type k held (λ types taken h. literal_type_is schema type value types taken h)
 
 -- trees of nodes from a number on
 from_number : (first : ℕ) (items : List AExpr) (n : ℕ) (t : Expression) → Denotes (HoldsFrom first items) n t → first ≤ n
@@ -221,10 +266,16 @@ inputs_from first items n op inputs held d =
     inputs_denote _ (HoldsFrom first items) (from_laws first items) n op inputs (tree_from first items n d, held) d
 
 -- a cast that was added round a node whose type is known
-pub cast_known : (old new : List AExpr) (table : TypeTable) (input cast : Node) (target : DataType) → new ≡ old ++ Cast input target NonStrict ∷ [] → cast.0 ≡ length old → IsKnown old table input.0 → IsKnown new table cast.0
-cast_known old new table input cast target grown at k =
+pub cast_known : (old new : List AExpr) (table : TypeTable) (input cast : Node) (target : DataType) → new ≡ old ++ Cast input target NonStrict ∷ [] → cast.0 ≡ length old → is_known (ty target) ≡ true → IsKnown old table input.0 → IsKnown new table cast.0
+cast_known old new table input cast target grown at known k =
     let held : HoldsExpression new cast.0 (CastOp (ty target) NonStrict) (input.0 ∷ []) = rw (grown, at) (expression_added old (Cast input target NonStrict)) in
-    by_cast cast.0 input.0 (ty target) NonStrict held (known_grown old new table (record { added = Cast input target NonStrict ∷ []; longer = grown }) input.0 k)
+    by_cast cast.0 input.0 (ty target) NonStrict held known (known_grown old new table (record { added = Cast input target NonStrict ∷ []; longer = grown }) input.0 k)
+
+-- a literal of some type that was added
+pub literal_known : (old new : List AExpr) (table : TypeTable) (n : Node) (value : LiteralValue) → new ≡ old ++ Literal value ∷ [] → n.0 ≡ length old → is_literal (literal_type value) (literal_value value) ≡ true → is_known (literal_type value) ≡ true → IsKnown new table n.0
+literal_known old new table n value grown at literal known =
+    let held : HoldsExpression new n.0 (literal_op value) [] = rw (grown, at) (expression_added old (Literal value)) in
+    by_literal n.0 (literal_type value) (literal_value value) held literal known
 
 -- a typed node stays one where its tree becomes one that is typed alike, its item stays, and so does what is known
 node_stays : (registry : Registry) (schema : Columns) (items items' : List AExpr) (table table' : TypeTable) (n : ℕ) (type : Ty) (e : IsTypedNode registry schema items table n type) (w : Expression) → Denotes (HoldsExpression items') n w → typing registry schema w ≡ typing registry schema e.tree → ((op : Op) (inputs : List ℕ) → HoldsExpression items n op inputs → HoldsExpression items' n op inputs) → ((m : ℕ) → IsKnown items table m → IsKnown items' table' m) → IsTypedNode registry schema items' table' n type
@@ -257,14 +308,14 @@ pub right_same : (registry : Registry) (schema : Columns) (items : List AExpr) (
 right_same registry schema items old new same right = record {
   each = λ n dtype k.
       let e = right.each n dtype ((same n dtype).1 k) in
-      node_stays registry schema items items old new n (ty dtype) e e.tree e.denotes refl (λ op inputs h. h) (known_stays items items old new (λ n input target options h. h) (kept_same old new same));
+      node_stays registry schema items items old new n (ty dtype) e e.tree e.denotes refl (λ op inputs h. h) (known_same items items old new (λ n op inputs h. h) (kept_same old new same));
 }
 
 -- and where it keeps the type of one more node
 pub right_more : (registry : Registry) (schema : Columns) (items : List AExpr) (old new : TypeTable) (at : ℕ) (dtype : DataType) (op : Op) (inputs : List ℕ) → HoldsExpression items at op inputs → DenotesTree (HoldsExpression items) at → AllHaveType items registry schema at (ty dtype) → AllByRecursion (IsKnown items old) inputs → Keeps new at dtype → ((n : ℕ) (other : DataType) → n ≢ at → Keeps old n other ↔ Keeps new n other) → IsRight registry schema items old → IsRight registry schema items new
 right_more registry schema items old new at dtype op inputs held d typed known keeps others right =
     let stays = kept_more old new at dtype keeps others in
-    let knows = known_stays items items old new (λ n input target options h. h) stays in
+    let knows = known_same items items old new (λ n op inputs h. h) stays in
     let here : IsTypedNode registry schema items new at (ty dtype) = record {
       tree = d.tree;
       denotes = d.denotes;
@@ -312,32 +363,42 @@ right_written registry schema old new table at op inputs before d v elsewhere he
       (same_or_other n at);
 }
 
--- an operator that was written over operands with casts round them
-module _ (old mid new : List AExpr) (table : TypeTable) (at l r : ℕ) (left right : Node) (operator : Operator) (held : HoldsExpression old at (BinaryOp operator) (l ∷ r ∷ [])) (g1 : Grows old mid) (g2 : Grows mid new) where
-  before_write : HoldsExpression new at (BinaryOp operator) (l ∷ r ∷ [])
-  before_write = grown_elsewhere mid new g2 at _ _ (grown_elsewhere old mid g1 at _ _ held)
+node_within : (items : List AExpr) (n : ℕ) (op : Op) (inputs : List ℕ) → HoldsExpression items n op inputs → n < length items
+node_within items n op inputs h =
+    let short : length (shape_of (map expression_layer items)) ≡ length items = length-map (map expression_layer items) inputs_of ∙ length-map items expression_layer in
+    omega (arith, (expression_laws items).below n op inputs h, short)
 
-  known_over_write : (n : ℕ) → IsKnown new table n → IsKnown (set new at (BinaryExpr left operator right)) table n
-  known_over_write =
-      let written = set new at (BinaryExpr left operator right) in
-      known_stays new written table table
-      (λ n input target options h. expression_elsewhere new at (BinaryExpr left operator right) n _ _ (λ e.
-      let same = held_op new at (BinaryOp operator) (CastOp target options) (l ∷ r ∷ []) (input ∷ []) before_write (subst (λ m. HoldsExpression new m (CastOp target options) (input ∷ [])) e h) in
-      cc) h)
-      (λ n k. k)
+-- a node that was written anew, with its op over operands that were changed
+module _ (old new : List AExpr) (table : TypeTable) (at : ℕ) (op : Op) (ns ms : List ℕ) (item : AExpr) (is : expression_layer item ≡ layer op ms) (held : HoldsExpression old at op ns) (g : Grows old new) where
+  before_write : HoldsExpression new at op ns
+  before_write = grown_elsewhere old new g at _ _ held
 
-  pub known_over_casts : (n : ℕ) → IsKnown old table n → IsKnown (set new at (BinaryExpr left operator right)) table n
-  known_over_casts n k = known_over_write n (known_grown mid new table g2 n (known_grown old mid table g1 n k))
+  pub written_here : HoldsExpression (set new at item) at op ms
+  written_here = expression_written new at item (node_within new at op ns before_write) ∙ ap Some is
 
-  pub right_over_casts : (registry : Registry) (schema : Columns) → ((t : Expression) → Denotes (HoldsFrom 0 old) at t → Visits registry schema 0 (set new at (BinaryExpr left operator right)) at t) → IsKnown old table at → (IsKnown old table l → IsKnown mid table left.0) → (IsKnown mid table r → IsKnown new table right.0) → IsRight registry schema old table → IsRight registry schema (set new at (BinaryExpr left operator right)) table
-  right_over_casts registry schema visit known left_known right_known is =
-      let d = known_typed registry schema old table is at known in
-      let inputs = known_inputs registry schema old table is at (BinaryOp operator) (l ∷ r ∷ []) known held in
-      let known_left = known_over_write left.0 (known_grown mid new table g2 left.0 (left_known inputs.0)) in
-      let known_right = known_over_write right.0 (right_known (known_grown old mid table g1 r inputs.1.0)) in
-      let elsewhere = λ (n : ℕ) (op : Op) (inputs : List ℕ) (differs : n ≢ at) (h : HoldsExpression old n op inputs). written_elsewhere mid new at (BinaryExpr left operator right) g2 n op inputs differs (grown_elsewhere old mid g1 n op inputs h) in
-      let there : at < length new = within new at d.tree (any_node 0 new at d.tree (tree_grown 0 0 mid new zero-le g2 at d.tree (tree_grown 0 0 old mid zero-le g1 at d.tree d.denotes))) in
-      right_written registry schema old (set new at (BinaryExpr left operator right)) table at (BinaryOp operator) (left.0 ∷ right.0 ∷ []) d.tree d.denotes (visit d.tree d.denotes) elsewhere (expression_written new at (BinaryExpr left operator right) there) (known_left, (known_right, tt)) known_over_casts is
+  module _ (no_literal : (type : Ty) (value : Val) → op ≢ LiteralOp type value) (cast_here : (target : Ty) (options : CastOptions) → op ≡ CastOp target options → is_known target ≡ true → IsKnown (set new at item) table at) where
+    literal_over : (n : ℕ) (type : Ty) (value : Val) → HoldsExpression new n (LiteralOp type value) [] → HoldsExpression (set new at item) n (LiteralOp type value) []
+    literal_over n type value h =
+        expression_elsewhere new at item n _ _ (λ e. no_literal type value (held_op new at op (LiteralOp type value) ns [] before_write (subst (λ m. HoldsExpression new m (LiteralOp type value) []) e h))) h
+
+    cast_over : (n input : ℕ) (target : Ty) (options : CastOptions) → HoldsExpression new n (CastOp target options) (input ∷ []) → is_known target ≡ true → IsKnown (set new at item) table input → IsKnown (set new at item) table n
+    cast_over n input target options h known k = ⊎_elim
+        (λ e.
+        let same = held_op new at op (CastOp target options) ns (input ∷ []) before_write (subst (λ m. HoldsExpression new m (CastOp target options) (input ∷ [])) e h) in
+        subst (IsKnown (set new at item) table) (sym e) (cast_here target options same known))
+        (λ differs. by_cast n input target options (expression_elsewhere new at item n _ _ differs h) known k)
+        (same_or_other n at)
+
+    pub known_over : (n : ℕ) → IsKnown new table n → IsKnown (set new at item) table n
+    known_over = known_stays new (set new at item) table table literal_over cast_over (λ n k. k)
+
+    pub knows_over : (n : ℕ) → IsKnown old table n → IsKnown (set new at item) table n
+    knows_over n k = known_over n (known_grown old new table g n k)
+
+    pub right_over : (registry : Registry) (schema : Columns) → ((t : Expression) → Denotes (HoldsFrom 0 old) at t → Visits registry schema 0 (set new at item) at t) → IsKnown old table at → AllByRecursion (IsKnown (set new at item) table) ms → IsRight registry schema old table → IsRight registry schema (set new at item) table
+    right_over registry schema visit known below right =
+        let d = known_typed registry schema old table right at known in
+        right_written registry schema old (set new at item) table at op ms d.tree d.denotes (visit d.tree d.denotes) (λ n op inputs differs h. written_elsewhere old new at item g n op inputs differs h) written_here below knows_over right
 
 -- what is known of the nodes that wait, when the last was visited and its inputs took its place
 pub waiting_known : (items items' : List AExpr) (table : TypeTable) (at : ℕ) (rest stack : List ℕ) → AllByRecursion (IsKnown items table) (rest ++ at ∷ []) → ((n : ℕ) → IsKnown items table n → IsKnown items' table n) → HasRightTypes items' table → ((op : Op) (inputs : List ℕ) → HoldsExpression items' at op inputs → stack ≡ rest ++ inputs) → AllByRecursion (IsKnown items' table) stack

@@ -1,23 +1,23 @@
 -- The type of a node, from those of its inputs.
-use Rattle.std.proofs.Common.{◌≡◌, ℕ, Bool, true, List, [], ◌∷◌, Some, None, Result, Ok, Err, ap, ◌∙◌, ⊎_elim}
-use Rattle.plan_types.specs.Types.{Ty}
+use Rattle.std.proofs.Common.{◌≡◌, ℕ, Bool, true, false, cond, List, [], ◌∷◌, Option, Some, None, Result, Ok, Err, ap, ◌∙◌, ⊎_elim}
+use Rattle.plan_types.specs.Types.{Ty, is_known}
+use Rattle.plan_types.specs.Values.{Val}
 use Rattle.plan_types.specs.Schemas.{Columns, Name, type_at}
-use Rattle.plan_types.specs.Supertypes.{supertype}
-use Rattle.plan_types.specs.Errors.{IsMemoryOr}
+use Rattle.plan_types.specs.CommonTypes.{type_alone, common_type}
+use Rattle.plan_types.specs.Errors.{at_top, IsMemoryOr, IsRefusal, no_room, broken}
 use Rattle.plan_types.specs.declared.error.ErrorKind.{ErrorKind}
-use Rattle.plan_types.specs.declared.error.ErrorKind.TheVariants.{ColumnNotFound, SchemaMismatch}
+use Rattle.plan_types.specs.declared.error.ErrorKind.TheVariants.{ColumnNotFound, InvalidOperation}
 use Rattle.plan_types.specs.declared.error.PlanError.{PlanError}
 use Rattle.plan_types.specs.declared.dtype.CastOptions.{CastOptions}
 use Rattle.plan_dsl.specs.declared.operator.Operator.{Operator}
 use Rattle.plan_dsl.specs.Registry.{Registry}
 use Rattle.plan_dsl.specs.Trees.{node}
-use Rattle.plan_dsl.specs.Ops.{ColumnOp, BinaryOp, CastOp, Expression}
-use Rattle.plan_dsl.specs.Typing.{Typed, Taken, both_to, column_type, operator_types, typed_as, typing_rule, then_typed, typed_before, typing, some_many}
+use Rattle.plan_dsl.specs.Ops.{ColumnOp, LiteralOp, BinaryOp, CastOp, Expression}
+use Rattle.plan_dsl.specs.Typing.{Typed, Taken, both_to, column_type, literal_taken, cast_taken, operator_types, typed_as, typing_rule, then_typed, typed_before, typing, some_many}
 use Rattle.plan_arena.specs.declared.aexpr.AExpr.{AExpr}
 use Rattle.plan_arena.specs.Denotation.{Denotes}
 use Rattle.plan_arena.specs.Items.{HoldsExpression}
 use Rattle.plan_arena.proofs.ItemLemmas.{held_top, one_child, two_children, no_children}
-use Rattle.plan_types.specs.Errors.{IsRefusal, no_room, broken}
 use Rattle.plan_lower.specs.Typed.{HasType}
 
 -- a refusal below is one here, where the kinds are the same
@@ -26,9 +26,8 @@ refused_so from to error same (no_room e) = no_room e
 refused_so from to error same (broken kind e b) = broken kind e (same kind b)
 
 -- operands without a common type are refused
-pub mismatch : (operator : Operator) (left right : Ty) (error : PlanError) → IsMemoryOr SchemaMismatch (supertype left right ≡ None) error → IsRefusal (operator_types operator (left ∷ right ∷ [])) error
-mismatch operator left right error h =
-    ⊎_elim (λ e. no_room e) (λ p. broken SchemaMismatch p.0 (ap (both_to operator) p.1)) h
+pub mismatch : (operator : Operator) (left right : Ty) (error : PlanError) → IsRefusal (common_type left right) error → IsRefusal (operator_types operator (left ∷ right ∷ [])) error
+mismatch operator left right error h = refused_so _ _ error (λ kind e. ap (both_to operator) e) h
 
 module _ (items : List AExpr) (registry : Registry) (schema : Columns) where
   -- the expressions at a node have this type
@@ -52,13 +51,31 @@ module _ (items : List AExpr) (registry : Registry) (schema : Columns) (n : ℕ)
       let top = held_top items n (ColumnOp name) [] h t d in
       ap (typing registry schema) (top.1 ∙ ap (node (ColumnOp name)) (no_children (HoldsExpression items) top.0 top.2))
 
-  pub column_typed : (name : Name) (type : Ty) → HoldsExpression items n (ColumnOp name) [] → type_at schema name ≡ Some type → AllHaveType items registry schema n type
-  column_typed name type h e t d =
-      record { many = true; is = column_top name h t d ∙ ap (λ o. typed_as (column_type o) true) e }
+  pub column_typed : (name : Name) (type : Ty) → HoldsExpression items n (ColumnOp name) [] → type_at schema name ≡ Some type → is_known type ≡ true → AllHaveType items registry schema n type
+  column_typed name type h e known t d =
+      record { many = true; is = column_top name h t d ∙ ap (λ o. typed_as (column_type o) true) e ∙ ap (λ b. typed_as (cond b (Ok (record { operands = []; type = type })) (Err InvalidOperation)) true) known }
 
   pub column_refused : (name : Name) (error : PlanError) → HoldsExpression items n (ColumnOp name) [] → IsMemoryOr ColumnNotFound (type_at schema name ≡ None) error → AllRefused items registry schema n error
   column_refused name error h b t d =
       ⊎_elim (λ e. no_room e) (λ p. broken ColumnNotFound p.0 (column_top name h t d ∙ ap (λ o. typed_as (column_type o) true) p.1)) b
+
+  -- a column whose type isn't known is refused
+  pub column_unknown : (name : Name) (type : Ty) → HoldsExpression items n (ColumnOp name) [] → type_at schema name ≡ Some type → is_known type ≡ false → AllRefused items registry schema n (at_top InvalidOperation)
+  column_unknown name type h e unknown t d =
+      broken InvalidOperation refl (column_top name h t d ∙ ap (λ o. typed_as (column_type o) true) e ∙ ap (λ b. typed_as (cond b (Ok (record { operands = []; type = type })) (Err InvalidOperation)) true) unknown)
+
+  literal_top : (type : Ty) (value : Val) → HoldsExpression items n (LiteralOp type value) [] → (t : Expression) → Denotes (HoldsExpression items) n t → typing registry schema t ≡ typed_as (literal_taken type value) false
+  literal_top type value h t d =
+      let top = held_top items n (LiteralOp type value) [] h t d in
+      ap (typing registry schema) (top.1 ∙ ap (node (LiteralOp type value)) (no_children (HoldsExpression items) top.0 top.2))
+
+  pub literal_typed : (type : Ty) (value : Val) (found : Ty) → HoldsExpression items n (LiteralOp type value) [] → literal_taken type value ≡ Ok (record { operands = []; type = found }) → AllHaveType items registry schema n found
+  literal_typed type value found h taken t d =
+      record { many = false; is = literal_top type value h t d ∙ ap (λ o. typed_as o false) taken }
+
+  pub literal_refused : (type : Ty) (value : Val) (error : PlanError) → HoldsExpression items n (LiteralOp type value) [] → IsRefusal (literal_taken type value) error → AllRefused items registry schema n error
+  literal_refused type value error h refused t d =
+      refused_so _ _ error (λ kind e. literal_top type value h t d ∙ ap (λ o. typed_as o false) e) refused
 
   module _ (operator : Operator) (l r : ℕ) (h : HoldsExpression items n (BinaryOp operator) (l ∷ r ∷ [])) where
     binary_top : (t : Expression) → Denotes (HoldsExpression items) n t → (x y : Expression) × (typing registry schema t ≡ binary_typing items registry schema operator (typing registry schema x) (typing registry schema y)) × Denotes (HoldsExpression items) l x × Denotes (HoldsExpression items) r y
@@ -107,11 +124,23 @@ module _ (items : List AExpr) (registry : Registry) (schema : Columns) (n : ℕ)
         let one = one_child (HoldsExpression items) input top.0 top.2 in
         (one.0, ap (typing registry schema) (top.1 ∙ ap (node (CastOp target options)) one.1), one.2)
 
-    pub cast_typed : (from : Ty) → AllHaveType items registry schema input from → AllHaveType items registry schema n target
-    cast_typed from hi t d =
+    pub cast_typed : (from own : Ty) → AllHaveType items registry schema input from → type_alone from ≡ Some own → is_known target ≡ true → AllHaveType items registry schema n target
+    cast_typed from own hi alone known t d =
         let top = cast_top t d in
         let ti = hi top.0 top.2 in
-        record { many = some_many (record { type = from; many = ti.many } ∷ []); is = top.1 ∙ ap (cast_typing items registry schema target options) ti.is }
+        let many = some_many (record { type = from; many = ti.many } ∷ []) in
+        record { many = many; is = top.1 ∙ ap (cast_typing items registry schema target options) ti.is ∙ ap (λ o. typed_as (cast_taken target o) many) alone ∙ ap (λ b. typed_as (cond b (Ok (record { operands = own ∷ []; type = target })) (Err InvalidOperation)) many) known }
+
+    no_cast : (found : Option Ty) → is_known target ≡ false → cast_taken target found ≡ Err InvalidOperation
+    no_cast None unknown = refl
+    no_cast (Some own) unknown = ap (λ b. cond b (Ok (record { operands = own ∷ []; type = target })) (Err InvalidOperation)) unknown
+
+    -- a cast to a type that isn't known is refused
+    pub cast_unknown : (from : Ty) → AllHaveType items registry schema input from → is_known target ≡ false → AllRefused items registry schema n (at_top InvalidOperation)
+    cast_unknown from hi unknown t d =
+        let top = cast_top t d in
+        let ti = hi top.0 top.2 in
+        broken InvalidOperation refl (top.1 ∙ ap (cast_typing items registry schema target options) ti.is ∙ ap (λ o. typed_as o (some_many (record { type = from; many = ti.many } ∷ []))) (no_cast (type_alone from) unknown))
 
     pub cast_refused : (error : PlanError) → AllRefused items registry schema input error → AllRefused items registry schema n error
     cast_refused error refused t d =

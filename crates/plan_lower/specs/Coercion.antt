@@ -18,8 +18,8 @@ use Rattle.plan_arena.specs.declared.aexpr.AExpr.{AExpr}
 use Rattle.plan_arena.specs.Denotation.{Denotes, DenoteAll}
 use Rattle.plan_arena.specs.Items.{HoldsExpression, HoldsFrom}
 use Rattle.plan_lower.specs.declared.conversion.type_coercion.Change.{Change}
-use Rattle.plan_lower.specs.declared.conversion.type_coercion.Change.TheVariants.{Keep, Cast, Literal}
-use Rattle.plan_lower.specs.Typed.{HasType}
+use Rattle.plan_lower.specs.declared.conversion.type_coercion.Change.TheVariants.{Keep, CastTo, Become}
+use Rattle.plan_lower.specs.Typed.{HasType, HasKnownType}
 
 -- the node denotes a typed expression of nodes from that number on
 pub record DenotesTyped (registry : Registry) (schema : Columns) (first : ℕ) (items : List AExpr) (n : ℕ) : Type 0 where
@@ -27,6 +27,12 @@ pub record DenotesTyped (registry : Registry) (schema : Columns) (first : ℕ) (
   pub denotes : Denotes (HoldsFrom first items) n tree
   pub typed : Typed
   pub is : typing registry schema tree ≡ Ok typed
+
+-- the same, of a type of columns
+pub record DenotesKnown (registry : Registry) (schema : Columns) (first : ℕ) (items : List AExpr) (n : ℕ) : Type 0 where
+  pub tree : Expression
+  pub denotes : Denotes (HoldsFrom first items) n tree
+  pub has : HasKnownType (typing registry schema tree)
 
 -- items below the number stay
 abbrev pub KeepsBelow : ℕ → List AExpr → List AExpr → Type 0
@@ -52,26 +58,26 @@ pub record Visits (registry : Registry) (schema : Columns) (first : ℕ) (items 
 -- without a type
 abbrev pub IsChangeFor : Ty → Ty → Change → Type 0
 IsChangeFor from target Keep = same_type from target ≡ true
-IsChangeFor from target (Cast dtype) = (same_type from target ≡ false) × (is_known from ≡ true) × (ty dtype ≡ target)
-IsChangeFor from target (Literal value) =
+IsChangeFor from target (CastTo dtype) = (same_type from target ≡ false) × (is_known from ≡ true) × (ty dtype ≡ target) × (is_known target ≡ true)
+IsChangeFor from target (Become value) =
     (same_type from target ≡ false) × (number : ℤ) × (from ≡ Untyped number) × (literal_op value ≡ LiteralOp target (IntValue number)) × (is_literal (literal_type value) (literal_value value) ≡ true) × (is_known (literal_type value) ≡ true)
 
 -- an expression that is changed so
 abbrev pub changed_by : Change → Expression → Expression
 changed_by Keep tree = tree
-changed_by (Cast dtype) tree = node (CastOp (ty dtype) NonStrict) (more tree no_more)
-changed_by (Literal value) tree = node (literal_op value) no_more
+changed_by (CastTo dtype) tree = node (CastOp (ty dtype) NonStrict) (more tree no_more)
+changed_by (Become value) tree = node (literal_op value) no_more
 
--- a literal that takes the place of a number has a type
+-- a cast and a literal have a type of columns
 abbrev pub IsTypedChange : Change → Type 0
 IsTypedChange Keep = Unit {0}
-IsTypedChange (Cast dtype) = Unit {0}
-IsTypedChange (Literal value) = (is_literal (literal_type value) (literal_value value) ≡ true) × (is_known (literal_type value) ≡ true)
+IsTypedChange (CastTo dtype) = is_known (ty dtype) ≡ true
+IsTypedChange (Become value) = (is_literal (literal_type value) (literal_value value) ≡ true) × (is_known (literal_type value) ≡ true)
 
 abbrev pub is_kept : Change → Bool
 is_kept Keep = true
-is_kept (Cast dtype) = false
-is_kept (Literal value) = false
+is_kept (CastTo dtype) = false
+is_kept (Become value) = false
 
 -- what an operator's operands need
 pub record ChangesOperands (registry : Registry) (schema : Columns) (items : List AExpr) (left : ℕ) (operator : Operator) (right : ℕ) (left_change right_change : Change) : Type 0 where

@@ -41,7 +41,7 @@ pub record Extends (old new : TypeTable) : Type 0 where
 pub data IsKnown (items : List AExpr) (table : TypeTable) : ℕ → Type 0 where
   by_table : (n : ℕ) → IsKept table n → IsKnown items table n
   by_literal : (n : ℕ) (type : Ty) (value : Val) → HoldsExpression items n (LiteralOp type value) [] → is_literal type value ≡ true → is_known type ≡ true → IsKnown items table n
-  by_cast : (n input : ℕ) (target : Ty) (options : CastOptions) → HoldsExpression items n (CastOp target options) (input ∷ []) → IsKnown items table input → IsKnown items table n
+  by_cast : (n input : ℕ) (target : Ty) (options : CastOptions) → HoldsExpression items n (CastOp target options) (input ∷ []) → is_known target ≡ true → IsKnown items table input → IsKnown items table n
 
 -- the node denotes an expression of that type, and the types of its inputs are known
 pub record IsTypedNode (registry : Registry) (schema : Columns) (items : List AExpr) (table : TypeTable) (n : ℕ) (type : Ty) : Type 0 where

@@ -142,9 +142,9 @@ pub enum Change {
     /// It is of that type already.
     Keep,
     /// A cast to the type stands round it.
-    Cast(DataType),
+    CastTo(DataType),
     /// A number without a type becomes a literal of the type.
-    Literal(LiteralValue),
+    Become(LiteralValue),
 }
 
 // What is done to the operands.
@@ -188,10 +188,10 @@ fn needed_change(from: &DataType, target: DataType) -> Change
         return Change::Keep;
     }
     let DataType::Unknown(UnknownKind::Int(number)) = from else {
-        return Change::Cast(target);
+        return Change::CastTo(target);
     };
     match LiteralValue::of_number(&target, *number) {
-        Some(value) => Change::Literal(value),
+        Some(value) => Change::Become(value),
         None => unreachable!(),
     }
 }
@@ -208,7 +208,7 @@ fn change_to(node: Node, change: Change, arena: &mut Arena<AExpr>) -> Result<Nod
 {
     match change {
         Change::Keep => Ok(node),
-        Change::Cast(dtype) => {
+        Change::CastTo(dtype) => {
             let cast = arena.add(AExpr::Cast {
                 expr: node,
                 dtype,
@@ -216,7 +216,7 @@ fn change_to(node: Node, change: Change, arena: &mut Arena<AExpr>) -> Result<Nod
             })?;
             Ok(cast)
         }
-        Change::Literal(value) => {
+        Change::Become(value) => {
             let literal = arena.add(AExpr::Literal(value))?;
             Ok(literal)
         }
