@@ -1,13 +1,13 @@
--- What is built from scans and selects, and why a select isn't.
+-- What is built from scans, filters and selects, and why a filter or a select isn't.
 use Rattle.std.proofs.Common.{◌≡◌, ◌⊎◌, ℕ, List, [], ◌∷◌, ◌++◌, map, Bool, true, false, cond, is_some, Option, Some, None, Result, Ok, Err, refl, sym, ap, ◌∙◌, subst, ⊎_elim}
 use Rattle.std.specs.List.{AllByRecursion, Contains}
-use Rattle.plan_types.specs.Types.{Ty}
+use Rattle.plan_types.specs.Types.{Ty, Truth}
 use Rattle.plan_types.specs.Schemas.{Name, Columns, HasDistinctNames, repeats, names_of}
 use Rattle.plan_types.specs.Outcomes.{Outcome, Meets}
 use Rattle.plan_types.specs.Frames.{Row, Frame, IsFrameOf}
 use Rattle.plan_types.specs.Errors.{no_memory, at_top}
 use Rattle.plan_types.specs.declared.error.ErrorKind.{ErrorKind}
-use Rattle.plan_types.specs.declared.error.ErrorKind.TheVariants.{Duplicate, NoMemory}
+use Rattle.plan_types.specs.declared.error.ErrorKind.TheVariants.{Duplicate, InvalidOperation, NoMemory}
 use Rattle.plan_types.specs.declared.error.PlanError.{PlanError}
 use Rattle.plan_types.proofs.ListLemmas.{map-map}
 use Rattle.plan_types.proofs.SchemaLemmas.{test_from_distinct}
@@ -15,22 +15,23 @@ use Rattle.plan_dsl.specs.Registry.{Registry}
 use Rattle.plan_dsl.specs.Trees.{Tree, Trees, node, no_more, more}
 use Rattle.plan_dsl.specs.Ops.{Expression}
 use Rattle.plan_dsl.specs.Names.{name_of}
-use Rattle.plan_dsl.specs.Plans.{PlanOp, Plan, Named, named, scan_op, select_op, empty_table}
+use Rattle.plan_dsl.specs.Plans.{PlanOp, Plan, Named, named, scan_op, select_op, filter_op, empty_table}
 use Rattle.plan_dsl.specs.Typing.{Typed, typing}
 use Rattle.plan_dsl.specs.Meaning.{meaning}
 use Rattle.plan_dsl.specs.StrictRun.{strict_run}
 use Rattle.plan_dsl.specs.Strictness.{IsSame, IsStrict}
-use Rattle.plan_dsl.specs.PlanRules.{signatures, columns_of, select_kinds, where_unbroken, plan_rule, schema_of, schemas_of, broken_kinds, IsWellFormed, Breaks}
-use Rattle.plan_dsl.specs.PlanKernels.{Evaluated, selected}
+use Rattle.plan_dsl.specs.PlanRules.{signatures, columns_of, select_kinds, filter_kinds, where_unbroken, plan_rule, schema_of, schemas_of, broken_kinds, IsWellFormed, Breaks}
+use Rattle.plan_dsl.specs.PlanKernels.{Evaluated, selected, filtered}
 use Rattle.plan_dsl.specs.PlanMeaning.{by_meaning, source_meaning, FitsPlan}
-use Rattle.plan_dsl.proofs.KernelLemmas.{AgreeOn, selected_agrees}
+use Rattle.plan_dsl.proofs.KernelLemmas.{AgreeOn, selected_agrees, filtered_agrees}
 use Rattle.plan_dsl.proofs.RunLemmas.{strict_is_meaning}
-use Rattle.plan_dsl.proofs.RuleLemmas.{scan_schema, select_schema, select_refused_kind, select_repeated_name, broken_is_ill_formed}
+use Rattle.plan_dsl.proofs.RuleLemmas.{scan_schema, select_schema, select_refused_kind, select_repeated_name, filter_schema, filter_refused_kind, filter_other_type, broken_is_ill_formed}
 use Rattle.plan_arena.specs.Runs.{top_schema, by_running, plan_run, IsAccepted, IsStrictPlan, RunsSoundly}
 use Rattle.plan_arena.proofs.RunLemmas.{runs_soundly}
 use Rattle.plan_lower.specs.Outputs.{Lowered, IsLowered, lowered_named, lowered_column, over, lowered_select, SelectsTo}
 use Rattle.plan_lower.specs.Projection.{IsOutputRefusal, no_room, untyped, repeated, RefusesOne, IsProjectionRefusal, out_of_memory as no_space, refused}
-use Rattle.plan_lower.specs.Lowering.{IsBuilt, IsPlanRefusal, out_of_memory, broken, source_select}
+use Rattle.plan_lower.specs.Predicates.{FiltersBy, IsPredicateRefusal, without_room, without_type, of_other_type, lowered_filter}
+use Rattle.plan_lower.specs.Lowering.{IsBuilt, IsPlanRefusal, out_of_memory, broken, source_select, source_filter}
 
 abbrev output_name : Lowered → Name
 output_name o = name_of o.tree
@@ -132,6 +133,31 @@ module _ (registry : Registry) where
       let expressions = sym same_outputs ∙ ap (map named) selects.trees_are in
       subst (λ es. IsBuilt registry (node (select_op es []) (more source no_more)) (lowered_select outputs lowered)) expressions (built_over source lowered built outputs selects.each selects.distinct)
 
+  -- a filter by one output over what was built from its input
+  filter_over : (source lowered : Plan) → IsBuilt registry source lowered → (o : Lowered) → IsLowered registry (top_schema lowered) o → o.typed.type ≡ Truth → IsBuilt registry (source_filter o.tree source) (lowered_filter o lowered)
+  filter_over source lowered built o is truth =
+      let schema = top_schema lowered in
+      let there : schema_of registry (source_filter o.tree source) ≡ Some schema =
+      ap (λ s. plan_rule registry (filter_op (named o.tree)) (s ∷ [])) built.schema ∙ filter_schema registry schema (named o.tree) o.typed is.typed truth in
+      let here : schema_of registry (lowered_filter o lowered) ≡ Some schema =
+      ap (λ s. plan_rule registry (filter_op (lowered_named o)) (s ∷ [])) (accepted_schema lowered built.accepted)
+      ∙ filter_schema registry schema (lowered_named o) o.typed (is.same.typing ∙ is.typed) truth in
+      record {
+        well_formed = (ap is_some there, (built.well_formed, tt));
+        schema = there;
+        accepted = (here, (built.accepted, tt));
+        strict = ((is.strict, tt), (built.strict, tt));
+        fits = λ tables f. (tt, (built.fits tables f.1.0, tt));
+        same = λ tables f.
+            filtered_agrees (by_running registry) (by_meaning registry) (lowered_named o ∷ []) (named o.tree ∷ []) schema (plan_run registry tables lowered) (agree schema (o ∷ []) (is, tt)) (built_meets source lowered tables built f.1.0)
+            ∙ ap (λ input. filtered (by_meaning registry) (named o.tree ∷ []) input) (built.same tables f.1.0);
+      }
+
+  -- the same of a filter by an expression that becomes the output
+  pub filter_built : (source lowered : Plan) (tree : Expression) (output : Lowered) → IsBuilt registry source lowered → FiltersBy registry (top_schema lowered) tree output → IsBuilt registry (source_filter tree source) (lowered_filter output lowered)
+  filter_built source lowered tree output built filters =
+      subst (λ t. IsBuilt registry (source_filter t source) (lowered_filter output lowered)) filters.tree_is (filter_over source lowered built output filters.is filters.truth)
+
   kind_here : (source lowered : Plan) (trees : List Expression) (kind : ErrorKind) → IsBuilt registry source lowered → Contains (select_kinds (signatures registry (map named trees) (top_schema lowered))) kind → Breaks registry kind [] (source_select trees source)
   kind_here source lowered trees kind built h =
       subst (λ s. Contains (broken_kinds registry (select_op (map named trees) []) (s ∷ [])) kind) (sym built.schema) h
@@ -155,14 +181,26 @@ module _ (registry : Registry) where
   select_refused_at source lowered trees error built (refused r) =
       subst (λ ts. IsPlanRefusal registry (source_select ts source) error) (sym r.split) (output_refused source lowered r.front r.back r.tree r.before error built r.names r.refusal)
 
-  inner_refused : (source : Plan) (trees : List Expression) (inner error : PlanError) → IsPlanRefusal registry source inner → ¬ (inner.kind ≡ NoMemory) → error ≡ record { kind = inner.kind; place = 0 ∷ inner.place } → IsPlanRefusal registry (source_select trees source) error
-  inner_refused source trees inner error (out_of_memory e) other is = absurd (other (ap (λ (x : PlanError). x.kind) e))
-  inner_refused source trees inner error (broken breaks ill) other is =
-      let plan = source_select trees source in
+  filter_kind_here : (source lowered : Plan) (tree : Expression) (kind : ErrorKind) → IsBuilt registry source lowered → Contains (filter_kinds (signatures registry (named tree ∷ []) (top_schema lowered))) kind → Breaks registry kind [] (source_filter tree source)
+  filter_kind_here source lowered tree kind built h =
+      subst (λ s. Contains (broken_kinds registry (filter_op (named tree)) (s ∷ [])) kind) (sym built.schema) h
+
+  -- a filter's predicate is refused
+  pub filter_refused_at : (source lowered : Plan) (tree : Expression) (error : PlanError) → IsBuilt registry source lowered → IsPredicateRefusal registry (top_schema lowered) tree error → IsPlanRefusal registry (source_filter tree source) error
+  filter_refused_at source lowered tree error built (without_room e) = out_of_memory e
+  filter_refused_at source lowered tree error built (without_type kind e typing) =
+      refused_top (source_filter tree source) kind error e (filter_kind_here source lowered tree kind built (filter_refused_kind registry (top_schema lowered) (named tree) kind typing))
+  filter_refused_at source lowered tree error built (of_other_type typed e typing other) =
+      refused_top (source_filter tree source) InvalidOperation error e (filter_kind_here source lowered tree InvalidOperation built (filter_other_type registry (top_schema lowered) (named tree) typed typing other))
+
+  inner_refused : (source : Plan) (op : PlanOp Expression) (inner error : PlanError) → IsPlanRefusal registry source inner → ¬ (inner.kind ≡ NoMemory) → error ≡ record { kind = inner.kind; place = 0 ∷ inner.place } → IsPlanRefusal registry (node op (more source no_more)) error
+  inner_refused source op inner error (out_of_memory e) other is = absurd (other (ap (λ (x : PlanError). x.kind) e))
+  inner_refused source op inner error (broken breaks ill) other is =
+      let plan = node op (more source no_more) in
       let breaks' = subst (λ (x : PlanError). Breaks registry x.kind x.place plan) (sym is) breaks in
       broken breaks' (broken_is_ill_formed registry error.kind error.place plan breaks')
 
-  -- a select's input is refused
-  pub select_refused_below : (source : Plan) (trees : List Expression) (inner error : PlanError) → IsPlanRefusal registry source inner → (error ≡ no_memory) ⊎ (¬ (inner.kind ≡ NoMemory) × (error ≡ record { kind = inner.kind; place = 0 ∷ inner.place })) → IsPlanRefusal registry (source_select trees source) error
-  select_refused_below source trees inner error r below =
-      ⊎_elim (λ e. out_of_memory e) (λ e. inner_refused source trees inner error r e.0 e.1) below
+  -- the only input of a node is refused
+  pub refused_in_input : (source : Plan) (op : PlanOp Expression) (inner error : PlanError) → IsPlanRefusal registry source inner → (error ≡ no_memory) ⊎ (¬ (inner.kind ≡ NoMemory) × (error ≡ record { kind = inner.kind; place = 0 ∷ inner.place })) → IsPlanRefusal registry (node op (more source no_more)) error
+  refused_in_input source op inner error r below =
+      ⊎_elim (λ e. out_of_memory e) (λ e. inner_refused source op inner error r e.0 e.1) below

@@ -1,7 +1,5 @@
 -- Lowering of plans, node by node.
 use Rattle.std.proofs.Common.{◌≡◌, ◌⊎◌, ℕ, ◌<◌, List, [], ◌∷◌, ◌++◌, length, map, Option, Some, None, slice_get, refl, sym, ap, ◌∙◌, subst, arith, ⊎_elim, append_assoc}
-use Rattle.std.specs.Option.{option_map}
-use Rattle.std.proofs.lemmas.Option.{slice_get-map}
 use Rattle.plan_types.specs.Schemas.{Columns, columns, HasDistinctNames}
 use Rattle.plan_types.specs.declared.error.ErrorKind.TheVariants.{NoMemory}
 use Rattle.plan_types.specs.Errors.{no_memory}
@@ -9,21 +7,22 @@ use Rattle.plan_types.specs.declared.error.PlanError.{PlanError}
 use Rattle.plan_dsl.specs.Registry.{Registry}
 use Rattle.plan_dsl.specs.Trees.{Tree, Trees, node, no_more, more}
 use Rattle.plan_dsl.specs.Ops.{Op, Expression}
-use Rattle.plan_dsl.specs.Plans.{PlanOp, Plan, Named, scan_op, select_op, empty_table}
+use Rattle.plan_dsl.specs.Plans.{PlanOp, Plan, Named, scan_op, select_op, filter_op, empty_table}
 use Rattle.plan_arena.specs.declared.aexpr.AExpr.{AExpr}
 use Rattle.plan_arena.specs.declared.ir.IR.{IR}
 use Rattle.plan_arena.specs.declared.plan.IRPlan.{IRPlan}
-use Rattle.plan_arena.specs.Denotation.{Denotes, DenoteAll}
-use Rattle.plan_arena.specs.Layers.{Layer, layer, op_of}
-use Rattle.plan_arena.specs.Items.{HoldsExpression, HoldsPlan, DenoteNamed, Grows, plan_layer, recorded_schema}
+use Rattle.plan_arena.specs.Denotation.{Denotes, DenotesTree}
+use Rattle.plan_arena.specs.Layers.{layer}
+use Rattle.plan_arena.specs.Items.{HoldsExpression, HoldsPlan, DenotesItem, DenoteNamed, Grows, plan_layer}
 use Rattle.plan_arena.specs.Runs.{top_schema}
 use Rattle.plan_arena.proofs.DenotationLemmas.{denotes_one}
-use Rattle.plan_arena.proofs.ItemLemmas.{plan_added, plan_got, plan_stays, plan_tree_kept, plan_laws}
+use Rattle.plan_arena.proofs.ItemLemmas.{plan_added, plan_stays, plan_tree_kept, plan_laws, item_denotes}
 use Rattle.plan_arena.proofs.RunLemmas.{runs_soundly}
 use Rattle.plan_lower.specs.Outputs.{Lowered, lowered_named, lowered_column, over, lowered_select, SelectsTo, HasOutputs}
+use Rattle.plan_lower.specs.Predicates.{HasPredicate, IsPredicateRefusal, lowered_filter}
 use Rattle.plan_lower.specs.Projection.{IsProjectionRefusal}
-use Rattle.plan_lower.specs.Lowering.{source_select, IsBuilt, IsPlanRefusal, IsSelect, StandsFor, IsEmptyTableAt, IsTyped, IsSound, GivesSameFrame}
-use Rattle.plan_lower.proofs.BuiltLemmas.{scan_built, select_built, select_refused_at, select_refused_below}
+use Rattle.plan_lower.specs.Lowering.{source_select, source_filter, IsBuilt, IsPlanRefusal, IsSelect, IsFilter, StandsAt, StandsFor, IsEmptyTableAt, IsTyped, IsSound, GivesSameFrame}
+use Rattle.plan_lower.proofs.BuiltLemmas.{scan_built, select_built, select_refused_at, filter_built, filter_refused_at, refused_in_input}
 
 -- the empty table
 empty_denoted : (items : List AExpr) (plans : List IR) (n : ℕ) → IsEmptyTableAt plans n → Denotes (HoldsPlan items plans) n empty_table
@@ -57,64 +56,91 @@ select_added registry items items' plans mid new item n input below trees nodes 
       denotes = (below ∷ [], record { flat = select_op nodes schema; item = held; denotes = record { same_kind = refl; same_schema = h.columns_are; named = h.denotes } }, (child, tt));
     }
 
-some_same : {A : Type 0} (x y : A) (o : Option A) → o ≡ Some x → o ≡ Some y → x ≡ y
-some_same x y o p q = cc
+-- a filter that was added over its input
+pub filter_added : (registry : Registry) (items items' : List AExpr) (plans new : List IR) (item : IR) (n input keeper : ℕ) (tree : Expression) (predicate : Named ℕ) (t : Plan) → ((k : ℕ) (op : Op) (inputs : List ℕ) → HoldsExpression items k op inputs → HoldsExpression items' k op inputs) → HasPredicate registry (top_schema t) items' tree predicate → new ≡ plans ++ item ∷ [] → n ≡ length plans → plan_layer item ≡ layer (filter_op predicate) (input ∷ []) → StandsAt items plans input keeper t → IsFilter registry items' new n keeper tree t
+filter_added registry items items' plans new item n input keeper tree predicate t keeps h grown at is s =
+    let g : Grows plans new = record { added = item ∷ []; longer = grown } in
+    let held : slice_get (map plan_layer new) n ≡ Some (layer (filter_op predicate) (input ∷ [])) = rw (grown, at) (plan_added plans item ∙ ap Some is) in
+    record {
+      output = h.output;
+      filters = h.filters;
+      stands = record {
+        denotes = (input ∷ [], record { flat = filter_op predicate; item = held; denotes = record { same_kind = refl; same_schema = refl; named = h.denotes } }, (plan_tree_kept items items' plans new keeps g input t s.denotes, tt));
+        kept = s.kept;
+        kept_denotes = plan_tree_kept items items' plans new keeps g keeper s.kept s.kept_denotes;
+        same_schema = s.same_schema;
+      };
+    }
 
-found_schema : (o : Option IR) (flat : PlanOp ℕ) (inputs : List ℕ) (cols : Columns) → option_map plan_layer o ≡ Some (layer flat inputs) → ((item : IR) → o ≡ Some item → cols ≡ recorded_schema item) → cols ≡ flat.schema
-found_schema None flat inputs cols e h = cc
-found_schema (Some item) flat inputs cols e h =
-    h item refl ∙ ap (λ (l : Layer (PlanOp ℕ)). (op_of l).schema) (some_same (plan_layer item) (layer flat inputs) (Some (plan_layer item)) refl e)
+-- the schema that is lent from a keeper is that of the plan for which it stands
+pub schema_kept : (items : List AExpr) (plans : List IR) (n keeper : ℕ) (t : Plan) (item : IR) (cols : Columns) → StandsAt items plans n keeper t → slice_get plans keeper ≡ Some item → ((expressions : List AExpr) (p : Plan) → DenotesItem expressions plans item p → cols ≡ top_schema p) → cols ≡ top_schema t
+schema_kept items plans n keeper t item cols s got lent =
+    lent items s.kept (item_denotes items plans keeper item got s.kept s.kept_denotes) ∙ s.same_schema
 
--- the schema that a node's item records is that of the plan that it stands for
-pub schema_is : (items : List AExpr) (plans : List IR) (n : ℕ) (t : Plan) (cols : Columns) → Denotes (HoldsPlan items plans) n t → ((item : IR) → slice_get plans n ≡ Some item → cols ≡ recorded_schema item) → cols ≡ top_schema t
-schema_is items plans n (node op ts) cols d h =
-    found_schema (slice_get plans n) d.1.flat d.0 cols (sym (slice_get-map plan_layer plans n) ∙ d.1.item) h ∙ d.1.denotes.same_schema
+-- a node at which its own schema is kept
+own_keeper : (items : List AExpr) (plans : List IR) (n : ℕ) (t : Plan) → Denotes (HoldsPlan items plans) n t → StandsAt items plans n n t
+own_keeper items plans n t d = record { denotes = d; kept = t; kept_denotes = d; same_schema = refl }
 
 module _ (registry : Registry) where
   -- a scan that was added
-  pub scan_stands : (items : List AExpr) (plans : List IR) (n : ℕ) (table : Option ℕ) (schema : Columns) (plan : Plan) → slice_get (map plan_layer plans) n ≡ Some (layer (scan_op table schema) []) → HasDistinctNames schema → plan ≡ node (scan_op table schema) no_more → StandsFor registry items plans n plan
+  pub scan_stands : (items : List AExpr) (plans : List IR) (n : ℕ) (table : Option ℕ) (schema : Columns) (plan : Plan) → slice_get (map plan_layer plans) n ≡ Some (layer (scan_op table schema) []) → HasDistinctNames schema → plan ≡ node (scan_op table schema) no_more → StandsFor registry items plans n n plan
   scan_stands items plans n table schema plan held distinct same =
       record {
         lowered = node (scan_op table schema) no_more;
-        denotes = ([], record { flat = scan_op table schema; item = held; denotes = record { same_kind = refl; same_schema = refl; named = tt } }, tt);
+        stands = own_keeper items plans n (node (scan_op table schema) no_more) ([], record { flat = scan_op table schema; item = held; denotes = record { same_kind = refl; same_schema = refl; named = tt } }, tt);
         built = subst (λ p. IsBuilt registry p (node (scan_op table schema) no_more)) (sym same) (scan_built registry table schema distinct);
       }
 
   -- a select over what its input becomes
-  pub select_stands : (items items' : List AExpr) (plans new : List IR) (input n : ℕ) (trees : List Expression) (source plan : Plan) → (s : StandsFor registry items plans input source) → ((t : Plan) → Denotes (HoldsPlan items plans) input t → IsSelect registry items' new n trees t) → plan ≡ source_select trees source → StandsFor registry items' new n plan
-  select_stands items items' plans new input n trees source plan s select same =
-      let is = select s.lowered s.denotes in
+  pub select_stands : (items items' : List AExpr) (plans new : List IR) (input keeper n : ℕ) (trees : List Expression) (source plan : Plan) → (s : StandsFor registry items plans input keeper source) → ((t : Plan) → StandsAt items plans input keeper t → IsSelect registry items' new n trees t) → plan ≡ source_select trees source → StandsFor registry items' new n n plan
+  select_stands items items' plans new input keeper n trees source plan s select same =
+      let is = select s.lowered s.stands in
       record {
         lowered = lowered_select is.outputs s.lowered;
-        denotes = is.denotes;
+        stands = own_keeper items' new n (lowered_select is.outputs s.lowered) is.denotes;
         built = subst (λ p. IsBuilt registry p (lowered_select is.outputs s.lowered)) (sym same) (select_built registry source s.lowered trees is.outputs s.built is.selects);
       }
 
   -- a refusal of one of a select's expressions
-  pub select_refused : (items : List AExpr) (plans : List IR) (input : ℕ) (trees : List Expression) (source plan : Plan) (error : PlanError) → (s : StandsFor registry items plans input source) → ((t : Plan) → Denotes (HoldsPlan items plans) input t → IsProjectionRefusal registry (top_schema t) trees error) → plan ≡ source_select trees source → IsPlanRefusal registry plan error
-  select_refused items plans input trees source plan error s r same =
-      subst (λ p. IsPlanRefusal registry p error) (sym same) (select_refused_at registry source s.lowered trees error s.built (r s.lowered s.denotes))
+  pub select_refused : (items : List AExpr) (plans : List IR) (input keeper : ℕ) (trees : List Expression) (source plan : Plan) (error : PlanError) → (s : StandsFor registry items plans input keeper source) → ((t : Plan) → StandsAt items plans input keeper t → IsProjectionRefusal registry (top_schema t) trees error) → plan ≡ source_select trees source → IsPlanRefusal registry plan error
+  select_refused items plans input keeper trees source plan error s r same =
+      subst (λ p. IsPlanRefusal registry p error) (sym same) (select_refused_at registry source s.lowered trees error s.built (r s.lowered s.stands))
 
-  -- a refusal of a select's input
-  pub refused_below : (trees : List Expression) (source plan : Plan) (inner error : PlanError) → IsPlanRefusal registry source inner → (error ≡ no_memory) ⊎ (¬ (inner.kind ≡ NoMemory) × (error ≡ record { kind = inner.kind; place = 0 ∷ inner.place })) → plan ≡ source_select trees source → IsPlanRefusal registry plan error
-  refused_below trees source plan inner error r below same =
-      subst (λ p. IsPlanRefusal registry p error) (sym same) (select_refused_below registry source trees inner error r below)
+  -- a filter over what its input becomes
+  pub filter_stands : (items items' : List AExpr) (plans new : List IR) (input keeper n : ℕ) (tree : Expression) (source plan : Plan) → (s : StandsFor registry items plans input keeper source) → ((t : Plan) → StandsAt items plans input keeper t → IsFilter registry items' new n keeper tree t) → plan ≡ source_filter tree source → StandsFor registry items' new n keeper plan
+  filter_stands items items' plans new input keeper n tree source plan s filter same =
+      let is = filter s.lowered s.stands in
+      record {
+        lowered = lowered_filter is.output s.lowered;
+        stands = is.stands;
+        built = subst (λ p. IsBuilt registry p (lowered_filter is.output s.lowered)) (sym same) (filter_built registry source s.lowered tree is.output s.built is.filters);
+      }
+
+  -- a refusal of a filter's predicate
+  pub filter_refused : (items : List AExpr) (plans : List IR) (input keeper : ℕ) (tree : Expression) (source plan : Plan) (error : PlanError) → (s : StandsFor registry items plans input keeper source) → ((t : Plan) → StandsAt items plans input keeper t → IsPredicateRefusal registry (top_schema t) tree error) → plan ≡ source_filter tree source → IsPlanRefusal registry plan error
+  filter_refused items plans input keeper tree source plan error s r same =
+      subst (λ p. IsPlanRefusal registry p error) (sym same) (filter_refused_at registry source s.lowered tree error s.built (r s.lowered s.stands))
+
+  -- a refusal of a node's only input
+  pub refused_below : (op : PlanOp Expression) (source plan : Plan) (inner error : PlanError) → IsPlanRefusal registry source inner → (error ≡ no_memory) ⊎ (¬ (inner.kind ≡ NoMemory) × (error ≡ record { kind = inner.kind; place = 0 ∷ inner.place })) → plan ≡ node op (more source no_more) → IsPlanRefusal registry plan error
+  refused_below op source plan inner error r below same =
+      subst (λ p. IsPlanRefusal registry p error) (sym same) (refused_in_input registry source op inner error r below)
 
   -- what a node that stands for a plan denotes was built from the plan
-  built_one : (items : List AExpr) (plans : List IR) (n : ℕ) (plan tree : Plan) → StandsFor registry items plans n plan → Denotes (HoldsPlan items plans) n tree → IsBuilt registry plan tree
-  built_one items plans n plan tree s d =
-      subst (IsBuilt registry plan) (denotes_one _ (HoldsPlan items plans) (plan_laws items plans) n s.lowered tree s.denotes d) s.built
+  built_one : (items : List AExpr) (plans : List IR) (n keeper : ℕ) (plan tree : Plan) → StandsFor registry items plans n keeper plan → Denotes (HoldsPlan items plans) n tree → IsBuilt registry plan tree
+  built_one items plans n keeper plan tree s d =
+      subst (IsBuilt registry plan) (denotes_one _ (HoldsPlan items plans) (plan_laws items plans) n s.lowered tree s.stands.denotes d) s.built
 
-  pub stands_typed : (lowering : IRPlan) (plan : Plan) → StandsFor registry lowering.expr_arena lowering.lp_arena lowering.lp_top.0 plan → IsTyped registry plan lowering
-  stands_typed lowering plan s =
-      record { tree = s.lowered; denotes = s.denotes; accepted = s.built.accepted; strict = s.built.strict; schema = s.built.schema }
+  pub stands_typed : (lowering : IRPlan) (keeper : ℕ) (plan : Plan) → StandsFor registry lowering.expr_arena lowering.lp_arena lowering.lp_top.0 keeper plan → IsTyped registry plan lowering
+  stands_typed lowering keeper plan s =
+      record { tree = s.lowered; denotes = s.stands.denotes; accepted = s.built.accepted; strict = s.built.strict; schema = s.built.schema }
 
-  pub stands_sound : (lowering : IRPlan) (plan : Plan) → StandsFor registry lowering.expr_arena lowering.lp_arena lowering.lp_top.0 plan → IsSound registry plan lowering
-  stands_sound lowering plan s tree d tables fits =
-      let built = built_one lowering.expr_arena lowering.lp_arena lowering.lp_top.0 plan tree s d in
+  pub stands_sound : (lowering : IRPlan) (keeper : ℕ) (plan : Plan) → StandsFor registry lowering.expr_arena lowering.lp_arena lowering.lp_top.0 keeper plan → IsSound registry plan lowering
+  stands_sound lowering keeper plan s tree d tables fits =
+      let built = built_one lowering.expr_arena lowering.lp_arena lowering.lp_top.0 keeper plan tree s d in
       runs_soundly registry tables tree built.accepted built.strict (built.fits tables fits)
 
-  pub stands_same : (lowering : IRPlan) (plan : Plan) → StandsFor registry lowering.expr_arena lowering.lp_arena lowering.lp_top.0 plan → GivesSameFrame registry plan lowering
-  stands_same lowering plan s tree d tables fits =
-      let built = built_one lowering.expr_arena lowering.lp_arena lowering.lp_top.0 plan tree s d in
+  pub stands_same : (lowering : IRPlan) (keeper : ℕ) (plan : Plan) → StandsFor registry lowering.expr_arena lowering.lp_arena lowering.lp_top.0 keeper plan → GivesSameFrame registry plan lowering
+  stands_same lowering keeper plan s tree d tables fits =
+      let built = built_one lowering.expr_arena lowering.lp_arena lowering.lp_top.0 keeper plan tree s d in
       built.same tables fits

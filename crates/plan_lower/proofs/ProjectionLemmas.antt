@@ -1,10 +1,12 @@
 -- Projections, output by output.
-use Rattle.std.proofs.Common.{◌≡◌, ℕ, ◌≤◌, List, [], ◌∷◌, ◌++◌, length, map, Option, Some, None, false, is_some, refl, sym, ap, ◌∙◌, subst, arith, append_assoc, append-nil}
+use Rattle.std.proofs.Common.{◌≡◌, ℕ, ◌≤◌, List, [], ◌∷◌, ◌++◌, length, map, Option, Some, None, Bool, true, false, not, is_some, refl, sym, ap, ◌∙◌, subst, arith, append_assoc, append-nil}
 use Rattle.std.specs.List.{AllByRecursion}
 use Rattle.std.proofs.lemmas.List.{map-append, length-map}
 use Rattle.plan_types.proofs.ListLemmas.{map-map}
-use Rattle.plan_types.specs.Types.{Ty}
+use Rattle.plan_types.specs.Types.{Ty, Truth, same_type}
 use Rattle.plan_types.specs.Schemas.{Name, Columns, type_at, with_column, HasDistinctNames}
+use Rattle.plan_types.specs.Errors.{at_top}
+use Rattle.plan_types.specs.declared.error.ErrorKind.TheVariants.{InvalidOperation}
 use Rattle.plan_types.specs.declared.error.PlanError.{PlanError}
 use Rattle.plan_types.proofs.SchemaLemmas.{with_column-new, HasDistinctNames-push}
 use Rattle.plan_dsl.specs.Registry.{Registry}
@@ -28,7 +30,8 @@ use Rattle.plan_lower.proofs.CoercionLemmas.{grown_elsewhere}
 use Rattle.plan_lower.proofs.StackLemmas.{all_weaker, all_joined}
 use Rattle.plan_lower.proofs.TableLemmas.{known_grown, known_extended}
 use Rattle.plan_types.specs.Errors.{IsRefusal, no_room as short, broken}
-use Rattle.plan_lower.specs.Typed.{HasType}
+use Rattle.plan_lower.specs.Typed.{HasType, IsRefusal, no_room as short, broken}
+use Rattle.plan_lower.specs.Predicates.{HasPredicate, IsPredicateRefusal, without_room, without_type, of_other_type}
 use Rattle.plan_lower.specs.Projection.{Output, output_node, output_column, IsOutput, Projects, AddsOutput, IsOutputRefusal, no_room, untyped, IsProjectionRefusal, refused}
 
 pub refused_output : (registry : Registry) (schema : Columns) (tree : Expression) (before : Columns) (error : PlanError) → IsRefusal (typing registry schema tree) error → IsOutputRefusal registry schema tree before error
@@ -152,19 +155,28 @@ record HasLowered (registry : Registry) (schema : Columns) (items : List AExpr) 
   each : AllByRecursion (IsLowered registry schema) lowered
   denotes : DenoteNamed items (map output_node outputs) (map lowered_named lowered)
 
+-- what stands for one output after coercion
+lowered_as : (registry : Registry) (schema : Columns) (first : ℕ) (old new : List AExpr) → ((n : ℕ) (t : Expression) → Denotes (HoldsFrom first old) n t → DenotesSame registry schema first new n t) → (o : Output) → IsOutput registry schema first old o → ((t : Expression) × Denotes (HoldsFrom first new) o.node t × IsStrict registry schema t) → (after : Expression) × IsLowered registry schema (record { tree = o.tree; typed = o.typed; after = after }) × Denotes (HoldsExpression new) o.node after
+lowered_as registry schema first old new become o is strict =
+    let same = become o.node o.tree is.denotes in
+    let one = denotes_one _ (HoldsFrom first new) (from_laws first new) o.node strict.0 same.tree strict.1 same.denotes in (
+      same.tree,
+      record { typed = is.typed; same = same.same; strict = subst (IsStrict registry schema) one strict.2 },
+      any_node first new o.node same.tree same.denotes,
+    )
+
 has_lowered : (registry : Registry) (schema : Columns) (first : ℕ) (old new : List AExpr) → ((n : ℕ) (t : Expression) → Denotes (HoldsFrom first old) n t → DenotesSame registry schema first new n t) → (outputs : List Output) → AllByRecursion (IsOutput registry schema first old) outputs → AllByRecursion (λ n. (t : Expression) × Denotes (HoldsFrom first new) n t × IsStrict registry schema t) (map (λ (o : Output). o.node) outputs) → HasLowered registry schema new outputs
 has_lowered registry schema first old new become [] all strict = record { lowered = []; trees_are = refl; columns_are = refl; each = tt; denotes = tt }
 has_lowered registry schema first old new become (o ∷ os) all strict =
-    let same = become o.node o.tree all.0.denotes in
-    let one = denotes_one _ (HoldsFrom first new) (from_laws first new) o.node strict.0.0 same.tree strict.0.1 same.denotes in
+    let here = lowered_as registry schema first old new become o all.0 strict.0 in
     let rest = has_lowered registry schema first old new become os all.1 strict.1 in
-    let l : Lowered = record { tree = o.tree; typed = o.typed; after = same.tree } in
+    let l : Lowered = record { tree = o.tree; typed = o.typed; after = here.0 } in
     record {
       lowered = l ∷ rest.lowered;
       trees_are = ap (λ ts. o.tree ∷ ts) rest.trees_are;
       columns_are = ap (λ cs. output_column o ∷ cs) rest.columns_are;
-      each = (record { typed = all.0.typed; same = same.same; strict = subst (IsStrict registry schema) one strict.0.2 }, rest.each);
-      denotes = (refl, any_node first new o.node same.tree same.denotes, rest.denotes);
+      each = (here.1, rest.each);
+      denotes = (refl, here.2, rest.denotes);
     }
 
 -- a projection that was coerced
@@ -178,6 +190,43 @@ has_outputs registry schema first old new trees nodes columns p coerced =
       denotes = subst (λ ns. DenoteNamed new ns (map lowered_named h.lowered)) p.nodes_are h.denotes;
       columns_are = columns_are;
     }
+
+-- one output that has a type
+pub one_output : (registry : Registry) (schema : Columns) (first : ℕ) (items : List AExpr) (tree : Expression) (n asked : ℕ) (type : Ty) → Denotes (HoldsFrom first items) n tree → asked ≡ n → ((t : Expression) → Denotes (HoldsExpression items) asked t → HasType (typing registry schema t) type) → (many : Bool) × IsOutput registry schema first items (record { tree = tree; node = n; typed = record { type = type; many = many } })
+one_output registry schema first items tree n asked type d at typed =
+    let has = typed tree (subst (λ k. Denotes (HoldsExpression items) k tree) (sym at) (any_node first items n tree d)) in
+    (has.many, record { denotes = d; typed = has.is })
+
+-- a predicate of the type of truth values that was coerced
+pub has_predicate : (registry : Registry) (schema : Columns) (first : ℕ) (old new : List AExpr) (o : Output) (node : Named ℕ) → IsOutput registry schema first old o → o.typed.type ≡ Truth → node.name ≡ name_of o.tree → node.expression ≡ o.node → IsCoerced registry schema first old new (o.node ∷ []) → HasPredicate registry schema new o.tree node
+has_predicate registry schema first old new o node is truth name at coerced =
+    let here = lowered_as registry schema first old new coerced.trees o is coerced.strict.0 in
+    record {
+      output = record { tree = o.tree; typed = o.typed; after = here.0 };
+      filters = record { tree_is = refl; is = here.1; truth = truth };
+      denotes = (name, subst (λ k. Denotes (HoldsExpression new) k here.0) (sym at) here.2, tt);
+    }
+
+-- the root is a typed output
+pub root_typed : (registry : Registry) (schema : Columns) (first : ℕ) (items : List AExpr) (o : Output) (roots : List ℕ) → IsOutput registry schema first items o → roots ≡ o.node ∷ [] → AllByRecursion (DenotesTyped registry schema first items) roots
+root_typed registry schema first items o roots is at =
+    subst (AllByRecursion (DenotesTyped registry schema first items)) (sym at) (record { tree = o.tree; denotes = is.denotes; typed = o.typed; is = is.typed }, tt)
+
+pub refused_predicate : (registry : Registry) (schema : Columns) (tree : Expression) (error : PlanError) → IsRefusal (typing registry schema tree) error → IsPredicateRefusal registry schema tree error
+refused_predicate registry schema tree error (short e) = without_room e
+refused_predicate registry schema tree error (broken kind e b) = without_type kind e b
+
+-- a typed expression of another type than that of truth values is no predicate
+pub other_type_refused : (registry : Registry) (schema : Columns) (first : ℕ) (items : List AExpr) (o : Output) (error : PlanError) → IsOutput registry schema first items o → same_type o.typed.type Truth ≡ false → error ≡ at_top InvalidOperation → IsPredicateRefusal registry schema o.tree error
+other_type_refused registry schema first items o error is other e = of_other_type o.typed e is.typed other
+
+pub not_true : (b : Bool) → not b ≡ true → b ≡ false
+not_true true h = cc
+not_true false h = refl
+
+pub not_false : (b : Bool) → not b ≡ false → b ≡ true
+not_false true h = refl
+not_false false h = cc
 
 -- earlier items stay
 pub earlier_kept : (old mid new : List AExpr) → Grows old mid → KeepsBelow (length old) mid new → (n : ℕ) (op : Op) (inputs : List ℕ) → HoldsExpression old n op inputs → HoldsExpression new n op inputs

@@ -9,7 +9,7 @@ use Rattle.plan_types.specs.declared.error.PlanError.{PlanError}
 use Rattle.plan_dsl.specs.Registry.{Registry}
 use Rattle.plan_dsl.specs.Trees.{node, no_more, more}
 use Rattle.plan_dsl.specs.Ops.{Expression}
-use Rattle.plan_dsl.specs.Plans.{Plan, PlanOp, named, scan_op, select_op}
+use Rattle.plan_dsl.specs.Plans.{Plan, PlanOp, named, scan_op, select_op, filter_op}
 use Rattle.plan_dsl.specs.PlanRules.{schema_of, IsWellFormed, Breaks}
 use Rattle.plan_dsl.specs.PlanMeaning.{source_meaning, FitsPlan}
 use Rattle.plan_arena.specs.declared.aexpr.AExpr.{AExpr}
@@ -20,6 +20,7 @@ use Rattle.plan_arena.specs.Layers.{layer}
 use Rattle.plan_arena.specs.Items.{HoldsPlan, DenotesPlan, plan_layer}
 use Rattle.plan_arena.specs.Runs.{top_schema, IsAccepted, IsStrictPlan, plan_run, RunsSoundly}
 use Rattle.plan_lower.specs.Outputs.{Lowered, SelectsTo, lowered_select}
+use Rattle.plan_lower.specs.Predicates.{FiltersBy, lowered_filter}
 
 -- what is built from a well-formed plan
 pub record IsBuilt (registry : Registry) (source lowered : Plan) : Type 0 where
@@ -30,10 +31,17 @@ pub record IsBuilt (registry : Registry) (source lowered : Plan) : Type 0 where
   pub fits : (tables : List Frame) → FitsPlan tables source → FitsPlan tables lowered
   pub same : (tables : List Frame) → FitsPlan tables source → plan_run registry tables lowered ≡ source_meaning registry tables source
 
--- the node denotes what was built from the plan
-pub record StandsFor (registry : Registry) (expressions : List AExpr) (plans : List IR) (n : ℕ) (plan : Plan) : Type 0 where
+-- the node denotes the plan, and the keeper, at which the schema is kept, one of the same schema
+pub record StandsAt (expressions : List AExpr) (plans : List IR) (n keeper : ℕ) (plan : Plan) : Type 0 where
+  pub denotes : Denotes (HoldsPlan expressions plans) n plan
+  pub kept : Plan
+  pub kept_denotes : Denotes (HoldsPlan expressions plans) keeper kept
+  pub same_schema : top_schema kept ≡ top_schema plan
+
+-- the node denotes what was built from the plan, and the keeper has its schema
+pub record StandsFor (registry : Registry) (expressions : List AExpr) (plans : List IR) (n keeper : ℕ) (plan : Plan) : Type 0 where
   pub lowered : Plan
-  pub denotes : Denotes (HoldsPlan expressions plans) n lowered
+  pub stands : StandsAt expressions plans n keeper lowered
   pub built : IsBuilt registry plan lowered
 
 -- why a plan isn't lowered: memory ran out, or a rule of that kind is broken at that place, and so the plan
@@ -55,7 +63,7 @@ pub record IsTyped (registry : Registry) (plan : Plan) (lowering : IRPlan) : Typ
   pub strict : IsStrictPlan registry tree
   pub schema : schema_of registry plan ≡ Some (top_schema tree)
 
--- on tables that fit the query's plan no node is stuck, and the frame of each has the schema that it records
+-- on tables that fit the query's plan no node is stuck, and the frame of each has the node's own schema
 abbrev pub IsSound : Registry → Plan → IRPlan → Type 0
 IsSound registry plan lowering =
     (tree : Plan) → DenotesPlan lowering tree → (tables : List Frame) → FitsPlan tables plan → RunsSoundly registry tables tree
@@ -84,6 +92,16 @@ pub record IsSelect (registry : Registry) (expressions : List AExpr) (plans : Li
   pub outputs : List Lowered
   pub selects : SelectsTo registry (top_schema input) trees outputs
   pub denotes : Denotes (HoldsPlan expressions plans) n (lowered_select outputs input)
+
+-- the tree of a filter in a query
+abbrev pub source_filter : Expression → Plan → Plan
+source_filter tree input = node (filter_op (named tree)) (more input no_more)
+
+-- the node, with the keeper, stands for a filter of the plan by the expression
+pub record IsFilter (registry : Registry) (expressions : List AExpr) (plans : List IR) (n keeper : ℕ) (tree : Expression) (input : Plan) : Type 0 where
+  pub output : Lowered
+  pub filters : FiltersBy registry (top_schema input) tree output
+  pub stands : StandsAt expressions plans n keeper (lowered_filter output input)
 
 -- the node is the empty table
 abbrev pub IsEmptyTableAt : List IR → ℕ → Type 0

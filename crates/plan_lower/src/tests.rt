@@ -33,16 +33,24 @@ fn scan(alloc: Global) -> Result<DslPlan, PlanError> {
     Ok(DslPlan::DataFrameScan { table, schema })
 }
 
-// An expression in prefix notation: `+ a b` is the sum of two columns.
+fn operator(word: &str) -> Option<Operator> {
+    match word {
+        "+" => Some(Operator::Plus),
+        "<" => Some(Operator::Lt),
+        _ => None,
+    }
+}
+
+// An expression in prefix notation: `+ a b` is the sum of two columns, `< a b` compares them.
 fn expr(alloc: Global, text: &str) -> Result<Expr, Fail> {
     let mut stack = Vec::new(alloc);
     for word in text.rsplit(' ') {
-        let next = if word == "+" {
-            let left = stack.pop().ok_or("a sum of nothing")?;
-            let right = stack.pop().ok_or("a sum of one")?;
+        let next = if let Some(op) = operator(word) {
+            let left = stack.pop().ok_or("an operator of nothing")?;
+            let right = stack.pop().ok_or("an operator of one")?;
             Expr::BinaryExpr {
                 left: Box::new(alloc, left)?,
-                op: Operator::Plus,
+                op,
                 right: Box::new(alloc, right)?,
             }
         } else {
@@ -69,11 +77,22 @@ fn select(alloc: Global, input: DslPlan, text: &str) -> Result<DslPlan, Fail> {
     })
 }
 
-// The selects over the scan, the lowest first.
-fn query(alloc: Global, selects: &[&str]) -> Result<DslPlan, Fail> {
+fn filter(alloc: Global, input: DslPlan, text: &str) -> Result<DslPlan, Fail> {
+    let predicate = expr(alloc, text)?;
+    Ok(DslPlan::Filter {
+        input: Box::new(alloc, input)?,
+        predicate,
+    })
+}
+
+// The selects and filters over the scan, the lowest first. A filter has `where ` before its predicate.
+fn query(alloc: Global, steps: &[&str]) -> Result<DslPlan, Fail> {
     let mut plan = scan(alloc)?;
-    for text in selects {
-        plan = select(alloc, plan, text)?;
+    for text in steps {
+        plan = match text.strip_prefix("where ") {
+            Some(predicate) => filter(alloc, plan, predicate)?,
+            None => select(alloc, plan, text)?,
+        };
     }
     Ok(plan)
 }
@@ -124,8 +143,8 @@ fn push_expr(text: &mut String, arena: &Arena<AExpr>, node: Node) -> Result<(), 
         text.push_str(" ")?;
         match item(arena, node)? {
             AExpr::Column(name) => text.push_str(name.as_str())?,
-            AExpr::BinaryExpr { left, right, .. } => {
-                text.push_str("+")?;
+            AExpr::BinaryExpr { left, op, right } => {
+                text.push_str(if *op == Operator::Lt { "<" } else { "+" })?;
                 stack.push(*right)?;
                 stack.push(*left)?;
             }
@@ -177,6 +196,12 @@ fn plan_text(alloc: Global, plan: &IRPlan) -> Result<String, Fail> {
                 push_schema(&mut text, schema)?;
                 return Ok(text);
             }
+            IR::Filter { input, predicate } => {
+                text.push_str("filter")?;
+                push_expr(&mut text, &plan.expr_arena, predicate.node())?;
+                text.push_str(" over ")?;
+                node = *input;
+            }
             IR::Select {
                 expr,
                 input,
@@ -203,9 +228,9 @@ fn refusal_text(alloc: Global, error: &PlanError) -> Result<String, AllocError> 
     Ok(text)
 }
 
-// What the selects over the scan become.
-fn answer(alloc: Global, selects: &[&str]) -> Result<String, Fail> {
-    let plan = query(alloc, selects)?;
+// What the selects and filters over the scan become.
+fn answer(alloc: Global, steps: &[&str]) -> Result<String, Fail> {
+    let plan = query(alloc, steps)?;
     match plan.to_alp(alloc, &Udfs::new(alloc)) {
         Ok(plan) => plan_text(alloc, &plan),
         Err(error) => {
@@ -316,6 +341,54 @@ fn refusals_name_the_rule_and_the_place(rt: HostRuntime) -> Result<(), Fail> {
         (["a", "", "a"], "ColumnNotFound"),
     ] {
         let found = answer(alloc, selects.as_slice())?;
+        assert_eq!(rt; found.as_str(), want);
+    }
+    Ok(())
+}
+
+#[test]
+fn filters_have_casts_where_types_differ(rt: HostRuntime) -> Result<(), Fail> {
+    let alloc = rt.alloc();
+    for (step, want) in [
+        ("where < b b", "filter < b b over "),
+        ("where < a b", "filter < Int32? a b over "),
+        ("where < c + a b", "filter < c Int64? + Int32? a b over "),
+    ] {
+        let mut want = String::from_str(alloc, want)?;
+        want.push_str(TABLE)?;
+        assert_eq!(rt; answer(alloc, &[step])?.as_str(), want.as_str());
+    }
+    Ok(())
+}
+
+#[test]
+fn filters_and_selects_see_the_schema_below(rt: HostRuntime) -> Result<(), Fail> {
+    let alloc = rt.alloc();
+    let over = "filter < Int64? b c over filter < Int32? a b over ";
+    let want = format!(in alloc; "select a = + a a, (a Int8) over {over}{TABLE}")?;
+    let found = answer(alloc, &["where < a b", "where < b c", "+ a a"])?;
+    assert_eq!(rt; found.as_str(), want.as_str());
+    let over = "filter a over select a = < Int32? a b, (a Boolean) over ";
+    let want = format!(in alloc; "{over}{TABLE}")?;
+    let found = answer(alloc, &["< a b", "where a"])?;
+    assert_eq!(rt; found.as_str(), want.as_str());
+    Ok(())
+}
+
+#[test]
+fn refused_filters_name_the_rule_and_the_place(rt: HostRuntime) -> Result<(), Fail> {
+    let alloc = rt.alloc();
+    for (steps, want) in [
+        (["a", "where a"], "InvalidOperation"),
+        (["where < a b", "where + a b"], "InvalidOperation"),
+        (["a", "where < a b"], "ColumnNotFound"),
+        (["a, d", "where < a d"], "SchemaMismatch"),
+        (["where a", "where x"], "InvalidOperation 0"),
+        (["where x", "where a"], "ColumnNotFound 0"),
+        (["x", "where a"], "ColumnNotFound 0"),
+        (["where a", "x"], "InvalidOperation 0"),
+    ] {
+        let found = answer(alloc, steps.as_slice())?;
         assert_eq!(rt; found.as_str(), want);
     }
     Ok(())

@@ -2,22 +2,26 @@
 ghost use Rattle.std.specs.Prelude.{◌≡◌, ◌<◌, ◌⊎◌, ℕ, List, [], ◌∷◌, length, map, slice_get, Some, IfOk, IfErr};
 ghost use Rattle.plan_types.specs.Errors.{no_memory};
 ghost use Rattle.plan_types.specs.Schemas.{columns, HasDistinctNames};
+ghost use Rattle.plan_dsl.specs.Expressions.{tree_of};
 ghost use Rattle.plan_dsl.specs.Ops.{Op};
 ghost use Rattle.plan_dsl.specs.Plans.{Plan, plan_tree, trees_of, scan_op};
 ghost use Rattle.plan_dsl.specs.Registry.{registry};
-ghost use Rattle.plan_arena.specs.Denotation.{Denotes, DenotesTree};
-ghost use Rattle.plan_arena.specs.Items.{HoldsExpression, HoldsPlan, Grows, recorded_schema, plan_layer};
+ghost use Rattle.plan_arena.specs.Denotation.{DenotesTree};
+ghost use Rattle.plan_arena.specs.Items.{HoldsExpression, HoldsPlan, Grows, plan_layer};
 ghost use Rattle.plan_arena.specs.Layers.{layer};
 ghost use Rattle.plan_arena.specs.Runs.{top_schema};
-ghost use Rattle.plan_lower.specs.Lowering.{IsSelect, StandsFor, IsPlanRefusal, IsEmptyTableAt, Answers, IsTyped, IsSound, GivesSameFrame};
+ghost use Rattle.plan_lower.specs.Lowering.{IsFilter, IsSelect, StandsAt, StandsFor, IsPlanRefusal, IsEmptyTableAt, Answers, IsTyped, IsSound, GivesSameFrame};
+ghost use Rattle.plan_lower.specs.Predicates.{IsPredicateRefusal};
 ghost use Rattle.plan_lower.specs.Projection.{IsProjectionRefusal};
 
+use crate::conversion::predicate::lower_predicate;
 use crate::conversion::projection::project_strictly;
 use plan_arena::aexpr::AExpr;
 use plan_arena::arena::{Arena, Node};
 use plan_arena::expr_ir::ExprIRs;
 use plan_arena::ir::IR;
 use plan_arena::plan::IRPlan;
+use plan_dsl::expr::Expr;
 use plan_dsl::plan::{DslPlan, Exprs, ProjectionOptions};
 use plan_dsl::udfs::Udfs;
 use plan_types::error::{ErrorKind, PlanError};
@@ -40,9 +44,17 @@ impl PlanLowering for DslPlan {
     {
         let mut lp_arena = Arena::new(alloc);
         let mut expr_arena = Arena::new(alloc);
-        let lp_top = lower(self, &mut expr_arena, &mut lp_arena, udfs)?;
-        Ok(IRPlan::new(lp_top, lp_arena, expr_arena))
+        let top = lower(self, &mut expr_arena, &mut lp_arena, udfs)?;
+        Ok(IRPlan::new(top.node, lp_arena, expr_arena))
     }
+}
+
+// A node, and the node at which the schema of its frame is kept: itself, or under filters the first below
+// them.
+#[derive(Clone, Copy)]
+struct LoweredNode {
+    node: Node,
+    schema: Node,
 }
 
 // Adds a plan's nodes, its input first.
@@ -51,14 +63,24 @@ fn lower(
     expr_arena: &mut Arena<AExpr>,
     lp_arena: &mut Arena<IR>,
     udfs: &Udfs,
-) -> Result<Node, PlanError>
-    ensures ok { IfOk result (λ node. StandsFor (registry udfs.now) expr_arena.new lp_arena.new node.0 (plan_tree plan)) }
+) -> Result<LoweredNode, PlanError>
+    ensures ok { IfOk result (λ lowered. StandsFor (registry udfs.now) expr_arena.new lp_arena.new lowered.node.0 lowered.schema.0 (plan_tree plan)) }
     ensures err { IfErr result (IsPlanRefusal (registry udfs.now) (plan_tree plan)) }
 {
     match plan {
         DslPlan::DataFrameScan { table, schema } => {
             let node = lower_scan(table, schema, lp_arena)?;
-            Ok(node)
+            Ok(LoweredNode { node, schema: node })
+        }
+        DslPlan::Filter { input, predicate } => {
+            match lower(Box::into_inner(input), expr_arena, lp_arena, udfs) {
+                Ok(input) => {
+                    let node = lower_filter(input, predicate, expr_arena, lp_arena, udfs)?;
+                    let schema = input.schema;
+                    Ok(LoweredNode { node, schema })
+                }
+                Err(error) => Err(below(lp_arena.allocator(), error)),
+            }
         }
         DslPlan::Select {
             expr,
@@ -67,7 +89,7 @@ fn lower(
         } => match lower(Box::into_inner(input), expr_arena, lp_arena, udfs) {
             Ok(input) => {
                 let node = lower_select(expr, input, options, expr_arena, lp_arena, udfs)?;
-                Ok(node)
+                Ok(LoweredNode { node, schema: node })
             }
             Err(error) => Err(below(lp_arena.allocator(), error)),
         },
@@ -103,24 +125,45 @@ fn below(alloc: Global, error: PlanError) -> PlanError
     }
 }
 
+// Adds a filter over a lowered input.
+fn lower_filter(
+    input: LoweredNode,
+    predicate: Expr,
+    expr_arena: &mut Arena<AExpr>,
+    lp_arena: &mut Arena<IR>,
+    udfs: &Udfs,
+) -> Result<Node, PlanError>
+    requires { DenotesTree (HoldsPlan expr_arena.old lp_arena.old) input.schema.0 }
+    ensures ok { IfOk result (λ node. (t : Plan) → StandsAt expr_arena.old lp_arena.old input.node.0 input.schema.0 t →
+        IsFilter (registry udfs.now) expr_arena.new lp_arena.new node.0 input.schema.0 (tree_of predicate) t) }
+    ensures err { IfErr result (λ error. (t : Plan) → StandsAt expr_arena.old lp_arena.old input.node.0 input.schema.0 t →
+        IsPredicateRefusal (registry udfs.now) (top_schema t) (tree_of predicate) error) }
+{
+    let schema = lp_arena.get(input.schema).schema_ref(lp_arena);
+    let predicate = lower_predicate(predicate, schema, expr_arena, udfs)?;
+    let input = input.node;
+    let node = lp_arena.add(IR::Filter { input, predicate })?;
+    Ok(node)
+}
+
 // Adds a select over a lowered input.
 fn lower_select(
     expr: Exprs,
-    input: Node,
+    input: LoweredNode,
     options: ProjectionOptions,
     expr_arena: &mut Arena<AExpr>,
     lp_arena: &mut Arena<IR>,
     udfs: &Udfs,
 ) -> Result<Node, PlanError>
-    requires { DenotesTree (HoldsPlan expr_arena.old lp_arena.old) input.0 }
-    ensures ok { IfOk result (λ node. (t : Plan) → Denotes (HoldsPlan expr_arena.old lp_arena.old) input.0 t →
+    requires { DenotesTree (HoldsPlan expr_arena.old lp_arena.old) input.schema.0 }
+    ensures ok { IfOk result (λ node. (t : Plan) → StandsAt expr_arena.old lp_arena.old input.node.0 input.schema.0 t →
         IsSelect (registry udfs.now) expr_arena.new lp_arena.new node.0 (trees_of expr) t) }
-    ensures err { IfErr result (λ error. (t : Plan) → Denotes (HoldsPlan expr_arena.old lp_arena.old) input.0 t →
+    ensures err { IfErr result (λ error. (t : Plan) → StandsAt expr_arena.old lp_arena.old input.node.0 input.schema.0 t →
         IsProjectionRefusal (registry udfs.now) (top_schema t) (trees_of expr) error) }
 {
-    let schema = schema_at(input, lp_arena);
+    let schema = lp_arena.get(input.schema).schema_ref(lp_arena);
     let projection = project_strictly(expr, schema, expr_arena, udfs)?;
-    let input = input_of(&projection.expr, input, lp_arena)?;
+    let input = input_of(&projection.expr, input.node, lp_arena)?;
     let node = lp_arena.add(IR::Select {
         expr: projection.expr,
         input,
@@ -142,17 +185,6 @@ fn input_of(exprs: &ExprIRs, input: Node, lp_arena: &mut Arena<IR>) -> Result<No
         return Ok(node);
     }
     Ok(input)
-}
-
-// The schema of the frame of a node.
-fn schema_at(node: Node, arena: &Arena<IR>) -> &Schema
-    requires { node.0 < length arena.now }
-    ensures { (item : IR) → slice_get arena.now node.0 ≡ Some item → columns result.now ≡ recorded_schema item }
-{
-    match arena.get(node) {
-        IR::DataFrameScan { schema, .. } => schema,
-        IR::Select { schema, .. } => schema,
-    }
 }
 
 // Adds the empty table without columns.

@@ -4,14 +4,18 @@ ghost use Rattle.std.specs.List.{AllByRecursion};
 ghost use Rattle.plan_types.specs.Errors.{no_memory};
 ghost use Rattle.plan_types.specs.Schemas.{columns};
 ghost use Rattle.plan_dsl.specs.Expressions.{tree_of};
+ghost use Rattle.plan_dsl.specs.Names.{name_of};
 ghost use Rattle.plan_dsl.specs.Ops.{Op};
 ghost use Rattle.plan_dsl.specs.Plans.{trees_of};
 ghost use Rattle.plan_dsl.specs.Registry.{registry};
-ghost use Rattle.plan_arena.specs.Items.{named_node, Grows, HoldsExpression};
+ghost use Rattle.plan_dsl.specs.Typing.{typing};
+ghost use Rattle.plan_arena.specs.Denotation.{Denotes};
+ghost use Rattle.plan_arena.specs.Items.{named_node, Grows, HoldsExpression, HoldsFrom};
 ghost use Rattle.plan_lower.specs.Coercion.{numbers};
 ghost use Rattle.plan_lower.specs.KeptTypes.{Extends, IsKnown, IsRight, first_node};
 ghost use Rattle.plan_lower.specs.Outputs.{HasOutputs};
 ghost use Rattle.plan_lower.specs.Projection.{Projects, AddsOutput, IsOutputRefusal, IsProjectionRefusal};
+ghost use Rattle.plan_lower.specs.Typed.{IsRefusal};
 
 use crate::conversion::expr_to_ir::to_expr_ir;
 use crate::conversion::stack_opt::{Stack, coerce_types};
@@ -117,8 +121,7 @@ fn project_one(
     ensures extends { OnOk result (Extends types.old types.new) }
     ensures err { IfErr result (IsOutputRefusal (registry udfs.now) (columns schema.now) (tree_of expr) (columns output.old)) }
 {
-    let expr_ir = to_expr_ir(expr, arena)?;
-    type_nodes(expr_ir.node(), arena, schema, udfs, types)?;
+    let expr_ir = add_typed(expr, schema, arena, udfs, types)?;
     if output.contains(expr_ir.output_name()) {
         return Err(PlanError::at_top(ErrorKind::Duplicate));
     }
@@ -127,5 +130,28 @@ fn project_one(
         .get(expr_ir.node(), arena)
         .try_clone(arena.allocator())?;
     output.with_column(name, dtype)?;
+    Ok(expr_ir)
+}
+
+/// Adds an expression's nodes, and types them over a frame of the schema.
+pub fn add_typed(
+    expr: Expr,
+    schema: &Schema,
+    arena: &mut Arena<AExpr>,
+    udfs: &Udfs,
+    types: &mut TypeTable,
+) -> Result<ExprIR, PlanError>
+    requires from { first_node types.old ≤ length arena.old }
+    requires right { IsRight (registry udfs.now) (columns schema.now) arena.old types.old }
+    ensures name { IfOk result (λ expr_ir. (named_node expr_ir).name ≡ name_of (tree_of expr)) }
+    ensures denotes { IfOk result (λ expr_ir. Denotes (HoldsFrom (length arena.old) arena.new) (named_node expr_ir).expression (tree_of expr)) }
+    ensures grows { Grows arena.old arena.new }
+    ensures known { IfOk result (λ expr_ir. IsKnown arena.new types.new (named_node expr_ir).expression) }
+    ensures right { OnOk result (IsRight (registry udfs.now) (columns schema.now) arena.new types.new) }
+    ensures extends { OnOk result (Extends types.old types.new) }
+    ensures err { IfErr result (IsRefusal (typing (registry udfs.now) (columns schema.now) (tree_of expr))) }
+{
+    let expr_ir = to_expr_ir(expr, arena)?;
+    type_nodes(expr_ir.node(), arena, schema, udfs, types)?;
     Ok(expr_ir)
 }

@@ -1,10 +1,11 @@
 use Rattle.std.proofs.Common.{refl, sym, ap, ◌∙◌}
 use Rattle.plan_types.specs.Schemas.{columns}
 use Rattle.plan_types.proofs.ResultLemmas.{passed_on}
-use Rattle.plan_dsl.specs.Plans.{plan_tree, trees_of}
+use Rattle.plan_dsl.specs.Expressions.{tree_of}
+use Rattle.plan_dsl.specs.Plans.{plan_tree, trees_of, named, filter_op}
 use Rattle.plan_dsl.specs.Registry.{registry}
-use Rattle.plan_lower.specs.Lowering.{out_of_memory, source_select}
-use Rattle.plan_lower.proofs.PlanLemmas.{scan_stands, select_stands, select_refused, refused_below}
+use Rattle.plan_lower.specs.Lowering.{out_of_memory, source_filter, source_select}
+use Rattle.plan_lower.proofs.PlanLemmas.{scan_stands, filter_stands, filter_refused, select_stands, select_refused, refused_below}
 use Rattle.plan_lower.proofs.conversion.dsl_to_ir.+lower.Goals as goal
 
 pub returns-in_err-node-in-DataFrameScan-clause-err :
@@ -19,15 +20,25 @@ returns-in_ok-node-in-DataFrameScan-clause-ok t c =
 
 pub returns-in_err-node-in-Ok-clause-err : goal.returns-in_err-node-in-Ok-clause-err
 returns-in_err-node-in-Ok-clause-err t c =
-    let same = ap plan_tree c.in-Select.is ∙ ap (λ p. source_select (trees_of c.in-Select.expr) (plan_tree p)) (sym c.into_inner.ensures) in
-    passed_on c.from_residual-in_err-node-in-Ok.result c.in_err-node-in-Ok.field-0.0 _ c.from_residual-in_err-node-in-Ok.ensures.1 (select_refused (registry c.args.udfs.now) c.lower.new.expr_arena c.lower.new.lp_arena c.in-Ok.input.0 (trees_of c.in-Select.expr) (plan_tree c.into_inner.result) (plan_tree c.args.plan) _ c.in-Ok.ensures.ok c.in_err-node-in-Ok.ensures.err same)
+    let same = ap plan_tree c.in-Filter.is ∙ ap (λ p. source_filter (tree_of c.in-Filter.predicate) (plan_tree p)) (sym c.into_inner.ensures) in
+    passed_on c.from_residual-in_err-node-in-Ok.result c.in_err-node-in-Ok.field-0.0 _ c.from_residual-in_err-node-in-Ok.ensures.1 (filter_refused (registry c.args.udfs.now) c.lower.new.expr_arena c.lower.new.lp_arena c.in-Ok.input.node.0 c.in-Ok.input.schema.0 (tree_of c.in-Filter.predicate) (plan_tree c.into_inner.result) (plan_tree c.args.plan) _ c.in-Ok.ensures.ok c.in_err-node-in-Ok.ensures.err same)
 
 pub returns-in_ok-node-in-Ok-clause-ok : goal.returns-in_ok-node-in-Ok-clause-ok
 returns-in_ok-node-in-Ok-clause-ok t c =
-    let same = ap plan_tree c.in-Select.is ∙ ap (λ p. source_select (trees_of c.in-Select.expr) (plan_tree p)) (sym c.into_inner.ensures) in
-    select_stands (registry c.args.udfs.now) c.lower.new.expr_arena c.lower_select.new.expr_arena c.lower.new.lp_arena c.lower_select.new.lp_arena c.in-Ok.input.0 c.in_ok-node-in-Ok.node.0 (trees_of c.in-Select.expr) (plan_tree c.into_inner.result) (plan_tree c.args.plan) c.in-Ok.ensures.ok c.in_ok-node-in-Ok.ensures.ok same
+    let same = ap plan_tree c.in-Filter.is ∙ ap (λ p. source_filter (tree_of c.in-Filter.predicate) (plan_tree p)) (sym c.into_inner.ensures) in
+    filter_stands (registry c.args.udfs.now) c.lower.new.expr_arena c.lower_filter.new.expr_arena c.lower.new.lp_arena c.lower_filter.new.lp_arena c.in-Ok.input.node.0 c.in-Ok.input.schema.0 c.in_ok-node-in-Ok.node.0 (tree_of c.in-Filter.predicate) (plan_tree c.into_inner.result) (plan_tree c.args.plan) c.in-Ok.ensures.ok c.in_ok-node-in-Ok.ensures.ok same
 
 pub returns-in-Err-clause-err : goal.returns-in-Err-clause-err
 returns-in-Err-clause-err t c =
-    let same = ap plan_tree c.in-Select.is ∙ ap (λ p. source_select (trees_of c.in-Select.expr) (plan_tree p)) (sym c.into_inner.ensures) in
-    refused_below (registry c.args.udfs.now) (trees_of c.in-Select.expr) (plan_tree c.into_inner.result) (plan_tree c.args.plan) c.in-Err.error c.below.result c.in-Err.ensures.err c.below.ensures same
+    let same = ap plan_tree c.in-Filter.is ∙ ap (λ p. source_filter (tree_of c.in-Filter.predicate) (plan_tree p)) (sym c.into_inner.ensures) in
+    refused_below (registry c.args.udfs.now) (filter_op (named (tree_of c.in-Filter.predicate))) (plan_tree c.into_inner.result) (plan_tree c.args.plan) c.in-Err.error c.below.result c.in-Err.ensures.err c.below.ensures same
+
+pub returns-in_err-node-in-Ok-lower-clause-err : goal.returns-in_err-node-in-Ok-lower-clause-err
+returns-in_err-node-in-Ok-lower-clause-err t c =
+    let same = ap plan_tree c.in-Select.is ∙ ap (λ p. source_select (trees_of c.in-Select.expr) (plan_tree p)) (sym c.into_inner-in-Select.ensures) in
+    passed_on c.from_residual-in_err-node-in-Ok-lower.result c.in_err-node-in-Ok-lower.field-0.0 _ c.from_residual-in_err-node-in-Ok-lower.ensures.1 (select_refused (registry c.args.udfs.now) c.lower-in-Select.new.expr_arena c.lower-in-Select.new.lp_arena c.in-Ok-lower.input.node.0 c.in-Ok-lower.input.schema.0 (trees_of c.in-Select.expr) (plan_tree c.into_inner-in-Select.result) (plan_tree c.args.plan) _ c.in-Ok-lower.ensures.ok c.in_err-node-in-Ok-lower.ensures.err same)
+
+pub returns-in_ok-node-in-Ok-lower-clause-ok : goal.returns-in_ok-node-in-Ok-lower-clause-ok
+returns-in_ok-node-in-Ok-lower-clause-ok t c =
+    let same = ap plan_tree c.in-Select.is ∙ ap (λ p. source_select (trees_of c.in-Select.expr) (plan_tree p)) (sym c.into_inner-in-Select.ensures) in
+    select_stands (registry c.args.udfs.now) c.lower-in-Select.new.expr_arena c.lower_select.new.expr_arena c.lower-in-Select.new.lp_arena c.lower_select.new.lp_arena c.in-Ok-lower.input.node.0 c.in-Ok-lower.input.schema.0 c.in_ok-node-in-Ok-lower.node.0 (trees_of c.in-Select.expr) (plan_tree c.into_inner-in-Select.result) (plan_tree c.args.plan) c.in-Ok-lower.ensures.ok c.in_ok-node-in-Ok-lower.ensures.ok same

@@ -10,10 +10,10 @@ pub returns-clause-sound : goal.returns-clause-sound
 returns-clause-sound c =
     let plan = plan_tree c.args.self in
     let r = registry c.args.udfs.now in
-    subst (IsSound r plan) (sym c.new.ensures) (stands_sound r (record { lp_top = c.in_ok-lp_top.lp_top; lp_arena = c.lower.new.lp_arena; expr_arena = c.lower.new.expr_arena }) plan c.in_ok-lp_top.ensures.ok)
+    subst (IsSound r plan) (sym c.new.ensures) (stands_sound r (record { lp_top = c.in_ok-top.top.node; lp_arena = c.lower.new.lp_arena; expr_arena = c.lower.new.expr_arena }) c.in_ok-top.top.schema.0 plan c.in_ok-top.ensures.ok)
 
 pub returns-clause-same_frame : goal.returns-clause-same_frame
 returns-clause-same_frame c =
     let plan = plan_tree c.args.self in
     let r = registry c.args.udfs.now in
-    subst (GivesSameFrame r plan) (sym c.new.ensures) (stands_same r (record { lp_top = c.in_ok-lp_top.lp_top; lp_arena = c.lower.new.lp_arena; expr_arena = c.lower.new.expr_arena }) plan c.in_ok-lp_top.ensures.ok)
+    subst (GivesSameFrame r plan) (sym c.new.ensures) (stands_same r (record { lp_top = c.in_ok-top.top.node; lp_arena = c.lower.new.lp_arena; expr_arena = c.lower.new.expr_arena }) c.in_ok-top.top.schema.0 plan c.in_ok-top.ensures.ok)

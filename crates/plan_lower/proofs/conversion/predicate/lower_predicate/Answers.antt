@@ -1,0 +1,55 @@
+use Rattle.std.proofs.Common.{[], ◌∷◌, ◌++◌, length, refl, sym, ap, ◌∙◌, subst}
+use Rattle.plan_types.specs.Types.{ty, Truth}
+use Rattle.plan_types.specs.TypeLaws.{same_type_exact}
+use Rattle.plan_types.specs.Schemas.{columns}
+use Rattle.plan_types.proofs.ResultLemmas.{passed_on}
+use Rattle.plan_dsl.specs.Expressions.{tree_of}
+use Rattle.plan_dsl.specs.Registry.{registry}
+use Rattle.plan_arena.specs.Items.{named_node}
+use Rattle.plan_arena.proofs.ItemLemmas.{length-grown}
+use Rattle.plan_lower.specs.Coercion.{IsCoerced, numbers}
+use Rattle.plan_lower.proofs.ProjectionLemmas.{one_output, root_typed, has_predicate, refused_predicate, other_type_refused, not_true, not_false, earlier_kept}
+use Rattle.plan_lower.proofs.TableLemmas.{right_start}
+use Rattle.plan_lower.proofs.conversion.predicate.lower_predicate.Goals as goal
+
+pub add_typed-requires-clause-right : goal.add_typed-requires-clause-right
+add_typed-requires-clause-right c =
+    right_start (registry c.args.udfs.now) (columns c.args.schema.now) c.args.arena.now c.new-types.result c.new-types.ensures.empty
+
+pub returns-in_err-expr_ir-clause-err : goal.returns-in_err-expr_ir-clause-err
+returns-in_err-expr_ir-clause-err c =
+    passed_on c.from_residual.result c.in_err-expr_ir.field-0.0 _ c.from_residual.ensures.1 (refused_predicate (registry c.args.udfs.now) (columns c.args.schema.now) (tree_of c.args.predicate) _ c.in_err-expr_ir.ensures.err)
+
+pub returns-then-ne-clause-err : goal.returns-then-ne-clause-err
+returns-then-ne-clause-err c =
+    let r = registry c.args.udfs.now in
+    let schema = columns c.args.schema.now in
+    let tree = tree_of c.args.predicate in
+    let n = (named_node c.in_ok-expr_ir.expr_ir).expression in
+    let is = one_output r schema (length c.args.arena.now) c.add_typed.new.arena tree n c.node.result.0 (ty c.get.result.now) c.in_ok-expr_ir.ensures.denotes c.node.ensures (λ t d. c.get.ensures r schema t c.in_ok-expr_ir.ensures.right d) in
+    other_type_refused r schema (length c.args.arena.now) c.add_typed.new.arena _ c.at_top.result is.1 (not_true _ (sym c.ne.ensures ∙ c.if-ne.true)) c.at_top.ensures
+
+pub returns-clause-ok : goal.returns-clause-ok
+returns-clause-ok c =
+    let r = registry c.args.udfs.now in
+    let schema = columns c.args.schema.now in
+    let first = length c.args.arena.now in
+    let n = (named_node c.in_ok-expr_ir.expr_ir).expression in
+    let is = one_output r schema first c.add_typed.new.arena (tree_of c.args.predicate) n c.node.result.0 (ty c.get.result.now) c.in_ok-expr_ir.ensures.denotes c.node.ensures (λ t d. c.get.ensures r schema t c.in_ok-expr_ir.ensures.right d) in
+    let truth = same_type_exact (ty c.get.result.now) Truth (not_false _ (sym c.ne.ensures ∙ c.if-ne.false)) in
+    let stacked = c.in_ok-push.ensures.ok ∙ ap (λ l. l ++ c.node-2.result ∷ []) c.new-stack.ensures.items in
+    let roots = ap numbers stacked ∙ ap (λ k. k ∷ []) c.node-2.ensures in
+    let coerced = c.in_ok-coerce_types.ensures.ok r schema first c.in_ok-expr_ir.ensures.right (length-grown _ _ c.in_ok-expr_ir.ensures.grows) (root_typed r schema first c.add_typed.new.arena _ _ is.1 roots) in
+    has_predicate r schema first c.add_typed.new.arena c.coerce_types.new.arena _ (named_node c.in_ok-expr_ir.expr_ir) is.1 truth c.in_ok-expr_ir.ensures.name refl (subst (IsCoerced r schema first c.add_typed.new.arena c.coerce_types.new.arena) roots coerced)
+
+pub returns-clause-kept : goal.returns-clause-kept
+returns-clause-kept c =
+    let r = registry c.args.udfs.now in
+    let schema = columns c.args.schema.now in
+    let first = length c.args.arena.now in
+    let n = (named_node c.in_ok-expr_ir.expr_ir).expression in
+    let is = one_output r schema first c.add_typed.new.arena (tree_of c.args.predicate) n c.node.result.0 (ty c.get.result.now) c.in_ok-expr_ir.ensures.denotes c.node.ensures (λ t d. c.get.ensures r schema t c.in_ok-expr_ir.ensures.right d) in
+    let stacked = c.in_ok-push.ensures.ok ∙ ap (λ l. l ++ c.node-2.result ∷ []) c.new-stack.ensures.items in
+    let roots = ap numbers stacked ∙ ap (λ k. k ∷ []) c.node-2.ensures in
+    let coerced = c.in_ok-coerce_types.ensures.ok r schema first c.in_ok-expr_ir.ensures.right (length-grown _ _ c.in_ok-expr_ir.ensures.grows) (root_typed r schema first c.add_typed.new.arena _ _ is.1 roots) in
+    earlier_kept c.args.arena.now c.add_typed.new.arena c.coerce_types.new.arena c.in_ok-expr_ir.ensures.grows coerced.below

@@ -1,0 +1,46 @@
+//! The predicate of a filter.
+ghost use Rattle.std.specs.Prelude.{ℕ, List, OnOk, IfOk, IfErr};
+ghost use Rattle.plan_types.specs.Schemas.{columns};
+ghost use Rattle.plan_dsl.specs.Expressions.{tree_of};
+ghost use Rattle.plan_dsl.specs.Ops.{Op};
+ghost use Rattle.plan_dsl.specs.Registry.{registry};
+ghost use Rattle.plan_arena.specs.Items.{named_node, HoldsExpression};
+ghost use Rattle.plan_lower.specs.Predicates.{HasPredicate, IsPredicateRefusal};
+
+use crate::conversion::projection::add_typed;
+use crate::conversion::stack_opt::coerce_types;
+use crate::type_table::TypeTable;
+use plan_arena::aexpr::AExpr;
+use plan_arena::arena::Arena;
+use plan_arena::expr_ir::ExprIR;
+use plan_dsl::expr::Expr;
+use plan_dsl::udfs::Udfs;
+use plan_types::dtype::DataType;
+use plan_types::error::{ErrorKind, PlanError};
+use plan_types::schema::Schema;
+use smallvec::SmallVec;
+
+/// Adds a predicate's nodes, types them over a frame of the schema, asks that it is of the type of truth
+/// values, and puts casts round operands.
+pub fn lower_predicate(
+    predicate: Expr,
+    schema: &Schema,
+    arena: &mut Arena<AExpr>,
+    udfs: &Udfs,
+) -> Result<ExprIR, PlanError>
+    ensures ok { IfOk result (λ expr_ir. HasPredicate (registry udfs.now) (columns schema.now) arena.new
+        (tree_of predicate) (named_node expr_ir)) }
+    ensures kept { OnOk result ((n : ℕ) (op : Op) (inputs : List ℕ) →
+        HoldsExpression arena.old n op inputs → HoldsExpression arena.new n op inputs) }
+    ensures err { IfErr result (IsPredicateRefusal (registry udfs.now) (columns schema.now) (tree_of predicate)) }
+{
+    let mut types = TypeTable::new(arena.allocator(), arena.len());
+    let expr_ir = add_typed(predicate, schema, arena, udfs, &mut types)?;
+    if *types.get(expr_ir.node(), arena) != DataType::Boolean {
+        return Err(PlanError::at_top(ErrorKind::InvalidOperation));
+    }
+    let mut stack = SmallVec::new(arena.allocator());
+    stack.push(expr_ir.node())?;
+    coerce_types(&mut stack, arena, &types)?;
+    Ok(expr_ir)
+}
