@@ -216,3 +216,43 @@ cast_has_target schema target options [] taken h = cc
 cast_has_target schema target options (from ∷ []) taken h = cast_target_is target (type_alone from) taken h
 cast_has_target schema target options (from ∷ other ∷ types) taken h = cc
 
+
+-- the type of a literal that is a number alone is no number's own
+settled_number : (type : Ty) (number : ℤ) → settled_type type ≡ Untyped number → is_some (type_alone (Untyped number)) ≡ true → ⊥
+settled_number type number same some =
+    elim (type_alone type) as (λ o. type_alone type ≡ o → unwrap_or o type ≡ Untyped number → ⊥) [
+      | None ↦ λ alone same. let none : is_some (type_alone type) ≡ true = ap (λ t. is_some (type_alone t)) same ∙ some in let empty : is_some (type_alone type) ≡ false = ap is_some alone in cc
+      | Some own ↦ λ alone same. not_both own number (alone_known type own alone) same
+    ] refl same
+
+-- a plan's node takes no number without a type
+settled_literal : (registry : Registry) (schema : Columns) (type : Ty) (value : Val) (children : Trees Op) (typed : Typed) (number : ℤ) → typing registry schema (node (LiteralOp (settled_type type) value) children) ≡ Ok typed → typed.type ≡ Untyped number → ⊥
+settled_literal registry schema type value children typed number h e =
+    let p = typed_parts registry schema (LiteralOp (settled_type type) value) children typed h in
+    let same = literal_type_is schema (settled_type type) value (types_of p.below) p.taken p.takes ∙ ap (λ (t : Typed). t.type) p.is ∙ e in
+    let is = untyped_op schema (LiteralOp (settled_type type) value) (types_of p.below) p.taken number p.takes (ap (λ (t : Typed). t.type) p.is ∙ e) in
+    settled_number type number same (and_parts (is_literal_of (Untyped number) (IntValue number)) (is_some (type_alone (Untyped number))) is.literal).1
+
+-- so what it takes has a type of columns
+known_unless : (type : Ty) → ((number : ℤ) → type ≡ Untyped number → ⊥) → is_known type ≡ true
+known_unless Truth h = refl
+known_unless (Integer signed bits) h = refl
+known_unless (Untyped number) h = absurd (h number refl)
+
+settled_untyped : (registry : Registry) (schema : Columns) (tree : Expression) (typed : Typed) (number : ℤ) → typing registry schema (settled tree) ≡ Ok typed → typed.type ≡ Untyped number → ⊥
+settled_untyped registry schema (node (LiteralOp type value) children) typed number h e = settled_literal registry schema type value children typed number h e
+settled_untyped registry schema (node (ColumnOp name) children) typed number h e =
+    let p = typed_parts registry schema (ColumnOp name) children typed h in
+    let is = untyped_op schema (ColumnOp name) (types_of p.below) p.taken number p.takes (ap (λ (t : Typed). t.type) p.is ∙ e) in
+    let other = is.op_is in cc
+settled_untyped registry schema (node (BinaryOp operator) children) typed number h e =
+    let p = typed_parts registry schema (BinaryOp operator) children typed h in
+    let is = untyped_op schema (BinaryOp operator) (types_of p.below) p.taken number p.takes (ap (λ (t : Typed). t.type) p.is ∙ e) in
+    let other = is.op_is in cc
+settled_untyped registry schema (node (CastOp target options) children) typed number h e =
+    let p = typed_parts registry schema (CastOp target options) children typed h in
+    let is = untyped_op schema (CastOp target options) (types_of p.below) p.taken number p.takes (ap (λ (t : Typed). t.type) p.is ∙ e) in
+    let other = is.op_is in cc
+
+pub settled_known : (registry : Registry) (schema : Columns) (tree : Expression) (typed : Typed) → typing registry schema (settled tree) ≡ Ok typed → is_known typed.type ≡ true
+settled_known registry schema tree typed h = known_unless typed.type (λ number e. settled_untyped registry schema tree typed number h e)

@@ -1,5 +1,5 @@
 //! Literals: values that are written in an expression.
-ghost use Rattle.std.specs.Prelude.{◌≡◌, ◌&&◌, false, MatchOption, IfOk, IfErr};
+ghost use Rattle.std.specs.Prelude.{◌≡◌, ◌&&◌, true, false, MatchOption, IfOk, IfErr};
 ghost use Rattle.plan_dsl.specs.Literals.{literal_op, literal_type, literal_value};
 ghost use Rattle.plan_dsl.specs.Ops.{LiteralOp};
 ghost use Rattle.plan_types.specs.Errors.{no_memory};
@@ -28,7 +28,8 @@ pub enum LiteralValue {
 impl LiteralValue {
     /// The literal's type, where it has one.
     pub fn known_type(&self) -> Option<&'static DataType>
-        ensures { MatchOption result (is_known (literal_type self.now) ≡ false) (λ dtype. ty dtype.now ≡ literal_type self.now) }
+        ensures { MatchOption result (is_known (literal_type self.now) ≡ false) (λ dtype.
+            (ty dtype.now ≡ literal_type self.now) × (is_known (literal_type self.now) ≡ true)) }
     {
         match self {
             LiteralValue::Int(_) => None,

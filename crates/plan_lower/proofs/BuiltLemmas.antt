@@ -2,10 +2,10 @@
 use Rattle.std.proofs.Common.{◌≡◌, ◌⊎◌, ℕ, List, [], ◌∷◌, ◌++◌, map, Bool, true, false, cond, is_some, Option, Some, None, Result, Ok, Err, refl, sym, ap, ◌∙◌, subst, ⊎_elim}
 use Rattle.std.specs.List.{AllByRecursion, Contains}
 use Rattle.plan_types.specs.Types.{Ty, Truth}
-use Rattle.plan_types.specs.Schemas.{Name, Columns, HasDistinctNames, repeats, names_of}
+use Rattle.plan_types.specs.Schemas.{Name, Columns, HasDistinctNames, repeats, names_of, all_known}
 use Rattle.plan_types.specs.Outcomes.{Outcome, Meets}
 use Rattle.plan_types.specs.Frames.{Row, Frame, IsFrameOf}
-use Rattle.plan_types.specs.Errors.{no_memory, at_top}
+use Rattle.plan_types.specs.Errors.{no_memory, at_top, IsMemoryOr}
 use Rattle.plan_types.specs.declared.error.ErrorKind.{ErrorKind}
 use Rattle.plan_types.specs.declared.error.ErrorKind.TheVariants.{Duplicate, InvalidOperation, NoMemory}
 use Rattle.plan_types.specs.declared.error.PlanError.{PlanError}
@@ -16,6 +16,7 @@ use Rattle.plan_dsl.specs.Trees.{Tree, Trees, node, no_more, more}
 use Rattle.plan_dsl.specs.Ops.{Expression}
 use Rattle.plan_dsl.specs.Names.{name_of}
 use Rattle.plan_dsl.specs.Plans.{PlanOp, Plan, Named, named, scan_op, select_op, filter_op, empty_table}
+use Rattle.plan_dsl.specs.Literals.{settled}
 use Rattle.plan_dsl.specs.Typing.{Typed, typing}
 use Rattle.plan_dsl.specs.Meaning.{meaning}
 use Rattle.plan_dsl.specs.StrictRun.{strict_run}
@@ -24,8 +25,9 @@ use Rattle.plan_dsl.specs.PlanRules.{signatures, columns_of, select_kinds, filte
 use Rattle.plan_dsl.specs.PlanKernels.{Evaluated, selected, filtered}
 use Rattle.plan_dsl.specs.PlanMeaning.{by_meaning, source_meaning, FitsPlan}
 use Rattle.plan_dsl.proofs.KernelLemmas.{AgreeOn, selected_agrees, filtered_agrees}
+use Rattle.plan_dsl.proofs.LiteralLemmas.{strict_settled}
 use Rattle.plan_dsl.proofs.RunLemmas.{strict_is_meaning}
-use Rattle.plan_dsl.proofs.RuleLemmas.{scan_schema, select_schema, select_refused_kind, select_repeated_name, filter_schema, filter_refused_kind, filter_other_type, broken_is_ill_formed}
+use Rattle.plan_dsl.proofs.RuleLemmas.{scan_schema, scan_unknown_kind, select_schema, select_refused_kind, select_repeated_name, filter_schema, filter_refused_kind, filter_other_type, broken_is_ill_formed}
 use Rattle.plan_arena.specs.Runs.{top_schema, by_running, plan_run, IsAccepted, IsStrictPlan, RunsSoundly}
 use Rattle.plan_arena.proofs.RunLemmas.{runs_soundly}
 use Rattle.plan_lower.specs.Outputs.{Lowered, IsLowered, lowered_named, lowered_column, over, lowered_select, SelectsTo}
@@ -41,9 +43,9 @@ output_typed o = o.typed
 
 module _ (registry : Registry) where
   -- a scan is built from itself
-  pub scan_built : (table : Option ℕ) (schema : Columns) → HasDistinctNames schema → IsBuilt registry (node (scan_op table schema) no_more) (node (scan_op table schema) no_more)
-  scan_built table schema distinct =
-      let there : schema_of registry (node (scan_op table schema) no_more) ≡ Some schema = scan_schema registry table schema distinct in
+  pub scan_built : (table : Option ℕ) (schema : Columns) → HasDistinctNames schema → all_known schema ≡ true → IsBuilt registry (node (scan_op table schema) no_more) (node (scan_op table schema) no_more)
+  scan_built table schema distinct known =
+      let there : schema_of registry (node (scan_op table schema) no_more) ≡ Some schema = scan_schema registry table schema distinct known in
       record {
         well_formed = (ap is_some there, tt);
         schema = there;
@@ -53,13 +55,16 @@ module _ (registry : Registry) where
         same = λ tables f. refl;
       }
 
-  each_typed : (schema : Columns) (outputs : List Lowered) → AllByRecursion (IsLowered registry schema) outputs → AllByRecursion (λ (o : Lowered). typing registry schema o.tree ≡ Ok o.typed) outputs
+  each_typed : (schema : Columns) (outputs : List Lowered) → AllByRecursion (IsLowered registry schema) outputs → AllByRecursion (λ (o : Lowered). typing registry schema (settled o.tree) ≡ Ok o.typed) outputs
   each_typed schema [] each = tt
   each_typed schema (o ∷ os) each = (each.0.typed, each_typed schema os each.1)
 
-  each_after_typed : (schema : Columns) (outputs : List Lowered) → AllByRecursion (IsLowered registry schema) outputs → AllByRecursion (λ (o : Lowered). typing registry schema o.after ≡ Ok o.typed) outputs
+  after_typed : (schema : Columns) (o : Lowered) → IsLowered registry schema o → typing registry schema (settled o.after) ≡ Ok o.typed
+  after_typed schema o is = ap (typing registry schema) (strict_settled registry schema o.after is.strict) ∙ is.same.typing ∙ is.typed
+
+  each_after_typed : (schema : Columns) (outputs : List Lowered) → AllByRecursion (IsLowered registry schema) outputs → AllByRecursion (λ (o : Lowered). typing registry schema (settled o.after) ≡ Ok o.typed) outputs
   each_after_typed schema [] each = tt
-  each_after_typed schema (o ∷ os) each = (each.0.same.typing ∙ each.0.typed, each_after_typed schema os each.1)
+  each_after_typed schema (o ∷ os) each = (after_typed schema o each.0, each_after_typed schema os each.1)
 
   each_strict : (schema : Columns) (outputs : List Lowered) → AllByRecursion (IsLowered registry schema) outputs → AllByRecursion (λ (o : Named Expression). IsStrict registry schema o.expression) (map lowered_named outputs)
   each_strict schema [] each = tt
@@ -141,7 +146,7 @@ module _ (registry : Registry) where
       ap (λ s. plan_rule registry (filter_op (named o.tree)) (s ∷ [])) built.schema ∙ filter_schema registry schema (named o.tree) o.typed is.typed truth in
       let here : schema_of registry (lowered_filter o lowered) ≡ Some schema =
       ap (λ s. plan_rule registry (filter_op (lowered_named o)) (s ∷ [])) (accepted_schema lowered built.accepted)
-      ∙ filter_schema registry schema (lowered_named o) o.typed (is.same.typing ∙ is.typed) truth in
+      ∙ filter_schema registry schema (lowered_named o) o.typed (after_typed schema o is) truth in
       record {
         well_formed = (ap is_some there, (built.well_formed, tt));
         schema = there;
@@ -167,6 +172,11 @@ module _ (registry : Registry) where
   refused_top plan kind error e breaks =
       let breaks' = subst (λ (x : PlanError). Breaks registry x.kind x.place plan) (sym e) breaks in
       broken breaks' (broken_is_ill_formed registry error.kind error.place plan breaks')
+
+  -- a scan of a column whose type isn't known is refused
+  pub scan_refused_at : (table : Option ℕ) (schema : Columns) (error : PlanError) → IsMemoryOr InvalidOperation (all_known schema ≡ false) error → IsPlanRefusal registry (node (scan_op table schema) no_more) error
+  scan_refused_at table schema error h =
+      ⊎_elim (λ e. out_of_memory e) (λ p. refused_top (node (scan_op table schema) no_more) InvalidOperation error p.0 (scan_unknown_kind schema p.1)) h
 
   -- one of a select's expressions is refused
   output_refused : (source lowered : Plan) (front back : List Expression) (tree : Expression) (before : Columns) (error : PlanError) → IsBuilt registry source lowered → names_of before ≡ map name_of front → IsOutputRefusal registry (top_schema lowered) tree before error → IsPlanRefusal registry (source_select (front ++ tree ∷ back) source) error

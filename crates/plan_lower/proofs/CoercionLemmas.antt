@@ -1,6 +1,7 @@
 -- What the visit of a node leaves.
-use Rattle.std.proofs.Common.{◌≡◌, ◌≢◌, ℕ, ◌<◌, ◌≤◌, true, false, cond, List, [], ◌∷◌, ◌++◌, length, set, ◌&&◌, Option, Some, None, Result, Ok, Err, refl, sym, ap, ◌∙◌, subst, arith, map}
+use Rattle.std.proofs.Common.{◌≡◌, ◌≢◌, ℕ, ◌<◌, ◌≤◌, Bool, true, false, cond, List, [], ◌∷◌, ◌++◌, length, set, ◌&&◌, Option, Some, None, Result, Ok, Err, refl, sym, ap, ◌∙◌, subst, arith, map}
 use Rattle.std.specs.Prelude.{ℤ}
+use Rattle.std.specs.Option.{option_map}
 use Rattle.std.proofs.lemmas.Bool.{false≢true}
 use Rattle.plan_types.specs.Types.{Ty, Truth, Integer, Untyped, ty, is_integer, is_known, same_type}
 use Rattle.plan_types.specs.Schemas.{Columns, Name, type_at}
@@ -15,7 +16,7 @@ use Rattle.plan_types.specs.declared.error.ErrorKind.TheVariants.{InvalidOperati
 use Rattle.plan_types.specs.declared.dtype.DataType.{DataType}
 use Rattle.plan_types.specs.declared.dtype.CastOptions.{CastOptions}
 use Rattle.plan_types.specs.declared.dtype.CastOptions.TheVariants.{NonStrict}
-use Rattle.plan_types.proofs.CommonLemmas.{alone_itself}
+use Rattle.plan_types.proofs.CommonLemmas.{alone_itself, alone_known, literal_has}
 use Rattle.plan_types.proofs.SupertypeLemmas.{no_number}
 use Rattle.plan_dsl.specs.declared.literal.LiteralValue.{LiteralValue}
 use Rattle.plan_dsl.specs.declared.operator.Operator.{Operator}
@@ -76,6 +77,9 @@ pub literal_denotes : (first : ℕ) (old new : List AExpr) (n : Node) (value : L
 literal_denotes first old new n value le grown at =
     added_denotes first old new (Literal value) n.0 (literal_op value) [] no_more le grown at refl tt
 
+number_is : (a b : ℤ) → Untyped a ≡ Untyped b → a ≡ b
+number_is a b e = cc
+
 change_literal : (target : Ty) (value : LiteralValue) (number : ℤ) (from : Ty) (t : Expression) → from ≡ Untyped number → literal_op value ≡ LiteralOp target (IntValue number) → node (literal_op value) no_more ≡ changed from target t
 change_literal target value number from t e is = ap (λ op. node op no_more) is ∙ sym (ap (λ f. changed f target t) e)
 
@@ -129,9 +133,20 @@ pub has_literal : (from target : Ty) (number : ℤ) → from ≡ Untyped number 
 has_literal from target number e can none =
     false≢true (sym none ∙ no_number_of target number can.known (can.has number e))
 
-bare_kept : {first : ℕ} {items items' : List AExpr} (ns : List ℕ) → DenoteAll (HoldsFrom first items) ns no_more → DenoteAll (HoldsFrom first items') ns no_more
-bare_kept [] d = tt
-bare_kept (n ∷ ns) d = absurd d
+bare_kept : (first : ℕ) (items items' : List AExpr) (ns : List ℕ) → DenoteAll (HoldsFrom first items) ns no_more → DenoteAll (HoldsFrom first items') ns no_more
+bare_kept first items items' [] d = tt
+bare_kept first items items' (n ∷ ns) d = absurd d
+
+-- a number that has a type alone can become one of it
+pub number_becomes : (number : ℤ) (own : Ty) → type_alone (Untyped number) ≡ Some own → CanBecome (Untyped number) own
+number_becomes number own h = record {
+  known = alone_known (Untyped number) own h;
+  has = λ other e. subst (λ n. in_range own n ≡ true) (number_is number other e) (literal_has number own h).0;
+}
+
+pub found_alone : (found : Option DataType) (alone : Option Ty) (own : Ty) → option_map ty found ≡ alone → alone ≡ Some own → found ≡ None → ⊥
+found_alone None alone own e is none = cc
+found_alone (Some dtype) alone own e is none = cc
 
 -- a write at one node
 module _ (first : ℕ) (items : List AExpr) (at : ℕ) (item : AExpr) (t : Expression) (d : Denotes (HoldsFrom first items) at t) where
@@ -149,7 +164,7 @@ module _ (first : ℕ) (items : List AExpr) (at : ℕ) (item : AExpr) (t : Expre
   changed_kept : (from : Ty) (m : ℕ) (target : Ty) (x : Expression) → tree_depth x < tree_depth t → m ≢ at → Denotes (HoldsFrom first items) m (changed from target x) → Denotes (HoldsFrom first (set items at item)) m (changed from target x)
   changed_kept Truth m target x lt other dx = cast_kept m target x lt other dx
   changed_kept (Integer signed bits) m target x lt other dx = cast_kept m target x lt other dx
-  changed_kept (Untyped number) m target x lt other dx = (dx.0, keeps m _ dx.0 other dx.1, bare_kept dx.0 dx.2)
+  changed_kept (Untyped number) m target x lt other dx = (dx.0, keeps m _ dx.0 other dx.1, bare_kept first items (set items at item) dx.0 dx.2)
 
   -- keeps an operand that was taken from below the node
   operand_kept : (m : ℕ) (from target : Ty) (x : Expression) → tree_depth x < tree_depth t → (same_type from target ≡ false → m ≢ at) → Denotes (HoldsFrom first items) m (as_operand from target x) → Denotes (HoldsFrom first (set items at item)) m (as_operand from target x)

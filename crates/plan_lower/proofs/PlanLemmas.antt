@@ -1,8 +1,8 @@
 -- Lowering of plans, node by node.
-use Rattle.std.proofs.Common.{◌≡◌, ◌⊎◌, ℕ, ◌<◌, List, [], ◌∷◌, ◌++◌, length, map, Option, Some, None, slice_get, refl, sym, ap, ◌∙◌, subst, arith, ⊎_elim, append_assoc}
-use Rattle.plan_types.specs.Schemas.{Columns, columns, HasDistinctNames}
-use Rattle.plan_types.specs.declared.error.ErrorKind.TheVariants.{NoMemory}
-use Rattle.plan_types.specs.Errors.{no_memory}
+use Rattle.std.proofs.Common.{◌≡◌, ◌⊎◌, ℕ, ◌<◌, List, [], ◌∷◌, ◌++◌, length, map, true, false, Option, Some, None, slice_get, refl, sym, ap, ◌∙◌, subst, arith, ⊎_elim, append_assoc}
+use Rattle.plan_types.specs.Schemas.{Columns, columns, HasDistinctNames, all_known}
+use Rattle.plan_types.specs.declared.error.ErrorKind.TheVariants.{InvalidOperation, NoMemory}
+use Rattle.plan_types.specs.Errors.{no_memory, IsMemoryOr}
 use Rattle.plan_types.specs.declared.error.PlanError.{PlanError}
 use Rattle.plan_dsl.specs.Registry.{Registry}
 use Rattle.plan_dsl.specs.Trees.{Tree, Trees, node, no_more, more}
@@ -22,7 +22,7 @@ use Rattle.plan_lower.specs.Outputs.{Lowered, lowered_named, lowered_column, ove
 use Rattle.plan_lower.specs.Predicates.{HasPredicate, IsPredicateRefusal, lowered_filter}
 use Rattle.plan_lower.specs.Projection.{IsProjectionRefusal}
 use Rattle.plan_lower.specs.Lowering.{source_select, source_filter, IsBuilt, IsPlanRefusal, IsSelect, IsFilter, StandsAt, StandsFor, IsEmptyTableAt, IsTyped, IsSound, GivesSameFrame}
-use Rattle.plan_lower.proofs.BuiltLemmas.{scan_built, select_built, select_refused_at, filter_built, filter_refused_at, refused_in_input}
+use Rattle.plan_lower.proofs.BuiltLemmas.{scan_built, scan_refused_at, select_built, select_refused_at, filter_built, filter_refused_at, refused_in_input}
 
 -- the empty table
 empty_denoted : (items : List AExpr) (plans : List IR) (n : ℕ) → IsEmptyTableAt plans n → Denotes (HoldsPlan items plans) n empty_table
@@ -83,13 +83,18 @@ own_keeper items plans n t d = record { denotes = d; kept = t; kept_denotes = d;
 
 module _ (registry : Registry) where
   -- a scan that was added
-  pub scan_stands : (items : List AExpr) (plans : List IR) (n : ℕ) (table : Option ℕ) (schema : Columns) (plan : Plan) → slice_get (map plan_layer plans) n ≡ Some (layer (scan_op table schema) []) → HasDistinctNames schema → plan ≡ node (scan_op table schema) no_more → StandsFor registry items plans n n plan
-  scan_stands items plans n table schema plan held distinct same =
+  pub scan_stands : (items : List AExpr) (plans : List IR) (n : ℕ) (table : Option ℕ) (schema : Columns) (plan : Plan) → slice_get (map plan_layer plans) n ≡ Some (layer (scan_op table schema) []) → HasDistinctNames schema → all_known schema ≡ true → plan ≡ node (scan_op table schema) no_more → StandsFor registry items plans n n plan
+  scan_stands items plans n table schema plan held distinct known same =
       record {
         lowered = node (scan_op table schema) no_more;
         stands = own_keeper items plans n (node (scan_op table schema) no_more) ([], record { flat = scan_op table schema; item = held; denotes = record { same_kind = refl; same_schema = refl; named = tt } }, tt);
-        built = subst (λ p. IsBuilt registry p (node (scan_op table schema) no_more)) (sym same) (scan_built registry table schema distinct);
+        built = subst (λ p. IsBuilt registry p (node (scan_op table schema) no_more)) (sym same) (scan_built registry table schema distinct known);
       }
+
+  -- a refusal of a scan
+  pub scan_refused : (table : Option ℕ) (schema : Columns) (plan : Plan) (error : PlanError) → IsMemoryOr InvalidOperation (all_known schema ≡ false) error → plan ≡ node (scan_op table schema) no_more → IsPlanRefusal registry plan error
+  scan_refused table schema plan error h same =
+      subst (λ p. IsPlanRefusal registry p error) (sym same) (scan_refused_at registry table schema error h)
 
   -- a select over what its input becomes
   pub select_stands : (items items' : List AExpr) (plans new : List IR) (input keeper n : ℕ) (trees : List Expression) (source plan : Plan) → (s : StandsFor registry items plans input keeper source) → ((t : Plan) → StandsAt items plans input keeper t → IsSelect registry items' new n trees t) → plan ≡ source_select trees source → StandsFor registry items' new n n plan

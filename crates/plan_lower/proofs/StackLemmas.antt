@@ -3,11 +3,14 @@ use Rattle.std.proofs.Common.{◌≡◌, ◌≢◌, ◌⊎◌, ℕ, ◌<◌, ◌
 use Rattle.std.specs.List.{AllByRecursion}
 use Rattle.std.proofs.lemmas.List.{map-append}
 use Rattle.std.proofs.lemmas.Bool.{false≢true}
+use Rattle.plan_types.specs.Types.{is_known}
 use Rattle.plan_types.specs.Schemas.{Columns}
 use Rattle.plan_dsl.specs.Registry.{Registry}
 use Rattle.plan_dsl.specs.Trees.{Trees, node, no_more, more, AllRelated}
 use Rattle.plan_dsl.specs.Ops.{Op, Expression}
-use Rattle.plan_dsl.specs.Typing.{Typed, typing, typing_all, typed_before}
+use Rattle.plan_dsl.specs.Typing.{Typed, typing, typing_all, types_of}
+use Rattle.plan_dsl.proofs.TypingLemmas.{by_children}
+use Rattle.plan_dsl.proofs.OperandLemmas.{operands_known}
 use Rattle.plan_dsl.specs.Strictness.{IsSame, IsStrict, AllStrict, IsStrictOver}
 use Rattle.plan_dsl.proofs.SameLemmas.{same_itself, same_then, node_same, typings_same}
 use Rattle.plan_arena.specs.declared.arena.Node.{Node}
@@ -17,7 +20,8 @@ use Rattle.plan_arena.specs.Layers.{layer, inputs_of, shape_of}
 use Rattle.plan_arena.specs.Items.{HoldsExpression, HoldsFrom, expression_layer}
 use Rattle.plan_arena.proofs.DenotationLemmas.{denotes_one, replaced, same_or_other}
 use Rattle.plan_arena.proofs.ItemLemmas.{from_laws, expression_got}
-use Rattle.plan_lower.specs.Coercion.{DenotesTyped, DenotesSame, KeepsBelow, Visits, IsCoerced, numbers}
+use Rattle.plan_lower.specs.Typed.{HasKnownType}
+use Rattle.plan_lower.specs.Coercion.{DenotesKnown, DenotesSame, KeepsBelow, Visits, IsCoerced, numbers}
 
 layer_inputs_of : (o : Option _) (op : Op) (inputs : List ℕ) (item : AExpr) → o ≡ Some (expression_layer item) → o ≡ Some (layer op inputs) → inputs ≡ inputs_of (expression_layer item)
 layer_inputs_of o op inputs item p q = let e : layer op inputs ≡ expression_layer item = cc in ap inputs_of e

@@ -1,13 +1,16 @@
 -- Types that are kept by node: what is known of a node, and what stays as the table, the arena or one item changes.
 use Rattle.std.proofs.Common.{◌≡◌, ◌≢◌, ◌↔◌, ℕ, ◌<◌, ◌≤◌, ◌-◌, List, [], ◌∷◌, ◌++◌, length, map, get_or, set, true, false, cond, is_some, MatchOption, Option, Some, None, Ok, Err, slice_get, refl, sym, ap, ◌∙◌, subst, arith, zero-le, ⊎_elim, length-append, append-nil}
+use Rattle.std.specs.Prelude.{ℤ}
 use Rattle.std.specs.List.{AllByRecursion}
 use Rattle.std.proofs.lemmas.Option.{slice_get_within, slice_get-get_or}
 use Rattle.std.proofs.lemmas.Bool.{cases_lt}
 use Rattle.std.proofs.lemmas.List.{length-map}
 use Rattle.std.proofs.Math.ListN.{length-set}
 use Rattle.plan_types.proofs.ListLemmas.{slice_get-append, slice_get-seam, slice_get-set_other, slice_get-set_same}
-use Rattle.plan_types.specs.Types.{Ty, ty, is_known}
+use Rattle.plan_types.specs.Types.{Ty, Untyped, ty, is_known}
+use Rattle.plan_types.specs.TypeLaws.{same_type_exact}
 use Rattle.plan_types.specs.Values.{Val}
+use Rattle.plan_types.specs.CommonTypes.{type_alone}
 use Rattle.plan_types.specs.declared.error.ErrorKind.TheVariants.{InvalidOperation}
 use Rattle.plan_types.specs.Schemas.{Columns}
 use Rattle.plan_types.specs.declared.dtype.DataType.{DataType}
@@ -24,13 +27,15 @@ use Rattle.plan_dsl.proofs.LiteralLemmas.{typed_alone, literal_typing, cast_has_
 use Rattle.plan_arena.specs.declared.arena.Node.{Node}
 use Rattle.plan_arena.specs.declared.aexpr.AExpr.{AExpr}
 use Rattle.plan_arena.specs.declared.aexpr.AExpr.TheVariants.{Column, Literal, BinaryExpr, Cast}
-use Rattle.plan_arena.specs.Denotation.{Denotes, DenotesTree, depth_at}
+use Rattle.plan_arena.specs.Denotation.{Denotes, DenoteAll, DenotesTree, depth_at}
 use Rattle.plan_arena.specs.Layers.{layer, shape_of, inputs_of}
 use Rattle.plan_arena.specs.Items.{HoldsExpression, HoldsFrom, Grows, expression_layer}
 use Rattle.plan_arena.proofs.DenotationLemmas.{denotes_one, kept, same_or_other, inputs_denote}
 use Rattle.plan_arena.proofs.ItemLemmas.{held_top, expression_laws, from_laws, any_node, from_zero, got_held, expression_elsewhere, expression_written, expression_added, tree_grown, within}
 use Rattle.plan_lower.specs.declared.type_table.TypeTable.{TypeTable}
-use Rattle.plan_lower.specs.Coercion.{DenotesTyped, Visits}
+use Rattle.plan_lower.specs.declared.conversion.type_coercion.Change.{Change}
+use Rattle.plan_lower.specs.declared.conversion.type_coercion.Change.TheVariants.{Keep, CastTo, Become}
+use Rattle.plan_lower.specs.Coercion.{DenotesTyped, Visits, IsChangeFor, changed_by, is_kept}
 use Rattle.plan_lower.specs.KeptTypes.{Keeps, IsKept, Extends, IsKnown, by_table, by_literal, by_cast, IsTypedNode, IsRight, HasRightTypes, first_node}
 use Rattle.plan_lower.specs.Typed.{HasType}
 use Rattle.plan_lower.proofs.CoercionLemmas.{grown_elsewhere, written_elsewhere}
@@ -182,6 +187,12 @@ got_kept items table n (BinaryExpr left operator right) got literal cast k =
     known_kept items table n (BinaryOp operator) _ k (got_held items n (BinaryExpr left operator right) _ _ got refl) (λ type value known e. cc) (λ target options e. cc)
 got_kept items table n (Cast input dtype options) got literal cast k = absurd (cast input dtype options refl)
 
+pub same_unknown : (value other : LiteralValue) → Literal value ≡ Literal other → is_known (literal_type value) ≡ false → is_known (literal_type other) ≡ false
+same_unknown value other e unknown = let same : value ≡ other = cc in ap (λ v. is_known (literal_type v)) (sym same) ∙ unknown
+
+pub no_cast_there : (value : LiteralValue) (input : Node) (dtype : DataType) (options : CastOptions) → Literal value ≢ Cast input dtype options
+no_cast_there value input dtype options e = cc
+
 module _ (registry : Registry) (schema : Columns) (items : List AExpr) (table : TypeTable) (right : IsRight registry schema items table) where
   -- a node whose type is known denotes a typed expression
   pub known_typed : (n : ℕ) → IsKnown items table n → DenotesTyped registry schema 0 items n
@@ -239,6 +250,21 @@ module _ (registry : Registry) (schema : Columns) (items : List AExpr) (table : 
   pub cast_type : (n input : ℕ) (target : Ty) (options : CastOptions) → IsKnown items table n → HoldsExpression items n (CastOp target options) (input ∷ []) → AllHaveType items registry schema n target
   cast_type n input target options k held =
       item_type n (CastOp target options) (input ∷ []) target k held (λ types taken h. (cast_has_target schema target options types taken h).0)
+
+  -- a cast's target is a type of columns
+  pub cast_target_known : (n input : ℕ) (target : Ty) (options : CastOptions) → IsKnown items table n → HoldsExpression items n (CastOp target options) (input ∷ []) → is_known target ≡ true
+  cast_target_known n input target options k held =
+      let e = known_typed n k in
+      let top = held_top items n (CastOp target options) (input ∷ []) held e.tree (any_node 0 items n e.tree e.denotes) in
+      let p = typed_parts registry schema (CastOp target options) top.0 e.typed (ap (typing registry schema) (sym top.1) ∙ e.is) in
+      (cast_has_target schema target options (types_of p.below) p.taken p.takes).1
+
+  -- what is typed has a type alone
+  pub alone_there : (n : ℕ) (type : Ty) → IsKnown items table n → AllHaveType items registry schema n type → (own : Ty) × (type_alone type ≡ Some own)
+  alone_there n type k has =
+      let e = known_typed n k in
+      let here = has e.tree (any_node 0 items n e.tree e.denotes) in
+      typed_alone registry schema e.tree type here.many here.is
 
   pub literal_type_known : (n : ℕ) (type : Ty) (value : Val) → IsKnown items table n → HoldsExpression items n (LiteralOp type value) [] → AllHaveType items registry schema n type
   literal_type_known n type value k held =
@@ -399,6 +425,20 @@ module _ (old new : List AExpr) (table : TypeTable) (at : ℕ) (op : Op) (ns ms 
     right_over registry schema visit known below right =
         let d = known_typed registry schema old table right at known in
         right_written registry schema old (set new at item) table at op ms d.tree d.denotes (visit d.tree d.denotes) (λ n op inputs differs h. written_elsewhere old new at item g n op inputs differs h) written_here below knows_over right
+
+bare_inputs : (items : List AExpr) (ns : List ℕ) → DenoteAll (HoldsFrom 0 items) ns no_more → ns ≡ []
+bare_inputs items [] d = refl
+bare_inputs items (n ∷ ns) d = absurd d
+
+-- the literal that took the place of a number is known, after a write elsewhere
+pub number_known : (old new : List AExpr) (table : TypeTable) (at m : ℕ) (item : AExpr) (number : ℤ) (own : Ty) (change : Change) → is_known own ≡ true → IsChangeFor (Untyped number) own change → at < length old → (is_kept change ≡ false → length old ≤ m) → (t : Expression) → Denotes (HoldsFrom 0 new) m (changed_by change t) → IsKnown (set new at item) table m
+number_known old new table at m item number own Keep known is here fresh t d =
+    let same = ap is_known (same_type_exact (Untyped number) own is) ∙ known in cc
+number_known old new table at m item number own (CastTo dtype) known is here fresh t d = let none = is.1 in cc
+number_known old new table at m item number own (Become value) known is here fresh t d =
+    let held : HoldsExpression new m (literal_op value) [] = subst (HoldsExpression new m (literal_op value)) (bare_inputs new d.0 d.2) d.1.1 in
+    let later : length old ≤ m = fresh refl in
+    by_literal m (literal_type value) (literal_value value) (expression_elsewhere new at item m _ _ (λ e. absurd (omega (arith, later, here, e))) held) is.4 is.5
 
 -- what is known of the nodes that wait, when the last was visited and its inputs took its place
 pub waiting_known : (items items' : List AExpr) (table : TypeTable) (at : ℕ) (rest stack : List ℕ) → AllByRecursion (IsKnown items table) (rest ++ at ∷ []) → ((n : ℕ) → IsKnown items table n → IsKnown items' table n) → HasRightTypes items' table → ((op : Op) (inputs : List ℕ) → HoldsExpression items' at op inputs → stack ≡ rest ++ inputs) → AllByRecursion (IsKnown items' table) stack

@@ -1,9 +1,12 @@
 -- The type of a node, from those of its inputs.
-use Rattle.std.proofs.Common.{◌≡◌, ℕ, Bool, true, false, cond, List, [], ◌∷◌, Option, Some, None, Result, Ok, Err, ap, ◌∙◌, ⊎_elim}
-use Rattle.plan_types.specs.Types.{Ty, is_known}
-use Rattle.plan_types.specs.Values.{Val}
+use Rattle.std.proofs.Common.{◌≡◌, ℕ, Bool, true, false, cond, List, [], ◌∷◌, Option, Some, None, Result, Ok, Err, is_some, ◌&&◌, refl, sym, ap, ◌∙◌, ⊎_elim}
+use Rattle.std.specs.Prelude.{ℤ}
+use Rattle.std.specs.Option.{option_map}
+use Rattle.plan_types.specs.Types.{Ty, Untyped, ty, is_known}
+use Rattle.plan_types.specs.declared.dtype.DataType.{DataType}
+use Rattle.plan_types.specs.Values.{Val, IntValue, in_range}
 use Rattle.plan_types.specs.Schemas.{Columns, Name, type_at}
-use Rattle.plan_types.specs.CommonTypes.{type_alone, common_type}
+use Rattle.plan_types.specs.CommonTypes.{type_alone, common_type, literal_type as alone_type}
 use Rattle.plan_types.specs.Errors.{at_top, IsMemoryOr, IsRefusal, no_room, broken}
 use Rattle.plan_types.specs.declared.error.ErrorKind.{ErrorKind}
 use Rattle.plan_types.specs.declared.error.ErrorKind.TheVariants.{ColumnNotFound, InvalidOperation}
@@ -13,6 +16,8 @@ use Rattle.plan_dsl.specs.declared.operator.Operator.{Operator}
 use Rattle.plan_dsl.specs.Registry.{Registry}
 use Rattle.plan_dsl.specs.Trees.{node}
 use Rattle.plan_dsl.specs.Ops.{ColumnOp, LiteralOp, BinaryOp, CastOp, Expression}
+use Rattle.plan_dsl.specs.Literals.{is_literal, is_literal_of}
+use Rattle.plan_dsl.proofs.LiteralLemmas.{becomes_literal}
 use Rattle.plan_dsl.specs.Typing.{Typed, Taken, both_to, column_type, literal_taken, cast_taken, operator_types, typed_as, typing_rule, then_typed, typed_before, typing, some_many}
 use Rattle.plan_arena.specs.declared.aexpr.AExpr.{AExpr}
 use Rattle.plan_arena.specs.Denotation.{Denotes}
@@ -28,6 +33,37 @@ refused_so from to error same (broken kind e b) = broken kind e (same kind b)
 -- operands without a common type are refused
 pub mismatch : (operator : Operator) (left right : Ty) (error : PlanError) → IsRefusal (common_type left right) error → IsRefusal (operator_types operator (left ∷ right ∷ [])) error
 mismatch operator left right error h = refused_so _ _ error (λ kind e. ap (both_to operator) e) h
+
+-- a literal of a type that has its number
+pub literal_fits : (type : Ty) (value : Val) (number : ℤ) (dtype : Ty) → value ≡ IntValue number → dtype ≡ type → is_known type ≡ true → in_range dtype number ≡ true → literal_taken type value ≡ Ok (record { operands = []; type = dtype })
+literal_fits type value number dtype is same known has =
+    let here = ap (λ t. in_range t number) (sym same) ∙ has in
+    let literal = ap (is_literal type) is ∙ becomes_literal type number known here in
+    ap (λ b. cond b (Ok (record { operands = []; type = type })) (Err InvalidOperation)) literal ∙ ap (λ t. Ok (record { operands = []; type = t })) (sym same)
+
+not_literal : (type : Ty) (value : Val) → is_literal type value ≡ false → IsRefusal (literal_taken type value) (at_top InvalidOperation)
+not_literal type value h =
+    broken InvalidOperation refl (ap (λ b. cond b (Ok (record { operands = []; type = type })) (Err InvalidOperation)) h)
+
+-- of one that doesn't have it
+pub literal_unfit : (type : Ty) (value : Val) (number : ℤ) (dtype : Ty) → value ≡ IntValue number → dtype ≡ type → in_range dtype number ≡ false → IsRefusal (literal_taken type value) (at_top InvalidOperation)
+literal_unfit type value number dtype is same has =
+    let here = ap (λ t. in_range t number) (sym same) ∙ has in
+    not_literal type value (ap (is_literal type) is ∙ ap (λ b. b && is_some (type_alone type)) here)
+
+and_none : (a b : Bool) → b ≡ false → (a && b) ≡ false
+and_none true b h = h
+and_none false b h = refl
+
+-- and a number that no type has
+pub number_unfit : (type : Ty) (value : Val) (number : ℤ) → type ≡ Untyped number → alone_type number ≡ None → IsRefusal (literal_taken type value) (at_top InvalidOperation)
+number_unfit type value number is none =
+    not_literal type value (and_none (is_literal_of type value) (is_some (type_alone type)) (ap (λ t. is_some (type_alone t)) is ∙ ap is_some none))
+
+-- there is none alone
+pub no_type_alone : (found : Option DataType) (alone : Option Ty) → option_map ty found ≡ alone → found ≡ None → alone ≡ None
+no_type_alone None alone e none = sym e
+no_type_alone (Some dtype) alone e none = cc
 
 module _ (items : List AExpr) (registry : Registry) (schema : Columns) where
   -- the expressions at a node have this type

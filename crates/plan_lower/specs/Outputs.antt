@@ -8,6 +8,7 @@ use Rattle.plan_dsl.specs.Trees.{node, no_more, more}
 use Rattle.plan_dsl.specs.Ops.{Expression}
 use Rattle.plan_dsl.specs.Names.{name_of}
 use Rattle.plan_dsl.specs.Plans.{Named, Plan, select_op, empty_table}
+use Rattle.plan_dsl.specs.Literals.{settled}
 use Rattle.plan_dsl.specs.Typing.{Typed, typing}
 use Rattle.plan_dsl.specs.Strictness.{IsSame, IsStrict}
 use Rattle.plan_arena.specs.declared.aexpr.AExpr.{AExpr}
@@ -25,10 +26,10 @@ lowered_named output = record { name = name_of output.tree; expression = output.
 abbrev pub lowered_column : Lowered → Name × Ty
 lowered_column output = (name_of output.tree, output.typed.type)
 
--- the expression is typed, and what stands for it says the same and is strict
+-- the expression, as a plan takes it, is typed, and what stands for it says the same and is strict
 pub record IsLowered (registry : Registry) (schema : Columns) (output : Lowered) : Type 0 where
-  pub typed : typing registry schema output.tree ≡ Ok output.typed
-  pub same : IsSame registry schema output.tree output.after
+  pub typed : typing registry schema (settled output.tree) ≡ Ok output.typed
+  pub same : IsSame registry schema (settled output.tree) output.after
   pub strict : IsStrict registry schema output.after
 
 -- the outputs are those of the expressions, under distinct names

@@ -58,14 +58,20 @@ impl TypeTable {
             Denotes (HoldsExpression arena.now) node.0 t → HasType (typing registry schema t) (ty result.now) }
     {
         match arena.get(node) {
-            AExpr::Cast { dtype, .. } => return dtype,
-            AExpr::Literal(value) => {
-                if let Some(dtype) = value.known_type() {
-                    return dtype;
-                }
-            }
-            _ => {}
+            AExpr::Cast { dtype, .. } => dtype,
+            AExpr::Literal(value) => match value.known_type() {
+                Some(dtype) => dtype,
+                None => self.kept_type(node),
+            },
+            _ => self.kept_type(node),
         }
+    }
+
+    // The type that is kept for a node.
+    fn kept_type(&self, node: Node) -> &DataType
+        requires { IsKept self.now node.0 }
+        ensures { Keeps self.now node.0 result.now }
+    {
         match self.kept(node) {
             Some(dtype) => dtype,
             None => unreachable!(),

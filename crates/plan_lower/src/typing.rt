@@ -45,11 +45,11 @@ pub fn type_nodes(
     }
     match arena.get(node) {
         AExpr::Column(name) => {
-            let dtype = schema.try_get(name)?;
-            if !dtype.is_known() {
+            let found = schema.try_get(name)?;
+            if !found.is_known() {
                 return Err(PlanError::at_top(ErrorKind::InvalidOperation));
             }
-            let dtype = dtype.try_clone(arena.allocator())?;
+            let dtype = found.try_clone(arena.allocator())?;
             types.keep(node, dtype)?;
             Ok(())
         }
@@ -85,10 +85,10 @@ fn literal_dtype(alloc: Global, value: &LiteralValue) -> Result<DataType, PlanEr
 {
     let number = value.number();
     let Some(dtype) = value.known_type() else {
-        if materialize_dyn_int(number).is_none() {
-            return Err(PlanError::at_top(ErrorKind::InvalidOperation));
-        }
-        return Ok(DataType::Unknown(UnknownKind::Int(number)));
+        return match materialize_dyn_int(number) {
+            Some(_) => Ok(DataType::Unknown(UnknownKind::Int(number))),
+            None => Err(PlanError::at_top(ErrorKind::InvalidOperation)),
+        };
     };
     if !dtype.has_number(number) {
         return Err(PlanError::at_top(ErrorKind::InvalidOperation));

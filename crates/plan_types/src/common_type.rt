@@ -5,7 +5,7 @@ ghost use Rattle.plan_types.specs.CommonTypes.{literal_type, least_signed, least
 ghost use Rattle.plan_types.specs.Errors.{no_memory, IsMemoryOr, IsRefusal};
 ghost use Rattle.plan_types.specs.Types.{ty};
 
-use crate::dtype::{DataType, UnknownKind};
+use crate::dtype::DataType;
 use crate::error::{ErrorKind, PlanError};
 use crate::supertype::try_get_supertype;
 use std::alloc::Global;
@@ -101,11 +101,11 @@ fn type_beside(
     ensures ok { IfOk result (λ found. type_beside (ty operand.now) (ty other.now) ≡ Some (ty found)) }
     ensures err { IfErr result (IsMemoryOr ErrorKind.InvalidOperation (type_beside (ty operand.now) (ty other.now) ≡ None)) }
 {
-    let DataType::Unknown(UnknownKind::Int(number)) = operand else {
+    let Some(number) = operand.untyped_number() else {
         let own = operand.try_clone(alloc)?;
         return Ok(own);
     };
-    match own_type(alloc, *number, other)? {
+    match own_type(alloc, number, other)? {
         Some(own) => Ok(own),
         None => Err(PlanError::at_top(ErrorKind::InvalidOperation)),
     }

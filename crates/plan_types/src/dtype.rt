@@ -1,7 +1,7 @@
 //! Types of columns.
-ghost use Rattle.std.specs.Prelude.{◌≡◌, ◌↔◌, IsTrue, IfOk, IfErr};
+ghost use Rattle.std.specs.Prelude.{◌≡◌, ◌↔◌, true, IsTrue, MatchOption, IfOk, IfErr};
 ghost use Rattle.plan_types.specs.Errors.{no_memory};
-ghost use Rattle.plan_types.specs.Types.{ty, is_integer, is_known, is_signed_integer, width_of};
+ghost use Rattle.plan_types.specs.Types.{Untyped, ty, is_integer, is_known, is_signed_integer, width_of};
 ghost use Rattle.plan_types.specs.Values.{in_range};
 
 use crate::error::PlanError;
@@ -76,6 +76,16 @@ impl DataType {
         ensures { result ≡ is_known (ty self.now) }
     {
         !matches!(self, DataType::Unknown(_))
+    }
+
+    /// The number that is written without a type, where the type is that number's.
+    pub fn untyped_number(&self) -> Option<i128>
+        ensures { MatchOption result (is_known (ty self.now) ≡ true) (λ number. ty self.now ≡ Untyped number) }
+    {
+        match self {
+            DataType::Unknown(UnknownKind::Int(number)) => Some(*number),
+            _ => None,
+        }
     }
 
     /// Whether the type's range has the number: truth values are no numbers.

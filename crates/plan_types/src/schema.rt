@@ -2,7 +2,7 @@
 ghost use Rattle.std.specs.Prelude.{◌≡◌, ◌↔◌, [], length, is_some, slice_get, IsTrue, IfOk, IfErr, OnOk, OnErr, Some};
 ghost use Rattle.std.specs.Option.{option_map};
 ghost use Rattle.plan_types.specs.Errors.{no_memory, IsMemoryOr};
-ghost use Rattle.plan_types.specs.Schemas.{columns, type_at, with_column, IsNewName, HasDistinctNames};
+ghost use Rattle.plan_types.specs.Schemas.{all_known, columns, type_at, with_column, IsNewName, HasDistinctNames};
 ghost use Rattle.plan_types.specs.Types.{ty};
 
 use crate::dtype::DataType;
@@ -39,6 +39,18 @@ impl Schema {
         ensures { IsTrue result ↔ (columns self.now ≡ []) }
     {
         self.fields.is_empty()
+    }
+
+    /// Whether each column's type is one of columns.
+    pub fn is_known(&self) -> bool
+        ensures { result ≡ all_known (columns self.now) }
+    {
+        for (_name, dtype) in self.fields.iter() {
+            if !dtype.is_known() {
+                return false;
+            }
+        }
+        true
     }
 
     /// The type of the column of that name.

@@ -2,6 +2,7 @@
 ghost use Rattle.std.specs.Prelude.{◌≡◌, length, IfOk, IfErr};
 ghost use Rattle.plan_types.specs.Errors.{no_memory};
 ghost use Rattle.plan_dsl.specs.Expressions.{tree_of};
+ghost use Rattle.plan_dsl.specs.Literals.{settled};
 ghost use Rattle.plan_dsl.specs.Names.{name_of};
 ghost use Rattle.plan_arena.specs.Denotation.{Denotes};
 ghost use Rattle.plan_arena.specs.Items.{named_node, output_text, HoldsFrom, Grows};
@@ -10,6 +11,8 @@ use plan_arena::aexpr::AExpr;
 use plan_arena::arena::{Arena, Node};
 use plan_arena::expr_ir::{ExprIR, OutputName};
 use plan_dsl::expr::Expr;
+use plan_dsl::literal::LiteralValue;
+use plan_types::common_type::materialize_dyn_int;
 use plan_types::error::PlanError;
 use plan_types::text::PlSmallStr;
 use std::alloc::Global;
@@ -24,6 +27,23 @@ pub fn to_expr_ir(expr: Expr, arena: &mut Arena<AExpr>) -> Result<ExprIR, PlanEr
     let name = output_name(&expr, arena.allocator())?;
     let node = add_nodes(expr, arena)?;
     Ok(ExprIR::new(node, name))
+}
+
+/// The expression as a plan's node takes it: a number without a type at its top gets the one that it has alone.
+pub fn settle(expr: Expr) -> Expr
+    ensures { tree_of result ≡ settled (tree_of expr) }
+{
+    let Expr::Literal(LiteralValue::Int(number)) = &expr else {
+        return expr;
+    };
+    let number = *number;
+    let Some(alone) = materialize_dyn_int(number) else {
+        return expr;
+    };
+    match LiteralValue::of_number(&alone, number) {
+        Some(value) => Expr::Literal(value),
+        None => unreachable!(),
+    }
 }
 
 // The name, which is that of the leftmost column or literal.

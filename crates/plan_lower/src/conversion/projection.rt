@@ -1,9 +1,10 @@
 //! The expressions of one node, lowered together.
 ghost use Rattle.std.specs.Prelude.{◌≡◌, ◌≤◌, ℕ, List, OnOk, IfOk, IfErr, length, map};
 ghost use Rattle.std.specs.List.{AllByRecursion};
-ghost use Rattle.plan_types.specs.Errors.{no_memory};
+ghost use Rattle.plan_types.specs.Errors.{no_memory, IsRefusal};
 ghost use Rattle.plan_types.specs.Schemas.{columns};
 ghost use Rattle.plan_dsl.specs.Expressions.{tree_of};
+ghost use Rattle.plan_dsl.specs.Literals.{settled};
 ghost use Rattle.plan_dsl.specs.Names.{name_of};
 ghost use Rattle.plan_dsl.specs.Ops.{Op};
 ghost use Rattle.plan_dsl.specs.Plans.{trees_of};
@@ -15,9 +16,8 @@ ghost use Rattle.plan_lower.specs.Coercion.{numbers};
 ghost use Rattle.plan_lower.specs.KeptTypes.{Extends, IsKnown, IsRight, first_node};
 ghost use Rattle.plan_lower.specs.Outputs.{HasOutputs};
 ghost use Rattle.plan_lower.specs.Projection.{Projects, AddsOutput, IsOutputRefusal, IsProjectionRefusal};
-ghost use Rattle.plan_lower.specs.Typed.{IsRefusal};
 
-use crate::conversion::expr_to_ir::to_expr_ir;
+use crate::conversion::expr_to_ir::{settle, to_expr_ir};
 use crate::conversion::stack_opt::{Stack, coerce_types};
 use crate::type_table::TypeTable;
 use crate::typing::type_nodes;
@@ -133,7 +133,8 @@ fn project_one(
     Ok(expr_ir)
 }
 
-/// Adds an expression's nodes, and types them over a frame of the schema.
+/// Adds an expression's nodes, and types them over a frame of the schema. A number without a type at its top gets
+/// the one that it has alone.
 pub fn add_typed(
     expr: Expr,
     schema: &Schema,
@@ -144,14 +145,14 @@ pub fn add_typed(
     requires from { first_node types.old ≤ length arena.old }
     requires right { IsRight (registry udfs.now) (columns schema.now) arena.old types.old }
     ensures name { IfOk result (λ expr_ir. (named_node expr_ir).name ≡ name_of (tree_of expr)) }
-    ensures denotes { IfOk result (λ expr_ir. Denotes (HoldsFrom (length arena.old) arena.new) (named_node expr_ir).expression (tree_of expr)) }
+    ensures denotes { IfOk result (λ expr_ir. Denotes (HoldsFrom (length arena.old) arena.new) (named_node expr_ir).expression (settled (tree_of expr))) }
     ensures grows { Grows arena.old arena.new }
     ensures known { IfOk result (λ expr_ir. IsKnown arena.new types.new (named_node expr_ir).expression) }
     ensures right { OnOk result (IsRight (registry udfs.now) (columns schema.now) arena.new types.new) }
     ensures extends { OnOk result (Extends types.old types.new) }
-    ensures err { IfErr result (IsRefusal (typing (registry udfs.now) (columns schema.now) (tree_of expr))) }
+    ensures err { IfErr result (IsRefusal (typing (registry udfs.now) (columns schema.now) (settled (tree_of expr)))) }
 {
-    let expr_ir = to_expr_ir(expr, arena)?;
+    let expr_ir = to_expr_ir(settle(expr), arena)?;
     type_nodes(expr_ir.node(), arena, schema, udfs, types)?;
     Ok(expr_ir)
 }

@@ -6,7 +6,7 @@ ghost use Rattle.plan_types.specs.Schemas.{Columns};
 ghost use Rattle.plan_dsl.specs.Ops.{Op};
 ghost use Rattle.plan_dsl.specs.Registry.{Registry};
 ghost use Rattle.plan_arena.specs.Items.{HoldsExpression};
-ghost use Rattle.plan_lower.specs.Coercion.{DenotesTyped, IsCoerced, numbers};
+ghost use Rattle.plan_lower.specs.Coercion.{DenotesKnown, IsCoerced, numbers};
 ghost use Rattle.plan_lower.specs.KeptTypes.{HasRightTypes, IsKnown, IsRight};
 
 use crate::conversion::type_coercion::coerce_node;
@@ -28,7 +28,7 @@ pub fn coerce_types(
     requires right { HasRightTypes arena.old types.now }
     requires known { AllByRecursion (IsKnown arena.old types.now) (numbers stack.old.items) }
     ensures ok { OnOk result ((registry : Registry) (schema : Columns) (first : ℕ) → IsRight registry schema arena.old types.now →
-        first ≤ length arena.old → AllByRecursion (DenotesTyped registry schema first arena.old) (numbers stack.old.items) →
+        first ≤ length arena.old → AllByRecursion (DenotesKnown registry schema first arena.old) (numbers stack.old.items) →
         IsCoerced registry schema first arena.old arena.new (numbers stack.old.items)) }
     ensures empty { OnOk result (stack.new.items ≡ []) }
     ensures longer { length arena.old ≤ length arena.new }

@@ -11,7 +11,7 @@ ghost use Rattle.plan_arena.specs.Denotation.{Denotes};
 ghost use Rattle.plan_arena.specs.Items.{HoldsExpression, HoldsFrom, Grows};
 ghost use Rattle.plan_lower.specs.Coercion.{ChangesOperands, IsChangeFor, IsTypedChange, Visits, changed_by, is_kept};
 ghost use Rattle.plan_lower.specs.KeptTypes.{HasRightTypes, IsKnown, IsRight};
-ghost use Rattle.plan_lower.specs.Typed.{HasType};
+ghost use Rattle.plan_lower.specs.Typed.{HasType, HasKnownType};
 ghost use Rattle.plan_lower.specs.declared.type_table.TypeTable.{TypeTable};
 
 use crate::type_table::TypeTable;
@@ -29,7 +29,7 @@ pub fn coerce_node(node: Node, arena: &mut Arena<AExpr>, types: &TypeTable) -> R
     requires right { HasRightTypes arena.old types.now }
     requires known { IsKnown arena.old types.now node.0 }
     ensures ok { OnOk result ((registry : Registry) (schema : Columns) (first : ℕ) (t : Expression) → IsRight registry schema arena.old types.now →
-        first ≤ length arena.old → Denotes (HoldsFrom first arena.old) node.0 t →
+        first ≤ length arena.old → Denotes (HoldsFrom first arena.old) node.0 t → HasKnownType (typing registry schema t) →
         Visits registry schema first arena.new node.0 t) }
     ensures right { OnOk result ((registry : Registry) (schema : Columns) →
         IsRight registry schema arena.old types.now → IsRight registry schema arena.new types.now) }
@@ -40,17 +40,17 @@ pub fn coerce_node(node: Node, arena: &mut Arena<AExpr>, types: &TypeTable) -> R
     ensures err { IfErr result (λ error. error ≡ no_memory) }
 {
     match arena.get(node) {
-        AExpr::Column(_) | AExpr::Literal(_) => Ok(()),
+        AExpr::Column(_) => Ok(()),
+        AExpr::Literal(_) => Ok(()),
         AExpr::Cast {
             expr,
             dtype,
             options,
         } => {
             let (expr, options) = (*expr, *options);
-            let DataType::Unknown(UnknownKind::Int(number)) = types.get(expr, arena) else {
+            let Some(number) = types.get(expr, arena).untyped_number() else {
                 return Ok(());
             };
-            let number = *number;
             let dtype = dtype.try_clone(arena.allocator())?;
             coerce_cast(node, expr, number, dtype, options, arena, types)?;
             Ok(())

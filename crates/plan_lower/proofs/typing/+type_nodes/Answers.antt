@@ -1,6 +1,8 @@
 use Rattle.std.proofs.Common.{[], sym, ap, ◌∙◌, subst, arith}
 use Rattle.plan_types.specs.Schemas.{columns}
 use Rattle.plan_types.specs.Types.{ty}
+use Rattle.plan_types.specs.Errors.{IsRefusal}
+use Rattle.plan_dsl.specs.Typing.{typing}
 use Rattle.plan_types.proofs.ResultLemmas.{passed_on}
 use Rattle.plan_dsl.specs.Registry.{registry}
 use Rattle.plan_arena.specs.Denotation.{DenotesTree}
@@ -8,7 +10,7 @@ use Rattle.plan_arena.specs.Items.{HoldsFrom, expression_layer}
 use Rattle.plan_arena.proofs.ItemLemmas.{tree_within, got_held}
 use Rattle.plan_lower.specs.KeptTypes.{by_table, by_cast, first_node}
 use Rattle.plan_lower.proofs.TableLemmas.{found_known, tree_from, any_tree, inputs_from, known_extended, known_type, right_same, right_more, extends_same, extends_more, extends_then}
-use Rattle.plan_lower.proofs.TypingLemmas.{AllHaveType, column_typed, column_refused, binary_typed, binary_refused, left_refused, right_refused, cast_refused}
+use Rattle.plan_lower.proofs.TypingLemmas.{AllHaveType, column_typed, column_refused, binary_typed, binary_refused, left_refused, right_refused, cast_refused, column_unknown, literal_typed, literal_refused, cast_unknown}
 use Rattle.plan_lower.proofs.typing.+type_nodes.Goals as goal
 
 pub returns-then-is_some-clause-known : goal.returns-then-is_some-clause-known
@@ -19,10 +21,10 @@ pub get-requires : goal.get-requires
 get-requires t c =
     tree_within c.args.arena.now c.args.node.0 (any_tree (first_node c.args.types.now) c.args.arena.now c.args.node.0 c.requires.tree)
 
-pub returns-in_err-try_get-in-Column-clause-err : goal.returns-in_err-try_get-in-Column-clause-err
-returns-in_err-try_get-in-Column-clause-err t c =
+pub returns-in_err-found-in-Column-clause-err : goal.returns-in_err-found-in-Column-clause-err
+returns-in_err-found-in-Column-clause-err t c =
     let held = got_held c.args.arena.now c.args.node.0 c.get.result.now _ _ c.get.ensures (ap expression_layer c.in-Column.is) in
-    passed_on c.from_residual.result c.in_err-try_get-in-Column.field-0.0 _ c.from_residual.ensures.1 (column_refused c.args.arena.now (registry c.args.udfs.now) (columns c.args.schema.now) c.args.node.0 c.in-Column.name _ held c.in_err-try_get-in-Column.ensures.err)
+    passed_on c.from_residual.result c.in_err-found-in-Column.field-0.0 _ c.from_residual.ensures.1 (column_refused c.args.arena.now (registry c.args.udfs.now) (columns c.args.schema.now) c.args.node.0 c.in-Column.name _ held c.in_err-found-in-Column.ensures.err)
 
 pub keep-requires : goal.keep-requires
 keep-requires t c =
@@ -106,7 +108,7 @@ pub returns-in_ok-keep-in-Column-clause-right : goal.returns-in_ok-keep-in-Colum
 returns-in_ok-keep-in-Column-clause-right t c =
     let held = got_held c.args.arena.now c.args.node.0 c.get.result.now _ _ c.get.ensures (ap expression_layer c.in-Column.is) in
     let tree = any_tree (first_node c.args.types.now) c.args.arena.now c.args.node.0 c.requires.tree in
-    let typed = column_typed c.args.arena.now (registry c.args.udfs.now) (columns c.args.schema.now) c.args.node.0 c.in-Column.name _ held c.in_ok-try_get-in-Column.ensures.ok in
+    let typed = column_typed c.args.arena.now (registry c.args.udfs.now) (columns c.args.schema.now) c.args.node.0 c.in-Column.name _ held c.in_ok-found-in-Column.ensures.ok (sym c.is_known.ensures ∙ c.if-not-is_known.false) in
     let copied = subst (λ d. AllHaveType c.args.arena.now (registry c.args.udfs.now) (columns c.args.schema.now) c.args.node.0 (ty d)) (sym c.in_ok-dtype-in-Column.ensures.ok) typed in
     right_more (registry c.args.udfs.now) (columns c.args.schema.now) c.args.arena.now c.args.types.now c.keep.new.self c.args.node.0 c.in_ok-dtype-in-Column.dtype _ [] held tree copied tt c.in_ok-keep-in-Column.ensures.kept c.in_ok-keep-in-Column.ensures.others c.requires.right
 
@@ -133,7 +135,51 @@ pub returns-in_ok-keep-in-BinaryExpr-clause-extends : goal.returns-in_ok-keep-in
 returns-in_ok-keep-in-BinaryExpr-clause-extends t c =
     extends_then c.args.types.now c.type_nodes-in-BinaryExpr.new.types c.keep-in-BinaryExpr.new.self (extends_then c.args.types.now c.type_nodes.new.types c.type_nodes-in-BinaryExpr.new.types c.in_ok-type_nodes-in-BinaryExpr.ensures.extends c.in_ok-type_nodes-in-BinaryExpr-2.ensures.extends) (extends_more c.type_nodes-in-BinaryExpr.new.types c.keep-in-BinaryExpr.new.self c.args.node.0 c.in_ok-taken-in-BinaryExpr.taken.result c.in_ok-keep-in-BinaryExpr.ensures.first c.in_ok-keep-in-BinaryExpr.ensures.kept c.in_ok-keep-in-BinaryExpr.ensures.others)
 
-pub returns-in_ok-type_nodes-in-Cast-clause-known : goal.returns-in_ok-type_nodes-in-Cast-clause-known
-returns-in_ok-type_nodes-in-Cast-clause-known t c =
+pub returns-then-not-is_known-clause-err : goal.returns-then-not-is_known-clause-err
+returns-then-not-is_known-clause-err t c =
+    let held = got_held c.args.arena.now c.args.node.0 c.get.result.now _ _ c.get.ensures (ap expression_layer c.in-Column.is) in
+    λ u d. subst (IsRefusal (typing (registry c.args.udfs.now) (columns c.args.schema.now) u)) (sym c.at_top.ensures) (column_unknown c.args.arena.now (registry c.args.udfs.now) (columns c.args.schema.now) c.args.node.0 c.in-Column.name _ held c.in_ok-found-in-Column.ensures.ok (sym c.is_known.ensures ∙ c.if-not-is_known.true) u d)
+
+pub returns-in_err-dtype-in-Literal-clause-err : goal.returns-in_err-dtype-in-Literal-clause-err
+returns-in_err-dtype-in-Literal-clause-err t c =
+    let held = got_held c.args.arena.now c.args.node.0 c.get.result.now _ _ c.get.ensures (ap expression_layer c.in-Literal.is) in
+    passed_on c.from_residual-in_err-dtype-in-Literal.result c.in_err-dtype-in-Literal.field-0.0 _ c.from_residual-in_err-dtype-in-Literal.ensures.1 (literal_refused c.args.arena.now (registry c.args.udfs.now) (columns c.args.schema.now) c.args.node.0 _ _ _ held c.in_err-dtype-in-Literal.ensures.err)
+
+pub keep-requires-in-Literal : goal.keep-requires-in-Literal
+keep-requires-in-Literal t c =
+    tree_from (first_node c.args.types.now) c.args.arena.now c.args.node.0 c.requires.tree
+
+pub returns-in_err-keep-in-Literal-clause-right : goal.returns-in_err-keep-in-Literal-clause-right
+returns-in_err-keep-in-Literal-clause-right t c =
+    right_same (registry c.args.udfs.now) (columns c.args.schema.now) c.args.arena.now c.args.types.now c.keep-in-Literal.new.self c.in_err-keep-in-Literal.ensures.unchanged c.requires.right
+
+pub returns-in_err-keep-in-Literal-clause-extends : goal.returns-in_err-keep-in-Literal-clause-extends
+returns-in_err-keep-in-Literal-clause-extends t c =
+    extends_same c.args.types.now c.keep-in-Literal.new.self c.in_err-keep-in-Literal.ensures.first c.in_err-keep-in-Literal.ensures.unchanged
+
+pub returns-in_ok-keep-in-Literal-clause-known : goal.returns-in_ok-keep-in-Literal-clause-known
+returns-in_ok-keep-in-Literal-clause-known t c =
+    by_table c.args.node.0 (record { dtype = c.in_ok-dtype-in-Literal.dtype; keeps = c.in_ok-keep-in-Literal.ensures.kept })
+
+pub returns-in_ok-keep-in-Literal-clause-right : goal.returns-in_ok-keep-in-Literal-clause-right
+returns-in_ok-keep-in-Literal-clause-right t c =
+    let held = got_held c.args.arena.now c.args.node.0 c.get.result.now _ _ c.get.ensures (ap expression_layer c.in-Literal.is) in
+    let tree = any_tree (first_node c.args.types.now) c.args.arena.now c.args.node.0 c.requires.tree in
+    let typed = literal_typed c.args.arena.now (registry c.args.udfs.now) (columns c.args.schema.now) c.args.node.0 _ _ _ held c.in_ok-dtype-in-Literal.ensures.ok in
+    right_more (registry c.args.udfs.now) (columns c.args.schema.now) c.args.arena.now c.args.types.now c.keep-in-Literal.new.self c.args.node.0 c.in_ok-dtype-in-Literal.dtype _ [] held tree typed tt c.in_ok-keep-in-Literal.ensures.kept c.in_ok-keep-in-Literal.ensures.others c.requires.right
+
+pub returns-in_ok-keep-in-Literal-clause-extends : goal.returns-in_ok-keep-in-Literal-clause-extends
+returns-in_ok-keep-in-Literal-clause-extends t c =
+    extends_more c.args.types.now c.keep-in-Literal.new.self c.args.node.0 c.in_ok-dtype-in-Literal.dtype c.in_ok-keep-in-Literal.ensures.first c.in_ok-keep-in-Literal.ensures.kept c.in_ok-keep-in-Literal.ensures.others
+
+pub returns-then-not-is_known-2-clause-err : goal.returns-then-not-is_known-2-clause-err
+returns-then-not-is_known-2-clause-err t c =
     let held = got_held c.args.arena.now c.args.node.0 c.get.result.now _ _ c.get.ensures (ap expression_layer c.in-Cast.is) in
-    by_cast c.args.node.0 _ _ _ held c.in_ok-type_nodes-in-Cast.ensures.known
+    let ok = c.in_ok-type_nodes-in-Cast.ensures in
+    let below = known_type (registry c.args.udfs.now) (columns c.args.schema.now) c.args.arena.now _ ok.right _ ok.known in
+    λ u d. subst (IsRefusal (typing (registry c.args.udfs.now) (columns c.args.schema.now) u)) (sym c.at_top-then-not-is_known-2.ensures) (cast_unknown c.args.arena.now (registry c.args.udfs.now) (columns c.args.schema.now) c.args.node.0 _ _ _ held _ below (sym c.is_known-in-Cast.ensures ∙ c.if-not-is_known-2.true) u d)
+
+pub returns-else-not-is_known-2-clause-known : goal.returns-else-not-is_known-2-clause-known
+returns-else-not-is_known-2-clause-known t c =
+    let held = got_held c.args.arena.now c.args.node.0 c.get.result.now _ _ c.get.ensures (ap expression_layer c.in-Cast.is) in
+    by_cast c.args.node.0 _ _ _ held (sym c.is_known-in-Cast.ensures ∙ c.if-not-is_known-2.false) c.in_ok-type_nodes-in-Cast.ensures.known

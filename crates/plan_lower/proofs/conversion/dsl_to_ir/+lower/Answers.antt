@@ -1,22 +1,22 @@
-use Rattle.std.proofs.Common.{refl, sym, ap, ◌∙◌}
+use Rattle.std.proofs.Common.{[], map, refl, sym, ap, ◌∙◌}
 use Rattle.plan_types.specs.Schemas.{columns}
 use Rattle.plan_types.proofs.ResultLemmas.{passed_on}
 use Rattle.plan_dsl.specs.Expressions.{tree_of}
-use Rattle.plan_dsl.specs.Plans.{plan_tree, trees_of, named, filter_op}
+use Rattle.plan_dsl.specs.Plans.{plan_tree, trees_of, named, filter_op, select_op}
 use Rattle.plan_dsl.specs.Registry.{registry}
 use Rattle.plan_lower.specs.Lowering.{out_of_memory, source_filter, source_select}
-use Rattle.plan_lower.proofs.PlanLemmas.{scan_stands, filter_stands, filter_refused, select_stands, select_refused, refused_below}
+use Rattle.plan_lower.proofs.PlanLemmas.{scan_stands, scan_refused, filter_stands, filter_refused, select_stands, select_refused, refused_below}
 use Rattle.plan_lower.proofs.conversion.dsl_to_ir.+lower.Goals as goal
 
 pub returns-in_err-node-in-DataFrameScan-clause-err :
     goal.returns-in_err-node-in-DataFrameScan-clause-err
 returns-in_err-node-in-DataFrameScan-clause-err t c =
-    passed_on c.from_residual.result c.in_err-node-in-DataFrameScan.field-0.0 _ c.from_residual.ensures.1 (out_of_memory c.in_err-node-in-DataFrameScan.ensures.err)
+    passed_on c.from_residual.result c.in_err-node-in-DataFrameScan.field-0.0 _ c.from_residual.ensures.1 (scan_refused (registry c.args.udfs.now) c.in-DataFrameScan.table (columns c.in-DataFrameScan.schema) (plan_tree c.args.plan) _ c.in_err-node-in-DataFrameScan.ensures.err (ap plan_tree c.in-DataFrameScan.is))
 
 pub returns-in_ok-node-in-DataFrameScan-clause-ok :
     goal.returns-in_ok-node-in-DataFrameScan-clause-ok
 returns-in_ok-node-in-DataFrameScan-clause-ok t c =
-    scan_stands (registry c.args.udfs.now) c.args.expr_arena.now c.lower_scan.new.lp_arena c.in_ok-node-in-DataFrameScan.node.0 c.in-DataFrameScan.table (columns c.in-DataFrameScan.schema) (plan_tree c.args.plan) c.in_ok-node-in-DataFrameScan.ensures.ok c.in_ok-node-in-DataFrameScan.ensures.distinct (ap plan_tree c.in-DataFrameScan.is)
+    scan_stands (registry c.args.udfs.now) c.args.expr_arena.now c.lower_scan.new.lp_arena c.in_ok-node-in-DataFrameScan.node.0 c.in-DataFrameScan.table (columns c.in-DataFrameScan.schema) (plan_tree c.args.plan) c.in_ok-node-in-DataFrameScan.ensures.ok c.in_ok-node-in-DataFrameScan.ensures.distinct c.in_ok-node-in-DataFrameScan.ensures.known (ap plan_tree c.in-DataFrameScan.is)
 
 pub returns-in_err-node-in-Ok-clause-err : goal.returns-in_err-node-in-Ok-clause-err
 returns-in_err-node-in-Ok-clause-err t c =
@@ -42,3 +42,8 @@ pub returns-in_ok-node-in-Ok-lower-clause-ok : goal.returns-in_ok-node-in-Ok-low
 returns-in_ok-node-in-Ok-lower-clause-ok t c =
     let same = ap plan_tree c.in-Select.is ∙ ap (λ p. source_select (trees_of c.in-Select.expr) (plan_tree p)) (sym c.into_inner-in-Select.ensures) in
     select_stands (registry c.args.udfs.now) c.lower-in-Select.new.expr_arena c.lower_select.new.expr_arena c.lower-in-Select.new.lp_arena c.lower_select.new.lp_arena c.in-Ok-lower.input.node.0 c.in-Ok-lower.input.schema.0 c.in_ok-node-in-Ok-lower.node.0 (trees_of c.in-Select.expr) (plan_tree c.into_inner-in-Select.result) (plan_tree c.args.plan) c.in-Ok-lower.ensures.ok c.in_ok-node-in-Ok-lower.ensures.ok same
+
+pub returns-in-Err-lower-clause-err : goal.returns-in-Err-lower-clause-err
+returns-in-Err-lower-clause-err t c =
+    let same = ap plan_tree c.in-Select.is ∙ ap (λ p. source_select (trees_of c.in-Select.expr) (plan_tree p)) (sym c.into_inner-in-Select.ensures) in
+    refused_below (registry c.args.udfs.now) (select_op (map named (trees_of c.in-Select.expr)) []) (plan_tree c.into_inner-in-Select.result) (plan_tree c.args.plan) c.in-Err-lower.error c.below-in-Err-lower.result c.in-Err-lower.ensures.err c.below-in-Err-lower.ensures same

@@ -3,7 +3,7 @@ use Rattle.std.specs.List.{AllByRecursion}
 use Rattle.plan_types.specs.Schemas.{columns}
 use Rattle.plan_dsl.specs.Registry.{registry}
 use Rattle.plan_arena.proofs.ItemLemmas.{length-grown}
-use Rattle.plan_lower.specs.Coercion.{DenotesTyped, IsCoerced}
+use Rattle.plan_lower.specs.Coercion.{DenotesKnown, IsCoerced}
 use Rattle.plan_lower.specs.KeptTypes.{IsKnown}
 use Rattle.plan_lower.proofs.ProjectionLemmas.{roots_are, roots_typed, has_outputs, earlier_kept}
 use Rattle.plan_lower.proofs.TableLemmas.{right_start}
@@ -26,7 +26,7 @@ returns-clause-ok c =
     let p = c.in_ok-projection.ensures.ok in
     let first = length c.args.arena.now in
     let roots = c.in_ok-stack.ensures.ok ∙ roots_are c.in_ok-projection.projection.expr.items.items p.outputs p.nodes_are in
-    let typed = subst (AllByRecursion (DenotesTyped (registry c.args.udfs.now) (columns c.args.schema.now) first c.project.new.arena)) (sym roots) (roots_typed (registry c.args.udfs.now) (columns c.args.schema.now) first first c.project.new.arena (omega arith) p.outputs p.each) in
+    let typed = subst (AllByRecursion (DenotesKnown (registry c.args.udfs.now) (columns c.args.schema.now) first c.project.new.arena)) (sym roots) (roots_typed (registry c.args.udfs.now) (columns c.args.schema.now) first first c.project.new.arena (omega arith) p.outputs p.each) in
     let coerced = c.in_ok-coerce_types.ensures.ok (registry c.args.udfs.now) (columns c.args.schema.now) first c.in_ok-projection.ensures.right (length-grown _ _ c.in_ok-projection.ensures.grows) typed in
     has_outputs (registry c.args.udfs.now) (columns c.args.schema.now) first c.project.new.arena c.coerce_types.new.arena _ _ _ p (subst (IsCoerced (registry c.args.udfs.now) (columns c.args.schema.now) first c.project.new.arena c.coerce_types.new.arena) roots coerced)
 
@@ -35,6 +35,6 @@ returns-clause-kept c =
     let p = c.in_ok-projection.ensures.ok in
     let first = length c.args.arena.now in
     let roots = c.in_ok-stack.ensures.ok ∙ roots_are c.in_ok-projection.projection.expr.items.items p.outputs p.nodes_are in
-    let typed = subst (AllByRecursion (DenotesTyped (registry c.args.udfs.now) (columns c.args.schema.now) first c.project.new.arena)) (sym roots) (roots_typed (registry c.args.udfs.now) (columns c.args.schema.now) first first c.project.new.arena (omega arith) p.outputs p.each) in
+    let typed = subst (AllByRecursion (DenotesKnown (registry c.args.udfs.now) (columns c.args.schema.now) first c.project.new.arena)) (sym roots) (roots_typed (registry c.args.udfs.now) (columns c.args.schema.now) first first c.project.new.arena (omega arith) p.outputs p.each) in
     let coerced = c.in_ok-coerce_types.ensures.ok (registry c.args.udfs.now) (columns c.args.schema.now) first c.in_ok-projection.ensures.right (length-grown _ _ c.in_ok-projection.ensures.grows) typed in
     earlier_kept c.args.arena.now c.project.new.arena c.coerce_types.new.arena c.in_ok-projection.ensures.grows coerced.below

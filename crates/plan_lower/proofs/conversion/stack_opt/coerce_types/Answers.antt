@@ -56,5 +56,5 @@ loop-turn-preserved c =
       right = λ registry schema before. visited.right registry schema (c.loop-turn.invariant.right registry schema before);
       pending = λ registry schema first before le all.
           let p = subst (λ s. Pending registry schema first c.args.arena.now c.loop-turn.arena s (numbers c.args.stack.now.items)) popped (c.loop-turn.invariant.pending registry schema first before le all) in
-          pending_step registry schema first c.args.arena.now c.loop-turn.arena c.coerce_node.new.arena c.in-Some.node.0 (numbers c.pop.new.self.items) (numbers c.push_inputs.new.stack.items) (numbers c.args.stack.now.items) p visited.elsewhere (λ t d. visited.ok registry schema first t (c.loop-turn.invariant.right registry schema before) (omega (arith, le, c.loop-turn.invariant.longer)) d) c.in_ok-push_inputs.ensures.ok;
+          pending_step registry schema first c.args.arena.now c.loop-turn.arena c.coerce_node.new.arena c.in-Some.node.0 (numbers c.pop.new.self.items) (numbers c.push_inputs.new.stack.items) (numbers c.args.stack.now.items) p visited.elsewhere (λ t d has. visited.ok registry schema first t (c.loop-turn.invariant.right registry schema before) (omega (arith, le, c.loop-turn.invariant.longer)) d has) c.in_ok-push_inputs.ensures.ok;
     }

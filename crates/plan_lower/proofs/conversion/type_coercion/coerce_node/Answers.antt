@@ -1,8 +1,11 @@
-use Rattle.std.proofs.Common.{ap}
-use Rattle.plan_arena.specs.Items.{expression_layer}
+use Rattle.std.proofs.Common.{[], ◌∷◌, sym, ap, subst, arith}
+use Rattle.plan_types.specs.Types.{ty}
+use Rattle.plan_dsl.specs.Ops.{CastOp}
+use Rattle.plan_arena.specs.Items.{HoldsExpression, expression_layer}
 use Rattle.plan_arena.proofs.ItemLemmas.{tree_within, got_held}
-use Rattle.plan_lower.proofs.CoercionLemmas.{plain_tree, visits_column, visits_cast}
-use Rattle.plan_lower.proofs.TableLemmas.{known_typed}
+use Rattle.plan_dsl.specs.Literals.{literal_type, literal_value}
+use Rattle.plan_lower.proofs.CoercionLemmas.{plain_tree, visits_leaf, visits_cast, column_leaf, literal_leaf}
+use Rattle.plan_lower.proofs.TableLemmas.{known_typed, known_inputs}
 use Rattle.plan_lower.proofs.conversion.type_coercion.coerce_node.Goals as goal
 
 pub get-requires : goal.get-requires
@@ -17,11 +20,32 @@ coerce_binary-requires-clause-held c =
 pub returns-in-Column-clause-ok : goal.returns-in-Column-clause-ok
 returns-in-Column-clause-ok c = λ registry schema first t right.
     let held = got_held c.args.arena.now c.args.node.0 c.get.result.now _ _ c.get.ensures (ap expression_layer c.in-Column.is) in
-    let typed = known_typed registry schema c.args.arena.now c.args.types.now right c.args.node.0 c.requires.known in
-    visits_column registry schema c.args.arena.now c.args.node.0 _ held typed first t
+    visits_leaf registry schema c.args.arena.now c.args.node.0 _ held (column_leaf schema _) first t
 
-pub returns-in-Cast-clause-ok : goal.returns-in-Cast-clause-ok
-returns-in-Cast-clause-ok c = λ registry schema first t right.
+pub returns-in-Literal-clause-ok : goal.returns-in-Literal-clause-ok
+returns-in-Literal-clause-ok c = λ registry schema first t right.
+    let held = got_held c.args.arena.now c.args.node.0 c.get.result.now _ _ c.get.ensures (ap expression_layer c.in-Literal.is) in
+    visits_leaf registry schema c.args.arena.now c.args.node.0 _ held (literal_leaf schema (literal_type c.in-Literal.field-0) (literal_value c.in-Literal.field-0)) first t
+
+pub get-requires-in-Cast-clause-known : goal.get-requires-in-Cast-clause-known
+get-requires-in-Cast-clause-known c =
+    let is = c.requires.right in
     let held = got_held c.args.arena.now c.args.node.0 c.get.result.now _ _ c.get.ensures (ap expression_layer c.in-Cast.is) in
-    let typed = known_typed registry schema c.args.arena.now c.args.types.now right c.args.node.0 c.requires.known in
-    visits_cast registry schema c.args.arena.now c.args.node.0 _ _ _ held typed first t
+    (known_inputs is.registry is.schema c.args.arena.now c.args.types.now is.right c.args.node.0 _ _ c.requires.known held).0
+
+pub returns-in_default : goal.returns-in_default
+returns-in_default c =
+    let held = got_held c.args.arena.now c.args.node.0 c.get.result.now _ _ c.get.ensures (ap expression_layer c.in-Cast.is) in
+    record {
+      ok = λ registry schema first t right. visits_cast registry schema c.args.arena.now c.args.node.0 _ _ _ (ty c.get-in-Cast.result.now) held (λ u d. c.get-in-Cast.ensures registry schema u right d) c.in_default.ensures first t;
+      right = λ registry schema right. right;
+      known = λ n k. k;
+      elsewhere = λ n op inputs other h. h;
+      longer = omega arith;
+      err = tt;
+    }
+
+pub coerce_cast-requires-clause-held : goal.coerce_cast-requires-clause-held
+coerce_cast-requires-clause-held c =
+    let held = got_held c.args.arena.now c.args.node.0 c.get.result.now _ _ c.get.ensures (ap expression_layer c.in-Cast.is) in
+    subst (λ d. HoldsExpression c.args.arena.now c.args.node.0 (CastOp (ty d) c.in-Cast.options) (c.in-Cast.expr.0 ∷ [])) (sym c.in_ok-dtype-in-Cast.ensures.ok) held

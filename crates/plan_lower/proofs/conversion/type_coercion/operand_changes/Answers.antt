@@ -1,11 +1,12 @@
-use Rattle.std.proofs.Common.{◌≡◌}
-use Rattle.plan_types.specs.Errors.{no_memory}
 use Rattle.plan_types.specs.Types.{ty}
+use Rattle.plan_types.specs.Errors.{no_memory}
 use Rattle.plan_types.proofs.ResultLemmas.{passed_on}
-use Rattle.plan_lower.proofs.CoercionLemmas.{refused_typed}
-use Rattle.plan_lower.proofs.TableLemmas.{known_inputs, known_typed}
+use Rattle.std.proofs.Common.{◌≡◌}
+use Rattle.plan_dsl.proofs.CastLemmas.{left_becomes, right_becomes}
 use Rattle.plan_lower.proofs.TypingLemmas.{AllHaveType, binary_refused}
-use Rattle.plan_lower.proofs.conversion.type_coercion.operand_casts.Goals as goal
+use Rattle.plan_lower.proofs.CoercionLemmas.{refused_typed}
+use Rattle.plan_lower.proofs.TableLemmas.{known_typed, known_inputs}
+use Rattle.plan_lower.proofs.conversion.type_coercion.operand_changes.Goals as goal
 
 pub get-left-requires-clause-known : goal.get-left-requires-clause-known
 get-left-requires-clause-known c =
@@ -25,6 +26,12 @@ returns-in_err-taken-clause-err c =
     let typed_right : AllHaveType c.args.arena.now is.registry is.schema c.args.right.0 (ty c.get-right.result.now) = λ t d. c.get-right.ensures is.registry is.schema t is.right d in
     passed_on c.from_residual.result c.in_err-taken.field-0.0 (λ e. e ≡ no_memory) c.from_residual.ensures.1 (refused_typed c.args.arena.now is.registry is.schema c.args.node.0 _ typed (binary_refused c.args.arena.now is.registry is.schema c.args.node.0 c.args.op _ _ c.requires.held _ _ _ typed_left typed_right c.in_err-taken.ensures.err))
 
+pub needed_change-requires : goal.needed_change-requires
+needed_change-requires c = left_becomes c.args.op (ty c.get-left.result.now) (ty c.get-right.result.now) _ _ _ c.in_ok-taken.ensures.ok
+
+pub needed_change-requires-2 : goal.needed_change-requires-2
+needed_change-requires-2 c = right_becomes c.args.op (ty c.get-left.result.now) (ty c.get-right.result.now) _ _ _ c.in_ok-taken.ensures.ok
+
 pub returns-clause-ok : goal.returns-clause-ok
 returns-clause-ok c = λ registry schema right. record {
   left_from = ty c.get-left.result.now;
@@ -35,6 +42,6 @@ returns-clause-ok c = λ registry schema right. record {
   left_typed = λ t d. c.get-left.ensures registry schema t right d;
   right_typed = λ t d. c.get-right.ensures registry schema t right d;
   takes = c.in_ok-taken.ensures.ok;
-  left_casts = c.needed_cast.ensures;
-  right_casts = c.needed_cast-2.ensures;
+  left_changes = c.needed_change.ensures;
+  right_changes = c.needed_change-2.ensures;
 }

@@ -1,0 +1,10 @@
+use Rattle.std.proofs.Common.{sym, ap, ◌∙◌}
+use Rattle.std.specs.Str.{chars}
+use Rattle.plan_dsl.specs.Expressions.{tree_of}
+use Rattle.plan_dsl.specs.Names.{name_of}
+use Rattle.plan_lower.proofs.conversion.expr_to_ir.+output_name.Goals as goal
+
+pub returns-in_ok-name-in-Literal-clause-ok : goal.returns-in_ok-name-in-Literal-clause-ok
+unfolding chars
+returns-in_ok-name-in-Literal-clause-ok t c =
+    c.in_ok-name-in-Literal.ensures.ok ∙ sym (ap (λ e. name_of (tree_of e)) c.in-Literal.is)
