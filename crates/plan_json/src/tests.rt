@@ -103,15 +103,25 @@ fn reads_tables(rt: HostRuntime) -> Result<(), Fail> {
         ),
         ("{}", "Shape /tables"),
         ("[1]", "Shape /tables/0"),
-        ("1.0", "Float /tables"),
-        ("[1e3]", "Float /tables/0"),
-        ("[{\"name\":-0,\"columns\":[]}]", "Float /tables/0/name"),
         ("[{\"name\":\"t\"}]", "Shape /tables/0"),
         ("[{\"name\":1,\"columns\":[]}]", "Shape /tables/0/name"),
         (
             "[{\"name\":\"t\",\"columns\":[]},{\"name\":\"t\",\"columns\":[]}]",
             "Name /tables/1/name",
         ),
+    ] {
+        let found = query_answer(rt.alloc(), tables, "{\"empty\":[]}")?;
+        assert!(rt; found.as_str() == want, "{found} in place of {want}");
+    }
+    Ok(())
+}
+
+#[test]
+fn tells_floats_in_tables(rt: HostRuntime) -> Result<(), Fail> {
+    for (tables, want) in [
+        ("1.0", "Float /tables"),
+        ("[1e3]", "Float /tables/0"),
+        ("[{\"name\":-0,\"columns\":[]}]", "Float /tables/0/name"),
     ] {
         let found = query_answer(rt.alloc(), tables, "{\"empty\":[]}")?;
         assert!(rt; found.as_str() == want, "{found} in place of {want}");
