@@ -338,7 +338,7 @@ fn reads_expressions(rt: HostRuntime) -> Result<(), Fail> {
             "query",
         ),
         (
-            "{\"select\":[{\"empty\":[]},[{\"col\":\"a\"},{\"neg\":1}]]}",
+            "{\"select\":[{\"empty\":[]},[{\"col\":\"a\"},{\"neg\":1.5}]]}",
             "Shape /plan/select/1/1",
         ),
         (
