@@ -43,6 +43,7 @@ too_long_text = codes "too long\n"
 abbrev pub bad_query_text : JsonError → Option (List ℕ)
 bad_query_text json.NotJson = Some (codes "bad query NotJson\n")
 bad_query_text (json.Shape path) = Some (codes "bad query Shape " ++ string_bytes path ++ codes "\n")
+bad_query_text (json.Float path) = Some (codes "bad query Float " ++ string_bytes path ++ codes "\n")
 bad_query_text (json.Name path) = Some (codes "bad query Name " ++ string_bytes path ++ codes "\n")
 bad_query_text json.NoMemory = None
 

@@ -118,6 +118,7 @@ fn bad_query(alloc: Global, error: &JsonError) -> Result<String, AllocError>
     match error {
         JsonError::NotJson => String::from_str(alloc, "bad query NotJson\n"),
         JsonError::Shape { path } => format!(in alloc; "bad query Shape {path}\n"),
+        JsonError::Float { path } => format!(in alloc; "bad query Float {path}\n"),
         JsonError::Name { path } => format!(in alloc; "bad query Name {path}\n"),
         JsonError::NoMemory => Err(AllocError),
     }

@@ -113,6 +113,10 @@ fn bad_queries_are_told_with_their_place(rt: HostRuntime) -> Result<(), Fail> {
             "bad query Shape /plan\n",
         ),
         (
+            "{\"tables\":[],\"plan\":{\"filter\":[{\"empty\":[]},{\"lit\":1.5}]}}",
+            "bad query Float /plan/filter/1/lit\n",
+        ),
+        (
             "{\"tables\":[],\"plan\":{\"scan\":\"t\"}}",
             "bad query Name /plan/scan\n",
         ),

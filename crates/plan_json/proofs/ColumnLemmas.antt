@@ -11,7 +11,7 @@ use Rattle.serde_json.specs.Data.{Data, Items}
 use Rattle.serde_json.specs.Find.{as_array}
 use Rattle.serde_json.specs.View.{view, items_view}
 use Rattle.serde_json.specs.declared.value.Value.{Value}
-use Rattle.plan_json.specs.Faults.{FaultKind, BadShape, column_list, own_fault, unless}
+use Rattle.plan_json.specs.Faults.{FaultKind, column_list, own_fault, shape_fault, unless}
 use Rattle.plan_json.specs.Looking.{both, two_items, all_of, some_of}
 use Rattle.plan_json.specs.Queries.{text_of, type_of, column_of, column_name, columns_of, columns_from}
 use Rattle.plan_json.proofs.ItemLemmas.{some_of-append, some_of-names}
@@ -40,17 +40,17 @@ columns_all d vs n cs is all read distinct =
     ∙ here
 
 -- a name that earlier columns have repeats among all
-pub column_repeated : (d : Data) (vs : List Value) (i : ℕ) (v : Value) (cs : Columns) (c : Name × Ty) → Some (items_view vs) ≡ as_array d → i < length vs → v ≡ get_or vs i v → all_of column_of (items_view (take i vs)) ≡ Some cs → column_of (view v) ≡ Some c → is_some (type_at cs c.0) ≡ true → own_fault column_list d ≡ Some BadShape
+pub column_repeated : (d : Data) (vs : List Value) (i : ℕ) (v : Value) (cs : Columns) (c : Name × Ty) → Some (items_view vs) ≡ as_array d → i < length vs → v ≡ get_or vs i v → all_of column_of (items_view (take i vs)) ≡ Some cs → column_of (view v) ≡ Some c → is_some (type_at cs c.0) ≡ true → own_fault column_list d ≡ Some (shape_fault d)
 column_repeated d vs i v cs c found within is read now there =
     let parted : take i vs ++ v ∷ drop (suc i) vs ≡ vs = ap (λ l. take i vs ++ l) (ap (λ w. w ∷ drop (suc i) vs) is ∙ sym (drop-cons vs i v within)) ∙ take-append-drop i vs in
     let front = some_of-names column_of column_name column_name-read (items_view (take i vs)) cs read in
     let back = ap (λ name. option_map_or (λ n. n ∷ some_of column_name (items_view (drop (suc i) vs))) name (some_of column_name (items_view (drop (suc i) vs)))) (column_name-read (view v) c now) in
     let names = ap (λ l. some_of column_name (items_view l)) (sym parted) ∙ some_of-append column_name (take i vs) (v ∷ drop (suc i) vs) ∙ ap (λ l. l ++ some_of column_name (items_view (v ∷ drop (suc i) vs))) front ∙ ap (λ l. names_of cs ++ l) back in
     let again = ap repeats names ∙ repeats-again (names_of cs) c.0 _ (is_among-type_at cs c.0 ∙ there) in
-    ap (list_fault_of (λ items. not (repeats (some_of column_name items)))) (sym found) ∙ ap (λ b. unless BadShape (not b)) again
+    ap (list_fault_of (λ items. not (repeats (some_of column_name items)))) (sym found) ∙ ap (λ b. unless (shape_fault d) (not b)) again
   where
     list_fault_of : (Items → Bool) → Option Items → Option FaultKind
-    list_fault_of test o = unless BadShape (option_map_or test o false)
+    list_fault_of test o = unless (shape_fault d) (option_map_or test o false)
 
 -- one more column is read
 pub columns_more : (cs : Columns) (name : Name) (type : Ty) → is_some (type_at cs name) ≡ false → repeats (names_of cs) ≡ false → (with_column cs name type ≡ cs ++ (name, type) ∷ []) × (repeats (names_of (cs ++ (name, type) ∷ [])) ≡ false)

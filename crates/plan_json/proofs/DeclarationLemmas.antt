@@ -11,7 +11,7 @@ use Rattle.serde_json.specs.Find.{as_array, get, get_member}
 use Rattle.serde_json.specs.View.{view, items_view}
 use Rattle.serde_json.specs.declared.value.Value.{Value}
 use Rattle.serde_json.proofs.Views.{items_len-items_view}
-use Rattle.plan_json.specs.Faults.{BadShape, table_list, own_fault, unless, declared_names}
+use Rattle.plan_json.specs.Faults.{table_list, own_fault, shape_fault, unless, declared_names}
 use Rattle.plan_json.specs.Looking.{both, two_members, all_of, some_of}
 use Rattle.plan_json.specs.Queries.{text_of, table_of, table_name, tables_of, tables_from, table_limit, columns_of}
 use Rattle.plan_json.specs.Tables.{Declared}
@@ -74,8 +74,8 @@ not_less a b h = go (nat_lt a b) refl
     go true e = absurd (omega (arith, ltb-true a b e))
     go false e = refl
 
-pub tables_too_many : (d : Data) (vs : List Value) → Some (items_view vs) ≡ as_array d → table_limit ≤ length vs → own_fault table_list d ≡ Some BadShape
-tables_too_many d vs is many = ap (λ o. unless BadShape (option_map_or (λ items. nat_lt (items_len items) table_limit) o false)) (sym is) ∙ ap (unless BadShape) (few vs false (not_less (length vs) table_limit many))
+pub tables_too_many : (d : Data) (vs : List Value) → Some (items_view vs) ≡ as_array d → table_limit ≤ length vs → own_fault table_list d ≡ Some (shape_fault d)
+tables_too_many d vs is many = ap (λ o. unless (shape_fault d) (option_map_or (λ items. nat_lt (items_len items) table_limit) o false)) (sym is) ∙ ap (unless (shape_fault d)) (few vs false (not_less (length vs) table_limit many))
 
 pub tables_all : (d : Data) (vs : List Value) (n : ℕ) (ts : Declared) → Some (items_view vs) ≡ as_array d → length vs < table_limit → length vs ≡ n → all_of table_of (items_view (take n vs)) ≡ Some ts → repeats (names_of ts) ≡ false → tables_of d ≡ Some ts
 tables_all d vs n ts is some all read distinct =

@@ -1,6 +1,7 @@
 pub mod ColumnLemmas
 pub mod DeclarationLemmas
 pub mod FaultLemmas
+pub mod FloatLaws
 pub mod FormLemmas
 pub mod ItemLemmas
 pub mod LookingLemmas

@@ -12,10 +12,10 @@ use Rattle.serde_json.specs.Events.{items_len}
 use Rattle.serde_json.specs.Find.{as_array}
 use Rattle.plan_json.specs.Errors.{IsErrorOf}
 use Rattle.plan_json.specs.declared.error.JsonError.{JsonError}
-use Rattle.plan_json.specs.declared.error.JsonError.TheVariants.{NotJson, Shape, Name as Name', NoMemory}
-use Rattle.plan_json.specs.Faults.{FaultKind, BadShape, BadName, key, number, Path, Form, a_query, table_list, column_list, a_column, a_type, a_text, a_table, a_new_name, a_plan, a_scan, a_selection, expression_list, an_expression, operands, an_operator, a_cast, a_mode, Part, part, own_fault, parts_of, unless, each, each_table, query_parts, table_parts, column_parts, one_part, declared_names, IsBadAt}
+use Rattle.plan_json.specs.declared.error.JsonError.TheVariants.{NotJson, Shape, Float, Name as Name', NoMemory}
+use Rattle.plan_json.specs.Faults.{FaultKind, BadShape, BadFloat, BadName, key, number, Path, Form, a_query, table_list, column_list, a_column, a_type, a_text, a_table, a_new_name, a_plan, a_scan, a_filter, a_selection, expression_list, an_expression, a_literal, operands, an_operator, a_cast, a_mode, Part, part, own_fault, parts_of, shape_fault, unless, each, each_table, query_parts, table_parts, column_parts, one_part, declared_names, IsBadAt}
 use Rattle.plan_json.specs.Looking.{both, two_members, two_items, three_items, all_of, some_of}
-use Rattle.plan_json.specs.Queries.{QueryModel, text_of, type_of, operator_of, mode_of, column_of, column_name, columns_of, columns_from, table_of, table_name, table_limit, tables_of, tables_from, expression_of, binary_of, binary_expression, cast_of, cast_expression, expressions_of, column_expression, table_at, scan_plan, scan_of, empty_plan, select_plan, plan_of, select_of, query_of, query_from, IsQueryOf}
+use Rattle.plan_json.specs.Queries.{QueryModel, text_of, type_of, literal_of, literal_expression, operator_of, mode_of, column_of, column_name, columns_of, columns_from, table_of, table_name, table_limit, tables_of, tables_from, expression_of, binary_of, binary_expression, cast_of, cast_expression, expressions_of, column_expression, table_at, scan_plan, scan_of, empty_plan, filter_plan, select_plan, plan_of, filter_of, select_of, query_of, query_from, IsQueryOf}
 use Rattle.plan_json.specs.Tables.{Declared}
 use Rattle.plan_json.proofs.DeclarationLemmas.{table_name-read, declared_names-read}
 use Rattle.plan_json.proofs.TableLemmas.{is_some-table_at}
@@ -63,9 +63,11 @@ IsWell (a_table before) d = (t : Name × Columns) × (table_of d ≡ Some t) × 
 IsWell (a_new_name before) d = (name : Name) × (text_of d ≡ Some name) × (is_among name before ≡ false)
 IsWell (a_plan names) d = (tables : Declared) × (names_of tables ≡ names) × Given (plan_of tables d)
 IsWell (a_scan names) d = (tables : Declared) × (names_of tables ≡ names) × Given (scan_of tables d)
+IsWell (a_filter names) d = (tables : Declared) × (names_of tables ≡ names) × Given (filter_of tables d)
 IsWell (a_selection names) d = (tables : Declared) × (names_of tables ≡ names) × Given (select_of tables d)
 IsWell expression_list d = Given (expressions_of d)
 IsWell an_expression d = Given (expression_of d)
+IsWell a_literal d = Given (literal_of d)
 IsWell operands d = Given (binary_of d)
 IsWell an_operator d = Given (operator_of d)
 IsWell a_cast d = Given (cast_of d)
@@ -73,19 +75,19 @@ IsWell a_mode d = Given (mode_of d)
 
 -- ---- such a value has no fault of its own
 
-there : {A : Type 0} (o : Option A) (kind : FaultKind) → Given o → unless BadShape (is_some o) ≡ Some kind → ⊥
-there None kind (x, e) bad = cc
-there (Some y) kind well bad = cc
+there : {A : Type 0} (fault : FaultKind) (o : Option A) (kind : FaultKind) → Given o → unless fault (is_some o) ≡ Some kind → ⊥
+there fault None kind (x, e) bad = cc
+there fault (Some y) kind well bad = cc
 
-there_first : {A B : Type 0} (f : A → Option B) (o : Option A) (kind : FaultKind) → Given (option_and_then f o) → unless BadShape (is_some o) ≡ Some kind → ⊥
-there_first f None kind (x, e) bad = cc
-there_first f (Some y) kind well bad = cc
+there_first : {A B : Type 0} (fault : FaultKind) (f : A → Option B) (o : Option A) (kind : FaultKind) → Given (option_and_then f o) → unless fault (is_some o) ≡ Some kind → ⊥
+there_first fault f None kind (x, e) bad = cc
+there_first fault f (Some y) kind well bad = cc
 
-own_list : {B : Type 0} (test : Items → Bool) (f : Items → Option B) (passes : (items : Items) → Given (f items) → test items ≡ true) (o : Option Items) (kind : FaultKind) → Given (option_and_then f o) → unless BadShape (option_map_or test o false) ≡ Some kind → ⊥
-own_list test f passes None kind (x, e) bad = cc
-own_list test f passes (Some items) kind well bad =
+own_list : {B : Type 0} (fault : FaultKind) (test : Items → Bool) (f : Items → Option B) (passes : (items : Items) → Given (f items) → test items ≡ true) (o : Option Items) (kind : FaultKind) → Given (option_and_then f o) → unless fault (option_map_or test o false) ≡ Some kind → ⊥
+own_list fault test f passes None kind (x, e) bad = cc
+own_list fault test f passes (Some items) kind well bad =
     let passed = passes items well in
-    let none : None ≡ Some kind = ap (unless BadShape) (sym passed) ∙ bad in cc
+    let none : None ≡ Some kind = ap (unless fault) (sym passed) ∙ bad in cc
 
 few_enough : (items : Items) → Given (tables_from items) → nat_lt (items_len items) table_limit ≡ true
 few_enough items well = go (nat_lt (items_len items) table_limit) (not (repeats (some_of table_name items))) well
@@ -101,9 +103,9 @@ no_repeat items well = go (repeats (some_of column_name items)) well
     go true (x, e) = cc
     go false h = refl
 
-own_name : (test : Name → Bool) (o : Option Name) (name : Name) (kind : FaultKind) → o ≡ Some name → test name ≡ true → option_map_or (λ n. unless BadName (test n)) o (Some BadShape) ≡ Some kind → ⊥
-own_name test o name kind is passed bad =
-    let none : None ≡ Some kind = ap (unless BadName) (sym passed) ∙ ap (λ x. option_map_or (λ n. unless BadName (test n)) x (Some BadShape)) (sym is) ∙ bad in cc
+own_name : (fault : FaultKind) (test : Name → Bool) (o : Option Name) (name : Name) (kind : FaultKind) → o ≡ Some name → test name ≡ true → option_map_or (λ n. unless BadName (test n)) o (Some fault) ≡ Some kind → ⊥
+own_name fault test o name kind is passed bad =
+    let none : None ≡ Some kind = ap (unless BadName) (sym passed) ∙ ap (λ x. option_map_or (λ n. unless BadName (test n)) x (Some fault)) (sym is) ∙ bad in cc
 
 known_name : (tables : Declared) (names : List Name) (d : Data) → names_of tables ≡ names → Given (scan_of tables d) → (name : Name) × (text_of d ≡ Some name) × (is_among name names ≡ true)
 known_name tables names d same (plan, e) =
@@ -116,58 +118,66 @@ bad_member word value form = unless BadShape (is_some (option_map (λ f. part (k
 
 own_expression : (d : Data) (kind : FaultKind) → Given (expression_of d) → own_fault an_expression d ≡ Some kind → ⊥
 own_expression (object (member word value no_members)) kind well bad =
-    go (bytes_eq word (codes "col")) (bytes_eq word (codes "bin")) (bytes_eq word (codes "cast")) well bad
+    go (bytes_eq word (codes "col")) (bytes_eq word (codes "lit")) (bytes_eq word (codes "bin")) (bytes_eq word (codes "cast")) well bad
   where
-    go : (a b c : Bool) → Given (cond a (option_map column_expression (text_of value)) (cond b (binary_of value) (cond c (cast_of value) None))) → bad_member word value (cond a (Some a_text) (cond b (Some operands) (cond c (Some a_cast) None))) ≡ Some kind → ⊥
-    go true b c h bad = cc
-    go false true c h bad = cc
-    go false false true h bad = cc
-    go false false false (x, e) bad = cc
+    go : (a l b c : Bool) → Given (cond a (option_map column_expression (text_of value)) (cond l (option_map literal_expression (literal_of value)) (cond b (binary_of value) (cond c (cast_of value) None)))) → bad_member word value (cond a (Some a_text) (cond l (Some a_literal) (cond b (Some operands) (cond c (Some a_cast) None)))) ≡ Some kind → ⊥
+    go true l b c h bad = cc
+    go false true b c h bad = cc
+    go false false true c h bad = cc
+    go false false false true h bad = cc
+    go false false false false (x, e) bad = cc
 own_expression _ kind (x, e) bad = cc
 
 own_plan : (names : List Name) (tables : Declared) (d : Data) (kind : FaultKind) → Given (plan_of tables d) → own_fault (a_plan names) d ≡ Some kind → ⊥
 own_plan names tables (object (member word value no_members)) kind well bad =
-    go (bytes_eq word (codes "scan")) (bytes_eq word (codes "empty")) (bytes_eq word (codes "select")) well bad
+    go (bytes_eq word (codes "scan")) (bytes_eq word (codes "empty")) (bytes_eq word (codes "filter")) (bytes_eq word (codes "select")) well bad
   where
-    go : (a b c : Bool) → Given (cond a (scan_of tables value) (cond b (option_map empty_plan (columns_of value)) (cond c (select_of tables value) None))) → bad_member word value (cond a (Some (a_scan names)) (cond b (Some column_list) (cond c (Some (a_selection names)) None))) ≡ Some kind → ⊥
-    go true b c h bad = cc
-    go false true c h bad = cc
-    go false false true h bad = cc
-    go false false false (x, e) bad = cc
+    go : (a b f c : Bool) → Given (cond a (scan_of tables value) (cond b (option_map empty_plan (columns_of value)) (cond f (filter_of tables value) (cond c (select_of tables value) None)))) → bad_member word value (cond a (Some (a_scan names)) (cond b (Some column_list) (cond f (Some (a_filter names)) (cond c (Some (a_selection names)) None)))) ≡ Some kind → ⊥
+    go true b f c h bad = cc
+    go false true f c h bad = cc
+    go false false true c h bad = cc
+    go false false false true h bad = cc
+    go false false false false (x, e) bad = cc
 own_plan names tables _ kind (x, e) bad = cc
 
-own_operands : (d : Data) (kind : FaultKind) → Given (binary_of d) → unless BadShape (is_some (three_items d)) ≡ Some kind → ⊥
+own_operands : (d : Data) (kind : FaultKind) → Given (binary_of d) → unless (shape_fault d) (is_some (three_items d)) ≡ Some kind → ⊥
 own_operands (array (item x (item y (item z no_items)))) kind well bad = cc
 own_operands _ kind (x, e) bad = cc
 
-own_cast : (d : Data) (kind : FaultKind) → Given (cast_of d) → unless BadShape (is_some (three_items d)) ≡ Some kind → ⊥
+own_cast : (d : Data) (kind : FaultKind) → Given (cast_of d) → unless (shape_fault d) (is_some (three_items d)) ≡ Some kind → ⊥
 own_cast (array (item x (item y (item z no_items)))) kind well bad = cc
 own_cast _ kind (x, e) bad = cc
 
-own_selection : (tables : Declared) (d : Data) (kind : FaultKind) → Given (select_of tables d) → unless BadShape (is_some (two_items d)) ≡ Some kind → ⊥
+own_filter : (tables : Declared) (d : Data) (kind : FaultKind) → Given (filter_of tables d) → unless (shape_fault d) (is_some (two_items d)) ≡ Some kind → ⊥
+own_filter tables (array (item x (item y no_items))) kind well bad = cc
+own_filter tables _ kind (x, e) bad = cc
+
+own_selection : (tables : Declared) (d : Data) (kind : FaultKind) → Given (select_of tables d) → unless (shape_fault d) (is_some (two_items d)) ≡ Some kind → ⊥
 own_selection tables (array (item x (item y no_items))) kind well bad = cc
 own_selection tables _ kind (x, e) bad = cc
 
 own_none : (form : Form) (d : Data) (kind : FaultKind) → IsWell form d → own_fault form d ≡ Some kind → ⊥
-own_none a_query d kind well bad = there_first query_from (two_members (codes "tables") (codes "plan") d) kind well bad
-own_none table_list d kind well bad = own_list (λ items. nat_lt (items_len items) table_limit) tables_from few_enough (as_array d) kind well bad
-own_none column_list d kind well bad = own_list (λ items. not (repeats (some_of column_name items))) columns_from no_repeat (as_array d) kind well bad
-own_none a_column d kind well bad = there_first _ (two_items d) kind well bad
-own_none a_type d kind well bad = there (type_of d) kind well bad
-own_none a_text d kind well bad = there (text_of d) kind well bad
-own_none (a_table before) d kind (t, e, new) bad = there_first _ (two_members (codes "name") (codes "columns") d) kind (t, e) bad
-own_none (a_new_name before) d kind (name, e, new) bad = own_name (λ n. not (is_among n before)) (text_of d) name kind e (ap not new) bad
+own_none a_query d kind well bad = there_first (shape_fault d) query_from (two_members (codes "tables") (codes "plan") d) kind well bad
+own_none table_list d kind well bad = own_list (shape_fault d) (λ items. nat_lt (items_len items) table_limit) tables_from few_enough (as_array d) kind well bad
+own_none column_list d kind well bad = own_list (shape_fault d) (λ items. not (repeats (some_of column_name items))) columns_from no_repeat (as_array d) kind well bad
+own_none a_column d kind well bad = there_first (shape_fault d) _ (two_items d) kind well bad
+own_none a_type d kind well bad = there (shape_fault d) (type_of d) kind well bad
+own_none a_text d kind well bad = there (shape_fault d) (text_of d) kind well bad
+own_none (a_table before) d kind (t, e, new) bad = there_first (shape_fault d) _ (two_members (codes "name") (codes "columns") d) kind (t, e) bad
+own_none (a_new_name before) d kind (name, e, new) bad = own_name (shape_fault d) (λ n. not (is_among n before)) (text_of d) name kind e (ap not new) bad
 own_none (a_plan names) d kind (tables, same, well) bad = own_plan names tables d kind well bad
 own_none (a_scan names) d kind (tables, same, well) bad =
     let known = known_name tables names d same well in
-    own_name (λ n. is_among n names) (text_of d) known.0 kind known.1 known.2 bad
+    own_name (shape_fault d) (λ n. is_among n names) (text_of d) known.0 kind known.1 known.2 bad
+own_none (a_filter names) d kind (tables, same, well) bad = own_filter tables d kind well bad
 own_none (a_selection names) d kind (tables, same, well) bad = own_selection tables d kind well bad
-own_none expression_list d kind well bad = own_list (λ items. true) (all_of expression_of) (λ items h. refl) (as_array d) kind well bad
+own_none expression_list d kind well bad = own_list (shape_fault d) (λ items. true) (all_of expression_of) (λ items h. refl) (as_array d) kind well bad
 own_none an_expression d kind well bad = own_expression d kind well bad
+own_none a_literal d kind well bad = there (shape_fault d) (literal_of d) kind well bad
 own_none operands d kind well bad = own_operands d kind well bad
-own_none an_operator d kind well bad = there (operator_of d) kind well bad
+own_none an_operator d kind well bad = there (shape_fault d) (operator_of d) kind well bad
 own_none a_cast d kind well bad = own_cast d kind well bad
-own_none a_mode d kind well bad = there (mode_of d) kind well bad
+own_none a_mode d kind well bad = there (shape_fault d) (mode_of d) kind well bad
 
 -- ---- and each of its parts reads to something for its own place
 
@@ -288,13 +298,14 @@ only word value form = one_part (option_map (λ f. part (key word) f value) form
 
 parts_expression : (d : Data) (p : Part) → Given (expression_of d) → Contains (parts_of an_expression d) p → WellPart p
 parts_expression (object (member word value no_members)) p well here =
-    go (bytes_eq word (codes "col")) (bytes_eq word (codes "bin")) (bytes_eq word (codes "cast")) well here
+    go (bytes_eq word (codes "col")) (bytes_eq word (codes "lit")) (bytes_eq word (codes "bin")) (bytes_eq word (codes "cast")) well here
   where
-    go : (a b c : Bool) → Given (cond a (option_map column_expression (text_of value)) (cond b (binary_of value) (cond c (cast_of value) None))) → Contains (only word value (cond a (Some a_text) (cond b (Some operands) (cond c (Some a_cast) None)))) p → WellPart p
-    go true b c (tree, e) h = one_of (part (key word) a_text value) p (mapped column_expression (text_of value) tree e) h
-    go false true c given h = one_of (part (key word) operands value) p given h
-    go false false true given h = one_of (part (key word) a_cast value) p given h
-    go false false false given h = none_of p h
+    go : (a l b c : Bool) → Given (cond a (option_map column_expression (text_of value)) (cond l (option_map literal_expression (literal_of value)) (cond b (binary_of value) (cond c (cast_of value) None)))) → Contains (only word value (cond a (Some a_text) (cond l (Some a_literal) (cond b (Some operands) (cond c (Some a_cast) None))))) p → WellPart p
+    go true l b c (tree, e) h = one_of (part (key word) a_text value) p (mapped column_expression (text_of value) tree e) h
+    go false true b c (tree, e) h = one_of (part (key word) a_literal value) p (mapped literal_expression (literal_of value) tree e) h
+    go false false true c given h = one_of (part (key word) operands value) p given h
+    go false false false true given h = one_of (part (key word) a_cast value) p given h
+    go false false false false given h = none_of p h
 parts_expression _ p (x, e) here = cc
 
 parts_operands : (d : Data) (p : Part) → Given (binary_of d) → Contains (parts_of operands d) p → WellPart p
@@ -311,14 +322,22 @@ parts_cast _ p (x, e) here = cc
 
 parts_plan : (names : List Name) (tables : Declared) (same : names_of tables ≡ names) (d : Data) (p : Part) → Given (plan_of tables d) → Contains (parts_of (a_plan names) d) p → WellPart p
 parts_plan names tables same (object (member word value no_members)) p well here =
-    go (bytes_eq word (codes "scan")) (bytes_eq word (codes "empty")) (bytes_eq word (codes "select")) well here
+    go (bytes_eq word (codes "scan")) (bytes_eq word (codes "empty")) (bytes_eq word (codes "filter")) (bytes_eq word (codes "select")) well here
   where
-    go : (a b c : Bool) → Given (cond a (scan_of tables value) (cond b (option_map empty_plan (columns_of value)) (cond c (select_of tables value) None))) → Contains (only word value (cond a (Some (a_scan names)) (cond b (Some column_list) (cond c (Some (a_selection names)) None)))) p → WellPart p
-    go true b c given h = one_of (part (key word) (a_scan names) value) p (tables, same, given) h
-    go false true c (plan, e) h = one_of (part (key word) column_list value) p (mapped empty_plan (columns_of value) plan e) h
-    go false false true given h = one_of (part (key word) (a_selection names) value) p (tables, same, given) h
-    go false false false given h = none_of p h
+    go : (a b f c : Bool) → Given (cond a (scan_of tables value) (cond b (option_map empty_plan (columns_of value)) (cond f (filter_of tables value) (cond c (select_of tables value) None)))) → Contains (only word value (cond a (Some (a_scan names)) (cond b (Some column_list) (cond f (Some (a_filter names)) (cond c (Some (a_selection names)) None))))) p → WellPart p
+    go true b f c given h = one_of (part (key word) (a_scan names) value) p (tables, same, given) h
+    go false true f c (plan, e) h = one_of (part (key word) column_list value) p (mapped empty_plan (columns_of value) plan e) h
+    go false false true c given h = one_of (part (key word) (a_filter names) value) p (tables, same, given) h
+    go false false false true given h = one_of (part (key word) (a_selection names) value) p (tables, same, given) h
+    go false false false false given h = none_of p h
 parts_plan names tables same _ p (x, e) here = cc
+
+parts_filter : (names : List Name) (tables : Declared) (same : names_of tables ≡ names) (d : Data) (p : Part) → Given (filter_of tables d) → Contains (parts_of (a_filter names) d) p → WellPart p
+parts_filter names tables same (array (item x (item y no_items))) p (plan, e) here =
+    let pair = mapped filter_plan (both (plan_of tables x) (expression_of y)) plan e in
+    let are = paired (plan_of tables x) (expression_of y) pair.0 pair.1 in
+    two_of (part (number 0) (a_plan names) x) (part (number 1) an_expression y) p (tables, same, are.0) are.1 here
+parts_filter names tables same _ p (x, e) here = cc
 
 parts_selection : (names : List Name) (tables : Declared) (same : names_of tables ≡ names) (d : Data) (p : Part) → Given (select_of tables d) → Contains (parts_of (a_selection names) d) p → WellPart p
 parts_selection names tables same (array (item x (item y no_items))) p (plan, e) here =
@@ -338,9 +357,11 @@ parts_well (a_table before) d p well here = parts_table before d p well here
 parts_well (a_new_name before) d p well here = none_of p here
 parts_well (a_plan names) d p (tables, same, well) here = parts_plan names tables same d p well here
 parts_well (a_scan names) d p well here = none_of p here
+parts_well (a_filter names) d p (tables, same, well) here = parts_filter names tables same d p well here
 parts_well (a_selection names) d p (tables, same, well) here = parts_selection names tables same d p well here
 parts_well expression_list d p well here = parts_expressions d p well here
 parts_well an_expression d p well here = parts_expression d p well here
+parts_well a_literal d p well here = none_of p here
 parts_well operands d p well here = parts_operands d p well here
 parts_well an_operator d p well here = none_of p here
 parts_well a_cast d p well here = parts_cast d p well here
@@ -357,5 +378,6 @@ no_fault form d kind (step ∷ path) well (below, here, same, bad) =
 pub query_has_no_fault : (d : Data) (query : QueryModel) (error : JsonError) → IsQueryOf d query → IsErrorOf a_query d error → error ≡ NoMemory
 query_has_no_fault d query NotJson is bad = absurd bad
 query_has_no_fault d query (Shape path) is (steps, text, bad) = absurd (no_fault a_query d BadShape steps (query, is) bad)
+query_has_no_fault d query (Float path) is (steps, text, bad) = absurd (no_fault a_query d BadFloat steps (query, is) bad)
 query_has_no_fault d query (Name' path) is (steps, text, bad) = absurd (no_fault a_query d BadName steps (query, is) bad)
 query_has_no_fault d query NoMemory is bad = refl

@@ -6,7 +6,7 @@ use Rattle.plan_json.specs.Errors.{IsErrorOf}
 use Rattle.plan_json.specs.Faults.{a_query}
 use Rattle.plan_json.specs.Queries.{QueryModel, query_of}
 use Rattle.plan_json.specs.declared.error.JsonError.{JsonError}
-use Rattle.plan_json.specs.declared.error.JsonError.TheVariants.{NotJson, Shape, Name, NoMemory}
+use Rattle.plan_json.specs.declared.error.JsonError.TheVariants.{NotJson, Shape, Float, Name, NoMemory}
 use Rattle.plan_json.proofs.NoFaults.{query_has_no_fault}
 
 -- bytes are the text of one value at most
@@ -25,5 +25,6 @@ fault_is_memory bytes query error e (d, text, is) written bad =
 pub refused_query_is_memory : (bytes : List ℕ) (query : QueryModel) (error : JsonError) → WritesQuery bytes query → IsRefusalOf bytes error → error ≡ NoMemory
 refused_query_is_memory bytes query NotJson (d, text, is) none = absurd (none d text)
 refused_query_is_memory bytes query (Shape path) writes (e, written, bad) = fault_is_memory bytes query (Shape path) e writes written bad
+refused_query_is_memory bytes query (Float path) writes (e, written, bad) = fault_is_memory bytes query (Float path) e writes written bad
 refused_query_is_memory bytes query (Name path) writes (e, written, bad) = fault_is_memory bytes query (Name path) e writes written bad
 refused_query_is_memory bytes query NoMemory writes told = refl

@@ -6,7 +6,7 @@ use Rattle.plan_json.specs.Errors.{IsErrorOf}
 use Rattle.plan_json.specs.Faults.{a_query}
 use Rattle.plan_json.specs.Queries.{QueryModel, IsQueryOf}
 use Rattle.plan_json.specs.declared.error.JsonError.{JsonError}
-use Rattle.plan_json.specs.declared.error.JsonError.TheVariants.{NotJson, Shape, Name, NoMemory}
+use Rattle.plan_json.specs.declared.error.JsonError.TheVariants.{NotJson, Shape, Float, Name, NoMemory}
 
 -- the bytes are JSON text of the value
 abbrev pub IsTextOf : List ℕ → Data → Type 0
@@ -21,5 +21,6 @@ WritesQuery bytes query = (d : Data) × IsTextOf bytes d × IsQueryOf d query
 abbrev pub IsRefusalOf : List ℕ → JsonError → Type 0
 IsRefusalOf bytes NotJson = (d : Data) → ¬ IsTextOf bytes d
 IsRefusalOf bytes (Shape path) = (d : Data) × IsTextOf bytes d × IsErrorOf a_query d (Shape path)
+IsRefusalOf bytes (Float path) = (d : Data) × IsTextOf bytes d × IsErrorOf a_query d (Float path)
 IsRefusalOf bytes (Name path) = (d : Data) × IsTextOf bytes d × IsErrorOf a_query d (Name path)
 IsRefusalOf bytes NoMemory = Unit {0}

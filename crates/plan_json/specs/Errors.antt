@@ -1,9 +1,9 @@
 -- Errors, and the faults that they tell.
 use Rattle.std.specs.Prelude.{◌≡◌, ℕ, ◌==◌, List, [], ◌∷◌, ◌++◌, Result, Ok, Err, decimal, string_bytes, if◌then◌else◌}
 use Rattle.serde_json.specs.Data.{Data}
-use Rattle.plan_json.specs.Faults.{FaultKind, BadShape, BadName, Step, key, number, Path, Form, IsBadAt}
+use Rattle.plan_json.specs.Faults.{FaultKind, BadShape, BadFloat, BadName, Step, key, number, Path, Form, IsBadAt}
 use Rattle.plan_json.specs.declared.error.JsonError.{JsonError}
-use Rattle.plan_json.specs.declared.error.JsonError.TheVariants.{NotJson, Shape, Name, NoMemory}
+use Rattle.plan_json.specs.declared.error.JsonError.TheVariants.{NotJson, Shape, Float, Name, NoMemory}
 use Rattle.plan_json.specs.declared.error.Step.{Step as CodeStep}
 use Rattle.plan_json.specs.declared.error.Step.TheVariants as steps
 
@@ -43,13 +43,22 @@ IsBadAtPointer form d kind text = (path : Path) × (text ≡ pointer_text path) 
 abbrev pub IsErrorOf : Form → Data → JsonError → Type 0
 IsErrorOf form d NotJson = ⊥
 IsErrorOf form d (Shape path) = IsBadAtPointer form d BadShape (string_bytes path)
+IsErrorOf form d (Float path) = IsBadAtPointer form d BadFloat (string_bytes path)
 IsErrorOf form d (Name path) = IsBadAtPointer form d BadName (string_bytes path)
 IsErrorOf form d NoMemory = Unit {0}
+
+-- the error tells that the value itself is at fault in this way
+abbrev pub IsOwn : FaultKind → JsonError → Type 0
+IsOwn BadShape (Shape path) = string_bytes path ≡ []
+IsOwn BadFloat (Float path) = string_bytes path ≡ []
+IsOwn BadName (Name path) = string_bytes path ≡ []
+IsOwn _ _ = ⊥
 
 -- the error of a part, told with the step to the part, or want of memory
 abbrev pub IsBelow : Step → JsonError → JsonError → Type 0
 IsBelow step NotJson NotJson = Unit {0}
 IsBelow step (Shape path) (Shape longer) = string_bytes longer ≡ step_text step ++ string_bytes path
+IsBelow step (Float path) (Float longer) = string_bytes longer ≡ step_text step ++ string_bytes path
 IsBelow step (Name path) (Name longer) = string_bytes longer ≡ step_text step ++ string_bytes path
 IsBelow step inner NoMemory = Unit {0}
 IsBelow step _ _ = ⊥

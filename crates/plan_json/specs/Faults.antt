@@ -8,12 +8,14 @@ use Rattle.serde_json.specs.Data.{Data, Items, no_items, item}
 use Rattle.serde_json.specs.Events.{items_len}
 use Rattle.serde_json.specs.Find.{as_array}
 use Rattle.plan_types.specs.Schemas.{Name, is_among, repeats}
-use Rattle.plan_json.specs.Looking.{only_member, two_members, two_items, three_items, some_of}
-use Rattle.plan_json.specs.Queries.{text_of, type_of, operator_of, mode_of, column_name, table_name, table_limit}
+use Rattle.plan_json.specs.Looking.{is_float, only_member, two_members, two_items, three_items, some_of}
+use Rattle.plan_json.specs.Queries.{text_of, type_of, literal_of, operator_of, mode_of, column_name, table_name, table_limit}
 
 pub data FaultKind : Type 0 where
   -- the value breaks the form
   BadShape : FaultKind
+  -- it does, and it is a number that is held neither as an i64 nor as a u64
+  BadFloat : FaultKind
   -- the value names a table that isn't declared, or that is declared again
   BadName : FaultKind
 
@@ -31,8 +33,8 @@ Path = List Step
 -- plan with those of all tables.
 pub data Form : Type 0 where
   a_query table_list column_list a_column a_type a_text : Form
-  a_table a_new_name a_plan a_scan a_selection : List Name → Form
-  expression_list an_expression operands an_operator a_cast a_mode : Form
+  a_table a_new_name a_plan a_scan a_filter a_selection : List Name → Form
+  expression_list an_expression a_literal operands an_operator a_cast a_mode : Form
 
 -- a part of a value: the step to it, what its place asks for, and the part itself
 pub record Part : Type 0 where
@@ -49,15 +51,17 @@ part step form value = record { step = step; form = form; value = value }
 abbrev pub expression_form : List ℕ → Option Form
 expression_form word =
     if bytes_eq word (codes "col") then Some a_text else (
+    if bytes_eq word (codes "lit") then Some a_literal else (
     if bytes_eq word (codes "bin") then Some operands else (
-    if bytes_eq word (codes "cast") then Some a_cast else None))
+    if bytes_eq word (codes "cast") then Some a_cast else None)))
 
 -- what a plan's only key asks of its value
 abbrev pub plan_form : List Name → List ℕ → Option Form
 plan_form tables word =
     if bytes_eq word (codes "scan") then Some (a_scan tables) else (
     if bytes_eq word (codes "empty") then Some column_list else (
-    if bytes_eq word (codes "select") then Some (a_selection tables) else None))
+    if bytes_eq word (codes "filter") then Some (a_filter tables) else (
+    if bytes_eq word (codes "select") then Some (a_selection tables) else None)))
 
 -- the part of an object of one key whose form that key names
 abbrev pub only_part : (List ℕ → Option Form) → Data → Option Part
@@ -65,37 +69,43 @@ only_part form_of d = option_and_then (λ m. option_map (λ form. part (key m.0)
 
 -- ---- faults of the value itself
 
+-- what it is called that the value breaks its form
+abbrev pub shape_fault : Data → FaultKind
+shape_fault d = if is_float d then BadFloat else BadShape
+
 abbrev pub unless : FaultKind → Bool → Option FaultKind
 unless kind true = None
 unless kind false = Some kind
 
 -- a value must be a text, and the text must pass the test
 abbrev pub name_fault : (Name → Bool) → Data → Option FaultKind
-name_fault test d = option_map_or (λ name. unless BadName (test name)) (text_of d) (Some BadShape)
+name_fault test d = option_map_or (λ name. unless BadName (test name)) (text_of d) (Some (shape_fault d))
 
 -- a value must be a list, and the list must pass the test
 abbrev pub list_fault : (Items → Bool) → Data → Option FaultKind
-list_fault test d = unless BadShape (option_map_or test (as_array d) false)
+list_fault test d = unless (shape_fault d) (option_map_or test (as_array d) false)
 
 -- how a value itself breaks the form
 abbrev pub own_fault : Form → Data → Option FaultKind
-own_fault a_query d = unless BadShape (is_some (two_members (codes "tables") (codes "plan") d))
+own_fault a_query d = unless (shape_fault d) (is_some (two_members (codes "tables") (codes "plan") d))
 own_fault table_list d = list_fault (λ items. nat_lt (items_len items) table_limit) d
 own_fault column_list d = list_fault (λ items. not (repeats (some_of column_name items))) d
-own_fault a_column d = unless BadShape (is_some (two_items d))
-own_fault a_type d = unless BadShape (is_some (type_of d))
-own_fault a_text d = unless BadShape (is_some (text_of d))
-own_fault (a_table before) d = unless BadShape (is_some (two_members (codes "name") (codes "columns") d))
+own_fault a_column d = unless (shape_fault d) (is_some (two_items d))
+own_fault a_type d = unless (shape_fault d) (is_some (type_of d))
+own_fault a_text d = unless (shape_fault d) (is_some (text_of d))
+own_fault (a_table before) d = unless (shape_fault d) (is_some (two_members (codes "name") (codes "columns") d))
 own_fault (a_new_name before) d = name_fault (λ name. not (is_among name before)) d
-own_fault (a_plan tables) d = unless BadShape (is_some (only_part (plan_form tables) d))
+own_fault (a_plan tables) d = unless (shape_fault d) (is_some (only_part (plan_form tables) d))
 own_fault (a_scan tables) d = name_fault (λ name. is_among name tables) d
-own_fault (a_selection tables) d = unless BadShape (is_some (two_items d))
+own_fault (a_filter tables) d = unless (shape_fault d) (is_some (two_items d))
+own_fault (a_selection tables) d = unless (shape_fault d) (is_some (two_items d))
 own_fault expression_list d = list_fault (λ items. true) d
-own_fault an_expression d = unless BadShape (is_some (only_part expression_form d))
-own_fault operands d = unless BadShape (is_some (three_items d))
-own_fault an_operator d = unless BadShape (is_some (operator_of d))
-own_fault a_cast d = unless BadShape (is_some (three_items d))
-own_fault a_mode d = unless BadShape (is_some (mode_of d))
+own_fault an_expression d = unless (shape_fault d) (is_some (only_part expression_form d))
+own_fault a_literal d = unless (shape_fault d) (is_some (literal_of d))
+own_fault operands d = unless (shape_fault d) (is_some (three_items d))
+own_fault an_operator d = unless (shape_fault d) (is_some (operator_of d))
+own_fault a_cast d = unless (shape_fault d) (is_some (three_items d))
+own_fault a_mode d = unless (shape_fault d) (is_some (mode_of d))
 
 -- ---- parts of a value
 
@@ -122,6 +132,9 @@ table_parts before pair = part (key (codes "name")) (a_new_name before) pair.0 �
 
 abbrev pub column_parts : Data × Data → List Part
 column_parts pair = part (number 0) a_text pair.0 ∷ part (number 1) a_type pair.1 ∷ []
+
+abbrev pub filter_parts : List Name → Data × Data → List Part
+filter_parts tables pair = part (number 0) (a_plan tables) pair.0 ∷ part (number 1) an_expression pair.1 ∷ []
 
 abbrev pub selection_parts : List Name → Data × Data → List Part
 selection_parts tables pair = part (number 0) (a_plan tables) pair.0 ∷ part (number 1) expression_list pair.1 ∷ []
@@ -150,9 +163,11 @@ parts_of (a_table before) d = option_map_or (table_parts before) (two_members (c
 parts_of (a_new_name before) d = []
 parts_of (a_plan tables) d = one_part (only_part (plan_form tables) d)
 parts_of (a_scan tables) d = []
+parts_of (a_filter tables) d = option_map_or (filter_parts tables) (two_items d) []
 parts_of (a_selection tables) d = option_map_or (selection_parts tables) (two_items d) []
 parts_of expression_list d = option_map_or (each an_expression 0) (as_array d) []
 parts_of an_expression d = one_part (only_part expression_form d)
+parts_of a_literal d = []
 parts_of operands d = option_map_or operand_parts (three_items d) []
 parts_of an_operator d = []
 parts_of a_cast d = option_map_or cast_parts (three_items d) []

@@ -1,14 +1,22 @@
 -- Looking into a value that a text reads to.
-use Rattle.std.specs.Prelude.{ℕ, List, [], ◌∷◌, ◌==◌, Option, Some, None, option_map, if◌then◌else◌}
+use Rattle.std.specs.Prelude.{ℕ, ℤ, List, [], ◌∷◌, ◌==◌, ◌&&◌, Bool, not, Option, Some, None, is_some, option_map, option_and_then, if◌then◌else◌}
 use Rattle.std.specs.Option.{option_map_or}
 use Rattle.serde_json.specs.Data.{Data, array, object, Items, no_items, item, no_members, member}
 use Rattle.serde_json.specs.Events.{members_len}
-use Rattle.serde_json.specs.Find.{get_member}
+use Rattle.serde_json.specs.Find.{as_integer, as_number, get_member}
 
 -- two values, if both are there
 abbrev pub both : {A B : Type 0} → Option A → Option B → Option (A × B)
 both (Some x) (Some y) = Some (x, y)
 both _ _ = None
+
+-- a whole number: one that is held as an i64 or as a u64
+abbrev pub whole_number : Data → Option ℤ
+whole_number d = option_and_then as_integer (as_number d)
+
+-- whether it is a number that is held as neither
+abbrev pub is_float : Data → Bool
+is_float d = is_some (as_number d) && not (is_some (whole_number d))
 
 -- the key and the value of an object of one key
 abbrev pub only_member : Data → Option (List ℕ × Data)

@@ -1,22 +1,23 @@
 -- The query that a value is.
 -- There is one function for each form. Each gives what a value of that form means, and nothing
 -- where the value hasn't the form.
-use Rattle.std.specs.Prelude.{◌≡◌, ℕ, ◌^◌, ◌&&◌, List, [], map, not, Option, Some, None, option_map, option_and_then, codes, nat_lt, position, if◌then◌else◌, true, false}
+use Rattle.std.specs.Prelude.{◌≡◌, ℕ, ℤ, ◌^◌, ◌&&◌, List, [], map, not, Option, Some, None, option_map, option_and_then, codes, nat_lt, position, if◌then◌else◌, true, false}
 use Rattle.std.specs.Map.{lookup}
 use Rattle.std.specs.Str.{chars, bytes_eq}
 use Rattle.serde_json.specs.Data.{Data, array, object, Items, no_items, item, no_members, member}
 use Rattle.serde_json.specs.Events.{items_len}
 use Rattle.serde_json.specs.Find.{get, as_str, as_array}
 use Rattle.plan_types.specs.Schemas.{Name, Columns, same_name, names_of, repeats}
-use Rattle.plan_types.specs.Types.{Ty, Truth, Integer}
+use Rattle.plan_types.specs.Types.{Ty, Truth, Integer, Untyped}
+use Rattle.plan_types.specs.Values.{IntValue}
 use Rattle.plan_types.specs.declared.dtype.CastOptions.{CastOptions}
 use Rattle.plan_types.specs.declared.dtype.CastOptions.TheVariants.{Strict, NonStrict, Overflowing}
-use Rattle.plan_dsl.specs.Ops.{ColumnOp, BinaryOp, CastOp, Expression}
-use Rattle.plan_dsl.specs.Plans.{Plan, named, scan_op, select_op, plan_tree}
+use Rattle.plan_dsl.specs.Ops.{Op, ColumnOp, LiteralOp, BinaryOp, CastOp, Expression}
+use Rattle.plan_dsl.specs.Plans.{Plan, named, scan_op, select_op, filter_op, plan_tree}
 use Rattle.plan_dsl.specs.Trees.{node, no_more, more}
 use Rattle.plan_dsl.specs.declared.operator.Operator.{Operator}
 use Rattle.plan_dsl.specs.declared.operator.Operator.TheVariants.{Eq, NotEq, Lt, LtEq, Gt, GtEq, Plus}
-use Rattle.plan_json.specs.Looking.{both, two_members, two_items, all_of, some_of}
+use Rattle.plan_json.specs.Looking.{both, whole_number, two_members, two_items, all_of, some_of}
 use Rattle.plan_json.specs.Tables.{Declared, declared}
 use Rattle.plan_json.specs.declared.read.Query.{Query}
 
@@ -116,6 +117,17 @@ tables_of d = option_and_then tables_from (as_array d)
 abbrev pub column_expression : Name → Expression
 column_expression name = node (ColumnOp name) no_more
 
+-- a number without a type
+abbrev pub number_op : ℤ → Op
+number_op number = LiteralOp (Untyped number) (IntValue number)
+
+-- a whole number
+abbrev pub literal_of : Data → Option Op
+literal_of d = option_map number_op (whole_number d)
+
+abbrev pub literal_expression : Op → Expression
+literal_expression op = node op no_more
+
 abbrev pub binary_expression : Option Operator → Option Expression → Option Expression → Option Expression
 binary_expression (Some operator) (Some left) (Some right) = Some (node (BinaryOp operator) (more left (more right no_more)))
 binary_expression _ _ _ = None
@@ -129,8 +141,9 @@ abbrev mutual
   pub expression_of : Data → Option Expression
   expression_of (object (member key value no_members)) =
       if bytes_eq key (codes "col") then option_map column_expression (text_of value) else (
+      if bytes_eq key (codes "lit") then option_map literal_expression (literal_of value) else (
       if bytes_eq key (codes "bin") then binary_of value else (
-      if bytes_eq key (codes "cast") then cast_of value else None))
+      if bytes_eq key (codes "cast") then cast_of value else None)))
   expression_of _ = None
 
   -- `[operator, expression, expression]`
@@ -164,6 +177,9 @@ empty_plan columns = node (scan_op None columns) no_more
 abbrev pub select_plan : Plan × List Expression → Plan
 select_plan parts = node (select_op (map named parts.1) []) (more parts.0 no_more)
 
+abbrev pub filter_plan : Plan × Expression → Plan
+filter_plan parts = node (filter_op (named parts.1)) (more parts.0 no_more)
+
 -- the name of a table
 abbrev pub scan_of : Declared → Data → Option Plan
 scan_of tables d = option_map scan_plan (option_and_then (table_at tables) (text_of d))
@@ -174,8 +190,15 @@ abbrev mutual
   plan_of tables (object (member key value no_members)) =
       if bytes_eq key (codes "scan") then scan_of tables value else (
       if bytes_eq key (codes "empty") then option_map empty_plan (columns_of value) else (
-      if bytes_eq key (codes "select") then select_of tables value else None))
+      if bytes_eq key (codes "filter") then filter_of tables value else (
+      if bytes_eq key (codes "select") then select_of tables value else None)))
   plan_of tables _ = None
+
+  -- `[plan, expression]`
+  pub filter_of : Declared → Data → Option Plan
+  filter_of tables (array (item input (item predicate no_items))) =
+      option_map filter_plan (both (plan_of tables input) (expression_of predicate))
+  filter_of tables _ = None
 
   -- `[plan, expressions]`
   pub select_of : Declared → Data → Option Plan

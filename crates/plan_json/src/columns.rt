@@ -23,7 +23,7 @@ pub(crate) fn read_text(alloc: Global, value: &Value) -> Result<PlSmallStr, Json
     ensures err { IfErr result (IsErrorOf a_text (view value.now)) }
 {
     match value.as_str() {
-        None => Err(JsonError::shape(alloc)),
+        None => Err(JsonError::shape(alloc, value)),
         Some(text) => {
             let text = PlSmallStr::new(alloc, text)?;
             Ok(text)
@@ -37,9 +37,9 @@ pub(crate) fn read_type(alloc: Global, value: &Value) -> Result<DataType, JsonEr
     ensures err { IfErr result (IsErrorOf a_type (view value.now)) }
 {
     match value.as_str() {
-        None => Err(JsonError::shape(alloc)),
+        None => Err(JsonError::shape(alloc, value)),
         Some(name) => match type_named(name) {
-            None => Err(JsonError::shape(alloc)),
+            None => Err(JsonError::shape(alloc, value)),
             Some(dtype) => Ok(dtype),
         },
     }
@@ -70,7 +70,7 @@ pub(crate) fn read_column(alloc: Global, value: &Value) -> Result<Field, JsonErr
     ensures err { IfErr result (IsErrorOf a_column (view value.now)) }
 {
     match two_items(value) {
-        None => Err(JsonError::shape(alloc)),
+        None => Err(JsonError::shape(alloc, value)),
         Some((name, dtype)) => {
             let name = at(alloc, Step::Item(0), read_text(alloc, name))?;
             let dtype = at(alloc, Step::Item(1), read_type(alloc, dtype))?;
@@ -85,7 +85,7 @@ pub(crate) fn read_columns(alloc: Global, value: &Value) -> Result<Schema, JsonE
     ensures err { IfErr result (IsErrorOf column_list (view value.now)) }
 {
     match value.as_array() {
-        None => Err(JsonError::shape(alloc)),
+        None => Err(JsonError::shape(alloc, value)),
         Some(items) => {
             let items = items.as_slice();
             let mut schema = Schema::new(alloc);
@@ -94,7 +94,7 @@ pub(crate) fn read_columns(alloc: Global, value: &Value) -> Result<Schema, JsonE
                 let Field { name, dtype } = column;
                 let before = schema.with_column(name, dtype)?;
                 if before.is_some() {
-                    return Err(JsonError::shape(alloc));
+                    return Err(JsonError::shape(alloc, value));
                 }
             }
             Ok(schema)

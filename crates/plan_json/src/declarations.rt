@@ -21,11 +21,11 @@ pub(crate) fn read_tables(alloc: Global, value: &Value) -> Result<Tables, JsonEr
     ensures err { IfErr result (IsErrorOf table_list (view value.now)) }
 {
     match value.as_array() {
-        None => Err(JsonError::shape(alloc)),
+        None => Err(JsonError::shape(alloc, value)),
         Some(values) => {
             let values = values.as_slice();
             if values.len() >= 1 << 32 {
-                return Err(JsonError::shape(alloc));
+                return Err(JsonError::shape(alloc, value));
             }
             let mut tables = Tables::new(alloc);
             for (number, value) in values.iter().enumerate() {
@@ -46,7 +46,7 @@ pub(crate) fn read_table(alloc: Global, before: &Tables, value: &Value) -> Resul
     ensures err { IfErr result (IsErrorOf (a_table (names_of (declared before.now))) (view value.now)) }
 {
     match two_members(value, "name", "columns") {
-        None => Err(JsonError::shape(alloc)),
+        None => Err(JsonError::shape(alloc, value)),
         Some((name, columns)) => {
             let name = at(alloc, Step::Key("name"), read_new_name(alloc, before, name))?;
             let schema = at(alloc, Step::Key("columns"), read_columns(alloc, columns))?;

@@ -1,8 +1,11 @@
 //! Why bytes are no query, and where.
-ghost use Rattle.std.specs.Prelude.{◌≡◌, ◌++◌, [], Ok, IfOk, IfErr, string_bytes};
-ghost use Rattle.plan_json.specs.Errors.{IsBelow, IsErrBelow, IsPlain, step_of, step_text};
+ghost use Rattle.std.specs.Prelude.{◌≡◌, ◌++◌, Ok, IfOk, IfErr, string_bytes};
+ghost use Rattle.serde_json.specs.View.{view};
+ghost use Rattle.plan_json.specs.Errors.{IsBelow, IsErrBelow, IsOwn, IsPlain, step_of, step_text};
+ghost use Rattle.plan_json.specs.Faults.{BadName, shape_fault};
 
 use plan_types::error::PlanError;
+use serde_json::Value;
 use std::alloc::{AllocError, AllocFailed, Global};
 use thiserror::Error;
 
@@ -15,6 +18,9 @@ pub enum JsonError {
     /// The value breaks the shape that its place asks for.
     #[error("Shape {path}")]
     Shape { path: String },
+    /// The value breaks the shape, and is a number that is held neither as an i64 nor as a u64.
+    #[error("Float {path}")]
+    Float { path: String },
     /// The value names a table that isn't declared, or that is declared again.
     #[error("Name {path}")]
     Name { path: String },
@@ -34,17 +40,20 @@ pub(crate) enum Step {
 
 impl JsonError {
     // The value itself breaks the shape.
-    pub(crate) fn shape(alloc: Global) -> JsonError
-        ensures { (path : _) × (result ≡ JsonError.Shape path) × (string_bytes path ≡ []) }
+    pub(crate) fn shape(alloc: Global, value: &Value) -> JsonError
+        ensures { IsOwn (shape_fault (view value.now)) result }
     {
-        JsonError::Shape {
-            path: String::new(alloc),
+        let path = String::new(alloc);
+        if value.is_f64() {
+            JsonError::Float { path }
+        } else {
+            JsonError::Shape { path }
         }
     }
 
     // The value itself is the wrong name.
     pub(crate) fn name(alloc: Global) -> JsonError
-        ensures { (path : _) × (result ≡ JsonError.Name path) × (string_bytes path ≡ []) }
+        ensures { IsOwn BadName result }
     {
         JsonError::Name {
             path: String::new(alloc),
@@ -59,6 +68,10 @@ impl JsonError {
         match self {
             JsonError::Shape { path } => match longer(alloc, step, path.as_str()) {
                 Ok(path) => JsonError::Shape { path },
+                Err(_) => JsonError::NoMemory,
+            },
+            JsonError::Float { path } => match longer(alloc, step, path.as_str()) {
+                Ok(path) => JsonError::Float { path },
                 Err(_) => JsonError::NoMemory,
             },
             JsonError::Name { path } => match longer(alloc, step, path.as_str()) {

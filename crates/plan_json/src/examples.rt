@@ -1,21 +1,22 @@
 //! Worked examples of the definitions. The functions do nothing: their clauses are the examples.
 #![tactic(auto, unfolding(crate::proofs::OnLiterals::values_on_literals))]
 
-ghost use Rattle.std.specs.Prelude.{◌≡◌, [], ◌∷◌, List, Some, None, String, codes, string_bytes, true, false};
+ghost use Rattle.std.specs.Prelude.{◌≡◌, ℕ, ℤ, pos, negsuc, [], ◌∷◌, Float, List, Some, None, String, codes, string_bytes, true, false};
 ghost use Rattle.std.specs.Global.{Global};
-ghost use Rattle.plan_types.specs.Types.{Truth, Integer};
+ghost use Rattle.plan_types.specs.Types.{Truth, Integer, Untyped};
+ghost use Rattle.plan_types.specs.Values.{IntValue};
 ghost use Rattle.plan_types.specs.declared.dtype.CastOptions.TheVariants.{Strict, NonStrict, Overflowing};
-ghost use Rattle.plan_dsl.specs.Ops.{ColumnOp, BinaryOp, CastOp};
-ghost use Rattle.plan_dsl.specs.Plans.{empty_table, named, scan_op, select_op};
+ghost use Rattle.plan_dsl.specs.Ops.{ColumnOp, LiteralOp, BinaryOp, CastOp};
+ghost use Rattle.plan_dsl.specs.Plans.{empty_table, named, scan_op, select_op, filter_op};
 ghost use Rattle.plan_dsl.specs.Trees.{node, no_more, more};
 ghost use Rattle.plan_dsl.specs.declared.operator.Operator.TheVariants.{Eq, Lt, GtEq, Plus};
-ghost use Rattle.serde_json.specs.Data.{array, boolean, no_items, item, no_members, member, null, number, object, string, unsigned};
+ghost use Rattle.serde_json.specs.Data.{array, boolean, no_items, item, no_members, member, float, negative, null, number, object, string, unsigned};
 ghost use Rattle.plan_json.specs.Bytes.{IsRefusalOf, WritesQuery};
 ghost use Rattle.plan_json.specs.Errors.{escaped, pointer_text};
 ghost use Rattle.plan_json.specs.Faults as fault;
-ghost use Rattle.plan_json.specs.Faults.{BadName, BadShape, IsBadAt, key, own_fault};
-ghost use Rattle.plan_json.specs.Queries.{QueryModel, expression_of, operator_of, query_of, type_of};
-ghost use Rattle.plan_json.specs.declared.error.JsonError.TheVariants.{NotJson, Shape, Name};
+ghost use Rattle.plan_json.specs.Faults.{BadFloat, BadName, BadShape, IsBadAt, key, own_fault};
+ghost use Rattle.plan_json.specs.Queries.{QueryModel, expression_of, literal_of, number_op, operator_of, plan_of, query_of, type_of};
+ghost use Rattle.plan_json.specs.declared.error.JsonError.TheVariants.{NotJson, Shape, Float as Float', Name};
 
 /// A query: its tables by name and columns, and its plan over them.
 pub fn query_examples()
@@ -68,6 +69,49 @@ pub fn query_examples()
         query_of (object (member (codes "plan") empty (member (codes "tables") (array no_items) no_members))) ≡ None }
 {}
 
+/// A filter: its input, and the expression that is true for the rows which it keeps.
+pub fn filter_examples()
+    ensures filter { let empty = object (member (codes "empty") (array no_items) no_members) in
+        let predicate = object (member (codes "col") (string (codes "a")) no_members) in
+        plan_of [] (object (member (codes "filter") (array (item empty (item predicate no_items))) no_members))
+        ≡ Some (node (filter_op (named (node (ColumnOp (codes "a")) no_more))) (more empty_table no_more)) }
+    ensures filter_of_filter { let empty = object (member (codes "empty") (array no_items) no_members) in
+        let first = object (member (codes "lit") (number (unsigned 1)) no_members) in
+        let second = object (member (codes "lit") (number (unsigned 2)) no_members) in
+        let inner = object (member (codes "filter") (array (item empty (item first no_items))) no_members) in
+        let below = node (filter_op (named (node (LiteralOp (Untyped (pos 1)) (IntValue (pos 1))) no_more))) (more empty_table no_more) in
+        let top = filter_op (named (node (LiteralOp (Untyped (pos 2)) (IntValue (pos 2))) no_more)) in
+        plan_of [] (object (member (codes "filter") (array (item inner (item second no_items))) no_members))
+        ≡ Some (node top (more below no_more)) }
+    ensures short { let empty = object (member (codes "empty") (array no_items) no_members) in
+        plan_of [] (object (member (codes "filter") (array (item empty no_items)) no_members)) ≡ None }
+    ensures long { let empty = object (member (codes "empty") (array no_items) no_members) in
+        let predicate = object (member (codes "col") (string (codes "a")) no_members) in
+        plan_of [] (object (member (codes "filter") (array (item empty (item predicate (item predicate no_items)))) no_members)) ≡ None }
+    ensures list_of_predicates { let empty = object (member (codes "empty") (array no_items) no_members) in
+        let predicate = object (member (codes "col") (string (codes "a")) no_members) in
+        plan_of [] (object (member (codes "filter") (array (item empty (item (array (item predicate no_items)) no_items))) no_members)) ≡ None }
+{}
+
+/// A literal: a whole number that is held as an i64 or as a u64. It has no type.
+pub fn literal_examples()
+    ensures unsigned_number { (n : ℕ) → literal_of (number (unsigned n)) ≡ Some (LiteralOp (Untyped (pos n)) (IntValue (pos n))) }
+    ensures negative_number { (z : ℤ) → literal_of (number (negative z)) ≡ Some (LiteralOp (Untyped z) (IntValue z)) }
+    ensures float_number { (x : Float) → literal_of (number (float x)) ≡ None }
+    ensures nothing { literal_of null ≡ None }
+    ensures truth { literal_of (boolean true) ≡ None }
+    ensures text { literal_of (string (codes "1")) ≡ None }
+    ensures list { literal_of (array (item (number (unsigned 1)) no_items)) ≡ None }
+    ensures expression { expression_of (object (member (codes "lit") (number (negative (negsuc 299))) no_members))
+        ≡ Some (node (number_op (negsuc 299)) no_more) }
+    ensures sum { let left = object (member (codes "lit") (number (unsigned 18446744073709551615)) no_members) in
+        let right = object (member (codes "col") (string (codes "a")) no_members) in
+        let operands = array (item (string (codes "Plus")) (item left (item right no_items))) in
+        expression_of (object (member (codes "bin") operands no_members))
+        ≡ Some (node (BinaryOp Plus) (more (node (number_op (pos 18446744073709551615)) no_more) (more (node (ColumnOp (codes "a")) no_more) no_more))) }
+    ensures two_keys { expression_of (object (member (codes "col") (string (codes "a")) (member (codes "lit") (number (unsigned 1)) no_members))) ≡ None }
+{}
+
 /// An expression: an object of one key, which names its form.
 pub fn expression_examples()
     ensures comparison { let left = object (member (codes "col") (string (codes "a")) no_members) in
@@ -117,6 +161,10 @@ pub fn text_examples()
         → IsRefusalOf (codes "{\"tables\":[],\"plan\":{\"drop\":[]}}") (Shape path) }
     ensures undeclared_table { (path : String Global) → string_bytes path ≡ codes "/plan/scan"
         → IsRefusalOf (codes "{\"tables\":[],\"plan\":{\"scan\":\"t\"}}") (Name path) }
+    ensures float { (path : String Global) → string_bytes path ≡ codes "/plan/filter/1/lit"
+        → IsRefusalOf (codes "{\"tables\":[],\"plan\":{\"filter\":[{\"empty\":[]},{\"lit\":1.5}]}}") (Float' path) }
+    ensures numbers { WritesQuery (codes "{\"tables\":[],\"plan\":{\"filter\":[{\"empty\":[]},{\"lit\":-7}]}}")
+        (record { tables = []; plan = node (filter_op (named (node (number_op (negsuc 6)) no_more))) (more empty_table no_more) }) }
 {}
 
 /// How a value itself breaks the form that its place asks for.
@@ -143,7 +191,7 @@ pub fn fault_examples()
     ensures unknown_plan { own_fault (fault.a_plan []) (object (member (codes "drop") null no_members)) ≡ Some BadShape }
     ensures two_plans { own_fault (fault.a_plan []) (object (member (codes "empty") null (member (codes "scan") null no_members))) ≡ Some BadShape }
     ensures known_plan { own_fault (fault.a_plan []) (object (member (codes "scan") null no_members)) ≡ None }
-    ensures unknown_expression { own_fault fault.an_expression (object (member (codes "lit") (number (unsigned 1)) no_members)) ≡ Some BadShape }
+    ensures unknown_expression { own_fault fault.an_expression (object (member (codes "neg") (number (unsigned 1)) no_members)) ≡ Some BadShape }
     ensures known_expression { own_fault fault.an_expression (object (member (codes "bin") null no_members)) ≡ None }
     ensures unknown_operator { own_fault fault.an_operator (string (codes "Minus")) ≡ Some BadShape }
     ensures known_operator { own_fault fault.an_operator (string (codes "NotEq")) ≡ None }
@@ -153,7 +201,30 @@ pub fn fault_examples()
     ensures known_mode { own_fault fault.a_mode (string (codes "Overflowing")) ≡ None }
     ensures short_operands { own_fault fault.operands (array (item (string (codes "Plus")) (item null no_items))) ≡ Some BadShape }
     ensures empty_list { own_fault fault.expression_list (array no_items) ≡ None }
+    ensures short_filter { own_fault (fault.a_filter []) (array (item null no_items)) ≡ Some BadShape }
+    ensures long_filter { own_fault (fault.a_filter []) (array (item null (item null (item null no_items)))) ≡ Some BadShape }
+    ensures whole_filter { own_fault (fault.a_filter []) (array (item null (item null no_items))) ≡ None }
+    ensures literal { own_fault fault.a_literal (number (negative (negsuc 0))) ≡ None }
+    ensures no_literal { own_fault fault.a_literal null ≡ Some BadShape }
     ensures no_list { own_fault fault.table_list (object no_members) ≡ Some BadShape }
+{}
+
+/// A number that is held as a float, where something else is asked for.
+pub fn float_examples()
+    ensures query { (x : Float) → own_fault fault.a_query (number (float x)) ≡ Some BadFloat }
+    ensures list { (x : Float) → own_fault fault.table_list (number (float x)) ≡ Some BadFloat }
+    ensures columns { (x : Float) → own_fault fault.column_list (number (float x)) ≡ Some BadFloat }
+    ensures text { (x : Float) → own_fault fault.a_text (number (float x)) ≡ Some BadFloat }
+    ensures type_name { (x : Float) → own_fault fault.a_type (number (float x)) ≡ Some BadFloat }
+    ensures new_name { (x : Float) → own_fault (fault.a_new_name []) (number (float x)) ≡ Some BadFloat }
+    ensures table { (x : Float) → own_fault (fault.a_scan (codes "t" ∷ [])) (number (float x)) ≡ Some BadFloat }
+    ensures plan { (x : Float) → own_fault (fault.a_plan []) (number (float x)) ≡ Some BadFloat }
+    ensures filter { (x : Float) → own_fault (fault.a_filter []) (number (float x)) ≡ Some BadFloat }
+    ensures expression { (x : Float) → own_fault fault.an_expression (number (float x)) ≡ Some BadFloat }
+    ensures literal { (x : Float) → own_fault fault.a_literal (number (float x)) ≡ Some BadFloat }
+    ensures operator { (x : Float) → own_fault fault.an_operator (number (float x)) ≡ Some BadFloat }
+    ensures whole_number { own_fault fault.an_operator (number (negative (negsuc 0))) ≡ Some BadShape }
+    ensures list_with_float { (x : Float) → own_fault fault.a_literal (array (item (number (float x)) no_items)) ≡ Some BadShape }
 {}
 
 /// A fault stands at the end of a path of keys and item numbers.
@@ -169,14 +240,14 @@ pub fn place_examples()
         let table = object (member (codes "columns") (array (item column (item column no_items))) (member (codes "name") (string (codes "t")) no_members)) in
         let d = object (member (codes "plan") null (member (codes "tables") (array (item table no_items)) no_members)) in
         IsBadAt fault.a_query d BadShape (key (codes "tables") ∷ fault.number 0 ∷ key (codes "columns") ∷ []) }
-    ensures unknown_expression { let lit = object (member (codes "lit") (number (unsigned 1)) no_members) in
+    ensures unknown_expression { let neg = object (member (codes "neg") null no_members) in
         let col = object (member (codes "col") (string (codes "a")) no_members) in
-        let sum = object (member (codes "bin") (array (item (string (codes "Plus")) (item col (item lit no_items)))) no_members) in
+        let sum = object (member (codes "bin") (array (item (string (codes "Plus")) (item col (item neg no_items)))) no_members) in
         let selection = array (item null (item (array (item col (item sum no_items))) no_items)) in
         let d = object (member (codes "plan") (object (member (codes "select") selection no_members)) (member (codes "tables") (array no_items) no_members)) in
         IsBadAt fault.a_query d BadShape (key (codes "plan") ∷ key (codes "select") ∷ fault.number 1 ∷ fault.number 1 ∷ key (codes "bin") ∷ fault.number 2 ∷ []) }
-    ensures cast_of_unknown { let lit = object (member (codes "lit") (number (unsigned 1)) no_members) in
-        let cast = object (member (codes "cast") (array (item lit (item null (item null no_items)))) no_members) in
+    ensures cast_of_unknown { let neg = object (member (codes "neg") null no_members) in
+        let cast = object (member (codes "cast") (array (item neg (item null (item null no_items)))) no_members) in
         IsBadAt fault.an_expression cast BadShape (key (codes "cast") ∷ fault.number 0 ∷ []) }
     ensures cast_to_unknown { let cast = object (member (codes "cast") (array (item null (item (string (codes "bool")) (item null no_items)))) no_members) in
         IsBadAt fault.an_expression cast BadShape (key (codes "cast") ∷ fault.number 1 ∷ []) }
@@ -184,6 +255,12 @@ pub fn place_examples()
         let inner = object (member (codes "cast") below no_members) in
         let cast = object (member (codes "cast") (array (item inner (item null (item null no_items)))) no_members) in
         IsBadAt fault.an_expression cast BadShape (key (codes "cast") ∷ fault.number 0 ∷ key (codes "cast") ∷ fault.number 2 ∷ []) }
+    ensures float { (x : Float) → let lit = object (member (codes "lit") (number (float x)) no_members) in
+        let plan = object (member (codes "filter") (array (item null (item lit no_items))) no_members) in
+        let d = object (member (codes "plan") plan (member (codes "tables") (array no_items) no_members)) in
+        IsBadAt fault.a_query d BadFloat (key (codes "plan") ∷ key (codes "filter") ∷ fault.number 1 ∷ key (codes "lit") ∷ []) }
+    ensures float_is_no_shape { (x : Float) → let lit = object (member (codes "lit") (number (float x)) no_members) in
+        ¬ (IsBadAt fault.an_expression lit BadShape (key (codes "lit") ∷ [])) }
     ensures first_table_stays { let table = object (member (codes "columns") (array no_items) (member (codes "name") (string (codes "t")) no_members)) in
         let d = object (member (codes "plan") null (member (codes "tables") (array (item table (item table no_items))) no_members)) in
         ¬ (IsBadAt fault.a_query d BadName (key (codes "tables") ∷ fault.number 0 ∷ key (codes "name") ∷ [])) }

@@ -2,15 +2,17 @@
 ghost use Rattle.std.specs.Prelude.{◌≡◌, Some, IfOk, IfErr};
 ghost use Rattle.serde_json.specs.View.{view};
 ghost use Rattle.plan_dsl.specs.Expressions.{tree_of};
+ghost use Rattle.plan_dsl.specs.Literals.{literal_op};
 ghost use Rattle.plan_dsl.specs.Plans.{trees_of};
 ghost use Rattle.plan_json.specs.Errors.{IsErrorOf};
-ghost use Rattle.plan_json.specs.Faults.{an_expression, operands, an_operator, a_cast, a_mode, expression_list};
-ghost use Rattle.plan_json.specs.Queries.{expression_of, binary_of, operator_named, operator_of, cast_of, mode_named, mode_of, expressions_of};
+ghost use Rattle.plan_json.specs.Faults.{an_expression, a_literal, operands, an_operator, a_cast, a_mode, expression_list};
+ghost use Rattle.plan_json.specs.Queries.{expression_of, literal_of, binary_of, operator_named, operator_of, cast_of, mode_named, mode_of, expressions_of};
 
 use super::columns::{read_text, read_type};
 use super::error::{JsonError, Step, at};
-use super::value::{only_member, three_items};
+use super::value::{only_member, three_items, whole_number};
 use plan_dsl::expr::Expr;
+use plan_dsl::literal::LiteralValue;
 use plan_dsl::operator::Operator;
 use plan_dsl::plan::Exprs;
 use plan_types::dtype::CastOptions;
@@ -24,11 +26,15 @@ pub(crate) fn read_expression(alloc: Global, value: &Value) -> Result<Expr, Json
     ensures err { IfErr result (IsErrorOf an_expression (view value.now)) }
 {
     match only_member(value) {
-        None => Err(JsonError::shape(alloc)),
+        None => Err(JsonError::shape(alloc, value)),
         Some((key, inner)) => match key {
             "col" => {
                 let name = at(alloc, Step::Key("col"), read_text(alloc, inner))?;
                 Ok(Expr::Column(name))
+            }
+            "lit" => {
+                let literal = at(alloc, Step::Key("lit"), read_literal(alloc, inner))?;
+                Ok(Expr::Literal(literal))
             }
             "bin" => {
                 let expr = at(alloc, Step::Key("bin"), read_binary(alloc, inner))?;
@@ -38,8 +44,19 @@ pub(crate) fn read_expression(alloc: Global, value: &Value) -> Result<Expr, Json
                 let expr = at(alloc, Step::Key("cast"), read_cast(alloc, inner))?;
                 Ok(expr)
             }
-            _ => Err(JsonError::shape(alloc)),
+            _ => Err(JsonError::shape(alloc, value)),
         },
+    }
+}
+
+// A literal: a whole number, which has no type.
+fn read_literal(alloc: Global, value: &Value) -> Result<LiteralValue, JsonError>
+    ensures ok { IfOk result (λ literal. literal_of (view value.now) ≡ Some (literal_op literal)) }
+    ensures err { IfErr result (IsErrorOf a_literal (view value.now)) }
+{
+    match whole_number(value) {
+        None => Err(JsonError::shape(alloc, value)),
+        Some(number) => Ok(LiteralValue::Int(number)),
     }
 }
 
@@ -50,7 +67,7 @@ fn read_binary(alloc: Global, value: &Value) -> Result<Expr, JsonError>
     ensures err { IfErr result (IsErrorOf operands (view value.now)) }
 {
     match three_items(value) {
-        None => Err(JsonError::shape(alloc)),
+        None => Err(JsonError::shape(alloc, value)),
         Some((operator, left, right)) => {
             let op = at(alloc, Step::Item(0), read_operator(alloc, operator))?;
             let left = at(alloc, Step::Item(1), read_expression(alloc, left))?;
@@ -68,9 +85,9 @@ fn read_operator(alloc: Global, value: &Value) -> Result<Operator, JsonError>
     ensures err { IfErr result (IsErrorOf an_operator (view value.now)) }
 {
     match value.as_str() {
-        None => Err(JsonError::shape(alloc)),
+        None => Err(JsonError::shape(alloc, value)),
         Some(name) => match operator_named(name) {
-            None => Err(JsonError::shape(alloc)),
+            None => Err(JsonError::shape(alloc, value)),
             Some(operator) => Ok(operator),
         },
     }
@@ -99,7 +116,7 @@ fn read_cast(alloc: Global, value: &Value) -> Result<Expr, JsonError>
     ensures err { IfErr result (IsErrorOf a_cast (view value.now)) }
 {
     match three_items(value) {
-        None => Err(JsonError::shape(alloc)),
+        None => Err(JsonError::shape(alloc, value)),
         Some((operand, target, mode)) => {
             let expr = at(alloc, Step::Item(0), read_expression(alloc, operand))?;
             let dtype = at(alloc, Step::Item(1), read_type(alloc, target))?;
@@ -120,9 +137,9 @@ fn read_mode(alloc: Global, value: &Value) -> Result<CastOptions, JsonError>
     ensures err { IfErr result (IsErrorOf a_mode (view value.now)) }
 {
     match value.as_str() {
-        None => Err(JsonError::shape(alloc)),
+        None => Err(JsonError::shape(alloc, value)),
         Some(name) => match mode_named(name) {
-            None => Err(JsonError::shape(alloc)),
+            None => Err(JsonError::shape(alloc, value)),
             Some(mode) => Ok(mode),
         },
     }
@@ -146,7 +163,7 @@ pub(crate) fn read_expressions(alloc: Global, value: &Value) -> Result<Exprs, Js
     ensures err { IfErr result (IsErrorOf expression_list (view value.now)) }
 {
     match value.as_array() {
-        None => Err(JsonError::shape(alloc)),
+        None => Err(JsonError::shape(alloc, value)),
         Some(values) => {
             let values = values.as_slice();
             let mut items = Vec::new(alloc);

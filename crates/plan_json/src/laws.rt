@@ -1,6 +1,10 @@
 //! Laws of the definitions. The functions do nothing: their clauses are the laws.
-ghost use Rattle.std.specs.Prelude.{◌≡◌, ℕ, List};
+ghost use Rattle.std.specs.Prelude.{◌≡◌, ℕ, List, Some, None, true, false};
+ghost use Rattle.serde_json.specs.Data.{Data, Num, number};
+ghost use Rattle.serde_json.specs.Find.{as_i64, as_u64};
 ghost use Rattle.plan_json.specs.Bytes.{IsRefusalOf, WritesQuery};
+ghost use Rattle.plan_json.specs.Faults.{BadFloat, BadShape, Form, own_fault};
+ghost use Rattle.plan_json.specs.Looking.{is_float};
 ghost use Rattle.plan_json.specs.Queries.{QueryModel};
 ghost use Rattle.plan_json.specs.declared.error.JsonError.{JsonError};
 ghost use Rattle.plan_json.specs.declared.error.JsonError.TheVariants.{NoMemory};
@@ -11,4 +15,13 @@ pub fn query_laws()
         → WritesQuery bytes query → WritesQuery bytes other → query ≡ other }
     ensures refused { (bytes : List ℕ) (query : QueryModel) (error : JsonError)
         → WritesQuery bytes query → IsRefusalOf bytes error → error ≡ NoMemory }
+{}
+
+/// A number that is held neither as an i64 nor as a u64 is a float, whatever its place asks for. Its fault is
+/// that of a float, and no other value has such a fault.
+pub fn float_laws()
+    ensures no_integer { (n : Num) → is_float (number n) ≡ true → (as_i64 n ≡ None) × (as_u64 n ≡ None) }
+    ensures neither { (n : Num) → as_i64 n ≡ None → as_u64 n ≡ None → is_float (number n) ≡ true }
+    ensures float { (form : Form) (d : Data) → own_fault form d ≡ Some BadFloat → is_float d ≡ true }
+    ensures shape { (form : Form) (d : Data) → own_fault form d ≡ Some BadShape → is_float d ≡ false }
 {}

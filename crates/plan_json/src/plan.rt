@@ -4,13 +4,13 @@ ghost use Rattle.serde_json.specs.View.{view};
 ghost use Rattle.plan_dsl.specs.Plans.{plan_tree};
 ghost use Rattle.plan_types.specs.Schemas.{names_of};
 ghost use Rattle.plan_json.specs.Errors.{IsErrorOf};
-ghost use Rattle.plan_json.specs.Faults.{a_plan, a_scan, a_selection};
-ghost use Rattle.plan_json.specs.Queries.{plan_of, scan_of, select_of};
+ghost use Rattle.plan_json.specs.Faults.{a_plan, a_scan, a_filter, a_selection};
+ghost use Rattle.plan_json.specs.Queries.{plan_of, scan_of, filter_of, select_of};
 ghost use Rattle.plan_json.specs.Tables.{declared};
 
 use super::columns::{read_columns, read_text};
 use super::error::{JsonError, Step, at};
-use super::expression::read_expressions;
+use super::expression::{read_expression, read_expressions};
 use super::tables::Tables;
 use super::value::{only_member, two_items};
 use plan_dsl::plan::{DslPlan, ProjectionOptions};
@@ -25,7 +25,7 @@ pub(crate) fn read_plan(alloc: Global, tables: &Tables, value: &Value) -> Result
     ensures err { IfErr result (IsErrorOf (a_plan (names_of (declared tables.now))) (view value.now)) }
 {
     match only_member(value) {
-        None => Err(JsonError::shape(alloc)),
+        None => Err(JsonError::shape(alloc, value)),
         Some((key, inner)) => match key {
             "scan" => {
                 let plan = at(alloc, Step::Key("scan"), read_scan(alloc, tables, inner))?;
@@ -38,6 +38,14 @@ pub(crate) fn read_plan(alloc: Global, tables: &Tables, value: &Value) -> Result
                     schema,
                 })
             }
+            "filter" => {
+                let plan = at(
+                    alloc,
+                    Step::Key("filter"),
+                    read_filter(alloc, tables, inner),
+                )?;
+                Ok(plan)
+            }
             "select" => {
                 let plan = at(
                     alloc,
@@ -46,7 +54,7 @@ pub(crate) fn read_plan(alloc: Global, tables: &Tables, value: &Value) -> Result
                 )?;
                 Ok(plan)
             }
-            _ => Err(JsonError::shape(alloc)),
+            _ => Err(JsonError::shape(alloc, value)),
         },
     }
 }
@@ -70,6 +78,24 @@ fn read_scan(alloc: Global, tables: &Tables, value: &Value) -> Result<DslPlan, J
     }
 }
 
+// The rows for which an expression is true: `[plan, expression]`.
+#[cycle(plan)]
+fn read_filter(alloc: Global, tables: &Tables, value: &Value) -> Result<DslPlan, JsonError>
+    ensures ok { IfOk result (λ plan. filter_of (declared tables.now) (view value.now)
+        ≡ Some (plan_tree plan)) }
+    ensures err { IfErr result (IsErrorOf (a_filter (names_of (declared tables.now))) (view value.now)) }
+{
+    match two_items(value) {
+        None => Err(JsonError::shape(alloc, value)),
+        Some((input, predicate)) => {
+            let input = at(alloc, Step::Item(0), read_plan(alloc, tables, input))?;
+            let predicate = at(alloc, Step::Item(1), read_expression(alloc, predicate))?;
+            let input = Box::new(alloc, input)?;
+            Ok(DslPlan::Filter { input, predicate })
+        }
+    }
+}
+
 // A frame of a column for each expression: `[plan, expressions]`.
 #[cycle(plan)]
 fn read_select(alloc: Global, tables: &Tables, value: &Value) -> Result<DslPlan, JsonError>
@@ -78,7 +104,7 @@ fn read_select(alloc: Global, tables: &Tables, value: &Value) -> Result<DslPlan,
     ensures err { IfErr result (IsErrorOf (a_selection (names_of (declared tables.now))) (view value.now)) }
 {
     match two_items(value) {
-        None => Err(JsonError::shape(alloc)),
+        None => Err(JsonError::shape(alloc, value)),
         Some((input, expressions)) => {
             let input = at(alloc, Step::Item(0), read_plan(alloc, tables, input))?;
             let expr = at(alloc, Step::Item(1), read_expressions(alloc, expressions))?;

@@ -52,7 +52,7 @@ fn read_value(alloc: Global, value: &Value) -> Result<Query, JsonError>
     ensures err { IfErr result (IsErrorOf a_query (view value.now)) }
 {
     match two_members(value, "tables", "plan") {
-        None => Err(JsonError::shape(alloc)),
+        None => Err(JsonError::shape(alloc, value)),
         Some((tables, plan)) => {
             let tables = at(alloc, Step::Key("tables"), read_tables(alloc, tables))?;
             let plan = at(alloc, Step::Key("plan"), read_plan(alloc, &tables, plan))?;

@@ -1,6 +1,9 @@
 //! Outside texts, and what reading them says.
 
 use super::read::read_query;
+use plan_dsl::expr::Expr;
+use plan_dsl::literal::LiteralValue;
+use plan_dsl::plan::DslPlan;
 use std::alloc::{AllocError, Global};
 use std::test::Fail;
 
@@ -79,7 +82,8 @@ fn reads_whole_texts(rt: HostRuntime) -> Result<(), Fail> {
             "query",
         ),
         ("[]", "Shape "),
-        ("1.5", "Shape "),
+        ("1", "Shape "),
+        ("1.5", "Float "),
         ("{\"tables\":[]}", "Shape "),
         ("{\"tables\":[],\"plan\":{\"empty\":[]},\"x\":1}", "Shape "),
         ("{\"tables\":[],\"plans\":{\"empty\":[]}}", "Shape "),
@@ -105,6 +109,19 @@ fn reads_tables(rt: HostRuntime) -> Result<(), Fail> {
             "[{\"name\":\"t\",\"columns\":[]},{\"name\":\"t\",\"columns\":[]}]",
             "Name /tables/1/name",
         ),
+    ] {
+        let found = query_answer(rt.alloc(), tables, "{\"empty\":[]}")?;
+        assert!(rt; found.as_str() == want, "{found} in place of {want}");
+    }
+    Ok(())
+}
+
+#[test]
+fn tells_floats_in_tables(rt: HostRuntime) -> Result<(), Fail> {
+    for (tables, want) in [
+        ("1.0", "Float /tables"),
+        ("[1e3]", "Float /tables/0"),
+        ("[{\"name\":-0,\"columns\":[]}]", "Float /tables/0/name"),
     ] {
         let found = query_answer(rt.alloc(), tables, "{\"empty\":[]}")?;
         assert!(rt; found.as_str() == want, "{found} in place of {want}");
@@ -139,6 +156,10 @@ fn reads_columns(rt: HostRuntime) -> Result<(), Fail> {
             "[{\"name\":\"t\",\"columns\":[[0,\"Int8\"]]}]",
             "Shape /tables/0/columns/0/0",
         ),
+        (
+            "[{\"name\":\"t\",\"columns\":[[\"a\",0.5]]}]",
+            "Float /tables/0/columns/0/1",
+        ),
     ] {
         let found = query_answer(rt.alloc(), tables, "{\"empty\":[]}")?;
         assert!(rt; found.as_str() == want, "{found} in place of {want}");
@@ -156,6 +177,9 @@ fn reads_plans(rt: HostRuntime) -> Result<(), Fail> {
         ("{\"scan\":\"u\"}", "Name /plan/scan"),
         ("{\"scan\":\"t\",\"x\":1}", "Shape /plan"),
         ("{\"scan\":7}", "Shape /plan/scan"),
+        ("7.5", "Float /plan"),
+        ("{\"scan\":7.5}", "Float /plan/scan"),
+        ("{\"select\":1e1}", "Float /plan/select"),
     ] {
         let found = query_answer(rt.alloc(), tables, plan)?;
         assert!(rt; found.as_str() == want, "{found} in place of {want}");
@@ -166,7 +190,7 @@ fn reads_plans(rt: HostRuntime) -> Result<(), Fail> {
 #[test]
 fn reads_plans_over_plans(rt: HostRuntime) -> Result<(), Fail> {
     for (plan, want) in [
-        ("{\"filter\":[{\"empty\":[]},{\"lit\":1.5}]}", "Shape /plan"),
+        ("{\"drop\":[{\"empty\":[]},{\"lit\":1.5}]}", "Shape /plan"),
         (
             "{\"empty\":[[\"a\",\"Int8\"],[\"a\",\"Int16\"]]}",
             "Shape /plan/empty",
@@ -185,6 +209,128 @@ fn reads_plans_over_plans(rt: HostRuntime) -> Result<(), Fail> {
 }
 
 #[test]
+fn reads_filters(rt: HostRuntime) -> Result<(), Fail> {
+    for (plan, want) in [
+        ("{\"filter\":[{\"empty\":[]},{\"lit\":1}]}", "query"),
+        (
+            "{\"filter\":[{\"filter\":[{\"empty\":[]},{\"col\":\"a\"}]},{\"col\":\"b\"}]}",
+            "query",
+        ),
+        (
+            "{\"filter\":[{\"empty\":[]},{\"lit\":1.5}]}",
+            "Float /plan/filter/1/lit",
+        ),
+        ("{\"filter\":[{\"empty\":[]}]}", "Shape /plan/filter"),
+        (
+            "{\"filter\":[{\"empty\":[]},{\"lit\":1},{\"lit\":1}]}",
+            "Shape /plan/filter",
+        ),
+    ] {
+        let found = query_answer(rt.alloc(), "[]", plan)?;
+        assert!(rt; found.as_str() == want, "{found} in place of {want}");
+    }
+    Ok(())
+}
+
+#[test]
+fn refuses_parts_of_filters(rt: HostRuntime) -> Result<(), Fail> {
+    for (plan, want) in [
+        (
+            "{\"filter\":[{\"empty\":[]},[{\"lit\":1}]]}",
+            "Shape /plan/filter/1",
+        ),
+        (
+            "{\"filter\":[{\"scan\":\"u\"},{\"lit\":1}]}",
+            "Name /plan/filter/0/scan",
+        ),
+        (
+            "{\"filter\":[{\"filter\":[{\"empty\":[]},2.5]},{\"lit\":1}]}",
+            "Float /plan/filter/0/filter/1",
+        ),
+        ("{\"filter\":-0.0}", "Float /plan/filter"),
+    ] {
+        let found = query_answer(rt.alloc(), "[]", plan)?;
+        assert!(rt; found.as_str() == want, "{found} in place of {want}");
+    }
+    Ok(())
+}
+
+// The number of the literal by which the plan filters.
+fn filtered_by(plan: &DslPlan) -> Option<i128> {
+    match plan {
+        DslPlan::Filter { predicate, .. } => match predicate {
+            Expr::Literal(LiteralValue::Int(number)) => Some(*number),
+            _ => None,
+        },
+        _ => None,
+    }
+}
+
+// A query of a filter by the literal of that text.
+fn literal_query(alloc: Global, literal: &str) -> Result<String, AllocError> {
+    let mut text = String::from_str(
+        alloc,
+        "{\"tables\":[],\"plan\":{\"filter\":[{\"empty\":[]},{\"lit\":",
+    )?;
+    text.push_str(literal)?;
+    text.push_str("}]}}")?;
+    Ok(text)
+}
+
+#[test]
+fn reads_whole_numbers(rt: HostRuntime) -> Result<(), Fail> {
+    for (literal, want) in [
+        ("0", 0),
+        ("7", 7),
+        ("-300", -300),
+        ("9223372036854775808", 9223372036854775808),
+        ("18446744073709551615", 18446744073709551615),
+        ("-9223372036854775808", -9223372036854775808),
+    ] {
+        let text = literal_query(rt.alloc(), literal)?;
+        let query = read_query(rt.alloc(), text.as_bytes())?;
+        let found: Option<i128> = filtered_by(&query.plan);
+        assert!(rt; found == Some(want));
+    }
+    Ok(())
+}
+
+#[test]
+fn tells_numbers_that_are_not_whole(rt: HostRuntime) -> Result<(), Fail> {
+    for literal in [
+        "1.5",
+        "-0",
+        "1.0",
+        "1e3",
+        "18446744073709551616",
+        "-9223372036854775809",
+    ] {
+        let text = literal_query(rt.alloc(), literal)?;
+        let found = answer(rt.alloc(), text.as_bytes())?;
+        assert!(rt;
+            found.as_str() == "Float /plan/filter/1/lit",
+            "{found} of {literal}"
+        );
+    }
+    let text = literal_query(rt.alloc(), "1e400")?;
+    assert!(rt; answer(rt.alloc(), text.as_bytes())?.as_str() == "NotJson");
+    Ok(())
+}
+
+#[test]
+fn refuses_literals_that_are_no_numbers(rt: HostRuntime) -> Result<(), Fail> {
+    for literal in ["null", "true", "\"1\"", "[1]", "[1.5]", "{\"Int8\":1.5}"] {
+        let text = literal_query(rt.alloc(), literal)?;
+        let found = answer(rt.alloc(), text.as_bytes())?;
+        assert!(rt;
+            found.as_str() == "Shape /plan/filter/1/lit",
+            "{found} of {literal}"
+        );
+    }
+    Ok(())
+}
+
+#[test]
 fn reads_expressions(rt: HostRuntime) -> Result<(), Fail> {
     for (plan, want) in [
         (
@@ -192,7 +338,7 @@ fn reads_expressions(rt: HostRuntime) -> Result<(), Fail> {
             "query",
         ),
         (
-            "{\"select\":[{\"empty\":[]},[{\"col\":\"a\"},{\"lit\":1}]]}",
+            "{\"select\":[{\"empty\":[]},[{\"col\":\"a\"},{\"neg\":1.5}]]}",
             "Shape /plan/select/1/1",
         ),
         (
@@ -206,6 +352,14 @@ fn reads_expressions(rt: HostRuntime) -> Result<(), Fail> {
         (
             "{\"select\":[{\"empty\":[]},[{\"bin\":[\"Plus\",{\"col\":\"a\"},{\"col\":null}]}]]}",
             "Shape /plan/select/1/0/bin/2/col",
+        ),
+        (
+            "{\"select\":[{\"empty\":[]},[{\"bin\":[\"Plus\",{\"lit\":1},{\"lit\":-1}]}]]}",
+            "query",
+        ),
+        (
+            "{\"select\":[{\"empty\":[]},[{\"bin\":[2.5,{\"lit\":1},{\"lit\":-1}]}]]}",
+            "Float /plan/select/1/0/bin/0",
         ),
     ] {
         let found = query_answer(rt.alloc(), "[]", plan)?;
@@ -280,7 +434,7 @@ fn reads_casts(rt: HostRuntime) -> Result<(), Fail> {
             "Shape /plan/select/1/0/cast/2",
         ),
         (
-            "{\"cast\":[{\"cast\":[{\"lit\":1},\"Int8\",\"Strict\"]},\"Int8\",\"Strict\"]}",
+            "{\"cast\":[{\"cast\":[{\"neg\":1},\"Int8\",\"Strict\"]},\"Int8\",\"Strict\"]}",
             "Shape /plan/select/1/0/cast/0/cast/0",
         ),
         ("{\"cast\":{}}", "Shape /plan/select/1/0/cast"),

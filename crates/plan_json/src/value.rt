@@ -2,9 +2,22 @@
 ghost use Rattle.std.specs.Prelude.{◌≡◌};
 ghost use Rattle.std.specs.Option.{option_map};
 ghost use Rattle.serde_json.specs.View.{view};
-ghost use Rattle.plan_json.specs.Looking.{only_member, two_members, two_items, three_items};
+ghost use Rattle.plan_json.specs.Looking.{whole_number, only_member, two_members, two_items, three_items};
 
 use serde_json::Value;
+
+// A whole number: one that is held as an i64 or as a u64.
+pub(crate) fn whole_number(value: &Value) -> Option<i128>
+    ensures { result ≡ whole_number (view value.now) }
+{
+    match value.as_i64() {
+        Some(signed) => Some(signed as i128),
+        None => match value.as_u64() {
+            Some(unsigned) => Some(unsigned as i128),
+            None => None,
+        },
+    }
+}
 
 // The key and the value of an object of one key.
 pub(crate) fn only_member(value: &Value) -> Option<(&str, &Value)>

@@ -48,7 +48,7 @@ fn values_of_unknown_keys_and_other_kinds_are_told(rt: HostRuntime) -> Result<()
         ("{\"select\":[{\"drop\":\"t\"},[]]}", "Shape /plan/select/0"),
         ("{\"select\":[{\"Scan\":\"t\"},[]]}", "Shape /plan/select/0"),
         (
-            "{\"select\":[{\"select\":[{\"scan\":\"t\"},[{\"col\":\"a\"},{\"lit\":1.5}]]},[]]}",
+            "{\"select\":[{\"select\":[{\"scan\":\"t\"},[{\"col\":\"a\"},{\"neg\":1.5}]]},[]]}",
             "Shape /plan/select/0/select/1/1",
         ),
         (
@@ -61,7 +61,7 @@ fn values_of_unknown_keys_and_other_kinds_are_told(rt: HostRuntime) -> Result<()
             "Shape /plan/select/0/select/0/scan",
         ),
         (
-            "{\"select\":[{\"scan\":\"t\"},[{\"col\":\"a\"},{\"col\":\"b\"},{\"bin\":[\"Plus\",{\"col\":-0.5},{\"col\":\"a\"}]}]]}",
+            "{\"select\":[{\"scan\":\"t\"},[{\"col\":\"a\"},{\"col\":\"b\"},{\"bin\":[\"Plus\",{\"col\":-5},{\"col\":\"a\"}]}]]}",
             "Shape /plan/select/1/2/bin/1/col",
         ),
         (
@@ -75,6 +75,53 @@ fn values_of_unknown_keys_and_other_kinds_are_told(rt: HostRuntime) -> Result<()
         ("{\"select\":[[],[]]}", "Shape /plan/select/0"),
         ("{\"empty\":\"a\"}", "Shape /plan/empty"),
         ("{\"empty\":[[\"a\",8]]}", "Shape /plan/empty/0/1"),
+    ] {
+        assert!(rt; is_told(rt.alloc(), plan, want)?, "{plan}");
+    }
+    Ok(())
+}
+
+#[test]
+fn numbers_that_are_held_as_floats_are_told(rt: HostRuntime) -> Result<(), Fail> {
+    for (plan, want) in [
+        ("0.5", "Float /plan"),
+        ("{\"scan\":-0}", "Float /plan/scan"),
+        ("{\"empty\":[[\"a\",1e3]]}", "Float /plan/empty/0/1"),
+        (
+            "{\"select\":[{\"scan\":\"t\"},[{\"bin\":[\"Plus\",{\"col\":-0.5},{\"col\":\"a\"}]}]]}",
+            "Float /plan/select/1/0/bin/1/col",
+        ),
+        (
+            "{\"filter\":[{\"scan\":\"t\"},{\"lit\":18446744073709551616}]}",
+            "Float /plan/filter/1/lit",
+        ),
+        // Within a value of a wrong shape.
+        (
+            "{\"filter\":[{\"scan\":\"t\"},{\"lit\":[1.5]}]}",
+            "Shape /plan/filter/1/lit",
+        ),
+    ] {
+        assert!(rt; is_told(rt.alloc(), plan, want)?, "{plan}");
+    }
+    Ok(())
+}
+
+#[test]
+fn filters_of_another_length_are_told(rt: HostRuntime) -> Result<(), Fail> {
+    for (plan, want) in [
+        ("{\"filter\":[{\"scan\":\"t\"}]}", "Shape /plan/filter"),
+        (
+            "{\"filter\":[{\"scan\":\"t\"},{\"lit\":1},{\"lit\":1}]}",
+            "Shape /plan/filter",
+        ),
+        (
+            "{\"filter\":[{\"scan\":\"t\"},[{\"lit\":1}]]}",
+            "Shape /plan/filter/1",
+        ),
+        (
+            "{\"filter\":[{\"filter\":[{\"scan\":\"T\"},{\"lit\":1}]},{\"lit\":1}]}",
+            "Name /plan/filter/0/filter/0/scan",
+        ),
     ] {
         assert!(rt; is_told(rt.alloc(), plan, want)?, "{plan}");
     }

@@ -7,7 +7,7 @@ use Rattle.plan_types.specs.Types.{ty}
 use Rattle.plan_json.specs.Queries.{column_of}
 use Rattle.plan_json.specs.Faults.{a_column, column_list, part, number, each}
 use Rattle.plan_json.proofs.ColumnLemmas.{columns_more, columns_all, column_repeated}
-use Rattle.plan_json.proofs.FaultLemmas.{IfErr-below, IsErrorOf-shape, in_parts}
+use Rattle.plan_json.proofs.FaultLemmas.{IfErr-below, IsErrorOf-own, in_parts}
 use Rattle.plan_json.proofs.ItemLemmas.{all_of-more, each-at}
 use Rattle.plan_json.proofs.columns.read_columns.Goals as goal
 
@@ -22,7 +22,7 @@ returns-then-is_some-clause-err c =
     let items = c.as_slice-items.ensures.value in
     let there = ap is_some (sym c.in_ok-before-in-Some.ensures.before) ∙ is_some-option_map ty _ ∙ sym c.is_some.ensures ∙ c.if-is_some.true in
     let column = IfOk-at_ok _ c.in_ok-column-in-Some.ensures.ok c.read_column.ensures.ok in
-    IsErrorOf-shape column_list _ _ c.shape-then-is_some.ensures
+    IsErrorOf-own column_list _ _ _ c.shape-then-is_some.ensures
     (column_repeated _ c.as_slice-items.result.now c.loop-number.number _ _ _ (ap (λ vs. Some (items_view vs)) items ∙ c.in-Some.ensures) c.loop-number-test.true c.index-items-number.is c.loop-number.invariant.read column there)
 
 pub loop-number-preserved : goal.loop-number-preserved

@@ -6,13 +6,13 @@ use Rattle.plan_json.specs.Faults.{a_table, table_list, part, number, each_table
 use Rattle.plan_json.specs.Queries.{table_of}
 use Rattle.plan_json.specs.Tables.{declared}
 use Rattle.plan_json.proofs.DeclarationLemmas.{tables_all, tables_more, tables_too_many, table_names-read, length-tables}
-use Rattle.plan_json.proofs.FaultLemmas.{IfErr-below, IsErrorOf-shape, in_parts}
+use Rattle.plan_json.proofs.FaultLemmas.{IfErr-below, IsErrorOf-own, in_parts}
 use Rattle.plan_json.proofs.ItemLemmas.{all_of-more, each_table-at}
 use Rattle.plan_json.proofs.declarations.read_tables.Goals as goal
 
 pub returns-then-values-clause-err : goal.returns-then-values-clause-err
 returns-then-values-clause-err c =
-    IsErrorOf-shape table_list _ _ c.shape-then-values.ensures
+    IsErrorOf-own table_list _ _ _ c.shape-then-values.ensures
     (tables_too_many _ c.as_slice-values.result.now (ap (λ vs. Some (items_view vs)) c.as_slice-values.ensures.value ∙ c.in-Some.ensures) c.if-values.true)
 
 pub returns-in_err-table-in-Some-clause-err : goal.returns-in_err-table-in-Some-clause-err

@@ -1,5 +1,5 @@
 use Rattle.std.proofs.Common.{[], ◌∷◌, codes, refl, arith}
-use Rattle.serde_json.specs.Data.{Data, array, no_items, item, no_members, member, null, number, object, string, unsigned}
+use Rattle.serde_json.specs.Data.{Data, array, no_items, item, no_members, member, float, null, number, object, string}
 use Rattle.plan_json.specs.Faults as fault
 use Rattle.plan_json.specs.Faults.{key, part}
 use Rattle.plan_json.proofs.OnLiterals.{values_on_literals}
@@ -55,9 +55,9 @@ returns-clause-column_list c =
 pub returns-clause-unknown_expression : goal.returns-clause-unknown_expression
 unfolding values_on_literals
 returns-clause-unknown_expression c =
-    let lit = object (member (codes "lit") (number (unsigned 1)) no_members) in
+    let neg = object (member (codes "neg") null no_members) in
     let col = object (member (codes "col") (string (codes "a")) no_members) in
-    let operands = array (item (string (codes "Plus")) (item col (item lit no_items))) in
+    let operands = array (item (string (codes "Plus")) (item col (item neg no_items))) in
     let sum = object (member (codes "bin") operands no_members) in
     let list = array (item col (item sum no_items)) in
     let selection = array (item null (item list no_items)) in (
@@ -80,7 +80,7 @@ returns-clause-unknown_expression c =
               part (key (codes "bin")) fault.operands operands,
               (0, omega arith, refl),
               refl,
-              (part (fault.number 2) fault.an_expression lit, (2, omega arith, refl), refl, refl),
+              (part (fault.number 2) fault.an_expression neg, (2, omega arith, refl), refl, refl),
             ),
           ),
         ),
@@ -88,7 +88,7 @@ returns-clause-unknown_expression c =
     )
 
 abbrev unknown : Data
-unknown = object (member (codes "lit") (number (unsigned 1)) no_members)
+unknown = object (member (codes "neg") null no_members)
 
 pub returns-clause-cast_of_unknown : goal.returns-clause-cast_of_unknown
 unfolding values_on_literals
@@ -125,6 +125,27 @@ returns-clause-unknown_mode c =
           (0, omega arith, refl),
           refl,
           (part (fault.number 2) fault.a_mode (string (codes "Wrapping")), (2, omega arith, refl), refl, refl),
+        ),
+      ),
+    )
+
+pub returns-clause-float : goal.returns-clause-float
+unfolding values_on_literals
+returns-clause-float c x =
+    let lit = object (member (codes "lit") (number (float x)) no_members) in
+    let filter = array (item null (item lit no_items)) in (
+      part (key (codes "plan")) (fault.a_plan []) (object (member (codes "filter") filter no_members)),
+      (1, omega arith, refl),
+      refl,
+      (
+        part (key (codes "filter")) (fault.a_filter []) filter,
+        (0, omega arith, refl),
+        refl,
+        (
+          part (fault.number 1) fault.an_expression lit,
+          (1, omega arith, refl),
+          refl,
+          (part (key (codes "lit")) fault.a_literal (number (float x)), (0, omega arith, refl), refl, refl),
         ),
       ),
     )

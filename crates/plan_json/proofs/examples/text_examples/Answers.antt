@@ -1,5 +1,5 @@
-use Rattle.std.proofs.Common.{◌≡◌, [], ◌∷◌, Some, None, codes, refl, ap, ◌∙◌, rules, arith}
-use Rattle.serde_json.specs.Data.{array, no_items, item, no_members, member, object, string}
+use Rattle.std.proofs.Common.{◌≡◌, [], ◌∷◌, Some, None, negsuc, codes, refl, ap, ◌∙◌, rules, arith}
+use Rattle.serde_json.specs.Data.{array, no_items, item, no_members, member, float, negative, number, object, string}
 use Rattle.plan_json.specs.Faults as fault
 use Rattle.plan_json.specs.Faults.{key, part}
 use Rattle.plan_json.specs.Queries.{query_of}
@@ -55,3 +55,42 @@ returns-clause-undeclared_table c path is =
         ),
       ),
     )
+
+pub returns-clause-float : goal.returns-clause-float
+unfolding values_on_literals
+returns-clause-float c path is =
+    let empty = object (member (codes "empty") (array no_items) no_members) in
+    let lit = object (member (codes "lit") (number (float _)) no_members) in
+    let filter = array (item empty (item lit no_items)) in
+    let plan = object (member (codes "filter") filter no_members) in (
+      object (member (codes "plan") plan (member (codes "tables") (array no_items) no_members)),
+      (search rules, refl),
+      (
+        key (codes "plan") ∷ key (codes "filter") ∷ fault.number 1 ∷ key (codes "lit") ∷ [],
+        is,
+        (
+          part (key (codes "plan")) (fault.a_plan []) plan,
+          (1, omega arith, refl),
+          refl,
+          (
+            part (key (codes "filter")) (fault.a_filter []) filter,
+            (0, omega arith, refl),
+            refl,
+            (
+              part (fault.number 1) fault.an_expression lit,
+              (1, omega arith, refl),
+              refl,
+              (part (key (codes "lit")) fault.a_literal (number (float _)), (0, omega arith, refl), refl, refl),
+            ),
+          ),
+        ),
+      ),
+    )
+
+pub returns-clause-numbers : goal.returns-clause-numbers
+unfolding values_on_literals
+returns-clause-numbers c =
+    let empty = object (member (codes "empty") (array no_items) no_members) in
+    let lit = object (member (codes "lit") (number (negative (negsuc 6))) no_members) in
+    let plan = object (member (codes "filter") (array (item empty (item lit no_items))) no_members) in
+    (object (member (codes "plan") plan (member (codes "tables") (array no_items) no_members)), (search rules, refl), refl)

@@ -1,10 +1,10 @@
 use Rattle.std.proofs.Common.{◌∙◌, codes, refl, arith}
 use Rattle.std.proofs.lemmas.Result.{IfOk-at_ok}
 use Rattle.serde_json.specs.View.{view}
-use Rattle.plan_json.specs.Faults.{an_expression, an_operator, a_cast, a_mode, a_text, a_type, operands, part, key, number, expression_form, operand_parts, cast_parts}
-use Rattle.plan_json.proofs.FaultLemmas.{IfErr-below, in_parts, only_member-part}
-use Rattle.plan_json.proofs.FormLemmas.{expression_of-bin, expression_of-cast}
-use Rattle.plan_json.proofs.LookingLemmas.{depth-three_items}
+use Rattle.plan_json.specs.Faults.{an_expression, a_literal, an_operator, a_cast, a_mode, a_text, a_type, operands, part, key, number, expression_form, operand_parts, cast_parts}
+use Rattle.plan_json.proofs.FaultLemmas.{IfErr-below, IsErrorOf-own, in_parts, only_member-part, only_part-none}
+use Rattle.plan_json.proofs.FormLemmas.{expression_of-bin, expression_of-cast, expression_form-none}
+use Rattle.plan_json.proofs.LookingLemmas.{depth-only_member, depth-three_items}
 use Rattle.plan_json.proofs.expression.+expression.Goals as goal
 
 pub read_binary-returns-in_err-op-in-Some-clause-err :
@@ -57,6 +57,12 @@ read_expression-returns-in_err-name-in-col-clause-err t c =
     IfErr-below _ _ an_expression _ (part (key (codes "col")) a_text (view c.in-Some.inner.now)) _ c.from_residual.ensures.1
     (only_member-part expression_form _ _ (codes "col") _ a_text c.in-Some.ensures c.in-col.is refl) c.read_text.ensures.err c.in_err-name-in-col.ensures.err
 
+pub read_expression-returns-in_err-literal-in-lit-clause-err :
+    goal.read_expression-returns-in_err-literal-in-lit-clause-err
+read_expression-returns-in_err-literal-in-lit-clause-err t c =
+    IfErr-below _ _ an_expression _ (part (key (codes "lit")) a_literal (view c.in-Some.inner.now)) _ c.from_residual-in_err-literal-in-lit.ensures.1
+    (only_member-part expression_form _ _ (codes "lit") _ a_literal c.in-Some.ensures c.in-lit.is refl) c.read_literal.ensures.err c.in_err-literal-in-lit.ensures.err
+
 pub read_expression-returns-in_err-expr-in-bin-clause-err :
     goal.read_expression-returns-in_err-expr-in-bin-clause-err
 read_expression-returns-in_err-expr-in-bin-clause-err t c =
@@ -78,3 +84,13 @@ pub read_expression-returns-in_ok-expr-in-cast-clause-ok :
     goal.read_expression-returns-in_ok-expr-in-cast-clause-ok
 read_expression-returns-in_ok-expr-in-cast-clause-ok t c =
     expression_of-cast _ _ _ c.in-Some.ensures c.in-cast.is ∙ IfOk-at_ok _ c.in_ok-expr-in-cast.ensures.ok c.read_cast.ensures.ok
+
+pub read_expression-read_cast-requires : goal.read_expression-read_cast-requires
+read_expression-read_cast-requires t c =
+    let below = depth-only_member _ _ _ c.in-Some.ensures in (omega (arith, below, c.decreases), tt)
+
+pub read_expression-returns-in_default-clause-err :
+    goal.read_expression-returns-in_default-clause-err
+read_expression-returns-in_default-clause-err t c =
+    IsErrorOf-own an_expression _ _ _ c.shape-in_default.ensures
+    (only_part-none expression_form _ _ _ _ c.in-Some.ensures (expression_form-none _ c.in_default.not-col c.in_default.not-lit c.in_default.not-bin c.in_default.not-cast))

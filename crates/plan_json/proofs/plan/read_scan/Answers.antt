@@ -1,8 +1,8 @@
 use Rattle.std.proofs.Common.{sym, ap, ◌∙◌, is_some}
 use Rattle.plan_types.specs.Schemas.{names_of, is_among}
-use Rattle.plan_json.specs.Faults.{a_scan}
+use Rattle.plan_json.specs.Faults.{BadName, a_scan}
 use Rattle.plan_json.specs.Tables.{declared}
-use Rattle.plan_json.proofs.FaultLemmas.{IfErr-handed, IsErrorOf-text, IsErrorOf-name, name_fault-none, name_fault-failed}
+use Rattle.plan_json.proofs.FaultLemmas.{IfErr-handed, IsErrorOf-own, IsErrorOf-text, name_fault-none, name_fault-failed}
 use Rattle.plan_json.proofs.TableLemmas.{is_some-table_at}
 use Rattle.plan_json.proofs.plan.read_scan.Goals as goal
 
@@ -16,4 +16,4 @@ pub returns-in-None-clause-err : goal.returns-in-None-clause-err
 returns-in-None-clause-err c =
     let names = names_of (declared c.args.tables.now) in
     let absent = sym (is_some-table_at (declared c.args.tables.now) c.in_ok-name.name) ∙ ap is_some (sym c.in-None.ensures) in
-    IsErrorOf-name (a_scan names) _ _ c.name-in-None.ensures (name_fault-failed (λ name. is_among name names) _ _ c.in_ok-name.ensures.ok absent)
+    IsErrorOf-own (a_scan names) _ BadName _ c.name-in-None.ensures (name_fault-failed (λ name. is_among name names) _ _ c.in_ok-name.ensures.ok absent)
