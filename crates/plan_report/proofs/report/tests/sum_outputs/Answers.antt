@@ -4,5 +4,5 @@ use Rattle.plan_report.proofs.report.tests.sum_outputs.Goals as goal
 
 pub returns : goal.returns
 returns c =
-    let output = c.in_ok-push.ensures.items ∙ ap (λ l. l ++ c.in_ok-operation.sum ∷ []) c.new-items.ensures.items in
-    output_denotes c.in_ok-operation.expr_arena c.push.new.self.items c.in_ok-operation.sum output c.in_ok-operation.ensures
+    let output = c.in_ok-push.ensures.items ∙ ap (λ l. l ++ c.in_ok-expr_arena.sum ∷ []) c.new-items.ensures.items in
+    output_denotes c.in_ok-expr_arena.expr_arena c.push.new.self.items c.in_ok-expr_arena.sum output c.in_ok-expr_arena.ensures
