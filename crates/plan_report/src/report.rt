@@ -15,6 +15,9 @@ use plan_types::error::{Place, PlanError};
 use plan_types::schema::Schema;
 use std::alloc::{AllocError, Global};
 
+// The number of an only input among the inputs of its node.
+const ONLY_INPUT: u64 = 0;
+
 /// The report of a lowered plan.
 pub fn report(alloc: Global, plan: &IRPlan) -> Result<String, AllocError>
     requires { DenotesTree (HoldsPlan plan.now.expr_arena plan.now.lp_arena) plan.now.lp_top.0 }
@@ -76,14 +79,14 @@ fn push_lines(
     match item {
         IR::DataFrameScan { .. } => Ok(()),
         IR::Filter { input, .. } => {
-            path.push(0)?;
+            path.push(ONLY_INPUT)?;
             push_lines(alloc, text, path, plan, *input, schema)?;
             path.pop();
             Ok(())
         }
         IR::Select { input, .. } => {
             let schema = plan.lp_arena.get(*input).schema_ref(&plan.lp_arena);
-            path.push(0)?;
+            path.push(ONLY_INPUT)?;
             push_lines(alloc, text, path, plan, *input, schema)?;
             path.pop();
             Ok(())

@@ -1,4 +1,4 @@
-use Rattle.std.proofs.Common.{ℕ, [], length, ap, ◌∙◌}
+use Rattle.std.proofs.Common.{ℕ, length, ap, ◌∙◌}
 use Rattle.plan_dsl.specs.Plans.{Named}
 use Rattle.plan_report.proofs.TestLemmas.{four_added, sum_denotes}
 use Rattle.plan_report.proofs.report.tests.operation.Goals as goal
