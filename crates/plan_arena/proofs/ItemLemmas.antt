@@ -10,7 +10,7 @@ use Rattle.plan_dsl.specs.Plans.{PlanOp, Plan, Named}
 use Rattle.plan_dsl.specs.Trees.{Trees, node, no_more, more}
 use Rattle.plan_arena.specs.Denotation.{Denotes, DenoteAll, DenotesTree, greatest, depth_at}
 use Rattle.plan_arena.specs.Layers.{Layer, layer, inputs_of, shape_of}
-use Rattle.plan_arena.specs.Items.{expression_layer, plan_layer, HoldsExpression, HoldsFrom, DenoteNamed, DenotesOp, HoldsPlan, IsPlanItem, DenotesItem, HasInputs, Grows}
+use Rattle.plan_arena.specs.Items.{expression_layer, plan_layer, HoldsExpression, HoldsFrom, DenoteNamed, DenotesOp, HoldsPlan, DenotesItem, HasInputs, Grows}
 use Rattle.plan_arena.specs.Runs.{own_schema, top_schema, first_schema}
 use Rattle.plan_arena.specs.declared.aexpr.AExpr.{AExpr}
 use Rattle.plan_arena.specs.declared.ir.IR.{IR}

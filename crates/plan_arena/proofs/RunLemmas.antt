@@ -1,9 +1,9 @@
 -- Accepted and strict plans run soundly on fitting tables.
-use Rattle.std.proofs.Common.{◌≡◌, ℕ, List, [], ◌∷◌, map, Option, Some, None, refl, sym, ap, ◌∙◌, subst}
+use Rattle.std.proofs.Common.{◌≡◌, List, [], ◌∷◌, map, Option, refl, sym, ap, ◌∙◌, subst}
 use Rattle.std.specs.List.{AllByRecursion}
 use Rattle.plan_types.specs.Schemas.{Columns}
-use Rattle.plan_types.specs.Outcomes.{Outcome, Done, Fault, Stuck, Meets}
-use Rattle.plan_types.specs.Frames.{Row, Frame, IsFrameOf}
+use Rattle.plan_types.specs.Outcomes.{Outcome, Meets}
+use Rattle.plan_types.specs.Frames.{Frame, IsFrameOf}
 use Rattle.plan_dsl.specs.Registry.{Registry}
 use Rattle.plan_dsl.specs.Trees.{Trees, node, no_more, more, fold_all}
 use Rattle.plan_dsl.specs.Ops.{Expression}
@@ -12,9 +12,9 @@ use Rattle.plan_dsl.specs.Typing.{typing}
 use Rattle.plan_dsl.specs.Kernels.{Meaning}
 use Rattle.plan_dsl.specs.Meaning.{meaning}
 use Rattle.plan_dsl.specs.Strictness.{IsStrict}
-use Rattle.plan_dsl.specs.PlanRules.{plan_rule, schema_of, schemas_of}
+use Rattle.plan_dsl.specs.PlanRules.{schemas_of}
 use Rattle.plan_dsl.specs.PlanKernels.{Evaluated, plan_kernel, frame_by}
-use Rattle.plan_dsl.specs.PlanMeaning.{by_meaning, FitsNode, FitsPlan, AllFitPlans}
+use Rattle.plan_dsl.specs.PlanMeaning.{by_meaning, FitsPlan, AllFitPlans}
 use Rattle.plan_dsl.proofs.FrameLemmas.{AllMeet, kernel_meets}
 use Rattle.plan_dsl.proofs.KernelLemmas.{AgreeOn, selected_agrees, filtered_agrees}
 use Rattle.plan_dsl.proofs.LiteralLemmas.{strict_settled}

@@ -1,5 +1,5 @@
 -- Laws of lowered plans.
-use Rattle.std.specs.Prelude.{◌≡◌, ℕ, List}
+use Rattle.std.specs.Prelude.{◌≡◌, List}
 use Rattle.plan_types.specs.Frames.{Frame}
 use Rattle.plan_dsl.specs.Registry.{Registry}
 use Rattle.plan_dsl.specs.Plans.{Plan}

@@ -19,7 +19,7 @@ use Rattle.plan_dsl.specs.Kernels.{stretched, at_length}
 use Rattle.plan_dsl.specs.PlanKernels.{Series, series_typed, all_series, shared_length, in_front, rows_of, series_columns, framed, selected, table_frame, frame_by, plan_kernel, is_true, rows_where_true, kept_rows, filtered_on, filtered}
 use Rattle.plan_dsl.specs.PlanRules.{signatures, scan_kinds, select_kinds, column_before, columns_of, as_schema, where_unbroken, kinds_by, schema_by, plan_rule, schema_of, schemas_of, IsWellFormed, AllWellFormed, filter_kinds, under_one}
 use Rattle.plan_dsl.specs.PlanMeaning.{by_meaning, source_meaning, HasTable, FitsNode, FitsPlan, AllFitPlans}
-use Rattle.plan_dsl.specs.Laws.{AreOf, MeaningHasType, MeaningHasSchema}
+use Rattle.plan_dsl.specs.Laws.{AreOf, MeaningHasSchema}
 use Rattle.plan_dsl.proofs.FitLemmas.{meaning_has_type}
 use Rattle.plan_dsl.proofs.RuleLemmas.{unbroken_kinds, unbroken_schema, as_schema_is, selected_distinct, predicate_typed, well_formed_schema}
 

@@ -1,13 +1,11 @@
 -- Plan nodes whose expressions are evaluated in two ways that agree.
-use Rattle.std.proofs.Common.{◌≡◌, List, [], ◌∷◌, map, refl, sym, ap, ◌∙◌, subst}
-use Rattle.std.specs.List.{AllByRecursion}
+use Rattle.std.proofs.Common.{◌≡◌, List, [], ◌∷◌, map, refl, sym, ap, subst}
 use Rattle.plan_types.specs.Schemas.{Columns}
 use Rattle.plan_types.specs.Outcomes.{Outcome, Done, Fault, Stuck, Meets}
 use Rattle.plan_types.specs.Frames.{Row, Frame, IsFrameOf, row_numbers}
-use Rattle.plan_dsl.specs.Registry.{Registry}
 use Rattle.plan_dsl.specs.Ops.{Expression}
 use Rattle.plan_dsl.specs.Plans.{Named}
-use Rattle.plan_dsl.specs.PlanKernels.{Evaluated, Evaluation, selected, selected_on, filtered, filtered_on}
+use Rattle.plan_dsl.specs.PlanKernels.{Evaluation, selected, selected_on, filtered, filtered_on}
 
 -- two evaluations say the same of expressions side by side, on every frame of the columns
 abbrev pub AgreeOn : Columns → Evaluation → Evaluation → List (Named Expression) → List (Named Expression) → Type 0

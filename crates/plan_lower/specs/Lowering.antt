@@ -1,15 +1,14 @@
 -- Lowered plans.
 -- A lowered plan is built from a query's plan where it is accepted and strict, has the schema that the
 -- query's plan has, and gives on all fitting tables what the query means. A refusal names a broken rule.
-use Rattle.std.specs.Prelude.{◌≡◌, ℕ, List, [], ◌∷◌, map, Option, Some, None, slice_get, Result, Ok, Err}
-use Rattle.plan_types.specs.Schemas.{Columns}
+use Rattle.std.specs.Prelude.{◌≡◌, ℕ, List, [], map, Some, None, slice_get, Result, Ok, Err}
 use Rattle.plan_types.specs.Frames.{Frame}
 use Rattle.plan_types.specs.Errors.{no_memory}
 use Rattle.plan_types.specs.declared.error.PlanError.{PlanError}
 use Rattle.plan_dsl.specs.Registry.{Registry}
 use Rattle.plan_dsl.specs.Trees.{node, no_more, more}
 use Rattle.plan_dsl.specs.Ops.{Expression}
-use Rattle.plan_dsl.specs.Plans.{Plan, PlanOp, named, scan_op, select_op, filter_op}
+use Rattle.plan_dsl.specs.Plans.{Plan, named, scan_op, select_op, filter_op}
 use Rattle.plan_dsl.specs.PlanRules.{schema_of, IsWellFormed, Breaks}
 use Rattle.plan_dsl.specs.PlanMeaning.{source_meaning, FitsPlan}
 use Rattle.plan_arena.specs.declared.aexpr.AExpr.{AExpr}

@@ -94,6 +94,19 @@ pub no_outputs : (items : List AExpr) (es : List (Named Expression)) → DenoteN
 no_outputs items [] d = refl
 no_outputs items (e ∷ es) d = absurd d
 
+-- the only named node denotes an expression
+pub only_named : (items : List AExpr) (n : Named ℕ) (es : List (Named Expression)) → DenoteNamed items (n ∷ []) es → DenotesTree (HoldsExpression items) n.expression
+only_named items n [] d = absurd d
+only_named items n (e ∷ es) d = record { tree = e.expression; denotes = d.1 }
+
+-- the casts of the only output are those of its expression
+pub only_output : (items : List AExpr) (n : Named ℕ) (at count : ℕ) → at ≡ n.expression → ((t : Expression) → Denotes (HoldsExpression items) at t → count ≡ expression_casts t) → (es : List (Named Expression)) → DenoteNamed items (n ∷ []) es → count ≡ outputs_casts es
+only_output items n at count same one [] d = absurd d
+only_output items n at count same one (e ∷ []) d =
+    let here = one e.expression (subst (λ k. Denotes (HoldsExpression items) k e.expression) (sym same) d.1) in
+    omega (arith, here)
+only_output items n at count same one (e ∷ f ∷ es) d = absurd d.2
+
 -- an output that the list has is there, with its name
 pub named_there : (items : List ExprIR) (i : ℕ) (item : ExprIR) → i < length items → item ≡ get_or items i item → slice_get (map named_node items) i ≡ Some (named_node item)
 named_there items i item within is =

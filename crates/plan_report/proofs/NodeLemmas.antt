@@ -4,20 +4,22 @@ use Rattle.std.specs.List.{AllByRecursion}
 use Rattle.std.specs.Option.{option_map}
 use Rattle.std.proofs.lemmas.List.{length-map, append-nil}
 use Rattle.std.proofs.lemmas.Option.{slice_get-map, slice_get_within}
+use Rattle.plan_types.specs.Schemas.{Columns}
 use Rattle.plan_dsl.specs.Trees.{Trees, node, no_more, more}
 use Rattle.plan_dsl.specs.Ops.{Op, Expression}
-use Rattle.plan_dsl.specs.Plans.{PlanOp, Plan}
+use Rattle.plan_dsl.specs.Plans.{PlanOp, Plan, FilterKind}
 use Rattle.plan_arena.specs.Denotation.{Denotes, DenoteAll, DenotesTree, depth_at}
 use Rattle.plan_arena.specs.Layers.{layer, shape_of}
-use Rattle.plan_arena.specs.Items.{expression_layer, plan_layer, node_name, recorded_schema, HoldsExpression, HoldsPlan}
+use Rattle.plan_arena.specs.Items.{expression_layer, plan_layer, node_name, HoldsExpression, HoldsPlan, DenotesItem}
+use Rattle.plan_arena.specs.Runs.{own_schema, top_schema, first_schema}
 use Rattle.plan_arena.specs.declared.aexpr.AExpr.{AExpr}
 use Rattle.plan_arena.specs.declared.ir.IR.{IR}
-use Rattle.plan_arena.specs.declared.ir.IR.TheVariants.{DataFrameScan, Select}
+use Rattle.plan_arena.specs.declared.ir.IR.TheVariants.{DataFrameScan, Filter, Select}
 use Rattle.plan_arena.proofs.DenotationLemmas.{inputs_denote}
-use Rattle.plan_arena.proofs.ItemLemmas.{expression_laws, plan_laws, expression_got}
+use Rattle.plan_arena.proofs.ItemLemmas.{expression_laws, plan_laws, expression_got, item_denotes}
 use Rattle.plan_report.specs.Casts.{DenoteOutputs}
 use Rattle.plan_report.specs.Texts.{kind_text}
-use Rattle.plan_report.specs.Report.{line_text, node_line, plan_lines}
+use Rattle.plan_report.specs.Report.{line_text, node_line, plan_lines, IsSchemaAt}
 
 pub some_same : {A : Type 0} (o : Option A) (x y : A) → o ≡ Some x → o ≡ Some y → x ≡ y
 some_same o x y p q = cc
@@ -83,37 +85,55 @@ module _ (expressions : List AExpr) (plans : List IR) (n : ℕ) (item : IR) (got
   pub plan_outputs : DenotesTree (HoldsPlan expressions plans) n → DenoteOutputs expressions flat.expressions
   plan_outputs d = outputs_of d.tree d.denotes
 
--- an item's name and schema are its op's
-item_line : (item : IR) (flat : PlanOp ℕ) (inputs path : List ℕ) → plan_layer item ≡ layer flat inputs → line_text path (node_name item) (recorded_schema item) ≡ line_text path (kind_text flat.kind) flat.schema
-item_line (DataFrameScan table schema) flat inputs path e = ap (λ f. line_text path (kind_text f.kind) f.schema) (layer_op _ flat [] inputs e)
-item_line (Select expr input schema options) flat inputs path e = ap (λ f. line_text path (kind_text f.kind) f.schema) (layer_op _ flat (input.0 ∷ []) inputs e)
+-- an item's name is its op's
+item_name : (item : IR) (flat : PlanOp ℕ) (inputs : List ℕ) → plan_layer item ≡ layer flat inputs → node_name item ≡ kind_text flat.kind
+item_name (DataFrameScan table schema) flat inputs e = ap (λ f. kind_text f.kind) (layer_op _ flat [] inputs e)
+item_name (Filter input predicate) flat inputs e = ap (λ f. kind_text f.kind) (layer_op _ flat (input.0 ∷ []) inputs e)
+item_name (Select expr input schema options) flat inputs e = ap (λ f. kind_text f.kind) (layer_op _ flat (input.0 ∷ []) inputs e)
 
-module _ (expressions : List AExpr) (plans : List IR) (n : ℕ) (item : IR) (got : slice_get plans n ≡ Some item) (path before : List ℕ) where
-  held_line : (op : PlanOp Expression) (ms : List ℕ) → HoldsPlan expressions plans n op ms → line_text path (node_name item) (recorded_schema item) ≡ node_line path op
-  held_line op ms h =
-      item_line item h.flat ms path (some_same _ _ _ (plan_got plans n item got) h.item)
-      ∙ (λ i. line_text path (kind_text (h.denotes.same_kind i)) (h.denotes.same_schema i))
+-- the schema that an item lends is that of the plans that its node denotes
+pub lent_schema : (expressions : List AExpr) (plans : List IR) (n : ℕ) (item : IR) (cols : Columns) → slice_get plans n ≡ Some item → ((es : List AExpr) (t : Plan) → DenotesItem es plans item t → cols ≡ top_schema t) → IsSchemaAt expressions plans n cols
+lent_schema expressions plans n item cols got lent t d = lent expressions t (item_denotes expressions plans n item got t d)
 
-  leaf_children : (op : PlanOp Expression) (lined : List ℕ) (ts : Trees (PlanOp Expression)) → DenoteAll (HoldsPlan expressions plans) [] ts → lined ≡ before ++ node_line path op → lined ≡ before ++ plan_lines path (node op ts)
-  leaf_children op lined no_more d line = line ∙ ap (λ t. before ++ t) (sym (append-nil (node_line path op)))
-  leaf_children op lined (more u us) d line = absurd d
+module _ (expressions : List AExpr) (plans : List IR) (n : ℕ) (item : IR) (got : slice_get plans n ≡ Some item) (cols : Columns) (schema : IsSchemaAt expressions plans n cols) where
+  below_filter : (flat : PlanOp ℕ) (m : ℕ) → plan_layer item ≡ layer flat (m ∷ []) → flat.kind ≡ FilterKind → (t : Plan) → Denotes (HoldsPlan expressions plans) n t → IsSchemaAt expressions plans m cols
+  below_filter flat m is filter (node op ts) d u e =
+      let kind = sym d.1.denotes.same_kind ∙ ap (λ f. f.kind) (held_op expressions plans n item got flat (m ∷ []) is op d.0 d.1) ∙ filter in
+      let inputs = layer_inputs _ _ _ _ (held expressions plans n item got flat (m ∷ []) is op d.0 d.1) in
+      let holds = subst (λ ns. HoldsPlan expressions plans n op ns) inputs d.1 in
+      schema (node op (more u no_more)) (m ∷ [], holds, (e, tt)) ∙ ap (λ k. own_schema k op.schema (top_schema u)) kind
 
-  -- the lines of a node without children
-  pub leaf_lines : (flat : PlanOp ℕ) → plan_layer item ≡ layer flat [] → (lined : List ℕ) → lined ≡ before ++ line_text path (node_name item) (recorded_schema item) → (t : Plan) → Denotes (HoldsPlan expressions plans) n t → lined ≡ before ++ plan_lines path t
-  leaf_lines flat is lined line (node op ts) d =
-      leaf_children op lined ts (held_children expressions plans n item got flat [] is op d.0 d.1 ts d.2) (line ∙ ap (λ t. before ++ t) (held_line op d.0 d.1))
+  -- a filter's input has the filter's schema
+  pub filter_schema : (flat : PlanOp ℕ) (m : ℕ) → plan_layer item ≡ layer flat (m ∷ []) → flat.kind ≡ FilterKind → DenotesTree (HoldsPlan expressions plans) n → IsSchemaAt expressions plans m cols
+  filter_schema flat m is filter d = below_filter flat m is filter d.tree d.denotes
 
-  one_child : (op : PlanOp Expression) (m : ℕ) (lined text : List ℕ) (ts : Trees (PlanOp Expression)) → DenoteAll (HoldsPlan expressions plans) (m ∷ []) ts → lined ≡ before ++ node_line path op → ((u : Plan) → Denotes (HoldsPlan expressions plans) m u → text ≡ lined ++ plan_lines (path ++ 0 ∷ []) u) → text ≡ before ++ plan_lines path (node op ts)
-  one_child op m lined text no_more d line below = absurd d
-  one_child op m lined text (more u no_more) d line below =
-      let child = plan_lines (path ++ 0 ∷ []) u in
-      below u d.0
-      ∙ ap (λ t. t ++ child) line
-      ∙ append_assoc before (node_line path op) child
-      ∙ ap (λ t. before ++ (node_line path op ++ t)) (sym (append-nil child))
-  one_child op m lined text (more u (more v vs)) d line below = absurd d.1
+  module _ (path before : List ℕ) where
+    held_line : (op : PlanOp Expression) (ms : List ℕ) → HoldsPlan expressions plans n op ms → (ts : Trees (PlanOp Expression)) → cols ≡ top_schema (node op ts) → line_text path (node_name item) cols ≡ node_line path op (first_schema ts)
+    held_line op ms h ts same =
+        let name = item_name item h.flat ms (some_same _ _ _ (plan_got plans n item got) h.item) ∙ ap kind_text h.denotes.same_kind in
+        λ i. line_text path (name i) (same i)
 
-  -- the lines of a node with one child
-  pub one_lines : (flat : PlanOp ℕ) (m : ℕ) → plan_layer item ≡ layer flat (m ∷ []) → (lined text : List ℕ) → lined ≡ before ++ line_text path (node_name item) (recorded_schema item) → ((u : Plan) → Denotes (HoldsPlan expressions plans) m u → text ≡ lined ++ plan_lines (path ++ 0 ∷ []) u) → (t : Plan) → Denotes (HoldsPlan expressions plans) n t → text ≡ before ++ plan_lines path t
-  one_lines flat m is lined text line below (node op ts) d =
-      one_child op m lined text ts (held_children expressions plans n item got flat (m ∷ []) is op d.0 d.1 ts d.2) (line ∙ ap (λ t. before ++ t) (held_line op d.0 d.1)) below
+    leaf_children : (op : PlanOp Expression) (lined : List ℕ) (ts : Trees (PlanOp Expression)) → DenoteAll (HoldsPlan expressions plans) [] ts → lined ≡ before ++ node_line path op (first_schema ts) → lined ≡ before ++ plan_lines path (node op ts)
+    leaf_children op lined no_more d line = line ∙ ap (λ t. before ++ t) (sym (append-nil (node_line path op [])))
+    leaf_children op lined (more u us) d line = absurd d
+
+    -- the lines of a node without children
+    pub leaf_lines : (flat : PlanOp ℕ) → plan_layer item ≡ layer flat [] → (lined : List ℕ) → lined ≡ before ++ line_text path (node_name item) cols → (t : Plan) → Denotes (HoldsPlan expressions plans) n t → lined ≡ before ++ plan_lines path t
+    leaf_lines flat is lined line (node op ts) d =
+        leaf_children op lined ts (held_children expressions plans n item got flat [] is op d.0 d.1 ts d.2) (line ∙ ap (λ t. before ++ t) (held_line op d.0 d.1 ts (schema (node op ts) d)))
+
+    one_child : (op : PlanOp Expression) (m : ℕ) (lined text : List ℕ) (ts : Trees (PlanOp Expression)) → DenoteAll (HoldsPlan expressions plans) (m ∷ []) ts → lined ≡ before ++ node_line path op (first_schema ts) → ((u : Plan) → Denotes (HoldsPlan expressions plans) m u → text ≡ lined ++ plan_lines (path ++ 0 ∷ []) u) → text ≡ before ++ plan_lines path (node op ts)
+    one_child op m lined text no_more d line below = absurd d
+    one_child op m lined text (more u no_more) d line below =
+        let own = node_line path op (top_schema u) in
+        let child = plan_lines (path ++ 0 ∷ []) u in
+        below u d.0
+        ∙ ap (λ t. t ++ child) line
+        ∙ append_assoc before own child
+        ∙ ap (λ t. before ++ (own ++ t)) (sym (append-nil child))
+    one_child op m lined text (more u (more v vs)) d line below = absurd d.1
+
+    -- the lines of a node with one child
+    pub one_lines : (flat : PlanOp ℕ) (m : ℕ) → plan_layer item ≡ layer flat (m ∷ []) → (lined text : List ℕ) → lined ≡ before ++ line_text path (node_name item) cols → ((u : Plan) → Denotes (HoldsPlan expressions plans) m u → text ≡ lined ++ plan_lines (path ++ 0 ∷ []) u) → (t : Plan) → Denotes (HoldsPlan expressions plans) n t → text ≡ before ++ plan_lines path t
+    one_lines flat m is lined text line below (node op ts) d =
+        one_child op m lined text ts (held_children expressions plans n item got flat (m ∷ []) is op d.0 d.1 ts d.2) (line ∙ ap (λ t. before ++ t) (held_line op d.0 d.1 ts (schema (node op ts) d))) below

@@ -13,7 +13,7 @@ use Rattle.plan_dsl.specs.declared.plan.ProjectionOptions.{ProjectionOptions}
 use Rattle.plan_dsl.specs.declared.operator.Operator.{Operator}
 use Rattle.plan_dsl.specs.Trees.{node, no_more, more}
 use Rattle.plan_dsl.specs.Ops.{ColumnOp, BinaryOp, CastOp, Expression}
-use Rattle.plan_dsl.specs.Plans.{PlanOp, scan_op, select_op}
+use Rattle.plan_dsl.specs.Plans.{PlanOp, scan_op, select_op, filter_op}
 use Rattle.plan_arena.specs.Denotation.{Denotes, DenotesTree}
 use Rattle.plan_arena.specs.Items.{named_node, plan_layer, HoldsExpression, HoldsPlan}
 use Rattle.plan_arena.specs.declared.arena.Node.{Node}
@@ -22,8 +22,9 @@ use Rattle.plan_arena.specs.declared.aexpr.AExpr.TheVariants.{Column, BinaryExpr
 use Rattle.plan_arena.specs.declared.expr_ir.ExprIR.{ExprIR}
 use Rattle.plan_arena.specs.declared.expr_ir.ExprIRs.{ExprIRs}
 use Rattle.plan_arena.specs.declared.ir.IR.{IR}
-use Rattle.plan_arena.specs.declared.ir.IR.TheVariants.{DataFrameScan, Select}
+use Rattle.plan_arena.specs.declared.ir.IR.TheVariants.{DataFrameScan, Filter, Select}
 use Rattle.plan_arena.proofs.DenotationLemmas.{kept_tree}
+use Rattle.plan_arena.proofs.ItemLemmas.{plan_added}
 use Rattle.plan_report.specs.Casts.{DenoteOutputs}
 
 -- a scan alone
@@ -53,6 +54,17 @@ select_denotes expressions plans grown n expr input schema options below outputs
     rw (made, last) (record {
       tree = node op (more inner.tree no_more);
       denotes = (input.0 ∷ [], record { flat = select_op (map named_node expr.items.items) (columns schema); item = there; denotes = record { same_kind = refl; same_schema = refl; named = outputs.denote } }, (inner.denotes, tt));
+    })
+
+-- a filter over a plan
+pub filter_denotes : (expressions : List AExpr) (plans grown : List IR) (n : ℕ) (input : Node) (predicate : ExprIR) → DenotesTree (HoldsPlan expressions plans) input.0 → DenotesTree (HoldsExpression expressions) (named_node predicate).expression → grown ≡ plans ++ Filter input predicate ∷ [] → n ≡ length plans → DenotesTree (HoldsPlan expressions grown) n
+filter_denotes expressions plans grown n input predicate below d made last =
+    let item = Filter input predicate in
+    let inner = kept_tree (HoldsPlan expressions plans) (HoldsPlan expressions (plans ++ item ∷ [])) (plan_grown expressions plans (item ∷ [])) input.0 below in
+    let op : PlanOp Expression = filter_op (record { name = (named_node predicate).name; expression = d.tree }) in
+    rw (made, last) (record {
+      tree = node op (more inner.tree no_more);
+      denotes = (input.0 ∷ [], record { flat = filter_op (named_node predicate); item = plan_added plans item; denotes = record { same_kind = refl; same_schema = refl; named = (refl, d.denotes, tt) } }, (inner.denotes, tt));
     })
 
 abbrev column : Name → Expression

@@ -67,6 +67,12 @@ pub(crate) fn plan_casts(plan: &IRPlan, node: Node) -> Result<u64, AllocError>
     let item = plan.lp_arena.get(node);
     match item {
         IR::DataFrameScan { .. } => Ok(0),
+        IR::Filter { input, predicate } => {
+            let here = expression_casts(&plan.expr_arena, predicate.node())?;
+            let below = plan_casts(plan, *input)?;
+            let count = add(here, below)?;
+            Ok(count)
+        }
         IR::Select { expr, input, .. } => {
             let here = outputs_casts(&plan.expr_arena, expr)?;
             let below = plan_casts(plan, *input)?;

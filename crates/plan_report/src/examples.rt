@@ -1,10 +1,10 @@
 //! Worked examples of the definitions. The functions do nothing: their clauses are the examples.
 #![tactic(auto, unfolding(crate::proofs::OnLiterals::texts_on_literals))]
 
-ghost use Rattle.std.specs.Prelude.{◌≡◌, [], ◌∷◌, codes, true, false, Some};
+ghost use Rattle.std.specs.Prelude.{◌≡◌, [], ◌∷◌, codes, true, false, Some, None};
 ghost use Rattle.plan_types.specs.Types.{Truth, Integer};
 ghost use Rattle.plan_dsl.specs.Ops.{ColumnOp, BinaryOp, CastOp};
-ghost use Rattle.plan_dsl.specs.Plans.{empty_table, named, scan_op, select_op};
+ghost use Rattle.plan_dsl.specs.Plans.{empty_table, named, scan_op, select_op, filter_op};
 ghost use Rattle.plan_dsl.specs.Trees.{node, no_more, more};
 ghost use Rattle.plan_types.specs.declared.dtype.CastOptions.TheVariants.{Strict};
 ghost use Rattle.plan_types.specs.declared.error.ErrorKind.TheVariants.{ColumnNotFound, Duplicate};
@@ -63,6 +63,21 @@ pub fn report_examples()
         let top = select_op (named less ∷ []) ((codes "a", Truth) ∷ []) in
         report_text (node top (more scan no_more))
         ≡ codes ". projection (\"a\" Boolean)\n.0 df (\"a\" Int8, \"b\" Int32)\ncasts 2\n" }
+    ensures filter { let a = node (ColumnOp (codes "a")) no_more in
+        let b = node (ColumnOp (codes "b")) no_more in
+        let wide = node (CastOp (Integer true 32) Strict) (more a no_more) in
+        let less = node (BinaryOp Lt) (more wide (more b no_more)) in
+        let table = (codes "a", Integer true 8) ∷ (codes "b", Integer true 32) ∷ [] in
+        let scan = node (scan_op (Some 0) table) no_more in
+        let filter = node (filter_op (named less)) (more scan no_more) in
+        let top = select_op (named a ∷ []) ((codes "a", Integer true 8) ∷ []) in
+        report_text (node top (more filter no_more))
+        ≡ codes ". projection (\"a\" Int8)\n.0 selection (\"a\" Int8, \"b\" Int32)\n.0.0 df (\"a\" Int8, \"b\" Int32)\ncasts 1\n" }
+    ensures filters { let a = node (ColumnOp (codes "a")) no_more in
+        let scan = node (scan_op None ((codes "a", Truth) ∷ [])) no_more in
+        let filter = node (filter_op (named a)) (more scan no_more) in
+        report_text (node (filter_op (named a)) (more filter no_more))
+        ≡ codes ". selection (\"a\" Boolean)\n.0 selection (\"a\" Boolean)\n.0.0 df (\"a\" Boolean)\ncasts 0\n" }
     ensures levels { let top = select_op [] [] in
         report_text (node top (more (node top (more empty_table no_more)) no_more))
         ≡ codes ". projection ()\n.0 projection ()\n.0.0 df ()\ncasts 0\n" }

@@ -3,8 +3,8 @@ ghost use Rattle.std.specs.Prelude.{◌≡◌, ◌++◌, string_bytes, IfOk, OnO
 ghost use Rattle.plan_types.specs.Schemas.{columns};
 ghost use Rattle.plan_dsl.specs.Plans.{Plan};
 ghost use Rattle.plan_arena.specs.Denotation.{Denotes, DenotesTree};
-ghost use Rattle.plan_arena.specs.Items.{HoldsPlan, node_name, recorded_schema};
-ghost use Rattle.plan_report.specs.Report.{line_text, plan_lines, casts_line, report_text, refusal_text};
+ghost use Rattle.plan_arena.specs.Items.{HoldsPlan};
+ghost use Rattle.plan_report.specs.Report.{line_text, plan_lines, casts_line, report_text, refusal_text, IsSchemaAt};
 
 use crate::casts::plan_casts;
 use crate::texts::{kind_name, push_number, push_path, push_schema};
@@ -15,6 +15,9 @@ use plan_types::error::{Place, PlanError};
 use plan_types::schema::Schema;
 use std::alloc::{AllocError, Global};
 
+// The number of an only input among the inputs of its node.
+const ONLY_INPUT: u64 = 0;
+
 /// The report of a lowered plan.
 pub fn report(alloc: Global, plan: &IRPlan) -> Result<String, AllocError>
     requires { DenotesTree (HoldsPlan plan.now.expr_arena plan.now.lp_arena) plan.now.lp_top.0 }
@@ -24,7 +27,8 @@ pub fn report(alloc: Global, plan: &IRPlan) -> Result<String, AllocError>
 {
     let mut text = String::new(alloc);
     let mut path = Vec::new(alloc);
-    push_lines(alloc, &mut text, &mut path, plan, plan.lp_top)?;
+    let schema = plan.root().schema_ref(&plan.lp_arena);
+    push_lines(alloc, &mut text, &mut path, plan, plan.lp_top, schema)?;
     let casts = plan_casts(plan, plan.lp_top)?;
     push_casts_line(alloc, &mut text, casts)?;
     Ok(text)
@@ -54,27 +58,36 @@ fn steps_of(alloc: Global, place: &Place) -> Result<Vec<u64>, AllocError>
     Ok(steps)
 }
 
-// Appends the lines of the plan at the node, to which the path leads.
+// Appends the lines of the plan at the node, to which the path leads, and whose frame has the schema.
 fn push_lines(
     alloc: Global,
     text: &mut String,
     path: &mut Vec<u64>,
     plan: &IRPlan,
     node: Node,
+    schema: &Schema,
 ) -> Result<(), AllocError>
-    requires { DenotesTree (HoldsPlan plan.now.expr_arena plan.now.lp_arena) node.0 }
+    requires tree { DenotesTree (HoldsPlan plan.now.expr_arena plan.now.lp_arena) node.0 }
+    requires schema { IsSchemaAt plan.now.expr_arena plan.now.lp_arena node.0 (columns schema.now) }
     ensures lines { OnOk result ((tree : Plan)
         → Denotes (HoldsPlan plan.now.expr_arena plan.now.lp_arena) node.0 tree
         → string_bytes text.new ≡ string_bytes text.old ++ plan_lines path.old.items tree) }
     ensures path { OnOk result (path.new.items ≡ path.old.items) }
 {
     let item = plan.lp_arena.get(node);
-    push_line(alloc, text, path.as_slice(), item)?;
+    push_line(alloc, text, path.as_slice(), item.name(), schema)?;
     match item {
         IR::DataFrameScan { .. } => Ok(()),
+        IR::Filter { input, .. } => {
+            path.push(ONLY_INPUT)?;
+            push_lines(alloc, text, path, plan, *input, schema)?;
+            path.pop();
+            Ok(())
+        }
         IR::Select { input, .. } => {
-            path.push(0)?;
-            push_lines(alloc, text, path, plan, *input)?;
+            let schema = plan.lp_arena.get(*input).schema_ref(&plan.lp_arena);
+            path.push(ONLY_INPUT)?;
+            push_lines(alloc, text, path, plan, *input, schema)?;
             path.pop();
             Ok(())
         }
@@ -82,15 +95,21 @@ fn push_lines(
 }
 
 // Appends the line of one node.
-fn push_line(alloc: Global, text: &mut String, path: &[u64], item: &IR) -> Result<(), AllocError>
+fn push_line(
+    alloc: Global,
+    text: &mut String,
+    path: &[u64],
+    name: &str,
+    schema: &Schema,
+) -> Result<(), AllocError>
     ensures { OnOk result (string_bytes text.new
-        ≡ string_bytes text.old ++ line_text path.now (node_name item.now) (recorded_schema item.now)) }
+        ≡ string_bytes text.old ++ line_text path.now name.now (columns schema.now)) }
 {
     push_path(alloc, text, path)?;
     text.push_str(" ")?;
-    text.push_str(item.name())?;
+    text.push_str(name)?;
     text.push_str(" ")?;
-    push_schema(alloc, text, schema_of(item))?;
+    push_schema(alloc, text, schema)?;
     text.push_str("\n")
 }
 
@@ -100,16 +119,6 @@ fn push_casts_line(alloc: Global, text: &mut String, casts: u64) -> Result<(), A
     text.push_str("casts ")?;
     push_number(alloc, text, casts)?;
     text.push_str("\n")
-}
-
-// The schema of the node's frame.
-fn schema_of(item: &IR) -> &Schema
-    ensures { columns result.now ≡ recorded_schema item.now }
-{
-    match item {
-        IR::DataFrameScan { schema, .. } => schema,
-        IR::Select { schema, .. } => schema,
-    }
 }
 
 #[cfg(test)]

@@ -49,8 +49,8 @@ impl PlanLowering for DslPlan {
     }
 }
 
-// A node, and the node at which the schema of its frame is kept: itself, or under filters the first below
-// them.
+// A node, and the node at which the schema of its frame is kept: itself, or of a filter the first below it
+// that is none.
 #[derive(Clone, Copy)]
 struct LoweredNode {
     node: Node,

@@ -1,7 +1,7 @@
 //! Reports of plans that are built by hand, and of refusals.
 ghost use Rattle.std.specs.Prelude.{◌≡◌, map, IfOk};
 ghost use Rattle.plan_arena.specs.Denotation.{DenotesTree};
-ghost use Rattle.plan_arena.specs.Items.{named_node, HoldsPlan};
+ghost use Rattle.plan_arena.specs.Items.{named_node, HoldsExpression, HoldsPlan};
 ghost use Rattle.plan_report.specs.Casts.{DenoteOutputs};
 
 use super::{refusal, report};
@@ -69,6 +69,22 @@ fn select(plan: IRPlan, expr: ExprIRs, schema: Schema) -> Result<IRPlan, PlanErr
     Ok(IRPlan::new(lp_top, lp_arena, expr_arena))
 }
 
+// A filter over the plan.
+fn filter(plan: IRPlan, predicate: ExprIR) -> Result<IRPlan, PlanError>
+    requires input { DenotesTree (HoldsPlan plan.expr_arena plan.lp_arena) plan.lp_top.0 }
+    requires predicate { DenotesTree (HoldsExpression plan.expr_arena) (named_node predicate).expression }
+    ensures { IfOk result (λ plan. DenotesTree (HoldsPlan plan.expr_arena plan.lp_arena) plan.lp_top.0) }
+{
+    let IRPlan {
+        lp_top,
+        mut lp_arena,
+        expr_arena,
+    } = plan;
+    let input = lp_top;
+    let lp_top = lp_arena.add(IR::Filter { input, predicate })?;
+    Ok(IRPlan::new(lp_top, lp_arena, expr_arena))
+}
+
 // A projection over the plan that gives no column.
 fn empty_select(alloc: Global, plan: IRPlan) -> Result<IRPlan, PlanError>
     requires { DenotesTree (HoldsPlan plan.expr_arena plan.lp_arena) plan.lp_top.0 }
@@ -78,9 +94,9 @@ fn empty_select(alloc: Global, plan: IRPlan) -> Result<IRPlan, PlanError>
     select(plan, ExprIRs { items }, Schema::new(alloc))
 }
 
-// The sum of `a` as an Int32, and `b`.
-fn sum_outputs(alloc: Global) -> Result<(Arena<AExpr>, ExprIRs), PlanError>
-    ensures { IfOk result (λ made. DenoteOutputs made.0 (map named_node made.1.items.items)) }
+// The operator between `a` as an Int32, and `b`.
+fn operation(alloc: Global, op: Operator) -> Result<(Arena<AExpr>, ExprIR), PlanError>
+    ensures { IfOk result (λ made. DenotesTree (HoldsExpression made.0) (named_node made.1).expression) }
 {
     let mut expr_arena = Arena::new(alloc);
     let name = PlSmallStr::new(alloc, "a")?;
@@ -92,11 +108,19 @@ fn sum_outputs(alloc: Global) -> Result<(Arena<AExpr>, ExprIRs), PlanError>
     })?;
     let name = PlSmallStr::new(alloc, "b")?;
     let right = expr_arena.add(AExpr::Column(name))?;
-    let op = Operator::Plus;
-    let sum = expr_arena.add(AExpr::BinaryExpr { left, op, right })?;
+    let node = expr_arena.add(AExpr::BinaryExpr { left, op, right })?;
     let name = PlSmallStr::new(alloc, "a")?;
+    let expr_ir = ExprIR::new(node, OutputName::ColumnLhs(name));
+    Ok((expr_arena, expr_ir))
+}
+
+// The sum of `a` as an Int32, and `b`.
+fn sum_outputs(alloc: Global) -> Result<(Arena<AExpr>, ExprIRs), PlanError>
+    ensures { IfOk result (λ made. DenoteOutputs made.0 (map named_node made.1.items.items)) }
+{
+    let (expr_arena, sum) = operation(alloc, Operator::Plus)?;
     let mut items = Vec::new(alloc);
-    items.push(ExprIR::new(sum, OutputName::ColumnLhs(name)))?;
+    items.push(sum)?;
     Ok((expr_arena, ExprIRs { items }))
 }
 
@@ -111,6 +135,23 @@ fn reports_a_projection(rt: HostRuntime) -> Result<(), Fail> {
     let text = report(alloc, &plan)?;
     let want = ". projection (\"a\" Int32)\n.0 df (\"a\" Int8, \"b\" Int32)\ncasts 1\n";
     assert_eq!(rt; text.as_str(), want);
+    Ok(())
+}
+
+#[test]
+fn reports_a_filter_between_a_projection_and_a_scan(rt: HostRuntime) -> Result<(), Fail> {
+    let alloc = rt.alloc();
+    let (expr_arena, predicate) = operation(alloc, Operator::Lt)?;
+    let mut table = one_column(alloc, "a", DataType::Int8)?;
+    add_column(alloc, &mut table, "b", DataType::Int32)?;
+    let plan = scan(alloc, expr_arena, table)?;
+    let plan = filter(plan, predicate)?;
+    let plan = empty_select(alloc, plan)?;
+    let text = report(alloc, &plan)?;
+    let filter = ".0 selection (\"a\" Int8, \"b\" Int32)\n";
+    let scan = ".0.0 df (\"a\" Int8, \"b\" Int32)\n";
+    let want = format!(in alloc; ". projection ()\n{filter}{scan}casts 1\n")?;
+    assert_eq!(rt; text.as_str(), want.as_str());
     Ok(())
 }
 

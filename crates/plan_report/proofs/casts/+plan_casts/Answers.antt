@@ -1,7 +1,7 @@
 use Rattle.std.proofs.Common.{[], ◌∷◌, ap, arith}
-use Rattle.plan_arena.specs.Items.{plan_layer}
+use Rattle.plan_arena.specs.Items.{named_node, plan_layer}
 use Rattle.plan_report.proofs.NodeLemmas.{plan_within, plan_inputs, plan_outputs}
-use Rattle.plan_report.proofs.CastLemmas.{no_outputs, plan_counted}
+use Rattle.plan_report.proofs.CastLemmas.{no_outputs, only_named, only_output, plan_counted}
 use Rattle.plan_report.proofs.casts.+plan_casts.Goals as goal
 
 pub get-item-requires : goal.get-item-requires
@@ -11,14 +11,30 @@ pub outputs_casts-requires : goal.outputs_casts-requires
 outputs_casts-requires t c =
     plan_outputs c.args.plan.now.expr_arena c.args.plan.now.lp_arena c.args.node.0 c.get-item.result.now c.get-item.ensures _ _ (ap plan_layer c.in-Select.is) c.requires
 
+pub expression_casts-requires : goal.expression_casts-requires
+expression_casts-requires t c =
+    let outputs = plan_outputs c.args.plan.now.expr_arena c.args.plan.now.lp_arena c.args.node.0 c.get-item.result.now c.get-item.ensures _ _ (ap plan_layer c.in-Filter.is) c.requires in
+    rw c.node.ensures (only_named c.args.plan.now.expr_arena (named_node c.in-Filter.predicate) outputs.outputs outputs.denote)
+
 pub plan_casts-requires : goal.plan_casts-requires
 plan_casts-requires t c =
+    let inputs = plan_inputs c.args.plan.now.expr_arena c.args.plan.now.lp_arena c.args.node.0 c.get-item.result.now c.get-item.ensures _ _ (ap plan_layer c.in-Filter.is) c.requires in
+    (omega (arith, c.decreases, inputs.0.1), inputs.0.0)
+
+pub plan_casts-requires-in-Select : goal.plan_casts-requires-in-Select
+plan_casts-requires-in-Select t c =
     let inputs = plan_inputs c.args.plan.now.expr_arena c.args.plan.now.lp_arena c.args.node.0 c.get-item.result.now c.get-item.ensures _ _ (ap plan_layer c.in-Select.is) c.requires in
     (omega (arith, c.decreases, inputs.0.1), inputs.0.0)
 
 pub returns-in-DataFrameScan : goal.returns-in-DataFrameScan
 returns-in-DataFrameScan t c tree d =
     plan_counted c.args.plan.now.expr_arena c.args.plan.now.lp_arena c.args.node.0 c.get-item.result.now c.get-item.ensures _ _ 0 [] (ap plan_layer c.in-DataFrameScan.is) (no_outputs c.args.plan.now.expr_arena) tt tree d
+
+pub returns-in_ok-count-in-Filter : goal.returns-in_ok-count-in-Filter
+returns-in_ok-count-in-Filter t c tree d =
+    let here = only_output c.args.plan.now.expr_arena (named_node c.in-Filter.predicate) c.node.result.0 c.in_ok-here-in-Filter.here c.node.ensures c.in_ok-here-in-Filter.ensures in
+    let counted = plan_counted c.args.plan.now.expr_arena c.args.plan.now.lp_arena c.args.node.0 c.get-item.result.now c.get-item.ensures _ _ c.in_ok-here-in-Filter.here (c.in_ok-below-in-Filter.below ∷ []) (ap plan_layer c.in-Filter.is) here (c.in_ok-below-in-Filter.ensures, tt) tree d in
+    omega (arith, c.in_ok-count-in-Filter.ensures)
 
 pub returns-in_ok-count-in-Select : goal.returns-in_ok-count-in-Select
 returns-in_ok-count-in-Select t c tree d =

@@ -1,11 +1,8 @@
-use Rattle.std.proofs.Common.{ℕ, [], ◌∷◌, ◌++◌, length, ap, ◌∙◌}
-use Rattle.plan_dsl.specs.Plans.{Named}
-use Rattle.plan_report.proofs.TestLemmas.{four_added, sum_denotes, output_denotes}
+use Rattle.std.proofs.Common.{[], ◌∷◌, ◌++◌, ap, ◌∙◌}
+use Rattle.plan_report.proofs.TestLemmas.{output_denotes}
 use Rattle.plan_report.proofs.report.tests.sum_outputs.Goals as goal
 
 pub returns : goal.returns
 returns c =
-    let four = four_added _ _ _ _ _ _ _ _ _ c.new-expr_arena.ensures c.in_ok-expr.ensures.ok c.in_ok-left.ensures.ok c.in_ok-right.ensures.ok c.in_ok-sum.ensures.ok in
-    let output = c.in_ok-push.ensures.items ∙ ap (λ l. l ++ c.new-4.result ∷ []) c.new-items.ensures.items in
-    let node = ap (λ (n : Named ℕ). n.expression) c.new-4.ensures ∙ (c.in_ok-sum.ensures.node ∙ four.third) in
-    output_denotes c.add-4.new.self c.push.new.self.items c.new-4.result output (sum_denotes c.in_ok-name.name c.in_ok-name-2.name c.in_ok-expr.expr c.in_ok-left.left c.in_ok-right.right _ _ _ (c.in_ok-expr.ensures.node ∙ ap length c.new-expr_arena.ensures) (c.in_ok-left.ensures.node ∙ four.first) (c.in_ok-right.ensures.node ∙ four.second) c.add-4.new.self _ four.items node)
+    let output = c.in_ok-push.ensures.items ∙ ap (λ l. l ++ c.in_ok-expr_arena.sum ∷ []) c.new-items.ensures.items in
+    output_denotes c.in_ok-expr_arena.expr_arena c.push.new.self.items c.in_ok-expr_arena.sum output c.in_ok-expr_arena.ensures

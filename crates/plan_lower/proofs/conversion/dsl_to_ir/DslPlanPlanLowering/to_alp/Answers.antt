@@ -1,8 +1,7 @@
 use Rattle.std.proofs.Common.{subst, sym}
-use Rattle.plan_arena.specs.declared.plan.IRPlan.{IRPlan}
 use Rattle.plan_dsl.specs.Plans.{plan_tree}
 use Rattle.plan_dsl.specs.Registry.{registry}
-use Rattle.plan_lower.specs.Lowering.{StandsFor, IsSound, GivesSameFrame}
+use Rattle.plan_lower.specs.Lowering.{IsSound, GivesSameFrame}
 use Rattle.plan_lower.proofs.PlanLemmas.{stands_sound, stands_same}
 use Rattle.plan_lower.proofs.conversion.dsl_to_ir.DslPlanPlanLowering.to_alp.Goals as goal
 
