@@ -3,7 +3,7 @@ use Rattle.std.specs.Prelude.{ℕ, true, false, List, [], ◌∷◌, ◌++◌, c
 use Rattle.std.specs.List.{join_by}
 use Rattle.serde_json.specs.Data.{string}
 use Rattle.serde_json.specs.Written.{compact_text}
-use Rattle.plan_types.specs.Types.{Ty, Truth, Integer}
+use Rattle.plan_types.specs.Types.{Ty, Truth, Integer, Untyped}
 use Rattle.plan_types.specs.Schemas.{Name, Columns}
 use Rattle.plan_types.specs.declared.error.ErrorKind.{ErrorKind}
 use Rattle.plan_types.specs.declared.error.ErrorKind.TheVariants.{ColumnNotFound, Duplicate, SchemaMismatch, InvalidOperation, NoMemory}
@@ -15,6 +15,7 @@ name_text name = compact_text (string (encode_utf8_all name))
 
 abbrev pub type_text : Ty → List ℕ
 type_text Truth = codes "Boolean"
+type_text (Untyped number) = codes "Unknown"
 type_text (Integer true bits) = codes "Int" ++ decimal bits
 type_text (Integer false bits) = codes "UInt" ++ decimal bits
 

@@ -30,6 +30,7 @@ pub(crate) fn expression_casts(arena: &Arena<AExpr>, node: Node) -> Result<u64, 
     let item = arena.get(node);
     match item {
         AExpr::Column(_) => Ok(0),
+        AExpr::Literal(_) => Ok(0),
         AExpr::BinaryExpr { left, right, .. } => {
             let left = expression_casts(arena, *left)?;
             let right = expression_casts(arena, *right)?;

@@ -32,6 +32,7 @@ pub(crate) fn type_name(dtype: &DataType) -> &'static str
     ensures { result.now ≡ type_text (ty dtype.now) }
 {
     match dtype {
+        DataType::Unknown(_) => "Unknown",
         DataType::Boolean => "Boolean",
         DataType::Int8 => "Int8",
         DataType::Int16 => "Int16",
