@@ -8,7 +8,7 @@ use Rattle.plan_dsl.specs.Ops.{Op, ColumnOp, BinaryOp, CastOp, Expression}
 use Rattle.plan_dsl.specs.Literals.{literal_op}
 use Rattle.plan_dsl.specs.Plans.{PlanOp, Plan, Named, scan_op, select_op, filter_op}
 use Rattle.plan_arena.specs.Denotation.{Denotes, DenoteAll, DenotesTree}
-use Rattle.plan_arena.specs.Layers.{Layer, layer, op_of, inputs_of}
+use Rattle.plan_arena.specs.Layers.{Layer, layer, inputs_of}
 use Rattle.plan_dsl.specs.Trees.{node}
 use Rattle.plan_arena.specs.declared.aexpr.AExpr.{AExpr}
 use Rattle.plan_arena.specs.declared.aexpr.AExpr.TheVariants.{Column, Literal, BinaryExpr, Cast}

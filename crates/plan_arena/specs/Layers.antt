@@ -5,9 +5,6 @@ use Rattle.std.specs.Prelude.{ℕ, List, map}
 pub data Layer (Op : Type 0) : Type 0 where
   layer : Op → List ℕ → Layer Op
 
-abbrev pub op_of : {Op : Type 0} → Layer Op → Op
-op_of (layer op inputs) = op
-
 abbrev pub inputs_of : {Op : Type 0} → Layer Op → List ℕ
 inputs_of (layer op inputs) = inputs
 
