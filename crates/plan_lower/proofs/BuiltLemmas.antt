@@ -1,37 +1,34 @@
 -- What is built from scans, filters and selects, and why a filter or a select isn't.
-use Rattle.std.proofs.Common.{◌≡◌, ◌⊎◌, ℕ, List, [], ◌∷◌, ◌++◌, map, true, false, is_some, Option, Some, Ok, refl, sym, ap, ◌∙◌, subst, ⊎_elim, Bool, cond, None, Result, Err}
+use Rattle.std.proofs.Common.{◌≡◌, ◌⊎◌, ℕ, List, [], ◌∷◌, ◌++◌, map, true, false, is_some, Option, Some, Ok, refl, sym, ap, ◌∙◌, subst, ⊎_elim}
 use Rattle.std.specs.List.{AllByRecursion, Contains}
-use Rattle.plan_types.specs.Types.{Ty, Truth}
-use Rattle.plan_types.specs.Schemas.{Name, Columns, HasDistinctNames, repeats, names_of, all_known}
-use Rattle.plan_types.specs.Outcomes.{Outcome, Meets}
-use Rattle.plan_types.specs.Frames.{Row, Frame, IsFrameOf}
+use Rattle.plan_types.specs.Types.{Truth}
+use Rattle.plan_types.specs.Schemas.{Name, Columns, HasDistinctNames, names_of, all_known}
+use Rattle.plan_types.specs.Outcomes.{Meets}
+use Rattle.plan_types.specs.Frames.{Frame, IsFrameOf}
 use Rattle.plan_types.specs.Errors.{no_memory, at_top, IsMemoryOr}
 use Rattle.plan_types.specs.declared.error.ErrorKind.{ErrorKind}
 use Rattle.plan_types.specs.declared.error.ErrorKind.TheVariants.{Duplicate, InvalidOperation, NoMemory}
 use Rattle.plan_types.specs.declared.error.PlanError.{PlanError}
 use Rattle.plan_types.proofs.ListLemmas.{map-map}
-use Rattle.plan_types.proofs.SchemaLemmas.{test_from_distinct}
 use Rattle.plan_dsl.specs.Registry.{Registry}
-use Rattle.plan_dsl.specs.Trees.{Tree, Trees, node, no_more, more}
+use Rattle.plan_dsl.specs.Trees.{node, no_more, more}
 use Rattle.plan_dsl.specs.Ops.{Expression}
 use Rattle.plan_dsl.specs.Names.{name_of}
-use Rattle.plan_dsl.specs.Plans.{PlanOp, Plan, Named, named, scan_op, select_op, filter_op, empty_table}
+use Rattle.plan_dsl.specs.Plans.{PlanOp, Plan, Named, named, scan_op, select_op, filter_op}
 use Rattle.plan_dsl.specs.Literals.{settled}
 use Rattle.plan_dsl.specs.Typing.{Typed, typing}
-use Rattle.plan_dsl.specs.Meaning.{meaning}
-use Rattle.plan_dsl.specs.StrictRun.{strict_run}
-use Rattle.plan_dsl.specs.Strictness.{IsSame, IsStrict}
-use Rattle.plan_dsl.specs.PlanRules.{signatures, columns_of, select_kinds, filter_kinds, where_unbroken, plan_rule, schema_of, schemas_of, broken_kinds, IsWellFormed, Breaks}
-use Rattle.plan_dsl.specs.PlanKernels.{Evaluated, selected, filtered}
-use Rattle.plan_dsl.specs.PlanMeaning.{by_meaning, source_meaning, FitsPlan}
+use Rattle.plan_dsl.specs.Strictness.{IsStrict}
+use Rattle.plan_dsl.specs.PlanRules.{signatures, select_kinds, filter_kinds, plan_rule, schema_of, broken_kinds, Breaks}
+use Rattle.plan_dsl.specs.PlanKernels.{selected, filtered}
+use Rattle.plan_dsl.specs.PlanMeaning.{by_meaning, FitsPlan}
 use Rattle.plan_dsl.proofs.KernelLemmas.{AgreeOn, selected_agrees, filtered_agrees}
 use Rattle.plan_dsl.proofs.LiteralLemmas.{strict_settled}
 use Rattle.plan_dsl.proofs.RunLemmas.{strict_is_meaning}
 use Rattle.plan_dsl.proofs.RuleLemmas.{scan_schema, scan_unknown_kind, select_schema, select_refused_kind, select_repeated_name, filter_schema, filter_refused_kind, filter_other_type, broken_is_ill_formed}
-use Rattle.plan_arena.specs.Runs.{top_schema, by_running, plan_run, IsAccepted, IsStrictPlan, RunsSoundly}
+use Rattle.plan_arena.specs.Runs.{top_schema, by_running, plan_run, IsAccepted, RunsSoundly}
 use Rattle.plan_arena.proofs.RunLemmas.{runs_soundly}
-use Rattle.plan_lower.specs.Outputs.{Lowered, IsLowered, lowered_named, lowered_column, over, lowered_select, SelectsTo}
-use Rattle.plan_lower.specs.Projection.{IsOutputRefusal, no_room, untyped, repeated, RefusesOne, IsProjectionRefusal, out_of_memory as no_space, refused}
+use Rattle.plan_lower.specs.Outputs.{Lowered, IsLowered, lowered_named, lowered_column, lowered_select, SelectsTo}
+use Rattle.plan_lower.specs.Projection.{IsOutputRefusal, no_room, untyped, repeated, IsProjectionRefusal, out_of_memory as no_space, refused}
 use Rattle.plan_lower.specs.Predicates.{FiltersBy, IsPredicateRefusal, without_room, without_type, of_other_type, lowered_filter}
 use Rattle.plan_lower.specs.Lowering.{IsBuilt, IsPlanRefusal, out_of_memory, broken, source_select, source_filter}
 

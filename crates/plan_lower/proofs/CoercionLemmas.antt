@@ -37,11 +37,12 @@ use Rattle.plan_arena.specs.declared.aexpr.AExpr.TheVariants.{Literal, BinaryExp
 use Rattle.plan_arena.specs.Denotation.{Denotes, DenoteAll, DenotesTree}
 use Rattle.plan_arena.specs.Layers.{layer, shape_of}
 use Rattle.plan_arena.specs.Items.{HoldsExpression, HoldsFrom, Grows, expression_layer}
-use Rattle.plan_arena.proofs.DenotationLemmas.{denotes_one, kept_below, all_kept_below}
-use Rattle.plan_arena.proofs.ItemLemmas.{tree_grown, added_denotes, length-grown, grows_then, any_node, from_laws, from_top, one_child, no_children, expression_laws, expression_elsewhere, expression_written, expression_grown, within}
+use Rattle.plan_arena.proofs.DenotationLemmas.{kept_below, all_kept_below}
+use Rattle.plan_arena.proofs.ItemLemmas.{tree_grown, added_denotes, length-grown, grows_then, any_node, from_laws, from_top, one_child, no_children, expression_elsewhere, expression_written, expression_grown, within}
 use Rattle.plan_lower.specs.declared.conversion.type_coercion.Change.{Change}
 use Rattle.plan_lower.specs.declared.conversion.type_coercion.Change.TheVariants.{Keep, CastTo, Become}
-use Rattle.plan_lower.specs.Coercion.{DenotesTyped, Visits, IsChangeFor, IsTypedChange, changed_by, is_kept, ChangesOperands}
+use Rattle.plan_lower.specs.Coercion.{DenotesTyped, Visits, IsChangeFor, changed_by, is_kept, ChangesOperands}
+use Rattle.plan_lower.specs.declared.type_table.TypeTable.{TypeTable}
 use Rattle.plan_lower.specs.Typed.{HasKnownType}
 use Rattle.plan_lower.proofs.TypingLemmas.{AllHaveType, AllRefused}
 
@@ -93,18 +94,13 @@ change_is : (from target : Ty) (change : Change) (t : Expression) → IsChangeFo
 change_is from target Keep t is = sym (if_true (same_type from target) t _ is)
 change_is from target (CastTo dtype) t is =
     change_cast from target dtype t is.1 is.2 ∙ sym (if_false (same_type from target) t _ is.0)
-change_is from target (Become value) t is =
+change_is from target (Become value dtype) t is =
     change_literal target value is.1 from t is.2 is.3 ∙ sym (if_false (same_type from target) t _ is.0)
 
 is_changed : (from target : Ty) (change : Change) → IsChangeFor from target change → same_type from target ≡ false → is_kept change ≡ false
 is_changed from target Keep is other = absurd (false≢true (sym other ∙ is))
 is_changed from target (CastTo dtype) is other = refl
-is_changed from target (Become value) is other = refl
-
-pub typed_change : (from target : Ty) (change : Change) → IsChangeFor from target change → IsTypedChange change
-typed_change from target Keep is = tt
-typed_change from target (CastTo dtype) is = ap is_known is.2 ∙ is.3
-typed_change from target (Become value) is = (is.4, is.5)
+is_changed from target (Become value dtype) is other = refl
 
 op_type : (a b : Ty) (v w : Val) → LiteralOp a v ≡ LiteralOp b w → a ≡ b
 op_type a b v w e = cc
@@ -113,15 +109,16 @@ op_value : (a b : Ty) (v w : Val) → LiteralOp a v ≡ LiteralOp b w → v ≡ 
 op_value a b v w e = cc
 
 -- why a number without a type becomes a literal
-pub becomes_value : (from target : Ty) (number : ℤ) (value : LiteralValue) → same_type from target ≡ false → from ≡ Untyped number → CanBecome from target → literal_op value ≡ LiteralOp target (IntValue number) → IsChangeFor from target (Become value)
-becomes_value from target number value other e can is =
+pub becomes_value : (from target : Ty) (number : ℤ) (value : LiteralValue) (dtype : DataType) → same_type from target ≡ false → from ≡ Untyped number → CanBecome from target → literal_op value ≡ LiteralOp target (IntValue number) → ty dtype ≡ target → IsChangeFor from target (Become value dtype)
+becomes_value from target number value dtype other e can is same =
     let type_is : literal_type value ≡ target = op_type (literal_type value) target (literal_value value) (IntValue number) is in
     let value_is = op_value (literal_type value) target (literal_value value) (IntValue number) is in
-    let literal = becomes_literal target number can.known (can.has number e) in (
-      other, number, e, is,
-      subst (λ v. is_literal (literal_type value) v ≡ true) (sym value_is) (subst (λ u. is_literal u (IntValue number) ≡ true) (sym type_is) literal),
-      ap is_known type_is ∙ can.known,
-    )
+    let literal = becomes_literal target number can.known (can.has number e) in
+    (other, number, e, is, subst (λ v. is_literal (literal_type value) v ≡ true) (sym value_is) (subst (λ u. is_literal u (IntValue number) ≡ true) (sym type_is) literal), same)
+
+-- the type of such a literal
+pub value_type : (target : Ty) (number : ℤ) (value : LiteralValue) → literal_op value ≡ LiteralOp target (IntValue number) → literal_type value ≡ target
+value_type target number value is = op_type (literal_type value) target (literal_value value) (IntValue number) is
 
 no_number_of : (target : Ty) (number : ℤ) → is_known target ≡ true → in_range target number ≡ true → (is_integer target && in_range target number) ≡ true
 no_number_of Truth number known has = absurd (no_number number has)
@@ -271,15 +268,15 @@ module _ (registry : Registry) (schema : Columns) (old new : List AExpr) (at : �
       }
 
 -- the visit of an operator
-pub visits_binary : (registry : Registry) (schema : Columns) (old mid new : List AExpr) (at l r : ℕ) (left right : Node) (operator : Operator) (left_change right_change : Change) → HoldsExpression old at (BinaryOp operator) (l ∷ r ∷ []) → ChangesOperands registry schema old l operator r left_change right_change → Grows old mid → Grows mid new → ((first : ℕ) (t : Expression) → first ≤ length old → Denotes (HoldsFrom first old) l t → Denotes (HoldsFrom first mid) left.0 (changed_by left_change t)) → (is_kept left_change ≡ false → length old ≤ left.0) → ((first : ℕ) (t : Expression) → first ≤ length mid → Denotes (HoldsFrom first mid) r t → Denotes (HoldsFrom first new) right.0 (changed_by right_change t)) → (is_kept right_change ≡ false → length mid ≤ right.0) → (first : ℕ) (t : Expression) → first ≤ length old → Denotes (HoldsFrom first old) at t → Visits registry schema first (set new at (BinaryExpr left operator right)) at t
-visits_binary registry schema old mid new at l r left right operator left_change right_change held c g1 g2 left_denotes left_fresh right_denotes right_fresh =
+pub visits_binary : (registry : Registry) (schema : Columns) (old mid new : List AExpr) (at l r : ℕ) (left right : Node) (operator : Operator) (table : TypeTable) (left_change right_change : Change) → HoldsExpression old at (BinaryOp operator) (l ∷ r ∷ []) → ChangesOperands registry schema old table l operator r left_change right_change → Grows old mid → Grows mid new → ((first : ℕ) (t : Expression) → first ≤ length old → Denotes (HoldsFrom first old) l t → Denotes (HoldsFrom first mid) left.0 (changed_by left_change t)) → (is_kept left_change ≡ false → length old ≤ left.0) → ((first : ℕ) (t : Expression) → first ≤ length mid → Denotes (HoldsFrom first mid) r t → Denotes (HoldsFrom first new) right.0 (changed_by right_change t)) → (is_kept right_change ≡ false → length mid ≤ right.0) → (first : ℕ) (t : Expression) → first ≤ length old → Denotes (HoldsFrom first old) at t → Visits registry schema first (set new at (BinaryExpr left operator right)) at t
+visits_binary registry schema old mid new at l r left right operator table left_change right_change held c g1 g2 left_denotes left_fresh right_denotes right_fresh =
     let taken : Taken = record { operands = c.left_to ∷ c.right_to ∷ []; type = c.result } in
     let longer = length-grown old mid g1 in
-    let left_taken = taken_grown old mid new l left.0 c.left_from c.left_to g2 (taken_to old mid l left.0 c.left_from c.left_to left_change c.left_changes left_denotes) in
-    let right_taken = taken_later old mid new r right.0 c.right_from c.right_to g1 (taken_to mid new r right.0 c.right_from c.right_to right_change c.right_changes right_denotes) in
-    let fresh_l = fresh_where old left.0 c.left_from c.left_to left_change c.left_changes left_fresh in
-    let fresh_r = fresh_where mid right.0 c.right_from c.right_to right_change c.right_changes right_fresh in
-    visits_operands registry schema old new at (BinaryOp operator) (BinaryExpr left operator right) (c.left_from ∷ c.right_from ∷ []) taken c.takes (operator_known operator (c.left_from ∷ c.right_from ∷ []) taken c.takes) (grows_then old mid new g1 g2) (l ∷ r ∷ []) (left.0 ∷ right.0 ∷ []) refl held (c.left_typed, (c.right_typed, tt)) (left_taken, fresh_l, (right_taken, (λ e. omega (arith, longer, fresh_r e)), tt))
+    let left_taken = taken_grown old mid new l left.0 (ty c.left_kept) c.left_to g2 (taken_to old mid l left.0 (ty c.left_kept) c.left_to left_change c.left_changes left_denotes) in
+    let right_taken = taken_later old mid new r right.0 (ty c.right_kept) c.right_to g1 (taken_to mid new r right.0 (ty c.right_kept) c.right_to right_change c.right_changes right_denotes) in
+    let fresh_l = fresh_where old left.0 (ty c.left_kept) c.left_to left_change c.left_changes left_fresh in
+    let fresh_r = fresh_where mid right.0 (ty c.right_kept) c.right_to right_change c.right_changes right_fresh in
+    visits_operands registry schema old new at (BinaryOp operator) (BinaryExpr left operator right) ((ty c.left_kept) ∷ (ty c.right_kept) ∷ []) taken c.takes (operator_known operator ((ty c.left_kept) ∷ (ty c.right_kept) ∷ []) taken c.takes) (grows_then old mid new g1 g2) (l ∷ r ∷ []) (left.0 ∷ right.0 ∷ []) refl held (c.left_typed, (c.right_typed, tt)) (left_taken, fresh_l, (right_taken, (λ e. omega (arith, longer, fresh_r e)), tt))
 
 -- a node whose operands are none of them changed
 record UnchangedNode (registry : Registry) (schema : Columns) (op : Op) (ts : Trees Op) : Type 0 where

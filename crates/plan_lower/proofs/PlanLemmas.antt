@@ -1,24 +1,24 @@
 -- Lowering of plans, node by node.
-use Rattle.std.proofs.Common.{◌≡◌, ◌⊎◌, ℕ, ◌<◌, List, [], ◌∷◌, ◌++◌, length, map, true, false, Option, Some, None, slice_get, refl, sym, ap, ◌∙◌, subst, arith, ⊎_elim, append_assoc}
-use Rattle.plan_types.specs.Schemas.{Columns, columns, HasDistinctNames, all_known}
+use Rattle.std.proofs.Common.{◌≡◌, ◌⊎◌, ℕ, ◌<◌, List, [], ◌∷◌, ◌++◌, length, map, true, false, Option, Some, None, slice_get, refl, sym, ap, ◌∙◌, subst, arith, append_assoc}
+use Rattle.plan_types.specs.Schemas.{Columns, HasDistinctNames, all_known}
 use Rattle.plan_types.specs.declared.error.ErrorKind.TheVariants.{InvalidOperation, NoMemory}
 use Rattle.plan_types.specs.Errors.{no_memory, IsMemoryOr}
 use Rattle.plan_types.specs.declared.error.PlanError.{PlanError}
 use Rattle.plan_dsl.specs.Registry.{Registry}
-use Rattle.plan_dsl.specs.Trees.{Tree, Trees, node, no_more, more}
+use Rattle.plan_dsl.specs.Trees.{node, no_more, more}
 use Rattle.plan_dsl.specs.Ops.{Op, Expression}
 use Rattle.plan_dsl.specs.Plans.{PlanOp, Plan, Named, scan_op, select_op, filter_op, empty_table}
 use Rattle.plan_arena.specs.declared.aexpr.AExpr.{AExpr}
 use Rattle.plan_arena.specs.declared.ir.IR.{IR}
 use Rattle.plan_arena.specs.declared.plan.IRPlan.{IRPlan}
-use Rattle.plan_arena.specs.Denotation.{Denotes, DenotesTree}
+use Rattle.plan_arena.specs.Denotation.{Denotes}
 use Rattle.plan_arena.specs.Layers.{layer}
 use Rattle.plan_arena.specs.Items.{HoldsExpression, HoldsPlan, DenotesItem, DenoteNamed, Grows, plan_layer}
 use Rattle.plan_arena.specs.Runs.{top_schema}
 use Rattle.plan_arena.proofs.DenotationLemmas.{denotes_one}
 use Rattle.plan_arena.proofs.ItemLemmas.{plan_added, plan_stays, plan_tree_kept, plan_laws, item_denotes}
 use Rattle.plan_arena.proofs.RunLemmas.{runs_soundly}
-use Rattle.plan_lower.specs.Outputs.{Lowered, lowered_named, lowered_column, over, lowered_select, SelectsTo, HasOutputs}
+use Rattle.plan_lower.specs.Outputs.{Lowered, lowered_named, over, lowered_select, HasOutputs}
 use Rattle.plan_lower.specs.Predicates.{HasPredicate, IsPredicateRefusal, lowered_filter}
 use Rattle.plan_lower.specs.Projection.{IsProjectionRefusal}
 use Rattle.plan_lower.specs.Lowering.{source_select, source_filter, IsBuilt, IsPlanRefusal, IsSelect, IsFilter, StandsAt, StandsFor, IsEmptyTableAt, IsTyped, IsSound, GivesSameFrame}

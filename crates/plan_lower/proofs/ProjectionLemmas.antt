@@ -25,12 +25,11 @@ use Rattle.plan_arena.specs.Layers.{shape_of, inputs_of}
 use Rattle.plan_arena.proofs.DenotationLemmas.{denotes_one}
 use Rattle.plan_arena.proofs.ItemLemmas.{any_node, tree_grown, from_laws, expression_laws}
 use Rattle.plan_lower.specs.Coercion.{DenotesKnown, DenotesSame, KeepsBelow, IsCoerced}
-use Rattle.plan_lower.specs.KeptTypes.{IsKnown, Extends}
+use Rattle.plan_lower.specs.KeptTypes.{IsKept, Extends}
 use Rattle.plan_lower.specs.Outputs.{Lowered, lowered_named, lowered_column, IsLowered, HasOutputs}
 use Rattle.plan_lower.specs.declared.type_table.TypeTable.{TypeTable}
 use Rattle.plan_lower.proofs.CoercionLemmas.{grown_elsewhere}
 use Rattle.plan_lower.proofs.StackLemmas.{all_weaker, all_joined}
-use Rattle.plan_lower.proofs.TableLemmas.{known_grown, known_extended}
 use Rattle.plan_types.specs.Errors.{IsRefusal, no_room as short, broken}
 use Rattle.plan_lower.specs.Typed.{HasType}
 use Rattle.plan_lower.specs.Predicates.{HasPredicate, IsPredicateRefusal, without_room, without_type, of_other_type}
@@ -129,13 +128,12 @@ projecting_refused registry schema first items whole before rest tree nodes colu
 pub pushed_node : (old new : List ExprIR) (e : ExprIR) → new ≡ old ++ e ∷ [] → map named_node new ≡ map named_node old ++ named_node e ∷ []
 pushed_node old new e grown = ap (map named_node) grown ∙ map-append named_node old (e ∷ [])
 
--- one more root whose type is known
-pub roots_known : (items grown : List AExpr) (table table' : TypeTable) (exprs exprs' : List ExprIR) (e : ExprIR) → Grows items grown → Extends table table' → exprs' ≡ exprs ++ e ∷ [] → AllByRecursion (IsKnown items table) (map (λ (x : ExprIR). (named_node x).expression) exprs) → IsKnown grown table' (named_node e).expression → AllByRecursion (IsKnown grown table') (map (λ (x : ExprIR). (named_node x).expression) exprs')
-roots_known items grown table table' exprs exprs' e g x pushed known here =
-    let stays = λ (n : ℕ) (k : IsKnown items table n). known_extended grown table table' x n (known_grown items grown table g n k) in
-    let before = all_weaker (IsKnown items table) (IsKnown grown table') stays (map (λ (x : ExprIR). (named_node x).expression) exprs) known in
+-- one more root whose type is kept
+pub roots_kept : (table table' : TypeTable) (exprs exprs' : List ExprIR) (e : ExprIR) → Extends table table' → exprs' ≡ exprs ++ e ∷ [] → AllByRecursion (IsKept table) (map (λ (x : ExprIR). (named_node x).expression) exprs) → IsKept table' (named_node e).expression → AllByRecursion (IsKept table') (map (λ (x : ExprIR). (named_node x).expression) exprs')
+roots_kept table table' exprs exprs' e x pushed kept here =
+    let before = all_weaker (IsKept table) (IsKept table') x.kept (map (λ (x : ExprIR). (named_node x).expression) exprs) kept in
     let roots = ap (map (λ (x : ExprIR). (named_node x).expression)) pushed ∙ map-append (λ (x : ExprIR). (named_node x).expression) exprs (e ∷ []) in
-    subst (AllByRecursion (IsKnown grown table')) (sym roots) (all_joined (IsKnown grown table') (map (λ (x : ExprIR). (named_node x).expression) exprs) ((named_node e).expression ∷ []) before (here, tt))
+    subst (AllByRecursion (IsKept table')) (sym roots) (all_joined (IsKept table') (map (λ (x : ExprIR). (named_node x).expression) exprs) ((named_node e).expression ∷ []) before (here, tt))
 
 -- the roots of a projection
 pub roots_are : (exprs : List ExprIR) (outputs : List Output) → map output_node outputs ≡ map named_node exprs → map (λ (e : ExprIR). (named_node e).expression) exprs ≡ map (λ (o : Output). o.node) outputs

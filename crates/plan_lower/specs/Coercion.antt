@@ -19,6 +19,9 @@ use Rattle.plan_arena.specs.Denotation.{Denotes, DenoteAll}
 use Rattle.plan_arena.specs.Items.{HoldsExpression, HoldsFrom}
 use Rattle.plan_lower.specs.declared.conversion.type_coercion.Change.{Change}
 use Rattle.plan_lower.specs.declared.conversion.type_coercion.Change.TheVariants.{Keep, CastTo, Become}
+use Rattle.plan_types.specs.declared.dtype.DataType.{DataType}
+use Rattle.plan_lower.specs.declared.type_table.TypeTable.{TypeTable}
+use Rattle.plan_lower.specs.KeptTypes.{Keeps}
 use Rattle.plan_lower.specs.Typed.{HasType, HasKnownType}
 
 -- the node denotes a typed expression of nodes from that number on
@@ -59,38 +62,34 @@ pub record Visits (registry : Registry) (schema : Columns) (first : ℕ) (items 
 abbrev pub IsChangeFor : Ty → Ty → Change → Type 0
 IsChangeFor from target Keep = same_type from target ≡ true
 IsChangeFor from target (CastTo dtype) = (same_type from target ≡ false) × (is_known from ≡ true) × (ty dtype ≡ target) × (is_known target ≡ true)
-IsChangeFor from target (Become value) =
-    (same_type from target ≡ false) × (number : ℤ) × (from ≡ Untyped number) × (literal_op value ≡ LiteralOp target (IntValue number)) × (is_literal (literal_type value) (literal_value value) ≡ true) × (is_known (literal_type value) ≡ true)
+IsChangeFor from target (Become value dtype) =
+    (same_type from target ≡ false) × (number : ℤ) × (from ≡ Untyped number) × (literal_op value ≡ LiteralOp target (IntValue number)) × (is_literal (literal_type value) (literal_value value) ≡ true) × (ty dtype ≡ target)
 
 -- an expression that is changed so
 abbrev pub changed_by : Change → Expression → Expression
 changed_by Keep tree = tree
 changed_by (CastTo dtype) tree = node (CastOp (ty dtype) NonStrict) (more tree no_more)
-changed_by (Become value) tree = node (literal_op value) no_more
-
--- a cast and a literal have a type of columns
-abbrev pub IsTypedChange : Change → Type 0
-IsTypedChange Keep = Unit {0}
-IsTypedChange (CastTo dtype) = is_known (ty dtype) ≡ true
-IsTypedChange (Become value) = (is_literal (literal_type value) (literal_value value) ≡ true) × (is_known (literal_type value) ≡ true)
+changed_by (Become value dtype) tree = node (literal_op value) no_more
 
 abbrev pub is_kept : Change → Bool
 is_kept Keep = true
 is_kept (CastTo dtype) = false
-is_kept (Become value) = false
+is_kept (Become value dtype) = false
 
--- what an operator's operands need
-pub record ChangesOperands (registry : Registry) (schema : Columns) (items : List AExpr) (left : ℕ) (operator : Operator) (right : ℕ) (left_change right_change : Change) : Type 0 where
-  pub left_from : Ty
+-- what an operator's operands need, whose types the table keeps
+pub record ChangesOperands (registry : Registry) (schema : Columns) (items : List AExpr) (table : TypeTable) (left : ℕ) (operator : Operator) (right : ℕ) (left_change right_change : Change) : Type 0 where
+  pub left_kept : DataType
+  pub left_keeps : Keeps table left left_kept
   pub left_to : Ty
-  pub right_from : Ty
+  pub right_kept : DataType
+  pub right_keeps : Keeps table right right_kept
   pub right_to : Ty
   pub result : Ty
-  pub left_typed : (t : Expression) → Denotes (HoldsExpression items) left t → HasType (typing registry schema t) left_from
-  pub right_typed : (t : Expression) → Denotes (HoldsExpression items) right t → HasType (typing registry schema t) right_from
-  pub takes : operator_types operator (left_from ∷ right_from ∷ []) ≡ Ok (record { operands = left_to ∷ right_to ∷ []; type = result })
-  pub left_changes : IsChangeFor left_from left_to left_change
-  pub right_changes : IsChangeFor right_from right_to right_change
+  pub left_typed : (t : Expression) → Denotes (HoldsExpression items) left t → HasType (typing registry schema t) (ty left_kept)
+  pub right_typed : (t : Expression) → Denotes (HoldsExpression items) right t → HasType (typing registry schema t) (ty right_kept)
+  pub takes : operator_types operator (ty left_kept ∷ ty right_kept ∷ []) ≡ Ok (record { operands = left_to ∷ right_to ∷ []; type = result })
+  pub left_changes : IsChangeFor (ty left_kept) left_to left_change
+  pub right_changes : IsChangeFor (ty right_kept) right_to right_change
 
 -- the numbers of nodes
 abbrev pub numbers : List Node → List ℕ

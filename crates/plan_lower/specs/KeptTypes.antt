@@ -1,16 +1,12 @@
 -- Types that are kept by node.
--- A table keeps types of nodes from its first number on. A cast's type is its target, and a literal's its own:
--- they aren't kept, but where a literal has none.
-use Rattle.std.specs.Prelude.{◌≡◌, ◌≤◌, ◌-◌, ℕ, true, List, [], ◌∷◌, Some, slice_get}
+-- A table keeps types of nodes from its first number on.
+use Rattle.std.specs.Prelude.{◌≡◌, ◌≤◌, ◌-◌, ℕ, List, Some, slice_get}
 use Rattle.std.specs.List.{AllByRecursion}
-use Rattle.plan_types.specs.Types.{Ty, ty, is_known}
-use Rattle.plan_types.specs.Values.{Val}
+use Rattle.plan_types.specs.Types.{Ty, ty}
 use Rattle.plan_types.specs.Schemas.{Columns}
 use Rattle.plan_types.specs.declared.dtype.DataType.{DataType}
-use Rattle.plan_types.specs.declared.dtype.CastOptions.{CastOptions}
 use Rattle.plan_dsl.specs.Registry.{Registry}
-use Rattle.plan_dsl.specs.Ops.{Op, LiteralOp, CastOp, Expression}
-use Rattle.plan_dsl.specs.Literals.{is_literal}
+use Rattle.plan_dsl.specs.Ops.{Op, Expression}
 use Rattle.plan_dsl.specs.Typing.{typing}
 use Rattle.plan_arena.specs.declared.aexpr.AExpr.{AExpr}
 use Rattle.plan_arena.specs.Denotation.{Denotes}
@@ -36,19 +32,12 @@ pub record Extends (old new : TypeTable) : Type 0 where
   pub first : first_node new ≡ first_node old
   pub kept : (n : ℕ) → IsKept old n → IsKept new n
 
--- the type of the node is known: it is kept, or the node is a literal of some type, or a cast of a node whose
--- type is known
-pub data IsKnown (items : List AExpr) (table : TypeTable) : ℕ → Type 0 where
-  by_table : (n : ℕ) → IsKept table n → IsKnown items table n
-  by_literal : (n : ℕ) (type : Ty) (value : Val) → HoldsExpression items n (LiteralOp type value) [] → is_literal type value ≡ true → is_known type ≡ true → IsKnown items table n
-  by_cast : (n input : ℕ) (target : Ty) (options : CastOptions) → HoldsExpression items n (CastOp target options) (input ∷ []) → is_known target ≡ true → IsKnown items table input → IsKnown items table n
-
--- the node denotes an expression of that type, and the types of its inputs are known
+-- the node denotes an expression of that type, and the types of its inputs are kept
 pub record IsTypedNode (registry : Registry) (schema : Columns) (items : List AExpr) (table : TypeTable) (n : ℕ) (type : Ty) : Type 0 where
   pub tree : Expression
   pub denotes : Denotes (HoldsExpression items) n tree
   pub typed : HasType (typing registry schema tree) type
-  pub inputs : (op : Op) (inputs : List ℕ) → HoldsExpression items n op inputs → AllByRecursion (IsKnown items table) inputs
+  pub inputs : (op : Op) (inputs : List ℕ) → HoldsExpression items n op inputs → AllByRecursion (IsKept table) inputs
 
 -- each type that the table keeps is the node's
 pub record IsRight (registry : Registry) (schema : Columns) (items : List AExpr) (table : TypeTable) : Type 0 where

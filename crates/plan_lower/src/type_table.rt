@@ -1,19 +1,10 @@
 //! Types that are kept by node.
 ghost use Rattle.std.specs.Prelude.{◌≡◌, ◌≢◌, ◌<◌, ◌≤◌, ◌↔◌, ℕ, length, MatchOption, IfErr, OnOk, OnErr};
 ghost use Rattle.plan_types.specs.Errors.{no_memory};
-ghost use Rattle.plan_types.specs.Schemas.{Columns};
-ghost use Rattle.plan_types.specs.Types.{ty};
 ghost use Rattle.plan_types.specs.declared.dtype.DataType.{DataType};
-ghost use Rattle.plan_dsl.specs.Ops.{Expression};
-ghost use Rattle.plan_dsl.specs.Registry.{Registry};
-ghost use Rattle.plan_dsl.specs.Typing.{typing};
-ghost use Rattle.plan_arena.specs.Denotation.{Denotes};
-ghost use Rattle.plan_arena.specs.Items.{HoldsExpression};
-ghost use Rattle.plan_lower.specs.KeptTypes.{HasRightTypes, Keeps, IsKept, IsKnown, IsRight, first_node};
-ghost use Rattle.plan_lower.specs.Typed.{HasType};
+ghost use Rattle.plan_lower.specs.KeptTypes.{Keeps, IsKept, first_node};
 
-use plan_arena::aexpr::AExpr;
-use plan_arena::arena::{Arena, Node};
+use plan_arena::arena::Node;
 use plan_types::dtype::DataType;
 use plan_types::error::PlanError;
 use std::alloc::Global;
@@ -50,25 +41,8 @@ impl TypeTable {
         }
     }
 
-    /// The type of a node: a cast's is its target, a literal's its own, and another's is kept.
-    pub fn get<'a>(&'a self, node: Node, arena: &'a Arena<AExpr>) -> &'a DataType
-        requires right { HasRightTypes arena.now self.now }
-        requires known { IsKnown arena.now self.now node.0 }
-        ensures { (registry : Registry) (schema : Columns) (t : Expression) → IsRight registry schema arena.now self.now →
-            Denotes (HoldsExpression arena.now) node.0 t → HasType (typing registry schema t) (ty result.now) }
-    {
-        match arena.get(node) {
-            AExpr::Cast { dtype, .. } => dtype,
-            AExpr::Literal(value) => match value.known_type() {
-                Some(dtype) => dtype,
-                None => self.kept_type(node),
-            },
-            _ => self.kept_type(node),
-        }
-    }
-
-    // The type that is kept for a node.
-    fn kept_type(&self, node: Node) -> &DataType
+    /// The type that is kept for a node which has one.
+    pub fn get(&self, node: Node) -> &DataType
         requires { IsKept self.now node.0 }
         ensures { Keeps self.now node.0 result.now }
     {

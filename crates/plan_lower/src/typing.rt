@@ -10,7 +10,7 @@ ghost use Rattle.plan_dsl.specs.Literals.{literal_type, literal_value};
 ghost use Rattle.plan_dsl.specs.Typing.{typing, literal_taken, operator_types};
 ghost use Rattle.plan_arena.specs.Denotation.{Denotes, DenotesTree};
 ghost use Rattle.plan_arena.specs.Items.{HoldsExpression, HoldsFrom};
-ghost use Rattle.plan_lower.specs.KeptTypes.{Extends, IsKnown, IsRight, first_node};
+ghost use Rattle.plan_lower.specs.KeptTypes.{Extends, IsKept, IsRight, first_node};
 
 use crate::type_table::TypeTable;
 use plan_arena::aexpr::AExpr;
@@ -34,7 +34,7 @@ pub fn type_nodes(
 ) -> Result<(), PlanError>
     requires tree { DenotesTree (HoldsFrom (first_node types.old) arena.now) node.0 }
     requires right { IsRight (registry udfs.now) (columns schema.now) arena.now types.old }
-    ensures known { OnOk result (IsKnown arena.now types.new node.0) }
+    ensures kept { OnOk result (IsKept types.new node.0) }
     ensures right { IsRight (registry udfs.now) (columns schema.now) arena.now types.new }
     ensures extends { Extends types.old types.new }
     ensures err { IfErr result (λ error. (t : Expression) → Denotes (HoldsExpression arena.now) node.0 t →
@@ -61,8 +61,8 @@ pub fn type_nodes(
         AExpr::BinaryExpr { left, op, right } => {
             type_nodes(*left, arena, schema, udfs, types)?;
             type_nodes(*right, arena, schema, udfs, types)?;
-            let left = types.get(*left, arena);
-            let right = types.get(*right, arena);
+            let left = types.get(*left);
+            let right = types.get(*right);
             let taken = operand_types(arena.allocator(), left, *op, right)?;
             types.keep(node, taken.result)?;
             Ok(())
@@ -72,6 +72,8 @@ pub fn type_nodes(
             if !dtype.is_known() {
                 return Err(PlanError::at_top(ErrorKind::InvalidOperation));
             }
+            let dtype = dtype.try_clone(arena.allocator())?;
+            types.keep(node, dtype)?;
             Ok(())
         }
     }

@@ -36,11 +36,11 @@ pub fn lower_predicate(
 {
     let mut types = TypeTable::new(arena.allocator(), arena.len());
     let expr_ir = add_typed(predicate, schema, arena, udfs, &mut types)?;
-    if *types.get(expr_ir.node(), arena) != DataType::Boolean {
+    if *types.get(expr_ir.node()) != DataType::Boolean {
         return Err(PlanError::at_top(ErrorKind::InvalidOperation));
     }
     let mut stack = SmallVec::new(arena.allocator());
     stack.push(expr_ir.node())?;
-    coerce_types(&mut stack, arena, &types)?;
+    coerce_types(&mut stack, arena, &mut types)?;
     Ok(expr_ir)
 }

@@ -13,7 +13,7 @@ ghost use Rattle.plan_dsl.specs.Typing.{typing};
 ghost use Rattle.plan_arena.specs.Denotation.{Denotes};
 ghost use Rattle.plan_arena.specs.Items.{named_node, Grows, HoldsExpression, HoldsFrom};
 ghost use Rattle.plan_lower.specs.Coercion.{numbers};
-ghost use Rattle.plan_lower.specs.KeptTypes.{Extends, IsKnown, IsRight, first_node};
+ghost use Rattle.plan_lower.specs.KeptTypes.{Extends, IsKept, IsRight, first_node};
 ghost use Rattle.plan_lower.specs.Outputs.{HasOutputs};
 ghost use Rattle.plan_lower.specs.Projection.{Projects, AddsOutput, IsOutputRefusal, IsProjectionRefusal};
 
@@ -55,7 +55,7 @@ pub fn project_strictly(
     let mut types = TypeTable::new(arena.allocator(), arena.len());
     let projection = project(exprs, schema, arena, udfs, &mut types)?;
     let mut stack = roots_of(&projection.expr, arena.allocator())?;
-    coerce_types(&mut stack, arena, &types)?;
+    coerce_types(&mut stack, arena, &mut types)?;
     Ok(projection)
 }
 
@@ -84,7 +84,7 @@ pub fn project(
     ensures ok { IfOk result (λ projection. Projects (registry udfs.now) (columns schema.now) (length arena.old) arena.new
         (trees_of exprs) (map named_node projection.expr.items.items) (columns projection.schema)) }
     ensures grows { Grows arena.old arena.new }
-    ensures known { IfOk result (λ projection. AllByRecursion (IsKnown arena.new types.new)
+    ensures kept { IfOk result (λ projection. AllByRecursion (IsKept types.new)
         (map (λ e. (named_node e).expression) projection.expr.items.items)) }
     ensures right { OnOk result (IsRight (registry udfs.now) (columns schema.now) arena.new types.new) }
     ensures err { IfErr result (IsProjectionRefusal (registry udfs.now) (columns schema.now) (trees_of exprs)) }
@@ -116,7 +116,7 @@ fn project_one(
     ensures ok { IfOk result (λ expr_ir. AddsOutput (registry udfs.now) (columns schema.now) (length arena.old) arena.new
         (tree_of expr) (named_node expr_ir) (columns output.old) (columns output.new)) }
     ensures grows { Grows arena.old arena.new }
-    ensures known { IfOk result (λ expr_ir. IsKnown arena.new types.new (named_node expr_ir).expression) }
+    ensures kept { IfOk result (λ expr_ir. IsKept types.new (named_node expr_ir).expression) }
     ensures right { OnOk result (IsRight (registry udfs.now) (columns schema.now) arena.new types.new) }
     ensures extends { OnOk result (Extends types.old types.new) }
     ensures err { IfErr result (IsOutputRefusal (registry udfs.now) (columns schema.now) (tree_of expr) (columns output.old)) }
@@ -126,9 +126,7 @@ fn project_one(
         return Err(PlanError::at_top(ErrorKind::Duplicate));
     }
     let name = expr_ir.output_name().try_clone(arena.allocator())?;
-    let dtype = types
-        .get(expr_ir.node(), arena)
-        .try_clone(arena.allocator())?;
+    let dtype = types.get(expr_ir.node()).try_clone(arena.allocator())?;
     output.with_column(name, dtype)?;
     Ok(expr_ir)
 }
@@ -147,7 +145,7 @@ pub fn add_typed(
     ensures name { IfOk result (λ expr_ir. (named_node expr_ir).name ≡ name_of (tree_of expr)) }
     ensures denotes { IfOk result (λ expr_ir. Denotes (HoldsFrom (length arena.old) arena.new) (named_node expr_ir).expression (settled (tree_of expr))) }
     ensures grows { Grows arena.old arena.new }
-    ensures known { IfOk result (λ expr_ir. IsKnown arena.new types.new (named_node expr_ir).expression) }
+    ensures kept { IfOk result (λ expr_ir. IsKept types.new (named_node expr_ir).expression) }
     ensures right { OnOk result (IsRight (registry udfs.now) (columns schema.now) arena.new types.new) }
     ensures extends { OnOk result (Extends types.old types.new) }
     ensures err { IfErr result (IsRefusal (typing (registry udfs.now) (columns schema.now) (settled (tree_of expr)))) }

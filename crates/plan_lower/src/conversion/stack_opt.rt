@@ -7,7 +7,7 @@ ghost use Rattle.plan_dsl.specs.Ops.{Op};
 ghost use Rattle.plan_dsl.specs.Registry.{Registry};
 ghost use Rattle.plan_arena.specs.Items.{HoldsExpression};
 ghost use Rattle.plan_lower.specs.Coercion.{DenotesKnown, IsCoerced, numbers};
-ghost use Rattle.plan_lower.specs.KeptTypes.{HasRightTypes, IsKnown, IsRight};
+ghost use Rattle.plan_lower.specs.KeptTypes.{HasRightTypes, IsKept, IsRight};
 
 use crate::conversion::type_coercion::coerce_node;
 use crate::type_table::TypeTable;
@@ -23,11 +23,11 @@ pub type Stack = SmallVec<Node, 8>;
 pub fn coerce_types(
     stack: &mut Stack,
     arena: &mut Arena<AExpr>,
-    types: &TypeTable,
+    types: &mut TypeTable,
 ) -> Result<(), PlanError>
-    requires right { HasRightTypes arena.old types.now }
-    requires known { AllByRecursion (IsKnown arena.old types.now) (numbers stack.old.items) }
-    ensures ok { OnOk result ((registry : Registry) (schema : Columns) (first : ℕ) → IsRight registry schema arena.old types.now →
+    requires right { HasRightTypes arena.old types.old }
+    requires kept { AllByRecursion (IsKept types.old) (numbers stack.old.items) }
+    ensures ok { OnOk result ((registry : Registry) (schema : Columns) (first : ℕ) → IsRight registry schema arena.old types.old →
         first ≤ length arena.old → AllByRecursion (DenotesKnown registry schema first arena.old) (numbers stack.old.items) →
         IsCoerced registry schema first arena.old arena.new (numbers stack.old.items)) }
     ensures empty { OnOk result (stack.new.items ≡ []) }

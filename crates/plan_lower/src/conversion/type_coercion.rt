@@ -1,18 +1,18 @@
 //! Operands are made of the types to which their node takes them: by casts, or as literals.
-ghost use Rattle.std.specs.Prelude.{◌≡◌, ◌≢◌, ℕ, ◌≤◌, List, [], ◌∷◌, length, false, IfOk, IfErr, OnOk};
+ghost use Rattle.std.specs.Prelude.{◌≡◌, ◌≢◌, ℕ, ◌<◌, ◌≤◌, List, [], ◌∷◌, length, false, IfOk, IfErr, OnOk};
 ghost use Rattle.plan_types.specs.Errors.{no_memory};
 ghost use Rattle.plan_types.specs.Schemas.{Columns};
-ghost use Rattle.plan_types.specs.Types.{ty, Untyped};
+ghost use Rattle.plan_types.specs.Types.{Ty, ty, Untyped};
+ghost use Rattle.plan_types.specs.declared.dtype.DataType.{DataType};
 ghost use Rattle.plan_dsl.specs.Ops.{Op, BinaryOp, CastOp, Expression};
 ghost use Rattle.plan_dsl.specs.Strictness.{CanBecome};
 ghost use Rattle.plan_dsl.specs.Typing.{typing};
 ghost use Rattle.plan_dsl.specs.Registry.{Registry};
 ghost use Rattle.plan_arena.specs.Denotation.{Denotes};
 ghost use Rattle.plan_arena.specs.Items.{HoldsExpression, HoldsFrom, Grows};
-ghost use Rattle.plan_lower.specs.Coercion.{ChangesOperands, IsChangeFor, IsTypedChange, Visits, changed_by, is_kept};
-ghost use Rattle.plan_lower.specs.KeptTypes.{HasRightTypes, IsKnown, IsRight};
-ghost use Rattle.plan_lower.specs.Typed.{HasType, HasKnownType};
-ghost use Rattle.plan_lower.specs.declared.type_table.TypeTable.{TypeTable};
+ghost use Rattle.plan_lower.specs.Coercion.{ChangesOperands, IsChangeFor, Visits, changed_by, is_kept};
+ghost use Rattle.plan_lower.specs.KeptTypes.{Extends, HasRightTypes, IsKept, IsRight, Keeps, first_node};
+ghost use Rattle.plan_lower.specs.Typed.{HasKnownType};
 
 use crate::type_table::TypeTable;
 use crate::typing::operand_types;
@@ -25,15 +25,19 @@ use plan_types::dtype::{CastOptions, DataType, UnknownKind};
 use plan_types::error::PlanError;
 
 /// Makes the operands of the node of the types to which it takes them, where theirs are others.
-pub fn coerce_node(node: Node, arena: &mut Arena<AExpr>, types: &TypeTable) -> Result<(), PlanError>
-    requires right { HasRightTypes arena.old types.now }
-    requires known { IsKnown arena.old types.now node.0 }
-    ensures ok { OnOk result ((registry : Registry) (schema : Columns) (first : ℕ) (t : Expression) → IsRight registry schema arena.old types.now →
+pub fn coerce_node(
+    node: Node,
+    arena: &mut Arena<AExpr>,
+    types: &mut TypeTable,
+) -> Result<(), PlanError>
+    requires right { HasRightTypes arena.old types.old }
+    requires kept { IsKept types.old node.0 }
+    ensures ok { OnOk result ((registry : Registry) (schema : Columns) (first : ℕ) (t : Expression) → IsRight registry schema arena.old types.old →
         first ≤ length arena.old → Denotes (HoldsFrom first arena.old) node.0 t → HasKnownType (typing registry schema t) →
         Visits registry schema first arena.new node.0 t) }
     ensures right { OnOk result ((registry : Registry) (schema : Columns) →
-        IsRight registry schema arena.old types.now → IsRight registry schema arena.new types.now) }
-    ensures known { OnOk result ((n : ℕ) → IsKnown arena.old types.now n → IsKnown arena.new types.now n) }
+        IsRight registry schema arena.old types.old → IsRight registry schema arena.new types.new) }
+    ensures extends { OnOk result (Extends types.old types.new) }
     ensures elsewhere { (n : ℕ) (op : Op) (inputs : List ℕ) → n ≢ node.0 →
         HoldsExpression arena.old n op inputs → HoldsExpression arena.new n op inputs }
     ensures longer { length arena.old ≤ length arena.new }
@@ -48,7 +52,7 @@ pub fn coerce_node(node: Node, arena: &mut Arena<AExpr>, types: &TypeTable) -> R
             options,
         } => {
             let (expr, options) = (*expr, *options);
-            let Some(number) = types.get(expr, arena).untyped_number() else {
+            let Some(number) = types.get(expr).untyped_number() else {
                 return Ok(());
             };
             let dtype = dtype.try_clone(arena.allocator())?;
@@ -70,25 +74,25 @@ fn coerce_binary(
     op: Operator,
     right: Node,
     arena: &mut Arena<AExpr>,
-    types: &TypeTable,
+    types: &mut TypeTable,
 ) -> Result<(), PlanError>
     requires held { HoldsExpression arena.old node.0 (BinaryOp op) (left.0 ∷ right.0 ∷ []) }
-    requires right { HasRightTypes arena.old types.now }
-    requires known { IsKnown arena.old types.now node.0 }
-    ensures ok { OnOk result ((registry : Registry) (schema : Columns) (first : ℕ) (t : Expression) → IsRight registry schema arena.old types.now →
+    requires right { HasRightTypes arena.old types.old }
+    requires kept { IsKept types.old node.0 }
+    ensures ok { OnOk result ((registry : Registry) (schema : Columns) (first : ℕ) (t : Expression) → IsRight registry schema arena.old types.old →
         first ≤ length arena.old → Denotes (HoldsFrom first arena.old) node.0 t →
         Visits registry schema first arena.new node.0 t) }
     ensures right { OnOk result ((registry : Registry) (schema : Columns) →
-        IsRight registry schema arena.old types.now → IsRight registry schema arena.new types.now) }
-    ensures known { OnOk result ((n : ℕ) → IsKnown arena.old types.now n → IsKnown arena.new types.now n) }
+        IsRight registry schema arena.old types.old → IsRight registry schema arena.new types.new) }
+    ensures extends { OnOk result (Extends types.old types.new) }
     ensures elsewhere { (n : ℕ) (op : Op) (inputs : List ℕ) → n ≢ node.0 →
         HoldsExpression arena.old n op inputs → HoldsExpression arena.new n op inputs }
     ensures longer { length arena.old ≤ length arena.new }
     ensures err { IfErr result (λ error. error ≡ no_memory) }
 {
     let changes = operand_changes(node, left, op, right, arena, types)?;
-    let left = change_to(left, changes.left, arena)?;
-    let right = change_to(right, changes.right, arena)?;
+    let left = change_to(left, changes.left, arena, types)?;
+    let right = change_to(right, changes.right, arena, types)?;
     arena.replace(node, AExpr::BinaryExpr { left, op, right });
     Ok(())
 }
@@ -101,19 +105,18 @@ fn coerce_cast(
     dtype: DataType,
     options: CastOptions,
     arena: &mut Arena<AExpr>,
-    types: &TypeTable,
+    types: &mut TypeTable,
 ) -> Result<(), PlanError>
     requires held { HoldsExpression arena.old node.0 (CastOp (ty dtype) options) (expr.0 ∷ []) }
-    requires right { HasRightTypes arena.old types.now }
-    requires known { IsKnown arena.old types.now node.0 }
-    requires untyped { (registry : Registry) (schema : Columns) (t : Expression) → IsRight registry schema arena.old types.now →
-        Denotes (HoldsExpression arena.old) expr.0 t → HasType (typing registry schema t) (Untyped number) }
-    ensures ok { OnOk result ((registry : Registry) (schema : Columns) (first : ℕ) (t : Expression) → IsRight registry schema arena.old types.now →
+    requires right { HasRightTypes arena.old types.old }
+    requires kept { IsKept types.old node.0 }
+    requires untyped { (from : DataType) → Keeps types.old expr.0 from → ty from ≡ Untyped number }
+    ensures ok { OnOk result ((registry : Registry) (schema : Columns) (first : ℕ) (t : Expression) → IsRight registry schema arena.old types.old →
         first ≤ length arena.old → Denotes (HoldsFrom first arena.old) node.0 t →
         Visits registry schema first arena.new node.0 t) }
     ensures right { OnOk result ((registry : Registry) (schema : Columns) →
-        IsRight registry schema arena.old types.now → IsRight registry schema arena.new types.now) }
-    ensures known { OnOk result ((n : ℕ) → IsKnown arena.old types.now n → IsKnown arena.new types.now n) }
+        IsRight registry schema arena.old types.old → IsRight registry schema arena.new types.new) }
+    ensures extends { OnOk result (Extends types.old types.new) }
     ensures elsewhere { (n : ℕ) (op : Op) (inputs : List ℕ) → n ≢ node.0 →
         HoldsExpression arena.old n op inputs → HoldsExpression arena.new n op inputs }
     ensures longer { length arena.old ≤ length arena.new }
@@ -124,7 +127,7 @@ fn coerce_cast(
     };
     let from = DataType::Unknown(UnknownKind::Int(number));
     let change = needed_change(&from, alone);
-    let expr = change_to(expr, change, arena)?;
+    let expr = change_to(expr, change, arena, types)?;
     arena.replace(
         node,
         AExpr::Cast {
@@ -144,7 +147,7 @@ pub enum Change {
     /// A cast to the type stands round it.
     CastTo(DataType),
     /// A number without a type becomes a literal of the type.
-    Become(LiteralValue),
+    Become(LiteralValue, DataType),
 }
 
 // What is done to the operands.
@@ -165,13 +168,13 @@ fn operand_changes(
 ) -> Result<OperandChanges, PlanError>
     requires held { HoldsExpression arena.now node.0 (BinaryOp op) (left.0 ∷ right.0 ∷ []) }
     requires right { HasRightTypes arena.now types.now }
-    requires known { IsKnown arena.now types.now node.0 }
+    requires kept { IsKept types.now node.0 }
     ensures ok { IfOk result (λ changes. (registry : Registry) (schema : Columns) → IsRight registry schema arena.now types.now →
-        ChangesOperands registry schema arena.now left.0 op right.0 changes.left changes.right) }
+        ChangesOperands registry schema arena.now types.now left.0 op right.0 changes.left changes.right) }
     ensures err { IfErr result (λ error. error ≡ no_memory) }
 {
-    let left = types.get(left, arena);
-    let right = types.get(right, arena);
+    let left = types.get(left);
+    let right = types.get(right);
     let taken = operand_types(arena.allocator(), left, op, right)?;
     Ok(OperandChanges {
         left: needed_change(left, taken.left),
@@ -191,33 +194,46 @@ fn needed_change(from: &DataType, target: DataType) -> Change
         return Change::CastTo(target);
     };
     match LiteralValue::of_number(&target, *number) {
-        Some(value) => Change::Become(value),
+        Some(value) => Change::Become(value, target),
         None => unreachable!(),
     }
 }
 
-// The node that stands for the operand when it is changed.
-fn change_to(node: Node, change: Change, arena: &mut Arena<AExpr>) -> Result<Node, PlanError>
+// The node that stands for the operand when it is changed. The type of a new node is kept.
+fn change_to(
+    node: Node,
+    change: Change,
+    arena: &mut Arena<AExpr>,
+    types: &mut TypeTable,
+) -> Result<Node, PlanError>
+    requires { first_node types.old ≤ length arena.old }
     ensures denotes { IfOk result (λ changed. (first : ℕ) (t : Expression) → first ≤ length arena.old →
         Denotes (HoldsFrom first arena.old) node.0 t →
         Denotes (HoldsFrom first arena.new) changed.0 (changed_by change t)) }
     ensures fresh { IfOk result (λ changed. is_kept change ≡ false → length arena.old ≤ changed.0) }
-    ensures known { IfOk result (λ changed. (types : TypeTable) → IsTypedChange change → IsKnown arena.old types node.0 → IsKnown arena.new types changed.0) }
+    ensures right { OnOk result ((registry : Registry) (schema : Columns) (from : DataType) (target : Ty) → Keeps types.old node.0 from →
+        IsChangeFor (ty from) target change → IsRight registry schema arena.old types.old → IsRight registry schema arena.new types.new) }
+    ensures kept { IfOk result (λ changed. IsKept types.old node.0 → IsKept types.new changed.0) }
+    ensures same { OnOk result ((n : ℕ) (dtype : DataType) → n < length arena.old → Keeps types.old n dtype → Keeps types.new n dtype) }
+    ensures extends { OnOk result (Extends types.old types.new) }
     ensures grows { Grows arena.old arena.new }
     ensures err { IfErr result (λ error. error ≡ no_memory) }
 {
     match change {
         Change::Keep => Ok(node),
         Change::CastTo(dtype) => {
+            let kept = dtype.try_clone(arena.allocator())?;
             let cast = arena.add(AExpr::Cast {
                 expr: node,
                 dtype,
                 options: CastOptions::NonStrict,
             })?;
+            types.keep(cast, kept)?;
             Ok(cast)
         }
-        Change::Become(value) => {
+        Change::Become(value, dtype) => {
             let literal = arena.add(AExpr::Literal(value))?;
+            types.keep(literal, dtype)?;
             Ok(literal)
         }
     }

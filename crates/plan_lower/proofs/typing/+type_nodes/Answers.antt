@@ -8,14 +8,14 @@ use Rattle.plan_dsl.specs.Registry.{registry}
 use Rattle.plan_arena.specs.Denotation.{DenotesTree}
 use Rattle.plan_arena.specs.Items.{HoldsFrom, expression_layer}
 use Rattle.plan_arena.proofs.ItemLemmas.{tree_within, got_held}
-use Rattle.plan_lower.specs.KeptTypes.{by_table, by_cast, first_node}
-use Rattle.plan_lower.proofs.TableLemmas.{found_known, tree_from, any_tree, inputs_from, known_extended, known_type, right_same, right_more, extends_same, extends_more, extends_then}
-use Rattle.plan_lower.proofs.TypingLemmas.{AllHaveType, column_typed, column_refused, binary_typed, binary_refused, left_refused, right_refused, cast_refused, column_unknown, literal_typed, literal_refused, cast_unknown}
+use Rattle.plan_lower.specs.KeptTypes.{first_node}
+use Rattle.plan_lower.proofs.TableLemmas.{found_kept, tree_from, any_tree, inputs_from, kept_type, alone_there, right_same, right_more, extends_same, extends_more, extends_then}
+use Rattle.plan_lower.proofs.TypingLemmas.{AllHaveType, cast_typed, column_typed, column_refused, binary_typed, binary_refused, left_refused, right_refused, cast_refused, column_unknown, literal_typed, literal_refused, cast_unknown}
 use Rattle.plan_lower.proofs.typing.+type_nodes.Goals as goal
 
-pub returns-then-is_some-clause-known : goal.returns-then-is_some-clause-known
-returns-then-is_some-clause-known t c =
-    found_known c.args.arena.now c.args.types.now c.args.node.0 (λ dtype. dtype.now) c.kept.result c.kept.ensures (sym c.is_some.ensures ∙ c.if-is_some.true)
+pub returns-then-is_some-clause-kept : goal.returns-then-is_some-clause-kept
+returns-then-is_some-clause-kept t c =
+    found_kept c.args.types.now c.args.node.0 (λ dtype. dtype.now) c.kept.result c.kept.ensures (sym c.is_some.ensures ∙ c.if-is_some.true)
 
 pub get-requires : goal.get-requires
 get-requires t c =
@@ -61,19 +61,19 @@ pub returns-in_err-type_nodes-in-BinaryExpr-2-clause-err : goal.returns-in_err-t
 returns-in_err-type_nodes-in-BinaryExpr-2-clause-err t c =
     let held = got_held c.args.arena.now c.args.node.0 c.get.result.now _ _ c.get.ensures (ap expression_layer c.in-BinaryExpr.is) in
     let ok = c.in_ok-type_nodes-in-BinaryExpr.ensures in
-    let left = known_type (registry c.args.udfs.now) (columns c.args.schema.now) c.args.arena.now c.type_nodes.new.types ok.right c.in-BinaryExpr.left.0 ok.known in
+    let left = kept_type (registry c.args.udfs.now) (columns c.args.schema.now) c.args.arena.now c.type_nodes.new.types ok.right c.in-BinaryExpr.left.0 ok.kept.dtype ok.kept.keeps in
     passed_on c.from_residual-in_err-type_nodes-in-BinaryExpr-2.result c.in_err-type_nodes-in-BinaryExpr-2.field-0.0 _ c.from_residual-in_err-type_nodes-in-BinaryExpr-2.ensures.1 (right_refused c.args.arena.now (registry c.args.udfs.now) (columns c.args.schema.now) c.args.node.0 c.in-BinaryExpr.op _ _ held _ _ left c.in_err-type_nodes-in-BinaryExpr-2.ensures.err)
 
-pub get-left-requires-clause-known : goal.get-left-requires-clause-known
-get-left-requires-clause-known t c =
-    known_extended c.args.arena.now c.type_nodes.new.types c.type_nodes-in-BinaryExpr.new.types c.in_ok-type_nodes-in-BinaryExpr-2.ensures.extends c.in-BinaryExpr.left.0 c.in_ok-type_nodes-in-BinaryExpr.ensures.known
+pub get-left-requires : goal.get-left-requires
+get-left-requires t c =
+    c.in_ok-type_nodes-in-BinaryExpr-2.ensures.extends.kept c.in-BinaryExpr.left.0 c.in_ok-type_nodes-in-BinaryExpr.ensures.kept
 
 pub returns-in_err-taken-in-BinaryExpr-clause-err : goal.returns-in_err-taken-in-BinaryExpr-clause-err
 returns-in_err-taken-in-BinaryExpr-clause-err t c =
     let held = got_held c.args.arena.now c.args.node.0 c.get.result.now _ _ c.get.ensures (ap expression_layer c.in-BinaryExpr.is) in
     let right = c.in_ok-type_nodes-in-BinaryExpr-2.ensures.right in
-    let typed_left : AllHaveType c.args.arena.now (registry c.args.udfs.now) (columns c.args.schema.now) c.in-BinaryExpr.left.0 (ty c.get-left.result.now) = λ t d. c.get-left.ensures (registry c.args.udfs.now) (columns c.args.schema.now) t right d in
-    let typed_right : AllHaveType c.args.arena.now (registry c.args.udfs.now) (columns c.args.schema.now) c.in-BinaryExpr.right.0 (ty c.get-right.result.now) = λ t d. c.get-right.ensures (registry c.args.udfs.now) (columns c.args.schema.now) t right d in
+    let typed_left : AllHaveType c.args.arena.now (registry c.args.udfs.now) (columns c.args.schema.now) c.in-BinaryExpr.left.0 (ty c.get-left.result.now) = kept_type (registry c.args.udfs.now) (columns c.args.schema.now) c.args.arena.now c.type_nodes-in-BinaryExpr.new.types right c.in-BinaryExpr.left.0 _ c.get-left.ensures in
+    let typed_right : AllHaveType c.args.arena.now (registry c.args.udfs.now) (columns c.args.schema.now) c.in-BinaryExpr.right.0 (ty c.get-right.result.now) = kept_type (registry c.args.udfs.now) (columns c.args.schema.now) c.args.arena.now c.type_nodes-in-BinaryExpr.new.types right c.in-BinaryExpr.right.0 _ c.get-right.ensures in
     passed_on c.from_residual-in_err-taken-in-BinaryExpr.result c.in_err-taken-in-BinaryExpr.field-0.0 _ c.from_residual-in_err-taken-in-BinaryExpr.ensures.1 (binary_refused c.args.arena.now (registry c.args.udfs.now) (columns c.args.schema.now) c.args.node.0 c.in-BinaryExpr.op _ _ held _ _ _ typed_left typed_right c.in_err-taken-in-BinaryExpr.ensures.err)
 
 pub keep-requires-in-BinaryExpr : goal.keep-requires-in-BinaryExpr
@@ -100,9 +100,9 @@ returns-in_err-type_nodes-in-Cast-clause-err t c =
     let held = got_held c.args.arena.now c.args.node.0 c.get.result.now _ _ c.get.ensures (ap expression_layer c.in-Cast.is) in
     passed_on c.from_residual-in_err-type_nodes-in-Cast.result c.in_err-type_nodes-in-Cast.field-0.0 _ c.from_residual-in_err-type_nodes-in-Cast.ensures.1 (cast_refused c.args.arena.now (registry c.args.udfs.now) (columns c.args.schema.now) c.args.node.0 _ _ _ held _ c.in_err-type_nodes-in-Cast.ensures.err)
 
-pub returns-in_ok-keep-in-Column-clause-known : goal.returns-in_ok-keep-in-Column-clause-known
-returns-in_ok-keep-in-Column-clause-known t c =
-    by_table c.args.node.0 (record { dtype = c.in_ok-dtype-in-Column.dtype; keeps = c.in_ok-keep-in-Column.ensures.kept })
+pub returns-in_ok-keep-in-Column-clause-kept : goal.returns-in_ok-keep-in-Column-clause-kept
+returns-in_ok-keep-in-Column-clause-kept t c =
+    record { dtype = c.in_ok-dtype-in-Column.dtype; keeps = c.in_ok-keep-in-Column.ensures.kept }
 
 pub returns-in_ok-keep-in-Column-clause-right : goal.returns-in_ok-keep-in-Column-clause-right
 returns-in_ok-keep-in-Column-clause-right t c =
@@ -116,20 +116,20 @@ pub returns-in_ok-keep-in-Column-clause-extends : goal.returns-in_ok-keep-in-Col
 returns-in_ok-keep-in-Column-clause-extends t c =
     extends_more c.args.types.now c.keep.new.self c.args.node.0 c.in_ok-dtype-in-Column.dtype c.in_ok-keep-in-Column.ensures.first c.in_ok-keep-in-Column.ensures.kept c.in_ok-keep-in-Column.ensures.others
 
-pub returns-in_ok-keep-in-BinaryExpr-clause-known : goal.returns-in_ok-keep-in-BinaryExpr-clause-known
-returns-in_ok-keep-in-BinaryExpr-clause-known t c =
-    by_table c.args.node.0 (record { dtype = c.in_ok-taken-in-BinaryExpr.taken.result; keeps = c.in_ok-keep-in-BinaryExpr.ensures.kept })
+pub returns-in_ok-keep-in-BinaryExpr-clause-kept : goal.returns-in_ok-keep-in-BinaryExpr-clause-kept
+returns-in_ok-keep-in-BinaryExpr-clause-kept t c =
+    record { dtype = c.in_ok-taken-in-BinaryExpr.taken.result; keeps = c.in_ok-keep-in-BinaryExpr.ensures.kept }
 
 pub returns-in_ok-keep-in-BinaryExpr-clause-right : goal.returns-in_ok-keep-in-BinaryExpr-clause-right
 returns-in_ok-keep-in-BinaryExpr-clause-right t c =
     let held = got_held c.args.arena.now c.args.node.0 c.get.result.now _ _ c.get.ensures (ap expression_layer c.in-BinaryExpr.is) in
     let right = c.in_ok-type_nodes-in-BinaryExpr-2.ensures.right in
-    let typed_left : AllHaveType c.args.arena.now (registry c.args.udfs.now) (columns c.args.schema.now) c.in-BinaryExpr.left.0 (ty c.get-left.result.now) = λ t d. c.get-left.ensures (registry c.args.udfs.now) (columns c.args.schema.now) t right d in
-    let typed_right : AllHaveType c.args.arena.now (registry c.args.udfs.now) (columns c.args.schema.now) c.in-BinaryExpr.right.0 (ty c.get-right.result.now) = λ t d. c.get-right.ensures (registry c.args.udfs.now) (columns c.args.schema.now) t right d in
-    let known_left = known_extended c.args.arena.now c.type_nodes.new.types c.type_nodes-in-BinaryExpr.new.types c.in_ok-type_nodes-in-BinaryExpr-2.ensures.extends c.in-BinaryExpr.left.0 c.in_ok-type_nodes-in-BinaryExpr.ensures.known in
+    let typed_left : AllHaveType c.args.arena.now (registry c.args.udfs.now) (columns c.args.schema.now) c.in-BinaryExpr.left.0 (ty c.get-left.result.now) = kept_type (registry c.args.udfs.now) (columns c.args.schema.now) c.args.arena.now c.type_nodes-in-BinaryExpr.new.types right c.in-BinaryExpr.left.0 _ c.get-left.ensures in
+    let typed_right : AllHaveType c.args.arena.now (registry c.args.udfs.now) (columns c.args.schema.now) c.in-BinaryExpr.right.0 (ty c.get-right.result.now) = kept_type (registry c.args.udfs.now) (columns c.args.schema.now) c.args.arena.now c.type_nodes-in-BinaryExpr.new.types right c.in-BinaryExpr.right.0 _ c.get-right.ensures in
+    let known_left = c.in_ok-type_nodes-in-BinaryExpr-2.ensures.extends.kept c.in-BinaryExpr.left.0 c.in_ok-type_nodes-in-BinaryExpr.ensures.kept in
     let tree = any_tree (first_node c.args.types.now) c.args.arena.now c.args.node.0 c.requires.tree in
     let typed = binary_typed c.args.arena.now (registry c.args.udfs.now) (columns c.args.schema.now) c.args.node.0 c.in-BinaryExpr.op _ _ held _ _ _ typed_left typed_right c.in_ok-taken-in-BinaryExpr.ensures.ok in
-    right_more (registry c.args.udfs.now) (columns c.args.schema.now) c.args.arena.now c.type_nodes-in-BinaryExpr.new.types c.keep-in-BinaryExpr.new.self c.args.node.0 c.in_ok-taken-in-BinaryExpr.taken.result _ _ held tree typed (known_left, (c.in_ok-type_nodes-in-BinaryExpr-2.ensures.known, tt)) c.in_ok-keep-in-BinaryExpr.ensures.kept c.in_ok-keep-in-BinaryExpr.ensures.others right
+    right_more (registry c.args.udfs.now) (columns c.args.schema.now) c.args.arena.now c.type_nodes-in-BinaryExpr.new.types c.keep-in-BinaryExpr.new.self c.args.node.0 c.in_ok-taken-in-BinaryExpr.taken.result _ _ held tree typed (known_left, (c.in_ok-type_nodes-in-BinaryExpr-2.ensures.kept, tt)) c.in_ok-keep-in-BinaryExpr.ensures.kept c.in_ok-keep-in-BinaryExpr.ensures.others right
 
 pub returns-in_ok-keep-in-BinaryExpr-clause-extends : goal.returns-in_ok-keep-in-BinaryExpr-clause-extends
 returns-in_ok-keep-in-BinaryExpr-clause-extends t c =
@@ -157,9 +157,9 @@ pub returns-in_err-keep-in-Literal-clause-extends : goal.returns-in_err-keep-in-
 returns-in_err-keep-in-Literal-clause-extends t c =
     extends_same c.args.types.now c.keep-in-Literal.new.self c.in_err-keep-in-Literal.ensures.first c.in_err-keep-in-Literal.ensures.unchanged
 
-pub returns-in_ok-keep-in-Literal-clause-known : goal.returns-in_ok-keep-in-Literal-clause-known
-returns-in_ok-keep-in-Literal-clause-known t c =
-    by_table c.args.node.0 (record { dtype = c.in_ok-dtype-in-Literal.dtype; keeps = c.in_ok-keep-in-Literal.ensures.kept })
+pub returns-in_ok-keep-in-Literal-clause-kept : goal.returns-in_ok-keep-in-Literal-clause-kept
+returns-in_ok-keep-in-Literal-clause-kept t c =
+    record { dtype = c.in_ok-dtype-in-Literal.dtype; keeps = c.in_ok-keep-in-Literal.ensures.kept }
 
 pub returns-in_ok-keep-in-Literal-clause-right : goal.returns-in_ok-keep-in-Literal-clause-right
 returns-in_ok-keep-in-Literal-clause-right t c =
@@ -176,10 +176,36 @@ pub returns-then-not-is_known-2-clause-err : goal.returns-then-not-is_known-2-cl
 returns-then-not-is_known-2-clause-err t c =
     let held = got_held c.args.arena.now c.args.node.0 c.get.result.now _ _ c.get.ensures (ap expression_layer c.in-Cast.is) in
     let ok = c.in_ok-type_nodes-in-Cast.ensures in
-    let below = known_type (registry c.args.udfs.now) (columns c.args.schema.now) c.args.arena.now _ ok.right _ ok.known in
+    let below = kept_type (registry c.args.udfs.now) (columns c.args.schema.now) c.args.arena.now _ ok.right _ ok.kept.dtype ok.kept.keeps in
     λ u d. subst (IsRefusal (typing (registry c.args.udfs.now) (columns c.args.schema.now) u)) (sym c.at_top-then-not-is_known-2.ensures) (cast_unknown c.args.arena.now (registry c.args.udfs.now) (columns c.args.schema.now) c.args.node.0 _ _ _ held _ below (sym c.is_known-in-Cast.ensures ∙ c.if-not-is_known-2.true) u d)
 
-pub returns-else-not-is_known-2-clause-known : goal.returns-else-not-is_known-2-clause-known
-returns-else-not-is_known-2-clause-known t c =
+pub keep-requires-in-Cast : goal.keep-requires-in-Cast
+keep-requires-in-Cast t c =
+    omega (arith, c.in_ok-type_nodes-in-Cast.ensures.extends.first, tree_from (first_node c.args.types.now) c.args.arena.now c.args.node.0 c.requires.tree)
+
+pub returns-in_err-keep-in-Cast-clause-right : goal.returns-in_err-keep-in-Cast-clause-right
+returns-in_err-keep-in-Cast-clause-right t c =
+    right_same (registry c.args.udfs.now) (columns c.args.schema.now) c.args.arena.now c.type_nodes-in-Cast.new.types c.keep-in-Cast.new.self c.in_err-keep-in-Cast.ensures.unchanged c.in_ok-type_nodes-in-Cast.ensures.right
+
+pub returns-in_err-keep-in-Cast-clause-extends : goal.returns-in_err-keep-in-Cast-clause-extends
+returns-in_err-keep-in-Cast-clause-extends t c =
+    extends_then c.args.types.now c.type_nodes-in-Cast.new.types c.keep-in-Cast.new.self c.in_ok-type_nodes-in-Cast.ensures.extends (extends_same c.type_nodes-in-Cast.new.types c.keep-in-Cast.new.self c.in_err-keep-in-Cast.ensures.first c.in_err-keep-in-Cast.ensures.unchanged)
+
+pub returns-in_ok-keep-in-Cast-clause-kept : goal.returns-in_ok-keep-in-Cast-clause-kept
+returns-in_ok-keep-in-Cast-clause-kept t c =
+    record { dtype = c.in_ok-dtype-in-Cast.dtype; keeps = c.in_ok-keep-in-Cast.ensures.kept }
+
+pub returns-in_ok-keep-in-Cast-clause-right : goal.returns-in_ok-keep-in-Cast-clause-right
+returns-in_ok-keep-in-Cast-clause-right t c =
     let held = got_held c.args.arena.now c.args.node.0 c.get.result.now _ _ c.get.ensures (ap expression_layer c.in-Cast.is) in
-    by_cast c.args.node.0 _ _ _ held (sym c.is_known-in-Cast.ensures ∙ c.if-not-is_known-2.false) c.in_ok-type_nodes-in-Cast.ensures.known
+    let tree = any_tree (first_node c.args.types.now) c.args.arena.now c.args.node.0 c.requires.tree in
+    let ok = c.in_ok-type_nodes-in-Cast.ensures in
+    let below = kept_type (registry c.args.udfs.now) (columns c.args.schema.now) c.args.arena.now _ ok.right _ ok.kept.dtype ok.kept.keeps in
+    let alone = alone_there (registry c.args.udfs.now) (columns c.args.schema.now) c.args.arena.now _ ok.right _ ok.kept.dtype ok.kept.keeps in
+    let typed = cast_typed c.args.arena.now (registry c.args.udfs.now) (columns c.args.schema.now) c.args.node.0 _ _ _ held _ alone.0 below alone.1 (sym c.is_known-in-Cast.ensures ∙ c.if-not-is_known-2.false) in
+    let copied = subst (λ d. AllHaveType c.args.arena.now (registry c.args.udfs.now) (columns c.args.schema.now) c.args.node.0 (ty d)) (sym c.in_ok-dtype-in-Cast.ensures.ok) typed in
+    right_more (registry c.args.udfs.now) (columns c.args.schema.now) c.args.arena.now c.type_nodes-in-Cast.new.types c.keep-in-Cast.new.self c.args.node.0 c.in_ok-dtype-in-Cast.dtype _ _ held tree copied (ok.kept, tt) c.in_ok-keep-in-Cast.ensures.kept c.in_ok-keep-in-Cast.ensures.others ok.right
+
+pub returns-in_ok-keep-in-Cast-clause-extends : goal.returns-in_ok-keep-in-Cast-clause-extends
+returns-in_ok-keep-in-Cast-clause-extends t c =
+    extends_then c.args.types.now c.type_nodes-in-Cast.new.types c.keep-in-Cast.new.self c.in_ok-type_nodes-in-Cast.ensures.extends (extends_more c.type_nodes-in-Cast.new.types c.keep-in-Cast.new.self c.args.node.0 c.in_ok-dtype-in-Cast.dtype c.in_ok-keep-in-Cast.ensures.first c.in_ok-keep-in-Cast.ensures.kept c.in_ok-keep-in-Cast.ensures.others)

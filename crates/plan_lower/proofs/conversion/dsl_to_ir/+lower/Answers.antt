@@ -1,10 +1,10 @@
-use Rattle.std.proofs.Common.{[], map, refl, sym, ap, ◌∙◌}
+use Rattle.std.proofs.Common.{[], map, sym, ap, ◌∙◌}
 use Rattle.plan_types.specs.Schemas.{columns}
 use Rattle.plan_types.proofs.ResultLemmas.{passed_on}
 use Rattle.plan_dsl.specs.Expressions.{tree_of}
 use Rattle.plan_dsl.specs.Plans.{plan_tree, trees_of, named, filter_op, select_op}
 use Rattle.plan_dsl.specs.Registry.{registry}
-use Rattle.plan_lower.specs.Lowering.{out_of_memory, source_filter, source_select}
+use Rattle.plan_lower.specs.Lowering.{source_filter, source_select}
 use Rattle.plan_lower.proofs.PlanLemmas.{scan_stands, scan_refused, filter_stands, filter_refused, select_stands, select_refused, refused_below}
 use Rattle.plan_lower.proofs.conversion.dsl_to_ir.+lower.Goals as goal
 

@@ -6,7 +6,7 @@ use Rattle.plan_dsl.specs.Expressions.{tree_of}
 use Rattle.plan_arena.specs.Items.{named_node}
 use Rattle.plan_arena.proofs.ItemLemmas.{length-grown, grows_then}
 use Rattle.plan_lower.specs.Projection.{no_room}
-use Rattle.plan_lower.proofs.ProjectionLemmas.{projecting_step, projecting_refused, pushed_node, roots_known}
+use Rattle.plan_lower.proofs.ProjectionLemmas.{projecting_step, projecting_refused, pushed_node, roots_kept}
 use Rattle.plan_lower.proofs.TableLemmas.{extends_then}
 use Rattle.plan_lower.proofs.conversion.projection.project.Goals as goal
 
@@ -25,6 +25,6 @@ loop-expr-preserved c = record {
   grows = grows_then _ _ _ c.loop-expr.invariant.grows c.in_ok-expr_ir.ensures.grows;
   extends = extends_then _ _ _ c.loop-expr.invariant.extends c.in_ok-expr_ir.ensures.extends;
   right = c.in_ok-expr_ir.ensures.right;
-  known = roots_known _ _ _ _ c.loop-expr.items.items c.push.new.self.items c.in_ok-expr_ir.expr_ir c.in_ok-expr_ir.ensures.grows c.in_ok-expr_ir.ensures.extends c.in_ok-push.ensures.items c.loop-expr.invariant.known c.in_ok-expr_ir.ensures.known;
+  kept = roots_kept _ _ c.loop-expr.items.items c.push.new.self.items c.in_ok-expr_ir.expr_ir c.in_ok-expr_ir.ensures.extends c.in_ok-push.ensures.items c.loop-expr.invariant.kept c.in_ok-expr_ir.ensures.kept;
   so_far = projecting_step _ _ _ _ _ _ _ _ (tree_of c.in-Some.expr) _ _ (named_node c.in_ok-expr_ir.expr_ir) _ _ c.loop-expr.invariant.so_far (ap (map tree_of) c.in-Some.ensures.steps.0) (length-grown _ _ c.loop-expr.invariant.grows) c.in_ok-expr_ir.ensures.grows c.in_ok-expr_ir.ensures.ok (pushed_node _ _ _ c.in_ok-push.ensures.items);
 }

@@ -6,7 +6,7 @@ use Rattle.plan_dsl.specs.Expressions.{tree_of}
 use Rattle.plan_dsl.specs.Plans.{trees_of}
 use Rattle.plan_dsl.specs.Registry.{registry}
 use Rattle.plan_arena.specs.Items.{named_node, Grows}
-use Rattle.plan_lower.specs.KeptTypes.{Extends, IsKnown, IsRight}
+use Rattle.plan_lower.specs.KeptTypes.{Extends, IsKept, IsRight}
 use Rattle.plan_lower.proofs.ProjectionLemmas.{Projecting}
 use Rattle.plan_lower.proofs.conversion.projection.project.Given as goal
 
@@ -17,6 +17,6 @@ invariant-loop-expr l = record {
   grows : Grows l.initial.arena l.arena;
   extends : Extends l.initial.types l.types;
   right : IsRight (registry l.udfs) (columns l.schema) l.arena l.types;
-  known : AllByRecursion (IsKnown l.arena l.types) (map (λ e. (named_node e).expression) l.items.items);
+  kept : AllByRecursion (IsKept l.types) (map (λ e. (named_node e).expression) l.items.items);
   so_far : Projecting (registry l.udfs) (columns l.schema) (length l.initial.arena) l.arena (trees_of l.fn.exprs) (map tree_of (into_iter_items l.expr-iterator)) (map named_node l.items.items) (columns l.output);
 }

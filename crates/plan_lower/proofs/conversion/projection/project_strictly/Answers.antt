@@ -4,7 +4,7 @@ use Rattle.plan_types.specs.Schemas.{columns}
 use Rattle.plan_dsl.specs.Registry.{registry}
 use Rattle.plan_arena.proofs.ItemLemmas.{length-grown}
 use Rattle.plan_lower.specs.Coercion.{DenotesKnown, IsCoerced}
-use Rattle.plan_lower.specs.KeptTypes.{IsKnown}
+use Rattle.plan_lower.specs.KeptTypes.{IsKept}
 use Rattle.plan_lower.proofs.ProjectionLemmas.{roots_are, roots_typed, has_outputs, earlier_kept}
 use Rattle.plan_lower.proofs.TableLemmas.{right_start}
 use Rattle.plan_lower.proofs.conversion.projection.project_strictly.Goals as goal
@@ -18,7 +18,7 @@ project-requires c = record {
 pub coerce_types-requires : goal.coerce_types-requires
 coerce_types-requires c = record {
   right = record { registry = registry c.args.udfs.now; schema = columns c.args.schema.now; right = c.in_ok-projection.ensures.right };
-  known = subst (AllByRecursion (IsKnown c.project.new.arena c.project.new.types)) (sym c.in_ok-stack.ensures.ok) c.in_ok-projection.ensures.known;
+  kept = subst (AllByRecursion (IsKept c.project.new.types)) (sym c.in_ok-stack.ensures.ok) c.in_ok-projection.ensures.kept;
 }
 
 pub returns-clause-ok : goal.returns-clause-ok

@@ -2,7 +2,7 @@ use Rattle.std.proofs.Common.{◌<◌, length, subst, arith}
 use Rattle.std.specs.List.{AllByRecursion}
 use Rattle.plan_arena.proofs.ItemLemmas.{tree_within}
 use Rattle.plan_lower.specs.Coercion.{numbers}
-use Rattle.plan_lower.specs.KeptTypes.{IsKnown}
+use Rattle.plan_lower.specs.KeptTypes.{IsKept}
 use Rattle.plan_lower.proofs.CoercionLemmas.{plain_tree}
 use Rattle.plan_lower.proofs.StackLemmas.{Pending, pending_start, pending_step, pending_end, pushed_one, all_last, no_numbers}
 use Rattle.plan_lower.proofs.TableLemmas.{known_typed, waiting_known}
@@ -12,7 +12,7 @@ pub loop-turn-init : goal.loop-turn-init
 loop-turn-init c =
     record {
       longer = omega arith;
-      known = c.requires.known;
+      kept = c.requires.kept;
       right = λ registry schema right. right;
       pending = λ registry schema first right le all. pending_start registry schema first c.args.arena.now (numbers c.args.stack.now.items) all;
     }
@@ -26,33 +26,33 @@ returns-in-None-clause-ok c = λ registry schema first right le all.
 pub coerce_node-requires : goal.coerce_node-requires
 coerce_node-requires c =
     let popped = pushed_one c.pop.new.self.items c.loop-turn.stack.items c.in-Some.node c.in-Some.ensures.items in
-    let known = subst (AllByRecursion (IsKnown c.loop-turn.arena c.args.types.now)) popped c.loop-turn.invariant.known in
+    let known = subst (AllByRecursion (IsKept c.loop-turn.types)) popped c.loop-turn.invariant.kept in
     let is = c.requires.right in
     record {
       right = record { registry = is.registry; schema = is.schema; right = c.loop-turn.invariant.right is.registry is.schema is.right };
-      known = all_last (IsKnown c.loop-turn.arena c.args.types.now) (numbers c.pop.new.self.items) c.in-Some.node.0 known;
+      kept = all_last (IsKept c.loop-turn.types) (numbers c.pop.new.self.items) c.in-Some.node.0 known;
     }
 
 pub push_inputs-requires : goal.push_inputs-requires
 push_inputs-requires c =
     let popped = pushed_one c.pop.new.self.items c.loop-turn.stack.items c.in-Some.node c.in-Some.ensures.items in
-    let known = subst (AllByRecursion (IsKnown c.loop-turn.arena c.args.types.now)) popped c.loop-turn.invariant.known in
-    let here = all_last (IsKnown c.loop-turn.arena c.args.types.now) (numbers c.pop.new.self.items) c.in-Some.node.0 known in
+    let known = subst (AllByRecursion (IsKept c.loop-turn.types)) popped c.loop-turn.invariant.kept in
+    let here = all_last (IsKept c.loop-turn.types) (numbers c.pop.new.self.items) c.in-Some.node.0 known in
     let is = c.requires.right in
-    let typed = known_typed is.registry is.schema c.loop-turn.arena c.args.types.now (c.loop-turn.invariant.right is.registry is.schema is.right) c.in-Some.node.0 here in
+    let typed = known_typed is.registry is.schema c.loop-turn.arena c.loop-turn.types (c.loop-turn.invariant.right is.registry is.schema is.right) c.in-Some.node.0 here in
     let within : c.in-Some.node.0 < length c.loop-turn.arena = tree_within c.loop-turn.arena c.in-Some.node.0 (plain_tree typed) in
     omega (arith, within, c.in_ok-coerce_node.ensures.longer)
 
 pub loop-turn-preserved : goal.loop-turn-preserved
 loop-turn-preserved c =
     let popped = pushed_one c.pop.new.self.items c.loop-turn.stack.items c.in-Some.node c.in-Some.ensures.items in
-    let known = subst (AllByRecursion (IsKnown c.loop-turn.arena c.args.types.now)) popped c.loop-turn.invariant.known in
+    let known = subst (AllByRecursion (IsKept c.loop-turn.types)) popped c.loop-turn.invariant.kept in
     let visited = c.in_ok-coerce_node.ensures in
     let is = c.requires.right in
     let right = visited.right is.registry is.schema (c.loop-turn.invariant.right is.registry is.schema is.right) in
     record {
       longer = omega (arith, c.loop-turn.invariant.longer, visited.longer);
-      known = waiting_known c.loop-turn.arena c.coerce_node.new.arena c.args.types.now c.in-Some.node.0 (numbers c.pop.new.self.items) (numbers c.push_inputs.new.stack.items) known visited.known (record { registry = is.registry; schema = is.schema; right = right }) c.in_ok-push_inputs.ensures.ok;
+      kept = waiting_known c.coerce_node.new.arena c.loop-turn.types c.coerce_node.new.types c.in-Some.node.0 (numbers c.pop.new.self.items) (numbers c.push_inputs.new.stack.items) known visited.extends.kept (record { registry = is.registry; schema = is.schema; right = right }) c.in_ok-push_inputs.ensures.ok;
       right = λ registry schema before. visited.right registry schema (c.loop-turn.invariant.right registry schema before);
       pending = λ registry schema first before le all.
           let p = subst (λ s. Pending registry schema first c.args.arena.now c.loop-turn.arena s (numbers c.args.stack.now.items)) popped (c.loop-turn.invariant.pending registry schema first before le all) in

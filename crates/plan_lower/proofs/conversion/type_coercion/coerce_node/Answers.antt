@@ -1,17 +1,20 @@
-use Rattle.std.proofs.Common.{[], ◌∷◌, sym, ap, subst, arith}
-use Rattle.plan_types.specs.Types.{ty}
+use Rattle.std.proofs.Common.{[], ◌∷◌, sym, ap, ◌∙◌, subst, arith, rules}
+use Rattle.std.specs.Int.{w128}
+use Rattle.std.specs.Prelude.{FitsSigned}
+use Rattle.std.proofs.lemmas.Int.{to_z-of_z}
+use Rattle.plan_types.specs.Types.{Untyped, ty}
 use Rattle.plan_dsl.specs.Ops.{CastOp}
 use Rattle.plan_arena.specs.Items.{HoldsExpression, expression_layer}
 use Rattle.plan_arena.proofs.ItemLemmas.{tree_within, got_held}
 use Rattle.plan_dsl.specs.Literals.{literal_type, literal_value}
 use Rattle.plan_lower.proofs.CoercionLemmas.{plain_tree, visits_leaf, visits_cast, column_leaf, literal_leaf}
-use Rattle.plan_lower.proofs.TableLemmas.{known_typed, known_inputs}
+use Rattle.plan_lower.proofs.TableLemmas.{known_typed, known_inputs, kept_type, keeps_one, extends_itself}
 use Rattle.plan_lower.proofs.conversion.type_coercion.coerce_node.Goals as goal
 
 pub get-requires : goal.get-requires
 get-requires c =
     let is = c.requires.right in
-    tree_within c.args.arena.now c.args.node.0 (plain_tree (known_typed is.registry is.schema c.args.arena.now c.args.types.now is.right c.args.node.0 c.requires.known))
+    tree_within c.args.arena.now c.args.node.0 (plain_tree (known_typed is.registry is.schema c.args.arena.now c.args.types.now is.right c.args.node.0 c.requires.kept))
 
 pub coerce_binary-requires-clause-held : goal.coerce_binary-requires-clause-held
 coerce_binary-requires-clause-held c =
@@ -27,23 +30,34 @@ returns-in-Literal-clause-ok c = λ registry schema first t right.
     let held = got_held c.args.arena.now c.args.node.0 c.get.result.now _ _ c.get.ensures (ap expression_layer c.in-Literal.is) in
     visits_leaf registry schema c.args.arena.now c.args.node.0 _ held (literal_leaf schema (literal_type c.in-Literal.field-0) (literal_value c.in-Literal.field-0)) first t
 
-pub get-requires-in-Cast-clause-known : goal.get-requires-in-Cast-clause-known
-get-requires-in-Cast-clause-known c =
+pub get-requires-in-Cast : goal.get-requires-in-Cast
+get-requires-in-Cast c =
     let is = c.requires.right in
     let held = got_held c.args.arena.now c.args.node.0 c.get.result.now _ _ c.get.ensures (ap expression_layer c.in-Cast.is) in
-    (known_inputs is.registry is.schema c.args.arena.now c.args.types.now is.right c.args.node.0 _ _ c.requires.known held).0
+    (known_inputs is.registry is.schema c.args.arena.now c.args.types.now is.right c.args.node.0 _ _ c.requires.kept held).0
 
 pub returns-in_default : goal.returns-in_default
 returns-in_default c =
     let held = got_held c.args.arena.now c.args.node.0 c.get.result.now _ _ c.get.ensures (ap expression_layer c.in-Cast.is) in
     record {
-      ok = λ registry schema first t right. visits_cast registry schema c.args.arena.now c.args.node.0 _ _ _ (ty c.get-in-Cast.result.now) held (λ u d. c.get-in-Cast.ensures registry schema u right d) c.in_default.ensures first t;
+      ok = λ registry schema first t right. visits_cast registry schema c.args.arena.now c.args.node.0 _ _ _ (ty c.get-in-Cast.result.now) held (kept_type registry schema c.args.arena.now c.args.types.now right c.in-Cast.expr.0 _ c.get-in-Cast.ensures) c.in_default.ensures first t;
       right = λ registry schema right. right;
-      known = λ n k. k;
+      extends = extends_itself c.args.types.now;
       elsewhere = λ n op inputs other h. h;
       longer = omega arith;
       err = tt;
     }
+
+pub coerce_cast-requires-clause-untyped : goal.coerce_cast-requires-clause-untyped
+coerce_cast-requires-clause-untyped c = λ from keeps.
+    let fits : FitsSigned w128 c.in-Some.number = search rules in
+    ap ty (keeps_one c.args.types.now c.in-Cast.expr.0 from c.get-in-Cast.result.now keeps c.get-in-Cast.ensures) ∙ c.in-Some.ensures ∙ ap Untyped (sym (to_z-of_z w128 c.in-Some.number fits))
+
+pub returns-in-Column-clause-extends : goal.returns-in-Column-clause-extends
+returns-in-Column-clause-extends c = extends_itself c.args.types.now
+
+pub returns-in-Literal-clause-extends : goal.returns-in-Literal-clause-extends
+returns-in-Literal-clause-extends c = extends_itself c.args.types.now
 
 pub coerce_cast-requires-clause-held : goal.coerce_cast-requires-clause-held
 coerce_cast-requires-clause-held c =

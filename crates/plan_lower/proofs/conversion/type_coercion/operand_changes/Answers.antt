@@ -1,29 +1,29 @@
+use Rattle.std.proofs.Common.{◌≡◌}
 use Rattle.plan_types.specs.Types.{ty}
 use Rattle.plan_types.specs.Errors.{no_memory}
 use Rattle.plan_types.proofs.ResultLemmas.{passed_on}
-use Rattle.std.proofs.Common.{◌≡◌}
 use Rattle.plan_dsl.proofs.CastLemmas.{left_becomes, right_becomes}
-use Rattle.plan_lower.proofs.TypingLemmas.{AllHaveType, binary_refused}
+use Rattle.plan_lower.proofs.TypingLemmas.{binary_refused}
 use Rattle.plan_lower.proofs.CoercionLemmas.{refused_typed}
-use Rattle.plan_lower.proofs.TableLemmas.{known_typed, known_inputs}
+use Rattle.plan_lower.proofs.TableLemmas.{known_typed, known_inputs, kept_type}
 use Rattle.plan_lower.proofs.conversion.type_coercion.operand_changes.Goals as goal
 
-pub get-left-requires-clause-known : goal.get-left-requires-clause-known
-get-left-requires-clause-known c =
+pub get-left-requires : goal.get-left-requires
+get-left-requires c =
     let is = c.requires.right in
-    (known_inputs is.registry is.schema c.args.arena.now c.args.types.now is.right c.args.node.0 _ _ c.requires.known c.requires.held).0
+    (known_inputs is.registry is.schema c.args.arena.now c.args.types.now is.right c.args.node.0 _ _ c.requires.kept c.requires.held).0
 
-pub get-right-requires-clause-known : goal.get-right-requires-clause-known
-get-right-requires-clause-known c =
+pub get-right-requires : goal.get-right-requires
+get-right-requires c =
     let is = c.requires.right in
-    (known_inputs is.registry is.schema c.args.arena.now c.args.types.now is.right c.args.node.0 _ _ c.requires.known c.requires.held).1.0
+    (known_inputs is.registry is.schema c.args.arena.now c.args.types.now is.right c.args.node.0 _ _ c.requires.kept c.requires.held).1.0
 
 pub returns-in_err-taken-clause-err : goal.returns-in_err-taken-clause-err
 returns-in_err-taken-clause-err c =
     let is = c.requires.right in
-    let typed = known_typed is.registry is.schema c.args.arena.now c.args.types.now is.right c.args.node.0 c.requires.known in
-    let typed_left : AllHaveType c.args.arena.now is.registry is.schema c.args.left.0 (ty c.get-left.result.now) = λ t d. c.get-left.ensures is.registry is.schema t is.right d in
-    let typed_right : AllHaveType c.args.arena.now is.registry is.schema c.args.right.0 (ty c.get-right.result.now) = λ t d. c.get-right.ensures is.registry is.schema t is.right d in
+    let typed = known_typed is.registry is.schema c.args.arena.now c.args.types.now is.right c.args.node.0 c.requires.kept in
+    let typed_left = kept_type is.registry is.schema c.args.arena.now c.args.types.now is.right c.args.left.0 _ c.get-left.ensures in
+    let typed_right = kept_type is.registry is.schema c.args.arena.now c.args.types.now is.right c.args.right.0 _ c.get-right.ensures in
     passed_on c.from_residual.result c.in_err-taken.field-0.0 (λ e. e ≡ no_memory) c.from_residual.ensures.1 (refused_typed c.args.arena.now is.registry is.schema c.args.node.0 _ typed (binary_refused c.args.arena.now is.registry is.schema c.args.node.0 c.args.op _ _ c.requires.held _ _ _ typed_left typed_right c.in_err-taken.ensures.err))
 
 pub needed_change-requires : goal.needed_change-requires
@@ -34,13 +34,15 @@ needed_change-requires-2 c = right_becomes c.args.op (ty c.get-left.result.now) 
 
 pub returns-clause-ok : goal.returns-clause-ok
 returns-clause-ok c = λ registry schema right. record {
-  left_from = ty c.get-left.result.now;
+  left_kept = c.get-left.result.now;
+  left_keeps = c.get-left.ensures;
   left_to = ty c.in_ok-taken.taken.left;
-  right_from = ty c.get-right.result.now;
+  right_kept = c.get-right.result.now;
+  right_keeps = c.get-right.ensures;
   right_to = ty c.in_ok-taken.taken.right;
   result = ty c.in_ok-taken.taken.result;
-  left_typed = λ t d. c.get-left.ensures registry schema t right d;
-  right_typed = λ t d. c.get-right.ensures registry schema t right d;
+  left_typed = kept_type registry schema c.args.arena.now c.args.types.now right c.args.left.0 _ c.get-left.ensures;
+  right_typed = kept_type registry schema c.args.arena.now c.args.types.now right c.args.right.0 _ c.get-right.ensures;
   takes = c.in_ok-taken.ensures.ok;
   left_changes = c.needed_change.ensures;
   right_changes = c.needed_change-2.ensures;
