@@ -140,6 +140,16 @@ fn expressions_keep_node_and_name(rt: HostRuntime) -> Result<(), Fail> {
 }
 
 #[test]
+fn literals_keep_node_and_name(rt: HostRuntime) -> Result<(), Fail> {
+    let name = OutputName::LiteralLhs(PlSmallStr::new(rt.alloc(), "literal")?);
+    assert_eq!(rt; name.get().as_str(), "literal");
+    let expression = ExprIR::new(Node(9), name);
+    assert_eq!(rt; expression.node(), Node(9));
+    assert_eq!(rt; expression.output_name().as_str(), "literal");
+    Ok(())
+}
+
+#[test]
 fn plans_tell_names(rt: HostRuntime) -> Result<(), Fail> {
     let alloc = rt.alloc();
     let mut plans = Arena::new(alloc);

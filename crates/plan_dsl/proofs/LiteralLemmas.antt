@@ -216,7 +216,6 @@ cast_has_target schema target options [] taken h = cc
 cast_has_target schema target options (from ∷ []) taken h = cast_target_is target (type_alone from) taken h
 cast_has_target schema target options (from ∷ other ∷ types) taken h = cc
 
-
 -- the type of a literal that is a number alone is no number's own
 settled_number : (type : Ty) (number : ℤ) → settled_type type ≡ Untyped number → is_some (type_alone (Untyped number)) ≡ true → ⊥
 settled_number type number same some =

@@ -39,7 +39,7 @@ typed_parts registry schema op children typed h =
     elim (typing_all registry schema children) as (λ r. typing_all registry schema children ≡ r → then_typed r (typing_rule registry schema op) ≡ Ok typed → TypedParts registry schema op children typed) [
       | Err kind ↦ λ e h. cc
       | Ok below ↦ λ e h. elim (operand_types schema op (types_of below)) as (λ r. operand_types schema op (types_of below) ≡ r → typed_as r (is_many op below) ≡ Ok typed → TypedParts registry schema op children typed) [
-          | Err kind ↦ λ f h. cc
-          | Ok taken ↦ λ f h. record { below = below; children_typed = e; taken = taken; takes = f; is = ok_same (typed_as (Ok taken) (is_many op below)) _ typed refl h }
-        ] refl h
+        | Err kind ↦ λ f h. cc
+        | Ok taken ↦ λ f h. record { below = below; children_typed = e; taken = taken; takes = f; is = ok_same (typed_as (Ok taken) (is_many op below)) _ typed refl h }
+      ] refl h
     ] refl h

@@ -1,4 +1,9 @@
+//! Expressions and plans, and their copies.
+
+mod literals;
+
 use crate::expr::Expr;
+use crate::literal::LiteralValue;
 use crate::operator::Operator;
 use crate::plan::{DslPlan, Exprs, ProjectionOptions};
 use crate::udfs::Udfs;
@@ -131,6 +136,7 @@ fn expressions(alloc: Global) -> Result<Vec<Expr>, Fail> {
         expressions.push(binary(alloc, left, operator, right)?)?;
     }
     push_casts(alloc, &mut expressions)?;
+    push_literals(&mut expressions)?;
     Ok(expressions)
 }
 
@@ -145,6 +151,18 @@ fn push_casts(alloc: Global, expressions: &mut Vec<Expr>) -> Result<(), Fail> {
     }
     let input = binary(alloc, "first", Operator::Lt, "second")?;
     expressions.push(cast(alloc, input, DataType::Boolean, CastOptions::Strict)?)?;
+    Ok(())
+}
+
+fn push_literals(expressions: &mut Vec<Expr>) -> Result<(), Fail> {
+    for value in [
+        LiteralValue::Int(1),
+        LiteralValue::Int(2),
+        LiteralValue::Int8(1),
+        LiteralValue::UInt8(1),
+    ] {
+        expressions.push(Expr::Literal(value))?;
+    }
     Ok(())
 }
 

@@ -1,3 +1,7 @@
+//! Types, texts, schemas and places.
+
+mod numbers;
+
 use crate::dtype::{CastOptions, DataType};
 use crate::error::{ErrorKind, Place, PlanError};
 use crate::field::Field;
