@@ -118,7 +118,10 @@ becomes_value from target number value other e can is =
     let type_is : literal_type value ≡ target = op_type (literal_type value) target (literal_value value) (IntValue number) is in
     let value_is = op_value (literal_type value) target (literal_value value) (IntValue number) is in
     let literal = becomes_literal target number can.known (can.has number e) in (
-      other, number, e, is,
+      other,
+      number,
+      e,
+      is,
       subst (λ v. is_literal (literal_type value) v ≡ true) (sym value_is) (subst (λ u. is_literal u (IntValue number) ≡ true) (sym type_is) literal),
       ap is_known type_is ∙ can.known,
     )

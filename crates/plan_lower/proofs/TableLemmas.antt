@@ -213,8 +213,8 @@ module _ (registry : Registry) (schema : Columns) (items : List AExpr) (table : 
         denotes = (input ∷ [], (zero-le, h), (d.denotes, tt));
         typed = record { type = target; many = some_many (d.typed ∷ []) };
         is = ap (λ r. then_typed (typed_before r (Ok [])) (typing_rule registry schema (CastOp target options))) d.is
-        ∙ ap (λ o. typed_as (cast_taken target o) (some_many (d.typed ∷ []))) alone.1
-        ∙ ap (λ b. typed_as (cond b (Ok (record { operands = alone.0 ∷ []; type = target })) (Err InvalidOperation)) (some_many (d.typed ∷ []))) known;
+            ∙ ap (λ o. typed_as (cast_taken target o) (some_many (d.typed ∷ []))) alone.1
+            ∙ ap (λ b. typed_as (cond b (Ok (record { operands = alone.0 ∷ []; type = target })) (Err InvalidOperation)) (some_many (d.typed ∷ []))) known;
       }
 
   -- the types of its inputs are known
