@@ -2,6 +2,8 @@
 
 mod bad_queries;
 mod faults;
+mod filters;
+mod literals;
 mod names;
 mod types;
 
@@ -92,6 +94,11 @@ fn queries_end_as_the_rows_say(rt: HostRuntime) -> Result<(), Fail> {
             "{\"tables\":[{\"name\":\"t\",\"columns\":[[\"a\",\"Int8\"]]}],\"plan\":{\"select\":[{\"scan\":\"t\"},[]]}}",
             0,
             ". projection ()\n.0 df ()\ncasts 0\n",
+        ),
+        (
+            "{\"tables\":[{\"name\":\"t\",\"columns\":[[\"a\",\"Int8\"],[\"b\",\"Int32\"]]}],\"plan\":{\"filter\":[{\"scan\":\"t\"},{\"bin\":[\"GtEq\",{\"col\":\"a\"},{\"lit\":300}]}]}}",
+            0,
+            ". selection (\"a\" Int8, \"b\" Int32)\n.0 df (\"a\" Int8, \"b\" Int32)\ncasts 1\n",
         ),
     ] {
         let seen = lower(rt.alloc(), input)?;

@@ -11,6 +11,8 @@ use Rattle.plan_types.specs.declared.dtype.DataType.{DataType}
 use Rattle.plan_types.specs.declared.dtype.CastOptions.{CastOptions}
 use Rattle.plan_dsl.specs.declared.plan.ProjectionOptions.{ProjectionOptions}
 use Rattle.plan_dsl.specs.declared.operator.Operator.{Operator}
+use Rattle.plan_dsl.specs.declared.literal.LiteralValue.{LiteralValue}
+use Rattle.plan_dsl.specs.Literals.{literal_op}
 use Rattle.plan_dsl.specs.Trees.{node, no_more, more}
 use Rattle.plan_dsl.specs.Ops.{ColumnOp, BinaryOp, CastOp, Expression}
 use Rattle.plan_dsl.specs.Plans.{PlanOp, scan_op, select_op, filter_op}
@@ -18,7 +20,7 @@ use Rattle.plan_arena.specs.Denotation.{Denotes, DenotesTree}
 use Rattle.plan_arena.specs.Items.{named_node, plan_layer, HoldsExpression, HoldsPlan}
 use Rattle.plan_arena.specs.declared.arena.Node.{Node}
 use Rattle.plan_arena.specs.declared.aexpr.AExpr.{AExpr}
-use Rattle.plan_arena.specs.declared.aexpr.AExpr.TheVariants.{Column, BinaryExpr, Cast}
+use Rattle.plan_arena.specs.declared.aexpr.AExpr.TheVariants.{Column, Literal, BinaryExpr, Cast}
 use Rattle.plan_arena.specs.declared.expr_ir.ExprIR.{ExprIR}
 use Rattle.plan_arena.specs.declared.expr_ir.ExprIRs.{ExprIRs}
 use Rattle.plan_arena.specs.declared.ir.IR.{IR}
@@ -70,12 +72,15 @@ filter_denotes expressions plans grown n input predicate below d made last =
 abbrev column : Name → Expression
 column name = node (ColumnOp name) no_more
 
+abbrev literal : LiteralValue → Expression
+literal value = node (literal_op value) no_more
+
 abbrev cast : Name → DataType → CastOptions → Expression
 cast name dtype options = node (CastOp (ty dtype) options) (more (column name) no_more)
 
-module _ (a b : Name) (expr left right : Node) (dtype : DataType) (options : CastOptions) (operator : Operator) (first : expr.0 ≡ 0) (second : left.0 ≡ 1) (third : right.0 ≡ 2) where
+module _ (a : Name) (value : LiteralValue) (expr left right : Node) (dtype : DataType) (options : CastOptions) (operator : Operator) (first : expr.0 ≡ 0) (second : left.0 ≡ 1) (third : right.0 ≡ 2) where
   abbrev pub four_items : List AExpr
-  four_items = Column a ∷ Cast expr dtype options ∷ Column b ∷ BinaryExpr left operator right ∷ []
+  four_items = Column a ∷ Cast expr dtype options ∷ Literal value ∷ BinaryExpr left operator right ∷ []
 
   denotes_column : Denotes (HoldsExpression four_items) expr.0 (column a)
   denotes_column = subst (λ k. Denotes (HoldsExpression four_items) k (column a)) (sym first) ([], refl, tt)
@@ -83,13 +88,13 @@ module _ (a b : Name) (expr left right : Node) (dtype : DataType) (options : Cas
   denotes_cast : Denotes (HoldsExpression four_items) left.0 (cast a dtype options)
   denotes_cast = subst (λ k. Denotes (HoldsExpression four_items) k (cast a dtype options)) (sym second) (expr.0 ∷ [], refl, (denotes_column, tt))
 
-  denotes_other : Denotes (HoldsExpression four_items) right.0 (column b)
-  denotes_other = subst (λ k. Denotes (HoldsExpression four_items) k (column b)) (sym third) ([], refl, tt)
+  denotes_other : Denotes (HoldsExpression four_items) right.0 (literal value)
+  denotes_other = subst (λ k. Denotes (HoldsExpression four_items) k (literal value)) (sym third) ([], refl, tt)
 
-  -- the sum of a cast column and a column
+  -- the operator between a cast column and a literal
   pub sum_denotes : (items : List AExpr) (n : ℕ) → items ≡ four_items → n ≡ 3 → DenotesTree (HoldsExpression items) n
   sum_denotes items n made last = rw (made, last) (record {
-    tree = node (BinaryOp operator) (more (cast a dtype options) (more (column b) no_more));
+    tree = node (BinaryOp operator) (more (cast a dtype options) (more (literal value) no_more));
     denotes = (left.0 ∷ right.0 ∷ [], refl, (denotes_cast, (denotes_other, tt)));
   })
 

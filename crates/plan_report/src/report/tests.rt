@@ -10,6 +10,7 @@ use plan_arena::arena::Arena;
 use plan_arena::expr_ir::{ExprIR, ExprIRs, OutputName};
 use plan_arena::ir::IR;
 use plan_arena::plan::IRPlan;
+use plan_dsl::literal::LiteralValue;
 use plan_dsl::operator::Operator;
 use plan_dsl::plan::ProjectionOptions;
 use plan_types::dtype::{CastOptions, DataType};
@@ -94,7 +95,7 @@ fn empty_select(alloc: Global, plan: IRPlan) -> Result<IRPlan, PlanError>
     select(plan, ExprIRs { items }, Schema::new(alloc))
 }
 
-// The operator between `a` as an Int32, and `b`.
+// The operator between `a` as an Int32, and 300.
 fn operation(alloc: Global, op: Operator) -> Result<(Arena<AExpr>, ExprIR), PlanError>
     ensures { IfOk result (λ made. DenotesTree (HoldsExpression made.0) (named_node made.1).expression) }
 {
@@ -106,15 +107,14 @@ fn operation(alloc: Global, op: Operator) -> Result<(Arena<AExpr>, ExprIR), Plan
         dtype: DataType::Int32,
         options: CastOptions::Strict,
     })?;
-    let name = PlSmallStr::new(alloc, "b")?;
-    let right = expr_arena.add(AExpr::Column(name))?;
+    let right = expr_arena.add(AExpr::Literal(LiteralValue::Int32(300)))?;
     let node = expr_arena.add(AExpr::BinaryExpr { left, op, right })?;
     let name = PlSmallStr::new(alloc, "a")?;
     let expr_ir = ExprIR::new(node, OutputName::ColumnLhs(name));
     Ok((expr_arena, expr_ir))
 }
 
-// The sum of `a` as an Int32, and `b`.
+// The sum of `a` as an Int32, and 300.
 fn sum_outputs(alloc: Global) -> Result<(Arena<AExpr>, ExprIRs), PlanError>
     ensures { IfOk result (λ made. DenoteOutputs made.0 (map named_node made.1.items.items)) }
 {

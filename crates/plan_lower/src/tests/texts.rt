@@ -1,0 +1,172 @@
+//! Lowered plans and refusals as texts.
+
+use plan_arena::aexpr::AExpr;
+use plan_arena::arena::{Arena, Node};
+use plan_arena::expr_ir::ExprIRs;
+use plan_arena::ir::IR;
+use plan_arena::plan::IRPlan;
+use plan_dsl::literal::LiteralValue;
+use plan_dsl::operator::Operator;
+use plan_types::dtype::{CastOptions, DataType};
+use plan_types::error::PlanError;
+use plan_types::schema::Schema;
+use std::alloc::{AllocError, Global};
+use std::test::Fail;
+
+fn item<T>(arena: &Arena<T>, node: Node) -> Result<&T, Fail> {
+    if node.0 < arena.len() {
+        return Ok(arena.get(node));
+    }
+    Err(Fail::from("no such node"))
+}
+
+fn type_name(dtype: &DataType) -> &'static str {
+    match dtype {
+        DataType::Boolean => "Boolean",
+        DataType::Int8 => "Int8",
+        DataType::Int16 => "Int16",
+        DataType::Int32 => "Int32",
+        DataType::Int64 => "Int64",
+        DataType::UInt8 => "UInt8",
+        DataType::UInt16 => "UInt16",
+        DataType::UInt32 => "UInt32",
+        DataType::UInt64 => "UInt64",
+        DataType::Unknown(_) => "Unknown",
+    }
+}
+
+fn push_schema(text: &mut String, schema: &Schema) -> Result<(), AllocError> {
+    text.push_str(" (")?;
+    for index in 0..schema.len() {
+        if let Some((name, dtype)) = schema.get_at_index(index) {
+            text.push_str(if index == 0 { "" } else { ", " })?;
+            text.push_str(name.as_str())?;
+            text.push_str(" ")?;
+            text.push_str(type_name(dtype))?;
+        }
+    }
+    text.push_str(")")?;
+    Ok(())
+}
+
+fn operator_sign(op: Operator) -> &'static str {
+    match op {
+        Operator::Plus => "+",
+        Operator::Lt => "<",
+        Operator::Eq => "=",
+        _ => "another operator",
+    }
+}
+
+fn cast_sign(options: CastOptions) -> &'static str {
+    match options {
+        CastOptions::Strict => "!",
+        CastOptions::NonStrict => "?",
+        CastOptions::Overflowing => "~",
+    }
+}
+
+// A literal's number and type. A lowered plan has none without a type.
+fn push_literal(alloc: Global, text: &mut String, value: &LiteralValue) -> Result<(), Fail> {
+    let Some(dtype) = value.known_type() else {
+        return Err(Fail::from("a literal without a type"));
+    };
+    let number = value.number();
+    let number = format!(in alloc; "{number}:")?;
+    text.push_str(number.as_str())?;
+    text.push_str(type_name(dtype))?;
+    Ok(())
+}
+
+// An expression in prefix notation. A cast is its type with a sign behind it, and a literal a number and its type.
+fn push_expr(text: &mut String, arena: &Arena<AExpr>, node: Node) -> Result<(), Fail> {
+    let mut stack = Vec::new(arena.allocator());
+    stack.push(node)?;
+    for _node in 0..arena.len() {
+        let Some(node) = stack.pop() else {
+            break;
+        };
+        text.push_str(" ")?;
+        match item(arena, node)? {
+            AExpr::Column(name) => text.push_str(name.as_str())?,
+            AExpr::Literal(value) => push_literal(arena.allocator(), text, value)?,
+            AExpr::BinaryExpr { left, op, right } => {
+                text.push_str(operator_sign(*op))?;
+                stack.push(*right)?;
+                stack.push(*left)?;
+            }
+            AExpr::Cast {
+                expr,
+                dtype,
+                options,
+            } => {
+                text.push_str(type_name(dtype))?;
+                text.push_str(cast_sign(*options))?;
+                stack.push(*expr)?;
+            }
+        }
+    }
+    if stack.is_empty() {
+        return Ok(());
+    }
+    Err(Fail::from("a node is met twice"))
+}
+
+// Each expression behind the name of its column.
+fn push_exprs(text: &mut String, arena: &Arena<AExpr>, exprs: &ExprIRs) -> Result<(), Fail> {
+    for expr in exprs.items.as_slice() {
+        text.push_str(" ")?;
+        text.push_str(expr.output_name().as_str())?;
+        text.push_str(" =")?;
+        push_expr(text, arena, expr.node())?;
+        text.push_str(",")?;
+    }
+    Ok(())
+}
+
+// The nodes of a lowered plan, the top first.
+pub(super) fn plan_text(alloc: Global, plan: &IRPlan) -> Result<String, Fail> {
+    let mut text = String::new(alloc);
+    let mut node = plan.lp_top;
+    for _node in 0..plan.lp_arena.len() {
+        match item(&plan.lp_arena, node)? {
+            IR::DataFrameScan { table, schema } => {
+                match table {
+                    Some(7) => text.push_str("table")?,
+                    Some(_) => text.push_str("another table")?,
+                    None => text.push_str("nothing")?,
+                }
+                push_schema(&mut text, schema)?;
+                return Ok(text);
+            }
+            IR::Filter { input, predicate } => {
+                text.push_str("filter")?;
+                push_expr(&mut text, &plan.expr_arena, predicate.node())?;
+                text.push_str(" over ")?;
+                node = *input;
+            }
+            IR::Select {
+                expr,
+                input,
+                schema,
+                ..
+            } => {
+                text.push_str("select")?;
+                push_exprs(&mut text, &plan.expr_arena, expr)?;
+                push_schema(&mut text, schema)?;
+                text.push_str(" over ")?;
+                node = *input;
+            }
+        }
+    }
+    Err(Fail::from("no scan"))
+}
+
+// The broken rule, and the steps to the place.
+pub(super) fn refusal_text(alloc: Global, error: &PlanError) -> Result<String, AllocError> {
+    let mut text = format!(in alloc; "{:?}", error.kind)?;
+    for number in 0..error.place.depth() {
+        text.push_str(format!(in alloc; " {}", error.place.step(number))?.as_str())?;
+    }
+    Ok(text)
+}
