@@ -106,6 +106,10 @@ pub fn plans_of_literals()
         let five = node (LiteralOp (Integer true 32) (IntValue (pos 5))) no_more in
         let lowered = node (select_op (named five ∷ []) ((codes "literal", Integer true 32) ∷ [])) (more scan no_more) in
         IsAccepted [] lowered }
+    ensures untyped_is_accepted { let scan = node (scan_op None ((codes "a", Integer true 8) ∷ [])) no_more in
+        let number = node (LiteralOp (Untyped (pos 5)) (IntValue (pos 5))) no_more in
+        let lowered = node (select_op (named number ∷ []) ((codes "literal", Integer true 32) ∷ [])) (more scan no_more) in
+        IsAccepted [] lowered }
     ensures with_another_schema { let scan = node (scan_op None ((codes "a", Integer true 8) ∷ [])) no_more in
         let five = node (LiteralOp (Integer true 32) (IntValue (pos 5))) no_more in
         let lowered = node (select_op (named five ∷ []) ((codes "literal", Integer true 8) ∷ [])) (more scan no_more) in
