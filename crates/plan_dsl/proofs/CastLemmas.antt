@@ -1,6 +1,6 @@
 -- Operands that are taken to their types stay. Casts round the operands of an operator, and literals in place of
 -- numbers without a type, keep its type, name and meaning, and leave it strict.
-use Rattle.std.proofs.Common.{◌≡◌, Bool, true, false, cond, ◌||◌, ◌&&◌, List, [], ◌∷◌, Option, Some, None, Result, Ok, Err, refl, sym, ap, ◌∙◌, subst}
+use Rattle.std.proofs.Common.{◌≡◌, Bool, true, false, cond, ◌||◌, List, [], ◌∷◌, Option, Some, None, Result, Ok, Err, refl, sym, ap, ◌∙◌, subst}
 use Rattle.std.specs.Prelude.{ℤ}
 use Rattle.plan_types.specs.Types.{Ty, Truth, Integer, Untyped, is_known, same_type}
 use Rattle.plan_types.specs.TypeLaws.{same_type_own, same_type_exact}
@@ -17,16 +17,16 @@ use Rattle.plan_types.specs.declared.dtype.CastOptions.TheVariants.{NonStrict}
 use Rattle.plan_dsl.specs.declared.operator.Operator.{Operator}
 use Rattle.plan_dsl.specs.Operators.{result_type}
 use Rattle.plan_dsl.specs.Registry.{Registry}
-use Rattle.plan_dsl.specs.Trees.{Trees, node, no_more, more}
+use Rattle.plan_dsl.specs.Trees.{node, no_more, more}
 use Rattle.plan_dsl.specs.Ops.{Op, ColumnOp, LiteralOp, BinaryOp, CastOp, Expression}
 use Rattle.plan_dsl.specs.Names.{name_of}
 use Rattle.plan_dsl.specs.Literals.{is_literal}
-use Rattle.plan_dsl.specs.Typing.{Taken, both_to, column_type, literal_taken, cast_taken, operator_types, operand_types, some_many, typed_as, typing, typing_all, typing_rule, then_typed, typed_before}
-use Rattle.plan_dsl.specs.Kernels.{Meaning, cast_meaning, kernel}
+use Rattle.plan_dsl.specs.Typing.{Taken, both_to, column_type, literal_taken, cast_taken, operator_types, operand_types, typed_as, typing, typing_rule, then_typed, typed_before}
+use Rattle.plan_dsl.specs.Kernels.{Meaning, cast_meaning}
 use Rattle.plan_dsl.specs.Meaning.{meaning, node_meaning, taken_meaning}
 use Rattle.plan_dsl.proofs.TypingLemmas.{ok_same, ok_where}
-use Rattle.plan_dsl.proofs.LiteralLemmas.{operator_known, untyped_is_number, literal_means, literal_typing, becomes_literal, number_cast}
-use Rattle.plan_dsl.specs.Strictness.{CanBecome, IsSame, IsStrictOver, same_types, changed, as_operand}
+use Rattle.plan_dsl.proofs.LiteralLemmas.{untyped_is_number, literal_means, literal_typing, becomes_literal, number_cast}
+use Rattle.plan_dsl.specs.Strictness.{CanBecome, changed, as_operand}
 
 pub or_false : (b : Bool) → (b || false) ≡ b
 or_false true = refl

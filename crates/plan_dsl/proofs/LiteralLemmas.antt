@@ -1,12 +1,12 @@
 -- Numbers without a type: which expressions they are, what they mean, and that strict expressions are none.
-use Rattle.std.proofs.Common.{◌≡◌, ◌∙◌, Bool, true, false, ◌&&◌, cond, List, [], ◌∷◌, Option, Some, None, is_some, Ok, Err, refl, sym, ap, subst}
-use Rattle.std.specs.Prelude.{ℕ, ℤ, unwrap_or}
+use Rattle.std.proofs.Common.{◌≡◌, ◌∙◌, Bool, true, false, cond, List, [], ◌∷◌, Option, Some, None, is_some, Ok, Err, refl, sym, ap, subst}
+use Rattle.std.specs.Prelude.{ℤ, unwrap_or}
 use Rattle.std.proofs.lemmas.Bool.{and_parts, and_from}
-use Rattle.plan_types.specs.Types.{Ty, Truth, Integer, Untyped, is_known, same_type}
+use Rattle.plan_types.specs.Types.{Ty, Truth, Integer, Untyped, is_known}
 use Rattle.plan_types.specs.Schemas.{Columns, type_at}
 use Rattle.plan_types.specs.Values.{Val, NullValue, TruthValue, IntValue, in_range}
 use Rattle.plan_types.specs.Outcomes.{Done}
-use Rattle.plan_types.specs.Casts.{Gives, can_cast, cast, out_of_range}
+use Rattle.plan_types.specs.Casts.{Gives, can_cast, out_of_range}
 use Rattle.plan_types.specs.CommonTypes.{type_alone, common_type}
 use Rattle.plan_types.specs.Frames.{Frame}
 use Rattle.plan_types.specs.declared.error.ErrorKind.TheVariants.{InvalidOperation}
@@ -26,9 +26,9 @@ use Rattle.plan_dsl.specs.Ops.{Op, ColumnOp, LiteralOp, BinaryOp, CastOp, Expres
 use Rattle.plan_dsl.specs.Names.{name_of}
 use Rattle.plan_dsl.specs.Literals.{literal_type, literal_value, is_literal, is_literal_of, settled, settled_type}
 use Rattle.plan_dsl.specs.Typing.{Typed, Taken, both_to, column_type, cast_taken, operator_types, operand_types, types_of, is_many, typed_as, typed_before, typing, typing_all}
-use Rattle.plan_dsl.specs.Kernels.{Meaning, cast_meaning, value_before}
+use Rattle.plan_dsl.specs.Kernels.{cast_meaning, value_before}
 use Rattle.plan_dsl.specs.Meaning.{meaning, taken_meaning}
-use Rattle.plan_dsl.specs.Strictness.{IsStrict, CanBecome}
+use Rattle.plan_dsl.specs.Strictness.{IsStrict}
 use Rattle.plan_dsl.proofs.TypingLemmas.{ok_same, ok_where, typed_parts}
 
 not_both : (type : Ty) (number : ℤ) → is_known type ≡ true → type ≡ Untyped number → ⊥

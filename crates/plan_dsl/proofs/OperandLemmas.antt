@@ -1,13 +1,11 @@
 -- Operands that were made of the types to which their node takes them: the node has the type, name and meaning
 -- that it had, and is strict. So it is for each op.
-use Rattle.std.proofs.Common.{◌≡◌, Bool, true, ◌||◌, ◌&&◌, List, [], ◌∷◌, Option, Some, None, Ok, refl, sym, ap, ◌∙◌, subst}
-use Rattle.std.specs.Prelude.{ℤ}
+use Rattle.std.proofs.Common.{◌≡◌, true, ◌||◌, List, [], ◌∷◌, Option, Some, None, Ok, refl, sym, ap, ◌∙◌, subst}
 use Rattle.std.specs.List.{AllByRecursion}
 use Rattle.std.proofs.lemmas.Bool.{and_from}
-use Rattle.plan_types.specs.Types.{Ty, Untyped, is_known, same_type}
+use Rattle.plan_types.specs.Types.{Ty, is_known, same_type}
 use Rattle.plan_types.specs.TypeLaws.{same_type_own}
-use Rattle.plan_types.specs.Schemas.{Name, Columns, type_at}
-use Rattle.plan_types.specs.Values.{Val}
+use Rattle.plan_types.specs.Schemas.{Columns, type_at}
 use Rattle.plan_types.specs.Casts.{can_cast}
 use Rattle.plan_types.specs.CommonTypes.{type_alone}
 use Rattle.plan_types.specs.Frames.{Frame, Row}
@@ -17,14 +15,14 @@ use Rattle.plan_types.proofs.CommonLemmas.{alone_known, literal_has}
 use Rattle.plan_dsl.specs.declared.operator.Operator.{Operator}
 use Rattle.plan_dsl.specs.Registry.{Registry}
 use Rattle.plan_dsl.specs.Trees.{Trees, node, no_more, more, fold_all}
-use Rattle.plan_dsl.specs.Ops.{Op, ColumnOp, LiteralOp, BinaryOp, CastOp, Expression}
+use Rattle.plan_dsl.specs.Ops.{Op, ColumnOp, LiteralOp, BinaryOp, CastOp}
 use Rattle.plan_dsl.specs.Names.{name_of, op_name}
 use Rattle.plan_dsl.specs.Literals.{is_literal}
 use Rattle.plan_dsl.specs.Typing.{Typed, Taken, column_type, cast_taken, operator_types, operand_types, types_of, some_many, is_many, typed_as, typing, typing_all, typing_rule, then_typed, typed_before}
 use Rattle.plan_dsl.specs.Kernels.{Meaning, cast_meaning, kernel}
 use Rattle.plan_dsl.specs.Meaning.{meaning, meaning_all, node_meaning, taken_meaning, taken_to}
-use Rattle.plan_dsl.specs.Strictness.{CanBecome, IsSame, IsStrictNode, IsStrictOver, same_types, as_operand, as_operands}
-use Rattle.plan_dsl.proofs.TypingLemmas.{ok_same, ok_where, by_children, by_no_children}
+use Rattle.plan_dsl.specs.Strictness.{CanBecome, IsSame, IsStrictNode, IsStrictOver, same_types, as_operands}
+use Rattle.plan_dsl.proofs.TypingLemmas.{ok_where, by_children, by_no_children}
 use Rattle.plan_dsl.proofs.RunLemmas.{same_types_exact}
 use Rattle.plan_dsl.proofs.CastLemmas.{cast_own, as_operand_typing, as_operand_name, as_operand_meaning, left_becomes, right_becomes, two_taken, taken_types_stay}
 

@@ -1,15 +1,12 @@
 -- Expressions that say the same: a node depends on its children by type, name and meaning alone.
-use Rattle.std.proofs.Common.{◌≡◌, Bool, true, false, ◌||◌, List, [], ◌∷◌, Result, Ok, Err, refl, sym, ap, ◌∙◌, max}
-use Rattle.plan_types.specs.Types.{Ty, Integer, same_type}
-use Rattle.plan_types.specs.TypeLaws.{same_type_own, same_type_exact}
+use Rattle.std.proofs.Common.{◌≡◌, List, ◌∷◌, refl, ap, ◌∙◌}
 use Rattle.plan_types.specs.Schemas.{Columns}
-use Rattle.plan_types.specs.Supertypes.{supertype}
 use Rattle.plan_types.specs.Frames.{Frame, Row}
 use Rattle.plan_dsl.specs.Registry.{Registry}
-use Rattle.plan_dsl.specs.Trees.{Tree, Trees, node, no_more, more, fold_all, AllRelated}
+use Rattle.plan_dsl.specs.Trees.{Trees, node, no_more, more, fold_all, AllRelated}
 use Rattle.plan_dsl.specs.Ops.{Op, Expression}
 use Rattle.plan_dsl.specs.Names.{name_of, op_name}
-use Rattle.plan_dsl.specs.Typing.{Typed, Taken, typing, typing_all, typing_rule, then_typed, typed_before}
+use Rattle.plan_dsl.specs.Typing.{typing, typing_all, typing_rule, then_typed, typed_before}
 use Rattle.plan_dsl.specs.Meaning.{meaning, meaning_all, node_meaning}
 use Rattle.plan_dsl.specs.Strictness.{IsSame}
 

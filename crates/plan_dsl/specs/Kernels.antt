@@ -1,12 +1,12 @@
 -- What a node does with the columns of its operands.
 -- A column is a list of values. Two columns are brought to a common length: one of one value is
 -- repeated, and other unequal lengths are a data fault.
-use Rattle.std.specs.Prelude.{ℕ, ◌+ℤ◌, List, [], ◌∷◌, map, length, replicate, Option, Some, None, Bool, ◌==◌, if◌then◌else◌}
+use Rattle.std.specs.Prelude.{ℕ, List, [], ◌∷◌, map, length, replicate, Option, Some, None, ◌==◌, if◌then◌else◌}
 use Rattle.plan_types.specs.Types.{Ty, same_type}
 use Rattle.plan_types.specs.Schemas.{Name}
-use Rattle.plan_types.specs.Values.{Val, NullValue, IntValue}
+use Rattle.plan_types.specs.Values.{Val}
 use Rattle.plan_types.specs.Outcomes.{Outcome, Done, Fault, Stuck, then_do}
-use Rattle.plan_types.specs.Casts.{Converted, Gives, Fails, cast, wrapped}
+use Rattle.plan_types.specs.Casts.{Converted, Gives, Fails, cast}
 use Rattle.plan_types.specs.Frames.{Frame, value_in, row_at}
 use Rattle.plan_types.specs.declared.dtype.CastOptions.{CastOptions}
 use Rattle.plan_dsl.specs.declared.operator.Operator.{Operator}

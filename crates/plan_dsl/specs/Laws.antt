@@ -1,5 +1,5 @@
 -- Laws of the definitions, for all expressions and plans.
-use Rattle.std.specs.Prelude.{◌≡◌, ℕ, ℤ, List, [], ◌∷◌, length, Some, Ok, Err, IsTrue, true, false}
+use Rattle.std.specs.Prelude.{◌≡◌, ℕ, ℤ, List, [], length, Some, Ok, Err, IsTrue, true, false}
 use Rattle.std.specs.List.{Contains}
 use Rattle.plan_types.specs.Types.{Ty, Untyped, is_known}
 use Rattle.plan_types.specs.Schemas.{Columns}

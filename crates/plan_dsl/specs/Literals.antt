@@ -1,8 +1,8 @@
 -- Literals.
 -- A literal is a value of a type. A whole number may be written without a type: then it has one for itself,
 -- until it gets that of what stands beside it.
-use Rattle.std.specs.Prelude.{ℤ, pos, Bool, true, false, Option, Some, None, is_some, ◌&&◌, unwrap_or}
-use Rattle.plan_types.specs.Types.{Ty, Truth, Integer, Untyped}
+use Rattle.std.specs.Prelude.{pos, Bool, true, false, is_some, ◌&&◌, unwrap_or}
+use Rattle.plan_types.specs.Types.{Ty, Integer, Untyped}
 use Rattle.plan_types.specs.Values.{Val, NullValue, TruthValue, IntValue, fits}
 use Rattle.plan_types.specs.CommonTypes.{type_alone}
 use Rattle.plan_dsl.specs.declared.literal.LiteralValue.{LiteralValue}

@@ -1,7 +1,7 @@
 -- Operators: how they are written, and what they give of two values.
 -- Null beside anything is null. Sums wrap around in the result's type, and a true value counts as 1.
 -- Comparisons give truth values: false is less than true, and numbers are ordered by size.
-use Rattle.std.specs.Prelude.{ℕ, ◌+ℤ◌, ℤ, int_lt, List, Bool, true, false, not, ◌&&◌, codes}
+use Rattle.std.specs.Prelude.{ℕ, ◌+ℤ◌, ℤ, int_lt, List, Bool, false, not, ◌&&◌, codes}
 use Rattle.plan_types.specs.Types.{Ty, Truth, Integer, Untyped}
 use Rattle.plan_types.specs.Values.{Val, NullValue, TruthValue, IntValue}
 use Rattle.plan_types.specs.Casts.{wrapped, number_of}

@@ -1,18 +1,18 @@
 -- What a query's plan means on tables.
 -- Its expressions are evaluated by their meaning. Tables fit a plan where each scan's number names a frame
 -- of exactly the scan's schema.
-use Rattle.std.specs.Prelude.{ℕ, List, slice_get, Option, Some, None}
+use Rattle.std.specs.Prelude.{List, slice_get, Option, Some, None}
 use Rattle.plan_types.specs.Schemas.{Columns}
 use Rattle.plan_types.specs.Outcomes.{Outcome}
 use Rattle.plan_types.specs.Frames.{Frame, IsFrameOf}
 use Rattle.plan_dsl.specs.Registry.{Registry}
 use Rattle.plan_dsl.specs.Trees.{Trees, node, no_more, more, fold}
 use Rattle.plan_dsl.specs.Ops.{Expression}
-use Rattle.plan_dsl.specs.Plans.{PlanKind, ScanKind, SelectKind, PlanOp, Plan, Named, FilterKind}
+use Rattle.plan_dsl.specs.Plans.{PlanKind, ScanKind, SelectKind, PlanOp, Plan, FilterKind}
 use Rattle.plan_dsl.specs.Literals.{settled}
 use Rattle.plan_dsl.specs.Typing.{typing}
 use Rattle.plan_dsl.specs.Meaning.{meaning}
-use Rattle.plan_dsl.specs.PlanKernels.{Evaluated, Evaluation, plan_kernel}
+use Rattle.plan_dsl.specs.PlanKernels.{Evaluation, plan_kernel}
 
 -- evaluation by meaning
 abbrev pub by_meaning : Registry → Evaluation

@@ -1,14 +1,14 @@
 -- The rules of plans.
 -- A node breaks some kinds of rule, where what they read is there, over inputs that have a schema or none.
 -- Where it breaks none it has a schema. A plan is well formed where each of its nodes has one.
-use Rattle.std.specs.Prelude.{◌≡◌, ℕ, List, [], ◌∷◌, ◌++◌, map, Option, Some, None, Bool, not, is_some, IsTrue, Result, Ok, Err, if◌then◌else◌}
+use Rattle.std.specs.Prelude.{ℕ, List, [], ◌∷◌, ◌++◌, map, Option, Some, None, Bool, not, is_some, IsTrue, Result, Ok, Err, if◌then◌else◌}
 use Rattle.std.specs.List.{Contains}
 use Rattle.plan_types.specs.Schemas.{Name, Columns, repeats, names_of, all_known}
 use Rattle.plan_types.specs.Types.{Truth, same_type}
 use Rattle.plan_types.specs.declared.error.ErrorKind.{ErrorKind}
 use Rattle.plan_types.specs.declared.error.ErrorKind.TheVariants.{Duplicate, InvalidOperation}
 use Rattle.plan_dsl.specs.Registry.{Registry}
-use Rattle.plan_dsl.specs.Trees.{Tree, Trees, node, no_more, more, fold, fold_all, tree_at}
+use Rattle.plan_dsl.specs.Trees.{Trees, node, no_more, more, fold, fold_all, tree_at}
 use Rattle.plan_dsl.specs.Ops.{Expression}
 use Rattle.plan_dsl.specs.Plans.{PlanKind, ScanKind, SelectKind, PlanOp, Plan, Named, FilterKind}
 use Rattle.plan_dsl.specs.Literals.{settled}

@@ -7,7 +7,7 @@ use Rattle.plan_types.specs.Types.{Ty, is_known}
 use Rattle.plan_types.specs.Frames.{Frame}
 use Rattle.plan_types.specs.declared.error.ErrorKind.{ErrorKind}
 use Rattle.plan_dsl.specs.Registry.{Registry}
-use Rattle.plan_dsl.specs.Trees.{Tree, Trees, node, no_more, more}
+use Rattle.plan_dsl.specs.Trees.{Trees, node, no_more, more}
 use Rattle.plan_dsl.specs.Ops.{Op, Expression}
 use Rattle.plan_dsl.specs.Typing.{Typed, Taken, operand_types, types_of, typing_all}
 use Rattle.plan_dsl.specs.Kernels.{Meaning, stuck, kernel}

@@ -1,13 +1,13 @@
 -- Strict expressions, and expressions that say the same.
 -- A node is strict where its operands have the types to which it takes them, and it is no number without a type.
-use Rattle.std.specs.Prelude.{◌≡◌, ℤ, Bool, true, false, ◌&&◌, List, [], ◌∷◌, Result, Ok, if◌then◌else◌}
+use Rattle.std.specs.Prelude.{◌≡◌, ℤ, Bool, true, false, ◌&&◌, List, [], ◌∷◌, Ok, if◌then◌else◌}
 use Rattle.plan_types.specs.Types.{Ty, Truth, Integer, Untyped, is_known, same_type}
 use Rattle.plan_types.specs.Values.{IntValue, in_range}
 use Rattle.plan_types.specs.Schemas.{Columns}
-use Rattle.plan_types.specs.Frames.{Row, Frame}
+use Rattle.plan_types.specs.Frames.{Row}
 use Rattle.plan_types.specs.declared.dtype.CastOptions.TheVariants.{NonStrict}
 use Rattle.plan_dsl.specs.Registry.{Registry}
-use Rattle.plan_dsl.specs.Trees.{Tree, Trees, node, no_more, more}
+use Rattle.plan_dsl.specs.Trees.{Trees, node, no_more, more}
 use Rattle.plan_dsl.specs.Ops.{Op, LiteralOp, CastOp, Expression}
 use Rattle.plan_dsl.specs.Names.{name_of}
 use Rattle.plan_dsl.specs.Typing.{Typed, Taken, operand_types, types_of, typing, typing_all}
