@@ -89,71 +89,73 @@ fn predicates_of_another_type_are_refused(rt: HostRuntime) -> Result<(), Fail> {
     Ok(())
 }
 
+// What one step over another over the table gives, each with its word and its expression.
+fn lower_steps(alloc: Global, below: (&str, &str), above: (&str, &str)) -> Result<Seen, Fail> {
+    let input = over(alloc, below.0, SCAN, below.1)?;
+    let plan = over(alloc, above.0, input.as_str(), above.1)?;
+    lower_plan(alloc, plan.as_str())
+}
+
 #[test]
 fn filters_and_selects_stand_over_each_other(rt: HostRuntime) -> Result<(), Fail> {
     let alloc = rt.alloc();
-    for (lower_word, lower_expression, upper_word, upper_expression, text) in [
+    for (below, above, text) in [
         (
-            "filter",
-            A_IS_1,
-            "filter",
-            C,
+            ("filter", A_IS_1),
+            ("filter", C),
             ". selection (\"a\" Int8, \"c\" Boolean)\n.0 selection (\"a\" Int8, \"c\" Boolean)\n.0.0 df (\"a\" Int8, \"c\" Boolean)\ncasts 0\n",
         ),
         (
-            "filter",
-            A_IS_300,
-            "select",
-            A_PLUS_1,
+            ("filter", A_IS_300),
+            ("select", A_PLUS_1),
             ". projection (\"a\" Int8)\n.0 selection (\"a\" Int8, \"c\" Boolean)\n.0.0 df (\"a\" Int8, \"c\" Boolean)\ncasts 1\n",
         ),
         (
-            "select",
-            A_IS_300,
-            "filter",
-            A,
+            ("select", A_IS_300),
+            ("filter", A),
             ". selection (\"a\" Boolean)\n.0 projection (\"a\" Boolean)\n.0.0 df (\"a\" Int8, \"c\" Boolean)\ncasts 1\n",
         ),
+    ] {
+        let seen = lower_steps(alloc, below, above)?;
+        assert_eq!(rt; seen.written.as_slice(), text.as_bytes());
+        assert_eq!(rt; seen.number, 0);
+        assert!(rt; seen.has_plan);
+    }
+    Ok(())
+}
+
+#[test]
+fn rules_broken_under_and_over_a_filter_are_told_with_their_place(
+    rt: HostRuntime,
+) -> Result<(), Fail> {
+    let alloc = rt.alloc();
+    for (below, above, text) in [
         (
-            "filter",
-            A_PLUS_1,
-            "select",
-            A,
+            ("filter", A_PLUS_1),
+            ("select", A),
             "refused InvalidOperation .0\n",
         ),
         (
-            "filter",
-            A_PLUS_1,
-            "filter",
-            C,
+            ("filter", A_PLUS_1),
+            ("filter", C),
             "refused InvalidOperation .0\n",
         ),
         (
-            "select",
-            "{\"lit\":1},{\"lit\":2}",
-            "filter",
-            A,
+            ("select", "{\"lit\":1},{\"lit\":2}"),
+            ("filter", A),
             "refused Duplicate .0\n",
         ),
-        ("select", A, "filter", C, "refused ColumnNotFound .\n"),
+        (("select", A), ("filter", C), "refused ColumnNotFound .\n"),
         (
-            "filter",
-            C,
-            "select",
-            "{\"col\":\"b\"}",
+            ("filter", C),
+            ("select", "{\"col\":\"b\"}"),
             "refused ColumnNotFound .\n",
         ),
     ] {
-        let input = over(alloc, lower_word, SCAN, lower_expression)?;
-        let plan = over(alloc, upper_word, input.as_str(), upper_expression)?;
-        let seen = lower_plan(alloc, plan.as_str())?;
-        assert_eq!(rt; seen.written.as_slice(), text.as_bytes(), "{plan}");
-        assert_eq!(rt;
-            seen.number,
-            u8::from(text.starts_with("refused")),
-            "{plan}"
-        );
-        assert_eq!(rt; seen.has_plan, seen.number == 0);
+        let seen = lower_steps(alloc, below, above)?;
+        assert_eq!(rt; seen.written.as_slice(), text.as_bytes());
+        assert_eq!(rt; seen.number, 1);
+        assert!(rt; !seen.has_plan);
     }
     Ok(())
 }
