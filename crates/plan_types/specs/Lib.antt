@@ -10,3 +10,4 @@ pub mod Supertypes
 pub mod TypeLaws
 pub mod Types
 pub mod Values
+pub mod ValueViews

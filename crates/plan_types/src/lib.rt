@@ -4,6 +4,7 @@
 //! its columns and a place as the list of its steps.
 #![tactic(auto)]
 
+pub mod cast;
 pub mod common_type;
 pub mod dtype;
 pub mod error;
@@ -15,3 +16,4 @@ pub mod supertype;
 #[cfg(test)]
 mod tests;
 pub mod text;
+pub mod value;
