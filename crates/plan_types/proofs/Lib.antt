@@ -1,4 +1,5 @@
 pub mod CommonLemmas
+pub mod FrameCallLemmas
 pub mod ListLemmas
 pub mod NameLemmas
 pub mod ResultLemmas

@@ -5,11 +5,13 @@
 #![tactic(auto)]
 
 pub mod cast;
+pub mod column;
 pub mod common_type;
 pub mod dtype;
 pub mod error;
 pub mod examples;
 pub mod field;
+pub mod frame;
 pub mod laws;
 pub mod schema;
 pub mod supertype;
