@@ -1,6 +1,6 @@
 -- What is looked for in columns, one after another.
 use Rattle.std.proofs.Common.{◌≡◌, ℕ, ◌+◌, ◌<◌, List, [], ◌∷◌, ◌++◌, length, map, take, drop, get_or, Option, Some, None, Bool, true, false, ◌||◌, cond, refl, sym, ap, ◌∙◌}
-use Rattle.std.proofs.lemmas.List.{at_drop_more, take_more, map-append}
+use Rattle.std.proofs.lemmas.List.{drop_more}
 use Rattle.plan_types.specs.Types.{Ty, ty}
 use Rattle.plan_types.specs.Schemas.{Name, same_name, is_among}
 use Rattle.plan_types.specs.Values.{Val, fits}
@@ -8,10 +8,10 @@ use Rattle.plan_types.specs.FrameFaults.{names_in, count_of, repeated_name, othe
 use Rattle.plan_types.specs.Values.{NullValue}
 use Rattle.plan_types.specs.Frames.{Row, RowFits, HasNoRowsWithoutColumns, IsFrame}
 use Rattle.plan_types.specs.FrameFaults.{frame_fault, framed, heads_of, head_of, height_of, row_of}
-use Rattle.plan_types.specs.Schemas.{HasDistinctNames, repeats}
+use Rattle.plan_types.specs.Schemas.{Columns, HasDistinctNames, repeats, with_column}
 use Rattle.plan_types.proofs.ListLemmas.{map-map}
 use Rattle.plan_types.proofs.NameLemmas.{repeats-push}
-use Rattle.plan_types.proofs.SchemaLemmas.{distinct_from_test}
+use Rattle.plan_types.proofs.SchemaLemmas.{distinct_from_test, copied_more}
 use Rattle.std.specs.List.{AllByRecursion, range_with_len}
 use Rattle.std.proofs.Common.{append_assoc, append-nil, subst, IsTrue, is_none, slice_get, unwrap_or, zero, suc}
 use Rattle.plan_types.specs.declared.column.Column.{Column}
@@ -73,3 +73,9 @@ framed_is_frame columns h =
 
 pub sound_is_frame : (columns : List Column) → is_none (frame_fault columns) ≡ true → IsFrame (framed columns)
 sound_is_frame columns h = framed_is_frame columns (none_there _ h)
+
+-- one more column's name and type is copied
+pub copied_head : (done : Columns) (cs : List Column) (i : ℕ) (c : Column) (all : Columns) → HasDistinctNames all → i < length cs → c ≡ get_or cs i c → done ++ heads_of (drop i cs) ≡ all → with_column done c.name (ty c.dtype) ++ heads_of (drop (i + 1) cs) ≡ all
+copied_head done cs i c all distinct within at e =
+    let left : c ∷ drop (i + 1) cs ≡ drop i cs = ap (λ y. y ∷ drop (i + 1) cs) at ∙ sym (drop_more cs i c within) in
+    copied_more done (head_of c) (heads_of (drop (i + 1) cs)) all distinct (ap (λ l. done ++ heads_of l) left ∙ e)

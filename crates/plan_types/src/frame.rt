@@ -5,6 +5,8 @@ ghost use Rattle.plan_types.specs.Schemas.{is_among};
 ghost use Rattle.plan_types.specs.Types.{ty};
 
 use crate::column::Column;
+use crate::error::PlanError;
+use crate::schema::Schema;
 use crate::text::PlSmallStr;
 use std::alloc::{AllocError, Global};
 use thiserror::Error;
@@ -51,7 +53,9 @@ pub struct Frame {
 impl Frame {
     ghost use Rattle.std.specs.Prelude.{◌<◌, length, slice_get, Some};
     ghost use Rattle.plan_types.specs.FrameViews.{columns_of, frame_of};
+    ghost use Rattle.plan_types.specs.Errors.{no_memory};
     ghost use Rattle.plan_types.specs.Frames.{IsFrame};
+    ghost use Rattle.plan_types.specs.Schemas.{columns as schema_columns};
 
     /// The frame of these columns. A name that stands before is refused first, then the first length that isn't the
     /// first column's, then the first value that doesn't fit.
@@ -69,7 +73,8 @@ impl Frame {
 
     /// How many rows there are.
     pub fn height(&self) -> usize
-        ensures { result ≡ length (frame_of self.now).rows }
+        ensures height { result ≡ length (frame_of self.now).rows }
+        ensures frame { IsFrame (frame_of self.now) }
     {
         height(self.columns.as_slice())
     }
@@ -79,6 +84,20 @@ impl Frame {
         ensures { result ≡ length (frame_of self.now).schema }
     {
         self.columns.len()
+    }
+
+    /// A copy of the columns' names and types.
+    pub fn schema(&self, alloc: Global) -> Result<Schema, PlanError>
+        ensures ok { IfOk result (λ schema. schema_columns schema ≡ (frame_of self.now).schema) }
+        ensures err { IfErr result (λ error. error ≡ no_memory) }
+    {
+        let mut schema = Schema::new(alloc);
+        for column in self.columns.as_slice() {
+            let name = column.name.try_clone(alloc)?;
+            let dtype = column.dtype.try_clone(alloc)?;
+            schema.with_column(name, dtype)?;
+        }
+        Ok(schema)
     }
 
     /// The column of that number.
