@@ -66,9 +66,9 @@ framed_is_frame columns h =
     let names = none_of_both (repeated_name [] columns) _ h in
     let values = none_of_both (other_length (height_of columns) columns) (misfit columns) names.1 in
     record {
-        distinct = distinct_heads columns names.0;
-        fitting = all_mapped (RowFits (heads_of columns)) (row_of columns) (range_with_len 0 (height_of columns)) (row_fits columns values.1);
-        bare = no_bare_rows columns;
+      distinct = distinct_heads columns names.0;
+      fitting = all_mapped (RowFits (heads_of columns)) (row_of columns) (range_with_len 0 (height_of columns)) (row_fits columns values.1);
+      bare = no_bare_rows columns;
     }
 
 pub sound_is_frame : (columns : List Column) → is_none (frame_fault columns) ≡ true → IsFrame (framed columns)

@@ -16,7 +16,9 @@ use thiserror::Error;
 pub enum FrameError {
     /// A column has the name of one before it.
     #[error("two columns are named {name:?}")]
-    Duplicate { name: PlSmallStr },
+    Duplicate {
+        name: PlSmallStr,
+    },
     /// A column has another number of values than the first.
     #[error("column {name:?} has {found} values in place of {wanted}")]
     Length {
@@ -26,7 +28,10 @@ pub enum FrameError {
     },
     /// A value doesn't fit its column's type.
     #[error("the value of column {name:?} in row {row} doesn't fit its type")]
-    Misfit { name: PlSmallStr, row: usize },
+    Misfit {
+        name: PlSmallStr,
+        row: usize,
+    },
     /// Memory ran out. It may stand in place of any other answer.
     #[error("no memory")]
     NoMemory,
