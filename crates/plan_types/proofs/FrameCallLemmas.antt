@@ -18,11 +18,11 @@ use Rattle.plan_types.specs.declared.column.Column.{Column}
 use Rattle.plan_types.specs.declared.frame.FrameError.{FrameError}
 use Rattle.plan_types.specs.declared.frame.FrameError.TheVariants.{Duplicate, Length, Misfit}
 
-none_there : (fault : Option FrameError) → is_none fault ≡ true → fault ≡ None
+pub none_there : (fault : Option FrameError) → is_none fault ≡ true → fault ≡ None
 none_there None h = refl
 none_there (Some fault) h = cc
 
-none_of_both : (a b : Option FrameError) → else_fault a b ≡ None → (a ≡ None) × (b ≡ None)
+pub none_of_both : (a b : Option FrameError) → else_fault a b ≡ None → (a ≡ None) × (b ≡ None)
 none_of_both None b h = (refl, h)
 none_of_both (Some fault) b h = cc
 

@@ -1,6 +1,6 @@
 //! Frames: columns of one length, whose names are distinct and whose values fit their types.
 ghost use Rattle.std.specs.Prelude.{◌≡◌, [], None, true, is_none, IfOk, IfErr, OnOk};
-ghost use Rattle.plan_types.specs.FrameFaults.{count_of, frame_fault, height_of, misfit, misfit_from, names_in, other_length, repeated_name, vals_of, IsFault};
+ghost use Rattle.plan_types.specs.FrameFaults.{count_of, frame_fault, head_of, height_of, misfit, misfit_from, names_in, other_length, repeated_name, vals_of, IsFault};
 ghost use Rattle.plan_types.specs.Schemas.{is_among};
 ghost use Rattle.plan_types.specs.Types.{ty};
 
@@ -56,10 +56,10 @@ pub struct Frame {
 }
 
 impl Frame {
-    ghost use Rattle.std.specs.Prelude.{◌<◌, length, slice_get, Some};
+    ghost use Rattle.std.specs.Prelude.{◌<◌, ℕ, length, slice_get, Some};
     ghost use Rattle.plan_types.specs.FrameViews.{columns_of, frame_of};
     ghost use Rattle.plan_types.specs.Errors.{no_memory};
-    ghost use Rattle.plan_types.specs.Frames.{IsFrame};
+    ghost use Rattle.plan_types.specs.Frames.{value_in, row_at, IsFrame};
     ghost use Rattle.plan_types.specs.Schemas.{columns as schema_columns};
 
     /// The frame of these columns. A name that stands before is refused first, then the first length that isn't the
@@ -108,7 +108,11 @@ impl Frame {
     /// The column of that number.
     pub fn column(&self, index: usize) -> &Column
         requires { index < length (columns_of self.now) }
-        ensures { slice_get (columns_of self.now) index ≡ Some result.now }
+        ensures column { slice_get (columns_of self.now) index ≡ Some result.now }
+        ensures head { slice_get (frame_of self.now).schema index ≡ Some (head_of result.now) }
+        ensures height { count_of result.now ≡ length (frame_of self.now).rows }
+        ensures values { (number : ℕ) → number < count_of result.now
+            → slice_get (vals_of result.now.values) number ≡ Some (value_in (frame_of self.now).schema result.now.name (row_at (frame_of self.now) number)) }
     {
         &self.columns[index]
     }
