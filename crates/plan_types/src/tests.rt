@@ -1,3 +1,5 @@
+mod frames;
+
 use crate::dtype::{CastOptions, DataType};
 use crate::error::{ErrorKind, Place, PlanError};
 use crate::field::Field;
