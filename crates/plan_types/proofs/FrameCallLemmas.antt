@@ -1,22 +1,20 @@
--- What is looked for in columns, one after another.
-use Rattle.std.proofs.Common.{◌≡◌, ℕ, ◌+◌, ◌<◌, List, [], ◌∷◌, ◌++◌, length, map, take, drop, get_or, Option, Some, None, Bool, true, false, ◌||◌, cond, refl, sym, ap, ◌∙◌}
+-- Columns that nothing keeps from being a frame are one, and their schema is copied name by name.
+use Rattle.std.proofs.Common.{◌≡◌, ℕ, zero, suc, ◌+◌, ◌<◌, List, [], ◌∷◌, ◌++◌, length, map, drop, get_or, Option, Some, None, is_none, true, false, IsTrue, cond, refl, sym, ap, ◌∙◌, subst, append_assoc, append-nil, slice_get, unwrap_or}
 use Rattle.std.proofs.lemmas.List.{drop_more}
+use Rattle.std.specs.List.{AllByRecursion, range_with_len}
 use Rattle.plan_types.specs.Types.{Ty, ty}
-use Rattle.plan_types.specs.Schemas.{Name, same_name, is_among}
-use Rattle.plan_types.specs.Values.{Val, fits}
-use Rattle.plan_types.specs.FrameFaults.{names_in, count_of, repeated_name, other_length, misfit_from, misfit, else_fault, vals_of}
-use Rattle.plan_types.specs.Values.{NullValue}
-use Rattle.plan_types.specs.Frames.{Row, RowFits, HasNoRowsWithoutColumns, IsFrame}
-use Rattle.plan_types.specs.FrameFaults.{frame_fault, framed, heads_of, head_of, height_of, row_of}
-use Rattle.plan_types.specs.Schemas.{Columns, HasDistinctNames, repeats, with_column}
+use Rattle.plan_types.specs.Schemas.{Name, Columns, HasDistinctNames, is_among, repeats, with_column}
+use Rattle.plan_types.specs.Values.{Val, NullValue, fits}
+use Rattle.plan_types.specs.Frames.{RowFits, HasNoRowsWithoutColumns, IsFrame}
+use Rattle.plan_types.specs.FrameFaults.{names_in, repeated_name, other_length, misfit_from, misfit, else_fault, frame_fault, vals_of, framed, heads_of, head_of, height_of, row_of}
+use Rattle.plan_types.specs.FrameViews.{frame_of}
+use Rattle.plan_types.specs.declared.column.Column.{Column}
+use Rattle.plan_types.specs.declared.frame.Frame.{Frame}
+use Rattle.plan_types.specs.declared.frame.FrameError.{FrameError}
+use Rattle.plan_types.specs.declared.frame.FrameError.TheVariants.{Duplicate, Misfit}
 use Rattle.plan_types.proofs.ListLemmas.{map-map}
 use Rattle.plan_types.proofs.NameLemmas.{repeats-push}
 use Rattle.plan_types.proofs.SchemaLemmas.{distinct_from_test, copied_more}
-use Rattle.std.specs.List.{AllByRecursion, range_with_len}
-use Rattle.std.proofs.Common.{append_assoc, append-nil, subst, IsTrue, is_none, slice_get, unwrap_or, zero, suc}
-use Rattle.plan_types.specs.declared.column.Column.{Column}
-use Rattle.plan_types.specs.declared.frame.FrameError.{FrameError}
-use Rattle.plan_types.specs.declared.frame.FrameError.TheVariants.{Duplicate, Length, Misfit}
 
 pub none_there : (fault : Option FrameError) → is_none fault ≡ true → fault ≡ None
 none_there None h = refl
@@ -79,3 +77,7 @@ pub copied_head : (done : Columns) (cs : List Column) (i : ℕ) (c : Column) (al
 copied_head done cs i c all distinct within at e =
     let left : c ∷ drop (i + 1) cs ≡ drop i cs = ap (λ y. y ∷ drop (i + 1) cs) at ∙ sym (drop_more cs i c within) in
     copied_more done (head_of c) (heads_of (drop (i + 1) cs)) all distinct (ap (λ l. done ++ heads_of l) left ∙ e)
+
+-- each frame of the code is one
+pub frame_is_frame : (frame : Frame) → IsFrame (frame_of frame)
+frame_is_frame frame = sound_is_frame frame.columns.items frame.sound

@@ -1,5 +1,5 @@
 -- The columns of a frame have its values, row by row.
-use Rattle.std.proofs.Common.{arith, ◌≡◌, ℕ, zero, suc, ◌<◌, ◌==◌, List, [], ◌∷◌, length, map, Option, Some, None, Bool, true, false, cond, refl, sym, ap, ◌∙◌, subst, is_none, slice_get, unwrap_or}
+use Rattle.std.proofs.Common.{arith, ◌≡◌, ℕ, zero, suc, ◌<◌, ◌==◌, List, [], ◌∷◌, length, map, Some, None, true, false, cond, refl, sym, ap, ◌∙◌, subst, is_none, slice_get, unwrap_or}
 use Rattle.std.proofs.lemmas.List.{length-map}
 use Rattle.std.specs.List.{range_with_len}
 use Rattle.std.proofs.lemmas.Bool.{eqb-true}
@@ -7,14 +7,12 @@ use Rattle.std.proofs.lemmas.Cmp.{nat_list_eq_equiv}
 use Rattle.std.proofs.lemmas.List.FromFn.{length-map-range_with_len, get_or-map-range_with_len}
 use Rattle.std.proofs.lemmas.Option.{slice_get-get_or, slice_get-map}
 use Rattle.std.specs.Option.{option_map}
-use Rattle.plan_types.specs.Types.{ty}
 use Rattle.plan_types.specs.Values.{Val, NullValue}
 use Rattle.plan_types.specs.ValueViews.{val_of}
-use Rattle.plan_types.specs.Schemas.{Name, Columns, same_name, type_at, IsNewName, HasDistinctNames}
-use Rattle.plan_types.specs.Frames.{Row, value_in, row_at}
+use Rattle.plan_types.specs.Schemas.{Name, same_name, IsNewName, HasDistinctNames}
+use Rattle.plan_types.specs.Frames.{value_in, row_at}
 use Rattle.plan_types.specs.FrameFaults.{count_of, head_of, heads_of, height_of, row_of, framed, vals_of, other_length, misfit, repeated_name, frame_fault}
 use Rattle.plan_types.specs.declared.column.Column.{Column}
-use Rattle.plan_types.specs.declared.frame.FrameError.{FrameError}
 use Rattle.plan_types.specs.declared.frame.FrameError.TheVariants.{Length}
 use Rattle.plan_types.proofs.SchemaLemmas.{IsNewName-head, IsNewName-tail}
 use Rattle.plan_types.proofs.FrameCallLemmas.{none_of_both, none_there, sound_is_frame}

@@ -1,7 +1,7 @@
 -- Columns as the code keeps them, and what keeps them from being a frame.
 -- It is looked for in this order: a name that stands before, a length that isn't the first column's, and a
 -- value that doesn't fit its column's type.
-use Rattle.std.specs.Prelude.{◌≡◌, ◌⊎◌, ◌==◌, ◌++◌, ◌+◌, ℕ, List, [], ◌∷◌, length, map, Option, Some, None, is_none, Bool, true, false, if◌then◌else◌, slice_get, unwrap_or}
+use Rattle.std.specs.Prelude.{◌≡◌, ◌⊎◌, ◌==◌, ◌++◌, ◌+◌, ℕ, List, [], ◌∷◌, length, map, Option, Some, None, if◌then◌else◌, slice_get, unwrap_or}
 use Rattle.std.specs.List.{range_with_len}
 use Rattle.plan_types.specs.Types.{Ty, ty}
 use Rattle.plan_types.specs.Schemas.{Name, Columns, is_among}

@@ -1,4 +1,4 @@
-use Rattle.std.proofs.Common.{◌≡◌, map, drop}
+use Rattle.std.proofs.Common.{◌≡◌, drop}
 use Rattle.plan_types.specs.Schemas.{is_among}
 use Rattle.plan_types.specs.FrameFaults.{names_in}
 use Rattle.plan_types.proofs.frame.is_named.Given as goal
