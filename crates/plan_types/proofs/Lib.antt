@@ -1,4 +1,6 @@
 pub mod CommonLemmas
+pub mod FrameCallLemmas
+pub mod FrameRowLemmas
 pub mod ListLemmas
 pub mod NameLemmas
 pub mod ResultLemmas

@@ -2,6 +2,8 @@
 pub mod Casts
 pub mod CommonTypes
 pub mod Errors
+pub mod FrameFaults
+pub mod FrameViews
 pub mod Frames
 pub mod Outcomes
 pub mod Places
@@ -10,3 +12,4 @@ pub mod Supertypes
 pub mod TypeLaws
 pub mod Types
 pub mod Values
+pub mod ValueViews

@@ -4,14 +4,18 @@
 //! its columns and a place as the list of its steps.
 #![tactic(auto)]
 
+pub mod cast;
+pub mod column;
 pub mod common_type;
 pub mod dtype;
 pub mod error;
 pub mod examples;
 pub mod field;
+pub mod frame;
 pub mod laws;
 pub mod schema;
 pub mod supertype;
 #[cfg(test)]
 mod tests;
 pub mod text;
+pub mod value;

@@ -1,5 +1,6 @@
 //! Types, texts, schemas and places.
 
+mod frames;
 mod numbers;
 
 use crate::dtype::{CastOptions, DataType};

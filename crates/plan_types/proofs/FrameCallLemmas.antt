@@ -1,0 +1,83 @@
+-- Columns that nothing keeps from being a frame are one, and their schema is copied name by name.
+use Rattle.std.proofs.Common.{◌≡◌, ℕ, zero, suc, ◌+◌, ◌<◌, List, [], ◌∷◌, ◌++◌, length, map, drop, get_or, Option, Some, None, is_none, true, false, IsTrue, cond, refl, sym, ap, ◌∙◌, subst, append_assoc, append-nil, slice_get, unwrap_or}
+use Rattle.std.proofs.lemmas.List.{drop_more}
+use Rattle.std.specs.List.{AllByRecursion, range_with_len}
+use Rattle.plan_types.specs.Types.{Ty, ty}
+use Rattle.plan_types.specs.Schemas.{Name, Columns, HasDistinctNames, is_among, repeats, with_column}
+use Rattle.plan_types.specs.Values.{Val, NullValue, fits}
+use Rattle.plan_types.specs.Frames.{RowFits, HasNoRowsWithoutColumns, IsFrame}
+use Rattle.plan_types.specs.FrameFaults.{names_in, repeated_name, other_length, misfit_from, misfit, else_fault, frame_fault, vals_of, framed, heads_of, head_of, height_of, row_of}
+use Rattle.plan_types.specs.FrameViews.{frame_of}
+use Rattle.plan_types.specs.declared.column.Column.{Column}
+use Rattle.plan_types.specs.declared.frame.Frame.{Frame}
+use Rattle.plan_types.specs.declared.frame.FrameError.{FrameError}
+use Rattle.plan_types.specs.declared.frame.FrameError.TheVariants.{Duplicate, Misfit}
+use Rattle.plan_types.proofs.ListLemmas.{map-map}
+use Rattle.plan_types.proofs.NameLemmas.{repeats-push}
+use Rattle.plan_types.proofs.SchemaLemmas.{distinct_from_test, copied_more}
+
+pub none_there : (fault : Option FrameError) → is_none fault ≡ true → fault ≡ None
+none_there None h = refl
+none_there (Some fault) h = cc
+
+pub none_of_both : (a b : Option FrameError) → else_fault a b ≡ None → (a ≡ None) × (b ≡ None)
+none_of_both None b h = (refl, h)
+none_of_both (Some fault) b h = cc
+
+-- where no name stands before, the names are distinct
+distinct_behind : (before : List Name) (columns : List Column) → repeats before ≡ false → repeated_name before columns ≡ None → repeats (before ++ names_in columns) ≡ false
+distinct_behind before [] none h = subst (λ l. repeats l ≡ false) (sym (append-nil before)) none
+distinct_behind before (c ∷ cs) none h =
+    elim (is_among c.name before) as (λ b. is_among c.name before ≡ b → cond b (Some (Duplicate c.name)) (repeated_name (before ++ c.name ∷ []) cs) ≡ None → repeats (before ++ c.name ∷ names_in cs) ≡ false) [ true ↦ λ e g. cc | false ↦ λ e g. subst (λ l. repeats l ≡ false) (append_assoc before (c.name ∷ []) (names_in cs)) (distinct_behind (before ++ c.name ∷ []) cs (repeats-push before c.name none e) g) ] refl h
+
+distinct_heads : (columns : List Column) → repeated_name [] columns ≡ None → HasDistinctNames (heads_of columns)
+distinct_heads columns h = distinct_from_test (heads_of columns) (ap repeats (map-map (λ entry. entry.0) head_of columns) ∙ distinct_behind [] columns refl h)
+
+-- a value that fits, and those behind it
+fitting_parts : (row : ℕ) (name : Name) (type : Ty) (value : Val) (values : List Val) → misfit_from row name type (value ∷ values) ≡ None → (fits value type ≡ true) × (misfit_from (row + 1) name type values ≡ None)
+fitting_parts row name type value values h =
+    elim (fits value type) as (λ b. cond b (misfit_from (row + 1) name type values) (Some (Misfit name row)) ≡ None → (b ≡ true) × (misfit_from (row + 1) name type values ≡ None)) [ true ↦ λ e. (refl, e) | false ↦ λ e. cc ] h
+
+-- a column's value fits, and so does null past its end
+value_fits : (row : ℕ) (name : Name) (type : Ty) (values : List Val) → misfit_from row name type values ≡ None → (number : ℕ) → IsTrue (fits (unwrap_or (slice_get values number) NullValue) type)
+value_fits row name type [] h number = refl
+value_fits row name type (value ∷ values) h zero = (fitting_parts row name type value values h).0
+value_fits row name type (value ∷ values) h (suc number) = value_fits (row + 1) name type values (fitting_parts row name type value values h).1 number
+
+row_fits : (columns : List Column) → misfit columns ≡ None → (number : ℕ) → RowFits (heads_of columns) (row_of columns number)
+row_fits [] h number = tt
+row_fits (c ∷ cs) h number =
+    let parts = none_of_both (misfit_from 0 c.name (ty c.dtype) (vals_of c.values)) (misfit cs) h in
+    (value_fits 0 c.name (ty c.dtype) (vals_of c.values) parts.0 number, row_fits cs parts.1 number)
+
+all_mapped : {A B : Type 0} (P : B → Type 0) (f : A → B) (xs : List A) → ((x : A) → P (f x)) → AllByRecursion P (map f xs)
+all_mapped P f [] each = tt
+all_mapped P f (x ∷ xs) each = (each x, all_mapped P f xs each)
+
+no_bare_rows : (columns : List Column) → HasNoRowsWithoutColumns (heads_of columns) (map (row_of columns) (range_with_len 0 (height_of columns)))
+no_bare_rows [] = refl
+no_bare_rows (c ∷ cs) = tt
+
+-- columns that nothing keeps from being a frame are one
+pub framed_is_frame : (columns : List Column) → frame_fault columns ≡ None → IsFrame (framed columns)
+framed_is_frame columns h =
+    let names = none_of_both (repeated_name [] columns) _ h in
+    let values = none_of_both (other_length (height_of columns) columns) (misfit columns) names.1 in
+    record {
+      distinct = distinct_heads columns names.0;
+      fitting = all_mapped (RowFits (heads_of columns)) (row_of columns) (range_with_len 0 (height_of columns)) (row_fits columns values.1);
+      bare = no_bare_rows columns;
+    }
+
+pub sound_is_frame : (columns : List Column) → is_none (frame_fault columns) ≡ true → IsFrame (framed columns)
+sound_is_frame columns h = framed_is_frame columns (none_there _ h)
+
+-- one more column's name and type is copied
+pub copied_head : (done : Columns) (cs : List Column) (i : ℕ) (c : Column) (all : Columns) → HasDistinctNames all → i < length cs → c ≡ get_or cs i c → done ++ heads_of (drop i cs) ≡ all → with_column done c.name (ty c.dtype) ++ heads_of (drop (i + 1) cs) ≡ all
+copied_head done cs i c all distinct within at e =
+    let left : c ∷ drop (i + 1) cs ≡ drop i cs = ap (λ y. y ∷ drop (i + 1) cs) at ∙ sym (drop_more cs i c within) in
+    copied_more done (head_of c) (heads_of (drop (i + 1) cs)) all distinct (ap (λ l. done ++ heads_of l) left ∙ e)
+
+-- each frame of the code is one
+pub frame_is_frame : (frame : Frame) → IsFrame (frame_of frame)
+frame_is_frame frame = sound_is_frame frame.columns.items frame.sound

@@ -1,0 +1,213 @@
+//! Frames: columns of one length, whose names are distinct and whose values fit their types.
+ghost use Rattle.std.specs.Prelude.{◌≡◌, [], None, true, is_none, IfOk, IfErr, OnOk};
+ghost use Rattle.plan_types.specs.FrameFaults.{count_of, frame_fault, head_of, height_of, misfit, misfit_from, names_in, other_length, repeated_name, vals_of, IsFault};
+ghost use Rattle.plan_types.specs.Schemas.{is_among};
+ghost use Rattle.plan_types.specs.Types.{ty};
+
+use crate::column::Column;
+use crate::error::PlanError;
+use crate::schema::Schema;
+use crate::text::PlSmallStr;
+use std::alloc::{AllocError, Global};
+use thiserror::Error;
+
+/// Why columns are no frame.
+#[derive(Debug, Drop, Error)]
+pub enum FrameError {
+    /// A column has the name of one before it.
+    #[error("two columns are named {name:?}")]
+    Duplicate {
+        name: PlSmallStr,
+    },
+    /// A column has another number of values than the first.
+    #[error("column {name:?} has {found} values in place of {wanted}")]
+    Length {
+        name: PlSmallStr,
+        found: usize,
+        wanted: usize,
+    },
+    /// A value doesn't fit its column's type.
+    #[error("the value of column {name:?} in row {row} doesn't fit its type")]
+    Misfit {
+        name: PlSmallStr,
+        row: usize,
+    },
+    /// Memory ran out. It may stand in place of any other answer.
+    #[error("no memory")]
+    NoMemory,
+}
+
+impl From<AllocError> for FrameError {
+    ghost use Rattle.std.specs.Prelude.{◌≡◌};
+    ghost use Rattle.plan_types.specs.declared.frame.FrameError.TheVariants.{NoMemory};
+
+    ghost from_gives = { λ _ error. error ≡ NoMemory };
+
+    fn from(_error: AllocError) -> FrameError {
+        FrameError::NoMemory
+    }
+}
+
+/// A frame. Contracts see its schema and its rows as `frame_of`.
+#[derive(Drop)]
+pub struct Frame {
+    columns: Vec<Column>,
+    ghost sound: { is_none (frame_fault columns.items) ≡ true },
+}
+
+impl Frame {
+    ghost use Rattle.std.specs.Prelude.{◌<◌, ℕ, length, slice_get, Some};
+    ghost use Rattle.plan_types.specs.FrameViews.{columns_of, frame_of};
+    ghost use Rattle.plan_types.specs.Errors.{no_memory};
+    ghost use Rattle.plan_types.specs.Frames.{value_in, row_at, IsFrame};
+    ghost use Rattle.plan_types.specs.Schemas.{columns as schema_columns};
+
+    /// The frame of these columns. A name that stands before is refused first, then the first length that isn't the
+    /// first column's, then the first value that doesn't fit.
+    pub fn new(alloc: Global, columns: Vec<Column>) -> Result<Frame, FrameError>
+        ensures ok { IfOk result (λ frame. columns_of frame ≡ columns.items) }
+        ensures sound { OnOk result (frame_fault columns.items ≡ None) }
+        ensures frame { IfOk result (λ frame. IsFrame (frame_of frame)) }
+        ensures err { IfErr result (IsFault (frame_fault columns.items)) }
+    {
+        check_names(alloc, columns.as_slice())?;
+        check_lengths(alloc, columns.as_slice())?;
+        check_values(alloc, columns.as_slice())?;
+        Ok(Frame { columns })
+    }
+
+    /// How many rows there are.
+    pub fn height(&self) -> usize
+        ensures height { result ≡ length (frame_of self.now).rows }
+        ensures frame { IsFrame (frame_of self.now) }
+    {
+        height(self.columns.as_slice())
+    }
+
+    /// How many columns there are.
+    pub fn width(&self) -> usize
+        ensures { result ≡ length (frame_of self.now).schema }
+    {
+        self.columns.len()
+    }
+
+    /// A copy of the columns' names and types.
+    pub fn schema(&self, alloc: Global) -> Result<Schema, PlanError>
+        ensures ok { IfOk result (λ schema. schema_columns schema ≡ (frame_of self.now).schema) }
+        ensures err { IfErr result (λ error. error ≡ no_memory) }
+    {
+        let mut schema = Schema::new(alloc);
+        for column in self.columns.as_slice() {
+            let name = column.name.try_clone(alloc)?;
+            let dtype = column.dtype.try_clone(alloc)?;
+            schema.with_column(name, dtype)?;
+        }
+        Ok(schema)
+    }
+
+    /// The column of that number.
+    pub fn column(&self, index: usize) -> &Column
+        requires { index < length (columns_of self.now) }
+        ensures column { slice_get (columns_of self.now) index ≡ Some result.now }
+        ensures head { slice_get (frame_of self.now).schema index ≡ Some (head_of result.now) }
+        ensures height { count_of result.now ≡ length (frame_of self.now).rows }
+        ensures values { (number : ℕ) → number < count_of result.now
+            → slice_get (vals_of result.now.values) number ≡ Some (value_in (frame_of self.now).schema result.now.name (row_at (frame_of self.now) number)) }
+    {
+        &self.columns[index]
+    }
+}
+
+// How many values the first column has.
+fn height(columns: &[Column]) -> usize
+    ensures { result ≡ height_of columns.now }
+{
+    match columns.first() {
+        Some(column) => column.values.items.len(),
+        None => 0,
+    }
+}
+
+// Refuses the first name that stands before.
+fn check_names(alloc: Global, columns: &[Column]) -> Result<(), FrameError>
+    ensures ok { OnOk result (repeated_name [] columns.now ≡ None) }
+    ensures err { IfErr result (IsFault (repeated_name [] columns.now)) }
+{
+    for number in 0..columns.len() {
+        let column = &columns[number];
+        if is_named(&columns[..number], &column.name) {
+            let name = copied(alloc, &column.name)?;
+            return Err(FrameError::Duplicate { name });
+        }
+    }
+    Ok(())
+}
+
+// Whether a column has the name.
+fn is_named(columns: &[Column], name: &PlSmallStr) -> bool
+    ensures { result ≡ is_among name.now (names_in columns.now) }
+{
+    for column in columns {
+        if *name == column.name {
+            return true;
+        }
+    }
+    false
+}
+
+// A copy of a name, for a refusal.
+fn copied(alloc: Global, name: &PlSmallStr) -> Result<PlSmallStr, FrameError>
+    ensures ok { IfOk result (λ copy. copy ≡ name.now) }
+    ensures err { IfErr result (λ error. error ≡ FrameError.NoMemory) }
+{
+    match name.try_clone(alloc) {
+        Ok(copy) => Ok(copy),
+        Err(_) => Err(FrameError::NoMemory),
+    }
+}
+
+// Refuses the first column that has another number of values than the first.
+fn check_lengths(alloc: Global, columns: &[Column]) -> Result<(), FrameError>
+    ensures ok { OnOk result (other_length (height_of columns.now) columns.now ≡ None) }
+    ensures err { IfErr result (IsFault (other_length (height_of columns.now) columns.now)) }
+{
+    let wanted = height(columns);
+    for column in columns {
+        let found = column.values.items.len();
+        if found != wanted {
+            let name = copied(alloc, &column.name)?;
+            return Err(FrameError::Length {
+                name,
+                found,
+                wanted,
+            });
+        }
+    }
+    Ok(())
+}
+
+// Refuses the first value that doesn't fit its column's type.
+fn check_values(alloc: Global, columns: &[Column]) -> Result<(), FrameError>
+    ensures ok { OnOk result (misfit columns.now ≡ None) }
+    ensures err { IfErr result (IsFault (misfit columns.now)) }
+{
+    for column in columns {
+        check_column(alloc, column)?;
+    }
+    Ok(())
+}
+
+// Refuses the column's first value that doesn't fit its type.
+fn check_column(alloc: Global, column: &Column) -> Result<(), FrameError>
+    ensures ok { OnOk result (misfit_from 0 column.now.name (ty column.now.dtype) (vals_of column.now.values) ≡ None) }
+    ensures err { IfErr result (IsFault (misfit_from 0 column.now.name (ty column.now.dtype) (vals_of column.now.values))) }
+{
+    let values = column.values.items.as_slice();
+    for row in 0..values.len() {
+        if !values[row].fits(&column.dtype) {
+            let name = copied(alloc, &column.name)?;
+            return Err(FrameError::Misfit { name, row });
+        }
+    }
+    Ok(())
+}
