@@ -1,5 +1,5 @@
 -- Common types of operands: they are those of columns, and have the numbers of the operands.
-use Rattle.std.proofs.Common.{◌≡◌, ◌⊎◌, inl, inr, ⊎_elim, Bool, true, false, cond, List, [], ◌∷◌, Option, Some, None, Result, Ok, Err, int_lt, refl, sym, ap, ◌∙◌, subst}
+use Rattle.std.proofs.Common.{◌≡◌, inl, inr, ⊎_elim, Bool, true, false, cond, List, [], ◌∷◌, Option, Some, None, Ok, int_lt, refl, ap, ◌∙◌, subst}
 use Rattle.std.specs.Prelude.{ℕ, ◌*◌, ℤ, pos, nat_lt}
 use Rattle.std.specs.List.{AllByRecursion}
 use Rattle.plan_types.specs.Types.{Ty, Truth, Integer, Untyped, is_known}
@@ -60,9 +60,9 @@ above_known m n found h =
     elim (nat_lt n m) as (λ b. cond b (Some (Integer true m)) (cond (nat_lt n 64) (Some (Integer true (2 * n))) None) ≡ Some found → is_known found ≡ true) [
       | true ↦ λ h. let same : Integer true m ≡ found = cc in subst (λ t. is_known t ≡ true) same refl
       | false ↦ λ h. elim (nat_lt n 64) as (λ b. cond b (Some (Integer true (2 * n))) None ≡ Some found → is_known found ≡ true) [
-          | true ↦ λ h. let same : Integer true (2 * n) ≡ found = cc in subst (λ t. is_known t ≡ true) same refl
-          | false ↦ λ h. cc
-        ] h
+        | true ↦ λ h. let same : Integer true (2 * n) ≡ found = cc in subst (λ t. is_known t ≡ true) same refl
+        | false ↦ λ h. cc
+      ] h
     ] h
 
 is_it : (type found : Ty) → is_known type ≡ true → Some type ≡ Some found → is_known found ≡ true
@@ -98,9 +98,9 @@ parts left right found h =
     elim (type_beside left right) as (λ l. type_beside left right ≡ l → common_of l (type_beside right left) ≡ Ok found → Parts left right found) [
       | None ↦ λ e h. cc
       | Some a ↦ λ e h. elim (type_beside right left) as (λ r. type_beside right left ≡ r → common_of (Some a) r ≡ Ok found → Parts left right found) [
-          | None ↦ λ f h. cc
-          | Some b ↦ λ f h. record { left_own = a; left_is = e; right_own = b; right_is = f; common = found_is (supertype a b) found h }
-        ] refl h
+        | None ↦ λ f h. cc
+        | Some b ↦ λ f h. record { left_own = a; left_is = e; right_own = b; right_is = f; common = found_is (supertype a b) found h }
+      ] refl h
     ] refl h
 
 -- the common type of operands is one of columns

@@ -2,6 +2,7 @@ pub mod CommonLemmas
 pub mod ListLemmas
 pub mod NameLemmas
 pub mod ResultLemmas
+pub mod SchemaCallLemmas
 pub mod SchemaLemmas
 pub mod SupertypeLemmas
 pub mod TextLemmas

@@ -32,9 +32,9 @@ untyped_symmetric m n =
     elim (int_eq m n) as (λ b. int_eq m n ≡ b → cond b (Some (Untyped m)) None ≡ cond (int_eq n m) (Some (Untyped n)) None) [
       | true ↦ λ e. let same = (Decides-int_eq m n).0 e in subst (λ k. Some (Untyped m) ≡ cond (int_eq k m) (Some (Untyped k)) None) same (ap (λ b. cond b (Some (Untyped m)) None) (sym ((Decides-int_eq m m).1 refl)))
       | false ↦ λ e. elim (int_eq n m) as (λ b. int_eq n m ≡ b → None ≡ cond b (Some (Untyped n)) None) [
-          | true ↦ λ f. let back = (Decides-int_eq m n).1 (sym ((Decides-int_eq n m).0 f)) in cc
-          | false ↦ λ f. refl
-        ] refl
+        | true ↦ λ f. let back = (Decides-int_eq m n).1 (sym ((Decides-int_eq n m).0 f)) in cc
+        | false ↦ λ f. refl
+      ] refl
     ] refl
 
 -- the order of the two doesn't matter

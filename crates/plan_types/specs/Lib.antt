@@ -5,6 +5,7 @@ pub mod Errors
 pub mod Frames
 pub mod Outcomes
 pub mod Places
+pub mod SchemaCalls
 pub mod Schemas
 pub mod Supertypes
 pub mod TypeLaws

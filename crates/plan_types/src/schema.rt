@@ -1,14 +1,17 @@
 //! Schemas: the columns of a frame, in order.
-ghost use Rattle.std.specs.Prelude.{◌≡◌, ◌↔◌, [], length, is_some, slice_get, IsTrue, IfOk, IfErr, OnOk, OnErr, Some};
+ghost use Rattle.std.specs.Prelude.{◌≡◌, ◌↔◌, ℕ, List, [], length, is_some, slice_get, IsTrue, IfOk, IfErr, OnOk, OnErr, Some};
 ghost use Rattle.std.specs.Option.{option_map};
+ghost use Rattle.std.specs.Map.Iter.{ShowsInOrder, deref};
 ghost use Rattle.plan_types.specs.Errors.{no_memory, IsMemoryOr};
-ghost use Rattle.plan_types.specs.Schemas.{all_known, columns, type_at, with_column, IsNewName, HasDistinctNames};
+ghost use Rattle.plan_types.specs.Schemas.{all_known, columns, type_at, with_column, names_of, IsNewName, HasDistinctNames};
+ghost use Rattle.plan_types.specs.SchemaCalls.{column_at};
 ghost use Rattle.plan_types.specs.Types.{ty};
 
 use crate::dtype::DataType;
 use crate::error::{ErrorKind, PlanError};
 use crate::text::PlSmallStr;
 use indexmap::IndexMap;
+use indexmap::map::Keys;
 use std::alloc::Global;
 
 /// The columns of a frame, in order. No two have one name. Contracts see their list as `columns`.
@@ -83,6 +86,21 @@ impl Schema {
         ensures { option_map (λ column. (column.0.now, ty column.1.now)) result ≡ slice_get (columns self.now) index }
     {
         self.fields.get_index(index)
+    }
+
+    /// The place of the column of that name, and its name and type.
+    pub fn get_full(&self, name: &PlSmallStr) -> Option<(usize, &PlSmallStr, &DataType)>
+        ensures { option_map (λ found. (found.0, (found.1.now, ty found.2.now))) result ≡ column_at (columns self.now) name.now }
+    {
+        self.fields.get_full(name)
+    }
+
+    /// The names of the columns, in order.
+    pub fn iter_names(&self) -> Keys<'_, PlSmallStr, DataType>
+        ensures names { result ≡ names_of (columns self.now) }
+        ensures runs { ShowsInOrder (deref {X = List ℕ}) }
+    {
+        self.fields.keys()
     }
 
     /// Gives the column of that name the type, and appends it where there is none. The answer is the type that it had.
