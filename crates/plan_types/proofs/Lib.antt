@@ -4,6 +4,7 @@ pub mod NameLemmas
 pub mod ResultLemmas
 pub mod SchemaCallLemmas
 pub mod SchemaLemmas
+pub mod SchemaPairLemmas
 pub mod SupertypeLemmas
 pub mod TextLemmas
 pub mod ValueLemmas

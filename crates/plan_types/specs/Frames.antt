@@ -1,7 +1,7 @@
 -- Frames.
 -- A frame is a schema and a list of rows, each with a fitting value for every column. The names are
 -- distinct, and without columns there are no rows.
-use Rattle.std.specs.Prelude.{◌≡◌, ℕ, List, [], ◌∷◌, length, IsTrue, if◌then◌else◌, slice_get, unwrap_or}
+use Rattle.std.specs.Prelude.{◌≡◌, ℕ, List, [], ◌∷◌, length, Bool, true, false, IsTrue, if◌then◌else◌, slice_get, unwrap_or}
 use Rattle.std.specs.List.{AllByRecursion, range_with_len}
 use Rattle.plan_types.specs.Values.{Val, NullValue, fits}
 use Rattle.plan_types.specs.Schemas.{Name, Columns, same_name, HasDistinctNames}

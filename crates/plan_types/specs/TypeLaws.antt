@@ -1,5 +1,6 @@
 -- Laws of comparing types.
 use Rattle.std.specs.Prelude.{◌≡◌, ◌++◌, Bool, true, false}
+use Rattle.std.specs.Ordering.{int_eq}
 use Rattle.std.specs.Cmp.{IsEquivalence}
 use Rattle.std.specs.Hash as fed
 use Rattle.std.proofs.Common.{refl, sym, ap, subst, rules}

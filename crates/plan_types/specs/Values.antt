@@ -1,7 +1,7 @@
 -- Values.
 -- A value is null, a truth value or a whole number. Null fits every type, a truth value its own type, and a
 -- number an integer type whose range has it. A number without a type fits its own.
-use Rattle.std.specs.Prelude.{◌-◌, ◌^◌, ℤ, ◌+ℤ◌, pos, neg_ℤ, int_lt, Bool, true, false, ◌&&◌, not, List, [], ◌∷◌}
+use Rattle.std.specs.Prelude.{ℕ, ◌-◌, ◌^◌, ℤ, ◌+ℤ◌, pos, neg_ℤ, int_lt, Bool, true, false, ◌&&◌, not, List, [], ◌∷◌}
 use Rattle.plan_types.specs.Types.{Ty, Truth, Integer, Untyped}
 
 pub data Val : Type 0 where

@@ -15,6 +15,8 @@ ghost use Rattle.plan_types.specs.declared.error.ErrorKind.TheVariants.{SchemaMi
 ghost use Rattle.plan_types.specs.declared.dtype.CastOptions.TheVariants.{Strict, NonStrict, Overflowing};
 ghost use Rattle.plan_types.specs.declared.dtype.DataType.TheVariants.{Boolean, Int8, Int16, Int32, Int64, UInt8, UInt16, UInt32, UInt64};
 
+pub mod schema_calls;
+
 /// An integer type is its sign and its bits, and truth values have a type of their own.
 pub fn type_examples()
     ensures boolean { ty Boolean ≡ Truth }
