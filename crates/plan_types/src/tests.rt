@@ -1,3 +1,5 @@
+mod schema_calls;
+
 use crate::dtype::{CastOptions, DataType};
 use crate::error::{ErrorKind, Place, PlanError};
 use crate::field::Field;
