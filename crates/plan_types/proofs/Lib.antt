@@ -4,7 +4,9 @@ pub mod FrameRowLemmas
 pub mod ListLemmas
 pub mod NameLemmas
 pub mod ResultLemmas
+pub mod SchemaCallLemmas
 pub mod SchemaLemmas
+pub mod SchemaPairLemmas
 pub mod SupertypeLemmas
 pub mod TextLemmas
 pub mod ValueLemmas

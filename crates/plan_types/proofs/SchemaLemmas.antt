@@ -91,7 +91,7 @@ is_among-type_at [] name = refl
 is_among-type_at (c ∷ cs) name =
     elim (same_name name c.0) as (λ b. (b || is_among name (names_of cs)) ≡ is_some (cond b (Some c.1) (type_at cs name))) [ true ↦ refl | false ↦ is_among-type_at cs name ]
 
-none_there : (o : Option Ty) → is_some o ≡ false → o ≡ None
+pub none_there : (o : Option Ty) → is_some o ≡ false → o ≡ None
 none_there None h = refl
 none_there (Some x) h = cc
 

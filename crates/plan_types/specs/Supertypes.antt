@@ -2,9 +2,9 @@
 -- Integers of one sign have the wider of the two. A signed and an unsigned one have the least signed
 -- type that holds both, which UInt64 has with none. Truth values beside an integer are of its type. A number
 -- without a type has a common type with itself alone. The relation is symmetric.
-use Rattle.std.specs.Prelude.{ℕ, ◌*◌, true, false, Option, Some, None, max, nat_lt, if◌then◌else◌}
+use Rattle.std.specs.Prelude.{ℕ, ◌*◌, true, false, not, ◌&&◌, Option, Some, None, max, nat_lt, if◌then◌else◌}
 use Rattle.std.specs.Ordering.{int_eq}
-use Rattle.plan_types.specs.Types.{Ty, Truth, Integer, Untyped}
+use Rattle.plan_types.specs.Types.{Ty, Truth, Integer, Untyped, is_integer, same_type}
 
 -- the least signed type that holds a signed and an unsigned type of these widths
 abbrev pub signed_above : ℕ → ℕ → Option Ty
@@ -27,3 +27,8 @@ supertype (Integer signed bits) (Untyped number) = None
 supertype (Untyped number) Truth = None
 supertype (Untyped number) (Integer signed bits) = None
 supertype (Untyped number) (Untyped other) = if int_eq number other then Some (Untyped number) else None
+
+-- the common type of two integer types that differ
+abbrev pub upcast : Ty → Ty → Option Ty
+upcast left right =
+    if is_integer left && (is_integer right && not (same_type left right)) then supertype left right else None

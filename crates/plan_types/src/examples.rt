@@ -16,6 +16,7 @@ ghost use Rattle.plan_types.specs.declared.dtype.CastOptions.TheVariants.{Strict
 ghost use Rattle.plan_types.specs.declared.dtype.DataType.TheVariants.{Boolean, Int8, Int16, Int32, Int64, UInt8, UInt16, UInt32, UInt64};
 
 pub mod columns;
+pub mod schema_calls;
 
 /// An integer type is its sign and its bits, and truth values have a type of their own.
 pub fn type_examples()

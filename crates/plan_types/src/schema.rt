@@ -1,14 +1,19 @@
 //! Schemas: the columns of a frame, in order.
-ghost use Rattle.std.specs.Prelude.{◌≡◌, ◌↔◌, [], length, is_some, slice_get, IsTrue, IfOk, IfErr, OnOk, OnErr, Some};
+ghost use Rattle.std.specs.Prelude.{◌≡◌, ◌≢◌, ◌↔◌, ◌≤◌, ℕ, List, [], length, insert, true, not, Ok, None, is_some, slice_get, IsTrue, IfOk, IfErr, OnOk, OnErr, Some};
+ghost use Rattle.std.specs.Bool.{Decides};
 ghost use Rattle.std.specs.Option.{option_map};
-ghost use Rattle.plan_types.specs.Errors.{no_memory, IsMemoryOr};
-ghost use Rattle.plan_types.specs.Schemas.{all_known, columns, type_at, with_column, IsNewName, HasDistinctNames};
+ghost use Rattle.std.specs.Map.Iter.{ShowsInOrder, deref};
+ghost use Rattle.plan_types.specs.Errors.{at_top, no_memory, IsMemoryOr, IsRefusal};
+ghost use Rattle.plan_types.specs.Schemas.{all_known, columns, type_at, with_column, names_of, IsNewName, HasDistinctNames};
+ghost use Rattle.plan_types.specs.SchemaCalls.{column_at, same_names, common_columns, super_columns};
 ghost use Rattle.plan_types.specs.Types.{ty};
 
 use crate::dtype::DataType;
 use crate::error::{ErrorKind, PlanError};
+use crate::supertype::try_get_supertype;
 use crate::text::PlSmallStr;
 use indexmap::IndexMap;
+use indexmap::map::Keys;
 use std::alloc::Global;
 
 /// The columns of a frame, in order. No two have one name. Contracts see their list as `columns`.
@@ -85,6 +90,21 @@ impl Schema {
         self.fields.get_index(index)
     }
 
+    /// The place of the column of that name, and its name and type.
+    pub fn get_full(&self, name: &PlSmallStr) -> Option<(usize, &PlSmallStr, &DataType)>
+        ensures { option_map (λ found. (found.0, (found.1.now, ty found.2.now))) result ≡ column_at (columns self.now) name.now }
+    {
+        self.fields.get_full(name)
+    }
+
+    /// The names of the columns, in order.
+    pub fn iter_names(&self) -> Keys<'_, PlSmallStr, DataType>
+        ensures names { result ≡ names_of (columns self.now) }
+        ensures runs { ShowsInOrder (deref {X = List ℕ}) }
+    {
+        self.fields.keys()
+    }
+
     /// Gives the column of that name the type, and appends it where there is none. The answer is the type that it had.
     pub fn with_column(
         &mut self,
@@ -98,6 +118,108 @@ impl Schema {
     {
         let before = self.fields.insert(name, dtype)?;
         Ok(before)
+    }
+
+    /// Puts a new column at that place; the later ones move.
+    pub fn insert_at_index(
+        &mut self,
+        index: usize,
+        name: PlSmallStr,
+        dtype: DataType,
+    ) -> Result<(), PlanError>
+        requires { index ≤ length (columns self.old) }
+        ensures ok { OnOk result (columns self.new ≡ insert (columns self.old) index (name, ty dtype)) }
+        ensures fresh { OnOk result (IsNewName (columns self.old) name) }
+        ensures err { IfErr result (IsMemoryOr ErrorKind.Duplicate (is_some (type_at (columns self.old) name) ≡ true)) }
+        ensures unchanged { OnErr result (columns self.new ≡ columns self.old) }
+    {
+        if self.contains(&name) {
+            return Err(PlanError::at_top(ErrorKind::Duplicate));
+        }
+        let _len = self.fields.len();
+        let _before = self.fields.insert_before(index, name, dtype)?;
+        Ok(())
+    }
+
+    /// Refuses two schemas that differ in number, names, order or types of columns. It takes no memory.
+    pub fn matches_schema(&self, other: &Schema) -> Result<(), PlanError>
+        ensures ok { OnOk result (columns self.now ≡ columns other.now) }
+        ensures err { IfErr result (λ error. error ≡ at_top ErrorKind.InvalidOperation) }
+        ensures differ { OnErr result (columns self.now ≢ columns other.now) }
+    {
+        if self.has_columns_of(other) {
+            Ok(())
+        } else {
+            Err(PlanError::at_top(ErrorKind::InvalidOperation))
+        }
+    }
+
+    // Whether the other has the same columns, in the same order.
+    fn has_columns_of(&self, other: &Schema) -> bool
+        ensures { Decides result (columns self.now ≡ columns other.now) }
+    {
+        self.fields.as_slice() == other.fields.as_slice()
+    }
+
+    /// Gives each column the common type of its own and the other's at that place. The answer is whether a type
+    /// changed, or is another than the other's.
+    pub fn to_supertype(&mut self, other: &Schema) -> Result<bool, PlanError>
+        ensures ok { OnOk result (super_columns (columns self.old) (columns other.now) ≡ Ok (columns self.new)) }
+        ensures changed { IfOk result (λ changed. Decides (not changed) ((columns self.new ≡ columns self.old) × (columns self.new ≡ columns other.now))) }
+        ensures err { IfErr result (IsRefusal (super_columns (columns self.old) (columns other.now))) }
+        ensures unchanged { OnErr result (columns self.new ≡ columns self.old) }
+    {
+        if !self.has_names_of(other) {
+            return Err(PlanError::at_top(ErrorKind::InvalidOperation));
+        }
+        let alloc = *self.fields.allocator();
+        let merged = self.with_common_types(alloc, other)?;
+        let changed = !self.has_columns_of(other);
+        *self = merged;
+        Ok(changed)
+    }
+
+    // Whether the other has the same names, in the same order.
+    fn has_names_of(&self, other: &Schema) -> bool
+        ensures { result ≡ same_names (columns self.now) (columns other.now) }
+    {
+        if self.len() != other.len() {
+            return false;
+        }
+        for number in 0..self.len() {
+            if self.name_at(number) != other.name_at(number) {
+                return false;
+            }
+        }
+        true
+    }
+
+    // The name of the column of that number.
+    fn name_at(&self, number: usize) -> Option<&PlSmallStr>
+        ensures { option_map (λ name. name.now) result ≡ slice_get (names_of (columns self.now)) number }
+    {
+        let (name, _dtype) = self.get_at_index(number)?;
+        Some(name)
+    }
+
+    // The columns with the common types of their own and the other's at each place.
+    fn with_common_types(&self, alloc: Global, other: &Schema) -> Result<Schema, PlanError>
+        requires { same_names (columns self.now) (columns other.now) ≡ true }
+        ensures ok { IfOk result (λ merged. common_columns (columns self.now) (columns other.now) ≡ Some (columns merged)) }
+        ensures err { IfErr result (IsMemoryOr ErrorKind.SchemaMismatch (common_columns (columns self.now) (columns other.now) ≡ None)) }
+    {
+        let mut merged = Schema::new(alloc);
+        for number in 0..self.len() {
+            match (self.get_at_index(number), other.get_at_index(number)) {
+                (Some((name, left)), Some((_name, right))) => {
+                    let common = try_get_supertype(alloc, left, right)?;
+                    let name = name.try_clone(alloc)?;
+                    merged.with_column(name, common)?;
+                }
+                _ => return Err(PlanError::at_top(ErrorKind::SchemaMismatch)),
+            }
+        }
+        Ok(merged)
     }
 
     pub fn try_clone(&self, alloc: Global) -> Result<Schema, PlanError>

@@ -2,8 +2,8 @@
 ghost use Rattle.std.specs.Prelude.{◌≡◌, IfOk, IfErr, Some, None, true, false, if◌then◌else◌};
 ghost use Rattle.std.specs.Option.{option_map};
 ghost use Rattle.plan_types.specs.Errors.{no_memory, IsMemoryOr};
-ghost use Rattle.plan_types.specs.Supertypes.{supertype, signed_above};
-ghost use Rattle.plan_types.specs.Types.{ty, same_type, is_signed_integer, width_of, Integer};
+ghost use Rattle.plan_types.specs.Supertypes.{supertype, signed_above, upcast};
+ghost use Rattle.plan_types.specs.Types.{ty, same_type, is_integer, is_signed_integer, width_of, Integer};
 
 use crate::dtype::DataType;
 use crate::error::{ErrorKind, PlanError};
@@ -84,4 +84,60 @@ fn signed_above(
         DataType::UInt32 => Some(DataType::Int64),
         _ => None,
     })
+}
+
+/// The integer type that holds the values of both, where these are integer types that differ.
+pub fn get_numeric_upcast_supertype_lossless(left: &DataType, right: &DataType) -> Option<DataType>
+    ensures { option_map ty result ≡ upcast (ty left.now) (ty right.now) }
+{
+    if !left.is_integer() || !right.is_integer() || *left == *right {
+        return None;
+    }
+    if right.is_signed_integer() == left.is_signed_integer() {
+        let wider = if right.width() > left.width() {
+            right
+        } else {
+            left
+        };
+        integer_copy(wider)
+    } else if left.is_signed_integer() {
+        signed_upcast(left, right)
+    } else {
+        signed_upcast(right, left)
+    }
+}
+
+// The type, where it is one of integers.
+fn integer_copy(dtype: &DataType) -> Option<DataType>
+    ensures { option_map ty result ≡ (if is_integer (ty dtype.now) then Some (ty dtype.now) else None) }
+{
+    match dtype {
+        DataType::Int8 => Some(DataType::Int8),
+        DataType::Int16 => Some(DataType::Int16),
+        DataType::Int32 => Some(DataType::Int32),
+        DataType::Int64 => Some(DataType::Int64),
+        DataType::UInt8 => Some(DataType::UInt8),
+        DataType::UInt16 => Some(DataType::UInt16),
+        DataType::UInt32 => Some(DataType::UInt32),
+        DataType::UInt64 => Some(DataType::UInt64),
+        _other => None,
+    }
+}
+
+// `signed_above` without memory.
+fn signed_upcast(signed: &DataType, unsigned: &DataType) -> Option<DataType>
+    requires signed { is_signed_integer (ty signed.now) ≡ true }
+    requires integer { is_integer (ty unsigned.now) ≡ true }
+    requires unsigned { is_signed_integer (ty unsigned.now) ≡ false }
+    ensures { option_map ty result ≡ signed_above (width_of (ty signed.now)) (width_of (ty unsigned.now)) }
+{
+    if signed.width() > unsigned.width() {
+        return integer_copy(signed);
+    }
+    match unsigned.width() {
+        8 => Some(DataType::Int16),
+        16 => Some(DataType::Int32),
+        32 => Some(DataType::Int64),
+        _wider => None,
+    }
 }

@@ -2,6 +2,7 @@
 
 mod frames;
 mod numbers;
+mod schema_calls;
 
 use crate::dtype::{CastOptions, DataType};
 use crate::error::{ErrorKind, Place, PlanError};
