@@ -1,9 +1,9 @@
 -- Columns that nothing keeps from being a frame are one, and their schema is copied name by name.
-use Rattle.std.proofs.Common.{◌≡◌, ℕ, zero, suc, ◌+◌, ◌<◌, List, [], ◌∷◌, ◌++◌, length, map, drop, get_or, Option, Some, None, is_none, true, false, IsTrue, cond, refl, sym, ap, ◌∙◌, subst, append_assoc, append-nil, slice_get, unwrap_or}
-use Rattle.std.proofs.lemmas.List.{drop_more}
+use Rattle.std.proofs.Common.{◌≡◌, ℕ, zero, suc, ◌+◌, ◌<◌, List, [], ◌∷◌, ◌++◌, length, map, drop, get_or, Option, Some, None, is_none, true, false, IsTrue, cond, refl, sym, ap, ◌∙◌, subst, append_assoc, append-nil, slice_get, unwrap_or, is_some, Bool}
+use Rattle.std.proofs.lemmas.List.{drop_more, map-append}
 use Rattle.std.specs.List.{AllByRecursion, range_with_len}
 use Rattle.plan_types.specs.Types.{Ty, ty}
-use Rattle.plan_types.specs.Schemas.{Name, Columns, HasDistinctNames, is_among, repeats, with_column}
+use Rattle.plan_types.specs.Schemas.{Name, Columns, HasDistinctNames, is_among, names_of, repeats, type_at, with_column}
 use Rattle.plan_types.specs.Values.{Val, NullValue, fits}
 use Rattle.plan_types.specs.Frames.{RowFits, HasNoRowsWithoutColumns, IsFrame}
 use Rattle.plan_types.specs.FrameFaults.{names_in, repeated_name, other_length, misfit_from, misfit, else_fault, frame_fault, vals_of, framed, heads_of, head_of, height_of, row_of}
@@ -14,7 +14,7 @@ use Rattle.plan_types.specs.declared.frame.FrameError.{FrameError}
 use Rattle.plan_types.specs.declared.frame.FrameError.TheVariants.{Duplicate, Misfit}
 use Rattle.plan_types.proofs.ListLemmas.{map-map}
 use Rattle.plan_types.proofs.NameLemmas.{repeats-push}
-use Rattle.plan_types.proofs.SchemaLemmas.{distinct_from_test, copied_more}
+use Rattle.plan_types.proofs.SchemaLemmas.{distinct_from_test, copied_more, is_among-type_at, with_column-new, none_there as none_there_at}
 
 pub none_there : (fault : Option FrameError) → is_none fault ≡ true → fault ≡ None
 none_there None h = refl
@@ -77,6 +77,20 @@ pub copied_head : (done : Columns) (cs : List Column) (i : ℕ) (c : Column) (al
 copied_head done cs i c all distinct within at e =
     let left : c ∷ drop (i + 1) cs ≡ drop i cs = ap (λ y. y ∷ drop (i + 1) cs) at ∙ sym (drop_more cs i c within) in
     copied_more done (head_of c) (heads_of (drop (i + 1) cs)) all distinct (ap (λ l. done ++ heads_of l) left ∙ e)
+
+-- a column's name is looked up among those before it
+met_name : (seen : Columns) (cs : List Column) (i : ℕ) (c : Column) (b : Bool) → i < length cs → c ≡ get_or cs i c → is_some (type_at seen c.name) ≡ b → repeated_name (names_of seen) (drop i cs) ≡ cond b (Some (Duplicate c.name)) (repeated_name (names_of seen ++ c.name ∷ []) (drop (i + 1) cs))
+met_name seen cs i c b within at e =
+    let left : c ∷ drop (i + 1) cs ≡ drop i cs = ap (λ y. y ∷ drop (i + 1) cs) at ∙ sym (drop_more cs i c within) in
+    ap (repeated_name (names_of seen)) (sym left) ∙ ap (λ b. cond b (Some (Duplicate c.name)) (repeated_name (names_of seen ++ c.name ∷ []) (drop (i + 1) cs))) (is_among-type_at seen c.name ∙ e)
+
+pub met_again : (fault : Option FrameError) (seen : Columns) (cs : List Column) (i : ℕ) (c : Column) → i < length cs → c ≡ get_or cs i c → is_some (type_at seen c.name) ≡ true → fault ≡ repeated_name (names_of seen) (drop i cs) → fault ≡ Some (Duplicate c.name)
+met_again fault seen cs i c within at e is = is ∙ met_name seen cs i c true within at e
+
+pub met_first : (fault : Option FrameError) (seen : Columns) (cs : List Column) (i : ℕ) (c : Column) → i < length cs → c ≡ get_or cs i c → is_some (type_at seen c.name) ≡ false → fault ≡ repeated_name (names_of seen) (drop i cs) → fault ≡ repeated_name (names_of (with_column seen c.name (ty c.dtype))) (drop (i + 1) cs)
+met_first fault seen cs i c within at e is =
+    let new = with_column-new seen c.name (ty c.dtype) (none_there_at (type_at seen c.name) e) in
+    is ∙ met_name seen cs i c false within at e ∙ ap (λ names. repeated_name names (drop (i + 1) cs)) (sym (ap names_of new ∙ map-append (λ entry. entry.0) seen ((c.name, ty c.dtype) ∷ [])))
 
 -- each frame of the code is one
 pub frame_is_frame : (frame : Frame) → IsFrame (frame_of frame)

@@ -1,3 +1,4 @@
+pub mod CastLemmas
 pub mod CommonLemmas
 pub mod FrameCallLemmas
 pub mod FrameRowLemmas

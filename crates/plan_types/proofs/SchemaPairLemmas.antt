@@ -1,5 +1,5 @@
 -- Schemas side by side: comparing them, a column that is put in, and common types.
-use Rattle.std.proofs.Common.{◌≡◌, ◌≢◌, ℕ, ◌+◌, ◌-◌, ◌<◌, ◌≤◌, suc, zero, List, [], ◌∷◌, ◌++◌, length, map, take, drop, insert, remove, Option, Some, None, Result, Ok, Err, ◌⊎◌, inl, inr, Bool, true, false, not, ◌&&◌, cond, refl, sym, ap, ◌∙◌, subst, arith, slice_get, append_assoc, Bor}
+use Rattle.std.proofs.Common.{◌≡◌, ◌≢◌, ℕ, ◌+◌, ◌-◌, ◌<◌, ◌≤◌, suc, zero, List, [], ◌∷◌, ◌++◌, length, map, take, drop, insert, remove, Option, Some, None, Ok, Err, inl, inr, Bool, true, false, not, ◌&&◌, cond, refl, sym, ap, ◌∙◌, subst, arith, slice_get, append_assoc, Bor}
 use Rattle.std.specs.Bool.{Decides}
 use Rattle.std.specs.Option.{option_map, option_map_or, option_eq}
 use Rattle.std.specs.List.{position_or_len}
@@ -17,7 +17,7 @@ use Rattle.plan_types.specs.TypeLaws.{same_type_exact, same_type_own}
 use Rattle.plan_types.specs.Supertypes.{supertype}
 use Rattle.plan_types.specs.Schemas.{Name, Columns, same_name, column_of, with_column, names_of, repeats, IsNewName, HasDistinctNames}
 use Rattle.plan_types.specs.SchemaCalls.{same_names, in_front, common_columns, found_columns, super_columns}
-use Rattle.plan_types.specs.Errors.{at_top, no_memory, IsMemoryOr, IsRefusal, no_room, broken}
+use Rattle.plan_types.specs.Errors.{at_top, IsMemoryOr, IsRefusal, no_room, broken}
 use Rattle.plan_types.specs.declared.error.PlanError.{PlanError}
 use Rattle.plan_types.specs.declared.error.ErrorKind.TheVariants.{SchemaMismatch, InvalidOperation}
 use Rattle.plan_types.specs.declared.dtype.DataType.{DataType}

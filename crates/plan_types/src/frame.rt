@@ -1,7 +1,8 @@
 //! Frames: columns of one length, whose names are distinct and whose values fit their types.
 ghost use Rattle.std.specs.Prelude.{◌≡◌, [], None, true, is_none, IfOk, IfErr, OnOk};
-ghost use Rattle.plan_types.specs.FrameFaults.{count_of, frame_fault, head_of, height_of, misfit, misfit_from, names_in, other_length, repeated_name, vals_of, IsFault};
-ghost use Rattle.plan_types.specs.Schemas.{is_among};
+ghost use Rattle.plan_types.specs.Errors.{no_memory};
+ghost use Rattle.plan_types.specs.FrameFaults.{count_of, frame_fault, head_of, height_of, misfit, misfit_from, other_length, repeated_name, vals_of, IsFault};
+ghost use Rattle.plan_types.specs.Schemas.{columns as schema_columns, with_column};
 ghost use Rattle.plan_types.specs.Types.{ty};
 
 use crate::column::Column;
@@ -58,9 +59,7 @@ pub struct Frame {
 impl Frame {
     ghost use Rattle.std.specs.Prelude.{◌<◌, ℕ, length, slice_get, Some};
     ghost use Rattle.plan_types.specs.FrameViews.{columns_of, frame_of};
-    ghost use Rattle.plan_types.specs.Errors.{no_memory};
     ghost use Rattle.plan_types.specs.Frames.{value_in, row_at, IsFrame};
-    ghost use Rattle.plan_types.specs.Schemas.{columns as schema_columns};
 
     /// The frame of these columns. A name that stands before is refused first, then the first length that isn't the
     /// first column's, then the first value that doesn't fit.
@@ -98,9 +97,7 @@ impl Frame {
     {
         let mut schema = Schema::new(alloc);
         for column in self.columns.as_slice() {
-            let name = column.name.try_clone(alloc)?;
-            let dtype = column.dtype.try_clone(alloc)?;
-            schema.with_column(name, dtype)?;
+            add_head(alloc, &mut schema, column)?;
         }
         Ok(schema)
     }
@@ -133,26 +130,28 @@ fn check_names(alloc: Global, columns: &[Column]) -> Result<(), FrameError>
     ensures ok { OnOk result (repeated_name [] columns.now ≡ None) }
     ensures err { IfErr result (IsFault (repeated_name [] columns.now)) }
 {
-    for number in 0..columns.len() {
-        let column = &columns[number];
-        if is_named(&columns[..number], &column.name) {
+    let mut seen = Schema::new(alloc);
+    for column in columns {
+        if seen.contains(&column.name) {
             let name = copied(alloc, &column.name)?;
             return Err(FrameError::Duplicate { name });
         }
+        let Ok(()) = add_head(alloc, &mut seen, column) else {
+            return Err(FrameError::NoMemory);
+        };
     }
     Ok(())
 }
 
-// Whether a column has the name.
-fn is_named(columns: &[Column], name: &PlSmallStr) -> bool
-    ensures { result ≡ is_among name.now (names_in columns.now) }
+// Gives the schema a copy of the column's name and type.
+fn add_head(alloc: Global, schema: &mut Schema, column: &Column) -> Result<(), PlanError>
+    ensures ok { OnOk result (schema_columns schema.new ≡ with_column (schema_columns schema.old) column.now.name (ty column.now.dtype)) }
+    ensures err { IfErr result (λ error. error ≡ no_memory) }
 {
-    for column in columns {
-        if *name == column.name {
-            return true;
-        }
-    }
-    false
+    let name = column.name.try_clone(alloc)?;
+    let dtype = column.dtype.try_clone(alloc)?;
+    schema.with_column(name, dtype)?;
+    Ok(())
 }
 
 // A copy of a name, for a refusal.

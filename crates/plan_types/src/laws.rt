@@ -1,10 +1,13 @@
 //! Laws of the definitions. The functions do nothing: their clauses are the laws.
 
-ghost use Rattle.std.specs.Prelude.{◌≡◌, ◌⊎◌, ℤ, true, Some, Ok};
+ghost use Rattle.std.specs.Prelude.{◌≡◌, ◌≢◌, ◌⊎◌, ℤ, true, Some, Ok};
 ghost use Rattle.plan_types.specs.Types.{Ty, Untyped, is_known};
+ghost use Rattle.plan_types.specs.Casts.{Gives, Fails, can_cast, cast};
 ghost use Rattle.plan_types.specs.CommonTypes.{common_type};
 ghost use Rattle.plan_types.specs.Supertypes.{supertype};
-ghost use Rattle.plan_types.specs.Values.{in_range};
+ghost use Rattle.plan_types.specs.Values.{Val, fits, in_range};
+ghost use Rattle.plan_types.specs.declared.dtype.CastOptions.{CastOptions};
+ghost use Rattle.plan_types.specs.declared.dtype.CastOptions.TheVariants.{NonStrict};
 
 /// A common type doesn't depend on the order, a type has itself with itself, and the common type of two
 /// has each number that one of them has.
@@ -22,4 +25,15 @@ pub fn common_type_laws()
     ensures known { (a b c : Ty) → common_type a b ≡ Ok c → is_known c ≡ true }
     ensures itself { (a : Ty) → is_known a ≡ true → common_type a a ≡ Ok a }
     ensures has_number { (number : ℤ) (b c : Ty) → common_type (Untyped number) b ≡ Ok c → in_range c number ≡ true }
+{}
+
+/// A cast to the own type changes no value, one that isn't strict never fails, and what a cast gives fits its
+/// target. There is a cast from the type of each operand to their common type.
+pub fn cast_laws()
+    ensures itself { (value : Val) (type : Ty) (options : CastOptions) → fits value type ≡ true
+        → cast value type type options ≡ Gives value }
+    ensures never_fails { (value : Val) (from target : Ty) → cast value from target NonStrict ≢ Fails }
+    ensures fits { (value converted : Val) (from target : Ty) (options : CastOptions) → fits value from ≡ true
+        → cast value from target options ≡ Gives converted → fits converted target ≡ true }
+    ensures to_common { (a b c : Ty) → common_type a b ≡ Ok c → (can_cast a c ≡ true) × (can_cast b c ≡ true) }
 {}

@@ -7,4 +7,4 @@ use Rattle.plan_types.proofs.frame.Frame.schema.Goals as goal
 pub loop-column-preserved : goal.loop-column-preserved
 loop-column-preserved c =
     let frame = sound_is_frame c.args.self.now.columns.items c.args.self.now.sound in
-    rw (c.in_ok-with_column.ensures.ok, c.in_ok-name.ensures.ok, c.in_ok-dtype.ensures.ok) (copied_head (columns c.loop-column.schema) c.as_slice-column-items.result.now c.loop-column.column-index c.column-item.result (heads_of (columns_of c.args.self.now)) frame.distinct c.loop-column-test.true c.column-item.is c.loop-column.invariant)
+    rw c.in_ok-add_head.ensures.ok (copied_head (columns c.loop-column.schema) c.as_slice-column-items.result.now c.loop-column.column-index c.column-item.result (heads_of (columns_of c.args.self.now)) frame.distinct c.loop-column-test.true c.column-item.is c.loop-column.invariant)

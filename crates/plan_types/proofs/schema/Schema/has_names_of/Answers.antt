@@ -1,4 +1,4 @@
-use Rattle.std.proofs.Common.{◌≡◌, ◌<◌, ◌+◌, suc, not, ◌&&◌, sym, ap, ◌∙◌, drop, length, refl, arith}
+use Rattle.std.proofs.Common.{◌<◌, ◌+◌, suc, not, ◌&&◌, sym, ap, ◌∙◌, drop, length, refl, arith}
 use Rattle.plan_types.specs.Schemas.{columns}
 use Rattle.plan_types.specs.SchemaCalls.{same_names}
 use Rattle.plan_types.proofs.SchemaPairLemmas.{names_apart, one_pair}
