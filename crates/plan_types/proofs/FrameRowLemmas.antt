@@ -51,7 +51,7 @@ row_there columns number within =
     let longer : number < length rows = subst (λ n. number < n) (sym (length-map-range_with_len (row_of columns) 0 (height_of columns))) within in
     ap (λ found. unwrap_or found []) (slice_get-get_or rows number [] longer ∙ ap Some (get_or-map-range_with_len (row_of columns) 0 (height_of columns) number number [] within (omega arith)))
 
-length-vals : (c : Column) → length (vals_of c.values) ≡ count_of c
+pub length-vals : (c : Column) → length (vals_of c.values) ≡ count_of c
 length-vals c = length-map c.values.items.items val_of
 
 -- a column of sound columns has as many values as there are rows

@@ -1,6 +1,7 @@
 pub mod CastLemmas
 pub mod CommonLemmas
 pub mod FrameCallLemmas
+pub mod FrameCopyLemmas
 pub mod FrameRowLemmas
 pub mod ListLemmas
 pub mod NameLemmas

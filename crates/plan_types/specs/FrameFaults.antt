@@ -24,6 +24,10 @@ head_of column = (column.name, ty column.dtype)
 abbrev pub heads_of : List Column → Columns
 heads_of columns = map head_of columns
 
+-- a column's name, type and values
+abbrev pub shown : Column → (Name × Ty) × List Val
+shown column = (head_of column, vals_of column.values)
+
 -- the names of columns
 abbrev pub names_in : List Column → List Name
 names_in columns = map (λ column. column.name) columns

@@ -1,7 +1,7 @@
 //! Frames: columns of one length, whose names are distinct and whose values fit their types.
 ghost use Rattle.std.specs.Prelude.{◌≡◌, [], None, true, is_none, IfOk, IfErr, OnOk};
 ghost use Rattle.plan_types.specs.Errors.{no_memory};
-ghost use Rattle.plan_types.specs.FrameFaults.{count_of, frame_fault, head_of, height_of, misfit, misfit_from, other_length, repeated_name, vals_of, IsFault};
+ghost use Rattle.plan_types.specs.FrameFaults.{count_of, frame_fault, head_of, height_of, misfit, misfit_from, other_length, repeated_name, shown, vals_of, IsFault};
 ghost use Rattle.plan_types.specs.Schemas.{columns as schema_columns, with_column};
 ghost use Rattle.plan_types.specs.Types.{ty};
 
@@ -57,7 +57,7 @@ pub struct Frame {
 }
 
 impl Frame {
-    ghost use Rattle.std.specs.Prelude.{◌<◌, ℕ, length, slice_get, Some};
+    ghost use Rattle.std.specs.Prelude.{◌<◌, ℕ, length, map, slice_get, Some};
     ghost use Rattle.plan_types.specs.FrameViews.{columns_of, frame_of};
     ghost use Rattle.plan_types.specs.Frames.{value_in, row_at, IsFrame};
 
@@ -100,6 +100,19 @@ impl Frame {
             add_head(alloc, &mut schema, column)?;
         }
         Ok(schema)
+    }
+
+    pub fn try_clone(&self, alloc: Global) -> Result<Frame, PlanError>
+        ensures ok { IfOk result (λ copy. map shown (columns_of copy) ≡ map shown (columns_of self.now)) }
+        ensures frame { IfOk result (λ copy. frame_of copy ≡ frame_of self.now) }
+        ensures err { IfErr result (λ error. error ≡ no_memory) }
+    {
+        let mut columns = Vec::new(alloc);
+        for column in self.columns.as_slice() {
+            let copy = column.try_clone(alloc)?;
+            columns.push(copy)?;
+        }
+        Ok(Frame { columns })
     }
 
     /// The column of that number.

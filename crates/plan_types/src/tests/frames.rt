@@ -132,6 +132,20 @@ fn columns_make_a_frame(rt: HostRuntime) -> Result<(), Fail> {
 }
 
 #[test]
+fn a_copy_has_the_same_columns(rt: HostRuntime) -> Result<(), Fail> {
+    let columns = both(rt.alloc(), "a", 2, "b", 2)?;
+    let frame = Frame::new(rt.alloc(), columns)?;
+    let copy = frame.try_clone(rt.alloc())?;
+    assert_eq!(rt; copy.height(), 2);
+    assert!(rt; copy.width() == 2);
+    let column = copy.column(1);
+    assert_eq!(rt; column.name.as_str(), "b");
+    assert!(rt; column.dtype == DataType::Int8);
+    assert!(rt; column.values.items.first() == Some(&Value::Int(0)));
+    Ok(())
+}
+
+#[test]
 fn a_frame_lends_its_columns(rt: HostRuntime) -> Result<(), Fail> {
     let columns = both(rt.alloc(), "a", 2, "b", 2)?;
     let frame = Frame::new(rt.alloc(), columns)?;
