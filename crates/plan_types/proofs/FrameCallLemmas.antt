@@ -6,7 +6,7 @@ use Rattle.plan_types.specs.Types.{Ty, ty}
 use Rattle.plan_types.specs.Schemas.{Name, Columns, HasDistinctNames, is_among, names_of, repeats, type_at, with_column}
 use Rattle.plan_types.specs.Values.{Val, NullValue, fits}
 use Rattle.plan_types.specs.Frames.{RowFits, HasNoRowsWithoutColumns, IsFrame}
-use Rattle.plan_types.specs.FrameFaults.{names_in, repeated_name, other_length, misfit_from, misfit, else_fault, frame_fault, vals_of, framed, heads_of, head_of, height_of, row_of}
+use Rattle.plan_types.specs.FrameFaults.{repeated_name, other_length, misfit_from, misfit, else_fault, frame_fault, vals_of, framed, heads_of, head_of, height_of, row_of}
 use Rattle.plan_types.specs.FrameViews.{frame_of}
 use Rattle.plan_types.specs.declared.column.Column.{Column}
 use Rattle.plan_types.specs.declared.frame.Frame.{Frame}
@@ -23,6 +23,9 @@ none_there (Some fault) h = cc
 pub none_of_both : (a b : Option FrameError) → else_fault a b ≡ None → (a ≡ None) × (b ≡ None)
 none_of_both None b h = (refl, h)
 none_of_both (Some fault) b h = cc
+
+abbrev names_in : List Column → List Name
+names_in columns = map (λ column. column.name) columns
 
 -- where no name stands before, the names are distinct
 distinct_behind : (before : List Name) (columns : List Column) → repeats before ≡ false → repeated_name before columns ≡ None → repeats (before ++ names_in columns) ≡ false

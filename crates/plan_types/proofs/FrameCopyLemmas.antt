@@ -1,11 +1,10 @@
 -- What is said of columns depends on their names, types and values alone.
-use Rattle.std.proofs.Common.{◌≡◌, ℕ, ◌==◌, List, [], ◌∷◌, ◌++◌, length, map, cond, Some, is_none, true, refl, sym, ap, ◌∙◌, subst, slice_get, unwrap_or}
+use Rattle.std.proofs.Common.{◌≡◌, ℕ, ◌==◌, List, [], ◌∷◌, ◌++◌, length, map, cond, Some, is_none, true, refl, sym, ap, ◌∙◌, slice_get, unwrap_or}
 use Rattle.std.specs.List.{range_with_len}
 use Rattle.plan_types.specs.Types.{Ty, ty}
-use Rattle.plan_types.specs.Schemas.{Name, Columns, is_among}
+use Rattle.plan_types.specs.Schemas.{Name, is_among}
 use Rattle.plan_types.specs.Values.{Val, NullValue}
-use Rattle.plan_types.specs.Frames.{Row}
-use Rattle.plan_types.specs.FrameFaults.{shown, repeated_name, other_length, misfit_from, misfit, else_fault, frame_fault, vals_of, framed, heads_of, head_of, height_of, count_of, row_of}
+use Rattle.plan_types.specs.FrameFaults.{shown, repeated_name, other_length, misfit_from, misfit, else_fault, frame_fault, vals_of, framed, heads_of, height_of, count_of, row_of}
 use Rattle.plan_types.specs.declared.column.Column.{Column}
 use Rattle.plan_types.specs.declared.frame.FrameError.TheVariants.{Duplicate, Length}
 use Rattle.plan_types.proofs.ListLemmas.{map-map}

@@ -28,10 +28,6 @@ heads_of columns = map head_of columns
 abbrev pub shown : Column → (Name × Ty) × List Val
 shown column = (head_of column, vals_of column.values)
 
--- the names of columns
-abbrev pub names_in : List Column → List Name
-names_in columns = map (λ column. column.name) columns
-
 -- how many values the column has
 abbrev pub count_of : Column → ℕ
 count_of column = length column.values.items.items
