@@ -1,5 +1,6 @@
 pub mod BuiltLemmas
 pub mod CoercionLemmas
+pub mod ExampleLemmas
 pub mod NodeLemmas
 pub mod PlanLemmas
 pub mod ProjectionLemmas

@@ -1,3 +1,5 @@
 //! Worked examples of the definitions. The functions do nothing: their clauses are the examples.
 
 pub mod changes;
+pub mod coercions;
+pub mod tables;
