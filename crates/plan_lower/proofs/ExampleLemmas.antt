@@ -1,11 +1,13 @@
 -- What the worked examples rest on: one tree a node, one typing, and what a strict node says of it.
-use Rattle.std.proofs.Common.{◌≡◌, ℕ, ◌-◌, List, codes, true, false, Option, Some, Result, Ok, slice_get, subst, ap, arith}
-use Rattle.plan_types.specs.Schemas.{Columns, same_name}
-use Rattle.plan_types.specs.Types.{Ty, is_known}
+use Rattle.std.proofs.Common.{◌≡◌, ℕ, ◌-◌, List, [], ◌∷◌, codes, true, false, Option, Some, Result, Ok, slice_get, refl, subst, ap, arith}
+use Rattle.plan_types.specs.Schemas.{Name, Columns, same_name}
+use Rattle.plan_types.specs.Types.{Ty, Integer, is_known}
 use Rattle.plan_types.specs.declared.error.ErrorKind.{ErrorKind}
 use Rattle.plan_dsl.specs.Registry.{Registry}
-use Rattle.plan_dsl.specs.Trees.{Trees, node}
-use Rattle.plan_dsl.specs.Ops.{Op, Expression}
+use Rattle.plan_dsl.specs.declared.operator.Operator.TheVariants.{Plus}
+use Rattle.plan_types.specs.declared.dtype.CastOptions.TheVariants.{NonStrict}
+use Rattle.plan_dsl.specs.Trees.{Trees, node, no_more, more}
+use Rattle.plan_dsl.specs.Ops.{Op, ColumnOp, BinaryOp, CastOp, Expression}
 use Rattle.plan_dsl.specs.Strictness.{IsSame, IsStrict, IsStrictNode, IsStrictOver, same_types}
 use Rattle.plan_dsl.specs.Typing.{Typed, Taken, operand_types, types_of, typing_all}
 use Rattle.plan_dsl.proofs.TypingLemmas.{ok_same}
@@ -69,3 +71,24 @@ strict_root registry schema first items n tree root d = subst (IsStrict registry
 -- what a node denotes says the same
 pub same_tree : (registry : Registry) (schema : Columns) (first : ℕ) (items : List AExpr) (n : ℕ) (before tree : Expression) → DenotesSame registry schema first items n before → Denotes (HoldsFrom first items) n tree → IsSame registry schema before tree
 same_tree registry schema first items n before tree found d = subst (IsSame registry schema before) (one_tree first items n found.tree tree found.denotes d) found.same
+
+-- a column of a known type is strict
+pub column_strict : (schema : Columns) (name : Name) (type : Ty) → operand_types schema (ColumnOp name) [] ≡ Ok (record { operands = []; type = type }) → is_known type ≡ true → IsStrict [] schema (node (ColumnOp name) no_more)
+column_strict schema name type takes known = (record { typed = []; types = refl; strict = record { taken = record { operands = []; type = type }; takes = takes; kept = refl; known = known } }, tt)
+
+-- the sum of an Int8 column, which is cast, and an Int32 one is strict
+abbrev of_type : Ty → Typed
+of_type type = record { type = type; many = true }
+
+abbrev two_columns : Columns
+two_columns = (codes "a", Integer true 8) ∷ (codes "b", Integer true 32) ∷ []
+
+abbrev wide : Expression
+wide = node (CastOp (Integer true 32) NonStrict) (more (node (ColumnOp (codes "a")) no_more) no_more)
+
+cast_strict : IsStrict [] two_columns wide
+cast_strict = (record { typed = of_type (Integer true 8) ∷ []; types = refl; strict = record { taken = record { operands = Integer true 8 ∷ []; type = Integer true 32 }; takes = refl; kept = refl; known = refl } }, (column_strict two_columns (codes "a") (Integer true 8) refl refl, tt))
+
+pub sum_strict : IsStrict [] two_columns (node (BinaryOp Plus) (more wide (more (node (ColumnOp (codes "b")) no_more) no_more)))
+sum_strict = let type = Integer true 32 in
+    (record { typed = of_type type ∷ of_type type ∷ []; types = refl; strict = record { taken = record { operands = type ∷ type ∷ []; type = type }; takes = refl; kept = refl; known = refl } }, (cast_strict, (column_strict two_columns (codes "b") type refl refl, tt)))

@@ -2,4 +2,6 @@
 
 pub mod changes;
 pub mod coercions;
+pub mod lowered;
+pub mod outputs;
 pub mod tables;

@@ -18,7 +18,7 @@ use Rattle.plan_arena.specs.Layers.{layer}
 use Rattle.plan_arena.specs.Items.{HoldsFrom}
 use Rattle.plan_arena.proofs.ItemLemmas.{got_held}
 use Rattle.plan_lower.specs.Coercion.{DenotesSame}
-use Rattle.plan_lower.proofs.ExampleLemmas.{one_tree, strict_as, strict_root, same_tree, other_name}
+use Rattle.plan_lower.proofs.ExampleLemmas.{one_tree, sum_strict, strict_as, strict_root, same_tree, other_name}
 use Rattle.plan_lower.proofs.examples.coercions.coerced_sums.Goals as goal
 
 abbrev schema : Columns
@@ -85,16 +85,6 @@ kept (suc zero) t d = subst (DenotesSame [] schema 0 after 1) (sym (one_tree 0 b
 kept (suc (suc zero)) t d = subst (DenotesSame [] schema 0 after 2) (sym (one_tree 0 before 2 t (sum a b) d before_denotes))
     (record { tree = sum (cast_to (Integer true 32) a) b; denotes = after_denotes; same = record { typing = refl; name = refl; meaning = λ rows. refl } })
 kept (suc (suc (suc n))) t d = absurd (no_node n t d)
-
-column_strict : (name : Name) (type : Ty) → operand_types schema (ColumnOp name) [] ≡ Ok (record { operands = []; type = type }) → is_known type ≡ true → IsStrict [] schema (node (ColumnOp name) no_more)
-column_strict name type takes known = (record { typed = []; types = refl; strict = record { taken = record { operands = []; type = type }; takes = takes; kept = refl; known = known } }, tt)
-
-cast_strict : IsStrict [] schema (cast_to (Integer true 32) a)
-cast_strict = (record { typed = of_type (Integer true 8) ∷ []; types = refl; strict = record { taken = record { operands = Integer true 8 ∷ []; type = Integer true 32 }; takes = refl; kept = refl; known = refl } }, (column_strict (codes "a") (Integer true 8) refl refl, tt))
-
-sum_strict : IsStrict [] schema (sum (cast_to (Integer true 32) a) b)
-sum_strict = let type = Integer true 32 in
-    (record { typed = of_type type ∷ of_type type ∷ []; types = refl; strict = record { taken = record { operands = type ∷ type ∷ []; type = type }; takes = refl; kept = refl; known = refl } }, (cast_strict, (column_strict (codes "b") type refl refl, tt)))
 
 pub returns-clause-cast : goal.returns-clause-cast
 returns-clause-cast c = record {
