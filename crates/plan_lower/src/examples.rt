@@ -4,4 +4,5 @@ pub mod changes;
 pub mod coercions;
 pub mod lowered;
 pub mod outputs;
+pub mod plans;
 pub mod tables;

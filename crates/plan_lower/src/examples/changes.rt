@@ -1,6 +1,6 @@
 //! What makes an operand one of the type to which it is taken.
 
-ghost use Rattle.std.specs.Prelude.{◌≡◌, ℕ, [], ◌∷◌, pos, neg_ℤ, codes, true, false, Some, None};
+ghost use Rattle.std.specs.Prelude.{◌≡◌, [], pos, neg_ℤ, codes, true, false};
 ghost use Rattle.plan_types.specs.Types.{Truth, Integer, Untyped};
 ghost use Rattle.plan_types.specs.Values.{IntValue};
 ghost use Rattle.plan_types.specs.declared.dtype.DataType.TheVariants as dtype;

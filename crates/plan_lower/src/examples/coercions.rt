@@ -1,6 +1,6 @@
 //! Coercion of a sum in an arena.
 
-ghost use Rattle.std.specs.Prelude.{◌≡◌, ℕ, [], ◌∷◌, pos, codes, true, Some, None};
+ghost use Rattle.std.specs.Prelude.{◌≡◌, [], ◌∷◌, pos, codes, true, Some};
 ghost use Rattle.plan_types.specs.Types.{Integer, Untyped};
 ghost use Rattle.plan_types.specs.Values.{IntValue};
 ghost use Rattle.plan_types.specs.declared.dtype.DataType.TheVariants as dtype;
@@ -8,7 +8,7 @@ ghost use Rattle.plan_types.specs.declared.dtype.CastOptions.TheVariants.{NonStr
 ghost use Rattle.plan_dsl.specs.declared.literal.LiteralValue.TheVariants.{Int, Int8};
 ghost use Rattle.plan_dsl.specs.declared.operator.Operator.TheVariants.{Plus};
 ghost use Rattle.plan_dsl.specs.Trees.{node, no_more, more};
-ghost use Rattle.plan_dsl.specs.Ops.{ColumnOp, LiteralOp, BinaryOp, CastOp};
+ghost use Rattle.plan_dsl.specs.Ops.{ColumnOp, LiteralOp, BinaryOp};
 ghost use Rattle.plan_arena.specs.declared.arena.Node.{Node};
 ghost use Rattle.plan_arena.specs.declared.aexpr.AExpr.TheVariants.{Column, Literal, BinaryExpr, Cast};
 ghost use Rattle.plan_lower.specs.declared.type_table.TypeTable.{TypeTable};
@@ -118,6 +118,11 @@ pub fn coerced_sums()
         ¬ (IsCoerced [] schema 0 before after (2 ∷ [])) }
     ensures number_left { ¬ (IsCoerced [] [] 0 (Literal (Int (pos 5)) ∷ []) (Literal (Int (pos 5)) ∷ []) (0 ∷ [])) }
     ensures item_below { ¬ (IsCoerced [] [] 1 (Column (codes "a") ∷ []) (Column (codes "b") ∷ []) []) }
+    ensures items_below { KeepsBelow 1 (Column (codes "a") ∷ Column (codes "b") ∷ []) (Column (codes "a") ∷ Column (codes "c") ∷ []) }
+    ensures same { let schema = (codes "a", Integer true 8) ∷ [] in
+        DenotesSame [] schema 0 (Column (codes "a") ∷ []) 0 (node (ColumnOp (codes "a")) no_more) }
+    ensures not_same { let schema = (codes "a", Integer true 8) ∷ (codes "b", Integer true 8) ∷ [] in
+        ¬ (DenotesSame [] schema 0 (Column (codes "b") ∷ []) 0 (node (ColumnOp (codes "a")) no_more)) }
     ensures roots { let three : Node = record { 0 = 3 } in
         let one : Node = record { 0 = 1 } in
         numbers (three ∷ one ∷ []) ≡ 3 ∷ 1 ∷ [] }

@@ -1,9 +1,8 @@
 //! Expressions with what lowering makes of them.
 
-ghost use Rattle.std.specs.Prelude.{◌≡◌, ℕ, [], ◌∷◌, codes, true, false, Some};
+ghost use Rattle.std.specs.Prelude.{◌≡◌, ℕ, [], ◌∷◌, codes, true, Some};
 ghost use Rattle.plan_types.specs.Types.{Truth, Integer};
 ghost use Rattle.plan_types.specs.Errors.{no_memory, at_top};
-ghost use Rattle.plan_types.specs.declared.dtype.DataType.TheVariants as dtype;
 ghost use Rattle.plan_types.specs.declared.dtype.CastOptions.TheVariants.{NonStrict};
 ghost use Rattle.plan_types.specs.declared.error.ErrorKind.TheVariants.{ColumnNotFound, InvalidOperation};
 ghost use Rattle.plan_dsl.specs.declared.operator.Operator.TheVariants.{Plus};
@@ -11,8 +10,7 @@ ghost use Rattle.plan_dsl.specs.Trees.{node, no_more, more};
 ghost use Rattle.plan_dsl.specs.Ops.{ColumnOp, BinaryOp, CastOp};
 ghost use Rattle.plan_dsl.specs.Plans.{Named, empty_table, named, scan_op, select_op, filter_op};
 ghost use Rattle.plan_dsl.specs.Typing.{Typed};
-ghost use Rattle.plan_arena.specs.declared.arena.Node.{Node};
-ghost use Rattle.plan_arena.specs.declared.aexpr.AExpr.TheVariants.{Column, BinaryExpr, Cast};
+ghost use Rattle.plan_arena.specs.declared.aexpr.AExpr.TheVariants.{Column};
 ghost use Rattle.plan_lower.specs.Outputs.{Lowered, IsLowered, SelectsTo, HasOutputs, lowered_named, lowered_column, over, lowered_select};
 ghost use Rattle.plan_lower.specs.Predicates.{FiltersBy, HasPredicate, IsPredicateRefusal, lowered_filter};
 

@@ -1,22 +1,16 @@
 //! Outputs of selects, and predicates.
 
-ghost use Rattle.std.specs.Prelude.{◌≡◌, ℕ, [], ◌∷◌, pos, codes, true, false, Some, None};
-ghost use Rattle.plan_types.specs.Types.{Truth, Integer, Untyped};
+ghost use Rattle.std.specs.Prelude.{◌≡◌, ℕ, [], ◌∷◌, pos, codes, true, false};
+ghost use Rattle.plan_types.specs.Types.{Integer, Untyped};
 ghost use Rattle.plan_types.specs.Values.{IntValue};
 ghost use Rattle.plan_types.specs.Errors.{no_memory, at_top};
-ghost use Rattle.plan_types.specs.declared.dtype.DataType.TheVariants as dtype;
-ghost use Rattle.plan_types.specs.declared.dtype.CastOptions.TheVariants.{NonStrict};
-ghost use Rattle.plan_types.specs.declared.error.ErrorKind.TheVariants.{ColumnNotFound, Duplicate, InvalidOperation};
+ghost use Rattle.plan_types.specs.declared.error.ErrorKind.TheVariants.{ColumnNotFound, Duplicate};
 ghost use Rattle.plan_dsl.specs.declared.literal.LiteralValue.TheVariants.{Int, Int32};
-ghost use Rattle.plan_dsl.specs.declared.operator.Operator.TheVariants.{Plus};
-ghost use Rattle.plan_dsl.specs.Trees.{node, no_more, more};
-ghost use Rattle.plan_dsl.specs.Ops.{ColumnOp, LiteralOp, BinaryOp, CastOp};
-ghost use Rattle.plan_dsl.specs.Plans.{Named, empty_table, named, scan_op, select_op, filter_op};
+ghost use Rattle.plan_dsl.specs.Trees.{node, no_more};
+ghost use Rattle.plan_dsl.specs.Ops.{ColumnOp, LiteralOp};
+ghost use Rattle.plan_dsl.specs.Plans.{Named};
 ghost use Rattle.plan_dsl.specs.Typing.{Typed};
-ghost use Rattle.plan_arena.specs.declared.arena.Node.{Node};
-ghost use Rattle.plan_arena.specs.declared.aexpr.AExpr.TheVariants.{Column, Literal, BinaryExpr, Cast};
-ghost use Rattle.plan_lower.specs.Outputs.{Lowered, IsLowered, SelectsTo, HasOutputs, lowered_named, lowered_column, over, lowered_select};
-ghost use Rattle.plan_lower.specs.Predicates.{FiltersBy, HasPredicate, IsPredicateRefusal, lowered_filter};
+ghost use Rattle.plan_arena.specs.declared.aexpr.AExpr.TheVariants.{Column, Literal};
 ghost use Rattle.plan_lower.specs.Projection.{Output, IsOutput, Projects, AddsOutput, IsOutputRefusal, RefusesOne, IsProjectionRefusal, output_node, output_column};
 
 /// An output's node denotes its expression as a plan takes it, with its typing.

@@ -1,6 +1,6 @@
 //! Types of expressions, and tables that keep them by node.
 
-ghost use Rattle.std.specs.Prelude.{◌≡◌, [], ◌∷◌, pos, codes, true, Some, None, Ok, Err};
+ghost use Rattle.std.specs.Prelude.{◌≡◌, [], ◌∷◌, pos, codes, true, Some, None};
 ghost use Rattle.plan_types.specs.Types.{Integer, Untyped};
 ghost use Rattle.plan_types.specs.Values.{IntValue};
 ghost use Rattle.plan_types.specs.Errors.{IsRefusal, no_memory, at_top};
@@ -10,7 +10,7 @@ ghost use Rattle.plan_types.specs.declared.error.PlanError.{PlanError};
 ghost use Rattle.plan_dsl.specs.declared.literal.LiteralValue.TheVariants.{Int8};
 ghost use Rattle.plan_dsl.specs.declared.operator.Operator.TheVariants.{Plus};
 ghost use Rattle.plan_dsl.specs.Trees.{node, no_more, more};
-ghost use Rattle.plan_dsl.specs.Ops.{ColumnOp, LiteralOp, BinaryOp};
+ghost use Rattle.plan_dsl.specs.Ops.{ColumnOp, LiteralOp};
 ghost use Rattle.plan_dsl.specs.Typing.{typing};
 ghost use Rattle.plan_arena.specs.declared.arena.Node.{Node};
 ghost use Rattle.plan_arena.specs.declared.aexpr.AExpr.TheVariants.{Column, Literal, BinaryExpr};

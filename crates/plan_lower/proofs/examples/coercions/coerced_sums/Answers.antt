@@ -1,5 +1,5 @@
-use Rattle.std.proofs.Common.{◌≡◌, ℕ, zero, suc, List, [], ◌∷◌, pos, codes, true, false, Some, Ok, slice_get, refl, sym, ap, subst, arith}
-use Rattle.plan_types.specs.Types.{Ty, Integer, Untyped, same_type, is_known}
+use Rattle.std.proofs.Common.{◌≡◌, ◌≤◌, ℕ, zero, suc, List, [], ◌∷◌, pos, codes, true, false, Some, slice_get, refl, sym, ap, subst, arith}
+use Rattle.plan_types.specs.Types.{Ty, Integer, Untyped, same_type}
 use Rattle.plan_types.specs.Schemas.{Name, Columns}
 use Rattle.plan_types.specs.Values.{IntValue}
 use Rattle.plan_types.specs.declared.dtype.DataType.TheVariants as dtype
@@ -7,15 +7,14 @@ use Rattle.plan_types.specs.declared.dtype.CastOptions.TheVariants.{NonStrict}
 use Rattle.plan_dsl.specs.declared.literal.LiteralValue.TheVariants.{Int}
 use Rattle.plan_dsl.specs.declared.operator.Operator.TheVariants.{Plus}
 use Rattle.plan_dsl.specs.Trees.{node, no_more, more}
-use Rattle.plan_dsl.specs.Ops.{ColumnOp, LiteralOp, BinaryOp, CastOp, Expression}
-use Rattle.plan_dsl.specs.Typing.{Typed, operand_types, typing}
-use Rattle.plan_dsl.specs.Strictness.{IsStrict}
+use Rattle.plan_dsl.specs.Ops.{Op, ColumnOp, LiteralOp, BinaryOp, CastOp, Expression}
+use Rattle.plan_dsl.specs.Typing.{Typed, typing}
 use Rattle.plan_dsl.proofs.TypingLemmas.{ok_same}
 use Rattle.plan_arena.specs.declared.aexpr.AExpr.{AExpr}
 use Rattle.plan_arena.specs.declared.aexpr.AExpr.TheVariants.{Column, Literal, BinaryExpr, Cast}
 use Rattle.plan_arena.specs.Denotation.{Denotes}
 use Rattle.plan_arena.specs.Layers.{layer}
-use Rattle.plan_arena.specs.Items.{HoldsFrom}
+use Rattle.plan_arena.specs.Items.{HoldsExpression, HoldsFrom}
 use Rattle.plan_arena.proofs.ItemLemmas.{got_held}
 use Rattle.plan_lower.specs.Coercion.{DenotesSame}
 use Rattle.plan_lower.proofs.ExampleLemmas.{one_tree, sum_strict, strict_as, strict_root, same_tree, other_name}
@@ -126,3 +125,17 @@ column_name m n e = cc
 pub returns-clause-item_below : goal.returns-clause-item_below
 returns-clause-item_below c = λ coerced.
     other_name (column_name (codes "b") (codes "a") (coerced.below 0 (ColumnOp (codes "a")) [] (λ le. omega (arith, le)) refl))
+
+kept_first : (n : ℕ) (op : Op) (inputs : List ℕ) → ¬ (1 ≤ n) → HoldsExpression (Column (codes "a") ∷ Column (codes "b") ∷ []) n op inputs → HoldsExpression (Column (codes "a") ∷ Column (codes "c") ∷ []) n op inputs
+kept_first zero op inputs below h = h
+kept_first (suc n) op inputs below h = absurd (below (omega arith))
+
+pub returns-clause-items_below : goal.returns-clause-items_below
+returns-clause-items_below c = kept_first
+
+pub returns-clause-same : goal.returns-clause-same
+returns-clause-same c = record { tree = a; denotes = ([], (omega arith, refl), tt); same = record { typing = refl; name = refl; meaning = λ rows. refl } }
+
+pub returns-clause-not_same : goal.returns-clause-not_same
+returns-clause-not_same c = λ found.
+    other_name (same_tree [] ((codes "a", Integer true 8) ∷ (codes "b", Integer true 8) ∷ []) 0 (Column (codes "b") ∷ []) 0 a b found ([], (omega arith, refl), tt)).name

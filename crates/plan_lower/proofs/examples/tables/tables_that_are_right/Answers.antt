@@ -58,7 +58,7 @@ no_item : {A : Type 0} (n : ℕ) (x : A) → slice_get [] n ≡ Some x → ⊥
 no_item n x e = cc
 
 module _ (table : TypeTable) (d : DataType) (first : table.first ≡ 0) (types : table.types.items ≡ Some d ∷ [])
-  (is : typing [] ((codes "a", ty d) ∷ []) a ≡ Ok (record { type = ty d; many = true })) where
+    (is : typing [] ((codes "a", ty d) ∷ []) a ≡ Ok (record { type = ty d; many = true })) where
   abbrev schema : Columns
   schema = (codes "a", ty d) ∷ []
 
