@@ -151,3 +151,21 @@ pub fn nodes_that_stand_for_plans()
     ensures empty_table { (plans : List IR) → map plan_layer plans ≡ layer (scan_op None []) [] ∷ [] → IsEmptyTableAt plans 0 }
     ensures no_empty_table { (plans : List IR) → map plan_layer plans ≡ layer (scan_op (Some 0) []) [] ∷ [] → ¬ (IsEmptyTableAt plans 0) }
 {}
+
+/// What no node stands for, whatever the arenas hold.
+pub fn no_nodes_for_plans()
+    ensures not_strict { (lowering : IRPlan) →
+        let schema = (codes "a", Integer true 8) ∷ (codes "b", Integer true 32) ∷ [] in
+        let sum = node (BinaryOp Plus) (more (node (ColumnOp (codes "a")) no_more) (more (node (ColumnOp (codes "b")) no_more) no_more)) in
+        let scan = node (scan_op (Some 0) schema) no_more in
+        ¬ (IsLoweringOf [] (source_select (sum ∷ []) scan) lowering (node (select_op (named sum ∷ []) ((codes "a", Integer true 32) ∷ [])) (more scan no_more))) }
+    ensures ill_formed { (plans : List IR) →
+        let c = node (ColumnOp (codes "c")) no_more in
+        ¬ (StandsFor [] [] plans 0 0 (source_select (c ∷ []) (node (scan_op (Some 0) ((codes "a", Truth) ∷ [])) no_more))) }
+    ensures filter_by_a_number { (plans : List IR) →
+        let a = node (ColumnOp (codes "a")) no_more in
+        ¬ (IsFilter [] (Column (codes "a") ∷ []) plans 1 0 a (node (scan_op (Some 0) ((codes "a", Integer true 8) ∷ [])) no_more)) }
+    ensures select_of_no_column { (plans : List IR) →
+        let c = node (ColumnOp (codes "c")) no_more in
+        ¬ (IsSelect [] (Column (codes "c") ∷ []) plans 1 (c ∷ []) (node (scan_op (Some 0) ((codes "a", Truth) ∷ [])) no_more)) }
+{}
