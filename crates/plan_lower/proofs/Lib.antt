@@ -1,5 +1,7 @@
 pub mod BuiltLemmas
 pub mod CoercionLemmas
+pub mod ExampleLemmas
+pub mod ExamplePlanLemmas
 pub mod NodeLemmas
 pub mod PlanLemmas
 pub mod ProjectionLemmas

@@ -2,6 +2,7 @@
 #![tactic(auto)]
 
 pub mod conversion;
+pub mod examples;
 #[cfg(test)]
 mod tests;
 pub mod type_table;

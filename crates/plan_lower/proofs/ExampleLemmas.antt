@@ -1,0 +1,94 @@
+-- What the worked examples rest on: one tree a node, one typing, and what a strict node says of it.
+use Rattle.std.proofs.Common.{◌≡◌, ℕ, ◌-◌, List, [], ◌∷◌, codes, true, false, Option, Some, Result, Ok, slice_get, refl, subst, ap, arith}
+use Rattle.plan_types.specs.Schemas.{Name, Columns, same_name}
+use Rattle.plan_types.specs.Types.{Ty, Integer, is_known}
+use Rattle.plan_types.specs.declared.error.ErrorKind.{ErrorKind}
+use Rattle.plan_dsl.specs.Registry.{Registry}
+use Rattle.plan_dsl.specs.declared.operator.Operator.TheVariants.{Plus}
+use Rattle.plan_types.specs.declared.dtype.CastOptions.TheVariants.{NonStrict}
+use Rattle.plan_dsl.specs.Trees.{Trees, node, no_more, more}
+use Rattle.plan_dsl.specs.Ops.{Op, ColumnOp, BinaryOp, CastOp, Expression}
+use Rattle.plan_dsl.specs.Strictness.{IsSame, IsStrict, IsStrictNode, IsStrictOver, same_types}
+use Rattle.plan_dsl.specs.Typing.{Typed, Taken, operand_types, types_of, typing_all}
+use Rattle.plan_dsl.proofs.TypingLemmas.{ok_same}
+use Rattle.plan_arena.specs.declared.aexpr.AExpr.{AExpr}
+use Rattle.plan_arena.specs.Denotation.{Denotes}
+use Rattle.plan_arena.specs.Items.{HoldsFrom, HoldsExpression}
+use Rattle.plan_arena.proofs.DenotationLemmas.{denotes_one}
+use Rattle.plan_arena.proofs.ItemLemmas.{from_laws, expression_laws}
+use Rattle.plan_lower.specs.Coercion.{DenotesSame, Visits}
+use Rattle.plan_lower.specs.declared.type_table.TypeTable.{TypeTable}
+use Rattle.plan_lower.specs.KeptTypes.{Keeps}
+use Rattle.plan_types.specs.declared.dtype.DataType.{DataType}
+use Rattle.plan_lower.specs.Typed.{HasType, HasKnownType}
+
+-- a node denotes one tree
+pub one_tree : (first : ℕ) (items : List AExpr) (n : ℕ) (t u : Expression) → Denotes (HoldsFrom first items) n t → Denotes (HoldsFrom first items) n u → t ≡ u
+one_tree first items n t u d e = denotes_one _ (HoldsFrom first items) (from_laws first items) n t u d e
+
+pub one_expression : (items : List AExpr) (n : ℕ) (t u : Expression) → Denotes (HoldsExpression items) n t → Denotes (HoldsExpression items) n u → t ≡ u
+one_expression items n t u d e = denotes_one _ (HoldsExpression items) (expression_laws items) n t u d e
+
+-- what a visit says of the tree that the node denotes
+abbrev pub VisitedAs : Registry → Columns → Expression → Expression → Type 0
+VisitedAs registry schema before (node op children) = IsSame registry schema before (node op children) × IsStrictOver registry schema op children
+
+pub visited : (registry : Registry) (schema : Columns) (first : ℕ) (items : List AExpr) (at : ℕ) (before tree : Expression) → Visits registry schema first items at before → Denotes (HoldsFrom first items) at tree → VisitedAs registry schema before tree
+visited registry schema first items at before tree v d =
+    subst (VisitedAs registry schema before) (one_tree first items at (node v.op v.children) tree (v.inputs, v.held, v.denotes) d) (v.same, v.strict)
+
+-- an expression of a type of columns has the type that its typing says
+pub known_one : (answer : Result Typed ErrorKind) (typed : Typed) → HasKnownType answer → answer ≡ Ok typed → is_known typed.type ≡ true
+known_one answer typed has is = subst (λ t. is_known t.type ≡ true) (ok_same answer has.typed typed has.is is) has.known
+
+-- a strict node takes the types of its operands, as its typing says, as they are
+pub strict_as : (registry : Registry) (schema : Columns) (op : Op) (children : Trees Op) (typed : List Typed) (taken : Taken) → IsStrictOver registry schema op children → typing_all registry schema children ≡ Ok typed → operand_types schema op (types_of typed) ≡ Ok taken
+    → (same_types (types_of typed) taken.operands ≡ true) × (is_known taken.type ≡ true)
+strict_as registry schema op children typed taken s types takes =
+    let same = ok_same (typing_all registry schema children) s.typed typed s.types types in
+    let node = subst (λ ts. IsStrictNode schema op (types_of ts)) same s.strict in
+    let one = ok_same (operand_types schema op (types_of typed)) node.taken taken node.takes takes in
+    (subst (λ t. same_types (types_of typed) t.operands ≡ true) one node.kept, subst (λ t. is_known t.type ≡ true) one node.known)
+
+-- what a table from node 0 on keeps is an item of its list
+pub kept_at : (table : TypeTable) (items : List (Option DataType)) (n : ℕ) (dtype : DataType) → table.first ≡ 0 → table.types.items ≡ items → Keeps table n dtype → slice_get items n ≡ Some (Some dtype)
+kept_at table items n dtype first types keeps =
+    let place : n - table.first ≡ n = omega (arith, first) in
+    subst (λ m. slice_get items m ≡ Some (Some dtype)) place (subst (λ xs. slice_get xs (n - table.first) ≡ Some (Some dtype)) types keeps.1)
+
+-- an expression has the type that its typing says
+pub has_one : (answer : Result Typed ErrorKind) (typed : Typed) (type : Ty) → HasType answer type → answer ≡ Ok typed → typed.type ≡ type
+has_one answer typed type has is = ap (λ t. t.type) (ok_same answer typed (record { type = type; many = has.many }) is has.is)
+
+-- two names that the examples use differ
+pub other_name : codes "b" ≡ codes "a" → ⊥
+other_name e = let differs : false ≡ true = ap (same_name (codes "a")) e in cc
+
+-- a root's tree is strict
+pub strict_root : (registry : Registry) (schema : Columns) (first : ℕ) (items : List AExpr) (n : ℕ) (tree : Expression) → ((t : Expression) × Denotes (HoldsFrom first items) n t × IsStrict registry schema t) → Denotes (HoldsFrom first items) n tree → IsStrict registry schema tree
+strict_root registry schema first items n tree root d = subst (IsStrict registry schema) (one_tree first items n root.0 tree root.1 d) root.2
+
+-- what a node denotes says the same
+pub same_tree : (registry : Registry) (schema : Columns) (first : ℕ) (items : List AExpr) (n : ℕ) (before tree : Expression) → DenotesSame registry schema first items n before → Denotes (HoldsFrom first items) n tree → IsSame registry schema before tree
+same_tree registry schema first items n before tree found d = subst (IsSame registry schema before) (one_tree first items n found.tree tree found.denotes d) found.same
+
+-- a column of a known type is strict
+pub column_strict : (schema : Columns) (name : Name) (type : Ty) → operand_types schema (ColumnOp name) [] ≡ Ok (record { operands = []; type = type }) → is_known type ≡ true → IsStrict [] schema (node (ColumnOp name) no_more)
+column_strict schema name type takes known = (record { typed = []; types = refl; strict = record { taken = record { operands = []; type = type }; takes = takes; kept = refl; known = known } }, tt)
+
+-- the sum of an Int8 column, which is cast, and an Int32 one is strict
+abbrev of_type : Ty → Typed
+of_type type = record { type = type; many = true }
+
+abbrev two_columns : Columns
+two_columns = (codes "a", Integer true 8) ∷ (codes "b", Integer true 32) ∷ []
+
+abbrev wide : Expression
+wide = node (CastOp (Integer true 32) NonStrict) (more (node (ColumnOp (codes "a")) no_more) no_more)
+
+cast_strict : IsStrict [] two_columns wide
+cast_strict = (record { typed = of_type (Integer true 8) ∷ []; types = refl; strict = record { taken = record { operands = Integer true 8 ∷ []; type = Integer true 32 }; takes = refl; kept = refl; known = refl } }, (column_strict two_columns (codes "a") (Integer true 8) refl refl, tt))
+
+pub sum_strict : IsStrict [] two_columns (node (BinaryOp Plus) (more wide (more (node (ColumnOp (codes "b")) no_more) no_more)))
+sum_strict = let type = Integer true 32 in
+    (record { typed = of_type type ∷ of_type type ∷ []; types = refl; strict = record { taken = record { operands = type ∷ type ∷ []; type = type }; takes = refl; kept = refl; known = refl } }, (cast_strict, (column_strict two_columns (codes "b") type refl refl, tt)))

@@ -1,0 +1,57 @@
+use Rattle.std.proofs.Common.{◌≡◌, List, [], ◌∷◌, ◌++◌, codes, true, refl, ap}
+use Rattle.plan_types.specs.Types.{Integer}
+use Rattle.plan_types.specs.Errors.{at_top, no_memory}
+use Rattle.plan_types.specs.declared.error.ErrorKind.TheVariants.{ColumnNotFound, Duplicate, NoMemory}
+use Rattle.plan_types.specs.declared.error.PlanError.{PlanError}
+use Rattle.plan_dsl.specs.Trees.{node, no_more}
+use Rattle.plan_dsl.specs.Ops.{ColumnOp, Expression}
+use Rattle.plan_lower.specs.Projection.{RefusesOne, IsProjectionRefusal, untyped, repeated, out_of_memory, refused}
+use Rattle.plan_lower.proofs.examples.outputs.refusals_of_projections.Goals as goal
+
+abbrev a : Expression
+a = node (ColumnOp (codes "a")) no_more
+
+pub returns-clause-no_such_column : goal.returns-clause-no_such_column
+returns-clause-no_such_column c = untyped ColumnNotFound refl refl
+
+pub returns-clause-second : goal.returns-clause-second
+returns-clause-second c = record {
+  front = a ∷ [];
+  tree = a;
+  back = [];
+  split = refl;
+  before = (codes "a", Integer true 8) ∷ [];
+  names = refl;
+  refusal = repeated refl refl;
+}
+
+pub returns-clause-first : goal.returns-clause-first
+returns-clause-first c = refused (record {
+  front = [];
+  tree = node (ColumnOp (codes "c")) no_more;
+  back = [];
+  split = refl;
+  before = [];
+  names = refl;
+  refusal = untyped ColumnNotFound refl refl;
+})
+
+no_split : (front back : List Expression) (tree : Expression) → [] ≡ front ++ tree ∷ back → ⊥
+no_split [] back tree e = cc
+no_split (first ∷ front) back tree e = cc
+
+none_refused : (error : PlanError) → RefusesOne [] [] [] error → ⊥
+none_refused error r = no_split r.front r.back r.tree r.split
+
+no_memory_else : at_top Duplicate ≡ no_memory → ⊥
+no_memory_else e = let differs : Duplicate ≡ NoMemory = ap (λ error. error.kind) e in cc
+
+no_refusal : IsProjectionRefusal [] [] [] (at_top Duplicate) → ⊥
+no_refusal (out_of_memory e) = no_memory_else e
+no_refusal (refused r) = none_refused (at_top Duplicate) r
+
+pub returns-clause-of_nothing : goal.returns-clause-of_nothing
+returns-clause-of_nothing c = none_refused (at_top Duplicate)
+
+pub returns-clause-projection_of_nothing : goal.returns-clause-projection_of_nothing
+returns-clause-projection_of_nothing c = no_refusal

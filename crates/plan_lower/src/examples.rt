@@ -1,0 +1,8 @@
+//! Worked examples of the definitions. The functions do nothing: their clauses are the examples.
+
+pub mod changes;
+pub mod coercions;
+pub mod lowered;
+pub mod outputs;
+pub mod plans;
+pub mod tables;
