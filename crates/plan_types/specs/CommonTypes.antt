@@ -2,7 +2,7 @@
 -- Alone such a number has the first of three types whose range has it. Beside an integer it has that type where
 -- its range has it, else the least that does. Then the operands have the common type of their types.
 use Rattle.std.specs.Prelude.{ℤ, pos, int_lt, List, [], ◌∷◌, Option, Some, None, Bool, true, false, Result, Ok, Err, if◌then◌else◌}
-use Rattle.plan_types.specs.Types.{Ty, Truth, Integer, Untyped}
+use Rattle.plan_types.specs.Types.{Ty, Integer, Untyped}
 use Rattle.plan_types.specs.Values.{in_range}
 use Rattle.plan_types.specs.Supertypes.{supertype}
 use Rattle.plan_types.specs.declared.error.ErrorKind.{ErrorKind}
@@ -29,9 +29,8 @@ literal_type number = first_with types_alone number
 
 -- an operand's type where nothing stands beside it
 abbrev pub type_alone : Ty → Option Ty
-type_alone Truth = Some Truth
-type_alone (Integer signed bits) = Some (Integer signed bits)
 type_alone (Untyped number) = literal_type number
+type_alone type = Some type
 
 -- the least signed type, and UInt64 where no signed one has the number
 abbrev pub least_signed : ℤ → Option Ty
@@ -47,16 +46,14 @@ least_type false number = if int_lt number (pos 0) then least_signed number else
 
 -- the type of a number beside an operand of that type
 abbrev pub own_type : ℤ → Ty → Option Ty
-own_type number Truth = literal_type number
 own_type number (Integer signed bits) =
     if in_range (Integer signed bits) number then Some (Integer signed bits) else least_type signed number
-own_type number (Untyped other) = literal_type number
+own_type number type = literal_type number
 
 -- an operand's type beside another's: a number without a type gets one
 abbrev pub type_beside : Ty → Ty → Option Ty
-type_beside Truth other = Some Truth
-type_beside (Integer signed bits) other = Some (Integer signed bits)
 type_beside (Untyped number) other = own_type number other
+type_beside type other = Some type
 
 abbrev pub found_common : Option Ty → Result Ty ErrorKind
 found_common None = Err SchemaMismatch

@@ -1,10 +1,11 @@
 -- Common types.
--- Integers of one sign have the wider of the two. A signed and an unsigned one have the least signed
--- type that holds both, which UInt64 has with none. Truth values beside an integer are of its type. A number
--- without a type has a common type with itself alone. The relation is symmetric.
+-- Null is of any type. Integers of one sign have the wider of the two. A signed and an unsigned one have the least
+-- signed type that holds both, which UInt64 has with none. Truth values beside an integer are of its type, and both
+-- beside a text are written as texts. Days beside moments are moments, and of two units the coarser is taken. A number
+-- without a type has a common type with itself and null alone. The relation is symmetric.
 use Rattle.std.specs.Prelude.{ℕ, ◌*◌, true, false, not, ◌&&◌, Option, Some, None, max, nat_lt, if◌then◌else◌}
 use Rattle.std.specs.Ordering.{int_eq}
-use Rattle.plan_types.specs.Types.{Ty, Truth, Integer, Untyped, is_integer, same_type}
+use Rattle.plan_types.specs.Types.{Ty, NullType, Truth, Integer, TextType, DateType, TimeType, DatetimeType, DurationType, Untyped, coarser, is_integer, same_type}
 
 -- the least signed type that holds a signed and an unsigned type of these widths
 abbrev pub signed_above : ℕ → ℕ → Option Ty
@@ -15,18 +16,28 @@ signed_above signed unsigned =
 
 -- the type that holds the values of both
 abbrev pub supertype : Ty → Ty → Option Ty
+supertype NullType right = Some right
+supertype left NullType = Some left
 supertype Truth Truth = Some Truth
 supertype Truth (Integer signed bits) = Some (Integer signed bits)
-supertype Truth (Untyped number) = None
+supertype Truth TextType = Some TextType
 supertype (Integer signed bits) Truth = Some (Integer signed bits)
 supertype (Integer true left) (Integer true right) = Some (Integer true (max left right))
 supertype (Integer false left) (Integer false right) = Some (Integer false (max left right))
 supertype (Integer true left) (Integer false right) = signed_above left right
 supertype (Integer false left) (Integer true right) = signed_above right left
-supertype (Integer signed bits) (Untyped number) = None
-supertype (Untyped number) Truth = None
-supertype (Untyped number) (Integer signed bits) = None
+supertype (Integer signed bits) TextType = Some TextType
+supertype TextType Truth = Some TextType
+supertype TextType (Integer signed bits) = Some TextType
+supertype TextType TextType = Some TextType
+supertype DateType DateType = Some DateType
+supertype DateType (DatetimeType unit) = Some (DatetimeType unit)
+supertype TimeType TimeType = Some TimeType
+supertype (DatetimeType unit) DateType = Some (DatetimeType unit)
+supertype (DatetimeType unit) (DatetimeType other) = Some (DatetimeType (coarser unit other))
+supertype (DurationType unit) (DurationType other) = Some (DurationType (coarser unit other))
 supertype (Untyped number) (Untyped other) = if int_eq number other then Some (Untyped number) else None
+supertype left right = None
 
 -- the common type of two integer types that differ
 abbrev pub upcast : Ty → Ty → Option Ty

@@ -1,17 +1,25 @@
 -- Types of columns.
--- An integer type is known by its sign and its number of bits. Truth values have a type of their own. A whole
--- number that is written without a type has one for itself, which no column has.
-use Rattle.std.specs.Prelude.{ℕ, ℤ, Bool, true, false, ◌&&◌, ◌==◌}
+-- An integer type is known by its sign and its number of bits. Moments (Datetime) and spans (Duration) are counted in
+-- a unit. A whole number that is written without a type has one for itself, which no column has.
+use Rattle.std.specs.Prelude.{ℕ, ℤ, Bool, true, false, ◌&&◌, ◌==◌, ◌+◌, nat_lt, if◌then◌else◌}
 use Rattle.std.specs.Ordering.{int_eq}
+use Rattle.plan_types.specs.declared.dtype.TimeUnit.{TimeUnit}
+use Rattle.plan_types.specs.declared.dtype.TimeUnit.TheVariants.{Nanoseconds, Microseconds, Milliseconds}
 use Rattle.plan_types.specs.declared.dtype.DataType.{DataType}
-use Rattle.plan_types.specs.declared.dtype.DataType.TheVariants.{Boolean, Int8, Int16, Int32, Int64, UInt8, UInt16, UInt32, UInt64, Unknown}
+use Rattle.plan_types.specs.declared.dtype.DataType.TheVariants.{Null, Boolean, Int8, Int16, Int32, Int64, UInt8, UInt16, UInt32, UInt64, String, Date, Time, Datetime, Duration, Unknown}
 use Rattle.plan_types.specs.declared.dtype.UnknownKind.{UnknownKind}
 use Rattle.plan_types.specs.declared.dtype.UnknownKind.TheVariants.{Int}
 
 -- a type, without where its parts lie in memory
 pub data Ty : Type 0 where
+  NullType : Ty
   Truth : Ty
   Integer : (signed : Bool) (bits : ℕ) → Ty
+  TextType : Ty
+  DateType : Ty
+  TimeType : Ty
+  DatetimeType : (unit : TimeUnit) → Ty
+  DurationType : (unit : TimeUnit) → Ty
   Untyped : (number : ℤ) → Ty
 
 -- the number whose type isn't known yet
@@ -19,6 +27,7 @@ abbrev pub untyped_number : UnknownKind → ℤ
 untyped_number (Int number) = number
 
 abbrev pub ty : DataType → Ty
+ty Null = NullType
 ty Boolean = Truth
 ty Int8 = Integer true 8
 ty Int16 = Integer true 16
@@ -28,29 +37,71 @@ ty UInt8 = Integer false 8
 ty UInt16 = Integer false 16
 ty UInt32 = Integer false 32
 ty UInt64 = Integer false 64
+ty String = TextType
+ty Date = DateType
+ty Time = TimeType
+ty (Datetime unit) = DatetimeType unit
+ty (Duration unit) = DurationType unit
 ty (Unknown kind) = Untyped (untyped_number kind)
 
 abbrev pub is_integer : Ty → Bool
-is_integer Truth = false
 is_integer (Integer signed bits) = true
-is_integer (Untyped number) = false
+is_integer type = false
+
+abbrev pub is_signed_integer : Ty → Bool
+is_signed_integer (Integer signed bits) = signed
+is_signed_integer type = false
+
+abbrev pub is_unsigned_integer : Ty → Bool
+is_unsigned_integer (Integer true bits) = false
+is_unsigned_integer (Integer false bits) = true
+is_unsigned_integer type = false
+
+abbrev pub is_text : Ty → Bool
+is_text TextType = true
+is_text type = false
+
+-- days, times of a day, moments and spans
+abbrev pub is_temporal : Ty → Bool
+is_temporal DateType = true
+is_temporal TimeType = true
+is_temporal (DatetimeType unit) = true
+is_temporal (DurationType unit) = true
+is_temporal type = false
+
+-- whether values of the type that aren't null are in an order
+abbrev pub is_ord : Ty → Bool
+is_ord NullType = false
+is_ord (Untyped number) = false
+is_ord type = true
 
 -- whether it is the type of a column, and not that of a number without one
 abbrev pub is_known : Ty → Bool
-is_known Truth = true
-is_known (Integer signed bits) = true
 is_known (Untyped number) = false
+is_known type = true
 
-abbrev pub is_signed_integer : Ty → Bool
-is_signed_integer Truth = false
-is_signed_integer (Integer signed bits) = signed
-is_signed_integer (Untyped number) = false
-
--- how many bits a value of the type has: of one that isn't known, none
+-- how many bits a number of an integer type has, and 0 of another type
 abbrev pub width_of : Ty → ℕ
-width_of Truth = 1
 width_of (Integer signed bits) = bits
-width_of (Untyped number) = 0
+width_of type = 0
+
+-- how many of the units a day has
+abbrev pub per_day : TimeUnit → ℕ
+per_day Nanoseconds = 86400000000000
+per_day Microseconds = 86400000000
+per_day Milliseconds = 86400000
+
+-- the units' places, from the finest to the coarsest
+abbrev pub unit_rank : TimeUnit → ℕ
+unit_rank Nanoseconds = 0
+unit_rank Microseconds = 1
+unit_rank Milliseconds = 2
+
+abbrev pub coarser : TimeUnit → TimeUnit → TimeUnit
+coarser left right = if nat_lt (unit_rank left) (unit_rank right) then right else left
+
+abbrev pub same_unit : TimeUnit → TimeUnit → Bool
+same_unit left right = unit_rank left == unit_rank right
 
 abbrev pub same_sign : Bool → Bool → Bool
 same_sign true true = true
@@ -60,12 +111,26 @@ same_sign false false = true
 
 -- whether two types are one
 abbrev pub same_type : Ty → Ty → Bool
+same_type NullType NullType = true
 same_type Truth Truth = true
-same_type Truth (Integer other width) = false
-same_type Truth (Untyped number) = false
-same_type (Integer signed bits) Truth = false
 same_type (Integer signed bits) (Integer other width) = same_sign signed other && bits == width
-same_type (Integer signed bits) (Untyped number) = false
-same_type (Untyped number) Truth = false
-same_type (Untyped number) (Integer other width) = false
+same_type TextType TextType = true
+same_type DateType DateType = true
+same_type TimeType TimeType = true
+same_type (DatetimeType unit) (DatetimeType other) = same_unit unit other
+same_type (DurationType unit) (DurationType other) = same_unit unit other
 same_type (Untyped number) (Untyped other) = int_eq number other
+same_type type other = false
+
+-- a number by which types are hashed
+abbrev pub type_code : Ty → ℕ
+type_code NullType = 0
+type_code Truth = 1
+type_code (Integer true bits) = bits
+type_code (Integer false bits) = 128 + bits
+type_code TextType = 2
+type_code DateType = 3
+type_code TimeType = 4
+type_code (DatetimeType unit) = 5 + unit_rank unit
+type_code (DurationType unit) = 9 + unit_rank unit
+type_code (Untyped number) = 12

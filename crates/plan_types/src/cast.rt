@@ -1,10 +1,16 @@
 //! Casts of values from one type to another.
-ghost use Rattle.std.specs.Prelude.{◌≡◌, ◌+ℤ◌, ◌-ℤ◌, ◌≤ℤ◌, ◌<ℤ◌, pos, int_lt, true, if◌then◌else◌, IfOk, IfErr};
-ghost use Rattle.plan_types.specs.Casts.{Gives, can_cast, cast, number_to, truth_to, wrapped};
-ghost use Rattle.plan_types.specs.Types.{ty, is_integer, is_known};
+ghost use Rattle.std.specs.Prelude.{◌≡◌, ◌+ℤ◌, ◌-ℤ◌, ◌≤ℤ◌, ◌<ℤ◌, ◌*ℤ◌, neg_ℤ, ◌||◌, pos, int_lt, true, if◌then◌else◌, IfOk, IfErr};
+ghost use Rattle.std.specs.Fmt.{signed_decimal};
+ghost use Rattle.std.specs.Int.{int_div_euclid};
+ghost use Rattle.plan_types.specs.Errors.{no_memory};
+ghost use Rattle.plan_types.specs.Casts.{Gives, can_cast, cast, integer_to, no_place, number_to, placed, text_to, truth_to, wrapped};
+ghost use Rattle.plan_types.specs.Types.{ty, is_integer, is_text};
+ghost use Rattle.plan_types.specs.Values.{fits, in_range};
 ghost use Rattle.plan_types.specs.ValueViews.{val_of, IsCastError};
 
 use crate::dtype::{CastOptions, DataType};
+use crate::error::PlanError;
+use crate::text::PlSmallStr;
 use crate::value::Value;
 use std::alloc::{AllocError, Global};
 use thiserror::Error;
@@ -31,68 +37,210 @@ impl From<AllocError> for CastError {
     }
 }
 
+impl From<PlanError> for CastError {
+    ghost use Rattle.std.specs.Prelude.{◌≡◌};
+    ghost use Rattle.plan_types.specs.declared.cast.CastError.TheVariants.{NoMemory};
+
+    ghost from_gives = { λ _ error. error ≡ NoMemory };
+
+    fn from(_error: PlanError) -> CastError {
+        CastError::NoMemory
+    }
+}
+
 /// Whether there is a cast from the one type to the other.
-pub fn can_cast(_from: &DataType, to: &DataType) -> bool
-    ensures { result ≡ can_cast (ty _from.now) (ty to.now) }
+pub fn can_cast(from: &DataType, to: &DataType) -> bool
+    ensures { result ≡ can_cast (ty from.now) (ty to.now) }
 {
-    to.is_known()
+    match from {
+        DataType::Null => to.is_known(),
+        DataType::Boolean => is_written(to) || matches!(to, DataType::Boolean),
+        DataType::String => is_written(to),
+        DataType::Date => matches!(
+            to,
+            DataType::Date | DataType::Datetime(_) | DataType::Int64
+        ),
+        DataType::Time => matches!(to, DataType::Time | DataType::Int64),
+        DataType::Datetime(_) => matches!(
+            to,
+            DataType::Date | DataType::Datetime(_) | DataType::Int64
+        ),
+        DataType::Duration(_) => matches!(to, DataType::Duration(_) | DataType::Int64),
+        DataType::Unknown(_) => false,
+        DataType::Int64 => !matches!(to, DataType::Null | DataType::Unknown(_)),
+        _integer => is_written(to) || matches!(to, DataType::Boolean),
+    }
+}
+
+// Whether it is the type of texts or one of integers.
+fn is_written(dtype: &DataType) -> bool
+    ensures { result ≡ (is_integer (ty dtype.now) || is_text (ty dtype.now)) }
+{
+    dtype.is_integer() || matches!(dtype, DataType::String)
 }
 
 /// The value in another type, where the cast has one for it.
 pub fn cast_value(
-    _alloc: Global,
+    alloc: Global,
     value: &Value,
     from: &DataType,
     to: &DataType,
     options: CastOptions,
 ) -> Result<Value, CastError>
     requires known { can_cast (ty from.now) (ty to.now) ≡ true }
+    requires fits { fits (val_of value.now) (ty from.now) ≡ true }
     ensures ok { IfOk result (λ converted. cast (val_of value.now) (ty from.now) (ty to.now) options ≡ Gives (val_of converted)) }
     ensures err { IfErr result (IsCastError (cast (val_of value.now) (ty from.now) (ty to.now) options)) }
 {
     match value {
         Value::Null => Ok(Value::Null),
-        Value::Boolean(truth) => truth_to(*truth, to, options),
-        Value::Int(number) => {
-            if *from == *to {
-                Ok(Value::Int(*number))
+        Value::Boolean(truth) => truth_to(alloc, *truth, to, options),
+        Value::Int(number) => number_to(alloc, from, *number, to, options),
+        Value::Text(text) => text_to(alloc, text, to, options),
+    }
+}
+
+// A truth value in another type: as a number it is 0 or 1.
+fn truth_to(
+    alloc: Global,
+    truth: bool,
+    to: &DataType,
+    options: CastOptions,
+) -> Result<Value, CastError>
+    ensures ok { IfOk result (λ converted. truth_to truth (ty to.now) options ≡ Gives (val_of converted)) }
+    ensures err { IfErr result (IsCastError (truth_to truth (ty to.now) options)) }
+{
+    match to {
+        DataType::Boolean => Ok(Value::Boolean(truth)),
+        DataType::String => {
+            let text = PlSmallStr::new(alloc, if truth { "true" } else { "false" })?;
+            Ok(Value::Text(text))
+        }
+        _other => {
+            if to.is_integer() {
+                integer_to(alloc, if truth { 1 } else { 0 }, to, options)
             } else {
-                number_to(*number, to, options)
+                no_place(options)
             }
         }
     }
 }
 
-// A truth value in another type: as a number it is 0 or 1.
-fn truth_to(truth: bool, to: &DataType, options: CastOptions) -> Result<Value, CastError>
-    requires known { is_known (ty to.now) ≡ true }
-    ensures ok { IfOk result (λ converted. truth_to truth (ty to.now) options ≡ Gives (val_of converted)) }
-    ensures err { IfErr result (IsCastError (truth_to truth (ty to.now) options)) }
+// A number of the type in another type.
+fn number_to(
+    alloc: Global,
+    from: &DataType,
+    number: i128,
+    to: &DataType,
+    options: CastOptions,
+) -> Result<Value, CastError>
+    requires range { in_range (ty from.now) number ≡ true }
+    ensures ok { IfOk result (λ converted. number_to (ty from.now) number (ty to.now) options ≡ Gives (val_of converted)) }
+    ensures err { IfErr result (IsCastError (number_to (ty from.now) number (ty to.now) options)) }
 {
-    if matches!(to, DataType::Boolean) {
-        return Ok(Value::Boolean(truth));
+    match (from, to) {
+        (DataType::Date, DataType::Datetime(unit)) => {
+            placed(rescaled(1, unit.per_day(), number), to, options)
+        }
+        (DataType::Datetime(unit), DataType::Date) => {
+            placed(rescaled(unit.per_day(), 1, number), to, options)
+        }
+        (DataType::Datetime(unit), DataType::Datetime(other))
+        | (DataType::Duration(unit), DataType::Duration(other)) => placed(
+            rescaled(unit.per_day(), other.per_day(), number),
+            to,
+            options,
+        ),
+        _ => integer_to(alloc, number, to, options),
     }
-    let number = if truth { 1 } else { 0 };
-    number_to(number, to, options)
 }
 
-// A number in another type than its own.
-fn number_to(number: i128, to: &DataType, options: CastOptions) -> Result<Value, CastError>
-    requires known { is_known (ty to.now) ≡ true }
-    ensures ok { IfOk result (λ converted. number_to number (ty to.now) options ≡ Gives (val_of converted)) }
-    ensures err { IfErr result (IsCastError (number_to number (ty to.now) options)) }
+// A number of an integer type in another type.
+fn integer_to(
+    alloc: Global,
+    number: i128,
+    to: &DataType,
+    options: CastOptions,
+) -> Result<Value, CastError>
+    ensures ok { IfOk result (λ converted. integer_to number (ty to.now) options ≡ Gives (val_of converted)) }
+    ensures err { IfErr result (IsCastError (integer_to number (ty to.now) options)) }
 {
     if matches!(to, DataType::Boolean) {
         return Ok(Value::Boolean(number != 0));
     }
+    if matches!(to, DataType::String) {
+        let text = digits(alloc, number)?;
+        return Ok(Value::Text(text));
+    }
+    let overflows = matches!(options, CastOptions::Overflowing) && to.is_integer();
+    if overflows && !to.has_number(number) {
+        return Ok(Value::Int(wrapped(number, to)));
+    }
+    placed(number, to, options)
+}
+
+// A number in decimal digits.
+fn digits(alloc: Global, number: i128) -> Result<PlSmallStr, PlanError>
+    ensures ok { IfOk result (λ text. text ≡ signed_decimal number) }
+    ensures err { IfErr result (λ error. error ≡ no_memory) }
+{
+    let text = format!(in alloc; "{number}")?;
+    PlSmallStr::new(alloc, text.as_str())
+}
+
+// A text in another type: an optional sign and digits are a number.
+fn text_to(
+    alloc: Global,
+    text: &PlSmallStr,
+    to: &DataType,
+    options: CastOptions,
+) -> Result<Value, CastError>
+    ensures ok { IfOk result (λ converted. text_to text.now (ty to.now) options ≡ Gives (val_of converted)) }
+    ensures err { IfErr result (IsCastError (text_to text.now (ty to.now) options)) }
+{
+    if matches!(to, DataType::String) {
+        let text = text.try_clone(alloc)?;
+        return Ok(Value::Text(text));
+    }
+    if !to.is_integer() {
+        return no_place(options);
+    }
+    match text.as_str().parse::<i128>() {
+        Ok(number) => placed(number, to, options),
+        Err(_) => no_place(options),
+    }
+}
+
+// A number that has a place in the target where its range has it.
+fn placed(number: i128, to: &DataType, options: CastOptions) -> Result<Value, CastError>
+    ensures ok { IfOk result (λ converted. placed options (ty to.now) number ≡ Gives (val_of converted)) }
+    ensures err { IfErr result (IsCastError (placed options (ty to.now) number)) }
+{
     if to.has_number(number) {
         return Ok(Value::Int(number));
     }
+    no_place(options)
+}
+
+// What has no place in the target.
+fn no_place(options: CastOptions) -> Result<Value, CastError>
+    ensures ok { IfOk result (λ converted. no_place options ≡ Gives (val_of converted)) }
+    ensures err { IfErr result (IsCastError (no_place options)) }
+{
     match options {
         CastOptions::Strict => Err(CastError::Failing),
-        CastOptions::NonStrict => Ok(Value::Null),
-        CastOptions::Overflowing => Ok(Value::Int(wrapped(number, to))),
+        CastOptions::NonStrict | CastOptions::Overflowing => Ok(Value::Null),
     }
+}
+
+// A number of so many to a day, counted in another number to a day and rounded down.
+fn rescaled(from: i128, target: i128, number: i128) -> i128
+    requires from { (pos 0 <ℤ from) × (from ≤ℤ pos 86400000000000) }
+    requires target { (pos 0 <ℤ target) × (target ≤ℤ pos 86400000000000) }
+    requires number { (neg_ℤ (pos 9223372036854775808) ≤ℤ number) × (number ≤ℤ pos 9223372036854775807) }
+    ensures { result ≡ int_div_euclid (number *ℤ target) from }
+{
+    (number * target).div_euclid(from)
 }
 
 // The number of an integer type with the same low bits.
@@ -112,7 +260,7 @@ fn wrapped(number: i128, dtype: &DataType) -> i128
         DataType::UInt16 => number.rem_euclid(65_536),
         DataType::UInt32 => number.rem_euclid(4_294_967_296),
         DataType::UInt64 => number.rem_euclid(18_446_744_073_709_551_616),
-        DataType::Boolean | DataType::Unknown(_) => number,
+        _other => number,
     }
 }
 

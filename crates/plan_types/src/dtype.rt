@@ -1,7 +1,7 @@
 //! Types of columns.
-ghost use Rattle.std.specs.Prelude.{◌≡◌, ◌↔◌, true, IsTrue, MatchOption, IfOk, IfErr};
+ghost use Rattle.std.specs.Prelude.{◌≡◌, ◌↔◌, pos, true, IsTrue, MatchOption, IfOk, IfErr};
 ghost use Rattle.plan_types.specs.Errors.{no_memory};
-ghost use Rattle.plan_types.specs.Types.{Untyped, ty, is_integer, is_known, is_signed_integer, width_of};
+ghost use Rattle.plan_types.specs.Types.{DatetimeType, DurationType, Untyped, same_type, coarser, per_day, ty, is_integer, is_known, is_ord, is_signed_integer, is_temporal, is_unsigned_integer, type_code, unit_rank, width_of};
 ghost use Rattle.plan_types.specs.Values.{in_range};
 
 use crate::error::PlanError;
@@ -27,6 +27,49 @@ impl CastOptions {
     }
 }
 
+/// The unit in which moments and spans are counted.
+#[derive(Clone, Copy, PartialEq, Eq, Hash)]
+pub enum TimeUnit {
+    Nanoseconds,
+    Microseconds,
+    Milliseconds,
+}
+
+impl TimeUnit {
+    /// How many of the unit a day has.
+    pub fn per_day(self) -> i128
+        ensures { result ≡ pos (per_day self) }
+    {
+        match self {
+            TimeUnit::Nanoseconds => 86_400_000_000_000,
+            TimeUnit::Microseconds => 86_400_000_000,
+            TimeUnit::Milliseconds => 86_400_000,
+        }
+    }
+
+    /// The unit's place among the units, from the finest to the coarsest.
+    pub fn rank(self) -> u32
+        ensures { result ≡ unit_rank self }
+    {
+        match self {
+            TimeUnit::Nanoseconds => 0,
+            TimeUnit::Microseconds => 1,
+            TimeUnit::Milliseconds => 2,
+        }
+    }
+}
+
+/// The coarser of two units.
+pub fn get_time_units(left: TimeUnit, right: TimeUnit) -> TimeUnit
+    ensures { result ≡ coarser left right }
+{
+    if left.rank() < right.rank() {
+        right
+    } else {
+        left
+    }
+}
+
 /// A type that isn't known yet.
 #[derive(Clone, Copy, PartialEq, Eq, Hash)]
 pub enum UnknownKind {
@@ -37,6 +80,8 @@ pub enum UnknownKind {
 /// The type of a column, or of a number without one. Contracts see it as a `Ty`.
 #[derive(Drop)]
 pub enum DataType {
+    /// That of a column that has no value but null.
+    Null,
     Boolean,
     Int8,
     Int16,
@@ -46,6 +91,15 @@ pub enum DataType {
     UInt16,
     UInt32,
     UInt64,
+    String,
+    /// Days since 1970-01-01.
+    Date,
+    /// Nanoseconds since midnight.
+    Time,
+    /// Units since the start of 1970-01-01.
+    Datetime(TimeUnit),
+    /// A span of time.
+    Duration(TimeUnit),
     /// The type of an untyped literal. No column has it.
     Unknown(UnknownKind),
 }
@@ -54,21 +108,52 @@ impl DataType {
     pub fn is_signed_integer(&self) -> bool
         ensures { result ≡ is_signed_integer (ty self.now) }
     {
-        match self {
-            DataType::Int8 | DataType::Int16 | DataType::Int32 | DataType::Int64 => true,
-            DataType::Boolean
-            | DataType::UInt8
-            | DataType::UInt16
-            | DataType::UInt32
-            | DataType::UInt64
-            | DataType::Unknown(_) => false,
-        }
+        matches!(
+            self,
+            DataType::Int8 | DataType::Int16 | DataType::Int32 | DataType::Int64
+        )
+    }
+
+    pub fn is_unsigned_integer(&self) -> bool
+        ensures { result ≡ is_unsigned_integer (ty self.now) }
+    {
+        matches!(
+            self,
+            DataType::UInt8 | DataType::UInt16 | DataType::UInt32 | DataType::UInt64
+        )
     }
 
     pub fn is_integer(&self) -> bool
         ensures { result ≡ is_integer (ty self.now) }
     {
-        !matches!(self, DataType::Boolean | DataType::Unknown(_))
+        matches!(
+            self,
+            DataType::Int8
+                | DataType::Int16
+                | DataType::Int32
+                | DataType::Int64
+                | DataType::UInt8
+                | DataType::UInt16
+                | DataType::UInt32
+                | DataType::UInt64
+        )
+    }
+
+    /// Whether it is a type of days, times of a day, moments or spans.
+    pub fn is_temporal(&self) -> bool
+        ensures { result ≡ is_temporal (ty self.now) }
+    {
+        matches!(
+            self,
+            DataType::Date | DataType::Time | DataType::Datetime(_) | DataType::Duration(_)
+        )
+    }
+
+    /// Whether values of the type that aren't null are in an order.
+    pub fn is_ord(&self) -> bool
+        ensures { result ≡ is_ord (ty self.now) }
+    {
+        !matches!(self, DataType::Null | DataType::Unknown(_))
     }
 
     /// Whether it is the type of a column.
@@ -88,43 +173,74 @@ impl DataType {
         }
     }
 
-    /// Whether the type's range has the number: truth values are no numbers.
+    /// Whether the type's range has the number: only integers and times have one.
     pub fn has_number(&self, number: i128) -> bool
         ensures { result ≡ in_range (ty self.now) number }
     {
         match self {
-            DataType::Boolean => false,
+            DataType::Null | DataType::Boolean | DataType::String => false,
             DataType::Int8 => i8::try_from(number).is_ok(),
             DataType::Int16 => i16::try_from(number).is_ok(),
-            DataType::Int32 => i32::try_from(number).is_ok(),
-            DataType::Int64 => i64::try_from(number).is_ok(),
+            DataType::Int32 | DataType::Date => i32::try_from(number).is_ok(),
+            DataType::Int64 | DataType::Datetime(_) | DataType::Duration(_) => {
+                i64::try_from(number).is_ok()
+            }
             DataType::UInt8 => u8::try_from(number).is_ok(),
             DataType::UInt16 => u16::try_from(number).is_ok(),
             DataType::UInt32 => u32::try_from(number).is_ok(),
             DataType::UInt64 => u64::try_from(number).is_ok(),
+            DataType::Time => number >= 0 && number < 86_400_000_000_000,
             DataType::Unknown(UnknownKind::Int(own)) => *own == number,
         }
     }
 
-    /// How many bits a value of the type has: a truth value has one, and one of a type that isn't known none.
+    /// How many bits a number of an integer type has, and 0 of another type.
     pub fn width(&self) -> u32
         ensures { result ≡ width_of (ty self.now) }
     {
         match self {
-            DataType::Unknown(_) => 0,
-            DataType::Boolean => 1,
             DataType::Int8 | DataType::UInt8 => 8,
             DataType::Int16 | DataType::UInt16 => 16,
             DataType::Int32 | DataType::UInt32 => 32,
             DataType::Int64 | DataType::UInt64 => 64,
+            _other => 0,
         }
     }
 
+    // A number by which types are hashed.
+    fn code(&self) -> u32
+        ensures { result ≡ type_code (ty self.now) }
+    {
+        match self {
+            DataType::Null => 0,
+            DataType::Boolean => 1,
+            DataType::String => 2,
+            DataType::Date => 3,
+            DataType::Time => 4,
+            DataType::Datetime(unit) => 5 + unit.rank(),
+            DataType::Duration(unit) => 9 + unit.rank(),
+            DataType::Unknown(_) => 12,
+            DataType::Int8 | DataType::Int16 | DataType::Int32 | DataType::Int64 => self.width(),
+            _unsigned => 128 + self.width(),
+        }
+    }
+
+    // Whether both are integer types of one sign and width.
+    fn is_same_integer(&self, other: &DataType) -> bool
+        requires { is_integer (ty self.now) ≡ true }
+        ensures { result ≡ same_type (ty self.now) (ty other.now) }
+    {
+        other.is_integer()
+            && self.is_signed_integer() == other.is_signed_integer()
+            && self.width() == other.width()
+    }
+
     pub fn try_clone(&self, _alloc: Global) -> Result<DataType, PlanError>
-        ensures ok { IfOk result (λ copy. copy ≡ self.now) }
+        ensures ok { IfOk result (λ copy. ty copy ≡ ty self.now) }
         ensures err { IfErr result (λ error. error ≡ no_memory) }
     {
         Ok(match self {
+            DataType::Null => DataType::Null,
             DataType::Boolean => DataType::Boolean,
             DataType::Int8 => DataType::Int8,
             DataType::Int16 => DataType::Int16,
@@ -134,6 +250,11 @@ impl DataType {
             DataType::UInt16 => DataType::UInt16,
             DataType::UInt32 => DataType::UInt32,
             DataType::UInt64 => DataType::UInt64,
+            DataType::String => DataType::String,
+            DataType::Date => DataType::Date,
+            DataType::Time => DataType::Time,
+            DataType::Datetime(unit) => DataType::Datetime(*unit),
+            DataType::Duration(unit) => DataType::Duration(*unit),
             DataType::Unknown(kind) => DataType::Unknown(*kind),
         })
     }
@@ -149,13 +270,47 @@ impl PartialEq for DataType {
     ghost laws = { partial_equiv_from_equiv same_type_is_equivalence };
 
     fn eq(&self, other: &DataType) -> bool {
-        match (self, other) {
-            (DataType::Unknown(kind), DataType::Unknown(other)) => kind == other,
-            _ => {
-                self.is_signed_integer() == other.is_signed_integer()
-                    && self.width() == other.width()
-            }
+        match self {
+            DataType::Null => matches!(other, DataType::Null),
+            DataType::Boolean => matches!(other, DataType::Boolean),
+            DataType::String => matches!(other, DataType::String),
+            DataType::Date => matches!(other, DataType::Date),
+            DataType::Time => matches!(other, DataType::Time),
+            DataType::Datetime(unit) => is_datetime_in(other, *unit),
+            DataType::Duration(unit) => is_duration_in(other, *unit),
+            DataType::Unknown(UnknownKind::Int(number)) => is_untyped_number(other, *number),
+            _integer => self.is_same_integer(other),
         }
+    }
+}
+
+// Whether it is the type of moments in the unit.
+fn is_datetime_in(dtype: &DataType, unit: TimeUnit) -> bool
+    ensures { result ≡ same_type (DatetimeType unit) (ty dtype.now) }
+{
+    match dtype {
+        DataType::Datetime(own) => unit.rank() == own.rank(),
+        _ => false,
+    }
+}
+
+// Whether it is the type of spans in the unit.
+fn is_duration_in(dtype: &DataType, unit: TimeUnit) -> bool
+    ensures { result ≡ same_type (DurationType unit) (ty dtype.now) }
+{
+    match dtype {
+        DataType::Duration(own) => unit.rank() == own.rank(),
+        _ => false,
+    }
+}
+
+// Whether it is the own type of the number.
+fn is_untyped_number(dtype: &DataType, number: i128) -> bool
+    ensures { result ≡ same_type (Untyped number) (ty dtype.now) }
+{
+    match dtype {
+        DataType::Unknown(UnknownKind::Int(own)) => number == *own,
+        _ => false,
     }
 }
 
@@ -166,17 +321,15 @@ impl Eq for DataType {
 }
 
 impl Hash for DataType {
-    ghost use Rattle.std.specs.Prelude.{◌++◌};
     ghost use Rattle.std.specs.Hash as fed;
-    ghost use Rattle.plan_types.specs.Types.{ty, is_signed_integer, width_of};
+    ghost use Rattle.plan_types.specs.Types.{ty, type_code};
     ghost use Rattle.plan_types.specs.TypeLaws.{same_hash};
 
-    ghost hash_input = { λ a. fed.bool (is_signed_integer (ty a)) ++ fed.u32 (width_of (ty a)) };
+    ghost hash_input = { λ a. fed.u32 (type_code (ty a)) };
 
     ghost respects_eq = { same_hash };
 
     fn hash<H: Hasher>(&self, state: &mut H) {
-        self.is_signed_integer().hash(state);
-        self.width().hash(state);
+        self.code().hash(state);
     }
 }

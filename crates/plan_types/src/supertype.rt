@@ -3,9 +3,9 @@ ghost use Rattle.std.specs.Prelude.{◌≡◌, IfOk, IfErr, Some, None, true, fa
 ghost use Rattle.std.specs.Option.{option_map};
 ghost use Rattle.plan_types.specs.Errors.{no_memory, IsMemoryOr};
 ghost use Rattle.plan_types.specs.Supertypes.{supertype, signed_above, upcast};
-ghost use Rattle.plan_types.specs.Types.{ty, same_type, is_integer, is_signed_integer, width_of, Integer};
+ghost use Rattle.plan_types.specs.Types.{NullType, DateType, DatetimeType, DurationType, TextType, Truth, ty, same_type, is_integer, is_signed_integer, width_of};
 
-use crate::dtype::DataType;
+use crate::dtype::{DataType, TimeUnit, get_time_units};
 use crate::error::{ErrorKind, PlanError};
 use std::alloc::Global;
 
@@ -18,34 +18,105 @@ pub fn get_supertype(
     ensures ok { IfOk result (λ found. option_map ty found ≡ supertype (ty left.now) (ty right.now)) }
     ensures err { IfErr result (λ error. error ≡ no_memory) }
 {
-    if !left.is_known() || !right.is_known() {
-        return itself(alloc, left, right);
+    if matches!(left, DataType::Null) {
+        let found = right.try_clone(alloc)?;
+        return Ok(Some(found));
     }
-    if left.is_signed_integer() == right.is_signed_integer() {
-        let wider = if left.width() < right.width() {
-            right
-        } else {
-            left
-        };
-        let found = wider.try_clone(alloc)?;
-        Ok(Some(found))
-    } else if left.is_signed_integer() {
-        signed_above(alloc, left, right)
-    } else {
-        signed_above(alloc, right, left)
+    if matches!(right, DataType::Null) || *left == *right {
+        let found = left.try_clone(alloc)?;
+        return Ok(Some(found));
+    }
+    Ok(common_of_others(left, right))
+}
+
+// The common type of two types that differ, neither of which is that of null.
+fn common_of_others(left: &DataType, right: &DataType) -> Option<DataType>
+    requires left { same_type NullType (ty left.now) ≡ false }
+    requires right { same_type NullType (ty right.now) ≡ false }
+    requires differ { same_type (ty left.now) (ty right.now) ≡ false }
+    ensures { option_map ty result ≡ supertype (ty left.now) (ty right.now) }
+{
+    match left {
+        DataType::Boolean => beside_truth(right),
+        DataType::String => beside_text(right),
+        DataType::Date => beside_date(right),
+        DataType::Datetime(unit) => beside_datetime(*unit, right),
+        DataType::Duration(unit) => beside_duration(*unit, right),
+        DataType::Null | DataType::Time | DataType::Unknown(_) => None,
+        _integer => beside_integer(left, right),
     }
 }
 
-// The type, where the other is the same.
-fn itself(alloc: Global, left: &DataType, right: &DataType) -> Result<Option<DataType>, PlanError>
-    ensures ok { IfOk result (λ found. option_map ty found ≡ (if same_type (ty left.now) (ty right.now) then Some (ty left.now) else None)) }
-    ensures err { IfErr result (λ error. error ≡ no_memory) }
+// Truth values beside an integer are of its type, and beside a text are texts.
+fn beside_truth(right: &DataType) -> Option<DataType>
+    requires right { same_type NullType (ty right.now) ≡ false }
+    requires differ { same_type Truth (ty right.now) ≡ false }
+    ensures { option_map ty result ≡ supertype Truth (ty right.now) }
 {
-    if *left != *right {
-        return Ok(None);
+    match right {
+        DataType::String => Some(DataType::String),
+        _other => integer_copy(right),
     }
-    let found = left.try_clone(alloc)?;
-    Ok(Some(found))
+}
+
+// Integers and truth values beside a text are texts.
+fn beside_text(right: &DataType) -> Option<DataType>
+    requires right { same_type NullType (ty right.now) ≡ false }
+    requires differ { same_type TextType (ty right.now) ≡ false }
+    ensures { option_map ty result ≡ supertype TextType (ty right.now) }
+{
+    if right.is_integer() || matches!(right, DataType::Boolean) {
+        Some(DataType::String)
+    } else {
+        None
+    }
+}
+
+// Days beside moments are moments.
+fn beside_date(right: &DataType) -> Option<DataType>
+    requires right { same_type NullType (ty right.now) ≡ false }
+    requires differ { same_type DateType (ty right.now) ≡ false }
+    ensures { option_map ty result ≡ supertype DateType (ty right.now) }
+{
+    match right {
+        DataType::Datetime(unit) => Some(DataType::Datetime(*unit)),
+        _ => None,
+    }
+}
+
+fn beside_datetime(unit: TimeUnit, right: &DataType) -> Option<DataType>
+    requires right { same_type NullType (ty right.now) ≡ false }
+    ensures { option_map ty result ≡ supertype (DatetimeType unit) (ty right.now) }
+{
+    match right {
+        DataType::Date => Some(DataType::Datetime(unit)),
+        DataType::Datetime(other) => Some(DataType::Datetime(get_time_units(unit, *other))),
+        _ => None,
+    }
+}
+
+fn beside_duration(unit: TimeUnit, right: &DataType) -> Option<DataType>
+    requires right { same_type NullType (ty right.now) ≡ false }
+    ensures { option_map ty result ≡ supertype (DurationType unit) (ty right.now) }
+{
+    match right {
+        DataType::Duration(other) => Some(DataType::Duration(get_time_units(unit, *other))),
+        _ => None,
+    }
+}
+
+// An integer type beside another type.
+fn beside_integer(left: &DataType, right: &DataType) -> Option<DataType>
+    requires left { is_integer (ty left.now) ≡ true }
+    requires right { same_type NullType (ty right.now) ≡ false }
+    requires differ { same_type (ty left.now) (ty right.now) ≡ false }
+    ensures { option_map ty result ≡ supertype (ty left.now) (ty right.now) }
+{
+    match right {
+        DataType::Boolean => integer_copy(left),
+        DataType::String => Some(DataType::String),
+        _other => get_numeric_upcast_supertype_lossless(left, right),
+    }
 }
 
 /// `get_supertype`, with a refusal where there is none.
@@ -61,29 +132,6 @@ pub fn try_get_supertype(
         Some(found) => Ok(found),
         None => Err(PlanError::at_top(ErrorKind::SchemaMismatch)),
     }
-}
-
-// The least signed type that holds both.
-fn signed_above(
-    alloc: Global,
-    signed: &DataType,
-    unsigned: &DataType,
-) -> Result<Option<DataType>, PlanError>
-    requires signed { is_signed_integer (ty signed.now) ≡ true }
-    requires unsigned { is_signed_integer (ty unsigned.now) ≡ false }
-    ensures ok { IfOk result (λ found. option_map ty found ≡ signed_above (width_of (ty signed.now)) (width_of (ty unsigned.now))) }
-    ensures err { IfErr result (λ error. error ≡ no_memory) }
-{
-    if unsigned.width() < signed.width() {
-        let found = signed.try_clone(alloc)?;
-        return Ok(Some(found));
-    }
-    Ok(match unsigned {
-        DataType::UInt8 => Some(DataType::Int16),
-        DataType::UInt16 => Some(DataType::Int32),
-        DataType::UInt32 => Some(DataType::Int64),
-        _ => None,
-    })
 }
 
 /// The integer type that holds the values of both, where these are integer types that differ.
