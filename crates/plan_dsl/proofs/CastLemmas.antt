@@ -21,7 +21,8 @@ use Rattle.plan_dsl.specs.Trees.{node, no_more, more}
 use Rattle.plan_dsl.specs.Ops.{Op, ColumnOp, LiteralOp, BinaryOp, CastOp, Expression}
 use Rattle.plan_dsl.specs.Names.{name_of}
 use Rattle.plan_dsl.specs.Literals.{is_literal}
-use Rattle.plan_dsl.specs.Typing.{Taken, both_to, column_type, literal_taken, cast_taken, operator_types, operand_types, typed_as, typing, typing_rule, then_typed, typed_before}
+use Rattle.plan_dsl.specs.Typing.{column_type, literal_taken, cast_taken, operand_types, typed_as, typing, typing_rule, then_typed, typed_before}
+use Rattle.plan_dsl.specs.OperatorTypes.{Taken, both_to, operator_types}
 use Rattle.plan_dsl.specs.Kernels.{Meaning, cast_meaning}
 use Rattle.plan_dsl.specs.Meaning.{meaning, node_meaning, taken_meaning}
 use Rattle.plan_dsl.proofs.TypingLemmas.{ok_same, ok_where}

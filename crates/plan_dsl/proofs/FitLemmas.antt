@@ -25,7 +25,8 @@ use Rattle.plan_dsl.specs.Registry.{Registry}
 use Rattle.plan_dsl.specs.Trees.{Trees, node, no_more, more}
 use Rattle.plan_dsl.specs.Ops.{Op, ColumnOp, LiteralOp, BinaryOp, CastOp, Expression}
 use Rattle.plan_dsl.specs.Literals.{is_literal, is_literal_of}
-use Rattle.plan_dsl.specs.Typing.{Typed, Taken, both_to, column_type, literal_taken, cast_taken, operator_types, operand_types, types_of, is_many, typed_as, typing_rule, then_typed, typing, typing_all}
+use Rattle.plan_dsl.specs.Typing.{Typed, column_type, literal_taken, cast_taken, operand_types, types_of, is_many, typed_as, typing_rule, then_typed, typing, typing_all}
+use Rattle.plan_dsl.specs.OperatorTypes.{Taken, both_to, operator_types}
 use Rattle.plan_dsl.specs.Kernels.{Meaning, cast_values, cast_meaning, common_length, stretched, at_each, at_length, operator_values, value_before, kernel}
 use Rattle.plan_dsl.specs.Meaning.{meaning, meaning_all, node_meaning, taken_meaning, taken_to}
 use Rattle.plan_dsl.specs.Laws.{AreOf}

@@ -25,7 +25,8 @@ use Rattle.plan_dsl.specs.Trees.{Trees, node, no_more, more}
 use Rattle.plan_dsl.specs.Ops.{Op, ColumnOp, LiteralOp, BinaryOp, CastOp, Expression}
 use Rattle.plan_dsl.specs.Names.{name_of}
 use Rattle.plan_dsl.specs.Literals.{literal_type, literal_value, is_literal, is_literal_of, settled, settled_type}
-use Rattle.plan_dsl.specs.Typing.{Typed, Taken, both_to, column_type, cast_taken, operator_types, operand_types, types_of, is_many, typed_as, typed_before, typing, typing_all}
+use Rattle.plan_dsl.specs.Typing.{Typed, column_type, cast_taken, operand_types, types_of, is_many, typed_as, typed_before, typing, typing_all}
+use Rattle.plan_dsl.specs.OperatorTypes.{Taken, both_to, operator_types}
 use Rattle.plan_dsl.specs.Kernels.{cast_meaning, value_before}
 use Rattle.plan_dsl.specs.Meaning.{meaning, taken_meaning}
 use Rattle.plan_dsl.specs.Strictness.{IsStrict}

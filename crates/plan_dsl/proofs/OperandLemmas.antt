@@ -18,7 +18,8 @@ use Rattle.plan_dsl.specs.Trees.{Trees, node, no_more, more, fold_all}
 use Rattle.plan_dsl.specs.Ops.{Op, ColumnOp, LiteralOp, BinaryOp, CastOp}
 use Rattle.plan_dsl.specs.Names.{name_of, op_name}
 use Rattle.plan_dsl.specs.Literals.{is_literal}
-use Rattle.plan_dsl.specs.Typing.{Typed, Taken, column_type, cast_taken, operator_types, operand_types, types_of, some_many, is_many, typed_as, typing, typing_all, typing_rule, then_typed, typed_before}
+use Rattle.plan_dsl.specs.Typing.{Typed, column_type, cast_taken, operand_types, types_of, some_many, is_many, typed_as, typing, typing_all, typing_rule, then_typed, typed_before}
+use Rattle.plan_dsl.specs.OperatorTypes.{Taken, operator_types}
 use Rattle.plan_dsl.specs.Kernels.{Meaning, cast_meaning, kernel}
 use Rattle.plan_dsl.specs.Meaning.{meaning, meaning_all, node_meaning, taken_meaning, taken_to}
 use Rattle.plan_dsl.specs.Strictness.{CanBecome, IsSame, IsStrictNode, IsStrictOver, same_types, as_operands}

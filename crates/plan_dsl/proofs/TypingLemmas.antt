@@ -5,7 +5,8 @@ use Rattle.plan_types.specs.declared.error.ErrorKind.{ErrorKind}
 use Rattle.plan_dsl.specs.Registry.{Registry}
 use Rattle.plan_dsl.specs.Trees.{Trees, node}
 use Rattle.plan_dsl.specs.Ops.{Op}
-use Rattle.plan_dsl.specs.Typing.{Typed, Taken, operand_types, types_of, is_many, typed_as, typing_rule, then_typed, typed_before, typing, typing_all}
+use Rattle.plan_dsl.specs.Typing.{Typed, operand_types, types_of, is_many, typed_as, typing_rule, then_typed, typed_before, typing, typing_all}
+use Rattle.plan_dsl.specs.OperatorTypes.{Taken}
 
 -- what was found is one
 pub ok_same : {A E : Type 0} (found : Result A E) (x y : A) → found ≡ Ok x → found ≡ Ok y → x ≡ y

@@ -11,7 +11,8 @@ use Rattle.plan_dsl.specs.Registry.{Registry}
 use Rattle.plan_dsl.specs.Ops.{Op, LiteralOp, Expression}
 use Rattle.plan_dsl.specs.Trees.{Trees, node, no_more}
 use Rattle.plan_dsl.specs.Plans.{Plan}
-use Rattle.plan_dsl.specs.Typing.{Typed, Taken, operand_types, types_of, typing, typing_all, kinds_in}
+use Rattle.plan_dsl.specs.Typing.{Typed, operand_types, types_of, typing, typing_all, kinds_in}
+use Rattle.plan_dsl.specs.OperatorTypes.{Taken}
 use Rattle.plan_dsl.specs.Meaning.{meaning}
 use Rattle.plan_dsl.specs.Strictness.{IsStrict, IsSame, IsStrictOver, as_operands}
 use Rattle.plan_dsl.specs.StrictRun.{strict_run}

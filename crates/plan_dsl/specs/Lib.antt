@@ -6,6 +6,7 @@ pub mod Laws
 pub mod Literals
 pub mod Meaning
 pub mod Names
+pub mod OperatorTypes
 pub mod Operators
 pub mod Ops
 pub mod PlanKernels

@@ -3,7 +3,7 @@
 -- until it gets that of what stands beside it.
 use Rattle.std.specs.Prelude.{pos, Bool, true, false, is_some, ◌&&◌, unwrap_or}
 use Rattle.plan_types.specs.Types.{Ty, Integer, Untyped}
-use Rattle.plan_types.specs.Values.{Val, NullValue, TruthValue, IntValue, fits}
+use Rattle.plan_types.specs.Values.{Val, NullValue, IntValue, fits}
 use Rattle.plan_types.specs.CommonTypes.{type_alone}
 use Rattle.plan_dsl.specs.declared.literal.LiteralValue.{LiteralValue}
 use Rattle.plan_dsl.specs.declared.literal.LiteralValue.TheVariants.{Int, Int8, Int16, Int32, Int64, UInt8, UInt16, UInt32, UInt64}
@@ -38,8 +38,7 @@ literal_op value = LiteralOp (literal_type value) (literal_value value)
 -- whether a literal of the type may have the value: null is one of no type
 abbrev pub is_literal_of : Ty → Val → Bool
 is_literal_of type NullValue = false
-is_literal_of type (TruthValue truth) = fits (TruthValue truth) type
-is_literal_of type (IntValue number) = fits (IntValue number) type
+is_literal_of type value = fits value type
 
 -- whether there is a literal of the type with the value: a number without a type has one alone
 abbrev pub is_literal : Ty → Val → Bool

@@ -1,9 +1,9 @@
 -- Operators: how they are written, and what they give of two values.
--- Null beside anything is null. Sums wrap around in the result's type, and a true value counts as 1.
--- Comparisons give truth values: false is less than true, and numbers are ordered by size.
-use Rattle.std.specs.Prelude.{ℕ, ◌+ℤ◌, ℤ, int_lt, List, Bool, false, not, ◌&&◌, codes}
-use Rattle.plan_types.specs.Types.{Ty, Truth, Integer, Untyped}
-use Rattle.plan_types.specs.Values.{Val, NullValue, TruthValue, IntValue}
+-- Null beside anything is null. Sums wrap around in the result's type, a true value counts as 1, and texts are joined.
+-- Comparisons give truth values: false is less than true, numbers are ordered by size, and texts by their bytes.
+use Rattle.std.specs.Prelude.{ℕ, ◌+ℤ◌, int_lt, nat_lt, ◌==◌, List, [], ◌∷◌, ◌++◌, Bool, true, false, not, ◌&&◌, ◌||◌, codes, encode_utf8_all}
+use Rattle.plan_types.specs.Types.{Ty}
+use Rattle.plan_types.specs.Values.{Val, NullValue, TruthValue, IntValue, TextValue}
 use Rattle.plan_types.specs.Casts.{wrapped, number_of}
 use Rattle.plan_dsl.specs.declared.operator.Operator.{Operator}
 use Rattle.plan_dsl.specs.declared.operator.Operator.TheVariants.{Eq, NotEq, Lt, LtEq, Gt, GtEq, Plus}
@@ -17,56 +17,35 @@ operator_sign Gt = codes ">"
 operator_sign GtEq = codes ">="
 operator_sign Plus = codes "+"
 
--- the type of a sum of operands of a common type: truth values are counted
-abbrev pub sum_type : Ty → Ty
-sum_type Truth = Integer false 32
-sum_type (Integer signed bits) = Integer signed bits
-sum_type (Untyped number) = Untyped number
-
--- the result's type, from the type to which both operands are taken
-abbrev pub result_type : Operator → Ty → Ty
-result_type Eq common = Truth
-result_type NotEq common = Truth
-result_type Lt common = Truth
-result_type LtEq common = Truth
-result_type Gt common = Truth
-result_type GtEq common = Truth
-result_type Plus common = sum_type common
-
--- a sum in the type
-abbrev pub plus_number : Ty → ℤ → Val → Val
-plus_number type left NullValue = NullValue
-plus_number type left (TruthValue right) = IntValue (wrapped type (left +ℤ number_of right))
-plus_number type left (IntValue right) = IntValue (wrapped type (left +ℤ right))
-
+-- the sum of two values, in the type
 abbrev pub plus : Ty → Val → Val → Val
-plus type NullValue right = NullValue
-plus type (TruthValue left) right = plus_number type (number_of left) right
-plus type (IntValue left) right = plus_number type left right
+plus type (TruthValue left) (TruthValue right) = IntValue (wrapped type (number_of left +ℤ number_of right))
+plus type (IntValue left) (IntValue right) = IntValue (wrapped type (left +ℤ right))
+plus type (TextValue left) (TextValue right) = TextValue (left ++ right)
+plus type left right = NullValue
+
+-- whether the first list of bytes comes before the second: at the first that differ, or as its beginning
+abbrev pub is_before : List ℕ → List ℕ → Bool
+is_before [] [] = false
+is_before [] (second ∷ seconds) = true
+is_before (first ∷ firsts) [] = false
+is_before (first ∷ firsts) (second ∷ seconds) = nat_lt first second || (first == second && is_before firsts seconds)
 
 -- the order of two values of one type, neither of which is null
 abbrev pub is_less : Val → Val → Bool
-is_less NullValue right = false
-is_less (TruthValue left) NullValue = false
 is_less (TruthValue left) (TruthValue right) = not left && right
-is_less (TruthValue left) (IntValue right) = false
-is_less (IntValue left) NullValue = false
-is_less (IntValue left) (TruthValue right) = false
 is_less (IntValue left) (IntValue right) = int_lt left right
+is_less (TextValue left) (TextValue right) = is_before (encode_utf8_all left) (encode_utf8_all right)
+is_less left right = false
 
 abbrev pub is_same : Val → Val → Bool
 is_same left right = not (is_less left right) && not (is_less right left)
 
 -- a comparison, which is null where a value is
-abbrev pub compared_to : (Val → Val → Bool) → Val → Val → Val
-compared_to test left NullValue = NullValue
-compared_to test left (TruthValue right) = TruthValue (test left (TruthValue right))
-compared_to test left (IntValue right) = TruthValue (test left (IntValue right))
-
 abbrev pub compared : (Val → Val → Bool) → Val → Val → Val
 compared test NullValue right = NullValue
-compared test (TruthValue left) right = compared_to test (TruthValue left) right
-compared test (IntValue left) right = compared_to test (IntValue left) right
+compared test left NullValue = NullValue
+compared test left right = TruthValue (test left right)
 
 -- what an operator gives of two values, in the result's type
 abbrev pub operator_value : Operator → Ty → Val → Val → Val

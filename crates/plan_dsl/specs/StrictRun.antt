@@ -9,7 +9,8 @@ use Rattle.plan_types.specs.declared.error.ErrorKind.{ErrorKind}
 use Rattle.plan_dsl.specs.Registry.{Registry}
 use Rattle.plan_dsl.specs.Trees.{Trees, node, no_more, more}
 use Rattle.plan_dsl.specs.Ops.{Op, Expression}
-use Rattle.plan_dsl.specs.Typing.{Typed, Taken, operand_types, types_of, typing_all}
+use Rattle.plan_dsl.specs.Typing.{Typed, operand_types, types_of, typing_all}
+use Rattle.plan_dsl.specs.OperatorTypes.{Taken}
 use Rattle.plan_dsl.specs.Kernels.{Meaning, stuck, kernel}
 use Rattle.plan_dsl.specs.Strictness.{same_types}
 

@@ -1,7 +1,8 @@
 -- Strict expressions, and expressions that say the same.
 -- A node is strict where its operands have the types to which it takes them, and it is no number without a type.
 use Rattle.std.specs.Prelude.{◌≡◌, ℤ, Bool, true, false, ◌&&◌, List, [], ◌∷◌, Ok, if◌then◌else◌}
-use Rattle.plan_types.specs.Types.{Ty, Truth, Integer, Untyped, is_known, same_type}
+use Rattle.plan_types.specs.Types.{Ty, Untyped, is_integer, is_known, same_type}
+use Rattle.plan_types.specs.Casts.{can_cast}
 use Rattle.plan_types.specs.Values.{IntValue, in_range}
 use Rattle.plan_types.specs.Schemas.{Columns}
 use Rattle.plan_types.specs.Frames.{Row}
@@ -10,7 +11,8 @@ use Rattle.plan_dsl.specs.Registry.{Registry}
 use Rattle.plan_dsl.specs.Trees.{Trees, node, no_more, more}
 use Rattle.plan_dsl.specs.Ops.{Op, LiteralOp, CastOp, Expression}
 use Rattle.plan_dsl.specs.Names.{name_of}
-use Rattle.plan_dsl.specs.Typing.{Typed, Taken, operand_types, types_of, typing, typing_all}
+use Rattle.plan_dsl.specs.Typing.{Typed, operand_types, types_of, typing, typing_all}
+use Rattle.plan_dsl.specs.OperatorTypes.{Taken}
 use Rattle.plan_dsl.specs.Meaning.{meaning}
 
 -- whether the types are the same, one by one
@@ -45,19 +47,19 @@ abbrev mutual
 -- an expression of the first type, made one of the second: a cast stands round it, and a number without a type
 -- becomes a literal
 abbrev pub changed : Ty → Ty → Expression → Expression
-changed Truth target tree = node (CastOp target NonStrict) (more tree no_more)
-changed (Integer signed bits) target tree = node (CastOp target NonStrict) (more tree no_more)
 changed (Untyped number) target tree = node (LiteralOp target (IntValue number)) no_more
+changed from target tree = node (CastOp target NonStrict) (more tree no_more)
 
 -- the same, where the types aren't one
 abbrev pub as_operand : Ty → Ty → Expression → Expression
 as_operand from target tree = if same_type from target then tree else changed from target tree
 
--- an operand of the first type can become one of the second: it is a type of columns, and has the number that
--- had none
+-- an operand of the first type can become one of the second: that is a type of columns, to which there is a cast, or
+-- one of integers that has the number which had no type
 pub record CanBecome (from target : Ty) : Type 0 where
   pub known : is_known target ≡ true
-  pub has : (number : ℤ) → from ≡ Untyped number → in_range target number ≡ true
+  pub casts : is_known from ≡ true → can_cast from target ≡ true
+  pub has : (number : ℤ) → from ≡ Untyped number → (is_integer target && in_range target number) ≡ true
 
 -- operands of the first types, made ones of the second
 abbrev pub as_operands : List Ty → List Ty → Trees Op → Trees Op

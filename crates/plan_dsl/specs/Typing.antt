@@ -5,11 +5,10 @@ use Rattle.plan_types.specs.Types.{Ty, is_known}
 use Rattle.plan_types.specs.Values.{Val}
 use Rattle.plan_types.specs.Schemas.{Columns, type_at}
 use Rattle.plan_types.specs.Casts.{can_cast}
-use Rattle.plan_types.specs.CommonTypes.{type_alone, common_type}
+use Rattle.plan_types.specs.CommonTypes.{type_alone}
 use Rattle.plan_types.specs.declared.error.ErrorKind.{ErrorKind}
 use Rattle.plan_types.specs.declared.error.ErrorKind.TheVariants.{ColumnNotFound, SchemaMismatch, InvalidOperation}
-use Rattle.plan_dsl.specs.declared.operator.Operator.{Operator}
-use Rattle.plan_dsl.specs.Operators.{result_type}
+use Rattle.plan_dsl.specs.OperatorTypes.{Taken, operator_types}
 use Rattle.plan_dsl.specs.Literals.{is_literal}
 use Rattle.plan_dsl.specs.Registry.{Registry}
 use Rattle.plan_dsl.specs.Trees.{Trees, node, no_more, more}
@@ -19,16 +18,6 @@ use Rattle.plan_dsl.specs.Ops.{Op, ColumnOp, LiteralOp, BinaryOp, CastOp, Expres
 pub record Typed : Type 0 where
   pub type : Ty
   pub many : Bool
-
--- the types to which a node's operands are taken, and its own type
-pub record Taken : Type 0 where
-  pub operands : List Ty
-  pub type : Ty
-
--- both operands are taken to their common type
-abbrev pub both_to : Operator → Result Ty ErrorKind → Result Taken ErrorKind
-both_to operator (Err kind) = Err kind
-both_to operator (Ok type) = Ok (record { operands = type ∷ type ∷ []; type = result_type operator type })
 
 -- a column has no operand, and the type that the schema gives it, which is one of columns
 abbrev pub column_type : Option Ty → Result Taken ErrorKind
@@ -44,13 +33,6 @@ abbrev pub cast_taken : Ty → Option Ty → Result Taken ErrorKind
 cast_taken target None = Err InvalidOperation
 cast_taken target (Some from) =
     if can_cast from target then Ok (record { operands = from ∷ []; type = target }) else Err InvalidOperation
-
--- the types to which an operator takes operands of these types
-abbrev pub operator_types : Operator → List Ty → Result Taken ErrorKind
-operator_types operator [] = Err SchemaMismatch
-operator_types operator (left ∷ []) = Err SchemaMismatch
-operator_types operator (left ∷ right ∷ []) = both_to operator (common_type left right)
-operator_types operator (left ∷ right ∷ third ∷ rest) = Err SchemaMismatch
 
 -- The types to which a node takes operands of these types. A node with another number of operands than its
 -- own, which no expression has, has no type.

@@ -24,7 +24,8 @@ use Rattle.plan_dsl.specs.Registry.{Registry}
 use Rattle.plan_dsl.specs.Trees.{Trees, node, no_more, more, tree_depth, trees_depth}
 use Rattle.plan_dsl.specs.Ops.{Op, ColumnOp, LiteralOp, BinaryOp, CastOp, Expression}
 use Rattle.plan_dsl.specs.Literals.{literal_op, literal_type, literal_value, is_literal}
-use Rattle.plan_dsl.specs.Typing.{Typed, Taken, typing, typing_all, types_of, operand_types, typed_before, column_type, cast_taken}
+use Rattle.plan_dsl.specs.Typing.{Typed, typing, typing_all, types_of, operand_types, typed_before, column_type, cast_taken}
+use Rattle.plan_dsl.specs.OperatorTypes.{Taken}
 use Rattle.plan_dsl.specs.Strictness.{CanBecome, IsSame, IsStrictNode, changed, as_operand, as_operands, same_types}
 use Rattle.plan_dsl.proofs.SameLemmas.{same_itself}
 use Rattle.plan_dsl.proofs.TypingLemmas.{ok_same, ok_where, typed_parts}

@@ -9,7 +9,8 @@ use Rattle.plan_types.specs.declared.dtype.CastOptions.TheVariants.{NonStrict}
 use Rattle.plan_dsl.specs.Trees.{Trees, node, no_more, more}
 use Rattle.plan_dsl.specs.Ops.{Op, ColumnOp, BinaryOp, CastOp, Expression}
 use Rattle.plan_dsl.specs.Strictness.{IsSame, IsStrict, IsStrictNode, IsStrictOver, same_types}
-use Rattle.plan_dsl.specs.Typing.{Typed, Taken, operand_types, types_of, typing_all}
+use Rattle.plan_dsl.specs.Typing.{Typed, operand_types, types_of, typing_all}
+use Rattle.plan_dsl.specs.OperatorTypes.{Taken}
 use Rattle.plan_dsl.proofs.TypingLemmas.{ok_same}
 use Rattle.plan_arena.specs.declared.aexpr.AExpr.{AExpr}
 use Rattle.plan_arena.specs.Denotation.{Denotes}

@@ -18,7 +18,8 @@ use Rattle.plan_dsl.specs.Trees.{node}
 use Rattle.plan_dsl.specs.Ops.{ColumnOp, LiteralOp, BinaryOp, CastOp, Expression}
 use Rattle.plan_dsl.specs.Literals.{is_literal, is_literal_of}
 use Rattle.plan_dsl.proofs.LiteralLemmas.{becomes_literal}
-use Rattle.plan_dsl.specs.Typing.{Typed, Taken, both_to, column_type, literal_taken, cast_taken, operator_types, typed_as, typing_rule, then_typed, typed_before, typing, some_many}
+use Rattle.plan_dsl.specs.Typing.{Typed, column_type, literal_taken, cast_taken, typed_as, typing_rule, then_typed, typed_before, typing, some_many}
+use Rattle.plan_dsl.specs.OperatorTypes.{Taken, both_to, operator_types}
 use Rattle.plan_arena.specs.declared.aexpr.AExpr.{AExpr}
 use Rattle.plan_arena.specs.Denotation.{Denotes}
 use Rattle.plan_arena.specs.Items.{HoldsExpression}

@@ -11,7 +11,8 @@ use Rattle.plan_dsl.specs.Registry.{Registry}
 use Rattle.plan_dsl.specs.Trees.{Trees, node, no_more, more}
 use Rattle.plan_dsl.specs.Ops.{Op, LiteralOp, CastOp, Expression}
 use Rattle.plan_dsl.specs.Literals.{literal_op, literal_type, literal_value, is_literal}
-use Rattle.plan_dsl.specs.Typing.{Typed, typing, operator_types}
+use Rattle.plan_dsl.specs.Typing.{Typed, typing}
+use Rattle.plan_dsl.specs.OperatorTypes.{operator_types}
 use Rattle.plan_dsl.specs.Strictness.{IsSame, IsStrict, IsStrictOver}
 use Rattle.plan_arena.specs.declared.arena.Node.{Node}
 use Rattle.plan_arena.specs.declared.aexpr.AExpr.{AExpr}

@@ -12,7 +12,8 @@ ghost use Rattle.plan_dsl.specs.Operators.{operator_sign, operator_value};
 ghost use Rattle.plan_dsl.specs.Trees.{node, no_more, more};
 ghost use Rattle.plan_dsl.specs.Ops.{ColumnOp, BinaryOp, CastOp};
 ghost use Rattle.plan_dsl.specs.Names.{name_of};
-ghost use Rattle.plan_dsl.specs.Typing.{Typed, Taken, operator_types, is_many, typing};
+ghost use Rattle.plan_dsl.specs.Typing.{Typed, is_many, typing};
+ghost use Rattle.plan_dsl.specs.OperatorTypes.{Taken, operator_types};
 ghost use Rattle.plan_dsl.specs.Meaning.{meaning};
 ghost use Rattle.plan_dsl.specs.StrictRun.{strict_run};
 

@@ -3,7 +3,7 @@ use Rattle.plan_types.specs.Types.{Truth, Integer}
 use Rattle.plan_types.specs.Schemas.{Columns}
 use Rattle.plan_dsl.specs.Trees.{node, no_more}
 use Rattle.plan_dsl.specs.Ops.{ColumnOp}
-use Rattle.plan_dsl.specs.Typing.{Taken}
+use Rattle.plan_dsl.specs.OperatorTypes.{Taken}
 use Rattle.plan_dsl.specs.Strictness.{IsStrict}
 use Rattle.plan_arena.proofs.examples.filters_that_are_accepted.Goals as goal
 

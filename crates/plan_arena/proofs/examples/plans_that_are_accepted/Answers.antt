@@ -5,7 +5,8 @@ use Rattle.plan_types.specs.declared.dtype.CastOptions.TheVariants.{NonStrict}
 use Rattle.plan_dsl.specs.declared.operator.Operator.TheVariants.{Plus}
 use Rattle.plan_dsl.specs.Trees.{node, no_more, more}
 use Rattle.plan_dsl.specs.Ops.{ColumnOp, BinaryOp, CastOp}
-use Rattle.plan_dsl.specs.Typing.{Typed, Taken}
+use Rattle.plan_dsl.specs.Typing.{Typed}
+use Rattle.plan_dsl.specs.OperatorTypes.{Taken}
 use Rattle.plan_dsl.specs.Strictness.{IsStrict}
 use Rattle.plan_arena.proofs.examples.plans_that_are_accepted.Goals as goal
 

@@ -4,7 +4,8 @@ use Rattle.plan_types.specs.Schemas.{Columns}
 use Rattle.plan_types.specs.Values.{IntValue}
 use Rattle.plan_dsl.specs.Trees.{node, no_more}
 use Rattle.plan_dsl.specs.Ops.{ColumnOp, LiteralOp}
-use Rattle.plan_dsl.specs.Typing.{Typed, Taken}
+use Rattle.plan_dsl.specs.Typing.{Typed}
+use Rattle.plan_dsl.specs.OperatorTypes.{Taken}
 use Rattle.plan_dsl.specs.Strictness.{IsStrict}
 use Rattle.plan_dsl.proofs.examples.literals.strict_literals.Goals as goal
 

@@ -4,7 +4,8 @@ use Rattle.plan_types.specs.Schemas.{Columns}
 use Rattle.plan_types.specs.declared.dtype.CastOptions.TheVariants.{NonStrict}
 use Rattle.plan_dsl.specs.Trees.{node, no_more, more}
 use Rattle.plan_dsl.specs.Ops.{ColumnOp, CastOp, Expression}
-use Rattle.plan_dsl.specs.Typing.{Typed, Taken}
+use Rattle.plan_dsl.specs.Typing.{Typed}
+use Rattle.plan_dsl.specs.OperatorTypes.{Taken}
 use Rattle.plan_dsl.specs.Strictness.{IsStrict}
 use Rattle.plan_dsl.proofs.examples.strictness.strict_expressions.Goals as goal
 
