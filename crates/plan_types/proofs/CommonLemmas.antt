@@ -2,14 +2,18 @@
 use Rattle.std.proofs.Common.{◌≡◌, inl, inr, ⊎_elim, Bool, true, false, cond, List, [], ◌∷◌, Option, Some, None, Ok, int_lt, refl, sym, ap, ◌∙◌, subst}
 use Rattle.std.specs.Prelude.{ℕ, ◌*◌, ℤ, pos, nat_lt}
 use Rattle.std.specs.List.{AllByRecursion}
-use Rattle.plan_types.specs.Types.{Ty, NullType, Truth, Integer, TextType, DateType, TimeType, DatetimeType, DurationType, Untyped, is_integer, is_known}
+use Rattle.plan_types.specs.Types.{Ty, NullType, Truth, Integer, TextType, DateType, TimeType, DatetimeType, DurationType, ListType, StructType, Untyped, Fields, no_field, with_field, are_known, is_integer, is_known}
 use Rattle.plan_types.specs.Values.{in_range}
-use Rattle.plan_types.specs.Supertypes.{supertype, signed_above}
-use Rattle.plan_types.specs.CommonTypes.{first_with, types_alone, signed_types, unsigned_types, literal_type, type_alone, least_signed, least_unsigned, least_type, own_type, type_beside, found_common, common_of, common_type}
+use Rattle.plan_types.specs.Supertypes.{in_front, super_fields, supertype, signed_above}
+use Rattle.std.specs.Option.{option_map}
+use Rattle.std.specs.Str.{bytes_eq}
+use Rattle.std.proofs.lemmas.Bool.{and_parts, and_from}
+use Rattle.plan_types.specs.CommonTypes.{first_with, types_alone, signed_types, unsigned_types, known_type, literal_type, type_alone, least_signed, least_unsigned, least_type, own_type, type_beside, found_common, common_of, common_type}
 use Rattle.plan_types.specs.Errors.{IsMemoryOr, IsRefusal, no_room, broken}
 use Rattle.plan_types.specs.declared.error.ErrorKind.TheVariants.{SchemaMismatch, InvalidOperation}
 use Rattle.plan_types.specs.declared.error.PlanError.{PlanError}
 use Rattle.plan_types.specs.Casts.{can_cast}
+use Rattle.plan_types.proofs.MadeLemmas.{made_of, front_of}
 use Rattle.plan_types.proofs.CastLemmas.{supertype_casts}
 use Rattle.plan_types.proofs.SupertypeLemmas.{some_same, supertype_itself, supertype_symmetric, supertype_holds}
 
@@ -19,6 +23,13 @@ HasNumber number type = (in_range type number ≡ true) × (is_known type ≡ tr
 
 is_it : (type found : Ty) → is_known type ≡ true → Some type ≡ Some found → is_known found ≡ true
 is_it type found k e = let same : type ≡ found = cc in subst (λ t. is_known t ≡ true) same k
+
+known_is : (type found : Ty) → known_type type ≡ Some found → is_known found ≡ true
+known_is type found h =
+    elim (is_known type) as (λ b. is_known type ≡ b → cond b (Some type) None ≡ Some found → is_known found ≡ true) [ true ↦ λ e h. is_it type found e h | false ↦ λ e h. cc ] refl h
+
+known_there : (type : Ty) → is_known type ≡ true → known_type type ≡ Some type
+known_there type k = ap (λ b. cond b (Some type) None) k
 
 first_has : (types : List Ty) (number : ℤ) (found : Ty) → AllByRecursion (λ type. (is_known type ≡ true) × (is_integer type ≡ true)) types → first_with types number ≡ Some found → HasNumber number found
 first_has [] number found known h = cc
@@ -40,11 +51,11 @@ least_has false number found h =
 -- an operand alone has a type of columns, and one that has such a type keeps it
 pub alone_known : (type found : Ty) → type_alone type ≡ Some found → is_known found ≡ true
 alone_known (Untyped number) found h = (literal_has number found h).1
-alone_known type found h = is_it type found refl h
+alone_known type found h = known_is type found h
 
 pub alone_itself : (type : Ty) → is_known type ≡ true → type_alone type ≡ Some type
 alone_itself (Untyped number) k = cc
-alone_itself type k = refl
+alone_itself type k = known_there type k
 
 -- and so does that beside another operand
 pub own_has : (number : ℤ) (other found : Ty) → own_type number other ≡ Some found → HasNumber number found
@@ -54,7 +65,7 @@ own_has number type found h = literal_has number found h
 
 pub beside_known : (left right found : Ty) → type_beside left right ≡ Some found → is_known found ≡ true
 beside_known (Untyped number) right found h = (own_has number right found h).1
-beside_known left right found h = is_it left found refl h
+beside_known left right found h = known_is left found h
 
 above_known : (m n : ℕ) (found : Ty) → signed_above m n ≡ Some found → is_known found ≡ true
 above_known m n found h =
@@ -66,30 +77,53 @@ above_known m n found h =
       ] h
     ] h
 
+known_as : (made found : Ty) → made ≡ found → is_known made ≡ true → is_known found ≡ true
+known_as made found e k = subst (λ t. is_known t ≡ true) e k
+
 -- the common type of types of columns is one
-pub supertype_known : (a b found : Ty) → is_known a ≡ true → is_known b ≡ true → supertype a b ≡ Some found → is_known found ≡ true
-supertype_known NullType b found k l h = is_it b found l h
-supertype_known Truth Truth found k l h = is_it Truth found refl h
-supertype_known (Integer true m) (Integer true n) found k l h = is_it _ found refl h
-supertype_known (Integer false m) (Integer false n) found k l h = is_it _ found refl h
-supertype_known (Integer true m) (Integer false n) found k l h = above_known m n found h
-supertype_known (Integer false m) (Integer true n) found k l h = above_known n m found h
-supertype_known (Untyped m) b found k l h = cc
-supertype_known a NullType found k l h = is_it a found k (sym (supertype_symmetric a NullType) ∙ h)
-supertype_known Truth (Integer s n) found k l h = is_it (Integer s n) found refl h
-supertype_known (Integer s m) Truth found k l h = is_it (Integer s m) found refl h
-supertype_known Truth TextType found k l h = is_it TextType found refl h
-supertype_known TextType Truth found k l h = is_it TextType found refl h
-supertype_known (Integer s m) TextType found k l h = is_it TextType found refl h
-supertype_known TextType (Integer s n) found k l h = is_it TextType found refl h
-supertype_known TextType TextType found k l h = is_it TextType found refl h
-supertype_known DateType DateType found k l h = is_it DateType found refl h
-supertype_known DateType (DatetimeType u) found k l h = is_it (DatetimeType u) found refl h
-supertype_known (DatetimeType u) DateType found k l h = is_it (DatetimeType u) found refl h
-supertype_known TimeType TimeType found k l h = is_it TimeType found refl h
-supertype_known (DatetimeType u) (DatetimeType v) found k l h = is_it _ found refl h
-supertype_known (DurationType u) (DurationType v) found k l h = is_it _ found refl h
-supertype_known _ _ found k l h = cc
+mutual
+  pub supertype_known : (a b found : Ty) → is_known a ≡ true → is_known b ≡ true → supertype a b ≡ Some found → is_known found ≡ true
+  supertype_known NullType b found k l h = is_it b found l h
+  supertype_known Truth Truth found k l h = is_it Truth found refl h
+  supertype_known (Integer true m) (Integer true n) found k l h = is_it _ found refl h
+  supertype_known (Integer false m) (Integer false n) found k l h = is_it _ found refl h
+  supertype_known (Integer true m) (Integer false n) found k l h = above_known m n found h
+  supertype_known (Integer false m) (Integer true n) found k l h = above_known n m found h
+  supertype_known (Untyped m) b found k l h = cc
+  supertype_known a NullType found k l h = is_it a found k (sym (supertype_symmetric a NullType) ∙ h)
+  supertype_known Truth (Integer s n) found k l h = is_it (Integer s n) found refl h
+  supertype_known (Integer s m) Truth found k l h = is_it (Integer s m) found refl h
+  supertype_known Truth TextType found k l h = is_it TextType found refl h
+  supertype_known TextType Truth found k l h = is_it TextType found refl h
+  supertype_known (Integer s m) TextType found k l h = is_it TextType found refl h
+  supertype_known TextType (Integer s n) found k l h = is_it TextType found refl h
+  supertype_known TextType TextType found k l h = is_it TextType found refl h
+  supertype_known DateType DateType found k l h = is_it DateType found refl h
+  supertype_known DateType (DatetimeType u) found k l h = is_it (DatetimeType u) found refl h
+  supertype_known (DatetimeType u) DateType found k l h = is_it (DatetimeType u) found refl h
+  supertype_known TimeType TimeType found k l h = is_it TimeType found refl h
+  supertype_known (DatetimeType u) (DatetimeType v) found k l h = is_it _ found refl h
+  supertype_known (DurationType u) (DurationType v) found k l h = is_it _ found refl h
+  supertype_known (ListType a) (ListType b) found k l h =
+      let m = made_of ListType (supertype a b) found h in known_as (ListType m.part) found m.made_is (supertype_known a b m.part k l m.part_is)
+  supertype_known (StructType f) (StructType g) found k l h =
+      let m = made_of StructType (super_fields f g) found h in known_as (StructType m.part) found m.made_is (fields_known f g m.part k l m.part_is)
+  supertype_known _ _ found k l h = cc
+
+  fields_known : (f g found : Fields) → are_known f ≡ true → are_known g ≡ true → super_fields f g ≡ Some found → are_known found ≡ true
+  fields_known no_field no_field found k l h = let same : no_field ≡ found = cc in subst (λ f. are_known f ≡ true) same refl
+  fields_known no_field (with_field m u s) found k l h = cc
+  fields_known (with_field n t r) no_field found k l h = cc
+  fields_known (with_field n t r) (with_field m u s) found k l h =
+      elim (bytes_eq n m) as (λ b. cond b (in_front n (supertype t u) (super_fields r s)) None ≡ Some found → are_known found ≡ true) [
+        | true ↦ λ h.
+            let p = front_of n (supertype t u) (super_fields r s) found h in
+            let left = and_parts (is_known t) (are_known r) k in
+            let right = and_parts (is_known u) (are_known s) l in
+            subst (λ f. are_known f ≡ true) p.made_is (and_from (is_known p.type) (are_known p.rest) (supertype_known t u p.type left.0 right.0 p.type_is) (fields_known r s p.rest left.1 right.1 p.rest_is))
+        | false ↦ λ h. cc
+      ] h
+
 
 -- what two operands with a common type have of their own
 record Parts (left right found : Ty) : Type 0 where
@@ -129,7 +163,7 @@ common_has_right number left found i h =
 
 pub own_beside : (type other : Ty) → is_known type ≡ true → type_beside type other ≡ Some type
 own_beside (Untyped number) other k = cc
-own_beside type other k = refl
+own_beside type other k = known_there type k
 
 -- of columns' types it is their common type
 pub common_of_known : (left right : Ty) → is_known left ≡ true → is_known right ≡ true → common_type left right ≡ found_common (supertype left right)

@@ -1,10 +1,12 @@
 pub mod CastLemmas
 pub mod CommonLemmas
 pub mod DigitLemmas
+pub mod FieldLemmas
 pub mod FrameCallLemmas
 pub mod FrameCopyLemmas
 pub mod FrameRowLemmas
 pub mod ListLemmas
+pub mod MadeLemmas
 pub mod NameLemmas
 pub mod ResultLemmas
 pub mod SchemaCallLemmas

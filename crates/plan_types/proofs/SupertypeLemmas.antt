@@ -1,15 +1,20 @@
 -- Common types: of a type with itself, in either order, and that they hold both.
-use Rattle.std.proofs.Common.{◌≡◌, ◌⊎◌, inl, inr, ℕ, ◌-◌, ◌*◌, ◌^◌, ◌≤◌, ℤ, pos, neg_ℤ, ◌≤ℤ◌, true, false, not, ◌&&◌, cond, int_lt, nat_lt, max, Some, None, refl, sym, ap, ◌∙◌, subst, arith}
+use Rattle.std.proofs.Common.{◌≡◌, ◌⊎◌, inl, inr, ℕ, ◌-◌, ◌*◌, ◌^◌, ◌≤◌, ℤ, pos, neg_ℤ, ◌≤ℤ◌, true, false, not, ◌&&◌, cond, int_lt, nat_lt, max, Option, Some, None, refl, sym, ap, ◌∙◌, subst, arith}
 use Rattle.std.proofs.lemmas.Int.{ints}
 use Rattle.std.proofs.lemmas.Bool.{ltb-true, ltb-false}
 use Rattle.std.proofs.lemmas.Bool.Decides.{Decides-int_eq}
 use Rattle.std.specs.Ordering.{int_eq}
 use Rattle.std.proofs.Math.Nat.{pow-le-pow_right}
-use Rattle.plan_types.specs.Types.{Ty, NullType, Truth, Integer, TextType, DateType, TimeType, DatetimeType, DurationType, Untyped, coarser, is_integer}
+use Rattle.plan_types.specs.Types.{Ty, NullType, Truth, Integer, TextType, DateType, TimeType, DatetimeType, DurationType, ListType, StructType, Untyped, Fields, no_field, with_field, coarser, is_integer}
 use Rattle.plan_types.specs.declared.dtype.TimeUnit.{TimeUnit}
 use Rattle.plan_types.specs.declared.dtype.TimeUnit.TheVariants.{Nanoseconds, Microseconds, Milliseconds}
 use Rattle.plan_types.specs.Values.{in_range, least, past_greatest}
-use Rattle.plan_types.specs.Supertypes.{supertype, signed_above}
+use Rattle.plan_types.specs.Supertypes.{in_front, super_fields, supertype, signed_above}
+use Rattle.std.specs.Prelude.{List}
+use Rattle.std.specs.Option.{option_map}
+use Rattle.std.specs.Str.{bytes_eq}
+use Rattle.std.proofs.lemmas.Cmp.{nat_list_eq_equiv}
+use Rattle.std.proofs.lemmas.Slice.Eq.{bytes_eq-Decides}
 
 max_itself : (n : ℕ) → max n n ≡ n
 max_itself n = omega arith
@@ -29,17 +34,26 @@ coarser_turned Milliseconds Milliseconds = refl
 coarser_turned _ _ = refl
 
 -- a type is its own common type
-pub supertype_itself : (type : Ty) → supertype type type ≡ Some type
-supertype_itself NullType = refl
-supertype_itself Truth = refl
-supertype_itself (Integer true bits) = ap (λ n. Some (Integer true n)) (max_itself bits)
-supertype_itself (Integer false bits) = ap (λ n. Some (Integer false n)) (max_itself bits)
-supertype_itself TextType = refl
-supertype_itself DateType = refl
-supertype_itself TimeType = refl
-supertype_itself (DatetimeType u) = ap (λ unit. Some (DatetimeType unit)) (coarser_itself u)
-supertype_itself (DurationType u) = ap (λ unit. Some (DurationType unit)) (coarser_itself u)
-supertype_itself (Untyped number) = ap (λ b. cond b (Some (Untyped number)) None) ((Decides-int_eq number number).1 refl)
+mutual
+  pub supertype_itself : (type : Ty) → supertype type type ≡ Some type
+  supertype_itself NullType = refl
+  supertype_itself Truth = refl
+  supertype_itself (Integer true bits) = ap (λ n. Some (Integer true n)) (max_itself bits)
+  supertype_itself (Integer false bits) = ap (λ n. Some (Integer false n)) (max_itself bits)
+  supertype_itself TextType = refl
+  supertype_itself DateType = refl
+  supertype_itself TimeType = refl
+  supertype_itself (DatetimeType u) = ap (λ unit. Some (DatetimeType unit)) (coarser_itself u)
+  supertype_itself (DurationType u) = ap (λ unit. Some (DurationType unit)) (coarser_itself u)
+  supertype_itself (ListType item) = ap (option_map ListType) (supertype_itself item)
+  supertype_itself (StructType fields) = ap (option_map StructType) (fields_itself fields)
+  supertype_itself (Untyped number) = ap (λ b. cond b (Some (Untyped number)) None) ((Decides-int_eq number number).1 refl)
+
+  fields_itself : (fields : Fields) → super_fields fields fields ≡ Some fields
+  fields_itself no_field = refl
+  fields_itself (with_field name type rest) =
+      ap (λ b. cond b (in_front name (supertype type type) (super_fields rest rest)) None) ((bytes_eq-Decides name name).1 refl)
+      ∙ ap (λ o. in_front name o (super_fields rest rest)) (supertype_itself type) ∙ ap (in_front name (Some type)) (fields_itself rest)
 
 -- two numbers without a type have one where they are the same
 untyped_same : (m n : ℤ) (c : Ty) → cond (int_eq m n) (Some (Untyped m)) None ≡ Some c → (m ≡ n) × (Untyped m ≡ c)
@@ -56,28 +70,54 @@ untyped_symmetric m n =
       ] refl
     ] refl
 
+-- what is made of parts is no integer
+made_no_integer : {A : Type 0} (make : A → Ty) (o : Option A) (c : Ty) → ((part : A) → is_integer (make part) ≡ false) → option_map make o ≡ Some c → is_integer c ≡ true → ⊥
+made_no_integer make None c none e i = cc
+made_no_integer make (Some part) c none e i = let same : make part ≡ c = cc in let bad : false ≡ true = sym (none part) ∙ ap is_integer same ∙ i in cc
+
 untyped_no_integer : (m : ℤ) (c : Ty) → Untyped m ≡ c → is_integer c ≡ true → ⊥
 untyped_no_integer m c same i = let none : is_integer (Untyped m) ≡ true = ap is_integer same ∙ i in cc
 
+same_other : (n m : List ℕ) → bytes_eq n m ≡ bytes_eq m n
+same_other n m = nat_list_eq_equiv.symm n m
+
+name_in_front : (n m : List ℕ) (o : Option Ty) (r : Option Fields) → bytes_eq n m ≡ true → in_front n o r ≡ in_front m o r
+name_in_front n m o r t = ap (λ name. in_front name o r) ((bytes_eq-Decides n m).0 t)
+
+fields_turned : (n m : List ℕ) (o p : Option Ty) (r q : Option Fields) → o ≡ p → r ≡ q → cond (bytes_eq n m) (in_front n o r) None ≡ cond (bytes_eq m n) (in_front m p q) None
+fields_turned n m o p r q same rest =
+    elim (bytes_eq n m) as (λ b. bytes_eq n m ≡ b → cond b (in_front n o r) None ≡ cond b (in_front m p q) None) [ true ↦ λ t. name_in_front n m o r t ∙ ap (λ o. in_front m o r) same ∙ ap (in_front m p) rest | false ↦ λ t. refl ] refl
+    ∙ ap (λ b. cond b (in_front m p q) None) (same_other n m)
+
 -- the order of the two doesn't matter
-pub supertype_symmetric : (a b : Ty) → supertype a b ≡ supertype b a
-supertype_symmetric NullType NullType = refl
-supertype_symmetric Truth Truth = refl
-supertype_symmetric (Integer true m) (Integer true n) = ap (λ k. Some (Integer true k)) (max_turned m n)
-supertype_symmetric (Integer false m) (Integer false n) = ap (λ k. Some (Integer false k)) (max_turned m n)
-supertype_symmetric (Integer true m) (Integer false n) = refl
-supertype_symmetric (Integer false m) (Integer true n) = refl
-supertype_symmetric (Integer true m) _ = refl
-supertype_symmetric (Integer false m) _ = refl
-supertype_symmetric _ (Integer true n) = refl
-supertype_symmetric _ (Integer false n) = refl
-supertype_symmetric TextType TextType = refl
-supertype_symmetric DateType DateType = refl
-supertype_symmetric TimeType TimeType = refl
-supertype_symmetric (DatetimeType u) (DatetimeType v) = ap (λ unit. Some (DatetimeType unit)) (coarser_turned u v)
-supertype_symmetric (DurationType u) (DurationType v) = ap (λ unit. Some (DurationType unit)) (coarser_turned u v)
-supertype_symmetric (Untyped m) (Untyped n) = untyped_symmetric m n
-supertype_symmetric _ _ = refl
+mutual
+  pub supertype_symmetric : (a b : Ty) → supertype a b ≡ supertype b a
+  supertype_symmetric NullType NullType = refl
+  supertype_symmetric Truth Truth = refl
+  supertype_symmetric (Integer true m) (Integer true n) = ap (λ k. Some (Integer true k)) (max_turned m n)
+  supertype_symmetric (Integer false m) (Integer false n) = ap (λ k. Some (Integer false k)) (max_turned m n)
+  supertype_symmetric (Integer true m) (Integer false n) = refl
+  supertype_symmetric (Integer false m) (Integer true n) = refl
+  supertype_symmetric (Integer true m) _ = refl
+  supertype_symmetric (Integer false m) _ = refl
+  supertype_symmetric _ (Integer true n) = refl
+  supertype_symmetric _ (Integer false n) = refl
+  supertype_symmetric TextType TextType = refl
+  supertype_symmetric DateType DateType = refl
+  supertype_symmetric TimeType TimeType = refl
+  supertype_symmetric (DatetimeType u) (DatetimeType v) = ap (λ unit. Some (DatetimeType unit)) (coarser_turned u v)
+  supertype_symmetric (DurationType u) (DurationType v) = ap (λ unit. Some (DurationType unit)) (coarser_turned u v)
+  supertype_symmetric (ListType a) (ListType b) = ap (option_map ListType) (supertype_symmetric a b)
+  supertype_symmetric (StructType f) (StructType g) = ap (option_map StructType) (fields_symmetric f g)
+  supertype_symmetric (Untyped m) (Untyped n) = untyped_symmetric m n
+  supertype_symmetric _ _ = refl
+
+  fields_symmetric : (f g : Fields) → super_fields f g ≡ super_fields g f
+  fields_symmetric no_field no_field = refl
+  fields_symmetric no_field (with_field m u s) = refl
+  fields_symmetric (with_field n t r) no_field = refl
+  fields_symmetric (with_field n t r) (with_field m u s) =
+      fields_turned n m (supertype t u) (supertype u t) (super_fields r s) (super_fields s r) (supertype_symmetric t u) (fields_symmetric r s)
 
 pow_grows : (m n : ℕ) → m ≤ n → 2 ^ m ≤ 2 ^ n
 pow_grows m n h = pow-le-pow_right (omega arith) h
@@ -163,5 +203,7 @@ supertype_holds DateType DateType c number i e h = cc
 supertype_holds TimeType TimeType c number i e h = cc
 supertype_holds (DatetimeType u) (DatetimeType v) c number i e h = cc
 supertype_holds (DurationType u) (DurationType v) c number i e h = cc
+supertype_holds (ListType a) (ListType b) c number i e h = absurd (made_no_integer ListType (supertype a b) c (λ t. refl) e i)
+supertype_holds (StructType f) (StructType g) c number i e h = absurd (made_no_integer StructType (super_fields f g) c (λ t. refl) e i)
 supertype_holds (Untyped m) (Untyped n) c number i e h = let same = (untyped_same m n c e).1 in absurd (untyped_no_integer m c same i)
 supertype_holds _ _ c number i e h = cc

@@ -1,16 +1,16 @@
 -- Values of a type: numbers that wrap around, casts, columns of frames; outcomes that are not stuck.
 use Rattle.std.specs.Prelude.{◌/◌}
 use Rattle.std.proofs.Math.Nat.{add-zero}
-use Rattle.std.proofs.Common.{◌≡◌, ℕ, zero, suc, ◌+◌, ◌*◌, ◌-◌, sym, ◌∙◌, ◌^◌, ◌<◌, ◌≤◌, Bool, true, false, ◌&&◌, not, cond, List, [], ◌∷◌, IsTrue, refl, ap, arith, subst, map, Some, None, encode_utf8_all, slice_get, unwrap_or}
+use Rattle.std.proofs.Common.{◌≡◌, ℕ, zero, suc, ◌+◌, ◌*◌, ◌-◌, sym, ◌∙◌, ◌^◌, ◌<◌, ◌≤◌, Bool, true, false, ◌&&◌, not, cond, List, [], ◌∷◌, IsTrue, refl, ap, arith, subst, map, Option, Some, None, encode_utf8_all, slice_get, unwrap_or}
 use Rattle.std.specs.List.{AllByRecursion}
 use Rattle.std.specs.Prelude.{ℤ, pos, negsuc, neg_ℤ, ◌*ℤ◌, ◌-ℤ◌, ◌≤ℤ◌, int_lt, nat_lt}
 use Rattle.std.proofs.Math.Nat.{mod-lt, pow-suc, suc-mul}
 use Rattle.std.proofs.lemmas.Nat.{div-mul-add, pow_pos}
 use Rattle.std.proofs.lemmas.Int.{ints}
-use Rattle.std.proofs.lemmas.Bool.{ltb-true, ltb-false, and_from}
+use Rattle.std.proofs.lemmas.Bool.{ltb-true, ltb-false, and_from, and_parts}
 use Rattle.std.specs.Int.{int_div_euclid}
-use Rattle.plan_types.specs.Types.{Ty, Truth, Integer, TextType, DateType, DatetimeType, DurationType, Untyped, per_day}
-use Rattle.plan_types.specs.Values.{Val, NullValue, TruthValue, IntValue, TextValue, in_range, fits, all_fit}
+use Rattle.plan_types.specs.Types.{Ty, Truth, Integer, TextType, DateType, DatetimeType, DurationType, ListType, StructType, Untyped, Fields, no_field, with_field, per_day}
+use Rattle.plan_types.specs.Values.{Val, NullValue, TruthValue, IntValue, TextValue, ListValue, StructValue, Vals, no_value, with_value, in_range, fits, items_fit, parts_fit, all_fit}
 use Rattle.plan_types.specs.Schemas.{Name, Columns, same_name, type_at}
 use Rattle.plan_types.specs.Frames.{Row, Frame, RowFits, IsFrame, value_in, row_at}
 use Rattle.plan_types.specs.declared.dtype.TimeUnit.{TimeUnit}
@@ -18,7 +18,7 @@ use Rattle.plan_types.specs.declared.dtype.TimeUnit.TheVariants.{Nanoseconds, Mi
 use Rattle.plan_types.specs.declared.dtype.CastOptions.{CastOptions}
 use Rattle.plan_types.specs.declared.dtype.CastOptions.TheVariants.{Strict, NonStrict, Overflowing}
 use Rattle.plan_types.specs.Outcomes.{Outcome, Done, Fault, Stuck, Meets, then_do}
-use Rattle.plan_types.specs.Casts.{Converted, Gives, Fails, cast, integer_to, low_bits, no_place, number_in, number_of, number_to, out_of_range, placed, read_as, rescaled, text_to, truth_to, wrapped, wrapped_signed}
+use Rattle.plan_types.specs.Casts.{Converted, Gives, Fails, can_cast, can_cast_fields, cast, cast_items, cast_parts, converted_in_front, gathered, integer_to, low_bits, no_place, number_in, number_of, number_to, out_of_range, placed, read_as, rescaled, text_to, truth_to, wrapped, wrapped_signed}
 
 -- the low bits are as few as they are
 low_bits_below : (bits : ℕ) (number : ℤ) → low_bits bits number < 2 ^ bits
@@ -107,12 +107,63 @@ text_to_fits text (Integer signed bits) options =
 text_to_fits text TextType options = refl
 text_to_fits text target options = no_place_fits options target
 
--- what a cast gives fits the target
-pub cast_fits : (value : Val) (from target : Ty) (options : CastOptions) → ConvertedFits target (cast value from target options)
-cast_fits NullValue from target options = refl
-cast_fits (TruthValue truth) from target options = truth_to_fits truth target options
-cast_fits (IntValue number) from target options = number_to_fits from number target options
-cast_fits (TextValue text) from target options = text_to_fits text target options
+-- the same of the values of a list, and of those of a struct
+abbrev ItemsFit : Ty → Option Vals → Type 0
+ItemsFit type None = Unit {0}
+ItemsFit type (Some values) = IsTrue (items_fit values type)
+
+abbrev PartsFit : Fields → Option Vals → Type 0
+PartsFit fields None = Unit {0}
+PartsFit fields (Some values) = IsTrue (parts_fit values fields)
+
+list_fits : (type : Ty) (values : Option Vals) → ItemsFit type values → ConvertedFits (ListType type) (gathered ListValue values)
+list_fits type None h = tt
+list_fits type (Some values) h = h
+
+struct_fits : (fields : Fields) (values : Option Vals) → PartsFit fields values → ConvertedFits (StructType fields) (gathered StructValue values)
+struct_fits fields None h = tt
+struct_fits fields (Some values) h = h
+
+item_in_front : (type : Ty) (c : Converted) (rest : Option Vals) → ConvertedFits type c → ItemsFit type rest → ItemsFit type (converted_in_front c rest)
+item_in_front type Fails rest f g = tt
+item_in_front type (Gives first) None f g = tt
+item_in_front type (Gives first) (Some rest) f g = and_from _ _ f g
+
+part_in_front : (name : List ℕ) (type : Ty) (others : Fields) (c : Converted) (rest : Option Vals) → ConvertedFits type c → PartsFit others rest → PartsFit (with_field name type others) (converted_in_front c rest)
+part_in_front name type others Fails rest f g = tt
+part_in_front name type others (Gives first) None f g = tt
+part_in_front name type others (Gives first) (Some rest) f g = and_from _ _ f g
+
+-- what a cast gives fits the target, where there is such a cast and the value fits its own type
+mutual
+  pub cast_fits : (value : Val) (from target : Ty) (options : CastOptions) → fits value from ≡ true → can_cast from target ≡ true → ConvertedFits target (cast value from target options)
+  cast_fits NullValue from target options h k = refl
+  cast_fits (TruthValue truth) from target options h k = truth_to_fits truth target options
+  cast_fits (IntValue number) from target options h k = number_to_fits from number target options
+  cast_fits (TextValue text) from target options h k = text_to_fits text target options
+  cast_fits (ListValue items) (ListType item) (ListType other) options h k = list_fits other (cast_items items item other options) (items_fit_cast items item other options h k)
+  cast_fits (ListValue items) (ListType item) target options h k = no_place_fits options target
+  cast_fits (ListValue items) from target options h k = no_place_fits options target
+  cast_fits (StructValue parts) (StructType fields) (StructType others) options h k = struct_fits others (cast_parts parts fields others options) (parts_fit_cast parts fields others options h k)
+  cast_fits (StructValue parts) (StructType fields) target options h k = no_place_fits options target
+  cast_fits (StructValue parts) from target options h k = no_place_fits options target
+
+  items_fit_cast : (items : Vals) (from target : Ty) (options : CastOptions) → items_fit items from ≡ true → can_cast from target ≡ true → ItemsFit target (cast_items items from target options)
+  items_fit_cast no_value from target options h k = refl
+  items_fit_cast (with_value first rest) from target options h k =
+      let p = and_parts (fits first from) (items_fit rest from) h in
+      item_in_front target (cast first from target options) (cast_items rest from target options) (cast_fits first from target options p.0 k) (items_fit_cast rest from target options p.1 k)
+
+  parts_fit_cast : (parts : Vals) (fields others : Fields) (options : CastOptions) → parts_fit parts fields ≡ true → can_cast_fields fields others ≡ true → PartsFit others (cast_parts parts fields others options)
+  parts_fit_cast no_value no_field no_field options h k = refl
+  parts_fit_cast no_value no_field (with_field other target targets) options h k = cc
+  parts_fit_cast no_value (with_field name from froms) others options h k = cc
+  parts_fit_cast (with_value first rest) no_field others options h k = cc
+  parts_fit_cast (with_value first rest) (with_field name from froms) no_field options h k = cc
+  parts_fit_cast (with_value first rest) (with_field name from froms) (with_field other target targets) options h k =
+      let p = and_parts (fits first from) (parts_fit rest froms) h in
+      let q = and_parts (can_cast from target) (can_cast_fields froms targets) k in
+      part_in_front other target targets (cast first from target options) (cast_parts rest froms targets options) (cast_fits first from target options p.0 q.0) (parts_fit_cast rest froms targets options p.1 q.1)
 
 -- a row's value in a column fits the column's type
 pub value_in_fits : (columns : Columns) (name : Name) (row : Row) (type : Ty) → RowFits columns row → type_at columns name ≡ Some type → IsTrue (fits (value_in columns name row) type)

@@ -3,14 +3,15 @@
 -- number but 0 is true. As a text a number is written in decimal digits, and read from an optional sign and digits.
 -- Days and moments are counted in the target's unit, rounded down, and so are spans. What has no place in the target
 -- fails where the cast is strict, and else becomes null; but a number of one integer type that is cast to another
--- keeps its low bits where the cast overflows. The type of a number without one is no target.
+-- keeps its low bits where the cast overflows. Lists are cast by their items and structs by their parts, in order. The
+-- type of a number without one is no target.
 use Rattle.std.specs.Prelude.{ℕ, zero, suc, ◌-◌, ◌^◌, ◌%◌, ℤ, pos, negsuc, ◌*ℤ◌, ◌-ℤ◌, Bool, true, false, ◌&&◌, ◌==◌, nat_lt, List, [], ◌∷◌, Option, Some, None, codes, encode_utf8_all, if◌then◌else◌}
 use Rattle.std.specs.Char.{digit_value}
 use Rattle.std.specs.Int.{int_div_euclid}
 use Rattle.std.specs.Fmt.{signed_decimal}
 use Rattle.std.specs.Str.Parse.{without_leading_sign, signed_digits_value}
-use Rattle.plan_types.specs.Types.{Ty, NullType, Truth, Integer, TextType, DateType, TimeType, DatetimeType, DurationType, is_known, per_day}
-use Rattle.plan_types.specs.Values.{Val, NullValue, TruthValue, IntValue, TextValue, in_range}
+use Rattle.plan_types.specs.Types.{Ty, NullType, Truth, Integer, TextType, DateType, TimeType, DatetimeType, DurationType, ListType, StructType, Fields, no_field, with_field, is_known, per_day}
+use Rattle.plan_types.specs.Values.{Val, NullValue, TruthValue, IntValue, TextValue, ListValue, StructValue, Vals, no_value, with_value, in_range}
 use Rattle.plan_types.specs.declared.dtype.CastOptions.{CastOptions}
 use Rattle.plan_types.specs.declared.dtype.CastOptions.TheVariants.{Strict, NonStrict, Overflowing}
 
@@ -25,31 +26,41 @@ is_int64 (Integer signed bits) = signed && bits == 64
 is_int64 type = false
 
 -- whether there is a cast from the one type to the other
-abbrev pub can_cast : Ty → Ty → Bool
-can_cast NullType target = is_known target
-can_cast Truth Truth = true
-can_cast Truth (Integer signed bits) = true
-can_cast Truth TextType = true
-can_cast (Integer signed bits) Truth = true
-can_cast (Integer signed bits) (Integer other width) = true
-can_cast (Integer signed bits) TextType = true
-can_cast (Integer signed bits) DateType = is_int64 (Integer signed bits)
-can_cast (Integer signed bits) TimeType = is_int64 (Integer signed bits)
-can_cast (Integer signed bits) (DatetimeType unit) = is_int64 (Integer signed bits)
-can_cast (Integer signed bits) (DurationType unit) = is_int64 (Integer signed bits)
-can_cast TextType (Integer signed bits) = true
-can_cast TextType TextType = true
-can_cast DateType (Integer signed bits) = is_int64 (Integer signed bits)
-can_cast DateType DateType = true
-can_cast DateType (DatetimeType unit) = true
-can_cast TimeType (Integer signed bits) = is_int64 (Integer signed bits)
-can_cast TimeType TimeType = true
-can_cast (DatetimeType unit) (Integer signed bits) = is_int64 (Integer signed bits)
-can_cast (DatetimeType unit) DateType = true
-can_cast (DatetimeType unit) (DatetimeType other) = true
-can_cast (DurationType unit) (Integer signed bits) = is_int64 (Integer signed bits)
-can_cast (DurationType unit) (DurationType other) = true
-can_cast from target = false
+abbrev mutual
+  pub can_cast : Ty → Ty → Bool
+  can_cast NullType target = is_known target
+  can_cast Truth Truth = true
+  can_cast Truth (Integer signed bits) = true
+  can_cast Truth TextType = true
+  can_cast (Integer signed bits) Truth = true
+  can_cast (Integer signed bits) (Integer other width) = true
+  can_cast (Integer signed bits) TextType = true
+  can_cast (Integer signed bits) DateType = is_int64 (Integer signed bits)
+  can_cast (Integer signed bits) TimeType = is_int64 (Integer signed bits)
+  can_cast (Integer signed bits) (DatetimeType unit) = is_int64 (Integer signed bits)
+  can_cast (Integer signed bits) (DurationType unit) = is_int64 (Integer signed bits)
+  can_cast TextType (Integer signed bits) = true
+  can_cast TextType TextType = true
+  can_cast DateType (Integer signed bits) = is_int64 (Integer signed bits)
+  can_cast DateType DateType = true
+  can_cast DateType (DatetimeType unit) = true
+  can_cast TimeType (Integer signed bits) = is_int64 (Integer signed bits)
+  can_cast TimeType TimeType = true
+  can_cast (DatetimeType unit) (Integer signed bits) = is_int64 (Integer signed bits)
+  can_cast (DatetimeType unit) DateType = true
+  can_cast (DatetimeType unit) (DatetimeType other) = true
+  can_cast (DurationType unit) (Integer signed bits) = is_int64 (Integer signed bits)
+  can_cast (DurationType unit) (DurationType other) = true
+  can_cast (ListType item) (ListType other) = can_cast item other
+  can_cast (StructType fields) (StructType others) = can_cast_fields fields others
+  can_cast from target = false
+
+  -- whether there is one for each field, by place
+  pub can_cast_fields : Fields → Fields → Bool
+  can_cast_fields no_field no_field = true
+  can_cast_fields no_field (with_field other found others) = false
+  can_cast_fields (with_field name type rest) no_field = false
+  can_cast_fields (with_field name type rest) (with_field other found others) = can_cast type found && can_cast_fields rest others
 
 -- the number that the low bits spell, without a sign
 abbrev pub low_bits : ℕ → ℤ → ℕ
@@ -148,9 +159,34 @@ text_to text (Integer signed bits) options = read_as (Integer signed bits) optio
 text_to text TextType options = Gives (TextValue text)
 text_to text target options = no_place options
 
--- a value of the first type in the second
-abbrev pub cast : Val → Ty → Ty → CastOptions → Converted
-cast NullValue from target options = Gives NullValue
-cast (TruthValue truth) from target options = truth_to truth target options
-cast (IntValue number) from target options = number_to from number target options
-cast (TextValue text) from target options = text_to text target options
+-- a converted value in front of others: none where one fails
+abbrev pub converted_in_front : Converted → Option Vals → Option Vals
+converted_in_front Fails rest = None
+converted_in_front (Gives first) None = None
+converted_in_front (Gives first) (Some rest) = Some (with_value first rest)
+
+-- a list or a struct of converted values
+abbrev pub gathered : (Vals → Val) → Option Vals → Converted
+gathered make None = Fails
+gathered make (Some values) = Gives (make values)
+
+-- a value of the first type in the second: a list by its items, and a struct by its parts, one of which may fail
+abbrev mutual
+  pub cast : Val → Ty → Ty → CastOptions → Converted
+  cast NullValue from target options = Gives NullValue
+  cast (TruthValue truth) from target options = truth_to truth target options
+  cast (IntValue number) from target options = number_to from number target options
+  cast (TextValue text) from target options = text_to text target options
+  cast (ListValue items) (ListType item) (ListType other) options = gathered ListValue (cast_items items item other options)
+  cast (ListValue items) from target options = no_place options
+  cast (StructValue parts) (StructType fields) (StructType others) options = gathered StructValue (cast_parts parts fields others options)
+  cast (StructValue parts) from target options = no_place options
+
+  pub cast_items : Vals → Ty → Ty → CastOptions → Option Vals
+  cast_items no_value from target options = Some no_value
+  cast_items (with_value first rest) from target options = converted_in_front (cast first from target options) (cast_items rest from target options)
+
+  pub cast_parts : Vals → Fields → Fields → CastOptions → Option Vals
+  cast_parts (with_value first rest) (with_field name from froms) (with_field other target targets) options =
+      converted_in_front (cast first from target options) (cast_parts rest froms targets options)
+  cast_parts parts froms targets options = Some no_value

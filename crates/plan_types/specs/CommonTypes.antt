@@ -2,7 +2,7 @@
 -- Alone such a number has the first of three types whose range has it. Beside an integer it has that type where
 -- its range has it, else the least that does. Then the operands have the common type of their types.
 use Rattle.std.specs.Prelude.{ℤ, pos, int_lt, List, [], ◌∷◌, Option, Some, None, Bool, true, false, Result, Ok, Err, if◌then◌else◌}
-use Rattle.plan_types.specs.Types.{Ty, Integer, Untyped}
+use Rattle.plan_types.specs.Types.{Ty, Integer, Untyped, is_known}
 use Rattle.plan_types.specs.Values.{in_range}
 use Rattle.plan_types.specs.Supertypes.{supertype}
 use Rattle.plan_types.specs.declared.error.ErrorKind.{ErrorKind}
@@ -27,10 +27,14 @@ unsigned_types = Integer false 8 ∷ Integer false 16 ∷ Integer false 32 ∷ I
 abbrev pub literal_type : ℤ → Option Ty
 literal_type number = first_with types_alone number
 
+-- a type of columns
+abbrev pub known_type : Ty → Option Ty
+known_type type = if is_known type then Some type else None
+
 -- an operand's type where nothing stands beside it
 abbrev pub type_alone : Ty → Option Ty
 type_alone (Untyped number) = literal_type number
-type_alone type = Some type
+type_alone type = known_type type
 
 -- the least signed type, and UInt64 where no signed one has the number
 abbrev pub least_signed : ℤ → Option Ty
@@ -53,7 +57,7 @@ own_type number type = literal_type number
 -- an operand's type beside another's: a number without a type gets one
 abbrev pub type_beside : Ty → Ty → Option Ty
 type_beside (Untyped number) other = own_type number other
-type_beside type other = Some type
+type_beside type other = known_type type
 
 abbrev pub found_common : Option Ty → Result Ty ErrorKind
 found_common None = Err SchemaMismatch

@@ -3,11 +3,15 @@ use Rattle.std.specs.Prelude.{◌≡◌, Bool, true, false}
 use Rattle.std.specs.Cmp.{IsEquivalence}
 use Rattle.std.specs.Hash as fed
 use Rattle.std.proofs.Common.{refl, sym, ap, subst, rules}
-use Rattle.std.proofs.lemmas.Bool.{eqb-true}
+use Rattle.std.specs.Prelude.{◌&&◌}
+use Rattle.std.specs.Str.{bytes_eq}
+use Rattle.std.proofs.Common.{◌∙◌}
+use Rattle.std.proofs.lemmas.Slice.Eq.{bytes_eq-Decides}
+use Rattle.std.proofs.lemmas.Bool.{eqb-true, and_parts, and_from}
 use Rattle.std.proofs.lemmas.Bool.Decides.{same_from_decides, Decides-int_eq}
 use Rattle.std.proofs.lemmas.Cmp.{on_equiv}
 use Rattle.std.specs.Ordering.{on}
-use Rattle.plan_types.specs.Types.{Ty, NullType, Truth, Integer, TextType, DateType, TimeType, DatetimeType, DurationType, Untyped, ty, same_unit, same_type, type_code}
+use Rattle.plan_types.specs.Types.{Ty, NullType, Truth, Integer, TextType, DateType, TimeType, DatetimeType, DurationType, ListType, StructType, Untyped, Fields, no_field, with_field, ty, same_unit, same_type, same_fields, type_code}
 use Rattle.plan_types.specs.declared.dtype.DataType.{DataType}
 use Rattle.plan_types.specs.declared.dtype.TimeUnit.{TimeUnit}
 use Rattle.plan_types.specs.declared.dtype.TimeUnit.TheVariants.{Nanoseconds, Microseconds, Milliseconds}
@@ -33,30 +37,49 @@ same_unit_own Microseconds = refl
 same_unit_own Milliseconds = refl
 
 -- types that compare equal are one
-pub same_type_exact : (a b : Ty) → same_type a b ≡ true → a ≡ b
-same_type_exact NullType NullType h = refl
-same_type_exact Truth Truth h = refl
-same_type_exact (Integer true m) (Integer true n) h = ap (Integer true) (eqb-true m n h)
-same_type_exact (Integer false m) (Integer false n) h = ap (Integer false) (eqb-true m n h)
-same_type_exact TextType TextType h = refl
-same_type_exact DateType DateType h = refl
-same_type_exact TimeType TimeType h = refl
-same_type_exact (DatetimeType u) (DatetimeType v) h = ap DatetimeType (same_unit_exact u v h)
-same_type_exact (DurationType u) (DurationType v) h = ap DurationType (same_unit_exact u v h)
-same_type_exact (Untyped m) (Untyped n) h = ap Untyped ((Decides-int_eq m n).0 h)
-same_type_exact _ _ h = cc
+mutual
+  pub same_type_exact : (a b : Ty) → same_type a b ≡ true → a ≡ b
+  same_type_exact NullType NullType h = refl
+  same_type_exact Truth Truth h = refl
+  same_type_exact (Integer true m) (Integer true n) h = ap (Integer true) (eqb-true m n h)
+  same_type_exact (Integer false m) (Integer false n) h = ap (Integer false) (eqb-true m n h)
+  same_type_exact TextType TextType h = refl
+  same_type_exact DateType DateType h = refl
+  same_type_exact TimeType TimeType h = refl
+  same_type_exact (DatetimeType u) (DatetimeType v) h = ap DatetimeType (same_unit_exact u v h)
+  same_type_exact (DurationType u) (DurationType v) h = ap DurationType (same_unit_exact u v h)
+  same_type_exact (ListType a) (ListType b) h = ap ListType (same_type_exact a b h)
+  same_type_exact (StructType f) (StructType g) h = ap StructType (same_fields_exact f g h)
+  same_type_exact (Untyped m) (Untyped n) h = ap Untyped ((Decides-int_eq m n).0 h)
+  same_type_exact _ _ h = cc
 
-pub same_type_own : (a : Ty) → same_type a a ≡ true
-same_type_own NullType = refl
-same_type_own Truth = refl
-same_type_own (Integer true m) = search rules
-same_type_own (Integer false m) = search rules
-same_type_own TextType = refl
-same_type_own DateType = refl
-same_type_own TimeType = refl
-same_type_own (DatetimeType u) = same_unit_own u
-same_type_own (DurationType u) = same_unit_own u
-same_type_own (Untyped m) = (Decides-int_eq m m).1 refl
+  same_fields_exact : (f g : Fields) → same_fields f g ≡ true → f ≡ g
+  same_fields_exact no_field no_field h = refl
+  same_fields_exact no_field (with_field m u s) h = cc
+  same_fields_exact (with_field n t r) no_field h = cc
+  same_fields_exact (with_field n t r) (with_field m u s) h =
+      let first = and_parts (bytes_eq n m) (same_type t u && same_fields r s) h in
+      let second = and_parts (same_type t u) (same_fields r s) first.1 in
+      ap (λ name. with_field name t r) ((bytes_eq-Decides n m).0 first.0) ∙ ap (λ type. with_field m type r) (same_type_exact t u second.0) ∙ ap (with_field m u) (same_fields_exact r s second.1)
+
+mutual
+  pub same_type_own : (a : Ty) → same_type a a ≡ true
+  same_type_own NullType = refl
+  same_type_own Truth = refl
+  same_type_own (Integer true m) = search rules
+  same_type_own (Integer false m) = search rules
+  same_type_own TextType = refl
+  same_type_own DateType = refl
+  same_type_own TimeType = refl
+  same_type_own (DatetimeType u) = same_unit_own u
+  same_type_own (DurationType u) = same_unit_own u
+  same_type_own (ListType a) = same_type_own a
+  same_type_own (StructType f) = same_fields_own f
+  same_type_own (Untyped m) = (Decides-int_eq m m).1 refl
+
+  same_fields_own : (f : Fields) → same_fields f f ≡ true
+  same_fields_own no_field = refl
+  same_fields_own (with_field n t r) = and_from _ _ ((bytes_eq-Decides n n).1 refl) (and_from _ _ (same_type_own t) (same_fields_own r))
 
 pub same_type_is_equivalence : IsEquivalence (on ty same_type)
 same_type_is_equivalence = on_equiv ty (equivalence_from_exact same_type same_type_exact same_type_own)

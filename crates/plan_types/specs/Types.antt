@@ -1,48 +1,89 @@
 -- Types of columns.
 -- An integer type is known by its sign and its number of bits. Moments (Datetime) and spans (Duration) are counted in
 -- a unit. A whole number that is written without a type has one for itself, which no column has.
-use Rattle.std.specs.Prelude.{ℕ, ℤ, Bool, true, false, ◌&&◌, ◌==◌, ◌+◌, nat_lt, if◌then◌else◌}
+use Rattle.std.specs.Prelude.{ℕ, ℤ, Bool, true, false, ◌&&◌, ◌==◌, ◌+◌, nat_lt, List, [], ◌∷◌, map, if◌then◌else◌}
 use Rattle.std.specs.Ordering.{int_eq}
+use Rattle.std.specs.Str.{bytes_eq}
 use Rattle.plan_types.specs.declared.dtype.TimeUnit.{TimeUnit}
 use Rattle.plan_types.specs.declared.dtype.TimeUnit.TheVariants.{Nanoseconds, Microseconds, Milliseconds}
 use Rattle.plan_types.specs.declared.dtype.DataType.{DataType}
-use Rattle.plan_types.specs.declared.dtype.DataType.TheVariants.{Null, Boolean, Int8, Int16, Int32, Int64, UInt8, UInt16, UInt32, UInt64, String, Date, Time, Datetime, Duration, Unknown}
+use Rattle.plan_types.specs.declared.dtype.DataType.TheVariants.{Null, Boolean, Int8, Int16, Int32, Int64, UInt8, UInt16, UInt32, UInt64, String, Date, Time, Datetime, Duration, List', Struct, Unknown}
+use Rattle.plan_types.specs.declared.dtype.Fields.{Row_of-Field, end_of-Field, more_of-Field}
+use Rattle.plan_types.specs.declared.dtype.Fields.{Fields as StructFields, Fields'}
+use Rattle.plan_types.specs.declared.field.Field.{Field}
 use Rattle.plan_types.specs.declared.dtype.UnknownKind.{UnknownKind}
 use Rattle.plan_types.specs.declared.dtype.UnknownKind.TheVariants.{Int}
 
--- a type, without where its parts lie in memory
-pub data Ty : Type 0 where
-  NullType : Ty
-  Truth : Ty
-  Integer : (signed : Bool) (bits : ℕ) → Ty
-  TextType : Ty
-  DateType : Ty
-  TimeType : Ty
-  DatetimeType : (unit : TimeUnit) → Ty
-  DurationType : (unit : TimeUnit) → Ty
-  Untyped : (number : ℤ) → Ty
+-- a type, without where its parts lie in memory, and the fields of a type of structs
+mutual
+  pub data Ty : Type 0 where
+    NullType : Ty
+    Truth : Ty
+    Integer : (signed : Bool) (bits : ℕ) → Ty
+    TextType : Ty
+    DateType : Ty
+    TimeType : Ty
+    DatetimeType : (unit : TimeUnit) → Ty
+    DurationType : (unit : TimeUnit) → Ty
+    ListType : (item : Ty) → Ty
+    StructType : (fields : Fields) → Ty
+    Untyped : (number : ℤ) → Ty
+
+  pub data Fields : Type 0 where
+    no_field : Fields
+    with_field : (name : List ℕ) (type : Ty) (rest : Fields) → Fields
 
 -- the number whose type isn't known yet
 abbrev pub untyped_number : UnknownKind → ℤ
 untyped_number (Int number) = number
 
-abbrev pub ty : DataType → Ty
-ty Null = NullType
-ty Boolean = Truth
-ty Int8 = Integer true 8
-ty Int16 = Integer true 16
-ty Int32 = Integer true 32
-ty Int64 = Integer true 64
-ty UInt8 = Integer false 8
-ty UInt16 = Integer false 16
-ty UInt32 = Integer false 32
-ty UInt64 = Integer false 64
-ty String = TextType
-ty Date = DateType
-ty Time = TimeType
-ty (Datetime unit) = DatetimeType unit
-ty (Duration unit) = DurationType unit
-ty (Unknown kind) = Untyped (untyped_number kind)
+abbrev mutual
+  pub ty : DataType → Ty
+  ty Null = NullType
+  ty Boolean = Truth
+  ty Int8 = Integer true 8
+  ty Int16 = Integer true 16
+  ty Int32 = Integer true 32
+  ty Int64 = Integer true 64
+  ty UInt8 = Integer false 8
+  ty UInt16 = Integer false 16
+  ty UInt32 = Integer false 32
+  ty UInt64 = Integer false 64
+  ty String = TextType
+  ty Date = DateType
+  ty Time = TimeType
+  ty (Datetime unit) = DatetimeType unit
+  ty (Duration unit) = DurationType unit
+  ty (List' p item) = ListType (ty item)
+  ty (Struct fields) = StructType (fields_of fields)
+  ty (Unknown kind) = Untyped (untyped_number kind)
+
+  -- the fields of a type of structs
+  pub fields_of : StructFields → Fields
+  fields_of (Fields' shape row) = row_fields row
+
+  pub row_fields : {n : _} → Row_of-Field n → Fields
+  row_fields end_of-Field = no_field
+  row_fields (more_of-Field name dtype rest) = with_field name (ty dtype) (row_fields rest)
+
+-- a field's name and type
+abbrev pub field_of : Field → List ℕ × Ty
+field_of named = (named.name, ty named.dtype)
+
+-- the fields of these names and types
+abbrev pub fields_from : List (List ℕ × Ty) → Fields
+fields_from [] = no_field
+fields_from (first ∷ rest) = with_field first.0 first.1 (fields_from rest)
+
+-- the fields of a list
+abbrev pub fields_in : List Field → Fields
+fields_in fields = fields_from (map field_of fields)
+
+-- whether the type has no types as its parts
+abbrev pub is_bare : Ty → Bool
+is_bare (ListType item) = false
+is_bare (StructType fields) = false
+is_bare type = true
 
 abbrev pub is_integer : Ty → Bool
 is_integer (Integer signed bits) = true
@@ -72,13 +113,22 @@ is_temporal type = false
 -- whether values of the type that aren't null are in an order
 abbrev pub is_ord : Ty → Bool
 is_ord NullType = false
+is_ord (ListType item) = false
+is_ord (StructType fields) = false
 is_ord (Untyped number) = false
 is_ord type = true
 
--- whether it is the type of a column, and not that of a number without one
-abbrev pub is_known : Ty → Bool
-is_known (Untyped number) = false
-is_known type = true
+-- whether it is the type of a column: no number's own type stands in it
+abbrev mutual
+  pub is_known : Ty → Bool
+  is_known (ListType item) = is_known item
+  is_known (StructType fields) = are_known fields
+  is_known (Untyped number) = false
+  is_known type = true
+
+  pub are_known : Fields → Bool
+  are_known no_field = true
+  are_known (with_field name type rest) = is_known type && are_known rest
 
 -- how many bits a number of an integer type has, and 0 of another type
 abbrev pub width_of : Ty → ℕ
@@ -109,18 +159,27 @@ same_sign true false = false
 same_sign false true = false
 same_sign false false = true
 
--- whether two types are one
-abbrev pub same_type : Ty → Ty → Bool
-same_type NullType NullType = true
-same_type Truth Truth = true
-same_type (Integer signed bits) (Integer other width) = same_sign signed other && bits == width
-same_type TextType TextType = true
-same_type DateType DateType = true
-same_type TimeType TimeType = true
-same_type (DatetimeType unit) (DatetimeType other) = same_unit unit other
-same_type (DurationType unit) (DurationType other) = same_unit unit other
-same_type (Untyped number) (Untyped other) = int_eq number other
-same_type type other = false
+-- whether two types are one: structs by the names and types of their fields, in order
+abbrev mutual
+  pub same_type : Ty → Ty → Bool
+  same_type NullType NullType = true
+  same_type Truth Truth = true
+  same_type (Integer signed bits) (Integer other width) = same_sign signed other && bits == width
+  same_type TextType TextType = true
+  same_type DateType DateType = true
+  same_type TimeType TimeType = true
+  same_type (DatetimeType unit) (DatetimeType other) = same_unit unit other
+  same_type (DurationType unit) (DurationType other) = same_unit unit other
+  same_type (ListType item) (ListType other) = same_type item other
+  same_type (StructType fields) (StructType others) = same_fields fields others
+  same_type (Untyped number) (Untyped other) = int_eq number other
+  same_type type other = false
+
+  pub same_fields : Fields → Fields → Bool
+  same_fields no_field no_field = true
+  same_fields no_field (with_field name type rest) = false
+  same_fields (with_field name type rest) no_field = false
+  same_fields (with_field name type rest) (with_field other found others) = bytes_eq name other && (same_type type found && same_fields rest others)
 
 -- a number by which types are hashed
 abbrev pub type_code : Ty → ℕ
@@ -134,3 +193,5 @@ type_code TimeType = 4
 type_code (DatetimeType unit) = 5 + unit_rank unit
 type_code (DurationType unit) = 9 + unit_rank unit
 type_code (Untyped number) = 12
+type_code (ListType item) = 13
+type_code (StructType fields) = 14

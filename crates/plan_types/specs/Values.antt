@@ -1,14 +1,23 @@
 -- Values.
--- A value is null, a truth value, a whole number or a text. Null fits every type, a truth value and a text their own
--- type, and a number an integer type or one of time whose range has it. A number without a type fits its own.
+-- A value is null, a truth value, a whole number, a text, a list or a struct. Null fits every type, a truth value and a
+-- text their own type, and a number an integer type or one of time whose range has it. A number without a type fits its
+-- own.
 use Rattle.std.specs.Prelude.{◌-◌, ◌^◌, ℕ, ℤ, ◌+ℤ◌, pos, neg_ℤ, int_lt, Bool, true, false, ◌&&◌, not, List, [], ◌∷◌}
-use Rattle.plan_types.specs.Types.{Ty, Truth, Integer, TextType, DateType, TimeType, DatetimeType, DurationType, Untyped}
+use Rattle.plan_types.specs.Types.{Ty, Truth, Integer, TextType, DateType, TimeType, DatetimeType, DurationType, ListType, StructType, Untyped, Fields, no_field, with_field}
 
-pub data Val : Type 0 where
-  NullValue : Val
-  TruthValue : (truth : Bool) → Val
-  IntValue : (number : ℤ) → Val
-  TextValue : (text : List ℕ) → Val
+-- a value, and the values that a list or a struct has, in order
+mutual
+  pub data Val : Type 0 where
+    NullValue : Val
+    TruthValue : (truth : Bool) → Val
+    IntValue : (number : ℤ) → Val
+    TextValue : (text : List ℕ) → Val
+    ListValue : (items : Vals) → Val
+    StructValue : (parts : Vals) → Val
+
+  pub data Vals : Type 0 where
+    no_value : Vals
+    with_value : (first : Val) (rest : Vals) → Vals
 
 -- the first number past the greatest of a signed type of so many bits: its least one is the same below 0
 abbrev pub signed_end : ℕ → ℤ
@@ -38,16 +47,32 @@ past_greatest type = pos 0
 abbrev pub in_range : Ty → ℤ → Bool
 in_range type number = not (int_lt number (least type)) && int_lt number (past_greatest type)
 
--- whether the value fits the type
-abbrev pub fits : Val → Ty → Bool
-fits NullValue type = true
-fits (TruthValue truth) Truth = true
-fits (TruthValue truth) type = false
-fits (IntValue number) type = in_range type number
-fits (TextValue text) TextType = true
-fits (TextValue text) type = false
+-- whether the value fits the type: each item of a list fits the items' type, and a struct has a fitting part for each
+-- field
+abbrev mutual
+  pub fits : Val → Ty → Bool
+  fits NullValue type = true
+  fits (TruthValue truth) Truth = true
+  fits (TruthValue truth) type = false
+  fits (IntValue number) type = in_range type number
+  fits (TextValue text) TextType = true
+  fits (TextValue text) type = false
+  fits (ListValue items) (ListType item) = items_fit items item
+  fits (ListValue items) type = false
+  fits (StructValue parts) (StructType fields) = parts_fit parts fields
+  fits (StructValue parts) type = false
+
+  pub items_fit : Vals → Ty → Bool
+  items_fit no_value type = true
+  items_fit (with_value first rest) type = fits first type && items_fit rest type
+
+  pub parts_fit : Vals → Fields → Bool
+  parts_fit no_value no_field = true
+  parts_fit no_value (with_field name type others) = false
+  parts_fit (with_value first rest) no_field = false
+  parts_fit (with_value first rest) (with_field name type others) = fits first type && parts_fit rest others
 
 -- whether each value does
 abbrev pub all_fit : List Val → Ty → Bool
 all_fit [] type = true
-all_fit (value ∷ values) type = fits value type && all_fit values type
+all_fit (first ∷ rest) type = fits first type && all_fit rest type

@@ -3,16 +3,17 @@ ghost use Rattle.std.specs.Prelude.{◌≡◌, ◌+ℤ◌, ◌-ℤ◌, ◌≤ℤ
 ghost use Rattle.std.specs.Fmt.{signed_decimal};
 ghost use Rattle.std.specs.Int.{int_div_euclid, w128};
 ghost use Rattle.plan_types.specs.Errors.{no_memory};
-ghost use Rattle.plan_types.specs.Casts.{Gives, can_cast, cast, integer_to, no_place, number_in, number_to, placed, text_to, truth_text, truth_to, wrapped};
-ghost use Rattle.plan_types.specs.Types.{ty, is_integer, is_text};
-ghost use Rattle.plan_types.specs.Values.{fits, in_range};
-ghost use Rattle.plan_types.specs.ValueViews.{val_of, IsCastError};
+ghost use Rattle.plan_types.specs.Casts.{Gives, can_cast, can_cast_fields, cast, cast_items, cast_parts, integer_to, no_place, number_in, number_to, placed, text_to, truth_text, truth_to, wrapped};
+ghost use Rattle.plan_types.specs.Types.{fields_in, ty, is_integer, is_text};
+ghost use Rattle.plan_types.specs.Values.{fits, in_range, items_fit, parts_fit};
+ghost use Rattle.plan_types.specs.ValueViews.{parts_of, val_of, values_in, IsCastError, IsPartsError};
 
 use crate::dtype::{CastOptions, DataType};
 use crate::error::PlanError;
 use crate::text::PlSmallStr;
-use crate::value::Value;
-use std::alloc::{AllocError, Global};
+use crate::field::Field;
+use crate::value::{Parts, Value};
+use std::alloc::{AllocError, AllocFailed, Global};
 use thiserror::Error;
 
 /// Why a cast of a value gives none.
@@ -37,6 +38,17 @@ impl From<AllocError> for CastError {
     }
 }
 
+impl<T: Drop> From<AllocFailed<T>> for CastError {
+    ghost use Rattle.std.specs.Prelude.{◌≡◌};
+    ghost use Rattle.plan_types.specs.declared.cast.CastError.TheVariants.{NoMemory};
+
+    ghost from_gives = { λ _ error. error ≡ NoMemory };
+
+    fn from(_error: AllocFailed<T>) -> CastError {
+        CastError::NoMemory
+    }
+}
+
 impl From<PlanError> for CastError {
     ghost use Rattle.std.specs.Prelude.{◌≡◌};
     ghost use Rattle.plan_types.specs.declared.cast.CastError.TheVariants.{NoMemory};
@@ -49,6 +61,7 @@ impl From<PlanError> for CastError {
 }
 
 /// Whether there is a cast from the one type to the other.
+#[cycle(cast_pairs)]
 pub fn can_cast(from: &DataType, to: &DataType) -> bool
     ensures { result ≡ can_cast (ty from.now) (ty to.now) }
 {
@@ -63,10 +76,36 @@ pub fn can_cast(from: &DataType, to: &DataType) -> bool
             DataType::Date | DataType::Datetime(_) | DataType::Int64
         ),
         DataType::Duration(_) => matches!(to, DataType::Duration(_) | DataType::Int64),
+        DataType::List(item) => match to {
+            DataType::List(other) => can_cast(item, other),
+            _ => false,
+        },
+        DataType::Struct(fields) => match to {
+            DataType::Struct(others) => {
+                can_cast_fields(fields.items.as_slice(), others.items.as_slice())
+            }
+            _ => false,
+        },
         DataType::Unknown(_) => false,
-        DataType::Int64 => !matches!(to, DataType::Null | DataType::Unknown(_)),
+        DataType::Int64 => is_written(to) || matches!(to, DataType::Boolean) || to.is_temporal(),
         _integer => is_written(to) || matches!(to, DataType::Boolean),
     }
+}
+
+// Whether there is a cast for each field, by place.
+#[cycle(cast_pairs)]
+fn can_cast_fields(from: &[Field], to: &[Field]) -> bool
+    ensures { result ≡ can_cast_fields (fields_in from.now) (fields_in to.now) }
+{
+    if from.len() != to.len() {
+        return false;
+    }
+    for index in 0..from.len() {
+        if !can_cast(&from[index].dtype, &to[index].dtype) {
+            return false;
+        }
+    }
+    true
 }
 
 // Whether it is the type of texts or one of integers.
@@ -76,7 +115,8 @@ fn is_written(dtype: &DataType) -> bool
     dtype.is_integer() || matches!(dtype, DataType::String)
 }
 
-/// The value in another type, where the cast has one for it.
+/// The value in another type, where the cast has one for it. A list or a struct in which a value fails fails as a whole.
+#[cycle(value_casts)]
 pub fn cast_value(
     alloc: Global,
     value: &Value,
@@ -94,7 +134,78 @@ pub fn cast_value(
         Value::Boolean(truth) => truth_to(alloc, *truth, to, options),
         Value::Int(number) => number_to(alloc, from, *number, to, options),
         Value::Text(text) => text_to(alloc, text, to, options),
+        Value::List(items) => match (from, to) {
+            (DataType::List(from), DataType::List(to)) => {
+                let items = cast_items(alloc, items.items.as_slice(), from, to, options)?;
+                Ok(Value::List(items))
+            }
+            _ => no_place(options),
+        },
+        Value::Struct(parts) => match (from, to) {
+            (DataType::Struct(from), DataType::Struct(to)) => {
+                let parts = parts.items.as_slice();
+                let parts = cast_parts(
+                    alloc,
+                    parts,
+                    from.items.as_slice(),
+                    to.items.as_slice(),
+                    options,
+                )?;
+                Ok(Value::Struct(parts))
+            }
+            _ => no_place(options),
+        },
     }
+}
+
+// The items of a list in another type.
+#[cycle(value_casts)]
+fn cast_items(
+    alloc: Global,
+    items: &[Value],
+    from: &DataType,
+    to: &DataType,
+    options: CastOptions,
+) -> Result<Parts, CastError>
+    requires known { can_cast (ty from.now) (ty to.now) ≡ true }
+    requires fits { items_fit (values_in items.now) (ty from.now) ≡ true }
+    ensures ok { IfOk result (λ converted. cast_items (values_in items.now) (ty from.now) (ty to.now) options ≡ Some (parts_of converted)) }
+    ensures err { IfErr result (IsPartsError (cast_items (values_in items.now) (ty from.now) (ty to.now) options)) }
+{
+    let mut converted = Vec::new(alloc);
+    for item in items {
+        let item = cast_value(alloc, item, from, to, options)?;
+        converted.push(item)?;
+    }
+    Ok(Parts { items: converted })
+}
+
+// The parts of a struct in other types, in order.
+#[cycle(value_casts)]
+fn cast_parts(
+    alloc: Global,
+    parts: &[Value],
+    from: &[Field],
+    to: &[Field],
+    options: CastOptions,
+) -> Result<Parts, CastError>
+    requires known { can_cast_fields (fields_in from.now) (fields_in to.now) ≡ true }
+    requires fits { parts_fit (values_in parts.now) (fields_in from.now) ≡ true }
+    ensures ok { IfOk result (λ converted. cast_parts (values_in parts.now) (fields_in from.now) (fields_in to.now) options ≡ Some (parts_of converted)) }
+    ensures err { IfErr result (IsPartsError (cast_parts (values_in parts.now) (fields_in from.now) (fields_in to.now) options)) }
+{
+    let mut converted = Vec::new(alloc);
+    for index in 0..parts.len() {
+        let part = cast_value(
+            alloc,
+            &parts[index],
+            &from[index].dtype,
+            &to[index].dtype,
+            options,
+        )?;
+        converted.push(part)?;
+    }
+    Ok(Parts { items: converted })
 }
 
 // A truth value in another type: as a number it is 0 or 1.

@@ -1,10 +1,11 @@
 //! Types of columns.
-ghost use Rattle.std.specs.Prelude.{◌≡◌, ◌↔◌, pos, true, IsTrue, MatchOption, IfOk, IfErr};
+ghost use Rattle.std.specs.Prelude.{◌≡◌, ◌↔◌, pos, false, true, IsTrue, MatchOption, IfOk, IfErr};
 ghost use Rattle.plan_types.specs.Errors.{no_memory};
-ghost use Rattle.plan_types.specs.Types.{DatetimeType, DurationType, Untyped, same_type, coarser, per_day, ty, is_integer, is_known, is_ord, is_signed_integer, is_temporal, is_unsigned_integer, type_code, unit_rank, width_of};
+ghost use Rattle.plan_types.specs.Types.{DatetimeType, DurationType, ListType, StructType, Untyped, is_bare, fields_in, fields_of, are_known, same_fields, same_type, coarser, per_day, ty, is_integer, is_known, is_ord, is_signed_integer, is_temporal, is_unsigned_integer, type_code, unit_rank, width_of};
 ghost use Rattle.plan_types.specs.Values.{in_range};
 
 use crate::error::PlanError;
+use crate::field::Field;
 use std::alloc::Global;
 use std::hash::{Hash, Hasher};
 
@@ -77,8 +78,16 @@ pub enum UnknownKind {
     Int(i128),
 }
 
+/// The fields of a type of structs, in order. Names may stand twice.
+#[derive(Drop)]
+#[cycle(data_type)]
+pub struct Fields {
+    pub items: Vec<Field>,
+}
+
 /// The type of a column, or of a number without one. Contracts see it as a `Ty`.
 #[derive(Drop)]
+#[cycle(data_type)]
 pub enum DataType {
     /// That of a column that has no value but null.
     Null,
@@ -100,6 +109,10 @@ pub enum DataType {
     Datetime(TimeUnit),
     /// A span of time.
     Duration(TimeUnit),
+    /// Lists of values of the type.
+    List(Box<DataType>),
+    /// A value of each field's type.
+    Struct(Fields),
     /// The type of an untyped literal. No column has it.
     Unknown(UnknownKind),
 }
@@ -153,14 +166,23 @@ impl DataType {
     pub fn is_ord(&self) -> bool
         ensures { result ≡ is_ord (ty self.now) }
     {
-        !matches!(self, DataType::Null | DataType::Unknown(_))
+        !matches!(
+            self,
+            DataType::Null | DataType::List(_) | DataType::Struct(_) | DataType::Unknown(_)
+        )
     }
 
-    /// Whether it is the type of a column.
+    /// Whether it is the type of a column: no number's own type stands in it, at any depth.
+    #[cycle(known_types)]
     pub fn is_known(&self) -> bool
         ensures { result ≡ is_known (ty self.now) }
     {
-        !matches!(self, DataType::Unknown(_))
+        match self {
+            DataType::List(item) => item.is_known(),
+            DataType::Struct(fields) => are_known(fields.items.as_slice()),
+            DataType::Unknown(_) => false,
+            _ => true,
+        }
     }
 
     /// The number that is written without a type, where the type is that number's.
@@ -178,7 +200,11 @@ impl DataType {
         ensures { result ≡ in_range (ty self.now) number }
     {
         match self {
-            DataType::Null | DataType::Boolean | DataType::String => false,
+            DataType::Null
+            | DataType::Boolean
+            | DataType::String
+            | DataType::List(_)
+            | DataType::Struct(_) => false,
             DataType::Int8 => i8::try_from(number).is_ok(),
             DataType::Int16 => i16::try_from(number).is_ok(),
             DataType::Int32 | DataType::Date => i32::try_from(number).is_ok(),
@@ -220,6 +246,8 @@ impl DataType {
             DataType::Datetime(unit) => 5 + unit.rank(),
             DataType::Duration(unit) => 9 + unit.rank(),
             DataType::Unknown(_) => 12,
+            DataType::List(_) => 13,
+            DataType::Struct(_) => 14,
             DataType::Int8 | DataType::Int16 | DataType::Int32 | DataType::Int64 => self.width(),
             _unsigned => 128 + self.width(),
         }
@@ -235,11 +263,33 @@ impl DataType {
             && self.width() == other.width()
     }
 
-    pub fn try_clone(&self, _alloc: Global) -> Result<DataType, PlanError>
+    #[cycle(type_copies)]
+    pub fn try_clone(&self, alloc: Global) -> Result<DataType, PlanError>
         ensures ok { IfOk result (λ copy. ty copy ≡ ty self.now) }
         ensures err { IfErr result (λ error. error ≡ no_memory) }
     {
-        Ok(match self {
+        if let Some(copy) = self.bare_copy() {
+            return Ok(copy);
+        }
+        match self {
+            DataType::List(item) => {
+                let item = item.try_clone(alloc)?;
+                let item = Box::new(alloc, item)?;
+                Ok(DataType::List(item))
+            }
+            DataType::Struct(fields) => {
+                let fields = fields.try_clone(alloc)?;
+                Ok(DataType::Struct(fields))
+            }
+            _bare => unreachable!(),
+        }
+    }
+
+    /// A copy of a type without parts.
+    pub fn bare_copy(&self) -> Option<DataType>
+        ensures { MatchOption result (is_bare (ty self.now) ≡ false) (λ copy. ty copy ≡ ty self.now) }
+    {
+        Some(match self {
             DataType::Null => DataType::Null,
             DataType::Boolean => DataType::Boolean,
             DataType::Int8 => DataType::Int8,
@@ -256,7 +306,26 @@ impl DataType {
             DataType::Datetime(unit) => DataType::Datetime(*unit),
             DataType::Duration(unit) => DataType::Duration(*unit),
             DataType::Unknown(kind) => DataType::Unknown(*kind),
+            DataType::List(_) | DataType::Struct(_) => return None,
         })
+    }
+}
+
+impl Fields {
+    ghost use Rattle.plan_types.specs.Types.{fields_of};
+
+    #[cycle(type_copies)]
+    #[tactic(auto, using(crate::proofs::FieldLemmas::listed_fields))]
+    pub fn try_clone(&self, alloc: Global) -> Result<Fields, PlanError>
+        ensures ok { IfOk result (λ copy. fields_of copy ≡ fields_of self.now) }
+        ensures err { IfErr result (λ error. error ≡ no_memory) }
+    {
+        let mut items = Vec::new(alloc);
+        for field in self.items.as_slice() {
+            let copy = field.try_clone(alloc)?;
+            items.push(copy)?;
+        }
+        Ok(Fields { items })
     }
 }
 
@@ -269,6 +338,7 @@ impl PartialEq for DataType {
 
     ghost laws = { partial_equiv_from_equiv same_type_is_equivalence };
 
+    #[cycle(same_types)]
     fn eq(&self, other: &DataType) -> bool {
         match self {
             DataType::Null => matches!(other, DataType::Null),
@@ -276,12 +346,65 @@ impl PartialEq for DataType {
             DataType::String => matches!(other, DataType::String),
             DataType::Date => matches!(other, DataType::Date),
             DataType::Time => matches!(other, DataType::Time),
+            DataType::List(item) => is_list_of(other, item),
+            DataType::Struct(fields) => is_struct_of(other, fields),
             DataType::Datetime(unit) => is_datetime_in(other, *unit),
             DataType::Duration(unit) => is_duration_in(other, *unit),
             DataType::Unknown(UnknownKind::Int(number)) => is_untyped_number(other, *number),
             _integer => self.is_same_integer(other),
         }
     }
+}
+
+// Whether each field's type is one of columns.
+#[cycle(known_types)]
+fn are_known(fields: &[Field]) -> bool
+    ensures { result ≡ are_known (fields_in fields.now) }
+{
+    for field in fields {
+        if !field.dtype.is_known() {
+            return false;
+        }
+    }
+    true
+}
+
+// Whether it is the type of lists of the items.
+#[cycle(same_types)]
+fn is_list_of(dtype: &DataType, item: &DataType) -> bool
+    ensures { result ≡ same_type (ListType (ty item.now)) (ty dtype.now) }
+{
+    match dtype {
+        DataType::List(own) => *item == **own,
+        _ => false,
+    }
+}
+
+// Whether it is the type of structs of the fields.
+#[cycle(same_types)]
+fn is_struct_of(dtype: &DataType, fields: &Fields) -> bool
+    ensures { result ≡ same_type (StructType (fields_of fields.now)) (ty dtype.now) }
+{
+    match dtype {
+        DataType::Struct(own) => same_fields(fields.items.as_slice(), own.items.as_slice()),
+        _ => false,
+    }
+}
+
+// Whether the fields have the same names and types, in the same order.
+#[cycle(same_types)]
+fn same_fields(left: &[Field], right: &[Field]) -> bool
+    ensures { result ≡ same_fields (fields_in left.now) (fields_in right.now) }
+{
+    if left.len() != right.len() {
+        return false;
+    }
+    for index in 0..left.len() {
+        if left[index].name != right[index].name || left[index].dtype != right[index].dtype {
+            return false;
+        }
+    }
+    true
 }
 
 // Whether it is the type of moments in the unit.

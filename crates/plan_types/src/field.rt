@@ -1,6 +1,7 @@
 //! A column's name and type.
 ghost use Rattle.std.specs.Prelude.{◌≡◌, IfOk, IfErr};
 ghost use Rattle.plan_types.specs.Errors.{no_memory};
+ghost use Rattle.plan_types.specs.Types.{field_of};
 
 use crate::dtype::DataType;
 use crate::error::PlanError;
@@ -9,6 +10,7 @@ use std::alloc::Global;
 
 /// A column's name and type.
 #[derive(Drop)]
+#[cycle(data_type)]
 pub struct Field {
     pub name: PlSmallStr,
     pub dtype: DataType,
@@ -40,8 +42,9 @@ impl Field {
         self.dtype = dtype;
     }
 
+    #[cycle(type_copies)]
     pub fn try_clone(&self, alloc: Global) -> Result<Field, PlanError>
-        ensures ok { IfOk result (λ copy. copy ≡ self.now) }
+        ensures ok { IfOk result (λ copy. field_of copy ≡ field_of self.now) }
         ensures err { IfErr result (λ error. error ≡ no_memory) }
     {
         let name = self.name.try_clone(alloc)?;

@@ -32,12 +32,12 @@ pub fn common_type_laws()
 {}
 
 /// There is a cast from each type of columns to itself, which changes no value. A cast that isn't strict never fails,
-/// and what a cast gives fits its target.
+/// and what a cast gives of a fitting value fits its target.
 pub fn cast_laws()
     ensures itself { (value : Val) (type : Ty) (options : CastOptions) → fits value type ≡ true
         → cast value type type options ≡ Gives value }
     ensures never_fails { (value : Val) (from target : Ty) → cast value from target NonStrict ≢ Fails }
-    ensures fits { (value converted : Val) (from target : Ty) (options : CastOptions) →
-        cast value from target options ≡ Gives converted → fits converted target ≡ true }
+    ensures fits { (value converted : Val) (from target : Ty) (options : CastOptions) → fits value from ≡ true → can_cast from target ≡ true
+        → cast value from target options ≡ Gives converted → fits converted target ≡ true }
     ensures own { (a : Ty) → is_known a ≡ true → can_cast a a ≡ true }
 {}

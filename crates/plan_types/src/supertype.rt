@@ -2,14 +2,16 @@
 ghost use Rattle.std.specs.Prelude.{◌≡◌, IfOk, IfErr, Some, None, true, false, if◌then◌else◌};
 ghost use Rattle.std.specs.Option.{option_map};
 ghost use Rattle.plan_types.specs.Errors.{no_memory, IsMemoryOr};
-ghost use Rattle.plan_types.specs.Supertypes.{supertype, signed_above, upcast};
-ghost use Rattle.plan_types.specs.Types.{NullType, DateType, DatetimeType, DurationType, TextType, Truth, ty, same_type, is_integer, is_signed_integer, width_of};
+ghost use Rattle.plan_types.specs.Supertypes.{super_fields, supertype, signed_above, upcast};
+ghost use Rattle.plan_types.specs.Types.{NullType, DateType, DatetimeType, DurationType, ListType, TextType, Truth, fields_in, fields_of, is_bare, ty, same_type, is_integer, is_signed_integer, width_of};
 
-use crate::dtype::{DataType, TimeUnit, get_time_units};
+use crate::dtype::{DataType, Fields, TimeUnit, get_time_units};
 use crate::error::{ErrorKind, PlanError};
+use crate::field::Field;
 use std::alloc::Global;
 
 /// The type that holds the values of both, where there is one.
+#[cycle(supertypes)]
 pub fn get_supertype(
     alloc: Global,
     left: &DataType,
@@ -18,15 +20,89 @@ pub fn get_supertype(
     ensures ok { IfOk result (λ found. option_map ty found ≡ supertype (ty left.now) (ty right.now)) }
     ensures err { IfErr result (λ error. error ≡ no_memory) }
 {
-    if matches!(left, DataType::Null) {
-        let found = right.try_clone(alloc)?;
-        return Ok(Some(found));
+    match (left, right) {
+        (DataType::Null, _) => {
+            let found = right.try_clone(alloc)?;
+            Ok(Some(found))
+        }
+        (_, DataType::Null) => {
+            let found = left.try_clone(alloc)?;
+            Ok(Some(found))
+        }
+        (DataType::List(item), DataType::List(other)) => {
+            let found = super_item(alloc, item, other)?;
+            Ok(found)
+        }
+        (DataType::Struct(fields), DataType::Struct(others)) => {
+            let fields = fields.items.as_slice();
+            let found = super_fields(alloc, fields, others.items.as_slice())?;
+            Ok(found.map(DataType::Struct))
+        }
+        (DataType::List(_) | DataType::Struct(_), _) => Ok(None),
+        (_, DataType::List(_) | DataType::Struct(_)) => Ok(None),
+        _ => Ok(bare_supertype(left, right)),
     }
-    if matches!(right, DataType::Null) || *left == *right {
-        let found = left.try_clone(alloc)?;
-        return Ok(Some(found));
+}
+
+// Lists of the common type of two types of items.
+#[cycle(supertypes)]
+fn super_item(
+    alloc: Global,
+    item: &DataType,
+    other: &DataType,
+) -> Result<Option<DataType>, PlanError>
+    ensures ok { IfOk result (λ found. option_map ty found ≡ supertype (ListType (ty item.now)) (ListType (ty other.now))) }
+    ensures err { IfErr result (λ error. error ≡ no_memory) }
+{
+    match get_supertype(alloc, item, other)? {
+        Some(found) => {
+            let found = Box::new(alloc, found)?;
+            Ok(Some(DataType::List(found)))
+        }
+        None => Ok(None),
     }
-    Ok(common_of_others(left, right))
+}
+
+// The common types of fields side by side, whose names are the same.
+#[cycle(supertypes)]
+fn super_fields(
+    alloc: Global,
+    fields: &[Field],
+    others: &[Field],
+) -> Result<Option<Fields>, PlanError>
+    ensures ok { IfOk result (λ found. option_map fields_of found ≡ super_fields (fields_in fields.now) (fields_in others.now)) }
+    ensures err { IfErr result (λ error. error ≡ no_memory) }
+{
+    if fields.len() != others.len() {
+        return Ok(None);
+    }
+    let mut items = Vec::new(alloc);
+    for index in 0..fields.len() {
+        if fields[index].name != others[index].name {
+            return Ok(None);
+        }
+        let name = fields[index].name.try_clone(alloc)?;
+        match get_supertype(alloc, &fields[index].dtype, &others[index].dtype)? {
+            Some(dtype) => items.push(Field { name, dtype })?,
+            None => return Ok(None),
+        }
+    }
+    Ok(Some(Fields { items }))
+}
+
+// The common type of two types without parts, none of which is null's.
+fn bare_supertype(left: &DataType, right: &DataType) -> Option<DataType>
+    requires left { same_type NullType (ty left.now) ≡ false }
+    requires right { same_type NullType (ty right.now) ≡ false }
+    requires left_bare { is_bare (ty left.now) ≡ true }
+    requires right_bare { is_bare (ty right.now) ≡ true }
+    ensures { option_map ty result ≡ supertype (ty left.now) (ty right.now) }
+{
+    if *left == *right {
+        left.bare_copy()
+    } else {
+        common_of_others(left, right)
+    }
 }
 
 // The common type of two types that differ, neither of which is that of null.
@@ -34,6 +110,8 @@ fn common_of_others(left: &DataType, right: &DataType) -> Option<DataType>
     requires left { same_type NullType (ty left.now) ≡ false }
     requires right { same_type NullType (ty right.now) ≡ false }
     requires differ { same_type (ty left.now) (ty right.now) ≡ false }
+    requires left_bare { is_bare (ty left.now) ≡ true }
+    requires right_bare { is_bare (ty right.now) ≡ true }
     ensures { option_map ty result ≡ supertype (ty left.now) (ty right.now) }
 {
     match left {
@@ -42,7 +120,11 @@ fn common_of_others(left: &DataType, right: &DataType) -> Option<DataType>
         DataType::Date => beside_date(right),
         DataType::Datetime(unit) => beside_datetime(*unit, right),
         DataType::Duration(unit) => beside_duration(*unit, right),
-        DataType::Null | DataType::Time | DataType::Unknown(_) => None,
+        DataType::Null
+        | DataType::Time
+        | DataType::List(_)
+        | DataType::Struct(_)
+        | DataType::Unknown(_) => None,
         _integer => beside_integer(left, right),
     }
 }
