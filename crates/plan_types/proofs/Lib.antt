@@ -12,6 +12,7 @@ pub mod ResultLemmas
 pub mod SchemaCallLemmas
 pub mod SchemaLemmas
 pub mod SchemaPairLemmas
+pub mod SuperFieldLemmas
 pub mod SupertypeLemmas
 pub mod TextLemmas
 pub mod ValueLemmas

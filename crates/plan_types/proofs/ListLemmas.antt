@@ -1,5 +1,5 @@
 -- Lists that a loop makes, item by item, and the items of lists that grow or change at one place.
-use Rattle.std.proofs.Common.{◌≡◌, ◌≢◌, ℕ, ◌+◌, ◌<◌, List, [], ◌∷◌, ◌++◌, length, map, take, get_or, set, Some, slice_get, refl, sym, ap, ◌∙◌, arith, length-append}
+use Rattle.std.proofs.Common.{◌≡◌, ◌≢◌, ℕ, zero, suc, drop, ◌+◌, ◌<◌, List, [], ◌∷◌, ◌++◌, length, map, take, get_or, set, Some, slice_get, refl, sym, ap, ◌∙◌, arith, length-append}
 use Rattle.std.proofs.lemmas.List.{take_more, map-append, get_or-set_same, get_or-set_other}
 use Rattle.std.proofs.lemmas.Option.{slice_get_within, slice_get-get_or, get_or_from_slice_get}
 use Rattle.std.proofs.Math.ListN.{get_or-append, length-set}
@@ -43,3 +43,9 @@ slice_get-set_same xs i y within =
 pub map-map : {A B C : Type 0} (g : B → C) (f : A → B) (xs : List A) → map g (map f xs) ≡ map (λ x. g (f x)) xs
 map-map g f [] = refl
 map-map g f (x ∷ xs) = ap (λ l. g (f x) ∷ l) (map-map g f xs)
+
+-- what is left of a list from an item's place on
+pub drop_item : {A : Type 0} (xs : List A) (i n : ℕ) (x : A) → i < length xs → x ≡ get_or xs i x → n ≡ suc i → drop i xs ≡ x ∷ drop n xs
+drop_item [] i n x within at next = absurd (omega (arith, within))
+drop_item (y ∷ ys) zero n x within at next = ap (λ z. z ∷ ys) (sym at) ∙ ap (λ m. x ∷ drop m (y ∷ ys)) (sym next)
+drop_item (y ∷ ys) (suc i) n x within at next = drop_item ys i (suc i) x (omega (arith, within)) at refl ∙ ap (λ m. x ∷ drop m (y ∷ ys)) (sym next)
