@@ -8,6 +8,7 @@ pub mod FrameRowLemmas
 pub mod ListLemmas
 pub mod MadeLemmas
 pub mod NameLemmas
+pub mod PartLemmas
 pub mod ResultLemmas
 pub mod SchemaCallLemmas
 pub mod SchemaLemmas
