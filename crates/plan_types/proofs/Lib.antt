@@ -1,4 +1,5 @@
 pub mod CastLemmas
+pub mod CastPartLemmas
 pub mod CommonLemmas
 pub mod DigitLemmas
 pub mod FieldLemmas
