@@ -1,4 +1,5 @@
 pub mod CastLemmas
+pub mod CastPartLemmas
 pub mod CommonLemmas
 pub mod DigitLemmas
 pub mod FieldLemmas
@@ -8,6 +9,7 @@ pub mod FrameRowLemmas
 pub mod ListLemmas
 pub mod MadeLemmas
 pub mod NameLemmas
+pub mod PartLemmas
 pub mod ResultLemmas
 pub mod SchemaCallLemmas
 pub mod SchemaLemmas
