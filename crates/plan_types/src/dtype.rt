@@ -174,6 +174,7 @@ impl DataType {
 
     /// Whether it is the type of a column: no number's own type stands in it, at any depth.
     #[cycle(known_types)]
+    #[tactic(auto, using(crate::proofs::FieldLemmas::listed_fields))]
     pub fn is_known(&self) -> bool
         ensures { result ≡ is_known (ty self.now) }
     {
