@@ -3,6 +3,7 @@ pub mod CastPartLemmas
 pub mod CommonLemmas
 pub mod DigitLemmas
 pub mod FieldLemmas
+pub mod FittingLemmas
 pub mod FrameCallLemmas
 pub mod FrameCopyLemmas
 pub mod FrameRowLemmas
