@@ -1,7 +1,7 @@
 //! Types of columns.
-ghost use Rattle.std.specs.Prelude.{◌≡◌, ◌↔◌, pos, false, true, IsTrue, MatchOption, IfOk, IfErr};
+ghost use Rattle.std.specs.Prelude.{◌≡◌, ◌≢◌, ◌↔◌, ℤ, pos, false, true, IsTrue, MatchOption, IfOk, IfErr};
 ghost use Rattle.plan_types.specs.Errors.{no_memory};
-ghost use Rattle.plan_types.specs.Types.{DatetimeType, DurationType, Untyped, is_bare, fields_in, fields_of, are_known, same_fields, same_type, coarser, per_day, ty, is_integer, is_known, is_ord, is_signed_integer, is_temporal, is_unsigned_integer, type_code, unit_rank, width_of};
+ghost use Rattle.plan_types.specs.Types.{DatetimeType, DurationType, ListType, Untyped, is_bare, fields_in, fields_of, are_known, same_fields, same_type, coarser, per_day, ty, is_integer, is_known, is_ord, is_signed_integer, is_temporal, is_unsigned_integer, type_code, unit_rank, width_of};
 ghost use Rattle.plan_types.specs.Values.{in_range};
 
 use crate::error::PlanError;
@@ -188,7 +188,7 @@ impl DataType {
 
     /// The number that is written without a type, where the type is that number's.
     pub fn untyped_number(&self) -> Option<i128>
-        ensures { MatchOption result (is_known (ty self.now) ≡ true) (λ number. ty self.now ≡ Untyped number) }
+        ensures { MatchOption result ((number : ℤ) → ty self.now ≢ Untyped number) (λ number. ty self.now ≡ Untyped number) }
     {
         match self {
             DataType::Unknown(UnknownKind::Int(number)) => Some(*number),
@@ -311,6 +311,15 @@ impl DataType {
             }
             _bare => unreachable!(),
         }
+    }
+
+    /// The type of lists of its values.
+    pub fn implode(self, alloc: Global) -> Result<DataType, PlanError>
+        ensures ok { IfOk result (λ list. ty list ≡ ListType (ty self)) }
+        ensures err { IfErr result (λ error. error ≡ no_memory) }
+    {
+        let item = Box::new(alloc, self)?;
+        Ok(DataType::List(item))
     }
 
     /// A copy of a type without parts.
