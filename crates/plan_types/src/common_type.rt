@@ -92,12 +92,15 @@ pub fn try_get_common_type(
     Ok(found)
 }
 
-// An operand's type beside another's.
+// An operand's type beside another's: one in which a number's own type stands has none.
 fn type_beside(alloc: Global, operand: &DataType, other: &DataType) -> Result<DataType, PlanError>
     ensures ok { IfOk result (λ found. type_beside (ty operand.now) (ty other.now) ≡ Some (ty found)) }
     ensures err { IfErr result (IsMemoryOr ErrorKind.InvalidOperation (type_beside (ty operand.now) (ty other.now) ≡ None)) }
 {
     let Some(number) = operand.untyped_number() else {
+        if !operand.is_known() {
+            return Err(PlanError::at_top(ErrorKind::InvalidOperation));
+        }
         let own = operand.try_clone(alloc)?;
         return Ok(own);
     };

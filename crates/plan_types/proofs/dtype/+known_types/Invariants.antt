@@ -1,4 +1,4 @@
-use Rattle.std.proofs.Common.{◌≡◌, map, drop}
+use Rattle.std.proofs.Common.{◌≡◌, drop}
 use Rattle.plan_types.specs.Types.{are_known, fields_in}
 use Rattle.plan_types.proofs.dtype.+known_types.Given as goal
 
