@@ -1,7 +1,7 @@
 //! The types to which operators take their operands, and those of their results.
 ghost use Rattle.std.specs.Prelude.{◌≡◌, ◌&&◌, ◌||◌, true, [], ◌∷◌, Ok, IfOk, IfErr};
 ghost use Rattle.plan_types.specs.Errors.{IsRefusal, no_memory};
-ghost use Rattle.plan_types.specs.Types.{DatetimeType, DurationType, ty, is_text};
+ghost use Rattle.plan_types.specs.Types.{DatetimeType, DurationType, ty, is_temporal, is_text};
 ghost use Rattle.plan_dsl.specs.OperatorTypes.{comparison_types, is_joined, is_text_beside, operator_types, pair_to, pair_types, plain_sum_types, sum_type, sum_types};
 
 use plan_dsl::operator::Operator;
@@ -72,7 +72,7 @@ fn comparison_types(
     ensures ok { IfOk result (λ taken. comparison_types (ty left.now) (ty right.now) ≡ Ok (pair_to (ty taken.left) (ty taken.right) (ty taken.result))) }
     ensures err { IfErr result (IsRefusal (comparison_types (ty left.now) (ty right.now))) }
 {
-    if is_text_beside(left, right) || is_text_beside(right, left) {
+    if is_text_apart(left, right) {
         return Err(PlanError::at_top(ErrorKind::InvalidOperation));
     }
     let common = try_get_supertype(alloc, left, right)?;
@@ -84,7 +84,13 @@ fn comparison_types(
     })
 }
 
-// Whether a text stands beside a number or a time.
+// Whether one is a text and the other a number or a time.
+fn is_text_apart(left: &DataType, right: &DataType) -> bool
+    ensures { result ≡ (is_text_beside (ty left.now) (ty right.now) || is_text_beside (ty right.now) (ty left.now)) }
+{
+    is_text_beside(left, right) || is_text_beside(right, left)
+}
+
 fn is_text_beside(text: &DataType, other: &DataType) -> bool
     ensures { result ≡ is_text_beside (ty text.now) (ty other.now) }
 {
@@ -112,13 +118,19 @@ fn sum_types(alloc: Global, left: &DataType, right: &DataType) -> Result<Operand
             Ok(taken)
         }
         _other => {
-            if left.is_temporal() || right.is_temporal() {
+            if is_some_time(left, right) {
                 return Err(PlanError::at_top(ErrorKind::InvalidOperation));
             }
             let taken = plain_sum_types(alloc, left, right)?;
             Ok(taken)
         }
     }
+}
+
+fn is_some_time(left: &DataType, right: &DataType) -> bool
+    ensures { result ≡ (is_temporal (ty left.now) || is_temporal (ty right.now)) }
+{
+    left.is_temporal() || right.is_temporal()
 }
 
 // A span and another span or a moment, in the coarser unit.
@@ -174,15 +186,15 @@ fn plain_sum_types(
     ensures ok { IfOk result (λ taken. plain_sum_types (ty left.now) (ty right.now) ≡ Ok (pair_to (ty taken.left) (ty taken.right) (ty taken.result))) }
     ensures err { IfErr result (IsRefusal (plain_sum_types (ty left.now) (ty right.now))) }
 {
-    if is_text(left) || is_text(right) {
-        if is_joined(left) && is_joined(right) {
-            return Ok(OperandTypes {
-                left: DataType::String,
-                right: DataType::String,
-                result: DataType::String,
-            });
+    if is_some_text(left, right) {
+        if !are_joined(left, right) {
+            return Err(PlanError::at_top(ErrorKind::InvalidOperation));
         }
-        return Err(PlanError::at_top(ErrorKind::InvalidOperation));
+        return Ok(OperandTypes {
+            left: DataType::String,
+            right: DataType::String,
+            result: DataType::String,
+        });
     }
     let common = try_get_supertype(alloc, left, right)?;
     let right = common.try_clone(alloc)?;
@@ -192,6 +204,18 @@ fn plain_sum_types(
         right,
         result,
     })
+}
+
+fn is_some_text(left: &DataType, right: &DataType) -> bool
+    ensures { result ≡ (is_text (ty left.now) || is_text (ty right.now)) }
+{
+    is_text(left) || is_text(right)
+}
+
+fn are_joined(left: &DataType, right: &DataType) -> bool
+    ensures { result ≡ (is_joined (ty left.now) && is_joined (ty right.now)) }
+{
+    is_joined(left) && is_joined(right)
 }
 
 // Whether a value of the type can be joined to a text.
