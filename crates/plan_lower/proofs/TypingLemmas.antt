@@ -76,11 +76,16 @@ pub no_cast_from : (from target : Ty) → type_alone from ≡ None → false ≡
 no_cast_from from target none = sym (ap (λ o. is_ok (cast_taken target o)) none)
 
 -- what a cast takes, where there is one
-pub takes_cast : (target : Ty) (alone : Option Ty) → is_ok (cast_taken target alone) ≡ true → (own : Ty) × (cast_taken target alone ≡ Ok (record { operands = own ∷ []; type = target }))
+takes_cast : (target : Ty) (alone : Option Ty) → is_ok (cast_taken target alone) ≡ true → (own : Ty) × (cast_taken target alone ≡ Ok (record { operands = own ∷ []; type = target }))
 takes_cast target None h = cc
 takes_cast target (Some own) h =
     let casts = sym (has_it (can_cast own target) _ InvalidOperation) ∙ h in
     (own, ap (λ b. cond b (Ok (record { operands = own ∷ []; type = target })) (Err InvalidOperation)) casts)
+
+pub cast_of : (target : Ty) (alone : Option Ty) (copy : Ty) → is_ok (cast_taken target alone) ≡ true → copy ≡ target → (own : Ty) × (cast_taken target alone ≡ Ok (record { operands = own ∷ []; type = copy }))
+cast_of target alone copy h same =
+    let found = takes_cast target alone h in
+    (found.0, found.1 ∙ ap (λ t. Ok (record { operands = found.0 ∷ []; type = t })) (sym same))
 
 pub takes_no_cast : (target : Ty) (alone : Option Ty) → is_ok (cast_taken target alone) ≡ false → cast_taken target alone ≡ Err InvalidOperation
 takes_no_cast target None h = refl
