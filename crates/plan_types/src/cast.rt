@@ -1,9 +1,9 @@
 //! Casts of values from one type to another.
-ghost use Rattle.std.specs.Prelude.{◌≡◌, ◌+ℤ◌, ◌-ℤ◌, ◌≤ℤ◌, ◌<ℤ◌, ◌*ℤ◌, neg_ℤ, ◌||◌, pos, int_lt, true, if◌then◌else◌, IfOk, IfErr};
+ghost use Rattle.std.specs.Prelude.{◌≡◌, ◌+ℤ◌, ◌-ℤ◌, ◌≤ℤ◌, ◌<ℤ◌, ◌*ℤ◌, neg_ℤ, ◌||◌, pos, int_lt, true, if◌then◌else◌, encode_utf8_all, ℤ, Some, IfOk, IfErr, MatchOption, FitsSigned};
 ghost use Rattle.std.specs.Fmt.{signed_decimal};
-ghost use Rattle.std.specs.Int.{int_div_euclid};
+ghost use Rattle.std.specs.Int.{int_div_euclid, w128};
 ghost use Rattle.plan_types.specs.Errors.{no_memory};
-ghost use Rattle.plan_types.specs.Casts.{Gives, can_cast, cast, integer_to, no_place, number_to, placed, text_to, truth_to, wrapped};
+ghost use Rattle.plan_types.specs.Casts.{Gives, can_cast, cast, integer_to, no_place, number_in, number_to, placed, text_to, truth_to, wrapped};
 ghost use Rattle.plan_types.specs.Types.{ty, is_integer, is_text};
 ghost use Rattle.plan_types.specs.Values.{fits, in_range};
 ghost use Rattle.plan_types.specs.ValueViews.{val_of, IsCastError};
@@ -205,9 +205,20 @@ fn text_to(
     if !to.is_integer() {
         return no_place(options);
     }
+    match number_in(text) {
+        Some(number) => placed(number, to, options),
+        None => no_place(options),
+    }
+}
+
+// The number that a text writes, where it has so many bits.
+fn number_in(text: &PlSmallStr) -> Option<i128>
+    ensures { MatchOption result ((number : ℤ) → number_in (encode_utf8_all text.now) ≡ Some number → FitsSigned w128 number → ⊥)
+        (λ number. number_in (encode_utf8_all text.now) ≡ Some number) }
+{
     match text.as_str().parse::<i128>() {
-        Ok(number) => placed(number, to, options),
-        Err(_) => no_place(options),
+        Ok(number) => Some(number),
+        Err(_) => None,
     }
 }
 
