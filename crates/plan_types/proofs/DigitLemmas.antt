@@ -1,6 +1,6 @@
 -- Numbers as texts: what is written has ASCII characters alone, and what is read has digits.
-use Rattle.std.proofs.Common.{◌≡◌, ℕ, zero, suc, ◌+◌, ◌^◌, ◌<◌, ◌≤◌, Bool, true, false, ◌&&◌, cond, List, [], ◌∷◌, length, Option, Some, None, Result, Ok, Err, ℤ, encode_utf8_all, refl, sym, ap, ◌∙◌, subst, arith, nat_lt, FitsSigned}
-use Rattle.std.specs.Prelude.{pos, negsuc, neg_ℤ, ◌≤ℤ◌, int_lt, not}
+use Rattle.std.proofs.Common.{◌≡◌, ℕ, zero, suc, ◌+◌, ◌^◌, ◌<◌, true, false, ◌&&◌, cond, List, [], ◌∷◌, Option, Some, None, Result, Ok, Err, ℤ, encode_utf8_all, refl, sym, ap, ◌∙◌, subst, arith, nat_lt, FitsSigned}
+use Rattle.std.specs.Prelude.{codes, pos, negsuc, neg_ℤ, ◌≤ℤ◌, int_lt, not}
 use Rattle.std.specs.Char.{digit_value}
 use Rattle.std.specs.Int.{w128}
 use Rattle.std.specs.Result.{OkIff}
@@ -10,7 +10,7 @@ use Rattle.std.proofs.lemmas.Bool.{lt-ltb, ltb-true, and_parts, and_from}
 use Rattle.std.proofs.lemmas.Str.{encodes-chars}
 use Rattle.std.specs.Str.{IsAscii}
 use Rattle.std.specs.Fmt.{signed_decimal}
-use Rattle.std.proofs.lemmas.Str.{chars-IsAscii}
+use Rattle.std.proofs.lemmas.Str.{chars-encodes, chars-IsAscii}
 use Rattle.std.proofs.lemmas.Fmt.{IsAscii-decimal_wide}
 use Rattle.std.proofs.lemmas.Int.{ints}
 use Rattle.plan_types.specs.Types.{Ty, Integer, ty, is_integer}
@@ -41,6 +41,11 @@ pub read_number : {E : Type 0} (bytes : List ℕ) (r : Result ℤ E) (number : �
 read_number bytes r number parses is =
     let ok = subst (λ r. OkIff r (IsNumeral 10 (without_leading_sign bytes) × FitsSigned w128 (signed_digits_value 10 bytes)) (signed_digits_value 10 bytes)) is parses in
     ap (λ b. cond b (Some (signed_digits_value 10 bytes)) None) (numeral_test (without_leading_sign bytes) ok.0.0) ∙ ap Some (sym ok.1)
+
+pub read_fits : {E : Type 0} (bytes : List ℕ) (r : Result ℤ E) (number : ℤ) → ParsesSigned w128 10 bytes r → r ≡ Ok number → FitsSigned w128 number
+read_fits bytes r number parses is =
+    let ok = subst (λ r. OkIff r (IsNumeral 10 (without_leading_sign bytes) × FitsSigned w128 (signed_digits_value 10 bytes)) (signed_digits_value 10 bytes)) is parses in
+    subst (FitsSigned w128) (sym ok.1) ok.0.1
 
 -- and where none is read, they write none of so many bits
 pub no_number_read : {E : Type 0} (bytes : List ℕ) (r : Result ℤ E) (error : E) → ParsesSigned w128 10 bytes r → r ≡ Err error → (number : ℤ) → number_in bytes ≡ Some number → FitsSigned w128 number → ⊥
@@ -112,3 +117,12 @@ read_some options text dtype number i e = integer_reads text (ty dtype) options 
 -- so where none of so many bits is read, the text has none of the type
 pub unread : (options : CastOptions) (text : List ℕ) (dtype : DataType) → is_integer (ty dtype) ≡ true → ((number : ℤ) → number_in (encode_utf8_all text) ≡ Some number → FitsSigned w128 number → ⊥) → text_to text (ty dtype) options ≡ no_place options
 unread options text dtype i none = read_none options text dtype i (number_in (encode_utf8_all text)) refl none
+
+-- how truth values are written
+pub true_characters : chars (codes "true") ≡ codes "true"
+unfolding lib.Utf8.encode
+true_characters = chars-encodes (codes "true") refl
+
+pub false_characters : chars (codes "false") ≡ codes "false"
+unfolding lib.Utf8.encode
+false_characters = chars-encodes (codes "false") refl
