@@ -135,7 +135,7 @@ number_becomes number own h =
     record {
       known = alone_known (Untyped number) own h;
       casts = λ k. cc;
-      has = λ other e. subst (λ n. (is_integer own && in_range own n) ≡ true) (number_is number other e) (and_from (is_integer own) (in_range own number) has.1.1 has.0);
+      has = λ other e. subst (λ n. (is_integer own && in_range own n) ≡ true) (number_is number other e) (and_from (is_integer own) (in_range own number) has.2 has.0);
     }
 
 pub found_alone : (found : Option DataType) (alone : Option Ty) (own : Ty) → option_map ty found ≡ alone → alone ≡ Some own → found ≡ None → ⊥
