@@ -108,21 +108,9 @@ op_type a b v w e = cc
 op_value : (a b : Ty) (v w : Val) → LiteralOp a v ≡ LiteralOp b w → v ≡ w
 op_value a b v w e = cc
 
--- why a number without a type becomes a literal
-pub becomes_value : (from target : Ty) (number : ℤ) (value : LiteralValue) (dtype : DataType) → same_type from target ≡ false → from ≡ Untyped number → CanBecome from target → literal_op value ≡ LiteralOp target (IntValue number) → ty dtype ≡ target → IsChangeFor from target (Become value dtype)
-becomes_value from target number value dtype other e can is same =
-    let type_is : literal_type value ≡ target = op_type (literal_type value) target (literal_value value) (IntValue number) is in
-    let value_is = op_value (literal_type value) target (literal_value value) (IntValue number) is in
-    let literal = becomes_literal target number can.known (and_parts (is_integer target) (in_range target number) (can.has number e)).1 in
-    (other, number, e, is, subst (λ v. is_literal (literal_type value) v ≡ true) (sym value_is) (subst (λ u. is_literal u (IntValue number) ≡ true) (sym type_is) literal), same)
-
 -- the type of such a literal
 pub value_type : (target : Ty) (number : ℤ) (value : LiteralValue) → literal_op value ≡ LiteralOp target (IntValue number) → literal_type value ≡ target
 value_type target number value is = op_type (literal_type value) target (literal_value value) (IntValue number) is
-
--- there is such a literal
-pub has_literal : (from target : Ty) (number : ℤ) → from ≡ Untyped number → CanBecome from target → (is_integer target && in_range target number) ≡ false → ⊥
-has_literal from target number e can none = false≢true (sym none ∙ can.has number e)
 
 bare_kept : (first : ℕ) (items items' : List AExpr) (ns : List ℕ) → DenoteAll (HoldsFrom first items) ns no_more → DenoteAll (HoldsFrom first items') ns no_more
 bare_kept first items items' [] d = tt
