@@ -1,4 +1,4 @@
-use Rattle.std.proofs.Common.{List, [], ◌∷◌, codes, refl, arith}
+use Rattle.std.proofs.Common.{List, [], ◌∷◌, codes, true, refl, arith}
 use Rattle.plan_types.specs.Types.{Ty, NullType, Truth, Integer, TextType, DateType, DatetimeType, DurationType}
 use Rattle.plan_types.specs.Schemas.{Columns}
 use Rattle.plan_types.specs.declared.dtype.DataType.TheVariants as dtype
