@@ -2,7 +2,7 @@
 use Rattle.std.proofs.Common.{◌≡◌, ◌≢◌, ℕ, ◌<◌, ◌≤◌, Bool, true, false, cond, List, [], ◌∷◌, ◌++◌, length, set, ◌&&◌, Option, Some, None, Result, Ok, Err, refl, sym, ap, ◌∙◌, subst, arith, map}
 use Rattle.std.specs.Prelude.{ℤ}
 use Rattle.std.specs.Option.{option_map}
-use Rattle.std.proofs.lemmas.Bool.{false≢true, and_parts, and_from}
+use Rattle.std.proofs.lemmas.Bool.{false≢true, and_from}
 use Rattle.plan_types.specs.Types.{Ty, Untyped, ty, is_integer, is_known, same_type}
 use Rattle.plan_types.specs.Schemas.{Columns, Name, type_at}
 use Rattle.plan_types.specs.Values.{Val, IntValue, in_range}
@@ -28,7 +28,7 @@ use Rattle.plan_dsl.specs.OperatorTypes.{Taken}
 use Rattle.plan_dsl.specs.Strictness.{CanBecome, IsSame, IsStrictNode, changed, as_operand, as_operands, same_types}
 use Rattle.plan_dsl.proofs.SameLemmas.{same_itself}
 use Rattle.plan_dsl.proofs.TypingLemmas.{ok_same, ok_where, typed_parts}
-use Rattle.plan_dsl.proofs.LiteralLemmas.{becomes_literal, cast_has_target}
+use Rattle.plan_dsl.proofs.LiteralLemmas.{cast_has_target}
 use Rattle.plan_dsl.proofs.OperatorLemmas.{operator_known}
 use Rattle.plan_dsl.proofs.CastLemmas.{if_true, if_false}
 use Rattle.plan_dsl.proofs.OperandLemmas.{operands_same, operands_strict}

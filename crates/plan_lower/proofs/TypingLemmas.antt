@@ -63,17 +63,10 @@ pub no_type_alone : (found : Option DataType) (alone : Option Ty) → option_map
 no_type_alone None alone e none = sym e
 no_type_alone (Some dtype) alone e none = cc
 
--- whether there is a cast from the type that an operand has alone
+-- an answer stands where its test holds
 has_it : {A : Type 0} (test : Bool) (taken : A) (kind : ErrorKind) → is_ok (cond test (Ok taken) (Err kind)) ≡ test
 has_it true taken kind = refl
 has_it false taken kind = refl
-
-pub has_cast_from : (from own target : Ty) (answer : Bool) → type_alone from ≡ Some own → answer ≡ can_cast own target → answer ≡ is_ok (cast_taken target (type_alone from))
-has_cast_from from own target answer alone is =
-    is ∙ sym (ap (λ o. is_ok (cast_taken target o)) alone ∙ has_it (can_cast own target) _ InvalidOperation)
-
-pub no_cast_from : (from target : Ty) → type_alone from ≡ None → false ≡ is_ok (cast_taken target (type_alone from))
-no_cast_from from target none = sym (ap (λ o. is_ok (cast_taken target o)) none)
 
 -- what a cast takes, where there is one
 takes_cast : (target : Ty) (alone : Option Ty) → is_ok (cast_taken target alone) ≡ true → (own : Ty) × (cast_taken target alone ≡ Ok (record { operands = own ∷ []; type = target }))

@@ -30,6 +30,10 @@ pub fn operand_types(
         ≡ Ok (record { operands = ty taken.left ∷ ty taken.right ∷ []; type = ty taken.result })) }
     ensures err { IfErr result (IsRefusal (operator_types op (ty left.now ∷ ty right.now ∷ []))) }
 {
+    if left.is_known() && right.is_known() {
+        let taken = pair_types(alloc, left, op, right)?;
+        return Ok(taken);
+    }
     let own_left = type_beside(alloc, left, right)?;
     let own_right = type_beside(alloc, right, left)?;
     let taken = pair_types(alloc, &own_left, op, &own_right)?;
@@ -118,7 +122,7 @@ fn sum_types(alloc: Global, left: &DataType, right: &DataType) -> Result<Operand
             Ok(taken)
         }
         _other => {
-            if is_some_time(left, right) {
+            if has_time(left, right) {
                 return Err(PlanError::at_top(ErrorKind::InvalidOperation));
             }
             let taken = plain_sum_types(alloc, left, right)?;
@@ -127,7 +131,7 @@ fn sum_types(alloc: Global, left: &DataType, right: &DataType) -> Result<Operand
     }
 }
 
-fn is_some_time(left: &DataType, right: &DataType) -> bool
+fn has_time(left: &DataType, right: &DataType) -> bool
     ensures { result ≡ (is_temporal (ty left.now) || is_temporal (ty right.now)) }
 {
     left.is_temporal() || right.is_temporal()
@@ -186,7 +190,7 @@ fn plain_sum_types(
     ensures ok { IfOk result (λ taken. plain_sum_types (ty left.now) (ty right.now) ≡ Ok (pair_to (ty taken.left) (ty taken.right) (ty taken.result))) }
     ensures err { IfErr result (IsRefusal (plain_sum_types (ty left.now) (ty right.now))) }
 {
-    if is_some_text(left, right) {
+    if has_text(left, right) {
         if !are_joined(left, right) {
             return Err(PlanError::at_top(ErrorKind::InvalidOperation));
         }
@@ -206,7 +210,7 @@ fn plain_sum_types(
     })
 }
 
-fn is_some_text(left: &DataType, right: &DataType) -> bool
+fn has_text(left: &DataType, right: &DataType) -> bool
     ensures { result ≡ (is_text (ty left.now) || is_text (ty right.now)) }
 {
     is_text(left) || is_text(right)
@@ -222,10 +226,7 @@ fn are_joined(left: &DataType, right: &DataType) -> bool
 fn is_joined(dtype: &DataType) -> bool
     ensures { result ≡ is_joined (ty dtype.now) }
 {
-    matches!(
-        dtype,
-        DataType::Null | DataType::Boolean | DataType::String
-    )
+    matches!(dtype, DataType::Null | DataType::Boolean | DataType::String)
 }
 
 // The type of a sum of operands of a common type: truth values are counted.

@@ -32,7 +32,8 @@ fn time_scan(alloc: Global) -> Result<DslPlan, PlanError> {
     Ok(DslPlan::DataFrameScan { table, schema })
 }
 
-const TABLE: &str = "table (n Null, f Boolean, a Int8, c Int64, s String, d Date, t Time, u Datetime(us), m Datetime(ms), p Duration(ns), q Duration(us))";
+const TABLE: &str =
+    "table (n Null, f Boolean, a Int8, c Int64, s String, d Date, t Time, u Datetime(us), m Datetime(ms), p Duration(ns), q Duration(us))";
 
 fn answer(alloc: Global, step: &str) -> Result<String, Fail> {
     let plan = time_scan(alloc)?;
@@ -170,8 +171,23 @@ fn other_casts_are_refused(rt: HostRuntime) -> Result<(), Fail> {
 fn other_operands_are_refused(rt: HostRuntime) -> Result<(), Fail> {
     let alloc = rt.alloc();
     for step in [
-        "= s a", "= 1 s", "where < u s", "= s d", "+ d d", "+ d p", "+ t t", "+ u m", "+ u 1",
-        "+ 1 p", "+ n d", "+ s a", "+ 1 s", "+ s d", "where s", "where n", "where d",
+        "= s a",
+        "= 1 s",
+        "where < u s",
+        "= s d",
+        "+ d d",
+        "+ d p",
+        "+ t t",
+        "+ u m",
+        "+ u 1",
+        "+ 1 p",
+        "+ n d",
+        "+ s a",
+        "+ 1 s",
+        "+ s d",
+        "where s",
+        "where n",
+        "where d",
     ] {
         assert_eq!(rt; answer(alloc, step)?.as_str(), "InvalidOperation");
     }

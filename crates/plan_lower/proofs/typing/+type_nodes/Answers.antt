@@ -9,7 +9,7 @@ use Rattle.plan_arena.specs.Denotation.{DenotesTree}
 use Rattle.plan_arena.specs.Items.{HoldsFrom, expression_layer}
 use Rattle.plan_arena.proofs.ItemLemmas.{tree_within, got_held}
 use Rattle.plan_lower.specs.KeptTypes.{first_node}
-use Rattle.plan_lower.proofs.TableLemmas.{found_kept, tree_from, any_tree, inputs_from, kept_type, alone_there, right_same, right_more, extends_same, extends_more, extends_then}
+use Rattle.plan_lower.proofs.TableLemmas.{found_kept, tree_from, any_tree, inputs_from, kept_type, right_same, right_more, extends_same, extends_more, extends_then}
 use Rattle.plan_lower.proofs.TypingLemmas.{AllHaveType, cast_typed, column_typed, column_refused, binary_typed, binary_refused, left_refused, right_refused, cast_refused, column_unknown, literal_typed, literal_refused, cast_missing}
 use Rattle.plan_lower.proofs.typing.+type_nodes.Goals as goal
 

@@ -1,5 +1,5 @@
 use Rattle.std.proofs.Common.{List, [], ◌∷◌, codes, true, refl, arith}
-use Rattle.plan_types.specs.Types.{Ty, NullType, Truth, Integer, TextType, DateType, DatetimeType, DurationType}
+use Rattle.plan_types.specs.Types.{Ty, Truth, Integer, TextType, DatetimeType, DurationType}
 use Rattle.plan_types.specs.Schemas.{Columns}
 use Rattle.plan_types.specs.declared.dtype.DataType.TheVariants as dtype
 use Rattle.plan_types.specs.declared.dtype.TimeUnit.TheVariants.{Nanoseconds, Microseconds, Milliseconds}
