@@ -1,37 +1,117 @@
 -- Laws of casts.
-use Rattle.std.proofs.Common.{◌≡◌, ◌≢◌, Bool, true, false, cond, refl, ap, subst}
+use Rattle.std.proofs.Common.{◌≡◌, ◌≢◌, ℕ, ◌<◌, Bool, true, false, cond, nat_lt, ◌*◌, Some, None, List, refl, sym, ap, ◌∙◌, subst}
 use Rattle.std.specs.Prelude.{ℤ}
-use Rattle.plan_types.specs.Types.{Ty, Truth, Integer, Untyped, same_type}
-use Rattle.plan_types.specs.Values.{Val, NullValue, TruthValue, IntValue, in_range, fits}
+use Rattle.std.specs.Str.Parse.{without_leading_sign, signed_digits_value}
+use Rattle.plan_types.specs.Types.{Ty, NullType, Truth, Integer, TextType, DateType, TimeType, DatetimeType, DurationType, Untyped, is_known, per_day}
+use Rattle.plan_types.specs.Values.{Val, NullValue, TruthValue, IntValue, TextValue, in_range, fits}
 use Rattle.plan_types.specs.declared.dtype.CastOptions.{CastOptions}
 use Rattle.plan_types.specs.declared.dtype.CastOptions.TheVariants.{NonStrict}
-use Rattle.plan_types.specs.Casts.{Gives, Fails, cast, out_of_range, number_of, number_to, truth_to}
-use Rattle.plan_types.specs.TypeLaws.{same_type_own}
-use Rattle.plan_types.proofs.ValueLemmas.{ConvertedFits, cast_fits}
+use Rattle.plan_types.specs.declared.dtype.TimeUnit.{TimeUnit}
+use Rattle.plan_types.specs.Supertypes.{supertype, signed_above}
+use Rattle.plan_types.specs.Casts.{Gives, Fails, can_cast, cast, integer_to, is_numeral, no_place, number_of, number_to, out_of_range, placed, rescaled, text_to, truth_to}
+use Rattle.plan_types.proofs.SupertypeLemmas.{no_number, supertype_symmetric}
+use Rattle.plan_types.proofs.ValueLemmas.{ConvertedFits, cast_fits, rescaled_itself}
 
+placed_there : (type : Ty) (number : ℤ) (options : CastOptions) → in_range type number ≡ true → placed options type number ≡ Gives (IntValue number)
+placed_there type number options h = ap (λ b. cond b (Gives (IntValue number)) (no_place options)) h
+
+rescaled_there : (type : Ty) (unit : TimeUnit) (number : ℤ) (options : CastOptions) → in_range type number ≡ true → placed options type (rescaled (per_day unit) (per_day unit) number) ≡ Gives (IntValue number)
+rescaled_there type unit number options h = ap (placed options type) (rescaled_itself unit number) ∙ placed_there type number options h
+
+number_itself : (number : ℤ) (type : Ty) (options : CastOptions) → in_range type number ≡ true → number_to type number type options ≡ Gives (IntValue number)
+number_itself number (Integer signed bits) options h = ap (λ b. cond b (Gives (IntValue number)) (out_of_range options (Integer signed bits) number)) h
+number_itself number (DatetimeType unit) options h = rescaled_there (DatetimeType unit) unit number options h
+number_itself number (DurationType unit) options h = rescaled_there (DurationType unit) unit number options h
+number_itself number DateType options h = placed_there DateType number options h
+number_itself number TimeType options h = placed_there TimeType number options h
+number_itself number NullType options h = absurd (no_number NullType number refl refl h)
+number_itself number Truth options h = absurd (no_number Truth number refl refl h)
+number_itself number TextType options h = absurd (no_number TextType number refl refl h)
+number_itself number (Untyped other) options h = placed_there (Untyped other) number options h
+
+-- a cast to the own type changes nothing
 pub cast_itself : (value : Val) (type : Ty) (options : CastOptions) → fits value type ≡ true → cast value type type options ≡ Gives value
 cast_itself NullValue type options h = refl
 cast_itself (TruthValue truth) Truth options h = refl
-cast_itself (TruthValue truth) (Integer signed bits) options h = cc
-cast_itself (TruthValue truth) (Untyped number) options h = cc
-cast_itself (IntValue number) type options h = ap (λ b. cond b (Gives (IntValue number)) (number_to number type options)) (same_type_own type)
+cast_itself (TruthValue truth) _ options h = cc
+cast_itself (IntValue number) type options h = number_itself number type options h
+cast_itself (TextValue text) TextType options h = refl
+cast_itself (TextValue text) _ options h = cc
 
-number_never_fails : (number : ℤ) (target : Ty) → number_to number target NonStrict ≢ Fails
-number_never_fails number Truth e = cc
-number_never_fails number (Untyped other) e = cc
-number_never_fails number (Integer signed bits) e =
+placed_never_fails : (type : Ty) (number : ℤ) → placed NonStrict type number ≢ Fails
+placed_never_fails type number e =
+    elim (in_range type number) as (λ b. cond b (Gives (IntValue number)) (no_place NonStrict) ≡ Fails → ⊥) [ true ↦ λ g. cc | false ↦ λ g. cc ] e
+
+integer_never_fails : (number : ℤ) (target : Ty) → integer_to number target NonStrict ≢ Fails
+integer_never_fails number Truth e = cc
+integer_never_fails number TextType e = cc
+integer_never_fails number (Integer signed bits) e =
     elim (in_range (Integer signed bits) number) as (λ b. cond b (Gives (IntValue number)) (out_of_range NonStrict (Integer signed bits) number) ≡ Fails → ⊥) [ true ↦ λ g. cc | false ↦ λ g. cc ] e
+integer_never_fails number target e = placed_never_fails target number e
+
+number_never_fails : (from : Ty) (number : ℤ) (target : Ty) → number_to from number target NonStrict ≢ Fails
+number_never_fails DateType number (DatetimeType unit) e = placed_never_fails (DatetimeType unit) (rescaled 1 (per_day unit) number) e
+number_never_fails (DatetimeType unit) number DateType e = placed_never_fails DateType (rescaled (per_day unit) 1 number) e
+number_never_fails (DatetimeType unit) number (DatetimeType other) e = placed_never_fails (DatetimeType other) (rescaled (per_day unit) (per_day other) number) e
+number_never_fails (DurationType unit) number (DurationType other) e = placed_never_fails (DurationType other) (rescaled (per_day unit) (per_day other) number) e
+number_never_fails from number target e = integer_never_fails number target e
 
 truth_never_fails : (truth : Bool) (target : Ty) → truth_to truth target NonStrict ≢ Fails
-truth_never_fails truth Truth e = cc
-truth_never_fails truth (Untyped other) e = cc
-truth_never_fails truth (Integer signed bits) e = number_never_fails (number_of truth) (Integer signed bits) e
+truth_never_fails truth (Integer signed bits) e = integer_never_fails (number_of truth) (Integer signed bits) e
+truth_never_fails truth _ e = cc
 
+text_never_fails : (text : List ℕ) (target : Ty) → text_to text target NonStrict ≢ Fails
+text_never_fails text (Integer signed bits) e =
+    elim (is_numeral (without_leading_sign text)) as (λ b. cond b (placed NonStrict (Integer signed bits) (signed_digits_value 10 text)) (no_place NonStrict) ≡ Fails → ⊥) [ true ↦ λ g. placed_never_fails (Integer signed bits) (signed_digits_value 10 text) g | false ↦ λ g. cc ] e
+text_never_fails text _ e = cc
+
+-- one that isn't strict never fails
 pub cast_never_fails : (value : Val) (from target : Ty) → cast value from target NonStrict ≢ Fails
 cast_never_fails NullValue from target e = cc
 cast_never_fails (TruthValue truth) from target e = truth_never_fails truth target e
-cast_never_fails (IntValue number) from target e =
-    elim (same_type from target) as (λ b. cond b (Gives (IntValue number)) (number_to number target NonStrict) ≡ Fails → ⊥) [ true ↦ λ g. cc | false ↦ λ g. number_never_fails number target g ] e
+cast_never_fails (IntValue number) from target e = number_never_fails from number target e
+cast_never_fails (TextValue text) from target e = text_never_fails text target e
 
-pub given_fits : (value converted : Val) (from target : Ty) (options : CastOptions) → fits value from ≡ true → cast value from target options ≡ Gives converted → fits converted target ≡ true
-given_fits value converted from target options h e = subst (ConvertedFits target) e (cast_fits value from target options h)
+pub given_fits : (value converted : Val) (from target : Ty) (options : CastOptions) → cast value from target options ≡ Gives converted → fits converted target ≡ true
+given_fits value converted from target options e = subst (ConvertedFits target) e (cast_fits value from target options)
+
+-- there is a cast from a type of columns to itself
+pub cast_own : (type : Ty) → is_known type ≡ true → can_cast type type ≡ true
+cast_own (Untyped number) k = cc
+cast_own _ k = refl
+
+-- what two can be cast to
+both_cast : (a b t c : Ty) → can_cast a t ≡ true → can_cast b t ≡ true → Some t ≡ Some c → (can_cast a c ≡ true) × (can_cast b c ≡ true)
+both_cast a b t c g h e = let same : t ≡ c = cc in (subst (λ t. can_cast a t ≡ true) same g, subst (λ t. can_cast b t ≡ true) same h)
+
+above_casts : (s t : Bool) (m n k l : ℕ) (c : Ty) → signed_above k l ≡ Some c → (can_cast (Integer s m) c ≡ true) × (can_cast (Integer t n) c ≡ true)
+above_casts s t m n k l c h =
+    elim (nat_lt l k) as (λ b. cond b (Some (Integer true k)) (cond (nat_lt l 64) (Some (Integer true (2 * l))) None) ≡ Some c → (can_cast (Integer s m) c ≡ true) × (can_cast (Integer t n) c ≡ true)) [
+      | true ↦ λ h. both_cast (Integer s m) (Integer t n) (Integer true k) c refl refl h
+      | false ↦ λ h. elim (nat_lt l 64) as (λ b. cond b (Some (Integer true (2 * l))) None ≡ Some c → (can_cast (Integer s m) c ≡ true) × (can_cast (Integer t n) c ≡ true)) [ true ↦ λ h. both_cast (Integer s m) (Integer t n) (Integer true (2 * l)) c refl refl h | false ↦ λ h. cc ] h
+    ] h
+
+-- there is a cast from each of two types of columns to their common type
+pub supertype_casts : (a b c : Ty) → is_known a ≡ true → is_known b ≡ true → supertype a b ≡ Some c → (can_cast a c ≡ true) × (can_cast b c ≡ true)
+supertype_casts NullType b c k l h = both_cast NullType b b c l (cast_own b l) h
+supertype_casts Truth Truth c k l h = both_cast Truth Truth Truth c refl refl h
+supertype_casts (Integer true m) (Integer true n) c k l h = both_cast (Integer true m) (Integer true n) _ c refl refl h
+supertype_casts (Integer false m) (Integer false n) c k l h = both_cast (Integer false m) (Integer false n) _ c refl refl h
+supertype_casts (Integer true m) (Integer false n) c k l h = above_casts true false m n m n c h
+supertype_casts (Integer false m) (Integer true n) c k l h = above_casts false true m n n m c h
+supertype_casts (Untyped m) b c k l h = cc
+supertype_casts a NullType c k l h = both_cast a NullType a c (cast_own a k) k (sym (supertype_symmetric a NullType) ∙ h)
+supertype_casts Truth (Integer s n) c k l h = both_cast Truth (Integer s n) _ c refl refl h
+supertype_casts (Integer s m) Truth c k l h = both_cast (Integer s m) Truth _ c refl refl h
+supertype_casts Truth TextType c k l h = both_cast Truth TextType _ c refl refl h
+supertype_casts TextType Truth c k l h = both_cast TextType Truth _ c refl refl h
+supertype_casts (Integer s m) TextType c k l h = both_cast (Integer s m) TextType _ c refl refl h
+supertype_casts TextType (Integer s n) c k l h = both_cast TextType (Integer s n) _ c refl refl h
+supertype_casts TextType TextType c k l h = both_cast TextType TextType _ c refl refl h
+supertype_casts DateType DateType c k l h = both_cast DateType DateType _ c refl refl h
+supertype_casts DateType (DatetimeType u) c k l h = both_cast DateType (DatetimeType u) _ c refl refl h
+supertype_casts (DatetimeType u) DateType c k l h = both_cast (DatetimeType u) DateType _ c refl refl h
+supertype_casts TimeType TimeType c k l h = both_cast TimeType TimeType _ c refl refl h
+supertype_casts (DatetimeType u) (DatetimeType v) c k l h = both_cast (DatetimeType u) (DatetimeType v) _ c refl refl h
+supertype_casts (DurationType u) (DurationType v) c k l h = both_cast (DurationType u) (DurationType v) _ c refl refl h
+supertype_casts _ _ c k l h = cc

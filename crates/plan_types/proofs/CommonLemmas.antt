@@ -1,59 +1,60 @@
 -- Common types of operands: they are those of columns, and have the numbers of the operands.
-use Rattle.std.proofs.Common.{◌≡◌, inl, inr, ⊎_elim, Bool, true, false, cond, List, [], ◌∷◌, Option, Some, None, Ok, int_lt, refl, ap, ◌∙◌, subst}
+use Rattle.std.proofs.Common.{◌≡◌, inl, inr, ⊎_elim, Bool, true, false, cond, List, [], ◌∷◌, Option, Some, None, Ok, int_lt, refl, sym, ap, ◌∙◌, subst}
 use Rattle.std.specs.Prelude.{ℕ, ◌*◌, ℤ, pos, nat_lt}
 use Rattle.std.specs.List.{AllByRecursion}
-use Rattle.plan_types.specs.Types.{Ty, Truth, Integer, Untyped, is_known}
+use Rattle.plan_types.specs.Types.{Ty, NullType, Truth, Integer, TextType, DateType, TimeType, DatetimeType, DurationType, Untyped, is_integer, is_known}
 use Rattle.plan_types.specs.Values.{in_range}
 use Rattle.plan_types.specs.Supertypes.{supertype, signed_above}
 use Rattle.plan_types.specs.CommonTypes.{first_with, types_alone, signed_types, unsigned_types, literal_type, type_alone, least_signed, least_unsigned, least_type, own_type, type_beside, found_common, common_of, common_type}
 use Rattle.plan_types.specs.Errors.{IsMemoryOr, IsRefusal, no_room, broken}
 use Rattle.plan_types.specs.declared.error.ErrorKind.TheVariants.{SchemaMismatch, InvalidOperation}
 use Rattle.plan_types.specs.declared.error.PlanError.{PlanError}
-use Rattle.plan_types.proofs.SupertypeLemmas.{supertype_itself, supertype_symmetric, supertype_holds}
+use Rattle.plan_types.specs.Casts.{can_cast}
+use Rattle.plan_types.proofs.CastLemmas.{supertype_casts}
+use Rattle.plan_types.proofs.SupertypeLemmas.{some_same, supertype_itself, supertype_symmetric, supertype_holds}
 
--- a type of columns that has the number
+-- a type of columns, one of integers, that has the number
 abbrev pub HasNumber : ℤ → Ty → Type 0
-HasNumber number type = (in_range type number ≡ true) × (is_known type ≡ true)
+HasNumber number type = (in_range type number ≡ true) × (is_known type ≡ true) × (is_integer type ≡ true)
 
-first_has : (types : List Ty) (number : ℤ) (found : Ty) → AllByRecursion (λ type. is_known type ≡ true) types → first_with types number ≡ Some found → HasNumber number found
+is_it : (type found : Ty) → is_known type ≡ true → Some type ≡ Some found → is_known found ≡ true
+is_it type found k e = let same : type ≡ found = cc in subst (λ t. is_known t ≡ true) same k
+
+first_has : (types : List Ty) (number : ℤ) (found : Ty) → AllByRecursion (λ type. (is_known type ≡ true) × (is_integer type ≡ true)) types → first_with types number ≡ Some found → HasNumber number found
 first_has [] number found known h = cc
 first_has (type ∷ types) number found known h =
-    elim (in_range type number) as (λ b. in_range type number ≡ b → cond b (Some type) (first_with types number) ≡ Some found → HasNumber number found) [ true ↦ λ e h. let same : type ≡ found = cc in subst (HasNumber number) same (e, known.0) | false ↦ λ e h. first_has types number found known.1 h ] refl h
+    elim (in_range type number) as (λ b. in_range type number ≡ b → cond b (Some type) (first_with types number) ≡ Some found → HasNumber number found) [ true ↦ λ e h. let same : type ≡ found = cc in subst (HasNumber number) same (e, known.0.0, known.0.1) | false ↦ λ e h. first_has types number found known.1 h ] refl h
 
 -- the type of a number alone has it
 pub literal_has : (number : ℤ) (found : Ty) → literal_type number ≡ Some found → HasNumber number found
-literal_has number found h = first_has types_alone number found (refl, (refl, (refl, tt))) h
+literal_has number found h = first_has types_alone number found ((refl, refl), ((refl, refl), ((refl, refl), tt))) h
 
 least_signed_has : (number : ℤ) (found : Ty) → least_signed number ≡ Some found → HasNumber number found
-least_signed_has number found h = first_has signed_types number found (refl, (refl, (refl, (refl, (refl, tt))))) h
+least_signed_has number found h = first_has signed_types number found ((refl, refl), ((refl, refl), ((refl, refl), ((refl, refl), ((refl, refl), tt))))) h
 
 least_has : (signed : Bool) (number : ℤ) (found : Ty) → least_type signed number ≡ Some found → HasNumber number found
 least_has true number found h = least_signed_has number found h
 least_has false number found h =
-    elim (int_lt number (pos 0)) as (λ b. cond b (least_signed number) (least_unsigned number) ≡ Some found → HasNumber number found) [ true ↦ λ h. least_signed_has number found h | false ↦ λ h. first_has unsigned_types number found (refl, (refl, (refl, (refl, tt)))) h ] h
+    elim (int_lt number (pos 0)) as (λ b. cond b (least_signed number) (least_unsigned number) ≡ Some found → HasNumber number found) [ true ↦ λ h. least_signed_has number found h | false ↦ λ h. first_has unsigned_types number found ((refl, refl), ((refl, refl), ((refl, refl), ((refl, refl), tt)))) h ] h
 
 -- an operand alone has a type of columns, and one that has such a type keeps it
 pub alone_known : (type found : Ty) → type_alone type ≡ Some found → is_known found ≡ true
-alone_known Truth found h = let same : Truth ≡ found = cc in subst (λ t. is_known t ≡ true) same refl
-alone_known (Integer signed bits) found h = let same : Integer signed bits ≡ found = cc in subst (λ t. is_known t ≡ true) same refl
 alone_known (Untyped number) found h = (literal_has number found h).1
+alone_known type found h = is_it type found refl h
 
 pub alone_itself : (type : Ty) → is_known type ≡ true → type_alone type ≡ Some type
-alone_itself Truth k = refl
-alone_itself (Integer signed bits) k = refl
 alone_itself (Untyped number) k = cc
+alone_itself type k = refl
 
 -- and so does that beside another operand
 pub own_has : (number : ℤ) (other found : Ty) → own_type number other ≡ Some found → HasNumber number found
-own_has number Truth found h = literal_has number found h
 own_has number (Integer signed bits) found h =
-    elim (in_range (Integer signed bits) number) as (λ b. in_range (Integer signed bits) number ≡ b → cond b (Some (Integer signed bits)) (least_type signed number) ≡ Some found → HasNumber number found) [ true ↦ λ e h. let same : Integer signed bits ≡ found = cc in subst (HasNumber number) same (e, refl) | false ↦ λ e h. least_has signed number found h ] refl h
-own_has number (Untyped other) found h = literal_has number found h
+    elim (in_range (Integer signed bits) number) as (λ b. in_range (Integer signed bits) number ≡ b → cond b (Some (Integer signed bits)) (least_type signed number) ≡ Some found → HasNumber number found) [ true ↦ λ e h. let same : Integer signed bits ≡ found = cc in subst (HasNumber number) same (e, refl, refl) | false ↦ λ e h. least_has signed number found h ] refl h
+own_has number type found h = literal_has number found h
 
-beside_known : (left right found : Ty) → type_beside left right ≡ Some found → is_known found ≡ true
-beside_known Truth right found h = let same : Truth ≡ found = cc in subst (λ t. is_known t ≡ true) same refl
-beside_known (Integer signed bits) right found h = let same : Integer signed bits ≡ found = cc in subst (λ t. is_known t ≡ true) same refl
+pub beside_known : (left right found : Ty) → type_beside left right ≡ Some found → is_known found ≡ true
 beside_known (Untyped number) right found h = (own_has number right found h).1
+beside_known left right found h = is_it left found refl h
 
 above_known : (m n : ℕ) (found : Ty) → signed_above m n ≡ Some found → is_known found ≡ true
 above_known m n found h =
@@ -65,21 +66,30 @@ above_known m n found h =
       ] h
     ] h
 
-is_it : (type found : Ty) → is_known type ≡ true → Some type ≡ Some found → is_known found ≡ true
-is_it type found k e = let same : type ≡ found = cc in subst (λ t. is_known t ≡ true) same k
-
 -- the common type of types of columns is one
-pub supertype_known : (a b found : Ty) → is_known a ≡ true → supertype a b ≡ Some found → is_known found ≡ true
-supertype_known Truth Truth found k h = is_it Truth found refl h
-supertype_known Truth (Integer s n) found k h = is_it (Integer s n) found refl h
-supertype_known Truth (Untyped n) found k h = cc
-supertype_known (Integer s m) Truth found k h = is_it (Integer s m) found refl h
-supertype_known (Integer true m) (Integer true n) found k h = is_it _ found refl h
-supertype_known (Integer false m) (Integer false n) found k h = is_it _ found refl h
-supertype_known (Integer true m) (Integer false n) found k h = above_known m n found h
-supertype_known (Integer false m) (Integer true n) found k h = above_known n m found h
-supertype_known (Integer s m) (Untyped n) found k h = cc
-supertype_known (Untyped m) b found k h = cc
+pub supertype_known : (a b found : Ty) → is_known a ≡ true → is_known b ≡ true → supertype a b ≡ Some found → is_known found ≡ true
+supertype_known NullType b found k l h = is_it b found l h
+supertype_known Truth Truth found k l h = is_it Truth found refl h
+supertype_known (Integer true m) (Integer true n) found k l h = is_it _ found refl h
+supertype_known (Integer false m) (Integer false n) found k l h = is_it _ found refl h
+supertype_known (Integer true m) (Integer false n) found k l h = above_known m n found h
+supertype_known (Integer false m) (Integer true n) found k l h = above_known n m found h
+supertype_known (Untyped m) b found k l h = cc
+supertype_known a NullType found k l h = is_it a found k (sym (supertype_symmetric a NullType) ∙ h)
+supertype_known Truth (Integer s n) found k l h = is_it (Integer s n) found refl h
+supertype_known (Integer s m) Truth found k l h = is_it (Integer s m) found refl h
+supertype_known Truth TextType found k l h = is_it TextType found refl h
+supertype_known TextType Truth found k l h = is_it TextType found refl h
+supertype_known (Integer s m) TextType found k l h = is_it TextType found refl h
+supertype_known TextType (Integer s n) found k l h = is_it TextType found refl h
+supertype_known TextType TextType found k l h = is_it TextType found refl h
+supertype_known DateType DateType found k l h = is_it DateType found refl h
+supertype_known DateType (DatetimeType u) found k l h = is_it (DatetimeType u) found refl h
+supertype_known (DatetimeType u) DateType found k l h = is_it (DatetimeType u) found refl h
+supertype_known TimeType TimeType found k l h = is_it TimeType found refl h
+supertype_known (DatetimeType u) (DatetimeType v) found k l h = is_it _ found refl h
+supertype_known (DurationType u) (DurationType v) found k l h = is_it _ found refl h
+supertype_known _ _ found k l h = cc
 
 -- what two operands with a common type have of their own
 record Parts (left right found : Ty) : Type 0 where
@@ -106,21 +116,20 @@ parts left right found h =
 -- the common type of operands is one of columns
 pub common_known : (left right found : Ty) → common_type left right ≡ Ok found → is_known found ≡ true
 common_known left right found h =
-    let p = parts left right found h in supertype_known p.left_own p.right_own found (beside_known left right p.left_own p.left_is) p.common
+    let p = parts left right found h in supertype_known p.left_own p.right_own found (beside_known left right p.left_own p.left_is) (beside_known right left p.right_own p.right_is) p.common
 
--- and has the number of one that had no type
-pub common_has_left : (number : ℤ) (right found : Ty) → common_type (Untyped number) right ≡ Ok found → in_range found number ≡ true
-common_has_left number right found h =
-    let p = parts (Untyped number) right found h in supertype_holds p.left_own p.right_own found number p.common (inl (own_has number right p.left_own p.left_is).0)
+-- and one of integers has the number of an operand that had no type
+pub common_has_left : (number : ℤ) (right found : Ty) → is_integer found ≡ true → common_type (Untyped number) right ≡ Ok found → in_range found number ≡ true
+common_has_left number right found i h =
+    let p = parts (Untyped number) right found h in supertype_holds p.left_own p.right_own found number i p.common (inl (own_has number right p.left_own p.left_is).0)
 
-pub common_has_right : (number : ℤ) (left found : Ty) → common_type left (Untyped number) ≡ Ok found → in_range found number ≡ true
-common_has_right number left found h =
-    let p = parts left (Untyped number) found h in supertype_holds p.left_own p.right_own found number p.common (inr (own_has number left p.right_own p.right_is).0)
+pub common_has_right : (number : ℤ) (left found : Ty) → is_integer found ≡ true → common_type left (Untyped number) ≡ Ok found → in_range found number ≡ true
+common_has_right number left found i h =
+    let p = parts left (Untyped number) found h in supertype_holds p.left_own p.right_own found number i p.common (inr (own_has number left p.right_own p.right_is).0)
 
-own_beside : (type other : Ty) → is_known type ≡ true → type_beside type other ≡ Some type
-own_beside Truth other k = refl
-own_beside (Integer signed bits) other k = refl
+pub own_beside : (type other : Ty) → is_known type ≡ true → type_beside type other ≡ Some type
 own_beside (Untyped number) other k = cc
+own_beside type other k = refl
 
 -- of columns' types it is their common type
 pub common_of_known : (left right : Ty) → is_known left ≡ true → is_known right ≡ true → common_type left right ≡ found_common (supertype left right)
@@ -152,3 +161,11 @@ common_turned (Some a) (Some b) = ap found_common (supertype_symmetric a b)
 -- the order of the operands doesn't matter
 pub common_symmetric : (left right : Ty) → common_type left right ≡ common_type right left
 common_symmetric left right = common_turned (type_beside left right) (type_beside right left)
+
+-- and there is a cast to it from the type that an operand gets
+pub common_casts : (left right found own : Ty) → common_type left right ≡ Ok found → type_beside left right ≡ Some own → can_cast own found ≡ true
+common_casts left right found own h is =
+    let p = parts left right found h in
+    let same : p.left_own ≡ own = some_same p.left_own own (sym p.left_is ∙ is) in
+    let casts = supertype_casts p.left_own p.right_own found (beside_known left right p.left_own p.left_is) (beside_known right left p.right_own p.right_is) p.common in
+    subst (λ t. can_cast t found ≡ true) same casts.0

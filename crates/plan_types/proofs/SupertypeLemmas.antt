@@ -5,8 +5,10 @@ use Rattle.std.proofs.lemmas.Bool.{ltb-true, ltb-false}
 use Rattle.std.proofs.lemmas.Bool.Decides.{Decides-int_eq}
 use Rattle.std.specs.Ordering.{int_eq}
 use Rattle.std.proofs.Math.Nat.{pow-le-pow_right}
-use Rattle.plan_types.specs.Types.{Ty, Truth, Integer, Untyped}
-use Rattle.plan_types.specs.Values.{in_range}
+use Rattle.plan_types.specs.Types.{Ty, NullType, Truth, Integer, TextType, DateType, TimeType, DatetimeType, DurationType, Untyped, coarser, is_integer}
+use Rattle.plan_types.specs.declared.dtype.TimeUnit.{TimeUnit}
+use Rattle.plan_types.specs.declared.dtype.TimeUnit.TheVariants.{Nanoseconds, Microseconds, Milliseconds}
+use Rattle.plan_types.specs.Values.{in_range, least, past_greatest}
 use Rattle.plan_types.specs.Supertypes.{supertype, signed_above}
 
 max_itself : (n : ℕ) → max n n ≡ n
@@ -15,11 +17,28 @@ max_itself n = omega arith
 max_turned : (m n : ℕ) → max m n ≡ max n m
 max_turned m n = omega arith
 
+coarser_itself : (u : TimeUnit) → coarser u u ≡ u
+coarser_itself Nanoseconds = refl
+coarser_itself Microseconds = refl
+coarser_itself Milliseconds = refl
+
+coarser_turned : (u v : TimeUnit) → coarser u v ≡ coarser v u
+coarser_turned Nanoseconds Nanoseconds = refl
+coarser_turned Microseconds Microseconds = refl
+coarser_turned Milliseconds Milliseconds = refl
+coarser_turned _ _ = refl
+
 -- a type is its own common type
 pub supertype_itself : (type : Ty) → supertype type type ≡ Some type
+supertype_itself NullType = refl
 supertype_itself Truth = refl
 supertype_itself (Integer true bits) = ap (λ n. Some (Integer true n)) (max_itself bits)
 supertype_itself (Integer false bits) = ap (λ n. Some (Integer false n)) (max_itself bits)
+supertype_itself TextType = refl
+supertype_itself DateType = refl
+supertype_itself TimeType = refl
+supertype_itself (DatetimeType u) = ap (λ unit. Some (DatetimeType unit)) (coarser_itself u)
+supertype_itself (DurationType u) = ap (λ unit. Some (DurationType unit)) (coarser_itself u)
 supertype_itself (Untyped number) = ap (λ b. cond b (Some (Untyped number)) None) ((Decides-int_eq number number).1 refl)
 
 -- two numbers without a type have one where they are the same
@@ -37,20 +56,28 @@ untyped_symmetric m n =
       ] refl
     ] refl
 
+untyped_no_integer : (m : ℤ) (c : Ty) → Untyped m ≡ c → is_integer c ≡ true → ⊥
+untyped_no_integer m c same i = let none : is_integer (Untyped m) ≡ true = ap is_integer same ∙ i in cc
+
 -- the order of the two doesn't matter
 pub supertype_symmetric : (a b : Ty) → supertype a b ≡ supertype b a
+supertype_symmetric NullType NullType = refl
 supertype_symmetric Truth Truth = refl
-supertype_symmetric Truth (Integer s n) = refl
-supertype_symmetric Truth (Untyped n) = refl
-supertype_symmetric (Integer s m) Truth = refl
-supertype_symmetric (Integer s m) (Untyped n) = refl
-supertype_symmetric (Untyped m) Truth = refl
-supertype_symmetric (Untyped m) (Integer s n) = refl
-supertype_symmetric (Untyped m) (Untyped n) = untyped_symmetric m n
 supertype_symmetric (Integer true m) (Integer true n) = ap (λ k. Some (Integer true k)) (max_turned m n)
 supertype_symmetric (Integer false m) (Integer false n) = ap (λ k. Some (Integer false k)) (max_turned m n)
 supertype_symmetric (Integer true m) (Integer false n) = refl
 supertype_symmetric (Integer false m) (Integer true n) = refl
+supertype_symmetric (Integer true m) _ = refl
+supertype_symmetric (Integer false m) _ = refl
+supertype_symmetric _ (Integer true n) = refl
+supertype_symmetric _ (Integer false n) = refl
+supertype_symmetric TextType TextType = refl
+supertype_symmetric DateType DateType = refl
+supertype_symmetric TimeType TimeType = refl
+supertype_symmetric (DatetimeType u) (DatetimeType v) = ap (λ unit. Some (DatetimeType unit)) (coarser_turned u v)
+supertype_symmetric (DurationType u) (DurationType v) = ap (λ unit. Some (DurationType unit)) (coarser_turned u v)
+supertype_symmetric (Untyped m) (Untyped n) = untyped_symmetric m n
+supertype_symmetric _ _ = refl
 
 pow_grows : (m n : ℕ) → m ≤ n → 2 ^ m ≤ 2 ^ n
 pow_grows m n h = pow-le-pow_right (omega arith) h
@@ -82,7 +109,7 @@ signed_above_unsigned m n number h b =
     let more = pow_grows m (n - 1) h in
     between number _ _ _ _ (not_above_zero _) (omega (arith, ints, more)) b
 
-some_same : (a b : Ty) → Some a ≡ Some b → a ≡ b
+pub some_same : (a b : Ty) → Some a ≡ Some b → a ≡ b
 some_same a b e = cc
 
 -- what the two have, the one has that each is wider than
@@ -106,27 +133,35 @@ mixed_holds m n c number e h =
 turned : {A B : Type 0} → A ⊎ B → B ⊎ A
 turned h = elim h [ inl x ↦ inr x | inr y ↦ inl y ]
 
--- truth values are no numbers
-pub no_number : (number : ℤ) → in_range Truth number ≡ true → ⊥
-no_number number h = grind (arith, ints)
+-- a type without a range has no numbers
+pub no_number : (type : Ty) (number : ℤ) → least type ≡ pos 0 → past_greatest type ≡ pos 0 → in_range type number ≡ true → ⊥
+no_number type number low high h =
+    let bare : (not (int_lt number (pos 0)) && int_lt number (pos 0)) ≡ true = subst (λ l. (not (int_lt number l) && int_lt number (pos 0)) ≡ true) low (subst (λ g. (not (int_lt number (least type)) && int_lt number g) ≡ true) high h) in
+    grind (arith, ints, bare)
 
--- the common type has the numbers of both
-pub supertype_holds : (a b c : Ty) (number : ℤ) → supertype a b ≡ Some c → (in_range a number ≡ true) ⊎ (in_range b number ≡ true) → in_range c number ≡ true
-supertype_holds Truth Truth c number e h = elim h [ inl x ↦ absurd (no_number number x) | inr y ↦ absurd (no_number number y) ]
-supertype_holds Truth (Integer s n) c number e h = elim h [ inl x ↦ absurd (no_number number x) | inr y ↦ subst (λ type. in_range type number ≡ true) (some_same _ _ e) y ]
-supertype_holds Truth (Untyped n) c number e h = cc
-supertype_holds (Integer s m) (Untyped n) c number e h = cc
-supertype_holds (Untyped m) Truth c number e h = cc
-supertype_holds (Untyped m) (Integer s n) c number e h = cc
-supertype_holds (Untyped m) (Untyped n) c number e h =
-    let is = untyped_same m n c e in
-    elim h [ inl x ↦ subst (λ type. in_range type number ≡ true) is.1 x | inr y ↦ subst (λ type. in_range type number ≡ true) (ap Untyped (sym is.0) ∙ is.1) y ]
-supertype_holds (Integer s m) Truth c number e h = elim h [ inl x ↦ subst (λ type. in_range type number ≡ true) (some_same _ _ e) x | inr y ↦ absurd (no_number number y) ]
-supertype_holds (Integer true m) (Integer true n) c number e h =
+second_holds : (type c : Ty) (number : ℤ) → Some type ≡ Some c → (in_range NullType number ≡ true) ⊎ (in_range type number ≡ true) → in_range c number ≡ true
+second_holds type c number e h = elim h [ inl x ↦ absurd (no_number NullType number refl refl x) | inr y ↦ subst (λ t. in_range t number ≡ true) (some_same _ _ e) y ]
+
+-- where the common type is one of integers, it has the numbers of both
+pub supertype_holds : (a b c : Ty) (number : ℤ) → is_integer c ≡ true → supertype a b ≡ Some c → (in_range a number ≡ true) ⊎ (in_range b number ≡ true) → in_range c number ≡ true
+supertype_holds NullType b c number i e h = second_holds b c number e h
+supertype_holds (Integer true m) (Integer true n) c number i e h =
     subst (λ type. in_range type number ≡ true) (some_same _ _ e)
     (held (Integer true m) (Integer true n) (Integer true (max m n)) number (signed_wider m (max m n) number (omega arith)) (signed_wider n (max m n) number (omega arith)) h)
-supertype_holds (Integer false m) (Integer false n) c number e h =
+supertype_holds (Integer false m) (Integer false n) c number i e h =
     subst (λ type. in_range type number ≡ true) (some_same _ _ e)
     (held (Integer false m) (Integer false n) (Integer false (max m n)) number (unsigned_wider m (max m n) number (omega arith)) (unsigned_wider n (max m n) number (omega arith)) h)
-supertype_holds (Integer true m) (Integer false n) c number e h = mixed_holds m n c number e h
-supertype_holds (Integer false m) (Integer true n) c number e h = mixed_holds n m c number e (turned h)
+supertype_holds (Integer true m) (Integer false n) c number i e h = mixed_holds m n c number e h
+supertype_holds (Integer false m) (Integer true n) c number i e h = mixed_holds n m c number e (turned h)
+supertype_holds a NullType c number i e h = second_holds a c number (sym (supertype_symmetric a NullType) ∙ e) (turned h)
+supertype_holds Truth (Integer s n) c number i e h = elim h [ inl x ↦ absurd (no_number Truth number refl refl x) | inr y ↦ subst (λ type. in_range type number ≡ true) (some_same _ _ e) y ]
+supertype_holds (Integer s m) Truth c number i e h = elim h [ inl x ↦ subst (λ type. in_range type number ≡ true) (some_same _ _ e) x | inr y ↦ absurd (no_number Truth number refl refl y) ]
+supertype_holds Truth Truth c number i e h = cc
+supertype_holds (Integer s m) _ c number i e h = cc
+supertype_holds TextType TextType c number i e h = cc
+supertype_holds DateType DateType c number i e h = cc
+supertype_holds TimeType TimeType c number i e h = cc
+supertype_holds (DatetimeType u) (DatetimeType v) c number i e h = cc
+supertype_holds (DurationType u) (DurationType v) c number i e h = cc
+supertype_holds (Untyped m) (Untyped n) c number i e h = let same = (untyped_same m n c e).1 in absurd (untyped_no_integer m c same i)
+supertype_holds _ _ c number i e h = cc

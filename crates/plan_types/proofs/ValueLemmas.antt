@@ -1,20 +1,25 @@
 -- Values of a type: numbers that wrap around, casts, columns of frames; outcomes that are not stuck.
-use Rattle.std.proofs.Common.{◌≡◌, ℕ, zero, suc, ◌+◌, ◌-◌, ◌^◌, ◌<◌, ◌≤◌, Bool, true, false, ◌&&◌, not, cond, List, [], ◌∷◌, IsTrue, refl, ap, arith, subst, map, Some, slice_get, unwrap_or}
+use Rattle.std.specs.Prelude.{◌/◌}
+use Rattle.std.proofs.Math.Nat.{add-zero}
+use Rattle.std.proofs.Common.{◌≡◌, ℕ, zero, suc, ◌+◌, ◌*◌, ◌-◌, sym, ◌∙◌, ◌^◌, ◌<◌, ◌≤◌, Bool, true, false, ◌&&◌, not, cond, List, [], ◌∷◌, IsTrue, refl, ap, arith, subst, map, Some, slice_get, unwrap_or}
 use Rattle.std.specs.List.{AllByRecursion}
-use Rattle.std.specs.Prelude.{ℤ, pos, negsuc, neg_ℤ, ◌-ℤ◌, ◌≤ℤ◌, int_lt, nat_lt}
+use Rattle.std.specs.Prelude.{ℤ, pos, negsuc, neg_ℤ, ◌*ℤ◌, ◌-ℤ◌, ◌≤ℤ◌, int_lt, nat_lt}
 use Rattle.std.proofs.Math.Nat.{mod-lt, pow-suc}
-use Rattle.std.proofs.lemmas.Nat.{pow_pos}
+use Rattle.std.proofs.lemmas.Nat.{div-mul-add, pow_pos}
 use Rattle.std.proofs.lemmas.Int.{ints}
 use Rattle.std.proofs.lemmas.Bool.{ltb-true, ltb-false, and_from}
-use Rattle.plan_types.specs.Types.{Ty, Truth, Integer, Untyped, same_type}
-use Rattle.plan_types.specs.TypeLaws.{same_type_exact}
-use Rattle.plan_types.specs.Values.{Val, NullValue, TruthValue, IntValue, in_range, fits, all_fit}
+use Rattle.std.specs.Int.{int_div_euclid}
+use Rattle.std.specs.Str.Parse.{without_leading_sign, signed_digits_value}
+use Rattle.plan_types.specs.Types.{Ty, Truth, Integer, TextType, DateType, DatetimeType, DurationType, Untyped, per_day}
+use Rattle.plan_types.specs.Values.{Val, NullValue, TruthValue, IntValue, TextValue, in_range, fits, all_fit}
 use Rattle.plan_types.specs.Schemas.{Name, Columns, same_name, type_at}
 use Rattle.plan_types.specs.Frames.{Row, Frame, RowFits, IsFrame, value_in, row_at}
+use Rattle.plan_types.specs.declared.dtype.TimeUnit.{TimeUnit}
+use Rattle.plan_types.specs.declared.dtype.TimeUnit.TheVariants.{Nanoseconds, Microseconds, Milliseconds}
 use Rattle.plan_types.specs.declared.dtype.CastOptions.{CastOptions}
 use Rattle.plan_types.specs.declared.dtype.CastOptions.TheVariants.{Strict, NonStrict, Overflowing}
 use Rattle.plan_types.specs.Outcomes.{Outcome, Done, Fault, Stuck, Meets, then_do}
-use Rattle.plan_types.specs.Casts.{Converted, Gives, Fails, cast, wrapped, low_bits, no_place, out_of_range, number_of, number_to, truth_to}
+use Rattle.plan_types.specs.Casts.{Converted, Gives, Fails, cast, integer_to, is_numeral, low_bits, no_place, number_of, number_to, out_of_range, placed, rescaled, text_to, truth_to, wrapped, wrapped_signed}
 
 -- the low bits are as few as they are
 low_bits_below : (bits : ℕ) (number : ℤ) → low_bits bits number < 2 ^ bits
@@ -35,12 +40,26 @@ half_of zero = omega arith
 half_of (suc bits) = let e : suc bits - 1 ≡ bits = omega arith in omega (arith, pow-suc 2 bits, ap (λ n. 2 ^ n) e)
 
 -- a number that wraps around in an integer type is in its range
-pub wrapped_in_range : (signed : Bool) (bits : ℕ) (number : ℤ) → in_range (Integer signed bits) (wrapped (Integer signed bits) number) ≡ true
-wrapped_in_range false bits number = within_unsigned (low_bits bits number) (2 ^ bits) (low_bits_below bits number)
-wrapped_in_range true bits number =
+pub wrapped_signed_in_range : (bits : ℕ) (number : ℤ) → in_range (Integer true bits) (wrapped_signed bits number) ≡ true
+wrapped_signed_in_range bits number =
     let low = low_bits bits number in
     let half = 2 ^ (bits - 1) in
     elim (nat_lt low half) as (λ b. nat_lt low half ≡ b → in_range (Integer true bits) (cond b (pos low) (pos low -ℤ pos (2 ^ bits))) ≡ true) [ true ↦ λ e. within_upper low half (ltb-true low half e) | false ↦ λ e. within_lower low half (2 ^ bits) (low_bits_below bits number) (ltb-false low half e) (half_of bits) ] refl
+
+pub wrapped_in_range : (signed : Bool) (bits : ℕ) (number : ℤ) → in_range (Integer signed bits) (wrapped (Integer signed bits) number) ≡ true
+wrapped_in_range false bits number = within_unsigned (low_bits bits number) (2 ^ bits) (low_bits_below bits number)
+wrapped_in_range true bits number = wrapped_signed_in_range bits number
+
+-- a number that is counted in the unit that it has
+scaled_back : (p : ℕ) (number : ℤ) → 0 < p → int_div_euclid (number *ℤ pos p) (pos p) ≡ number
+scaled_back zero number h = absurd (omega (arith, h))
+scaled_back (suc q) (pos n) h = ap pos (ap (λ m. m / suc q) (sym (add-zero (n * suc q))) ∙ div-mul-add n (suc q) 0 (omega arith))
+scaled_back (suc q) (negsuc n) h = ap negsuc (div-mul-add n (suc q) q (omega arith))
+
+pub rescaled_itself : (unit : TimeUnit) (number : ℤ) → rescaled (per_day unit) (per_day unit) number ≡ number
+rescaled_itself Nanoseconds number = scaled_back 86400000000000 number (omega arith)
+rescaled_itself Microseconds number = scaled_back 86400000000 number (omega arith)
+rescaled_itself Milliseconds number = scaled_back 86400000 number (omega arith)
 
 -- what a cast gives, where it gives a value, fits the type
 abbrev pub ConvertedFits : Ty → Converted → Type 0
@@ -57,23 +76,42 @@ no_place_fits Strict type = tt
 no_place_fits NonStrict type = refl
 no_place_fits Overflowing type = refl
 
-number_to_fits : (number : ℤ) (target : Ty) (options : CastOptions) → ConvertedFits target (number_to number target options)
-number_to_fits number Truth options = refl
-number_to_fits number (Untyped other) options = no_place_fits options (Untyped other)
-number_to_fits number (Integer signed bits) options =
+placed_fits : (options : CastOptions) (type : Ty) (number : ℤ) → ConvertedFits type (placed options type number)
+placed_fits options type number =
+    elim (in_range type number) as (λ b. in_range type number ≡ b → ConvertedFits type (cond b (Gives (IntValue number)) (no_place options))) [ true ↦ λ r. r | false ↦ λ r. no_place_fits options type ] refl
+
+integer_to_fits : (number : ℤ) (target : Ty) (options : CastOptions) → ConvertedFits target (integer_to number target options)
+integer_to_fits number Truth options = refl
+integer_to_fits number (Integer signed bits) options =
     elim (in_range (Integer signed bits) number) as (λ b. in_range (Integer signed bits) number ≡ b → ConvertedFits (Integer signed bits) (cond b (Gives (IntValue number)) (out_of_range options (Integer signed bits) number))) [ true ↦ λ r. r | false ↦ λ r. out_of_range_fits options signed bits number ] refl
+integer_to_fits number TextType options = refl
+integer_to_fits number target options = placed_fits options target number
+
+number_to_fits : (from : Ty) (number : ℤ) (target : Ty) (options : CastOptions) → ConvertedFits target (number_to from number target options)
+number_to_fits DateType number (DatetimeType unit) options = placed_fits options (DatetimeType unit) (rescaled 1 (per_day unit) number)
+number_to_fits (DatetimeType unit) number DateType options = placed_fits options DateType (rescaled (per_day unit) 1 number)
+number_to_fits (DatetimeType unit) number (DatetimeType other) options = placed_fits options (DatetimeType other) (rescaled (per_day unit) (per_day other) number)
+number_to_fits (DurationType unit) number (DurationType other) options = placed_fits options (DurationType other) (rescaled (per_day unit) (per_day other) number)
+number_to_fits from number target options = integer_to_fits number target options
 
 truth_to_fits : (truth : Bool) (target : Ty) (options : CastOptions) → ConvertedFits target (truth_to truth target options)
 truth_to_fits truth Truth options = refl
-truth_to_fits truth (Untyped other) options = no_place_fits options (Untyped other)
-truth_to_fits truth (Integer signed bits) options = number_to_fits (number_of truth) (Integer signed bits) options
+truth_to_fits truth (Integer signed bits) options = integer_to_fits (number_of truth) (Integer signed bits) options
+truth_to_fits truth TextType options = refl
+truth_to_fits truth target options = no_place_fits options target
 
--- a cast of a fitting value fits the target
-pub cast_fits : (value : Val) (from target : Ty) (options : CastOptions) → IsTrue (fits value from) → ConvertedFits target (cast value from target options)
-cast_fits NullValue from target options h = refl
-cast_fits (TruthValue truth) from target options h = truth_to_fits truth target options
-cast_fits (IntValue number) from target options h =
-    elim (same_type from target) as (λ b. same_type from target ≡ b → ConvertedFits target (cond b (Gives (IntValue number)) (number_to number target options))) [ true ↦ λ e. subst (λ t. IsTrue (fits (IntValue number) t)) (same_type_exact from target e) h | false ↦ λ e. number_to_fits number target options ] refl
+text_to_fits : (text : List ℕ) (target : Ty) (options : CastOptions) → ConvertedFits target (text_to text target options)
+text_to_fits text (Integer signed bits) options =
+    elim (is_numeral (without_leading_sign text)) as (λ b. ConvertedFits (Integer signed bits) (cond b (placed options (Integer signed bits) (signed_digits_value 10 text)) (no_place options))) [ true ↦ placed_fits options (Integer signed bits) (signed_digits_value 10 text) | false ↦ no_place_fits options (Integer signed bits) ]
+text_to_fits text TextType options = refl
+text_to_fits text target options = no_place_fits options target
+
+-- what a cast gives fits the target
+pub cast_fits : (value : Val) (from target : Ty) (options : CastOptions) → ConvertedFits target (cast value from target options)
+cast_fits NullValue from target options = refl
+cast_fits (TruthValue truth) from target options = truth_to_fits truth target options
+cast_fits (IntValue number) from target options = number_to_fits from number target options
+cast_fits (TextValue text) from target options = text_to_fits text target options
 
 -- a row's value in a column fits the column's type
 pub value_in_fits : (columns : Columns) (name : Name) (row : Row) (type : Ty) → RowFits columns row → type_at columns name ≡ Some type → IsTrue (fits (value_in columns name row) type)

@@ -1,39 +1,43 @@
 //! Laws of the definitions. The functions do nothing: their clauses are the laws.
 
 ghost use Rattle.std.specs.Prelude.{◌≡◌, ◌≢◌, ◌⊎◌, ℤ, true, Some, Ok};
-ghost use Rattle.plan_types.specs.Types.{Ty, Untyped, is_known};
+ghost use Rattle.plan_types.specs.Types.{Ty, Untyped, is_integer, is_known};
 ghost use Rattle.plan_types.specs.Casts.{Gives, Fails, can_cast, cast};
-ghost use Rattle.plan_types.specs.CommonTypes.{common_type};
+ghost use Rattle.plan_types.specs.CommonTypes.{common_type, type_beside};
 ghost use Rattle.plan_types.specs.Supertypes.{supertype};
 ghost use Rattle.plan_types.specs.Values.{Val, fits, in_range};
 ghost use Rattle.plan_types.specs.declared.dtype.CastOptions.{CastOptions};
 ghost use Rattle.plan_types.specs.declared.dtype.CastOptions.TheVariants.{NonStrict};
 
-/// A common type doesn't depend on the order, a type has itself with itself, and the common type of two
-/// has each number that one of them has.
+/// A common type doesn't depend on the order, a type has itself with itself, and a common type of integers has each
+/// number that one of the two has. There is a cast from each of two types to their common type.
 pub fn supertype_laws()
     ensures symmetric { (a b : Ty) → supertype a b ≡ supertype b a }
     ensures itself { (a : Ty) → supertype a a ≡ Some a }
-    ensures holds_both { (a b c : Ty) (number : ℤ) → supertype a b ≡ Some c
+    ensures holds_both { (a b c : Ty) (number : ℤ) → is_integer c ≡ true → supertype a b ≡ Some c
         → (in_range a number ≡ true) ⊎ (in_range b number ≡ true) → in_range c number ≡ true }
+    ensures casts { (a b c : Ty) → is_known a ≡ true → is_known b ≡ true → supertype a b ≡ Some c
+        → (can_cast a c ≡ true) × (can_cast b c ≡ true) }
 {}
 
 /// The common type of two operands doesn't depend on the order and is a type of columns. Of operands of one
-/// such type it is that type, and it has the number of an operand without a type.
+/// such type it is that type, and one of integers has the number of an operand without a type. There is a cast to it
+/// from the type that an operand gets.
 pub fn common_type_laws()
     ensures symmetric { (a b : Ty) → common_type a b ≡ common_type b a }
     ensures known { (a b c : Ty) → common_type a b ≡ Ok c → is_known c ≡ true }
     ensures itself { (a : Ty) → is_known a ≡ true → common_type a a ≡ Ok a }
-    ensures has_number { (number : ℤ) (b c : Ty) → common_type (Untyped number) b ≡ Ok c → in_range c number ≡ true }
+    ensures has_number { (number : ℤ) (b c : Ty) → is_integer c ≡ true → common_type (Untyped number) b ≡ Ok c → in_range c number ≡ true }
+    ensures casts { (a b c own : Ty) → common_type a b ≡ Ok c → type_beside a b ≡ Some own → can_cast own c ≡ true }
 {}
 
-/// A cast to the own type changes no value, one that isn't strict never fails, and what a cast gives fits its
-/// target. There is a cast from the type of each operand to their common type.
+/// There is a cast from each type of columns to itself, which changes no value. A cast that isn't strict never fails,
+/// and what a cast gives fits its target.
 pub fn cast_laws()
     ensures itself { (value : Val) (type : Ty) (options : CastOptions) → fits value type ≡ true
         → cast value type type options ≡ Gives value }
     ensures never_fails { (value : Val) (from target : Ty) → cast value from target NonStrict ≢ Fails }
-    ensures fits { (value converted : Val) (from target : Ty) (options : CastOptions) → fits value from ≡ true
-        → cast value from target options ≡ Gives converted → fits converted target ≡ true }
-    ensures to_common { (a b c : Ty) → common_type a b ≡ Ok c → (can_cast a c ≡ true) × (can_cast b c ≡ true) }
+    ensures fits { (value converted : Val) (from target : Ty) (options : CastOptions) →
+        cast value from target options ≡ Gives converted → fits converted target ≡ true }
+    ensures own { (a : Ty) → is_known a ≡ true → can_cast a a ≡ true }
 {}

@@ -1,5 +1,4 @@
-use Rattle.plan_types.proofs.CommonLemmas.{common_known}
-use Rattle.plan_types.proofs.CastLemmas.{cast_itself, cast_never_fails, given_fits}
+use Rattle.plan_types.proofs.CastLemmas.{cast_itself, cast_never_fails, cast_own, given_fits}
 use Rattle.plan_types.proofs.laws.cast_laws.Goals as goal
 
 pub returns-clause-itself : goal.returns-clause-itself
@@ -11,5 +10,5 @@ returns-clause-never_fails c = cast_never_fails
 pub returns-clause-fits : goal.returns-clause-fits
 returns-clause-fits c = given_fits
 
-pub returns-clause-to_common : goal.returns-clause-to_common
-returns-clause-to_common c = λ a b t e. (common_known a b t e, common_known a b t e)
+pub returns-clause-own : goal.returns-clause-own
+returns-clause-own c = cast_own

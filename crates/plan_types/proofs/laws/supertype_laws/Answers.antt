@@ -1,4 +1,5 @@
 use Rattle.plan_types.proofs.SupertypeLemmas.{supertype_symmetric, supertype_itself, supertype_holds}
+use Rattle.plan_types.proofs.CastLemmas.{supertype_casts}
 use Rattle.plan_types.proofs.laws.supertype_laws.Goals as goal
 
 pub returns-clause-symmetric : goal.returns-clause-symmetric
@@ -9,3 +10,6 @@ returns-clause-itself c = supertype_itself
 
 pub returns-clause-holds_both : goal.returns-clause-holds_both
 returns-clause-holds_both c = supertype_holds
+
+pub returns-clause-casts : goal.returns-clause-casts
+returns-clause-casts c = supertype_casts
