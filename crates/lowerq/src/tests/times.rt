@@ -331,3 +331,40 @@ fn types_at_fault_in_casts_are_told(rt: HostRuntime) -> Result<(), Fail> {
     }
     Ok(())
 }
+
+#[test]
+fn the_documents_examples_end_as_they_say(rt: HostRuntime) -> Result<(), Fail> {
+    for (input, number, text) in [
+        (
+            "{\"tables\":[{\"name\":\"t\",\"columns\":[[\"s\",\"String\"],[\"m\",{\"Datetime\":\"ms\"}]]}],\"plan\":{\"select\":[{\"scan\":\"t\"},[{\"cast\":[{\"col\":\"m\"},\"Date\",\"NonStrict\"]}]]}}",
+            0,
+            ". projection (\"m\" Date)\n.0 df (\"s\" String, \"m\" Datetime(ms))\ncasts 1\n",
+        ),
+        (
+            "{\"tables\":[{\"name\":\"t\",\"columns\":[[\"s\",\"String\"],[\"b\",\"Boolean\"]]}],\"plan\":{\"select\":[{\"scan\":\"t\"},[{\"bin\":[\"Plus\",{\"col\":\"s\"},{\"col\":\"b\"}]}]]}}",
+            0,
+            ". projection (\"s\" String)\n.0 df (\"s\" String, \"b\" Boolean)\ncasts 1\n",
+        ),
+        (
+            "{\"tables\":[{\"name\":\"t\",\"columns\":[[\"a\",{\"Datetime\":\"s\"}]]}],\"plan\":{\"scan\":\"t\"}}",
+            3,
+            "bad query Shape /tables/0/columns/0/1/Datetime\n",
+        ),
+        (
+            "{\"tables\":[{\"name\":\"t\",\"columns\":[[\"a\",{\"Date\":\"ms\"}]]}],\"plan\":{\"scan\":\"t\"}}",
+            3,
+            "bad query Shape /tables/0/columns/0/1\n",
+        ),
+        (
+            "{\"tables\":[{\"name\":\"t\",\"columns\":[[\"a\",{\"Duration\":1.5}]]}],\"plan\":{\"scan\":\"t\"}}",
+            3,
+            "bad query Float /tables/0/columns/0/1/Duration\n",
+        ),
+    ] {
+        let seen = lower(rt.alloc(), input)?;
+        assert_eq!(rt; seen.number, number, "{input}");
+        assert_eq!(rt; seen.has_plan, number == 0);
+        assert_eq!(rt; seen.written.as_slice(), text.as_bytes());
+    }
+    Ok(())
+}
