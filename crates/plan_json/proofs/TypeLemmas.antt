@@ -1,5 +1,5 @@
 -- Types: a name, or an object of one key.
-use Rattle.std.proofs.Common.{◌≡◌, ℕ, List, Option, Some, None, ◌||◌, is_some, option_map, option_and_then, codes, refl, sym, ap, subst, ◌∙◌}
+use Rattle.std.proofs.Common.{◌≡◌, ℕ, List, Some, None, ◌||◌, is_some, option_map, option_and_then, codes, sym, ap, subst, ◌∙◌}
 use Rattle.serde_json.specs.Data.{Data, string}
 use Rattle.serde_json.specs.Find.{as_str}
 use Rattle.plan_json.specs.Faults.{a_type, own_fault, only_part, shape_fault, type_form, unless}
