@@ -84,9 +84,8 @@ abbrev pub for_rows : ℕ → List Val → Outcome (List Val)
 for_rows count values = if length values == count || length values == 1 then Done (stretched count values) else Fault
 
 abbrev pub is_true : Val → Bool
-is_true NullValue = false
 is_true (TruthValue truth) = truth
-is_true (IntValue number) = false
+is_true value = false
 
 -- the rows beside a true value
 abbrev pub rows_where_true : List Val → List Row → List Row

@@ -1,14 +1,13 @@
 -- Laws of casts.
-use Rattle.std.proofs.Common.{◌≡◌, ◌≢◌, ℕ, ◌<◌, Bool, true, false, cond, nat_lt, ◌*◌, Some, None, List, refl, sym, ap, ◌∙◌, subst}
+use Rattle.std.proofs.Common.{◌≡◌, ◌≢◌, ℕ, Bool, true, false, cond, nat_lt, ◌*◌, Some, None, List, encode_utf8_all, refl, sym, ap, ◌∙◌, subst}
 use Rattle.std.specs.Prelude.{ℤ}
-use Rattle.std.specs.Str.Parse.{without_leading_sign, signed_digits_value}
 use Rattle.plan_types.specs.Types.{Ty, NullType, Truth, Integer, TextType, DateType, TimeType, DatetimeType, DurationType, Untyped, is_known, per_day}
 use Rattle.plan_types.specs.Values.{Val, NullValue, TruthValue, IntValue, TextValue, in_range, fits}
 use Rattle.plan_types.specs.declared.dtype.CastOptions.{CastOptions}
 use Rattle.plan_types.specs.declared.dtype.CastOptions.TheVariants.{NonStrict}
 use Rattle.plan_types.specs.declared.dtype.TimeUnit.{TimeUnit}
 use Rattle.plan_types.specs.Supertypes.{supertype, signed_above}
-use Rattle.plan_types.specs.Casts.{Gives, Fails, can_cast, cast, integer_to, is_numeral, no_place, number_of, number_to, out_of_range, placed, rescaled, text_to, truth_to}
+use Rattle.plan_types.specs.Casts.{Gives, Fails, can_cast, cast, integer_to, no_place, number_in, number_of, number_to, out_of_range, placed, read_as, rescaled, text_to, truth_to}
 use Rattle.plan_types.proofs.SupertypeLemmas.{no_number, supertype_symmetric}
 use Rattle.plan_types.proofs.ValueLemmas.{ConvertedFits, cast_fits, rescaled_itself}
 
@@ -62,7 +61,7 @@ truth_never_fails truth _ e = cc
 
 text_never_fails : (text : List ℕ) (target : Ty) → text_to text target NonStrict ≢ Fails
 text_never_fails text (Integer signed bits) e =
-    elim (is_numeral (without_leading_sign text)) as (λ b. cond b (placed NonStrict (Integer signed bits) (signed_digits_value 10 text)) (no_place NonStrict) ≡ Fails → ⊥) [ true ↦ λ g. placed_never_fails (Integer signed bits) (signed_digits_value 10 text) g | false ↦ λ g. cc ] e
+    elim (number_in (encode_utf8_all text)) as (λ o. read_as (Integer signed bits) NonStrict o ≡ Fails → ⊥) [ None ↦ λ g. cc | Some number ↦ λ g. placed_never_fails (Integer signed bits) number g ] e
 text_never_fails text _ e = cc
 
 -- one that isn't strict never fails

@@ -1,5 +1,6 @@
 pub mod CastLemmas
 pub mod CommonLemmas
+pub mod DigitLemmas
 pub mod FrameCallLemmas
 pub mod FrameCopyLemmas
 pub mod FrameRowLemmas

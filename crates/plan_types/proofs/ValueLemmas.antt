@@ -1,15 +1,14 @@
 -- Values of a type: numbers that wrap around, casts, columns of frames; outcomes that are not stuck.
 use Rattle.std.specs.Prelude.{◌/◌}
 use Rattle.std.proofs.Math.Nat.{add-zero}
-use Rattle.std.proofs.Common.{◌≡◌, ℕ, zero, suc, ◌+◌, ◌*◌, ◌-◌, sym, ◌∙◌, ◌^◌, ◌<◌, ◌≤◌, Bool, true, false, ◌&&◌, not, cond, List, [], ◌∷◌, IsTrue, refl, ap, arith, subst, map, Some, slice_get, unwrap_or}
+use Rattle.std.proofs.Common.{◌≡◌, ℕ, zero, suc, ◌+◌, ◌*◌, ◌-◌, sym, ◌∙◌, ◌^◌, ◌<◌, ◌≤◌, Bool, true, false, ◌&&◌, not, cond, List, [], ◌∷◌, IsTrue, refl, ap, arith, subst, map, Some, None, encode_utf8_all, slice_get, unwrap_or}
 use Rattle.std.specs.List.{AllByRecursion}
 use Rattle.std.specs.Prelude.{ℤ, pos, negsuc, neg_ℤ, ◌*ℤ◌, ◌-ℤ◌, ◌≤ℤ◌, int_lt, nat_lt}
-use Rattle.std.proofs.Math.Nat.{mod-lt, pow-suc}
+use Rattle.std.proofs.Math.Nat.{mod-lt, pow-suc, suc-mul}
 use Rattle.std.proofs.lemmas.Nat.{div-mul-add, pow_pos}
 use Rattle.std.proofs.lemmas.Int.{ints}
 use Rattle.std.proofs.lemmas.Bool.{ltb-true, ltb-false, and_from}
 use Rattle.std.specs.Int.{int_div_euclid}
-use Rattle.std.specs.Str.Parse.{without_leading_sign, signed_digits_value}
 use Rattle.plan_types.specs.Types.{Ty, Truth, Integer, TextType, DateType, DatetimeType, DurationType, Untyped, per_day}
 use Rattle.plan_types.specs.Values.{Val, NullValue, TruthValue, IntValue, TextValue, in_range, fits, all_fit}
 use Rattle.plan_types.specs.Schemas.{Name, Columns, same_name, type_at}
@@ -19,7 +18,7 @@ use Rattle.plan_types.specs.declared.dtype.TimeUnit.TheVariants.{Nanoseconds, Mi
 use Rattle.plan_types.specs.declared.dtype.CastOptions.{CastOptions}
 use Rattle.plan_types.specs.declared.dtype.CastOptions.TheVariants.{Strict, NonStrict, Overflowing}
 use Rattle.plan_types.specs.Outcomes.{Outcome, Done, Fault, Stuck, Meets, then_do}
-use Rattle.plan_types.specs.Casts.{Converted, Gives, Fails, cast, integer_to, is_numeral, low_bits, no_place, number_of, number_to, out_of_range, placed, rescaled, text_to, truth_to, wrapped, wrapped_signed}
+use Rattle.plan_types.specs.Casts.{Converted, Gives, Fails, cast, integer_to, low_bits, no_place, number_in, number_of, number_to, out_of_range, placed, read_as, rescaled, text_to, truth_to, wrapped, wrapped_signed}
 
 -- the low bits are as few as they are
 low_bits_below : (bits : ℕ) (number : ℤ) → low_bits bits number < 2 ^ bits
@@ -54,7 +53,9 @@ wrapped_in_range true bits number = wrapped_signed_in_range bits number
 scaled_back : (p : ℕ) (number : ℤ) → 0 < p → int_div_euclid (number *ℤ pos p) (pos p) ≡ number
 scaled_back zero number h = absurd (omega (arith, h))
 scaled_back (suc q) (pos n) h = ap pos (ap (λ m. m / suc q) (sym (add-zero (n * suc q))) ∙ div-mul-add n (suc q) 0 (omega arith))
-scaled_back (suc q) (negsuc n) h = ap negsuc (div-mul-add n (suc q) q (omega arith))
+scaled_back (suc q) (negsuc n) h =
+    let e : suc n * suc q ≡ suc (n * suc q + q) = omega (arith, suc-mul n (suc q)) in
+    ap (λ m. int_div_euclid (neg_ℤ (pos m)) (pos (suc q))) e ∙ ap negsuc (div-mul-add n (suc q) q (omega arith))
 
 pub rescaled_itself : (unit : TimeUnit) (number : ℤ) → rescaled (per_day unit) (per_day unit) number ≡ number
 rescaled_itself Nanoseconds number = scaled_back 86400000000000 number (omega arith)
@@ -102,7 +103,7 @@ truth_to_fits truth target options = no_place_fits options target
 
 text_to_fits : (text : List ℕ) (target : Ty) (options : CastOptions) → ConvertedFits target (text_to text target options)
 text_to_fits text (Integer signed bits) options =
-    elim (is_numeral (without_leading_sign text)) as (λ b. ConvertedFits (Integer signed bits) (cond b (placed options (Integer signed bits) (signed_digits_value 10 text)) (no_place options))) [ true ↦ placed_fits options (Integer signed bits) (signed_digits_value 10 text) | false ↦ no_place_fits options (Integer signed bits) ]
+    elim (number_in (encode_utf8_all text)) as (λ o. ConvertedFits (Integer signed bits) (read_as (Integer signed bits) options o)) [ None ↦ no_place_fits options (Integer signed bits) | Some number ↦ placed_fits options (Integer signed bits) number ]
 text_to_fits text TextType options = refl
 text_to_fits text target options = no_place_fits options target
 

@@ -4,14 +4,13 @@
 -- Days and moments are counted in the target's unit, rounded down, and so are spans. What has no place in the target
 -- fails where the cast is strict, and else becomes null; but a number of one integer type that is cast to another
 -- keeps its low bits where the cast overflows. The type of a number without one is no target.
-use Rattle.std.specs.Prelude.{ℕ, zero, suc, ◌-◌, ◌^◌, ◌%◌, ℤ, pos, negsuc, ◌*ℤ◌, ◌-ℤ◌, Bool, true, false, ◌&&◌, ◌==◌, nat_lt, List, [], ◌∷◌, codes, if◌then◌else◌}
+use Rattle.std.specs.Prelude.{ℕ, zero, suc, ◌-◌, ◌^◌, ◌%◌, ℤ, pos, negsuc, ◌*ℤ◌, ◌-ℤ◌, Bool, true, false, ◌&&◌, ◌==◌, nat_lt, List, [], ◌∷◌, Option, Some, None, codes, encode_utf8_all, if◌then◌else◌}
 use Rattle.std.specs.Char.{digit_value}
 use Rattle.std.specs.Int.{int_div_euclid}
 use Rattle.std.specs.Fmt.{signed_decimal}
 use Rattle.std.specs.Str.Parse.{without_leading_sign, signed_digits_value}
-use Rattle.plan_types.specs.Types.{Ty, NullType, Truth, Integer, TextType, DateType, TimeType, DatetimeType, DurationType, Untyped, is_known, per_day}
+use Rattle.plan_types.specs.Types.{Ty, NullType, Truth, Integer, TextType, DateType, TimeType, DatetimeType, DurationType, is_known, per_day}
 use Rattle.plan_types.specs.Values.{Val, NullValue, TruthValue, IntValue, TextValue, in_range}
-use Rattle.plan_types.specs.declared.dtype.TimeUnit.{TimeUnit}
 use Rattle.plan_types.specs.declared.dtype.CastOptions.{CastOptions}
 use Rattle.plan_types.specs.declared.dtype.CastOptions.TheVariants.{Strict, NonStrict, Overflowing}
 
@@ -129,16 +128,23 @@ truth_to truth target options = no_place options
 -- whether there are digits alone, and at least one
 abbrev pub are_digits : List ℕ → Bool
 are_digits [] = true
-are_digits (character ∷ characters) = nat_lt (digit_value character) 10 && are_digits characters
+are_digits (byte ∷ bytes) = nat_lt (digit_value byte) 10 && are_digits bytes
 
 abbrev pub is_numeral : List ℕ → Bool
 is_numeral [] = false
-is_numeral (character ∷ characters) = are_digits (character ∷ characters)
+is_numeral (byte ∷ bytes) = are_digits (byte ∷ bytes)
 
--- a text in another type: an optional sign and digits are a number
+-- the number that bytes write: an optional sign and digits
+abbrev pub number_in : List ℕ → Option ℤ
+number_in bytes = if is_numeral (without_leading_sign bytes) then Some (signed_digits_value 10 bytes) else None
+
+abbrev pub read_as : Ty → CastOptions → Option ℤ → Converted
+read_as target options None = no_place options
+read_as target options (Some number) = placed options target number
+
+-- a text in another type
 abbrev pub text_to : List ℕ → Ty → CastOptions → Converted
-text_to text (Integer signed bits) options =
-    if is_numeral (without_leading_sign text) then placed options (Integer signed bits) (signed_digits_value 10 text) else no_place options
+text_to text (Integer signed bits) options = read_as (Integer signed bits) options (number_in (encode_utf8_all text))
 text_to text TextType options = Gives (TextValue text)
 text_to text target options = no_place options
 

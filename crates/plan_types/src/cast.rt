@@ -1,9 +1,9 @@
 //! Casts of values from one type to another.
-ghost use Rattle.std.specs.Prelude.{◌≡◌, ◌+ℤ◌, ◌-ℤ◌, ◌≤ℤ◌, ◌<ℤ◌, ◌*ℤ◌, neg_ℤ, ◌||◌, pos, int_lt, true, if◌then◌else◌, IfOk, IfErr};
+ghost use Rattle.std.specs.Prelude.{◌≡◌, ◌+ℤ◌, ◌-ℤ◌, ◌≤ℤ◌, ◌<ℤ◌, ◌*ℤ◌, neg_ℤ, ◌||◌, pos, int_lt, true, if◌then◌else◌, encode_utf8_all, ℤ, Some, IfOk, IfErr, MatchOption, FitsSigned};
 ghost use Rattle.std.specs.Fmt.{signed_decimal};
-ghost use Rattle.std.specs.Int.{int_div_euclid};
+ghost use Rattle.std.specs.Int.{int_div_euclid, w128};
 ghost use Rattle.plan_types.specs.Errors.{no_memory};
-ghost use Rattle.plan_types.specs.Casts.{Gives, can_cast, cast, integer_to, no_place, number_to, placed, text_to, truth_to, wrapped};
+ghost use Rattle.plan_types.specs.Casts.{Gives, can_cast, cast, integer_to, no_place, number_in, number_to, placed, text_to, truth_text, truth_to, wrapped};
 ghost use Rattle.plan_types.specs.Types.{ty, is_integer, is_text};
 ghost use Rattle.plan_types.specs.Values.{fits, in_range};
 ghost use Rattle.plan_types.specs.ValueViews.{val_of, IsCastError};
@@ -56,10 +56,7 @@ pub fn can_cast(from: &DataType, to: &DataType) -> bool
         DataType::Null => to.is_known(),
         DataType::Boolean => is_written(to) || matches!(to, DataType::Boolean),
         DataType::String => is_written(to),
-        DataType::Date => matches!(
-            to,
-            DataType::Date | DataType::Datetime(_) | DataType::Int64
-        ),
+        DataType::Date => matches!(to, DataType::Date | DataType::Datetime(_) | DataType::Int64),
         DataType::Time => matches!(to, DataType::Time | DataType::Int64),
         DataType::Datetime(_) => matches!(
             to,
@@ -113,7 +110,7 @@ fn truth_to(
     match to {
         DataType::Boolean => Ok(Value::Boolean(truth)),
         DataType::String => {
-            let text = PlSmallStr::new(alloc, if truth { "true" } else { "false" })?;
+            let text = truth_text(alloc, truth)?;
             Ok(Value::Text(text))
         }
         _other => {
@@ -123,6 +120,18 @@ fn truth_to(
                 no_place(options)
             }
         }
+    }
+}
+
+// How a truth value is written.
+fn truth_text(alloc: Global, truth: bool) -> Result<PlSmallStr, PlanError>
+    ensures ok { IfOk result (λ text. text ≡ truth_text truth) }
+    ensures err { IfErr result (λ error. error ≡ no_memory) }
+{
+    if truth {
+        PlSmallStr::new(alloc, "true")
+    } else {
+        PlSmallStr::new(alloc, "false")
     }
 }
 
@@ -205,9 +214,20 @@ fn text_to(
     if !to.is_integer() {
         return no_place(options);
     }
+    match number_in(text) {
+        Some(number) => placed(number, to, options),
+        None => no_place(options),
+    }
+}
+
+// The number that a text writes, where it has so many bits.
+fn number_in(text: &PlSmallStr) -> Option<i128>
+    ensures { MatchOption result ((number : ℤ) → number_in (encode_utf8_all text.now) ≡ Some number → FitsSigned w128 number → ⊥)
+        (λ number. number_in (encode_utf8_all text.now) ≡ Some number) }
+{
     match text.as_str().parse::<i128>() {
-        Ok(number) => placed(number, to, options),
-        Err(_) => no_place(options),
+        Ok(number) => Some(number),
+        Err(_) => None,
     }
 }
 
