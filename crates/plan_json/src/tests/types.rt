@@ -123,7 +123,10 @@ fn tells_values_that_are_no_types(rt: HostRuntime) -> Result<(), Fail> {
         "[\"Datetime\",\"ms\"]",
     ] {
         let found = type_answer(rt.alloc(), dtype)?;
-        assert!(rt; found.as_str() == "Shape /tables/0/columns/0/1", "{found} of {dtype}");
+        assert!(rt;
+            found.as_str() == "Shape /tables/0/columns/0/1",
+            "{found} of {dtype}"
+        );
     }
     Ok(())
 }
@@ -141,7 +144,10 @@ fn tells_objects_with_wrong_keys(rt: HostRuntime) -> Result<(), Fail> {
         "{\"Duration\":1.5,\"~/\":1.5}",
     ] {
         let found = type_answer(rt.alloc(), dtype)?;
-        assert!(rt; found.as_str() == "Shape /tables/0/columns/0/1", "{found} of {dtype}");
+        assert!(rt;
+            found.as_str() == "Shape /tables/0/columns/0/1",
+            "{found} of {dtype}"
+        );
     }
     Ok(())
 }
@@ -186,10 +192,7 @@ fn tells_floats_in_place_of_types(rt: HostRuntime) -> Result<(), Fail> {
     for (dtype, want) in [
         ("0.5", "Float /tables/0/columns/0/1"),
         ("-0", "Float /tables/0/columns/0/1"),
-        (
-            "{\"Datetime\":1e3}",
-            "Float /tables/0/columns/0/1/Datetime",
-        ),
+        ("{\"Datetime\":1e3}", "Float /tables/0/columns/0/1/Datetime"),
         (
             "{\"Duration\":-9223372036854775809}",
             "Float /tables/0/columns/0/1/Duration",
