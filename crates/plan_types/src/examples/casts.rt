@@ -7,14 +7,15 @@ ghost use Rattle.plan_types.specs.Types.{Untyped, ty};
 ghost use Rattle.plan_types.specs.Values.{NullValue, TruthValue, IntValue, TextValue};
 ghost use Rattle.plan_types.specs.Casts.{Gives, Fails, can_cast, cast, wrapped, number_of, is_nonzero, no_place};
 ghost use Rattle.plan_types.specs.declared.dtype.CastOptions.{CastOptions};
+ghost use Rattle.plan_types.specs.declared.dtype.TimeUnit.{TimeUnit};
 ghost use Rattle.plan_types.specs.declared.dtype.CastOptions.TheVariants.{Strict, NonStrict, Overflowing};
-ghost use Rattle.plan_types.specs.declared.dtype.TimeUnit.TheVariants.{Nanoseconds, Microseconds, Milliseconds};
+ghost use Rattle.plan_types.specs.declared.dtype.TimeUnit.TheVariants.{Nanoseconds, Milliseconds};
 ghost use Rattle.plan_types.specs.declared.dtype.DataType.TheVariants.{Null, Boolean, Int8, Int16, Int32, Int64, UInt8, UInt16, UInt32, UInt64, String, Date, Time, Datetime, Duration};
 
 /// Which types there is a cast to: those of the table, each type to itself among them.
 pub fn cast_pairs()
-    ensures own_type { list_all (λ type. can_cast (ty type) (ty type)) (Null ∷ Boolean ∷ Int8 ∷ Int16 ∷ Int32 ∷ Int64 ∷ UInt8 ∷ UInt16 ∷ UInt32 ∷ UInt64 ∷ String ∷ Date ∷ Time ∷ Datetime Nanoseconds ∷ Datetime Microseconds ∷ Datetime Milliseconds ∷ Duration Nanoseconds ∷ Duration Microseconds ∷ Duration Milliseconds ∷ []) ≡ true }
-    ensures null { list_all (can_cast (ty Null)) (map ty (Null ∷ Boolean ∷ Int8 ∷ Int16 ∷ Int32 ∷ Int64 ∷ UInt8 ∷ UInt16 ∷ UInt32 ∷ UInt64 ∷ String ∷ Date ∷ Time ∷ Datetime Nanoseconds ∷ Datetime Microseconds ∷ Datetime Milliseconds ∷ Duration Nanoseconds ∷ Duration Microseconds ∷ Duration Milliseconds ∷ [])) ≡ true }
+    ensures own_type { (unit : TimeUnit) → list_all (λ type. can_cast (ty type) (ty type)) (Null ∷ Boolean ∷ Int8 ∷ Int16 ∷ Int32 ∷ Int64 ∷ UInt8 ∷ UInt16 ∷ UInt32 ∷ UInt64 ∷ String ∷ Date ∷ Time ∷ Datetime unit ∷ Duration unit ∷ []) ≡ true }
+    ensures null { (unit : TimeUnit) → list_all (can_cast (ty Null)) (map ty (Null ∷ Boolean ∷ Int8 ∷ Int16 ∷ Int32 ∷ Int64 ∷ UInt8 ∷ UInt16 ∷ UInt32 ∷ UInt64 ∷ String ∷ Date ∷ Time ∷ Datetime unit ∷ Duration unit ∷ [])) ≡ true }
     ensures int8 { list_all (can_cast (ty Int8)) (map ty (Int8 ∷ Int16 ∷ Int32 ∷ Int64 ∷ UInt8 ∷ UInt16 ∷ UInt32 ∷ UInt64 ∷ Boolean ∷ String ∷ [])) ≡ true }
     ensures int16 { list_all (can_cast (ty Int16)) (map ty (Int8 ∷ Int16 ∷ Int32 ∷ Int64 ∷ UInt8 ∷ UInt16 ∷ UInt32 ∷ UInt64 ∷ Boolean ∷ String ∷ [])) ≡ true }
     ensures int32 { list_all (can_cast (ty Int32)) (map ty (Int8 ∷ Int16 ∷ Int32 ∷ Int64 ∷ UInt8 ∷ UInt16 ∷ UInt32 ∷ UInt64 ∷ Boolean ∷ String ∷ [])) ≡ true }
@@ -25,48 +26,40 @@ pub fn cast_pairs()
     ensures uint64 { list_all (can_cast (ty UInt64)) (map ty (Int8 ∷ Int16 ∷ Int32 ∷ Int64 ∷ UInt8 ∷ UInt16 ∷ UInt32 ∷ UInt64 ∷ Boolean ∷ String ∷ [])) ≡ true }
     ensures boolean { list_all (can_cast (ty Boolean)) (map ty (Int8 ∷ Int16 ∷ Int32 ∷ Int64 ∷ UInt8 ∷ UInt16 ∷ UInt32 ∷ UInt64 ∷ String ∷ [])) ≡ true }
     ensures text { list_all (can_cast (ty String)) (map ty (Int8 ∷ Int16 ∷ Int32 ∷ Int64 ∷ UInt8 ∷ UInt16 ∷ UInt32 ∷ UInt64 ∷ [])) ≡ true }
-    ensures date { list_all (can_cast (ty Date)) (map ty (Datetime Nanoseconds ∷ Datetime Microseconds ∷ Datetime Milliseconds ∷ Int64 ∷ [])) ≡ true }
+    ensures date { (unit : TimeUnit) → list_all (can_cast (ty Date)) (map ty (Datetime unit ∷ Int64 ∷ [])) ≡ true }
     ensures time { can_cast (ty Time) (ty Int64) ≡ true }
-    ensures datetime_in_nanoseconds { list_all (can_cast (ty (Datetime Nanoseconds))) (map ty (Date ∷ Datetime Nanoseconds ∷ Datetime Microseconds ∷ Datetime Milliseconds ∷ Int64 ∷ [])) ≡ true }
-    ensures datetime_in_microseconds { list_all (can_cast (ty (Datetime Microseconds))) (map ty (Date ∷ Datetime Nanoseconds ∷ Datetime Microseconds ∷ Datetime Milliseconds ∷ Int64 ∷ [])) ≡ true }
-    ensures datetime_in_milliseconds { list_all (can_cast (ty (Datetime Milliseconds))) (map ty (Date ∷ Datetime Nanoseconds ∷ Datetime Microseconds ∷ Datetime Milliseconds ∷ Int64 ∷ [])) ≡ true }
-    ensures duration_in_nanoseconds { list_all (can_cast (ty (Duration Nanoseconds))) (map ty (Duration Nanoseconds ∷ Duration Microseconds ∷ Duration Milliseconds ∷ Int64 ∷ [])) ≡ true }
-    ensures duration_in_microseconds { list_all (can_cast (ty (Duration Microseconds))) (map ty (Duration Nanoseconds ∷ Duration Microseconds ∷ Duration Milliseconds ∷ Int64 ∷ [])) ≡ true }
-    ensures duration_in_milliseconds { list_all (can_cast (ty (Duration Milliseconds))) (map ty (Duration Nanoseconds ∷ Duration Microseconds ∷ Duration Milliseconds ∷ Int64 ∷ [])) ≡ true }
-    ensures times_of_numbers { list_all (can_cast (ty Int64)) (map ty (Date ∷ Time ∷ Datetime Nanoseconds ∷ Datetime Microseconds ∷ Datetime Milliseconds ∷ Duration Nanoseconds ∷ Duration Microseconds ∷ Duration Milliseconds ∷ [])) ≡ true }
+    ensures datetime { (unit other : TimeUnit) → list_all (can_cast (ty (Datetime unit))) (map ty (Date ∷ Datetime other ∷ Int64 ∷ [])) ≡ true }
+    ensures duration { (unit other : TimeUnit) → list_all (can_cast (ty (Duration unit))) (map ty (Duration other ∷ Int64 ∷ [])) ≡ true }
+    ensures times_of_numbers { (unit : TimeUnit) → list_all (can_cast (ty Int64)) (map ty (Date ∷ Time ∷ Datetime unit ∷ Duration unit ∷ [])) ≡ true }
 {}
 
 /// There is no other cast: only null is cast to the type of null, only numbers of Int64 are cast to times, and nothing is
 /// cast to the type of a number without one.
 pub fn pairs_without_a_cast()
-    ensures to_null { list_any (λ type. can_cast (ty type) (ty Null)) (Boolean ∷ Int8 ∷ Int16 ∷ Int32 ∷ Int64 ∷ UInt8 ∷ UInt16 ∷ UInt32 ∷ UInt64 ∷ String ∷ Date ∷ Time ∷ Datetime Nanoseconds ∷ Datetime Microseconds ∷ Datetime Milliseconds ∷ Duration Nanoseconds ∷ Duration Microseconds ∷ Duration Milliseconds ∷ []) ≡ false }
-    ensures to_untyped { list_any (λ type. can_cast (ty type) (Untyped (pos 5))) (Null ∷ Boolean ∷ Int8 ∷ Int16 ∷ Int32 ∷ Int64 ∷ UInt8 ∷ UInt16 ∷ UInt32 ∷ UInt64 ∷ String ∷ Date ∷ Time ∷ Datetime Nanoseconds ∷ Datetime Microseconds ∷ Datetime Milliseconds ∷ Duration Nanoseconds ∷ Duration Microseconds ∷ Duration Milliseconds ∷ []) ≡ false }
-    ensures from_untyped { list_any (can_cast (Untyped (pos 5))) (Untyped (pos 5) ∷ map ty (Null ∷ Boolean ∷ Int8 ∷ Int16 ∷ Int32 ∷ Int64 ∷ UInt8 ∷ UInt16 ∷ UInt32 ∷ UInt64 ∷ String ∷ Date ∷ Time ∷ Datetime Nanoseconds ∷ Datetime Microseconds ∷ Datetime Milliseconds ∷ Duration Nanoseconds ∷ Duration Microseconds ∷ Duration Milliseconds ∷ [])) ≡ false }
-    ensures boolean { list_any (can_cast (ty Boolean)) (map ty (Date ∷ Time ∷ Datetime Nanoseconds ∷ Datetime Microseconds ∷ Datetime Milliseconds ∷ Duration Nanoseconds ∷ Duration Microseconds ∷ Duration Milliseconds ∷ [])) ≡ false }
-    ensures text { list_any (can_cast (ty String)) (map ty (Boolean ∷ Date ∷ Time ∷ Datetime Nanoseconds ∷ Datetime Microseconds ∷ Datetime Milliseconds ∷ Duration Nanoseconds ∷ Duration Microseconds ∷ Duration Milliseconds ∷ [])) ≡ false }
-    ensures int8 { list_any (can_cast (ty Int8)) (map ty (Date ∷ Time ∷ Datetime Nanoseconds ∷ Datetime Microseconds ∷ Datetime Milliseconds ∷ Duration Nanoseconds ∷ Duration Microseconds ∷ Duration Milliseconds ∷ [])) ≡ false }
-    ensures int16 { list_any (can_cast (ty Int16)) (map ty (Date ∷ Time ∷ Datetime Nanoseconds ∷ Datetime Microseconds ∷ Datetime Milliseconds ∷ Duration Nanoseconds ∷ Duration Microseconds ∷ Duration Milliseconds ∷ [])) ≡ false }
-    ensures int32 { list_any (can_cast (ty Int32)) (map ty (Date ∷ Time ∷ Datetime Nanoseconds ∷ Datetime Microseconds ∷ Datetime Milliseconds ∷ Duration Nanoseconds ∷ Duration Microseconds ∷ Duration Milliseconds ∷ [])) ≡ false }
-    ensures uint8 { list_any (can_cast (ty UInt8)) (map ty (Date ∷ Time ∷ Datetime Nanoseconds ∷ Datetime Microseconds ∷ Datetime Milliseconds ∷ Duration Nanoseconds ∷ Duration Microseconds ∷ Duration Milliseconds ∷ [])) ≡ false }
-    ensures uint16 { list_any (can_cast (ty UInt16)) (map ty (Date ∷ Time ∷ Datetime Nanoseconds ∷ Datetime Microseconds ∷ Datetime Milliseconds ∷ Duration Nanoseconds ∷ Duration Microseconds ∷ Duration Milliseconds ∷ [])) ≡ false }
-    ensures uint32 { list_any (can_cast (ty UInt32)) (map ty (Date ∷ Time ∷ Datetime Nanoseconds ∷ Datetime Microseconds ∷ Datetime Milliseconds ∷ Duration Nanoseconds ∷ Duration Microseconds ∷ Duration Milliseconds ∷ [])) ≡ false }
-    ensures uint64 { list_any (can_cast (ty UInt64)) (map ty (Date ∷ Time ∷ Datetime Nanoseconds ∷ Datetime Microseconds ∷ Datetime Milliseconds ∷ Duration Nanoseconds ∷ Duration Microseconds ∷ Duration Milliseconds ∷ [])) ≡ false }
-    ensures date { list_any (can_cast (ty Date)) (map ty (Boolean ∷ Int8 ∷ Int16 ∷ Int32 ∷ UInt8 ∷ UInt16 ∷ UInt32 ∷ UInt64 ∷ String ∷ Time ∷ Duration Nanoseconds ∷ Duration Microseconds ∷ Duration Milliseconds ∷ [])) ≡ false }
-    ensures time { list_any (can_cast (ty Time)) (map ty (Boolean ∷ Int8 ∷ Int16 ∷ Int32 ∷ UInt8 ∷ UInt16 ∷ UInt32 ∷ UInt64 ∷ String ∷ Date ∷ Datetime Nanoseconds ∷ Datetime Microseconds ∷ Datetime Milliseconds ∷ Duration Nanoseconds ∷ Duration Microseconds ∷ Duration Milliseconds ∷ [])) ≡ false }
-    ensures datetime_in_nanoseconds { list_any (can_cast (ty (Datetime Nanoseconds))) (map ty (Boolean ∷ Int8 ∷ Int16 ∷ Int32 ∷ UInt8 ∷ UInt16 ∷ UInt32 ∷ UInt64 ∷ String ∷ Time ∷ Duration Nanoseconds ∷ Duration Microseconds ∷ Duration Milliseconds ∷ [])) ≡ false }
-    ensures datetime_in_microseconds { list_any (can_cast (ty (Datetime Microseconds))) (map ty (Boolean ∷ Int8 ∷ Int16 ∷ Int32 ∷ UInt8 ∷ UInt16 ∷ UInt32 ∷ UInt64 ∷ String ∷ Time ∷ Duration Nanoseconds ∷ Duration Microseconds ∷ Duration Milliseconds ∷ [])) ≡ false }
-    ensures datetime_in_milliseconds { list_any (can_cast (ty (Datetime Milliseconds))) (map ty (Boolean ∷ Int8 ∷ Int16 ∷ Int32 ∷ UInt8 ∷ UInt16 ∷ UInt32 ∷ UInt64 ∷ String ∷ Time ∷ Duration Nanoseconds ∷ Duration Microseconds ∷ Duration Milliseconds ∷ [])) ≡ false }
-    ensures duration_in_nanoseconds { list_any (can_cast (ty (Duration Nanoseconds))) (map ty (Boolean ∷ Int8 ∷ Int16 ∷ Int32 ∷ UInt8 ∷ UInt16 ∷ UInt32 ∷ UInt64 ∷ String ∷ Date ∷ Time ∷ Datetime Nanoseconds ∷ Datetime Microseconds ∷ Datetime Milliseconds ∷ [])) ≡ false }
-    ensures duration_in_microseconds { list_any (can_cast (ty (Duration Microseconds))) (map ty (Boolean ∷ Int8 ∷ Int16 ∷ Int32 ∷ UInt8 ∷ UInt16 ∷ UInt32 ∷ UInt64 ∷ String ∷ Date ∷ Time ∷ Datetime Nanoseconds ∷ Datetime Microseconds ∷ Datetime Milliseconds ∷ [])) ≡ false }
-    ensures duration_in_milliseconds { list_any (can_cast (ty (Duration Milliseconds))) (map ty (Boolean ∷ Int8 ∷ Int16 ∷ Int32 ∷ UInt8 ∷ UInt16 ∷ UInt32 ∷ UInt64 ∷ String ∷ Date ∷ Time ∷ Datetime Nanoseconds ∷ Datetime Microseconds ∷ Datetime Milliseconds ∷ [])) ≡ false }
+    ensures to_null { (unit : TimeUnit) → list_any (λ type. can_cast (ty type) (ty Null)) (Boolean ∷ Int8 ∷ Int16 ∷ Int32 ∷ Int64 ∷ UInt8 ∷ UInt16 ∷ UInt32 ∷ UInt64 ∷ String ∷ Date ∷ Time ∷ Datetime unit ∷ Duration unit ∷ []) ≡ false }
+    ensures to_untyped { (unit : TimeUnit) → list_any (λ type. can_cast (ty type) (Untyped (pos 5))) (Null ∷ Boolean ∷ Int8 ∷ Int16 ∷ Int32 ∷ Int64 ∷ UInt8 ∷ UInt16 ∷ UInt32 ∷ UInt64 ∷ String ∷ Date ∷ Time ∷ Datetime unit ∷ Duration unit ∷ []) ≡ false }
+    ensures from_untyped { (unit : TimeUnit) → list_any (can_cast (Untyped (pos 5))) (Untyped (pos 5) ∷ map ty (Null ∷ Boolean ∷ Int8 ∷ Int16 ∷ Int32 ∷ Int64 ∷ UInt8 ∷ UInt16 ∷ UInt32 ∷ UInt64 ∷ String ∷ Date ∷ Time ∷ Datetime unit ∷ Duration unit ∷ [])) ≡ false }
+    ensures boolean { (unit : TimeUnit) → list_any (can_cast (ty Boolean)) (map ty (Date ∷ Time ∷ Datetime unit ∷ Duration unit ∷ [])) ≡ false }
+    ensures text { (unit : TimeUnit) → list_any (can_cast (ty String)) (map ty (Boolean ∷ Date ∷ Time ∷ Datetime unit ∷ Duration unit ∷ [])) ≡ false }
+    ensures int8 { (unit : TimeUnit) → list_any (can_cast (ty Int8)) (map ty (Date ∷ Time ∷ Datetime unit ∷ Duration unit ∷ [])) ≡ false }
+    ensures int16 { (unit : TimeUnit) → list_any (can_cast (ty Int16)) (map ty (Date ∷ Time ∷ Datetime unit ∷ Duration unit ∷ [])) ≡ false }
+    ensures int32 { (unit : TimeUnit) → list_any (can_cast (ty Int32)) (map ty (Date ∷ Time ∷ Datetime unit ∷ Duration unit ∷ [])) ≡ false }
+    ensures uint8 { (unit : TimeUnit) → list_any (can_cast (ty UInt8)) (map ty (Date ∷ Time ∷ Datetime unit ∷ Duration unit ∷ [])) ≡ false }
+    ensures uint16 { (unit : TimeUnit) → list_any (can_cast (ty UInt16)) (map ty (Date ∷ Time ∷ Datetime unit ∷ Duration unit ∷ [])) ≡ false }
+    ensures uint32 { (unit : TimeUnit) → list_any (can_cast (ty UInt32)) (map ty (Date ∷ Time ∷ Datetime unit ∷ Duration unit ∷ [])) ≡ false }
+    ensures uint64 { (unit : TimeUnit) → list_any (can_cast (ty UInt64)) (map ty (Date ∷ Time ∷ Datetime unit ∷ Duration unit ∷ [])) ≡ false }
+    ensures date { (unit : TimeUnit) → list_any (can_cast (ty Date)) (map ty (Boolean ∷ Int8 ∷ Int16 ∷ Int32 ∷ UInt8 ∷ UInt16 ∷ UInt32 ∷ UInt64 ∷ String ∷ Time ∷ Duration unit ∷ [])) ≡ false }
+    ensures time { (unit : TimeUnit) → list_any (can_cast (ty Time)) (map ty (Boolean ∷ Int8 ∷ Int16 ∷ Int32 ∷ UInt8 ∷ UInt16 ∷ UInt32 ∷ UInt64 ∷ String ∷ Date ∷ Datetime unit ∷ Duration unit ∷ [])) ≡ false }
+    ensures datetime { (unit other : TimeUnit) → list_any (can_cast (ty (Datetime unit))) (map ty (Boolean ∷ Int8 ∷ Int16 ∷ Int32 ∷ UInt8 ∷ UInt16 ∷ UInt32 ∷ UInt64 ∷ String ∷ Time ∷ Duration other ∷ [])) ≡ false }
+    ensures duration { (unit other : TimeUnit) → list_any (can_cast (ty (Duration unit))) (map ty (Boolean ∷ Int8 ∷ Int16 ∷ Int32 ∷ UInt8 ∷ UInt16 ∷ UInt32 ∷ UInt64 ∷ String ∷ Date ∷ Time ∷ Datetime other ∷ [])) ≡ false }
 {}
 
 /// What has no place in the target fails where the cast is strict, and else is null. The examples of casts say
 /// `no_place options` for this.
 pub fn values_without_a_place()
-    ensures each { map no_place (Strict ∷ NonStrict ∷ Overflowing ∷ []) ≡ Fails ∷ Gives NullValue ∷ Gives NullValue ∷ [] }
+    ensures modes { map no_place (Strict ∷ NonStrict ∷ Overflowing ∷ []) ≡ Fails ∷ Gives NullValue ∷ Gives NullValue ∷ [] }
     ensures text { map (cast (TextValue (codes "128")) (ty String) (ty Int8)) (Strict ∷ NonStrict ∷ Overflowing ∷ []) ≡ Fails ∷ Gives NullValue ∷ Gives NullValue ∷ [] }
-    ensures moment { map (cast (IntValue (pos 2147483648)) (ty Int64) (ty Date)) (Strict ∷ NonStrict ∷ Overflowing ∷ []) ≡ Fails ∷ Gives NullValue ∷ Gives NullValue ∷ [] }
+    ensures day { map (cast (IntValue (pos 2147483648)) (ty Int64) (ty Date)) (Strict ∷ NonStrict ∷ Overflowing ∷ []) ≡ Fails ∷ Gives NullValue ∷ Gives NullValue ∷ [] }
 {}
 
 /// Null stays null in each cast.

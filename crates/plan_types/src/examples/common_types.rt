@@ -1,21 +1,20 @@
 //! Worked examples on common types.
 
 ghost use Rattle.std.specs.Prelude.{◌≡◌, [], ◌∷◌, pos, map, Some, None};
-ghost use Rattle.plan_types.specs.Types.{Untyped, ty};
+ghost use Rattle.plan_types.specs.Types.{Ty, Untyped, ty};
 ghost use Rattle.plan_types.specs.Supertypes.{supertype, upcast};
+ghost use Rattle.plan_types.specs.declared.dtype.TimeUnit.{TimeUnit};
 ghost use Rattle.plan_types.specs.declared.dtype.TimeUnit.TheVariants.{Nanoseconds, Microseconds, Milliseconds};
 ghost use Rattle.plan_types.specs.declared.dtype.DataType.TheVariants.{Null, Boolean, Int8, Int16, Int32, Int64, UInt8, UInt16, UInt32, UInt64, String, Date, Time, Datetime, Duration};
 
 /// Each type has itself with itself, and null is of any type.
 pub fn common_types_with_itself_and_null()
-    ensures itself { map (λ type. supertype (ty type) (ty type)) (Null ∷ Boolean ∷ Int8 ∷ Int16 ∷ Int32 ∷ Int64 ∷ UInt8 ∷ UInt16 ∷ UInt32 ∷ UInt64 ∷ String ∷ Date ∷ Time ∷ Datetime Nanoseconds ∷ Datetime Microseconds ∷ Datetime Milliseconds ∷ Duration Nanoseconds ∷ Duration Microseconds ∷ Duration Milliseconds ∷ [])
-        ≡ Some (ty Null) ∷ Some (ty Boolean) ∷ Some (ty Int8) ∷ Some (ty Int16) ∷ Some (ty Int32) ∷ Some (ty Int64) ∷ Some (ty UInt8) ∷ Some (ty UInt16) ∷ Some (ty UInt32) ∷ Some (ty UInt64) ∷ Some (ty String) ∷ Some (ty Date) ∷ Some (ty Time) ∷ Some (ty (Datetime Nanoseconds)) ∷ Some (ty (Datetime Microseconds)) ∷ Some (ty (Datetime Milliseconds)) ∷ Some (ty (Duration Nanoseconds)) ∷ Some (ty (Duration Microseconds)) ∷ Some (ty (Duration Milliseconds)) ∷ [] }
-    ensures null_left { map (λ type. supertype (ty Null) (ty type)) (Null ∷ Boolean ∷ Int8 ∷ Int16 ∷ Int32 ∷ Int64 ∷ UInt8 ∷ UInt16 ∷ UInt32 ∷ UInt64 ∷ String ∷ Date ∷ Time ∷ Datetime Nanoseconds ∷ Datetime Microseconds ∷ Datetime Milliseconds ∷ Duration Nanoseconds ∷ Duration Microseconds ∷ Duration Milliseconds ∷ [])
-        ≡ Some (ty Null) ∷ Some (ty Boolean) ∷ Some (ty Int8) ∷ Some (ty Int16) ∷ Some (ty Int32) ∷ Some (ty Int64) ∷ Some (ty UInt8) ∷ Some (ty UInt16) ∷ Some (ty UInt32) ∷ Some (ty UInt64) ∷ Some (ty String) ∷ Some (ty Date) ∷ Some (ty Time) ∷ Some (ty (Datetime Nanoseconds)) ∷ Some (ty (Datetime Microseconds)) ∷ Some (ty (Datetime Milliseconds)) ∷ Some (ty (Duration Nanoseconds)) ∷ Some (ty (Duration Microseconds)) ∷ Some (ty (Duration Milliseconds)) ∷ [] }
-    ensures null_right { map (λ type. supertype (ty type) (ty Null)) (Null ∷ Boolean ∷ Int8 ∷ Int16 ∷ Int32 ∷ Int64 ∷ UInt8 ∷ UInt16 ∷ UInt32 ∷ UInt64 ∷ String ∷ Date ∷ Time ∷ Datetime Nanoseconds ∷ Datetime Microseconds ∷ Datetime Milliseconds ∷ Duration Nanoseconds ∷ Duration Microseconds ∷ Duration Milliseconds ∷ [])
-        ≡ Some (ty Null) ∷ Some (ty Boolean) ∷ Some (ty Int8) ∷ Some (ty Int16) ∷ Some (ty Int32) ∷ Some (ty Int64) ∷ Some (ty UInt8) ∷ Some (ty UInt16) ∷ Some (ty UInt32) ∷ Some (ty UInt64) ∷ Some (ty String) ∷ Some (ty Date) ∷ Some (ty Time) ∷ Some (ty (Datetime Nanoseconds)) ∷ Some (ty (Datetime Microseconds)) ∷ Some (ty (Datetime Milliseconds)) ∷ Some (ty (Duration Nanoseconds)) ∷ Some (ty (Duration Microseconds)) ∷ Some (ty (Duration Milliseconds)) ∷ [] }
-    ensures untyped { supertype (ty Null) (Untyped (pos 5)) ≡ Some (Untyped (pos 5)) }
-    ensures untyped_left { supertype (Untyped (pos 5)) (ty Null) ≡ Some (Untyped (pos 5)) }
+    ensures itself { map (λ type. supertype (ty type) (ty type)) (Null ∷ Boolean ∷ Int8 ∷ Int16 ∷ Int32 ∷ Int64 ∷ UInt8 ∷ UInt16 ∷ UInt32 ∷ UInt64 ∷ String ∷ Date ∷ Time ∷ [])
+        ≡ Some (ty Null) ∷ Some (ty Boolean) ∷ Some (ty Int8) ∷ Some (ty Int16) ∷ Some (ty Int32) ∷ Some (ty Int64) ∷ Some (ty UInt8) ∷ Some (ty UInt16) ∷ Some (ty UInt32) ∷ Some (ty UInt64) ∷ Some (ty String) ∷ Some (ty Date) ∷ Some (ty Time) ∷ [] }
+    ensures null_left { (type : Ty) → supertype (ty Null) type ≡ Some type }
+    ensures null_right { (unit : TimeUnit) → map (λ type. supertype (ty type) (ty Null)) (Null ∷ Boolean ∷ Int8 ∷ Int16 ∷ Int32 ∷ Int64 ∷ UInt8 ∷ UInt16 ∷ UInt32 ∷ UInt64 ∷ String ∷ Date ∷ Time ∷ Datetime unit ∷ Duration unit ∷ [])
+        ≡ Some (ty Null) ∷ Some (ty Boolean) ∷ Some (ty Int8) ∷ Some (ty Int16) ∷ Some (ty Int32) ∷ Some (ty Int64) ∷ Some (ty UInt8) ∷ Some (ty UInt16) ∷ Some (ty UInt32) ∷ Some (ty UInt64) ∷ Some (ty String) ∷ Some (ty Date) ∷ Some (ty Time) ∷ Some (ty (Datetime unit)) ∷ Some (ty (Duration unit)) ∷ [] }
+    ensures untyped { supertype (Untyped (pos 5)) (ty Null) ≡ Some (Untyped (pos 5)) }
 {}
 
 /// Types of one sign have the wider of the two.
@@ -66,18 +65,14 @@ pub fn common_types_with_texts()
         ≡ Some (ty String) ∷ Some (ty String) ∷ Some (ty String) ∷ Some (ty String) ∷ Some (ty String) ∷ Some (ty String) ∷ Some (ty String) ∷ Some (ty String) ∷ Some (ty String) ∷ [] }
     ensures text_right { map (λ type. supertype (ty type) (ty String)) (Boolean ∷ Int8 ∷ Int16 ∷ Int32 ∷ Int64 ∷ UInt8 ∷ UInt16 ∷ UInt32 ∷ UInt64 ∷ [])
         ≡ Some (ty String) ∷ Some (ty String) ∷ Some (ty String) ∷ Some (ty String) ∷ Some (ty String) ∷ Some (ty String) ∷ Some (ty String) ∷ Some (ty String) ∷ Some (ty String) ∷ [] }
-    ensures no_times { map (λ type. supertype (ty String) (ty type)) (Date ∷ Time ∷ Datetime Nanoseconds ∷ Datetime Microseconds ∷ Datetime Milliseconds ∷ Duration Nanoseconds ∷ Duration Microseconds ∷ Duration Milliseconds ∷ [])
-        ≡ None ∷ None ∷ None ∷ None ∷ None ∷ None ∷ None ∷ None ∷ [] }
-    ensures no_times_left { map (λ type. supertype (ty type) (ty String)) (Date ∷ Time ∷ Datetime Nanoseconds ∷ Datetime Microseconds ∷ Datetime Milliseconds ∷ Duration Nanoseconds ∷ Duration Microseconds ∷ Duration Milliseconds ∷ [])
-        ≡ None ∷ None ∷ None ∷ None ∷ None ∷ None ∷ None ∷ None ∷ [] }
+    ensures no_times { (unit : TimeUnit) → map (λ type. supertype (ty String) (ty type)) (Date ∷ Time ∷ Datetime unit ∷ Duration unit ∷ []) ≡ None ∷ None ∷ None ∷ None ∷ [] }
+    ensures no_times_left { (unit : TimeUnit) → map (λ type. supertype (ty type) (ty String)) (Date ∷ Time ∷ Datetime unit ∷ Duration unit ∷ []) ≡ None ∷ None ∷ None ∷ None ∷ [] }
 {}
 
 /// Days beside moments are moments in their unit, and two types of moments, or of spans, have the coarser unit.
 pub fn common_types_of_times()
-    ensures date_left { map (λ type. supertype (ty Date) (ty type)) (Datetime Nanoseconds ∷ Datetime Microseconds ∷ Datetime Milliseconds ∷ [])
-        ≡ Some (ty (Datetime Nanoseconds)) ∷ Some (ty (Datetime Microseconds)) ∷ Some (ty (Datetime Milliseconds)) ∷ [] }
-    ensures date_right { map (λ type. supertype (ty type) (ty Date)) (Datetime Nanoseconds ∷ Datetime Microseconds ∷ Datetime Milliseconds ∷ [])
-        ≡ Some (ty (Datetime Nanoseconds)) ∷ Some (ty (Datetime Microseconds)) ∷ Some (ty (Datetime Milliseconds)) ∷ [] }
+    ensures date_left { (unit : TimeUnit) → supertype (ty Date) (ty (Datetime unit)) ≡ Some (ty (Datetime unit)) }
+    ensures date_right { (unit : TimeUnit) → supertype (ty (Datetime unit)) (ty Date) ≡ Some (ty (Datetime unit)) }
     ensures datetimes_beside_nanoseconds { map (λ unit. supertype (ty (Datetime Nanoseconds)) (ty (Datetime unit))) (Nanoseconds ∷ Microseconds ∷ Milliseconds ∷ [])
         ≡ Some (ty (Datetime Nanoseconds)) ∷ Some (ty (Datetime Microseconds)) ∷ Some (ty (Datetime Milliseconds)) ∷ [] }
     ensures datetimes_beside_microseconds { map (λ unit. supertype (ty (Datetime Microseconds)) (ty (Datetime unit))) (Nanoseconds ∷ Microseconds ∷ Milliseconds ∷ [])
@@ -94,22 +89,22 @@ pub fn common_types_of_times()
 
 /// Other types of time have none with one another, nor has any of them one with truth values or integers.
 pub fn times_without_a_common_type()
-    ensures date_left { map (λ type. supertype (ty Date) (ty type)) (Time ∷ Duration Nanoseconds ∷ Duration Microseconds ∷ Duration Milliseconds ∷ []) ≡ None ∷ None ∷ None ∷ None ∷ [] }
-    ensures date_right { map (λ type. supertype (ty type) (ty Date)) (Time ∷ Duration Nanoseconds ∷ Duration Microseconds ∷ Duration Milliseconds ∷ []) ≡ None ∷ None ∷ None ∷ None ∷ [] }
-    ensures time_left { map (λ type. supertype (ty Time) (ty type)) (Date ∷ Datetime Nanoseconds ∷ Datetime Microseconds ∷ Datetime Milliseconds ∷ Duration Nanoseconds ∷ Duration Microseconds ∷ Duration Milliseconds ∷ []) ≡ None ∷ None ∷ None ∷ None ∷ None ∷ None ∷ None ∷ [] }
-    ensures time_right { map (λ type. supertype (ty type) (ty Time)) (Date ∷ Datetime Nanoseconds ∷ Datetime Microseconds ∷ Datetime Milliseconds ∷ Duration Nanoseconds ∷ Duration Microseconds ∷ Duration Milliseconds ∷ []) ≡ None ∷ None ∷ None ∷ None ∷ None ∷ None ∷ None ∷ [] }
-    ensures datetime_left { map (λ type. supertype (ty (Datetime Microseconds)) (ty type)) (Time ∷ Duration Nanoseconds ∷ Duration Microseconds ∷ Duration Milliseconds ∷ []) ≡ None ∷ None ∷ None ∷ None ∷ [] }
-    ensures datetime_right { map (λ type. supertype (ty type) (ty (Datetime Microseconds))) (Time ∷ Duration Nanoseconds ∷ Duration Microseconds ∷ Duration Milliseconds ∷ []) ≡ None ∷ None ∷ None ∷ None ∷ [] }
-    ensures duration_left { map (λ type. supertype (ty (Duration Microseconds)) (ty type)) (Date ∷ Time ∷ Datetime Nanoseconds ∷ Datetime Microseconds ∷ Datetime Milliseconds ∷ []) ≡ None ∷ None ∷ None ∷ None ∷ None ∷ [] }
-    ensures duration_right { map (λ type. supertype (ty type) (ty (Duration Microseconds))) (Date ∷ Time ∷ Datetime Nanoseconds ∷ Datetime Microseconds ∷ Datetime Milliseconds ∷ []) ≡ None ∷ None ∷ None ∷ None ∷ None ∷ [] }
-    ensures boolean_left { map (λ type. supertype (ty Boolean) (ty type)) (Date ∷ Time ∷ Datetime Nanoseconds ∷ Datetime Microseconds ∷ Datetime Milliseconds ∷ Duration Nanoseconds ∷ Duration Microseconds ∷ Duration Milliseconds ∷ []) ≡ None ∷ None ∷ None ∷ None ∷ None ∷ None ∷ None ∷ None ∷ [] }
-    ensures boolean_right { map (λ type. supertype (ty type) (ty Boolean)) (Date ∷ Time ∷ Datetime Nanoseconds ∷ Datetime Microseconds ∷ Datetime Milliseconds ∷ Duration Nanoseconds ∷ Duration Microseconds ∷ Duration Milliseconds ∷ []) ≡ None ∷ None ∷ None ∷ None ∷ None ∷ None ∷ None ∷ None ∷ [] }
-    ensures int32_left { map (λ type. supertype (ty Int32) (ty type)) (Date ∷ Time ∷ Datetime Nanoseconds ∷ Datetime Microseconds ∷ Datetime Milliseconds ∷ Duration Nanoseconds ∷ Duration Microseconds ∷ Duration Milliseconds ∷ []) ≡ None ∷ None ∷ None ∷ None ∷ None ∷ None ∷ None ∷ None ∷ [] }
-    ensures int32_right { map (λ type. supertype (ty type) (ty Int32)) (Date ∷ Time ∷ Datetime Nanoseconds ∷ Datetime Microseconds ∷ Datetime Milliseconds ∷ Duration Nanoseconds ∷ Duration Microseconds ∷ Duration Milliseconds ∷ []) ≡ None ∷ None ∷ None ∷ None ∷ None ∷ None ∷ None ∷ None ∷ [] }
-    ensures int64_left { map (λ type. supertype (ty Int64) (ty type)) (Date ∷ Time ∷ Datetime Nanoseconds ∷ Datetime Microseconds ∷ Datetime Milliseconds ∷ Duration Nanoseconds ∷ Duration Microseconds ∷ Duration Milliseconds ∷ []) ≡ None ∷ None ∷ None ∷ None ∷ None ∷ None ∷ None ∷ None ∷ [] }
-    ensures int64_right { map (λ type. supertype (ty type) (ty Int64)) (Date ∷ Time ∷ Datetime Nanoseconds ∷ Datetime Microseconds ∷ Datetime Milliseconds ∷ Duration Nanoseconds ∷ Duration Microseconds ∷ Duration Milliseconds ∷ []) ≡ None ∷ None ∷ None ∷ None ∷ None ∷ None ∷ None ∷ None ∷ [] }
-    ensures uint64_left { map (λ type. supertype (ty UInt64) (ty type)) (Date ∷ Time ∷ Datetime Nanoseconds ∷ Datetime Microseconds ∷ Datetime Milliseconds ∷ Duration Nanoseconds ∷ Duration Microseconds ∷ Duration Milliseconds ∷ []) ≡ None ∷ None ∷ None ∷ None ∷ None ∷ None ∷ None ∷ None ∷ [] }
-    ensures uint64_right { map (λ type. supertype (ty type) (ty UInt64)) (Date ∷ Time ∷ Datetime Nanoseconds ∷ Datetime Microseconds ∷ Datetime Milliseconds ∷ Duration Nanoseconds ∷ Duration Microseconds ∷ Duration Milliseconds ∷ []) ≡ None ∷ None ∷ None ∷ None ∷ None ∷ None ∷ None ∷ None ∷ [] }
+    ensures date_left { (unit : TimeUnit) → map (λ type. supertype (ty Date) (ty type)) (Time ∷ Duration unit ∷ []) ≡ None ∷ None ∷ [] }
+    ensures date_right { (unit : TimeUnit) → map (λ type. supertype (ty type) (ty Date)) (Time ∷ Duration unit ∷ []) ≡ None ∷ None ∷ [] }
+    ensures time_left { (unit : TimeUnit) → map (λ type. supertype (ty Time) (ty type)) (Date ∷ Datetime unit ∷ Duration unit ∷ []) ≡ None ∷ None ∷ None ∷ [] }
+    ensures time_right { (unit : TimeUnit) → map (λ type. supertype (ty type) (ty Time)) (Date ∷ Datetime unit ∷ Duration unit ∷ []) ≡ None ∷ None ∷ None ∷ [] }
+    ensures datetime_left { (unit other : TimeUnit) → map (λ type. supertype (ty (Datetime unit)) (ty type)) (Time ∷ Duration other ∷ []) ≡ None ∷ None ∷ [] }
+    ensures datetime_right { (unit other : TimeUnit) → map (λ type. supertype (ty type) (ty (Datetime unit))) (Time ∷ Duration other ∷ []) ≡ None ∷ None ∷ [] }
+    ensures duration_left { (unit other : TimeUnit) → map (λ type. supertype (ty (Duration unit)) (ty type)) (Date ∷ Time ∷ Datetime other ∷ []) ≡ None ∷ None ∷ None ∷ [] }
+    ensures duration_right { (unit other : TimeUnit) → map (λ type. supertype (ty type) (ty (Duration unit))) (Date ∷ Time ∷ Datetime other ∷ []) ≡ None ∷ None ∷ None ∷ [] }
+    ensures boolean_left { (unit : TimeUnit) → map (λ type. supertype (ty Boolean) (ty type)) (Date ∷ Time ∷ Datetime unit ∷ Duration unit ∷ []) ≡ None ∷ None ∷ None ∷ None ∷ [] }
+    ensures boolean_right { (unit : TimeUnit) → map (λ type. supertype (ty type) (ty Boolean)) (Date ∷ Time ∷ Datetime unit ∷ Duration unit ∷ []) ≡ None ∷ None ∷ None ∷ None ∷ [] }
+    ensures int32_left { (unit : TimeUnit) → map (λ type. supertype (ty Int32) (ty type)) (Date ∷ Time ∷ Datetime unit ∷ Duration unit ∷ []) ≡ None ∷ None ∷ None ∷ None ∷ [] }
+    ensures int32_right { (unit : TimeUnit) → map (λ type. supertype (ty type) (ty Int32)) (Date ∷ Time ∷ Datetime unit ∷ Duration unit ∷ []) ≡ None ∷ None ∷ None ∷ None ∷ [] }
+    ensures int64_left { (unit : TimeUnit) → map (λ type. supertype (ty Int64) (ty type)) (Date ∷ Time ∷ Datetime unit ∷ Duration unit ∷ []) ≡ None ∷ None ∷ None ∷ None ∷ [] }
+    ensures int64_right { (unit : TimeUnit) → map (λ type. supertype (ty type) (ty Int64)) (Date ∷ Time ∷ Datetime unit ∷ Duration unit ∷ []) ≡ None ∷ None ∷ None ∷ None ∷ [] }
+    ensures uint64_left { (unit : TimeUnit) → map (λ type. supertype (ty UInt64) (ty type)) (Date ∷ Time ∷ Datetime unit ∷ Duration unit ∷ []) ≡ None ∷ None ∷ None ∷ None ∷ [] }
+    ensures uint64_right { (unit : TimeUnit) → map (λ type. supertype (ty type) (ty UInt64)) (Date ∷ Time ∷ Datetime unit ∷ Duration unit ∷ []) ≡ None ∷ None ∷ None ∷ None ∷ [] }
 {}
 
 /// Two integer types that differ have their common type, and no other types have one.

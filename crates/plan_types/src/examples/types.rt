@@ -3,6 +3,7 @@
 ghost use Rattle.std.specs.Prelude.{◌≡◌, [], ◌∷◌, pos, neg_ℤ, map, true, false};
 ghost use Rattle.std.specs.List.{list_all, list_any};
 ghost use Rattle.plan_types.specs.Types.{NullType, Truth, Integer, TextType, DateType, TimeType, DatetimeType, DurationType, Untyped, ty, is_known, is_integer, is_signed_integer, is_unsigned_integer, is_text, is_temporal, is_ord, width_of, per_day, coarser, same_type};
+ghost use Rattle.plan_types.specs.declared.dtype.TimeUnit.{TimeUnit};
 ghost use Rattle.plan_types.specs.declared.dtype.TimeUnit.TheVariants.{Nanoseconds, Microseconds, Milliseconds};
 ghost use Rattle.plan_types.specs.declared.dtype.UnknownKind.TheVariants.{Int};
 ghost use Rattle.plan_types.specs.declared.dtype.DataType.TheVariants.{Null, Boolean, Int8, Int16, Int32, Int64, UInt8, UInt16, UInt32, UInt64, String, Date, Time, Datetime, Duration, Unknown};
@@ -35,18 +36,18 @@ pub fn type_examples()
 /// Which types each class has: a number without a type is in none.
 pub fn classes_of_types()
     ensures integer { list_all is_integer (map ty (Int8 ∷ Int16 ∷ Int32 ∷ Int64 ∷ UInt8 ∷ UInt16 ∷ UInt32 ∷ UInt64 ∷ [])) ≡ true }
-    ensures no_integer { list_any is_integer (map ty (Null ∷ Boolean ∷ String ∷ Date ∷ Time ∷ Datetime Nanoseconds ∷ Datetime Microseconds ∷ Datetime Milliseconds ∷ Duration Nanoseconds ∷ Duration Microseconds ∷ Duration Milliseconds ∷ Unknown (Int (pos 1)) ∷ [])) ≡ false }
+    ensures no_integer { (unit : TimeUnit) → list_any is_integer (map ty (Null ∷ Boolean ∷ String ∷ Date ∷ Time ∷ Datetime unit ∷ Duration unit ∷ Unknown (Int (pos 1)) ∷ [])) ≡ false }
     ensures signed_integer { list_all is_signed_integer (map ty (Int8 ∷ Int16 ∷ Int32 ∷ Int64 ∷ [])) ≡ true }
-    ensures no_signed_integer { list_any is_signed_integer (map ty (Null ∷ Boolean ∷ UInt8 ∷ UInt16 ∷ UInt32 ∷ UInt64 ∷ String ∷ Date ∷ Time ∷ Datetime Nanoseconds ∷ Datetime Microseconds ∷ Datetime Milliseconds ∷ Duration Nanoseconds ∷ Duration Microseconds ∷ Duration Milliseconds ∷ Unknown (Int (pos 1)) ∷ [])) ≡ false }
+    ensures no_signed_integer { (unit : TimeUnit) → list_any is_signed_integer (map ty (Null ∷ Boolean ∷ UInt8 ∷ UInt16 ∷ UInt32 ∷ UInt64 ∷ String ∷ Date ∷ Time ∷ Datetime unit ∷ Duration unit ∷ Unknown (Int (pos 1)) ∷ [])) ≡ false }
     ensures unsigned_integer { list_all is_unsigned_integer (map ty (UInt8 ∷ UInt16 ∷ UInt32 ∷ UInt64 ∷ [])) ≡ true }
-    ensures no_unsigned_integer { list_any is_unsigned_integer (map ty (Null ∷ Boolean ∷ Int8 ∷ Int16 ∷ Int32 ∷ Int64 ∷ String ∷ Date ∷ Time ∷ Datetime Nanoseconds ∷ Datetime Microseconds ∷ Datetime Milliseconds ∷ Duration Nanoseconds ∷ Duration Microseconds ∷ Duration Milliseconds ∷ Unknown (Int (pos 1)) ∷ [])) ≡ false }
+    ensures no_unsigned_integer { (unit : TimeUnit) → list_any is_unsigned_integer (map ty (Null ∷ Boolean ∷ Int8 ∷ Int16 ∷ Int32 ∷ Int64 ∷ String ∷ Date ∷ Time ∷ Datetime unit ∷ Duration unit ∷ Unknown (Int (pos 1)) ∷ [])) ≡ false }
     ensures text { list_all is_text (map ty (String ∷ [])) ≡ true }
-    ensures no_text { list_any is_text (map ty (Null ∷ Boolean ∷ Int8 ∷ Int16 ∷ Int32 ∷ Int64 ∷ UInt8 ∷ UInt16 ∷ UInt32 ∷ UInt64 ∷ Date ∷ Time ∷ Datetime Nanoseconds ∷ Datetime Microseconds ∷ Datetime Milliseconds ∷ Duration Nanoseconds ∷ Duration Microseconds ∷ Duration Milliseconds ∷ Unknown (Int (pos 1)) ∷ [])) ≡ false }
-    ensures temporal { list_all is_temporal (map ty (Date ∷ Time ∷ Datetime Nanoseconds ∷ Datetime Microseconds ∷ Datetime Milliseconds ∷ Duration Nanoseconds ∷ Duration Microseconds ∷ Duration Milliseconds ∷ [])) ≡ true }
+    ensures no_text { (unit : TimeUnit) → list_any is_text (map ty (Null ∷ Boolean ∷ Int8 ∷ Int16 ∷ Int32 ∷ Int64 ∷ UInt8 ∷ UInt16 ∷ UInt32 ∷ UInt64 ∷ Date ∷ Time ∷ Datetime unit ∷ Duration unit ∷ Unknown (Int (pos 1)) ∷ [])) ≡ false }
+    ensures temporal { (unit : TimeUnit) → list_all is_temporal (map ty (Date ∷ Time ∷ Datetime unit ∷ Duration unit ∷ [])) ≡ true }
     ensures no_temporal { list_any is_temporal (map ty (Null ∷ Boolean ∷ Int8 ∷ Int16 ∷ Int32 ∷ Int64 ∷ UInt8 ∷ UInt16 ∷ UInt32 ∷ UInt64 ∷ String ∷ Unknown (Int (pos 1)) ∷ [])) ≡ false }
-    ensures ord { list_all is_ord (map ty (Boolean ∷ Int8 ∷ Int16 ∷ Int32 ∷ Int64 ∷ UInt8 ∷ UInt16 ∷ UInt32 ∷ UInt64 ∷ String ∷ Date ∷ Time ∷ Datetime Nanoseconds ∷ Datetime Microseconds ∷ Datetime Milliseconds ∷ Duration Nanoseconds ∷ Duration Microseconds ∷ Duration Milliseconds ∷ [])) ≡ true }
+    ensures ord { (unit : TimeUnit) → list_all is_ord (map ty (Boolean ∷ Int8 ∷ Int16 ∷ Int32 ∷ Int64 ∷ UInt8 ∷ UInt16 ∷ UInt32 ∷ UInt64 ∷ String ∷ Date ∷ Time ∷ Datetime unit ∷ Duration unit ∷ [])) ≡ true }
     ensures no_ord { list_any is_ord (map ty (Null ∷ Unknown (Int (pos 1)) ∷ [])) ≡ false }
-    ensures known { list_all is_known (map ty (Null ∷ Boolean ∷ Int8 ∷ Int16 ∷ Int32 ∷ Int64 ∷ UInt8 ∷ UInt16 ∷ UInt32 ∷ UInt64 ∷ String ∷ Date ∷ Time ∷ Datetime Nanoseconds ∷ Datetime Microseconds ∷ Datetime Milliseconds ∷ Duration Nanoseconds ∷ Duration Microseconds ∷ Duration Milliseconds ∷ [])) ≡ true }
+    ensures known { (unit : TimeUnit) → list_all is_known (map ty (Null ∷ Boolean ∷ Int8 ∷ Int16 ∷ Int32 ∷ Int64 ∷ UInt8 ∷ UInt16 ∷ UInt32 ∷ UInt64 ∷ String ∷ Date ∷ Time ∷ Datetime unit ∷ Duration unit ∷ [])) ≡ true }
     ensures no_known { list_any is_known (map ty (Unknown (Int (pos 1)) ∷ [])) ≡ false }
 {}
 

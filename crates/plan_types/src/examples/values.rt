@@ -4,6 +4,7 @@ ghost use Rattle.std.specs.Prelude.{◌≡◌, ℤ, [], ◌∷◌, pos, neg_ℤ,
 ghost use Rattle.std.specs.List.{list_all, list_any};
 ghost use Rattle.plan_types.specs.Types.{Untyped, ty};
 ghost use Rattle.plan_types.specs.Values.{NullValue, TruthValue, IntValue, TextValue, in_range, fits, all_fit};
+ghost use Rattle.plan_types.specs.declared.dtype.TimeUnit.{TimeUnit};
 ghost use Rattle.plan_types.specs.declared.dtype.TimeUnit.TheVariants.{Nanoseconds, Microseconds, Milliseconds};
 ghost use Rattle.plan_types.specs.declared.dtype.DataType.TheVariants.{Null, Boolean, Int8, Int16, Int32, Int64, UInt8, UInt16, UInt32, UInt64, String, Date, Time, Datetime, Duration};
 
@@ -67,21 +68,17 @@ pub fn ranges_of_times()
         ≡ false ∷ true ∷ true ∷ false ∷ [] }
     ensures time { map (in_range (ty Time)) (neg_ℤ (pos 1) ∷ pos 0 ∷ pos 86399999999999 ∷ pos 86400000000000 ∷ [])
         ≡ false ∷ true ∷ true ∷ false ∷ [] }
-    ensures datetimes_below { map (λ type. in_range (ty type) (neg_ℤ (pos 9223372036854775809))) (Datetime Nanoseconds ∷ Datetime Microseconds ∷ Datetime Milliseconds ∷ []) ≡ false ∷ false ∷ false ∷ [] }
-    ensures datetimes_least { map (λ type. in_range (ty type) (neg_ℤ (pos 9223372036854775808))) (Datetime Nanoseconds ∷ Datetime Microseconds ∷ Datetime Milliseconds ∷ []) ≡ true ∷ true ∷ true ∷ [] }
-    ensures datetimes_greatest { map (λ type. in_range (ty type) (pos 9223372036854775807)) (Datetime Nanoseconds ∷ Datetime Microseconds ∷ Datetime Milliseconds ∷ []) ≡ true ∷ true ∷ true ∷ [] }
-    ensures datetimes_above { map (λ type. in_range (ty type) (pos 9223372036854775808)) (Datetime Nanoseconds ∷ Datetime Microseconds ∷ Datetime Milliseconds ∷ []) ≡ false ∷ false ∷ false ∷ [] }
-    ensures durations_below { map (λ type. in_range (ty type) (neg_ℤ (pos 9223372036854775809))) (Duration Nanoseconds ∷ Duration Microseconds ∷ Duration Milliseconds ∷ []) ≡ false ∷ false ∷ false ∷ [] }
-    ensures durations_least { map (λ type. in_range (ty type) (neg_ℤ (pos 9223372036854775808))) (Duration Nanoseconds ∷ Duration Microseconds ∷ Duration Milliseconds ∷ []) ≡ true ∷ true ∷ true ∷ [] }
-    ensures durations_greatest { map (λ type. in_range (ty type) (pos 9223372036854775807)) (Duration Nanoseconds ∷ Duration Microseconds ∷ Duration Milliseconds ∷ []) ≡ true ∷ true ∷ true ∷ [] }
-    ensures durations_above { map (λ type. in_range (ty type) (pos 9223372036854775808)) (Duration Nanoseconds ∷ Duration Microseconds ∷ Duration Milliseconds ∷ []) ≡ false ∷ false ∷ false ∷ [] }
+    ensures datetime { (unit : TimeUnit) → map (in_range (ty (Datetime unit))) (neg_ℤ (pos 9223372036854775809) ∷ neg_ℤ (pos 9223372036854775808) ∷ pos 9223372036854775807 ∷ pos 9223372036854775808 ∷ [])
+        ≡ false ∷ true ∷ true ∷ false ∷ [] }
+    ensures duration { (unit : TimeUnit) → map (in_range (ty (Duration unit))) (neg_ℤ (pos 9223372036854775809) ∷ neg_ℤ (pos 9223372036854775808) ∷ pos 9223372036854775807 ∷ pos 9223372036854775808 ∷ [])
+        ≡ false ∷ true ∷ true ∷ false ∷ [] }
     ensures none { map (λ type. in_range (ty type) (pos 0)) (Null ∷ Boolean ∷ String ∷ []) ≡ false ∷ false ∷ false ∷ [] }
 {}
 
 /// A text fits the type of texts alone, and no other value but null fits that. Null is the only value of its type.
 pub fn fitting_texts()
     ensures own_type { map (λ text. fits (TextValue (codes text)) (ty String)) ("" ∷ "5" ∷ "true" ∷ []) ≡ true ∷ true ∷ true ∷ [] }
-    ensures others { list_any (λ type. fits (TextValue (codes "5")) (ty type)) (Null ∷ Boolean ∷ Int8 ∷ Int16 ∷ Int32 ∷ Int64 ∷ UInt8 ∷ UInt16 ∷ UInt32 ∷ UInt64 ∷ Date ∷ Time ∷ Datetime Nanoseconds ∷ Datetime Microseconds ∷ Datetime Milliseconds ∷ Duration Nanoseconds ∷ Duration Microseconds ∷ Duration Milliseconds ∷ []) ≡ false }
+    ensures others { (unit : TimeUnit) → list_any (λ type. fits (TextValue (codes "5")) (ty type)) (Null ∷ Boolean ∷ Int8 ∷ Int16 ∷ Int32 ∷ Int64 ∷ UInt8 ∷ UInt16 ∷ UInt32 ∷ UInt64 ∷ Date ∷ Time ∷ Datetime unit ∷ Duration unit ∷ []) ≡ false }
     ensures untyped { fits (TextValue (codes "5")) (Untyped (pos 5)) ≡ false }
     ensures other_values { map (λ value. fits value (ty String)) (NullValue ∷ TruthValue true ∷ IntValue (pos 5) ∷ []) ≡ true ∷ false ∷ false ∷ [] }
     ensures null { map (λ value. fits value (ty Null)) (NullValue ∷ TruthValue false ∷ IntValue (pos 0) ∷ TextValue (codes "") ∷ []) ≡ true ∷ false ∷ false ∷ false ∷ [] }
@@ -91,8 +88,8 @@ pub fn fitting_texts()
 
 /// Null fits each type of time, a number those whose range has it, and a truth value none.
 pub fn fitting_times()
-    ensures null { list_all (λ type. fits NullValue (ty type)) (Date ∷ Time ∷ Datetime Nanoseconds ∷ Datetime Microseconds ∷ Datetime Milliseconds ∷ Duration Nanoseconds ∷ Duration Microseconds ∷ Duration Milliseconds ∷ []) ≡ true }
-    ensures truth { list_any (λ type. fits (TruthValue true) (ty type)) (Date ∷ Time ∷ Datetime Nanoseconds ∷ Datetime Microseconds ∷ Datetime Milliseconds ∷ Duration Nanoseconds ∷ Duration Microseconds ∷ Duration Milliseconds ∷ []) ≡ false }
+    ensures null { (unit : TimeUnit) → list_all (λ type. fits NullValue (ty type)) (Date ∷ Time ∷ Datetime unit ∷ Duration unit ∷ []) ≡ true }
+    ensures truth { (unit : TimeUnit) → list_any (λ type. fits (TruthValue true) (ty type)) (Date ∷ Time ∷ Datetime unit ∷ Duration unit ∷ []) ≡ false }
     ensures midnight { map (λ type. fits (IntValue (pos 86400000000000)) (ty type)) (Date ∷ Time ∷ Datetime Nanoseconds ∷ Duration Milliseconds ∷ []) ≡ false ∷ false ∷ true ∷ true ∷ [] }
     ensures below_zero { map (λ type. fits (IntValue (neg_ℤ (pos 1))) (ty type)) (Date ∷ Time ∷ Datetime Microseconds ∷ Duration Nanoseconds ∷ []) ≡ true ∷ false ∷ true ∷ true ∷ [] }
 {}
