@@ -27,69 +27,6 @@ fn values_fit_types(rt: HostRuntime) -> Result<(), Fail> {
     Ok(())
 }
 
-// The value that a cast gives, or none where it fails.
-fn converted(
-    rt: &impl Abort,
-    alloc: Global,
-    value: &Value,
-    to: &DataType,
-    options: CastOptions,
-) -> Result<Option<Value>, CastError> {
-    let from = DataType::Int64;
-    assert!(rt; can_cast(&from, to));
-    match cast_value(alloc, value, &from, to, options) {
-        Ok(found) => Ok(Some(found)),
-        Err(CastError::Failing) => Ok(None),
-        Err(CastError::NoMemory) => Err(CastError::NoMemory),
-    }
-}
-
-#[test]
-fn numbers_out_of_range_are_cast(rt: HostRuntime) -> Result<(), Fail> {
-    for (number, to, low_bits) in [
-        (300, DataType::Int8, 44),
-        (200, DataType::Int8, -56),
-        (-129, DataType::Int8, 127),
-        (-1, DataType::UInt8, 255),
-        (65_537, DataType::UInt16, 1),
-        (32_768, DataType::Int16, -32_768),
-        (2_147_483_648, DataType::Int32, -2_147_483_648),
-        (4_294_967_297, DataType::UInt32, 1),
-        (-1, DataType::UInt64, 18_446_744_073_709_551_615),
-    ] {
-        let value = Value::Int(number);
-        let strict = converted(&rt, rt.alloc(), &value, &to, CastOptions::Strict)?;
-        assert!(rt; strict.is_none());
-        let null = converted(&rt, rt.alloc(), &value, &to, CastOptions::NonStrict)?;
-        assert!(rt; null == Some(Value::Null));
-        let low = converted(&rt, rt.alloc(), &value, &to, CastOptions::Overflowing)?;
-        assert!(rt; low == Some(Value::Int(low_bits)));
-    }
-    Ok(())
-}
-
-#[test]
-fn values_with_a_place_are_cast(rt: HostRuntime) -> Result<(), Fail> {
-    for (value, to, want) in [
-        (Value::Null, DataType::Int8, Value::Null),
-        (Value::Int(2), DataType::Int8, Value::Int(2)),
-        (Value::Int(2), DataType::Boolean, Value::Boolean(true)),
-        (Value::Int(0), DataType::Boolean, Value::Boolean(false)),
-        (Value::Boolean(true), DataType::UInt8, Value::Int(1)),
-        (
-            Value::Boolean(true),
-            DataType::Boolean,
-            Value::Boolean(true),
-        ),
-    ] {
-        let found = converted(&rt, rt.alloc(), &value, &to, CastOptions::Strict)?;
-        assert!(rt; found == Some(want));
-    }
-    assert!(rt; matches!(CastError::from(AllocError), CastError::NoMemory));
-    assert!(rt; matches!(FrameError::from(AllocError), FrameError::NoMemory));
-    Ok(())
-}
-
 // A column of numbers from 0 on.
 fn counted(alloc: Global, name: &str, count: i128) -> Result<Column, Fail> {
     let name = PlSmallStr::new(alloc, name)?;

@@ -1,0 +1,230 @@
+//! Types: their classes, widths, copies, equality and hashes, and units of time.
+
+use super::hash_of;
+use crate::dtype::{CastOptions, DataType, TimeUnit, UnknownKind, get_time_units};
+use std::test::Fail;
+
+// Each type, and those of two numbers without one.
+fn all_types() -> [DataType; 21] {
+    [
+        DataType::Null,
+        DataType::Boolean,
+        DataType::Int8,
+        DataType::Int16,
+        DataType::Int32,
+        DataType::Int64,
+        DataType::UInt8,
+        DataType::UInt16,
+        DataType::UInt32,
+        DataType::UInt64,
+        DataType::String,
+        DataType::Date,
+        DataType::Time,
+        DataType::Datetime(TimeUnit::Nanoseconds),
+        DataType::Datetime(TimeUnit::Microseconds),
+        DataType::Datetime(TimeUnit::Milliseconds),
+        DataType::Duration(TimeUnit::Nanoseconds),
+        DataType::Duration(TimeUnit::Microseconds),
+        DataType::Duration(TimeUnit::Milliseconds),
+        DataType::Unknown(UnknownKind::Int(1)),
+        DataType::Unknown(UnknownKind::Int(-1)),
+    ]
+}
+
+#[test]
+fn each_type_is_equal_to_itself_alone(rt: HostRuntime) -> Result<(), Fail> {
+    let types = all_types();
+    for (index, left) in types.iter().enumerate() {
+        for (other, right) in types.iter().enumerate() {
+            assert_eq!(rt; left == right, index == other);
+            assert_eq!(rt; left != right, index != other);
+        }
+    }
+    Ok(())
+}
+
+#[test]
+fn copies_are_equal_and_hashed_alike(rt: HostRuntime) -> Result<(), Fail> {
+    for dtype in all_types() {
+        let copy = dtype.try_clone(rt.alloc())?;
+        assert!(rt; copy == dtype);
+        assert_eq!(rt; hash_of(&copy), hash_of(&dtype));
+    }
+    Ok(())
+}
+
+#[test]
+fn integers_tell_sign_and_width(rt: HostRuntime) -> Result<(), Fail> {
+    for (dtype, signed, width) in [
+        (DataType::Int8, true, 8),
+        (DataType::Int16, true, 16),
+        (DataType::Int32, true, 32),
+        (DataType::Int64, true, 64),
+        (DataType::UInt8, false, 8),
+        (DataType::UInt16, false, 16),
+        (DataType::UInt32, false, 32),
+        (DataType::UInt64, false, 64),
+    ] {
+        assert!(rt; dtype.is_integer());
+        assert_eq!(rt; dtype.is_signed_integer(), signed);
+        assert_eq!(rt; dtype.is_unsigned_integer(), !signed);
+        assert_eq!(rt; dtype.width(), width);
+        assert!(rt; !dtype.is_temporal());
+        assert!(rt; dtype.is_ord());
+        assert!(rt; dtype.is_known());
+        assert_eq!(rt; dtype.untyped_number(), None);
+    }
+    Ok(())
+}
+
+#[test]
+fn other_types_are_no_integers(rt: HostRuntime) -> Result<(), Fail> {
+    for (dtype, temporal, ord, known) in [
+        (DataType::Null, false, false, true),
+        (DataType::Boolean, false, true, true),
+        (DataType::String, false, true, true),
+        (DataType::Date, true, true, true),
+        (DataType::Time, true, true, true),
+        (DataType::Datetime(TimeUnit::Nanoseconds), true, true, true),
+        (DataType::Datetime(TimeUnit::Milliseconds), true, true, true),
+        (DataType::Duration(TimeUnit::Microseconds), true, true, true),
+        (DataType::Unknown(UnknownKind::Int(1)), false, false, false),
+    ] {
+        assert!(rt; !dtype.is_integer());
+        assert!(rt; !dtype.is_signed_integer());
+        assert!(rt; !dtype.is_unsigned_integer());
+        assert_eq!(rt; dtype.width(), 0);
+        assert_eq!(rt; dtype.is_temporal(), temporal);
+        assert_eq!(rt; dtype.is_ord(), ord);
+        assert_eq!(rt; dtype.is_known(), known);
+    }
+    Ok(())
+}
+
+#[test]
+fn types_have_the_times_of_their_range(rt: HostRuntime) -> Result<(), Fail> {
+    let (below, least) = (-9_223_372_036_854_775_809, -9_223_372_036_854_775_808);
+    let (greatest, past) = (9_223_372_036_854_775_807, 9_223_372_036_854_775_808);
+    for (dtype, below, least, greatest, past) in [
+        (
+            DataType::Date,
+            -2_147_483_649,
+            -2_147_483_648,
+            2_147_483_647,
+            2_147_483_648,
+        ),
+        (
+            DataType::Time,
+            -1,
+            0,
+            86_399_999_999_999,
+            86_400_000_000_000,
+        ),
+        (
+            DataType::Datetime(TimeUnit::Nanoseconds),
+            below,
+            least,
+            greatest,
+            past,
+        ),
+        (
+            DataType::Datetime(TimeUnit::Milliseconds),
+            below,
+            least,
+            greatest,
+            past,
+        ),
+        (
+            DataType::Duration(TimeUnit::Microseconds),
+            below,
+            least,
+            greatest,
+            past,
+        ),
+    ] {
+        for (number, has) in [
+            (below, false),
+            (least, true),
+            (greatest, true),
+            (past, false),
+        ] {
+            assert_eq!(rt; dtype.has_number(number), has);
+        }
+    }
+    Ok(())
+}
+
+#[test]
+fn other_types_have_no_numbers(rt: HostRuntime) -> Result<(), Fail> {
+    for dtype in [DataType::Null, DataType::Boolean, DataType::String] {
+        for number in [-1, 0, 1] {
+            assert!(rt; !dtype.has_number(number));
+        }
+    }
+    Ok(())
+}
+
+#[test]
+fn the_coarser_unit_is_taken(rt: HostRuntime) -> Result<(), Fail> {
+    for (left, right, want) in [
+        (
+            TimeUnit::Nanoseconds,
+            TimeUnit::Nanoseconds,
+            TimeUnit::Nanoseconds,
+        ),
+        (
+            TimeUnit::Nanoseconds,
+            TimeUnit::Microseconds,
+            TimeUnit::Microseconds,
+        ),
+        (
+            TimeUnit::Nanoseconds,
+            TimeUnit::Milliseconds,
+            TimeUnit::Milliseconds,
+        ),
+        (
+            TimeUnit::Microseconds,
+            TimeUnit::Microseconds,
+            TimeUnit::Microseconds,
+        ),
+        (
+            TimeUnit::Microseconds,
+            TimeUnit::Milliseconds,
+            TimeUnit::Milliseconds,
+        ),
+        (
+            TimeUnit::Milliseconds,
+            TimeUnit::Milliseconds,
+            TimeUnit::Milliseconds,
+        ),
+    ] {
+        assert!(rt; get_time_units(left, right) == want);
+        assert!(rt; get_time_units(right, left) == want);
+    }
+    Ok(())
+}
+
+#[test]
+fn a_day_has_so_many_of_a_unit(rt: HostRuntime) -> Result<(), Fail> {
+    for (unit, per_day, rank) in [
+        (TimeUnit::Nanoseconds, 86_400_000_000_000, 0),
+        (TimeUnit::Microseconds, 86_400_000_000, 1),
+        (TimeUnit::Milliseconds, 86_400_000, 2),
+    ] {
+        assert_eq!(rt; unit.per_day(), per_day);
+        assert_eq!(rt; unit.rank(), rank);
+    }
+    Ok(())
+}
+
+#[test]
+fn one_kind_of_cast_is_strict(rt: HostRuntime) -> Result<(), Fail> {
+    for (options, strict) in [
+        (CastOptions::Strict, true),
+        (CastOptions::NonStrict, false),
+        (CastOptions::Overflowing, false),
+    ] {
+        assert_eq!(rt; options.strict(), strict);
+    }
+    Ok(())
+}
