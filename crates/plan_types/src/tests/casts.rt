@@ -1,7 +1,12 @@
 //! Casts of values.
 
 use crate::cast::{CastError, can_cast, cast_value};
-use crate::dtype::{CastOptions, DataType, TimeUnit, UnknownKind};
+use crate::dtype::DataType::{
+    Boolean, Date, Datetime, Duration, Int8, Int16, Int32, Int64, Null, Time, UInt8, UInt16,
+    UInt32, UInt64, Unknown,
+};
+use crate::dtype::TimeUnit::{Microseconds, Milliseconds, Nanoseconds};
+use crate::dtype::{CastOptions, DataType, UnknownKind};
 use crate::error::PlanError;
 use crate::frame::FrameError;
 use crate::text::PlSmallStr;
@@ -83,61 +88,33 @@ fn assert_number(
 #[test]
 fn days_are_cast_to_moments(rt: HostRuntime) -> Result<(), Fail> {
     for (number, to, want) in [
-        (
-            10_957,
-            DataType::Datetime(TimeUnit::Nanoseconds),
-            Some(946_684_800_000_000_000),
-        ),
-        (
-            10_957,
-            DataType::Datetime(TimeUnit::Microseconds),
-            Some(946_684_800_000_000),
-        ),
-        (
-            10_957,
-            DataType::Datetime(TimeUnit::Milliseconds),
-            Some(946_684_800_000),
-        ),
-        (
-            -1,
-            DataType::Datetime(TimeUnit::Nanoseconds),
-            Some(-86_400_000_000_000),
-        ),
-        (0, DataType::Datetime(TimeUnit::Nanoseconds), Some(0)),
+        (10_957, Datetime(Nanoseconds), Some(946_684_800_000_000_000)),
+        (10_957, Datetime(Microseconds), Some(946_684_800_000_000)),
+        (10_957, Datetime(Milliseconds), Some(946_684_800_000)),
+        (-1, Datetime(Nanoseconds), Some(-86_400_000_000_000)),
+        (0, Datetime(Nanoseconds), Some(0)),
         (
             106_751,
-            DataType::Datetime(TimeUnit::Nanoseconds),
+            Datetime(Nanoseconds),
             Some(9_223_286_400_000_000_000),
         ),
-        (106_752, DataType::Datetime(TimeUnit::Nanoseconds), None),
+        (106_752, Datetime(Nanoseconds), None),
+        (-2_147_483_648, Datetime(Nanoseconds), None),
+        (2_147_483_647, Datetime(Nanoseconds), None),
+        (2_147_483_647, Datetime(Microseconds), None),
         (
             -2_147_483_648,
-            DataType::Datetime(TimeUnit::Nanoseconds),
-            None,
-        ),
-        (
-            2_147_483_647,
-            DataType::Datetime(TimeUnit::Nanoseconds),
-            None,
-        ),
-        (
-            2_147_483_647,
-            DataType::Datetime(TimeUnit::Microseconds),
-            None,
-        ),
-        (
-            -2_147_483_648,
-            DataType::Datetime(TimeUnit::Milliseconds),
+            Datetime(Milliseconds),
             Some(-185_542_587_187_200_000),
         ),
         (
             2_147_483_647,
-            DataType::Datetime(TimeUnit::Milliseconds),
+            Datetime(Milliseconds),
             Some(185_542_587_100_800_000),
         ),
-        (-5, DataType::Date, Some(-5)),
+        (-5, Date, Some(-5)),
     ] {
-        let from = DataType::Date;
+        let from = Date;
         assert_number(&rt, rt.alloc(), number, &from, &to, want)?;
     }
     Ok(())
@@ -146,55 +123,23 @@ fn days_are_cast_to_moments(rt: HostRuntime) -> Result<(), Fail> {
 #[test]
 fn moments_are_cast_to_days(rt: HostRuntime) -> Result<(), Fail> {
     for (number, from, want) in [
-        (
-            946_684_800_000_000_000,
-            DataType::Datetime(TimeUnit::Nanoseconds),
-            Some(10_957),
-        ),
-        (
-            946_684_800_000_000,
-            DataType::Datetime(TimeUnit::Microseconds),
-            Some(10_957),
-        ),
-        (
-            946_684_800_000,
-            DataType::Datetime(TimeUnit::Milliseconds),
-            Some(10_957),
-        ),
-        (0, DataType::Datetime(TimeUnit::Nanoseconds), Some(0)),
-        (-1, DataType::Datetime(TimeUnit::Nanoseconds), Some(-1)),
-        (
-            86_399_999_999_999,
-            DataType::Datetime(TimeUnit::Nanoseconds),
-            Some(0),
-        ),
-        (
-            -86_400_000_000_000,
-            DataType::Datetime(TimeUnit::Nanoseconds),
-            Some(-1),
-        ),
-        (
-            -86_400_000_000_001,
-            DataType::Datetime(TimeUnit::Nanoseconds),
-            Some(-2),
-        ),
+        (946_684_800_000_000_000, Datetime(Nanoseconds), Some(10_957)),
+        (946_684_800_000_000, Datetime(Microseconds), Some(10_957)),
+        (946_684_800_000, Datetime(Milliseconds), Some(10_957)),
+        (0, Datetime(Nanoseconds), Some(0)),
+        (-1, Datetime(Nanoseconds), Some(-1)),
+        (86_399_999_999_999, Datetime(Nanoseconds), Some(0)),
+        (-86_400_000_000_000, Datetime(Nanoseconds), Some(-1)),
+        (-86_400_000_000_001, Datetime(Nanoseconds), Some(-2)),
         (
             185_542_587_187_199_999,
-            DataType::Datetime(TimeUnit::Milliseconds),
+            Datetime(Milliseconds),
             Some(2_147_483_647),
         ),
-        (
-            185_542_587_187_200_000,
-            DataType::Datetime(TimeUnit::Milliseconds),
-            None,
-        ),
-        (
-            -185_542_587_187_200_001,
-            DataType::Datetime(TimeUnit::Milliseconds),
-            None,
-        ),
+        (185_542_587_187_200_000, Datetime(Milliseconds), None),
+        (-185_542_587_187_200_001, Datetime(Milliseconds), None),
     ] {
-        let to = DataType::Date;
+        let to = Date;
         assert_number(&rt, rt.alloc(), number, &from, &to, want)?;
     }
     Ok(())
@@ -205,70 +150,60 @@ fn moments_are_cast_to_other_units(rt: HostRuntime) -> Result<(), Fail> {
     for (number, from, to, want) in [
         (
             1_999,
-            DataType::Datetime(TimeUnit::Nanoseconds),
-            DataType::Datetime(TimeUnit::Microseconds),
+            Datetime(Nanoseconds),
+            Datetime(Microseconds),
             Some(1),
         ),
         (
             -1_001,
-            DataType::Datetime(TimeUnit::Nanoseconds),
-            DataType::Datetime(TimeUnit::Microseconds),
+            Datetime(Nanoseconds),
+            Datetime(Microseconds),
             Some(-2),
         ),
-        (
-            -1,
-            DataType::Datetime(TimeUnit::Nanoseconds),
-            DataType::Datetime(TimeUnit::Milliseconds),
-            Some(-1),
-        ),
+        (-1, Datetime(Nanoseconds), Datetime(Milliseconds), Some(-1)),
         (
             -1_000_000,
-            DataType::Datetime(TimeUnit::Nanoseconds),
-            DataType::Datetime(TimeUnit::Milliseconds),
+            Datetime(Nanoseconds),
+            Datetime(Milliseconds),
             Some(-1),
         ),
         (
             1_999,
-            DataType::Datetime(TimeUnit::Microseconds),
-            DataType::Datetime(TimeUnit::Milliseconds),
+            Datetime(Microseconds),
+            Datetime(Milliseconds),
             Some(1),
         ),
         (
             -7,
-            DataType::Datetime(TimeUnit::Milliseconds),
-            DataType::Datetime(TimeUnit::Microseconds),
+            Datetime(Milliseconds),
+            Datetime(Microseconds),
             Some(-7_000),
         ),
         (
             7,
-            DataType::Datetime(TimeUnit::Milliseconds),
-            DataType::Datetime(TimeUnit::Nanoseconds),
+            Datetime(Milliseconds),
+            Datetime(Nanoseconds),
             Some(7_000_000),
         ),
         (
             -9_223_372_036_854,
-            DataType::Datetime(TimeUnit::Milliseconds),
-            DataType::Datetime(TimeUnit::Nanoseconds),
+            Datetime(Milliseconds),
+            Datetime(Nanoseconds),
             Some(-9_223_372_036_854_000_000),
         ),
         (
             9_223_372_036_855,
-            DataType::Datetime(TimeUnit::Milliseconds),
-            DataType::Datetime(TimeUnit::Nanoseconds),
+            Datetime(Milliseconds),
+            Datetime(Nanoseconds),
             None,
         ),
         (
             9_223_372_036_854_776,
-            DataType::Datetime(TimeUnit::Microseconds),
-            DataType::Datetime(TimeUnit::Nanoseconds),
+            Datetime(Microseconds),
+            Datetime(Nanoseconds),
             None,
         ),
-        (
-            -5,
-            DataType::Datetime(TimeUnit::Microseconds),
-            DataType::Datetime(TimeUnit::Microseconds),
-            Some(-5),
-        ),
+        (-5, Datetime(Microseconds), Datetime(Microseconds), Some(-5)),
     ] {
         assert_number(&rt, rt.alloc(), number, &from, &to, want)?;
     }
@@ -280,70 +215,60 @@ fn spans_are_cast_to_other_units(rt: HostRuntime) -> Result<(), Fail> {
     for (number, from, to, want) in [
         (
             1_999,
-            DataType::Duration(TimeUnit::Nanoseconds),
-            DataType::Duration(TimeUnit::Microseconds),
+            Duration(Nanoseconds),
+            Duration(Microseconds),
             Some(1),
         ),
         (
             -1_001,
-            DataType::Duration(TimeUnit::Nanoseconds),
-            DataType::Duration(TimeUnit::Microseconds),
+            Duration(Nanoseconds),
+            Duration(Microseconds),
             Some(-2),
         ),
-        (
-            -1,
-            DataType::Duration(TimeUnit::Nanoseconds),
-            DataType::Duration(TimeUnit::Milliseconds),
-            Some(-1),
-        ),
+        (-1, Duration(Nanoseconds), Duration(Milliseconds), Some(-1)),
         (
             -1_000_000,
-            DataType::Duration(TimeUnit::Nanoseconds),
-            DataType::Duration(TimeUnit::Milliseconds),
+            Duration(Nanoseconds),
+            Duration(Milliseconds),
             Some(-1),
         ),
         (
             1_999,
-            DataType::Duration(TimeUnit::Microseconds),
-            DataType::Duration(TimeUnit::Milliseconds),
+            Duration(Microseconds),
+            Duration(Milliseconds),
             Some(1),
         ),
         (
             -7,
-            DataType::Duration(TimeUnit::Milliseconds),
-            DataType::Duration(TimeUnit::Microseconds),
+            Duration(Milliseconds),
+            Duration(Microseconds),
             Some(-7_000),
         ),
         (
             7,
-            DataType::Duration(TimeUnit::Milliseconds),
-            DataType::Duration(TimeUnit::Nanoseconds),
+            Duration(Milliseconds),
+            Duration(Nanoseconds),
             Some(7_000_000),
         ),
         (
             -9_223_372_036_854,
-            DataType::Duration(TimeUnit::Milliseconds),
-            DataType::Duration(TimeUnit::Nanoseconds),
+            Duration(Milliseconds),
+            Duration(Nanoseconds),
             Some(-9_223_372_036_854_000_000),
         ),
         (
             9_223_372_036_855,
-            DataType::Duration(TimeUnit::Milliseconds),
-            DataType::Duration(TimeUnit::Nanoseconds),
+            Duration(Milliseconds),
+            Duration(Nanoseconds),
             None,
         ),
         (
             9_223_372_036_854_776,
-            DataType::Duration(TimeUnit::Microseconds),
-            DataType::Duration(TimeUnit::Nanoseconds),
+            Duration(Microseconds),
+            Duration(Nanoseconds),
             None,
         ),
-        (
-            -5,
-            DataType::Duration(TimeUnit::Microseconds),
-            DataType::Duration(TimeUnit::Microseconds),
-            Some(-5),
-        ),
+        (-5, Duration(Microseconds), Duration(Microseconds), Some(-5)),
     ] {
         assert_number(&rt, rt.alloc(), number, &from, &to, want)?;
     }
@@ -353,20 +278,20 @@ fn spans_are_cast_to_other_units(rt: HostRuntime) -> Result<(), Fail> {
 #[test]
 fn times_are_cast_to_numbers(rt: HostRuntime) -> Result<(), Fail> {
     for (number, from, want) in [
-        (-1, DataType::Date, Some(-1)),
-        (86_399_999_999_999, DataType::Time, Some(86_399_999_999_999)),
+        (-1, Date, Some(-1)),
+        (86_399_999_999_999, Time, Some(86_399_999_999_999)),
         (
             -9_223_372_036_854_775_808,
-            DataType::Datetime(TimeUnit::Nanoseconds),
+            Datetime(Nanoseconds),
             Some(-9_223_372_036_854_775_808),
         ),
         (
             9_223_372_036_854_775_807,
-            DataType::Duration(TimeUnit::Milliseconds),
+            Duration(Milliseconds),
             Some(9_223_372_036_854_775_807),
         ),
     ] {
-        let to = DataType::Int64;
+        let to = Int64;
         assert_number(&rt, rt.alloc(), number, &from, &to, want)?;
     }
     Ok(())
@@ -375,25 +300,25 @@ fn times_are_cast_to_numbers(rt: HostRuntime) -> Result<(), Fail> {
 #[test]
 fn numbers_are_cast_to_times(rt: HostRuntime) -> Result<(), Fail> {
     for (number, to, want) in [
-        (2_147_483_647, DataType::Date, Some(2_147_483_647)),
-        (2_147_483_648, DataType::Date, None),
-        (-2_147_483_649, DataType::Date, None),
-        (86_399_999_999_999, DataType::Time, Some(86_399_999_999_999)),
-        (0, DataType::Time, Some(0)),
-        (86_400_000_000_000, DataType::Time, None),
-        (-1, DataType::Time, None),
+        (2_147_483_647, Date, Some(2_147_483_647)),
+        (2_147_483_648, Date, None),
+        (-2_147_483_649, Date, None),
+        (86_399_999_999_999, Time, Some(86_399_999_999_999)),
+        (0, Time, Some(0)),
+        (86_400_000_000_000, Time, None),
+        (-1, Time, None),
         (
             -9_223_372_036_854_775_808,
-            DataType::Datetime(TimeUnit::Microseconds),
+            Datetime(Microseconds),
             Some(-9_223_372_036_854_775_808),
         ),
         (
             9_223_372_036_854_775_807,
-            DataType::Duration(TimeUnit::Nanoseconds),
+            Duration(Nanoseconds),
             Some(9_223_372_036_854_775_807),
         ),
     ] {
-        let from = DataType::Int64;
+        let from = Int64;
         assert_number(&rt, rt.alloc(), number, &from, &to, want)?;
     }
     Ok(())
@@ -402,38 +327,26 @@ fn numbers_are_cast_to_times(rt: HostRuntime) -> Result<(), Fail> {
 #[test]
 fn texts_are_cast_to_integers(rt: HostRuntime) -> Result<(), Fail> {
     for (text, to, want) in [
-        ("12", DataType::Int8, Some(12)),
-        ("+12", DataType::Int8, Some(12)),
-        ("-12", DataType::Int8, Some(-12)),
-        ("-0", DataType::Int8, Some(0)),
-        ("-0", DataType::UInt8, Some(0)),
-        ("007", DataType::UInt8, Some(7)),
-        ("127", DataType::Int8, Some(127)),
-        ("-128", DataType::Int8, Some(-128)),
-        ("128", DataType::Int8, None),
-        ("-129", DataType::Int8, None),
-        ("-1", DataType::UInt8, None),
+        ("12", Int8, Some(12)),
+        ("+12", Int8, Some(12)),
+        ("-12", Int8, Some(-12)),
+        ("-0", Int8, Some(0)),
+        ("-0", UInt8, Some(0)),
+        ("007", UInt8, Some(7)),
+        ("127", Int8, Some(127)),
+        ("-128", Int8, Some(-128)),
+        ("128", Int8, None),
+        ("-129", Int8, None),
+        ("-1", UInt8, None),
         (
             "18446744073709551615",
-            DataType::UInt64,
+            UInt64,
             Some(18_446_744_073_709_551_615),
         ),
-        ("18446744073709551616", DataType::UInt64, None),
-        (
-            "1234567890123456789012345678901234567890",
-            DataType::UInt64,
-            None,
-        ),
-        (
-            "-1234567890123456789012345678901234567890",
-            DataType::Int64,
-            None,
-        ),
-        (
-            "0000000000000000000000000000000000000011",
-            DataType::Int8,
-            Some(11),
-        ),
+        ("18446744073709551616", UInt64, None),
+        ("1234567890123456789012345678901234567890", UInt64, None),
+        ("-1234567890123456789012345678901234567890", Int64, None),
+        ("0000000000000000000000000000000000000011", Int8, Some(11)),
     ] {
         assert_text(&rt, rt.alloc(), text, &to, want)?;
     }
@@ -470,7 +383,7 @@ fn other_texts_are_no_numbers(rt: HostRuntime) -> Result<(), Fail> {
         "", "+", "-", "+-1", "--1", "1-", "12x", "x12", " 12", "12 ", "1.0", "1_000", "0x10",
         "true", "१२",
     ] {
-        assert_text(&rt, rt.alloc(), text, &DataType::Int64, None)?;
+        assert_text(&rt, rt.alloc(), text, &Int64, None)?;
     }
     Ok(())
 }
@@ -498,21 +411,21 @@ fn assert_written(
 #[test]
 fn values_are_cast_to_texts(rt: HostRuntime) -> Result<(), Fail> {
     for (value, from, want) in [
-        (Value::Int(-128), DataType::Int8, "-128"),
-        (Value::Int(0), DataType::Int8, "0"),
-        (Value::Int(10), DataType::UInt8, "10"),
+        (Value::Int(-128), Int8, "-128"),
+        (Value::Int(0), Int8, "0"),
+        (Value::Int(10), UInt8, "10"),
         (
             Value::Int(-9_223_372_036_854_775_808),
-            DataType::Int64,
+            Int64,
             "-9223372036854775808",
         ),
         (
             Value::Int(18_446_744_073_709_551_615),
-            DataType::UInt64,
+            UInt64,
             "18446744073709551615",
         ),
-        (Value::Boolean(true), DataType::Boolean, "true"),
-        (Value::Boolean(false), DataType::Boolean, "false"),
+        (Value::Boolean(true), Boolean, "true"),
+        (Value::Boolean(false), Boolean, "false"),
     ] {
         assert_written(&rt, rt.alloc(), &value, &from, want)?;
     }
@@ -531,27 +444,21 @@ fn texts_stay_texts(rt: HostRuntime) -> Result<(), Fail> {
 #[test]
 fn null_stays_null(rt: HostRuntime) -> Result<(), Fail> {
     for (from, to) in [
-        (DataType::Null, DataType::Null),
-        (DataType::Null, DataType::Boolean),
-        (DataType::Null, DataType::UInt64),
-        (DataType::Null, DataType::String),
-        (DataType::Null, DataType::Date),
-        (DataType::Null, DataType::Duration(TimeUnit::Milliseconds)),
-        (DataType::Boolean, DataType::String),
-        (DataType::Int8, DataType::Boolean),
-        (DataType::String, DataType::Int8),
-        (DataType::Date, DataType::Datetime(TimeUnit::Nanoseconds)),
-        (DataType::Datetime(TimeUnit::Milliseconds), DataType::Date),
-        (
-            DataType::Datetime(TimeUnit::Nanoseconds),
-            DataType::Datetime(TimeUnit::Microseconds),
-        ),
-        (
-            DataType::Duration(TimeUnit::Microseconds),
-            DataType::Duration(TimeUnit::Nanoseconds),
-        ),
-        (DataType::Time, DataType::Int64),
-        (DataType::Int64, DataType::Time),
+        (Null, Null),
+        (Null, Boolean),
+        (Null, UInt64),
+        (Null, DataType::String),
+        (Null, Date),
+        (Null, Duration(Milliseconds)),
+        (Boolean, DataType::String),
+        (Int8, Boolean),
+        (DataType::String, Int8),
+        (Date, Datetime(Nanoseconds)),
+        (Datetime(Milliseconds), Date),
+        (Datetime(Nanoseconds), Datetime(Microseconds)),
+        (Duration(Microseconds), Duration(Nanoseconds)),
+        (Time, Int64),
+        (Int64, Time),
     ] {
         assert_cast(&rt, rt.alloc(), &Value::Null, &from, &to, &Value::Null)?;
     }
@@ -561,39 +468,33 @@ fn null_stays_null(rt: HostRuntime) -> Result<(), Fail> {
 #[test]
 fn there_are_casts(rt: HostRuntime) -> Result<(), Fail> {
     for (from, to) in [
-        (DataType::Null, DataType::Null),
-        (DataType::Null, DataType::Time),
-        (DataType::Boolean, DataType::Boolean),
-        (DataType::Boolean, DataType::Int8),
-        (DataType::Boolean, DataType::String),
-        (DataType::Int8, DataType::Boolean),
-        (DataType::UInt64, DataType::Int8),
-        (DataType::Int16, DataType::String),
-        (DataType::UInt64, DataType::String),
-        (DataType::Int64, DataType::Int64),
-        (DataType::Int64, DataType::Date),
-        (DataType::Int64, DataType::Time),
-        (DataType::Int64, DataType::Datetime(TimeUnit::Microseconds)),
-        (DataType::Int64, DataType::Duration(TimeUnit::Nanoseconds)),
+        (Null, Null),
+        (Null, Time),
+        (Boolean, Boolean),
+        (Boolean, Int8),
+        (Boolean, DataType::String),
+        (Int8, Boolean),
+        (UInt64, Int8),
+        (Int16, DataType::String),
+        (UInt64, DataType::String),
+        (Int64, Int64),
+        (Int64, Date),
+        (Int64, Time),
+        (Int64, Datetime(Microseconds)),
+        (Int64, Duration(Nanoseconds)),
         (DataType::String, DataType::String),
-        (DataType::String, DataType::Int8),
-        (DataType::String, DataType::UInt64),
-        (DataType::Date, DataType::Date),
-        (DataType::Date, DataType::Datetime(TimeUnit::Milliseconds)),
-        (DataType::Date, DataType::Int64),
-        (DataType::Time, DataType::Time),
-        (DataType::Time, DataType::Int64),
-        (DataType::Datetime(TimeUnit::Nanoseconds), DataType::Date),
-        (
-            DataType::Datetime(TimeUnit::Nanoseconds),
-            DataType::Datetime(TimeUnit::Milliseconds),
-        ),
-        (DataType::Datetime(TimeUnit::Milliseconds), DataType::Int64),
-        (
-            DataType::Duration(TimeUnit::Milliseconds),
-            DataType::Duration(TimeUnit::Nanoseconds),
-        ),
-        (DataType::Duration(TimeUnit::Microseconds), DataType::Int64),
+        (DataType::String, Int8),
+        (DataType::String, UInt64),
+        (Date, Date),
+        (Date, Datetime(Milliseconds)),
+        (Date, Int64),
+        (Time, Time),
+        (Time, Int64),
+        (Datetime(Nanoseconds), Date),
+        (Datetime(Nanoseconds), Datetime(Milliseconds)),
+        (Datetime(Milliseconds), Int64),
+        (Duration(Milliseconds), Duration(Nanoseconds)),
+        (Duration(Microseconds), Int64),
     ] {
         assert!(rt; can_cast(&from, &to));
     }
@@ -603,46 +504,37 @@ fn there_are_casts(rt: HostRuntime) -> Result<(), Fail> {
 #[test]
 fn there_are_no_other_casts(rt: HostRuntime) -> Result<(), Fail> {
     for (from, to) in [
-        (DataType::Boolean, DataType::Null),
-        (DataType::Int64, DataType::Null),
-        (DataType::String, DataType::Null),
-        (DataType::Date, DataType::Null),
-        (DataType::Null, DataType::Unknown(UnknownKind::Int(5))),
-        (DataType::Int64, DataType::Unknown(UnknownKind::Int(5))),
-        (DataType::Unknown(UnknownKind::Int(5)), DataType::Int64),
-        (
-            DataType::Unknown(UnknownKind::Int(5)),
-            DataType::Unknown(UnknownKind::Int(5)),
-        ),
-        (DataType::Boolean, DataType::Date),
-        (DataType::Int32, DataType::Date),
-        (DataType::UInt64, DataType::Datetime(TimeUnit::Nanoseconds)),
-        (DataType::Int8, DataType::Duration(TimeUnit::Milliseconds)),
-        (DataType::String, DataType::Boolean),
-        (DataType::String, DataType::Date),
-        (DataType::String, DataType::Time),
-        (DataType::String, DataType::Datetime(TimeUnit::Nanoseconds)),
-        (DataType::Date, DataType::Int32),
-        (DataType::Date, DataType::Time),
-        (DataType::Date, DataType::String),
-        (DataType::Date, DataType::Boolean),
-        (DataType::Date, DataType::Duration(TimeUnit::Milliseconds)),
-        (DataType::Time, DataType::Date),
-        (DataType::Time, DataType::Datetime(TimeUnit::Nanoseconds)),
-        (DataType::Time, DataType::Duration(TimeUnit::Nanoseconds)),
-        (DataType::Time, DataType::UInt64),
-        (DataType::Datetime(TimeUnit::Nanoseconds), DataType::Time),
-        (
-            DataType::Datetime(TimeUnit::Nanoseconds),
-            DataType::Duration(TimeUnit::Nanoseconds),
-        ),
-        (DataType::Datetime(TimeUnit::Nanoseconds), DataType::String),
-        (
-            DataType::Duration(TimeUnit::Milliseconds),
-            DataType::Datetime(TimeUnit::Milliseconds),
-        ),
-        (DataType::Duration(TimeUnit::Milliseconds), DataType::Date),
-        (DataType::Duration(TimeUnit::Milliseconds), DataType::Int32),
+        (Boolean, Null),
+        (Int64, Null),
+        (DataType::String, Null),
+        (Date, Null),
+        (Null, Unknown(UnknownKind::Int(5))),
+        (Int64, Unknown(UnknownKind::Int(5))),
+        (Unknown(UnknownKind::Int(5)), Int64),
+        (Unknown(UnknownKind::Int(5)), Unknown(UnknownKind::Int(5))),
+        (Boolean, Date),
+        (Int32, Date),
+        (UInt64, Datetime(Nanoseconds)),
+        (Int8, Duration(Milliseconds)),
+        (DataType::String, Boolean),
+        (DataType::String, Date),
+        (DataType::String, Time),
+        (DataType::String, Datetime(Nanoseconds)),
+        (Date, Int32),
+        (Date, Time),
+        (Date, DataType::String),
+        (Date, Boolean),
+        (Date, Duration(Milliseconds)),
+        (Time, Date),
+        (Time, Datetime(Nanoseconds)),
+        (Time, Duration(Nanoseconds)),
+        (Time, UInt64),
+        (Datetime(Nanoseconds), Time),
+        (Datetime(Nanoseconds), Duration(Nanoseconds)),
+        (Datetime(Nanoseconds), DataType::String),
+        (Duration(Milliseconds), Datetime(Milliseconds)),
+        (Duration(Milliseconds), Date),
+        (Duration(Milliseconds), Int32),
     ] {
         assert!(rt; !can_cast(&from, &to));
     }
@@ -652,18 +544,18 @@ fn there_are_no_other_casts(rt: HostRuntime) -> Result<(), Fail> {
 #[test]
 fn numbers_out_of_range_are_cast(rt: HostRuntime) -> Result<(), Fail> {
     for (number, to, low_bits) in [
-        (300, DataType::Int8, 44),
-        (200, DataType::Int8, -56),
-        (-129, DataType::Int8, 127),
-        (-1, DataType::UInt8, 255),
-        (65_537, DataType::UInt16, 1),
-        (32_768, DataType::Int16, -32_768),
-        (2_147_483_648, DataType::Int32, -2_147_483_648),
-        (4_294_967_297, DataType::UInt32, 1),
-        (-1, DataType::UInt64, 18_446_744_073_709_551_615),
+        (300, Int8, 44),
+        (200, Int8, -56),
+        (-129, Int8, 127),
+        (-1, UInt8, 255),
+        (65_537, UInt16, 1),
+        (32_768, Int16, -32_768),
+        (2_147_483_648, Int32, -2_147_483_648),
+        (4_294_967_297, UInt32, 1),
+        (-1, UInt64, 18_446_744_073_709_551_615),
     ] {
         let value = Value::Int(number);
-        let from = DataType::Int64;
+        let from = Int64;
         let strict = converted(&rt, rt.alloc(), &value, &from, &to, CastOptions::Strict)?;
         assert!(rt; strict.is_none());
         let null = converted(&rt, rt.alloc(), &value, &from, &to, CastOptions::NonStrict)?;
@@ -684,54 +576,14 @@ fn numbers_out_of_range_are_cast(rt: HostRuntime) -> Result<(), Fail> {
 #[test]
 fn truth_values_and_integers_are_cast(rt: HostRuntime) -> Result<(), Fail> {
     for (value, from, to, want) in [
-        (
-            Value::Int(2),
-            DataType::Int64,
-            DataType::Int8,
-            Value::Int(2),
-        ),
-        (
-            Value::Int(255),
-            DataType::UInt8,
-            DataType::Int16,
-            Value::Int(255),
-        ),
-        (
-            Value::Int(2),
-            DataType::Int64,
-            DataType::Boolean,
-            Value::Boolean(true),
-        ),
-        (
-            Value::Int(256),
-            DataType::UInt64,
-            DataType::Boolean,
-            Value::Boolean(true),
-        ),
-        (
-            Value::Int(0),
-            DataType::Int8,
-            DataType::Boolean,
-            Value::Boolean(false),
-        ),
-        (
-            Value::Boolean(true),
-            DataType::Boolean,
-            DataType::UInt8,
-            Value::Int(1),
-        ),
-        (
-            Value::Boolean(false),
-            DataType::Boolean,
-            DataType::Int64,
-            Value::Int(0),
-        ),
-        (
-            Value::Boolean(true),
-            DataType::Boolean,
-            DataType::Boolean,
-            Value::Boolean(true),
-        ),
+        (Value::Int(2), Int64, Int8, Value::Int(2)),
+        (Value::Int(255), UInt8, Int16, Value::Int(255)),
+        (Value::Int(2), Int64, Boolean, Value::Boolean(true)),
+        (Value::Int(256), UInt64, Boolean, Value::Boolean(true)),
+        (Value::Int(0), Int8, Boolean, Value::Boolean(false)),
+        (Value::Boolean(true), Boolean, UInt8, Value::Int(1)),
+        (Value::Boolean(false), Boolean, Int64, Value::Int(0)),
+        (Value::Boolean(true), Boolean, Boolean, Value::Boolean(true)),
     ] {
         assert_cast(&rt, rt.alloc(), &value, &from, &to, &want)?;
     }

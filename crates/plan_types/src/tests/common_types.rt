@@ -1,6 +1,11 @@
 //! Common types of two types.
 
-use crate::dtype::{DataType, TimeUnit, UnknownKind};
+use crate::dtype::DataType::{
+    Boolean, Date, Datetime, Duration, Int8, Int16, Int32, Int64, Null, Time, UInt8, UInt16,
+    UInt32, UInt64, Unknown,
+};
+use crate::dtype::TimeUnit::{Microseconds, Milliseconds, Nanoseconds};
+use crate::dtype::{DataType, UnknownKind};
 use crate::error::ErrorKind;
 use crate::supertype::{get_supertype, try_get_supertype};
 use std::alloc::Global;
@@ -25,42 +30,42 @@ fn assert_supertype(
 #[test]
 fn common_types_of_integers(rt: HostRuntime) -> Result<(), Fail> {
     for (left, right, want) in [
-        (DataType::Int8, DataType::Int8, Some(DataType::Int8)),
-        (DataType::Int8, DataType::Int16, Some(DataType::Int16)),
-        (DataType::Int8, DataType::Int32, Some(DataType::Int32)),
-        (DataType::Int8, DataType::Int64, Some(DataType::Int64)),
-        (DataType::Int16, DataType::Int16, Some(DataType::Int16)),
-        (DataType::Int16, DataType::Int32, Some(DataType::Int32)),
-        (DataType::Int16, DataType::Int64, Some(DataType::Int64)),
-        (DataType::Int32, DataType::Int32, Some(DataType::Int32)),
-        (DataType::Int32, DataType::Int64, Some(DataType::Int64)),
-        (DataType::Int64, DataType::Int64, Some(DataType::Int64)),
-        (DataType::UInt8, DataType::UInt8, Some(DataType::UInt8)),
-        (DataType::UInt8, DataType::UInt16, Some(DataType::UInt16)),
-        (DataType::UInt8, DataType::UInt32, Some(DataType::UInt32)),
-        (DataType::UInt8, DataType::UInt64, Some(DataType::UInt64)),
-        (DataType::UInt16, DataType::UInt16, Some(DataType::UInt16)),
-        (DataType::UInt16, DataType::UInt32, Some(DataType::UInt32)),
-        (DataType::UInt16, DataType::UInt64, Some(DataType::UInt64)),
-        (DataType::UInt32, DataType::UInt32, Some(DataType::UInt32)),
-        (DataType::UInt32, DataType::UInt64, Some(DataType::UInt64)),
-        (DataType::UInt64, DataType::UInt64, Some(DataType::UInt64)),
-        (DataType::Int8, DataType::UInt8, Some(DataType::Int16)),
-        (DataType::Int8, DataType::UInt16, Some(DataType::Int32)),
-        (DataType::Int8, DataType::UInt32, Some(DataType::Int64)),
-        (DataType::Int8, DataType::UInt64, None),
-        (DataType::Int16, DataType::UInt8, Some(DataType::Int16)),
-        (DataType::Int16, DataType::UInt16, Some(DataType::Int32)),
-        (DataType::Int16, DataType::UInt32, Some(DataType::Int64)),
-        (DataType::Int16, DataType::UInt64, None),
-        (DataType::Int32, DataType::UInt8, Some(DataType::Int32)),
-        (DataType::Int32, DataType::UInt16, Some(DataType::Int32)),
-        (DataType::Int32, DataType::UInt32, Some(DataType::Int64)),
-        (DataType::Int32, DataType::UInt64, None),
-        (DataType::Int64, DataType::UInt8, Some(DataType::Int64)),
-        (DataType::Int64, DataType::UInt16, Some(DataType::Int64)),
-        (DataType::Int64, DataType::UInt32, Some(DataType::Int64)),
-        (DataType::Int64, DataType::UInt64, None),
+        (Int8, Int8, Some(Int8)),
+        (Int8, Int16, Some(Int16)),
+        (Int8, Int32, Some(Int32)),
+        (Int8, Int64, Some(Int64)),
+        (Int16, Int16, Some(Int16)),
+        (Int16, Int32, Some(Int32)),
+        (Int16, Int64, Some(Int64)),
+        (Int32, Int32, Some(Int32)),
+        (Int32, Int64, Some(Int64)),
+        (Int64, Int64, Some(Int64)),
+        (UInt8, UInt8, Some(UInt8)),
+        (UInt8, UInt16, Some(UInt16)),
+        (UInt8, UInt32, Some(UInt32)),
+        (UInt8, UInt64, Some(UInt64)),
+        (UInt16, UInt16, Some(UInt16)),
+        (UInt16, UInt32, Some(UInt32)),
+        (UInt16, UInt64, Some(UInt64)),
+        (UInt32, UInt32, Some(UInt32)),
+        (UInt32, UInt64, Some(UInt64)),
+        (UInt64, UInt64, Some(UInt64)),
+        (Int8, UInt8, Some(Int16)),
+        (Int8, UInt16, Some(Int32)),
+        (Int8, UInt32, Some(Int64)),
+        (Int8, UInt64, None),
+        (Int16, UInt8, Some(Int16)),
+        (Int16, UInt16, Some(Int32)),
+        (Int16, UInt32, Some(Int64)),
+        (Int16, UInt64, None),
+        (Int32, UInt8, Some(Int32)),
+        (Int32, UInt16, Some(Int32)),
+        (Int32, UInt32, Some(Int64)),
+        (Int32, UInt64, None),
+        (Int64, UInt8, Some(Int64)),
+        (Int64, UInt16, Some(Int64)),
+        (Int64, UInt32, Some(Int64)),
+        (Int64, UInt64, None),
     ] {
         assert_supertype(&rt, rt.alloc(), &left, &right, want.as_ref())?;
     }
@@ -70,19 +75,15 @@ fn common_types_of_integers(rt: HostRuntime) -> Result<(), Fail> {
 #[test]
 fn common_types_of_truth_values(rt: HostRuntime) -> Result<(), Fail> {
     for (left, right, want) in [
-        (
-            DataType::Boolean,
-            DataType::Boolean,
-            Some(DataType::Boolean),
-        ),
-        (DataType::Boolean, DataType::Int8, Some(DataType::Int8)),
-        (DataType::Boolean, DataType::Int16, Some(DataType::Int16)),
-        (DataType::Boolean, DataType::Int32, Some(DataType::Int32)),
-        (DataType::Boolean, DataType::Int64, Some(DataType::Int64)),
-        (DataType::Boolean, DataType::UInt8, Some(DataType::UInt8)),
-        (DataType::Boolean, DataType::UInt16, Some(DataType::UInt16)),
-        (DataType::Boolean, DataType::UInt32, Some(DataType::UInt32)),
-        (DataType::Boolean, DataType::UInt64, Some(DataType::UInt64)),
+        (Boolean, Boolean, Some(Boolean)),
+        (Boolean, Int8, Some(Int8)),
+        (Boolean, Int16, Some(Int16)),
+        (Boolean, Int32, Some(Int32)),
+        (Boolean, Int64, Some(Int64)),
+        (Boolean, UInt8, Some(UInt8)),
+        (Boolean, UInt16, Some(UInt16)),
+        (Boolean, UInt32, Some(UInt32)),
+        (Boolean, UInt64, Some(UInt64)),
     ] {
         assert_supertype(&rt, rt.alloc(), &left, &right, want.as_ref())?;
     }
@@ -92,27 +93,19 @@ fn common_types_of_truth_values(rt: HostRuntime) -> Result<(), Fail> {
 #[test]
 fn null_is_of_any_type(rt: HostRuntime) -> Result<(), Fail> {
     for (left, right, want) in [
-        (DataType::Null, DataType::Null, DataType::Null),
-        (DataType::Null, DataType::Boolean, DataType::Boolean),
-        (DataType::Null, DataType::Int8, DataType::Int8),
-        (DataType::Null, DataType::UInt64, DataType::UInt64),
-        (DataType::Null, DataType::String, DataType::String),
-        (DataType::Null, DataType::Date, DataType::Date),
-        (DataType::Null, DataType::Time, DataType::Time),
+        (Null, Null, Null),
+        (Null, Boolean, Boolean),
+        (Null, Int8, Int8),
+        (Null, UInt64, UInt64),
+        (Null, DataType::String, DataType::String),
+        (Null, Date, Date),
+        (Null, Time, Time),
+        (Null, Datetime(Microseconds), Datetime(Microseconds)),
+        (Null, Duration(Milliseconds), Duration(Milliseconds)),
         (
-            DataType::Null,
-            DataType::Datetime(TimeUnit::Microseconds),
-            DataType::Datetime(TimeUnit::Microseconds),
-        ),
-        (
-            DataType::Null,
-            DataType::Duration(TimeUnit::Milliseconds),
-            DataType::Duration(TimeUnit::Milliseconds),
-        ),
-        (
-            DataType::Null,
-            DataType::Unknown(UnknownKind::Int(5)),
-            DataType::Unknown(UnknownKind::Int(5)),
+            Null,
+            Unknown(UnknownKind::Int(5)),
+            Unknown(UnknownKind::Int(5)),
         ),
     ] {
         assert_supertype(&rt, rt.alloc(), &left, &right, Some(&want))?;
@@ -123,15 +116,15 @@ fn null_is_of_any_type(rt: HostRuntime) -> Result<(), Fail> {
 #[test]
 fn truth_values_and_integers_are_written_beside_texts(rt: HostRuntime) -> Result<(), Fail> {
     for (left, right, want) in [
-        (DataType::String, DataType::Boolean, DataType::String),
-        (DataType::String, DataType::Int8, DataType::String),
-        (DataType::String, DataType::Int16, DataType::String),
-        (DataType::String, DataType::Int32, DataType::String),
-        (DataType::String, DataType::Int64, DataType::String),
-        (DataType::String, DataType::UInt8, DataType::String),
-        (DataType::String, DataType::UInt16, DataType::String),
-        (DataType::String, DataType::UInt32, DataType::String),
-        (DataType::String, DataType::UInt64, DataType::String),
+        (DataType::String, Boolean, DataType::String),
+        (DataType::String, Int8, DataType::String),
+        (DataType::String, Int16, DataType::String),
+        (DataType::String, Int32, DataType::String),
+        (DataType::String, Int64, DataType::String),
+        (DataType::String, UInt8, DataType::String),
+        (DataType::String, UInt16, DataType::String),
+        (DataType::String, UInt32, DataType::String),
+        (DataType::String, UInt64, DataType::String),
         (DataType::String, DataType::String, DataType::String),
     ] {
         assert_supertype(&rt, rt.alloc(), &left, &right, Some(&want))?;
@@ -142,62 +135,50 @@ fn truth_values_and_integers_are_written_beside_texts(rt: HostRuntime) -> Result
 #[test]
 fn times_have_common_types(rt: HostRuntime) -> Result<(), Fail> {
     for (left, right, want) in [
-        (DataType::Date, DataType::Date, DataType::Date),
-        (DataType::Time, DataType::Time, DataType::Time),
+        (Date, Date, Date),
+        (Time, Time, Time),
+        (Date, Datetime(Nanoseconds), Datetime(Nanoseconds)),
+        (Date, Datetime(Microseconds), Datetime(Microseconds)),
+        (Date, Datetime(Milliseconds), Datetime(Milliseconds)),
         (
-            DataType::Date,
-            DataType::Datetime(TimeUnit::Nanoseconds),
-            DataType::Datetime(TimeUnit::Nanoseconds),
+            Datetime(Nanoseconds),
+            Datetime(Nanoseconds),
+            Datetime(Nanoseconds),
         ),
         (
-            DataType::Date,
-            DataType::Datetime(TimeUnit::Microseconds),
-            DataType::Datetime(TimeUnit::Microseconds),
+            Datetime(Nanoseconds),
+            Datetime(Microseconds),
+            Datetime(Microseconds),
         ),
         (
-            DataType::Date,
-            DataType::Datetime(TimeUnit::Milliseconds),
-            DataType::Datetime(TimeUnit::Milliseconds),
+            Datetime(Nanoseconds),
+            Datetime(Milliseconds),
+            Datetime(Milliseconds),
         ),
         (
-            DataType::Datetime(TimeUnit::Nanoseconds),
-            DataType::Datetime(TimeUnit::Nanoseconds),
-            DataType::Datetime(TimeUnit::Nanoseconds),
+            Datetime(Microseconds),
+            Datetime(Milliseconds),
+            Datetime(Milliseconds),
         ),
         (
-            DataType::Datetime(TimeUnit::Nanoseconds),
-            DataType::Datetime(TimeUnit::Microseconds),
-            DataType::Datetime(TimeUnit::Microseconds),
+            Duration(Nanoseconds),
+            Duration(Microseconds),
+            Duration(Microseconds),
         ),
         (
-            DataType::Datetime(TimeUnit::Nanoseconds),
-            DataType::Datetime(TimeUnit::Milliseconds),
-            DataType::Datetime(TimeUnit::Milliseconds),
+            Duration(Nanoseconds),
+            Duration(Milliseconds),
+            Duration(Milliseconds),
         ),
         (
-            DataType::Datetime(TimeUnit::Microseconds),
-            DataType::Datetime(TimeUnit::Milliseconds),
-            DataType::Datetime(TimeUnit::Milliseconds),
+            Duration(Microseconds),
+            Duration(Milliseconds),
+            Duration(Milliseconds),
         ),
         (
-            DataType::Duration(TimeUnit::Nanoseconds),
-            DataType::Duration(TimeUnit::Microseconds),
-            DataType::Duration(TimeUnit::Microseconds),
-        ),
-        (
-            DataType::Duration(TimeUnit::Nanoseconds),
-            DataType::Duration(TimeUnit::Milliseconds),
-            DataType::Duration(TimeUnit::Milliseconds),
-        ),
-        (
-            DataType::Duration(TimeUnit::Microseconds),
-            DataType::Duration(TimeUnit::Milliseconds),
-            DataType::Duration(TimeUnit::Milliseconds),
-        ),
-        (
-            DataType::Duration(TimeUnit::Milliseconds),
-            DataType::Duration(TimeUnit::Milliseconds),
-            DataType::Duration(TimeUnit::Milliseconds),
+            Duration(Milliseconds),
+            Duration(Milliseconds),
+            Duration(Milliseconds),
         ),
     ] {
         assert_supertype(&rt, rt.alloc(), &left, &right, Some(&want))?;
@@ -226,28 +207,25 @@ fn assert_none(
 #[test]
 fn types_without_a_common_one_are_refused(rt: HostRuntime) -> Result<(), Fail> {
     for (left, right) in [
-        (DataType::UInt64, DataType::Int8),
-        (DataType::UInt64, DataType::Int64),
-        (DataType::String, DataType::Date),
-        (DataType::String, DataType::Time),
-        (DataType::String, DataType::Datetime(TimeUnit::Nanoseconds)),
-        (DataType::String, DataType::Duration(TimeUnit::Milliseconds)),
-        (DataType::Boolean, DataType::Date),
-        (DataType::Boolean, DataType::Duration(TimeUnit::Nanoseconds)),
-        (DataType::Int32, DataType::Date),
-        (DataType::Int64, DataType::Time),
-        (DataType::Int64, DataType::Datetime(TimeUnit::Microseconds)),
-        (DataType::UInt64, DataType::Duration(TimeUnit::Microseconds)),
-        (DataType::Date, DataType::Time),
-        (DataType::Date, DataType::Duration(TimeUnit::Milliseconds)),
-        (DataType::Time, DataType::Datetime(TimeUnit::Nanoseconds)),
-        (DataType::Time, DataType::Duration(TimeUnit::Nanoseconds)),
-        (
-            DataType::Datetime(TimeUnit::Microseconds),
-            DataType::Duration(TimeUnit::Microseconds),
-        ),
-        (DataType::Unknown(UnknownKind::Int(5)), DataType::Int64),
-        (DataType::Unknown(UnknownKind::Int(5)), DataType::String),
+        (UInt64, Int8),
+        (UInt64, Int64),
+        (DataType::String, Date),
+        (DataType::String, Time),
+        (DataType::String, Datetime(Nanoseconds)),
+        (DataType::String, Duration(Milliseconds)),
+        (Boolean, Date),
+        (Boolean, Duration(Nanoseconds)),
+        (Int32, Date),
+        (Int64, Time),
+        (Int64, Datetime(Microseconds)),
+        (UInt64, Duration(Microseconds)),
+        (Date, Time),
+        (Date, Duration(Milliseconds)),
+        (Time, Datetime(Nanoseconds)),
+        (Time, Duration(Nanoseconds)),
+        (Datetime(Microseconds), Duration(Microseconds)),
+        (Unknown(UnknownKind::Int(5)), Int64),
+        (Unknown(UnknownKind::Int(5)), DataType::String),
     ] {
         assert_none(&rt, rt.alloc(), &left, &right)?;
     }
@@ -257,14 +235,10 @@ fn types_without_a_common_one_are_refused(rt: HostRuntime) -> Result<(), Fail> {
 #[test]
 fn a_common_type_is_no_refusal(rt: HostRuntime) -> Result<(), Fail> {
     for (left, right, want) in [
-        (DataType::UInt32, DataType::Int32, DataType::Int64),
-        (DataType::Null, DataType::Date, DataType::Date),
-        (DataType::String, DataType::UInt8, DataType::String),
-        (
-            DataType::Date,
-            DataType::Datetime(TimeUnit::Microseconds),
-            DataType::Datetime(TimeUnit::Microseconds),
-        ),
+        (UInt32, Int32, Int64),
+        (Null, Date, Date),
+        (DataType::String, UInt8, DataType::String),
+        (Date, Datetime(Microseconds), Datetime(Microseconds)),
     ] {
         let found = try_get_supertype(rt.alloc(), &left, &right)?;
         assert!(rt; found == want);

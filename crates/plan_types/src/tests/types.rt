@@ -1,33 +1,38 @@
 //! Types: their classes, widths, copies, equality and hashes, and units of time.
 
 use super::hash_of;
-use crate::dtype::{CastOptions, DataType, TimeUnit, UnknownKind, get_time_units};
+use crate::dtype::DataType::{
+    Boolean, Date, Datetime, Duration, Int8, Int16, Int32, Int64, Null, Time, UInt8, UInt16,
+    UInt32, UInt64, Unknown,
+};
+use crate::dtype::TimeUnit::{Microseconds, Milliseconds, Nanoseconds};
+use crate::dtype::{CastOptions, DataType, UnknownKind, get_time_units};
 use std::test::Fail;
 
 // Each type, and those of two numbers without one.
 fn all_types() -> [DataType; 21] {
     [
-        DataType::Null,
-        DataType::Boolean,
-        DataType::Int8,
-        DataType::Int16,
-        DataType::Int32,
-        DataType::Int64,
-        DataType::UInt8,
-        DataType::UInt16,
-        DataType::UInt32,
-        DataType::UInt64,
+        Null,
+        Boolean,
+        Int8,
+        Int16,
+        Int32,
+        Int64,
+        UInt8,
+        UInt16,
+        UInt32,
+        UInt64,
         DataType::String,
-        DataType::Date,
-        DataType::Time,
-        DataType::Datetime(TimeUnit::Nanoseconds),
-        DataType::Datetime(TimeUnit::Microseconds),
-        DataType::Datetime(TimeUnit::Milliseconds),
-        DataType::Duration(TimeUnit::Nanoseconds),
-        DataType::Duration(TimeUnit::Microseconds),
-        DataType::Duration(TimeUnit::Milliseconds),
-        DataType::Unknown(UnknownKind::Int(1)),
-        DataType::Unknown(UnknownKind::Int(-1)),
+        Date,
+        Time,
+        Datetime(Nanoseconds),
+        Datetime(Microseconds),
+        Datetime(Milliseconds),
+        Duration(Nanoseconds),
+        Duration(Microseconds),
+        Duration(Milliseconds),
+        Unknown(UnknownKind::Int(1)),
+        Unknown(UnknownKind::Int(-1)),
     ]
 }
 
@@ -56,14 +61,14 @@ fn copies_are_equal_and_hashed_alike(rt: HostRuntime) -> Result<(), Fail> {
 #[test]
 fn integers_tell_sign_and_width(rt: HostRuntime) -> Result<(), Fail> {
     for (dtype, signed, width) in [
-        (DataType::Int8, true, 8),
-        (DataType::Int16, true, 16),
-        (DataType::Int32, true, 32),
-        (DataType::Int64, true, 64),
-        (DataType::UInt8, false, 8),
-        (DataType::UInt16, false, 16),
-        (DataType::UInt32, false, 32),
-        (DataType::UInt64, false, 64),
+        (Int8, true, 8),
+        (Int16, true, 16),
+        (Int32, true, 32),
+        (Int64, true, 64),
+        (UInt8, false, 8),
+        (UInt16, false, 16),
+        (UInt32, false, 32),
+        (UInt64, false, 64),
     ] {
         assert!(rt; dtype.is_integer());
         assert_eq!(rt; dtype.is_signed_integer(), signed);
@@ -80,15 +85,15 @@ fn integers_tell_sign_and_width(rt: HostRuntime) -> Result<(), Fail> {
 #[test]
 fn other_types_are_no_integers(rt: HostRuntime) -> Result<(), Fail> {
     for (dtype, temporal, ord, known) in [
-        (DataType::Null, false, false, true),
-        (DataType::Boolean, false, true, true),
+        (Null, false, false, true),
+        (Boolean, false, true, true),
         (DataType::String, false, true, true),
-        (DataType::Date, true, true, true),
-        (DataType::Time, true, true, true),
-        (DataType::Datetime(TimeUnit::Nanoseconds), true, true, true),
-        (DataType::Datetime(TimeUnit::Milliseconds), true, true, true),
-        (DataType::Duration(TimeUnit::Microseconds), true, true, true),
-        (DataType::Unknown(UnknownKind::Int(1)), false, false, false),
+        (Date, true, true, true),
+        (Time, true, true, true),
+        (Datetime(Nanoseconds), true, true, true),
+        (Datetime(Milliseconds), true, true, true),
+        (Duration(Microseconds), true, true, true),
+        (Unknown(UnknownKind::Int(1)), false, false, false),
     ] {
         assert!(rt; !dtype.is_integer());
         assert!(rt; !dtype.is_signed_integer());
@@ -107,40 +112,16 @@ fn types_have_the_times_of_their_range(rt: HostRuntime) -> Result<(), Fail> {
     let (greatest, past) = (9_223_372_036_854_775_807, 9_223_372_036_854_775_808);
     for (dtype, below, least, greatest, past) in [
         (
-            DataType::Date,
+            Date,
             -2_147_483_649,
             -2_147_483_648,
             2_147_483_647,
             2_147_483_648,
         ),
-        (
-            DataType::Time,
-            -1,
-            0,
-            86_399_999_999_999,
-            86_400_000_000_000,
-        ),
-        (
-            DataType::Datetime(TimeUnit::Nanoseconds),
-            below,
-            least,
-            greatest,
-            past,
-        ),
-        (
-            DataType::Datetime(TimeUnit::Milliseconds),
-            below,
-            least,
-            greatest,
-            past,
-        ),
-        (
-            DataType::Duration(TimeUnit::Microseconds),
-            below,
-            least,
-            greatest,
-            past,
-        ),
+        (Time, -1, 0, 86_399_999_999_999, 86_400_000_000_000),
+        (Datetime(Nanoseconds), below, least, greatest, past),
+        (Datetime(Milliseconds), below, least, greatest, past),
+        (Duration(Microseconds), below, least, greatest, past),
     ] {
         for (number, has) in [
             (below, false),
@@ -156,7 +137,7 @@ fn types_have_the_times_of_their_range(rt: HostRuntime) -> Result<(), Fail> {
 
 #[test]
 fn other_types_have_no_numbers(rt: HostRuntime) -> Result<(), Fail> {
-    for dtype in [DataType::Null, DataType::Boolean, DataType::String] {
+    for dtype in [Null, Boolean, DataType::String] {
         for number in [-1, 0, 1] {
             assert!(rt; !dtype.has_number(number));
         }
@@ -167,36 +148,12 @@ fn other_types_have_no_numbers(rt: HostRuntime) -> Result<(), Fail> {
 #[test]
 fn the_coarser_unit_is_taken(rt: HostRuntime) -> Result<(), Fail> {
     for (left, right, want) in [
-        (
-            TimeUnit::Nanoseconds,
-            TimeUnit::Nanoseconds,
-            TimeUnit::Nanoseconds,
-        ),
-        (
-            TimeUnit::Nanoseconds,
-            TimeUnit::Microseconds,
-            TimeUnit::Microseconds,
-        ),
-        (
-            TimeUnit::Nanoseconds,
-            TimeUnit::Milliseconds,
-            TimeUnit::Milliseconds,
-        ),
-        (
-            TimeUnit::Microseconds,
-            TimeUnit::Microseconds,
-            TimeUnit::Microseconds,
-        ),
-        (
-            TimeUnit::Microseconds,
-            TimeUnit::Milliseconds,
-            TimeUnit::Milliseconds,
-        ),
-        (
-            TimeUnit::Milliseconds,
-            TimeUnit::Milliseconds,
-            TimeUnit::Milliseconds,
-        ),
+        (Nanoseconds, Nanoseconds, Nanoseconds),
+        (Nanoseconds, Microseconds, Microseconds),
+        (Nanoseconds, Milliseconds, Milliseconds),
+        (Microseconds, Microseconds, Microseconds),
+        (Microseconds, Milliseconds, Milliseconds),
+        (Milliseconds, Milliseconds, Milliseconds),
     ] {
         assert!(rt; get_time_units(left, right) == want);
         assert!(rt; get_time_units(right, left) == want);
@@ -207,9 +164,9 @@ fn the_coarser_unit_is_taken(rt: HostRuntime) -> Result<(), Fail> {
 #[test]
 fn a_day_has_so_many_of_a_unit(rt: HostRuntime) -> Result<(), Fail> {
     for (unit, per_day, rank) in [
-        (TimeUnit::Nanoseconds, 86_400_000_000_000, 0),
-        (TimeUnit::Microseconds, 86_400_000_000, 1),
-        (TimeUnit::Milliseconds, 86_400_000, 2),
+        (Nanoseconds, 86_400_000_000_000, 0),
+        (Microseconds, 86_400_000_000, 1),
+        (Milliseconds, 86_400_000, 2),
     ] {
         assert_eq!(rt; unit.per_day(), per_day);
         assert_eq!(rt; unit.rank(), rank);
