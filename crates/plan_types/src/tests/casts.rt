@@ -5,7 +5,7 @@ use crate::dtype::DataType::{
     Boolean, Date, Datetime, Duration, Int8, Int16, Int32, Int64, Null, Time, UInt8, UInt16,
     UInt32, UInt64, Unknown,
 };
-use crate::dtype::TimeUnit::{Microseconds, Milliseconds, Nanoseconds};
+use crate::dtype::TimeUnit::{Microseconds as Us, Milliseconds as Ms, Nanoseconds as Ns};
 use crate::dtype::{CastOptions, DataType, UnknownKind};
 use crate::error::PlanError;
 use crate::frame::FrameError;
@@ -86,124 +86,51 @@ fn assert_number(
 }
 
 #[test]
-fn days_are_cast_to_moments(rt: HostRuntime) -> Result<(), Fail> {
-    for (number, to, want) in [
-        (10_957, Datetime(Nanoseconds), Some(946_684_800_000_000_000)),
-        (10_957, Datetime(Microseconds), Some(946_684_800_000_000)),
-        (10_957, Datetime(Milliseconds), Some(946_684_800_000)),
-        (-1, Datetime(Nanoseconds), Some(-86_400_000_000_000)),
-        (0, Datetime(Nanoseconds), Some(0)),
-        (
-            106_751,
-            Datetime(Nanoseconds),
-            Some(9_223_286_400_000_000_000),
-        ),
-        (106_752, Datetime(Nanoseconds), None),
-        (-2_147_483_648, Datetime(Nanoseconds), None),
-        (2_147_483_647, Datetime(Nanoseconds), None),
-        (2_147_483_647, Datetime(Microseconds), None),
-        (
-            -2_147_483_648,
-            Datetime(Milliseconds),
-            Some(-185_542_587_187_200_000),
-        ),
+fn days_and_moments_are_cast(rt: HostRuntime) -> Result<(), Fail> {
+    for (number, from, to, want) in [
+        (10_957, Date, Datetime(Ns), Some(946_684_800_000_000_000)),
+        (10_957, Date, Datetime(Us), Some(946_684_800_000_000)),
+        (10_957, Date, Datetime(Ms), Some(946_684_800_000)),
+        (-1, Date, Datetime(Ns), Some(-86_400_000_000_000)),
+        (2_147_483_647, Date, Datetime(Ns), None),
+        (-2_147_483_648, Date, Datetime(Us), None),
         (
             2_147_483_647,
-            Datetime(Milliseconds),
+            Date,
+            Datetime(Ms),
             Some(185_542_587_100_800_000),
         ),
-        (-5, Date, Some(-5)),
-    ] {
-        let from = Date;
-        assert_number(&rt, rt.alloc(), number, &from, &to, want)?;
-    }
-    Ok(())
-}
-
-#[test]
-fn moments_are_cast_to_days(rt: HostRuntime) -> Result<(), Fail> {
-    for (number, from, want) in [
-        (946_684_800_000_000_000, Datetime(Nanoseconds), Some(10_957)),
-        (946_684_800_000_000, Datetime(Microseconds), Some(10_957)),
-        (946_684_800_000, Datetime(Milliseconds), Some(10_957)),
-        (0, Datetime(Nanoseconds), Some(0)),
-        (-1, Datetime(Nanoseconds), Some(-1)),
-        (86_399_999_999_999, Datetime(Nanoseconds), Some(0)),
-        (-86_400_000_000_000, Datetime(Nanoseconds), Some(-1)),
-        (-86_400_000_000_001, Datetime(Nanoseconds), Some(-2)),
         (
-            185_542_587_187_199_999,
-            Datetime(Milliseconds),
-            Some(2_147_483_647),
+            -2_147_483_648,
+            Date,
+            Datetime(Ms),
+            Some(-185_542_587_187_200_000),
         ),
-        (185_542_587_187_200_000, Datetime(Milliseconds), None),
-        (-185_542_587_187_200_001, Datetime(Milliseconds), None),
+        (0, Datetime(Ns), Date, Some(0)),
+        (-1, Datetime(Ns), Date, Some(-1)),
+        (86_399_999_999_999, Datetime(Ns), Date, Some(0)),
+        (-86_400_000_000_001, Datetime(Ns), Date, Some(-2)),
+        (946_684_800_000_000, Datetime(Us), Date, Some(10_957)),
+        (185_542_587_187_200_000, Datetime(Ms), Date, None),
     ] {
-        let to = Date;
         assert_number(&rt, rt.alloc(), number, &from, &to, want)?;
     }
     Ok(())
 }
 
 #[test]
-fn moments_are_cast_to_other_units(rt: HostRuntime) -> Result<(), Fail> {
+fn moments_and_spans_are_cast_to_other_units(rt: HostRuntime) -> Result<(), Fail> {
     for (number, from, to, want) in [
-        (
-            1_999,
-            Datetime(Nanoseconds),
-            Datetime(Microseconds),
-            Some(1),
-        ),
-        (
-            -1_001,
-            Datetime(Nanoseconds),
-            Datetime(Microseconds),
-            Some(-2),
-        ),
-        (-1, Datetime(Nanoseconds), Datetime(Milliseconds), Some(-1)),
-        (
-            -1_000_000,
-            Datetime(Nanoseconds),
-            Datetime(Milliseconds),
-            Some(-1),
-        ),
-        (
-            1_999,
-            Datetime(Microseconds),
-            Datetime(Milliseconds),
-            Some(1),
-        ),
-        (
-            -7,
-            Datetime(Milliseconds),
-            Datetime(Microseconds),
-            Some(-7_000),
-        ),
-        (
-            7,
-            Datetime(Milliseconds),
-            Datetime(Nanoseconds),
-            Some(7_000_000),
-        ),
-        (
-            -9_223_372_036_854,
-            Datetime(Milliseconds),
-            Datetime(Nanoseconds),
-            Some(-9_223_372_036_854_000_000),
-        ),
-        (
-            9_223_372_036_855,
-            Datetime(Milliseconds),
-            Datetime(Nanoseconds),
-            None,
-        ),
-        (
-            9_223_372_036_854_776,
-            Datetime(Microseconds),
-            Datetime(Nanoseconds),
-            None,
-        ),
-        (-5, Datetime(Microseconds), Datetime(Microseconds), Some(-5)),
+        (-1, Datetime(Ns), Datetime(Ms), Some(-1)),
+        (1_999, Datetime(Ns), Datetime(Us), Some(1)),
+        (-7, Datetime(Ms), Datetime(Us), Some(-7_000)),
+        (7, Datetime(Ms), Datetime(Ns), Some(7_000_000)),
+        (9_223_372_036_855, Datetime(Ms), Datetime(Ns), None),
+        (-5, Datetime(Us), Datetime(Us), Some(-5)),
+        (-1_001, Duration(Ns), Duration(Us), Some(-2)),
+        (1_999, Duration(Us), Duration(Ms), Some(1)),
+        (7, Duration(Ms), Duration(Ns), Some(7_000_000)),
+        (9_223_372_036_854_776, Duration(Us), Duration(Ns), None),
     ] {
         assert_number(&rt, rt.alloc(), number, &from, &to, want)?;
     }
@@ -211,114 +138,21 @@ fn moments_are_cast_to_other_units(rt: HostRuntime) -> Result<(), Fail> {
 }
 
 #[test]
-fn spans_are_cast_to_other_units(rt: HostRuntime) -> Result<(), Fail> {
+fn times_are_cast_to_numbers_and_back(rt: HostRuntime) -> Result<(), Fail> {
     for (number, from, to, want) in [
-        (
-            1_999,
-            Duration(Nanoseconds),
-            Duration(Microseconds),
-            Some(1),
-        ),
-        (
-            -1_001,
-            Duration(Nanoseconds),
-            Duration(Microseconds),
-            Some(-2),
-        ),
-        (-1, Duration(Nanoseconds), Duration(Milliseconds), Some(-1)),
-        (
-            -1_000_000,
-            Duration(Nanoseconds),
-            Duration(Milliseconds),
-            Some(-1),
-        ),
-        (
-            1_999,
-            Duration(Microseconds),
-            Duration(Milliseconds),
-            Some(1),
-        ),
-        (
-            -7,
-            Duration(Milliseconds),
-            Duration(Microseconds),
-            Some(-7_000),
-        ),
-        (
-            7,
-            Duration(Milliseconds),
-            Duration(Nanoseconds),
-            Some(7_000_000),
-        ),
-        (
-            -9_223_372_036_854,
-            Duration(Milliseconds),
-            Duration(Nanoseconds),
-            Some(-9_223_372_036_854_000_000),
-        ),
-        (
-            9_223_372_036_855,
-            Duration(Milliseconds),
-            Duration(Nanoseconds),
-            None,
-        ),
-        (
-            9_223_372_036_854_776,
-            Duration(Microseconds),
-            Duration(Nanoseconds),
-            None,
-        ),
-        (-5, Duration(Microseconds), Duration(Microseconds), Some(-5)),
+        (-1, Date, Int64, Some(-1)),
+        (86_399_999_999_999, Time, Int64, Some(86_399_999_999_999)),
+        (-8, Datetime(Ns), Int64, Some(-8)),
+        (9, Duration(Ms), Int64, Some(9)),
+        (2_147_483_647, Int64, Date, Some(2_147_483_647)),
+        (2_147_483_648, Int64, Date, None),
+        (0, Int64, Time, Some(0)),
+        (-1, Int64, Time, None),
+        (86_400_000_000_000, Int64, Time, None),
+        (-8, Int64, Datetime(Us), Some(-8)),
+        (9, Int64, Duration(Ns), Some(9)),
+        (5, Time, Time, Some(5)),
     ] {
-        assert_number(&rt, rt.alloc(), number, &from, &to, want)?;
-    }
-    Ok(())
-}
-
-#[test]
-fn times_are_cast_to_numbers(rt: HostRuntime) -> Result<(), Fail> {
-    for (number, from, want) in [
-        (-1, Date, Some(-1)),
-        (86_399_999_999_999, Time, Some(86_399_999_999_999)),
-        (
-            -9_223_372_036_854_775_808,
-            Datetime(Nanoseconds),
-            Some(-9_223_372_036_854_775_808),
-        ),
-        (
-            9_223_372_036_854_775_807,
-            Duration(Milliseconds),
-            Some(9_223_372_036_854_775_807),
-        ),
-    ] {
-        let to = Int64;
-        assert_number(&rt, rt.alloc(), number, &from, &to, want)?;
-    }
-    Ok(())
-}
-
-#[test]
-fn numbers_are_cast_to_times(rt: HostRuntime) -> Result<(), Fail> {
-    for (number, to, want) in [
-        (2_147_483_647, Date, Some(2_147_483_647)),
-        (2_147_483_648, Date, None),
-        (-2_147_483_649, Date, None),
-        (86_399_999_999_999, Time, Some(86_399_999_999_999)),
-        (0, Time, Some(0)),
-        (86_400_000_000_000, Time, None),
-        (-1, Time, None),
-        (
-            -9_223_372_036_854_775_808,
-            Datetime(Microseconds),
-            Some(-9_223_372_036_854_775_808),
-        ),
-        (
-            9_223_372_036_854_775_807,
-            Duration(Nanoseconds),
-            Some(9_223_372_036_854_775_807),
-        ),
-    ] {
-        let from = Int64;
         assert_number(&rt, rt.alloc(), number, &from, &to, want)?;
     }
     Ok(())
@@ -449,14 +283,14 @@ fn null_stays_null(rt: HostRuntime) -> Result<(), Fail> {
         (Null, UInt64),
         (Null, DataType::String),
         (Null, Date),
-        (Null, Duration(Milliseconds)),
+        (Null, Duration(Ms)),
         (Boolean, DataType::String),
         (Int8, Boolean),
         (DataType::String, Int8),
-        (Date, Datetime(Nanoseconds)),
-        (Datetime(Milliseconds), Date),
-        (Datetime(Nanoseconds), Datetime(Microseconds)),
-        (Duration(Microseconds), Duration(Nanoseconds)),
+        (Date, Datetime(Ns)),
+        (Datetime(Ms), Date),
+        (Datetime(Ns), Datetime(Us)),
+        (Duration(Us), Duration(Ns)),
         (Time, Int64),
         (Int64, Time),
     ] {
@@ -480,21 +314,21 @@ fn there_are_casts(rt: HostRuntime) -> Result<(), Fail> {
         (Int64, Int64),
         (Int64, Date),
         (Int64, Time),
-        (Int64, Datetime(Microseconds)),
-        (Int64, Duration(Nanoseconds)),
+        (Int64, Datetime(Us)),
+        (Int64, Duration(Ns)),
         (DataType::String, DataType::String),
         (DataType::String, Int8),
         (DataType::String, UInt64),
         (Date, Date),
-        (Date, Datetime(Milliseconds)),
+        (Date, Datetime(Ms)),
         (Date, Int64),
         (Time, Time),
         (Time, Int64),
-        (Datetime(Nanoseconds), Date),
-        (Datetime(Nanoseconds), Datetime(Milliseconds)),
-        (Datetime(Milliseconds), Int64),
-        (Duration(Milliseconds), Duration(Nanoseconds)),
-        (Duration(Microseconds), Int64),
+        (Datetime(Ns), Date),
+        (Datetime(Ns), Datetime(Ms)),
+        (Datetime(Ms), Int64),
+        (Duration(Ms), Duration(Ns)),
+        (Duration(Us), Int64),
     ] {
         assert!(rt; can_cast(&from, &to));
     }
@@ -514,27 +348,27 @@ fn there_are_no_other_casts(rt: HostRuntime) -> Result<(), Fail> {
         (Unknown(UnknownKind::Int(5)), Unknown(UnknownKind::Int(5))),
         (Boolean, Date),
         (Int32, Date),
-        (UInt64, Datetime(Nanoseconds)),
-        (Int8, Duration(Milliseconds)),
+        (UInt64, Datetime(Ns)),
+        (Int8, Duration(Ms)),
         (DataType::String, Boolean),
         (DataType::String, Date),
         (DataType::String, Time),
-        (DataType::String, Datetime(Nanoseconds)),
+        (DataType::String, Datetime(Ns)),
         (Date, Int32),
         (Date, Time),
         (Date, DataType::String),
         (Date, Boolean),
-        (Date, Duration(Milliseconds)),
+        (Date, Duration(Ms)),
         (Time, Date),
-        (Time, Datetime(Nanoseconds)),
-        (Time, Duration(Nanoseconds)),
+        (Time, Datetime(Ns)),
+        (Time, Duration(Ns)),
         (Time, UInt64),
-        (Datetime(Nanoseconds), Time),
-        (Datetime(Nanoseconds), Duration(Nanoseconds)),
-        (Datetime(Nanoseconds), DataType::String),
-        (Duration(Milliseconds), Datetime(Milliseconds)),
-        (Duration(Milliseconds), Date),
-        (Duration(Milliseconds), Int32),
+        (Datetime(Ns), Time),
+        (Datetime(Ns), Duration(Ns)),
+        (Datetime(Ns), DataType::String),
+        (Duration(Ms), Datetime(Ms)),
+        (Duration(Ms), Date),
+        (Duration(Ms), Int32),
     ] {
         assert!(rt; !can_cast(&from, &to));
     }

@@ -4,7 +4,7 @@ use crate::dtype::DataType::{
     Boolean, Date, Datetime, Duration, Int8, Int16, Int32, Int64, Null, Time, UInt8, UInt16,
     UInt32, UInt64, Unknown,
 };
-use crate::dtype::TimeUnit::{Microseconds, Milliseconds, Nanoseconds};
+use crate::dtype::TimeUnit::{Microseconds as Us, Milliseconds as Ms, Nanoseconds as Ns};
 use crate::dtype::{DataType, UnknownKind};
 use crate::error::ErrorKind;
 use crate::supertype::{get_supertype, try_get_supertype};
@@ -100,8 +100,8 @@ fn null_is_of_any_type(rt: HostRuntime) -> Result<(), Fail> {
         (Null, DataType::String, DataType::String),
         (Null, Date, Date),
         (Null, Time, Time),
-        (Null, Datetime(Microseconds), Datetime(Microseconds)),
-        (Null, Duration(Milliseconds), Duration(Milliseconds)),
+        (Null, Datetime(Us), Datetime(Us)),
+        (Null, Duration(Ms), Duration(Ms)),
         (
             Null,
             Unknown(UnknownKind::Int(5)),
@@ -137,49 +137,17 @@ fn times_have_common_types(rt: HostRuntime) -> Result<(), Fail> {
     for (left, right, want) in [
         (Date, Date, Date),
         (Time, Time, Time),
-        (Date, Datetime(Nanoseconds), Datetime(Nanoseconds)),
-        (Date, Datetime(Microseconds), Datetime(Microseconds)),
-        (Date, Datetime(Milliseconds), Datetime(Milliseconds)),
-        (
-            Datetime(Nanoseconds),
-            Datetime(Nanoseconds),
-            Datetime(Nanoseconds),
-        ),
-        (
-            Datetime(Nanoseconds),
-            Datetime(Microseconds),
-            Datetime(Microseconds),
-        ),
-        (
-            Datetime(Nanoseconds),
-            Datetime(Milliseconds),
-            Datetime(Milliseconds),
-        ),
-        (
-            Datetime(Microseconds),
-            Datetime(Milliseconds),
-            Datetime(Milliseconds),
-        ),
-        (
-            Duration(Nanoseconds),
-            Duration(Microseconds),
-            Duration(Microseconds),
-        ),
-        (
-            Duration(Nanoseconds),
-            Duration(Milliseconds),
-            Duration(Milliseconds),
-        ),
-        (
-            Duration(Microseconds),
-            Duration(Milliseconds),
-            Duration(Milliseconds),
-        ),
-        (
-            Duration(Milliseconds),
-            Duration(Milliseconds),
-            Duration(Milliseconds),
-        ),
+        (Date, Datetime(Ns), Datetime(Ns)),
+        (Date, Datetime(Us), Datetime(Us)),
+        (Date, Datetime(Ms), Datetime(Ms)),
+        (Datetime(Ns), Datetime(Ns), Datetime(Ns)),
+        (Datetime(Ns), Datetime(Us), Datetime(Us)),
+        (Datetime(Ns), Datetime(Ms), Datetime(Ms)),
+        (Datetime(Us), Datetime(Ms), Datetime(Ms)),
+        (Duration(Ns), Duration(Us), Duration(Us)),
+        (Duration(Ns), Duration(Ms), Duration(Ms)),
+        (Duration(Us), Duration(Ms), Duration(Ms)),
+        (Duration(Ms), Duration(Ms), Duration(Ms)),
     ] {
         assert_supertype(&rt, rt.alloc(), &left, &right, Some(&want))?;
     }
@@ -211,19 +179,19 @@ fn types_without_a_common_one_are_refused(rt: HostRuntime) -> Result<(), Fail> {
         (UInt64, Int64),
         (DataType::String, Date),
         (DataType::String, Time),
-        (DataType::String, Datetime(Nanoseconds)),
-        (DataType::String, Duration(Milliseconds)),
+        (DataType::String, Datetime(Ns)),
+        (DataType::String, Duration(Ms)),
         (Boolean, Date),
-        (Boolean, Duration(Nanoseconds)),
+        (Boolean, Duration(Ns)),
         (Int32, Date),
         (Int64, Time),
-        (Int64, Datetime(Microseconds)),
-        (UInt64, Duration(Microseconds)),
+        (Int64, Datetime(Us)),
+        (UInt64, Duration(Us)),
         (Date, Time),
-        (Date, Duration(Milliseconds)),
-        (Time, Datetime(Nanoseconds)),
-        (Time, Duration(Nanoseconds)),
-        (Datetime(Microseconds), Duration(Microseconds)),
+        (Date, Duration(Ms)),
+        (Time, Datetime(Ns)),
+        (Time, Duration(Ns)),
+        (Datetime(Us), Duration(Us)),
         (Unknown(UnknownKind::Int(5)), Int64),
         (Unknown(UnknownKind::Int(5)), DataType::String),
     ] {
@@ -238,7 +206,7 @@ fn a_common_type_is_no_refusal(rt: HostRuntime) -> Result<(), Fail> {
         (UInt32, Int32, Int64),
         (Null, Date, Date),
         (DataType::String, UInt8, DataType::String),
-        (Date, Datetime(Microseconds), Datetime(Microseconds)),
+        (Date, Datetime(Us), Datetime(Us)),
     ] {
         let found = try_get_supertype(rt.alloc(), &left, &right)?;
         assert!(rt; found == want);

@@ -5,7 +5,7 @@ use crate::dtype::DataType::{
     Boolean, Date, Datetime, Duration, Int8, Int16, Int32, Int64, Null, Time, UInt8, UInt16,
     UInt32, UInt64, Unknown,
 };
-use crate::dtype::TimeUnit::{Microseconds, Milliseconds, Nanoseconds};
+use crate::dtype::TimeUnit::{Microseconds as Us, Milliseconds as Ms, Nanoseconds as Ns};
 use crate::dtype::{CastOptions, DataType, UnknownKind, get_time_units};
 use std::test::Fail;
 
@@ -25,12 +25,12 @@ fn all_types() -> [DataType; 21] {
         DataType::String,
         Date,
         Time,
-        Datetime(Nanoseconds),
-        Datetime(Microseconds),
-        Datetime(Milliseconds),
-        Duration(Nanoseconds),
-        Duration(Microseconds),
-        Duration(Milliseconds),
+        Datetime(Ns),
+        Datetime(Us),
+        Datetime(Ms),
+        Duration(Ns),
+        Duration(Us),
+        Duration(Ms),
         Unknown(UnknownKind::Int(1)),
         Unknown(UnknownKind::Int(-1)),
     ]
@@ -90,9 +90,9 @@ fn other_types_are_no_integers(rt: HostRuntime) -> Result<(), Fail> {
         (DataType::String, false, true, true),
         (Date, true, true, true),
         (Time, true, true, true),
-        (Datetime(Nanoseconds), true, true, true),
-        (Datetime(Milliseconds), true, true, true),
-        (Duration(Microseconds), true, true, true),
+        (Datetime(Ns), true, true, true),
+        (Datetime(Ms), true, true, true),
+        (Duration(Us), true, true, true),
         (Unknown(UnknownKind::Int(1)), false, false, false),
     ] {
         assert!(rt; !dtype.is_integer());
@@ -119,9 +119,9 @@ fn types_have_the_times_of_their_range(rt: HostRuntime) -> Result<(), Fail> {
             2_147_483_648,
         ),
         (Time, -1, 0, 86_399_999_999_999, 86_400_000_000_000),
-        (Datetime(Nanoseconds), below, least, greatest, past),
-        (Datetime(Milliseconds), below, least, greatest, past),
-        (Duration(Microseconds), below, least, greatest, past),
+        (Datetime(Ns), below, least, greatest, past),
+        (Datetime(Ms), below, least, greatest, past),
+        (Duration(Us), below, least, greatest, past),
     ] {
         for (number, has) in [
             (below, false),
@@ -148,12 +148,12 @@ fn other_types_have_no_numbers(rt: HostRuntime) -> Result<(), Fail> {
 #[test]
 fn the_coarser_unit_is_taken(rt: HostRuntime) -> Result<(), Fail> {
     for (left, right, want) in [
-        (Nanoseconds, Nanoseconds, Nanoseconds),
-        (Nanoseconds, Microseconds, Microseconds),
-        (Nanoseconds, Milliseconds, Milliseconds),
-        (Microseconds, Microseconds, Microseconds),
-        (Microseconds, Milliseconds, Milliseconds),
-        (Milliseconds, Milliseconds, Milliseconds),
+        (Ns, Ns, Ns),
+        (Ns, Us, Us),
+        (Ns, Ms, Ms),
+        (Us, Us, Us),
+        (Us, Ms, Ms),
+        (Ms, Ms, Ms),
     ] {
         assert!(rt; get_time_units(left, right) == want);
         assert!(rt; get_time_units(right, left) == want);
@@ -164,9 +164,9 @@ fn the_coarser_unit_is_taken(rt: HostRuntime) -> Result<(), Fail> {
 #[test]
 fn a_day_has_so_many_of_a_unit(rt: HostRuntime) -> Result<(), Fail> {
     for (unit, per_day, rank) in [
-        (Nanoseconds, 86_400_000_000_000, 0),
-        (Microseconds, 86_400_000_000, 1),
-        (Milliseconds, 86_400_000, 2),
+        (Ns, 86_400_000_000_000, 0),
+        (Us, 86_400_000_000, 1),
+        (Ms, 86_400_000, 2),
     ] {
         assert_eq!(rt; unit.per_day(), per_day);
         assert_eq!(rt; unit.rank(), rank);
