@@ -10,6 +10,7 @@ pub mod FrameRowLemmas
 pub mod ListLemmas
 pub mod MadeLemmas
 pub mod NameLemmas
+pub mod OnLiterals
 pub mod PartLemmas
 pub mod ResultLemmas
 pub mod SchemaCallLemmas

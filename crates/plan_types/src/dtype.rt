@@ -1,4 +1,4 @@
-//! Types of columns.
+//! Types of columns, and units of time.
 ghost use Rattle.std.specs.Prelude.{◌≡◌, ◌≢◌, ◌↔◌, ℤ, pos, false, true, IsTrue, MatchOption, IfOk, IfErr};
 ghost use Rattle.plan_types.specs.Errors.{no_memory};
 ghost use Rattle.plan_types.specs.Types.{DatetimeType, DurationType, ListType, Untyped, is_bare, fields_in, fields_of, are_known, same_fields, same_type, coarser, per_day, ty, is_integer, is_known, is_ord, is_signed_integer, is_temporal, is_unsigned_integer, type_code, unit_rank, width_of};
@@ -16,7 +16,7 @@ pub enum CastOptions {
     Strict,
     /// The value becomes null.
     NonStrict,
-    /// The value keeps its low bits.
+    /// A number of an integer type keeps its low bits in another one. Any other value becomes null.
     Overflowing,
 }
 
@@ -85,7 +85,8 @@ pub struct Fields {
     pub items: Vec<Field>,
 }
 
-/// The type of a column, or of a number without one. Contracts see it as a `Ty`.
+/// The type of a column, or of a number without one. Contracts see it as a `Ty`. Two types are equal where these are,
+/// so moments and spans of other units are of other types.
 #[derive(Drop)]
 #[cycle(data_type)]
 pub enum DataType {
@@ -101,13 +102,13 @@ pub enum DataType {
     UInt32,
     UInt64,
     String,
-    /// Days since 1970-01-01.
+    /// Days since 1970-01-01, in the range of Int32.
     Date,
-    /// Nanoseconds since midnight.
+    /// Nanoseconds since midnight, before the next one.
     Time,
-    /// Units since the start of 1970-01-01.
+    /// Units since the start of 1970-01-01, in the range of Int64.
     Datetime(TimeUnit),
-    /// A span of time.
+    /// A span of time in units, in the range of Int64.
     Duration(TimeUnit),
     /// Lists of values of the type.
     List(Box<DataType>),
@@ -162,7 +163,7 @@ impl DataType {
         )
     }
 
-    /// Whether values of the type that aren't null are in an order.
+    /// Whether values of the type that aren't null are in an order: those of each type of columns are, but that of null.
     pub fn is_ord(&self) -> bool
         ensures { result ≡ is_ord (ty self.now) }
     {
