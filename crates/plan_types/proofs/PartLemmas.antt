@@ -1,11 +1,12 @@
 -- The values of a list or a struct, as a row and as a list.
-use Rattle.std.proofs.Common.{◌≡◌, ℕ, ◌≤◌, length, map, take, Vec, Global, refl, sym, ap, ◌∙◌}
+use Rattle.std.proofs.Common.{◌≡◌, ℕ, ◌+◌, ◌<◌, max, refl, sym, ap, ◌∙◌, arith}
 use Rattle.std.proofs.Common.{List as Many}
 use mathlib.Core.Former.{Count}
-use Rattle.std.proofs.lemmas.List.{take_all}
+use denote.Param.Weighed.{most}
 use Rattle.plan_types.specs.Values.{Val, ListValue, StructValue, Vals, no_value, with_value}
 use Rattle.plan_types.specs.ValueViews.{val_of, row_values, values_from, values_in, parts_of}
 use Rattle.plan_types.specs.declared.value.Value.{Value, List, List', Struct, Struct', Row_of-Value, end_of-Value, more_of-Value, items-the_row-Value, items_hidden-the_row-Value-0}
+use Rattle.plan_types.specs.declared.value.Value.TheViews.{size-Value, size-Parts, size_is-Parts, sized-List, sized-Struct}
 use Rattle.plan_types.specs.declared.value.Parts.{Parts}
 
 row_list : (n : _) (row : Row_of-Value n) → row_values row ≡ values_in (items-the_row-Value n row)
@@ -33,3 +34,16 @@ list_of value parts items is shown = ap val_of is ∙ list_values parts ∙ ap (
 
 pub struct_of : (value : Value) (parts : Parts) (items : Many Value) → value ≡ Struct parts → items ≡ parts.items.items → val_of value ≡ StructValue (values_in items)
 struct_of value parts items is shown = ap val_of is ∙ struct_values parts ∙ ap (λ l. StructValue (values_in l)) (sym shown)
+
+-- none of the items is as deep as the value
+pub list_deeper : (value : Value) (parts : Parts) (items : Many Value) → value ≡ List parts → items ≡ parts.items.items → most size-Value items < size-Value value
+list_deeper value parts items is shown =
+    let outer : size-Value (List parts) ≡ max (size-Parts parts) 0 + 1 = sized-List parts in
+    let inner : size-Parts parts ≡ max (most size-Value parts.items.items) 0 + 1 = size_is-Parts parts in
+    omega (arith, ap size-Value is, ap (most size-Value) shown, outer, inner)
+
+pub struct_deeper : (value : Value) (parts : Parts) (items : Many Value) → value ≡ Struct parts → items ≡ parts.items.items → most size-Value items < size-Value value
+struct_deeper value parts items is shown =
+    let outer : size-Value (Struct parts) ≡ max (size-Parts parts) 0 + 1 = sized-Struct parts in
+    let inner : size-Parts parts ≡ max (most size-Value parts.items.items) 0 + 1 = size_is-Parts parts in
+    omega (arith, ap size-Value is, ap (most size-Value) shown, outer, inner)
