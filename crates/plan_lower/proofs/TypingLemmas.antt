@@ -1,12 +1,12 @@
 -- The type of a node, from those of its inputs.
-use Rattle.std.proofs.Common.{◌≡◌, ℕ, Bool, true, false, cond, List, [], ◌∷◌, Option, Some, None, Result, Ok, Err, is_ok, is_some, ◌&&◌, refl, sym, ap, ◌∙◌, ⊎_elim}
+use Rattle.std.proofs.Common.{◌≡◌, ◌≢◌, ℕ, Bool, true, false, cond, List, [], ◌∷◌, Option, Some, None, Result, Ok, Err, is_ok, is_some, ◌&&◌, refl, sym, ap, ◌∙◌, ⊎_elim}
 use Rattle.std.specs.Prelude.{ℤ}
 use Rattle.std.specs.Option.{option_map}
 use Rattle.plan_types.specs.Types.{Ty, Untyped, ty, is_known}
 use Rattle.plan_types.specs.declared.dtype.DataType.{DataType}
 use Rattle.plan_types.specs.Values.{Val, IntValue, in_range}
 use Rattle.plan_types.specs.Schemas.{Columns, Name, type_at}
-use Rattle.plan_types.specs.CommonTypes.{type_alone, literal_type as alone_type}
+use Rattle.plan_types.specs.CommonTypes.{known_type, type_alone, literal_type as alone_type}
 use Rattle.plan_types.specs.Casts.{can_cast}
 use Rattle.plan_types.specs.Errors.{at_top, IsMemoryOr, IsRefusal, no_room, broken}
 use Rattle.plan_types.specs.declared.error.ErrorKind.{ErrorKind}
@@ -79,6 +79,17 @@ pub cast_of : (target : Ty) (alone : Option Ty) (copy : Ty) → is_ok (cast_take
 cast_of target alone copy h same =
     let found = takes_cast target alone h in
     (found.0, found.1 ∙ ap (λ t. Ok (record { operands = found.0 ∷ []; type = t })) (sym same))
+
+-- an operand that is no number without a type has its own alone, where that is one of columns
+alone_own : (from : Ty) → ((number : ℤ) → from ≢ Untyped number) → type_alone from ≡ known_type from
+alone_own (Untyped number) own = absurd (own number refl)
+alone_own _ own = refl
+
+-- and is cast from it
+pub casts_own : (from target : Ty) → ((number : ℤ) → from ≢ Untyped number) → is_ok (cast_taken target (type_alone from)) ≡ (is_known from && can_cast from target)
+casts_own from target own =
+    let answer = λ b. is_ok (cast_taken target (cond b (Some from) None)) ≡ (b && can_cast from target) in
+    ap (λ o. is_ok (cast_taken target o)) (alone_own from own) ∙ elim (is_known from) as answer [ true ↦ has_it (can_cast from target) _ InvalidOperation | false ↦ refl ]
 
 pub takes_no_cast : (target : Ty) (alone : Option Ty) → is_ok (cast_taken target alone) ≡ false → cast_taken target alone ≡ Err InvalidOperation
 takes_no_cast target None h = refl
