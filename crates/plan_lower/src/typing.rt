@@ -115,7 +115,7 @@ fn has_cast(from: &DataType, target: &DataType) -> bool
     ensures { result ≡ is_ok (cast_taken (ty target.now) (type_alone (ty from.now))) }
 {
     let Some(number) = from.untyped_number() else {
-        return from.is_known() && can_cast(from, target);
+        return can_cast(from, target);
     };
     match materialize_dyn_int(number) {
         Some(alone) => can_cast(&alone, target),

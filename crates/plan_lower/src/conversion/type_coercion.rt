@@ -1,8 +1,8 @@
 //! Operands are made of the types to which their node takes them: by casts, or as literals.
-ghost use Rattle.std.specs.Prelude.{◌≡◌, ◌≢◌, ℕ, ℤ, ◌<◌, ◌≤◌, List, [], ◌∷◌, length, false, true, IfOk, IfErr, OnOk};
+ghost use Rattle.std.specs.Prelude.{◌≡◌, ◌≢◌, ℕ, ◌<◌, ◌≤◌, List, [], ◌∷◌, length, false, IfOk, IfErr, OnOk};
 ghost use Rattle.plan_types.specs.Errors.{no_memory};
 ghost use Rattle.plan_types.specs.Schemas.{Columns};
-ghost use Rattle.plan_types.specs.Types.{Ty, ty, is_known, Untyped};
+ghost use Rattle.plan_types.specs.Types.{Ty, ty, Untyped};
 ghost use Rattle.plan_types.specs.declared.dtype.DataType.{DataType};
 ghost use Rattle.plan_dsl.specs.Ops.{Op, BinaryOp, CastOp, Expression};
 ghost use Rattle.plan_dsl.specs.Strictness.{CanBecome};
@@ -184,8 +184,7 @@ fn operand_changes(
 
 // What makes an operand of the first type one of the second.
 fn needed_change(from: &DataType, target: DataType) -> Change
-    requires becomes { CanBecome (ty from.now) (ty target) }
-    requires known { ((number : ℤ) → ty from.now ≢ Untyped number) → is_known (ty from.now) ≡ true }
+    requires { CanBecome (ty from.now) (ty target) }
     ensures { IsChangeFor (ty from.now) (ty target) result }
 {
     if *from == target {

@@ -1,4 +1,4 @@
-use Rattle.std.proofs.Common.{List, [], ◌∷◌, codes, true, Some, refl, ap, arith}
+use Rattle.std.proofs.Common.{◌≡◌, List, [], ◌∷◌, codes, true, false, Some, refl, ap, arith}
 use Rattle.plan_types.specs.Types.{Ty, Truth, Integer, TextType, ListType, StructType, no_field, with_field}
 use Rattle.plan_types.specs.Schemas.{Columns}
 use Rattle.plan_types.specs.declared.dtype.CastOptions.TheVariants.{NonStrict}
@@ -56,5 +56,5 @@ returns-clause-not_cast c = λ v.
     let tree = node (BinaryOp Eq) (more a (more b no_more)) in
     let says = visited [] schema 0 items 2 tree tree v (0 ∷ 1 ∷ [], (omega arith, refl), (([], (omega arith, refl), tt), (([], (omega arith, refl), tt), tt))) in
     let taken : Taken = pair_to common common Truth in
-    let strict = strict_as [] schema (BinaryOp Eq) (more a (more b no_more)) (of_type (ListType (Integer true 8)) ∷ of_type common ∷ []) taken says.1 refl refl in
+    let same : false ≡ true = (strict_as [] schema (BinaryOp Eq) (more a (more b no_more)) (of_type (ListType (Integer true 8)) ∷ of_type common ∷ []) taken says.1 refl refl).0 in
     cc
