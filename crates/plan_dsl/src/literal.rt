@@ -82,6 +82,8 @@ impl LiteralValue {
             | DataType::Time
             | DataType::Datetime(_)
             | DataType::Duration(_)
+            | DataType::List(_)
+            | DataType::Struct(_)
             | DataType::Unknown(_) => None,
         }
     }
