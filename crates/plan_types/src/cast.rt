@@ -117,7 +117,7 @@ fn is_written(dtype: &DataType) -> bool
 
 /// The value in another type, where the cast has one for it. A list or a struct in which a value fails fails as a whole.
 #[cycle(value_casts)]
-#[tactic(auto, using(crate::proofs::PartLemmas::list_values, crate::proofs::PartLemmas::struct_values))]
+#[tactic(auto, using(crate::proofs::PartLemmas::list_values))]
 pub fn cast_value(
     alloc: Global,
     value: &Value,

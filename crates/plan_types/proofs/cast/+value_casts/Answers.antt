@@ -7,11 +7,17 @@ use Rattle.plan_types.proofs.FieldLemmas.{struct_type}
 use Rattle.plan_types.proofs.PartLemmas.{list_deeper, struct_deeper, list_of, struct_of, struct_values}
 use Rattle.plan_types.specs.ValueViews.{IsPartsError}
 use Rattle.plan_types.proofs.ResultLemmas.{passed_on}
-use Rattle.plan_types.proofs.CastPartLemmas.{items_start, items_step, items_fail, items_end, as_many_parts, as_many_fields, parts_start, part_left, part_fits, part_known, parts_step, parts_fail, parts_end, list_known, list_fits, struct_known, struct_fits, struct_gives, struct_fails}
+use Rattle.plan_types.proofs.CastPartLemmas.{items_start, item_fits, items_step, items_fail, items_end, as_many_parts, as_many_fields, parts_start, part_left, part_fits, part_known, parts_step, parts_fail, parts_end, list_known, list_fits, struct_known, struct_fits, struct_gives, struct_fails}
 use Rattle.plan_types.proofs.cast.+value_casts.Goals as goal
 
 pub cast_items-loop-item-init : goal.cast_items-loop-item-init
 cast_items-loop-item-init t c = items_start _ _ _ _ _ c.new-converted.ensures.items c.requires.fits
+
+pub cast_items-cast_value-requires : goal.cast_items-cast_value-requires
+cast_items-cast_value-requires t c =
+    let items = c.args.items.now in
+    let small : the_size c.item-item.result ≤ most the_size items = subst (λ x. the_size x ≤ most the_size items) (sym c.item-item.is) (at_most the_size items c.loop-item.item-index c.item-item.result c.loop-item-test.true) in
+    (omega (arith, small, c.decreases), (c.requires.known, item_fits c.loop-item.invariant c.item-item.result c.loop-item-test.true c.item-item.is))
 
 pub cast_items-returns-in_err-item-clause-err : goal.cast_items-returns-in_err-item-clause-err
 cast_items-returns-in_err-item-clause-err t c =
