@@ -7,7 +7,7 @@ use Rattle.plan_types.proofs.ListLemmas.{item_left, pair_left}
 use Rattle.plan_types.specs.Types.{Ty, ListType, StructType, Fields, ty, fields_in}
 use Rattle.plan_types.specs.Values.{Val, ListValue, StructValue, Vals, no_value, with_value, fits, items_fit, parts_fit}
 use Rattle.plan_types.specs.ValueViews.{val_of, values_from, values_in, IsCastError, IsPartsError}
-use Rattle.plan_types.specs.Casts.{Converted, Gives, Fails, can_cast, can_cast_fields, cast, cast_items, cast_parts, converted_in_front, gathered}
+use Rattle.plan_types.specs.Casts.{Converted, Gives, can_cast, can_cast_fields, cast, cast_items, cast_parts, converted_in_front, gathered}
 use Rattle.plan_types.specs.declared.field.Field.{Field}
 use Rattle.plan_types.specs.declared.value.Value.{Value}
 use Rattle.plan_types.specs.declared.cast.CastError.{CastError}
@@ -97,7 +97,8 @@ module _ {items : Many Value} {from to : Ty} {options : CastOptions} {done : Man
     pub items_step : (new : Many Value) (made : Value) → cast (val_of x) from to options ≡ Gives (val_of made) → new ≡ done ++ made ∷ [] → CastingItems items from to options new (n + 1)
     items_step new made gives grown = record {
       casting = casting_more _ _ done new _ made gives grown casting_here;
-      fit = and_second _ _ fit_here }
+      fit = and_second _ _ fit_here;
+    }
 
     pub items_fail : (e : CastError) → IsCastError (cast (val_of x) from to options) e → IsPartsError (cast_items (values_in items) from to options) e
     items_fail e fails = casting_fails _ _ done _ e fails casting_here
@@ -155,7 +156,8 @@ module _ (parts : Many Value) (from to : Many Field) (options : CastOptions) (do
   parts_start none fit known = record {
     casting = subst (λ l. IsCasting (cast_from parts from to) l (cast_from parts from to)) (sym none) (behind_none _);
     fit = fit;
-    known = known }
+    known = known;
+  }
 
   pub parts_end : (n : ℕ) → n ≡ length parts → CastingParts n → cast_from parts from to ≡ Some (values_in done)
   parts_end n end c =
@@ -169,7 +171,8 @@ module _ (parts : Many Value) (from to : Many Field) (options : CastOptions) (do
       record {
         casting = c.casting ∙ ap (behind (map val_of done)) (ap (λ l. cast_from l (drop n from) (drop n to)) (item_left parts n x x within is) ∙ fields);
         fit = sym (pair_left (λ ps fs. parts_fit (values_in ps) (fields_in fs)) parts from n x x (get_or from n f) f within also is refl) ∙ c.fit;
-        known = sym (pair_left (λ fs ts. can_cast_fields (fields_in fs) (fields_in ts)) from to n (get_or from n f) f (get_or to n t) t also third refl refl) ∙ c.known }
+        known = sym (pair_left (λ fs ts. can_cast_fields (fields_in fs) (fields_in ts)) from to n (get_or from n f) f (get_or to n t) t also third refl refl) ∙ c.known;
+      }
 
 module _ {parts : Many Value} {from to : Many Field} {options : CastOptions} {done : Many Value} {n : ℕ} {x : Value} {f t : Field} (left : PartLeft parts from to options done n x f t) where
   pub part_fits : fits (val_of x) (ty f.dtype) ≡ true
@@ -182,7 +185,8 @@ module _ {parts : Many Value} {from to : Many Field} {options : CastOptions} {do
   parts_step new made gives grown = record {
     casting = casting_more _ _ done new _ made gives grown left.casting;
     fit = and_second _ _ left.fit;
-    known = and_second _ _ left.known }
+    known = and_second _ _ left.known;
+  }
 
   pub parts_fail : (e : CastError) → IsCastError (cast (val_of x) (ty f.dtype) (ty t.dtype) options) e → IsPartsError (cast_parts (values_in parts) (fields_in from) (fields_in to) options) e
   parts_fail e fails = casting_fails _ _ done _ e fails left.casting

@@ -1,7 +1,7 @@
 -- The fields of a type of structs, as a row and as a list.
 use Rattle.std.proofs.Common.{◌≡◌, ℕ, ◌≤◌, List, length, map, take, Vec, Global, refl, sym, ap, ◌∙◌}
 use Rattle.std.proofs.lemmas.List.{take_all}
-use Rattle.plan_types.specs.Types.{StructType, Fields, with_field, field_of, ty, row_fields, fields_from, fields_of, fields_in}
+use Rattle.plan_types.specs.Types.{StructType, with_field, field_of, ty, row_fields, fields_from, fields_of, fields_in}
 use Rattle.plan_types.specs.declared.dtype.DataType.{DataType, Struct}
 use Rattle.plan_types.specs.declared.field.Field.{Field}
 use Rattle.plan_types.specs.declared.dtype.Fields.{Fields as StructFields, Fields', Row_of-Field, end_of-Field, more_of-Field, items-the_row-Field, items_shown-the_row-Field-0, out-Fields, out-roll-Fields, roll-Fields}

@@ -10,8 +10,8 @@ ghost use Rattle.plan_types.specs.ValueViews.{parts_of, val_of, values_in, IsCas
 
 use crate::dtype::{CastOptions, DataType};
 use crate::error::PlanError;
-use crate::text::PlSmallStr;
 use crate::field::Field;
+use crate::text::PlSmallStr;
 use crate::value::{Parts, Value};
 use std::alloc::{AllocError, AllocFailed, Global};
 use thiserror::Error;

@@ -1,11 +1,10 @@
-use Rattle.std.proofs.Common.{rules, ◌≡◌, ◌<◌, ◌≤◌, length, sym, ap, subst, ◌∙◌, refl, arith, slice_index_or}
+use Rattle.std.proofs.Common.{rules, ◌≡◌, ◌<◌, ◌≤◌, length, sym, ap, subst, ◌∙◌, arith}
 use denote.Param.Weighed.{most, at_most}
 use Rattle.plan_types.proofs.value.Value.TheLaws.{the_size}
 use Rattle.plan_types.specs.Types.{ListType, ty}
 use Rattle.plan_types.specs.Casts.{Gives}
 use Rattle.plan_types.proofs.FieldLemmas.{struct_type}
 use Rattle.plan_types.proofs.PartLemmas.{list_deeper, struct_deeper, list_of, struct_of, struct_values}
-use Rattle.plan_types.specs.ValueViews.{IsPartsError}
 use Rattle.plan_types.proofs.ResultLemmas.{passed_on}
 use Rattle.plan_types.proofs.CastPartLemmas.{items_start, item_fits, items_step, items_fail, items_end, as_many_parts, as_many_fields, parts_start, part_left, part_fits, part_known, parts_step, parts_fail, parts_end, list_known, list_fits, struct_known, struct_fits, struct_gives, struct_fails}
 use Rattle.plan_types.proofs.cast.+value_casts.Goals as goal
