@@ -93,8 +93,12 @@ pub fn try_get_common_type(
     Ok(found)
 }
 
-// An operand's type beside another's.
-fn type_beside(alloc: Global, operand: &DataType, other: &DataType) -> Result<DataType, PlanError>
+/// An operand's type beside another's: a number without a type gets one.
+pub fn type_beside(
+    alloc: Global,
+    operand: &DataType,
+    other: &DataType,
+) -> Result<DataType, PlanError>
     ensures ok { IfOk result (λ found. type_beside (ty operand.now) (ty other.now) ≡ Some (ty found)) }
     ensures err { IfErr result (IsMemoryOr ErrorKind.InvalidOperation (type_beside (ty operand.now) (ty other.now) ≡ None)) }
 {
