@@ -10,12 +10,7 @@ use plan_types::text::PlSmallStr;
 use std::alloc::Global;
 use std::test::Fail;
 
-fn add(
-    alloc: Global,
-    schema: &mut Schema,
-    name: &str,
-    dtype: DataType,
-) -> Result<(), PlanError> {
+fn add(alloc: Global, schema: &mut Schema, name: &str, dtype: DataType) -> Result<(), PlanError> {
     let name = PlSmallStr::new(alloc, name)?;
     schema.with_column(name, dtype)?;
     Ok(())
@@ -85,7 +80,10 @@ fn columns_with_parts_are_selected(rt: HostRuntime) -> Result<(), Fail> {
     let alloc = rt.alloc();
     for (step, want) in [
         ("s", "select s = s, (s Struct x Int8)"),
-        ("l, r", "select l = l, r = r, (l List(Int8), r Struct y Int8)"),
+        (
+            "l, r",
+            "select l = l, r = r, (l List(Int8), r Struct y Int8)",
+        ),
     ] {
         let want = over_table(alloc, want)?;
         assert_eq!(rt; answer(alloc, step)?.as_str(), want.as_str());
@@ -116,7 +114,10 @@ fn lists_and_structs_are_compared_as_their_common_type(rt: HostRuntime) -> Resul
 fn lists_are_cast_as_their_items_are(rt: HostRuntime) -> Result<(), Fail> {
     let alloc = rt.alloc();
     for (step, want) in [
-        ("List(String)? l", "select l = List(String)? l, (l List(String))"),
+        (
+            "List(String)? l",
+            "select l = List(String)? l, (l List(String))",
+        ),
         ("List(Int8)! m", "select m = List(Int8)! m, (m List(Int8))"),
         ("List(Date)! n", "select n = List(Date)! n, (n List(Date))"),
     ] {
@@ -172,7 +173,13 @@ fn casts_of_other_items_are_refused(rt: HostRuntime) -> Result<(), Fail> {
 fn parts_without_a_common_type_are_refused(rt: HostRuntime) -> Result<(), Fail> {
     let alloc = rt.alloc();
     for step in [
-        "= s r", "= l s", "= l a", "= 5 l", "where < s r", "where < l a", "where < t 5",
+        "= s r",
+        "= l s",
+        "= l a",
+        "= 5 l",
+        "where < s r",
+        "where < l a",
+        "where < t 5",
     ] {
         assert_eq!(rt; answer(alloc, step)?.as_str(), "SchemaMismatch");
     }

@@ -125,7 +125,7 @@ fn push_literal(alloc: Global, text: &mut String, value: &LiteralValue) -> Resul
     let number = value.number();
     let number = format!(in alloc; "{number}:")?;
     text.push_str(number.as_str())?;
-    text.push_str(type_name(dtype))?;
+    text.push_str(type_name(&dtype))?;
     Ok(())
 }
 
