@@ -114,9 +114,9 @@ operator_values_fit operator l r type many left right each h k single =
     elim (common_length (length left) (length right)) as (λ o. common_length (length left) (length right) ≡ o → Meets (AreOf (record { type = type; many = many })) (at_length o (λ count. at_each f (stretched count left) (stretched count right)))) [
       | None ↦ λ e. tt
       | Some count ↦ λ e. record {
-          fitting = at_each_fits f l r type each (stretched count left) (stretched count right) (stretched_fits count left l h) (stretched_fits count right r k);
-          single = λ one. single_each f left right count e (single one).0 (single one).1;
-        }
+        fitting = at_each_fits f l r type each (stretched count left) (stretched count right) (stretched_fits count left l h) (stretched_fits count right r k);
+        single = λ one. single_each f left right count e (single one).0 (single one).1;
+      }
     ] refl
 
 -- ---- the ops
@@ -160,15 +160,15 @@ operator_node_means frame operator left right types type (l ∷ r ∷ []) each h
     let many = left.many || (right.many || false) in
     let Q = AreOf (record { type = type; many = many }) in
     meets_then (AreOf left) Q (l rows) (λ ls. then_do (r rows) (operator_values operator type ls)) (h.0 rows) (λ ls of_left.
-      meets_then (AreOf right) Q (r rows) (operator_values operator type ls) (h.1.0 rows) (λ rs of_right.
-        operator_values_fit operator left.type right.type type many ls rs each of_left.fitting of_right.fitting (λ one. let parts = or_parts left.many (right.many || false) one in (of_left.single parts.0, of_right.single (or_parts right.many false parts.1).0))))
+    meets_then (AreOf right) Q (r rows) (operator_values operator type ls) (h.1.0 rows) (λ rs of_right.
+    operator_values_fit operator left.type right.type type many ls rs each of_left.fitting of_right.fitting (λ one. let parts = or_parts left.many (right.many || false) one in (of_left.single parts.0, of_right.single (or_parts right.many false parts.1).0))))
 operator_node_means frame operator left right types type (l ∷ r ∷ m ∷ ms) each h rows = absurd h.1.1
 
 pair_means : (frame : Frame) (operator : Operator) (left right : Typed) (taken : Taken) → TakesOperands operator left.type right.type taken → NodeMeans frame (BinaryOp operator) (left ∷ right ∷ []) taken
 pair_means frame operator left right taken t =
     let pair = t.pair in
     subst (NodeMeans frame (BinaryOp operator) (left ∷ right ∷ [])) pair.is (λ operands h.
-      operator_node_means frame operator (record { type = pair.left; many = left.many }) (record { type = pair.right; many = right.many }) (pair.left ∷ pair.right ∷ []) pair.type operands pair.fitting h)
+    operator_node_means frame operator (record { type = pair.left; many = left.many }) (record { type = pair.right; many = right.many }) (pair.left ∷ pair.right ∷ []) pair.type operands pair.fitting h)
 
 operator_means : (frame : Frame) (operator : Operator) (typed : List Typed) (taken : Taken) → operator_types operator (types_of typed) ≡ Ok taken → NodeMeans frame (BinaryOp operator) typed taken
 operator_means frame operator [] taken takes operands h = cc

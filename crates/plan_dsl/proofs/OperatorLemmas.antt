@@ -3,7 +3,7 @@
 use Rattle.std.proofs.Common.{◌≡◌, inl, sym, ℕ, Bool, true, false, ◌&&◌, ◌||◌, not, cond, nat_lt, List, [], ◌∷◌, Option, Some, None, Result, Ok, Err, IsTrue, refl, ap, ◌∙◌, subst}
 use Rattle.std.specs.Prelude.{ℤ, ◌*◌}
 use Rattle.std.proofs.lemmas.Bool.{and_parts, and_from, or_parts}
-use Rattle.plan_types.specs.Types.{Ty, NullType, Truth, Integer, TextType, DatetimeType, DurationType, Untyped, coarser, is_integer, is_known, is_temporal, is_text}
+use Rattle.plan_types.specs.Types.{Ty, NullType, Truth, Integer, TextType, DatetimeType, DurationType, coarser, is_integer, is_known, is_temporal, is_text}
 use Rattle.plan_types.specs.Values.{Val, NullValue, TruthValue, IntValue, TextValue, in_range, fits}
 use Rattle.plan_types.specs.Supertypes.{supertype, signed_above}
 use Rattle.plan_types.specs.CommonTypes.{type_beside}
@@ -340,8 +340,8 @@ operator_known operator (left ∷ right ∷ third ∷ types) taken h = cc
 pair_stays : (operator : Operator) (a b : Ty) (taken : Taken) → TakesPair (pair_types operator) (operator_value operator) a b taken → operator_types operator taken.operands ≡ Ok taken
 pair_stays operator a b taken pair =
     let again = ap (λ o. with_types o (type_beside pair.right pair.left) (pair_types operator)) (own_beside pair.left pair.right pair.left_becomes.known)
-        ∙ ap (λ o. with_types (Some pair.left) o (pair_types operator)) (own_beside pair.right pair.left pair.right_becomes.known)
-        ∙ pair.stays in
+    ∙ ap (λ o. with_types (Some pair.left) o (pair_types operator)) (own_beside pair.right pair.left pair.right_becomes.known)
+    ∙ pair.stays in
     subst (λ (t : Taken). operator_types operator t.operands ≡ Ok t) pair.is again
 
 pub operator_stay : (operator : Operator) (types : List Ty) (taken : Taken) → operator_types operator types ≡ Ok taken → operator_types operator taken.operands ≡ Ok taken

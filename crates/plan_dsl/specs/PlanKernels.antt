@@ -5,7 +5,7 @@
 use Rattle.std.specs.Prelude.{ℕ, List, [], ◌∷◌, map, length, replicate, slice_get, Option, Some, None, Bool, false, ◌||◌, ◌==◌, if◌then◌else◌, Result, Ok, Err}
 use Rattle.plan_types.specs.Types.{Ty}
 use Rattle.plan_types.specs.Schemas.{Name, Columns}
-use Rattle.plan_types.specs.Values.{Val, NullValue, TruthValue, IntValue}
+use Rattle.plan_types.specs.Values.{Val, TruthValue}
 use Rattle.plan_types.specs.Outcomes.{Outcome, Done, Fault, Stuck, then_do}
 use Rattle.plan_types.specs.Frames.{Row, Frame, empty_frame, row_numbers}
 use Rattle.plan_types.specs.declared.error.ErrorKind.{ErrorKind}

@@ -6,6 +6,7 @@ pub mod FrameCopyLemmas
 pub mod FrameRowLemmas
 pub mod ListLemmas
 pub mod NameLemmas
+pub mod OnLiterals
 pub mod ResultLemmas
 pub mod SchemaCallLemmas
 pub mod SchemaLemmas

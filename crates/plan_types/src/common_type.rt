@@ -26,7 +26,7 @@ pub fn materialize_dyn_int(number: i128) -> Option<DataType>
 }
 
 /// The type of a number beside an operand of that type: an integer type that has the number stays, and else the
-/// least that has it is taken.
+/// least that has it is taken. Beside any other type a number has the type that it has alone.
 pub fn own_type(
     alloc: Global,
     number: i128,
@@ -61,6 +61,7 @@ fn least_signed(number: i128) -> Option<DataType>
     }
 }
 
+// The least unsigned type, where one has the number.
 fn least_unsigned(number: i128) -> Option<DataType>
     ensures { option_map ty result ≡ least_unsigned number }
 {

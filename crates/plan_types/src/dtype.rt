@@ -1,4 +1,4 @@
-//! Types of columns.
+//! Types of columns, and units of time.
 ghost use Rattle.std.specs.Prelude.{◌≡◌, ◌↔◌, pos, true, IsTrue, MatchOption, IfOk, IfErr};
 ghost use Rattle.plan_types.specs.Errors.{no_memory};
 ghost use Rattle.plan_types.specs.Types.{DatetimeType, DurationType, Untyped, same_type, coarser, per_day, ty, is_integer, is_known, is_ord, is_signed_integer, is_temporal, is_unsigned_integer, type_code, unit_rank, width_of};
@@ -15,7 +15,7 @@ pub enum CastOptions {
     Strict,
     /// The value becomes null.
     NonStrict,
-    /// The value keeps its low bits.
+    /// A number of an integer type keeps its low bits in another one. Any other value becomes null.
     Overflowing,
 }
 
@@ -77,7 +77,8 @@ pub enum UnknownKind {
     Int(i128),
 }
 
-/// The type of a column, or of a number without one. Contracts see it as a `Ty`.
+/// The type of a column, or of a number without one. Contracts see it as a `Ty`. Two types are equal where these are,
+/// so moments and spans of other units are of other types.
 #[derive(Drop)]
 pub enum DataType {
     /// That of a column that has no value but null.
@@ -92,13 +93,13 @@ pub enum DataType {
     UInt32,
     UInt64,
     String,
-    /// Days since 1970-01-01.
+    /// Days since 1970-01-01, in the range of Int32.
     Date,
-    /// Nanoseconds since midnight.
+    /// Nanoseconds since midnight, before the next one.
     Time,
-    /// Units since the start of 1970-01-01.
+    /// Units since the start of 1970-01-01, in the range of Int64.
     Datetime(TimeUnit),
-    /// A span of time.
+    /// A span of time in units, in the range of Int64.
     Duration(TimeUnit),
     /// The type of an untyped literal. No column has it.
     Unknown(UnknownKind),
@@ -149,7 +150,7 @@ impl DataType {
         )
     }
 
-    /// Whether values of the type that aren't null are in an order.
+    /// Whether values of the type that aren't null are in an order: those of each type of columns are, but that of null.
     pub fn is_ord(&self) -> bool
         ensures { result ≡ is_ord (ty self.now) }
     {

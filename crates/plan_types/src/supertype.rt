@@ -9,7 +9,8 @@ use crate::dtype::{DataType, TimeUnit, get_time_units};
 use crate::error::{ErrorKind, PlanError};
 use std::alloc::Global;
 
-/// The type that holds the values of both, where there is one.
+/// The type that holds the values of both, where there is one. Null is of any type, truth values beside an integer are of
+/// its type, both are written beside a text, days become moments beside moments, and of two units the coarser is taken.
 pub fn get_supertype(
     alloc: Global,
     left: &DataType,
@@ -84,6 +85,7 @@ fn beside_date(right: &DataType) -> Option<DataType>
     }
 }
 
+// Moments beside days stay moments, and beside moments have the coarser unit.
 fn beside_datetime(unit: TimeUnit, right: &DataType) -> Option<DataType>
     requires right { same_type NullType (ty right.now) ≡ false }
     ensures { option_map ty result ≡ supertype (DatetimeType unit) (ty right.now) }
@@ -95,6 +97,7 @@ fn beside_datetime(unit: TimeUnit, right: &DataType) -> Option<DataType>
     }
 }
 
+// Spans beside spans have the coarser unit.
 fn beside_duration(unit: TimeUnit, right: &DataType) -> Option<DataType>
     requires right { same_type NullType (ty right.now) ≡ false }
     ensures { option_map ty result ≡ supertype (DurationType unit) (ty right.now) }

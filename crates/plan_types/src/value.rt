@@ -10,13 +10,14 @@ use crate::error::PlanError;
 use crate::text::PlSmallStr;
 use std::alloc::Global;
 
-/// A value of a column. Contracts see it as a `Val`.
+/// A value of a column. Contracts see it as a `Val`. Its type is the column's: a number may be of an integer type or of
+/// one of time.
 #[derive(Debug, Drop, PartialEq, Eq, Hash)]
 pub enum Value {
     /// No value is there.
     Null,
     Boolean(bool),
-    /// A whole number, of whatever integer type, or a number of days or units of time.
+    /// A whole number, of whatever integer type, or a number of days or of units of time.
     Int(i128),
     Text(PlSmallStr),
 }

@@ -13,8 +13,10 @@ ghost use Rattle.plan_dsl.specs.Operators.{operator_value};
 ghost use Rattle.plan_dsl.specs.OperatorTypes.{pair_to, operator_types};
 ghost use Rattle.plan_dsl.specs.Trees.{node, no_more, more};
 ghost use Rattle.plan_dsl.specs.Ops.{ColumnOp, LiteralOp, BinaryOp, CastOp};
-ghost use Rattle.plan_dsl.specs.Typing.{typing};
+ghost use Rattle.plan_dsl.specs.Literals.{is_literal};
+ghost use Rattle.plan_dsl.specs.Typing.{Typed, typing};
 ghost use Rattle.plan_dsl.specs.Meaning.{meaning};
+ghost use Rattle.plan_dsl.specs.Strictness.{CanBecome, IsStrict, as_operand};
 ghost use Rattle.plan_dsl.specs.StrictRun.{strict_run};
 
 /// Spans are added to spans and to moments, in the coarser of the two units.
@@ -463,4 +465,56 @@ pub fn refused_casts_of_texts_and_times()
         let a = node (ColumnOp (codes "a")) no_more in
         map (λ target. typing [] schema (node (CastOp target Strict) (more a no_more))) (Untyped (pos 1) ∷ [])
         ≡ Err InvalidOperation ∷ [] }
+{}
+
+/// A literal of a text or a time has a value of its type. Null is a literal of no type.
+pub fn literals_of_texts_and_times()
+    ensures texts { map (is_literal TextType) (TextValue (codes "a") ∷ TextValue [] ∷ TruthValue true ∷ IntValue (pos 1) ∷ NullValue ∷ []) ≡ true ∷ true ∷ false ∷ false ∷ false ∷ [] }
+    ensures nulls { map (is_literal NullType) (NullValue ∷ TextValue [] ∷ IntValue (pos 0) ∷ []) ≡ false ∷ false ∷ false ∷ [] }
+    ensures days { map (λ number. is_literal DateType (IntValue number)) (neg_ℤ (pos 2147483649) ∷ neg_ℤ (pos 2147483648) ∷ pos 2147483647 ∷ pos 2147483648 ∷ [])
+        ≡ false ∷ true ∷ true ∷ false ∷ [] }
+    ensures times_of_a_day { map (λ number. is_literal TimeType (IntValue number)) (neg_ℤ (pos 1) ∷ pos 0 ∷ pos 86399999999999 ∷ pos 86400000000000 ∷ [])
+        ≡ false ∷ true ∷ true ∷ false ∷ [] }
+    ensures moments { map (λ number. is_literal (DatetimeType Milliseconds) (IntValue number)) (neg_ℤ (pos 9223372036854775809) ∷ neg_ℤ (pos 9223372036854775808) ∷ pos 9223372036854775807 ∷ pos 9223372036854775808 ∷ [])
+        ≡ false ∷ true ∷ true ∷ false ∷ [] }
+    ensures spans { map (λ number. is_literal (DurationType Nanoseconds) (IntValue number)) (neg_ℤ (pos 9223372036854775809) ∷ neg_ℤ (pos 9223372036854775808) ∷ pos 9223372036854775807 ∷ pos 9223372036854775808 ∷ [])
+        ≡ false ∷ true ∷ true ∷ false ∷ [] }
+    ensures type_of_a_text { let text = node (LiteralOp TextType (TextValue (codes "a"))) no_more in
+        let typed : Typed = record { type = TextType; many = false } in
+        typing [] [] text ≡ Ok typed }
+    ensures meaning_of_a_text { let text = node (LiteralOp TextType (TextValue (codes "a"))) no_more in
+        meaning [] (record { schema = []; rows = [] }) text [] ≡ Done (TextValue (codes "a") ∷ []) }
+{}
+
+/// A cast stands round an operand of another type. Only a type of integers takes a number without a type.
+pub fn operands_of_texts_and_times()
+    ensures day { let d = node (ColumnOp (codes "d")) no_more in
+        as_operand DateType (DatetimeType Microseconds) d ≡ node (CastOp (DatetimeType Microseconds) NonStrict) (more d no_more) }
+    ensures other_unit { let s = node (ColumnOp (codes "s")) no_more in
+        as_operand (DurationType Nanoseconds) (DurationType Milliseconds) s ≡ node (CastOp (DurationType Milliseconds) NonStrict) (more s no_more) }
+    ensures own_unit { let s = node (ColumnOp (codes "s")) no_more in
+        as_operand (DurationType Nanoseconds) (DurationType Nanoseconds) s ≡ s }
+    ensures null { let n = node (ColumnOp (codes "n")) no_more in
+        as_operand NullType TextType n ≡ node (CastOp TextType NonStrict) (more n no_more) }
+    ensures number_beside_null { let five = node (LiteralOp (Untyped (pos 5)) (IntValue (pos 5))) no_more in
+        as_operand (Untyped (pos 5)) (Integer true 32) five ≡ node (LiteralOp (Integer true 32) (IntValue (pos 5))) no_more }
+    ensures day_becomes_moment { CanBecome DateType (DatetimeType Microseconds) }
+    ensures null_becomes_text { CanBecome NullType TextType }
+    ensures truth_becomes_text { CanBecome Truth TextType }
+    ensures text_becomes_no_truth { ¬ (CanBecome TextType Truth) }
+    ensures moment_becomes_no_span { ¬ (CanBecome (DatetimeType Microseconds) (DurationType Microseconds)) }
+    ensures number_becomes_no_day { ¬ (CanBecome (Untyped (pos 5)) DateType) }
+    ensures number_becomes_no_text { ¬ (CanBecome (Untyped (pos 5)) TextType) }
+{}
+
+/// A sum of a moment and a span is strict where they have one unit.
+pub fn strict_sums_of_times()
+    ensures one_unit { let schema = (codes "m", DatetimeType Microseconds) ∷ (codes "s", DurationType Microseconds) ∷ [] in
+        let m = node (ColumnOp (codes "m")) no_more in
+        let s = node (ColumnOp (codes "s")) no_more in
+        IsStrict [] schema (node (BinaryOp Plus) (more m (more s no_more))) }
+    ensures two_units { let schema = (codes "m", DatetimeType Microseconds) ∷ (codes "s", DurationType Nanoseconds) ∷ [] in
+        let m = node (ColumnOp (codes "m")) no_more in
+        let s = node (ColumnOp (codes "s")) no_more in
+        ¬ (IsStrict [] schema (node (BinaryOp Plus) (more m (more s no_more)))) }
 {}

@@ -1,14 +1,48 @@
-//! Worked examples of calls on schemas, of common types of integers that differ, and of the order of texts.
-ghost use Rattle.std.specs.Prelude.{◌≡◌, [], ◌∷◌, pos, map, insert, codes, true, false, Some, None, Ok, Err};
-ghost use Rattle.std.specs.Ordering.{nat_cmp};
-ghost use Rattle.std.specs.Cmp.Lexicographic.{slice_cmp};
-ghost use Rattle.std.specs.declared.cmp.Ordering.TheVariants.{Less, Equal, Greater};
-ghost use Rattle.plan_types.specs.Types.{Ty, Untyped, ty};
-ghost use Rattle.plan_types.specs.Supertypes.{upcast};
-ghost use Rattle.plan_types.specs.Schemas.{Name};
+//! Worked examples on schemas: names, columns, and calls on them.
+
+ghost use Rattle.std.specs.Prelude.{◌≡◌, [], ◌∷◌, codes, true, false, Some, None, Ok, Err, insert};
+ghost use Rattle.plan_types.specs.Types.{Ty, ty};
+ghost use Rattle.plan_types.specs.Schemas.{Name, type_at, with_column, is_among, repeats, names_of};
 ghost use Rattle.plan_types.specs.SchemaCalls.{column_at, same_names, common_columns, super_columns};
 ghost use Rattle.plan_types.specs.declared.error.ErrorKind.TheVariants.{SchemaMismatch, InvalidOperation};
-ghost use Rattle.plan_types.specs.declared.dtype.DataType.TheVariants.{Boolean, Int8, Int16, Int32, Int64, UInt8, UInt32, UInt64};
+ghost use Rattle.plan_types.specs.declared.dtype.TimeUnit.TheVariants.{Nanoseconds, Microseconds, Milliseconds};
+ghost use Rattle.plan_types.specs.declared.dtype.DataType.TheVariants.{Null, Boolean, Int8, Int16, Int32, Int64, UInt8, UInt32, UInt64, String, Date, Time, Datetime, Duration};
+
+/// The type of a name is that of the first column with it.
+pub fn types_at_names()
+    ensures no_columns { type_at [] (codes "a") ≡ None }
+    ensures first { type_at ((codes "a", ty Int8) ∷ (codes "b", ty Int32) ∷ []) (codes "a") ≡ Some (ty Int8) }
+    ensures second { type_at ((codes "a", ty Int8) ∷ (codes "b", ty Int32) ∷ []) (codes "b") ≡ Some (ty Int32) }
+    ensures unknown { type_at ((codes "a", ty Int8) ∷ (codes "b", ty Int32) ∷ []) (codes "c") ≡ None }
+    ensures longer_name { type_at ((codes "a", ty Int8) ∷ []) (codes "aa") ≡ None }
+    ensures other_case { type_at ((codes "a", ty Int8) ∷ []) (codes "A") ≡ None }
+    ensures empty_name { type_at ((codes "", ty UInt8) ∷ []) (codes "") ≡ Some (ty UInt8) }
+    ensures repeated { type_at ((codes "a", ty Int8) ∷ (codes "a", ty Int16) ∷ []) (codes "a") ≡ Some (ty Int8) }
+{}
+
+/// A column is put in its namesake's place, else at the end.
+pub fn columns_put_in()
+    ensures no_columns { with_column [] (codes "a") (ty Int8) ≡ (codes "a", ty Int8) ∷ [] }
+    ensures first_place { with_column ((codes "a", ty Int8) ∷ (codes "b", ty Int32) ∷ []) (codes "a") (ty UInt64)
+        ≡ (codes "a", ty UInt64) ∷ (codes "b", ty Int32) ∷ [] }
+    ensures last_place { with_column ((codes "a", ty Int8) ∷ (codes "b", ty Int32) ∷ []) (codes "b") (ty UInt64)
+        ≡ (codes "a", ty Int8) ∷ (codes "b", ty UInt64) ∷ [] }
+    ensures appended { with_column ((codes "a", ty Int8) ∷ (codes "b", ty Int32) ∷ []) (codes "c") (ty UInt64)
+        ≡ (codes "a", ty Int8) ∷ (codes "b", ty Int32) ∷ (codes "c", ty UInt64) ∷ [] }
+{}
+
+/// Whether a name is one of a list, and whether some name stands twice.
+pub fn repeated_names()
+    ensures among { is_among (codes "b") (codes "a" ∷ codes "b" ∷ []) ≡ true }
+    ensures not_among { is_among (codes "a") (codes "ab" ∷ codes "A" ∷ []) ≡ false }
+    ensures none { repeats [] ≡ false }
+    ensures one { repeats (codes "a" ∷ []) ≡ false }
+    ensures distinct { repeats (codes "a" ∷ codes "b" ∷ codes "ab" ∷ []) ≡ false }
+    ensures side_by_side { repeats (codes "a" ∷ codes "a" ∷ []) ≡ true }
+    ensures apart { repeats (codes "a" ∷ codes "b" ∷ codes "a" ∷ []) ≡ true }
+    ensures later { repeats (codes "a" ∷ codes "b" ∷ codes "c" ∷ codes "b" ∷ []) ≡ true }
+    ensures of_columns { names_of ((codes "a", ty Int8) ∷ (codes "b", ty Int32) ∷ []) ≡ codes "a" ∷ codes "b" ∷ [] }
+{}
 
 /// A name is found at the first column that has it.
 pub fn places_of_names()
@@ -52,31 +86,13 @@ pub fn common_types_side_by_side()
 /// Names are asked before any type.
 pub fn schemas_with_common_types()
     ensures found { super_columns ((codes "a", ty Boolean) ∷ []) ((codes "a", ty UInt8) ∷ []) ≡ Ok ((codes "a", ty UInt8) ∷ []) }
+    ensures null_and_times { super_columns ((codes "a", ty Null) ∷ (codes "b", ty Date) ∷ (codes "c", ty (Duration Nanoseconds)) ∷ (codes "d", ty Int8) ∷ [])
+        ((codes "a", ty Time) ∷ (codes "b", ty (Datetime Microseconds)) ∷ (codes "c", ty (Duration Milliseconds)) ∷ (codes "d", ty String) ∷ [])
+        ≡ Ok ((codes "a", ty Time) ∷ (codes "b", ty (Datetime Microseconds)) ∷ (codes "c", ty (Duration Milliseconds)) ∷ (codes "d", ty String) ∷ []) }
+    ensures text_and_date { super_columns ((codes "a", ty String) ∷ []) ((codes "a", ty Date) ∷ []) ≡ Err SchemaMismatch }
     ensures no_columns { super_columns [] [] ≡ Ok [] }
     ensures no_common_type { super_columns ((codes "a", ty UInt64) ∷ []) ((codes "a", ty Int8) ∷ []) ≡ Err SchemaMismatch }
     ensures other_width { super_columns [] ((codes "a", ty Int8) ∷ []) ≡ Err InvalidOperation }
     ensures other_name { super_columns ((codes "a", ty Int8) ∷ []) ((codes "b", ty Int8) ∷ []) ≡ Err InvalidOperation }
     ensures names_first { super_columns ((codes "a", ty UInt64) ∷ (codes "b", ty Int8) ∷ []) ((codes "a", ty Int8) ∷ (codes "c", ty Int8) ∷ []) ≡ Err InvalidOperation }
-{}
-
-/// Two integer types that differ have their common type, and no other types have one.
-pub fn common_types_of_integers_that_differ()
-    ensures wider { upcast (ty Int8) (ty Int16) ≡ Some (ty Int16) }
-    ensures narrower { upcast (ty UInt32) (ty UInt8) ≡ Some (ty UInt32) }
-    ensures mixed { upcast (ty UInt32) (ty Int32) ≡ Some (ty Int64) }
-    ensures under { upcast (ty Int16) (ty UInt8) ≡ Some (ty Int16) }
-    ensures equal { map (λ type. upcast (ty type) (ty type)) (Int8 ∷ UInt64 ∷ Boolean ∷ []) ≡ None ∷ None ∷ None ∷ [] }
-    ensures widest { upcast (ty UInt64) (ty Int64) ≡ None }
-    ensures truths { upcast (ty Boolean) (ty Int8) ≡ None }
-    ensures numbers { upcast (ty Int8) (Untyped (pos 1)) ≡ None }
-{}
-
-/// Texts are in the order of the first characters that differ, and a shorter one stands before its longer one.
-pub fn order_of_texts()
-    ensures equal { slice_cmp nat_cmp (codes "ab") (codes "ab") ≡ Equal }
-    ensures first { slice_cmp nat_cmp (codes "ab") (codes "b") ≡ Less }
-    ensures later { slice_cmp nat_cmp (codes "ac") (codes "ab") ≡ Greater }
-    ensures shorter { slice_cmp nat_cmp (codes "a") (codes "ab") ≡ Less }
-    ensures empty { slice_cmp nat_cmp [] (codes "a") ≡ Less }
-    ensures other_case { slice_cmp nat_cmp (codes "a") (codes "B") ≡ Greater }
 {}
