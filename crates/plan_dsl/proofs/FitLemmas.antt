@@ -1,37 +1,35 @@
 -- A typed expression is not stuck on a frame, and gives values of its type.
 -- Only `op_means` knows the ops: by a lemma for each it says what the kernel gives over operands of the
 -- types to which it takes them.
-use Rattle.std.specs.Prelude.{ℤ, not}
-use Rattle.std.proofs.Common.{◌≡◌, ℕ, suc, Bool, true, false, ◌||◌, cond, List, [], ◌∷◌, length, replicate, Option, Some, None, Result, Ok, Err, IsTrue, refl, sym, ap, ◌∙◌, subst, arith}
+use Rattle.std.proofs.Common.{◌≡◌, ℕ, zero, suc, Bool, true, false, ◌||◌, cond, List, [], ◌∷◌, length, replicate, Option, Some, None, Result, Ok, Err, IsTrue, refl, sym, ap, ◌∙◌, subst, arith}
 use Rattle.std.proofs.lemmas.Bool.{and_parts, and_from, or_parts}
-use Rattle.plan_types.specs.Types.{Ty, Truth, Integer, Untyped, is_known, same_type}
+use Rattle.plan_types.specs.Types.{Ty, is_known, same_type}
 use Rattle.plan_types.specs.TypeLaws.{same_type_exact}
 use Rattle.plan_types.specs.Schemas.{Name, type_at}
-use Rattle.plan_types.specs.CommonTypes.{type_alone, common_type}
-use Rattle.plan_types.proofs.CommonLemmas.{common_known}
-use Rattle.plan_types.specs.Values.{Val, NullValue, TruthValue, IntValue, fits, all_fit}
+use Rattle.plan_types.specs.CommonTypes.{type_alone}
+use Rattle.plan_types.specs.Values.{Val, NullValue, fits, all_fit}
 use Rattle.plan_types.specs.Outcomes.{Outcome, Done, Meets, then_do}
-use Rattle.plan_types.specs.Casts.{Converted, Gives, Fails, can_cast, cast, number_of}
+use Rattle.plan_types.specs.Casts.{Converted, Gives, Fails, can_cast, cast}
 use Rattle.plan_types.specs.Frames.{Frame, IsFrame}
 use Rattle.plan_types.specs.declared.error.ErrorKind.{ErrorKind}
 use Rattle.plan_types.specs.declared.error.ErrorKind.TheVariants.{InvalidOperation}
 use Rattle.plan_types.specs.declared.dtype.CastOptions.{CastOptions}
 use Rattle.plan_types.specs.declared.dtype.CastOptions.TheVariants.{NonStrict}
-use Rattle.plan_types.proofs.ValueLemmas.{meets_then, meets_as, ConvertedFits, cast_fits, wrapped_in_range, column_fits}
+use Rattle.plan_types.proofs.ValueLemmas.{meets_then, meets_as, ConvertedFits, cast_fits, column_fits}
 use Rattle.plan_dsl.specs.declared.operator.Operator.{Operator}
-use Rattle.plan_dsl.specs.declared.operator.Operator.TheVariants.{Eq, NotEq, Lt, LtEq, Gt, GtEq, Plus}
-use Rattle.plan_dsl.specs.Operators.{result_type, sum_type, plus, plus_number, compared, compared_to, is_less, is_same, operator_value}
+use Rattle.plan_dsl.specs.Operators.{operator_value}
 use Rattle.plan_dsl.specs.Registry.{Registry}
 use Rattle.plan_dsl.specs.Trees.{Trees, node, no_more, more}
 use Rattle.plan_dsl.specs.Ops.{Op, ColumnOp, LiteralOp, BinaryOp, CastOp, Expression}
 use Rattle.plan_dsl.specs.Literals.{is_literal, is_literal_of}
 use Rattle.plan_dsl.specs.Typing.{Typed, column_type, literal_taken, cast_taken, operand_types, types_of, is_many, typed_as, typing_rule, then_typed, typing, typing_all}
-use Rattle.plan_dsl.specs.OperatorTypes.{Taken, both_to, operator_types}
+use Rattle.plan_dsl.specs.OperatorTypes.{Taken, operator_types}
 use Rattle.plan_dsl.specs.Kernels.{Meaning, cast_values, cast_meaning, common_length, stretched, at_each, at_length, operator_values, value_before, kernel}
 use Rattle.plan_dsl.specs.Meaning.{meaning, meaning_all, node_meaning, taken_meaning, taken_to}
 use Rattle.plan_dsl.specs.Laws.{AreOf}
 use Rattle.plan_dsl.proofs.CastLemmas.{or_false}
 use Rattle.plan_dsl.proofs.TypingLemmas.{ok_same, ok_where, by_children, by_no_children}
+use Rattle.plan_dsl.proofs.OperatorLemmas.{TakesOperands, operands_taken}
 
 -- on any rows it is not stuck, and gives values of that typing
 abbrev pub MeansType : Typed → Meaning → Type 0
@@ -66,7 +64,7 @@ cast_values_fit : (from target : Ty) (options : CastOptions) (values : List Val)
 cast_values_fit from target options [] h = record { fitting = refl; as_many = refl }
 cast_values_fit from target options (value ∷ values) h =
     let parts = and_parts (fits value from) (all_fit values from) h in
-    before_fits target (length values) (cast value from target options) (cast_values from target options values) (cast_fits value from target options parts.0) (cast_values_fit from target options values parts.1)
+    before_fits target (length values) (cast value from target options) (cast_values from target options values) (cast_fits value from target options) (cast_values_fit from target options values parts.1)
 
 -- a cast of what has a type has the target's
 pub cast_means : (from target : Ty) (options : CastOptions) (many : Bool) (input : Meaning) → MeansType (record { type = from; many = many }) input → MeansType (record { type = target; many = many }) (cast_meaning from target options input)
@@ -83,44 +81,23 @@ taken_mean (t ∷ ts) (target ∷ targets) (m ∷ ms) h = (cast_means t.type tar
 
 -- ---- operators
 
-plus_number_fits : (signed : Bool) (bits : ℕ) (left : ℤ) (right : Val) → IsTrue (fits (plus_number (Integer signed bits) left right) (Integer signed bits))
-plus_number_fits signed bits left NullValue = refl
-plus_number_fits signed bits left (TruthValue right) = wrapped_in_range signed bits _
-plus_number_fits signed bits left (IntValue right) = wrapped_in_range signed bits _
+at_each_fits : (f : Val → Val → Val) (l r type : Ty) → ((x y : Val) → IsTrue (fits x l) → IsTrue (fits y r) → IsTrue (fits (f x y) type)) → (left right : List Val) → IsTrue (all_fit left l) → IsTrue (all_fit right r) → IsTrue (all_fit (at_each f left right) type)
+at_each_fits f l r type each [] right h k = refl
+at_each_fits f l r type each (x ∷ left) [] h k = refl
+at_each_fits f l r type each (x ∷ left) (y ∷ right) h k =
+    let hs = and_parts (fits x l) (all_fit left l) h in
+    let ks = and_parts (fits y r) (all_fit right r) k in
+    and_from (fits (f x y) type) (all_fit (at_each f left right) type) (each x y hs.0 ks.0) (at_each_fits f l r type each left right hs.1 ks.1)
 
-plus_fits : (signed : Bool) (bits : ℕ) (left right : Val) → IsTrue (fits (plus (Integer signed bits) left right) (Integer signed bits))
-plus_fits signed bits NullValue right = refl
-plus_fits signed bits (TruthValue left) right = plus_number_fits signed bits (number_of left) right
-plus_fits signed bits (IntValue left) right = plus_number_fits signed bits left right
+replicate_fits : (count : ℕ) (value : Val) (type : Ty) → IsTrue (fits value type) → IsTrue (all_fit (replicate count value) type)
+replicate_fits zero value type h = refl
+replicate_fits (suc count) value type h = and_from (fits value type) (all_fit (replicate count value) type) h (replicate_fits count value type h)
 
-sum_fits : (common : Ty) (left right : Val) → is_known common ≡ true → IsTrue (fits (plus (sum_type common) left right) (sum_type common))
-sum_fits Truth left right known = plus_fits false 32 left right
-sum_fits (Integer signed bits) left right known = plus_fits signed bits left right
-sum_fits (Untyped number) left right known = cc
-
-compared_to_fits : (test : Val → Val → Bool) (left right : Val) → IsTrue (fits (compared_to test left right) Truth)
-compared_to_fits test left NullValue = refl
-compared_to_fits test left (TruthValue right) = refl
-compared_to_fits test left (IntValue right) = refl
-
-compared_fits : (test : Val → Val → Bool) (left right : Val) → IsTrue (fits (compared test left right) Truth)
-compared_fits test NullValue right = refl
-compared_fits test (TruthValue left) right = compared_to_fits test (TruthValue left) right
-compared_fits test (IntValue left) right = compared_to_fits test (IntValue left) right
-
-operator_value_fits : (operator : Operator) (common : Ty) (left right : Val) → is_known common ≡ true → IsTrue (fits (operator_value operator (result_type operator common) left right) (result_type operator common))
-operator_value_fits Eq common left right known = compared_fits is_same left right
-operator_value_fits NotEq common left right known = compared_fits (λ l r. not (is_same l r)) left right
-operator_value_fits Lt common left right known = compared_fits is_less left right
-operator_value_fits LtEq common left right known = compared_fits (λ l r. not (is_less r l)) left right
-operator_value_fits Gt common left right known = compared_fits (λ l r. is_less r l) left right
-operator_value_fits GtEq common left right known = compared_fits (λ l r. not (is_less l r)) left right
-operator_value_fits Plus common left right known = sum_fits common left right known
-
-at_each_fits : (f : Val → Val → Val) (type : Ty) → ((x y : Val) → IsTrue (fits (f x y) type)) → (left right : List Val) → IsTrue (all_fit (at_each f left right) type)
-at_each_fits f type each [] right = refl
-at_each_fits f type each (x ∷ left) [] = refl
-at_each_fits f type each (x ∷ left) (y ∷ right) = and_from (fits (f x y) type) (all_fit (at_each f left right) type) (each x y) (at_each_fits f type each left right)
+-- a column that is stretched still fits
+stretched_fits : (count : ℕ) (values : List Val) (type : Ty) → IsTrue (all_fit values type) → IsTrue (all_fit (stretched count values) type)
+stretched_fits count [] type h = refl
+stretched_fits count (value ∷ []) type h = replicate_fits count value type (and_parts (fits value type) true h).0
+stretched_fits count (first ∷ second ∷ rest) type h = h
 
 -- two columns of one value are not stretched
 single_each : (f : Val → Val → Val) (left right : List Val) (count : ℕ) → common_length (length left) (length right) ≡ Some count → length left ≡ 1 → length right ≡ 1 → length (at_each f (stretched count left) (stretched count right)) ≡ 1
@@ -131,11 +108,16 @@ single_each f (x ∷ []) (y ∷ second ∷ right) count c l r = omega arith
 single_each f (x ∷ []) (y ∷ []) count c l r =
     let one : 1 ≡ count = cc in subst (λ n. length (at_each f (replicate n x) (replicate n y)) ≡ 1) one refl
 
-operator_values_fit : (operator : Operator) (common : Ty) (many : Bool) (left right : List Val) → is_known common ≡ true → (many ≡ false → (length left ≡ 1) × (length right ≡ 1)) → Meets (AreOf (record { type = result_type operator common; many = many })) (operator_values operator (result_type operator common) left right)
-operator_values_fit operator common many left right known single =
-    let type = result_type operator common in
+operator_values_fit : (operator : Operator) (l r type : Ty) (many : Bool) (left right : List Val) → ((x y : Val) → IsTrue (fits x l) → IsTrue (fits y r) → IsTrue (fits (operator_value operator type x y) type)) → IsTrue (all_fit left l) → IsTrue (all_fit right r) → (many ≡ false → (length left ≡ 1) × (length right ≡ 1)) → Meets (AreOf (record { type = type; many = many })) (operator_values operator type left right)
+operator_values_fit operator l r type many left right each h k single =
     let f = operator_value operator type in
-    elim (common_length (length left) (length right)) as (λ o. common_length (length left) (length right) ≡ o → Meets (AreOf (record { type = type; many = many })) (at_length o (λ count. at_each f (stretched count left) (stretched count right)))) [ None ↦ λ e. tt | Some count ↦ λ e. record { fitting = at_each_fits f type (λ x y. operator_value_fits operator common x y known) (stretched count left) (stretched count right); single = λ one. single_each f left right count e (single one).0 (single one).1 } ] refl
+    elim (common_length (length left) (length right)) as (λ o. common_length (length left) (length right) ≡ o → Meets (AreOf (record { type = type; many = many })) (at_length o (λ count. at_each f (stretched count left) (stretched count right)))) [
+      | None ↦ λ e. tt
+      | Some count ↦ λ e. record {
+        fitting = at_each_fits f l r type each (stretched count left) (stretched count right) (stretched_fits count left l h) (stretched_fits count right r k);
+        single = λ one. single_each f left right count e (single one).0 (single one).1;
+      }
+    ] refl
 
 -- ---- the ops
 
@@ -151,8 +133,7 @@ column_means frame name (Some type) taken of at takes operands h rows =
 
 literal_fits : (type : Ty) (value : Val) → is_literal_of type value ≡ true → IsTrue (fits value type)
 literal_fits type NullValue h = cc
-literal_fits type (TruthValue truth) h = h
-literal_fits type (IntValue number) h = h
+literal_fits type _ h = h
 
 literal_node_means : (frame : Frame) (type : Ty) (value : Val) (taken : Taken) → literal_taken type value ≡ Ok taken → NodeMeans frame (LiteralOp type value) [] taken
 literal_node_means frame type value taken takes operands h rows =
@@ -172,26 +153,27 @@ cast_mean frame target options from None taken takes operands h = cc
 cast_mean frame target options from (Some own) taken takes operands h =
     subst (NodeMeans frame (CastOp target options) (from ∷ [])) (ok_where (can_cast own target) _ taken InvalidOperation takes).1 (cast_node_means frame target options (record { type = own; many = from.many })) operands h
 
-operator_node_means : (frame : Frame) (operator : Operator) (left right : Typed) (types : List Ty) (common : Ty) (operands : List Meaning) → is_known common ≡ true → AllMean (left ∷ right ∷ []) operands → MeansType (record { type = result_type operator common; many = is_many (BinaryOp operator) (left ∷ right ∷ []) }) (kernel frame (BinaryOp operator) types (result_type operator common) operands)
-operator_node_means frame operator left right types common [] known h rows = absurd h
-operator_node_means frame operator left right types common (l ∷ []) known h rows = absurd h.1
-operator_node_means frame operator left right types common (l ∷ r ∷ []) known h rows =
+operator_node_means : (frame : Frame) (operator : Operator) (left right : Typed) (types : List Ty) (type : Ty) (operands : List Meaning) → ((x y : Val) → IsTrue (fits x left.type) → IsTrue (fits y right.type) → IsTrue (fits (operator_value operator type x y) type)) → AllMean (left ∷ right ∷ []) operands → MeansType (record { type = type; many = is_many (BinaryOp operator) (left ∷ right ∷ []) }) (kernel frame (BinaryOp operator) types type operands)
+operator_node_means frame operator left right types type [] each h rows = absurd h
+operator_node_means frame operator left right types type (l ∷ []) each h rows = absurd h.1
+operator_node_means frame operator left right types type (l ∷ r ∷ []) each h rows =
     let many = left.many || (right.many || false) in
-    let type = result_type operator common in
     let Q = AreOf (record { type = type; many = many }) in
-    meets_then (AreOf left) Q (l rows) (λ ls. then_do (r rows) (operator_values operator type ls)) (h.0 rows) (λ ls of_left. meets_then (AreOf right) Q (r rows) (operator_values operator type ls) (h.1.0 rows) (λ rs of_right. operator_values_fit operator common many ls rs known (λ one. let parts = or_parts left.many (right.many || false) one in (of_left.single parts.0, of_right.single (or_parts right.many false parts.1).0))))
-operator_node_means frame operator left right types common (l ∷ r ∷ m ∷ ms) known h rows = absurd h.1.1
+    meets_then (AreOf left) Q (l rows) (λ ls. then_do (r rows) (operator_values operator type ls)) (h.0 rows) (λ ls of_left.
+    meets_then (AreOf right) Q (r rows) (operator_values operator type ls) (h.1.0 rows) (λ rs of_right.
+    operator_values_fit operator left.type right.type type many ls rs each of_left.fitting of_right.fitting (λ one. let parts = or_parts left.many (right.many || false) one in (of_left.single parts.0, of_right.single (or_parts right.many false parts.1).0))))
+operator_node_means frame operator left right types type (l ∷ r ∷ m ∷ ms) each h rows = absurd h.1.1
 
-both_mean : (frame : Frame) (operator : Operator) (left right : Typed) (found : Result Ty ErrorKind) (taken : Taken) → common_type left.type right.type ≡ found → both_to operator found ≡ Ok taken → NodeMeans frame (BinaryOp operator) (left ∷ right ∷ []) taken
-both_mean frame operator left right (Err kind) taken is takes operands h = cc
-both_mean frame operator left right (Ok type) taken is takes operands h =
-    let known = common_known left.type right.type type is in
-    subst (NodeMeans frame (BinaryOp operator) (left ∷ right ∷ [])) (ok_same (both_to operator (Ok type)) _ taken refl takes) (λ operands h. operator_node_means frame operator (record { type = type; many = left.many }) (record { type = type; many = right.many }) (type ∷ type ∷ []) type operands known h) operands h
+pair_means : (frame : Frame) (operator : Operator) (left right : Typed) (taken : Taken) → TakesOperands operator left.type right.type taken → NodeMeans frame (BinaryOp operator) (left ∷ right ∷ []) taken
+pair_means frame operator left right taken t =
+    let pair = t.pair in
+    subst (NodeMeans frame (BinaryOp operator) (left ∷ right ∷ [])) pair.is (λ operands h.
+    operator_node_means frame operator (record { type = pair.left; many = left.many }) (record { type = pair.right; many = right.many }) (pair.left ∷ pair.right ∷ []) pair.type operands pair.fitting h)
 
 operator_means : (frame : Frame) (operator : Operator) (typed : List Typed) (taken : Taken) → operator_types operator (types_of typed) ≡ Ok taken → NodeMeans frame (BinaryOp operator) typed taken
 operator_means frame operator [] taken takes operands h = cc
 operator_means frame operator (left ∷ []) taken takes operands h = cc
-operator_means frame operator (left ∷ right ∷ []) taken takes operands h = both_mean frame operator left right (common_type left.type right.type) taken refl takes operands h
+operator_means frame operator (left ∷ right ∷ []) taken takes operands h = pair_means frame operator left right taken (operands_taken operator left.type right.type taken takes) operands h
 operator_means frame operator (left ∷ right ∷ third ∷ typed) taken takes operands h = cc
 
 -- a node's kernel over operands of the types to which it takes them, by its op

@@ -4,6 +4,7 @@ pub mod FrameLemmas
 pub mod KernelLemmas
 pub mod LiteralLemmas
 pub mod OperandLemmas
+pub mod OperatorLemmas
 pub mod RuleLemmas
 pub mod RunLemmas
 pub mod SameLemmas

@@ -2,71 +2,43 @@
 use Rattle.std.proofs.Common.{◌≡◌, ◌∙◌, Bool, true, false, cond, List, [], ◌∷◌, Option, Some, None, is_some, Ok, Err, refl, sym, ap, subst}
 use Rattle.std.specs.Prelude.{ℤ, unwrap_or}
 use Rattle.std.proofs.lemmas.Bool.{and_parts, and_from}
-use Rattle.plan_types.specs.Types.{Ty, Truth, Integer, Untyped, is_known}
+use Rattle.plan_types.specs.Types.{Ty, NullType, Truth, Integer, TextType, Untyped, is_known}
 use Rattle.plan_types.specs.Schemas.{Columns, type_at}
-use Rattle.plan_types.specs.Values.{Val, NullValue, TruthValue, IntValue, in_range}
+use Rattle.plan_types.specs.Values.{Val, IntValue, in_range}
 use Rattle.plan_types.specs.Outcomes.{Done}
-use Rattle.plan_types.specs.Casts.{Gives, can_cast, out_of_range}
-use Rattle.plan_types.specs.CommonTypes.{type_alone, common_type}
+use Rattle.plan_types.specs.Casts.{Gives, can_cast, no_place, out_of_range}
+use Rattle.plan_types.specs.CommonTypes.{type_alone}
 use Rattle.plan_types.specs.Frames.{Frame}
 use Rattle.plan_types.specs.declared.error.ErrorKind.TheVariants.{InvalidOperation}
 use Rattle.plan_types.specs.declared.dtype.CastOptions.{CastOptions}
 use Rattle.plan_types.specs.declared.dtype.CastOptions.TheVariants.{NonStrict}
 use Rattle.plan_types.proofs.SupertypeLemmas.{no_number}
-use Rattle.plan_types.proofs.CommonLemmas.{alone_known, alone_itself, common_known}
+use Rattle.plan_types.proofs.CommonLemmas.{alone_known, alone_itself}
 use Rattle.plan_types.proofs.ValueLemmas.{int_eq_exact}
 use Rattle.plan_dsl.specs.declared.literal.LiteralValue.{LiteralValue}
 use Rattle.plan_dsl.specs.declared.literal.LiteralValue.TheVariants.{Int, Int8, Int16, Int32, Int64, UInt8, UInt16, UInt32, UInt64}
-use Rattle.plan_dsl.specs.declared.operator.Operator.{Operator}
-use Rattle.plan_dsl.specs.declared.operator.Operator.TheVariants.{Eq, NotEq, Lt, LtEq, Gt, GtEq, Plus}
-use Rattle.plan_dsl.specs.Operators.{result_type}
 use Rattle.plan_dsl.specs.Registry.{Registry}
 use Rattle.plan_dsl.specs.Trees.{Trees, node, no_more, more}
 use Rattle.plan_dsl.specs.Ops.{Op, ColumnOp, LiteralOp, BinaryOp, CastOp, Expression}
 use Rattle.plan_dsl.specs.Names.{name_of}
 use Rattle.plan_dsl.specs.Literals.{literal_type, literal_value, is_literal, is_literal_of, settled, settled_type}
 use Rattle.plan_dsl.specs.Typing.{Typed, column_type, cast_taken, operand_types, types_of, is_many, typed_as, typed_before, typing, typing_all}
-use Rattle.plan_dsl.specs.OperatorTypes.{Taken, both_to, operator_types}
+use Rattle.plan_dsl.specs.OperatorTypes.{Taken}
 use Rattle.plan_dsl.specs.Kernels.{cast_meaning, value_before}
 use Rattle.plan_dsl.specs.Meaning.{meaning, taken_meaning}
 use Rattle.plan_dsl.specs.Strictness.{IsStrict}
-use Rattle.plan_dsl.proofs.TypingLemmas.{ok_same, ok_where, typed_parts}
+use Rattle.plan_dsl.proofs.TypingLemmas.{ok_where, typed_parts}
+use Rattle.plan_dsl.proofs.OperatorLemmas.{operator_known}
 
 not_both : (type : Ty) (number : ℤ) → is_known type ≡ true → type ≡ Untyped number → ⊥
 not_both type number k e = let unknown : is_known type ≡ false = ap is_known e in cc
 
--- an operator's result is a type of columns where the operands' common type is one
-pub result_known : (operator : Operator) (common : Ty) → is_known common ≡ true → is_known (result_type operator common) ≡ true
-result_known Eq common k = refl
-result_known NotEq common k = refl
-result_known Lt common k = refl
-result_known LtEq common k = refl
-result_known Gt common k = refl
-result_known GtEq common k = refl
-result_known Plus Truth k = refl
-result_known Plus (Integer signed bits) k = refl
-result_known Plus (Untyped number) k = cc
-
-both_known : (operator : Operator) (left right : Ty) (taken : Taken) → both_to operator (common_type left right) ≡ Ok taken → is_known taken.type ≡ true
-both_known operator left right taken h =
-    elim (common_type left right) as (λ r. common_type left right ≡ r → both_to operator r ≡ Ok taken → is_known taken.type ≡ true) [
-      | Err kind ↦ λ e h. cc
-      | Ok common ↦ λ e h. subst (λ (t : Taken). is_known t.type ≡ true) (ok_same (both_to operator (Ok common)) _ taken refl h) (result_known operator common (common_known left right common e))
-    ] refl h
-
-pub operator_known : (operator : Operator) (types : List Ty) (taken : Taken) → operator_types operator types ≡ Ok taken → is_known taken.type ≡ true
-operator_known operator [] taken h = cc
-operator_known operator (left ∷ []) taken h = cc
-operator_known operator (left ∷ right ∷ []) taken h = both_known operator left right taken h
-operator_known operator (left ∷ right ∷ third ∷ types) taken h = cc
-
 -- what a literal of a number's own type is
 number_literal : (number : ℤ) (value : Val) → is_literal (Untyped number) value ≡ true → value ≡ IntValue number
-number_literal number NullValue h = cc
-number_literal number (TruthValue truth) h = cc
 number_literal number (IntValue other) h =
     let parts = and_parts (in_range (Untyped number) other) (is_some (type_alone (Untyped number))) h in
     sym (ap IntValue (int_eq_exact number other parts.0))
+number_literal number _ h = cc
 
 -- a node of a number's own type is that literal
 pub record IsNumberOp (number : ℤ) (op : Op) (types : List Ty) : Type 0 where
@@ -80,17 +52,23 @@ column_known schema (Some type) taken h =
     let p = ok_where (is_known type) _ taken InvalidOperation h in
     subst (λ (t : Taken). is_known t.type ≡ true) p.1 p.0
 
+-- the type of a number without one is no cast's target
+target_known : (from target : Ty) → can_cast from target ≡ true → is_known target ≡ true
+target_known NullType target h = h
+target_known _ (Untyped number) h = cc
+target_known _ _ h = refl
+
 cast_known : (target : Ty) (own : Option Ty) (taken : Taken) → cast_taken target own ≡ Ok taken → is_known taken.type ≡ true
 cast_known target None taken h = cc
 cast_known target (Some from) taken h =
     let p = ok_where (can_cast from target) _ taken InvalidOperation h in
-    subst (λ (t : Taken). is_known t.type ≡ true) p.1 p.0
+    subst (λ (t : Taken). is_known t.type ≡ true) p.1 (target_known from target p.0)
 
 cast_target_is : (target : Ty) (own : Option Ty) (taken : Taken) → cast_taken target own ≡ Ok taken → (target ≡ taken.type) × (is_known target ≡ true)
 cast_target_is target None taken h = cc
 cast_target_is target (Some from) taken h =
     let p = ok_where (can_cast from target) _ taken InvalidOperation h in
-    (ap (λ (t : Taken). t.type) p.1, p.0)
+    (ap (λ (t : Taken). t.type) p.1, target_known from target p.0)
 
 number_here : (type : Ty) (value : Val) (number : ℤ) (taken : Taken) → type ≡ Untyped number → is_literal type value ≡ true → IsNumberOp number (LiteralOp type value) []
 number_here type value number taken e literal =
@@ -158,10 +136,13 @@ becomes_literal target number known has = and_from (in_range target number) (is_
 
 -- a number that is cast to a type that has it
 pub number_cast : (number : ℤ) (target : Ty) → is_known target ≡ true → in_range target number ≡ true → cast_meaning (Untyped number) target NonStrict (λ rows. Done (IntValue number ∷ [])) ≡ (λ rows. Done (IntValue number ∷ []))
-number_cast number Truth known has = absurd (no_number number has)
+number_cast number Truth known has = absurd (no_number Truth number refl refl has)
+number_cast number TextType known has = absurd (no_number TextType number refl refl has)
 number_cast number (Integer signed bits) known has =
     ap (λ b. λ rows. value_before (cond b (Gives (IntValue number)) (out_of_range NonStrict (Integer signed bits) number)) (Done [])) has
 number_cast number (Untyped other) known has = cc
+number_cast number _ known has =
+    ap (λ b. λ rows. value_before (cond b (Gives (IntValue number)) (no_place NonStrict)) (Done [])) has
 
 -- the number that has no type gets one at the top, and nothing else changes
 pub settled_name : (tree : Expression) → name_of (settled tree) ≡ name_of tree
@@ -205,11 +186,10 @@ alone_is_some (Some own) h = (own, refl)
 
 -- a typed expression has a type alone
 pub typed_alone : (registry : Registry) (schema : Columns) (tree : Expression) (type : Ty) (many : Bool) → typing registry schema tree ≡ Ok (record { type = type; many = many }) → (own : Ty) × (type_alone type ≡ Some own)
-typed_alone registry schema tree Truth many h = (Truth, refl)
-typed_alone registry schema tree (Integer signed bits) many h = (Integer signed bits, refl)
 typed_alone registry schema tree (Untyped number) many h =
     let is = untyped_is_number registry schema number tree many h in
     alone_is_some (type_alone (Untyped number)) (and_parts (is_literal_of (Untyped number) (IntValue number)) (is_some (type_alone (Untyped number))) is.literal).1
+typed_alone registry schema tree type many h = (type, refl)
 
 -- the types of casts and literals
 pub cast_has_target : (schema : Columns) (target : Ty) (options : CastOptions) (types : List Ty) (taken : Taken) → operand_types schema (CastOp target options) types ≡ Ok taken → (target ≡ taken.type) × (is_known target ≡ true)
@@ -235,9 +215,8 @@ settled_literal registry schema type value children typed number h e =
 
 -- so what it takes has a type of columns
 known_unless : (type : Ty) → ((number : ℤ) → type ≡ Untyped number → ⊥) → is_known type ≡ true
-known_unless Truth h = refl
-known_unless (Integer signed bits) h = refl
 known_unless (Untyped number) h = absurd (h number refl)
+known_unless _ h = refl
 
 settled_untyped : (registry : Registry) (schema : Columns) (tree : Expression) (typed : Typed) (number : ℤ) → typing registry schema (settled tree) ≡ Ok typed → typed.type ≡ Untyped number → ⊥
 settled_untyped registry schema (node (LiteralOp type value) children) typed number h e = settled_literal registry schema type value children typed number h e

@@ -3,15 +3,18 @@
 use Rattle.std.proofs.Common.{◌≡◌, true, ◌||◌, List, [], ◌∷◌, Option, Some, None, Ok, refl, sym, ap, ◌∙◌, subst}
 use Rattle.std.specs.List.{AllByRecursion}
 use Rattle.std.proofs.lemmas.Bool.{and_from}
-use Rattle.plan_types.specs.Types.{Ty, is_known, same_type}
+use Rattle.plan_types.specs.Types.{Ty, is_integer, is_known, same_type}
 use Rattle.plan_types.specs.TypeLaws.{same_type_own}
 use Rattle.plan_types.specs.Schemas.{Columns, type_at}
+use Rattle.plan_types.specs.Values.{in_range}
 use Rattle.plan_types.specs.Casts.{can_cast}
 use Rattle.plan_types.specs.CommonTypes.{type_alone}
 use Rattle.plan_types.specs.Frames.{Frame, Row}
 use Rattle.plan_types.specs.declared.error.ErrorKind.TheVariants.{InvalidOperation}
 use Rattle.plan_types.specs.declared.dtype.CastOptions.TheVariants.{NonStrict}
-use Rattle.plan_types.proofs.CommonLemmas.{alone_known, literal_has}
+use Rattle.plan_types.proofs.SupertypeLemmas.{some_same}
+use Rattle.plan_types.proofs.CommonLemmas.{alone_known, alone_itself, literal_has}
+use Rattle.plan_types.proofs.CastLemmas.{cast_own as own_cast}
 use Rattle.plan_dsl.specs.declared.operator.Operator.{Operator}
 use Rattle.plan_dsl.specs.Registry.{Registry}
 use Rattle.plan_dsl.specs.Trees.{Trees, node, no_more, more, fold_all}
@@ -25,7 +28,8 @@ use Rattle.plan_dsl.specs.Meaning.{meaning, meaning_all, node_meaning, taken_mea
 use Rattle.plan_dsl.specs.Strictness.{CanBecome, IsSame, IsStrictNode, IsStrictOver, same_types, as_operands}
 use Rattle.plan_dsl.proofs.TypingLemmas.{ok_where, by_children, by_no_children}
 use Rattle.plan_dsl.proofs.RunLemmas.{same_types_exact}
-use Rattle.plan_dsl.proofs.CastLemmas.{cast_own, as_operand_typing, as_operand_name, as_operand_meaning, left_becomes, right_becomes, two_taken, taken_types_stay}
+use Rattle.plan_dsl.proofs.CastLemmas.{cast_own, as_operand_typing, as_operand_name, as_operand_meaning, taken_types_stay}
+use Rattle.plan_dsl.proofs.OperatorLemmas.{operands_taken, pair_becomes}
 
 -- each can become one of its type
 abbrev pub AllBecome : List Ty → List Ty → Type 0
@@ -42,18 +46,25 @@ typed_to (t ∷ ts) (target ∷ targets) = record { type = target; many = t.many
 
 -- ---- each op takes its operands to types that they can become
 
-binary_becomes : (operator : Operator) (left right : Ty) (targets : List Ty) (type : Ty) → operator_types operator (left ∷ right ∷ []) ≡ Ok (record { operands = targets; type = type }) → AllBecome (left ∷ right ∷ []) targets
-binary_becomes operator left right [] type h = let none = two_taken operator left right [] type h in absurd none
-binary_becomes operator left right (a ∷ []) type h = let none = two_taken operator left right (a ∷ []) type h in absurd none
-binary_becomes operator left right (a ∷ b ∷ []) type h = (left_becomes operator left right a b type h, (right_becomes operator left right a b type h, tt))
-binary_becomes operator left right (a ∷ b ∷ c ∷ targets) type h = let none = two_taken operator left right (a ∷ b ∷ c ∷ targets) type h in absurd none
+binary_becomes : (operator : Operator) (left right : Ty) (taken : Taken) → operator_types operator (left ∷ right ∷ []) ≡ Ok taken → AllBecome (left ∷ right ∷ []) taken.operands
+binary_becomes operator left right taken h =
+    let t = operands_taken operator left right taken h in
+    let can = pair_becomes operator left right taken t in
+    subst (λ (t : Taken). AllBecome (left ∷ right ∷ []) t.operands) t.pair.is (can.0, (can.1, tt))
+
+-- an operand alone can become of the type that it has alone
+alone_becomes : (from own : Ty) → type_alone from ≡ Some own → CanBecome from own
+alone_becomes from own alone = record {
+  known = alone_known from own alone;
+  casts = λ k. subst (λ t. can_cast from t ≡ true) (some_same from own (sym (alone_itself from k) ∙ alone)) (own_cast from k);
+  has = λ number e. let has = literal_has number own (ap type_alone (sym e) ∙ alone) in and_from (is_integer own) (in_range own number) has.2 has.0;
+}
 
 cast_becomes : (from target : Ty) (found : Option Ty) (taken : Taken) → type_alone from ≡ found → cast_taken target found ≡ Ok taken → AllBecome (from ∷ []) taken.operands
 cast_becomes from target None taken alone h = cc
 cast_becomes from target (Some own) taken alone h =
     let p = ok_where (can_cast own target) _ taken InvalidOperation h in
-    let can : CanBecome from own = record { known = alone_known from own alone; has = λ number e. (literal_has number own (ap type_alone (sym e) ∙ alone)).0 } in
-    subst (λ (t : Taken). AllBecome (from ∷ []) t.operands) p.1 (can, tt)
+    subst (λ (t : Taken). AllBecome (from ∷ []) t.operands) p.1 (alone_becomes from own alone, tt)
 
 column_becomes : (found : Option Ty) (taken : Taken) → column_type found ≡ Ok taken → AllBecome [] taken.operands
 column_becomes None taken h = cc
@@ -67,7 +78,7 @@ op_becomes schema (LiteralOp type value) [] taken h =
 op_becomes schema (LiteralOp type value) (operand ∷ types) taken h = cc
 op_becomes schema (BinaryOp operator) [] taken h = cc
 op_becomes schema (BinaryOp operator) (left ∷ []) taken h = cc
-op_becomes schema (BinaryOp operator) (left ∷ right ∷ []) taken h = binary_becomes operator left right taken.operands taken.type h
+op_becomes schema (BinaryOp operator) (left ∷ right ∷ []) taken h = binary_becomes operator left right taken h
 op_becomes schema (BinaryOp operator) (left ∷ right ∷ third ∷ types) taken h = cc
 op_becomes schema (CastOp target options) [] taken h = cc
 op_becomes schema (CastOp target options) (from ∷ []) taken h = cast_becomes from target (type_alone from) taken refl h

@@ -5,7 +5,7 @@
 use Rattle.std.specs.Prelude.{ℕ, List, [], ◌∷◌, map, length, replicate, slice_get, Option, Some, None, Bool, false, ◌||◌, ◌==◌, if◌then◌else◌, Result, Ok, Err}
 use Rattle.plan_types.specs.Types.{Ty}
 use Rattle.plan_types.specs.Schemas.{Name, Columns}
-use Rattle.plan_types.specs.Values.{Val, NullValue, TruthValue, IntValue}
+use Rattle.plan_types.specs.Values.{Val, TruthValue}
 use Rattle.plan_types.specs.Outcomes.{Outcome, Done, Fault, Stuck, then_do}
 use Rattle.plan_types.specs.Frames.{Row, Frame, empty_frame, row_numbers}
 use Rattle.plan_types.specs.declared.error.ErrorKind.{ErrorKind}
@@ -84,9 +84,8 @@ abbrev pub for_rows : ℕ → List Val → Outcome (List Val)
 for_rows count values = if length values == count || length values == 1 then Done (stretched count values) else Fault
 
 abbrev pub is_true : Val → Bool
-is_true NullValue = false
 is_true (TruthValue truth) = truth
-is_true (IntValue number) = false
+is_true value = false
 
 -- the rows beside a true value
 abbrev pub rows_where_true : List Val → List Row → List Row

@@ -7,3 +7,4 @@ pub mod meanings;
 pub mod operators;
 pub mod plans;
 pub mod strictness;
+pub mod texts_and_times;

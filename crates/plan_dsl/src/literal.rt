@@ -67,7 +67,6 @@ impl LiteralValue {
             (λ value. literal_op value ≡ LiteralOp (ty dtype.now) (IntValue number)) }
     {
         match dtype {
-            DataType::Boolean | DataType::Unknown(_) => None,
             DataType::Int8 => i8::try_from(number).ok().map(LiteralValue::Int8),
             DataType::Int16 => i16::try_from(number).ok().map(LiteralValue::Int16),
             DataType::Int32 => i32::try_from(number).ok().map(LiteralValue::Int32),
@@ -76,6 +75,14 @@ impl LiteralValue {
             DataType::UInt16 => u16::try_from(number).ok().map(LiteralValue::UInt16),
             DataType::UInt32 => u32::try_from(number).ok().map(LiteralValue::UInt32),
             DataType::UInt64 => u64::try_from(number).ok().map(LiteralValue::UInt64),
+            DataType::Null
+            | DataType::Boolean
+            | DataType::String
+            | DataType::Date
+            | DataType::Time
+            | DataType::Datetime(_)
+            | DataType::Duration(_)
+            | DataType::Unknown(_) => None,
         }
     }
 

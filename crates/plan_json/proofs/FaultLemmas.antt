@@ -109,6 +109,11 @@ pub only_part-none : (form_of : List ℕ → Option Form) (d : Data) (word : Lis
 only_part-none form_of d word value kind is none =
     ap (λ o. unless kind (is_some (option_and_then (λ (m : List ℕ × Data). option_map (λ f. part (key m.0) f m.1) (form_of m.0)) o))) (sym is) ∙ ap (λ o. unless kind (is_some (option_map (λ f. part (key word) f value) o))) none
 
+-- a value that is no object of one key
+pub only_part-no_member : (form_of : List ℕ → Option Form) (d : Data) (kind : FaultKind) → None ≡ only_member d → unless kind (is_some (only_part form_of d)) ≡ Some kind
+only_part-no_member form_of d kind none =
+    ap (λ o. unless kind (is_some (option_and_then (λ (m : List ℕ × Data). option_map (λ f. part (key m.0) f m.1) (form_of m.0)) o))) (sym none)
+
 -- ---- names
 
 pub name_fault-none : (test : Name' → Bool) (d : Data) → text_of d ≡ None → name_fault test d ≡ Some (shape_fault d)

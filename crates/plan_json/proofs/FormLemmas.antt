@@ -11,7 +11,8 @@ use Rattle.plan_json.specs.Queries.{expression_of, literal_of, literal_expressio
 use Rattle.plan_json.specs.Tables.{Declared}
 use Rattle.plan_json.proofs.LookingLemmas.{object-from_only_member, array-from_two_items}
 
-at_word : {A : Type 0} (read : Data → A) (d : Data) (word literal : List ℕ) (value : Data) → Some (word, value) ≡ only_member d → word ≡ literal → read d ≡ read (object (member literal value no_members))
+-- what a value of one key reads to
+pub at_word : {A : Type 0} (read : Data → A) (d : Data) (word literal : List ℕ) (value : Data) → Some (word, value) ≡ only_member d → word ≡ literal → read d ≡ read (object (member literal value no_members))
 at_word read d word literal value is same = ap read (object-from_only_member d word value is) ∙ ap (λ w. read (object (member w value no_members))) same
 
 pub expression_of-lit : (d : Data) (word : List ℕ) (value : Data) → Some (word, value) ≡ only_member d → word ≡ codes "lit" → expression_of d ≡ option_map literal_expression (literal_of value)
@@ -42,7 +43,7 @@ select_of-parts tables d input expressions plan trees is below listed =
 
 -- ---- a key that names no form
 
-other_word : {A : Type 0} (word literal : List ℕ) (x y : A) → (word ≡ literal → ⊥) → cond (bytes_eq word literal) x y ≡ y
+pub other_word : {A : Type 0} (word literal : List ℕ) (x y : A) → (word ≡ literal → ⊥) → cond (bytes_eq word literal) x y ≡ y
 other_word word literal x y other = go (bytes_eq word literal) (bytes_eq-Decides word literal).0
   where
     go : (b : Bool) → (b ≡ true → word ≡ literal) → cond b x y ≡ y

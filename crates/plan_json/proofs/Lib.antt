@@ -9,3 +9,4 @@ pub mod NoFaults
 pub mod OnLiterals
 pub mod QueryLaws
 pub mod TableLemmas
+pub mod TypeLemmas

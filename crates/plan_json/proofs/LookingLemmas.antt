@@ -2,7 +2,7 @@
 use Rattle.std.proofs.Common.{◌≡◌, ℕ, suc, ◌<◌, ◌≤◌, ◌==◌, List, [], ◌∷◌, length, slice_get, Option, Some, None, option_map, String, Global, string_bytes, cond, refl, sym, ap, ◌∙◌, subst, arith, ne_eqb, max}
 use Rattle.serde_json.specs.Data.{Data, null, boolean, number, string, array, object, Items, no_items, item, Members, no_members, member, depth}
 use Rattle.serde_json.specs.Events.{members_len}
-use Rattle.serde_json.specs.Find.{get, get_member, as_array, as_object}
+use Rattle.serde_json.specs.Find.{get, get_member, as_str, as_array, as_object}
 use Rattle.serde_json.specs.View.{view, items_view, members_view}
 use Rattle.serde_json.specs.declared.value.Value.{Value}
 use Rattle.serde_json.proofs.Views.{members_len-members_view}
@@ -28,6 +28,14 @@ array-from_as_array (number n) ds e = cc
 array-from_as_array (string s) ds e = cc
 array-from_as_array (array es) ds e = cc
 array-from_as_array (object ms) ds e = cc
+
+pub string-from_as_str : (d : Data) (text : List ℕ) → Some text ≡ as_str d → d ≡ string text
+string-from_as_str null text e = cc
+string-from_as_str (boolean b) text e = cc
+string-from_as_str (number n) text e = cc
+string-from_as_str (string s) text e = cc
+string-from_as_str (array ds) text e = cc
+string-from_as_str (object ms) text e = cc
 
 -- ---- objects
 

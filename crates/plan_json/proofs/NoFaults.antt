@@ -1,5 +1,5 @@
 -- A value that is a query has no fault, along any path.
-use Rattle.std.proofs.Common.{◌≡◌, ℕ, zero, suc, ◌+◌, ◌<◌, List, [], ◌∷◌, ◌++◌, length, get_or, Contains, Option, Some, None, option_map, option_and_then, Bool, true, false, cond, not, ◌&&◌, is_some, codes, nat_lt, bytes_eq, refl, sym, ap, subst, ◌∙◌, arith, append_assoc}
+use Rattle.std.proofs.Common.{◌≡◌, ℕ, zero, suc, ◌+◌, ◌<◌, List, [], ◌∷◌, ◌++◌, length, get_or, Contains, Option, Some, None, option_map, option_and_then, Bool, true, false, cond, not, ◌&&◌, ◌||◌, is_some, codes, nat_lt, bytes_eq, refl, sym, ap, subst, ◌∙◌, arith, append_assoc}
 use Rattle.std.specs.Option.{option_map_or}
 use Rattle.plan_types.specs.Schemas.{Name, Columns, names_of, is_among, repeats}
 use Rattle.plan_types.proofs.NameLemmas.{repeats-apart}
@@ -7,15 +7,15 @@ use Rattle.plan_types.specs.Types.{Ty}
 use Rattle.plan_types.specs.declared.dtype.CastOptions.{CastOptions}
 use Rattle.plan_dsl.specs.Ops.{Expression}
 use Rattle.plan_dsl.specs.declared.operator.Operator.{Operator}
-use Rattle.serde_json.specs.Data.{Data, Items, array, object, no_items, item, member, no_members}
+use Rattle.serde_json.specs.Data.{Data, Items, string, array, object, no_items, item, member, no_members}
 use Rattle.serde_json.specs.Events.{items_len}
 use Rattle.serde_json.specs.Find.{as_array}
 use Rattle.plan_json.specs.Errors.{IsErrorOf}
 use Rattle.plan_json.specs.declared.error.JsonError.{JsonError}
 use Rattle.plan_json.specs.declared.error.JsonError.TheVariants.{NotJson, Shape, Float, Name as Name', NoMemory}
-use Rattle.plan_json.specs.Faults.{FaultKind, BadShape, BadFloat, BadName, key, number, Path, Form, a_query, table_list, column_list, a_column, a_type, a_text, a_table, a_new_name, a_plan, a_scan, a_filter, a_selection, expression_list, an_expression, a_literal, operands, an_operator, a_cast, a_mode, Part, part, own_fault, parts_of, shape_fault, unless, each, each_table, query_parts, table_parts, column_parts, one_part, declared_names, IsBadAt}
+use Rattle.plan_json.specs.Faults.{FaultKind, BadShape, BadFloat, BadName, key, number, Path, Form, a_query, table_list, column_list, a_column, a_type, a_unit, a_text, a_table, a_new_name, a_plan, a_scan, a_filter, a_selection, expression_list, an_expression, a_literal, operands, an_operator, a_cast, a_mode, Part, part, own_fault, parts_of, shape_fault, unless, each, each_table, query_parts, table_parts, column_parts, one_part, declared_names, IsBadAt}
 use Rattle.plan_json.specs.Looking.{both, two_members, two_items, three_items, all_of, some_of}
-use Rattle.plan_json.specs.Queries.{QueryModel, text_of, type_of, literal_of, literal_expression, operator_of, mode_of, column_of, column_name, columns_of, columns_from, table_of, table_name, table_limit, tables_of, tables_from, expression_of, binary_of, binary_expression, cast_of, cast_expression, expressions_of, column_expression, table_at, scan_plan, scan_of, empty_plan, filter_plan, select_plan, plan_of, filter_of, select_of, query_of, query_from, IsQueryOf}
+use Rattle.plan_json.specs.Queries.{QueryModel, text_of, type_named, type_of, datetime_type, duration_type, unit_of, literal_of, literal_expression, operator_of, mode_of, column_of, column_name, columns_of, columns_from, table_of, table_name, table_limit, tables_of, tables_from, expression_of, binary_of, binary_expression, cast_of, cast_expression, expressions_of, column_expression, table_at, scan_plan, scan_of, empty_plan, filter_plan, select_plan, plan_of, filter_of, select_of, query_of, query_from, IsQueryOf}
 use Rattle.plan_json.specs.Tables.{Declared}
 use Rattle.plan_json.proofs.DeclarationLemmas.{table_name-read, declared_names-read}
 use Rattle.plan_json.proofs.TableLemmas.{is_some-table_at}
@@ -58,6 +58,7 @@ IsWell table_list d = Given (tables_of d)
 IsWell column_list d = Given (columns_of d)
 IsWell a_column d = Given (column_of d)
 IsWell a_type d = Given (type_of d)
+IsWell a_unit d = Given (unit_of d)
 IsWell a_text d = Given (text_of d)
 IsWell (a_table before) d = (t : Name × Columns) × (table_of d ≡ Some t) × (is_among t.0 before ≡ false)
 IsWell (a_new_name before) d = (name : Name) × (text_of d ≡ Some name) × (is_among name before ≡ false)
@@ -116,6 +117,21 @@ known_name tables names d same (plan, e) =
 abbrev bad_member : (word : List ℕ) (value : Data) → Option Form → Option FaultKind
 bad_member word value form = unless BadShape (is_some (option_map (λ f. part (key word) f value) form))
 
+own_type : (d : Data) (kind : FaultKind) → Given (type_of d) → own_fault a_type d ≡ Some kind → ⊥
+own_type (string name) kind well bad = go (type_named name) well bad
+  where
+    go : (o : Option Ty) → Given o → unless BadShape (is_some o || false) ≡ Some kind → ⊥
+    go None (x, e) bad = cc
+    go (Some t) well bad = cc
+own_type (object (member word value no_members)) kind well bad =
+    go (bytes_eq word (codes "Datetime")) (bytes_eq word (codes "Duration")) well bad
+  where
+    go : (m s : Bool) → Given (cond m (option_map datetime_type (unit_of value)) (cond s (option_map duration_type (unit_of value)) None)) → bad_member word value (cond m (Some a_unit) (cond s (Some a_unit) None)) ≡ Some kind → ⊥
+    go true s h bad = cc
+    go false true h bad = cc
+    go false false (x, e) bad = cc
+own_type _ kind (x, e) bad = cc
+
 own_expression : (d : Data) (kind : FaultKind) → Given (expression_of d) → own_fault an_expression d ≡ Some kind → ⊥
 own_expression (object (member word value no_members)) kind well bad =
     go (bytes_eq word (codes "col")) (bytes_eq word (codes "lit")) (bytes_eq word (codes "bin")) (bytes_eq word (codes "cast")) well bad
@@ -161,7 +177,8 @@ own_none a_query d kind well bad = there_first (shape_fault d) query_from (two_m
 own_none table_list d kind well bad = own_list (shape_fault d) (λ items. nat_lt (items_len items) table_limit) tables_from few_enough (as_array d) kind well bad
 own_none column_list d kind well bad = own_list (shape_fault d) (λ items. not (repeats (some_of column_name items))) columns_from no_repeat (as_array d) kind well bad
 own_none a_column d kind well bad = there_first (shape_fault d) _ (two_items d) kind well bad
-own_none a_type d kind well bad = there (shape_fault d) (type_of d) kind well bad
+own_none a_type d kind well bad = own_type d kind well bad
+own_none a_unit d kind well bad = there (shape_fault d) (unit_of d) kind well bad
 own_none a_text d kind well bad = there (shape_fault d) (text_of d) kind well bad
 own_none (a_table before) d kind (t, e, new) bad = there_first (shape_fault d) _ (two_members (codes "name") (codes "columns") d) kind (t, e) bad
 own_none (a_new_name before) d kind (name, e, new) bad = own_name (shape_fault d) (λ n. not (is_among n before)) (text_of d) name kind e (ap not new) bad
@@ -296,6 +313,17 @@ parts_expressions d p (es, e) here =
 abbrev only : (word : List ℕ) (value : Data) → Option Form → List Part
 only word value form = one_part (option_map (λ f. part (key word) f value) form)
 
+parts_type : (d : Data) (p : Part) → Given (type_of d) → Contains (parts_of a_type d) p → WellPart p
+parts_type (string name) p well here = none_of p here
+parts_type (object (member word value no_members)) p well here =
+    go (bytes_eq word (codes "Datetime")) (bytes_eq word (codes "Duration")) well here
+  where
+    go : (m s : Bool) → Given (cond m (option_map datetime_type (unit_of value)) (cond s (option_map duration_type (unit_of value)) None)) → Contains (only word value (cond m (Some a_unit) (cond s (Some a_unit) None))) p → WellPart p
+    go true s (t, e) h = one_of (part (key word) a_unit value) p (mapped datetime_type (unit_of value) t e) h
+    go false true (t, e) h = one_of (part (key word) a_unit value) p (mapped duration_type (unit_of value) t e) h
+    go false false given h = none_of p h
+parts_type _ p (x, e) here = cc
+
 parts_expression : (d : Data) (p : Part) → Given (expression_of d) → Contains (parts_of an_expression d) p → WellPart p
 parts_expression (object (member word value no_members)) p well here =
     go (bytes_eq word (codes "col")) (bytes_eq word (codes "lit")) (bytes_eq word (codes "bin")) (bytes_eq word (codes "cast")) well here
@@ -351,7 +379,8 @@ parts_well a_query d p well here = parts_query d p well here
 parts_well table_list d p well here = parts_tables d p well here
 parts_well column_list d p well here = parts_columns d p well here
 parts_well a_column d p well here = parts_column d p well here
-parts_well a_type d p well here = none_of p here
+parts_well a_type d p well here = parts_type d p well here
+parts_well a_unit d p well here = none_of p here
 parts_well a_text d p well here = none_of p here
 parts_well (a_table before) d p well here = parts_table before d p well here
 parts_well (a_new_name before) d p well here = none_of p here

@@ -1,15 +1,15 @@
 -- Faults of a value that is to be a query.
 -- A place in the value asks for a form. A value can break the form itself, and it asks for forms of
 -- its parts. So a fault stands at the end of a path of such parts.
-use Rattle.std.specs.Prelude.{◌≡◌, ℕ, ◌+◌, List, [], ◌∷◌, ◌++◌, Bool, true, false, not, Option, Some, None, option_map, option_and_then, is_some, codes, nat_lt, Contains, if◌then◌else◌}
+use Rattle.std.specs.Prelude.{◌≡◌, ℕ, ◌+◌, List, [], ◌∷◌, ◌++◌, Bool, true, false, not, ◌||◌, Option, Some, None, option_map, option_and_then, is_some, codes, nat_lt, Contains, if◌then◌else◌}
 use Rattle.std.specs.Option.{option_map_or}
 use Rattle.std.specs.Str.{bytes_eq}
 use Rattle.serde_json.specs.Data.{Data, Items, no_items, item}
 use Rattle.serde_json.specs.Events.{items_len}
-use Rattle.serde_json.specs.Find.{as_array}
+use Rattle.serde_json.specs.Find.{as_str, as_array}
 use Rattle.plan_types.specs.Schemas.{Name, is_among, repeats}
 use Rattle.plan_json.specs.Looking.{is_float, only_member, two_members, two_items, three_items, some_of}
-use Rattle.plan_json.specs.Queries.{text_of, type_of, literal_of, operator_of, mode_of, column_name, table_name, table_limit}
+use Rattle.plan_json.specs.Queries.{text_of, type_named, unit_of, literal_of, operator_of, mode_of, column_name, table_name, table_limit}
 
 pub data FaultKind : Type 0 where
   -- the value breaks the form
@@ -32,7 +32,7 @@ Path = List Step
 -- What a place asks for. A table and its name come with the names of the tables before it, and a
 -- plan with those of all tables.
 pub data Form : Type 0 where
-  a_query table_list column_list a_column a_type a_text : Form
+  a_query table_list column_list a_column a_type a_unit a_text : Form
   a_table a_new_name a_plan a_scan a_filter a_selection : List Name → Form
   expression_list an_expression a_literal operands an_operator a_cast a_mode : Form
 
@@ -46,6 +46,12 @@ abbrev pub part : Step → Form → Data → Part
 part step form value = record { step = step; form = form; value = value }
 
 -- ---- forms that are named by a key
+
+-- what a type's only key asks of its value
+abbrev pub type_form : List ℕ → Option Form
+type_form word =
+    if bytes_eq word (codes "Datetime") then Some a_unit else (
+    if bytes_eq word (codes "Duration") then Some a_unit else None)
 
 -- what an expression's only key asks of its value
 abbrev pub expression_form : List ℕ → Option Form
@@ -85,13 +91,18 @@ name_fault test d = option_map_or (λ name. unless BadName (test name)) (text_of
 abbrev pub list_fault : (Items → Bool) → Data → Option FaultKind
 list_fault test d = unless (shape_fault d) (option_map_or test (as_array d) false)
 
+-- whether a value is the name of a type without parts
+abbrev pub is_type_name : Data → Bool
+is_type_name d = is_some (option_and_then type_named (as_str d))
+
 -- how a value itself breaks the form
 abbrev pub own_fault : Form → Data → Option FaultKind
 own_fault a_query d = unless (shape_fault d) (is_some (two_members (codes "tables") (codes "plan") d))
 own_fault table_list d = list_fault (λ items. nat_lt (items_len items) table_limit) d
 own_fault column_list d = list_fault (λ items. not (repeats (some_of column_name items))) d
 own_fault a_column d = unless (shape_fault d) (is_some (two_items d))
-own_fault a_type d = unless (shape_fault d) (is_some (type_of d))
+own_fault a_type d = unless (shape_fault d) (is_type_name d || is_some (only_part type_form d))
+own_fault a_unit d = unless (shape_fault d) (is_some (unit_of d))
 own_fault a_text d = unless (shape_fault d) (is_some (text_of d))
 own_fault (a_table before) d = unless (shape_fault d) (is_some (two_members (codes "name") (codes "columns") d))
 own_fault (a_new_name before) d = name_fault (λ name. not (is_among name before)) d
@@ -157,7 +168,8 @@ parts_of a_query d = option_map_or query_parts (two_members (codes "tables") (co
 parts_of table_list d = option_map_or (each_table [] 0) (as_array d) []
 parts_of column_list d = option_map_or (each a_column 0) (as_array d) []
 parts_of a_column d = option_map_or column_parts (two_items d) []
-parts_of a_type d = []
+parts_of a_type d = one_part (only_part type_form d)
+parts_of a_unit d = []
 parts_of a_text d = []
 parts_of (a_table before) d = option_map_or (table_parts before) (two_members (codes "name") (codes "columns") d) []
 parts_of (a_new_name before) d = []

@@ -4,14 +4,16 @@
 use Rattle.std.specs.Prelude.{◌≡◌, ℕ, ℤ, ◌^◌, ◌&&◌, List, [], map, not, Option, Some, None, option_map, option_and_then, codes, nat_lt, position, if◌then◌else◌, true, false}
 use Rattle.std.specs.Map.{lookup}
 use Rattle.std.specs.Str.{chars, bytes_eq}
-use Rattle.serde_json.specs.Data.{Data, array, object, Items, no_items, item, no_members, member}
+use Rattle.serde_json.specs.Data.{Data, string, array, object, Items, no_items, item, no_members, member}
 use Rattle.serde_json.specs.Events.{items_len}
 use Rattle.serde_json.specs.Find.{get, as_str, as_array}
 use Rattle.plan_types.specs.Schemas.{Name, Columns, same_name, names_of, repeats}
-use Rattle.plan_types.specs.Types.{Ty, Truth, Integer, Untyped}
+use Rattle.plan_types.specs.Types.{Ty, NullType, Truth, Integer, TextType, DateType, TimeType, DatetimeType, DurationType, Untyped}
 use Rattle.plan_types.specs.Values.{IntValue}
 use Rattle.plan_types.specs.declared.dtype.CastOptions.{CastOptions}
 use Rattle.plan_types.specs.declared.dtype.CastOptions.TheVariants.{Strict, NonStrict, Overflowing}
+use Rattle.plan_types.specs.declared.dtype.TimeUnit.{TimeUnit}
+use Rattle.plan_types.specs.declared.dtype.TimeUnit.TheVariants.{Nanoseconds, Microseconds, Milliseconds}
 use Rattle.plan_dsl.specs.Ops.{Op, ColumnOp, LiteralOp, BinaryOp, CastOp, Expression}
 use Rattle.plan_dsl.specs.Plans.{Plan, named, scan_op, select_op, filter_op, plan_tree}
 use Rattle.plan_dsl.specs.Trees.{node, no_more, more}
@@ -35,8 +37,10 @@ query_model query = record { tables = declared query.tables; plan = plan_tree qu
 abbrev pub text_of : Data → Option Name
 text_of d = option_map chars (as_str d)
 
+-- the type of that name, of those without parts
 abbrev pub type_named : List ℕ → Option Ty
 type_named name =
+    if bytes_eq name (codes "Null") then Some NullType else (
     if bytes_eq name (codes "Boolean") then Some Truth else (
     if bytes_eq name (codes "Int8") then Some (Integer true 8) else (
     if bytes_eq name (codes "Int16") then Some (Integer true 16) else (
@@ -45,10 +49,33 @@ type_named name =
     if bytes_eq name (codes "UInt8") then Some (Integer false 8) else (
     if bytes_eq name (codes "UInt16") then Some (Integer false 16) else (
     if bytes_eq name (codes "UInt32") then Some (Integer false 32) else (
-    if bytes_eq name (codes "UInt64") then Some (Integer false 64) else None))))))))
+    if bytes_eq name (codes "UInt64") then Some (Integer false 64) else (
+    if bytes_eq name (codes "String") then Some TextType else (
+    if bytes_eq name (codes "Date") then Some DateType else (
+    if bytes_eq name (codes "Time") then Some TimeType else None))))))))))))
 
+abbrev pub unit_named : List ℕ → Option TimeUnit
+unit_named name =
+    if bytes_eq name (codes "ns") then Some Nanoseconds else (
+    if bytes_eq name (codes "us") then Some Microseconds else (
+    if bytes_eq name (codes "ms") then Some Milliseconds else None))
+
+abbrev pub unit_of : Data → Option TimeUnit
+unit_of d = option_and_then unit_named (as_str d)
+
+abbrev pub datetime_type : TimeUnit → Ty
+datetime_type unit = DatetimeType unit
+
+abbrev pub duration_type : TimeUnit → Ty
+duration_type unit = DurationType unit
+
+-- a name, or an object of one key, which names its form
 abbrev pub type_of : Data → Option Ty
-type_of d = option_and_then type_named (as_str d)
+type_of (string name) = type_named name
+type_of (object (member key value no_members)) =
+    if bytes_eq key (codes "Datetime") then option_map datetime_type (unit_of value) else (
+    if bytes_eq key (codes "Duration") then option_map duration_type (unit_of value) else None)
+type_of _ = None
 
 abbrev pub operator_named : List ℕ → Option Operator
 operator_named name =

@@ -1,16 +1,15 @@
-//! Names, types and columns.
+//! Names and columns.
 ghost use Rattle.std.specs.Prelude.{◌≡◌, Some, IfOk, IfErr};
-ghost use Rattle.std.specs.Option.{option_map};
 ghost use Rattle.serde_json.specs.View.{view};
 ghost use Rattle.plan_types.specs.Schemas.{columns};
 ghost use Rattle.plan_types.specs.Types.{ty};
 ghost use Rattle.plan_json.specs.Errors.{IsErrorOf};
-ghost use Rattle.plan_json.specs.Faults.{a_text, a_type, a_column, column_list};
-ghost use Rattle.plan_json.specs.Queries.{text_of, type_named, type_of, column_of, columns_of};
+ghost use Rattle.plan_json.specs.Faults.{a_text, a_column, column_list};
+ghost use Rattle.plan_json.specs.Queries.{text_of, column_of, columns_of};
 
+use super::dtype::read_type;
 use super::error::{JsonError, Step, at};
 use super::value::two_items;
-use plan_types::dtype::DataType;
 use plan_types::field::Field;
 use plan_types::schema::Schema;
 use plan_types::text::PlSmallStr;
@@ -28,38 +27,6 @@ pub(crate) fn read_text(alloc: Global, value: &Value) -> Result<PlSmallStr, Json
             let text = PlSmallStr::new(alloc, text)?;
             Ok(text)
         }
-    }
-}
-
-// A type, by its name.
-pub(crate) fn read_type(alloc: Global, value: &Value) -> Result<DataType, JsonError>
-    ensures ok { IfOk result (λ dtype. type_of (view value.now) ≡ Some (ty dtype)) }
-    ensures err { IfErr result (IsErrorOf a_type (view value.now)) }
-{
-    match value.as_str() {
-        None => Err(JsonError::shape(alloc, value)),
-        Some(name) => match type_named(name) {
-            None => Err(JsonError::shape(alloc, value)),
-            Some(dtype) => Ok(dtype),
-        },
-    }
-}
-
-// The type of that name.
-fn type_named(name: &str) -> Option<DataType>
-    ensures { option_map ty result ≡ type_named name.now }
-{
-    match name {
-        "Boolean" => Some(DataType::Boolean),
-        "Int8" => Some(DataType::Int8),
-        "Int16" => Some(DataType::Int16),
-        "Int32" => Some(DataType::Int32),
-        "Int64" => Some(DataType::Int64),
-        "UInt8" => Some(DataType::UInt8),
-        "UInt16" => Some(DataType::UInt16),
-        "UInt32" => Some(DataType::UInt32),
-        "UInt64" => Some(DataType::UInt64),
-        _ => None,
     }
 }
 

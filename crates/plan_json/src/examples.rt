@@ -3,9 +3,10 @@
 
 ghost use Rattle.std.specs.Prelude.{◌≡◌, ℕ, ℤ, pos, negsuc, [], ◌∷◌, Float, List, Some, None, String, codes, string_bytes, true, false};
 ghost use Rattle.std.specs.Global.{Global};
-ghost use Rattle.plan_types.specs.Types.{Truth, Integer, Untyped};
+ghost use Rattle.plan_types.specs.Types.{NullType, Truth, Integer, TextType, DateType, TimeType, DatetimeType, DurationType, Untyped};
 ghost use Rattle.plan_types.specs.Values.{IntValue};
 ghost use Rattle.plan_types.specs.declared.dtype.CastOptions.TheVariants.{Strict, NonStrict, Overflowing};
+ghost use Rattle.plan_types.specs.declared.dtype.TimeUnit.TheVariants.{Nanoseconds, Microseconds, Milliseconds};
 ghost use Rattle.plan_dsl.specs.Ops.{ColumnOp, LiteralOp, BinaryOp, CastOp};
 ghost use Rattle.plan_dsl.specs.Plans.{empty_table, named, scan_op, select_op, filter_op};
 ghost use Rattle.plan_dsl.specs.Trees.{node, no_more, more};
@@ -15,7 +16,7 @@ ghost use Rattle.plan_json.specs.Bytes.{IsRefusalOf, WritesQuery};
 ghost use Rattle.plan_json.specs.Errors.{escaped, pointer_text};
 ghost use Rattle.plan_json.specs.Faults as fault;
 ghost use Rattle.plan_json.specs.Faults.{BadFloat, BadName, BadShape, IsBadAt, key, own_fault};
-ghost use Rattle.plan_json.specs.Queries.{QueryModel, expression_of, literal_of, number_op, operator_of, plan_of, query_of, type_of};
+ghost use Rattle.plan_json.specs.Queries.{QueryModel, expression_of, literal_of, number_op, operator_of, plan_of, query_of, type_of, unit_of};
 ghost use Rattle.plan_json.specs.declared.error.JsonError.TheVariants.{NotJson, Shape, Float as Float', Name};
 
 /// A query: its tables by name and columns, and its plan over them.
@@ -67,6 +68,41 @@ pub fn query_examples()
     ensures column_twice { let column = array (item (string (codes "a")) (item (string (codes "Int8")) no_items)) in
         let empty = object (member (codes "empty") (array (item column (item column no_items))) no_members) in
         query_of (object (member (codes "plan") empty (member (codes "tables") (array no_items) no_members))) ≡ None }
+{}
+
+/// A type: a name, or an object of one key with a unit of time.
+pub fn type_examples()
+    ensures nothing { type_of (string (codes "Null")) ≡ Some NullType }
+    ensures truth { type_of (string (codes "Boolean")) ≡ Some Truth }
+    ensures least { type_of (string (codes "Int8")) ≡ Some (Integer true 8) }
+    ensures short { type_of (string (codes "Int16")) ≡ Some (Integer true 16) }
+    ensures middle { type_of (string (codes "Int32")) ≡ Some (Integer true 32) }
+    ensures long { type_of (string (codes "Int64")) ≡ Some (Integer true 64) }
+    ensures least_unsigned { type_of (string (codes "UInt8")) ≡ Some (Integer false 8) }
+    ensures short_unsigned { type_of (string (codes "UInt16")) ≡ Some (Integer false 16) }
+    ensures middle_unsigned { type_of (string (codes "UInt32")) ≡ Some (Integer false 32) }
+    ensures long_unsigned { type_of (string (codes "UInt64")) ≡ Some (Integer false 64) }
+    ensures text { type_of (string (codes "String")) ≡ Some TextType }
+    ensures date { type_of (string (codes "Date")) ≡ Some DateType }
+    ensures time { type_of (string (codes "Time")) ≡ Some TimeType }
+    ensures fine_moment { type_of (object (member (codes "Datetime") (string (codes "ns")) no_members)) ≡ Some (DatetimeType Nanoseconds) }
+    ensures moment { type_of (object (member (codes "Datetime") (string (codes "us")) no_members)) ≡ Some (DatetimeType Microseconds) }
+    ensures coarse_moment { type_of (object (member (codes "Datetime") (string (codes "ms")) no_members)) ≡ Some (DatetimeType Milliseconds) }
+    ensures fine_span { type_of (object (member (codes "Duration") (string (codes "ns")) no_members)) ≡ Some (DurationType Nanoseconds) }
+    ensures span { type_of (object (member (codes "Duration") (string (codes "us")) no_members)) ≡ Some (DurationType Microseconds) }
+    ensures coarse_span { type_of (object (member (codes "Duration") (string (codes "ms")) no_members)) ≡ Some (DurationType Milliseconds) }
+    ensures short_name { type_of (string (codes "Bool")) ≡ None }
+    ensures lower_case { type_of (string (codes "null")) ≡ None }
+    ensures without_unit { type_of (string (codes "Datetime")) ≡ None }
+    ensures unknown_unit { type_of (object (member (codes "Datetime") (string (codes "s")) no_members)) ≡ None }
+    ensures unit_that_is_no_text { type_of (object (member (codes "Duration") null no_members)) ≡ None }
+    ensures unit_of_none { type_of (object (member (codes "Date") (string (codes "ms")) no_members)) ≡ None }
+    ensures two_keys { type_of (object (member (codes "Datetime") (string (codes "ms")) (member (codes "Duration") (string (codes "ms")) no_members))) ≡ None }
+    ensures no_key { type_of (object no_members) ≡ None }
+    ensures other_kind { type_of null ≡ None }
+    ensures list { type_of (array (item (string (codes "Date")) no_items)) ≡ None }
+    ensures unit { unit_of (string (codes "us")) ≡ Some Microseconds }
+    ensures upper_case { unit_of (string (codes "US")) ≡ None }
 {}
 
 /// A filter: its input, and the expression that is true for the rows which it keeps.
@@ -136,6 +172,11 @@ pub fn expression_examples()
         let operands = array (item (string (codes "Lt")) (item cast (item right no_items))) in
         expression_of (object (member (codes "bin") operands no_members))
         ≡ Some (node (BinaryOp Lt) (more (node (CastOp (Integer true 64) Strict) (more (node (ColumnOp (codes "a")) no_more) no_more)) (more (node (ColumnOp (codes "b")) no_more) no_more))) }
+    ensures cast_to_moments { let operand = object (member (codes "col") (string (codes "a")) no_members) in
+        let target = object (member (codes "Datetime") (string (codes "ms")) no_members) in
+        let parts = array (item operand (item target (item (string (codes "Strict")) no_items))) in
+        expression_of (object (member (codes "cast") parts no_members))
+        ≡ Some (node (CastOp (DatetimeType Milliseconds) Strict) (more (node (ColumnOp (codes "a")) no_more) no_more)) }
     ensures unknown_mode { let operand = object (member (codes "col") (string (codes "a")) no_members) in
         let parts = array (item operand (item (string (codes "Int64")) (item (string (codes "strict")) no_items))) in
         expression_of (object (member (codes "cast") parts no_members)) ≡ None }
@@ -146,8 +187,6 @@ pub fn expression_examples()
         expression_of (object (member (codes "cast") parts no_members)) ≡ None }
     ensures operator { operator_of (string (codes "Eq")) ≡ Some Eq }
     ensures sign { operator_of (string (codes "==")) ≡ None }
-    ensures truth { type_of (string (codes "Boolean")) ≡ Some Truth }
-    ensures short_truth { type_of (string (codes "Bool")) ≡ None }
 {}
 
 /// Bytes that write a query, and bytes that write none.
@@ -155,10 +194,14 @@ pub fn text_examples()
     ensures least { WritesQuery (codes " {\"tables\": [], \"plan\": {\"empty\": []}}\n") (record { tables = []; plan = empty_table }) }
     ensures escaped_name { WritesQuery (codes "{\"tables\":[],\"plan\":{\"empty\":[[\"\\ud83d\\ude00\",\"Int64\"]]}}")
         (record { tables = []; plan = node (scan_op None ((0x1f600 ∷ [], Integer true 64) ∷ [])) no_more }) }
+    ensures times { WritesQuery (codes "{\"tables\":[],\"plan\":{\"empty\":[[\"a\",\"Time\"],[\"b\",{\"Datetime\":\"us\"}]]}}")
+        (record { tables = []; plan = node (scan_op None ((codes "a", TimeType) ∷ (codes "b", DatetimeType Microseconds) ∷ [])) no_more }) }
     ensures other_value { (query : QueryModel) → ¬ (WritesQuery (codes "[]") query) }
     ensures cut { IsRefusalOf (codes "{\"tables\":[") NotJson }
     ensures unknown_plan { (path : String Global) → string_bytes path ≡ codes "/plan"
         → IsRefusalOf (codes "{\"tables\":[],\"plan\":{\"drop\":[]}}") (Shape path) }
+    ensures unknown_unit { (path : String Global) → string_bytes path ≡ codes "/plan/empty/0/1/Datetime"
+        → IsRefusalOf (codes "{\"tables\":[],\"plan\":{\"empty\":[[\"a\",{\"Datetime\":\"s\"}]]}}") (Shape path) }
     ensures undeclared_table { (path : String Global) → string_bytes path ≡ codes "/plan/scan"
         → IsRefusalOf (codes "{\"tables\":[],\"plan\":{\"scan\":\"t\"}}") (Name path) }
     ensures float { (path : String Global) → string_bytes path ≡ codes "/plan/filter/1/lit"
@@ -176,6 +219,13 @@ pub fn fault_examples()
     ensures text { own_fault fault.a_text (string (codes "a")) ≡ None }
     ensures unknown_type { own_fault fault.a_type (string (codes "int8")) ≡ Some BadShape }
     ensures known_type { own_fault fault.a_type (string (codes "UInt64")) ≡ None }
+    ensures type_without_unit { own_fault fault.a_type (string (codes "Datetime")) ≡ Some BadShape }
+    ensures type_of_unit { own_fault fault.a_type (object (member (codes "Duration") null no_members)) ≡ None }
+    ensures type_of_unknown_key { own_fault fault.a_type (object (member (codes "duration") null no_members)) ≡ Some BadShape }
+    ensures type_of_two_keys { own_fault fault.a_type (object (member (codes "Datetime") null (member (codes "Duration") null no_members))) ≡ Some BadShape }
+    ensures type_of_no_key { own_fault fault.a_type (object no_members) ≡ Some BadShape }
+    ensures unknown_unit { own_fault fault.a_unit (string (codes "s")) ≡ Some BadShape }
+    ensures known_unit { own_fault fault.a_unit (string (codes "ns")) ≡ None }
     ensures long_column { own_fault fault.a_column (array (item null (item null (item null no_items)))) ≡ Some BadShape }
     ensures short_column { own_fault fault.a_column (array (item null no_items)) ≡ Some BadShape }
     ensures column_twice { let column = array (item (string (codes "a")) (item null no_items)) in
@@ -216,6 +266,7 @@ pub fn float_examples()
     ensures columns { (x : Float) → own_fault fault.column_list (number (float x)) ≡ Some BadFloat }
     ensures text { (x : Float) → own_fault fault.a_text (number (float x)) ≡ Some BadFloat }
     ensures type_name { (x : Float) → own_fault fault.a_type (number (float x)) ≡ Some BadFloat }
+    ensures unit_name { (x : Float) → own_fault fault.a_unit (number (float x)) ≡ Some BadFloat }
     ensures new_name { (x : Float) → own_fault (fault.a_new_name []) (number (float x)) ≡ Some BadFloat }
     ensures table { (x : Float) → own_fault (fault.a_scan (codes "t" ∷ [])) (number (float x)) ≡ Some BadFloat }
     ensures plan { (x : Float) → own_fault (fault.a_plan []) (number (float x)) ≡ Some BadFloat }
@@ -251,6 +302,11 @@ pub fn place_examples()
         IsBadAt fault.an_expression cast BadShape (key (codes "cast") ∷ fault.number 0 ∷ []) }
     ensures cast_to_unknown { let cast = object (member (codes "cast") (array (item null (item (string (codes "bool")) (item null no_items)))) no_members) in
         IsBadAt fault.an_expression cast BadShape (key (codes "cast") ∷ fault.number 1 ∷ []) }
+    ensures cast_to_unknown_unit { let target = object (member (codes "Datetime") (string (codes "s")) no_members) in
+        let cast = object (member (codes "cast") (array (item null (item target (item null no_items)))) no_members) in
+        IsBadAt fault.an_expression cast BadShape (key (codes "cast") ∷ fault.number 1 ∷ key (codes "Datetime") ∷ []) }
+    ensures column_of_float { (x : Float) → let dtype = object (member (codes "Duration") (number (float x)) no_members) in
+        IsBadAt fault.column_list (array (item (array (item null (item dtype no_items))) no_items)) BadFloat (fault.number 0 ∷ fault.number 1 ∷ key (codes "Duration") ∷ []) }
     ensures unknown_mode { let below = array (item null (item null (item (string (codes "Wrapping")) no_items))) in
         let inner = object (member (codes "cast") below no_members) in
         let cast = object (member (codes "cast") (array (item inner (item null (item null no_items)))) no_members) in
@@ -264,6 +320,8 @@ pub fn place_examples()
     ensures first_table_stays { let table = object (member (codes "columns") (array no_items) (member (codes "name") (string (codes "t")) no_members)) in
         let d = object (member (codes "plan") null (member (codes "tables") (array (item table (item table no_items))) no_members)) in
         ¬ (IsBadAt fault.a_query d BadName (key (codes "tables") ∷ fault.number 0 ∷ key (codes "name") ∷ [])) }
+    ensures none_below_an_unknown_type { (kind : fault.FaultKind) (path : List fault.Step)
+        → ¬ (IsBadAt fault.a_type (object (member (codes "Date") (string (codes "s")) no_members)) kind (key (codes "Date") ∷ path)) }
     ensures none_below_an_unknown_key { (kind : fault.FaultKind) (path : List fault.Step)
         → let d = object (member (codes "plan") null (member (codes "tables") null (member (codes "x/y") null no_members))) in
         ¬ (IsBadAt fault.a_query d kind (key (codes "x/y") ∷ path)) }

@@ -6,6 +6,7 @@
 
 mod columns;
 mod declarations;
+mod dtype;
 pub mod error;
 pub mod examples;
 mod expression;

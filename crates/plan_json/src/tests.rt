@@ -1,5 +1,7 @@
 //! Outside texts, and what reading them says.
 
+mod types;
+
 use super::read::read_query;
 use plan_dsl::expr::Expr;
 use plan_dsl::literal::LiteralValue;

@@ -2,8 +2,8 @@
 use Rattle.std.proofs.Common.{◌≡◌, ◌≢◌, ℕ, ◌<◌, ◌≤◌, Bool, true, false, cond, List, [], ◌∷◌, ◌++◌, length, set, ◌&&◌, Option, Some, None, Result, Ok, Err, refl, sym, ap, ◌∙◌, subst, arith, map}
 use Rattle.std.specs.Prelude.{ℤ}
 use Rattle.std.specs.Option.{option_map}
-use Rattle.std.proofs.lemmas.Bool.{false≢true}
-use Rattle.plan_types.specs.Types.{Ty, Truth, Integer, Untyped, ty, is_integer, is_known, same_type}
+use Rattle.std.proofs.lemmas.Bool.{false≢true, and_from}
+use Rattle.plan_types.specs.Types.{Ty, Untyped, ty, is_integer, is_known, same_type}
 use Rattle.plan_types.specs.Schemas.{Columns, Name, type_at}
 use Rattle.plan_types.specs.Values.{Val, IntValue, in_range}
 use Rattle.plan_types.specs.Casts.{can_cast}
@@ -17,7 +17,6 @@ use Rattle.plan_types.specs.declared.dtype.DataType.{DataType}
 use Rattle.plan_types.specs.declared.dtype.CastOptions.{CastOptions}
 use Rattle.plan_types.specs.declared.dtype.CastOptions.TheVariants.{NonStrict}
 use Rattle.plan_types.proofs.CommonLemmas.{alone_itself, alone_known, literal_has}
-use Rattle.plan_types.proofs.SupertypeLemmas.{no_number}
 use Rattle.plan_dsl.specs.declared.literal.LiteralValue.{LiteralValue}
 use Rattle.plan_dsl.specs.declared.operator.Operator.{Operator}
 use Rattle.plan_dsl.specs.Registry.{Registry}
@@ -29,7 +28,8 @@ use Rattle.plan_dsl.specs.OperatorTypes.{Taken}
 use Rattle.plan_dsl.specs.Strictness.{CanBecome, IsSame, IsStrictNode, changed, as_operand, as_operands, same_types}
 use Rattle.plan_dsl.proofs.SameLemmas.{same_itself}
 use Rattle.plan_dsl.proofs.TypingLemmas.{ok_same, ok_where, typed_parts}
-use Rattle.plan_dsl.proofs.LiteralLemmas.{becomes_literal, operator_known}
+use Rattle.plan_dsl.proofs.LiteralLemmas.{cast_has_target}
+use Rattle.plan_dsl.proofs.OperatorLemmas.{operator_known}
 use Rattle.plan_dsl.proofs.CastLemmas.{if_true, if_false}
 use Rattle.plan_dsl.proofs.OperandLemmas.{operands_same, operands_strict}
 use Rattle.plan_arena.specs.declared.arena.Node.{Node}
@@ -86,9 +86,8 @@ change_literal : (target : Ty) (value : LiteralValue) (number : ℤ) (from : Ty)
 change_literal target value number from t e is = ap (λ op. node op no_more) is ∙ sym (ap (λ f. changed f target t) e)
 
 change_cast : (from target : Ty) (dtype : DataType) (t : Expression) → is_known from ≡ true → ty dtype ≡ target → node (CastOp (ty dtype) NonStrict) (more t no_more) ≡ changed from target t
-change_cast Truth target dtype t known is = ap (λ u. node (CastOp u NonStrict) (more t no_more)) is
-change_cast (Integer signed bits) target dtype t known is = ap (λ u. node (CastOp u NonStrict) (more t no_more)) is
 change_cast (Untyped number) target dtype t known is = cc
+change_cast _ target dtype t known is = ap (λ u. node (CastOp u NonStrict) (more t no_more)) is
 
 -- what an operand needs makes it one of its type
 change_is : (from target : Ty) (change : Change) (t : Expression) → IsChangeFor from target change → changed_by change t ≡ as_operand from target t
@@ -109,27 +108,9 @@ op_type a b v w e = cc
 op_value : (a b : Ty) (v w : Val) → LiteralOp a v ≡ LiteralOp b w → v ≡ w
 op_value a b v w e = cc
 
--- why a number without a type becomes a literal
-pub becomes_value : (from target : Ty) (number : ℤ) (value : LiteralValue) (dtype : DataType) → same_type from target ≡ false → from ≡ Untyped number → CanBecome from target → literal_op value ≡ LiteralOp target (IntValue number) → ty dtype ≡ target → IsChangeFor from target (Become value dtype)
-becomes_value from target number value dtype other e can is same =
-    let type_is : literal_type value ≡ target = op_type (literal_type value) target (literal_value value) (IntValue number) is in
-    let value_is = op_value (literal_type value) target (literal_value value) (IntValue number) is in
-    let literal = becomes_literal target number can.known (can.has number e) in
-    (other, number, e, is, subst (λ v. is_literal (literal_type value) v ≡ true) (sym value_is) (subst (λ u. is_literal u (IntValue number) ≡ true) (sym type_is) literal), same)
-
 -- the type of such a literal
 pub value_type : (target : Ty) (number : ℤ) (value : LiteralValue) → literal_op value ≡ LiteralOp target (IntValue number) → literal_type value ≡ target
 value_type target number value is = op_type (literal_type value) target (literal_value value) (IntValue number) is
-
-no_number_of : (target : Ty) (number : ℤ) → is_known target ≡ true → in_range target number ≡ true → (is_integer target && in_range target number) ≡ true
-no_number_of Truth number known has = absurd (no_number number has)
-no_number_of (Integer signed bits) number known has = has
-no_number_of (Untyped other) number known has = cc
-
--- there is such a literal
-pub has_literal : (from target : Ty) (number : ℤ) → from ≡ Untyped number → CanBecome from target → (is_integer target && in_range target number) ≡ false → ⊥
-has_literal from target number e can none =
-    false≢true (sym none ∙ no_number_of target number can.known (can.has number e))
 
 bare_kept : (first : ℕ) (items items' : List AExpr) (ns : List ℕ) → DenoteAll (HoldsFrom first items) ns no_more → DenoteAll (HoldsFrom first items') ns no_more
 bare_kept first items items' [] d = tt
@@ -137,10 +118,13 @@ bare_kept first items items' (n ∷ ns) d = absurd d
 
 -- a number that has a type alone can become one of it
 pub number_becomes : (number : ℤ) (own : Ty) → type_alone (Untyped number) ≡ Some own → CanBecome (Untyped number) own
-number_becomes number own h = record {
-  known = alone_known (Untyped number) own h;
-  has = λ other e. subst (λ n. in_range own n ≡ true) (number_is number other e) (literal_has number own h).0;
-}
+number_becomes number own h =
+    let has = literal_has number own h in
+    record {
+      known = alone_known (Untyped number) own h;
+      casts = λ k. cc;
+      has = λ other e. subst (λ n. (is_integer own && in_range own n) ≡ true) (number_is number other e) (and_from (is_integer own) (in_range own number) has.2 has.0);
+    }
 
 pub found_alone : (found : Option DataType) (alone : Option Ty) (own : Ty) → option_map ty found ≡ alone → alone ≡ Some own → found ≡ None → ⊥
 found_alone None alone own e is none = cc
@@ -160,9 +144,8 @@ module _ (first : ℕ) (items : List AExpr) (at : ℕ) (item : AExpr) (t : Expre
       (dx.0, keeps m _ dx.0 other dx.1, all_kept_below (shape_of (map expression_layer items)) (HoldsFrom first items) (HoldsFrom first (set items at item)) (from_laws first items) at keeps t d dx.0 (more x no_more) dx.2 (omega arith))
 
   changed_kept : (from : Ty) (m : ℕ) (target : Ty) (x : Expression) → tree_depth x < tree_depth t → m ≢ at → Denotes (HoldsFrom first items) m (changed from target x) → Denotes (HoldsFrom first (set items at item)) m (changed from target x)
-  changed_kept Truth m target x lt other dx = cast_kept m target x lt other dx
-  changed_kept (Integer signed bits) m target x lt other dx = cast_kept m target x lt other dx
   changed_kept (Untyped number) m target x lt other dx = (dx.0, keeps m _ dx.0 other dx.1, bare_kept first items (set items at item) dx.0 dx.2)
+  changed_kept _ m target x lt other dx = cast_kept m target x lt other dx
 
   -- keeps an operand that was taken from below the node
   operand_kept : (m : ℕ) (from target : Ty) (x : Expression) → tree_depth x < tree_depth t → (same_type from target ≡ false → m ≢ at) → Denotes (HoldsFrom first items) m (as_operand from target x) → Denotes (HoldsFrom first (set items at item)) m (as_operand from target x)
@@ -333,9 +316,9 @@ cast_unchanged : (schema : Columns) (target : Ty) (options : CastOptions) (from 
 cast_unchanged schema target options from taken known h =
     let alone = ap (cast_taken target) (alone_itself from known) in
     let p = ok_where (can_cast from target) _ taken InvalidOperation (sym alone ∙ h) in
-    record { taken = record { operands = from ∷ []; type = target }; takes = h ∙ ap Ok (sym p.1); kept = ap (λ b. b && true) (same_type_own from); known = p.0 }
+    record { taken = record { operands = from ∷ []; type = target }; takes = h ∙ ap Ok (sym p.1); kept = ap (λ b. b && true) (same_type_own from); known = (cast_has_target schema target options (from ∷ []) taken h).1 }
 
-one_type : (registry : Registry) (schema : Columns) (x : Expression) (from : Ty) (many : Bool) (below : List Typed) → typing registry schema x ≡ Ok (record { type = from; many = many }) → typing_all registry schema (more x no_more) ≡ Ok below → types_of below ≡ from ∷ []
+pub one_type : (registry : Registry) (schema : Columns) (x : Expression) (from : Ty) (many : Bool) (below : List Typed) → typing registry schema x ≡ Ok (record { type = from; many = many }) → typing_all registry schema (more x no_more) ≡ Ok below → types_of below ≡ from ∷ []
 one_type registry schema x from many below h all =
     sym (ap types_of (ok_same (typed_before (Ok (record { type = from; many = many })) (Ok [])) _ below refl (sym (ap (λ r. typed_before r (Ok [])) h) ∙ all)))
 
@@ -354,8 +337,9 @@ visits_cast registry schema items at target options input from held has_from kno
     })
 
 -- the visit of a cast of a number without a type
-pub visits_number : (registry : Registry) (schema : Columns) (old new : List AExpr) (at input : ℕ) (target : DataType) (options : CastOptions) (number : ℤ) (alone : Ty) (fresh : Node) (change : Change) → HoldsExpression old at (CastOp (ty target) options) (input ∷ []) → AllHaveType old registry schema input (Untyped number) → type_alone (Untyped number) ≡ Some alone → is_known (ty target) ≡ true → IsChangeFor (Untyped number) alone change → Grows old new → ((first : ℕ) (t : Expression) → first ≤ length old → Denotes (HoldsFrom first old) input t → Denotes (HoldsFrom first new) fresh.0 (changed_by change t)) → (is_kept change ≡ false → length old ≤ fresh.0) → (first : ℕ) (t : Expression) → first ≤ length old → Denotes (HoldsFrom first old) at t → Visits registry schema first (set new at (Cast fresh target options)) at t
-visits_number registry schema old new at input target options number alone fresh change held has is_alone known is g denotes is_fresh =
+pub visits_number : (registry : Registry) (schema : Columns) (old new : List AExpr) (at input : ℕ) (target : DataType) (options : CastOptions) (number : ℤ) (alone : Ty) (fresh : Node) (change : Change) → HoldsExpression old at (CastOp (ty target) options) (input ∷ []) → AllHaveType old registry schema input (Untyped number) → type_alone (Untyped number) ≡ Some alone → can_cast alone (ty target) ≡ true → IsChangeFor (Untyped number) alone change → Grows old new → ((first : ℕ) (t : Expression) → first ≤ length old → Denotes (HoldsFrom first old) input t → Denotes (HoldsFrom first new) fresh.0 (changed_by change t)) → (is_kept change ≡ false → length old ≤ fresh.0) → (first : ℕ) (t : Expression) → first ≤ length old → Denotes (HoldsFrom first old) at t → Visits registry schema first (set new at (Cast fresh target options)) at t
+visits_number registry schema old new at input target options number alone fresh change held has is_alone casts is g denotes is_fresh =
     let taken : Taken = record { operands = alone ∷ []; type = ty target } in
-    let takes : operand_types schema (CastOp (ty target) options) (Untyped number ∷ []) ≡ Ok taken = ap (cast_taken (ty target)) is_alone ∙ if_true (is_known (ty target)) (Ok taken) (Err InvalidOperation) known in
+    let takes : operand_types schema (CastOp (ty target) options) (Untyped number ∷ []) ≡ Ok taken = ap (cast_taken (ty target)) is_alone ∙ if_true (can_cast alone (ty target)) (Ok taken) (Err InvalidOperation) casts in
+    let known = (cast_has_target schema (ty target) options (Untyped number ∷ []) taken takes).1 in
     visits_operands registry schema old new at (CastOp (ty target) options) (Cast fresh target options) (Untyped number ∷ []) taken takes known g (input ∷ []) (fresh.0 ∷ []) refl held (has, tt) (taken_to old new input fresh.0 (Untyped number) alone change is denotes, fresh_where old fresh.0 (Untyped number) alone change is is_fresh, tt)

@@ -3,6 +3,7 @@ pub mod CoercionLemmas
 pub mod ExampleLemmas
 pub mod ExamplePlanLemmas
 pub mod NodeLemmas
+pub mod OperandTypeLemmas
 pub mod PlanLemmas
 pub mod ProjectionLemmas
 pub mod StackLemmas

@@ -7,6 +7,7 @@ use Rattle.std.proofs.lemmas.List.{length-map}
 use Rattle.std.proofs.Math.ListN.{length-set}
 use Rattle.plan_types.proofs.ListLemmas.{slice_get-append, slice_get-seam, slice_get-set_other, slice_get-set_same}
 use Rattle.plan_types.specs.Types.{Ty, ty, is_known}
+use Rattle.plan_types.specs.Casts.{can_cast}
 use Rattle.plan_types.specs.CommonTypes.{type_alone}
 use Rattle.plan_types.proofs.CommonLemmas.{alone_itself}
 use Rattle.plan_types.specs.declared.error.ErrorKind.TheVariants.{InvalidOperation}
@@ -19,9 +20,10 @@ use Rattle.plan_dsl.specs.Registry.{Registry}
 use Rattle.plan_dsl.specs.Trees.{node, no_more, more}
 use Rattle.plan_dsl.specs.Ops.{Op, CastOp, Expression}
 use Rattle.plan_dsl.specs.Literals.{literal_op, literal_type, literal_value, is_literal}
-use Rattle.plan_dsl.specs.Typing.{types_of, literal_taken, typing}
-use Rattle.plan_dsl.proofs.TypingLemmas.{typed_parts}
-use Rattle.plan_dsl.proofs.LiteralLemmas.{typed_alone, cast_has_target}
+use Rattle.plan_dsl.specs.OperatorTypes.{Taken}
+use Rattle.plan_dsl.specs.Typing.{cast_taken, literal_taken, operand_types, typing, typing_all}
+use Rattle.plan_dsl.proofs.TypingLemmas.{ok_where, typed_parts}
+use Rattle.plan_dsl.proofs.LiteralLemmas.{typed_alone}
 use Rattle.plan_arena.specs.declared.arena.Node.{Node}
 use Rattle.plan_arena.specs.declared.aexpr.AExpr.{AExpr}
 use Rattle.plan_arena.specs.declared.aexpr.AExpr.TheVariants.{Literal, Cast}
@@ -29,12 +31,12 @@ use Rattle.plan_arena.specs.Denotation.{Denotes, DenotesTree, depth_at}
 use Rattle.plan_arena.specs.Layers.{layer, shape_of, inputs_of}
 use Rattle.plan_arena.specs.Items.{HoldsExpression, HoldsFrom, Grows, expression_layer}
 use Rattle.plan_arena.proofs.DenotationLemmas.{denotes_one, kept, same_or_other, inputs_denote}
-use Rattle.plan_arena.proofs.ItemLemmas.{held_top, expression_laws, from_laws, any_node, from_zero, expression_elsewhere, expression_written, expression_added, tree_grown, within}
+use Rattle.plan_arena.proofs.ItemLemmas.{held_top, one_child, expression_laws, from_laws, any_node, from_zero, expression_elsewhere, expression_written, expression_added, tree_grown, within}
 use Rattle.plan_lower.specs.declared.type_table.TypeTable.{TypeTable}
 use Rattle.plan_lower.specs.Coercion.{DenotesTyped, Visits}
 use Rattle.plan_lower.specs.KeptTypes.{Keeps, IsKept, Extends, IsTypedNode, IsRight, HasRightTypes, first_node}
 use Rattle.plan_lower.specs.Typed.{HasType}
-use Rattle.plan_lower.proofs.CoercionLemmas.{grown_elsewhere}
+use Rattle.plan_lower.proofs.CoercionLemmas.{grown_elsewhere, one_type}
 use Rattle.plan_lower.proofs.StackLemmas.{becomes, all_weaker, all_front, all_joined, all_last}
 use Rattle.plan_lower.proofs.TypingLemmas.{AllHaveType, cast_typed, literal_typed}
 
@@ -154,13 +156,17 @@ module _ (registry : Registry) (schema : Columns) (items : List AExpr) (table : 
       let e = right.each n dtype k in
       subst (λ u. HasType (typing registry schema u) (ty dtype)) (denotes_one _ (HoldsExpression items) (expression_laws items) n e.tree t e.denotes d) e.typed
 
-  -- a cast's target is a type of columns
-  pub cast_target_known : (n input : ℕ) (target : Ty) (options : CastOptions) → IsKept table n → HoldsExpression items n (CastOp target options) (input ∷ []) → is_known target ≡ true
-  cast_target_known n input target options k held =
+  -- there is the cast that a node is, from the type that its operand has alone
+  pub cast_there : (n input : ℕ) (target : Ty) (options : CastOptions) (from : DataType) (own : Ty) → IsKept table n → HoldsExpression items n (CastOp target options) (input ∷ []) → Keeps table input from → type_alone (ty from) ≡ Some own → can_cast own target ≡ true
+  cast_there n input target options from own k held keeps alone =
       let e = known_typed n k in
       let top = held_top items n (CastOp target options) (input ∷ []) held e.tree (any_node 0 items n e.tree e.denotes) in
+      let one = one_child (HoldsExpression items) input top.0 top.2 in
+      let has = kept_type input from keeps one.0 one.2 in
       let p = typed_parts registry schema (CastOp target options) top.0 e.typed (ap (typing registry schema) (sym top.1) ∙ e.is) in
-      (cast_has_target schema target options (types_of p.below) p.taken p.takes).1
+      let types = one_type registry schema one.0 (ty from) has.many p.below has.is (sym (ap (typing_all registry schema) one.1) ∙ p.children_typed) in
+      let takes = sym (ap (operand_types schema (CastOp target options)) types) ∙ p.takes in
+      (ok_where (can_cast own target) _ p.taken InvalidOperation (sym (ap (cast_taken target) alone) ∙ takes)).0
 
   -- what is typed has a type alone
   pub alone_there : (n : ℕ) (dtype : DataType) → Keeps table n dtype → (own : Ty) × (type_alone (ty dtype) ≡ Some own)
@@ -305,14 +311,16 @@ module _ (registry : Registry) (schema : Columns) (old new : List AExpr) (table 
       right_more registry schema new table table' n dtype op inputs held_there tree typed below keeps others (right_grown registry schema old new table (record { added = item ∷ []; longer = grown }) right)
 
 -- a cast that was added round a node
-pub right_cast : (registry : Registry) (schema : Columns) (old new : List AExpr) (table table' : TypeTable) (input n : Node) (from target dtype : DataType) → new ≡ old ++ Cast input target NonStrict ∷ [] → n.0 ≡ length old → ty dtype ≡ ty target → Keeps table input.0 from → is_known (ty from) ≡ true → is_known (ty target) ≡ true → Keeps table' n.0 dtype → ((m : ℕ) (other : DataType) → m ≢ n.0 → Keeps table m other ↔ Keeps table' m other) → IsRight registry schema old table → IsRight registry schema new table'
-right_cast registry schema old new table table' input n from target dtype grown at same keeps_from known_from known keeps others right =
+pub right_cast : (registry : Registry) (schema : Columns) (old new : List AExpr) (table table' : TypeTable) (input n : Node) (from target dtype : DataType) → new ≡ old ++ Cast input target NonStrict ∷ [] → n.0 ≡ length old → ty dtype ≡ ty target → Keeps table input.0 from → is_known (ty from) ≡ true → can_cast (ty from) (ty target) ≡ true → Keeps table' n.0 dtype → ((m : ℕ) (other : DataType) → m ≢ n.0 → Keeps table m other ↔ Keeps table' m other) → IsRight registry schema old table → IsRight registry schema new table'
+right_cast registry schema old new table table' input n from target dtype grown at same keeps_from known casts keeps others right =
     let g : Grows old new = record { added = Cast input target NonStrict ∷ []; longer = grown } in
     let now = right_grown registry schema old new table g right in
     let held = held_there registry schema old new table table' n.0 (Cast input target NonStrict) (CastOp (ty target) NonStrict) (input.0 ∷ []) dtype grown at refl in
     let below = now.each input.0 from keeps_from in
     let tree : DenotesTree (HoldsExpression new) n.0 = record { tree = node (CastOp (ty target) NonStrict) (more below.tree no_more); denotes = (input.0 ∷ [], held, (below.denotes, tt)) } in
-    let typed = cast_typed new registry schema n.0 (ty target) NonStrict input.0 held (ty from) (ty from) (kept_type registry schema new table now input.0 from keeps_from) (alone_itself (ty from) known_from) known in
+    let taken : Taken = record { operands = ty from ∷ []; type = ty target } in
+    let takes = ap (cast_taken (ty target)) (alone_itself (ty from) known) ∙ ap (λ b. cond b (Ok taken) (Err InvalidOperation)) casts in
+    let typed = cast_typed new registry schema n.0 (ty target) NonStrict input.0 held (ty from) taken (kept_type registry schema new table now input.0 from keeps_from) takes in
     right_added registry schema old new table table' n.0 (Cast input target NonStrict) (CastOp (ty target) NonStrict) (input.0 ∷ []) dtype grown at refl tree (subst (AllHaveType new registry schema n.0) (sym same) typed) (record { dtype = from; keeps = keeps_from }, tt) keeps others right
 
 -- a literal that was added

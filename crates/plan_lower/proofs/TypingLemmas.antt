@@ -1,12 +1,13 @@
 -- The type of a node, from those of its inputs.
-use Rattle.std.proofs.Common.{◌≡◌, ℕ, Bool, true, false, cond, List, [], ◌∷◌, Option, Some, None, Result, Ok, Err, is_some, ◌&&◌, refl, sym, ap, ◌∙◌, ⊎_elim}
+use Rattle.std.proofs.Common.{◌≡◌, ℕ, Bool, true, false, cond, List, [], ◌∷◌, Option, Some, None, Result, Ok, Err, is_ok, is_some, ◌&&◌, refl, sym, ap, ◌∙◌, ⊎_elim}
 use Rattle.std.specs.Prelude.{ℤ}
 use Rattle.std.specs.Option.{option_map}
 use Rattle.plan_types.specs.Types.{Ty, Untyped, ty, is_known}
 use Rattle.plan_types.specs.declared.dtype.DataType.{DataType}
 use Rattle.plan_types.specs.Values.{Val, IntValue, in_range}
 use Rattle.plan_types.specs.Schemas.{Columns, Name, type_at}
-use Rattle.plan_types.specs.CommonTypes.{type_alone, common_type, literal_type as alone_type}
+use Rattle.plan_types.specs.CommonTypes.{type_alone, literal_type as alone_type}
+use Rattle.plan_types.specs.Casts.{can_cast}
 use Rattle.plan_types.specs.Errors.{at_top, IsMemoryOr, IsRefusal, no_room, broken}
 use Rattle.plan_types.specs.declared.error.ErrorKind.{ErrorKind}
 use Rattle.plan_types.specs.declared.error.ErrorKind.TheVariants.{ColumnNotFound, InvalidOperation}
@@ -19,7 +20,7 @@ use Rattle.plan_dsl.specs.Ops.{ColumnOp, LiteralOp, BinaryOp, CastOp, Expression
 use Rattle.plan_dsl.specs.Literals.{is_literal, is_literal_of}
 use Rattle.plan_dsl.proofs.LiteralLemmas.{becomes_literal}
 use Rattle.plan_dsl.specs.Typing.{Typed, column_type, literal_taken, cast_taken, typed_as, typing_rule, then_typed, typed_before, typing, some_many}
-use Rattle.plan_dsl.specs.OperatorTypes.{Taken, both_to, operator_types}
+use Rattle.plan_dsl.specs.OperatorTypes.{Taken, operator_types}
 use Rattle.plan_arena.specs.declared.aexpr.AExpr.{AExpr}
 use Rattle.plan_arena.specs.Denotation.{Denotes}
 use Rattle.plan_arena.specs.Items.{HoldsExpression}
@@ -30,10 +31,6 @@ use Rattle.plan_lower.specs.Typed.{HasType}
 refused_so : {A B : Type 0} (from : Result A ErrorKind) (to : Result B ErrorKind) (error : PlanError) → ((kind : ErrorKind) → from ≡ Err kind → to ≡ Err kind) → IsRefusal from error → IsRefusal to error
 refused_so from to error same (no_room e) = no_room e
 refused_so from to error same (broken kind e b) = broken kind e (same kind b)
-
--- operands without a common type are refused
-pub mismatch : (operator : Operator) (left right : Ty) (error : PlanError) → IsRefusal (common_type left right) error → IsRefusal (operator_types operator (left ∷ right ∷ [])) error
-mismatch operator left right error h = refused_so _ _ error (λ kind e. ap (both_to operator) e) h
 
 -- a literal of a type that has its number
 pub literal_fits : (type : Ty) (value : Val) (number : ℤ) (dtype : Ty) → value ≡ IntValue number → dtype ≡ type → is_known type ≡ true → in_range dtype number ≡ true → literal_taken type value ≡ Ok (record { operands = []; type = dtype })
@@ -65,6 +62,29 @@ number_unfit type value number is none =
 pub no_type_alone : (found : Option DataType) (alone : Option Ty) → option_map ty found ≡ alone → found ≡ None → alone ≡ None
 no_type_alone None alone e none = sym e
 no_type_alone (Some dtype) alone e none = cc
+
+-- an answer stands where its test holds
+has_it : {A : Type 0} (test : Bool) (taken : A) (kind : ErrorKind) → is_ok (cond test (Ok taken) (Err kind)) ≡ test
+has_it true taken kind = refl
+has_it false taken kind = refl
+
+-- what a cast takes, where there is one
+takes_cast : (target : Ty) (alone : Option Ty) → is_ok (cast_taken target alone) ≡ true → (own : Ty) × (cast_taken target alone ≡ Ok (record { operands = own ∷ []; type = target }))
+takes_cast target None h = cc
+takes_cast target (Some own) h =
+    let casts = sym (has_it (can_cast own target) _ InvalidOperation) ∙ h in
+    (own, ap (λ b. cond b (Ok (record { operands = own ∷ []; type = target })) (Err InvalidOperation)) casts)
+
+pub cast_of : (target : Ty) (alone : Option Ty) (copy : Ty) → is_ok (cast_taken target alone) ≡ true → copy ≡ target → (own : Ty) × (cast_taken target alone ≡ Ok (record { operands = own ∷ []; type = copy }))
+cast_of target alone copy h same =
+    let found = takes_cast target alone h in
+    (found.0, found.1 ∙ ap (λ t. Ok (record { operands = found.0 ∷ []; type = t })) (sym same))
+
+pub takes_no_cast : (target : Ty) (alone : Option Ty) → is_ok (cast_taken target alone) ≡ false → cast_taken target alone ≡ Err InvalidOperation
+takes_no_cast target None h = refl
+takes_no_cast target (Some own) h =
+    let casts = sym (has_it (can_cast own target) _ InvalidOperation) ∙ h in
+    ap (λ b. cond b (Ok (record { operands = own ∷ []; type = target })) (Err InvalidOperation)) casts
 
 module _ (items : List AExpr) (registry : Registry) (schema : Columns) where
   -- the expressions at a node have this type
@@ -161,23 +181,23 @@ module _ (items : List AExpr) (registry : Registry) (schema : Columns) (n : ℕ)
         let one = one_child (HoldsExpression items) input top.0 top.2 in
         (one.0, ap (typing registry schema) (top.1 ∙ ap (node (CastOp target options)) one.1), one.2)
 
-    pub cast_typed : (from own : Ty) → AllHaveType items registry schema input from → type_alone from ≡ Some own → is_known target ≡ true → AllHaveType items registry schema n target
-    cast_typed from own hi alone known t d =
+    -- with the operand typed, what the cast says of it decides
+    cast_decided : (from : Ty) (t : Expression) → Denotes (HoldsExpression items) n t → AllHaveType items registry schema input from → (many : Bool) × (typing registry schema t ≡ typed_as (cast_taken target (type_alone from)) many)
+    cast_decided from t d hi =
         let top = cast_top t d in
         let ti = hi top.0 top.2 in
-        let many = some_many (record { type = from; many = ti.many } ∷ []) in
-        record { many = many; is = top.1 ∙ ap (cast_typing items registry schema target options) ti.is ∙ ap (λ o. typed_as (cast_taken target o) many) alone ∙ ap (λ b. typed_as (cond b (Ok (record { operands = own ∷ []; type = target })) (Err InvalidOperation)) many) known }
+        (some_many (record { type = from; many = ti.many } ∷ []), top.1 ∙ ap (cast_typing items registry schema target options) ti.is)
 
-    no_cast : (found : Option Ty) → is_known target ≡ false → cast_taken target found ≡ Err InvalidOperation
-    no_cast None unknown = refl
-    no_cast (Some own) unknown = ap (λ b. cond b (Ok (record { operands = own ∷ []; type = target })) (Err InvalidOperation)) unknown
+    pub cast_typed : (from : Ty) (taken : Taken) → AllHaveType items registry schema input from → cast_taken target (type_alone from) ≡ Ok taken → AllHaveType items registry schema n taken.type
+    cast_typed from taken hi e t d =
+        let b = cast_decided from t d hi in
+        record { many = b.0; is = b.1 ∙ ap (λ o. typed_as o b.0) e }
 
-    -- a cast to a type that isn't known is refused
-    pub cast_unknown : (from : Ty) → AllHaveType items registry schema input from → is_known target ≡ false → AllRefused items registry schema n (at_top InvalidOperation)
-    cast_unknown from hi unknown t d =
-        let top = cast_top t d in
-        let ti = hi top.0 top.2 in
-        broken InvalidOperation refl (top.1 ∙ ap (cast_typing items registry schema target options) ti.is ∙ ap (λ o. typed_as o (some_many (record { type = from; many = ti.many } ∷ []))) (no_cast (type_alone from) unknown))
+    -- an operand of which there is no such cast is refused
+    pub cast_missing : (from : Ty) (error : PlanError) → AllHaveType items registry schema input from → IsRefusal (cast_taken target (type_alone from)) error → AllRefused items registry schema n error
+    cast_missing from error hi refused t d =
+        let b = cast_decided from t d hi in
+        refused_so _ _ error (λ kind e. b.1 ∙ ap (λ o. typed_as o b.0) e) refused
 
     pub cast_refused : (error : PlanError) → AllRefused items registry schema input error → AllRefused items registry schema n error
     cast_refused error refused t d =

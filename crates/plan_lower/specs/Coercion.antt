@@ -3,6 +3,7 @@
 use Rattle.std.specs.Prelude.{◌≡◌, ◌≤◌, ℕ, ℤ, Bool, true, false, List, [], ◌∷◌, map, Ok}
 use Rattle.std.specs.List.{AllByRecursion}
 use Rattle.plan_types.specs.Types.{Ty, Untyped, ty, is_known, same_type}
+use Rattle.plan_types.specs.Casts.{can_cast}
 use Rattle.plan_types.specs.Values.{IntValue}
 use Rattle.plan_types.specs.Schemas.{Columns}
 use Rattle.plan_types.specs.declared.dtype.CastOptions.TheVariants.{NonStrict}
@@ -58,11 +59,11 @@ pub record Visits (registry : Registry) (schema : Columns) (first : ℕ) (items 
   pub same : IsSame registry schema before (node op children)
   pub strict : IsStrictOver registry schema op children
 
--- what makes an operand of the first type one of the second: nothing, a cast, or a literal in place of a number
--- without a type
+-- what makes an operand of the first type one of the second: nothing, a cast where there is one, or a literal in place
+-- of a number without a type
 abbrev pub IsChangeFor : Ty → Ty → Change → Type 0
 IsChangeFor from target Keep = same_type from target ≡ true
-IsChangeFor from target (CastTo dtype) = (same_type from target ≡ false) × (is_known from ≡ true) × (ty dtype ≡ target) × (is_known target ≡ true)
+IsChangeFor from target (CastTo dtype) = (same_type from target ≡ false) × (is_known from ≡ true) × (ty dtype ≡ target) × (can_cast from target ≡ true)
 IsChangeFor from target (Become value dtype) =
     (same_type from target ≡ false) × (number : ℤ) × (from ≡ Untyped number) × (literal_op value ≡ LiteralOp target (IntValue number)) × (is_literal (literal_type value) (literal_value value) ≡ true) × (ty dtype ≡ target)
 

@@ -3,6 +3,7 @@
 pub mod changes;
 pub mod coercions;
 pub mod lowered;
+pub mod operands;
 pub mod outputs;
 pub mod plans;
 pub mod tables;

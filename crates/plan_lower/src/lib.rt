@@ -3,6 +3,7 @@
 
 pub mod conversion;
 pub mod examples;
+pub mod operator_types;
 #[cfg(test)]
 mod tests;
 pub mod type_table;

@@ -3,6 +3,7 @@
 mod filters;
 mod literals;
 mod texts;
+mod times;
 
 use crate::conversion::dsl_to_ir::PlanLowering;
 use plan_dsl::expr::Expr;
@@ -10,7 +11,7 @@ use plan_dsl::literal::LiteralValue;
 use plan_dsl::operator::Operator;
 use plan_dsl::plan::{DslPlan, Exprs, ProjectionOptions};
 use plan_dsl::udfs::Udfs;
-use plan_types::dtype::{CastOptions, DataType, UnknownKind};
+use plan_types::dtype::{CastOptions, DataType, TimeUnit, UnknownKind};
 use plan_types::error::PlanError;
 use plan_types::schema::Schema;
 use plan_types::text::PlSmallStr;
@@ -47,6 +48,7 @@ fn operator(word: &str) -> Option<Operator> {
 
 fn type_named(name: &str) -> Option<DataType> {
     match name {
+        "Null" => Some(DataType::Null),
         "Boolean" => Some(DataType::Boolean),
         "Int8" => Some(DataType::Int8),
         "Int16" => Some(DataType::Int16),
@@ -54,7 +56,22 @@ fn type_named(name: &str) -> Option<DataType> {
         "Int64" => Some(DataType::Int64),
         "UInt8" => Some(DataType::UInt8),
         "UInt64" => Some(DataType::UInt64),
+        "String" => Some(DataType::String),
         "Unknown" => Some(DataType::Unknown(UnknownKind::Int(1))),
+        _ => time_named(name),
+    }
+}
+
+fn time_named(name: &str) -> Option<DataType> {
+    match name {
+        "Date" => Some(DataType::Date),
+        "Time" => Some(DataType::Time),
+        "Datetime(ns)" => Some(DataType::Datetime(TimeUnit::Nanoseconds)),
+        "Datetime(us)" => Some(DataType::Datetime(TimeUnit::Microseconds)),
+        "Datetime(ms)" => Some(DataType::Datetime(TimeUnit::Milliseconds)),
+        "Duration(ns)" => Some(DataType::Duration(TimeUnit::Nanoseconds)),
+        "Duration(us)" => Some(DataType::Duration(TimeUnit::Microseconds)),
+        "Duration(ms)" => Some(DataType::Duration(TimeUnit::Milliseconds)),
         _ => None,
     }
 }

@@ -1,25 +1,25 @@
 //! Types of expressions in an arena.
-ghost use Rattle.std.specs.Prelude.{◌≡◌, [], ◌∷◌, Ok, IfOk, IfErr, OnOk};
+ghost use Rattle.std.specs.Prelude.{◌≡◌, [], ◌∷◌, Ok, IfOk, IfErr, OnOk, is_ok};
 ghost use Rattle.plan_types.specs.Errors.{IsRefusal};
 ghost use Rattle.plan_types.specs.Schemas.{columns};
-ghost use Rattle.plan_types.specs.Types.{ty};
-ghost use Rattle.plan_dsl.specs.Operators.{result_type, sum_type};
+ghost use Rattle.plan_types.specs.CommonTypes.{type_alone};
+ghost use Rattle.plan_types.specs.Types.{Ty, ty};
 ghost use Rattle.plan_dsl.specs.Ops.{Expression};
 ghost use Rattle.plan_dsl.specs.Registry.{registry};
 ghost use Rattle.plan_dsl.specs.Literals.{literal_type, literal_value};
-ghost use Rattle.plan_dsl.specs.Typing.{typing, literal_taken};
-ghost use Rattle.plan_dsl.specs.OperatorTypes.{operator_types};
+ghost use Rattle.plan_dsl.specs.Typing.{typing, cast_taken, literal_taken};
 ghost use Rattle.plan_arena.specs.Denotation.{Denotes, DenotesTree};
 ghost use Rattle.plan_arena.specs.Items.{HoldsExpression, HoldsFrom};
 ghost use Rattle.plan_lower.specs.KeptTypes.{Extends, IsKept, IsRight, first_node};
 
+use crate::operator_types::operand_types;
 use crate::type_table::TypeTable;
 use plan_arena::aexpr::AExpr;
 use plan_arena::arena::{Arena, Node};
 use plan_dsl::literal::LiteralValue;
-use plan_dsl::operator::Operator;
 use plan_dsl::udfs::Udfs;
-use plan_types::common_type::{materialize_dyn_int, try_get_common_type};
+use plan_types::cast::can_cast;
+use plan_types::common_type::materialize_dyn_int;
 use plan_types::dtype::{DataType, UnknownKind};
 use plan_types::error::{ErrorKind, PlanError};
 use plan_types::schema::Schema;
@@ -70,10 +70,8 @@ pub fn type_nodes(
         }
         AExpr::Cast { expr, dtype, .. } => {
             type_nodes(*expr, arena, schema, udfs, types)?;
-            if !dtype.is_known() {
-                return Err(PlanError::at_top(ErrorKind::InvalidOperation));
-            }
-            let dtype = dtype.try_clone(arena.allocator())?;
+            let from = types.get(*expr);
+            let dtype = cast_dtype(arena.allocator(), from, dtype)?;
             types.keep(node, dtype)?;
             Ok(())
         }
@@ -100,57 +98,27 @@ fn literal_dtype(alloc: Global, value: &LiteralValue) -> Result<DataType, PlanEr
     Ok(dtype)
 }
 
-/// The types to which an operator takes its operands, and the type of its result.
-#[derive(Drop)]
-pub struct OperandTypes {
-    pub left: DataType,
-    pub right: DataType,
-    pub result: DataType,
-}
-
-/// The types to which an operator takes operands of these types.
-pub fn operand_types(
-    alloc: Global,
-    left: &DataType,
-    op: Operator,
-    right: &DataType,
-) -> Result<OperandTypes, PlanError>
-    ensures ok { IfOk result (λ taken. operator_types op (ty left.now ∷ ty right.now ∷ [])
-        ≡ Ok (record { operands = ty taken.left ∷ ty taken.right ∷ []; type = ty taken.result })) }
-    ensures err { IfErr result (IsRefusal (operator_types op (ty left.now ∷ ty right.now ∷ []))) }
+// The type of a cast, where there is one from the type that the operand has alone.
+fn cast_dtype(alloc: Global, from: &DataType, target: &DataType) -> Result<DataType, PlanError>
+    ensures ok { IfOk result (λ dtype. (own : Ty) × (cast_taken (ty target.now) (type_alone (ty from.now))
+        ≡ Ok (record { operands = own ∷ []; type = ty dtype }))) }
+    ensures err { IfErr result (IsRefusal (cast_taken (ty target.now) (type_alone (ty from.now)))) }
 {
-    let common = try_get_common_type(alloc, left, right)?;
-    let left = common.try_clone(alloc)?;
-    let right = common.try_clone(alloc)?;
-    let result = result_type(op, common);
-    Ok(OperandTypes {
-        left,
-        right,
-        result,
-    })
-}
-
-// The type of an operator's result, from the type to which both operands are taken.
-fn result_type(op: Operator, common: DataType) -> DataType
-    ensures { ty result ≡ result_type op (ty common) }
-{
-    match op {
-        Operator::Eq
-        | Operator::NotEq
-        | Operator::Lt
-        | Operator::LtEq
-        | Operator::Gt
-        | Operator::GtEq => DataType::Boolean,
-        Operator::Plus => sum_type(common),
+    if !has_cast(from, target) {
+        return Err(PlanError::at_top(ErrorKind::InvalidOperation));
     }
+    let dtype = target.try_clone(alloc)?;
+    Ok(dtype)
 }
 
-// The type of a sum: truth values are counted.
-fn sum_type(common: DataType) -> DataType
-    ensures { ty result ≡ sum_type (ty common) }
+fn has_cast(from: &DataType, target: &DataType) -> bool
+    ensures { result ≡ is_ok (cast_taken (ty target.now) (type_alone (ty from.now))) }
 {
-    if common == DataType::Boolean {
-        return DataType::UInt32;
+    let Some(number) = from.untyped_number() else {
+        return can_cast(from, target);
+    };
+    match materialize_dyn_int(number) {
+        Some(alone) => can_cast(&alone, target),
+        None => false,
     }
-    common
 }

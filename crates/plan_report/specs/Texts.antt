@@ -3,8 +3,10 @@ use Rattle.std.specs.Prelude.{ℕ, true, false, List, [], ◌∷◌, ◌++◌, c
 use Rattle.std.specs.List.{join_by}
 use Rattle.serde_json.specs.Data.{string}
 use Rattle.serde_json.specs.Written.{compact_text}
-use Rattle.plan_types.specs.Types.{Ty, Truth, Integer, Untyped}
+use Rattle.plan_types.specs.Types.{Ty, NullType, Truth, Integer, TextType, DateType, TimeType, DatetimeType, DurationType, Untyped}
 use Rattle.plan_types.specs.Schemas.{Name, Columns}
+use Rattle.plan_types.specs.declared.dtype.TimeUnit.{TimeUnit}
+use Rattle.plan_types.specs.declared.dtype.TimeUnit.TheVariants.{Nanoseconds, Microseconds, Milliseconds}
 use Rattle.plan_types.specs.declared.error.ErrorKind.{ErrorKind}
 use Rattle.plan_types.specs.declared.error.ErrorKind.TheVariants.{ColumnNotFound, Duplicate, SchemaMismatch, InvalidOperation, NoMemory}
 use Rattle.plan_dsl.specs.Plans.{PlanKind, ScanKind, SelectKind, FilterKind}
@@ -13,11 +15,35 @@ use Rattle.plan_dsl.specs.Plans.{PlanKind, ScanKind, SelectKind, FilterKind}
 abbrev pub name_text : Name → List ℕ
 name_text name = compact_text (string (encode_utf8_all name))
 
+abbrev pub in_parentheses : List ℕ → List ℕ
+in_parentheses text = codes "(" ++ text ++ codes ")"
+
+abbrev pub unit_text : TimeUnit → List ℕ
+unit_text Nanoseconds = codes "ns"
+unit_text Microseconds = codes "us"
+unit_text Milliseconds = codes "ms"
+
+-- the name of the type's variant
+abbrev pub variant_text : Ty → List ℕ
+variant_text NullType = codes "Null"
+variant_text Truth = codes "Boolean"
+variant_text (Integer true bits) = codes "Int" ++ decimal bits
+variant_text (Integer false bits) = codes "UInt" ++ decimal bits
+variant_text TextType = codes "String"
+variant_text DateType = codes "Date"
+variant_text TimeType = codes "Time"
+variant_text (DatetimeType unit) = codes "Datetime"
+variant_text (DurationType unit) = codes "Duration"
+variant_text (Untyped number) = codes "Unknown"
+
+-- the type's parts, behind its variant's name
+abbrev pub parts_text : Ty → List ℕ
+parts_text (DatetimeType unit) = in_parentheses (unit_text unit)
+parts_text (DurationType unit) = in_parentheses (unit_text unit)
+parts_text type = []
+
 abbrev pub type_text : Ty → List ℕ
-type_text Truth = codes "Boolean"
-type_text (Untyped number) = codes "Unknown"
-type_text (Integer true bits) = codes "Int" ++ decimal bits
-type_text (Integer false bits) = codes "UInt" ++ decimal bits
+type_text type = variant_text type ++ parts_text type
 
 abbrev pub field_text : Name × Ty → List ℕ
 field_text column = name_text column.0 ++ codes " " ++ type_text column.1

@@ -2,7 +2,8 @@
 #![tactic(auto, unfolding(crate::proofs::OnLiterals::texts_on_literals))]
 
 ghost use Rattle.std.specs.Prelude.{◌≡◌, [], ◌∷◌, codes, true, false, Some, None};
-ghost use Rattle.plan_types.specs.Types.{Truth, Integer};
+ghost use Rattle.plan_types.specs.Types.{NullType, Truth, Integer, TextType, DateType, TimeType, DatetimeType, DurationType};
+ghost use Rattle.plan_types.specs.declared.dtype.TimeUnit.TheVariants.{Nanoseconds, Microseconds, Milliseconds};
 ghost use Rattle.plan_dsl.specs.Ops.{ColumnOp, BinaryOp, CastOp};
 ghost use Rattle.plan_dsl.specs.Plans.{empty_table, named, scan_op, select_op, filter_op};
 ghost use Rattle.plan_dsl.specs.Trees.{node, no_more, more};
@@ -19,6 +20,23 @@ pub fn path_examples()
     ensures deep { path_text (0 ∷ 12 ∷ 1 ∷ []) ≡ codes ".0.12.1" }
 {}
 
+/// A type is its variant's name, with its unit in parentheses where it has one.
+pub fn type_examples()
+    ensures nothing { type_text NullType ≡ codes "Null" }
+    ensures truth { type_text Truth ≡ codes "Boolean" }
+    ensures signed { type_text (Integer true 8) ≡ codes "Int8" }
+    ensures unsigned { type_text (Integer false 16) ≡ codes "UInt16" }
+    ensures text { type_text TextType ≡ codes "String" }
+    ensures date { type_text DateType ≡ codes "Date" }
+    ensures time { type_text TimeType ≡ codes "Time" }
+    ensures fine_moment { type_text (DatetimeType Nanoseconds) ≡ codes "Datetime(ns)" }
+    ensures moment { type_text (DatetimeType Microseconds) ≡ codes "Datetime(us)" }
+    ensures coarse_moment { type_text (DatetimeType Milliseconds) ≡ codes "Datetime(ms)" }
+    ensures fine_span { type_text (DurationType Nanoseconds) ≡ codes "Duration(ns)" }
+    ensures span { type_text (DurationType Microseconds) ≡ codes "Duration(us)" }
+    ensures coarse_span { type_text (DurationType Milliseconds) ≡ codes "Duration(ms)" }
+{}
+
 /// A schema is a list of names and types in parentheses.
 pub fn schema_examples()
     ensures none { schema_text [] ≡ codes "()" }
@@ -26,6 +44,8 @@ pub fn schema_examples()
     ensures two { schema_text ((codes "a", Integer true 64) ∷ (codes "b", Integer false 16) ∷ [])
         ≡ codes "(\"a\" Int64, \"b\" UInt16)" }
     ensures truth { schema_text ((codes "a", Truth) ∷ []) ≡ codes "(\"a\" Boolean)" }
+    ensures units { schema_text ((codes "a", DatetimeType Milliseconds) ∷ (codes "b", DurationType Nanoseconds) ∷ (codes "c", TextType) ∷ [])
+        ≡ codes "(\"a\" Datetime(ms), \"b\" Duration(ns), \"c\" String)" }
 {}
 
 /// A name has JSON's quotes and escapes, and its characters in UTF-8.

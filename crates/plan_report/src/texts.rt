@@ -4,9 +4,9 @@ ghost use Rattle.serde_json.specs.Data.{string};
 ghost use Rattle.serde_json.specs.Written.{compact_text};
 ghost use Rattle.plan_types.specs.Schemas.{columns};
 ghost use Rattle.plan_types.specs.Types.{ty};
-ghost use Rattle.plan_report.specs.Texts.{name_text, type_text, field_text, schema_text, path_text, error_kind_text};
+ghost use Rattle.plan_report.specs.Texts.{name_text, in_parentheses, unit_text, variant_text, type_text, field_text, schema_text, path_text, error_kind_text};
 
-use plan_types::dtype::DataType;
+use plan_types::dtype::{DataType, TimeUnit};
 use plan_types::error::ErrorKind;
 use plan_types::schema::Schema;
 use plan_types::text::PlSmallStr;
@@ -26,13 +26,13 @@ pub(crate) fn kind_name(kind: ErrorKind) -> &'static str
     }
 }
 
-/// The name of the type.
+/// The name of the type's variant.
 #[tactic(auto, unfolding(crate::proofs::OnLiterals::texts_on_literals))]
-pub(crate) fn type_name(dtype: &DataType) -> &'static str
-    ensures { result.now ≡ type_text (ty dtype.now) }
+pub(crate) fn variant_name(dtype: &DataType) -> &'static str
+    ensures { result.now ≡ variant_text (ty dtype.now) }
 {
     match dtype {
-        DataType::Unknown(_) => "Unknown",
+        DataType::Null => "Null",
         DataType::Boolean => "Boolean",
         DataType::Int8 => "Int8",
         DataType::Int16 => "Int16",
@@ -42,6 +42,23 @@ pub(crate) fn type_name(dtype: &DataType) -> &'static str
         DataType::UInt16 => "UInt16",
         DataType::UInt32 => "UInt32",
         DataType::UInt64 => "UInt64",
+        DataType::String => "String",
+        DataType::Date => "Date",
+        DataType::Time => "Time",
+        DataType::Datetime(_) => "Datetime",
+        DataType::Duration(_) => "Duration",
+        DataType::Unknown(_) => "Unknown",
+    }
+}
+
+/// The name of the unit.
+pub(crate) fn unit_name(unit: TimeUnit) -> &'static str
+    ensures { result.now ≡ unit_text unit }
+{
+    match unit {
+        TimeUnit::Nanoseconds => "ns",
+        TimeUnit::Microseconds => "us",
+        TimeUnit::Milliseconds => "ms",
     }
 }
 
@@ -87,6 +104,27 @@ pub(crate) fn push_path(alloc: Global, text: &mut String, steps: &[u64]) -> Resu
     Ok(())
 }
 
+/// Appends the unit in parentheses.
+fn push_unit(text: &mut String, unit: TimeUnit) -> Result<(), AllocError>
+    ensures { OnOk result (string_bytes text.new ≡ string_bytes text.old ++ in_parentheses (unit_text unit)) }
+{
+    text.push_str("(")?;
+    text.push_str(unit_name(unit))?;
+    text.push_str(")")
+}
+
+/// Appends the type: its variant's name, and its parts.
+pub(crate) fn push_type(text: &mut String, dtype: &DataType) -> Result<(), AllocError>
+    ensures { OnOk result (string_bytes text.new ≡ string_bytes text.old ++ type_text (ty dtype.now)) }
+{
+    text.push_str(variant_name(dtype))?;
+    match dtype {
+        DataType::Datetime(unit) => push_unit(text, *unit),
+        DataType::Duration(unit) => push_unit(text, *unit),
+        _ => Ok(()),
+    }
+}
+
 /// Appends a column's name and type.
 pub(crate) fn push_field(
     alloc: Global,
@@ -98,7 +136,7 @@ pub(crate) fn push_field(
 {
     push_name(alloc, text, name)?;
     text.push_str(" ")?;
-    text.push_str(type_name(dtype))
+    push_type(text, dtype)
 }
 
 /// Appends the columns of a schema.

@@ -1,5 +1,5 @@
 -- Laws of comparing types.
-use Rattle.std.specs.Prelude.{◌≡◌, Bool, true, false}
+use Rattle.std.specs.Prelude.{◌≡◌, ℕ, Bool, true, false, List, ◌++◌, encode_utf8_all}
 use Rattle.std.specs.Cmp.{IsEquivalence}
 use Rattle.std.specs.Hash as fed
 use Rattle.std.proofs.Common.{refl, sym, ap, subst, rules}
@@ -11,8 +11,9 @@ use Rattle.std.proofs.lemmas.Bool.{eqb-true, and_parts, and_from}
 use Rattle.std.proofs.lemmas.Bool.Decides.{same_from_decides, Decides-int_eq}
 use Rattle.std.proofs.lemmas.Cmp.{on_equiv}
 use Rattle.std.specs.Ordering.{on}
-use Rattle.plan_types.specs.Types.{Ty, NullType, Truth, Integer, TextType, DateType, TimeType, DatetimeType, DurationType, ListType, StructType, Untyped, Fields, no_field, with_field, ty, same_unit, same_type, same_fields, type_code}
+use Rattle.plan_types.specs.Types.{Ty, NullType, Truth, Integer, TextType, DateType, TimeType, DatetimeType, DurationType, ListType, StructType, Untyped, Fields, no_field, with_field, ty, same_unit, field_of, same_type, same_fields, same_field, type_code}
 use Rattle.plan_types.specs.declared.dtype.DataType.{DataType}
+use Rattle.plan_types.specs.declared.field.Field.{Field}
 use Rattle.plan_types.specs.declared.dtype.TimeUnit.{TimeUnit}
 use Rattle.plan_types.specs.declared.dtype.TimeUnit.TheVariants.{Nanoseconds, Microseconds, Milliseconds}
 
@@ -84,6 +85,23 @@ mutual
 pub same_type_is_equivalence : IsEquivalence (on ty same_type)
 same_type_is_equivalence = on_equiv ty (equivalence_from_exact same_type same_type_exact same_type_own)
 
+-- fields that compare equal are one
+pub same_field_exact : (a b : List ℕ × Ty) → same_field a b ≡ true → a ≡ b
+same_field_exact a b h =
+    let both = and_parts (bytes_eq a.0 b.0) (same_type a.1 b.1) h in
+    λ i. ((bytes_eq-Decides a.0 b.0).0 both.0 i, same_type_exact a.1 b.1 both.1 i)
+
+pub same_field_own : (a : List ℕ × Ty) → same_field a a ≡ true
+same_field_own a = and_from _ _ ((bytes_eq-Decides a.0 a.0).1 refl) (same_type_own a.1)
+
+pub same_field_is_equivalence : IsEquivalence (on field_of same_field)
+same_field_is_equivalence = on_equiv field_of (equivalence_from_exact same_field same_field_exact same_field_own)
+
 -- equal types are hashed alike
 pub same_hash : (a b : DataType) → same_type (ty a) (ty b) ≡ true → fed.u32 (type_code (ty a)) ≡ fed.u32 (type_code (ty b))
 same_hash a b t = ap (λ t. fed.u32 (type_code t)) (same_type_exact (ty a) (ty b) t)
+
+-- and so are equal fields
+pub same_field_hash : (a b : Field) → same_field (field_of a) (field_of b) ≡ true → fed.str (encode_utf8_all (field_of a).0) ++ fed.u32 (type_code (field_of a).1) ≡ fed.str (encode_utf8_all (field_of b).0) ++ fed.u32 (type_code (field_of b).1)
+same_field_hash a b t =
+    ap (λ f. fed.str (encode_utf8_all f.0) ++ fed.u32 (type_code f.1)) (same_field_exact (field_of a) (field_of b) t)

@@ -181,6 +181,10 @@ abbrev mutual
   same_fields (with_field name type rest) no_field = false
   same_fields (with_field name type rest) (with_field other found others) = bytes_eq name other && (same_type type found && same_fields rest others)
 
+-- whether two fields have the same name and type
+abbrev pub same_field : List ℕ × Ty → List ℕ × Ty → Bool
+same_field left right = bytes_eq left.0 right.0 && same_type left.1 right.1
+
 -- a number by which types are hashed
 abbrev pub type_code : Ty → ℕ
 type_code NullType = 0

@@ -60,7 +60,7 @@ impl From<PlanError> for CastError {
     }
 }
 
-/// Whether there is a cast from the one type to the other.
+/// Whether there is a cast from the one type to the other: each type of columns is cast to itself, and null to each.
 #[cycle(cast_pairs)]
 pub fn can_cast(from: &DataType, to: &DataType) -> bool
     ensures { result ≡ can_cast (ty from.now) (ty to.now) }
@@ -115,7 +115,8 @@ fn is_written(dtype: &DataType) -> bool
     dtype.is_integer() || matches!(dtype, DataType::String)
 }
 
-/// The value in another type, where the cast has one for it. A list or a struct in which a value fails fails as a whole.
+/// The value in another type, where the cast has one for it. Null stays null. Texts are read as an optional sign and
+/// digits, and numbers and truth values are written; times are counted in the target's unit and rounded down.
 #[cycle(value_casts)]
 #[tactic(auto, using(crate::proofs::PartLemmas::list_values))]
 pub fn cast_value(
@@ -354,7 +355,7 @@ fn placed(number: i128, to: &DataType, options: CastOptions) -> Result<Value, Ca
     no_place(options)
 }
 
-// What has no place in the target.
+// What has no place in the target: a strict cast fails, and another gives null.
 fn no_place(options: CastOptions) -> Result<Value, CastError>
     ensures ok { IfOk result (λ converted. no_place options ≡ Gives (val_of converted)) }
     ensures err { IfErr result (IsCastError (no_place options)) }

@@ -26,7 +26,7 @@ pub fn materialize_dyn_int(number: i128) -> Option<DataType>
 }
 
 /// The type of a number beside an operand of that type: an integer type that has the number stays, and else the
-/// least that has it is taken.
+/// least that has it is taken. Beside any other type a number has the type that it has alone.
 pub fn own_type(
     alloc: Global,
     number: i128,
@@ -61,6 +61,7 @@ fn least_signed(number: i128) -> Option<DataType>
     }
 }
 
+// The least unsigned type, where one has the number.
 fn least_unsigned(number: i128) -> Option<DataType>
     ensures { option_map ty result ≡ least_unsigned number }
 {
@@ -92,12 +93,20 @@ pub fn try_get_common_type(
     Ok(found)
 }
 
-// An operand's type beside another's.
-fn type_beside(alloc: Global, operand: &DataType, other: &DataType) -> Result<DataType, PlanError>
+/// An operand's type beside another's: a number without a type gets one, and a type in
+/// which a number's own type stands has none.
+pub fn type_beside(
+    alloc: Global,
+    operand: &DataType,
+    other: &DataType,
+) -> Result<DataType, PlanError>
     ensures ok { IfOk result (λ found. type_beside (ty operand.now) (ty other.now) ≡ Some (ty found)) }
     ensures err { IfErr result (IsMemoryOr ErrorKind.InvalidOperation (type_beside (ty operand.now) (ty other.now) ≡ None)) }
 {
     let Some(number) = operand.untyped_number() else {
+        if !operand.is_known() {
+            return Err(PlanError::at_top(ErrorKind::InvalidOperation));
+        }
         let own = operand.try_clone(alloc)?;
         return Ok(own);
     };

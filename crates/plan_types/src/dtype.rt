@@ -1,7 +1,7 @@
-//! Types of columns.
-ghost use Rattle.std.specs.Prelude.{◌≡◌, ◌↔◌, pos, false, true, IsTrue, MatchOption, IfOk, IfErr};
+//! Types of columns, and units of time.
+ghost use Rattle.std.specs.Prelude.{◌≡◌, ◌≢◌, ◌↔◌, ℤ, pos, false, true, IsTrue, MatchOption, IfOk, IfErr};
 ghost use Rattle.plan_types.specs.Errors.{no_memory};
-ghost use Rattle.plan_types.specs.Types.{DatetimeType, DurationType, ListType, StructType, Untyped, is_bare, fields_in, fields_of, are_known, same_fields, same_type, coarser, per_day, ty, is_integer, is_known, is_ord, is_signed_integer, is_temporal, is_unsigned_integer, type_code, unit_rank, width_of};
+ghost use Rattle.plan_types.specs.Types.{DatetimeType, DurationType, ListType, Untyped, is_bare, fields_in, fields_of, are_known, same_fields, same_type, coarser, per_day, ty, is_integer, is_known, is_ord, is_signed_integer, is_temporal, is_unsigned_integer, type_code, unit_rank, width_of};
 ghost use Rattle.plan_types.specs.Values.{in_range};
 
 use crate::error::PlanError;
@@ -16,7 +16,7 @@ pub enum CastOptions {
     Strict,
     /// The value becomes null.
     NonStrict,
-    /// The value keeps its low bits.
+    /// A number of an integer type keeps its low bits in another one. Any other value becomes null.
     Overflowing,
 }
 
@@ -85,7 +85,8 @@ pub struct Fields {
     pub items: Vec<Field>,
 }
 
-/// The type of a column, or of a number without one. Contracts see it as a `Ty`.
+/// The type of a column, or of a number without one. Contracts see it as a `Ty`. Two types are equal where these are,
+/// so moments and spans of other units are of other types.
 #[derive(Drop)]
 #[cycle(data_type)]
 pub enum DataType {
@@ -101,13 +102,13 @@ pub enum DataType {
     UInt32,
     UInt64,
     String,
-    /// Days since 1970-01-01.
+    /// Days since 1970-01-01, in the range of Int32.
     Date,
-    /// Nanoseconds since midnight.
+    /// Nanoseconds since midnight, before the next one.
     Time,
-    /// Units since the start of 1970-01-01.
+    /// Units since the start of 1970-01-01, in the range of Int64.
     Datetime(TimeUnit),
-    /// A span of time.
+    /// A span of time in units, in the range of Int64.
     Duration(TimeUnit),
     /// Lists of values of the type.
     List(Box<DataType>),
@@ -162,7 +163,7 @@ impl DataType {
         )
     }
 
-    /// Whether values of the type that aren't null are in an order.
+    /// Whether values of the type that aren't null are in an order: those of each type of columns are, but that of null.
     pub fn is_ord(&self) -> bool
         ensures { result ≡ is_ord (ty self.now) }
     {
@@ -174,6 +175,7 @@ impl DataType {
 
     /// Whether it is the type of a column: no number's own type stands in it, at any depth.
     #[cycle(known_types)]
+    #[tactic(auto, using(crate::proofs::FieldLemmas::listed_fields))]
     pub fn is_known(&self) -> bool
         ensures { result ≡ is_known (ty self.now) }
     {
@@ -187,7 +189,7 @@ impl DataType {
 
     /// The number that is written without a type, where the type is that number's.
     pub fn untyped_number(&self) -> Option<i128>
-        ensures { MatchOption result (is_known (ty self.now) ≡ true) (λ number. ty self.now ≡ Untyped number) }
+        ensures { MatchOption result ((number : ℤ) → ty self.now ≢ Untyped number) (λ number. ty self.now ≡ Untyped number) }
     {
         match self {
             DataType::Unknown(UnknownKind::Int(number)) => Some(*number),
@@ -263,6 +265,33 @@ impl DataType {
             && self.width() == other.width()
     }
 
+    /// Whether both are one type.
+    #[cycle(same_types)]
+    #[tactic(auto, using(crate::proofs::FieldLemmas::listed_fields))]
+    pub fn is_same(&self, other: &DataType) -> bool
+        ensures { result ≡ same_type (ty self.now) (ty other.now) }
+    {
+        match self {
+            DataType::Null => matches!(other, DataType::Null),
+            DataType::Boolean => matches!(other, DataType::Boolean),
+            DataType::String => matches!(other, DataType::String),
+            DataType::Date => matches!(other, DataType::Date),
+            DataType::Time => matches!(other, DataType::Time),
+            DataType::List(item) => match other {
+                DataType::List(own) => item.is_same(own),
+                _ => false,
+            },
+            DataType::Struct(fields) => match other {
+                DataType::Struct(own) => same_fields(fields.items.as_slice(), own.items.as_slice()),
+                _ => false,
+            },
+            DataType::Datetime(unit) => is_datetime_in(other, *unit),
+            DataType::Duration(unit) => is_duration_in(other, *unit),
+            DataType::Unknown(UnknownKind::Int(number)) => is_untyped_number(other, *number),
+            _integer => self.is_same_integer(other),
+        }
+    }
+
     #[cycle(type_copies)]
     pub fn try_clone(&self, alloc: Global) -> Result<DataType, PlanError>
         ensures ok { IfOk result (λ copy. ty copy ≡ ty self.now) }
@@ -283,6 +312,15 @@ impl DataType {
             }
             _bare => unreachable!(),
         }
+    }
+
+    /// The type of lists of its values.
+    pub fn implode(self, alloc: Global) -> Result<DataType, PlanError>
+        ensures ok { IfOk result (λ list. ty list ≡ ListType (ty self)) }
+        ensures err { IfErr result (λ error. error ≡ no_memory) }
+    {
+        let item = Box::new(alloc, self)?;
+        Ok(DataType::List(item))
     }
 
     /// A copy of a type without parts.
@@ -338,21 +376,8 @@ impl PartialEq for DataType {
 
     ghost laws = { partial_equiv_from_equiv same_type_is_equivalence };
 
-    #[cycle(same_types)]
     fn eq(&self, other: &DataType) -> bool {
-        match self {
-            DataType::Null => matches!(other, DataType::Null),
-            DataType::Boolean => matches!(other, DataType::Boolean),
-            DataType::String => matches!(other, DataType::String),
-            DataType::Date => matches!(other, DataType::Date),
-            DataType::Time => matches!(other, DataType::Time),
-            DataType::List(item) => is_list_of(other, item),
-            DataType::Struct(fields) => is_struct_of(other, fields),
-            DataType::Datetime(unit) => is_datetime_in(other, *unit),
-            DataType::Duration(unit) => is_duration_in(other, *unit),
-            DataType::Unknown(UnknownKind::Int(number)) => is_untyped_number(other, *number),
-            _integer => self.is_same_integer(other),
-        }
+        self.is_same(other)
     }
 }
 
@@ -369,28 +394,6 @@ fn are_known(fields: &[Field]) -> bool
     true
 }
 
-// Whether it is the type of lists of the items.
-#[cycle(same_types)]
-fn is_list_of(dtype: &DataType, item: &DataType) -> bool
-    ensures { result ≡ same_type (ListType (ty item.now)) (ty dtype.now) }
-{
-    match dtype {
-        DataType::List(own) => *item == **own,
-        _ => false,
-    }
-}
-
-// Whether it is the type of structs of the fields.
-#[cycle(same_types)]
-fn is_struct_of(dtype: &DataType, fields: &Fields) -> bool
-    ensures { result ≡ same_type (StructType (fields_of fields.now)) (ty dtype.now) }
-{
-    match dtype {
-        DataType::Struct(own) => same_fields(fields.items.as_slice(), own.items.as_slice()),
-        _ => false,
-    }
-}
-
 // Whether the fields have the same names and types, in the same order.
 #[cycle(same_types)]
 fn same_fields(left: &[Field], right: &[Field]) -> bool
@@ -400,7 +403,7 @@ fn same_fields(left: &[Field], right: &[Field]) -> bool
         return false;
     }
     for index in 0..left.len() {
-        if left[index].name != right[index].name || left[index].dtype != right[index].dtype {
+        if !left[index].is_same(&right[index]) {
             return false;
         }
     }

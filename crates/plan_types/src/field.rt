@@ -1,12 +1,13 @@
 //! A column's name and type.
 ghost use Rattle.std.specs.Prelude.{◌≡◌, IfOk, IfErr};
 ghost use Rattle.plan_types.specs.Errors.{no_memory};
-ghost use Rattle.plan_types.specs.Types.{field_of};
+ghost use Rattle.plan_types.specs.Types.{field_of, same_field};
 
 use crate::dtype::DataType;
 use crate::error::PlanError;
 use crate::text::PlSmallStr;
 use std::alloc::Global;
+use std::hash::{Hash, Hasher};
 
 /// A column's name and type.
 #[derive(Drop)]
@@ -42,6 +43,14 @@ impl Field {
         self.dtype = dtype;
     }
 
+    /// Whether both have the same name and type.
+    #[cycle(same_types)]
+    pub fn is_same(&self, other: &Field) -> bool
+        ensures { result ≡ same_field (field_of self.now) (field_of other.now) }
+    {
+        self.name == other.name && self.dtype.is_same(&other.dtype)
+    }
+
     #[cycle(type_copies)]
     pub fn try_clone(&self, alloc: Global) -> Result<Field, PlanError>
         ensures ok { IfOk result (λ copy. field_of copy ≡ field_of self.now) }
@@ -50,5 +59,41 @@ impl Field {
         let name = self.name.try_clone(alloc)?;
         let dtype = self.dtype.try_clone(alloc)?;
         Ok(Field { name, dtype })
+    }
+}
+
+impl PartialEq for Field {
+    ghost use Rattle.std.specs.Cmp.{partial_equiv_from_equiv};
+    ghost use Rattle.plan_types.specs.Types.{field_of, same_field};
+    ghost use Rattle.plan_types.specs.TypeLaws.{same_field_is_equivalence};
+
+    ghost eq = { λ a b. same_field (field_of a) (field_of b) };
+
+    ghost laws = { partial_equiv_from_equiv same_field_is_equivalence };
+
+    fn eq(&self, other: &Field) -> bool {
+        self.is_same(other)
+    }
+}
+
+impl Eq for Field {
+    ghost use Rattle.plan_types.specs.TypeLaws.{same_field_is_equivalence};
+
+    ghost laws = { same_field_is_equivalence };
+}
+
+impl Hash for Field {
+    ghost use Rattle.std.specs.Prelude.{◌++◌, encode_utf8_all};
+    ghost use Rattle.std.specs.Hash as fed;
+    ghost use Rattle.plan_types.specs.Types.{field_of, type_code};
+    ghost use Rattle.plan_types.specs.TypeLaws.{same_field_hash};
+
+    ghost hash_input = { λ a. fed.str (encode_utf8_all (field_of a).0) ++ fed.u32 (type_code (field_of a).1) };
+
+    ghost respects_eq = { same_field_hash };
+
+    fn hash<H: Hasher>(&self, state: &mut H) {
+        self.name.hash(state);
+        self.dtype.hash(state);
     }
 }

@@ -1,7 +1,7 @@
-//! Types, schemas and errors of query plans.
+//! Types, values, casts, schemas, frames and refusals of query plans.
 //!
-//! Contracts see a text as the list of its characters, a type as a `Ty`, a schema as the list of
-//! its columns and a place as the list of its steps.
+//! Contracts see a text as the list of its characters, a type as a `Ty`, a value as a `Val`, a schema as the list of
+//! its columns, a frame as its schema and rows, and a place as the list of its steps.
 #![tactic(auto)]
 
 pub mod cast;

@@ -136,7 +136,6 @@ impl Schema {
         if self.contains(&name) {
             return Err(PlanError::at_top(ErrorKind::Duplicate));
         }
-        let _len = self.fields.len();
         let _before = self.fields.insert_before(index, name, dtype)?;
         Ok(())
     }

@@ -3,14 +3,15 @@ ghost use Rattle.std.specs.Prelude.{◌≡◌, IfOk, IfErr, Some, None, true, fa
 ghost use Rattle.std.specs.Option.{option_map};
 ghost use Rattle.plan_types.specs.Errors.{no_memory, IsMemoryOr};
 ghost use Rattle.plan_types.specs.Supertypes.{super_fields, supertype, signed_above, upcast};
-ghost use Rattle.plan_types.specs.Types.{NullType, DateType, DatetimeType, DurationType, ListType, TextType, Truth, fields_in, fields_of, is_bare, ty, same_type, is_integer, is_signed_integer, width_of};
+ghost use Rattle.plan_types.specs.Types.{NullType, DateType, DatetimeType, DurationType, ListType, StructType, TextType, Truth, fields_in, fields_of, is_bare, ty, same_type, is_integer, is_signed_integer, width_of};
 
 use crate::dtype::{DataType, Fields, TimeUnit, get_time_units};
 use crate::error::{ErrorKind, PlanError};
 use crate::field::Field;
 use std::alloc::Global;
 
-/// The type that holds the values of both, where there is one.
+/// The type that holds the values of both, where there is one. Null is of any type, truth values beside an integer are of
+/// its type, both are written beside a text, days become moments beside moments, and of two units the coarser is taken.
 #[cycle(supertypes)]
 pub fn get_supertype(
     alloc: Global,
@@ -34,9 +35,8 @@ pub fn get_supertype(
             Ok(found)
         }
         (DataType::Struct(fields), DataType::Struct(others)) => {
-            let fields = fields.items.as_slice();
-            let found = super_fields(alloc, fields, others.items.as_slice())?;
-            Ok(found.map(DataType::Struct))
+            let found = super_struct(alloc, fields, others)?;
+            Ok(found)
         }
         (DataType::List(_) | DataType::Struct(_), _) => Ok(None),
         (_, DataType::List(_) | DataType::Struct(_)) => Ok(None),
@@ -63,6 +63,23 @@ fn super_item(
     }
 }
 
+// Structs of the common types of two lists of fields.
+#[cycle(supertypes)]
+fn super_struct(
+    alloc: Global,
+    fields: &Fields,
+    others: &Fields,
+) -> Result<Option<DataType>, PlanError>
+    ensures ok { IfOk result (λ found. option_map ty found ≡ supertype (StructType (fields_of fields.now)) (StructType (fields_of others.now))) }
+    ensures err { IfErr result (λ error. error ≡ no_memory) }
+{
+    let fields = fields.items.as_slice();
+    match super_fields(alloc, fields, others.items.as_slice())? {
+        Some(found) => Ok(Some(DataType::Struct(found))),
+        None => Ok(None),
+    }
+}
+
 // The common types of fields side by side, whose names are the same.
 #[cycle(supertypes)]
 fn super_fields(
@@ -78,11 +95,13 @@ fn super_fields(
     }
     let mut items = Vec::new(alloc);
     for index in 0..fields.len() {
-        if fields[index].name != others[index].name {
+        let field = &fields[index];
+        let other = &others[index];
+        if field.name != other.name {
             return Ok(None);
         }
-        let name = fields[index].name.try_clone(alloc)?;
-        match get_supertype(alloc, &fields[index].dtype, &others[index].dtype)? {
+        let name = field.name.try_clone(alloc)?;
+        match get_supertype(alloc, &field.dtype, &other.dtype)? {
             Some(dtype) => items.push(Field { name, dtype })?,
             None => return Ok(None),
         }
@@ -166,6 +185,7 @@ fn beside_date(right: &DataType) -> Option<DataType>
     }
 }
 
+// Moments beside days stay moments, and beside moments have the coarser unit.
 fn beside_datetime(unit: TimeUnit, right: &DataType) -> Option<DataType>
     requires right { same_type NullType (ty right.now) ≡ false }
     ensures { option_map ty result ≡ supertype (DatetimeType unit) (ty right.now) }
@@ -177,6 +197,7 @@ fn beside_datetime(unit: TimeUnit, right: &DataType) -> Option<DataType>
     }
 }
 
+// Spans beside spans have the coarser unit.
 fn beside_duration(unit: TimeUnit, right: &DataType) -> Option<DataType>
     requires right { same_type NullType (ty right.now) ≡ false }
     ensures { option_map ty result ≡ supertype (DurationType unit) (ty right.now) }

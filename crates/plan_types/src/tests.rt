@@ -1,14 +1,16 @@
-//! Types, texts, schemas and places.
+//! Texts, schemas and places.
 
+mod casts;
+mod common_types;
 mod frames;
 mod numbers;
 mod schema_calls;
+mod types;
 
-use crate::dtype::{CastOptions, DataType};
+use crate::dtype::DataType;
 use crate::error::{ErrorKind, Place, PlanError};
 use crate::field::Field;
 use crate::schema::Schema;
-use crate::supertype::{get_supertype, try_get_supertype};
 use crate::text::PlSmallStr;
 use std::alloc::{AllocError, AllocFailed};
 use std::hash::{FoldHasher, Hash, Hasher};
@@ -19,136 +21,6 @@ fn hash_of<T: Hash>(value: &T) -> u64 {
     let mut hasher = FoldHasher::default();
     value.hash(&mut hasher);
     hasher.finish()
-}
-
-#[test]
-fn types_tell_sign_and_width(rt: HostRuntime) -> Result<(), Fail> {
-    for (dtype, signed, width) in [
-        (DataType::Boolean, false, 1),
-        (DataType::Int8, true, 8),
-        (DataType::Int16, true, 16),
-        (DataType::Int32, true, 32),
-        (DataType::Int64, true, 64),
-        (DataType::UInt8, false, 8),
-        (DataType::UInt16, false, 16),
-        (DataType::UInt32, false, 32),
-        (DataType::UInt64, false, 64),
-    ] {
-        assert_eq!(rt; dtype.is_signed_integer(), signed);
-        assert_eq!(rt; dtype.width(), width);
-        let copy = dtype.try_clone(rt.alloc())?;
-        assert!(rt; copy == dtype);
-        assert_eq!(rt; hash_of(&copy), hash_of(&dtype));
-    }
-    assert!(rt; DataType::Int8 != DataType::UInt8);
-    for integer in [
-        DataType::Int8,
-        DataType::Int16,
-        DataType::Int32,
-        DataType::Int64,
-        DataType::UInt8,
-        DataType::UInt16,
-        DataType::UInt32,
-        DataType::UInt64,
-    ] {
-        assert!(rt; integer != DataType::Boolean);
-        assert!(rt; DataType::Boolean != integer);
-    }
-    for (options, strict) in [
-        (CastOptions::Strict, true),
-        (CastOptions::NonStrict, false),
-        (CastOptions::Overflowing, false),
-    ] {
-        assert_eq!(rt; options.strict(), strict);
-    }
-    Ok(())
-}
-
-#[test]
-fn common_types_of_integers(rt: HostRuntime) -> Result<(), Fail> {
-    for (left, right, want) in [
-        (DataType::Int8, DataType::Int8, Some(DataType::Int8)),
-        (DataType::Int8, DataType::Int16, Some(DataType::Int16)),
-        (DataType::Int8, DataType::Int32, Some(DataType::Int32)),
-        (DataType::Int8, DataType::Int64, Some(DataType::Int64)),
-        (DataType::Int16, DataType::Int16, Some(DataType::Int16)),
-        (DataType::Int16, DataType::Int32, Some(DataType::Int32)),
-        (DataType::Int16, DataType::Int64, Some(DataType::Int64)),
-        (DataType::Int32, DataType::Int32, Some(DataType::Int32)),
-        (DataType::Int32, DataType::Int64, Some(DataType::Int64)),
-        (DataType::Int64, DataType::Int64, Some(DataType::Int64)),
-        (DataType::UInt8, DataType::UInt8, Some(DataType::UInt8)),
-        (DataType::UInt8, DataType::UInt16, Some(DataType::UInt16)),
-        (DataType::UInt8, DataType::UInt32, Some(DataType::UInt32)),
-        (DataType::UInt8, DataType::UInt64, Some(DataType::UInt64)),
-        (DataType::UInt16, DataType::UInt16, Some(DataType::UInt16)),
-        (DataType::UInt16, DataType::UInt32, Some(DataType::UInt32)),
-        (DataType::UInt16, DataType::UInt64, Some(DataType::UInt64)),
-        (DataType::UInt32, DataType::UInt32, Some(DataType::UInt32)),
-        (DataType::UInt32, DataType::UInt64, Some(DataType::UInt64)),
-        (DataType::UInt64, DataType::UInt64, Some(DataType::UInt64)),
-        (DataType::Int8, DataType::UInt8, Some(DataType::Int16)),
-        (DataType::Int8, DataType::UInt16, Some(DataType::Int32)),
-        (DataType::Int8, DataType::UInt32, Some(DataType::Int64)),
-        (DataType::Int8, DataType::UInt64, None),
-        (DataType::Int16, DataType::UInt8, Some(DataType::Int16)),
-        (DataType::Int16, DataType::UInt16, Some(DataType::Int32)),
-        (DataType::Int16, DataType::UInt32, Some(DataType::Int64)),
-        (DataType::Int16, DataType::UInt64, None),
-        (DataType::Int32, DataType::UInt8, Some(DataType::Int32)),
-        (DataType::Int32, DataType::UInt16, Some(DataType::Int32)),
-        (DataType::Int32, DataType::UInt32, Some(DataType::Int64)),
-        (DataType::Int32, DataType::UInt64, None),
-        (DataType::Int64, DataType::UInt8, Some(DataType::Int64)),
-        (DataType::Int64, DataType::UInt16, Some(DataType::Int64)),
-        (DataType::Int64, DataType::UInt32, Some(DataType::Int64)),
-        (DataType::Int64, DataType::UInt64, None),
-    ] {
-        let found = get_supertype(rt.alloc(), &left, &right)?;
-        assert!(rt; found == want);
-        let swapped = get_supertype(rt.alloc(), &right, &left)?;
-        assert!(rt; swapped == want);
-    }
-    Ok(())
-}
-
-#[test]
-fn common_types_of_truth_values(rt: HostRuntime) -> Result<(), Fail> {
-    for (left, right, want) in [
-        (
-            DataType::Boolean,
-            DataType::Boolean,
-            Some(DataType::Boolean),
-        ),
-        (DataType::Boolean, DataType::Int8, Some(DataType::Int8)),
-        (DataType::Boolean, DataType::Int16, Some(DataType::Int16)),
-        (DataType::Boolean, DataType::Int32, Some(DataType::Int32)),
-        (DataType::Boolean, DataType::Int64, Some(DataType::Int64)),
-        (DataType::Boolean, DataType::UInt8, Some(DataType::UInt8)),
-        (DataType::Boolean, DataType::UInt16, Some(DataType::UInt16)),
-        (DataType::Boolean, DataType::UInt32, Some(DataType::UInt32)),
-        (DataType::Boolean, DataType::UInt64, Some(DataType::UInt64)),
-    ] {
-        let found = get_supertype(rt.alloc(), &left, &right)?;
-        assert!(rt; found == want);
-        let swapped = get_supertype(rt.alloc(), &right, &left)?;
-        assert!(rt; swapped == want);
-    }
-    Ok(())
-}
-
-#[test]
-fn types_without_a_common_one_are_refused(rt: HostRuntime) -> Result<(), Fail> {
-    let found = try_get_supertype(rt.alloc(), &DataType::UInt32, &DataType::Int32)?;
-    assert!(rt; found == DataType::Int64);
-    match try_get_supertype(rt.alloc(), &DataType::UInt64, &DataType::Int8) {
-        Ok(_) => panic!(rt; "no type holds both"),
-        Err(error) => {
-            assert_eq!(rt; error.kind, ErrorKind::SchemaMismatch);
-            assert_eq!(rt; error.place.depth(), 0);
-        }
-    }
-    Ok(())
 }
 
 #[test]

@@ -12,7 +12,7 @@ use crate::text::PlSmallStr;
 use std::alloc::Global;
 
 /// The values of a list or a struct, in order.
-#[derive(Drop)]
+#[derive(Debug, Drop, PartialEq, Eq, Hash)]
 #[cycle(value)]
 pub struct Parts {
     pub items: Vec<Value>,
@@ -35,14 +35,15 @@ impl Parts {
     }
 }
 
-/// A value of a column. Contracts see it as a `Val`.
-#[derive(Drop)]
+/// A value of a column. Contracts see it as a `Val`. Its type is the column's: a number may be of an integer type or of
+/// one of time.
+#[derive(Debug, Drop, PartialEq, Eq, Hash)]
 #[cycle(value)]
 pub enum Value {
     /// No value is there.
     Null,
     Boolean(bool),
-    /// A whole number, of whatever integer type, or a number of days or units of time.
+    /// A whole number, of whatever integer type, or a number of days or of units of time.
     Int(i128),
     Text(PlSmallStr),
     List(Parts),

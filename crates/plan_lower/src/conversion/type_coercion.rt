@@ -14,8 +14,8 @@ ghost use Rattle.plan_lower.specs.Coercion.{ChangesOperands, IsChangeFor, Visits
 ghost use Rattle.plan_lower.specs.KeptTypes.{Extends, HasRightTypes, IsKept, IsRight, Keeps, first_node};
 ghost use Rattle.plan_lower.specs.Typed.{HasKnownType};
 
+use crate::operator_types::operand_types;
 use crate::type_table::TypeTable;
-use crate::typing::operand_types;
 use plan_arena::aexpr::AExpr;
 use plan_arena::arena::{Arena, Node};
 use plan_dsl::literal::LiteralValue;

@@ -1,9 +1,10 @@
 //! What makes an operand one of the type to which it is taken.
 
 ghost use Rattle.std.specs.Prelude.{◌≡◌, [], pos, neg_ℤ, codes, true, false};
-ghost use Rattle.plan_types.specs.Types.{Truth, Integer, Untyped};
+ghost use Rattle.plan_types.specs.Types.{NullType, Truth, Integer, TextType, DateType, DatetimeType, DurationType, Untyped};
 ghost use Rattle.plan_types.specs.Values.{IntValue};
 ghost use Rattle.plan_types.specs.declared.dtype.DataType.TheVariants as dtype;
+ghost use Rattle.plan_types.specs.declared.dtype.TimeUnit.TheVariants.{Nanoseconds, Microseconds, Milliseconds};
 ghost use Rattle.plan_types.specs.declared.dtype.UnknownKind.TheVariants as unknown;
 ghost use Rattle.plan_types.specs.declared.dtype.CastOptions.TheVariants.{NonStrict};
 ghost use Rattle.plan_dsl.specs.declared.literal.LiteralValue.TheVariants.{Int, Int8, Int16, UInt16};
@@ -21,6 +22,12 @@ pub fn casts_of_operands()
     ensures number_left { ¬ (IsChangeFor (Untyped (pos 300)) (Integer true 16) Keep) }
     ensures cast { IsChangeFor (Integer true 8) (Integer true 16) (CastTo dtype.Int16) }
     ensures cast_of_truth_values { IsChangeFor Truth (Integer false 32) (CastTo dtype.UInt32) }
+    ensures cast_to_another_unit { IsChangeFor (DurationType Nanoseconds) (DurationType Microseconds) (CastTo (dtype.Duration Microseconds)) }
+    ensures cast_of_dates { IsChangeFor DateType (DatetimeType Milliseconds) (CastTo (dtype.Datetime Milliseconds)) }
+    ensures cast_to_texts { IsChangeFor Truth TextType (CastTo dtype.String) }
+    ensures cast_of_nulls { IsChangeFor NullType (Integer true 8) (CastTo dtype.Int8) }
+    ensures no_such_cast { ¬ (IsChangeFor TextType DateType (CastTo dtype.Date)) }
+    ensures other_unit { ¬ (IsChangeFor (DurationType Nanoseconds) (DurationType Microseconds) Keep) }
     ensures cast_to_another_type { ¬ (IsChangeFor (Integer true 8) (Integer true 16) (CastTo dtype.Int32)) }
     ensures cast_to_its_own_type { ¬ (IsChangeFor (Integer true 8) (Integer true 8) (CastTo dtype.Int8)) }
     ensures cast_of_a_number { ¬ (IsChangeFor (Untyped (pos 300)) (Integer true 16) (CastTo dtype.Int16)) }

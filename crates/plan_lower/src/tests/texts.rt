@@ -7,7 +7,7 @@ use plan_arena::ir::IR;
 use plan_arena::plan::IRPlan;
 use plan_dsl::literal::LiteralValue;
 use plan_dsl::operator::Operator;
-use plan_types::dtype::{CastOptions, DataType};
+use plan_types::dtype::{CastOptions, DataType, TimeUnit};
 use plan_types::error::PlanError;
 use plan_types::schema::Schema;
 use std::alloc::{AllocError, Global};
@@ -20,8 +20,25 @@ fn item<T>(arena: &Arena<T>, node: Node) -> Result<&T, Fail> {
     Err(Fail::from("no such node"))
 }
 
+fn datetime_name(unit: TimeUnit) -> &'static str {
+    match unit {
+        TimeUnit::Nanoseconds => "Datetime(ns)",
+        TimeUnit::Microseconds => "Datetime(us)",
+        TimeUnit::Milliseconds => "Datetime(ms)",
+    }
+}
+
+fn duration_name(unit: TimeUnit) -> &'static str {
+    match unit {
+        TimeUnit::Nanoseconds => "Duration(ns)",
+        TimeUnit::Microseconds => "Duration(us)",
+        TimeUnit::Milliseconds => "Duration(ms)",
+    }
+}
+
 fn type_name(dtype: &DataType) -> &'static str {
     match dtype {
+        DataType::Null => "Null",
         DataType::Boolean => "Boolean",
         DataType::Int8 => "Int8",
         DataType::Int16 => "Int16",
@@ -31,6 +48,11 @@ fn type_name(dtype: &DataType) -> &'static str {
         DataType::UInt16 => "UInt16",
         DataType::UInt32 => "UInt32",
         DataType::UInt64 => "UInt64",
+        DataType::String => "String",
+        DataType::Date => "Date",
+        DataType::Time => "Time",
+        DataType::Datetime(unit) => datetime_name(*unit),
+        DataType::Duration(unit) => duration_name(*unit),
         DataType::Unknown(_) => "Unknown",
     }
 }

@@ -13,7 +13,7 @@ use plan_arena::plan::IRPlan;
 use plan_dsl::literal::LiteralValue;
 use plan_dsl::operator::Operator;
 use plan_dsl::plan::ProjectionOptions;
-use plan_types::dtype::{CastOptions, DataType};
+use plan_types::dtype::{CastOptions, DataType, TimeUnit};
 use plan_types::error::{ErrorKind, Place, PlanError};
 use plan_types::schema::Schema;
 use plan_types::text::PlSmallStr;
@@ -205,6 +205,46 @@ fn names_each_type(rt: HostRuntime) -> Result<(), Fail> {
         let plan = scan(alloc, Arena::new(alloc), schema)?;
         assert_eq!(rt; report(alloc, &plan)?.as_str(), want);
     }
+    Ok(())
+}
+
+#[test]
+fn names_each_type_of_times(rt: HostRuntime) -> Result<(), Fail> {
+    let alloc = rt.alloc();
+    for (dtype, want) in [
+        (DataType::Null, "Null"),
+        (DataType::String, "String"),
+        (DataType::Date, "Date"),
+        (DataType::Time, "Time"),
+        (DataType::Datetime(TimeUnit::Nanoseconds), "Datetime(ns)"),
+        (DataType::Datetime(TimeUnit::Microseconds), "Datetime(us)"),
+        (DataType::Datetime(TimeUnit::Milliseconds), "Datetime(ms)"),
+        (DataType::Duration(TimeUnit::Nanoseconds), "Duration(ns)"),
+        (DataType::Duration(TimeUnit::Microseconds), "Duration(us)"),
+        (DataType::Duration(TimeUnit::Milliseconds), "Duration(ms)"),
+    ] {
+        let schema = one_column(alloc, "x", dtype)?;
+        let plan = scan(alloc, Arena::new(alloc), schema)?;
+        let text = format!(in alloc; ". df (\"x\" {want})\ncasts 0\n")?;
+        assert_eq!(rt; report(alloc, &plan)?.as_str(), text.as_str());
+    }
+    Ok(())
+}
+
+#[test]
+fn names_types_of_columns_side_by_side(rt: HostRuntime) -> Result<(), Fail> {
+    let alloc = rt.alloc();
+    let mut schema = one_column(alloc, "a", DataType::Datetime(TimeUnit::Milliseconds))?;
+    add_column(alloc, &mut schema, "b", DataType::String)?;
+    add_column(
+        alloc,
+        &mut schema,
+        "c",
+        DataType::Duration(TimeUnit::Microseconds),
+    )?;
+    let plan = scan(alloc, Arena::new(alloc), schema)?;
+    let want = ". df (\"a\" Datetime(ms), \"b\" String, \"c\" Duration(us))\ncasts 0\n";
+    assert_eq!(rt; report(alloc, &plan)?.as_str(), want);
     Ok(())
 }
 

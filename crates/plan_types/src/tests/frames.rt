@@ -1,12 +1,10 @@
-//! Values, casts and frames.
-use crate::cast::{CastError, can_cast, cast_value};
+//! Values and frames.
 use crate::column::{Column, Values};
-use crate::dtype::{CastOptions, DataType};
+use crate::dtype::{DataType, TimeUnit};
 use crate::frame::{Frame, FrameError};
 use crate::text::PlSmallStr;
 use crate::value::Value;
-use std::alloc::{AllocError, Global};
-use std::process::Abort;
+use std::alloc::Global;
 use std::test::Fail;
 
 #[test]
@@ -27,66 +25,99 @@ fn values_fit_types(rt: HostRuntime) -> Result<(), Fail> {
     Ok(())
 }
 
-// The value that a cast gives, or none where it fails.
-fn converted(
-    rt: &impl Abort,
-    alloc: Global,
-    value: &Value,
-    to: &DataType,
-    options: CastOptions,
-) -> Result<Option<Value>, CastError> {
-    let from = DataType::Int64;
-    assert!(rt; can_cast(&from, to));
-    match cast_value(alloc, value, &from, to, options) {
-        Ok(found) => Ok(Some(found)),
-        Err(CastError::Failing) => Ok(None),
-        Err(CastError::NoMemory) => Err(CastError::NoMemory),
-    }
-}
-
 #[test]
-fn numbers_out_of_range_are_cast(rt: HostRuntime) -> Result<(), Fail> {
-    for (number, to, low_bits) in [
-        (300, DataType::Int8, 44),
-        (200, DataType::Int8, -56),
-        (-129, DataType::Int8, 127),
-        (-1, DataType::UInt8, 255),
-        (65_537, DataType::UInt16, 1),
-        (32_768, DataType::Int16, -32_768),
-        (2_147_483_648, DataType::Int32, -2_147_483_648),
-        (4_294_967_297, DataType::UInt32, 1),
-        (-1, DataType::UInt64, 18_446_744_073_709_551_615),
+fn texts_fit_their_own_type(rt: HostRuntime) -> Result<(), Fail> {
+    let text = PlSmallStr::new(rt.alloc(), "5")?;
+    let value = Value::Text(text);
+    let copy = value.try_clone(rt.alloc())?;
+    assert!(rt; copy == value);
+    assert!(rt; copy != Value::Int(5));
+    for (dtype, fits) in [
+        (DataType::String, true),
+        (DataType::Null, false),
+        (DataType::Boolean, false),
+        (DataType::Int8, false),
+        (DataType::Date, false),
+        (DataType::Datetime(TimeUnit::Nanoseconds), false),
     ] {
-        let value = Value::Int(number);
-        let strict = converted(&rt, rt.alloc(), &value, &to, CastOptions::Strict)?;
-        assert!(rt; strict.is_none());
-        let null = converted(&rt, rt.alloc(), &value, &to, CastOptions::NonStrict)?;
-        assert!(rt; null == Some(Value::Null));
-        let low = converted(&rt, rt.alloc(), &value, &to, CastOptions::Overflowing)?;
-        assert!(rt; low == Some(Value::Int(low_bits)));
+        assert_eq!(rt; copy.fits(&dtype), fits);
+        assert!(rt; Value::Null.fits(&dtype));
     }
     Ok(())
 }
 
 #[test]
-fn values_with_a_place_are_cast(rt: HostRuntime) -> Result<(), Fail> {
-    for (value, to, want) in [
-        (Value::Null, DataType::Int8, Value::Null),
-        (Value::Int(2), DataType::Int8, Value::Int(2)),
-        (Value::Int(2), DataType::Boolean, Value::Boolean(true)),
-        (Value::Int(0), DataType::Boolean, Value::Boolean(false)),
-        (Value::Boolean(true), DataType::UInt8, Value::Int(1)),
-        (
-            Value::Boolean(true),
-            DataType::Boolean,
-            Value::Boolean(true),
-        ),
+fn numbers_fit_times_in_their_range(rt: HostRuntime) -> Result<(), Fail> {
+    for (number, date, time, moment) in [
+        (-1, true, false, true),
+        (0, true, true, true),
+        (2_147_483_648, false, true, true),
+        (86_399_999_999_999, false, true, true),
+        (86_400_000_000_000, false, false, true),
+        (9_223_372_036_854_775_808, false, false, false),
     ] {
-        let found = converted(&rt, rt.alloc(), &value, &to, CastOptions::Strict)?;
-        assert!(rt; found == Some(want));
+        let value = Value::Int(number);
+        assert_eq!(rt; value.fits(&DataType::Date), date);
+        assert_eq!(rt; value.fits(&DataType::Time), time);
+        let moments = DataType::Datetime(TimeUnit::Milliseconds);
+        assert_eq!(rt; value.fits(&moments), moment);
+        assert!(rt; !value.fits(&DataType::Null));
+        assert!(rt; !value.fits(&DataType::String));
     }
-    assert!(rt; matches!(CastError::from(AllocError), CastError::NoMemory));
-    assert!(rt; matches!(FrameError::from(AllocError), FrameError::NoMemory));
+    Ok(())
+}
+
+// A column of a value and null.
+fn pair(alloc: Global, name: &str, dtype: DataType, value: Value) -> Result<Column, Fail> {
+    let name = PlSmallStr::new(alloc, name)?;
+    let mut items = Vec::new(alloc);
+    items.push(value)?;
+    items.push(Value::Null)?;
+    Ok(Column {
+        name,
+        dtype,
+        values: Values { items },
+    })
+}
+
+// A column of a text, one of days and one of null.
+fn three(alloc: Global, days: Value) -> Result<Vec<Column>, Fail> {
+    let text = PlSmallStr::new(alloc, "x")?;
+    let mut columns = Vec::new(alloc);
+    let column = pair(alloc, "s", DataType::String, Value::Text(text))?;
+    columns.push(column)?;
+    let column = pair(alloc, "d", DataType::Date, days)?;
+    columns.push(column)?;
+    let column = pair(alloc, "n", DataType::Null, Value::Null)?;
+    columns.push(column)?;
+    Ok(columns)
+}
+
+#[test]
+fn texts_days_and_null_make_a_frame(rt: HostRuntime) -> Result<(), Fail> {
+    let columns = three(rt.alloc(), Value::Int(-2_147_483_648))?;
+    let frame = Frame::new(rt.alloc(), columns)?;
+    let copy = frame.try_clone(rt.alloc())?;
+    assert_eq!(rt; copy.height(), 2);
+    assert!(rt; copy.width() == 3);
+    let column = copy.column(1);
+    assert!(rt; column.dtype == DataType::Date);
+    assert!(rt; column.values.items.first() == Some(&Value::Int(-2_147_483_648)));
+    Ok(())
+}
+
+#[test]
+fn other_values_are_no_days(rt: HostRuntime) -> Result<(), Fail> {
+    for value in [Value::Int(2_147_483_648), Value::Boolean(true)] {
+        let columns = three(rt.alloc(), value)?;
+        match Frame::new(rt.alloc(), columns) {
+            Err(FrameError::Misfit { name, row }) => {
+                assert_eq!(rt; name.as_str(), "d");
+                assert_eq!(rt; row, 0);
+            }
+            _ => panic!(rt; "no such refusal"),
+        }
+    }
     Ok(())
 }
 

@@ -1,4 +1,4 @@
-use crate::dtype::DataType;
+use crate::dtype::{DataType, TimeUnit};
 use crate::error::{ErrorKind, PlanError};
 use crate::schema::Schema;
 use crate::supertype::get_numeric_upcast_supertype_lossless;
@@ -115,6 +115,30 @@ fn schemas_get_common_types(rt: HostRuntime) -> Result<(), Fail> {
     let same = schema.try_clone(rt.alloc())?;
     let changed = schema.to_supertype(&same)?;
     assert!(rt; !changed);
+    Ok(())
+}
+
+#[test]
+fn schemas_of_null_and_times_get_common_types(rt: HostRuntime) -> Result<(), Fail> {
+    let moments = DataType::Datetime(TimeUnit::Microseconds);
+    let mut schema = schema_of(rt.alloc(), "a", DataType::Null, "b", DataType::Date)?;
+    let other = schema_of(rt.alloc(), "a", DataType::String, "b", moments)?;
+    let changed = schema.to_supertype(&other)?;
+    assert!(rt; changed);
+    let moments = DataType::Datetime(TimeUnit::Microseconds);
+    assert_column(&rt, &schema, 0, "a", &DataType::String);
+    assert_column(&rt, &schema, 1, "b", &moments);
+    Ok(())
+}
+
+#[test]
+fn texts_beside_days_have_no_common_type(rt: HostRuntime) -> Result<(), Fail> {
+    let mut schema = schema_of(rt.alloc(), "a", DataType::Null, "b", DataType::String)?;
+    let other = schema_of(rt.alloc(), "a", DataType::Time, "b", DataType::Date)?;
+    let result = schema.to_supertype(&other);
+    assert_refused(&rt, result, ErrorKind::SchemaMismatch);
+    assert_column(&rt, &schema, 0, "a", &DataType::Null);
+    assert_column(&rt, &schema, 1, "b", &DataType::String);
     Ok(())
 }
 

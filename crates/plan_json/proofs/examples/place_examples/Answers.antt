@@ -108,6 +108,36 @@ returns-clause-cast_to_unknown c = (
   (part (fault.number 1) fault.a_type (string (codes "bool")), (1, omega arith, refl), refl, refl),
 )
 
+pub returns-clause-cast_to_unknown_unit : goal.returns-clause-cast_to_unknown_unit
+unfolding values_on_literals
+returns-clause-cast_to_unknown_unit c =
+    let target = object (member (codes "Datetime") (string (codes "s")) no_members) in (
+      part (key (codes "cast")) fault.a_cast (array (item null (item target (item null no_items)))),
+      (0, omega arith, refl),
+      refl,
+      (
+        part (fault.number 1) fault.a_type target,
+        (1, omega arith, refl),
+        refl,
+        (part (key (codes "Datetime")) fault.a_unit (string (codes "s")), (0, omega arith, refl), refl, refl),
+      ),
+    )
+
+pub returns-clause-column_of_float : goal.returns-clause-column_of_float
+unfolding values_on_literals
+returns-clause-column_of_float c x =
+    let dtype = object (member (codes "Duration") (number (float x)) no_members) in (
+      part (fault.number 0) fault.a_column (array (item null (item dtype no_items))),
+      (0, omega arith, refl),
+      refl,
+      (
+        part (fault.number 1) fault.a_type dtype,
+        (1, omega arith, refl),
+        refl,
+        (part (key (codes "Duration")) fault.a_unit (number (float x)), (0, omega arith, refl), refl, refl),
+      ),
+    )
+
 pub returns-clause-unknown_mode : goal.returns-clause-unknown_mode
 unfolding values_on_literals
 returns-clause-unknown_mode c =

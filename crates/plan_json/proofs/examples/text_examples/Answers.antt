@@ -19,6 +19,15 @@ returns-clause-escaped_name c =
     let empty = object (member (codes "empty") (array (item column no_items)) no_members) in
     (object (member (codes "plan") empty (member (codes "tables") (array no_items) no_members)), (search rules, refl), refl)
 
+pub returns-clause-times : goal.returns-clause-times
+unfolding values_on_literals
+returns-clause-times c =
+    let first = array (item (string (codes "a")) (item (string (codes "Time")) no_items)) in
+    let moments = object (member (codes "Datetime") (string (codes "us")) no_members) in
+    let second = array (item (string (codes "b")) (item moments no_items)) in
+    let empty = object (member (codes "empty") (array (item first (item second no_items))) no_members) in
+    (object (member (codes "plan") empty (member (codes "tables") (array no_items) no_members)), (search rules, refl), refl)
+
 pub returns-clause-other_value : goal.returns-clause-other_value
 unfolding values_on_literals
 returns-clause-other_value c query (d, (utf8, is), found) =
@@ -36,6 +45,42 @@ returns-clause-unknown_plan c path is =
       object (member (codes "plan") plan (member (codes "tables") (array no_items) no_members)),
       (search rules, refl),
       (key (codes "plan") ∷ [], is, (part (key (codes "plan")) (fault.a_plan []) plan, (1, omega arith, refl), refl, refl)),
+    )
+
+pub returns-clause-unknown_unit : goal.returns-clause-unknown_unit
+unfolding values_on_literals
+returns-clause-unknown_unit c path is =
+    let dtype = object (member (codes "Datetime") (string (codes "s")) no_members) in
+    let column = array (item (string (codes "a")) (item dtype no_items)) in
+    let columns = array (item column no_items) in
+    let plan = object (member (codes "empty") columns no_members) in (
+      object (member (codes "plan") plan (member (codes "tables") (array no_items) no_members)),
+      (search rules, refl),
+      (
+        key (codes "plan") ∷ key (codes "empty") ∷ fault.number 0 ∷ fault.number 1 ∷ key (codes "Datetime") ∷ [],
+        is,
+        (
+          part (key (codes "plan")) (fault.a_plan []) plan,
+          (1, omega arith, refl),
+          refl,
+          (
+            part (key (codes "empty")) fault.column_list columns,
+            (0, omega arith, refl),
+            refl,
+            (
+              part (fault.number 0) fault.a_column column,
+              (0, omega arith, refl),
+              refl,
+              (
+                part (fault.number 1) fault.a_type dtype,
+                (1, omega arith, refl),
+                refl,
+                (part (key (codes "Datetime")) fault.a_unit (string (codes "s")), (0, omega arith, refl), refl, refl),
+              ),
+            ),
+          ),
+        ),
+      ),
     )
 
 pub returns-clause-undeclared_table : goal.returns-clause-undeclared_table

@@ -9,8 +9,8 @@ use Rattle.plan_arena.specs.Denotation.{DenotesTree}
 use Rattle.plan_arena.specs.Items.{HoldsFrom, expression_layer}
 use Rattle.plan_arena.proofs.ItemLemmas.{tree_within, got_held}
 use Rattle.plan_lower.specs.KeptTypes.{first_node}
-use Rattle.plan_lower.proofs.TableLemmas.{found_kept, tree_from, any_tree, inputs_from, kept_type, alone_there, right_same, right_more, extends_same, extends_more, extends_then}
-use Rattle.plan_lower.proofs.TypingLemmas.{AllHaveType, cast_typed, column_typed, column_refused, binary_typed, binary_refused, left_refused, right_refused, cast_refused, column_unknown, literal_typed, literal_refused, cast_unknown}
+use Rattle.plan_lower.proofs.TableLemmas.{found_kept, tree_from, any_tree, inputs_from, kept_type, right_same, right_more, extends_same, extends_more, extends_then}
+use Rattle.plan_lower.proofs.TypingLemmas.{AllHaveType, cast_typed, column_typed, column_refused, binary_typed, binary_refused, left_refused, right_refused, cast_refused, column_unknown, literal_typed, literal_refused, cast_missing}
 use Rattle.plan_lower.proofs.typing.+type_nodes.Goals as goal
 
 pub returns-then-is_some-clause-kept : goal.returns-then-is_some-clause-kept
@@ -109,7 +109,7 @@ returns-in_ok-keep-in-Column-clause-right t c =
     let held = got_held c.args.arena.now c.args.node.0 c.get.result.now _ _ c.get.ensures (ap expression_layer c.in-Column.is) in
     let tree = any_tree (first_node c.args.types.now) c.args.arena.now c.args.node.0 c.requires.tree in
     let typed = column_typed c.args.arena.now (registry c.args.udfs.now) (columns c.args.schema.now) c.args.node.0 c.in-Column.name _ held c.in_ok-found-in-Column.ensures.ok (sym c.is_known.ensures ∙ c.if-not-is_known.false) in
-    let copied = subst (λ d. AllHaveType c.args.arena.now (registry c.args.udfs.now) (columns c.args.schema.now) c.args.node.0 (ty d)) (sym c.in_ok-dtype-in-Column.ensures.ok) typed in
+    let copied = subst (AllHaveType c.args.arena.now (registry c.args.udfs.now) (columns c.args.schema.now) c.args.node.0) (sym c.in_ok-dtype-in-Column.ensures.ok) typed in
     right_more (registry c.args.udfs.now) (columns c.args.schema.now) c.args.arena.now c.args.types.now c.keep.new.self c.args.node.0 c.in_ok-dtype-in-Column.dtype _ [] held tree copied tt c.in_ok-keep-in-Column.ensures.kept c.in_ok-keep-in-Column.ensures.others c.requires.right
 
 pub returns-in_ok-keep-in-Column-clause-extends : goal.returns-in_ok-keep-in-Column-clause-extends
@@ -172,12 +172,12 @@ pub returns-in_ok-keep-in-Literal-clause-extends : goal.returns-in_ok-keep-in-Li
 returns-in_ok-keep-in-Literal-clause-extends t c =
     extends_more c.args.types.now c.keep-in-Literal.new.self c.args.node.0 c.in_ok-dtype-in-Literal.dtype c.in_ok-keep-in-Literal.ensures.first c.in_ok-keep-in-Literal.ensures.kept c.in_ok-keep-in-Literal.ensures.others
 
-pub returns-then-not-is_known-2-clause-err : goal.returns-then-not-is_known-2-clause-err
-returns-then-not-is_known-2-clause-err t c =
+pub returns-in_err-dtype-in-Cast-clause-err : goal.returns-in_err-dtype-in-Cast-clause-err
+returns-in_err-dtype-in-Cast-clause-err t c =
     let held = got_held c.args.arena.now c.args.node.0 c.get.result.now _ _ c.get.ensures (ap expression_layer c.in-Cast.is) in
-    let ok = c.in_ok-type_nodes-in-Cast.ensures in
-    let below = kept_type (registry c.args.udfs.now) (columns c.args.schema.now) c.args.arena.now _ ok.right _ ok.kept.dtype ok.kept.keeps in
-    λ u d. subst (IsRefusal (typing (registry c.args.udfs.now) (columns c.args.schema.now) u)) (sym c.at_top-then-not-is_known-2.ensures) (cast_unknown c.args.arena.now (registry c.args.udfs.now) (columns c.args.schema.now) c.args.node.0 _ _ _ held _ below (sym c.is_known-in-Cast.ensures ∙ c.if-not-is_known-2.true) u d)
+    let right = c.in_ok-type_nodes-in-Cast.ensures.right in
+    let below : AllHaveType c.args.arena.now (registry c.args.udfs.now) (columns c.args.schema.now) c.in-Cast.expr.0 (ty c.get-from.result.now) = kept_type (registry c.args.udfs.now) (columns c.args.schema.now) c.args.arena.now c.type_nodes-in-Cast.new.types right c.in-Cast.expr.0 _ c.get-from.ensures in
+    passed_on c.from_residual-in_err-dtype-in-Cast.result c.in_err-dtype-in-Cast.field-0.0 _ c.from_residual-in_err-dtype-in-Cast.ensures.1 (cast_missing c.args.arena.now (registry c.args.udfs.now) (columns c.args.schema.now) c.args.node.0 _ _ _ held _ _ below c.in_err-dtype-in-Cast.ensures.err)
 
 pub keep-requires-in-Cast : goal.keep-requires-in-Cast
 keep-requires-in-Cast t c =
@@ -200,11 +200,9 @@ returns-in_ok-keep-in-Cast-clause-right t c =
     let held = got_held c.args.arena.now c.args.node.0 c.get.result.now _ _ c.get.ensures (ap expression_layer c.in-Cast.is) in
     let tree = any_tree (first_node c.args.types.now) c.args.arena.now c.args.node.0 c.requires.tree in
     let ok = c.in_ok-type_nodes-in-Cast.ensures in
-    let below = kept_type (registry c.args.udfs.now) (columns c.args.schema.now) c.args.arena.now _ ok.right _ ok.kept.dtype ok.kept.keeps in
-    let alone = alone_there (registry c.args.udfs.now) (columns c.args.schema.now) c.args.arena.now _ ok.right _ ok.kept.dtype ok.kept.keeps in
-    let typed = cast_typed c.args.arena.now (registry c.args.udfs.now) (columns c.args.schema.now) c.args.node.0 _ _ _ held _ alone.0 below alone.1 (sym c.is_known-in-Cast.ensures ∙ c.if-not-is_known-2.false) in
-    let copied = subst (λ d. AllHaveType c.args.arena.now (registry c.args.udfs.now) (columns c.args.schema.now) c.args.node.0 (ty d)) (sym c.in_ok-dtype-in-Cast.ensures.ok) typed in
-    right_more (registry c.args.udfs.now) (columns c.args.schema.now) c.args.arena.now c.type_nodes-in-Cast.new.types c.keep-in-Cast.new.self c.args.node.0 c.in_ok-dtype-in-Cast.dtype _ _ held tree copied (ok.kept, tt) c.in_ok-keep-in-Cast.ensures.kept c.in_ok-keep-in-Cast.ensures.others ok.right
+    let below : AllHaveType c.args.arena.now (registry c.args.udfs.now) (columns c.args.schema.now) c.in-Cast.expr.0 (ty c.get-from.result.now) = kept_type (registry c.args.udfs.now) (columns c.args.schema.now) c.args.arena.now c.type_nodes-in-Cast.new.types ok.right c.in-Cast.expr.0 _ c.get-from.ensures in
+    let typed = cast_typed c.args.arena.now (registry c.args.udfs.now) (columns c.args.schema.now) c.args.node.0 _ _ _ held _ _ below c.in_ok-dtype-in-Cast.ensures.ok.1 in
+    right_more (registry c.args.udfs.now) (columns c.args.schema.now) c.args.arena.now c.type_nodes-in-Cast.new.types c.keep-in-Cast.new.self c.args.node.0 c.in_ok-dtype-in-Cast.dtype _ _ held tree typed (ok.kept, tt) c.in_ok-keep-in-Cast.ensures.kept c.in_ok-keep-in-Cast.ensures.others ok.right
 
 pub returns-in_ok-keep-in-Cast-clause-extends : goal.returns-in_ok-keep-in-Cast-clause-extends
 returns-in_ok-keep-in-Cast-clause-extends t c =

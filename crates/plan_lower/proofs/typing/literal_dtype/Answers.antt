@@ -33,7 +33,7 @@ pub returns-clause-ok : goal.returns-clause-ok
 returns-clause-ok c =
     let value = c.args.value.now in
     let is = c.in-Some.ensures in
-    let dtype = ap ty c.in_ok-dtype.ensures.ok in
+    let dtype = c.in_ok-dtype.ensures.ok in
     let fits : FitsSigned w128 c.number-number.result = search rules in
     let has = sym (ap (in_range (ty c.in-Some.dtype.now)) (to_z-of_z w128 c.number-number.result fits)) in
     literal_fits (literal_type value) (literal_value value) c.number-number.result _ c.number-number.ensures (dtype ∙ is.0) is.1 (ap (λ t. in_range t c.number-number.result) dtype ∙ has ∙ sym c.has_number.ensures ∙ c.if-not-has_number.false)

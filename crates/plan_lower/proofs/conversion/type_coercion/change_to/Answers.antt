@@ -1,5 +1,6 @@
 use Rattle.std.proofs.Common.{sym, ap, ◌∙◌, subst, arith}
-use Rattle.plan_types.specs.Types.{ty, is_known}
+use Rattle.plan_types.specs.Casts.{can_cast}
+use Rattle.plan_types.specs.Types.{ty}
 use Rattle.plan_arena.specs.Denotation.{Denotes}
 use Rattle.plan_arena.specs.Items.{HoldsFrom}
 use Rattle.plan_lower.specs.Coercion.{IsChangeFor, changed_by}
@@ -23,8 +24,8 @@ pub returns-in_ok-keep-in-CastTo-clause-right : goal.returns-in_ok-keep-in-CastT
 returns-in_ok-keep-in-CastTo-clause-right c = λ registry schema from target keeps change right.
     let cast = c.in_ok-cast-in-CastTo in
     let is = subst (IsChangeFor (ty from) target) c.in-CastTo.is change in
-    let known = ap is_known is.2 ∙ is.3 in
-    right_cast registry schema c.args.arena.now c.add.new.self c.args.types.now c.keep.new.self c.args.node cast.cast from c.in-CastTo.dtype c.in_ok-kept-in-CastTo.kept cast.ensures.ok cast.ensures.node (ap ty c.in_ok-kept-in-CastTo.ensures.ok) keeps is.1 known c.in_ok-keep-in-CastTo.ensures.kept c.in_ok-keep-in-CastTo.ensures.others right
+    let casts = ap (can_cast (ty from)) is.2 ∙ is.3 in
+    right_cast registry schema c.args.arena.now c.add.new.self c.args.types.now c.keep.new.self c.args.node cast.cast from c.in-CastTo.dtype c.in_ok-kept-in-CastTo.kept cast.ensures.ok cast.ensures.node c.in_ok-kept-in-CastTo.ensures.ok keeps is.1 casts c.in_ok-keep-in-CastTo.ensures.kept c.in_ok-keep-in-CastTo.ensures.others right
 
 pub returns-in_ok-keep-in-CastTo-clause-kept : goal.returns-in_ok-keep-in-CastTo-clause-kept
 returns-in_ok-keep-in-CastTo-clause-kept c = λ k. record { dtype = c.in_ok-kept-in-CastTo.kept; keeps = c.in_ok-keep-in-CastTo.ensures.kept }

@@ -13,7 +13,7 @@ use Rattle.plan_arena.proofs.ItemLemmas.{tree_within, length-grown}
 use Rattle.plan_lower.specs.Coercion.{IsChangeFor}
 use Rattle.plan_lower.proofs.TypingLemmas.{AllHaveType}
 use Rattle.plan_lower.proofs.CoercionLemmas.{plain_tree, grown_elsewhere, written_elsewhere, visits_number, number_becomes, found_alone}
-use Rattle.plan_lower.proofs.TableLemmas.{known_typed, known_inputs, kept_type, cast_target_known, alone_there, first_below, right_over}
+use Rattle.plan_lower.proofs.TableLemmas.{known_typed, known_inputs, kept_type, cast_there, alone_there, first_below, right_over}
 use Rattle.plan_lower.proofs.conversion.type_coercion.coerce_cast.Goals as goal
 
 pub unreachable-requires : goal.unreachable-requires
@@ -49,11 +49,12 @@ returns-clause-ok c = λ registry schema first t right le d.
     let old = c.args.arena.now in
     let round = to_z-of_z w128 c.args.number c.ranges.number in
     let below = (known_inputs registry schema old c.args.types.now right c.args.node.0 _ _ c.requires.kept c.requires.held).0 in
-    let has = subst (AllHaveType old registry schema c.args.expr.0) (c.requires.untyped below.dtype below.keeps) (kept_type registry schema old c.args.types.now right c.args.expr.0 below.dtype below.keeps) in
-    let known = cast_target_known registry schema old c.args.types.now right c.args.node.0 _ _ _ c.requires.kept c.requires.held in
+    let same = c.requires.untyped below.dtype below.keeps in
+    let has = subst (AllHaveType old registry schema c.args.expr.0) same (kept_type registry schema old c.args.types.now right c.args.expr.0 below.dtype below.keeps) in
     let alone = sym (ap literal_type round) ∙ sym c.materialize_dyn_int.ensures ∙ ap (option_map ty) c.in-Some.is in
     let change = subst (λ n. IsChangeFor (Untyped n) (ty c.in-Some.alone) c.needed_change-change.result) round c.needed_change-change.ensures in
-    let v = visits_number registry schema old c.change_to.new.arena c.args.node.0 c.args.expr.0 c.args.dtype c.args.options c.args.number (ty c.in-Some.alone) c.in_ok-expr.expr c.needed_change-change.result c.requires.held has alone known change expr.grows (λ f u. expr.denotes f u) expr.fresh first t le d in
+    let casts = cast_there registry schema old c.args.types.now right c.args.node.0 _ _ _ below.dtype _ c.requires.kept c.requires.held below.keeps (ap type_alone same ∙ alone) in
+    let v = visits_number registry schema old c.change_to.new.arena c.args.node.0 c.args.expr.0 c.args.dtype c.args.options c.args.number (ty c.in-Some.alone) c.in_ok-expr.expr c.needed_change-change.result c.requires.held has alone casts change expr.grows (λ f u. expr.denotes f u) expr.fresh first t le d in
     rw c.replace.ensures.items v
 
 pub returns-clause-right : goal.returns-clause-right
@@ -66,11 +67,11 @@ returns-clause-right c = λ registry schema right.
     let below = (known_inputs registry schema old c.args.types.now right c.args.node.0 _ _ c.requires.kept c.requires.held).0 in
     let same = c.requires.untyped below.dtype below.keeps in
     let has = subst (AllHaveType old registry schema c.args.expr.0) same (kept_type registry schema old c.args.types.now right c.args.expr.0 below.dtype below.keeps) in
-    let target = cast_target_known registry schema old c.args.types.now right c.args.node.0 _ _ _ c.requires.kept c.requires.held in
     let alone = sym (ap literal_type round) ∙ sym c.materialize_dyn_int.ensures ∙ ap (option_map ty) c.in-Some.is in
     let change = subst (λ n. IsChangeFor (Untyped n) (ty c.in-Some.alone) c.needed_change-change.result) round c.needed_change-change.ensures in
+    let casts = cast_there registry schema old c.args.types.now right c.args.node.0 _ _ _ below.dtype _ c.requires.kept c.requires.held below.keeps (ap type_alone same ∙ alone) in
     let now = expr.right registry schema below.dtype (ty c.in-Some.alone) below.keeps (subst (λ t. IsChangeFor t (ty c.in-Some.alone) c.needed_change-change.result) (sym same) change) right in
-    let visit = λ (t : Expression) (d : Denotes (HoldsFrom 0 old) c.args.node.0 t). visits_number registry schema old new c.args.node.0 c.args.expr.0 c.args.dtype c.args.options c.args.number (ty c.in-Some.alone) c.in_ok-expr.expr c.needed_change-change.result c.requires.held has alone target change expr.grows (λ f u. expr.denotes f u) expr.fresh 0 t zero-le d in
+    let visit = λ (t : Expression) (d : Denotes (HoldsFrom 0 old) c.args.node.0 t). visits_number registry schema old new c.args.node.0 c.args.expr.0 c.args.dtype c.args.options c.args.number (ty c.in-Some.alone) c.in_ok-expr.expr c.needed_change-change.result c.requires.held has alone casts change expr.grows (λ f u. expr.denotes f u) expr.fresh 0 t zero-le d in
     rw c.replace.ensures.items (right_over old new c.change_to.new.types c.args.node.0 (CastOp (ty c.args.dtype) c.args.options) (c.args.expr.0 ∷ []) (c.in_ok-expr.expr.0 ∷ []) item refl c.requires.held expr.grows registry schema visit (known_typed registry schema old c.args.types.now right c.args.node.0 c.requires.kept) (expr.kept below, tt) now)
 
 pub returns-clause-elsewhere : goal.returns-clause-elsewhere

@@ -62,4 +62,4 @@ returns-in-Literal-clause-extends c = extends_itself c.args.types.now
 pub coerce_cast-requires-clause-held : goal.coerce_cast-requires-clause-held
 coerce_cast-requires-clause-held c =
     let held = got_held c.args.arena.now c.args.node.0 c.get.result.now _ _ c.get.ensures (ap expression_layer c.in-Cast.is) in
-    subst (λ d. HoldsExpression c.args.arena.now c.args.node.0 (CastOp (ty d) c.in-Cast.options) (c.in-Cast.expr.0 ∷ [])) (sym c.in_ok-dtype-in-Cast.ensures.ok) held
+    subst (λ u. HoldsExpression c.args.arena.now c.args.node.0 (CastOp u c.in-Cast.options) (c.in-Cast.expr.0 ∷ [])) (sym c.in_ok-dtype-in-Cast.ensures.ok) held

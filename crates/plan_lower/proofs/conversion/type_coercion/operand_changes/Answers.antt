@@ -2,7 +2,7 @@ use Rattle.std.proofs.Common.{◌≡◌}
 use Rattle.plan_types.specs.Types.{ty}
 use Rattle.plan_types.specs.Errors.{no_memory}
 use Rattle.plan_types.proofs.ResultLemmas.{passed_on}
-use Rattle.plan_dsl.proofs.CastLemmas.{left_becomes, right_becomes}
+use Rattle.plan_dsl.proofs.OperatorLemmas.{left_becomes, right_becomes}
 use Rattle.plan_lower.proofs.TypingLemmas.{binary_refused}
 use Rattle.plan_lower.proofs.CoercionLemmas.{refused_typed}
 use Rattle.plan_lower.proofs.TableLemmas.{known_typed, known_inputs, kept_type}

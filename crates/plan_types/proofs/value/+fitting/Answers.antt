@@ -1,0 +1,18 @@
+use Rattle.std.proofs.Common.{sym, ap, ◌∙◌}
+use Rattle.plan_types.specs.Types.{ListType, StructType, fields_in, ty}
+use Rattle.plan_types.specs.Values.{parts_fit}
+use Rattle.plan_types.specs.ValueViews.{values_in}
+use Rattle.plan_types.proofs.FieldLemmas.{listed_fields}
+use Rattle.plan_types.proofs.FittingLemmas.{list_fits, struct_fits, parts_apart}
+use Rattle.plan_types.proofs.value.+fitting.Goals as goal
+
+pub Value::fits-returns-in-List-dtype : goal.Value::fits-returns-in-List-dtype
+Value::fits-returns-in-List-dtype t c =
+    list_fits c.args.self.now c.in-List.items c.as_slice.result.now c.args.dtype.now (ty c.deref.result.now) c.items_fit.result c.in-List.is c.as_slice.ensures.value (ap ty c.in-List-dtype.is ∙ ap (λ d. ListType (ty d)) (sym c.deref.ensures)) c.items_fit.ensures
+
+pub Value::fits-returns-in-Struct-dtype : goal.Value::fits-returns-in-Struct-dtype
+Value::fits-returns-in-Struct-dtype t c =
+    struct_fits c.args.self.now c.in-Struct.parts c.as_slice-in-Struct-dtype.result.now c.args.dtype.now (fields_in c.as_slice-in-Struct-dtype-2.result.now) c.parts_fit.result c.in-Struct.is c.as_slice-in-Struct-dtype.ensures.value (ap ty c.in-Struct-dtype.is ∙ ap StructType (listed_fields c.in-Struct-dtype.fields ∙ ap fields_in (sym c.as_slice-in-Struct-dtype-2.ensures.value))) c.parts_fit.ensures
+
+pub parts_fit-returns-then-parts-fields : goal.parts_fit-returns-then-parts-fields
+parts_fit-returns-then-parts-fields t c = parts_apart c.args.parts.now c.args.fields.now c.if-parts-fields.true
