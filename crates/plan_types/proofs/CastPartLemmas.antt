@@ -119,8 +119,8 @@ as_many_fields (field ∷ fields) [] known = cc
 as_many_fields (field ∷ fields) (other ∷ others) known = ap suc (as_many_fields fields others (and_second _ _ known))
 
 -- lists of fields of different lengths have no cast
-pub fields_apart : (fields others : Many Field) → length fields ≢ length others → false ≡ can_cast_fields (fields_in fields) (fields_in others)
-fields_apart fields others differ = false_from_not _ (λ known. differ (as_many_fields fields others known))
+pub no_cast_apart : (fields others : Many Field) → length fields ≢ length others → false ≡ can_cast_fields (fields_in fields) (fields_in others)
+no_cast_apart fields others differ = false_from_not _ (λ known. differ (as_many_fields fields others known))
 
 -- the fields from a place on
 module _ (from to : Many Field) where
@@ -196,8 +196,8 @@ module _ {parts : Many Value} {from to : Many Field} {options : CastOptions} {do
 pub list_known : (f t i o : Ty) → f ≡ ListType i → t ≡ ListType o → can_cast f t ≡ true → can_cast i o ≡ true
 list_known f t i o is_from is_to h = sym (ap (λ x. can_cast x t) is_from ∙ ap (can_cast (ListType i)) is_to) ∙ h
 
-pub list_fits : (v : Val) (vs : Vals) (f i : Ty) → v ≡ ListValue vs → f ≡ ListType i → fits v f ≡ true → items_fit vs i ≡ true
-list_fits v vs f i is is_from h = sym (ap (λ x. fits x f) is ∙ ap (fits (ListValue vs)) is_from) ∙ h
+pub list_items_fit : (v : Val) (vs : Vals) (f i : Ty) → v ≡ ListValue vs → f ≡ ListType i → fits v f ≡ true → items_fit vs i ≡ true
+list_items_fit v vs f i is is_from h = sym (ap (λ x. fits x f) is ∙ ap (fits (ListValue vs)) is_from) ∙ h
 
 pub structs_known : (f t : Ty) (i o : Fields) → f ≡ StructType i → t ≡ StructType o → can_cast f t ≡ can_cast_fields i o
 structs_known f t i o is_from is_to = ap (λ x. can_cast x t) is_from ∙ ap (can_cast (StructType i)) is_to
@@ -205,8 +205,8 @@ structs_known f t i o is_from is_to = ap (λ x. can_cast x t) is_from ∙ ap (ca
 pub struct_known : (f t : Ty) (i o : Fields) → f ≡ StructType i → t ≡ StructType o → can_cast f t ≡ true → can_cast_fields i o ≡ true
 struct_known f t i o is_from is_to h = sym (structs_known f t i o is_from is_to) ∙ h
 
-pub struct_fits : (v : Val) (vs : Vals) (f : Ty) (i : Fields) → v ≡ StructValue vs → f ≡ StructType i → fits v f ≡ true → parts_fit vs i ≡ true
-struct_fits v vs f i is is_from h = sym (ap (λ x. fits x f) is ∙ ap (fits (StructValue vs)) is_from) ∙ h
+pub struct_parts_fit : (v : Val) (vs : Vals) (f : Ty) (i : Fields) → v ≡ StructValue vs → f ≡ StructType i → fits v f ≡ true → parts_fit vs i ≡ true
+struct_parts_fit v vs f i is is_from h = sym (ap (λ x. fits x f) is ∙ ap (fits (StructValue vs)) is_from) ∙ h
 
 struct_cast : (v : Val) (vs : Vals) (f t : Ty) (i o : Fields) (options : CastOptions) → v ≡ StructValue vs → f ≡ StructType i → t ≡ StructType o → cast v f t options ≡ gathered StructValue (cast_parts vs i o options)
 struct_cast v vs f t i o options is is_from is_to =

@@ -2,7 +2,7 @@ use Rattle.std.proofs.Common.{◌+◌, ◌&&◌, drop, slice_index_or, refl, sym
 use Rattle.plan_types.specs.Types.{fields_in}
 use Rattle.plan_types.specs.Casts.{can_cast_fields}
 use Rattle.plan_types.proofs.FieldLemmas.{struct_type}
-use Rattle.plan_types.proofs.CastPartLemmas.{structs_known, fields_apart, pair_known, all_known}
+use Rattle.plan_types.proofs.CastPartLemmas.{structs_known, no_cast_apart, pair_known, all_known}
 use Rattle.plan_types.proofs.cast.+cast_pairs.Goals as goal
 
 pub can_cast-returns-in-Struct-to : goal.can_cast-returns-in-Struct-to
@@ -12,7 +12,7 @@ can_cast-returns-in-Struct-to t c =
     c.can_cast_fields.ensures ∙ sym (structs_known _ _ _ _ from to)
 
 pub can_cast_fields-returns-then-from-to : goal.can_cast_fields-returns-then-from-to
-can_cast_fields-returns-then-from-to t c = fields_apart c.args.from.now c.args.to.now c.if-from-to.true
+can_cast_fields-returns-then-from-to t c = no_cast_apart c.args.from.now c.args.to.now c.if-from-to.true
 
 pub can_cast_fields-returns-then-not-can_cast : goal.can_cast_fields-returns-then-not-can_cast
 can_cast_fields-returns-then-not-can_cast t c =

@@ -6,7 +6,7 @@ use Rattle.plan_types.specs.Casts.{Gives}
 use Rattle.plan_types.proofs.FieldLemmas.{struct_type}
 use Rattle.plan_types.proofs.PartLemmas.{list_deeper, struct_deeper, list_of, struct_of, struct_values}
 use Rattle.plan_types.proofs.ResultLemmas.{passed_on}
-use Rattle.plan_types.proofs.CastPartLemmas.{items_start, item_fits, items_step, items_fail, items_end, as_many_parts, as_many_fields, parts_start, part_left, part_fits, part_known, parts_step, parts_fail, parts_end, list_known, list_fits, struct_known, struct_fits, struct_gives, struct_fails}
+use Rattle.plan_types.proofs.CastPartLemmas.{items_start, item_fits, items_step, items_fail, items_end, as_many_parts, as_many_fields, parts_start, part_left, part_fits, part_known, parts_step, parts_fail, parts_end, list_known, list_items_fit, struct_known, struct_parts_fit, struct_gives, struct_fails}
 use Rattle.plan_types.proofs.cast.+value_casts.Goals as goal
 
 pub cast_items-loop-item-init : goal.cast_items-loop-item-init
@@ -77,14 +77,14 @@ cast_value-cast_items-requires t c =
     let value = list_of c.args.value.now c.in-List.items c.as_slice.result.now c.in-List.is c.as_slice.ensures.value in
     let from : ty c.args.from.now ≡ ListType (ty c.deref.result.now) = ap ty c.in-List-List.is-0 ∙ ap (λ d. ListType (ty d)) (sym c.deref.ensures) in
     let to : ty c.args.to.now ≡ ListType (ty c.deref-in-List-List.result.now) = ap ty c.in-List-List.is-1 ∙ ap (λ d. ListType (ty d)) (sym c.deref-in-List-List.ensures) in
-    (omega (arith, list_deeper c.args.value.now c.in-List.items c.as_slice.result.now c.in-List.is c.as_slice.ensures.value, c.decreases), (list_known _ _ _ _ from to c.requires.known, list_fits _ _ _ _ value from c.requires.fits))
+    (omega (arith, list_deeper c.args.value.now c.in-List.items c.as_slice.result.now c.in-List.is c.as_slice.ensures.value, c.decreases), (list_known _ _ _ _ from to c.requires.known, list_items_fit _ _ _ _ value from c.requires.fits))
 
 pub cast_value-cast_parts-requires : goal.cast_value-cast_parts-requires
 cast_value-cast_parts-requires t c =
     let value = struct_of c.args.value.now c.in-Struct.parts c.as_slice-parts.result.now c.in-Struct.is c.as_slice-parts.ensures.value in
     let from = struct_type c.args.from.now c.in-Struct-Struct.from c.as_slice-in-Struct-Struct.result.now c.in-Struct-Struct.is-0 c.as_slice-in-Struct-Struct.ensures.value in
     let to = struct_type c.args.to.now c.in-Struct-Struct.to c.as_slice-in-Struct-Struct-2.result.now c.in-Struct-Struct.is-1 c.as_slice-in-Struct-Struct-2.ensures.value in
-    (omega (arith, struct_deeper c.args.value.now c.in-Struct.parts c.as_slice-parts.result.now c.in-Struct.is c.as_slice-parts.ensures.value, c.decreases), (struct_known _ _ _ _ from to c.requires.known, struct_fits _ _ _ _ value from c.requires.fits))
+    (omega (arith, struct_deeper c.args.value.now c.in-Struct.parts c.as_slice-parts.result.now c.in-Struct.is c.as_slice-parts.ensures.value, c.decreases), (struct_known _ _ _ _ from to c.requires.known, struct_parts_fit _ _ _ _ value from c.requires.fits))
 
 pub cast_value-returns-in_err-parts-in-Struct-Struct-clause-err :
     goal.cast_value-returns-in_err-parts-in-Struct-Struct-clause-err

@@ -1,4 +1,4 @@
-use Rattle.std.proofs.Common.{◌≤◌, sym, ◌∙◌, rules, arith}
+use Rattle.std.proofs.Common.{◌≤◌, ◌∙◌, arith}
 use Rattle.plan_types.specs.Types.{ty, width_of}
 use Rattle.plan_types.proofs.SupertypeLemmas.{none_above}
 use Rattle.plan_types.proofs.supertype.signed_upcast.Goals as goal
