@@ -1,13 +1,19 @@
 -- Texts that are appended to, piece by piece.
-use Rattle.std.proofs.Common.{◌≡◌, ◌⊎◌, ℕ, ◌+◌, ◌<◌, ◌≤◌, List, [], ◌∷◌, ◌++◌, length, take, Some, None, slice_get, sym, ap, ◌∙◌, arith, append_assoc, ⊎_elim}
-use Rattle.std.specs.List.{join_by}
+use Rattle.std.proofs.Common.{◌≡◌, ◌⊎◌, ℕ, ◌+◌, ◌<◌, ◌≤◌, List, [], ◌∷◌, ◌++◌, length, take, Some, None, Result, Ok, Err, OnOk, slice_get, map, codes, zero, suc, slice_index_or, refl, sym, ap, ◌∙◌, arith, append_assoc, ⊎_elim}
+use Rattle.std.specs.List.{join_by, flat_map}
 use Rattle.std.specs.Str.{chars, IsUtf8}
 use Rattle.std.proofs.lemmas.List.{flat_map_more, take_more, append-nil, length-take-le}
 use Rattle.std.proofs.lemmas.Option.{slice_get_within, slice_get-get_or, get_or_from_slice_get}
 use Rattle.std.proofs.lemmas.Str.{encodes-chars}
 use Rattle.serde_json.specs.Data.{string}
 use Rattle.serde_json.specs.Written.{compact_text}
-use Rattle.plan_report.specs.Texts.{name_text}
+use Rattle.plan_types.specs.Schemas.{Columns}
+use Rattle.plan_types.specs.Types.{StructType, ty, field_of, fields_from}
+use Rattle.plan_types.specs.declared.dtype.DataType.{DataType, Struct}
+use Rattle.plan_types.specs.declared.dtype.Fields.{Fields as StructFields, out-Fields}
+use Rattle.plan_types.specs.declared.field.Field.{Field}
+use Rattle.plan_types.proofs.FieldLemmas.{struct_type}
+use Rattle.plan_report.specs.Texts.{name_text, in_parentheses, field_text, field_texts, schema_text, type_text, variant_text}
 
 -- the text of a name, from its bytes
 pub name_text-chars : (bytes : List ℕ) → IsUtf8 bytes → compact_text (string bytes) ≡ name_text (chars bytes)
@@ -49,3 +55,37 @@ module _ {X : Type 0} (f : X → List ℕ) (separator before : List ℕ) where
       (λ p. put ∙ ap (λ t. t ++ f x) (p.1 ∙ so_far) ∙ none_before (take i xs) x (omega (arith, p.0)) ∙ last)
       (λ p. put ∙ ap (λ t. t ++ f x) (p.1 ∙ ap (λ t. t ++ separator) so_far) ∙ some_before (take i xs) x (omega (arith, p.0)) ∙ last)
       apart
+
+-- the item at a place, of what is made of each item
+pub item_at : {X Y : Type 0} (f : X → Y) (xs : List X) (i : ℕ) (x : X) → i < length xs → x ≡ slice_index_or xs i x → slice_get (map f xs) i ≡ Some (f x)
+item_at f [] i x within is = absurd (omega arith)
+item_at f (y ∷ ys) zero x within is = ap (λ z. Some (f z)) (sym is)
+item_at f (y ∷ ys) (suc i) x within is = item_at f ys i x (omega arith) is
+
+-- ---- fields
+
+later_fields : (columns : Columns) → flat_map (λ text. codes ", " ++ text) (field_texts (fields_from columns)) ≡ flat_map (λ column. codes ", " ++ field_text column) columns
+later_fields [] = refl
+later_fields (first ∷ rest) = ap (λ t. (codes ", " ++ field_text first) ++ t) (later_fields rest)
+
+-- fields are written as those of a schema
+fields_joined : (columns : Columns) → join_by (λ text. text) (codes ", ") (field_texts (fields_from columns)) ≡ join_by field_text (codes ", ") columns
+fields_joined [] = refl
+fields_joined (first ∷ rest) = ap (λ t. field_text first ++ t) (later_fields rest)
+
+pub fields_as_schema : (columns : Columns) → type_text (StructType (fields_from columns)) ≡ codes "Struct" ++ schema_text columns
+fields_as_schema columns = ap (λ t. codes "Struct" ++ in_parentheses t) (fields_joined columns)
+
+pub struct_text : (dtype : DataType) (fields : StructFields) (items : List Field) → dtype ≡ Struct fields → items ≡ (out-Fields fields).items.items → type_text (ty dtype) ≡ codes "Struct" ++ schema_text (map field_of items)
+struct_text dtype fields items is shown =
+    ap type_text (struct_type dtype fields items is shown) ∙ fields_as_schema (map field_of items)
+
+-- a type of structs is appended: its variant's name, and its fields
+pub struct_pushed : {X E : Type 0} (result : Result X E) (dtype : DataType) (fields : StructFields) (items : List Field) (before named after : List ℕ) → dtype ≡ Struct fields → items ≡ (out-Fields fields).items.items → named ≡ before ++ variant_text (ty dtype) → OnOk result (after ≡ named ++ schema_text (map field_of items)) → OnOk result (after ≡ before ++ type_text (ty dtype))
+struct_pushed (Err e) dtype fields items before named after is shown so_far put = tt
+struct_pushed (Ok x) dtype fields items before named after is shown so_far put =
+    let schema = schema_text (map field_of items) in
+    put
+    ∙ ap (λ t. t ++ schema) (so_far ∙ ap (λ d. before ++ variant_text (ty d)) is)
+    ∙ append_assoc before (codes "Struct") schema
+    ∙ ap (λ t. before ++ t) (sym (struct_text dtype fields items is shown))
