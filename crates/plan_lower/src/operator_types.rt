@@ -1,5 +1,5 @@
 //! The types to which operators take their operands, and those of their results.
-ghost use Rattle.std.specs.Prelude.{◌≡◌, ◌&&◌, ◌||◌, true, [], ◌∷◌, Ok, IfOk, IfErr};
+ghost use Rattle.std.specs.Prelude.{◌≡◌, ◌&&◌, ◌||◌, [], ◌∷◌, Ok, IfOk, IfErr};
 ghost use Rattle.plan_types.specs.Errors.{IsRefusal, no_memory};
 ghost use Rattle.plan_types.specs.Types.{DatetimeType, DurationType, ty, is_temporal, is_text};
 ghost use Rattle.plan_dsl.specs.OperatorTypes.{comparison_types, is_joined, is_text_beside, operator_types, pair_to, pair_types, plain_sum_types, sum_type, sum_types};

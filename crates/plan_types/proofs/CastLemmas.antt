@@ -194,8 +194,7 @@ mutual
             let left = and_parts (is_known t) (are_known r) k in
             let right = and_parts (is_known u) (are_known s) l in
             let here = supertype_casts t u p.type left.0 right.0 p.type_is in
-            let there = fields_cast r s p.rest left.1 right.1 p.rest_is in
-            (
+            let there = fields_cast r s p.rest left.1 right.1 p.rest_is in (
               subst (λ f. can_cast_fields (with_field n t r) f ≡ true) p.made_is (and_from _ _ here.0 there.0),
               subst (λ f. can_cast_fields (with_field m u s) f ≡ true) p.made_is (and_from _ _ here.1 there.1),
             )

@@ -5,7 +5,6 @@ use Rattle.std.specs.List.{AllByRecursion}
 use Rattle.plan_types.specs.Types.{Ty, NullType, Truth, Integer, TextType, DateType, TimeType, DatetimeType, DurationType, ListType, StructType, Untyped, Fields, no_field, with_field, are_known, is_integer, is_known}
 use Rattle.plan_types.specs.Values.{in_range}
 use Rattle.plan_types.specs.Supertypes.{in_front, super_fields, supertype, signed_above}
-use Rattle.std.specs.Option.{option_map}
 use Rattle.std.specs.Str.{bytes_eq}
 use Rattle.std.proofs.lemmas.Bool.{and_parts, and_from}
 use Rattle.plan_types.specs.CommonTypes.{first_with, types_alone, signed_types, unsigned_types, known_type, literal_type, type_alone, least_signed, least_unsigned, least_type, own_type, type_beside, found_common, common_of, common_type}
@@ -123,7 +122,6 @@ mutual
             subst (λ f. are_known f ≡ true) p.made_is (and_from (is_known p.type) (are_known p.rest) (supertype_known t u p.type left.0 right.0 p.type_is) (fields_known r s p.rest left.1 right.1 p.rest_is))
         | false ↦ λ h. cc
       ] h
-
 
 -- what two operands with a common type have of their own
 record Parts (left right found : Ty) : Type 0 where

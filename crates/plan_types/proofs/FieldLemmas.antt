@@ -1,7 +1,7 @@
 -- The fields of a type of structs, as a row and as a list.
 use Rattle.std.proofs.Common.{◌≡◌, ℕ, ◌≤◌, List, length, map, take, Vec, Global, refl, sym, ap, ◌∙◌, ◌≢◌, suc, ◌+◌, ◌<◌, Bool, true, false, ◌&&◌, [], ◌∷◌, drop, slice_index_or, arith}
 use Rattle.std.proofs.lemmas.List.{take_all, drop_more}
-use Rattle.plan_types.specs.Types.{StructType, Fields, with_field, field_of, ty, row_fields, fields_from, fields_of, fields_in, same_type, same_fields, same_field}
+use Rattle.plan_types.specs.Types.{StructType, with_field, field_of, ty, row_fields, fields_from, fields_of, fields_in, same_type, same_fields, same_field}
 use Rattle.plan_types.specs.declared.dtype.DataType.{DataType, Struct}
 use Rattle.std.specs.Str.{bytes_eq}
 use Rattle.plan_types.specs.declared.field.Field.{Field}

@@ -1,7 +1,6 @@
 -- Whether the values of lists and structs fit, one by one.
-use Rattle.std.proofs.Common.{◌≡◌, ℕ, suc, ◌+◌, ◌<◌, ◌≤◌, Bool, true, false, ◌&&◌, List, [], ◌∷◌, length, map, drop, get_or, refl, sym, ap, ◌∙◌}
-use Rattle.std.proofs.lemmas.List.{drop_all}
-use Rattle.plan_types.specs.Types.{Ty, Fields, ListType, StructType, ty, field_of, fields_from, fields_in, fields_of}
+use Rattle.std.proofs.Common.{◌≡◌, ℕ, suc, Bool, true, false, ◌&&◌, List, [], ◌∷◌, length, map, drop, refl, sym, ap, ◌∙◌}
+use Rattle.plan_types.specs.Types.{Ty, Fields, ListType, StructType, ty, field_of, fields_from, fields_in}
 use Rattle.plan_types.specs.Values.{fits, items_fit, parts_fit}
 use Rattle.plan_types.specs.ValueViews.{val_of, values_from, values_in}
 use Rattle.plan_types.specs.declared.value.Value.{Value}

@@ -1,6 +1,6 @@
 -- Lists that a loop makes, item by item, and the items of lists that grow or change at one place.
-use Rattle.std.proofs.Common.{◌≡◌, ◌≢◌, ℕ, zero, suc, drop, ◌+◌, ◌<◌, List, [], ◌∷◌, ◌++◌, length, map, take, get_or, set, Some, slice_get, refl, sym, ap, ◌∙◌, arith, length-append}
-use Rattle.std.proofs.lemmas.List.{take_more, map-append, get_or-set_same, get_or-set_other}
+use Rattle.std.proofs.Common.{◌≡◌, ◌≢◌, ℕ, suc, ◌+◌, ◌<◌, List, [], ◌∷◌, ◌++◌, length, map, take, drop, get_or, set, Some, slice_get, refl, sym, ap, ◌∙◌, arith, length-append}
+use Rattle.std.proofs.lemmas.List.{take_more, drop_more, map-append, get_or-set_same, get_or-set_other}
 use Rattle.std.proofs.lemmas.Option.{slice_get_within, slice_get-get_or, get_or_from_slice_get}
 use Rattle.std.proofs.Math.ListN.{get_or-append, length-set}
 use Rattle.std.proofs.Math.Seq.{get_or-append_seam}
@@ -44,8 +44,15 @@ pub map-map : {A B C : Type 0} (g : B → C) (f : A → B) (xs : List A) → map
 map-map g f [] = refl
 map-map g f (x ∷ xs) = ap (λ l. g (f x) ∷ l) (map-map g f xs)
 
--- what is left of a list from an item's place on
+-- what is left of a list at one of its places, and of two lists side by side
+pub item_left : {A : Type 0} (xs : List A) (n : ℕ) (x d : A) → n < length xs → x ≡ get_or xs n d → drop n xs ≡ x ∷ drop (n + 1) xs
+item_left xs n x d within is = drop_more xs n d within ∙ ap (λ y. y ∷ drop (n + 1) xs) (sym is)
+
+pub pair_left : {A B C : Type 0} (F : List A → List B → C) (xs : List A) (ys : List B) (n : ℕ) (x dx : A) (y dy : B) → n < length xs → n < length ys → x ≡ get_or xs n dx → y ≡ get_or ys n dy → F (drop n xs) (drop n ys) ≡ F (x ∷ drop (n + 1) xs) (y ∷ drop (n + 1) ys)
+pair_left F xs ys n x dx y dy within also is_x is_y =
+    ap (λ l. F l (drop n ys)) (item_left xs n x dx within is_x) ∙ ap (F (x ∷ drop (n + 1) xs)) (item_left ys n y dy also is_y)
+
 pub drop_item : {A : Type 0} (xs : List A) (i n : ℕ) (x : A) → i < length xs → x ≡ get_or xs i x → n ≡ suc i → drop i xs ≡ x ∷ drop n xs
-drop_item [] i n x within at next = absurd (omega (arith, within))
-drop_item (y ∷ ys) zero n x within at next = ap (λ z. z ∷ ys) (sym at) ∙ ap (λ m. x ∷ drop m (y ∷ ys)) (sym next)
-drop_item (y ∷ ys) (suc i) n x within at next = drop_item ys i (suc i) x (omega (arith, within)) at refl ∙ ap (λ m. x ∷ drop m (y ∷ ys)) (sym next)
+drop_item xs i n x within at next =
+    let after : i + 1 ≡ n = omega (arith, next) in
+    item_left xs i x x within at ∙ ap (λ m. x ∷ drop m xs) after

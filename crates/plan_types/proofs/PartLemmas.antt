@@ -1,10 +1,10 @@
 -- The values of a list or a struct, as a row and as a list.
-use Rattle.std.proofs.Common.{◌≡◌, ℕ, ◌+◌, ◌<◌, max, refl, sym, ap, ◌∙◌, arith}
+use Rattle.std.proofs.Common.{◌≡◌, ◌+◌, ◌<◌, max, refl, sym, ap, ◌∙◌, arith}
 use Rattle.std.proofs.Common.{List as Many}
 use mathlib.Core.Former.{Count}
 use denote.Param.Weighed.{most}
-use Rattle.plan_types.specs.Values.{Val, ListValue, StructValue, Vals, no_value, with_value}
-use Rattle.plan_types.specs.ValueViews.{val_of, row_values, values_from, values_in, parts_of}
+use Rattle.plan_types.specs.Values.{ListValue, StructValue, with_value}
+use Rattle.plan_types.specs.ValueViews.{val_of, row_values, values_in, parts_of}
 use Rattle.plan_types.specs.declared.value.Value.{Value, List, List', Struct, Struct', Row_of-Value, end_of-Value, more_of-Value, items-the_row-Value, items_hidden-the_row-Value-0}
 use Rattle.plan_types.specs.declared.value.Value.TheViews.{size-Value, size-Parts, size_is-Parts, sized-List, sized-Struct}
 use Rattle.plan_types.specs.declared.value.Parts.{Parts}

@@ -1,11 +1,13 @@
 -- Common types: of a type with itself, in either order, and that they hold both.
 use Rattle.std.proofs.Common.{◌≡◌, ◌⊎◌, inl, inr, ℕ, ◌-◌, ◌*◌, ◌^◌, ◌≤◌, ℤ, pos, neg_ℤ, ◌≤ℤ◌, true, false, not, ◌&&◌, cond, int_lt, nat_lt, max, Option, Some, None, refl, sym, ap, ◌∙◌, subst, arith}
 use Rattle.std.proofs.lemmas.Int.{ints}
-use Rattle.std.proofs.lemmas.Bool.{ltb-true, ltb-false}
+use Rattle.std.proofs.lemmas.Bool.{ltb-true, ltb-false, le-ltb}
 use Rattle.std.proofs.lemmas.Bool.Decides.{Decides-int_eq}
 use Rattle.std.specs.Ordering.{int_eq}
 use Rattle.std.proofs.Math.Nat.{pow-le-pow_right}
-use Rattle.plan_types.specs.Types.{Ty, NullType, Truth, Integer, TextType, DateType, TimeType, DatetimeType, DurationType, ListType, StructType, Untyped, Fields, no_field, with_field, coarser, is_integer}
+use Rattle.plan_types.specs.Types.{Ty, NullType, Truth, Integer, TextType, DateType, TimeType, DatetimeType, DurationType, ListType, StructType, Untyped, Fields, no_field, with_field, coarser, ty, width_of, is_integer}
+use Rattle.plan_types.specs.declared.dtype.DataType.{DataType}
+use Rattle.plan_types.specs.declared.dtype.DataType.TheVariants.{Int8, Int16, Int32, Int64, UInt8, UInt16, UInt32, UInt64}
 use Rattle.plan_types.specs.declared.dtype.TimeUnit.{TimeUnit}
 use Rattle.plan_types.specs.declared.dtype.TimeUnit.TheVariants.{Nanoseconds, Microseconds, Milliseconds}
 use Rattle.plan_types.specs.Values.{in_range, least, past_greatest}
@@ -207,3 +209,15 @@ supertype_holds (ListType a) (ListType b) c number i e h = absurd (made_no_integ
 supertype_holds (StructType f) (StructType g) c number i e h = absurd (made_no_integer StructType (super_fields f g) c (λ t. refl) e i)
 supertype_holds (Untyped m) (Untyped n) c number i e h = let same = (untyped_same m n c e).1 in absurd (untyped_no_integer m c same i)
 supertype_holds _ _ c number i e h = cc
+
+-- an integer type of another width than these is as wide as any, and no signed type is above it
+pub none_above : (signed : ℕ) (unsigned : DataType) → is_integer (ty unsigned) ≡ true → signed ≤ width_of (ty unsigned) → (width_of (ty unsigned) ≡ 8 → ⊥) → (width_of (ty unsigned) ≡ 16 → ⊥) → (width_of (ty unsigned) ≡ 32 → ⊥) → None ≡ signed_above signed (width_of (ty unsigned))
+none_above signed Int8 k h not8 not16 not32 = absurd (not8 refl)
+none_above signed UInt8 k h not8 not16 not32 = absurd (not8 refl)
+none_above signed Int16 k h not8 not16 not32 = absurd (not16 refl)
+none_above signed UInt16 k h not8 not16 not32 = absurd (not16 refl)
+none_above signed Int32 k h not8 not16 not32 = absurd (not32 refl)
+none_above signed UInt32 k h not8 not16 not32 = absurd (not32 refl)
+none_above signed Int64 k h not8 not16 not32 = sym (ap (λ b. cond b (Some (Integer true signed)) None) (le-ltb 64 signed h))
+none_above signed UInt64 k h not8 not16 not32 = sym (ap (λ b. cond b (Some (Integer true signed)) None) (le-ltb 64 signed h))
+none_above signed _ k h not8 not16 not32 = cc

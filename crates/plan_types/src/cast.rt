@@ -10,8 +10,8 @@ ghost use Rattle.plan_types.specs.ValueViews.{parts_of, val_of, values_in, IsCas
 
 use crate::dtype::{CastOptions, DataType};
 use crate::error::PlanError;
-use crate::text::PlSmallStr;
 use crate::field::Field;
+use crate::text::PlSmallStr;
 use crate::value::{Parts, Value};
 use std::alloc::{AllocError, AllocFailed, Global};
 use thiserror::Error;
@@ -118,7 +118,7 @@ fn is_written(dtype: &DataType) -> bool
 /// The value in another type, where the cast has one for it. Null stays null. Texts are read as an optional sign and
 /// digits, and numbers and truth values are written; times are counted in the target's unit and rounded down.
 #[cycle(value_casts)]
-#[tactic(auto, using(crate::proofs::PartLemmas::list_values, crate::proofs::PartLemmas::struct_values))]
+#[tactic(auto, using(crate::proofs::PartLemmas::list_values))]
 pub fn cast_value(
     alloc: Global,
     value: &Value,

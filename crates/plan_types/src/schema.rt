@@ -120,6 +120,15 @@ impl Schema {
         Ok(before)
     }
 
+    // `with_column`, without the type before.
+    fn put(&mut self, name: PlSmallStr, dtype: DataType) -> Result<(), PlanError>
+        ensures ok { OnOk result (columns self.new ≡ with_column (columns self.old) name (ty dtype)) }
+        ensures err { IfErr result (λ error. error ≡ no_memory) }
+    {
+        let _before = self.with_column(name, dtype)?;
+        Ok(())
+    }
+
     /// Puts a new column at that place; the later ones move.
     pub fn insert_at_index(
         &mut self,
@@ -213,7 +222,7 @@ impl Schema {
                 (Some((name, left)), Some((_name, right))) => {
                     let common = try_get_supertype(alloc, left, right)?;
                     let name = name.try_clone(alloc)?;
-                    merged.with_column(name, common)?;
+                    merged.put(name, common)?;
                 }
                 _ => return Err(PlanError::at_top(ErrorKind::SchemaMismatch)),
             }
@@ -229,7 +238,7 @@ impl Schema {
         for (name, dtype) in self.fields.iter() {
             let name = name.try_clone(alloc)?;
             let dtype = dtype.try_clone(alloc)?;
-            copy.with_column(name, dtype)?;
+            copy.put(name, dtype)?;
         }
         Ok(copy)
     }

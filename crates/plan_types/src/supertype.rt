@@ -282,13 +282,16 @@ fn signed_upcast(signed: &DataType, unsigned: &DataType) -> Option<DataType>
     requires unsigned { is_signed_integer (ty unsigned.now) ≡ false }
     ensures { option_map ty result ≡ signed_above (width_of (ty signed.now)) (width_of (ty unsigned.now)) }
 {
-    if signed.width() > unsigned.width() {
-        return integer_copy(signed);
-    }
-    match unsigned.width() {
-        8 => Some(DataType::Int16),
-        16 => Some(DataType::Int32),
-        32 => Some(DataType::Int64),
-        _wider => None,
+    let width = unsigned.width();
+    if signed.width() > width {
+        integer_copy(signed)
+    } else if width == 8 {
+        Some(DataType::Int16)
+    } else if width == 16 {
+        Some(DataType::Int32)
+    } else if width == 32 {
+        Some(DataType::Int64)
+    } else {
+        None
     }
 }

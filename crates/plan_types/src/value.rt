@@ -6,8 +6,8 @@ ghost use Rattle.plan_types.specs.ValueViews.{val_of, values_in};
 ghost use Rattle.plan_types.specs.Values.{fits, items_fit, parts_fit};
 
 use crate::dtype::DataType;
-use crate::field::Field;
 use crate::error::PlanError;
+use crate::field::Field;
 use crate::text::PlSmallStr;
 use std::alloc::Global;
 

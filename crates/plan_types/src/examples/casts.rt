@@ -12,7 +12,7 @@ ghost use Rattle.plan_types.specs.declared.dtype.CastOptions.TheVariants.{Strict
 ghost use Rattle.plan_types.specs.declared.dtype.TimeUnit.TheVariants.{Nanoseconds, Milliseconds};
 ghost use Rattle.plan_types.specs.declared.dtype.DataType.TheVariants.{Null, Boolean, Int8, Int16, Int32, Int64, UInt8, UInt16, UInt32, UInt64, String, Date, Time, Datetime, Duration};
 
-/// Which types there is a cast to: those of the table, each type to itself among them.
+/// Which types there is a cast to: each type to itself among them.
 pub fn cast_pairs()
     ensures own_type { (unit : TimeUnit) → list_all (λ type. can_cast (ty type) (ty type)) (Null ∷ Boolean ∷ Int8 ∷ Int16 ∷ Int32 ∷ Int64 ∷ UInt8 ∷ UInt16 ∷ UInt32 ∷ UInt64 ∷ String ∷ Date ∷ Time ∷ Datetime unit ∷ Duration unit ∷ []) ≡ true }
     ensures null { (unit : TimeUnit) → list_all (can_cast (ty Null)) (map ty (Null ∷ Boolean ∷ Int8 ∷ Int16 ∷ Int32 ∷ Int64 ∷ UInt8 ∷ UInt16 ∷ UInt32 ∷ UInt64 ∷ String ∷ Date ∷ Time ∷ Datetime unit ∷ Duration unit ∷ [])) ≡ true }

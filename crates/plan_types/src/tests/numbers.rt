@@ -148,7 +148,13 @@ fn numbers_beside_integers_stay_or_have_the_least_type(rt: HostRuntime) -> Resul
 
 #[test]
 fn numbers_beside_other_operands_have_their_type_alone(rt: HostRuntime) -> Result<(), Fail> {
-    for beside in [DataType::Boolean, untyped(7)] {
+    for beside in [
+        DataType::Boolean,
+        DataType::String,
+        DataType::Null,
+        DataType::Date,
+        untyped(7),
+    ] {
         for (number, want) in [
             (1, Some(DataType::Int32)),
             (2147483648, Some(DataType::Int64)),
@@ -186,6 +192,8 @@ fn operands_have_a_common_type(rt: HostRuntime) -> Result<(), Fail> {
             DataType::UInt64,
         ),
         (DataType::Boolean, untyped(1), DataType::Int32),
+        (DataType::String, untyped(1), DataType::String),
+        (DataType::Null, untyped(1), DataType::Int32),
         (untyped(1), untyped(2), DataType::Int32),
         (untyped(1), untyped(-2147483649), DataType::Int64),
         (DataType::Int8, DataType::UInt8, DataType::Int16),
@@ -217,6 +225,8 @@ fn operands_without_a_common_type_are_refused(rt: HostRuntime) -> Result<(), Fai
             untyped(18446744073709551616),
             ErrorKind::InvalidOperation,
         ),
+        (DataType::Date, untyped(1), ErrorKind::SchemaMismatch),
+        (DataType::String, DataType::Date, ErrorKind::SchemaMismatch),
         (
             DataType::Boolean,
             untyped(18446744073709551616),

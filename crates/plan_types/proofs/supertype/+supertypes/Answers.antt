@@ -1,9 +1,8 @@
 use Rattle.std.specs.Option.{option_map}
 use Rattle.std.proofs.lemmas.Bool.{not-true, not-false}
-use Rattle.std.proofs.lemmas.List.{get_or_default}
 use Rattle.plan_types.specs.Types.{fields_of, ty}
 use Rattle.plan_types.specs.declared.field.Field.{Field}
-use Rattle.std.proofs.Common.{◌<◌, ◌+◌, ◌≡◌, suc, get_or, length, sym, ap, ◌∙◌, refl, arith}
+use Rattle.std.proofs.Common.{◌<◌, ◌+◌, suc, length, sym, ap, ◌∙◌, refl, arith}
 use Rattle.plan_types.proofs.SuperFieldLemmas.{super_start, super_step, super_end, other_name, no_common, fields_apart, struct_common}
 use Rattle.plan_types.proofs.supertype.+supertypes.Goals as goal
 

@@ -1,7 +1,5 @@
 use Rattle.std.proofs.Common.{sym, ap, ◌∙◌}
 use Rattle.plan_types.specs.Types.{ListType, StructType, fields_in, ty}
-use Rattle.plan_types.specs.Values.{parts_fit}
-use Rattle.plan_types.specs.ValueViews.{values_in}
 use Rattle.plan_types.proofs.FieldLemmas.{listed_fields}
 use Rattle.plan_types.proofs.FittingLemmas.{list_fits, struct_fits, parts_apart}
 use Rattle.plan_types.proofs.value.+fitting.Goals as goal

@@ -8,4 +8,4 @@ pub loop-name-preserved : goal.loop-name-preserved
 loop-name-preserved c =
     let distinct = HasDistinctNames-entries c.args.self.now.fields.entries c.iter-name-items.ensures.unique in
     let before = ap (λ l. columns c.loop-name.copy ++ map column_of l) (sym c.in-Some.ensures.steps) ∙ c.loop-name.invariant in
-    rw (c.in_ok-with_column.ensures.ok, c.in_ok-name.ensures.ok, c.in_ok-dtype.ensures.ok) (copied_more (columns c.loop-name.copy) (c.in-Some.name.now, ty c.in-Some.dtype.now) (map column_of c.next.new.self) _ distinct before)
+    rw (c.in_ok-put.ensures.ok, c.in_ok-name.ensures.ok, c.in_ok-dtype.ensures.ok) (copied_more (columns c.loop-name.copy) (c.in-Some.name.now, ty c.in-Some.dtype.now) (map column_of c.next.new.self) _ distinct before)

@@ -24,7 +24,7 @@ returns-in_default-clause-err c =
 
 pub loop-number-preserved : goal.loop-number-preserved
 loop-number-preserved c =
-    merging_step (columns c.args.self.now) (columns c.args.other.now) (columns c.loop-number.merged) _ c.loop-number.number _ (c.in-Some-Some.name.now, ty c.in-Some-Some.left.now) (c.in-Some-Some._name.now, ty c.in-Some-Some.right.now) (ty c.in_ok-common-in-Some-Some.common) c.len-number-end.ensures.distinct (sym c.in-Some-Some.ensures) (sym c.in-Some-Some.ensures') c.in_ok-common-in-Some-Some.ensures.ok (omega arith) (rw (c.in_ok-name-in-Some-Some.ensures.ok) at c.in_ok-with_column-in-Some-Some.ensures.ok) c.loop-number.invariant
+    merging_step (columns c.args.self.now) (columns c.args.other.now) (columns c.loop-number.merged) _ c.loop-number.number _ (c.in-Some-Some.name.now, ty c.in-Some-Some.left.now) (c.in-Some-Some._name.now, ty c.in-Some-Some.right.now) (ty c.in_ok-common-in-Some-Some.common) c.len-number-end.ensures.distinct (sym c.in-Some-Some.ensures) (sym c.in-Some-Some.ensures') c.in_ok-common-in-Some-Some.ensures.ok (omega arith) (rw (c.in_ok-name-in-Some-Some.ensures.ok) at c.in_ok-put-in-Some-Some.ensures.ok) c.loop-number.invariant
 
 pub returns-clause-ok : goal.returns-clause-ok
 returns-clause-ok c =
