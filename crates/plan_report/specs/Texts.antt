@@ -1,5 +1,5 @@
 -- Texts of names, types, schemas, places and kinds.
-use Rattle.std.specs.Prelude.{ℕ, true, false, List, [], ◌∷◌, ◌++◌, codes, decimal, flat_map, encode_utf8_all}
+use Rattle.std.specs.Prelude.{ℕ, zero, suc, true, false, List, [], ◌∷◌, ◌++◌, codes, decimal, flat_map, encode_utf8_all}
 use Rattle.std.specs.List.{join_by}
 use Rattle.serde_json.specs.Data.{string}
 use Rattle.serde_json.specs.Written.{compact_text}
@@ -57,6 +57,11 @@ type_text type = variant_text type ++ parts_text type
 
 abbrev pub field_text : Name × Ty → List ℕ
 field_text column = name_text column.0 ++ codes " " ++ type_text column.1
+
+-- what stands before the field of that number
+abbrev pub separator : ℕ → List ℕ
+separator zero = []
+separator (suc before) = codes ", "
 
 abbrev pub schema_text : Columns → List ℕ
 schema_text columns = in_parentheses (join_by field_text (codes ", ") columns)

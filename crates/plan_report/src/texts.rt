@@ -4,7 +4,7 @@ ghost use Rattle.serde_json.specs.Data.{string};
 ghost use Rattle.serde_json.specs.Written.{compact_text};
 ghost use Rattle.plan_types.specs.Schemas.{columns};
 ghost use Rattle.plan_types.specs.Types.{field_of, ty};
-ghost use Rattle.plan_report.specs.Texts.{name_text, in_parentheses, unit_text, variant_text, type_text, field_text, schema_text, path_text, error_kind_text};
+ghost use Rattle.plan_report.specs.Texts.{name_text, in_parentheses, unit_text, variant_text, type_text, field_text, separator, schema_text, path_text, error_kind_text};
 
 use plan_types::dtype::{DataType, TimeUnit};
 use plan_types::error::ErrorKind;
@@ -139,6 +139,16 @@ pub(crate) fn push_type(
     }
 }
 
+/// Appends what stands before the field of that number.
+fn push_separator(text: &mut String, number: usize) -> Result<(), AllocError>
+    ensures { OnOk result (string_bytes text.new ≡ string_bytes text.old ++ separator number) }
+{
+    if number > 0 {
+        text.push_str(", ")?;
+    }
+    Ok(())
+}
+
 /// Appends a column's name and type.
 #[cycle(type_texts)]
 pub(crate) fn push_field(
@@ -161,9 +171,7 @@ fn push_fields(alloc: Global, text: &mut String, fields: &[Field]) -> Result<(),
 {
     text.push_str("(")?;
     for index in 0..fields.len() {
-        if index > 0 {
-            text.push_str(", ")?;
-        }
+        push_separator(text, index)?;
         let field = &fields[index];
         push_field(alloc, text, &field.name, &field.dtype)?;
     }
@@ -180,9 +188,7 @@ pub(crate) fn push_schema(
 {
     text.push_str("(")?;
     for index in 0..schema.len() {
-        if index > 0 {
-            text.push_str(", ")?;
-        }
+        push_separator(text, index)?;
         if let Some((name, dtype)) = schema.get_at_index(index) {
             push_field(alloc, text, name, dtype)?;
         }

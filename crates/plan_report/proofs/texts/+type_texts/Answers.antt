@@ -1,19 +1,13 @@
-use Rattle.std.proofs.Common.{map, ap, ◌∙◌, codes, ◌++◌, string_bytes, inl, inr}
+use Rattle.std.proofs.Common.{map, ap, ◌∙◌, ◌++◌, string_bytes}
 use Rattle.plan_types.specs.Types.{field_of}
 use Rattle.plan_report.specs.Texts.{field_text}
-use Rattle.plan_report.proofs.TextLemmas.{IsSeparated, item_at, joined_more, struct_pushed}
+use Rattle.plan_report.proofs.TextLemmas.{item_at, joined_more, struct_pushed}
 use Rattle.plan_report.proofs.texts.+type_texts.Goals as goal
-use Rattle.plan_report.proofs.texts.+type_texts.Goals.{push_fields-then-index-gt0+in_ok-push_str-2, push_fields-else-index-gt0}
 
 pub push_fields-loop-index-preserved : goal.push_fields-loop-index-preserved
 push_fields-loop-index-preserved t c =
-    let apart : IsSeparated c.loop-index.index (codes ", ") (string_bytes c.loop-index.text) (string_bytes c.if-index-gt0.text) =
-    elim c.if-index-gt0.branch [
-      | push_fields-then-index-gt0+in_ok-push_str-2 w ↦ inr (w.if-index-gt0.true, ap string_bytes w.text-is ∙ w.in_ok-push_str-2.ensures.bytes)
-      | push_fields-else-index-gt0 w ↦ inl (w.if-index-gt0.false, ap string_bytes w.text-is)
-    ] in
     let at = item_at field_of c.args.fields.now c.loop-index.index _ c.loop-index-test.true c.index-fields-index.is in
-    joined_more field_text (codes ", ") _ (map field_of c.args.fields.now) c.loop-index.index _ _ _ _ at c.loop-index.invariant apart c.in_ok-push_field.ensures
+    joined_more field_text _ (map field_of c.args.fields.now) c.loop-index.index _ _ _ _ at c.loop-index.invariant c.in_ok-push_separator.ensures c.in_ok-push_field.ensures
 
 pub push_type-returns-in-Struct : goal.push_type-returns-in-Struct
 push_type-returns-in-Struct t c =
