@@ -70,7 +70,7 @@ abbrev pub duration_type : TimeUnit → Ty
 duration_type unit = DurationType unit
 
 abbrev pub list_type : Ty → Ty
-list_type item = ListType item
+list_type items = ListType items
 
 abbrev pub struct_type : Fields → Ty
 struct_type fields = StructType fields
