@@ -154,15 +154,36 @@ fn tells_faults_in_types_with_types(rt: HostRuntime) -> Result<(), Fail> {
         ("{\"List\":\"int8\"}", "Shape /tables/0/columns/0/1/List"),
         ("{\"List\":[\"Int8\"]}", "Shape /tables/0/columns/0/1/List"),
         ("{\"List\":1.5}", "Float /tables/0/columns/0/1/List"),
-        ("{\"List\":{\"Datetime\":\"s\"}}", "Shape /tables/0/columns/0/1/List/Datetime"),
+        (
+            "{\"List\":{\"Datetime\":\"s\"}}",
+            "Shape /tables/0/columns/0/1/List/Datetime",
+        ),
         ("{\"Struct\":{}}", "Shape /tables/0/columns/0/1/Struct"),
         ("{\"Struct\":1.5}", "Float /tables/0/columns/0/1/Struct"),
-        ("{\"Struct\":[null]}", "Shape /tables/0/columns/0/1/Struct/0"),
-        ("{\"Struct\":[[\"a\"]]}", "Shape /tables/0/columns/0/1/Struct/0"),
-        ("{\"Struct\":[[\"a\",\"Date\",null]]}", "Shape /tables/0/columns/0/1/Struct/0"),
-        ("{\"Struct\":[[7,\"Date\"]]}", "Shape /tables/0/columns/0/1/Struct/0/0"),
-        ("{\"Struct\":[[0.5,\"Date\"]]}", "Float /tables/0/columns/0/1/Struct/0/0"),
-        ("{\"Struct\":[[\"a\",\"List\"]]}", "Shape /tables/0/columns/0/1/Struct/0/1"),
+        (
+            "{\"Struct\":[null]}",
+            "Shape /tables/0/columns/0/1/Struct/0",
+        ),
+        (
+            "{\"Struct\":[[\"a\"]]}",
+            "Shape /tables/0/columns/0/1/Struct/0",
+        ),
+        (
+            "{\"Struct\":[[\"a\",\"Date\",null]]}",
+            "Shape /tables/0/columns/0/1/Struct/0",
+        ),
+        (
+            "{\"Struct\":[[7,\"Date\"]]}",
+            "Shape /tables/0/columns/0/1/Struct/0/0",
+        ),
+        (
+            "{\"Struct\":[[0.5,\"Date\"]]}",
+            "Float /tables/0/columns/0/1/Struct/0/0",
+        ),
+        (
+            "{\"Struct\":[[\"a\",\"List\"]]}",
+            "Shape /tables/0/columns/0/1/Struct/0/1",
+        ),
         (
             "{\"Struct\":[[\"a\",\"Date\"],[\"b\",{\"List\":null}]]}",
             "Shape /tables/0/columns/0/1/Struct/1/1/List",

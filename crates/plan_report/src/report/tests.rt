@@ -273,7 +273,10 @@ fn names_types_of_lists(rt: HostRuntime) -> Result<(), Fail> {
     assert_eq!(rt; text.as_str(), ". df (\"x\" List(Int64))\ncasts 0\n");
     let inner = list_of(alloc, DataType::Duration(TimeUnit::Microseconds))?;
     let text = reported(alloc, list_of(alloc, inner)?)?;
-    assert_eq!(rt; text.as_str(), ". df (\"x\" List(List(Duration(us))))\ncasts 0\n");
+    assert_eq!(rt;
+        text.as_str(),
+        ". df (\"x\" List(List(Duration(us))))\ncasts 0\n"
+    );
     Ok(())
 }
 
