@@ -1,8 +1,7 @@
 -- Answers from what their parts say.
-use Rattle.std.proofs.Common.{refl, sym, ap, subst, ◌∙◌, ◌≡◌, ◌↔◌, ℕ, zero, suc, ◌<◌, ◌≤◌, List, [], ◌∷◌, Bool, true, false, IsTrue, Option, Some, length, get_or, codes, string_bytes, String, arith}
+use Rattle.std.proofs.Common.{sym, ap, subst, ◌∙◌, ◌≡◌, ◌↔◌, ℕ, zero, suc, ◌<◌, List, [], ◌∷◌, Bool, true, false, IsTrue, Option, Some, length, get_or, codes, string_bytes, String, arith}
 use Rattle.std.specs.Global.{Global}
 use Rattle.std.specs.Str.{chars, IsUtf8, bytes_eq}
-use Rattle.std.specs.Option.{IfSome}
 use Rattle.std.specs.Str.{IsAscii}
 use Rattle.std.proofs.lemmas.Str.{IsUtf8-from_ascii, chars-IsAscii}
 use Rattle.std.proofs.lemmas.Str.Ascii.{IsAscii-from_all}

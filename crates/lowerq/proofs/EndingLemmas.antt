@@ -4,22 +4,21 @@ use Rattle.std.specs.Option.{IfSome}
 use Rattle.std.specs.Io.KnownBytes.{Appends}
 use Rattle.byte_streams.specs.declared.stream.TheConstants.{INPUT_LIMIT}
 use Rattle.plan_types.specs.Schemas.{Name}
-use Rattle.plan_types.specs.declared.error.ErrorKind.{ErrorKind}
 use Rattle.plan_types.specs.declared.error.ErrorKind.TheVariants as kinds
 use Rattle.plan_types.specs.declared.error.PlanError.{PlanError}
 use Rattle.plan_dsl.specs.Plans.{Plan}
-use Rattle.plan_dsl.specs.PlanRules.{IsWellFormed, Breaks}
+use Rattle.plan_dsl.specs.PlanRules.{IsWellFormed}
 use Rattle.plan_dsl.specs.Registry.{Registry}
-use Rattle.plan_report.specs.Report.{report_text, refusal_text}
+use Rattle.plan_report.specs.Report.{refusal_text}
 use Rattle.plan_arena.specs.declared.plan.IRPlan.{IRPlan}
-use Rattle.plan_lower.specs.Lowering.{IsLoweringOf, IsPlanRefusal, out_of_memory, broken}
-use Rattle.plan_json.specs.Bytes.{WritesQuery, IsRefusalOf}
+use Rattle.plan_lower.specs.Lowering.{IsPlanRefusal, out_of_memory, broken}
+use Rattle.plan_json.specs.Bytes.{WritesQuery}
 use Rattle.plan_json.specs.Queries.{QueryModel}
 use Rattle.plan_json.specs.declared.error.JsonError.{JsonError}
 use Rattle.plan_json.specs.declared.error.JsonError.TheVariants as json
 use Rattle.plan_json.proofs.QueryLaws.{writes_one_query, refused_query_is_memory}
 use Rattle.lowerq.specs.Answers.{IsAnswer, IsQueryAnswer, IsPlanAnswer, lowered, refused, planned, bad, usage, read, too_long, read_fault, no_memory, right_words, bad_query_text}
-use Rattle.lowerq.specs.Endings.{IsInput, SaysLowered, SaysRefused, SaysUsage, SaysBadQuery, SaysTooLong, SaysWriteFault, IsFault, IsExcused, Ends, IsRefused, IsBadQuery, UsageCalledFor, TooLongCalledFor, BadQueryCalledFor, RefusalCalledFor, LoweringCalledFor, IsComplete, IsOfInput}
+use Rattle.lowerq.specs.Endings.{IsInput, SaysLowered, SaysRefused, SaysUsage, SaysBadQuery, SaysTooLong, IsFault, IsExcused, Ends, IsRefused, IsBadQuery, UsageCalledFor, TooLongCalledFor, BadQueryCalledFor, RefusalCalledFor, LoweringCalledFor, IsComplete, IsOfInput}
 use Rattle.lowerq.specs.declared.status.Done.{Done}
 use Rattle.lowerq.specs.declared.status.Status.{Status}
 use Rattle.lowerq.specs.declared.status.Status.TheVariants as status

@@ -1,6 +1,6 @@
 -- What the status of a run says of the words, the input, the plan and the bytes written; and which status
 -- words and an input call for, where memory doesn't run out and no read or write fails.
-use Rattle.std.specs.Prelude.{◌≡◌, ◌⊎◌, ℕ, ◌+◌, ◌<◌, ◌≤◌, List, [], length, take, Option, Some, None, IfSome}
+use Rattle.std.specs.Prelude.{◌≡◌, ◌⊎◌, ℕ, ◌+◌, ◌<◌, ◌≤◌, List, length, take, Option, Some, IfSome}
 use Rattle.std.specs.Io.KnownBytes.{Appends}
 use Rattle.byte_streams.specs.Reading.{Took}
 use Rattle.byte_streams.specs.declared.stream.TheConstants.{INPUT_LIMIT}

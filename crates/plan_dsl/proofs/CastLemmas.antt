@@ -25,7 +25,7 @@ use Rattle.plan_dsl.specs.Kernels.{Meaning, cast_meaning}
 use Rattle.plan_dsl.specs.Meaning.{meaning, node_meaning, taken_meaning}
 use Rattle.plan_dsl.proofs.TypingLemmas.{ok_where}
 use Rattle.plan_dsl.proofs.OperatorLemmas.{operator_stay}
-use Rattle.plan_dsl.proofs.LiteralLemmas.{untyped_is_number, literal_means, literal_typing, becomes_literal, number_cast}
+use Rattle.plan_dsl.proofs.LiteralLemmas.{untyped_is_number, typed_known, literal_means, literal_typing, becomes_literal, number_cast}
 use Rattle.plan_dsl.specs.Strictness.{CanBecome, changed, as_operand}
 
 pub or_false : (b : Bool) → (b || false) ≡ b
@@ -121,7 +121,7 @@ has_number number target can = (and_parts (is_integer target) (in_range target n
 module _ (registry : Registry) (schema : Columns) (target : Ty) (t : Expression) (many : Bool) where
   changed_typing : (from : Ty) → typing registry schema t ≡ Ok (record { type = from; many = many }) → CanBecome from target → typing registry schema (changed from target t) ≡ Ok (record { type = target; many = many })
   changed_typing (Untyped number) typed can = number_typing registry schema number target t many typed can.known (has_number number target can)
-  changed_typing from typed can = cast_typing registry schema from target t many typed refl (can.casts refl)
+  changed_typing from typed can = cast_typing registry schema from target t many typed (typed_known registry schema t from many typed (λ number e. cc)) (can.casts (λ number e. cc))
 
   changed_name : (from : Ty) → typing registry schema t ≡ Ok (record { type = from; many = many }) → CanBecome from target → name_of (changed from target t) ≡ name_of t
   changed_name (Untyped number) typed can = number_name registry schema number target t many typed can.known (has_number number target can)
@@ -129,7 +129,8 @@ module _ (registry : Registry) (schema : Columns) (target : Ty) (t : Expression)
 
   changed_means : (from : Ty) → typing registry schema t ≡ Ok (record { type = from; many = many }) → CanBecome from target → (rows : List Row) → meaning registry (record { schema = schema; rows = rows }) (changed from target t) ≡ cast_meaning from target NonStrict (meaning registry (record { schema = schema; rows = rows }) t)
   changed_means (Untyped number) typed can rows = number_means registry schema number target t many typed can.known (has_number number target can) (record { schema = schema; rows = rows })
-  changed_means from typed can rows = cast_means registry schema from target t many typed refl (can.casts refl) (record { schema = schema; rows = rows }) refl
+  changed_means from typed can rows =
+      cast_means registry schema from target t many typed (typed_known registry schema t from many typed (λ number e. cc)) (can.casts (λ number e. cc)) (record { schema = schema; rows = rows }) refl
 
 module _ (registry : Registry) (schema : Columns) (from target : Ty) (t : Expression) (many : Bool) (typed : typing registry schema t ≡ Ok (record { type = from; many = many })) (can : CanBecome from target) where
   -- the operand as it is taken: of the type, with its name, and cast in its meaning

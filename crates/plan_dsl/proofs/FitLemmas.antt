@@ -3,11 +3,11 @@
 -- types to which it takes them.
 use Rattle.std.proofs.Common.{◌≡◌, ℕ, zero, suc, Bool, true, false, ◌||◌, cond, List, [], ◌∷◌, length, replicate, Option, Some, None, Result, Ok, Err, IsTrue, refl, sym, ap, ◌∙◌, subst, arith}
 use Rattle.std.proofs.lemmas.Bool.{and_parts, and_from, or_parts}
-use Rattle.plan_types.specs.Types.{Ty, is_known, same_type}
+use Rattle.plan_types.specs.Types.{Ty, Untyped, is_known, same_type}
 use Rattle.plan_types.specs.TypeLaws.{same_type_exact}
 use Rattle.plan_types.specs.Schemas.{Name, type_at}
 use Rattle.plan_types.specs.CommonTypes.{type_alone}
-use Rattle.plan_types.specs.Values.{Val, NullValue, fits, all_fit}
+use Rattle.plan_types.specs.Values.{Val, NullValue, IntValue, fits, all_fit}
 use Rattle.plan_types.specs.Outcomes.{Outcome, Done, Meets, then_do}
 use Rattle.plan_types.specs.Casts.{Converted, Gives, Fails, can_cast, cast}
 use Rattle.plan_types.specs.Frames.{Frame, IsFrame}
@@ -15,7 +15,7 @@ use Rattle.plan_types.specs.declared.error.ErrorKind.{ErrorKind}
 use Rattle.plan_types.specs.declared.error.ErrorKind.TheVariants.{InvalidOperation}
 use Rattle.plan_types.specs.declared.dtype.CastOptions.{CastOptions}
 use Rattle.plan_types.specs.declared.dtype.CastOptions.TheVariants.{NonStrict}
-use Rattle.plan_types.proofs.ValueLemmas.{meets_then, meets_as, ConvertedFits, cast_fits, column_fits}
+use Rattle.plan_types.proofs.ValueLemmas.{meets_then, meets_as, ConvertedFits, cast_fits, number_to_fits, column_fits}
 use Rattle.plan_dsl.specs.declared.operator.Operator.{Operator}
 use Rattle.plan_dsl.specs.Operators.{operator_value}
 use Rattle.plan_dsl.specs.Registry.{Registry}
@@ -26,8 +26,10 @@ use Rattle.plan_dsl.specs.Typing.{Typed, column_type, literal_taken, cast_taken,
 use Rattle.plan_dsl.specs.OperatorTypes.{Taken, operator_types}
 use Rattle.plan_dsl.specs.Kernels.{Meaning, cast_values, cast_meaning, common_length, stretched, at_each, at_length, operator_values, value_before, kernel}
 use Rattle.plan_dsl.specs.Meaning.{meaning, meaning_all, node_meaning, taken_meaning, taken_to}
+use Rattle.plan_dsl.specs.Strictness.{CanBecome}
 use Rattle.plan_dsl.specs.Laws.{AreOf}
 use Rattle.plan_dsl.proofs.CastLemmas.{or_false}
+use Rattle.plan_dsl.proofs.OperandLemmas.{AllBecome, op_becomes}
 use Rattle.plan_dsl.proofs.TypingLemmas.{ok_same, ok_where, by_children, by_no_children}
 use Rattle.plan_dsl.proofs.OperatorLemmas.{TakesOperands, operands_taken}
 
@@ -50,6 +52,17 @@ retyped (t ∷ ts) (target ∷ targets) = record { type = target; many = t.many 
 
 -- ---- casts
 
+-- values that fit the type and are cast fit the target
+abbrev CastFits : Ty → Ty → CastOptions → Type 0
+CastFits from target options = (value : Val) → fits value from ≡ true → ConvertedFits target (cast value from target options)
+
+-- so do those of an operand that can become one of the target
+become_fits : (from target : Ty) → CanBecome from target → CastFits from target NonStrict
+become_fits (Untyped number) target can NullValue fit = refl
+become_fits (Untyped number) target can (IntValue other) fit = number_to_fits (Untyped number) other target NonStrict
+become_fits (Untyped number) target can _ fit = cc
+become_fits from target can value fit = cast_fits value from target NonStrict fit (can.casts (λ number e. cc))
+
 -- a column that is cast: as many values, which fit
 record AreCast (target : Ty) (count : ℕ) (values : List Val) : Type 0 where
   pub fitting : IsTrue (all_fit values target)
@@ -60,24 +73,25 @@ before_fits target count Fails rest h r = tt
 before_fits target count (Gives value) rest h r =
     meets_then (AreCast target count) (AreCast target (suc count)) rest (λ values. Done (value ∷ values)) r (λ values of. record { fitting = and_from (fits value target) (all_fit values target) h of.fitting; as_many = ap suc of.as_many })
 
-cast_values_fit : (from target : Ty) (options : CastOptions) (values : List Val) → IsTrue (all_fit values from) → Meets (AreCast target (length values)) (cast_values from target options values)
-cast_values_fit from target options [] h = record { fitting = refl; as_many = refl }
-cast_values_fit from target options (value ∷ values) h =
+cast_values_fit : (from target : Ty) (options : CastOptions) (values : List Val) → CastFits from target options → IsTrue (all_fit values from) → Meets (AreCast target (length values)) (cast_values from target options values)
+cast_values_fit from target options [] each h = record { fitting = refl; as_many = refl }
+cast_values_fit from target options (value ∷ values) each h =
     let parts = and_parts (fits value from) (all_fit values from) h in
-    before_fits target (length values) (cast value from target options) (cast_values from target options values) (cast_fits value from target options) (cast_values_fit from target options values parts.1)
+    before_fits target (length values) (cast value from target options) (cast_values from target options values) (each value parts.0) (cast_values_fit from target options values each parts.1)
 
 -- a cast of what has a type has the target's
-pub cast_means : (from target : Ty) (options : CastOptions) (many : Bool) (input : Meaning) → MeansType (record { type = from; many = many }) input → MeansType (record { type = target; many = many }) (cast_meaning from target options input)
-cast_means from target options many input h rows =
-    elim (same_type from target) as (λ b. same_type from target ≡ b → Meets (AreOf (record { type = target; many = many })) (cond b input (λ rows. then_do (input rows) (cast_values from target options)) rows)) [ true ↦ λ e. subst (λ t. Meets (AreOf (record { type = t; many = many })) (input rows)) (same_type_exact from target e) (h rows) | false ↦ λ e. meets_then (AreOf (record { type = from; many = many })) (AreOf (record { type = target; many = many })) (input rows) (cast_values from target options) (h rows) (λ values of. meets_as (AreCast target (length values)) (AreOf (record { type = target; many = many })) (cast_values from target options values) (cast_values_fit from target options values of.fitting) (λ found made. record { fitting = made.fitting; single = λ one. made.as_many ∙ of.single one })) ] refl
+pub cast_means : (from target : Ty) (options : CastOptions) (many : Bool) (input : Meaning) → CastFits from target options → MeansType (record { type = from; many = many }) input → MeansType (record { type = target; many = many }) (cast_meaning from target options input)
+cast_means from target options many input each h rows =
+    elim (same_type from target) as (λ b. same_type from target ≡ b → Meets (AreOf (record { type = target; many = many })) (cond b input (λ rows. then_do (input rows) (cast_values from target options)) rows)) [ true ↦ λ e. subst (λ t. Meets (AreOf (record { type = t; many = many })) (input rows)) (same_type_exact from target e) (h rows) | false ↦ λ e. meets_then (AreOf (record { type = from; many = many })) (AreOf (record { type = target; many = many })) (input rows) (cast_values from target options) (h rows) (λ values of. meets_as (AreCast target (length values)) (AreOf (record { type = target; many = many })) (cast_values from target options values) (cast_values_fit from target options values each of.fitting) (λ found made. record { fitting = made.fitting; single = λ one. made.as_many ∙ of.single one })) ] refl
 
 -- operands that are taken have the types to which they are taken
-taken_mean : (typed : List Typed) (targets : List Ty) (operands : List Meaning) → AllMean typed operands → AllMean (retyped typed targets) (taken_to (types_of typed) targets operands)
-taken_mean [] targets [] h = tt
-taken_mean [] targets (m ∷ ms) h = absurd h
-taken_mean (t ∷ ts) [] operands h = tt
-taken_mean (t ∷ ts) (target ∷ targets) [] h = absurd h
-taken_mean (t ∷ ts) (target ∷ targets) (m ∷ ms) h = (cast_means t.type target NonStrict t.many m h.0, taken_mean ts targets ms h.1)
+taken_mean : (typed : List Typed) (targets : List Ty) (operands : List Meaning) → AllBecome (types_of typed) targets → AllMean typed operands → AllMean (retyped typed targets) (taken_to (types_of typed) targets operands)
+taken_mean [] targets [] b h = tt
+taken_mean [] targets (m ∷ ms) b h = absurd h
+taken_mean (t ∷ ts) [] operands b h = tt
+taken_mean (t ∷ ts) (target ∷ targets) [] b h = absurd h
+taken_mean (t ∷ ts) (target ∷ targets) (m ∷ ms) b h =
+    (cast_means t.type target NonStrict t.many m (become_fits t.type target b.0) h.0, taken_mean ts targets ms b.1 h.1)
 
 -- ---- operators
 
@@ -142,16 +156,17 @@ literal_node_means frame type value taken takes operands h rows =
     let fit = and_from (fits value type) true (literal_fits type value parts.0) refl in
     record { fitting = subst (λ (t : Taken). IsTrue (all_fit (value ∷ []) t.type)) p.1 fit; single = λ one. refl }
 
-cast_node_means : (frame : Frame) (target : Ty) (options : CastOptions) (from : Typed) (operands : List Meaning) → AllMean (from ∷ []) operands → MeansType (record { type = target; many = is_many (CastOp target options) (from ∷ []) }) (kernel frame (CastOp target options) (from.type ∷ []) target operands)
-cast_node_means frame target options from [] h rows = absurd h
-cast_node_means frame target options from (m ∷ []) h rows =
-    subst (λ many. Meets (AreOf (record { type = target; many = many })) (cast_meaning from.type target options m rows)) (sym (or_false from.many)) (cast_means from.type target options from.many m h.0 rows)
-cast_node_means frame target options from (m ∷ n ∷ ms) h rows = absurd h.1
+cast_node_means : (frame : Frame) (target : Ty) (options : CastOptions) (from : Typed) (operands : List Meaning) → can_cast from.type target ≡ true → AllMean (from ∷ []) operands → MeansType (record { type = target; many = is_many (CastOp target options) (from ∷ []) }) (kernel frame (CastOp target options) (from.type ∷ []) target operands)
+cast_node_means frame target options from [] casts h rows = absurd h
+cast_node_means frame target options from (m ∷ []) casts h rows =
+    subst (λ many. Meets (AreOf (record { type = target; many = many })) (cast_meaning from.type target options m rows)) (sym (or_false from.many)) (cast_means from.type target options from.many m (λ value fit. cast_fits value from.type target options fit casts) h.0 rows)
+cast_node_means frame target options from (m ∷ n ∷ ms) casts h rows = absurd h.1
 
 cast_mean : (frame : Frame) (target : Ty) (options : CastOptions) (from : Typed) (found : Option Ty) (taken : Taken) → cast_taken target found ≡ Ok taken → NodeMeans frame (CastOp target options) (from ∷ []) taken
 cast_mean frame target options from None taken takes operands h = cc
 cast_mean frame target options from (Some own) taken takes operands h =
-    subst (NodeMeans frame (CastOp target options) (from ∷ [])) (ok_where (can_cast own target) _ taken InvalidOperation takes).1 (cast_node_means frame target options (record { type = own; many = from.many })) operands h
+    let p = ok_where (can_cast own target) _ taken InvalidOperation takes in
+    subst (NodeMeans frame (CastOp target options) (from ∷ [])) p.1 (λ operands h. cast_node_means frame target options (record { type = own; many = from.many }) operands p.0 h) operands h
 
 operator_node_means : (frame : Frame) (operator : Operator) (left right : Typed) (types : List Ty) (type : Ty) (operands : List Meaning) → ((x y : Val) → IsTrue (fits x left.type) → IsTrue (fits y right.type) → IsTrue (fits (operator_value operator type x y) type)) → AllMean (left ∷ right ∷ []) operands → MeansType (record { type = type; many = is_many (BinaryOp operator) (left ∷ right ∷ []) }) (kernel frame (BinaryOp operator) types type operands)
 operator_node_means frame operator left right types type [] each h rows = absurd h
@@ -193,7 +208,7 @@ taken_means : (frame : Frame) (op : Op) (children : List Typed) (takes : Result 
 taken_means frame op children (Err kind) typed of takes h operands means = cc
 taken_means frame op children (Ok taken) typed of takes h operands means =
     let same = ok_same (typed_as (Ok taken) (is_many op children)) _ typed refl h in
-    subst (λ t. MeansType t (kernel frame op taken.operands taken.type (taken_to (types_of children) taken.operands operands))) same (op_means frame op children taken of takes (taken_to (types_of children) taken.operands operands) (taken_mean children taken.operands operands means))
+    subst (λ t. MeansType t (kernel frame op taken.operands taken.type (taken_to (types_of children) taken.operands operands))) same (op_means frame op children taken of takes (taken_to (types_of children) taken.operands operands) (taken_mean children taken.operands operands (op_becomes frame.schema op (types_of children) taken takes) means))
 
 node_means : (registry : Registry) (frame : Frame) (op : Op) (found : Result (List Typed) ErrorKind) (typed : Typed) → IsFrame frame → then_typed found (typing_rule registry frame.schema op) ≡ Ok typed → (operands : List Meaning) → ((children : List Typed) → found ≡ Ok children → AllMean children operands) → MeansType typed (node_meaning frame op found operands)
 node_means registry frame op (Err kind) typed of h operands means = cc

@@ -1,19 +1,19 @@
 -- Numbers without a type: which expressions they are, what they mean, and that strict expressions are none.
-use Rattle.std.proofs.Common.{◌≡◌, ◌∙◌, Bool, true, false, cond, List, [], ◌∷◌, Option, Some, None, is_some, Ok, Err, refl, sym, ap, subst}
+use Rattle.std.proofs.Common.{◌≡◌, ◌≢◌, ◌∙◌, Bool, true, false, cond, List, [], ◌∷◌, Option, Some, None, is_some, Ok, Err, refl, sym, ap, subst}
 use Rattle.std.specs.Prelude.{ℤ, unwrap_or}
 use Rattle.std.proofs.lemmas.Bool.{and_parts, and_from}
-use Rattle.plan_types.specs.Types.{Ty, NullType, Truth, Integer, TextType, Untyped, is_known}
+use Rattle.plan_types.specs.Types.{Ty, NullType, Truth, Integer, TextType, ListType, StructType, Untyped, Fields, no_field, with_field, are_known, is_known}
 use Rattle.plan_types.specs.Schemas.{Columns, type_at}
 use Rattle.plan_types.specs.Values.{Val, IntValue, in_range}
 use Rattle.plan_types.specs.Outcomes.{Done}
-use Rattle.plan_types.specs.Casts.{Gives, can_cast, no_place, out_of_range}
+use Rattle.plan_types.specs.Casts.{Gives, can_cast, can_cast_fields, no_place, out_of_range}
 use Rattle.plan_types.specs.CommonTypes.{type_alone}
 use Rattle.plan_types.specs.Frames.{Frame}
 use Rattle.plan_types.specs.declared.error.ErrorKind.TheVariants.{InvalidOperation}
 use Rattle.plan_types.specs.declared.dtype.CastOptions.{CastOptions}
 use Rattle.plan_types.specs.declared.dtype.CastOptions.TheVariants.{NonStrict}
 use Rattle.plan_types.proofs.SupertypeLemmas.{no_number}
-use Rattle.plan_types.proofs.CommonLemmas.{alone_known, alone_itself}
+use Rattle.plan_types.proofs.CommonLemmas.{alone_known, alone_itself, alone_same}
 use Rattle.plan_types.proofs.ValueLemmas.{int_eq_exact}
 use Rattle.plan_dsl.specs.declared.literal.LiteralValue.{LiteralValue}
 use Rattle.plan_dsl.specs.declared.literal.LiteralValue.TheVariants.{Int, Int8, Int16, Int32, Int64, UInt8, UInt16, UInt32, UInt64}
@@ -53,10 +53,23 @@ column_known schema (Some type) taken h =
     subst (λ (t : Taken). is_known t.type ≡ true) p.1 p.0
 
 -- the type of a number without one is no cast's target
-target_known : (from target : Ty) → can_cast from target ≡ true → is_known target ≡ true
-target_known NullType target h = h
-target_known _ (Untyped number) h = cc
-target_known _ _ h = refl
+mutual
+  target_known : (from target : Ty) → can_cast from target ≡ true → is_known target ≡ true
+  target_known NullType target h = h
+  target_known (ListType item) (ListType other) h = target_known item other h
+  target_known (StructType fields) (StructType others) h = targets_known fields others h
+  target_known _ (ListType item) h = cc
+  target_known _ (StructType fields) h = cc
+  target_known _ (Untyped number) h = cc
+  target_known _ _ h = refl
+
+  targets_known : (fields others : Fields) → can_cast_fields fields others ≡ true → are_known others ≡ true
+  targets_known no_field no_field h = refl
+  targets_known no_field (with_field other found others) h = cc
+  targets_known (with_field name type rest) no_field h = cc
+  targets_known (with_field name type rest) (with_field other found others) h =
+      let parts = and_parts (can_cast type found) (can_cast_fields rest others) h in
+      and_from (is_known found) (are_known others) (target_known type found parts.0) (targets_known rest others parts.1)
 
 cast_known : (target : Ty) (own : Option Ty) (taken : Taken) → cast_taken target own ≡ Ok taken → is_known taken.type ≡ true
 cast_known target None taken h = cc
@@ -180,16 +193,37 @@ unknown_literal (UInt16 own) number u h = cc
 unknown_literal (UInt32 own) number u h = cc
 unknown_literal (UInt64 own) number u h = cc
 
+-- a node has a type alone
+known_alone : (type : Ty) → is_known type ≡ true → is_some (type_alone type) ≡ true
+known_alone type known = ap is_some (alone_itself type known)
+
+op_alone : (schema : Columns) (op : Op) (types : List Ty) (taken : Taken) → operand_types schema op types ≡ Ok taken → is_some (type_alone taken.type) ≡ true
+op_alone schema (ColumnOp name) [] taken h = known_alone taken.type (column_known schema (type_at schema name) taken h)
+op_alone schema (ColumnOp name) (type ∷ types) taken h = cc
+op_alone schema (LiteralOp type value) [] taken h =
+    let p = ok_where (is_literal type value) _ taken InvalidOperation h in
+    subst (λ (t : Taken). is_some (type_alone t.type) ≡ true) p.1 (and_parts (is_literal_of type value) (is_some (type_alone type)) p.0).1
+op_alone schema (LiteralOp type value) (operand ∷ types) taken h = cc
+op_alone schema (BinaryOp operator) types taken h = known_alone taken.type (operator_known operator types taken h)
+op_alone schema (CastOp target options) [] taken h = cc
+op_alone schema (CastOp target options) (from ∷ []) taken h = known_alone taken.type (cast_known target (type_alone from) taken h)
+op_alone schema (CastOp target options) (from ∷ other ∷ types) taken h = cc
+
 alone_is_some : (o : Option Ty) → is_some o ≡ true → (own : Ty) × (o ≡ Some own)
 alone_is_some None h = cc
 alone_is_some (Some own) h = (own, refl)
 
 -- a typed expression has a type alone
 pub typed_alone : (registry : Registry) (schema : Columns) (tree : Expression) (type : Ty) (many : Bool) → typing registry schema tree ≡ Ok (record { type = type; many = many }) → (own : Ty) × (type_alone type ≡ Some own)
-typed_alone registry schema tree (Untyped number) many h =
-    let is = untyped_is_number registry schema number tree many h in
-    alone_is_some (type_alone (Untyped number)) (and_parts (is_literal_of (Untyped number) (IntValue number)) (is_some (type_alone (Untyped number))) is.literal).1
-typed_alone registry schema tree type many h = (type, refl)
+typed_alone registry schema (node op children) type many h =
+    let p = typed_parts registry schema op children _ h in
+    alone_is_some (type_alone type) (subst (λ (t : Typed). is_some (type_alone t.type) ≡ true) p.is (op_alone schema op (types_of p.below) p.taken p.takes))
+
+-- so its type is one of columns, or a number's own
+pub typed_known : (registry : Registry) (schema : Columns) (tree : Expression) (type : Ty) (many : Bool) → typing registry schema tree ≡ Ok (record { type = type; many = many }) → ((number : ℤ) → type ≢ Untyped number) → is_known type ≡ true
+typed_known registry schema tree type many typed apart =
+    let alone = typed_alone registry schema tree type many typed in
+    subst (λ t. is_known t ≡ true) (alone_same type alone.0 alone.1 apart) (alone_known type alone.0 alone.1)
 
 -- the types of casts and literals
 pub cast_has_target : (schema : Columns) (target : Ty) (options : CastOptions) (types : List Ty) (taken : Taken) → operand_types schema (CastOp target options) types ≡ Ok taken → (target ≡ taken.type) × (is_known target ≡ true)
@@ -213,11 +247,6 @@ settled_literal registry schema type value children typed number h e =
     let is = untyped_op schema (LiteralOp (settled_type type) value) (types_of p.below) p.taken number p.takes (ap (λ (t : Typed). t.type) p.is ∙ e) in
     settled_number type number same (and_parts (is_literal_of (Untyped number) (IntValue number)) (is_some (type_alone (Untyped number))) is.literal).1
 
--- so what it takes has a type of columns
-known_unless : (type : Ty) → ((number : ℤ) → type ≡ Untyped number → ⊥) → is_known type ≡ true
-known_unless (Untyped number) h = absurd (h number refl)
-known_unless _ h = refl
-
 settled_untyped : (registry : Registry) (schema : Columns) (tree : Expression) (typed : Typed) (number : ℤ) → typing registry schema (settled tree) ≡ Ok typed → typed.type ≡ Untyped number → ⊥
 settled_untyped registry schema (node (LiteralOp type value) children) typed number h e = settled_literal registry schema type value children typed number h e
 settled_untyped registry schema (node (ColumnOp name) children) typed number h e =
@@ -233,5 +262,6 @@ settled_untyped registry schema (node (CastOp target options) children) typed nu
     let is = untyped_op schema (CastOp target options) (types_of p.below) p.taken number p.takes (ap (λ (t : Typed). t.type) p.is ∙ e) in
     let other = is.op_is in cc
 
+-- so what it takes has a type of columns
 pub settled_known : (registry : Registry) (schema : Columns) (tree : Expression) (typed : Typed) → typing registry schema (settled tree) ≡ Ok typed → is_known typed.type ≡ true
-settled_known registry schema tree typed h = known_unless typed.type (λ number e. settled_untyped registry schema tree typed number h e)
+settled_known registry schema tree typed h = typed_known registry schema (settled tree) typed.type typed.many h (λ number e. settled_untyped registry schema tree typed number h e)

@@ -12,8 +12,7 @@ use Rattle.plan_types.specs.CommonTypes.{type_alone}
 use Rattle.plan_types.specs.Frames.{Frame, Row}
 use Rattle.plan_types.specs.declared.error.ErrorKind.TheVariants.{InvalidOperation}
 use Rattle.plan_types.specs.declared.dtype.CastOptions.TheVariants.{NonStrict}
-use Rattle.plan_types.proofs.SupertypeLemmas.{some_same}
-use Rattle.plan_types.proofs.CommonLemmas.{alone_known, alone_itself, literal_has}
+use Rattle.plan_types.proofs.CommonLemmas.{alone_known, alone_same, literal_has}
 use Rattle.plan_types.proofs.CastLemmas.{cast_own as own_cast}
 use Rattle.plan_dsl.specs.declared.operator.Operator.{Operator}
 use Rattle.plan_dsl.specs.Registry.{Registry}
@@ -56,7 +55,7 @@ binary_becomes operator left right taken h =
 alone_becomes : (from own : Ty) → type_alone from ≡ Some own → CanBecome from own
 alone_becomes from own alone = record {
   known = alone_known from own alone;
-  casts = λ k. subst (λ t. can_cast from t ≡ true) (some_same from own (sym (alone_itself from k) ∙ alone)) (own_cast from k);
+  casts = λ apart. subst (λ t. can_cast t own ≡ true) (alone_same from own alone apart) (own_cast own (alone_known from own alone));
   has = λ number e. let has = literal_has number own (ap type_alone (sym e) ∙ alone) in and_from (is_integer own) (in_range own number) has.2 has.0;
 }
 

@@ -3,7 +3,7 @@
 use Rattle.std.proofs.Common.{◌≡◌, inl, sym, ℕ, Bool, true, false, ◌&&◌, ◌||◌, not, cond, nat_lt, List, [], ◌∷◌, Option, Some, None, Result, Ok, Err, IsTrue, refl, ap, ◌∙◌, subst}
 use Rattle.std.specs.Prelude.{ℤ, ◌*◌}
 use Rattle.std.proofs.lemmas.Bool.{and_parts, and_from, or_parts}
-use Rattle.plan_types.specs.Types.{Ty, NullType, Truth, Integer, TextType, DatetimeType, DurationType, coarser, is_integer, is_known, is_temporal, is_text}
+use Rattle.plan_types.specs.Types.{Ty, NullType, Truth, Integer, TextType, DatetimeType, DurationType, coarser, is_bare, is_integer, is_known, is_temporal, is_text}
 use Rattle.plan_types.specs.Values.{Val, NullValue, TruthValue, IntValue, TextValue, in_range, fits}
 use Rattle.plan_types.specs.Supertypes.{supertype, signed_above}
 use Rattle.plan_types.specs.CommonTypes.{type_beside}
@@ -13,14 +13,14 @@ use Rattle.plan_types.specs.declared.dtype.TimeUnit.TheVariants.{Nanoseconds, Mi
 use Rattle.plan_types.specs.declared.error.ErrorKind.{ErrorKind}
 use Rattle.plan_types.specs.declared.error.ErrorKind.TheVariants.{InvalidOperation}
 use Rattle.plan_types.proofs.SupertypeLemmas.{some_same, no_number, supertype_itself, supertype_symmetric, supertype_holds}
-use Rattle.plan_types.proofs.CommonLemmas.{beside_known, own_beside, own_has, supertype_known}
+use Rattle.plan_types.proofs.CommonLemmas.{beside_known, beside_same, own_beside, own_has, supertype_known}
 use Rattle.plan_types.proofs.CastLemmas.{supertype_casts}
 use Rattle.plan_types.proofs.ValueLemmas.{wrapped_in_range}
 use Rattle.plan_dsl.specs.declared.operator.Operator.{Operator}
 use Rattle.plan_dsl.specs.declared.operator.Operator.TheVariants.{Eq, NotEq, Lt, LtEq, Gt, GtEq, Plus}
-use Rattle.plan_dsl.specs.Operators.{plus, is_less, is_same, compared, operator_value}
+use Rattle.plan_dsl.specs.Operators.{plus, is_less, same_value, compared, operator_value}
 use Rattle.plan_dsl.specs.Strictness.{CanBecome}
-use Rattle.plan_dsl.specs.OperatorTypes.{Taken, pair_to, both_to, is_text_beside, comparison_types, is_joined, sum_type, plain_sum_types, sum_types, pair_types, with_types, operator_types}
+use Rattle.plan_dsl.specs.OperatorTypes.{Taken, pair_to, both_to, is_text_beside, comparison_types, has_parts, order_types, is_joined, sum_type, plain_sum_types, sum_types, pair_types, with_types, operator_types}
 use Rattle.plan_dsl.proofs.TypingLemmas.{ok_same, ok_where}
 
 -- what a test lets through
@@ -103,8 +103,16 @@ comparison_stays type =
     ap (λ b. cond (b || b) (Err InvalidOperation) (both_to (supertype type type) (λ common. Truth))) (not_beside_itself type)
     ∙ ap (λ o. both_to o (λ common. Truth)) (supertype_itself type)
 
-compared_takes : (test : Val → Val → Bool) (a b : Ty) (taken : Taken) → is_known a ≡ true → is_known b ≡ true → comparison_types a b ≡ Ok taken → TakesPair comparison_types (λ type. compared test) a b taken
-compared_takes test a b taken k l h =
+-- and so does an order, by a type without parts
+order_stays : (type : Ty) → has_parts (Some type) ≡ false → order_types type type ≡ Ok (pair_to type type Truth)
+order_stays type bare =
+    ap (λ o. cond (has_parts o) (Err InvalidOperation) (comparison_types type type)) (supertype_itself type)
+    ∙ ap (λ b. cond b (Err InvalidOperation) (comparison_types type type)) bare
+    ∙ comparison_stays type
+
+-- a table by which operands that are compared are taken, where those of their common type stay
+compared_takes : (types : Ty → Ty → Result Taken ErrorKind) (test : Val → Val → Bool) (a b : Ty) (taken : Taken) → is_known a ≡ true → is_known b ≡ true → comparison_types a b ≡ Ok taken → ((common : Ty) → supertype a b ≡ Some common → types common common ≡ Ok (pair_to common common Truth)) → TakesPair types (λ type. compared test) a b taken
+compared_takes types test a b taken k l h stays =
     let tested = unless_so (is_text_beside a b || is_text_beside b a) InvalidOperation _ taken h in
     let apart = or_parts (is_text_beside a b) (is_text_beside b a) tested.0 in
     let both = both_is (supertype a b) (λ common. Truth) taken tested.1 in
@@ -116,9 +124,17 @@ compared_takes test a b taken k l h =
       left_becomes = common_becomes a b both.0 k l both.1 (apart_text (is_text b) (is_integer a) (is_temporal a) apart.1);
       right_becomes = common_becomes b a both.0 l k (supertype_symmetric b a ∙ both.1) (apart_text (is_text a) (is_integer b) (is_temporal b) apart.0);
       known = refl;
-      stays = comparison_stays both.0;
+      stays = stays both.0 both.1;
       fitting = λ x y f g. compared_to_fits test x y;
     }
+
+equal_takes : (test : Val → Val → Bool) (a b : Ty) (taken : Taken) → is_known a ≡ true → is_known b ≡ true → comparison_types a b ≡ Ok taken → TakesPair comparison_types (λ type. compared test) a b taken
+equal_takes test a b taken k l h = compared_takes comparison_types test a b taken k l h (λ common e. comparison_stays common)
+
+order_takes : (test : Val → Val → Bool) (a b : Ty) (taken : Taken) → is_known a ≡ true → is_known b ≡ true → order_types a b ≡ Ok taken → TakesPair order_types (λ type. compared test) a b taken
+order_takes test a b taken k l h =
+    let tested = unless_so (has_parts (supertype a b)) InvalidOperation (comparison_types a b) taken h in
+    compared_takes order_types test a b taken k l tested.1 (λ common e. order_stays common (sym (ap has_parts e) ∙ tested.0))
 
 -- sums
 
@@ -129,38 +145,38 @@ text_fits text _ = refl
 
 -- sums of numbers and of truth values wrap around in the type
 number_sum_fits : (left type : Ty) → ((number : ℤ) → in_range type (wrapped type number) ≡ true) → is_text left ≡ false → (x y : Val) → IsTrue (fits x left) → IsTrue (fits (plus type x y) type)
-number_sum_fits left type wraps other NullValue y h = refl
 number_sum_fits left type wraps other (TruthValue x) (TruthValue y) h = wraps _
 number_sum_fits left type wraps other (TruthValue x) _ h = refl
 number_sum_fits left type wraps other (IntValue x) (IntValue y) h = wraps _
 number_sum_fits left type wraps other (IntValue x) _ h = refl
 number_sum_fits left type wraps other (TextValue x) y h = let is = text_fits x left in cc
+number_sum_fits left type wraps other _ y h = refl
 
 text_sum_fits : (x y : Val) → IsTrue (fits x TextType) → IsTrue (fits (plus TextType x y) TextType)
-text_sum_fits NullValue y h = refl
 text_sum_fits (TruthValue x) y h = cc
 text_sum_fits (IntValue x) y h = absurd (no_number TextType x refl refl h)
 text_sum_fits (TextValue x) (TextValue y) h = refl
 text_sum_fits (TextValue x) _ h = refl
+text_sum_fits _ y h = refl
 
 null_sum_fits : (x y : Val) → IsTrue (fits x NullType) → IsTrue (fits (plus NullType x y) NullType)
-null_sum_fits NullValue y h = refl
 null_sum_fits (TruthValue x) y h = cc
 null_sum_fits (IntValue x) y h = absurd (no_number NullType x refl refl h)
 null_sum_fits (TextValue x) y h = cc
+null_sum_fits _ y h = refl
 
--- neither a text nor a time
+-- neither a text nor a time, and without parts
 abbrev is_plain : Ty → Bool
 is_plain NullType = true
 is_plain Truth = true
 is_plain (Integer signed bits) = true
 is_plain type = false
 
-plain_from : (type : Ty) → is_known type ≡ true → is_temporal type ≡ false → is_text type ≡ false → is_plain type ≡ true
-plain_from NullType k t x = refl
-plain_from Truth k t x = refl
-plain_from (Integer signed bits) k t x = refl
-plain_from _ k t x = cc
+plain_from : (type : Ty) → is_known type ≡ true → is_bare type ≡ true → is_temporal type ≡ false → is_text type ≡ false → is_plain type ≡ true
+plain_from NullType k b t x = refl
+plain_from Truth k b t x = refl
+plain_from (Integer signed bits) k b t x = refl
+plain_from _ k b t x = cc
 
 integer_plain : (type : Ty) → is_integer type ≡ true → is_plain type ≡ true
 integer_plain (Integer signed bits) h = refl
@@ -236,18 +252,23 @@ common_sum_takes a b taken k l p q h =
       fitting = λ x y f g. plain_sum_fits both.0 plain x y f;
     }
 
-timeless_takes : (a b : Ty) (taken : Taken) → is_known a ≡ true → is_known b ≡ true → is_temporal a ≡ false → is_temporal b ≡ false → plain_sum_types a b ≡ Ok taken → TakesPair sum_types plus a b taken
-timeless_takes a b taken k l s t h =
+timeless_takes : (a b : Ty) (taken : Taken) → is_known a ≡ true → is_known b ≡ true → (is_bare a ≡ true) × (is_bare b ≡ true) → is_temporal a ≡ false → is_temporal b ≡ false → plain_sum_types a b ≡ Ok taken → TakesPair sum_types plus a b taken
+timeless_takes a b taken k l bare s t h =
     elim (is_text a || is_text b) as (λ c. (is_text a || is_text b) ≡ c → cond c (cond (is_joined a && is_joined b) (Ok (pair_to TextType TextType TextType)) (Err InvalidOperation)) (both_to (supertype a b) sum_type) ≡ Ok taken → TakesPair sum_types plus a b taken) [
       | true ↦ λ e h. joined_takes a b taken h
-      | false ↦ λ e h. let none = or_parts (is_text a) (is_text b) e in common_sum_takes a b taken k l (plain_from a k s none.0) (plain_from b l t none.1) h
+      | false ↦ λ e h. let none = or_parts (is_text a) (is_text b) e in common_sum_takes a b taken k l (plain_from a k bare.0 s none.0) (plain_from b l bare.1 t none.1) h
     ] refl h
 
-other_sum_takes : (a b : Ty) (taken : Taken) → is_known a ≡ true → is_known b ≡ true → cond (is_temporal a || is_temporal b) (Err InvalidOperation) (plain_sum_types a b) ≡ Ok taken → TakesPair sum_types plus a b taken
+so_unless : (test : Bool) → not test ≡ false → test ≡ true
+so_unless true h = refl
+so_unless false h = cc
+
+other_sum_takes : (a b : Ty) (taken : Taken) → is_known a ≡ true → is_known b ≡ true → cond (not (is_bare a && is_bare b) || (is_temporal a || is_temporal b)) (Err InvalidOperation) (plain_sum_types a b) ≡ Ok taken → TakesPair sum_types plus a b taken
 other_sum_takes a b taken k l h =
-    let tested = unless_so (is_temporal a || is_temporal b) InvalidOperation _ taken h in
-    let none = or_parts (is_temporal a) (is_temporal b) tested.0 in
-    timeless_takes a b taken k l none.0 none.1 tested.1
+    let tested = unless_so (not (is_bare a && is_bare b) || (is_temporal a || is_temporal b)) InvalidOperation _ taken h in
+    let parts = or_parts (not (is_bare a && is_bare b)) (is_temporal a || is_temporal b) tested.0 in
+    let none = or_parts (is_temporal a) (is_temporal b) parts.1 in
+    timeless_takes a b taken k l (and_parts (is_bare a) (is_bare b) (so_unless (is_bare a && is_bare b) parts.0)) none.0 none.1 tested.1
 
 -- moments and spans become those of another unit
 unit_becomes : (from target : Ty) → is_known target ≡ true → can_cast from target ≡ true → is_integer from ≡ false → Becomes from target
@@ -302,12 +323,12 @@ sum_takes a b taken k l h = other_sum_takes a b taken k l h
 
 -- each operator's table
 pub pair_takes : (operator : Operator) (a b : Ty) (taken : Taken) → is_known a ≡ true → is_known b ≡ true → pair_types operator a b ≡ Ok taken → TakesPair (pair_types operator) (operator_value operator) a b taken
-pair_takes Eq a b taken k l h = compared_takes is_same a b taken k l h
-pair_takes NotEq a b taken k l h = compared_takes (λ left right. not (is_same left right)) a b taken k l h
-pair_takes Lt a b taken k l h = compared_takes is_less a b taken k l h
-pair_takes LtEq a b taken k l h = compared_takes (λ left right. not (is_less right left)) a b taken k l h
-pair_takes Gt a b taken k l h = compared_takes (λ left right. is_less right left) a b taken k l h
-pair_takes GtEq a b taken k l h = compared_takes (λ left right. not (is_less left right)) a b taken k l h
+pair_takes Eq a b taken k l h = equal_takes same_value a b taken k l h
+pair_takes NotEq a b taken k l h = equal_takes (λ left right. not (same_value left right)) a b taken k l h
+pair_takes Lt a b taken k l h = order_takes is_less a b taken k l h
+pair_takes LtEq a b taken k l h = order_takes (λ left right. not (is_less right left)) a b taken k l h
+pair_takes Gt a b taken k l h = order_takes (λ left right. is_less right left) a b taken k l h
+pair_takes GtEq a b taken k l h = order_takes (λ left right. not (is_less left right)) a b taken k l h
 pair_takes Plus a b taken k l h = sum_takes a b taken k l h
 
 -- ---- operands, of which a number without a type first gets one
@@ -355,7 +376,7 @@ operator_stay operator (left ∷ right ∷ third ∷ types) taken h = cc
 own_becomes : (operand other own target : Ty) → type_beside operand other ≡ Some own → Becomes own target → CanBecome operand target
 own_becomes operand other own target is becomes = record {
   known = becomes.known;
-  casts = λ k. subst (λ t. can_cast t target ≡ true) (some_same own operand (sym is ∙ own_beside operand other k)) becomes.casts;
+  casts = λ apart. subst (λ t. can_cast t target ≡ true) (beside_same operand other own is apart) becomes.casts;
   has = λ number e. let has = own_has number other own (ap (λ t. type_beside t other) (sym e) ∙ is) in becomes.has number has.2 has.0;
 }
 

@@ -1,10 +1,10 @@
 -- Types of operators: those to which the operands are taken, and the result's.
 -- A number without a type first gets the one that it has beside the other operand. Comparisons take both operands to
--- their common type; a text isn't compared to a number or a time. Spans are added to spans and to moments, in the coarser
--- unit. A text is joined to texts, truth values and nulls. Other sums are of the operands' common type, and of truth
--- values they are counts.
-use Rattle.std.specs.Prelude.{Bool, true, false, ◌&&◌, ◌||◌, List, [], ◌∷◌, Option, Some, None, Result, Ok, Err, if◌then◌else◌}
-use Rattle.plan_types.specs.Types.{Ty, NullType, Truth, Integer, TextType, DatetimeType, DurationType, coarser, is_integer, is_temporal, is_text}
+-- their common type; a text isn't compared to a number or a time, and lists and structs are in no order. Spans are added
+-- to spans and to moments, in the coarser unit. A text is joined to texts, truth values and nulls. Other sums are of the
+-- operands' common type, and of truth values they are counts; lists and structs have none.
+use Rattle.std.specs.Prelude.{Bool, true, false, not, ◌&&◌, ◌||◌, List, [], ◌∷◌, Option, Some, None, Result, Ok, Err, if◌then◌else◌}
+use Rattle.plan_types.specs.Types.{Ty, NullType, Truth, Integer, TextType, DatetimeType, DurationType, coarser, is_bare, is_integer, is_temporal, is_text}
 use Rattle.plan_types.specs.CommonTypes.{type_beside}
 use Rattle.plan_types.specs.Supertypes.{supertype}
 use Rattle.plan_types.specs.declared.error.ErrorKind.{ErrorKind}
@@ -34,6 +34,15 @@ abbrev pub comparison_types : Ty → Ty → Result Taken ErrorKind
 comparison_types left right =
     if is_text_beside left right || is_text_beside right left then Err InvalidOperation else both_to (supertype left right) (λ common. Truth)
 
+-- whether it is a type of lists or of structs
+abbrev pub has_parts : Option Ty → Bool
+has_parts None = false
+has_parts (Some type) = not (is_bare type)
+
+-- which of two values is less is asked of a common type without parts alone
+abbrev pub order_types : Ty → Ty → Result Taken ErrorKind
+order_types left right = if has_parts (supertype left right) then Err InvalidOperation else comparison_types left right
+
 -- whether a value of the type can be joined to a text
 abbrev pub is_joined : Ty → Bool
 is_joined NullType = true
@@ -46,7 +55,7 @@ abbrev pub sum_type : Ty → Ty
 sum_type Truth = Integer false 32
 sum_type type = type
 
--- a sum in which no time stands
+-- a sum in which no time, list or struct stands
 abbrev pub plain_sum_types : Ty → Ty → Result Taken ErrorKind
 plain_sum_types left right =
     if is_text left || is_text right
@@ -60,16 +69,17 @@ sum_types (DatetimeType unit) (DurationType other) =
     Ok (pair_to (DatetimeType (coarser unit other)) (DurationType (coarser unit other)) (DatetimeType (coarser unit other)))
 sum_types (DurationType unit) (DatetimeType other) =
     Ok (pair_to (DurationType (coarser unit other)) (DatetimeType (coarser unit other)) (DatetimeType (coarser unit other)))
-sum_types left right = if is_temporal left || is_temporal right then Err InvalidOperation else plain_sum_types left right
+sum_types left right =
+    if not (is_bare left && is_bare right) || (is_temporal left || is_temporal right) then Err InvalidOperation else plain_sum_types left right
 
 -- by operator
 abbrev pub pair_types : Operator → Ty → Ty → Result Taken ErrorKind
 pair_types Eq = comparison_types
 pair_types NotEq = comparison_types
-pair_types Lt = comparison_types
-pair_types LtEq = comparison_types
-pair_types Gt = comparison_types
-pair_types GtEq = comparison_types
+pair_types Lt = order_types
+pair_types LtEq = order_types
+pair_types Gt = order_types
+pair_types GtEq = order_types
 pair_types Plus = sum_types
 
 -- operands that have types, of which one past every type has none

@@ -1,6 +1,6 @@
 -- Strict expressions, and expressions that say the same.
 -- A node is strict where its operands have the types to which it takes them, and it is no number without a type.
-use Rattle.std.specs.Prelude.{◌≡◌, ℤ, Bool, true, false, ◌&&◌, List, [], ◌∷◌, Ok, if◌then◌else◌}
+use Rattle.std.specs.Prelude.{◌≡◌, ◌≢◌, ℤ, Bool, true, false, ◌&&◌, List, [], ◌∷◌, Ok, if◌then◌else◌}
 use Rattle.plan_types.specs.Types.{Ty, Untyped, is_integer, is_known, same_type}
 use Rattle.plan_types.specs.Casts.{can_cast}
 use Rattle.plan_types.specs.Values.{IntValue, in_range}
@@ -58,7 +58,7 @@ as_operand from target tree = if same_type from target then tree else changed fr
 -- one of integers that has the number which had no type
 pub record CanBecome (from target : Ty) : Type 0 where
   pub known : is_known target ≡ true
-  pub casts : is_known from ≡ true → can_cast from target ≡ true
+  pub casts : ((number : ℤ) → from ≢ Untyped number) → can_cast from target ≡ true
   pub has : (number : ℤ) → from ≡ Untyped number → (is_integer target && in_range target number) ≡ true
 
 -- operands of the first types, made ones of the second

@@ -2,6 +2,7 @@
 
 pub mod expressions;
 pub mod filters;
+pub mod lists_and_structs;
 pub mod literals;
 pub mod meanings;
 pub mod operators;

@@ -27,20 +27,20 @@ pub enum LiteralValue {
 
 impl LiteralValue {
     /// The literal's type, where it has one.
-    pub fn known_type(&self) -> Option<&'static DataType>
+    pub fn known_type(&self) -> Option<DataType>
         ensures { MatchOption result (is_known (literal_type self.now) ≡ false) (λ dtype.
-            (ty dtype.now ≡ literal_type self.now) × (is_known (literal_type self.now) ≡ true)) }
+            (ty dtype ≡ literal_type self.now) × (is_known (literal_type self.now) ≡ true)) }
     {
         match self {
             LiteralValue::Int(_) => None,
-            LiteralValue::Int8(_) => Some(&DataType::Int8),
-            LiteralValue::Int16(_) => Some(&DataType::Int16),
-            LiteralValue::Int32(_) => Some(&DataType::Int32),
-            LiteralValue::Int64(_) => Some(&DataType::Int64),
-            LiteralValue::UInt8(_) => Some(&DataType::UInt8),
-            LiteralValue::UInt16(_) => Some(&DataType::UInt16),
-            LiteralValue::UInt32(_) => Some(&DataType::UInt32),
-            LiteralValue::UInt64(_) => Some(&DataType::UInt64),
+            LiteralValue::Int8(_) => Some(DataType::Int8),
+            LiteralValue::Int16(_) => Some(DataType::Int16),
+            LiteralValue::Int32(_) => Some(DataType::Int32),
+            LiteralValue::Int64(_) => Some(DataType::Int64),
+            LiteralValue::UInt8(_) => Some(DataType::UInt8),
+            LiteralValue::UInt16(_) => Some(DataType::UInt16),
+            LiteralValue::UInt32(_) => Some(DataType::UInt32),
+            LiteralValue::UInt64(_) => Some(DataType::UInt64),
         }
     }
 
@@ -82,6 +82,8 @@ impl LiteralValue {
             | DataType::Time
             | DataType::Datetime(_)
             | DataType::Duration(_)
+            | DataType::List(_)
+            | DataType::Struct(_)
             | DataType::Unknown(_) => None,
         }
     }

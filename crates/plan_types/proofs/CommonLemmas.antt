@@ -1,5 +1,5 @@
 -- Common types of operands: they are those of columns, and have the numbers of the operands.
-use Rattle.std.proofs.Common.{◌≡◌, inl, inr, ⊎_elim, Bool, true, false, cond, List, [], ◌∷◌, Option, Some, None, Ok, int_lt, refl, sym, ap, ◌∙◌, subst}
+use Rattle.std.proofs.Common.{◌≡◌, ◌≢◌, inl, inr, ⊎_elim, Bool, true, false, cond, List, [], ◌∷◌, Option, Some, None, Ok, int_lt, refl, sym, ap, ◌∙◌, subst}
 use Rattle.std.specs.Prelude.{ℕ, ◌*◌, ℤ, pos, nat_lt}
 use Rattle.std.specs.List.{AllByRecursion}
 use Rattle.plan_types.specs.Types.{Ty, NullType, Truth, Integer, TextType, DateType, TimeType, DatetimeType, DurationType, ListType, StructType, Untyped, Fields, no_field, with_field, are_known, is_integer, is_known}
@@ -56,7 +56,21 @@ pub alone_itself : (type : Ty) → is_known type ≡ true → type_alone type �
 alone_itself (Untyped number) k = cc
 alone_itself type k = known_there type k
 
--- and so does that beside another operand
+-- what is no number's own type stays alone
+known_same : (type own : Ty) → known_type type ≡ Some own → own ≡ type
+known_same type own h =
+    elim (is_known type) as (λ b. cond b (Some type) None ≡ Some own → own ≡ type) [ true ↦ λ h. some_same own type (sym h) | false ↦ λ h. cc ] h
+
+pub alone_same : (type own : Ty) → type_alone type ≡ Some own → ((number : ℤ) → type ≢ Untyped number) → own ≡ type
+alone_same (Untyped number) own h apart = absurd (apart number refl)
+alone_same type own h apart = known_same type own h
+
+-- and beside another operand
+pub beside_same : (type other own : Ty) → type_beside type other ≡ Some own → ((number : ℤ) → type ≢ Untyped number) → own ≡ type
+beside_same (Untyped number) other own h apart = absurd (apart number refl)
+beside_same type other own h apart = known_same type own h
+
+-- a number's type beside another operand has it
 pub own_has : (number : ℤ) (other found : Ty) → own_type number other ≡ Some found → HasNumber number found
 own_has number (Integer signed bits) found h =
     elim (in_range (Integer signed bits) number) as (λ b. in_range (Integer signed bits) number ≡ b → cond b (Some (Integer signed bits)) (least_type signed number) ≡ Some found → HasNumber number found) [ true ↦ λ e h. let same : Integer signed bits ≡ found = cc in subst (HasNumber number) same (e, refl, refl) | false ↦ λ e h. least_has signed number found h ] refl h

@@ -88,7 +88,7 @@ integer_to_fits number (Integer signed bits) options =
 integer_to_fits number TextType options = refl
 integer_to_fits number target options = placed_fits options target number
 
-number_to_fits : (from : Ty) (number : ℤ) (target : Ty) (options : CastOptions) → ConvertedFits target (number_to from number target options)
+pub number_to_fits : (from : Ty) (number : ℤ) (target : Ty) (options : CastOptions) → ConvertedFits target (number_to from number target options)
 number_to_fits DateType number (DatetimeType unit) options = placed_fits options (DatetimeType unit) (rescaled 1 (per_day unit) number)
 number_to_fits (DatetimeType unit) number DateType options = placed_fits options DateType (rescaled (per_day unit) 1 number)
 number_to_fits (DatetimeType unit) number (DatetimeType other) options = placed_fits options (DatetimeType other) (rescaled (per_day unit) (per_day other) number)

@@ -31,7 +31,7 @@ fn literals_of_a_type_tell_it_and_their_number(rt: HostRuntime) -> Result<(), Fa
     ] {
         assert_eq!(rt; value.number(), number);
         match value.known_type() {
-            Some(found) => assert!(rt; *found == dtype),
+            Some(found) => assert!(rt; found == dtype),
             None => panic!(rt; "the literal has a type"),
         }
         assert!(rt; LiteralValue::of_number(&dtype, number) == Some(value));

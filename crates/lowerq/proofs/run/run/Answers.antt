@@ -1,4 +1,4 @@
-use Rattle.std.proofs.Common.{subst, string_bytes, ◌<◌, length, take, refl}
+use Rattle.std.proofs.Common.{subst, string_bytes, ◌<◌, length, take}
 use Rattle.plan_dsl.specs.Registry.{registry}
 use Rattle.std.specs.Io.KnownBytes.{Appends}
 use Rattle.lowerq.specs.Answers.{written, cut}

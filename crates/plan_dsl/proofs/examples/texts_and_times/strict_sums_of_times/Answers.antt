@@ -1,6 +1,6 @@
-use Rattle.std.proofs.Common.{◌≡◌, [], ◌∷◌, codes, true, refl}
+use Rattle.std.proofs.Common.{[], ◌∷◌, codes, true, refl}
 use Rattle.plan_types.specs.Types.{Ty, DatetimeType, DurationType}
-use Rattle.plan_types.specs.Schemas.{Columns, Name}
+use Rattle.plan_types.specs.Schemas.{Columns}
 use Rattle.plan_types.specs.declared.dtype.TimeUnit.TheVariants.{Microseconds}
 use Rattle.plan_dsl.specs.Trees.{node, no_more}
 use Rattle.plan_dsl.specs.Ops.{ColumnOp}
