@@ -14,6 +14,8 @@ use Rattle.plan_types.specs.declared.error.PlanError.{PlanError}
 use Rattle.plan_types.specs.declared.error.ErrorKind.{ErrorKind}
 use Rattle.plan_types.specs.declared.error.ErrorKind.TheVariants.{InvalidOperation}
 use Rattle.plan_types.specs.declared.dtype.DataType.{DataType}
+use Rattle.plan_types.specs.declared.dtype.DataType.TheVariants.{Unknown}
+use Rattle.plan_types.specs.declared.dtype.UnknownKind.TheVariants.{Int}
 use Rattle.plan_types.specs.declared.dtype.CastOptions.{CastOptions}
 use Rattle.plan_types.specs.declared.dtype.CastOptions.TheVariants.{NonStrict}
 use Rattle.plan_types.proofs.CommonLemmas.{alone_itself, alone_known, literal_has}
@@ -45,7 +47,7 @@ use Rattle.plan_lower.specs.declared.conversion.type_coercion.Change.TheVariants
 use Rattle.plan_lower.specs.Coercion.{DenotesTyped, Visits, IsChangeFor, changed_by, is_kept, ChangesOperands}
 use Rattle.plan_lower.specs.declared.type_table.TypeTable.{TypeTable}
 use Rattle.plan_lower.specs.Typed.{HasKnownType}
-use Rattle.plan_lower.proofs.TypingLemmas.{AllHaveType, AllRefused}
+use Rattle.plan_lower.proofs.TypingLemmas.{AllHaveType, AllRefused, source_known}
 
 -- a typed expression is a tree
 pub plain_tree : {registry : Registry} {schema : Columns} {items : List AExpr} {n : ℕ} → DenotesTyped registry schema 0 items n → DenotesTree (HoldsExpression items) n
@@ -122,13 +124,22 @@ number_becomes number own h =
     let has = literal_has number own h in
     record {
       known = alone_known (Untyped number) own h;
-      casts = λ k. cc;
+      casts = λ apart. absurd (apart number refl);
       has = λ other e. subst (λ n. (is_integer own && in_range own n) ≡ true) (number_is number other e) (and_from (is_integer own) (in_range own number) has.2 has.0);
     }
 
 pub found_alone : (found : Option DataType) (alone : Option Ty) (own : Ty) → option_map ty found ≡ alone → alone ≡ Some own → found ≡ None → ⊥
 found_alone None alone own e is none = cc
 found_alone (Some dtype) alone own e is none = cc
+
+-- an operand that is no number without a type is made one of the other by a cast
+no_number : (from : DataType) → ((number : _) → from ≡ Unknown (Int number) → ⊥) → (number : ℤ) → ty from ≢ Untyped number
+no_number (Unknown (Int own)) apart number e = absurd (apart own refl)
+no_number _ apart number e = cc
+
+pub becomes_cast : (from : DataType) (target : Ty) → CanBecome (ty from) target → ((number : _) → from ≡ Unknown (Int number) → ⊥) → (is_known (ty from) ≡ true) × (can_cast (ty from) target ≡ true)
+becomes_cast from target can apart =
+    let casts = can.casts (no_number from apart) in (source_known (ty from) target casts, casts)
 
 -- a write at one node
 module _ (first : ℕ) (items : List AExpr) (at : ℕ) (item : AExpr) (t : Expression) (d : Denotes (HoldsFrom first items) at t) where
