@@ -5,6 +5,7 @@ mod faults;
 mod filters;
 mod literals;
 mod names;
+mod nested;
 mod times;
 mod types;
 

@@ -1,24 +1,64 @@
 -- Columns that are read one by one.
-use Rattle.std.proofs.Common.{◌≡◌, ℕ, suc, ◌<◌, List, [], ◌∷◌, ◌++◌, length, get_or, take, drop, Option, Some, None, option_and_then, Bool, true, false, cond, not, is_some, sym, ap, ◌∙◌, arith}
+use Rattle.std.proofs.Common.{◌≡◌, ℕ, suc, Vec, Global, ◌<◌, List, [], ◌∷◌, ◌++◌, length, get_or, take, drop, Option, Some, None, option_and_then, Bool, true, false, cond, not, is_some, option_map, map, refl, sym, ap, ◌∙◌, arith}
 use Rattle.std.proofs.lemmas.List.{take_all, take-append-drop, map-append}
 use Rattle.std.proofs.Math.Seq.{drop-cons}
 use Rattle.std.specs.Option.{option_map_or}
 use Rattle.plan_types.specs.Schemas.{Name, Columns, type_at, with_column, names_of, repeats}
-use Rattle.plan_types.specs.Types.{Ty}
+use Rattle.plan_types.specs.Types.{Ty, fields_of as row_of, fields_from as fields_of_columns, field_of}
+use Rattle.plan_types.specs.declared.dtype.Fields.{roll-Fields}
+use Rattle.plan_types.specs.declared.field.Field.{Field}
+use Rattle.plan_types.proofs.FieldLemmas.{rolled_fields}
 use Rattle.plan_types.proofs.NameLemmas.{repeats-push, repeats-again}
 use Rattle.plan_types.proofs.SchemaLemmas.{with_column-new, is_among-type_at, IsNewName-test}
-use Rattle.serde_json.specs.Data.{Data, Items}
+use Rattle.serde_json.specs.Data.{Data, Items, null, boolean, number, string, array, object, no_items, item}
 use Rattle.serde_json.specs.Find.{as_array}
 use Rattle.serde_json.specs.View.{view, items_view}
 use Rattle.serde_json.specs.declared.value.Value.{Value}
 use Rattle.plan_json.specs.Faults.{FaultKind, column_list, own_fault, shape_fault, unless}
 use Rattle.plan_json.specs.Looking.{both, two_items, all_of, some_of}
-use Rattle.plan_json.specs.Queries.{text_of, type_of, column_of, column_name, columns_of, columns_from}
+use Rattle.plan_json.specs.Queries.{text_of, type_of, struct_of, fields_from, field_before, column_of, column_name, columns_of, columns_from}
 use Rattle.plan_json.proofs.ItemLemmas.{some_of-append, some_of-names}
+use Rattle.plan_json.proofs.LookingLemmas.{array-from_as_array, array-from_two_items}
+
+-- a column, by the two items that it has
+pub column_of-parts : (d : Data) → column_of d ≡ option_and_then (λ pair. both (text_of pair.0) (type_of pair.1)) (two_items d)
+column_of-parts null = refl
+column_of-parts (boolean b) = refl
+column_of-parts (number n) = refl
+column_of-parts (string s) = refl
+column_of-parts (object ms) = refl
+column_of-parts (array no_items) = refl
+column_of-parts (array (item x no_items)) = refl
+column_of-parts (array (item x (item y no_items))) = refl
+column_of-parts (array (item x (item y (item z ds)))) = refl
+
+pub column_of-two : (d name type : Data) (n : Name) (t : Ty) → Some (name, type) ≡ two_items d → text_of name ≡ Some n → type_of type ≡ Some t → column_of d ≡ Some (n, t)
+column_of-two d name type n t is named typed =
+    ap column_of (array-from_two_items d name type is) ∙ ap (λ o. both o (type_of type)) named ∙ ap (both (Some n)) typed
+
+-- fields are read as columns are
+pub fields_as_columns : (ds : Items) → fields_from ds ≡ option_map fields_of_columns (all_of column_of ds)
+fields_as_columns no_items = refl
+fields_as_columns (item d ds) =
+    ap (λ o. option_map field_before (both (column_of d) o)) (fields_as_columns ds) ∙ go (column_of d) (all_of column_of ds)
+  where
+    go : (first : Option (Name × Ty)) (rest : Option Columns) → option_map field_before (both first (option_map fields_of_columns rest)) ≡ option_map fields_of_columns (option_map (λ p. p.0 ∷ p.1) (both first rest))
+    go None rest = refl
+    go (Some c) None = refl
+    go (Some c) (Some cs) = refl
+
+-- all fields are read
+pub struct_all : (d : Data) (vs : List Value) (n : ℕ) (made : Vec Field Global) → Some (items_view vs) ≡ as_array d → length vs ≡ n → all_of column_of (items_view (take n vs)) ≡ Some (map field_of made.items) → struct_of d ≡ Some (row_of (roll-Fields (record { items = made })))
+struct_all d vs n made is all read =
+    ap struct_of (array-from_as_array d _ is)
+    ∙ fields_as_columns (items_view vs)
+    ∙ ap (λ l. option_map fields_of_columns (all_of column_of (items_view l))) (sym (take_all n vs (omega arith)))
+    ∙ ap (option_map fields_of_columns) read
+    ∙ ap Some (sym (rolled_fields made))
 
 -- a column that is read gives itself the name that is read
 pub column_name-read : (d : Data) (c : Name × Ty) → column_of d ≡ Some c → column_name d ≡ Some c.0
-column_name-read d c e = go (two_items d) e
+column_name-read d c e = go (two_items d) (sym (column_of-parts d) ∙ e)
   where
     named : (name : Option Name) (type : Option Ty) → both name type ≡ Some c → name ≡ Some c.0
     named None type h = cc

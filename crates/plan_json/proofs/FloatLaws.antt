@@ -4,7 +4,7 @@ use Rattle.std.specs.Option.{option_map_or}
 use Rattle.serde_json.specs.Data.{Data, Num, unsigned, negative, float, number}
 use Rattle.serde_json.specs.Find.{as_i64, as_u64}
 use Rattle.plan_types.specs.Schemas.{Name}
-use Rattle.plan_json.specs.Faults.{FaultKind, BadShape, BadFloat, BadName, Form, a_query, table_list, column_list, a_column, a_type, a_unit, a_text, a_table, a_new_name, a_plan, a_scan, a_filter, a_selection, expression_list, an_expression, a_literal, operands, an_operator, a_cast, a_mode, own_fault, shape_fault, unless}
+use Rattle.plan_json.specs.Faults.{FaultKind, BadShape, BadFloat, BadName, Form, a_query, table_list, column_list, field_list, a_column, a_type, a_unit, a_text, a_table, a_new_name, a_plan, a_scan, a_filter, a_selection, expression_list, an_expression, a_literal, operands, an_operator, a_cast, a_mode, own_fault, shape_fault, unless}
 use Rattle.plan_json.specs.Looking.{is_float}
 use Rattle.plan_json.specs.Queries.{text_of}
 
@@ -43,6 +43,7 @@ own_named : (form : Form) (d : Data) (kind : FaultKind) → own_fault form d ≡
 own_named a_query d kind e = of_test d _ kind e
 own_named table_list d kind e = of_test d _ kind e
 own_named column_list d kind e = of_test d _ kind e
+own_named field_list d kind e = of_test d _ kind e
 own_named a_column d kind e = of_test d _ kind e
 own_named a_type d kind e = of_test d _ kind e
 own_named a_unit d kind e = of_test d _ kind e

@@ -1,6 +1,6 @@
 -- Looking into a value, beside what the value's type holds.
-use Rattle.std.proofs.Common.{◌≡◌, ℕ, suc, ◌<◌, ◌≤◌, ◌==◌, List, [], ◌∷◌, length, slice_get, Option, Some, None, option_map, String, Global, string_bytes, cond, refl, sym, ap, ◌∙◌, subst, arith, ne_eqb, max}
-use Rattle.serde_json.specs.Data.{Data, null, boolean, number, string, array, object, Items, no_items, item, Members, no_members, member, depth}
+use Rattle.std.proofs.Common.{◌≡◌, ℕ, zero, suc, get_or, ◌<◌, ◌≤◌, ◌==◌, List, [], ◌∷◌, length, slice_get, Option, Some, None, option_map, String, Global, string_bytes, cond, refl, sym, ap, ◌∙◌, subst, arith, ne_eqb, max}
+use Rattle.serde_json.specs.Data.{Data, null, boolean, number, string, array, object, Items, no_items, item, Members, no_members, member, depth, items_depth}
 use Rattle.serde_json.specs.Events.{members_len}
 use Rattle.serde_json.specs.Find.{get, get_member, as_str, as_array, as_object}
 use Rattle.serde_json.specs.View.{view, items_view, members_view}
@@ -144,17 +144,31 @@ array-from_three_items (array (item x (item y (item z no_items)))) a b c e =
     ap (λ q. array (item q.0 (item q.1 (item q.2 no_items)))) (sym p)
 array-from_three_items (array (item x (item y (item z (item w ds))))) a b c e = cc
 
+below_second : (n m : ℕ) → n < suc (max m (max n 0))
+below_second n m = omega arith
+
 below_max : (n m k : ℕ) → n ≤ k → n < suc (max k m)
 below_max n m k h = omega arith
 
 pub depth-only_member : (d : Data) (word : List ℕ) (value : Data) → Some (word, value) ≡ only_member d → depth value < depth d
 depth-only_member d word value e = subst (λ x. depth value < depth x) (sym (object-from_only_member d word value e)) (below_max (depth value) 0 (depth value) (omega arith))
 
+item_depth : (vs : List Value) (i : ℕ) (v : Value) → i < length vs → v ≡ get_or vs i v → depth (view v) ≤ items_depth (items_view vs)
+item_depth [] i v within is = absurd (omega arith)
+item_depth (w ∷ ws) zero v within is = subst (λ x. depth (view x) ≤ items_depth (items_view (w ∷ ws))) (sym is) (omega arith)
+item_depth (w ∷ ws) (suc i) v within is =
+    let rest = item_depth ws i v (omega arith) is in omega (arith, rest)
+
+pub depth-item : (d : Data) (vs : List Value) (i : ℕ) (v : Value) → Some (items_view vs) ≡ as_array d → i < length vs → v ≡ get_or vs i v → depth (view v) < depth d
+depth-item d vs i v is within at =
+    let below = item_depth vs i v within at in
+    subst (λ x. depth (view v) < depth x) (sym (array-from_as_array d _ is)) (omega (arith, below))
+
+pub depth-second : (d a b : Data) → Some (a, b) ≡ two_items d → depth b < depth d
+depth-second d a b e = subst (λ x. depth b < depth x) (sym (array-from_two_items d a b e)) (below_second (depth b) (depth a))
+
 pub depth-two_items : (d a b : Data) → Some (a, b) ≡ two_items d → depth a < depth d
 depth-two_items d a b e = subst (λ x. depth a < depth x) (sym (array-from_two_items d a b e)) (below_max (depth a) _ (depth a) (omega arith))
-
-below_second : (n m : ℕ) → n < suc (max m (max n 0))
-below_second n m = omega arith
 
 below_third : (n m k : ℕ) → n < suc (max m (max k (max n 0)))
 below_third n m k = omega arith

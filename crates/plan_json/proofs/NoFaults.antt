@@ -3,7 +3,7 @@ use Rattle.std.proofs.Common.{◌≡◌, ℕ, zero, suc, ◌+◌, ◌<◌, List,
 use Rattle.std.specs.Option.{option_map_or}
 use Rattle.plan_types.specs.Schemas.{Name, Columns, names_of, is_among, repeats}
 use Rattle.plan_types.proofs.NameLemmas.{repeats-apart}
-use Rattle.plan_types.specs.Types.{Ty}
+use Rattle.plan_types.specs.Types.{Ty, fields_from as fields_of_columns}
 use Rattle.plan_types.specs.declared.dtype.CastOptions.{CastOptions}
 use Rattle.plan_dsl.specs.Ops.{Expression}
 use Rattle.plan_dsl.specs.declared.operator.Operator.{Operator}
@@ -13,11 +13,12 @@ use Rattle.serde_json.specs.Find.{as_array}
 use Rattle.plan_json.specs.Errors.{IsErrorOf}
 use Rattle.plan_json.specs.declared.error.JsonError.{JsonError}
 use Rattle.plan_json.specs.declared.error.JsonError.TheVariants.{NotJson, Shape, Float, Name as Name', NoMemory}
-use Rattle.plan_json.specs.Faults.{FaultKind, BadShape, BadFloat, BadName, key, number, Path, Form, a_query, table_list, column_list, a_column, a_type, a_unit, a_text, a_table, a_new_name, a_plan, a_scan, a_filter, a_selection, expression_list, an_expression, a_literal, operands, an_operator, a_cast, a_mode, Part, part, own_fault, parts_of, shape_fault, unless, each, each_table, query_parts, table_parts, column_parts, one_part, declared_names, IsBadAt}
+use Rattle.plan_json.specs.Faults.{FaultKind, BadShape, BadFloat, BadName, key, number, Path, Form, a_query, table_list, column_list, field_list, a_column, a_type, a_unit, a_text, a_table, a_new_name, a_plan, a_scan, a_filter, a_selection, expression_list, an_expression, a_literal, operands, an_operator, a_cast, a_mode, Part, part, own_fault, parts_of, shape_fault, unless, each, each_table, query_parts, table_parts, column_parts, one_part, declared_names, IsBadAt}
 use Rattle.plan_json.specs.Looking.{both, two_members, two_items, three_items, all_of, some_of}
-use Rattle.plan_json.specs.Queries.{QueryModel, text_of, type_named, type_of, datetime_type, duration_type, unit_of, literal_of, literal_expression, operator_of, mode_of, column_of, column_name, columns_of, columns_from, table_of, table_name, table_limit, tables_of, tables_from, expression_of, binary_of, binary_expression, cast_of, cast_expression, expressions_of, column_expression, table_at, scan_plan, scan_of, empty_plan, filter_plan, select_plan, plan_of, filter_of, select_of, query_of, query_from, IsQueryOf}
+use Rattle.plan_json.specs.Queries.{QueryModel, text_of, type_named, type_of, datetime_type, duration_type, list_type, struct_type, struct_of, fields_from, unit_of, literal_of, literal_expression, operator_of, mode_of, column_of, column_name, columns_of, columns_from, table_of, table_name, table_limit, tables_of, tables_from, expression_of, binary_of, binary_expression, cast_of, cast_expression, expressions_of, column_expression, table_at, scan_plan, scan_of, empty_plan, filter_plan, select_plan, plan_of, filter_of, select_of, query_of, query_from, IsQueryOf}
 use Rattle.plan_json.specs.Tables.{Declared}
 use Rattle.plan_json.proofs.DeclarationLemmas.{table_name-read, declared_names-read}
+use Rattle.plan_json.proofs.ColumnLemmas.{column_of-parts, fields_as_columns}
 use Rattle.plan_json.proofs.TableLemmas.{is_some-table_at}
 
 -- ---- what an answer was made of
@@ -56,6 +57,7 @@ abbrev IsWell : Form → Data → Type 0
 IsWell a_query d = Given (query_of d)
 IsWell table_list d = Given (tables_of d)
 IsWell column_list d = Given (columns_of d)
+IsWell field_list d = Given (struct_of d)
 IsWell a_column d = Given (column_of d)
 IsWell a_type d = Given (type_of d)
 IsWell a_unit d = Given (unit_of d)
@@ -124,12 +126,14 @@ own_type (string name) kind well bad = go (type_named name) well bad
     go None (x, e) bad = cc
     go (Some t) well bad = cc
 own_type (object (member word value no_members)) kind well bad =
-    go (bytes_eq word (codes "Datetime")) (bytes_eq word (codes "Duration")) well bad
+    go (bytes_eq word (codes "Datetime")) (bytes_eq word (codes "Duration")) (bytes_eq word (codes "List")) (bytes_eq word (codes "Struct")) well bad
   where
-    go : (m s : Bool) → Given (cond m (option_map datetime_type (unit_of value)) (cond s (option_map duration_type (unit_of value)) None)) → bad_member word value (cond m (Some a_unit) (cond s (Some a_unit) None)) ≡ Some kind → ⊥
-    go true s h bad = cc
-    go false true h bad = cc
-    go false false (x, e) bad = cc
+    go : (m s l f : Bool) → Given (cond m (option_map datetime_type (unit_of value)) (cond s (option_map duration_type (unit_of value)) (cond l (option_map list_type (type_of value)) (cond f (option_map struct_type (struct_of value)) None)))) → bad_member word value (cond m (Some a_unit) (cond s (Some a_unit) (cond l (Some a_type) (cond f (Some field_list) None)))) ≡ Some kind → ⊥
+    go true s l f h bad = cc
+    go false true l f h bad = cc
+    go false false true f h bad = cc
+    go false false false true h bad = cc
+    go false false false false (x, e) bad = cc
 own_type _ kind (x, e) bad = cc
 
 own_expression : (d : Data) (kind : FaultKind) → Given (expression_of d) → own_fault an_expression d ≡ Some kind → ⊥
@@ -172,11 +176,17 @@ own_selection : (tables : Declared) (d : Data) (kind : FaultKind) → Given (sel
 own_selection tables (array (item x (item y no_items))) kind well bad = cc
 own_selection tables _ kind (x, e) bad = cc
 
+-- a list of fields is a list
+listed : (d : Data) → Given (struct_of d) → Given (option_and_then fields_from (as_array d))
+listed (array items) well = well
+listed _ (x, e) = cc
+
 own_none : (form : Form) (d : Data) (kind : FaultKind) → IsWell form d → own_fault form d ≡ Some kind → ⊥
 own_none a_query d kind well bad = there_first (shape_fault d) query_from (two_members (codes "tables") (codes "plan") d) kind well bad
 own_none table_list d kind well bad = own_list (shape_fault d) (λ items. nat_lt (items_len items) table_limit) tables_from few_enough (as_array d) kind well bad
 own_none column_list d kind well bad = own_list (shape_fault d) (λ items. not (repeats (some_of column_name items))) columns_from no_repeat (as_array d) kind well bad
-own_none a_column d kind well bad = there_first (shape_fault d) _ (two_items d) kind well bad
+own_none field_list d kind well bad = own_list (shape_fault d) (λ items. true) fields_from (λ items h. refl) (as_array d) kind (listed d well) bad
+own_none a_column d kind (c, e) bad = there_first (shape_fault d) _ (two_items d) kind (c, sym (column_of-parts d) ∙ e) bad
 own_none a_type d kind well bad = own_type d kind well bad
 own_none a_unit d kind well bad = there (shape_fault d) (unit_of d) kind well bad
 own_none a_text d kind well bad = there (shape_fault d) (text_of d) kind well bad
@@ -301,9 +311,15 @@ parts_columns d p (cs, e) here =
 
 parts_column : (d : Data) (p : Part) → Given (column_of d) → Contains (parts_of a_column d) p → WellPart p
 parts_column d p (c, e) here =
-    let pair = chained (λ q. both (text_of q.0) (type_of q.1)) (two_items d) c e in
+    let pair = chained (λ q. both (text_of q.0) (type_of q.1)) (two_items d) c (sym (column_of-parts d) ∙ e) in
     let are = paired (text_of pair.0.0) (type_of pair.0.1) c pair.2 in
     two_of (part (number 0) a_text pair.0.0) (part (number 1) a_type pair.0.1) p are.0 are.1 (held column_parts _ pair.0 p pair.1 here)
+
+parts_fields : (d : Data) (p : Part) → Given (struct_of d) → Contains (parts_of field_list d) p → WellPart p
+parts_fields (array items) p (fields, e) here =
+    let columns = mapped fields_of_columns (all_of column_of items) fields (sym (fields_as_columns items) ∙ e) in
+    each_of a_column column_of (λ x h. h) 0 items columns.0 p columns.1 here
+parts_fields _ p (x, e) here = cc
 
 parts_expressions : (d : Data) (p : Part) → Given (expressions_of d) → Contains (parts_of expression_list d) p → WellPart p
 parts_expressions d p (es, e) here =
@@ -316,12 +332,14 @@ only word value form = one_part (option_map (λ f. part (key word) f value) form
 parts_type : (d : Data) (p : Part) → Given (type_of d) → Contains (parts_of a_type d) p → WellPart p
 parts_type (string name) p well here = none_of p here
 parts_type (object (member word value no_members)) p well here =
-    go (bytes_eq word (codes "Datetime")) (bytes_eq word (codes "Duration")) well here
+    go (bytes_eq word (codes "Datetime")) (bytes_eq word (codes "Duration")) (bytes_eq word (codes "List")) (bytes_eq word (codes "Struct")) well here
   where
-    go : (m s : Bool) → Given (cond m (option_map datetime_type (unit_of value)) (cond s (option_map duration_type (unit_of value)) None)) → Contains (only word value (cond m (Some a_unit) (cond s (Some a_unit) None))) p → WellPart p
-    go true s (t, e) h = one_of (part (key word) a_unit value) p (mapped datetime_type (unit_of value) t e) h
-    go false true (t, e) h = one_of (part (key word) a_unit value) p (mapped duration_type (unit_of value) t e) h
-    go false false given h = none_of p h
+    go : (m s l f : Bool) → Given (cond m (option_map datetime_type (unit_of value)) (cond s (option_map duration_type (unit_of value)) (cond l (option_map list_type (type_of value)) (cond f (option_map struct_type (struct_of value)) None)))) → Contains (only word value (cond m (Some a_unit) (cond s (Some a_unit) (cond l (Some a_type) (cond f (Some field_list) None))))) p → WellPart p
+    go true s l f (t, e) h = one_of (part (key word) a_unit value) p (mapped datetime_type (unit_of value) t e) h
+    go false true l f (t, e) h = one_of (part (key word) a_unit value) p (mapped duration_type (unit_of value) t e) h
+    go false false true f (t, e) h = one_of (part (key word) a_type value) p (mapped list_type (type_of value) t e) h
+    go false false false true (t, e) h = one_of (part (key word) field_list value) p (mapped struct_type (struct_of value) t e) h
+    go false false false false given h = none_of p h
 parts_type _ p (x, e) here = cc
 
 parts_expression : (d : Data) (p : Part) → Given (expression_of d) → Contains (parts_of an_expression d) p → WellPart p
@@ -378,6 +396,7 @@ parts_well : (form : Form) (d : Data) (p : Part) → IsWell form d → Contains 
 parts_well a_query d p well here = parts_query d p well here
 parts_well table_list d p well here = parts_tables d p well here
 parts_well column_list d p well here = parts_columns d p well here
+parts_well field_list d p well here = parts_fields d p well here
 parts_well a_column d p well here = parts_column d p well here
 parts_well a_type d p well here = parts_type d p well here
 parts_well a_unit d p well here = none_of p here

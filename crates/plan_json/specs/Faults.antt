@@ -32,7 +32,7 @@ Path = List Step
 -- What a place asks for. A table and its name come with the names of the tables before it, and a
 -- plan with those of all tables.
 pub data Form : Type 0 where
-  a_query table_list column_list a_column a_type a_unit a_text : Form
+  a_query table_list column_list field_list a_column a_type a_unit a_text : Form
   a_table a_new_name a_plan a_scan a_filter a_selection : List Name → Form
   expression_list an_expression a_literal operands an_operator a_cast a_mode : Form
 
@@ -51,7 +51,9 @@ part step form value = record { step = step; form = form; value = value }
 abbrev pub type_form : List ℕ → Option Form
 type_form word =
     if bytes_eq word (codes "Datetime") then Some a_unit else (
-    if bytes_eq word (codes "Duration") then Some a_unit else None)
+    if bytes_eq word (codes "Duration") then Some a_unit else (
+    if bytes_eq word (codes "List") then Some a_type else (
+    if bytes_eq word (codes "Struct") then Some field_list else None)))
 
 -- what an expression's only key asks of its value
 abbrev pub expression_form : List ℕ → Option Form
@@ -100,6 +102,7 @@ abbrev pub own_fault : Form → Data → Option FaultKind
 own_fault a_query d = unless (shape_fault d) (is_some (two_members (codes "tables") (codes "plan") d))
 own_fault table_list d = list_fault (λ items. nat_lt (items_len items) table_limit) d
 own_fault column_list d = list_fault (λ items. not (repeats (some_of column_name items))) d
+own_fault field_list d = list_fault (λ items. true) d
 own_fault a_column d = unless (shape_fault d) (is_some (two_items d))
 own_fault a_type d = unless (shape_fault d) (is_type_name d || is_some (only_part type_form d))
 own_fault a_unit d = unless (shape_fault d) (is_some (unit_of d))
@@ -167,6 +170,7 @@ abbrev pub parts_of : Form → Data → List Part
 parts_of a_query d = option_map_or query_parts (two_members (codes "tables") (codes "plan") d) []
 parts_of table_list d = option_map_or (each_table [] 0) (as_array d) []
 parts_of column_list d = option_map_or (each a_column 0) (as_array d) []
+parts_of field_list d = option_map_or (each a_column 0) (as_array d) []
 parts_of a_column d = option_map_or column_parts (two_items d) []
 parts_of a_type d = one_part (only_part type_form d)
 parts_of a_unit d = []

@@ -8,7 +8,7 @@ use Rattle.serde_json.specs.Data.{Data, string, array, object, Items, no_items, 
 use Rattle.serde_json.specs.Events.{items_len}
 use Rattle.serde_json.specs.Find.{get, as_str, as_array}
 use Rattle.plan_types.specs.Schemas.{Name, Columns, same_name, names_of, repeats}
-use Rattle.plan_types.specs.Types.{Ty, NullType, Truth, Integer, TextType, DateType, TimeType, DatetimeType, DurationType, Untyped}
+use Rattle.plan_types.specs.Types.{Ty, NullType, Truth, Integer, TextType, DateType, TimeType, DatetimeType, DurationType, ListType, StructType, Untyped, Fields, no_field, with_field}
 use Rattle.plan_types.specs.Values.{IntValue}
 use Rattle.plan_types.specs.declared.dtype.CastOptions.{CastOptions}
 use Rattle.plan_types.specs.declared.dtype.CastOptions.TheVariants.{Strict, NonStrict, Overflowing}
@@ -69,13 +69,40 @@ datetime_type unit = DatetimeType unit
 abbrev pub duration_type : TimeUnit → Ty
 duration_type unit = DurationType unit
 
--- a name, or an object of one key, which names its form
-abbrev pub type_of : Data → Option Ty
-type_of (string name) = type_named name
-type_of (object (member key value no_members)) =
-    if bytes_eq key (codes "Datetime") then option_map datetime_type (unit_of value) else (
-    if bytes_eq key (codes "Duration") then option_map duration_type (unit_of value) else None)
-type_of _ = None
+abbrev pub list_type : Ty → Ty
+list_type items = ListType items
+
+abbrev pub struct_type : Fields → Ty
+struct_type fields = StructType fields
+
+-- the field, and those after it
+abbrev pub field_before : (Name × Ty) × Fields → Fields
+field_before parts = with_field parts.0.0 parts.0.1 parts.1
+
+abbrev mutual
+  -- a name, or an object of one key, which names its form
+  pub type_of : Data → Option Ty
+  type_of (string name) = type_named name
+  type_of (object (member key value no_members)) =
+      if bytes_eq key (codes "Datetime") then option_map datetime_type (unit_of value) else (
+      if bytes_eq key (codes "Duration") then option_map duration_type (unit_of value) else (
+      if bytes_eq key (codes "List") then option_map list_type (type_of value) else (
+      if bytes_eq key (codes "Struct") then option_map struct_type (struct_of value) else None)))
+  type_of _ = None
+
+  -- a list of fields, whose names may repeat
+  pub struct_of : Data → Option Fields
+  struct_of (array items) = fields_from items
+  struct_of _ = None
+
+  pub fields_from : Items → Option Fields
+  fields_from no_items = Some no_field
+  fields_from (item first rest) = option_map field_before (both (column_of first) (fields_from rest))
+
+  -- a column or a field: `[name, type]`
+  pub column_of : Data → Option (Name × Ty)
+  column_of (array (item name (item type no_items))) = both (text_of name) (type_of type)
+  column_of _ = None
 
 abbrev pub operator_named : List ℕ → Option Operator
 operator_named name =
@@ -101,10 +128,6 @@ abbrev pub mode_of : Data → Option CastOptions
 mode_of d = option_and_then mode_named (as_str d)
 
 -- ---- columns
-
--- `[name, type]`
-abbrev pub column_of : Data → Option (Name × Ty)
-column_of d = option_and_then (λ pair. both (text_of pair.0) (type_of pair.1)) (two_items d)
 
 -- the name that a column gives itself, whatever its type
 abbrev pub column_name : Data → Option Name

@@ -1,50 +1,17 @@
-//! Names and columns.
+//! Lists of columns.
 ghost use Rattle.std.specs.Prelude.{◌≡◌, Some, IfOk, IfErr};
 ghost use Rattle.serde_json.specs.View.{view};
 ghost use Rattle.plan_types.specs.Schemas.{columns};
-ghost use Rattle.plan_types.specs.Types.{ty};
 ghost use Rattle.plan_json.specs.Errors.{IsErrorOf};
-ghost use Rattle.plan_json.specs.Faults.{a_text, a_column, column_list};
-ghost use Rattle.plan_json.specs.Queries.{text_of, column_of, columns_of};
+ghost use Rattle.plan_json.specs.Faults.{column_list};
+ghost use Rattle.plan_json.specs.Queries.{columns_of};
 
-use super::dtype::read_type;
+use super::dtype::read_column;
 use super::error::{JsonError, Step, at};
-use super::value::two_items;
 use plan_types::field::Field;
 use plan_types::schema::Schema;
-use plan_types::text::PlSmallStr;
 use serde_json::Value;
 use std::alloc::Global;
-
-// A text.
-pub(crate) fn read_text(alloc: Global, value: &Value) -> Result<PlSmallStr, JsonError>
-    ensures ok { IfOk result (λ text. text_of (view value.now) ≡ Some text) }
-    ensures err { IfErr result (IsErrorOf a_text (view value.now)) }
-{
-    match value.as_str() {
-        None => Err(JsonError::shape(alloc, value)),
-        Some(text) => {
-            let text = PlSmallStr::new(alloc, text)?;
-            Ok(text)
-        }
-    }
-}
-
-// A column: `[name, type]`.
-pub(crate) fn read_column(alloc: Global, value: &Value) -> Result<Field, JsonError>
-    ensures ok { IfOk result (λ field. column_of (view value.now)
-        ≡ Some (field.name, ty field.dtype)) }
-    ensures err { IfErr result (IsErrorOf a_column (view value.now)) }
-{
-    match two_items(value) {
-        None => Err(JsonError::shape(alloc, value)),
-        Some((name, dtype)) => {
-            let name = at(alloc, Step::Item(0), read_text(alloc, name))?;
-            let dtype = at(alloc, Step::Item(1), read_type(alloc, dtype))?;
-            Ok(Field::new(name, dtype))
-        }
-    }
-}
 
 // A list of columns, no two of one name.
 pub(crate) fn read_columns(alloc: Global, value: &Value) -> Result<Schema, JsonError>

@@ -7,7 +7,8 @@ ghost use Rattle.plan_json.specs.Faults.{table_list, a_table, a_new_name};
 ghost use Rattle.plan_json.specs.Queries.{text_of, table_of, tables_of};
 ghost use Rattle.plan_json.specs.Tables.{declared};
 
-use super::columns::{read_columns, read_text};
+use super::columns::read_columns;
+use super::dtype::read_text;
 use super::error::{JsonError, Step, at};
 use super::tables::{Table, Tables};
 use super::value::two_members;

@@ -1,19 +1,36 @@
-//! Types.
+//! Types, names and columns.
 ghost use Rattle.std.specs.Prelude.{◌≡◌, Some, IfOk, IfErr};
 ghost use Rattle.std.specs.Option.{option_map};
 ghost use Rattle.serde_json.specs.View.{view};
-ghost use Rattle.plan_types.specs.Types.{ty};
+ghost use Rattle.plan_types.specs.Types.{fields_of, ty};
 ghost use Rattle.plan_json.specs.Errors.{IsErrorOf};
-ghost use Rattle.plan_json.specs.Faults.{a_type, a_unit};
-ghost use Rattle.plan_json.specs.Queries.{type_named, type_of, unit_named, unit_of};
+ghost use Rattle.plan_json.specs.Faults.{a_column, a_text, a_type, a_unit, field_list};
+ghost use Rattle.plan_json.specs.Queries.{column_of, struct_of, text_of, type_named, type_of, unit_named, unit_of};
 
 use super::error::{JsonError, Step, at};
-use super::value::only_member;
-use plan_types::dtype::{DataType, TimeUnit};
+use super::value::{only_member, two_items};
+use plan_types::dtype::{DataType, Fields, TimeUnit};
+use plan_types::field::Field;
+use plan_types::text::PlSmallStr;
 use serde_json::Value;
 use std::alloc::Global;
 
+// A text.
+pub(crate) fn read_text(alloc: Global, value: &Value) -> Result<PlSmallStr, JsonError>
+    ensures ok { IfOk result (λ text. text_of (view value.now) ≡ Some text) }
+    ensures err { IfErr result (IsErrorOf a_text (view value.now)) }
+{
+    match value.as_str() {
+        None => Err(JsonError::shape(alloc, value)),
+        Some(text) => {
+            let text = PlSmallStr::new(alloc, text)?;
+            Ok(text)
+        }
+    }
+}
+
 // A type: a name, or an object of one key, which names its form.
+#[cycle(types)]
 pub(crate) fn read_type(alloc: Global, value: &Value) -> Result<DataType, JsonError>
     ensures ok { IfOk result (λ dtype. type_of (view value.now) ≡ Some (ty dtype)) }
     ensures err { IfErr result (IsErrorOf a_type (view value.now)) }
@@ -34,9 +51,55 @@ pub(crate) fn read_type(alloc: Global, value: &Value) -> Result<DataType, JsonEr
                     let unit = at(alloc, Step::Key("Duration"), read_unit(alloc, inner))?;
                     Ok(DataType::Duration(unit))
                 }
+                "List" => {
+                    let item = at(alloc, Step::Key("List"), read_type(alloc, inner))?;
+                    let item = Box::new(alloc, item)?;
+                    Ok(DataType::List(item))
+                }
+                "Struct" => {
+                    let fields = at(alloc, Step::Key("Struct"), read_fields(alloc, inner))?;
+                    Ok(DataType::Struct(fields))
+                }
                 _ => Err(JsonError::shape(alloc, value)),
             },
         },
+    }
+}
+
+// The fields of a type of structs: a list of them, whose names may repeat.
+#[cycle(types)]
+fn read_fields(alloc: Global, value: &Value) -> Result<Fields, JsonError>
+    ensures ok { IfOk result (λ fields. struct_of (view value.now) ≡ Some (fields_of fields)) }
+    ensures err { IfErr result (IsErrorOf field_list (view value.now)) }
+{
+    match value.as_array() {
+        None => Err(JsonError::shape(alloc, value)),
+        Some(values) => {
+            let values = values.as_slice();
+            let mut items = Vec::new(alloc);
+            for (number, value) in values.iter().enumerate() {
+                let field = at(alloc, Step::Item(number), read_column(alloc, value))?;
+                items.push(field)?;
+            }
+            Ok(Fields { items })
+        }
+    }
+}
+
+// A column or a field: `[name, type]`.
+#[cycle(types)]
+pub(crate) fn read_column(alloc: Global, value: &Value) -> Result<Field, JsonError>
+    ensures ok { IfOk result (λ field. column_of (view value.now)
+        ≡ Some (field.name, ty field.dtype)) }
+    ensures err { IfErr result (IsErrorOf a_column (view value.now)) }
+{
+    match two_items(value) {
+        None => Err(JsonError::shape(alloc, value)),
+        Some((name, dtype)) => {
+            let name = at(alloc, Step::Item(0), read_text(alloc, name))?;
+            let dtype = at(alloc, Step::Item(1), read_type(alloc, dtype))?;
+            Ok(Field::new(name, dtype))
+        }
     }
 }
 

@@ -3,7 +3,7 @@
 
 ghost use Rattle.std.specs.Prelude.{◌≡◌, ℕ, ℤ, pos, negsuc, [], ◌∷◌, Float, List, Some, None, String, codes, string_bytes, true, false};
 ghost use Rattle.std.specs.Global.{Global};
-ghost use Rattle.plan_types.specs.Types.{NullType, Truth, Integer, TextType, DateType, TimeType, DatetimeType, DurationType, Untyped};
+ghost use Rattle.plan_types.specs.Types.{NullType, Truth, Integer, TextType, DateType, TimeType, DatetimeType, DurationType, ListType, StructType, Untyped, no_field, with_field};
 ghost use Rattle.plan_types.specs.Values.{IntValue};
 ghost use Rattle.plan_types.specs.declared.dtype.CastOptions.TheVariants.{Strict, NonStrict, Overflowing};
 ghost use Rattle.plan_types.specs.declared.dtype.TimeUnit.TheVariants.{Nanoseconds, Microseconds, Milliseconds};
@@ -103,6 +103,44 @@ pub fn type_examples()
     ensures list { type_of (array (item (string (codes "Date")) no_items)) ≡ None }
     ensures unit { unit_of (string (codes "us")) ≡ Some Microseconds }
     ensures upper_case { unit_of (string (codes "US")) ≡ None }
+{}
+
+/// A type of lists has the type of their items, and a type of structs a list of fields, each with a name and a type.
+pub fn nested_type_examples()
+    ensures list { type_of (object (member (codes "List") (string (codes "Int8")) no_members)) ≡ Some (ListType (Integer true 8)) }
+    ensures list_of_moments { let item_type = object (member (codes "Datetime") (string (codes "ms")) no_members) in
+        type_of (object (member (codes "List") item_type no_members)) ≡ Some (ListType (DatetimeType Milliseconds)) }
+    ensures list_of_lists { let inner = object (member (codes "List") (string (codes "Date")) no_members) in
+        type_of (object (member (codes "List") inner no_members)) ≡ Some (ListType (ListType DateType)) }
+    ensures no_fields { type_of (object (member (codes "Struct") (array no_items) no_members)) ≡ Some (StructType no_field) }
+    ensures two_fields { let texts = object (member (codes "List") (string (codes "String")) no_members) in
+        let first = array (item (string (codes "a")) (item (string (codes "Int8")) no_items)) in
+        let second = array (item (string (codes "b")) (item texts no_items)) in
+        type_of (object (member (codes "Struct") (array (item first (item second no_items))) no_members))
+        ≡ Some (StructType (with_field (codes "a") (Integer true 8) (with_field (codes "b") (ListType TextType) no_field))) }
+    ensures name_twice { let field = array (item (string (codes "a")) (item (string (codes "Time")) no_items)) in
+        type_of (object (member (codes "Struct") (array (item field (item field no_items))) no_members))
+        ≡ Some (StructType (with_field (codes "a") TimeType (with_field (codes "a") TimeType no_field))) }
+    ensures struct_in_struct { let inner = object (member (codes "Struct") (array no_items) no_members) in
+        let field = array (item (string []) (item inner no_items)) in
+        type_of (object (member (codes "Struct") (array (item field no_items)) no_members))
+        ≡ Some (StructType (with_field [] (StructType no_field) no_field)) }
+    ensures list_without_items { type_of (string (codes "List")) ≡ None }
+    ensures list_of_unknown { type_of (object (member (codes "List") (string (codes "List")) no_members)) ≡ None }
+    ensures list_of_two { let types = array (item (string (codes "Date")) (item (string (codes "Time")) no_items)) in
+        type_of (object (member (codes "List") types no_members)) ≡ None }
+    ensures lower_case { type_of (object (member (codes "list") (string (codes "Int8")) no_members)) ≡ None }
+    ensures fields_by_key { let fields = object (member (codes "a") (string (codes "Int8")) no_members) in
+        type_of (object (member (codes "Struct") fields no_members)) ≡ None }
+    ensures short_field { let field = array (item (string (codes "a")) no_items) in
+        type_of (object (member (codes "Struct") (array (item field no_items)) no_members)) ≡ None }
+    ensures long_field { let field = array (item (string (codes "a")) (item (string (codes "Int8")) (item null no_items))) in
+        type_of (object (member (codes "Struct") (array (item field no_items)) no_members)) ≡ None }
+    ensures nameless_field { let field = array (item null (item (string (codes "Int8")) no_items)) in
+        type_of (object (member (codes "Struct") (array (item field no_items)) no_members)) ≡ None }
+    ensures field_of_unknown { let field = array (item (string (codes "a")) (item (string (codes "int8")) no_items)) in
+        let known = array (item (string (codes "a")) (item (string (codes "Int8")) no_items)) in
+        type_of (object (member (codes "Struct") (array (item known (item field no_items))) no_members)) ≡ None }
 {}
 
 /// A filter: its input, and the expression that is true for the rows which it keeps.
@@ -226,6 +264,12 @@ pub fn fault_examples()
     ensures type_of_no_key { own_fault fault.a_type (object no_members) ≡ Some BadShape }
     ensures unknown_unit { own_fault fault.a_unit (string (codes "s")) ≡ Some BadShape }
     ensures known_unit { own_fault fault.a_unit (string (codes "ns")) ≡ None }
+    ensures list_of_unknown { own_fault fault.a_type (object (member (codes "List") null no_members)) ≡ None }
+    ensures struct_of_unknown { own_fault fault.a_type (object (member (codes "Struct") null no_members)) ≡ None }
+    ensures type_of_list { own_fault fault.a_type (array (item (string (codes "Date")) no_items)) ≡ Some BadShape }
+    ensures no_field_list { own_fault fault.field_list (object no_members) ≡ Some BadShape }
+    ensures field_twice { let field = array (item (string (codes "a")) (item null no_items)) in
+        own_fault fault.field_list (array (item field (item field no_items))) ≡ None }
     ensures long_column { own_fault fault.a_column (array (item null (item null (item null no_items)))) ≡ Some BadShape }
     ensures short_column { own_fault fault.a_column (array (item null no_items)) ≡ Some BadShape }
     ensures column_twice { let column = array (item (string (codes "a")) (item null no_items)) in
@@ -264,6 +308,7 @@ pub fn float_examples()
     ensures query { (x : Float) → own_fault fault.a_query (number (float x)) ≡ Some BadFloat }
     ensures list { (x : Float) → own_fault fault.table_list (number (float x)) ≡ Some BadFloat }
     ensures columns { (x : Float) → own_fault fault.column_list (number (float x)) ≡ Some BadFloat }
+    ensures fields { (x : Float) → own_fault fault.field_list (number (float x)) ≡ Some BadFloat }
     ensures text { (x : Float) → own_fault fault.a_text (number (float x)) ≡ Some BadFloat }
     ensures type_name { (x : Float) → own_fault fault.a_type (number (float x)) ≡ Some BadFloat }
     ensures unit_name { (x : Float) → own_fault fault.a_unit (number (float x)) ≡ Some BadFloat }
@@ -325,6 +370,29 @@ pub fn place_examples()
     ensures none_below_an_unknown_key { (kind : fault.FaultKind) (path : List fault.Step)
         → let d = object (member (codes "plan") null (member (codes "tables") null (member (codes "x/y") null no_members))) in
         ¬ (IsBadAt fault.a_query d kind (key (codes "x/y") ∷ path)) }
+{}
+
+/// Below a type stand the type of a list's items, the list of a struct's fields, and a field's name and type.
+pub fn nested_place_examples()
+    ensures item_type { let d = object (member (codes "List") (string (codes "int8")) no_members) in
+        IsBadAt fault.a_type d BadShape (key (codes "List") ∷ []) }
+    ensures unit_of_items { let items = object (member (codes "Datetime") (string (codes "s")) no_members) in
+        let d = object (member (codes "List") items no_members) in
+        IsBadAt fault.a_type d BadShape (key (codes "List") ∷ key (codes "Datetime") ∷ []) }
+    ensures fields { (x : Float) → let d = object (member (codes "Struct") (number (float x)) no_members) in
+        IsBadAt fault.a_type d BadFloat (key (codes "Struct") ∷ []) }
+    ensures short_field { let field = array (item (string (codes "a")) no_items) in
+        let d = object (member (codes "Struct") (array (item null (item field no_items))) no_members) in
+        IsBadAt fault.a_type d BadShape (key (codes "Struct") ∷ fault.number 1 ∷ []) }
+    ensures field_name { let field = array (item null (item null no_items)) in
+        let d = object (member (codes "Struct") (array (item field no_items)) no_members) in
+        IsBadAt fault.a_type d BadShape (key (codes "Struct") ∷ fault.number 0 ∷ fault.number 0 ∷ []) }
+    ensures field_type { let list = object (member (codes "List") null no_members) in
+        let field = array (item null (item list no_items)) in
+        let d = object (member (codes "Struct") (array (item field no_items)) no_members) in
+        IsBadAt fault.a_type d BadShape (key (codes "Struct") ∷ fault.number 0 ∷ fault.number 1 ∷ key (codes "List") ∷ []) }
+    ensures none_below_an_unknown_key { (kind : fault.FaultKind) (path : List fault.Step)
+        → ¬ (IsBadAt fault.a_type (object (member (codes "list") (string (codes "s")) no_members)) kind (key (codes "list") ∷ path)) }
 {}
 
 /// A pointer has each step behind a slash. In a key, `~` is `~0` and `/` is `~1`.

@@ -8,8 +8,7 @@ ghost use Rattle.plan_json.specs.Errors.{IsErrorOf};
 ghost use Rattle.plan_json.specs.Faults.{an_expression, a_literal, operands, an_operator, a_cast, a_mode, expression_list};
 ghost use Rattle.plan_json.specs.Queries.{expression_of, literal_of, binary_of, operator_named, operator_of, cast_of, mode_named, mode_of, expressions_of};
 
-use super::columns::read_text;
-use super::dtype::read_type;
+use super::dtype::{read_text, read_type};
 use super::error::{JsonError, Step, at};
 use super::value::{only_member, three_items, whole_number};
 use plan_dsl::expr::Expr;

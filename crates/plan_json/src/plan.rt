@@ -8,7 +8,8 @@ ghost use Rattle.plan_json.specs.Faults.{a_plan, a_scan, a_filter, a_selection};
 ghost use Rattle.plan_json.specs.Queries.{plan_of, scan_of, filter_of, select_of};
 ghost use Rattle.plan_json.specs.Tables.{declared};
 
-use super::columns::{read_columns, read_text};
+use super::columns::read_columns;
+use super::dtype::read_text;
 use super::error::{JsonError, Step, at};
 use super::expression::{read_expression, read_expressions};
 use super::tables::Tables;

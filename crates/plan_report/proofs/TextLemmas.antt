@@ -1,13 +1,19 @@
 -- Texts that are appended to, piece by piece.
-use Rattle.std.proofs.Common.{◌≡◌, ◌⊎◌, ℕ, ◌+◌, ◌<◌, ◌≤◌, List, [], ◌∷◌, ◌++◌, length, take, Some, None, slice_get, sym, ap, ◌∙◌, arith, append_assoc, ⊎_elim}
-use Rattle.std.specs.List.{join_by}
+use Rattle.std.proofs.Common.{◌≡◌, ℕ, ◌+◌, ◌<◌, ◌≤◌, List, [], ◌∷◌, ◌++◌, length, take, Some, None, Result, Ok, Err, OnOk, slice_get, map, codes, zero, suc, slice_index_or, refl, sym, ap, ◌∙◌, arith, append_assoc}
+use Rattle.std.specs.List.{join_by, flat_map}
 use Rattle.std.specs.Str.{chars, IsUtf8}
 use Rattle.std.proofs.lemmas.List.{flat_map_more, take_more, append-nil, length-take-le}
 use Rattle.std.proofs.lemmas.Option.{slice_get_within, slice_get-get_or, get_or_from_slice_get}
 use Rattle.std.proofs.lemmas.Str.{encodes-chars}
 use Rattle.serde_json.specs.Data.{string}
 use Rattle.serde_json.specs.Written.{compact_text}
-use Rattle.plan_report.specs.Texts.{name_text}
+use Rattle.plan_types.specs.Schemas.{Columns}
+use Rattle.plan_types.specs.Types.{StructType, ty, field_of, fields_from}
+use Rattle.plan_types.specs.declared.dtype.DataType.{DataType, Struct}
+use Rattle.plan_types.specs.declared.dtype.Fields.{Fields as StructFields, out-Fields}
+use Rattle.plan_types.specs.declared.field.Field.{Field}
+use Rattle.plan_types.proofs.FieldLemmas.{struct_type}
+use Rattle.plan_report.specs.Texts.{name_text, in_parentheses, field_text, field_texts, separator, schema_text, type_text, variant_text}
 
 -- the text of a name, from its bytes
 pub name_text-chars : (bytes : List ℕ) → IsUtf8 bytes → compact_text (string bytes) ≡ name_text (chars bytes)
@@ -23,29 +29,59 @@ pub no_item : {X : Type 0} (xs : List X) (i : ℕ) → i < length xs → slice_g
 no_item [] i within none = omega arith
 no_item (x ∷ xs) i within none = let found = slice_get-get_or (x ∷ xs) i x within in cc
 
--- the text with a separator behind it, where something stands before
-abbrev pub IsSeparated : ℕ → List ℕ → List ℕ → List ℕ → Type 0
-IsSeparated i separator old new = ((i ≤ 0) × (new ≡ old)) ⊎ ((0 < i) × (new ≡ old ++ separator))
-
-module _ {X : Type 0} (f : X → List ℕ) (separator before : List ℕ) where
-  none_before : (xs : List X) (x : X) → length xs ≤ 0 → (before ++ join_by f separator xs) ++ f x ≡ before ++ join_by f separator (xs ++ x ∷ [])
+module _ {X : Type 0} (f : X → List ℕ) (before : List ℕ) where
+  none_before : (xs : List X) (x : X) → length xs ≤ 0 → (before ++ join_by f (codes ", ") xs) ++ f x ≡ before ++ join_by f (codes ", ") (xs ++ x ∷ [])
   none_before [] x none = ap (λ t. t ++ f x) (append-nil before) ∙ ap (λ t. before ++ t) (sym (append-nil (f x)))
   none_before (y ∷ ys) x none = absurd (omega arith)
 
-  some_before : (xs : List X) (x : X) → 0 < length xs → ((before ++ join_by f separator xs) ++ separator) ++ f x ≡ before ++ join_by f separator (xs ++ x ∷ [])
+  some_before : (xs : List X) (x : X) → 0 < length xs → ((before ++ join_by f (codes ", ") xs) ++ codes ", ") ++ f x ≡ before ++ join_by f (codes ", ") (xs ++ x ∷ [])
   some_before [] x some = absurd (omega arith)
   some_before (y ∷ ys) x some =
-      append_assoc (before ++ join_by f separator (y ∷ ys)) separator (f x)
-      ∙ append_assoc before (join_by f separator (y ∷ ys)) (separator ++ f x)
-      ∙ ap (λ t. before ++ t) (flat_map_more (λ z. separator ++ f z) (f y) ys x)
+      append_assoc (before ++ join_by f (codes ", ") (y ∷ ys)) (codes ", ") (f x)
+      ∙ append_assoc before (join_by f (codes ", ") (y ∷ ys)) (codes ", " ++ f x)
+      ∙ ap (λ t. before ++ t) (flat_map_more (λ z. codes ", " ++ f z) (f y) ys x)
 
   -- one more item is appended
-  pub joined_more : (xs : List X) (i : ℕ) (x : X) (old separated new : List ℕ) → slice_get xs i ≡ Some x → old ≡ before ++ join_by f separator (take i xs) → IsSeparated i separator old separated → new ≡ separated ++ f x → new ≡ before ++ join_by f separator (take (i + 1) xs)
+  pub joined_more : (xs : List X) (i : ℕ) (x : X) (old separated new : List ℕ) → slice_get xs i ≡ Some x → old ≡ before ++ join_by f (codes ", ") (take i xs) → separated ≡ old ++ separator i → new ≡ separated ++ f x → new ≡ before ++ join_by f (codes ", ") (take (i + 1) xs)
   joined_more xs i x old separated new at so_far apart put =
       let within = slice_get_within xs i x at in
       let long : length (take i xs) ≡ i = length-take-le i xs (omega arith) in
-      let last = ap (λ l. before ++ join_by f separator l) (sym (item_more xs i x at)) in
-      ⊎_elim
-      (λ p. put ∙ ap (λ t. t ++ f x) (p.1 ∙ so_far) ∙ none_before (take i xs) x (omega (arith, p.0)) ∙ last)
-      (λ p. put ∙ ap (λ t. t ++ f x) (p.1 ∙ ap (λ t. t ++ separator) so_far) ∙ some_before (take i xs) x (omega (arith, p.0)) ∙ last)
-      apart
+      put ∙ ap (λ t. t ++ f x) apart ∙ joined i (take i xs) long so_far ∙ ap (λ l. before ++ join_by f (codes ", ") l) (sym (item_more xs i x at))
+    where
+      joined : (n : ℕ) (some : List X) → length some ≡ n → old ≡ before ++ join_by f (codes ", ") some → (old ++ separator n) ++ f x ≡ before ++ join_by f (codes ", ") (some ++ x ∷ [])
+      joined zero some long all = ap (λ t. t ++ f x) (append-nil old ∙ all) ∙ none_before some x (omega (arith, long))
+      joined (suc n) some long all = ap (λ t. (t ++ codes ", ") ++ f x) all ∙ some_before some x (omega (arith, long))
+
+-- the item at a place, of what is made of each item
+pub item_at : {X Y : Type 0} (f : X → Y) (xs : List X) (i : ℕ) (x : X) → i < length xs → x ≡ slice_index_or xs i x → slice_get (map f xs) i ≡ Some (f x)
+item_at f [] i x within is = absurd (omega arith)
+item_at f (y ∷ ys) zero x within is = ap (λ z. Some (f z)) (sym is)
+item_at f (y ∷ ys) (suc i) x within is = item_at f ys i x (omega arith) is
+
+-- ---- fields
+
+later_fields : (columns : Columns) → flat_map (λ text. codes ", " ++ text) (field_texts (fields_from columns)) ≡ flat_map (λ column. codes ", " ++ field_text column) columns
+later_fields [] = refl
+later_fields (first ∷ rest) = ap (λ t. (codes ", " ++ field_text first) ++ t) (later_fields rest)
+
+-- fields are written as those of a schema
+fields_joined : (columns : Columns) → join_by (λ text. text) (codes ", ") (field_texts (fields_from columns)) ≡ join_by field_text (codes ", ") columns
+fields_joined [] = refl
+fields_joined (first ∷ rest) = ap (λ t. field_text first ++ t) (later_fields rest)
+
+pub fields_as_schema : (columns : Columns) → type_text (StructType (fields_from columns)) ≡ codes "Struct" ++ schema_text columns
+fields_as_schema columns = ap (λ t. codes "Struct" ++ in_parentheses t) (fields_joined columns)
+
+pub struct_text : (dtype : DataType) (fields : StructFields) (items : List Field) → dtype ≡ Struct fields → items ≡ (out-Fields fields).items.items → type_text (ty dtype) ≡ codes "Struct" ++ schema_text (map field_of items)
+struct_text dtype fields items is shown =
+    ap type_text (struct_type dtype fields items is shown) ∙ fields_as_schema (map field_of items)
+
+-- a type of structs is appended: its variant's name, and its fields
+pub struct_pushed : {X E : Type 0} (result : Result X E) (dtype : DataType) (fields : StructFields) (items : List Field) (before named after : List ℕ) → dtype ≡ Struct fields → items ≡ (out-Fields fields).items.items → named ≡ before ++ variant_text (ty dtype) → OnOk result (after ≡ named ++ schema_text (map field_of items)) → OnOk result (after ≡ before ++ type_text (ty dtype))
+struct_pushed (Err e) dtype fields items before named after is shown so_far put = tt
+struct_pushed (Ok x) dtype fields items before named after is shown so_far put =
+    let schema = schema_text (map field_of items) in
+    put
+    ∙ ap (λ t. t ++ schema) (so_far ∙ ap (λ d. before ++ variant_text (ty d)) is)
+    ∙ append_assoc before (codes "Struct") schema
+    ∙ ap (λ t. before ++ t) (sym (struct_text dtype fields items is shown))

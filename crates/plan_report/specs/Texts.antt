@@ -1,9 +1,9 @@
 -- Texts of names, types, schemas, places and kinds.
-use Rattle.std.specs.Prelude.{ℕ, true, false, List, [], ◌∷◌, ◌++◌, codes, decimal, flat_map, encode_utf8_all}
+use Rattle.std.specs.Prelude.{ℕ, zero, suc, true, false, List, [], ◌∷◌, ◌++◌, codes, decimal, flat_map, encode_utf8_all}
 use Rattle.std.specs.List.{join_by}
 use Rattle.serde_json.specs.Data.{string}
 use Rattle.serde_json.specs.Written.{compact_text}
-use Rattle.plan_types.specs.Types.{Ty, NullType, Truth, Integer, TextType, DateType, TimeType, DatetimeType, DurationType, Untyped}
+use Rattle.plan_types.specs.Types.{Ty, NullType, Truth, Integer, TextType, DateType, TimeType, DatetimeType, DurationType, ListType, StructType, Untyped, Fields, no_field, with_field}
 use Rattle.plan_types.specs.Schemas.{Name, Columns}
 use Rattle.plan_types.specs.declared.dtype.TimeUnit.{TimeUnit}
 use Rattle.plan_types.specs.declared.dtype.TimeUnit.TheVariants.{Nanoseconds, Microseconds, Milliseconds}
@@ -34,13 +34,23 @@ variant_text DateType = codes "Date"
 variant_text TimeType = codes "Time"
 variant_text (DatetimeType unit) = codes "Datetime"
 variant_text (DurationType unit) = codes "Duration"
+variant_text (ListType item) = codes "List"
+variant_text (StructType fields) = codes "Struct"
 variant_text (Untyped number) = codes "Unknown"
 
--- the type's parts, behind its variant's name
-abbrev pub parts_text : Ty → List ℕ
-parts_text (DatetimeType unit) = in_parentheses (unit_text unit)
-parts_text (DurationType unit) = in_parentheses (unit_text unit)
-parts_text type = []
+abbrev mutual
+  -- the type's parts, behind its variant's name
+  pub parts_text : Ty → List ℕ
+  parts_text (DatetimeType unit) = in_parentheses (unit_text unit)
+  parts_text (DurationType unit) = in_parentheses (unit_text unit)
+  parts_text (ListType item) = in_parentheses (variant_text item ++ parts_text item)
+  parts_text (StructType fields) = in_parentheses (join_by (λ text. text) (codes ", ") (field_texts fields))
+  parts_text type = []
+
+  -- each field's name and type
+  pub field_texts : Fields → List (List ℕ)
+  field_texts no_field = []
+  field_texts (with_field name type rest) = (name_text name ++ codes " " ++ (variant_text type ++ parts_text type)) ∷ field_texts rest
 
 abbrev pub type_text : Ty → List ℕ
 type_text type = variant_text type ++ parts_text type
@@ -48,8 +58,13 @@ type_text type = variant_text type ++ parts_text type
 abbrev pub field_text : Name × Ty → List ℕ
 field_text column = name_text column.0 ++ codes " " ++ type_text column.1
 
+-- what stands before the field of that number
+abbrev pub separator : ℕ → List ℕ
+separator zero = []
+separator (suc before) = codes ", "
+
 abbrev pub schema_text : Columns → List ℕ
-schema_text columns = codes "(" ++ join_by field_text (codes ", ") columns ++ codes ")"
+schema_text columns = in_parentheses (join_by field_text (codes ", ") columns)
 
 abbrev pub step_text : ℕ → List ℕ
 step_text step = codes "." ++ decimal step

@@ -1,8 +1,9 @@
 //! Worked examples of the definitions. The functions do nothing: their clauses are the examples.
 #![tactic(auto, unfolding(crate::proofs::OnLiterals::texts_on_literals))]
 
-ghost use Rattle.std.specs.Prelude.{◌≡◌, [], ◌∷◌, codes, true, false, Some, None};
-ghost use Rattle.plan_types.specs.Types.{NullType, Truth, Integer, TextType, DateType, TimeType, DatetimeType, DurationType};
+ghost use Rattle.std.specs.Prelude.{◌≡◌, [], ◌∷◌, ◌++◌, codes, true, false, Some, None};
+ghost use Rattle.plan_types.specs.Schemas.{Columns};
+ghost use Rattle.plan_types.specs.Types.{NullType, Truth, Integer, TextType, DateType, TimeType, DatetimeType, DurationType, ListType, StructType, no_field, with_field, fields_from};
 ghost use Rattle.plan_types.specs.declared.dtype.TimeUnit.TheVariants.{Nanoseconds, Microseconds, Milliseconds};
 ghost use Rattle.plan_dsl.specs.Ops.{ColumnOp, BinaryOp, CastOp};
 ghost use Rattle.plan_dsl.specs.Plans.{empty_table, named, scan_op, select_op, filter_op};
@@ -35,6 +36,26 @@ pub fn type_examples()
     ensures fine_span { type_text (DurationType Nanoseconds) ≡ codes "Duration(ns)" }
     ensures span { type_text (DurationType Microseconds) ≡ codes "Duration(us)" }
     ensures coarse_span { type_text (DurationType Milliseconds) ≡ codes "Duration(ms)" }
+{}
+
+/// A type of lists has that of the items in parentheses, and a type of structs its fields.
+pub fn nested_type_examples()
+    ensures list { type_text (ListType (Integer true 64)) ≡ codes "List(Int64)" }
+    ensures list_of_moments { type_text (ListType (DatetimeType Milliseconds)) ≡ codes "List(Datetime(ms))" }
+    ensures list_of_lists { type_text (ListType (ListType TextType)) ≡ codes "List(List(String))" }
+    ensures no_fields { type_text (StructType no_field) ≡ codes "Struct()" }
+    ensures one_field { type_text (StructType (with_field [] Truth no_field)) ≡ codes "Struct(\"\" Boolean)" }
+    ensures two_fields { let second = with_field (codes "b") (ListType TextType) no_field in
+        type_text (StructType (with_field (codes "a") (Integer true 8) second))
+        ≡ codes "Struct(\"a\" Int8, \"b\" List(String))" }
+    ensures name_twice { let second = with_field (codes "a") DateType no_field in
+        type_text (StructType (with_field (codes "a") DateType second))
+        ≡ codes "Struct(\"a\" Date, \"a\" Date)" }
+    ensures struct_in_struct { let inner = with_field (codes "b") NullType (with_field (codes "c") TimeType no_field) in
+        let second = with_field (codes "d") (ListType (StructType no_field)) no_field in
+        type_text (StructType (with_field (codes "a") (StructType inner) second))
+        ≡ codes "Struct(\"a\" Struct(\"b\" Null, \"c\" Time), \"d\" List(Struct()))" }
+    ensures as_schema { (columns : Columns) → type_text (StructType (fields_from columns)) ≡ codes "Struct" ++ schema_text columns }
 {}
 
 /// A schema is a list of names and types in parentheses.

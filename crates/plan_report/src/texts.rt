@@ -1,13 +1,14 @@
 //! Texts of names, types, schemas and places.
-ghost use Rattle.std.specs.Prelude.{◌≡◌, ◌++◌, decimal, string_bytes, IfOk, OnOk};
+ghost use Rattle.std.specs.Prelude.{◌≡◌, ◌++◌, decimal, map, string_bytes, IfOk, OnOk};
 ghost use Rattle.serde_json.specs.Data.{string};
 ghost use Rattle.serde_json.specs.Written.{compact_text};
 ghost use Rattle.plan_types.specs.Schemas.{columns};
-ghost use Rattle.plan_types.specs.Types.{ty};
-ghost use Rattle.plan_report.specs.Texts.{name_text, in_parentheses, unit_text, variant_text, type_text, field_text, schema_text, path_text, error_kind_text};
+ghost use Rattle.plan_types.specs.Types.{field_of, ty};
+ghost use Rattle.plan_report.specs.Texts.{name_text, in_parentheses, unit_text, variant_text, type_text, field_text, separator, schema_text, path_text, error_kind_text};
 
 use plan_types::dtype::{DataType, TimeUnit};
 use plan_types::error::ErrorKind;
+use plan_types::field::Field;
 use plan_types::schema::Schema;
 use plan_types::text::PlSmallStr;
 use serde_json::Value;
@@ -47,6 +48,8 @@ pub(crate) fn variant_name(dtype: &DataType) -> &'static str
         DataType::Time => "Time",
         DataType::Datetime(_) => "Datetime",
         DataType::Duration(_) => "Duration",
+        DataType::List(_) => "List",
+        DataType::Struct(_) => "Struct",
         DataType::Unknown(_) => "Unknown",
     }
 }
@@ -114,18 +117,40 @@ fn push_unit(text: &mut String, unit: TimeUnit) -> Result<(), AllocError>
 }
 
 /// Appends the type: its variant's name, and its parts.
-pub(crate) fn push_type(text: &mut String, dtype: &DataType) -> Result<(), AllocError>
+#[cycle(type_texts)]
+pub(crate) fn push_type(
+    alloc: Global,
+    text: &mut String,
+    dtype: &DataType,
+) -> Result<(), AllocError>
     ensures { OnOk result (string_bytes text.new ≡ string_bytes text.old ++ type_text (ty dtype.now)) }
 {
     text.push_str(variant_name(dtype))?;
     match dtype {
         DataType::Datetime(unit) => push_unit(text, *unit),
         DataType::Duration(unit) => push_unit(text, *unit),
+        DataType::List(item) => {
+            text.push_str("(")?;
+            push_type(alloc, text, item)?;
+            text.push_str(")")
+        }
+        DataType::Struct(fields) => push_fields(alloc, text, fields.items.as_slice()),
         _ => Ok(()),
     }
 }
 
+/// Appends what stands before the field of that number.
+fn push_separator(text: &mut String, number: usize) -> Result<(), AllocError>
+    ensures { OnOk result (string_bytes text.new ≡ string_bytes text.old ++ separator number) }
+{
+    if number > 0 {
+        text.push_str(", ")?;
+    }
+    Ok(())
+}
+
 /// Appends a column's name and type.
+#[cycle(type_texts)]
 pub(crate) fn push_field(
     alloc: Global,
     text: &mut String,
@@ -136,7 +161,21 @@ pub(crate) fn push_field(
 {
     push_name(alloc, text, name)?;
     text.push_str(" ")?;
-    push_type(text, dtype)
+    push_type(alloc, text, dtype)
+}
+
+/// Appends the fields of a type of structs, as those of a schema.
+#[cycle(type_texts)]
+fn push_fields(alloc: Global, text: &mut String, fields: &[Field]) -> Result<(), AllocError>
+    ensures { OnOk result (string_bytes text.new ≡ string_bytes text.old ++ schema_text (map field_of fields.now)) }
+{
+    text.push_str("(")?;
+    for index in 0..fields.len() {
+        push_separator(text, index)?;
+        let field = &fields[index];
+        push_field(alloc, text, &field.name, &field.dtype)?;
+    }
+    text.push_str(")")
 }
 
 /// Appends the columns of a schema.
@@ -149,9 +188,7 @@ pub(crate) fn push_schema(
 {
     text.push_str("(")?;
     for index in 0..schema.len() {
-        if index > 0 {
-            text.push_str(", ")?;
-        }
+        push_separator(text, index)?;
         if let Some((name, dtype)) = schema.get_at_index(index) {
             push_field(alloc, text, name, dtype)?;
         }

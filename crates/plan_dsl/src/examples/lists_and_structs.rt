@@ -1,8 +1,8 @@
 //! Operators on lists and structs: types, refusals, values and meanings.
 
 ghost use Rattle.std.specs.Prelude.{◌≡◌, [], ◌∷◌, pos, map, codes, true, false, Ok, Err};
-ghost use Rattle.plan_types.specs.Types.{Ty, NullType, Truth, Integer, TextType, DateType, DatetimeType, DurationType, ListType, StructType, Untyped, Fields, no_field, with_field};
-ghost use Rattle.plan_types.specs.Values.{Val, NullValue, TruthValue, IntValue, TextValue, ListValue, StructValue, Vals, no_value, with_value};
+ghost use Rattle.plan_types.specs.Types.{NullType, Truth, Integer, TextType, DateType, DatetimeType, DurationType, ListType, StructType, Untyped, no_field, with_field};
+ghost use Rattle.plan_types.specs.Values.{NullValue, TruthValue, IntValue, TextValue, ListValue, StructValue, no_value, with_value};
 ghost use Rattle.plan_types.specs.Outcomes.{Done, Stuck};
 ghost use Rattle.plan_types.specs.Frames.{Frame};
 ghost use Rattle.plan_types.specs.declared.dtype.CastOptions.TheVariants.{Strict, NonStrict};
@@ -156,9 +156,9 @@ pub fn meanings_of_equal_lists()
         meaning [] frame (node (BinaryOp Eq) (more a (more b no_more))) (0 ∷ 1 ∷ 2 ∷ 3 ∷ [])
         ≡ Done (TruthValue true ∷ TruthValue true ∷ TruthValue false ∷ NullValue ∷ []) }
     ensures numbers_as_texts { let frame : Frame = record {
-          schema = (codes "a", ListType Truth) ∷ (codes "b", ListType TextType) ∷ [];
-          rows = (ListValue (with_value (TruthValue true) no_value) ∷ ListValue (with_value (TextValue (codes "true")) no_value) ∷ []) ∷ [];
-        } in
+      schema = (codes "a", ListType Truth) ∷ (codes "b", ListType TextType) ∷ [];
+      rows = (ListValue (with_value (TruthValue true) no_value) ∷ ListValue (with_value (TextValue (codes "true")) no_value) ∷ []) ∷ [];
+    } in
         let a = node (ColumnOp (codes "a")) no_more in
         let b = node (ColumnOp (codes "b")) no_more in
         meaning [] frame (node (BinaryOp Eq) (more a (more b no_more))) (0 ∷ []) ≡ Done (TruthValue true ∷ []) }
@@ -172,16 +172,16 @@ pub fn meanings_of_equal_lists()
         let b = node (ColumnOp (codes "b")) no_more in
         meaning [] frame (node (BinaryOp Eq) (more a (more b no_more))) (0 ∷ 1 ∷ []) ≡ Done (TruthValue true ∷ TruthValue false ∷ []) }
     ensures as_written { let frame : Frame = record {
-          schema = (codes "a", ListType (Integer true 8)) ∷ (codes "b", ListType (Integer true 64)) ∷ [];
-          rows = (ListValue no_value ∷ ListValue no_value ∷ []) ∷ [];
-        } in
+      schema = (codes "a", ListType (Integer true 8)) ∷ (codes "b", ListType (Integer true 64)) ∷ [];
+      rows = (ListValue no_value ∷ ListValue no_value ∷ []) ∷ [];
+    } in
         let a = node (ColumnOp (codes "a")) no_more in
         let b = node (ColumnOp (codes "b")) no_more in
         strict_run [] frame (node (BinaryOp Eq) (more a (more b no_more))) (0 ∷ []) ≡ Stuck }
     ensures with_its_cast { let frame : Frame = record {
-          schema = (codes "a", ListType (Integer true 8)) ∷ (codes "b", ListType (Integer true 64)) ∷ [];
-          rows = (ListValue no_value ∷ ListValue no_value ∷ []) ∷ [];
-        } in
+      schema = (codes "a", ListType (Integer true 8)) ∷ (codes "b", ListType (Integer true 64)) ∷ [];
+      rows = (ListValue no_value ∷ ListValue no_value ∷ []) ∷ [];
+    } in
         let a = node (ColumnOp (codes "a")) no_more in
         let b = node (ColumnOp (codes "b")) no_more in
         let wide = node (CastOp (ListType (Integer true 64)) NonStrict) (more a no_more) in

@@ -70,6 +70,13 @@ fn literals_are_of_an_integer_type_that_has_their_number(rt: HostRuntime) -> Res
 }
 
 #[test]
+fn lists_have_no_literal_of_a_number(rt: HostRuntime) -> Result<(), Fail> {
+    let list = DataType::List(Box::new(rt.alloc(), DataType::Int8)?);
+    assert!(rt; LiteralValue::of_number(&list, 1).is_none());
+    Ok(())
+}
+
+#[test]
 fn copies_of_literals_are_equal(rt: HostRuntime) -> Result<(), Fail> {
     let literals = [
         LiteralValue::Int(1),

@@ -2,7 +2,7 @@
 
 use super::{expression_answer, query_answer};
 use crate::read::read_query;
-use plan_types::dtype::{DataType, TimeUnit};
+use plan_types::dtype::{DataType, Fields, TimeUnit};
 use std::alloc::{AllocError, Global};
 use std::test::Fail;
 
@@ -102,6 +102,99 @@ fn reads_types_with_units(rt: HostRuntime) -> Result<(), Fail> {
     Ok(())
 }
 
+// Whether the text reads to lists of the type.
+fn reads_list_of(alloc: Global, dtype: &str, want: &DataType) -> Result<bool, Fail> {
+    match type_read(alloc, dtype)? {
+        DataType::List(item) => Ok(*item == *want),
+        _ => Ok(false),
+    }
+}
+
+// The fields of the type of structs to which the text reads.
+fn fields_read(alloc: Global, dtype: &str) -> Result<Fields, Fail> {
+    match type_read(alloc, dtype)? {
+        DataType::Struct(fields) => Ok(fields),
+        _ => Err(Fail::from("no struct")),
+    }
+}
+
+#[test]
+fn reads_types_of_lists(rt: HostRuntime) -> Result<(), Fail> {
+    let alloc = rt.alloc();
+    assert!(rt; reads_list_of(alloc, "{\"List\":\"Int8\"}", &DataType::Int8)?);
+    let unit = DataType::Datetime(TimeUnit::Milliseconds);
+    assert!(rt; reads_list_of(alloc, "{\"List\":{\"Datetime\":\"ms\"}}", &unit)?);
+    let item = Box::new(alloc, DataType::Date)?;
+    let inner = DataType::List(item);
+    assert!(rt; reads_list_of(alloc, "{\"List\":{\"List\":\"Date\"}}", &inner)?);
+    Ok(())
+}
+
+#[test]
+fn reads_types_of_structs(rt: HostRuntime) -> Result<(), Fail> {
+    let alloc = rt.alloc();
+    let fields = fields_read(alloc, "{\"Struct\":[]}")?;
+    assert_eq!(rt; fields.items.len(), 0);
+    let fields = fields_read(
+        alloc,
+        "{\"Struct\":[[\"a\",\"Int8\"],[\"a\",{\"Struct\":[]}]]}",
+    )?;
+    assert_eq!(rt; fields.items.len(), 2);
+    assert!(rt; fields.items[0].name.as_str() == "a");
+    assert!(rt; fields.items[0].dtype == DataType::Int8);
+    assert!(rt; fields.items[1].name.as_str() == "a");
+    let items = Vec::new(alloc);
+    assert!(rt; fields.items[1].dtype == DataType::Struct(Fields { items }));
+    Ok(())
+}
+
+#[test]
+fn tells_faults_in_types_with_types(rt: HostRuntime) -> Result<(), Fail> {
+    for (dtype, want) in [
+        ("{\"List\":\"int8\"}", "Shape /tables/0/columns/0/1/List"),
+        ("{\"List\":[\"Int8\"]}", "Shape /tables/0/columns/0/1/List"),
+        ("{\"List\":1.5}", "Float /tables/0/columns/0/1/List"),
+        (
+            "{\"List\":{\"Datetime\":\"s\"}}",
+            "Shape /tables/0/columns/0/1/List/Datetime",
+        ),
+        ("{\"Struct\":{}}", "Shape /tables/0/columns/0/1/Struct"),
+        ("{\"Struct\":1.5}", "Float /tables/0/columns/0/1/Struct"),
+        (
+            "{\"Struct\":[null]}",
+            "Shape /tables/0/columns/0/1/Struct/0",
+        ),
+        (
+            "{\"Struct\":[[\"a\"]]}",
+            "Shape /tables/0/columns/0/1/Struct/0",
+        ),
+        (
+            "{\"Struct\":[[\"a\",\"Date\",null]]}",
+            "Shape /tables/0/columns/0/1/Struct/0",
+        ),
+        (
+            "{\"Struct\":[[7,\"Date\"]]}",
+            "Shape /tables/0/columns/0/1/Struct/0/0",
+        ),
+        (
+            "{\"Struct\":[[0.5,\"Date\"]]}",
+            "Float /tables/0/columns/0/1/Struct/0/0",
+        ),
+        (
+            "{\"Struct\":[[\"a\",\"List\"]]}",
+            "Shape /tables/0/columns/0/1/Struct/0/1",
+        ),
+        (
+            "{\"Struct\":[[\"a\",\"Date\"],[\"b\",{\"List\":null}]]}",
+            "Shape /tables/0/columns/0/1/Struct/1/1/List",
+        ),
+    ] {
+        let found = type_answer(rt.alloc(), dtype)?;
+        assert!(rt; found.as_str() == want, "{found} of {dtype}");
+    }
+    Ok(())
+}
+
 #[test]
 fn tells_values_that_are_no_types(rt: HostRuntime) -> Result<(), Fail> {
     for dtype in [
@@ -113,6 +206,8 @@ fn tells_values_that_are_no_types(rt: HostRuntime) -> Result<(), Fail> {
         "\"Int128\"",
         "\"Unknown\"",
         "\"Datetime\"",
+        "\"List\"",
+        "\"Struct\"",
         "\"Duration\"",
         "\"Datetime(ms)\"",
         // Other kinds of values.
@@ -139,6 +234,8 @@ fn tells_objects_with_wrong_keys(rt: HostRuntime) -> Result<(), Fail> {
         "{\"Time\":null}",
         "{\"String\":1.5}",
         "{\"datetime\":\"ms\"}",
+        "{\"list\":\"Date\"}",
+        "{\"List\":\"Date\",\"Struct\":[]}",
         "{\"Datetime\":\"ms\",\"Duration\":\"ms\"}",
         "{\"Datetime\":\"s\",\"zone\":null}",
         "{\"Duration\":1.5,\"~/\":1.5}",

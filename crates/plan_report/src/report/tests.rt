@@ -13,11 +13,12 @@ use plan_arena::plan::IRPlan;
 use plan_dsl::literal::LiteralValue;
 use plan_dsl::operator::Operator;
 use plan_dsl::plan::ProjectionOptions;
-use plan_types::dtype::{CastOptions, DataType, TimeUnit};
+use plan_types::dtype::{CastOptions, DataType, Fields, TimeUnit};
 use plan_types::error::{ErrorKind, Place, PlanError};
+use plan_types::field::Field;
 use plan_types::schema::Schema;
 use plan_types::text::PlSmallStr;
-use std::alloc::Global;
+use std::alloc::{AllocError, Global};
 use std::test::Fail;
 
 fn add_column(
@@ -228,6 +229,69 @@ fn names_each_type_of_times(rt: HostRuntime) -> Result<(), Fail> {
         let text = format!(in alloc; ". df (\"x\" {want})\ncasts 0\n")?;
         assert_eq!(rt; report(alloc, &plan)?.as_str(), text.as_str());
     }
+    Ok(())
+}
+
+// Lists of a type.
+fn list_of(alloc: Global, item: DataType) -> Result<DataType, AllocError> {
+    let item = Box::new(alloc, item)?;
+    Ok(DataType::List(item))
+}
+
+fn add_field(
+    alloc: Global,
+    fields: &mut Vec<Field>,
+    name: &str,
+    dtype: DataType,
+) -> Result<(), AllocError> {
+    let name = PlSmallStr::new(alloc, name)?;
+    fields.push(Field::new(name, dtype))?;
+    Ok(())
+}
+
+// Structs of an Int8 and a list of texts.
+fn pair(alloc: Global) -> Result<DataType, AllocError> {
+    let mut items = Vec::new(alloc);
+    add_field(alloc, &mut items, "a", DataType::Int8)?;
+    let texts = list_of(alloc, DataType::String)?;
+    add_field(alloc, &mut items, "b", texts)?;
+    Ok(DataType::Struct(Fields { items }))
+}
+
+// The report of a table of a column of that type.
+fn reported(alloc: Global, dtype: DataType) -> Result<String, PlanError> {
+    let schema = one_column(alloc, "x", dtype)?;
+    let plan = scan(alloc, Arena::new(alloc), schema)?;
+    let text = report(alloc, &plan)?;
+    Ok(text)
+}
+
+#[test]
+fn names_types_of_lists(rt: HostRuntime) -> Result<(), Fail> {
+    let alloc = rt.alloc();
+    let text = reported(alloc, list_of(alloc, DataType::Int64)?)?;
+    assert_eq!(rt; text.as_str(), ". df (\"x\" List(Int64))\ncasts 0\n");
+    let inner = list_of(alloc, DataType::Duration(TimeUnit::Microseconds))?;
+    let text = reported(alloc, list_of(alloc, inner)?)?;
+    assert_eq!(rt;
+        text.as_str(),
+        ". df (\"x\" List(List(Duration(us))))\ncasts 0\n"
+    );
+    Ok(())
+}
+
+#[test]
+fn names_types_of_structs(rt: HostRuntime) -> Result<(), Fail> {
+    let alloc = rt.alloc();
+    let items = Vec::new(alloc);
+    let text = reported(alloc, DataType::Struct(Fields { items }))?;
+    assert_eq!(rt; text.as_str(), ". df (\"x\" Struct())\ncasts 0\n");
+    let text = reported(alloc, pair(alloc)?)?;
+    let want = ". df (\"x\" Struct(\"a\" Int8, \"b\" List(String)))\ncasts 0\n";
+    assert_eq!(rt; text.as_str(), want);
+    let text = reported(alloc, list_of(alloc, pair(alloc)?)?)?;
+    let want = ". df (\"x\" List(Struct(\"a\" Int8, \"b\" List(String))))\ncasts 0\n";
+    assert_eq!(rt; text.as_str(), want);
     Ok(())
 }
 
