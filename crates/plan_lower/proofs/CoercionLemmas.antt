@@ -14,8 +14,6 @@ use Rattle.plan_types.specs.declared.error.PlanError.{PlanError}
 use Rattle.plan_types.specs.declared.error.ErrorKind.{ErrorKind}
 use Rattle.plan_types.specs.declared.error.ErrorKind.TheVariants.{InvalidOperation}
 use Rattle.plan_types.specs.declared.dtype.DataType.{DataType}
-use Rattle.plan_types.specs.declared.dtype.DataType.TheVariants.{Unknown}
-use Rattle.plan_types.specs.declared.dtype.UnknownKind.TheVariants.{Int}
 use Rattle.plan_types.specs.declared.dtype.CastOptions.{CastOptions}
 use Rattle.plan_types.specs.declared.dtype.CastOptions.TheVariants.{NonStrict}
 use Rattle.plan_types.proofs.CommonLemmas.{alone_itself, alone_known, literal_has}
@@ -133,13 +131,8 @@ found_alone None alone own e is none = cc
 found_alone (Some dtype) alone own e is none = cc
 
 -- an operand that is no number without a type is made one of the other by a cast
-no_number : (from : DataType) → ((number : _) → from ≡ Unknown (Int number) → ⊥) → (number : ℤ) → ty from ≢ Untyped number
-no_number (Unknown (Int own)) apart number e = absurd (apart own refl)
-no_number _ apart number e = cc
-
-pub becomes_cast : (from : DataType) (target : Ty) → CanBecome (ty from) target → ((number : _) → from ≡ Unknown (Int number) → ⊥) → (is_known (ty from) ≡ true) × (can_cast (ty from) target ≡ true)
-becomes_cast from target can apart =
-    let casts = can.casts (no_number from apart) in (source_known (ty from) target casts, casts)
+pub becomes_cast : (from target : Ty) → CanBecome from target → ((number : ℤ) → from ≢ Untyped number) → (is_known from ≡ true) × (can_cast from target ≡ true)
+becomes_cast from target can own = let casts = can.casts own in (source_known from target casts, casts)
 
 -- a write at one node
 module _ (first : ℕ) (items : List AExpr) (at : ℕ) (item : AExpr) (t : Expression) (d : Denotes (HoldsFrom first items) at t) where

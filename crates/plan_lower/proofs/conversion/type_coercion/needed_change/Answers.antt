@@ -5,5 +5,5 @@ use Rattle.plan_lower.proofs.conversion.type_coercion.needed_change.Goals as goa
 
 pub returns-in_default : goal.returns-in_default
 returns-in_default c =
-    let cast = becomes_cast c.args.from.now (ty c.args.target) c.requires c.in_default in
-    (sym c.eq.ensures ∙ c.if-eq.false, (cast.0, (refl, cast.1)))
+    let cast = becomes_cast (ty c.args.from.now) (ty c.args.target) c.requires c.in_default.ensures in
+    (sym c.eq.ensures ∙ c.if-eq.false, cast.0, refl, cast.1)
