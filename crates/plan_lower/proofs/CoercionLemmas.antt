@@ -45,7 +45,7 @@ use Rattle.plan_lower.specs.declared.conversion.type_coercion.Change.TheVariants
 use Rattle.plan_lower.specs.Coercion.{DenotesTyped, Visits, IsChangeFor, changed_by, is_kept, ChangesOperands}
 use Rattle.plan_lower.specs.declared.type_table.TypeTable.{TypeTable}
 use Rattle.plan_lower.specs.Typed.{HasKnownType}
-use Rattle.plan_lower.proofs.TypingLemmas.{AllHaveType, AllRefused}
+use Rattle.plan_lower.proofs.TypingLemmas.{AllHaveType, AllRefused, source_known}
 
 -- a typed expression is a tree
 pub plain_tree : {registry : Registry} {schema : Columns} {items : List AExpr} {n : ℕ} → DenotesTyped registry schema 0 items n → DenotesTree (HoldsExpression items) n
@@ -122,13 +122,17 @@ number_becomes number own h =
     let has = literal_has number own h in
     record {
       known = alone_known (Untyped number) own h;
-      casts = λ k. cc;
+      casts = λ apart. absurd (apart number refl);
       has = λ other e. subst (λ n. (is_integer own && in_range own n) ≡ true) (number_is number other e) (and_from (is_integer own) (in_range own number) has.2 has.0);
     }
 
 pub found_alone : (found : Option DataType) (alone : Option Ty) (own : Ty) → option_map ty found ≡ alone → alone ≡ Some own → found ≡ None → ⊥
 found_alone None alone own e is none = cc
 found_alone (Some dtype) alone own e is none = cc
+
+-- an operand that is no number without a type is made one of the other by a cast
+pub becomes_cast : (from target : Ty) → CanBecome from target → ((number : ℤ) → from ≢ Untyped number) → (is_known from ≡ true) × (can_cast from target ≡ true)
+becomes_cast from target can own = let casts = can.casts own in (source_known from target casts, casts)
 
 -- a write at one node
 module _ (first : ℕ) (items : List AExpr) (at : ℕ) (item : AExpr) (t : Expression) (d : Denotes (HoldsFrom first items) at t) where

@@ -1,7 +1,8 @@
 -- Why operands are refused.
-use Rattle.std.proofs.Common.{◌≡◌, Bool, true, false, cond, ◌||◌, Option, Some, None, Result, Err, refl, ap, ◌∙◌, ⊎_elim}
-use Rattle.plan_types.specs.Types.{Ty, DatetimeType, DurationType, ty, is_known, is_temporal}
+use Rattle.std.proofs.Common.{◌≡◌, Bool, true, false, cond, not, ◌&&◌, ◌||◌, List, [], ◌∷◌, Option, Some, None, Result, Ok, Err, refl, ap, ◌∙◌, ⊎_elim}
+use Rattle.plan_types.specs.Types.{Ty, Truth, DatetimeType, DurationType, ty, is_bare, is_known, is_temporal}
 use Rattle.plan_types.specs.CommonTypes.{type_beside}
+use Rattle.plan_types.specs.Supertypes.{supertype}
 use Rattle.plan_types.proofs.CommonLemmas.{own_beside}
 use Rattle.plan_types.specs.Errors.{IsMemoryOr, IsRefusal, no_room, broken}
 use Rattle.plan_types.specs.declared.dtype.TimeUnit.{TimeUnit}
@@ -10,7 +11,8 @@ use Rattle.plan_types.specs.declared.dtype.DataType.TheVariants.{Datetime, Durat
 use Rattle.plan_types.specs.declared.error.ErrorKind.{ErrorKind}
 use Rattle.plan_types.specs.declared.error.ErrorKind.TheVariants.{SchemaMismatch, InvalidOperation}
 use Rattle.plan_types.specs.declared.error.PlanError.{PlanError}
-use Rattle.plan_dsl.specs.OperatorTypes.{Taken, both_to, plain_sum_types, sum_types, with_types}
+use Rattle.plan_dsl.specs.OperatorTypes.{Taken, both_to, comparison_types, has_parts, is_text_beside, order_types, pair_to, plain_sum_types, sum_types, with_types}
+use Rattle.plan_dsl.proofs.TypingLemmas.{ok_same}
 
 -- a moment is added to a span alone
 pub moment_alone : (unit : TimeUnit) (right : DataType) → ((other : TimeUnit) → right ≡ Duration other → ⊥) → sum_types (DatetimeType unit) (ty right) ≡ Err InvalidOperation
@@ -23,15 +25,46 @@ span_alone unit (Datetime other) not_moment not_span = absurd (not_moment other 
 span_alone unit (Duration other) not_moment not_span = absurd (not_span other refl)
 span_alone unit _ not_moment not_span = refl
 
--- other times aren't added
-pub other_sum : (left : DataType) (right : Ty) → ((unit : TimeUnit) → left ≡ Datetime unit → ⊥) → ((unit : TimeUnit) → left ≡ Duration unit → ⊥) → (is_temporal (ty left) || is_temporal right) ≡ true → sum_types (ty left) right ≡ Err InvalidOperation
-other_sum (Datetime unit) right not_moment not_span time = absurd (not_moment unit refl)
-other_sum (Duration unit) right not_moment not_span time = absurd (not_span unit refl)
-other_sum left right not_moment not_span time = ap (λ b. cond b (Err InvalidOperation) (plain_sum_types (ty left) right)) time
+-- other times, lists and structs aren't added
+pub other_sum : (left : DataType) (right : Ty) (none : Bool) → ((unit : TimeUnit) → left ≡ Datetime unit → ⊥) → ((unit : TimeUnit) → left ≡ Duration unit → ⊥) → (not (is_bare (ty left) && is_bare right) || (is_temporal (ty left) || is_temporal right)) ≡ none → sum_types (ty left) right ≡ cond none (Err InvalidOperation) (plain_sum_types (ty left) right)
+other_sum (Datetime unit) right none not_moment not_span h = absurd (not_moment unit refl)
+other_sum (Duration unit) right none not_moment not_span h = absurd (not_span unit refl)
+other_sum left right none not_moment not_span h = ap (λ b. cond b (Err InvalidOperation) (plain_sum_types (ty left) right)) h
 
 -- operands without a common type
 pub no_common : (common : Option Ty) (result : Ty → Ty) (error : PlanError) → IsMemoryOr SchemaMismatch (common ≡ None) error → IsRefusal (both_to common result) error
 no_common common result error h = ⊎_elim (λ e. no_room e) (λ p. broken SchemaMismatch p.0 (ap (λ o. both_to o result) p.1)) h
+
+-- operands that are compared by order are of a common type without parts
+first_is : (x y : Ty) (xs ys : List Ty) → (x ∷ xs) ≡ (y ∷ ys) → x ≡ y
+first_is x y xs ys e = cc
+
+common_is : (apart : Bool) (common : Option Ty) (left right type : Ty) → cond apart (Err InvalidOperation) (both_to common (λ common. Truth)) ≡ Ok (pair_to left right type) → common ≡ Some left
+common_is true common left right type h = cc
+common_is false None left right type h = cc
+common_is false (Some common) left right type h =
+    ap Some (first_is common left (common ∷ []) (right ∷ []) (ap (λ (t : Taken). t.operands) (ok_same _ (pair_to common common Truth) (pair_to left right type) refl h)))
+
+pub ordered : (left right common other type : Ty) (bare : Bool) → comparison_types left right ≡ Ok (pair_to common other type) → is_bare common ≡ bare → order_types left right ≡ cond (not bare) (Err InvalidOperation) (Ok (pair_to common other type))
+ordered left right common other type bare h is =
+    let compared = comparison_types left right in
+    ap (λ o. cond (has_parts o) (Err InvalidOperation) compared) (common_is (is_text_beside left right || is_text_beside right left) (supertype left right) common other type h)
+    ∙ ap (λ b. cond (not b) (Err InvalidOperation) compared) is
+    ∙ ap (cond (not bare) (Err InvalidOperation)) h
+
+-- and those that aren't compared have no order either
+refused_either : (apart bare : Bool) (taken : Taken) (error : PlanError) → IsRefusal (cond apart (Err InvalidOperation) (Ok taken)) error → IsRefusal (cond (not bare) (Err InvalidOperation) (cond apart (Err InvalidOperation) (Ok taken))) error
+refused_either apart true taken error refused = refused
+refused_either true false taken error refused = refused
+refused_either false false taken error (no_room e) = no_room e
+refused_either false false taken error (broken kind e b) = cc
+
+unordered_by : (apart : Bool) (common : Option Ty) (error : PlanError) → IsRefusal (cond apart (Err InvalidOperation) (both_to common (λ common. Truth))) error → IsRefusal (cond (has_parts common) (Err InvalidOperation) (cond apart (Err InvalidOperation) (both_to common (λ common. Truth)))) error
+unordered_by apart None error refused = refused
+unordered_by apart (Some common) error refused = refused_either apart (is_bare common) (pair_to common common Truth) error refused
+
+pub unordered : (left right : Ty) (error : PlanError) → IsRefusal (comparison_types left right) error → IsRefusal (order_types left right) error
+unordered left right error refused = unordered_by (is_text_beside left right || is_text_beside right left) (supertype left right) error refused
 
 -- operands of types of columns keep them
 pub with_own : (left right : Ty) (take : Ty → Ty → Result Taken ErrorKind) → is_known left ≡ true → is_known right ≡ true → with_types (type_beside left right) (type_beside right left) take ≡ take left right

@@ -6,7 +6,8 @@ use Rattle.std.proofs.lemmas.Bool.{cases_lt}
 use Rattle.std.proofs.lemmas.List.{length-map}
 use Rattle.std.proofs.Math.ListN.{length-set}
 use Rattle.plan_types.proofs.ListLemmas.{slice_get-append, slice_get-seam, slice_get-set_other, slice_get-set_same}
-use Rattle.plan_types.specs.Types.{Ty, ty, is_known}
+use Rattle.std.specs.Prelude.{ℤ}
+use Rattle.plan_types.specs.Types.{Ty, Untyped, ty, is_known}
 use Rattle.plan_types.specs.Casts.{can_cast}
 use Rattle.plan_types.specs.CommonTypes.{type_alone}
 use Rattle.plan_types.proofs.CommonLemmas.{alone_itself}
@@ -23,7 +24,7 @@ use Rattle.plan_dsl.specs.Literals.{literal_op, literal_type, literal_value, is_
 use Rattle.plan_dsl.specs.OperatorTypes.{Taken}
 use Rattle.plan_dsl.specs.Typing.{cast_taken, literal_taken, operand_types, typing, typing_all}
 use Rattle.plan_dsl.proofs.TypingLemmas.{ok_where, typed_parts}
-use Rattle.plan_dsl.proofs.LiteralLemmas.{typed_alone}
+use Rattle.plan_dsl.proofs.LiteralLemmas.{typed_alone, typed_known}
 use Rattle.plan_arena.specs.declared.arena.Node.{Node}
 use Rattle.plan_arena.specs.declared.aexpr.AExpr.{AExpr}
 use Rattle.plan_arena.specs.declared.aexpr.AExpr.TheVariants.{Literal, Cast}
@@ -173,6 +174,12 @@ module _ (registry : Registry) (schema : Columns) (items : List AExpr) (table : 
   alone_there n dtype k =
       let e = right.each n dtype k in
       typed_alone registry schema e.tree (ty dtype) e.typed.many e.typed.is
+
+  -- and that is one of columns, where it isn't a number's own
+  pub known_there : (n : ℕ) (dtype : DataType) → Keeps table n dtype → ((number : ℤ) → ty dtype ≢ Untyped number) → is_known (ty dtype) ≡ true
+  known_there n dtype k own =
+      let e = right.each n dtype k in
+      typed_known registry schema e.tree (ty dtype) e.typed.many e.typed.is own
 
 -- trees of nodes from a number on
 from_number : (first : ℕ) (items : List AExpr) (n : ℕ) (t : Expression) → Denotes (HoldsFrom first items) n t → first ≤ n

@@ -5,5 +5,6 @@ pub mod coercions;
 pub mod lowered;
 pub mod operands;
 pub mod outputs;
+pub mod parts;
 pub mod plans;
 pub mod tables;

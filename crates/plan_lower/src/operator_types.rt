@@ -1,8 +1,8 @@
 //! The types to which operators take their operands, and those of their results.
-ghost use Rattle.std.specs.Prelude.{◌≡◌, ◌&&◌, ◌||◌, [], ◌∷◌, Ok, IfOk, IfErr};
+ghost use Rattle.std.specs.Prelude.{◌≡◌, ◌&&◌, ◌||◌, not, [], ◌∷◌, Ok, IfOk, IfErr};
 ghost use Rattle.plan_types.specs.Errors.{IsRefusal, no_memory};
-ghost use Rattle.plan_types.specs.Types.{DatetimeType, DurationType, ty, is_temporal, is_text};
-ghost use Rattle.plan_dsl.specs.OperatorTypes.{comparison_types, is_joined, is_text_beside, operator_types, pair_to, pair_types, plain_sum_types, sum_type, sum_types};
+ghost use Rattle.plan_types.specs.Types.{DatetimeType, DurationType, ty, is_bare, is_temporal, is_text};
+ghost use Rattle.plan_dsl.specs.OperatorTypes.{comparison_types, is_joined, is_text_beside, operator_types, order_types, pair_to, pair_types, plain_sum_types, sum_type, sum_types};
 
 use plan_dsl::operator::Operator;
 use plan_types::common_type::type_beside;
@@ -51,13 +51,12 @@ fn pair_types(
     ensures err { IfErr result (IsRefusal (pair_types op (ty left.now) (ty right.now))) }
 {
     match op {
-        Operator::Eq
-        | Operator::NotEq
-        | Operator::Lt
-        | Operator::LtEq
-        | Operator::Gt
-        | Operator::GtEq => {
+        Operator::Eq | Operator::NotEq => {
             let taken = comparison_types(alloc, left, right)?;
+            Ok(taken)
+        }
+        Operator::Lt | Operator::LtEq | Operator::Gt | Operator::GtEq => {
+            let taken = order_types(alloc, left, right)?;
             Ok(taken)
         }
         Operator::Plus => {
@@ -88,6 +87,25 @@ fn comparison_types(
     })
 }
 
+// Which of two values is less is asked of a common type without parts alone.
+fn order_types(alloc: Global, left: &DataType, right: &DataType) -> Result<OperandTypes, PlanError>
+    ensures ok { IfOk result (λ taken. order_types (ty left.now) (ty right.now) ≡ Ok (pair_to (ty taken.left) (ty taken.right) (ty taken.result))) }
+    ensures err { IfErr result (IsRefusal (order_types (ty left.now) (ty right.now))) }
+{
+    let taken = comparison_types(alloc, left, right)?;
+    if !is_bare(&taken.left) {
+        return Err(PlanError::at_top(ErrorKind::InvalidOperation));
+    }
+    Ok(taken)
+}
+
+// Whether the type has no types as its parts.
+fn is_bare(dtype: &DataType) -> bool
+    ensures { result ≡ is_bare (ty dtype.now) }
+{
+    !matches!(dtype, DataType::List(_) | DataType::Struct(_))
+}
+
 // Whether one is a text and the other a number or a time.
 fn is_text_apart(left: &DataType, right: &DataType) -> bool
     ensures { result ≡ (is_text_beside (ty left.now) (ty right.now) || is_text_beside (ty right.now) (ty left.now)) }
@@ -107,7 +125,7 @@ fn is_text(dtype: &DataType) -> bool
     matches!(dtype, DataType::String)
 }
 
-// Spans are added to spans and to moments, and no other times are.
+// Spans are added to spans and to moments. No other times are, and no lists and structs.
 fn sum_types(alloc: Global, left: &DataType, right: &DataType) -> Result<OperandTypes, PlanError>
     ensures ok { IfOk result (λ taken. sum_types (ty left.now) (ty right.now) ≡ Ok (pair_to (ty taken.left) (ty taken.right) (ty taken.result))) }
     ensures err { IfErr result (IsRefusal (sum_types (ty left.now) (ty right.now))) }
@@ -122,7 +140,7 @@ fn sum_types(alloc: Global, left: &DataType, right: &DataType) -> Result<Operand
             Ok(taken)
         }
         _other => {
-            if has_time(left, right) {
+            if has_no_sum(left, right) {
                 return Err(PlanError::at_top(ErrorKind::InvalidOperation));
             }
             let taken = plain_sum_types(alloc, left, right)?;
@@ -131,10 +149,11 @@ fn sum_types(alloc: Global, left: &DataType, right: &DataType) -> Result<Operand
     }
 }
 
-fn has_time(left: &DataType, right: &DataType) -> bool
-    ensures { result ≡ (is_temporal (ty left.now) || is_temporal (ty right.now)) }
+// Whether one is a list, a struct or a time.
+fn has_no_sum(left: &DataType, right: &DataType) -> bool
+    ensures { result ≡ (not (is_bare (ty left.now) && is_bare (ty right.now)) || (is_temporal (ty left.now) || is_temporal (ty right.now))) }
 {
-    left.is_temporal() || right.is_temporal()
+    !(is_bare(left) && is_bare(right)) || (left.is_temporal() || right.is_temporal())
 }
 
 // A span and another span or a moment, in the coarser unit.

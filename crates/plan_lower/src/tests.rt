@@ -2,6 +2,7 @@
 
 mod filters;
 mod literals;
+mod parts;
 mod texts;
 mod times;
 
@@ -76,19 +77,37 @@ fn time_named(name: &str) -> Option<DataType> {
     }
 }
 
+// A type by its name, which for lists has the name of their items in brackets behind it.
+fn type_of(alloc: Global, name: &str) -> Result<Option<DataType>, PlanError> {
+    let Some(item) = list_item(name) else {
+        return Ok(type_named(name));
+    };
+    match type_named(item) {
+        Some(item) => {
+            let list = item.implode(alloc)?;
+            Ok(Some(list))
+        }
+        None => Ok(None),
+    }
+}
+
+fn list_item(name: &str) -> Option<&str> {
+    name.strip_prefix("List(")?.strip_suffix(')')
+}
+
 // A cast's type, and by the sign behind it what it does with a number that the type doesn't hold.
-fn cast_target(word: &str) -> Option<(DataType, CastOptions)> {
+fn cast_target(alloc: Global, word: &str) -> Result<Option<(DataType, CastOptions)>, PlanError> {
     for (sign, options) in [
         ('!', CastOptions::Strict),
         ('?', CastOptions::NonStrict),
         ('~', CastOptions::Overflowing),
     ] {
         if let Some(name) = word.strip_suffix(sign) {
-            let dtype = type_named(name)?;
-            return Some((dtype, options));
+            let dtype = type_of(alloc, name)?;
+            return Ok(dtype.map(|dtype| (dtype, options)));
         }
     }
-    None
+    Ok(None)
 }
 
 // A number, which has a type where a colon and the type's name stand behind it.
@@ -140,7 +159,7 @@ fn expr(alloc: Global, text: &str) -> Result<Expr, Fail> {
             let left = operand(&mut stack)?;
             let right = operand(&mut stack)?;
             binary(alloc, left, op, right)?
-        } else if let Some((dtype, options)) = cast_target(word) {
+        } else if let Some((dtype, options)) = cast_target(alloc, word)? {
             let inner = operand(&mut stack)?;
             cast(alloc, inner, dtype, options)?
         } else {

@@ -55,7 +55,7 @@ pub fn type_nodes(
             Ok(())
         }
         AExpr::Literal(value) => {
-            let dtype = literal_dtype(arena.allocator(), value)?;
+            let dtype = literal_dtype(value)?;
             types.keep(node, dtype)?;
             Ok(())
         }
@@ -79,7 +79,7 @@ pub fn type_nodes(
 }
 
 // The type of a literal: a number without a type has one for itself.
-fn literal_dtype(alloc: Global, value: &LiteralValue) -> Result<DataType, PlanError>
+fn literal_dtype(value: &LiteralValue) -> Result<DataType, PlanError>
     ensures ok { IfOk result (λ dtype. literal_taken (literal_type value.now) (literal_value value.now)
         ≡ Ok (record { operands = []; type = ty dtype })) }
     ensures err { IfErr result (IsRefusal (literal_taken (literal_type value.now) (literal_value value.now))) }
@@ -94,7 +94,6 @@ fn literal_dtype(alloc: Global, value: &LiteralValue) -> Result<DataType, PlanEr
     if !dtype.has_number(number) {
         return Err(PlanError::at_top(ErrorKind::InvalidOperation));
     }
-    let dtype = dtype.try_clone(alloc)?;
     Ok(dtype)
 }
 

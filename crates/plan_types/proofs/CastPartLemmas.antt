@@ -105,7 +105,7 @@ module _ {items : Many Value} {from to : Ty} {options : CastOptions} {done : Man
 
 -- ---- structs
 
--- titem_left are as many parts as fields, and as many fields as others
+-- there are as many parts as fields, and as many fields as others
 pub as_many_parts : (parts : Many Value) (fields : Many Field) → parts_fit (values_in parts) (fields_in fields) ≡ true → length parts ≡ length fields
 as_many_parts [] [] fit = refl
 as_many_parts [] (field ∷ fields) fit = cc

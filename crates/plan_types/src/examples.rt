@@ -4,6 +4,7 @@ pub mod casts;
 pub mod columns;
 pub mod common_types;
 pub mod frames;
+pub mod lists_and_structs;
 pub mod operands;
 pub mod schemas;
 pub mod texts;

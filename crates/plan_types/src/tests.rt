@@ -3,6 +3,7 @@
 mod casts;
 mod common_types;
 mod frames;
+mod lists_and_structs;
 mod numbers;
 mod schema_calls;
 mod types;

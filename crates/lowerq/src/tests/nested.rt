@@ -90,11 +90,16 @@ fn casts_go_by_items_and_places(rt: HostRuntime) -> Result<(), Fail> {
             "\"r\" Struct(\"p\" String, \"q\" List(Int8))",
         ),
     ] {
-        let expression = format!(in alloc; "{{\"cast\":[{{\"col\":\"{column}\"}},{target},\"Strict\"]}}")?;
+        let expression = format!(in alloc;
+            "{{\"cast\":[{{\"col\":\"{column}\"}},{target},\"Strict\"]}}"
+        )?;
         let input = select(alloc, expression.as_str())?;
         assert!(rt; is_reported(alloc, input.as_str(), name, 1)?);
     }
-    let input = select(alloc, "{\"cast\":[{\"col\":\"a\"},{\"List\":\"Date\"},\"Strict\"]}")?;
+    let input = select(
+        alloc,
+        "{\"cast\":[{\"col\":\"a\"},{\"List\":\"Date\"},\"Strict\"]}",
+    )?;
     assert!(rt; is_refused(alloc, input.as_str(), "InvalidOperation")?);
     Ok(())
 }

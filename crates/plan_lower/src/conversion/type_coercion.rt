@@ -190,10 +190,10 @@ fn needed_change(from: &DataType, target: DataType) -> Change
     if *from == target {
         return Change::Keep;
     }
-    let DataType::Unknown(UnknownKind::Int(number)) = from else {
+    let Some(number) = from.untyped_number() else {
         return Change::CastTo(target);
     };
-    match LiteralValue::of_number(&target, *number) {
+    match LiteralValue::of_number(&target, number) {
         Some(value) => Change::Become(value, target),
         None => unreachable!(),
     }

@@ -9,6 +9,7 @@ use plan_dsl::literal::LiteralValue;
 use plan_dsl::operator::Operator;
 use plan_types::dtype::{CastOptions, DataType, TimeUnit};
 use plan_types::error::PlanError;
+use plan_types::field::Field;
 use plan_types::schema::Schema;
 use std::alloc::{AllocError, Global};
 use std::test::Fail;
@@ -36,6 +37,7 @@ fn duration_name(unit: TimeUnit) -> &'static str {
     }
 }
 
+// The name of a type, without its parts.
 fn type_name(dtype: &DataType) -> &'static str {
     match dtype {
         DataType::Null => "Null",
@@ -53,8 +55,35 @@ fn type_name(dtype: &DataType) -> &'static str {
         DataType::Time => "Time",
         DataType::Datetime(unit) => datetime_name(*unit),
         DataType::Duration(unit) => duration_name(*unit),
+        DataType::List(_) => "List",
+        DataType::Struct(_) => "Struct",
         DataType::Unknown(_) => "Unknown",
     }
+}
+
+// A type, whose parts have none themselves.
+fn push_type(text: &mut String, dtype: &DataType) -> Result<(), AllocError> {
+    text.push_str(type_name(dtype))?;
+    match dtype {
+        DataType::List(item) => {
+            text.push_str("(")?;
+            text.push_str(type_name(item))?;
+            text.push_str(")")?;
+            Ok(())
+        }
+        DataType::Struct(fields) => push_fields(text, fields.items.as_slice()),
+        _ => Ok(()),
+    }
+}
+
+fn push_fields(text: &mut String, fields: &[Field]) -> Result<(), AllocError> {
+    for field in fields {
+        text.push_str(" ")?;
+        text.push_str(field.name.as_str())?;
+        text.push_str(" ")?;
+        text.push_str(type_name(&field.dtype))?;
+    }
+    Ok(())
 }
 
 fn push_schema(text: &mut String, schema: &Schema) -> Result<(), AllocError> {
@@ -64,7 +93,7 @@ fn push_schema(text: &mut String, schema: &Schema) -> Result<(), AllocError> {
             text.push_str(if index == 0 { "" } else { ", " })?;
             text.push_str(name.as_str())?;
             text.push_str(" ")?;
-            text.push_str(type_name(dtype))?;
+            push_type(text, dtype)?;
         }
     }
     text.push_str(")")?;
@@ -96,7 +125,7 @@ fn push_literal(alloc: Global, text: &mut String, value: &LiteralValue) -> Resul
     let number = value.number();
     let number = format!(in alloc; "{number}:")?;
     text.push_str(number.as_str())?;
-    text.push_str(type_name(dtype))?;
+    text.push_str(type_name(&dtype))?;
     Ok(())
 }
 
@@ -122,7 +151,7 @@ fn push_expr(text: &mut String, arena: &Arena<AExpr>, node: Node) -> Result<(), 
                 dtype,
                 options,
             } => {
-                text.push_str(type_name(dtype))?;
+                push_type(text, dtype)?;
                 text.push_str(cast_sign(*options))?;
                 stack.push(*expr)?;
             }

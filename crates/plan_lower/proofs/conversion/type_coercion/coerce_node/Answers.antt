@@ -8,7 +8,7 @@ use Rattle.plan_arena.specs.Items.{HoldsExpression, expression_layer}
 use Rattle.plan_arena.proofs.ItemLemmas.{tree_within, got_held}
 use Rattle.plan_dsl.specs.Literals.{literal_type, literal_value}
 use Rattle.plan_lower.proofs.CoercionLemmas.{plain_tree, visits_leaf, visits_cast, column_leaf, literal_leaf}
-use Rattle.plan_lower.proofs.TableLemmas.{known_typed, known_inputs, kept_type, keeps_one, extends_itself}
+use Rattle.plan_lower.proofs.TableLemmas.{known_there, known_typed, known_inputs, kept_type, keeps_one, extends_itself}
 use Rattle.plan_lower.proofs.conversion.type_coercion.coerce_node.Goals as goal
 
 pub get-requires : goal.get-requires
@@ -40,7 +40,7 @@ pub returns-in_default : goal.returns-in_default
 returns-in_default c =
     let held = got_held c.args.arena.now c.args.node.0 c.get.result.now _ _ c.get.ensures (ap expression_layer c.in-Cast.is) in
     record {
-      ok = λ registry schema first t right. visits_cast registry schema c.args.arena.now c.args.node.0 _ _ _ (ty c.get-in-Cast.result.now) held (kept_type registry schema c.args.arena.now c.args.types.now right c.in-Cast.expr.0 _ c.get-in-Cast.ensures) c.in_default.ensures first t;
+      ok = λ registry schema first t right. visits_cast registry schema c.args.arena.now c.args.node.0 _ _ _ (ty c.get-in-Cast.result.now) held (kept_type registry schema c.args.arena.now c.args.types.now right c.in-Cast.expr.0 _ c.get-in-Cast.ensures) (known_there registry schema c.args.arena.now c.args.types.now right c.in-Cast.expr.0 _ c.get-in-Cast.ensures c.in_default.ensures) first t;
       right = λ registry schema right. right;
       extends = extends_itself c.args.types.now;
       elsewhere = λ n op inputs other h. h;
