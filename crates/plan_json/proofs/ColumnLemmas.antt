@@ -18,7 +18,7 @@ use Rattle.plan_json.specs.Faults.{FaultKind, column_list, own_fault, shape_faul
 use Rattle.plan_json.specs.Looking.{both, two_items, all_of, some_of}
 use Rattle.plan_json.specs.Queries.{text_of, type_of, struct_of, fields_from, field_before, column_of, column_name, columns_of, columns_from}
 use Rattle.plan_json.proofs.ItemLemmas.{some_of-append, some_of-names}
-use Rattle.plan_json.proofs.LookingLemmas.{array-from_as_array, array-from_two_items}
+use Rattle.plan_json.proofs.LookingLemmas.{array-from_as_array}
 
 -- a column, by the two items that it has
 pub column_of-parts : (d : Data) → column_of d ≡ option_and_then (λ pair. both (text_of pair.0) (type_of pair.1)) (two_items d)
@@ -31,10 +31,6 @@ column_of-parts (array no_items) = refl
 column_of-parts (array (item x no_items)) = refl
 column_of-parts (array (item x (item y no_items))) = refl
 column_of-parts (array (item x (item y (item z ds)))) = refl
-
-pub column_of-two : (d name type : Data) (n : Name) (t : Ty) → Some (name, type) ≡ two_items d → text_of name ≡ Some n → type_of type ≡ Some t → column_of d ≡ Some (n, t)
-column_of-two d name type n t is named typed =
-    ap column_of (array-from_two_items d name type is) ∙ ap (λ o. both o (type_of type)) named ∙ ap (both (Some n)) typed
 
 -- fields are read as columns are
 pub fields_as_columns : (ds : Items) → fields_from ds ≡ option_map fields_of_columns (all_of column_of ds)

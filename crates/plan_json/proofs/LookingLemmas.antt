@@ -164,9 +164,6 @@ depth-item d vs i v is within at =
     let below = item_depth vs i v within at in
     subst (λ x. depth (view v) < depth x) (sym (array-from_as_array d _ is)) (omega (arith, below))
 
-pub depth-second : (d a b : Data) → Some (a, b) ≡ two_items d → depth b < depth d
-depth-second d a b e = subst (λ x. depth b < depth x) (sym (array-from_two_items d a b e)) (below_second (depth b) (depth a))
-
 pub depth-two_items : (d a b : Data) → Some (a, b) ≡ two_items d → depth a < depth d
 depth-two_items d a b e = subst (λ x. depth a < depth x) (sym (array-from_two_items d a b e)) (below_max (depth a) _ (depth a) (omega arith))
 

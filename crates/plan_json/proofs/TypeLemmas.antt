@@ -4,7 +4,7 @@ use Rattle.serde_json.specs.Data.{Data, string}
 use Rattle.serde_json.specs.Find.{as_str}
 use Rattle.plan_json.specs.Faults.{a_type, own_fault, only_part, shape_fault, type_form, unless}
 use Rattle.plan_json.specs.Looking.{only_member}
-use Rattle.plan_json.specs.Queries.{datetime_type, duration_type, list_type, struct_type, struct_of, type_named, type_of, unit_of}
+use Rattle.plan_json.specs.Queries.{datetime_type, duration_type, struct_type, struct_of, type_named, type_of, unit_of}
 use Rattle.plan_json.proofs.FaultLemmas.{only_part-none, only_part-no_member}
 use Rattle.plan_json.proofs.FormLemmas.{at_word, other_word}
 use Rattle.plan_json.proofs.LookingLemmas.{string-from_as_str}
@@ -25,9 +25,6 @@ type_of-datetime d word value is same = at_word type_of d word (codes "Datetime"
 
 pub type_of-duration : (d : Data) (word : List ℕ) (value : Data) → Some (word, value) ≡ only_member d → word ≡ codes "Duration" → type_of d ≡ option_map duration_type (unit_of value)
 type_of-duration d word value is same = at_word type_of d word (codes "Duration") value is same
-
-pub type_of-list : (d : Data) (word : List ℕ) (value : Data) → Some (word, value) ≡ only_member d → word ≡ codes "List" → type_of d ≡ option_map list_type (type_of value)
-type_of-list d word value is same = at_word type_of d word (codes "List") value is same
 
 pub type_of-struct : (d : Data) (word : List ℕ) (value : Data) → Some (word, value) ≡ only_member d → word ≡ codes "Struct" → type_of d ≡ option_map struct_type (struct_of value)
 type_of-struct d word value is same = at_word type_of d word (codes "Struct") value is same

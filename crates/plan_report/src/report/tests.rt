@@ -18,7 +18,7 @@ use plan_types::error::{ErrorKind, Place, PlanError};
 use plan_types::field::Field;
 use plan_types::schema::Schema;
 use plan_types::text::PlSmallStr;
-use std::alloc::{AllocError, Global};
+use std::alloc::Global;
 use std::test::Fail;
 
 fn add_column(
@@ -233,7 +233,7 @@ fn names_each_type_of_times(rt: HostRuntime) -> Result<(), Fail> {
 }
 
 // Lists of a type.
-fn list_of(alloc: Global, item: DataType) -> Result<DataType, AllocError> {
+fn list_of(alloc: Global, item: DataType) -> Result<DataType, PlanError> {
     let item = Box::new(alloc, item)?;
     Ok(DataType::List(item))
 }
@@ -243,14 +243,14 @@ fn add_field(
     fields: &mut Vec<Field>,
     name: &str,
     dtype: DataType,
-) -> Result<(), AllocError> {
+) -> Result<(), PlanError> {
     let name = PlSmallStr::new(alloc, name)?;
     fields.push(Field::new(name, dtype))?;
     Ok(())
 }
 
 // Structs of an Int8 and a list of texts.
-fn pair(alloc: Global) -> Result<DataType, AllocError> {
+fn pair(alloc: Global) -> Result<DataType, PlanError> {
     let mut items = Vec::new(alloc);
     add_field(alloc, &mut items, "a", DataType::Int8)?;
     let texts = list_of(alloc, DataType::String)?;

@@ -1,5 +1,5 @@
-use Rattle.std.proofs.Common.{[], ◌∷◌, codes, refl, arith}
-use Rattle.serde_json.specs.Data.{Data, array, no_items, item, no_members, member, float, null, number, object, string}
+use Rattle.std.proofs.Common.{codes, refl, arith}
+use Rattle.serde_json.specs.Data.{array, no_items, item, no_members, member, float, null, number, object, string}
 use Rattle.plan_json.specs.Faults as fault
 use Rattle.plan_json.specs.Faults.{key, part}
 use Rattle.plan_json.proofs.OnLiterals.{values_on_literals}
