@@ -2,7 +2,7 @@
 -- A column is a list of values. Two columns are brought to a common length: one of one value is
 -- repeated, and other unequal lengths are a data fault.
 use Rattle.std.specs.Prelude.{ℕ, List, [], ◌∷◌, map, length, replicate, Option, Some, None, ◌==◌, if◌then◌else◌}
-use Rattle.plan_types.specs.Types.{Ty, same_type}
+use Rattle.plan_types.specs.Types.{Ty, NullType, same_type}
 use Rattle.plan_types.specs.Schemas.{Name}
 use Rattle.plan_types.specs.Values.{Val}
 use Rattle.plan_types.specs.Outcomes.{Outcome, Done, Fault, Stuck, then_do}
@@ -61,10 +61,15 @@ abbrev pub at_length : {A : Type 0} → Option ℕ → (ℕ → A) → Outcome A
 at_length None make = Fault
 at_length (Some count) make = Done (make count)
 
--- an operator on two columns
-abbrev pub operator_values : Operator → Ty → List Val → List Val → Outcome (List Val)
-operator_values operator type left right =
-    at_length (common_length (length left) (length right)) (λ count. at_each (operator_value operator type) (stretched count left) (stretched count right))
+-- the first of types
+abbrev pub first_type : List Ty → Ty
+first_type [] = NullType
+first_type (type ∷ types) = type
+
+-- an operator on two columns, the first of that type
+abbrev pub operator_values : Operator → Ty → Ty → List Val → List Val → Outcome (List Val)
+operator_values operator from type left right =
+    at_length (common_length (length left) (length right)) (λ count. at_each (operator_value operator from type) (stretched count left) (stretched count right))
 
 -- a frame's column at these rows
 abbrev pub column_values : Frame → Name → Meaning
@@ -74,7 +79,7 @@ column_values frame name rows = Done (map (λ number. value_in frame.schema name
 abbrev pub kernel : Frame → Op → List Ty → Ty → List Meaning → Meaning
 kernel frame (ColumnOp name) types type operands = column_values frame name
 kernel frame (LiteralOp own value) types type operands = λ rows. Done (value ∷ [])
-kernel frame (BinaryOp operator) types type (left ∷ right ∷ []) = λ rows. then_both (left rows) (right rows) (operator_values operator type)
+kernel frame (BinaryOp operator) types type (left ∷ right ∷ []) = λ rows. then_both (left rows) (right rows) (operator_values operator (first_type types) type)
 kernel frame (BinaryOp operator) types type [] = stuck
 kernel frame (BinaryOp operator) types type (left ∷ []) = stuck
 kernel frame (BinaryOp operator) types type (left ∷ right ∷ third ∷ rest) = stuck

@@ -1,18 +1,24 @@
 //! Literals: values that are written in an expression.
-ghost use Rattle.std.specs.Prelude.{◌≡◌, ◌&&◌, true, false, MatchOption, IfOk, IfErr};
-ghost use Rattle.plan_dsl.specs.Literals.{literal_op, literal_type, literal_value};
+ghost use Rattle.std.specs.Prelude.{◌≡◌, ◌&&◌, ◌||◌, false, MatchOption, IfOk, IfErr};
+ghost use Rattle.plan_dsl.specs.Literals.{is_literal, literal_op, literal_type, literal_value};
 ghost use Rattle.plan_dsl.specs.Ops.{LiteralOp};
 ghost use Rattle.plan_types.specs.Errors.{no_memory};
-ghost use Rattle.plan_types.specs.Types.{ty, is_integer, is_known};
+ghost use Rattle.plan_types.specs.Types.{TimeType, DatetimeType, DurationType, ty, is_integer, is_temporal};
 ghost use Rattle.plan_types.specs.Values.{IntValue, in_range};
 
-use plan_types::dtype::DataType;
+use plan_types::common_type::materialize_dyn_int;
+use plan_types::dtype::{DataType, TimeUnit, UnknownKind};
 use plan_types::error::PlanError;
+use plan_types::text::PlSmallStr;
 use std::alloc::Global;
 
 /// A value that is written in an expression. Contracts see its type and value as an op.
 #[derive(Drop, PartialEq, Eq, Hash)]
 pub enum LiteralValue {
+    /// No value. It is of the type of nulls.
+    Null,
+    Boolean(bool),
+    String(PlSmallStr),
     /// A whole number without a type: it gets one from what stands beside it.
     Int(i128),
     Int8(i8),
@@ -23,47 +29,68 @@ pub enum LiteralValue {
     UInt16(u16),
     UInt32(u32),
     UInt64(u64),
+    /// Days since 1970-01-01.
+    Date(i32),
+    /// Nanoseconds since midnight, fewer than a day has.
+    Time(i64),
+    /// Units of time since 1970-01-01.
+    DateTime(i64, TimeUnit),
+    Duration(i64, TimeUnit),
 }
 
 impl LiteralValue {
-    /// The literal's type, where it has one.
-    pub fn known_type(&self) -> Option<DataType>
-        ensures { MatchOption result (is_known (literal_type self.now) ≡ false) (λ dtype.
-            (ty dtype ≡ literal_type self.now) × (is_known (literal_type self.now) ≡ true)) }
+    /// The literal's type: a whole number without one has its own, `Unknown`.
+    pub fn get_datatype(&self) -> DataType
+        ensures { ty result ≡ literal_type self.now }
     {
         match self {
-            LiteralValue::Int(_) => None,
-            LiteralValue::Int8(_) => Some(DataType::Int8),
-            LiteralValue::Int16(_) => Some(DataType::Int16),
-            LiteralValue::Int32(_) => Some(DataType::Int32),
-            LiteralValue::Int64(_) => Some(DataType::Int64),
-            LiteralValue::UInt8(_) => Some(DataType::UInt8),
-            LiteralValue::UInt16(_) => Some(DataType::UInt16),
-            LiteralValue::UInt32(_) => Some(DataType::UInt32),
-            LiteralValue::UInt64(_) => Some(DataType::UInt64),
+            LiteralValue::Null => DataType::Null,
+            LiteralValue::Boolean(_) => DataType::Boolean,
+            LiteralValue::String(_) => DataType::String,
+            LiteralValue::Int(number) => DataType::Unknown(UnknownKind::Int(*number)),
+            LiteralValue::Int8(_) => DataType::Int8,
+            LiteralValue::Int16(_) => DataType::Int16,
+            LiteralValue::Int32(_) => DataType::Int32,
+            LiteralValue::Int64(_) => DataType::Int64,
+            LiteralValue::UInt8(_) => DataType::UInt8,
+            LiteralValue::UInt16(_) => DataType::UInt16,
+            LiteralValue::UInt32(_) => DataType::UInt32,
+            LiteralValue::UInt64(_) => DataType::UInt64,
+            LiteralValue::Date(_) => DataType::Date,
+            LiteralValue::Time(_) => DataType::Time,
+            LiteralValue::DateTime(_, unit) => DataType::Datetime(*unit),
+            LiteralValue::Duration(_, unit) => DataType::Duration(*unit),
         }
     }
 
-    /// The number that is written.
-    pub fn number(&self) -> i128
-        ensures { literal_value self.now ≡ IntValue result }
+    /// Whether its type has the value: a time of day is within the day, and a whole number without a type is in the
+    /// range of one that it may have alone.
+    pub fn is_in_range(&self) -> bool
+        ensures { result ≡ is_literal (literal_type self.now) (literal_value self.now) }
     {
         match self {
-            LiteralValue::Int(number) => *number,
-            LiteralValue::Int8(number) => i128::from(*number),
-            LiteralValue::Int16(number) => i128::from(*number),
-            LiteralValue::Int32(number) => i128::from(*number),
-            LiteralValue::Int64(number) => i128::from(*number),
-            LiteralValue::UInt8(number) => i128::from(*number),
-            LiteralValue::UInt16(number) => i128::from(*number),
-            LiteralValue::UInt32(number) => i128::from(*number),
-            LiteralValue::UInt64(number) => i128::from(*number),
+            LiteralValue::Int(number) => materialize_dyn_int(*number).is_some(),
+            LiteralValue::Time(nanoseconds) => DataType::Time.has_number(i128::from(*nanoseconds)),
+            LiteralValue::Null
+            | LiteralValue::Boolean(_)
+            | LiteralValue::String(_)
+            | LiteralValue::Int8(_)
+            | LiteralValue::Int16(_)
+            | LiteralValue::Int32(_)
+            | LiteralValue::Int64(_)
+            | LiteralValue::UInt8(_)
+            | LiteralValue::UInt16(_)
+            | LiteralValue::UInt32(_)
+            | LiteralValue::UInt64(_)
+            | LiteralValue::Date(_)
+            | LiteralValue::DateTime(_, _)
+            | LiteralValue::Duration(_, _) => true,
         }
     }
 
-    /// The literal of that type and number, where the type's range has the number and is one of integers.
+    /// The literal of that type and number, where the type is one of integers or of time whose range has the number.
     pub fn of_number(dtype: &DataType, number: i128) -> Option<LiteralValue>
-        ensures { MatchOption result ((is_integer (ty dtype.now) && in_range (ty dtype.now) number) ≡ false)
+        ensures { MatchOption result (((is_integer (ty dtype.now) || is_temporal (ty dtype.now)) && in_range (ty dtype.now) number) ≡ false)
             (λ value. literal_op value ≡ LiteralOp (ty dtype.now) (IntValue number)) }
     {
         match dtype {
@@ -75,24 +102,27 @@ impl LiteralValue {
             DataType::UInt16 => u16::try_from(number).ok().map(LiteralValue::UInt16),
             DataType::UInt32 => u32::try_from(number).ok().map(LiteralValue::UInt32),
             DataType::UInt64 => u64::try_from(number).ok().map(LiteralValue::UInt64),
+            DataType::Date => i32::try_from(number).ok().map(LiteralValue::Date),
+            DataType::Time => time_of(number),
+            DataType::Datetime(unit) => moment_of(number, *unit),
+            DataType::Duration(unit) => span_of(number, *unit),
             DataType::Null
             | DataType::Boolean
             | DataType::String
-            | DataType::Date
-            | DataType::Time
-            | DataType::Datetime(_)
-            | DataType::Duration(_)
             | DataType::List(_)
             | DataType::Struct(_)
             | DataType::Unknown(_) => None,
         }
     }
 
-    pub fn try_clone(&self, _alloc: Global) -> Result<LiteralValue, PlanError>
+    pub fn try_clone(&self, alloc: Global) -> Result<LiteralValue, PlanError>
         ensures ok { IfOk result (λ copy. literal_op copy ≡ literal_op self.now) }
         ensures err { IfErr result (λ error. error ≡ no_memory) }
     {
         Ok(match self {
+            LiteralValue::Null => LiteralValue::Null,
+            LiteralValue::Boolean(truth) => LiteralValue::Boolean(*truth),
+            LiteralValue::String(text) => LiteralValue::String(text.try_clone(alloc)?),
             LiteralValue::Int(number) => LiteralValue::Int(*number),
             LiteralValue::Int8(number) => LiteralValue::Int8(*number),
             LiteralValue::Int16(number) => LiteralValue::Int16(*number),
@@ -102,6 +132,42 @@ impl LiteralValue {
             LiteralValue::UInt16(number) => LiteralValue::UInt16(*number),
             LiteralValue::UInt32(number) => LiteralValue::UInt32(*number),
             LiteralValue::UInt64(number) => LiteralValue::UInt64(*number),
+            LiteralValue::Date(days) => LiteralValue::Date(*days),
+            LiteralValue::Time(nanoseconds) => LiteralValue::Time(*nanoseconds),
+            LiteralValue::DateTime(count, unit) => LiteralValue::DateTime(*count, *unit),
+            LiteralValue::Duration(count, unit) => LiteralValue::Duration(*count, *unit),
         })
+    }
+}
+
+// The time of day of so many nanoseconds, where a day has them.
+fn time_of(number: i128) -> Option<LiteralValue>
+    ensures { MatchOption result (in_range TimeType number ≡ false) (λ value. literal_op value ≡ LiteralOp TimeType (IntValue number)) }
+{
+    if !DataType::Time.has_number(number) {
+        return None;
+    }
+    i64::try_from(number).ok().map(LiteralValue::Time)
+}
+
+// The moment of so many units, where 64 bits have them.
+fn moment_of(number: i128, unit: TimeUnit) -> Option<LiteralValue>
+    ensures { MatchOption result (in_range (DatetimeType unit) number ≡ false)
+        (λ value. literal_op value ≡ LiteralOp (DatetimeType unit) (IntValue number)) }
+{
+    match i64::try_from(number) {
+        Ok(count) => Some(LiteralValue::DateTime(count, unit)),
+        Err(_) => None,
+    }
+}
+
+// The span of so many units, where 64 bits have them.
+fn span_of(number: i128, unit: TimeUnit) -> Option<LiteralValue>
+    ensures { MatchOption result (in_range (DurationType unit) number ≡ false)
+        (λ value. literal_op value ≡ LiteralOp (DurationType unit) (IntValue number)) }
+{
+    match i64::try_from(number) {
+        Ok(count) => Some(LiteralValue::Duration(count, unit)),
+        Err(_) => None,
     }
 }

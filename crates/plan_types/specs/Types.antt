@@ -98,6 +98,14 @@ is_unsigned_integer (Integer true bits) = false
 is_unsigned_integer (Integer false bits) = true
 is_unsigned_integer type = false
 
+abbrev pub is_null : Ty → Bool
+is_null NullType = true
+is_null type = false
+
+abbrev pub is_truth : Ty → Bool
+is_truth Truth = true
+is_truth type = false
+
 abbrev pub is_text : Ty → Bool
 is_text TextType = true
 is_text type = false

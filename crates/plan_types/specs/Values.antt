@@ -1,8 +1,11 @@
 -- Values.
 -- A value is null, a truth value, a whole number, a text, a list or a struct. Null fits every type, a truth value and a
 -- text their own type, and a number an integer type or one of time whose range has it. A number without a type fits its
--- own.
-use Rattle.std.specs.Prelude.{◌-◌, ◌^◌, ℕ, ℤ, ◌+ℤ◌, pos, neg_ℤ, int_lt, Bool, true, false, ◌&&◌, not, List, [], ◌∷◌}
+-- own. Two values are one where they are of one kind and have the same number, text or values in order; a null is the same
+-- as another.
+use Rattle.std.specs.Prelude.{◌-◌, ◌^◌, ℕ, ℤ, ◌+ℤ◌, pos, neg_ℤ, int_lt, Bool, true, false, ◌&&◌, not, List, [], ◌∷◌, if◌then◌else◌}
+use Rattle.std.specs.Ordering.{int_eq}
+use Rattle.std.specs.Str.{bytes_eq}
 use Rattle.plan_types.specs.Types.{Ty, Truth, Integer, TextType, DateType, TimeType, DatetimeType, DurationType, ListType, StructType, Untyped, Fields, no_field, with_field}
 
 -- a value, and the values that a list or a struct has, in order
@@ -76,3 +79,20 @@ abbrev mutual
 abbrev pub all_fit : List Val → Ty → Bool
 all_fit [] type = true
 all_fit (first ∷ rest) type = fits first type && all_fit rest type
+
+-- whether two values are one
+abbrev mutual
+  pub same_value : Val → Val → Bool
+  same_value NullValue NullValue = true
+  same_value (TruthValue left) (TruthValue right) = if left then right else not right
+  same_value (IntValue left) (IntValue right) = int_eq left right
+  same_value (TextValue left) (TextValue right) = bytes_eq left right
+  same_value (ListValue left) (ListValue right) = same_values left right
+  same_value (StructValue left) (StructValue right) = same_values left right
+  same_value left right = false
+
+  pub same_values : Vals → Vals → Bool
+  same_values no_value no_value = true
+  same_values no_value (with_value first rest) = false
+  same_values (with_value first rest) no_value = false
+  same_values (with_value first rest) (with_value other others) = same_value first other && same_values rest others

@@ -2,14 +2,14 @@
 
 ghost use Rattle.std.specs.Prelude.{◌≡◌, [], ◌∷◌, pos, map, codes, true, false, Ok, Err};
 ghost use Rattle.plan_types.specs.Types.{NullType, Truth, Integer, TextType, DateType, DatetimeType, DurationType, ListType, StructType, Untyped, no_field, with_field};
-ghost use Rattle.plan_types.specs.Values.{NullValue, TruthValue, IntValue, TextValue, ListValue, StructValue, no_value, with_value};
+ghost use Rattle.plan_types.specs.Values.{same_value, NullValue, TruthValue, IntValue, TextValue, ListValue, StructValue, no_value, with_value};
 ghost use Rattle.plan_types.specs.Outcomes.{Done, Stuck};
 ghost use Rattle.plan_types.specs.Frames.{Frame};
 ghost use Rattle.plan_types.specs.declared.dtype.CastOptions.TheVariants.{Strict, NonStrict};
 ghost use Rattle.plan_types.specs.declared.dtype.TimeUnit.TheVariants.{Microseconds};
 ghost use Rattle.plan_types.specs.declared.error.ErrorKind.TheVariants.{SchemaMismatch, InvalidOperation};
 ghost use Rattle.plan_dsl.specs.declared.operator.Operator.TheVariants.{Eq, NotEq, Lt, LtEq, Gt, GtEq, Plus};
-ghost use Rattle.plan_dsl.specs.Operators.{operator_value, same_value};
+ghost use Rattle.plan_dsl.specs.Operators.{operator_value};
 ghost use Rattle.plan_dsl.specs.OperatorTypes.{pair_to, operator_types};
 ghost use Rattle.plan_dsl.specs.Trees.{node, no_more, more};
 ghost use Rattle.plan_dsl.specs.Ops.{ColumnOp, BinaryOp, CastOp};
@@ -134,14 +134,14 @@ pub fn same_lists()
 /// A comparison of lists or structs is null where one of the two is.
 pub fn values_of_equal_lists()
     ensures equal { let list = ListValue (with_value (IntValue (pos 1)) (with_value NullValue no_value)) in
-        map (λ operator. operator_value operator Truth list list) (Eq ∷ NotEq ∷ []) ≡ TruthValue true ∷ TruthValue false ∷ [] }
+        map (λ operator. operator_value operator Truth Truth list list) (Eq ∷ NotEq ∷ []) ≡ TruthValue true ∷ TruthValue false ∷ [] }
     ensures apart { let list = ListValue (with_value (IntValue (pos 1)) no_value) in
-        map (λ operator. operator_value operator Truth list (ListValue no_value)) (Eq ∷ NotEq ∷ []) ≡ TruthValue false ∷ TruthValue true ∷ [] }
-    ensures null_on_the_left { map (λ operator. operator_value operator Truth NullValue (ListValue no_value)) (Eq ∷ NotEq ∷ []) ≡ NullValue ∷ NullValue ∷ [] }
+        map (λ operator. operator_value operator Truth Truth list (ListValue no_value)) (Eq ∷ NotEq ∷ []) ≡ TruthValue false ∷ TruthValue true ∷ [] }
+    ensures null_on_the_left { map (λ operator. operator_value operator Truth Truth NullValue (ListValue no_value)) (Eq ∷ NotEq ∷ []) ≡ NullValue ∷ NullValue ∷ [] }
     ensures null_on_the_right { let of = StructValue (with_value NullValue no_value) in
-        map (λ operator. operator_value operator Truth of NullValue) (Eq ∷ NotEq ∷ []) ≡ NullValue ∷ NullValue ∷ [] }
+        map (λ operator. operator_value operator Truth Truth of NullValue) (Eq ∷ NotEq ∷ []) ≡ NullValue ∷ NullValue ∷ [] }
     ensures structs { let of = StructValue (with_value NullValue no_value) in
-        map (λ operator. operator_value operator Truth of of) (Eq ∷ NotEq ∷ []) ≡ TruthValue true ∷ TruthValue false ∷ [] }
+        map (λ operator. operator_value operator Truth Truth of of) (Eq ∷ NotEq ∷ []) ≡ TruthValue true ∷ TruthValue false ∷ [] }
 {}
 
 /// A comparison casts the items. As it is written it runs only over lists of one type.

@@ -287,14 +287,14 @@ pub fn columns_side_by_side()
     ensures to_nothing { stretched 0 (IntValue (pos 5) ∷ []) ≡ [] }
     ensures as_long { stretched 2 (IntValue (pos 5) ∷ IntValue (pos 6) ∷ [])
         ≡ IntValue (pos 5) ∷ IntValue (pos 6) ∷ [] }
-    ensures equal { operator_values Plus (Integer true 8) (IntValue (pos 1) ∷ IntValue (pos 2) ∷ []) (IntValue (pos 10) ∷ IntValue (pos 20) ∷ [])
+    ensures equal { operator_values Plus (Integer true 8) (Integer true 8) (IntValue (pos 1) ∷ IntValue (pos 2) ∷ []) (IntValue (pos 10) ∷ IntValue (pos 20) ∷ [])
         ≡ Done (IntValue (pos 11) ∷ IntValue (pos 22) ∷ []) }
-    ensures one_on_the_left { operator_values Plus (Integer true 8) (IntValue (pos 1) ∷ []) (IntValue (pos 10) ∷ NullValue ∷ IntValue (pos 127) ∷ [])
+    ensures one_on_the_left { operator_values Plus (Integer true 8) (Integer true 8) (IntValue (pos 1) ∷ []) (IntValue (pos 10) ∷ NullValue ∷ IntValue (pos 127) ∷ [])
         ≡ Done (IntValue (pos 11) ∷ NullValue ∷ IntValue (neg_ℤ (pos 128)) ∷ []) }
-    ensures one_on_the_right { operator_values Plus (Integer true 8) (IntValue (pos 1) ∷ IntValue (pos 2) ∷ []) (NullValue ∷ [])
+    ensures one_on_the_right { operator_values Plus (Integer true 8) (Integer true 8) (IntValue (pos 1) ∷ IntValue (pos 2) ∷ []) (NullValue ∷ [])
         ≡ Done (NullValue ∷ NullValue ∷ []) }
-    ensures one_beside_none { operator_values Plus (Integer true 8) (IntValue (pos 1) ∷ []) ([]) ≡ Done [] }
-    ensures unequal { operator_values Plus (Integer true 8) (IntValue (pos 1) ∷ IntValue (pos 2) ∷ []) (IntValue (pos 1) ∷ IntValue (pos 2) ∷ IntValue (pos 3) ∷ [])
+    ensures one_beside_none { operator_values Plus (Integer true 8) (Integer true 8) (IntValue (pos 1) ∷ []) ([]) ≡ Done [] }
+    ensures unequal { operator_values Plus (Integer true 8) (Integer true 8) (IntValue (pos 1) ∷ IntValue (pos 2) ∷ []) (IntValue (pos 1) ∷ IntValue (pos 2) ∷ IntValue (pos 3) ∷ [])
         ≡ Fault }
 {}
 

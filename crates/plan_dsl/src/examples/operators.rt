@@ -73,77 +73,77 @@ pub fn types_of_sums()
 
 /// Numbers are compared by size.
 pub fn comparisons_of_numbers()
-    ensures one_beside_two { map (λ operator. operator_value operator Truth (IntValue (pos 1)) (IntValue (pos 2))) (Eq ∷ NotEq ∷ Lt ∷ LtEq ∷ Gt ∷ GtEq ∷ [])
+    ensures one_beside_two { map (λ operator. operator_value operator Truth Truth (IntValue (pos 1)) (IntValue (pos 2))) (Eq ∷ NotEq ∷ Lt ∷ LtEq ∷ Gt ∷ GtEq ∷ [])
         ≡ TruthValue false ∷ TruthValue true ∷ TruthValue true ∷ TruthValue true ∷ TruthValue false ∷ TruthValue false ∷ [] }
-    ensures two_beside_two { map (λ operator. operator_value operator Truth (IntValue (pos 2)) (IntValue (pos 2))) (Eq ∷ NotEq ∷ Lt ∷ LtEq ∷ Gt ∷ GtEq ∷ [])
+    ensures two_beside_two { map (λ operator. operator_value operator Truth Truth (IntValue (pos 2)) (IntValue (pos 2))) (Eq ∷ NotEq ∷ Lt ∷ LtEq ∷ Gt ∷ GtEq ∷ [])
         ≡ TruthValue true ∷ TruthValue false ∷ TruthValue false ∷ TruthValue true ∷ TruthValue false ∷ TruthValue true ∷ [] }
-    ensures three_beside_two { map (λ operator. operator_value operator Truth (IntValue (pos 3)) (IntValue (pos 2))) (Eq ∷ NotEq ∷ Lt ∷ LtEq ∷ Gt ∷ GtEq ∷ [])
+    ensures three_beside_two { map (λ operator. operator_value operator Truth Truth (IntValue (pos 3)) (IntValue (pos 2))) (Eq ∷ NotEq ∷ Lt ∷ LtEq ∷ Gt ∷ GtEq ∷ [])
         ≡ TruthValue false ∷ TruthValue true ∷ TruthValue false ∷ TruthValue false ∷ TruthValue true ∷ TruthValue true ∷ [] }
-    ensures negative_beside_positive { map (λ operator. operator_value operator Truth (IntValue (neg_ℤ (pos 3))) (IntValue (pos 2))) (Eq ∷ NotEq ∷ Lt ∷ LtEq ∷ Gt ∷ GtEq ∷ [])
+    ensures negative_beside_positive { map (λ operator. operator_value operator Truth Truth (IntValue (neg_ℤ (pos 3))) (IntValue (pos 2))) (Eq ∷ NotEq ∷ Lt ∷ LtEq ∷ Gt ∷ GtEq ∷ [])
         ≡ TruthValue false ∷ TruthValue true ∷ TruthValue true ∷ TruthValue true ∷ TruthValue false ∷ TruthValue false ∷ [] }
-    ensures zero_beside_negative { map (λ operator. operator_value operator Truth (IntValue (pos 0)) (IntValue (neg_ℤ (pos 1)))) (Eq ∷ NotEq ∷ Lt ∷ LtEq ∷ Gt ∷ GtEq ∷ [])
+    ensures zero_beside_negative { map (λ operator. operator_value operator Truth Truth (IntValue (pos 0)) (IntValue (neg_ℤ (pos 1)))) (Eq ∷ NotEq ∷ Lt ∷ LtEq ∷ Gt ∷ GtEq ∷ [])
         ≡ TruthValue false ∷ TruthValue true ∷ TruthValue false ∷ TruthValue false ∷ TruthValue true ∷ TruthValue true ∷ [] }
-    ensures two_negatives { map (λ operator. operator_value operator Truth (IntValue (neg_ℤ (pos 2))) (IntValue (neg_ℤ (pos 1)))) (Eq ∷ NotEq ∷ Lt ∷ LtEq ∷ Gt ∷ GtEq ∷ [])
+    ensures two_negatives { map (λ operator. operator_value operator Truth Truth (IntValue (neg_ℤ (pos 2))) (IntValue (neg_ℤ (pos 1)))) (Eq ∷ NotEq ∷ Lt ∷ LtEq ∷ Gt ∷ GtEq ∷ [])
         ≡ TruthValue false ∷ TruthValue true ∷ TruthValue true ∷ TruthValue true ∷ TruthValue false ∷ TruthValue false ∷ [] }
-    ensures two_negatives_turned_round { map (λ operator. operator_value operator Truth (IntValue (neg_ℤ (pos 1))) (IntValue (neg_ℤ (pos 2)))) (Eq ∷ NotEq ∷ Lt ∷ LtEq ∷ Gt ∷ GtEq ∷ [])
+    ensures two_negatives_turned_round { map (λ operator. operator_value operator Truth Truth (IntValue (neg_ℤ (pos 1))) (IntValue (neg_ℤ (pos 2)))) (Eq ∷ NotEq ∷ Lt ∷ LtEq ∷ Gt ∷ GtEq ∷ [])
         ≡ TruthValue false ∷ TruthValue true ∷ TruthValue false ∷ TruthValue false ∷ TruthValue true ∷ TruthValue true ∷ [] }
-    ensures equal_negatives { map (λ operator. operator_value operator Truth (IntValue (neg_ℤ (pos 2))) (IntValue (neg_ℤ (pos 2)))) (Eq ∷ NotEq ∷ Lt ∷ LtEq ∷ Gt ∷ GtEq ∷ [])
+    ensures equal_negatives { map (λ operator. operator_value operator Truth Truth (IntValue (neg_ℤ (pos 2))) (IntValue (neg_ℤ (pos 2)))) (Eq ∷ NotEq ∷ Lt ∷ LtEq ∷ Gt ∷ GtEq ∷ [])
         ≡ TruthValue true ∷ TruthValue false ∷ TruthValue false ∷ TruthValue true ∷ TruthValue false ∷ TruthValue true ∷ [] }
-    ensures ends_of_a_range { map (λ operator. operator_value operator Truth (IntValue (neg_ℤ (pos 9223372036854775808))) (IntValue (pos 9223372036854775807))) (Eq ∷ NotEq ∷ Lt ∷ LtEq ∷ Gt ∷ GtEq ∷ [])
+    ensures ends_of_a_range { map (λ operator. operator_value operator Truth Truth (IntValue (neg_ℤ (pos 9223372036854775808))) (IntValue (pos 9223372036854775807))) (Eq ∷ NotEq ∷ Lt ∷ LtEq ∷ Gt ∷ GtEq ∷ [])
         ≡ TruthValue false ∷ TruthValue true ∷ TruthValue true ∷ TruthValue true ∷ TruthValue false ∷ TruthValue false ∷ [] }
-    ensures two_greatest { map (λ operator. operator_value operator Truth (IntValue (pos 18446744073709551615)) (IntValue (pos 18446744073709551614))) (Eq ∷ NotEq ∷ Lt ∷ LtEq ∷ Gt ∷ GtEq ∷ [])
+    ensures two_greatest { map (λ operator. operator_value operator Truth Truth (IntValue (pos 18446744073709551615)) (IntValue (pos 18446744073709551614))) (Eq ∷ NotEq ∷ Lt ∷ LtEq ∷ Gt ∷ GtEq ∷ [])
         ≡ TruthValue false ∷ TruthValue true ∷ TruthValue false ∷ TruthValue false ∷ TruthValue true ∷ TruthValue true ∷ [] }
 {}
 
 /// False is less than true.
 pub fn comparisons_of_truth_values()
-    ensures false_beside_true { map (λ operator. operator_value operator Truth (TruthValue false) (TruthValue true)) (Eq ∷ NotEq ∷ Lt ∷ LtEq ∷ Gt ∷ GtEq ∷ [])
+    ensures false_beside_true { map (λ operator. operator_value operator Truth Truth (TruthValue false) (TruthValue true)) (Eq ∷ NotEq ∷ Lt ∷ LtEq ∷ Gt ∷ GtEq ∷ [])
         ≡ TruthValue false ∷ TruthValue true ∷ TruthValue true ∷ TruthValue true ∷ TruthValue false ∷ TruthValue false ∷ [] }
-    ensures true_beside_false { map (λ operator. operator_value operator Truth (TruthValue true) (TruthValue false)) (Eq ∷ NotEq ∷ Lt ∷ LtEq ∷ Gt ∷ GtEq ∷ [])
+    ensures true_beside_false { map (λ operator. operator_value operator Truth Truth (TruthValue true) (TruthValue false)) (Eq ∷ NotEq ∷ Lt ∷ LtEq ∷ Gt ∷ GtEq ∷ [])
         ≡ TruthValue false ∷ TruthValue true ∷ TruthValue false ∷ TruthValue false ∷ TruthValue true ∷ TruthValue true ∷ [] }
-    ensures false_beside_false { map (λ operator. operator_value operator Truth (TruthValue false) (TruthValue false)) (Eq ∷ NotEq ∷ Lt ∷ LtEq ∷ Gt ∷ GtEq ∷ [])
+    ensures false_beside_false { map (λ operator. operator_value operator Truth Truth (TruthValue false) (TruthValue false)) (Eq ∷ NotEq ∷ Lt ∷ LtEq ∷ Gt ∷ GtEq ∷ [])
         ≡ TruthValue true ∷ TruthValue false ∷ TruthValue false ∷ TruthValue true ∷ TruthValue false ∷ TruthValue true ∷ [] }
-    ensures true_beside_true { map (λ operator. operator_value operator Truth (TruthValue true) (TruthValue true)) (Eq ∷ NotEq ∷ Lt ∷ LtEq ∷ Gt ∷ GtEq ∷ [])
+    ensures true_beside_true { map (λ operator. operator_value operator Truth Truth (TruthValue true) (TruthValue true)) (Eq ∷ NotEq ∷ Lt ∷ LtEq ∷ Gt ∷ GtEq ∷ [])
         ≡ TruthValue true ∷ TruthValue false ∷ TruthValue false ∷ TruthValue true ∷ TruthValue false ∷ TruthValue true ∷ [] }
 {}
 
 /// A comparison with null is null, whichever side it is on, and so is that of two nulls.
 pub fn comparisons_with_null()
-    ensures null_beside_number { map (λ operator. operator_value operator Truth NullValue (IntValue (pos 1))) (Eq ∷ NotEq ∷ Lt ∷ LtEq ∷ Gt ∷ GtEq ∷ [])
+    ensures null_beside_number { map (λ operator. operator_value operator Truth Truth NullValue (IntValue (pos 1))) (Eq ∷ NotEq ∷ Lt ∷ LtEq ∷ Gt ∷ GtEq ∷ [])
         ≡ NullValue ∷ NullValue ∷ NullValue ∷ NullValue ∷ NullValue ∷ NullValue ∷ [] }
-    ensures number_beside_null { map (λ operator. operator_value operator Truth (IntValue (pos 1)) NullValue) (Eq ∷ NotEq ∷ Lt ∷ LtEq ∷ Gt ∷ GtEq ∷ [])
+    ensures number_beside_null { map (λ operator. operator_value operator Truth Truth (IntValue (pos 1)) NullValue) (Eq ∷ NotEq ∷ Lt ∷ LtEq ∷ Gt ∷ GtEq ∷ [])
         ≡ NullValue ∷ NullValue ∷ NullValue ∷ NullValue ∷ NullValue ∷ NullValue ∷ [] }
-    ensures null_beside_truth { map (λ operator. operator_value operator Truth NullValue (TruthValue true)) (Eq ∷ NotEq ∷ Lt ∷ LtEq ∷ Gt ∷ GtEq ∷ [])
+    ensures null_beside_truth { map (λ operator. operator_value operator Truth Truth NullValue (TruthValue true)) (Eq ∷ NotEq ∷ Lt ∷ LtEq ∷ Gt ∷ GtEq ∷ [])
         ≡ NullValue ∷ NullValue ∷ NullValue ∷ NullValue ∷ NullValue ∷ NullValue ∷ [] }
-    ensures truth_beside_null { map (λ operator. operator_value operator Truth (TruthValue false) NullValue) (Eq ∷ NotEq ∷ Lt ∷ LtEq ∷ Gt ∷ GtEq ∷ [])
+    ensures truth_beside_null { map (λ operator. operator_value operator Truth Truth (TruthValue false) NullValue) (Eq ∷ NotEq ∷ Lt ∷ LtEq ∷ Gt ∷ GtEq ∷ [])
         ≡ NullValue ∷ NullValue ∷ NullValue ∷ NullValue ∷ NullValue ∷ NullValue ∷ [] }
-    ensures two_nulls { map (λ operator. operator_value operator Truth NullValue NullValue) (Eq ∷ NotEq ∷ Lt ∷ LtEq ∷ Gt ∷ GtEq ∷ [])
+    ensures two_nulls { map (λ operator. operator_value operator Truth Truth NullValue NullValue) (Eq ∷ NotEq ∷ Lt ∷ LtEq ∷ Gt ∷ GtEq ∷ [])
         ≡ NullValue ∷ NullValue ∷ NullValue ∷ NullValue ∷ NullValue ∷ NullValue ∷ [] }
 {}
 
 /// A sum of truth values is how many of them are true. One with null is null.
 pub fn sums_of_truth_values()
-    ensures both_true { operator_value Plus (Integer false 32) (TruthValue true) (TruthValue true) ≡ IntValue (pos 2) }
-    ensures left_true { operator_value Plus (Integer false 32) (TruthValue true) (TruthValue false) ≡ IntValue (pos 1) }
-    ensures right_true { operator_value Plus (Integer false 32) (TruthValue false) (TruthValue true) ≡ IntValue (pos 1) }
-    ensures both_false { operator_value Plus (Integer false 32) (TruthValue false) (TruthValue false) ≡ IntValue (pos 0) }
-    ensures null_beside_true { operator_value Plus (Integer false 32) NullValue (TruthValue true) ≡ NullValue }
-    ensures true_beside_null { operator_value Plus (Integer false 32) (TruthValue true) NullValue ≡ NullValue }
-    ensures null_beside_false { operator_value Plus (Integer false 32) NullValue (TruthValue false) ≡ NullValue }
-    ensures false_beside_null { operator_value Plus (Integer false 32) (TruthValue false) NullValue ≡ NullValue }
-    ensures two_nulls { operator_value Plus (Integer false 32) NullValue NullValue ≡ NullValue }
+    ensures both_true { operator_value Plus (Integer false 32) (Integer false 32) (TruthValue true) (TruthValue true) ≡ IntValue (pos 2) }
+    ensures left_true { operator_value Plus (Integer false 32) (Integer false 32) (TruthValue true) (TruthValue false) ≡ IntValue (pos 1) }
+    ensures right_true { operator_value Plus (Integer false 32) (Integer false 32) (TruthValue false) (TruthValue true) ≡ IntValue (pos 1) }
+    ensures both_false { operator_value Plus (Integer false 32) (Integer false 32) (TruthValue false) (TruthValue false) ≡ IntValue (pos 0) }
+    ensures null_beside_true { operator_value Plus (Integer false 32) (Integer false 32) NullValue (TruthValue true) ≡ NullValue }
+    ensures true_beside_null { operator_value Plus (Integer false 32) (Integer false 32) (TruthValue true) NullValue ≡ NullValue }
+    ensures null_beside_false { operator_value Plus (Integer false 32) (Integer false 32) NullValue (TruthValue false) ≡ NullValue }
+    ensures false_beside_null { operator_value Plus (Integer false 32) (Integer false 32) (TruthValue false) NullValue ≡ NullValue }
+    ensures two_nulls { operator_value Plus (Integer false 32) (Integer false 32) NullValue NullValue ≡ NullValue }
 {}
 
 /// A sum of numbers wraps around in its type.
 pub fn sums_of_numbers()
-    ensures within { operator_value Plus (Integer true 8) (IntValue (pos 100)) (IntValue (neg_ℤ (pos 101))) ≡ IntValue (neg_ℤ (pos 1)) }
-    ensures past_the_greatest { operator_value Plus (Integer true 8) (IntValue (pos 127)) (IntValue (pos 1)) ≡ IntValue (neg_ℤ (pos 128)) }
-    ensures below_the_least { operator_value Plus (Integer true 8) (IntValue (neg_ℤ (pos 128))) (IntValue (neg_ℤ (pos 1))) ≡ IntValue (pos 127) }
-    ensures without_a_sign { operator_value Plus (Integer false 8) (IntValue (pos 200)) (IntValue (pos 100)) ≡ IntValue (pos 44) }
-    ensures counts { operator_value Plus (Integer false 32) (IntValue (pos 4294967295)) (IntValue (pos 1)) ≡ IntValue (pos 0) }
-    ensures null_beside_number { operator_value Plus (Integer true 8) NullValue (IntValue (pos 1)) ≡ NullValue }
-    ensures number_beside_null { operator_value Plus (Integer true 8) (IntValue (pos 1)) NullValue ≡ NullValue }
-    ensures two_nulls { operator_value Plus (Integer true 8) NullValue NullValue ≡ NullValue }
+    ensures within { operator_value Plus (Integer true 8) (Integer true 8) (IntValue (pos 100)) (IntValue (neg_ℤ (pos 101))) ≡ IntValue (neg_ℤ (pos 1)) }
+    ensures past_the_greatest { operator_value Plus (Integer true 8) (Integer true 8) (IntValue (pos 127)) (IntValue (pos 1)) ≡ IntValue (neg_ℤ (pos 128)) }
+    ensures below_the_least { operator_value Plus (Integer true 8) (Integer true 8) (IntValue (neg_ℤ (pos 128))) (IntValue (neg_ℤ (pos 1))) ≡ IntValue (pos 127) }
+    ensures without_a_sign { operator_value Plus (Integer false 8) (Integer false 8) (IntValue (pos 200)) (IntValue (pos 100)) ≡ IntValue (pos 44) }
+    ensures counts { operator_value Plus (Integer false 32) (Integer false 32) (IntValue (pos 4294967295)) (IntValue (pos 1)) ≡ IntValue (pos 0) }
+    ensures null_beside_number { operator_value Plus (Integer true 8) (Integer true 8) NullValue (IntValue (pos 1)) ≡ NullValue }
+    ensures number_beside_null { operator_value Plus (Integer true 8) (Integer true 8) (IntValue (pos 1)) NullValue ≡ NullValue }
+    ensures two_nulls { operator_value Plus (Integer true 8) (Integer true 8) NullValue NullValue ≡ NullValue }
 {}
 
 /// A comparison has its first operand's name and the type of truth values, and is refused where an operand is.

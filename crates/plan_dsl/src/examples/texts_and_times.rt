@@ -147,47 +147,47 @@ pub fn refused_comparisons()
 
 /// Texts are in the order of their bytes, and a text comes before those that it begins.
 pub fn comparisons_of_texts()
-    ensures beginning { map (λ operator. operator_value operator Truth (TextValue (codes "a")) (TextValue (codes "ab"))) (Eq ∷ NotEq ∷ Lt ∷ LtEq ∷ Gt ∷ GtEq ∷ [])
+    ensures beginning { map (λ operator. operator_value operator Truth Truth (TextValue (codes "a")) (TextValue (codes "ab"))) (Eq ∷ NotEq ∷ Lt ∷ LtEq ∷ Gt ∷ GtEq ∷ [])
         ≡ TruthValue false ∷ TruthValue true ∷ TruthValue true ∷ TruthValue true ∷ TruthValue false ∷ TruthValue false ∷ [] }
-    ensures greater_at_the_first { map (λ operator. operator_value operator Truth (TextValue (codes "b")) (TextValue (codes "ab"))) (Eq ∷ NotEq ∷ Lt ∷ LtEq ∷ Gt ∷ GtEq ∷ [])
+    ensures greater_at_the_first { map (λ operator. operator_value operator Truth Truth (TextValue (codes "b")) (TextValue (codes "ab"))) (Eq ∷ NotEq ∷ Lt ∷ LtEq ∷ Gt ∷ GtEq ∷ [])
         ≡ TruthValue false ∷ TruthValue true ∷ TruthValue false ∷ TruthValue false ∷ TruthValue true ∷ TruthValue true ∷ [] }
-    ensures same { map (λ operator. operator_value operator Truth (TextValue (codes "ab")) (TextValue (codes "ab"))) (Eq ∷ NotEq ∷ Lt ∷ LtEq ∷ Gt ∷ GtEq ∷ [])
+    ensures same { map (λ operator. operator_value operator Truth Truth (TextValue (codes "ab")) (TextValue (codes "ab"))) (Eq ∷ NotEq ∷ Lt ∷ LtEq ∷ Gt ∷ GtEq ∷ [])
         ≡ TruthValue true ∷ TruthValue false ∷ TruthValue false ∷ TruthValue true ∷ TruthValue false ∷ TruthValue true ∷ [] }
-    ensures two_empty { map (λ operator. operator_value operator Truth (TextValue (codes "")) (TextValue (codes ""))) (Eq ∷ NotEq ∷ Lt ∷ LtEq ∷ Gt ∷ GtEq ∷ [])
+    ensures two_empty { map (λ operator. operator_value operator Truth Truth (TextValue (codes "")) (TextValue (codes ""))) (Eq ∷ NotEq ∷ Lt ∷ LtEq ∷ Gt ∷ GtEq ∷ [])
         ≡ TruthValue true ∷ TruthValue false ∷ TruthValue false ∷ TruthValue true ∷ TruthValue false ∷ TruthValue true ∷ [] }
-    ensures empty_first { map (λ operator. operator_value operator Truth (TextValue (codes "")) (TextValue (codes "a"))) (Eq ∷ NotEq ∷ Lt ∷ LtEq ∷ Gt ∷ GtEq ∷ [])
+    ensures empty_first { map (λ operator. operator_value operator Truth Truth (TextValue (codes "")) (TextValue (codes "a"))) (Eq ∷ NotEq ∷ Lt ∷ LtEq ∷ Gt ∷ GtEq ∷ [])
         ≡ TruthValue false ∷ TruthValue true ∷ TruthValue true ∷ TruthValue true ∷ TruthValue false ∷ TruthValue false ∷ [] }
-    ensures capitals_first { map (λ operator. operator_value operator Truth (TextValue (codes "B")) (TextValue (codes "a"))) (Eq ∷ NotEq ∷ Lt ∷ LtEq ∷ Gt ∷ GtEq ∷ [])
+    ensures capitals_first { map (λ operator. operator_value operator Truth Truth (TextValue (codes "B")) (TextValue (codes "a"))) (Eq ∷ NotEq ∷ Lt ∷ LtEq ∷ Gt ∷ GtEq ∷ [])
         ≡ TruthValue false ∷ TruthValue true ∷ TruthValue true ∷ TruthValue true ∷ TruthValue false ∷ TruthValue false ∷ [] }
-    ensures digits_one_by_one { map (λ operator. operator_value operator Truth (TextValue (codes "10")) (TextValue (codes "9"))) (Eq ∷ NotEq ∷ Lt ∷ LtEq ∷ Gt ∷ GtEq ∷ [])
+    ensures digits_one_by_one { map (λ operator. operator_value operator Truth Truth (TextValue (codes "10")) (TextValue (codes "9"))) (Eq ∷ NotEq ∷ Lt ∷ LtEq ∷ Gt ∷ GtEq ∷ [])
         ≡ TruthValue false ∷ TruthValue true ∷ TruthValue true ∷ TruthValue true ∷ TruthValue false ∷ TruthValue false ∷ [] }
-    ensures more_bytes { map (λ operator. operator_value operator Truth (TextValue (codes "z")) (TextValue (codes "é"))) (Eq ∷ NotEq ∷ Lt ∷ LtEq ∷ Gt ∷ GtEq ∷ [])
+    ensures more_bytes { map (λ operator. operator_value operator Truth Truth (TextValue (codes "z")) (TextValue (codes "é"))) (Eq ∷ NotEq ∷ Lt ∷ LtEq ∷ Gt ∷ GtEq ∷ [])
         ≡ TruthValue false ∷ TruthValue true ∷ TruthValue true ∷ TruthValue true ∷ TruthValue false ∷ TruthValue false ∷ [] }
-    ensures most_bytes { map (λ operator. operator_value operator Truth (TextValue (codes "😀")) (TextValue (codes "é"))) (Eq ∷ NotEq ∷ Lt ∷ LtEq ∷ Gt ∷ GtEq ∷ [])
+    ensures most_bytes { map (λ operator. operator_value operator Truth Truth (TextValue (codes "😀")) (TextValue (codes "é"))) (Eq ∷ NotEq ∷ Lt ∷ LtEq ∷ Gt ∷ GtEq ∷ [])
         ≡ TruthValue false ∷ TruthValue true ∷ TruthValue false ∷ TruthValue false ∷ TruthValue true ∷ TruthValue true ∷ [] }
-    ensures null { map (λ operator. operator_value operator Truth (TextValue (codes "a")) NullValue) (Eq ∷ NotEq ∷ Lt ∷ LtEq ∷ Gt ∷ GtEq ∷ [])
+    ensures null { map (λ operator. operator_value operator Truth Truth (TextValue (codes "a")) NullValue) (Eq ∷ NotEq ∷ Lt ∷ LtEq ∷ Gt ∷ GtEq ∷ [])
         ≡ NullValue ∷ NullValue ∷ NullValue ∷ NullValue ∷ NullValue ∷ NullValue ∷ [] }
 {}
 
 /// Joined texts stand one after the other, and a sum with null is null.
 pub fn joined_texts()
-    ensures two { operator_value Plus TextType (TextValue (codes "ab")) (TextValue (codes "c")) ≡ TextValue (codes "abc") }
-    ensures empty_first { operator_value Plus TextType (TextValue []) (TextValue (codes "c")) ≡ TextValue (codes "c") }
-    ensures empty_last { operator_value Plus TextType (TextValue (codes "ab")) (TextValue []) ≡ TextValue (codes "ab") }
-    ensures text_and_null { operator_value Plus TextType (TextValue (codes "ab")) NullValue ≡ NullValue }
-    ensures null_and_text { operator_value Plus TextType NullValue (TextValue (codes "ab")) ≡ NullValue }
-    ensures two_nulls { operator_value Plus NullType NullValue NullValue ≡ NullValue }
+    ensures two { operator_value Plus TextType TextType (TextValue (codes "ab")) (TextValue (codes "c")) ≡ TextValue (codes "abc") }
+    ensures empty_first { operator_value Plus TextType TextType (TextValue []) (TextValue (codes "c")) ≡ TextValue (codes "c") }
+    ensures empty_last { operator_value Plus TextType TextType (TextValue (codes "ab")) (TextValue []) ≡ TextValue (codes "ab") }
+    ensures text_and_null { operator_value Plus TextType TextType (TextValue (codes "ab")) NullValue ≡ NullValue }
+    ensures null_and_text { operator_value Plus TextType TextType NullValue (TextValue (codes "ab")) ≡ NullValue }
+    ensures two_nulls { operator_value Plus NullType NullType NullValue NullValue ≡ NullValue }
 {}
 
 /// Sums of spans and moments wrap around in 64 bits with a sign.
 pub fn sums_of_times()
-    ensures spans { operator_value Plus (DurationType Milliseconds) (IntValue (pos 5)) (IntValue (neg_ℤ (pos 7))) ≡ IntValue (neg_ℤ (pos 2)) }
-    ensures span_past_the_greatest { operator_value Plus (DurationType Nanoseconds) (IntValue (pos 9223372036854775807)) (IntValue (pos 1)) ≡ IntValue (neg_ℤ (pos 9223372036854775808)) }
-    ensures span_below_the_least { operator_value Plus (DurationType Microseconds) (IntValue (neg_ℤ (pos 9223372036854775808))) (IntValue (neg_ℤ (pos 1))) ≡ IntValue (pos 9223372036854775807) }
-    ensures moment { operator_value Plus (DatetimeType Microseconds) (IntValue (pos 86400000000)) (IntValue (pos 1)) ≡ IntValue (pos 86400000001) }
-    ensures moment_past_the_greatest { operator_value Plus (DatetimeType Nanoseconds) (IntValue (pos 9223372036854775807)) (IntValue (pos 9223372036854775807)) ≡ IntValue (neg_ℤ (pos 2)) }
-    ensures span_and_null { operator_value Plus (DurationType Milliseconds) (IntValue (pos 5)) NullValue ≡ NullValue }
-    ensures null_and_span { operator_value Plus (DatetimeType Milliseconds) NullValue (IntValue (pos 5)) ≡ NullValue }
+    ensures spans { operator_value Plus (DurationType Milliseconds) (DurationType Milliseconds) (IntValue (pos 5)) (IntValue (neg_ℤ (pos 7))) ≡ IntValue (neg_ℤ (pos 2)) }
+    ensures span_past_the_greatest { operator_value Plus (DurationType Nanoseconds) (DurationType Nanoseconds) (IntValue (pos 9223372036854775807)) (IntValue (pos 1)) ≡ IntValue (neg_ℤ (pos 9223372036854775808)) }
+    ensures span_below_the_least { operator_value Plus (DurationType Microseconds) (DurationType Microseconds) (IntValue (neg_ℤ (pos 9223372036854775808))) (IntValue (neg_ℤ (pos 1))) ≡ IntValue (pos 9223372036854775807) }
+    ensures moment { operator_value Plus (DatetimeType Microseconds) (DatetimeType Microseconds) (IntValue (pos 86400000000)) (IntValue (pos 1)) ≡ IntValue (pos 86400000001) }
+    ensures moment_past_the_greatest { operator_value Plus (DatetimeType Nanoseconds) (DatetimeType Nanoseconds) (IntValue (pos 9223372036854775807)) (IntValue (pos 9223372036854775807)) ≡ IntValue (neg_ℤ (pos 2)) }
+    ensures span_and_null { operator_value Plus (DurationType Milliseconds) (DurationType Milliseconds) (IntValue (pos 5)) NullValue ≡ NullValue }
+    ensures null_and_span { operator_value Plus (DatetimeType Milliseconds) (DatetimeType Milliseconds) NullValue (IntValue (pos 5)) ≡ NullValue }
 {}
 
 /// Days are compared to moments in the moments' unit, and moments and spans in the coarser one, rounded down. A day that
