@@ -1,5 +1,5 @@
 -- Arithmetic of numbers and of texts: operands without parts, which are no times, are taken to texts or to their common type.
-use Rattle.std.proofs.Common.{◌≡◌, ℕ, Bool, true, false, ◌&&◌, ◌||◌, not, cond, List, Option, Some, None, Result, Ok, Err, IsTrue, refl, ap, ◌∙◌}
+use Rattle.std.proofs.Common.{◌≡◌, ℕ, Bool, true, false, ◌&&◌, ◌||◌, not, cond, List, Option, Some, None, Result, Ok, Err, IsTrue, refl, sym, ap, ◌∙◌}
 use Rattle.std.specs.Prelude.{ℤ}
 use Rattle.std.proofs.lemmas.Bool.{and_parts, or_parts}
 use Rattle.plan_types.specs.Types.{Ty, NullType, Truth, Integer, TextType, is_bare, is_known, is_temporal, is_text}

@@ -1,5 +1,5 @@
 -- Truth values and bits: truth values and nulls are combined as truth values, and bits in the operands' common type.
-use Rattle.std.proofs.Common.{◌≡◌, ℕ, Bool, true, false, ◌&&◌, cond, Option, Some, None, Result, Ok, Err, IsTrue, refl, ap, ◌∙◌, subst}
+use Rattle.std.proofs.Common.{◌≡◌, ℕ, Bool, true, false, ◌&&◌, not, cond, Option, Some, None, Result, Ok, Err, IsTrue, refl, ap, ◌∙◌, subst}
 use Rattle.std.specs.Prelude.{ℤ}
 use Rattle.std.proofs.lemmas.Bool.{and_parts, and_from}
 use Rattle.plan_types.specs.Types.{Ty, NullType, Truth, Integer, is_integer, is_known, is_text}
@@ -35,7 +35,7 @@ other_truth Truth truth other f = refl
 other_truth _ truth other f = cc
 
 pub one_keeps : (type : Ty) → KeepsType type one_true
-one_keeps type (TruthValue left) (TruthValue right) f g = other_truth type left _ f
+one_keeps type (TruthValue left) (TruthValue right) f g = other_truth type left (cond left (not right) right) f
 one_keeps type (TruthValue left) right f g = refl
 one_keeps type left right f g = refl
 
@@ -64,7 +64,7 @@ truth_takes value a b taken keeps h =
 
 -- ---- bits
 
-bits_no_text : (type : Ty) → has_bits type ≡ true → is_text type ≡ false
+pub bits_no_text : (type : Ty) → has_bits type ≡ true → is_text type ≡ false
 bits_no_text NullType h = refl
 bits_no_text Truth h = refl
 bits_no_text (Integer signed bits) h = refl

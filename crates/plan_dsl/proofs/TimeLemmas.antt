@@ -1,17 +1,18 @@
 -- Arithmetic of times: sums, differences and multiples, each by its rows.
 use Rattle.std.proofs.Common.{◌≡◌, inl, sym, ℕ, Bool, true, false, ◌&&◌, ◌||◌, cond, nat_lt, max, Option, Some, None, Result, Ok, Err, IsTrue, refl, ap, ◌∙◌, arith}
-use Rattle.std.specs.Prelude.{ℤ}
+use Rattle.std.specs.Prelude.{ℤ, ◌*◌, ◌-ℤ◌, ◌*ℤ◌}
 use Rattle.std.proofs.lemmas.Bool.{ltb-true}
 use Rattle.plan_types.specs.Types.{Ty, Integer, DateType, TimeType, DatetimeType, DurationType, coarser, is_known}
 use Rattle.plan_types.specs.Values.{Val, fits}
 use Rattle.plan_types.specs.Supertypes.{supertype}
 use Rattle.plan_types.specs.declared.dtype.TimeUnit.{TimeUnit}
 use Rattle.plan_types.specs.declared.dtype.TimeUnit.TheVariants.{Nanoseconds, Microseconds, Milliseconds}
+use Rattle.plan_types.specs.declared.error.ErrorKind.{ErrorKind}
 use Rattle.plan_types.specs.declared.error.ErrorKind.TheVariants.{SchemaMismatch}
 use Rattle.plan_types.proofs.ValueLemmas.{wrapped_in_range}
 use Rattle.plan_dsl.specs.declared.operator.Operator.{Operator}
 use Rattle.plan_dsl.specs.declared.operator.Operator.TheVariants.{Plus, Minus, Multiply}
-use Rattle.plan_dsl.specs.Operators.{of_numbers, plus, minus, operator_value}
+use Rattle.plan_dsl.specs.Operators.{counted, operator_value}
 use Rattle.plan_dsl.specs.OperatorTypes.{Taken, pair_to, is_in_int64, time_sum_types, time_difference_types, time_product_types, pair_types}
 use Rattle.plan_dsl.proofs.TypingLemmas.{ok_same, ok_where}
 use Rattle.plan_dsl.proofs.TakingLemmas.{Becomes, TakesPair, other_becomes, integer_becomes}
@@ -46,8 +47,11 @@ time_row operator a b left right type taken is first second known stays fitting 
   fitting = fitting;
 }
 
-taken_is : (made taken : Taken) → Ok made ≡ Ok taken → made ≡ taken
-taken_is made taken h = ok_same (Ok made) made taken refl h
+abbrev takes_to : Taken → Result Taken ErrorKind
+takes_to made = Ok made
+
+taken_is : (made taken : Taken) → takes_to made ≡ Ok taken → made ≡ taken
+taken_is made taken h = ok_same (takes_to made) made taken refl h
 
 -- ---- sums
 
@@ -83,7 +87,7 @@ time_sum_takes _ _ taken h = cc
 -- a difference that is a moment or a span wraps around in its type
 difference_row : (a b left right type : Ty) (taken : Taken) → pair_to left right type ≡ taken → Becomes a left → Becomes b right → is_known type ≡ true → pair_types Minus left right ≡ Ok (pair_to left right type) → Wraps type → Takes Minus a b taken
 difference_row a b left right type taken is first second known stays wraps =
-    time_row Minus a b left right type taken is first second known stays (λ x y f g. of_numbers_fits _ type wraps x y)
+    time_row Minus a b left right type taken is first second known stays (λ x y f g. of_numbers_fits (λ m n. Some (counted left (m -ℤ n))) type wraps x y)
 
 -- two moments, or a day and a moment, have a span between them
 moments_row : (a b : Ty) (unit : TimeUnit) (taken : Taken) → pair_to (DatetimeType unit) (DatetimeType unit) (DurationType unit) ≡ taken → Becomes a (DatetimeType unit) → Becomes b (DatetimeType unit) → Takes Minus a b taken
@@ -125,7 +129,7 @@ time_difference_takes _ _ taken h = cc
 -- the integer type that 64 bits with a sign hold has those with it as its common type
 int64_common : (signed : Bool) (bits : ℕ) → is_in_int64 signed bits ≡ true → supertype (Integer signed bits) (Integer true 64) ≡ Some (Integer true 64)
 int64_common true bits h = let less = ltb-true bits 65 h in ap (λ n. Some (Integer true n)) (omega (arith, less))
-int64_common false bits h = ap (λ b. cond b (Some (Integer true 64)) _) h
+int64_common false bits h = ap (λ b. cond b (Some (Integer true 64)) (cond (nat_lt bits 64) (Some (Integer true (2 * bits))) None)) h
 
 int64_becomes : (signed : Bool) (bits : ℕ) → is_in_int64 signed bits ≡ true → Becomes (Integer signed bits) (Integer true 64)
 int64_becomes signed bits h = integer_becomes (Integer signed bits) (Integer true 64) (Integer true 64) refl refl refl (int64_common signed bits h)
@@ -138,7 +142,7 @@ time_product_takes (DurationType unit) (Integer signed bits) taken h =
     (int64_becomes signed bits p.0)
     refl
     refl
-    (λ x y f g. of_numbers_fits _ (DurationType unit) (spans_wrap unit) x y)
+    (λ x y f g. of_numbers_fits (λ m n. Some (m *ℤ n)) (DurationType unit) (spans_wrap unit) x y)
 time_product_takes (Integer signed bits) (DurationType unit) taken h =
     let p = ok_where (is_in_int64 signed bits) _ taken SchemaMismatch h in
     time_row Multiply (Integer signed bits) (DurationType unit) (Integer true 64) (DurationType unit) (DurationType unit) taken p.1
@@ -146,5 +150,5 @@ time_product_takes (Integer signed bits) (DurationType unit) taken h =
     (other_becomes (DurationType unit) (DurationType unit) refl refl refl)
     refl
     refl
-    (λ x y f g. of_numbers_fits _ (DurationType unit) (spans_wrap unit) x y)
+    (λ x y f g. of_numbers_fits (λ m n. Some (m *ℤ n)) (DurationType unit) (spans_wrap unit) x y)
 time_product_takes _ _ taken h = cc
