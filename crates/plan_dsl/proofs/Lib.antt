@@ -11,6 +11,7 @@ pub mod OperatorLemmas
 pub mod RuleLemmas
 pub mod RunLemmas
 pub mod SameLemmas
+pub mod SwapLemmas
 pub mod TakingLemmas
 pub mod TimeLemmas
 pub mod TypingLemmas
