@@ -3,7 +3,7 @@ use Rattle.std.proofs.Common.{◌≡◌, ℕ, Bool, true, false, ◌&&◌, ◌||
 use Rattle.std.specs.Prelude.{ℤ}
 use Rattle.std.proofs.lemmas.Bool.{and_parts, or_parts}
 use Rattle.plan_types.specs.Types.{Ty, NullType, Truth, Integer, TextType, is_bare, is_known, is_temporal, is_text}
-use Rattle.plan_types.specs.Values.{Val, NullValue, TruthValue, IntValue, TextValue, in_range, fits}
+use Rattle.plan_types.specs.Values.{Val, TruthValue, IntValue, TextValue, in_range, fits}
 use Rattle.plan_types.specs.Supertypes.{supertype}
 use Rattle.plan_types.specs.Casts.{wrapped}
 use Rattle.plan_types.specs.declared.error.ErrorKind.{ErrorKind}

@@ -1,9 +1,9 @@
 -- Truth values and bits: truth values and nulls are combined as truth values, and bits in the operands' common type.
-use Rattle.std.proofs.Common.{◌≡◌, ℕ, Bool, true, false, ◌&&◌, not, cond, Option, Some, None, Result, Ok, Err, IsTrue, refl, ap, ◌∙◌, subst}
+use Rattle.std.proofs.Common.{◌≡◌, ℕ, Bool, true, false, ◌&&◌, not, cond, Some, Ok, Err, IsTrue, refl, ap, ◌∙◌}
 use Rattle.std.specs.Prelude.{ℤ}
 use Rattle.std.proofs.lemmas.Bool.{and_parts, and_from}
 use Rattle.plan_types.specs.Types.{Ty, NullType, Truth, Integer, is_integer, is_known, is_text}
-use Rattle.plan_types.specs.Values.{Val, NullValue, TruthValue, IntValue, fits}
+use Rattle.plan_types.specs.Values.{Val, TruthValue, IntValue, fits}
 use Rattle.plan_types.specs.Supertypes.{supertype}
 use Rattle.plan_types.specs.declared.error.ErrorKind.TheVariants.{InvalidOperation}
 use Rattle.plan_types.proofs.SupertypeLemmas.{no_number, supertype_itself, supertype_symmetric}

@@ -1,5 +1,5 @@
 -- Comparisons: both operands are taken to their common type, and a truth value is given.
-use Rattle.std.proofs.Common.{◌≡◌, sym, Bool, true, false, ◌&&◌, ◌||◌, cond, Option, Some, None, Result, Ok, Err, IsTrue, refl, ap, ◌∙◌}
+use Rattle.std.proofs.Common.{◌≡◌, sym, Bool, true, false, ◌&&◌, ◌||◌, cond, Some, Result, Ok, Err, IsTrue, refl, ap, ◌∙◌}
 use Rattle.std.proofs.lemmas.Bool.{or_parts}
 use Rattle.plan_types.specs.Types.{Ty, TextType, Truth, is_integer, is_known, is_temporal, is_text}
 use Rattle.plan_types.specs.Values.{Val, NullValue, fits}

@@ -1,6 +1,6 @@
 -- Operators, by their tables: what operands of any types are taken to, that they can become it, that what was taken stays,
 -- and that over values that fit the types an operator gives values of its own.
-use Rattle.std.proofs.Common.{◌≡◌, sym, true, false, not, cond, List, [], ◌∷◌, Option, Some, None, Ok, Err, refl, ap, ◌∙◌, subst}
+use Rattle.std.proofs.Common.{◌≡◌, sym, true, not, List, [], ◌∷◌, Option, Some, None, Ok, Err, refl, ap, ◌∙◌, subst}
 use Rattle.std.specs.Prelude.{ℤ, ◌*ℤ◌, bit_and, bit_or, bit_xor, int_div, ◌-ℤ◌}
 use Rattle.plan_types.specs.Types.{Ty, Truth, is_known}
 use Rattle.plan_types.specs.Values.{TruthValue, same_value}
@@ -16,7 +16,7 @@ use Rattle.plan_dsl.specs.OperatorTypes.{Taken, pair_to, text_types, time_types,
 use Rattle.plan_dsl.proofs.TakingLemmas.{Becomes, TakesPair}
 use Rattle.plan_dsl.proofs.ComparisonLemmas.{compared_gives, equal_takes, order_takes}
 use Rattle.plan_dsl.proofs.BitLemmas.{both_keeps, either_keeps, one_keeps, truth_takes, bits_take}
-use Rattle.plan_dsl.proofs.ArithmeticLemmas.{IsArithmetic, of_times, of_texts, of_counts, arithmetic_row, joined_takes, number_sum_takes, other_number_types, numbers_take}
+use Rattle.plan_dsl.proofs.ArithmeticLemmas.{of_times, of_texts, of_counts, arithmetic_row, joined_takes, number_sum_takes, other_number_types, numbers_take}
 use Rattle.plan_dsl.proofs.TimeLemmas.{time_sum_takes, time_difference_takes, time_product_takes}
 
 sum_takes : (a b : Ty) (taken : Taken) → is_known a ≡ true → is_known b ≡ true → arithmetic_types Plus a b ≡ Ok taken → TakesPair (arithmetic_types Plus) (λ from. plus) a b taken

@@ -2,7 +2,7 @@
 use Rattle.std.proofs.Common.{◌≡◌, ℕ, Bool, true, false, ◌&&◌, ◌||◌, not, cond, List, [], ◌∷◌, length, Option, Some, None, Result, Ok, Err, refl, sym, ap, ◌∙◌, subst, arith}
 use Rattle.std.specs.Prelude.{pos, ◌==◌, bit_and, bit_or, bit_xor}
 use Rattle.std.proofs.Math.Bool.{and_comm as both_turned, or_comm as either_turned}
-use Rattle.std.proofs.lemmas.Bool.{and_parts, eqb-true}
+use Rattle.std.proofs.lemmas.Bool.{eqb-true}
 use Rattle.std.proofs.lemmas.Cmp.{int_eq_equiv, nat_list_eq_equiv}
 use Rattle.std.proofs.lemmas.Nat.{and_comm, or_comm, xor_comm}
 use Rattle.plan_types.specs.Types.{Ty, Truth, width_of}
@@ -15,9 +15,9 @@ use Rattle.plan_types.specs.CommonTypes.{type_beside}
 use Rattle.plan_types.specs.Outcomes.{Done}
 use Rattle.plan_types.proofs.SupertypeLemmas.{supertype_symmetric}
 use Rattle.plan_dsl.specs.declared.operator.Operator.{Operator}
-use Rattle.plan_dsl.specs.declared.operator.Operator.TheVariants.{Eq, EqValidity, NotEq, NotEqValidity, Lt, LtEq, Gt, GtEq, Plus, Minus, Multiply, Divide, FloorDivide, Modulus, And, Or, Xor, LogicalAnd, LogicalOr}
+use Rattle.plan_dsl.specs.declared.operator.Operator.TheVariants.{Eq, EqValidity, NotEq, NotEqValidity, Lt, LtEq, Gt, GtEq, And, Or, Xor, LogicalAnd, LogicalOr}
 use Rattle.plan_dsl.specs.Operators.{bitwise, both_true, compared, either_true, is_less, one_true, operator_value, swapped}
-use Rattle.plan_dsl.specs.OperatorTypes.{Taken, pair_to, both_to, is_text_beside, comparison_types, has_parts, order_types, is_truth_or_null, truth_types, has_bits, bit_types, pair_types, with_types, operator_types}
+use Rattle.plan_dsl.specs.OperatorTypes.{Taken, pair_to, both_to, is_text_beside, comparison_types, has_parts, order_types, is_truth_or_null, truth_types, has_bits, bit_types, pair_types, with_types}
 use Rattle.plan_dsl.specs.Kernels.{common_length, stretched, at_each, at_length, operator_values}
 use Rattle.plan_dsl.specs.Laws.{SaysSwapped}
 use Rattle.plan_dsl.proofs.TypingLemmas.{ok_where}

@@ -1,6 +1,6 @@
 -- What an operator takes two types of columns to: that they can become it, that what was taken stays, and that over values
 -- that fit the types the operator gives values of its own.
-use Rattle.std.proofs.Common.{◌≡◌, inl, ℕ, Bool, true, false, ◌&&◌, ◌||◌, cond, nat_lt, List, [], ◌∷◌, Option, Some, None, Result, Ok, Err, IsTrue, refl, ap, ◌∙◌, subst}
+use Rattle.std.proofs.Common.{◌≡◌, inl, ℕ, Bool, true, false, ◌&&◌, cond, nat_lt, Option, Some, None, Result, Ok, Err, IsTrue, refl, subst}
 use Rattle.std.specs.Prelude.{ℤ, ◌*◌}
 use Rattle.std.proofs.lemmas.Bool.{and_from}
 use Rattle.plan_types.specs.Types.{Ty, NullType, Truth, Integer, is_integer, is_known, is_text}

@@ -1,14 +1,15 @@
 -- Arithmetic of times: sums, differences and multiples, each by its rows.
-use Rattle.std.proofs.Common.{◌≡◌, inl, sym, ℕ, Bool, true, false, ◌&&◌, ◌||◌, cond, nat_lt, max, Option, Some, None, Result, Ok, Err, IsTrue, refl, ap, ◌∙◌, arith}
+use Rattle.std.proofs.Common.{◌≡◌, ℕ, Bool, true, false, cond, nat_lt, Some, None, Result, Ok, IsTrue, refl, ap, arith}
 use Rattle.std.specs.Prelude.{ℤ, ◌*◌, ◌-ℤ◌, ◌*ℤ◌}
 use Rattle.std.proofs.lemmas.Bool.{ltb-true}
 use Rattle.plan_types.specs.Types.{Ty, Integer, DateType, TimeType, DatetimeType, DurationType, coarser, is_known}
 use Rattle.plan_types.specs.Values.{Val, fits}
 use Rattle.plan_types.specs.Supertypes.{supertype}
 use Rattle.plan_types.specs.declared.dtype.TimeUnit.{TimeUnit}
-use Rattle.plan_types.specs.declared.dtype.TimeUnit.TheVariants.{Nanoseconds, Microseconds, Milliseconds}
+use Rattle.plan_types.specs.declared.dtype.TimeUnit.TheVariants.{Nanoseconds, Milliseconds}
 use Rattle.plan_types.specs.declared.error.ErrorKind.{ErrorKind}
 use Rattle.plan_types.specs.declared.error.ErrorKind.TheVariants.{SchemaMismatch}
+use Rattle.plan_types.proofs.SupertypeLemmas.{some_same, supertype_itself}
 use Rattle.plan_types.proofs.ValueLemmas.{wrapped_in_range}
 use Rattle.plan_dsl.specs.declared.operator.Operator.{Operator}
 use Rattle.plan_dsl.specs.declared.operator.Operator.TheVariants.{Plus, Minus, Multiply}
@@ -18,10 +19,8 @@ use Rattle.plan_dsl.proofs.TypingLemmas.{ok_same, ok_where}
 use Rattle.plan_dsl.proofs.TakingLemmas.{Becomes, TakesPair, other_becomes, integer_becomes}
 use Rattle.plan_dsl.proofs.ArithmeticLemmas.{Wraps, of_numbers_fits, number_sum_fits}
 
-pub coarser_itself : (unit : TimeUnit) → coarser unit unit ≡ unit
-coarser_itself Nanoseconds = refl
-coarser_itself Microseconds = refl
-coarser_itself Milliseconds = refl
+coarser_itself : (unit : TimeUnit) → coarser unit unit ≡ unit
+coarser_itself unit = let same = some_same (DurationType (coarser unit unit)) (DurationType unit) (supertype_itself (DurationType unit)) in cc
 
 moments_wrap : (unit : TimeUnit) → Wraps (DatetimeType unit)
 moments_wrap unit = wrapped_in_range true 64
