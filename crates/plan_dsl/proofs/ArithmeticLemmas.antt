@@ -15,7 +15,7 @@ use Rattle.plan_dsl.specs.declared.operator.Operator.TheVariants.{Plus}
 use Rattle.plan_dsl.specs.Operators.{wrapped_value, of_numbers, plus}
 use Rattle.plan_dsl.specs.OperatorTypes.{Taken, pair_to, both_to, has_bits, is_joined, sum_type, is_truth_alone, number_types, text_types, time_types, arithmetic_types}
 use Rattle.plan_dsl.proofs.TypingLemmas.{ok_where}
-use Rattle.plan_dsl.proofs.TakingLemmas.{Becomes, TakesPair, unless_so, both_is, common_becomes}
+use Rattle.plan_dsl.proofs.TakingLemmas.{Becomes, other_becomes, TakesPair, unless_so, both_is, common_becomes}
 use Rattle.plan_dsl.proofs.BitLemmas.{KeepsType, bits_common, bits_no_text}
 
 -- ---- values
@@ -80,9 +80,9 @@ sum_fits _ h x y f = cc
 -- ---- texts
 
 joined_becomes : (type : Ty) → is_joined type ≡ true → Becomes type TextType
-joined_becomes NullType h = record { known = refl; casts = refl; has = λ number i r. cc }
-joined_becomes Truth h = record { known = refl; casts = refl; has = λ number i r. cc }
-joined_becomes TextType h = record { known = refl; casts = refl; has = λ number i r. cc }
+joined_becomes NullType h = other_becomes NullType TextType refl refl refl
+joined_becomes Truth h = other_becomes Truth TextType refl refl refl
+joined_becomes TextType h = other_becomes TextType TextType refl refl refl
 joined_becomes _ h = cc
 
 pub joined_takes : (a b : Ty) (taken : Taken) → text_types Plus a b ≡ Ok taken → TakesPair (arithmetic_types Plus) (λ from. plus) a b taken

@@ -11,7 +11,7 @@ use Rattle.plan_types.proofs.ValueLemmas.{wrapped_in_range}
 use Rattle.plan_dsl.specs.Operators.{both_true, either_true, one_true, bitwise, of_bits}
 use Rattle.plan_dsl.specs.OperatorTypes.{Taken, pair_to, both_to, is_truth_or_null, truth_types, has_bits, bit_types}
 use Rattle.plan_dsl.proofs.TypingLemmas.{ok_where}
-use Rattle.plan_dsl.proofs.TakingLemmas.{Becomes, TakesPair, both_is, some_is, integer_common, common_becomes}
+use Rattle.plan_dsl.proofs.TakingLemmas.{Becomes, other_becomes, TakesPair, both_is, some_is, integer_common, common_becomes}
 
 -- what is made of two values of a type is of the type
 abbrev pub KeepsType : Ty → (Val → Val → Val) → Type 0
@@ -42,8 +42,8 @@ one_keeps type left right f g = refl
 -- ---- truth values
 
 truth_becomes : (type : Ty) → is_truth_or_null type ≡ true → Becomes type Truth
-truth_becomes NullType h = record { known = refl; casts = refl; has = λ number i r. cc }
-truth_becomes Truth h = record { known = refl; casts = refl; has = λ number i r. cc }
+truth_becomes NullType h = other_becomes NullType Truth refl refl refl
+truth_becomes Truth h = other_becomes Truth Truth refl refl refl
 truth_becomes _ h = cc
 
 pub truth_takes : (value : Val → Val → Val) (a b : Ty) (taken : Taken) → KeepsType Truth value → truth_types a b ≡ Ok taken → TakesPair truth_types (λ from type. value) a b taken

@@ -57,7 +57,7 @@ abbrev CastFits : Ty → Ty → CastOptions → Type 0
 CastFits from target options = (value : Val) → fits value from ≡ true → ConvertedFits target (cast value from target options)
 
 -- so do those of an operand that can become one of the target
-become_fits : (from target : Ty) → CanBecome from target → CastFits from target NonStrict
+pub become_fits : (from target : Ty) → CanBecome from target → CastFits from target NonStrict
 become_fits (Untyped number) target can NullValue fit = refl
 become_fits (Untyped number) target can (IntValue other) fit = number_to_fits (Untyped number) other target NonStrict
 become_fits (Untyped number) target can _ fit = cc

@@ -12,6 +12,7 @@ pub mod RuleLemmas
 pub mod RunLemmas
 pub mod SameLemmas
 pub mod SwapLemmas
+pub mod SwappedNodeLemmas
 pub mod TakingLemmas
 pub mod TimeLemmas
 pub mod TypingLemmas

@@ -20,6 +20,7 @@ use Rattle.plan_dsl.specs.Operators.{bitwise, both_true, compared, either_true, 
 use Rattle.plan_dsl.specs.OperatorTypes.{Taken, pair_to, both_to, is_text_beside, comparison_types, has_parts, order_types, is_truth_or_null, truth_types, has_bits, bit_types, pair_types, with_types}
 use Rattle.plan_dsl.specs.Kernels.{common_length, stretched, at_each, at_length, operator_values}
 use Rattle.plan_dsl.specs.Laws.{SaysSwapped}
+use Rattle.plan_dsl.proofs.SwappedNodeLemmas.{TakesSwapped, GivesSwapped, swapped_typing, swapped_meaning}
 use Rattle.plan_dsl.proofs.TypingLemmas.{ok_where}
 use Rattle.plan_dsl.proofs.TakingLemmas.{unless_so, both_is}
 
@@ -199,13 +200,18 @@ columns_turned operator other left right type same xs ys =
 
 -- two operators with one such table, and values that may be swapped
 says : (operator other : Operator) → IsTurned (pair_types operator) → pair_types other ≡ pair_types operator → ((left right type : Ty) (x y : Val) → operator_value other right type y x ≡ operator_value operator left type x y) → SaysSwapped operator other
-says operator other turned same value = record {
-  types = λ a b left right type h.
-      ap (with_types (type_beside b a) (type_beside a b)) same
-      ∙ with_types_swapped (pair_types operator) turned (type_beside a b) (type_beside b a) left right type h;
-  value = value;
-  columns = λ left right type xs ys. columns_turned operator other left right type (value left right type) xs ys;
-}
+says operator other turned same value =
+    let types : TakesSwapped operator other = λ a b left right type h.
+    ap (with_types (type_beside b a) (type_beside a b)) same
+    ∙ with_types_swapped (pair_types operator) turned (type_beside a b) (type_beside b a) left right type h in
+    let columns : GivesSwapped operator other = λ left right type xs ys. columns_turned operator other left right type (value left right type) xs ys in
+    record {
+      types = types;
+      value = value;
+      columns = columns;
+      node_typing = swapped_typing operator other types;
+      node_meaning = swapped_meaning operator other types columns;
+    }
 
 by_other : (operator found other : Operator) → Some found ≡ Some other → SaysSwapped operator found → SaysSwapped operator other
 by_other operator found other h says = let same : found ≡ other = cc in subst (SaysSwapped operator) same says
