@@ -1,5 +1,7 @@
 //! Worked examples of the definitions. The functions do nothing: their clauses are the examples.
 
+pub mod arithmetic;
+pub mod bits;
 pub mod expressions;
 pub mod filters;
 pub mod lists_and_structs;
@@ -9,3 +11,4 @@ pub mod operators;
 pub mod plans;
 pub mod strictness;
 pub mod texts_and_times;
+pub mod time_arithmetic;
