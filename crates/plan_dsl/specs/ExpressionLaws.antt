@@ -115,7 +115,8 @@ same_literal_is_equivalence = literals_compared
 pub same_literal_hash : (a b : LiteralValue) → same_literal a b ≡ true → literal_writes (literal_type a) (literal_value a) ≡ literal_writes (literal_type b) (literal_value b)
 same_literal_hash a b h =
     let parts = and_parts (same_type (literal_type a) (literal_type b)) (same_value (literal_value a) (literal_value b)) h in
-    ap (λ t. literal_writes t (literal_value a)) (same_type_exact _ _ parts.0) ∙ ap (literal_writes (literal_type b)) (same_value_exact _ _ parts.1)
+    ap (λ t. literal_writes t (literal_value a)) (same_type_exact (literal_type a) (literal_type b) parts.0)
+    ∙ ap (literal_writes (literal_type b)) (same_value_exact (literal_value a) (literal_value b) parts.1)
 
 -- ---- expressions
 

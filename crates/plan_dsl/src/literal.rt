@@ -71,23 +71,12 @@ impl LiteralValue {
     pub fn is_in_range(&self) -> bool
         ensures { result ≡ is_literal (literal_type self.now) (literal_value self.now) }
     {
-        match self {
-            LiteralValue::Int(number) => materialize_dyn_int(*number).is_some(),
-            LiteralValue::Time(nanoseconds) => DataType::Time.has_number(i128::from(*nanoseconds)),
-            LiteralValue::Null
-            | LiteralValue::Boolean(_)
-            | LiteralValue::String(_)
-            | LiteralValue::Int8(_)
-            | LiteralValue::Int16(_)
-            | LiteralValue::Int32(_)
-            | LiteralValue::Int64(_)
-            | LiteralValue::UInt8(_)
-            | LiteralValue::UInt16(_)
-            | LiteralValue::UInt32(_)
-            | LiteralValue::UInt64(_)
-            | LiteralValue::Date(_)
-            | LiteralValue::DateTime(_, _)
-            | LiteralValue::Duration(_, _) => true,
+        if let LiteralValue::Int(number) = self {
+            return materialize_dyn_int(*number).is_some();
+        }
+        match self.number() {
+            Some(number) => self.get_datatype().has_number(number),
+            None => true,
         }
     }
 
