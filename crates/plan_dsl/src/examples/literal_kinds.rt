@@ -44,9 +44,9 @@ pub fn null_literals()
     ensures of_another_type { typing [] [] (node (LiteralOp TextType NullValue) no_more) ≡ Err InvalidOperation }
     ensures name { name_of (tree_of (Literal Null)) ≡ codes "literal" }
     ensures settled { settled (tree_of (Literal Null)) ≡ tree_of (Literal Null) }
-    ensures meaning { let frame : Frame = record { schema = (codes "t", Truth) ∷ []; rows = (TruthValue true ∷ []) ∷ (TruthValue false ∷ []) ∷ []; } in
+    ensures meaning { let frame : Frame = record { schema = (codes "t", Truth) ∷ []; rows = (TruthValue true ∷ []) ∷ (TruthValue false ∷ []) ∷ [] } in
         map (meaning [] frame (tree_of (Literal Null))) ((0 ∷ 1 ∷ []) ∷ [] ∷ []) ≡ Done (NullValue ∷ []) ∷ Done (NullValue ∷ []) ∷ [] }
-    ensures run { let frame : Frame = record { schema = (codes "t", Truth) ∷ []; rows = (TruthValue true ∷ []) ∷ (TruthValue false ∷ []) ∷ []; } in
+    ensures run { let frame : Frame = record { schema = (codes "t", Truth) ∷ []; rows = (TruthValue true ∷ []) ∷ (TruthValue false ∷ []) ∷ [] } in
         strict_run [] frame (tree_of (Literal Null)) (0 ∷ 1 ∷ []) ≡ Done (NullValue ∷ []) }
     ensures selected { let scan = node (scan_op (Some 0) ((codes "t", Truth) ∷ [])) no_more in
         schema_of [] (node (select_op (named (tree_of (Literal Null)) ∷ []) []) (more scan no_more)) ≡ Some ((codes "literal", NullType) ∷ []) }
@@ -98,19 +98,19 @@ pub fn types_of_null_beside_columns()
 
 /// What an operator gives beside null is null, but where a truth value settles it, or where nulls are compared too.
 pub fn meanings_of_null_beside_columns()
-    ensures number { let frame : Frame = record { schema = (codes "a", Integer true 8) ∷ []; rows = (IntValue (pos 1) ∷ []) ∷ (NullValue ∷ []) ∷ []; } in
+    ensures number { let frame : Frame = record { schema = (codes "a", Integer true 8) ∷ []; rows = (IntValue (pos 1) ∷ []) ∷ (NullValue ∷ []) ∷ [] } in
         let a = node (ColumnOp (codes "a")) no_more in
         meaning [] frame (node (BinaryOp Plus) (more a (more (tree_of (Literal Null)) no_more))) (0 ∷ 1 ∷ []) ≡ Done (NullValue ∷ NullValue ∷ []) }
-    ensures text { let frame : Frame = record { schema = (codes "x", TextType) ∷ []; rows = (TextValue (codes "b") ∷ []) ∷ (NullValue ∷ []) ∷ []; } in
+    ensures text { let frame : Frame = record { schema = (codes "x", TextType) ∷ []; rows = (TextValue (codes "b") ∷ []) ∷ (NullValue ∷ []) ∷ [] } in
         let x = node (ColumnOp (codes "x")) no_more in
         meaning [] frame (node (BinaryOp Plus) (more x (more (tree_of (Literal Null)) no_more))) (0 ∷ 1 ∷ []) ≡ Done (NullValue ∷ NullValue ∷ []) }
-    ensures both { let frame : Frame = record { schema = (codes "t", Truth) ∷ []; rows = (TruthValue true ∷ []) ∷ (TruthValue false ∷ []) ∷ (NullValue ∷ []) ∷ []; } in
+    ensures both { let frame : Frame = record { schema = (codes "t", Truth) ∷ []; rows = (TruthValue true ∷ []) ∷ (TruthValue false ∷ []) ∷ (NullValue ∷ []) ∷ [] } in
         let t = node (ColumnOp (codes "t")) no_more in
         meaning [] frame (node (BinaryOp LogicalAnd) (more t (more (tree_of (Literal Null)) no_more))) (0 ∷ 1 ∷ 2 ∷ []) ≡ Done (NullValue ∷ TruthValue false ∷ NullValue ∷ []) }
-    ensures either { let frame : Frame = record { schema = (codes "t", Truth) ∷ []; rows = (TruthValue true ∷ []) ∷ (TruthValue false ∷ []) ∷ (NullValue ∷ []) ∷ []; } in
+    ensures either { let frame : Frame = record { schema = (codes "t", Truth) ∷ []; rows = (TruthValue true ∷ []) ∷ (TruthValue false ∷ []) ∷ (NullValue ∷ []) ∷ [] } in
         let t = node (ColumnOp (codes "t")) no_more in
         meaning [] frame (node (BinaryOp LogicalOr) (more t (more (tree_of (Literal Null)) no_more))) (0 ∷ 1 ∷ 2 ∷ []) ≡ Done (TruthValue true ∷ NullValue ∷ NullValue ∷ []) }
-    ensures compared { let frame : Frame = record { schema = (codes "a", Integer true 8) ∷ []; rows = (IntValue (pos 1) ∷ []) ∷ (NullValue ∷ []) ∷ []; } in
+    ensures compared { let frame : Frame = record { schema = (codes "a", Integer true 8) ∷ []; rows = (IntValue (pos 1) ∷ []) ∷ (NullValue ∷ []) ∷ [] } in
         let a = node (ColumnOp (codes "a")) no_more in
         map (λ operator. meaning [] frame (node (BinaryOp operator) (more a (more (tree_of (Literal Null)) no_more))) (0 ∷ 1 ∷ [])) (Eq ∷ EqValidity ∷ [])
         ≡ Done (NullValue ∷ NullValue ∷ []) ∷ Done (TruthValue false ∷ TruthValue true ∷ []) ∷ [] }
@@ -120,13 +120,13 @@ pub fn meanings_of_null_beside_columns()
 pub fn other_literals_beside_columns()
     ensures kept_rows { let scan = node (scan_op (Some 0) ((codes "a", Integer true 8) ∷ [])) no_more in
         schema_of [] (node (filter_op (named (tree_of (Literal (Boolean true))))) (more scan no_more)) ≡ Some ((codes "a", Integer true 8) ∷ []) }
-    ensures text { let frame : Frame = record { schema = (codes "x", TextType) ∷ []; rows = (TextValue (codes "b") ∷ []) ∷ (NullValue ∷ []) ∷ []; } in
+    ensures text { let frame : Frame = record { schema = (codes "x", TextType) ∷ []; rows = (TextValue (codes "b") ∷ []) ∷ (NullValue ∷ []) ∷ [] } in
         let x = node (ColumnOp (codes "x")) no_more in
         meaning [] frame (node (BinaryOp Plus) (more x (more (tree_of (Literal (String (codes "!")))) no_more))) (0 ∷ 1 ∷ []) ≡ Done (TextValue (codes "b!") ∷ NullValue ∷ []) }
-    ensures later { let frame : Frame = record { schema = (codes "m", DatetimeType Microseconds) ∷ []; rows = (IntValue (pos 1) ∷ []) ∷ (NullValue ∷ []) ∷ []; } in
+    ensures later { let frame : Frame = record { schema = (codes "m", DatetimeType Microseconds) ∷ []; rows = (IntValue (pos 1) ∷ []) ∷ (NullValue ∷ []) ∷ [] } in
         let m = node (ColumnOp (codes "m")) no_more in
         meaning [] frame (node (BinaryOp Plus) (more m (more (tree_of (Literal (Duration (pos 5) Microseconds))) no_more))) (0 ∷ 1 ∷ []) ≡ Done (IntValue (pos 6) ∷ NullValue ∷ []) }
-    ensures day { let frame : Frame = record { schema = (codes "d", DateType) ∷ []; rows = (IntValue (pos 1) ∷ []) ∷ (IntValue (pos 2) ∷ []) ∷ []; } in
+    ensures day { let frame : Frame = record { schema = (codes "d", DateType) ∷ []; rows = (IntValue (pos 1) ∷ []) ∷ (IntValue (pos 2) ∷ []) ∷ [] } in
         let d = node (ColumnOp (codes "d")) no_more in
         meaning [] frame (node (BinaryOp Eq) (more d (more (tree_of (Literal (Date (pos 2)))) no_more))) (0 ∷ 1 ∷ []) ≡ Done (TruthValue false ∷ TruthValue true ∷ []) }
 {}

@@ -1,6 +1,7 @@
 //! Expressions that are one, and what they are hashed by.
 
 ghost use Rattle.std.specs.Prelude.{◌≡◌, [], ◌∷◌, map, pos, neg_ℤ, codes, nat_eq, true, false};
+ghost use Rattle.std.specs.Hash.{le_bytes};
 ghost use Rattle.plan_types.specs.Types.{Truth, Integer, Untyped};
 ghost use Rattle.plan_types.specs.Values.{NullValue, TruthValue, IntValue, ListValue, no_value};
 ghost use Rattle.plan_types.specs.declared.dtype.CastOptions.TheVariants.{Strict, NonStrict, Overflowing};
@@ -40,7 +41,7 @@ pub fn same_expressions()
     ensures sums { let a = node (ColumnOp (codes "a")) no_more in
         let b = node (ColumnOp (codes "b")) no_more in
         map (same_tree same_op (node (BinaryOp Plus) (more a (more b no_more))))
-          (node (BinaryOp Plus) (more a (more b no_more)) ∷ node (BinaryOp Plus) (more b (more a no_more)) ∷ node (BinaryOp Plus) (more a (more a no_more)) ∷ node (BinaryOp Or) (more a (more b no_more)) ∷ node (BinaryOp Plus) (more a no_more) ∷ a ∷ [])
+        (node (BinaryOp Plus) (more a (more b no_more)) ∷ node (BinaryOp Plus) (more b (more a no_more)) ∷ node (BinaryOp Plus) (more a (more a no_more)) ∷ node (BinaryOp Or) (more a (more b no_more)) ∷ node (BinaryOp Plus) (more a no_more) ∷ a ∷ [])
         ≡ true ∷ false ∷ false ∷ false ∷ false ∷ false ∷ [] }
     ensures sides { let a = node (ColumnOp (codes "a")) no_more in
         let sum = node (BinaryOp Plus) (more a (more a no_more)) in
@@ -63,7 +64,7 @@ pub fn hashes_of_expressions()
         ≡ (2 ∷ []) ∷ (8 ∷ []) ∷ (0 ∷ []) ∷ (97 ∷ []) ∷ (255 ∷ []) ∷ (0 ∷ []) ∷ (98 ∷ []) ∷ (255 ∷ []) ∷ [] }
     ensures cast { let a = node (ColumnOp (codes "a")) no_more in
         tree_writes op_writes (node (CastOp (Integer true 8) NonStrict) (more a no_more))
-        ≡ (3 ∷ []) ∷ (8 ∷ 0 ∷ 0 ∷ 0 ∷ []) ∷ (1 ∷ []) ∷ (0 ∷ []) ∷ (97 ∷ []) ∷ (255 ∷ []) ∷ [] }
-    ensures truth { tree_writes op_writes (node (LiteralOp Truth (TruthValue true)) no_more) ≡ (1 ∷ []) ∷ (1 ∷ 0 ∷ 0 ∷ 0 ∷ []) ∷ (1 ∷ []) ∷ [] }
-    ensures list { op_writes (LiteralOp Truth (ListValue no_value)) ≡ (1 ∷ []) ∷ (1 ∷ 0 ∷ 0 ∷ 0 ∷ []) ∷ [] }
+        ≡ (3 ∷ []) ∷ le_bytes 4 8 ∷ (1 ∷ []) ∷ (0 ∷ []) ∷ (97 ∷ []) ∷ (255 ∷ []) ∷ [] }
+    ensures truth { tree_writes op_writes (node (LiteralOp Truth (TruthValue true)) no_more) ≡ (1 ∷ []) ∷ le_bytes 4 1 ∷ (1 ∷ []) ∷ [] }
+    ensures list { op_writes (LiteralOp Truth (ListValue no_value)) ≡ (1 ∷ []) ∷ le_bytes 4 1 ∷ [] }
 {}

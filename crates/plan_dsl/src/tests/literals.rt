@@ -8,6 +8,7 @@ use std::alloc::Global;
 use std::test::Fail;
 
 const GREATEST: i128 = 9223372036854775807;
+
 const LEAST: i128 = -9223372036854775808;
 
 #[test]
@@ -17,10 +18,7 @@ fn literals_tell_their_type(rt: HostRuntime) -> Result<(), Fail> {
         (LiteralValue::Null, DataType::Null),
         (LiteralValue::Boolean(true), DataType::Boolean),
         (LiteralValue::String(text), DataType::String),
-        (
-            LiteralValue::Int(5),
-            DataType::Unknown(UnknownKind::Int(5)),
-        ),
+        (LiteralValue::Int(5), DataType::Unknown(UnknownKind::Int(5))),
         (LiteralValue::Int8(-128), DataType::Int8),
         (LiteralValue::Int16(32767), DataType::Int16),
         (LiteralValue::Int32(-1), DataType::Int32),
