@@ -76,17 +76,17 @@ abbrev mutual
 
 -- ---- hashes
 
--- what is hashed of a literal's value: no literal is a list or a struct
-abbrev pub value_writes : Val → List (List ℕ)
-value_writes NullValue = []
-value_writes (TruthValue truth) = fed.bool truth
-value_writes (IntValue number) = fed.i128 number
-value_writes (TextValue text) = fed.str (encode_utf8_all text)
-value_writes (ListValue items) = []
-value_writes (StructValue parts) = []
+-- what is hashed of a literal's value, beside its type: no literal is a list or a struct
+abbrev pub bare_writes : Val → List (List ℕ)
+bare_writes NullValue = []
+bare_writes (TruthValue truth) = fed.bool truth
+bare_writes (IntValue number) = fed.i128 number
+bare_writes (TextValue text) = fed.str (encode_utf8_all text)
+bare_writes (ListValue items) = []
+bare_writes (StructValue parts) = []
 
 abbrev pub literal_writes : Ty → Val → List (List ℕ)
-literal_writes type value = fed.u32 (type_code type) ++ value_writes value
+literal_writes type value = fed.u32 (type_code type) ++ bare_writes value
 
 abbrev pub op_writes : Op → List (List ℕ)
 op_writes (ColumnOp name) = fed.u8 0 ++ fed.str (encode_utf8_all name)

@@ -120,7 +120,35 @@ fn literals_of_a_number_are_in_the_range_of_their_type(rt: HostRuntime) -> Resul
                 None => panic!(rt; "the type has the number"),
             }
         }
-        for number in [least - 1, greatest + 1] {
+    }
+    Ok(())
+}
+
+#[test]
+fn there_are_no_literals_past_the_range_of_a_type(rt: HostRuntime) -> Result<(), Fail> {
+    for (dtype, below, past) in [
+        (DataType::Int8, -129, 128),
+        (DataType::Int16, -32769, 32768),
+        (DataType::Int32, -2147483649, 2147483648),
+        (DataType::Int64, LEAST - 1, GREATEST + 1),
+        (DataType::UInt8, -1, 256),
+        (DataType::UInt16, -1, 65536),
+        (DataType::UInt32, -1, 4294967296),
+        (DataType::UInt64, -1, 18446744073709551616),
+        (DataType::Date, -2147483649, 2147483648),
+        (DataType::Time, -1, 86_400_000_000_000),
+        (
+            DataType::Datetime(TimeUnit::Microseconds),
+            LEAST - 1,
+            GREATEST + 1,
+        ),
+        (
+            DataType::Duration(TimeUnit::Milliseconds),
+            LEAST - 1,
+            GREATEST + 1,
+        ),
+    ] {
+        for number in [below, past] {
             assert!(rt; LiteralValue::of_number(&dtype, number).is_none());
         }
     }
