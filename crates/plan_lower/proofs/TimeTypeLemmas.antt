@@ -85,7 +85,7 @@ pub wide_factor : (factor : DataType) (unit : TimeUnit) → factor ≡ UInt64 �
 wide_factor factor unit is = (ap (λ f. time_product_types (DurationType unit) (ty f)) is, ap (λ f. time_product_types (ty f) (DurationType unit)) is)
 
 pub factor_taken : (factor : DataType) (unit : TimeUnit) → is_integer (ty factor) ≡ true → (factor ≡ UInt64 → ⊥) →
-  Multiplies (ty factor) unit (Ok (pair_to (DurationType unit) (Integer true 64) (DurationType unit))) (Ok (pair_to (Integer true 64) (DurationType unit) (DurationType unit)))
+    Multiplies (ty factor) unit (Ok (pair_to (DurationType unit) (Integer true 64) (DurationType unit))) (Ok (pair_to (Integer true 64) (DurationType unit) (DurationType unit)))
 factor_taken Int8 unit h narrow = (refl, refl)
 factor_taken Int16 unit h narrow = (refl, refl)
 factor_taken Int32 unit h narrow = (refl, refl)
@@ -97,5 +97,5 @@ factor_taken UInt64 unit h narrow = absurd (narrow refl)
 factor_taken factor unit h narrow = cc
 
 pub factor_refused : (factor : Ty) (unit : TimeUnit) (kind : ErrorKind) (error : PlanError) → error ≡ at_top kind → Multiplies factor unit (Err kind) (Err kind) →
-  IsRefusal (time_product_types (DurationType unit) factor) error × IsRefusal (time_product_types factor (DurationType unit)) error
+    IsRefusal (time_product_types (DurationType unit) factor) error × IsRefusal (time_product_types factor (DurationType unit)) error
 factor_refused factor unit kind error e refused = (broken kind e refused.0, broken kind e refused.1)

@@ -21,7 +21,7 @@ returns-in_err-check_factor-in-Duration-right c =
     let refused = (c.in_err-check_factor-in-Duration-right.ensures.err c.in-Duration-right.unit).1 in
     record {
       ok = no_answer handed.result error _ handed.ensures.1;
-      err = passed_on handed.result error _ handed.ensures.1 (subst (λ right. IsRefusal (time_product_types (ty c.args.left.now) (ty right)) error) (sym c.in-Duration-right.is) refused)
+      err = passed_on handed.result error _ handed.ensures.1 (subst (λ right. IsRefusal (time_product_types (ty c.args.left.now) (ty right)) error) (sym c.in-Duration-right.is) refused);
     }
 
 pub returns-in_default-right : goal.returns-in_default-right
