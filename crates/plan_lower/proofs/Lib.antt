@@ -8,4 +8,5 @@ pub mod PlanLemmas
 pub mod ProjectionLemmas
 pub mod StackLemmas
 pub mod TableLemmas
+pub mod TimeTypeLemmas
 pub mod TypingLemmas

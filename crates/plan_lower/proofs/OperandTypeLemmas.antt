@@ -1,39 +1,44 @@
 -- Why operands are refused.
-use Rattle.std.proofs.Common.{◌≡◌, Bool, true, false, cond, not, ◌&&◌, ◌||◌, List, [], ◌∷◌, Option, Some, None, Result, Ok, Err, refl, ap, ◌∙◌, ⊎_elim}
-use Rattle.plan_types.specs.Types.{Ty, Truth, DatetimeType, DurationType, ty, is_bare, is_known, is_temporal}
+use Rattle.std.proofs.Common.{◌≡◌, Bool, true, false, cond, not, ◌&&◌, ◌||◌, List, [], ◌∷◌, Option, Some, None, Result, Ok, Err, IfOk, refl, ap, ◌∙◌, ⊎_elim}
+use Rattle.std.specs.Result.{IsErrAnd}
+use Rattle.plan_types.specs.Types.{Ty, Truth, TextType, is_bare, is_known}
 use Rattle.plan_types.specs.CommonTypes.{type_beside}
 use Rattle.plan_types.specs.Supertypes.{supertype}
 use Rattle.plan_types.proofs.CommonLemmas.{own_beside}
 use Rattle.plan_types.specs.Errors.{IsMemoryOr, IsRefusal, no_room, broken}
-use Rattle.plan_types.specs.declared.dtype.TimeUnit.{TimeUnit}
-use Rattle.plan_types.specs.declared.dtype.DataType.{DataType}
-use Rattle.plan_types.specs.declared.dtype.DataType.TheVariants.{Datetime, Duration}
 use Rattle.plan_types.specs.declared.error.ErrorKind.{ErrorKind}
 use Rattle.plan_types.specs.declared.error.ErrorKind.TheVariants.{SchemaMismatch, InvalidOperation}
 use Rattle.plan_types.specs.declared.error.PlanError.{PlanError}
-use Rattle.plan_dsl.specs.OperatorTypes.{Taken, both_to, comparison_types, has_parts, is_text_beside, order_types, pair_to, plain_sum_types, sum_types, with_types}
+use Rattle.plan_dsl.specs.OperatorTypes.{Taken, both_to, comparison_types, has_parts, is_joined, is_text_beside, number_types, order_types, pair_to, text_types, with_types}
+use Rattle.plan_dsl.specs.declared.operator.Operator.{Operator}
+use Rattle.plan_dsl.specs.declared.operator.Operator.TheVariants.{Plus}
 use Rattle.plan_dsl.proofs.TypingLemmas.{ok_same}
-
--- a moment is added to a span alone
-pub moment_alone : (unit : TimeUnit) (right : DataType) → ((other : TimeUnit) → right ≡ Duration other → ⊥) → sum_types (DatetimeType unit) (ty right) ≡ Err InvalidOperation
-moment_alone unit (Duration other) not_span = absurd (not_span other refl)
-moment_alone unit _ not_span = refl
-
--- and a span to a moment or a span
-pub span_alone : (unit : TimeUnit) (right : DataType) → ((other : TimeUnit) → right ≡ Datetime other → ⊥) → ((other : TimeUnit) → right ≡ Duration other → ⊥) → sum_types (DurationType unit) (ty right) ≡ Err InvalidOperation
-span_alone unit (Datetime other) not_moment not_span = absurd (not_moment other refl)
-span_alone unit (Duration other) not_moment not_span = absurd (not_span other refl)
-span_alone unit _ not_moment not_span = refl
-
--- other times, lists and structs aren't added
-pub other_sum : (left : DataType) (right : Ty) (none : Bool) → ((unit : TimeUnit) → left ≡ Datetime unit → ⊥) → ((unit : TimeUnit) → left ≡ Duration unit → ⊥) → (not (is_bare (ty left) && is_bare right) || (is_temporal (ty left) || is_temporal right)) ≡ none → sum_types (ty left) right ≡ cond none (Err InvalidOperation) (plain_sum_types (ty left) right)
-other_sum (Datetime unit) right none not_moment not_span h = absurd (not_moment unit refl)
-other_sum (Duration unit) right none not_moment not_span h = absurd (not_span unit refl)
-other_sum left right none not_moment not_span h = ap (λ b. cond b (Err InvalidOperation) (plain_sum_types (ty left) right)) h
 
 -- operands without a common type
 pub no_common : (common : Option Ty) (result : Ty → Ty) (error : PlanError) → IsMemoryOr SchemaMismatch (common ≡ None) error → IsRefusal (both_to common result) error
 no_common common result error h = ⊎_elim (λ e. no_room e) (λ p. broken SchemaMismatch p.0 (ap (λ o. both_to o result) p.1)) h
+
+-- and numbers without one
+no_number : (op : Operator) → number_types op None ≡ Err SchemaMismatch
+no_number Plus = refl
+no_number op = refl
+
+pub no_common_number : (op : Operator) (common : Option Ty) (error : PlanError) → IsMemoryOr SchemaMismatch (common ≡ None) error → IsRefusal (number_types op common) error
+no_common_number op common error h = ⊎_elim (λ e. no_room e) (λ p. broken SchemaMismatch p.0 (ap (number_types op) p.1 ∙ no_number op)) h
+
+-- texts are joined, and nothing else is done to them
+pub unjoined : (op : Operator) (left right : Ty) → (is_joined left && is_joined right) ≡ false → text_types op left right ≡ Err InvalidOperation
+unjoined Plus left right h = ap (λ b. cond b (Ok (pair_to TextType TextType TextType)) (Err InvalidOperation)) h
+unjoined op left right h = refl
+
+pub text_alone : (op : Operator) (left right : Ty) → (op ≡ Plus → ⊥) → text_types op left right ≡ Err InvalidOperation
+text_alone Plus left right other = absurd (other refl)
+text_alone op left right other = refl
+
+-- truth values are added alone
+pub truths_alone : (op : Operator) → (op ≡ Plus → ⊥) → number_types op (Some Truth) ≡ Err InvalidOperation
+truths_alone Plus other = absurd (other refl)
+truths_alone op other = refl
 
 -- operands that are compared by order are of a common type without parts
 first_is : (x y : Ty) (xs ys : List Ty) → (x ∷ xs) ≡ (y ∷ ys) → x ≡ y
@@ -87,3 +92,8 @@ refused_first false x y error h refused = cc
 pub refused_second : {A : Type 0} (first : Bool) (x y : Result A ErrorKind) (error : PlanError) → first ≡ false → IsRefusal y error → IsRefusal (cond first x y) error
 refused_second true x y error h refused = cc
 refused_second false x y error h refused = refused
+
+-- an error that is handed on is no answer
+pub no_answer : {T E : Type 0} (r : Result T E) (e : E) (Q : T → Type 0) → IsErrAnd r (λ y. y ≡ e) → IfOk r Q
+no_answer (Ok x) e Q h = absurd h
+no_answer (Err y) e Q h = tt

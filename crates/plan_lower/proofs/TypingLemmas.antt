@@ -1,13 +1,11 @@
 -- The type of a node, from those of its inputs.
-use Rattle.std.proofs.Common.{◌≡◌, ◌≢◌, ℕ, Bool, true, false, cond, List, [], ◌∷◌, Option, Some, None, Result, Ok, Err, is_ok, is_some, ◌&&◌, refl, sym, ap, ◌∙◌, ⊎_elim}
+use Rattle.std.proofs.Common.{◌≡◌, ◌≢◌, ℕ, Bool, true, false, cond, List, [], ◌∷◌, Option, Some, None, Result, Ok, Err, is_ok, refl, sym, ap, ◌∙◌, ⊎_elim}
 use Rattle.std.specs.Prelude.{ℤ}
-use Rattle.std.specs.Option.{option_map}
 use Rattle.std.proofs.lemmas.Bool.{and_parts, and_from}
-use Rattle.plan_types.specs.Types.{Ty, ListType, StructType, Untyped, Fields, no_field, with_field, ty, are_known, is_known}
-use Rattle.plan_types.specs.declared.dtype.DataType.{DataType}
-use Rattle.plan_types.specs.Values.{Val, IntValue, in_range}
+use Rattle.plan_types.specs.Types.{Ty, ListType, StructType, Untyped, Fields, no_field, with_field, are_known, is_known}
+use Rattle.plan_types.specs.Values.{Val}
 use Rattle.plan_types.specs.Schemas.{Columns, Name, type_at}
-use Rattle.plan_types.specs.CommonTypes.{known_type, type_alone, literal_type as alone_type}
+use Rattle.plan_types.specs.CommonTypes.{known_type, type_alone}
 use Rattle.plan_types.specs.Casts.{can_cast, can_cast_fields}
 use Rattle.plan_types.specs.Errors.{at_top, IsMemoryOr, IsRefusal, no_room, broken}
 use Rattle.plan_types.specs.declared.error.ErrorKind.{ErrorKind}
@@ -18,8 +16,7 @@ use Rattle.plan_dsl.specs.declared.operator.Operator.{Operator}
 use Rattle.plan_dsl.specs.Registry.{Registry}
 use Rattle.plan_dsl.specs.Trees.{node}
 use Rattle.plan_dsl.specs.Ops.{ColumnOp, LiteralOp, BinaryOp, CastOp, Expression}
-use Rattle.plan_dsl.specs.Literals.{is_literal, is_literal_of}
-use Rattle.plan_dsl.proofs.LiteralLemmas.{becomes_literal}
+use Rattle.plan_dsl.specs.Literals.{is_literal}
 use Rattle.plan_dsl.specs.Typing.{Typed, column_type, literal_taken, cast_taken, typed_as, typing_rule, then_typed, typed_before, typing, some_many}
 use Rattle.plan_dsl.specs.OperatorTypes.{Taken, operator_types}
 use Rattle.plan_arena.specs.declared.aexpr.AExpr.{AExpr}
@@ -33,36 +30,9 @@ refused_so : {A B : Type 0} (from : Result A ErrorKind) (to : Result B ErrorKind
 refused_so from to error same (no_room e) = no_room e
 refused_so from to error same (broken kind e b) = broken kind e (same kind b)
 
--- a literal of a type that has its number
-pub literal_fits : (type : Ty) (value : Val) (number : ℤ) (dtype : Ty) → value ≡ IntValue number → dtype ≡ type → is_known type ≡ true → in_range dtype number ≡ true → literal_taken type value ≡ Ok (record { operands = []; type = dtype })
-literal_fits type value number dtype is same known has =
-    let here = ap (λ t. in_range t number) (sym same) ∙ has in
-    let literal = ap (is_literal type) is ∙ becomes_literal type number known here in
-    ap (λ b. cond b (Ok (record { operands = []; type = type })) (Err InvalidOperation)) literal ∙ ap (λ t. Ok (record { operands = []; type = t })) (sym same)
-
-not_literal : (type : Ty) (value : Val) → is_literal type value ≡ false → IsRefusal (literal_taken type value) (at_top InvalidOperation)
-not_literal type value h =
-    broken InvalidOperation refl (ap (λ b. cond b (Ok (record { operands = []; type = type })) (Err InvalidOperation)) h)
-
--- of one that doesn't have it
-pub literal_unfit : (type : Ty) (value : Val) (number : ℤ) (dtype : Ty) → value ≡ IntValue number → dtype ≡ type → in_range dtype number ≡ false → IsRefusal (literal_taken type value) (at_top InvalidOperation)
-literal_unfit type value number dtype is same has =
-    let here = ap (λ t. in_range t number) (sym same) ∙ has in
-    not_literal type value (ap (is_literal type) is ∙ ap (λ b. b && is_some (type_alone type)) here)
-
-and_none : (a b : Bool) → b ≡ false → (a && b) ≡ false
-and_none true b h = h
-and_none false b h = refl
-
--- and a number that no type has
-pub number_unfit : (type : Ty) (value : Val) (number : ℤ) → type ≡ Untyped number → alone_type number ≡ None → IsRefusal (literal_taken type value) (at_top InvalidOperation)
-number_unfit type value number is none =
-    not_literal type value (and_none (is_literal_of type value) (is_some (type_alone type)) (ap (λ t. is_some (type_alone t)) is ∙ ap is_some none))
-
--- there is none alone
-pub no_type_alone : (found : Option DataType) (alone : Option Ty) → option_map ty found ≡ alone → found ≡ None → alone ≡ None
-no_type_alone None alone e none = sym e
-no_type_alone (Some dtype) alone e none = cc
+-- a literal whose type doesn't have its value
+pub no_literal : (type : Ty) (value : Val) (error : PlanError) → error ≡ at_top InvalidOperation → is_literal type value ≡ false → IsRefusal (literal_taken type value) error
+no_literal type value error e h = broken InvalidOperation e (ap (λ b. cond b (Ok (record { operands = []; type = type })) (Err InvalidOperation)) h)
 
 -- an answer stands where its test holds
 has_it : {A : Type 0} (test : Bool) (taken : A) (kind : ErrorKind) → is_ok (cond test (Ok taken) (Err kind)) ≡ test

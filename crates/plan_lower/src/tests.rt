@@ -1,7 +1,9 @@
 //! Queries over one table, and what they become.
 
+mod arithmetic;
 mod filters;
 mod literals;
+mod operators;
 mod parts;
 mod texts;
 mod times;
@@ -40,9 +42,25 @@ fn scan(alloc: Global) -> Result<DslPlan, PlanError> {
 
 fn operator(word: &str) -> Option<Operator> {
     match word {
-        "+" => Some(Operator::Plus),
-        "<" => Some(Operator::Lt),
         "=" => Some(Operator::Eq),
+        "=v" => Some(Operator::EqValidity),
+        "!=" => Some(Operator::NotEq),
+        "!=v" => Some(Operator::NotEqValidity),
+        "<" => Some(Operator::Lt),
+        "<=" => Some(Operator::LtEq),
+        ">" => Some(Operator::Gt),
+        ">=" => Some(Operator::GtEq),
+        "+" => Some(Operator::Plus),
+        "-" => Some(Operator::Minus),
+        "*" => Some(Operator::Multiply),
+        "/" => Some(Operator::Divide),
+        "//" => Some(Operator::FloorDivide),
+        "%" => Some(Operator::Modulus),
+        "&" => Some(Operator::And),
+        "|" => Some(Operator::Or),
+        "^" => Some(Operator::Xor),
+        "&&" => Some(Operator::LogicalAnd),
+        "||" => Some(Operator::LogicalOr),
         _ => None,
     }
 }
@@ -111,8 +129,9 @@ fn cast_target(alloc: Global, word: &str) -> Result<Option<(DataType, CastOption
 }
 
 // A number, which has a type where a colon and the type's name stand behind it.
-fn literal(word: &str) -> Option<LiteralValue> {
+fn number(word: &str) -> Option<LiteralValue> {
     match word.split_once(':') {
+        Some((number, "Time")) => number.parse::<i64>().ok().map(LiteralValue::Time),
         Some((number, name)) => {
             let dtype = type_named(name)?;
             let number = number.parse::<i128>().ok()?;
@@ -120,6 +139,23 @@ fn literal(word: &str) -> Option<LiteralValue> {
         }
         None => word.parse::<i128>().ok().map(LiteralValue::Int),
     }
+}
+
+// Null, a truth value, a number, or a text between two quotes.
+fn literal(alloc: Global, word: &str) -> Result<Option<LiteralValue>, PlanError> {
+    let text = word
+        .strip_prefix('\'')
+        .and_then(|text| text.strip_suffix('\''));
+    if let Some(text) = text {
+        let text = PlSmallStr::new(alloc, text)?;
+        return Ok(Some(LiteralValue::String(text)));
+    }
+    Ok(match word {
+        "null" => Some(LiteralValue::Null),
+        "true" => Some(LiteralValue::Boolean(true)),
+        "false" => Some(LiteralValue::Boolean(false)),
+        _ => number(word),
+    })
 }
 
 fn binary(alloc: Global, left: Expr, op: Operator, right: Expr) -> Result<Expr, Fail> {
@@ -139,7 +175,7 @@ fn cast(alloc: Global, expr: Expr, dtype: DataType, options: CastOptions) -> Res
 }
 
 fn leaf(alloc: Global, word: &str) -> Result<Expr, Fail> {
-    match literal(word) {
+    match literal(alloc, word)? {
         Some(value) => Ok(Expr::Literal(value)),
         None => Ok(Expr::Column(PlSmallStr::new(alloc, word)?)),
     }
@@ -151,7 +187,7 @@ fn operand(stack: &mut Vec<Expr>) -> Result<Expr, Fail> {
 }
 
 // An expression in prefix notation: `+ a b` is the sum of two columns, `< a 1` compares a column with a
-// number, `Int8! a` is a strict cast.
+// number, `= a 'x'` with a text, `Int8! a` is a strict cast.
 fn expr(alloc: Global, text: &str) -> Result<Expr, Fail> {
     let mut stack = Vec::new(alloc);
     for word in text.rsplit(' ') {

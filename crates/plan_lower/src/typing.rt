@@ -20,7 +20,7 @@ use plan_dsl::literal::LiteralValue;
 use plan_dsl::udfs::Udfs;
 use plan_types::cast::can_cast;
 use plan_types::common_type::materialize_dyn_int;
-use plan_types::dtype::{DataType, UnknownKind};
+use plan_types::dtype::DataType;
 use plan_types::error::{ErrorKind, PlanError};
 use plan_types::schema::Schema;
 use std::alloc::Global;
@@ -78,23 +78,16 @@ pub fn type_nodes(
     }
 }
 
-// The type of a literal: a number without a type has one for itself.
+// The type of a literal, which must have its value: a number without a type has one for itself.
 fn literal_dtype(value: &LiteralValue) -> Result<DataType, PlanError>
     ensures ok { IfOk result (λ dtype. literal_taken (literal_type value.now) (literal_value value.now)
         ≡ Ok (record { operands = []; type = ty dtype })) }
     ensures err { IfErr result (IsRefusal (literal_taken (literal_type value.now) (literal_value value.now))) }
 {
-    let number = value.number();
-    let Some(dtype) = value.known_type() else {
-        return match materialize_dyn_int(number) {
-            Some(_) => Ok(DataType::Unknown(UnknownKind::Int(number))),
-            None => Err(PlanError::at_top(ErrorKind::InvalidOperation)),
-        };
-    };
-    if !dtype.has_number(number) {
+    if !value.is_in_range() {
         return Err(PlanError::at_top(ErrorKind::InvalidOperation));
     }
-    Ok(dtype)
+    Ok(value.get_datatype())
 }
 
 // The type of a cast, where there is one from the type that the operand has alone.

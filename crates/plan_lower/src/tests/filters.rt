@@ -17,6 +17,9 @@ fn filters_have_casts_where_types_differ(rt: HostRuntime) -> Result<(), Fail> {
         ("where = a 300", "filter = Int16? a 300:Int16"),
         ("where < 1 2", "filter < 1:Int32 2:Int32"),
         ("where Boolean! 1", "filter Boolean! 1:Int32"),
+        ("where true", "filter true"),
+        ("where && f null", "filter && f Boolean? null"),
+        ("where =v a null", "filter =v a Int8? null"),
     ] {
         let want = over_table(alloc, want)?;
         assert_eq!(rt; answer(alloc, &[step])?.as_str(), want.as_str());
@@ -64,6 +67,9 @@ fn predicates_of_another_type_are_refused(rt: HostRuntime) -> Result<(), Fail> {
         "where Int8! f",
         "where Int32! 1",
         "where 1:Int8",
+        "where null",
+        "where 'x'",
+        "where & f a",
         "where 18446744073709551615",
     ] {
         assert_eq!(rt; answer(alloc, &[step])?.as_str(), "InvalidOperation");

@@ -17,7 +17,7 @@ fn add(alloc: Global, schema: &mut Schema, name: &str, dtype: DataType) -> Resul
 }
 
 // The type of structs of one field.
-fn struct_of(alloc: Global, name: &str, dtype: DataType) -> Result<DataType, PlanError> {
+pub(super) fn struct_of(alloc: Global, name: &str, dtype: DataType) -> Result<DataType, PlanError> {
     let name = PlSmallStr::new(alloc, name)?;
     let mut items = Vec::new(alloc);
     items.push(Field::new(name, dtype))?;

@@ -102,10 +102,25 @@ fn push_schema(text: &mut String, schema: &Schema) -> Result<(), AllocError> {
 
 fn operator_sign(op: Operator) -> &'static str {
     match op {
-        Operator::Plus => "+",
-        Operator::Lt => "<",
         Operator::Eq => "=",
-        _ => "another operator",
+        Operator::EqValidity => "=v",
+        Operator::NotEq => "!=",
+        Operator::NotEqValidity => "!=v",
+        Operator::Lt => "<",
+        Operator::LtEq => "<=",
+        Operator::Gt => ">",
+        Operator::GtEq => ">=",
+        Operator::Plus => "+",
+        Operator::Minus => "-",
+        Operator::Multiply => "*",
+        Operator::Divide => "/",
+        Operator::FloorDivide => "//",
+        Operator::Modulus => "%",
+        Operator::And => "&",
+        Operator::Or => "|",
+        Operator::Xor => "^",
+        Operator::LogicalAnd => "&&",
+        Operator::LogicalOr => "||",
     }
 }
 
@@ -117,15 +132,43 @@ fn cast_sign(options: CastOptions) -> &'static str {
     }
 }
 
-// A literal's number and type. A lowered plan has none without a type.
+fn number_of(value: &LiteralValue) -> Option<i128> {
+    match value {
+        LiteralValue::Null | LiteralValue::Boolean(_) | LiteralValue::String(_) => None,
+        LiteralValue::Int(number) => Some(*number),
+        LiteralValue::Int8(number) => Some(i128::from(*number)),
+        LiteralValue::Int16(number) => Some(i128::from(*number)),
+        LiteralValue::Int32(number) => Some(i128::from(*number)),
+        LiteralValue::Int64(number) => Some(i128::from(*number)),
+        LiteralValue::UInt8(number) => Some(i128::from(*number)),
+        LiteralValue::UInt16(number) => Some(i128::from(*number)),
+        LiteralValue::UInt32(number) => Some(i128::from(*number)),
+        LiteralValue::UInt64(number) => Some(i128::from(*number)),
+        LiteralValue::Date(days) => Some(i128::from(*days)),
+        LiteralValue::Time(nanoseconds) => Some(i128::from(*nanoseconds)),
+        LiteralValue::DateTime(count, _) => Some(i128::from(*count)),
+        LiteralValue::Duration(count, _) => Some(i128::from(*count)),
+    }
+}
+
+// A literal's number and type, or its value alone where it is no number. A lowered plan has none without a type.
 fn push_literal(alloc: Global, text: &mut String, value: &LiteralValue) -> Result<(), Fail> {
-    let Some(dtype) = value.known_type() else {
-        return Err(Fail::from("a literal without a type"));
-    };
-    let number = value.number();
-    let number = format!(in alloc; "{number}:")?;
-    text.push_str(number.as_str())?;
-    text.push_str(type_name(&dtype))?;
+    match value {
+        LiteralValue::Null => text.push_str("null")?,
+        LiteralValue::Boolean(truth) => text.push_str(if *truth { "true" } else { "false" })?,
+        LiteralValue::String(value) => {
+            text.push_str("'")?;
+            text.push_str(value.as_str())?;
+            text.push_str("'")?;
+        }
+        LiteralValue::Int(_) => return Err(Fail::from("a literal without a type")),
+        _ => {
+            let number = number_of(value).ok_or("no number")?;
+            let number = format!(in alloc; "{number}:")?;
+            text.push_str(number.as_str())?;
+            text.push_str(type_name(&value.get_datatype()))?;
+        }
+    }
     Ok(())
 }
 

@@ -4,7 +4,7 @@ use Rattle.plan_types.specs.Errors.{broken}
 use Rattle.plan_types.specs.declared.error.ErrorKind.TheVariants.{InvalidOperation}
 use Rattle.plan_types.proofs.ResultLemmas.{passed_on}
 use Rattle.plan_lower.proofs.OperandTypeLemmas.{ordered, unordered}
-use Rattle.plan_lower.proofs.operator_types.order_types.Goals as goal
+use Rattle.plan_lower.proofs.operator_types.comparisons.order_types.Goals as goal
 
 pub returns-in_err-taken-clause-err : goal.returns-in_err-taken-clause-err
 returns-in_err-taken-clause-err c =

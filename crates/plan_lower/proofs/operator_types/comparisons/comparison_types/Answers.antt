@@ -5,7 +5,7 @@ use Rattle.plan_types.specs.Supertypes.{supertype}
 use Rattle.plan_types.specs.declared.error.ErrorKind.TheVariants.{InvalidOperation}
 use Rattle.plan_types.proofs.ResultLemmas.{passed_on}
 use Rattle.plan_lower.proofs.OperandTypeLemmas.{no_common, refused_first, refused_second}
-use Rattle.plan_lower.proofs.operator_types.comparison_types.Goals as goal
+use Rattle.plan_lower.proofs.operator_types.comparisons.comparison_types.Goals as goal
 
 pub returns-then-is_text_apart-clause-err : goal.returns-then-is_text_apart-clause-err
 returns-then-is_text_apart-clause-err c =
