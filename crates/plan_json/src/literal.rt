@@ -100,11 +100,7 @@ fn read_counted(alloc: Global, value: &Value) -> Result<DataType, JsonError>
 }
 
 // A whole number that the type has.
-fn read_number_of(
-    alloc: Global,
-    dtype: &DataType,
-    value: &Value,
-) -> Result<LiteralValue, JsonError>
+fn read_number_of(alloc: Global, dtype: &DataType, value: &Value) -> Result<LiteralValue, JsonError>
     ensures ok { IfOk result (λ literal. number_of (ty dtype.now) (view value.now) ≡ Some (literal_op literal)) }
     ensures err { IfErr result (IsErrorOf (a_number_of (ty dtype.now)) (view value.now)) }
 {
