@@ -1,6 +1,6 @@
 -- Literals: numbers that texts write, and types of numbers.
-use Rattle.std.proofs.Common.{◌≡◌, ℕ, ◌^◌, ◌<◌, List, [], ◌∷◌, Contains, Option, Some, None, Result, Ok, Err, Bool, true, false, cond, not, ◌&&◌, ◌==◌, ℤ, slice_index, option_and_then, refl, sym, ap, subst, ◌∙◌, arith, FitsSigned}
-use Rattle.std.specs.Prelude.{pos, negsuc, neg_ℤ, int_lt}
+use Rattle.std.proofs.Common.{◌≡◌, ℕ, ◌^◌, ◌<◌, List, [], ◌∷◌, Contains, Option, Some, None, Result, Ok, Err, Bool, true, false, cond, ◌&&◌, ◌==◌, ℤ, slice_index, option_and_then, refl, sym, ap, subst, ◌∙◌, arith, FitsSigned}
+use Rattle.std.specs.Prelude.{pos, negsuc}
 use Rattle.std.specs.Int.{w128}
 use Rattle.std.specs.Option.{option_map_or}
 use Rattle.std.specs.Str.Parse.{ParsesSigned}
@@ -9,7 +9,7 @@ use Rattle.plan_types.specs.Casts.{number_in}
 use Rattle.plan_types.specs.Types.{Ty, Integer}
 use Rattle.plan_types.specs.Values.{IntValue, in_range}
 use Rattle.plan_types.proofs.DigitLemmas.{read_number, read_fits, no_number_read}
-use Rattle.plan_dsl.specs.Ops.{Op, LiteralOp}
+use Rattle.plan_dsl.specs.Ops.{LiteralOp}
 use Rattle.serde_json.specs.Data.{Data}
 use Rattle.plan_json.specs.Errors.{IsBadAtPointer, IsErrorOf}
 use Rattle.plan_json.specs.Faults.{FaultKind, BadShape, BadFloat, BadName, a_counted_type, a_number_of, a_type, has_type_shape, may_be_counted, number, number_part, own_fault, part, typed_parts, shape_fault, unless}

@@ -3,7 +3,7 @@
 
 pub mod literals;
 
-ghost use Rattle.std.specs.Prelude.{◌≡◌, ℕ, ℤ, pos, negsuc, [], ◌∷◌, Float, List, Some, None, String, codes, string_bytes, true, false};
+ghost use Rattle.std.specs.Prelude.{◌≡◌, pos, negsuc, [], ◌∷◌, Float, List, Some, None, String, codes, string_bytes, true, false};
 ghost use Rattle.std.specs.Global.{Global};
 ghost use Rattle.plan_types.specs.Types.{NullType, Truth, Integer, TextType, DateType, TimeType, DatetimeType, DurationType, ListType, StructType, Untyped, no_field, with_field};
 ghost use Rattle.plan_types.specs.Values.{IntValue};
@@ -12,13 +12,13 @@ ghost use Rattle.plan_types.specs.declared.dtype.TimeUnit.TheVariants.{Nanosecon
 ghost use Rattle.plan_dsl.specs.Ops.{ColumnOp, LiteralOp, BinaryOp, CastOp};
 ghost use Rattle.plan_dsl.specs.Plans.{empty_table, named, scan_op, select_op, filter_op};
 ghost use Rattle.plan_dsl.specs.Trees.{node, no_more, more};
-ghost use Rattle.plan_dsl.specs.declared.operator.Operator.TheVariants.{Eq, Lt, GtEq, Plus};
+ghost use Rattle.plan_dsl.specs.declared.operator.Operator.TheVariants.{Lt, GtEq, Plus};
 ghost use Rattle.serde_json.specs.Data.{array, boolean, no_items, item, no_members, member, float, negative, null, number, object, string, unsigned};
 ghost use Rattle.plan_json.specs.Bytes.{IsRefusalOf, WritesQuery};
 ghost use Rattle.plan_json.specs.Errors.{escaped, pointer_text};
 ghost use Rattle.plan_json.specs.Faults as fault;
 ghost use Rattle.plan_json.specs.Faults.{BadFloat, BadName, BadShape, IsBadAt, key, own_fault};
-ghost use Rattle.plan_json.specs.Queries.{QueryModel, expression_of, literal_of, number_op, operator_of, plan_of, query_of, type_of, unit_of};
+ghost use Rattle.plan_json.specs.Queries.{QueryModel, expression_of, number_op, plan_of, query_of, type_of, unit_of};
 ghost use Rattle.plan_json.specs.declared.error.JsonError.TheVariants.{NotJson, Shape, Float as Float', Name};
 
 /// A query: its tables by name and columns, and its plan over them.

@@ -1,8 +1,8 @@
-use Rattle.std.proofs.Common.{[], ◌∷◌, pos, codes, refl, true, arith}
+use Rattle.std.proofs.Common.{codes, refl, true, arith}
 use Rattle.plan_types.specs.Types.{Integer}
-use Rattle.serde_json.specs.Data.{Data, array, no_items, item, no_members, member, float, null, number, object, string, unsigned}
+use Rattle.serde_json.specs.Data.{Data, array, no_items, item, no_members, member, float, number, object, string, unsigned}
 use Rattle.plan_json.specs.Faults as fault
-use Rattle.plan_json.specs.Faults.{Form, Part, key, part}
+use Rattle.plan_json.specs.Faults.{Part, key, part}
 use Rattle.plan_json.proofs.OnLiterals.{values_on_literals}
 use Rattle.plan_json.proofs.examples.literals.literal_place_examples.Goals as goal
 
