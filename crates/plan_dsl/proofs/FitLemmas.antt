@@ -57,7 +57,7 @@ abbrev CastFits : Ty → Ty → CastOptions → Type 0
 CastFits from target options = (value : Val) → fits value from ≡ true → ConvertedFits target (cast value from target options)
 
 -- so do those of an operand that can become one of the target
-become_fits : (from target : Ty) → CanBecome from target → CastFits from target NonStrict
+pub become_fits : (from target : Ty) → CanBecome from target → CastFits from target NonStrict
 become_fits (Untyped number) target can NullValue fit = refl
 become_fits (Untyped number) target can (IntValue other) fit = number_to_fits (Untyped number) other target NonStrict
 become_fits (Untyped number) target can _ fit = cc
@@ -122,9 +122,9 @@ single_each f (x ∷ []) (y ∷ second ∷ right) count c l r = omega arith
 single_each f (x ∷ []) (y ∷ []) count c l r =
     let one : 1 ≡ count = cc in subst (λ n. length (at_each f (replicate n x) (replicate n y)) ≡ 1) one refl
 
-operator_values_fit : (operator : Operator) (l r type : Ty) (many : Bool) (left right : List Val) → ((x y : Val) → IsTrue (fits x l) → IsTrue (fits y r) → IsTrue (fits (operator_value operator type x y) type)) → IsTrue (all_fit left l) → IsTrue (all_fit right r) → (many ≡ false → (length left ≡ 1) × (length right ≡ 1)) → Meets (AreOf (record { type = type; many = many })) (operator_values operator type left right)
+operator_values_fit : (operator : Operator) (l r type : Ty) (many : Bool) (left right : List Val) → ((x y : Val) → IsTrue (fits x l) → IsTrue (fits y r) → IsTrue (fits (operator_value operator l type x y) type)) → IsTrue (all_fit left l) → IsTrue (all_fit right r) → (many ≡ false → (length left ≡ 1) × (length right ≡ 1)) → Meets (AreOf (record { type = type; many = many })) (operator_values operator l type left right)
 operator_values_fit operator l r type many left right each h k single =
-    let f = operator_value operator type in
+    let f = operator_value operator l type in
     elim (common_length (length left) (length right)) as (λ o. common_length (length left) (length right) ≡ o → Meets (AreOf (record { type = type; many = many })) (at_length o (λ count. at_each f (stretched count left) (stretched count right)))) [
       | None ↦ λ e. tt
       | Some count ↦ λ e. record {
@@ -146,7 +146,7 @@ column_means frame name (Some type) taken of at takes operands h rows =
     record { fitting = column_fits frame name taken.type of (at ∙ ap Some same) rows; single = λ one. cc }
 
 literal_fits : (type : Ty) (value : Val) → is_literal_of type value ≡ true → IsTrue (fits value type)
-literal_fits type NullValue h = cc
+literal_fits type NullValue h = refl
 literal_fits type _ h = h
 
 literal_node_means : (frame : Frame) (type : Ty) (value : Val) (taken : Taken) → literal_taken type value ≡ Ok taken → NodeMeans frame (LiteralOp type value) [] taken
@@ -168,22 +168,22 @@ cast_mean frame target options from (Some own) taken takes operands h =
     let p = ok_where (can_cast own target) _ taken InvalidOperation takes in
     subst (NodeMeans frame (CastOp target options) (from ∷ [])) p.1 (λ operands h. cast_node_means frame target options (record { type = own; many = from.many }) operands p.0 h) operands h
 
-operator_node_means : (frame : Frame) (operator : Operator) (left right : Typed) (types : List Ty) (type : Ty) (operands : List Meaning) → ((x y : Val) → IsTrue (fits x left.type) → IsTrue (fits y right.type) → IsTrue (fits (operator_value operator type x y) type)) → AllMean (left ∷ right ∷ []) operands → MeansType (record { type = type; many = is_many (BinaryOp operator) (left ∷ right ∷ []) }) (kernel frame (BinaryOp operator) types type operands)
-operator_node_means frame operator left right types type [] each h rows = absurd h
-operator_node_means frame operator left right types type (l ∷ []) each h rows = absurd h.1
-operator_node_means frame operator left right types type (l ∷ r ∷ []) each h rows =
+operator_node_means : (frame : Frame) (operator : Operator) (left right : Typed) (type : Ty) (operands : List Meaning) → ((x y : Val) → IsTrue (fits x left.type) → IsTrue (fits y right.type) → IsTrue (fits (operator_value operator left.type type x y) type)) → AllMean (left ∷ right ∷ []) operands → MeansType (record { type = type; many = is_many (BinaryOp operator) (left ∷ right ∷ []) }) (kernel frame (BinaryOp operator) (left.type ∷ right.type ∷ []) type operands)
+operator_node_means frame operator left right type [] each h rows = absurd h
+operator_node_means frame operator left right type (l ∷ []) each h rows = absurd h.1
+operator_node_means frame operator left right type (l ∷ r ∷ []) each h rows =
     let many = left.many || (right.many || false) in
     let Q = AreOf (record { type = type; many = many }) in
-    meets_then (AreOf left) Q (l rows) (λ ls. then_do (r rows) (operator_values operator type ls)) (h.0 rows) (λ ls of_left.
-    meets_then (AreOf right) Q (r rows) (operator_values operator type ls) (h.1.0 rows) (λ rs of_right.
+    meets_then (AreOf left) Q (l rows) (λ ls. then_do (r rows) (operator_values operator left.type type ls)) (h.0 rows) (λ ls of_left.
+    meets_then (AreOf right) Q (r rows) (operator_values operator left.type type ls) (h.1.0 rows) (λ rs of_right.
     operator_values_fit operator left.type right.type type many ls rs each of_left.fitting of_right.fitting (λ one. let parts = or_parts left.many (right.many || false) one in (of_left.single parts.0, of_right.single (or_parts right.many false parts.1).0))))
-operator_node_means frame operator left right types type (l ∷ r ∷ m ∷ ms) each h rows = absurd h.1.1
+operator_node_means frame operator left right type (l ∷ r ∷ m ∷ ms) each h rows = absurd h.1.1
 
 pair_means : (frame : Frame) (operator : Operator) (left right : Typed) (taken : Taken) → TakesOperands operator left.type right.type taken → NodeMeans frame (BinaryOp operator) (left ∷ right ∷ []) taken
 pair_means frame operator left right taken t =
     let pair = t.pair in
     subst (NodeMeans frame (BinaryOp operator) (left ∷ right ∷ [])) pair.is (λ operands h.
-    operator_node_means frame operator (record { type = pair.left; many = left.many }) (record { type = pair.right; many = right.many }) (pair.left ∷ pair.right ∷ []) pair.type operands pair.fitting h)
+    operator_node_means frame operator (record { type = pair.left; many = left.many }) (record { type = pair.right; many = right.many }) pair.type operands pair.fitting h)
 
 operator_means : (frame : Frame) (operator : Operator) (typed : List Typed) (taken : Taken) → operator_types operator (types_of typed) ≡ Ok taken → NodeMeans frame (BinaryOp operator) typed taken
 operator_means frame operator [] taken takes operands h = cc

@@ -1,4 +1,7 @@
+pub mod ArithmeticLemmas
+pub mod BitLemmas
 pub mod CastLemmas
+pub mod ComparisonLemmas
 pub mod FitLemmas
 pub mod FrameLemmas
 pub mod KernelLemmas
@@ -8,4 +11,8 @@ pub mod OperatorLemmas
 pub mod RuleLemmas
 pub mod RunLemmas
 pub mod SameLemmas
+pub mod SwapLemmas
+pub mod SwappedNodeLemmas
+pub mod TakingLemmas
+pub mod TimeLemmas
 pub mod TypingLemmas

@@ -15,13 +15,11 @@ use Rattle.plan_types.specs.declared.dtype.CastOptions.TheVariants.{NonStrict}
 use Rattle.plan_types.proofs.SupertypeLemmas.{no_number}
 use Rattle.plan_types.proofs.CommonLemmas.{alone_known, alone_itself, alone_same}
 use Rattle.plan_types.proofs.ValueLemmas.{int_eq_exact}
-use Rattle.plan_dsl.specs.declared.literal.LiteralValue.{LiteralValue}
-use Rattle.plan_dsl.specs.declared.literal.LiteralValue.TheVariants.{Int, Int8, Int16, Int32, Int64, UInt8, UInt16, UInt32, UInt64}
 use Rattle.plan_dsl.specs.Registry.{Registry}
 use Rattle.plan_dsl.specs.Trees.{Trees, node, no_more, more}
 use Rattle.plan_dsl.specs.Ops.{Op, ColumnOp, LiteralOp, BinaryOp, CastOp, Expression}
 use Rattle.plan_dsl.specs.Names.{name_of}
-use Rattle.plan_dsl.specs.Literals.{literal_type, literal_value, is_literal, is_literal_of, settled, settled_type}
+use Rattle.plan_dsl.specs.Literals.{is_literal, is_literal_of, settled, settled_type}
 use Rattle.plan_dsl.specs.Typing.{Typed, column_type, cast_taken, operand_types, types_of, is_many, typed_as, typed_before, typing, typing_all}
 use Rattle.plan_dsl.specs.OperatorTypes.{Taken}
 use Rattle.plan_dsl.specs.Kernels.{cast_meaning, value_before}
@@ -180,18 +178,6 @@ strict_settled registry schema (node (LiteralOp type value) children) strict =
     ap (λ t. node (LiteralOp t value) children) (ap (λ o. unwrap_or o type) (alone_itself type known))
 strict_settled registry schema (node (BinaryOp operator) children) strict = refl
 strict_settled registry schema (node (CastOp target options) children) strict = refl
-
--- a literal whose type isn't known is a number without one
-pub unknown_literal : (value : LiteralValue) (number : ℤ) → is_known (literal_type value) ≡ false → literal_value value ≡ IntValue number → literal_type value ≡ Untyped number
-unknown_literal (Int own) number u h = let same : own ≡ number = cc in ap Untyped same
-unknown_literal (Int8 own) number u h = cc
-unknown_literal (Int16 own) number u h = cc
-unknown_literal (Int32 own) number u h = cc
-unknown_literal (Int64 own) number u h = cc
-unknown_literal (UInt8 own) number u h = cc
-unknown_literal (UInt16 own) number u h = cc
-unknown_literal (UInt32 own) number u h = cc
-unknown_literal (UInt64 own) number u h = cc
 
 -- a node has a type alone
 known_alone : (type : Ty) → is_known type ≡ true → is_some (type_alone type) ≡ true

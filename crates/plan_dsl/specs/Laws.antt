@@ -1,5 +1,5 @@
 -- Laws of the definitions, for all expressions and plans.
-use Rattle.std.specs.Prelude.{◌≡◌, ℕ, ℤ, List, [], length, Some, Ok, Err, IsTrue, true, false}
+use Rattle.std.specs.Prelude.{◌≡◌, ℕ, ℤ, List, [], ◌∷◌, length, Some, Ok, Err, IsTrue, true, false}
 use Rattle.std.specs.List.{Contains}
 use Rattle.plan_types.specs.Types.{Ty, Untyped, is_known}
 use Rattle.plan_types.specs.Schemas.{Columns}
@@ -8,11 +8,14 @@ use Rattle.plan_types.specs.Outcomes.{Meets}
 use Rattle.plan_types.specs.Frames.{Frame, IsFrame, IsFrameOf}
 use Rattle.plan_types.specs.declared.error.ErrorKind.{ErrorKind}
 use Rattle.plan_dsl.specs.Registry.{Registry}
-use Rattle.plan_dsl.specs.Ops.{Op, LiteralOp, Expression}
-use Rattle.plan_dsl.specs.Trees.{Trees, node, no_more}
+use Rattle.plan_dsl.specs.Ops.{Op, LiteralOp, BinaryOp, Expression}
+use Rattle.plan_dsl.specs.Trees.{Trees, node, no_more, more}
 use Rattle.plan_dsl.specs.Plans.{Plan}
 use Rattle.plan_dsl.specs.Typing.{Typed, operand_types, types_of, typing, typing_all, kinds_in}
-use Rattle.plan_dsl.specs.OperatorTypes.{Taken}
+use Rattle.plan_dsl.specs.declared.operator.Operator.{Operator}
+use Rattle.plan_dsl.specs.Operators.{operator_value, swapped}
+use Rattle.plan_dsl.specs.OperatorTypes.{Taken, pair_to, operator_types}
+use Rattle.plan_dsl.specs.Kernels.{operator_values}
 use Rattle.plan_dsl.specs.Meaning.{meaning}
 use Rattle.plan_dsl.specs.Strictness.{IsStrict, IsSame, IsStrictOver, as_operands}
 use Rattle.plan_dsl.specs.StrictRun.{strict_run}
@@ -27,6 +30,22 @@ TakenTypesStay = (schema : Columns) (op : Op) (types : List Ty) (taken : Taken) 
 abbrev pub TakenOperandsSaySame : Type 0
 TakenOperandsSaySame = (registry : Registry) (schema : Columns) (op : Op) (trees : Trees Op) (typed : List Typed) (taken : Taken) → typing_all registry schema trees ≡ Ok typed → operand_types schema op (types_of typed) ≡ Ok taken → is_known taken.type ≡ true
     → IsSame registry schema (node op trees) (node op (as_operands (types_of typed) taken.operands trees)) × IsStrictOver registry schema op (as_operands (types_of typed) taken.operands trees)
+
+-- an operator's node over two operands
+abbrev pub operator_node : Operator → Expression → Expression → Expression
+operator_node operator left right = node (BinaryOp operator) (more left (more right no_more))
+
+-- Where an operator has one for swapped operands, that takes them to the same types, and gives the same: of two values,
+-- of two columns, and of two typed expressions.
+pub record SaysSwapped (operator other : Operator) : Type 0 where
+  pub types : (a b left right type : Ty) → operator_types operator (a ∷ b ∷ []) ≡ Ok (pair_to left right type) → operator_types other (b ∷ a ∷ []) ≡ Ok (pair_to right left type)
+  pub value : (left right type : Ty) (x y : Val) → operator_value other right type y x ≡ operator_value operator left type x y
+  pub columns : (left right type : Ty) (xs ys : List Val) → operator_values other right type ys xs ≡ operator_values operator left type xs ys
+  pub node_typing : (registry : Registry) (schema : Columns) (a b : Expression) (typed : Typed) → typing registry schema (operator_node operator a b) ≡ Ok typed → typing registry schema (operator_node other b a) ≡ Ok typed
+  pub node_meaning : (registry : Registry) (frame : Frame) (a b : Expression) (typed : Typed) → IsFrame frame → typing registry frame.schema (operator_node operator a b) ≡ Ok typed → (rows : List ℕ) → meaning registry frame (operator_node other b a) rows ≡ meaning registry frame (operator_node operator a b) rows
+
+abbrev pub SwappedOperandsSaySame : Type 0
+SwappedOperandsSaySame = (operator other : Operator) → swapped operator ≡ Some other → SaysSwapped operator other
 
 -- a strict expression gives what it means
 abbrev pub StrictRunIsMeaning : Type 0

@@ -1,5 +1,6 @@
 -- What the contracts of this crate cite.
 pub mod Counts
+pub mod ExpressionLaws
 pub mod Expressions
 pub mod Kernels
 pub mod Laws
@@ -14,6 +15,7 @@ pub mod PlanMeaning
 pub mod PlanRules
 pub mod Plans
 pub mod Registry
+pub mod SameExpressions
 pub mod StrictRun
 pub mod Strictness
 pub mod Trees

@@ -5,7 +5,7 @@
 -- no lists and structs. Its times have rows of their own: sums and differences in the coarser unit, and multiples of spans.
 -- A text is joined to texts, truth values and nulls. All else is of the operands' common type, and truth values are
 -- counted where they are added.
-use Rattle.std.specs.Prelude.{ℕ, Bool, true, false, not, ◌&&◌, ◌||◌, ◌==◌, List, [], ◌∷◌, Option, Some, None, Result, Ok, Err, if◌then◌else◌}
+use Rattle.std.specs.Prelude.{ℕ, nat_lt, Bool, true, false, not, ◌&&◌, ◌||◌, List, [], ◌∷◌, Option, Some, None, Result, Ok, Err, if◌then◌else◌}
 use Rattle.plan_types.specs.Types.{Ty, NullType, Truth, Integer, TextType, DateType, TimeType, DatetimeType, DurationType, coarser, is_bare, is_integer, is_null, is_temporal, is_text, is_truth}
 use Rattle.plan_types.specs.CommonTypes.{type_beside}
 use Rattle.plan_types.specs.Supertypes.{supertype}
@@ -94,7 +94,7 @@ time_difference_types left right = Err InvalidOperation
 
 -- whether each number of the integer type is one of 64 bits with a sign
 abbrev pub is_in_int64 : Bool → ℕ → Bool
-is_in_int64 signed bits = signed || not (bits == 64)
+is_in_int64 signed bits = nat_lt bits (if signed then 65 else 64)
 
 -- a span is taken as many times as an integer says, of a type that 64 bits with a sign hold
 abbrev pub time_product_types : Ty → Ty → Result Taken ErrorKind

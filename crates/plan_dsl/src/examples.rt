@@ -1,11 +1,16 @@
 //! Worked examples of the definitions. The functions do nothing: their clauses are the examples.
 
+pub mod arithmetic;
+pub mod bits;
 pub mod expressions;
 pub mod filters;
 pub mod lists_and_structs;
+pub mod literal_kinds;
 pub mod literals;
 pub mod meanings;
 pub mod operators;
 pub mod plans;
+pub mod same_expressions;
 pub mod strictness;
 pub mod texts_and_times;
+pub mod time_arithmetic;

@@ -1,6 +1,8 @@
 //! Expressions over the columns of a frame.
 ghost use Rattle.std.specs.Prelude.{◌≡◌, IfOk, IfErr};
+ghost use Rattle.std.specs.List.{fold};
 ghost use Rattle.plan_dsl.specs.Expressions.{tree_of};
+ghost use Rattle.plan_dsl.specs.SameExpressions.{operator_rank, options_rank, same_op, same_tree, op_writes, tree_writes};
 ghost use Rattle.plan_types.specs.Errors.{no_memory};
 
 use crate::literal::LiteralValue;
@@ -9,9 +11,10 @@ use plan_types::dtype::{CastOptions, DataType};
 use plan_types::error::PlanError;
 use plan_types::text::PlSmallStr;
 use std::alloc::Global;
+use std::hash::{Hash, Hasher};
 
-/// An expression. Contracts see its tree.
-#[derive(Drop, PartialEq, Eq, Hash)]
+/// An expression. Contracts see its tree. Two expressions are equal where these are, and each node is hashed.
+#[derive(Drop)]
 pub enum Expr {
     /// The column of that name.
     Column(PlSmallStr),
@@ -71,5 +74,146 @@ impl Expr {
                 })
             }
         }
+    }
+
+    /// Whether both are one tree: the same columns, literals, operators and casts, in the same places.
+    pub fn is_same(&self, other: &Expr) -> bool
+        ensures { result ≡ same_tree same_op (tree_of self.now) (tree_of other.now) }
+    {
+        match self {
+            Expr::Column(name) => match other {
+                Expr::Column(own) => *name == *own,
+                _ => false,
+            },
+            Expr::Literal(value) => match other {
+                Expr::Literal(own) => value.is_same(own),
+                _ => false,
+            },
+            Expr::BinaryExpr { left, op, right } => match other {
+                Expr::BinaryExpr {
+                    left: own_left,
+                    op: own_op,
+                    right: own_right,
+                } => {
+                    operator_rank(*op) == operator_rank(*own_op)
+                        && left.is_same(own_left)
+                        && right.is_same(own_right)
+                }
+                _ => false,
+            },
+            Expr::Cast {
+                expr,
+                dtype,
+                options,
+            } => match other {
+                Expr::Cast {
+                    expr: own_expr,
+                    dtype: own_dtype,
+                    options: own_options,
+                } => {
+                    dtype.is_same(own_dtype)
+                        && options_rank(*options) == options_rank(*own_options)
+                        && expr.is_same(own_expr)
+                }
+                _ => false,
+            },
+        }
+    }
+
+    // Feeds each node to the hasher, before its operands.
+    fn feed<H: Hasher>(&self, state: &mut H)
+        ensures { state.new ≡ fold H.write state.old (tree_writes op_writes (tree_of self.now)) }
+    {
+        match self {
+            Expr::Column(name) => {
+                state.write_u8(0);
+                name.hash(state);
+            }
+            Expr::Literal(value) => {
+                state.write_u8(1);
+                value.hash(state);
+            }
+            Expr::BinaryExpr { left, op, right } => {
+                state.write_u8(2);
+                state.write_u8(operator_rank(*op));
+                left.feed(state);
+                right.feed(state);
+            }
+            Expr::Cast {
+                expr,
+                dtype,
+                options,
+            } => {
+                state.write_u8(3);
+                dtype.hash(state);
+                state.write_u8(options_rank(*options));
+                expr.feed(state);
+            }
+        }
+    }
+}
+
+// An operator's number: no two have the same.
+fn operator_rank(operator: Operator) -> u8
+    ensures { result ≡ operator_rank operator }
+{
+    operator as u8
+}
+
+// The number of a way to cast.
+fn options_rank(options: CastOptions) -> u8
+    ensures { result ≡ options_rank options }
+{
+    options as u8
+}
+
+impl PartialEq for Expr {
+    ghost use Rattle.std.specs.Cmp.{partial_equiv_from_equiv};
+    ghost use Rattle.plan_dsl.specs.Expressions.{tree_of};
+    ghost use Rattle.plan_dsl.specs.SameExpressions.{same_op, same_tree};
+    ghost use Rattle.plan_dsl.specs.ExpressionLaws.{same_expression_is_equivalence};
+
+    ghost eq = { λ a b. same_tree same_op (tree_of a) (tree_of b) };
+
+    ghost laws = { partial_equiv_from_equiv same_expression_is_equivalence };
+
+    fn eq(&self, other: &Expr) -> bool {
+        self.is_same(other)
+    }
+}
+
+impl Eq for Expr {
+    ghost use Rattle.plan_dsl.specs.ExpressionLaws.{same_expression_is_equivalence};
+
+    ghost laws = { same_expression_is_equivalence };
+}
+
+impl Hash for Expr {
+    ghost use Rattle.plan_dsl.specs.Expressions.{tree_of};
+    ghost use Rattle.plan_dsl.specs.SameExpressions.{op_writes, tree_writes};
+    ghost use Rattle.plan_dsl.specs.ExpressionLaws.{same_expression_hash};
+
+    ghost hash_input = { λ a. tree_writes op_writes (tree_of a) };
+
+    ghost respects_eq = { same_expression_hash };
+
+    fn hash<H: Hasher>(&self, state: &mut H) {
+        self.feed(state);
+    }
+}
+
+impl Default for Expr {
+    ghost use Rattle.std.specs.Prelude.{◌≡◌};
+    ghost use Rattle.plan_types.specs.Types.{NullType};
+    ghost use Rattle.plan_types.specs.Values.{NullValue};
+    ghost use Rattle.plan_dsl.specs.Expressions.{tree_of};
+    ghost use Rattle.plan_dsl.specs.Ops.{LiteralOp};
+    ghost use Rattle.plan_dsl.specs.Trees.{node, no_more};
+
+    ghost is_default = { λ expr. tree_of expr ≡ node (LiteralOp NullType NullValue) no_more };
+
+    /// The literal of no value.
+    fn default() -> Self {
+        Expr::Literal(LiteralValue::Null)
     }
 }

@@ -1,19 +1,22 @@
 //! Literals: values that are written in an expression.
-ghost use Rattle.std.specs.Prelude.{◌≡◌, ◌&&◌, ◌||◌, false, MatchOption, IfOk, IfErr};
+ghost use Rattle.std.specs.Prelude.{◌≡◌, ◌≢◌, ◌&&◌, ◌||◌, ℤ, false, MatchOption, IfOk, IfErr};
 ghost use Rattle.plan_dsl.specs.Literals.{is_literal, literal_op, literal_type, literal_value};
 ghost use Rattle.plan_dsl.specs.Ops.{LiteralOp};
+ghost use Rattle.plan_dsl.specs.SameExpressions.{same_literal};
 ghost use Rattle.plan_types.specs.Errors.{no_memory};
 ghost use Rattle.plan_types.specs.Types.{TimeType, DatetimeType, DurationType, ty, is_integer, is_temporal};
-ghost use Rattle.plan_types.specs.Values.{IntValue, in_range};
+ghost use Rattle.plan_types.specs.Values.{IntValue, in_range, same_value};
 
 use plan_types::common_type::materialize_dyn_int;
 use plan_types::dtype::{DataType, TimeUnit, UnknownKind};
 use plan_types::error::PlanError;
 use plan_types::text::PlSmallStr;
 use std::alloc::Global;
+use std::hash::{Hash, Hasher};
 
-/// A value that is written in an expression. Contracts see its type and value as an op.
-#[derive(Drop, PartialEq, Eq, Hash)]
+/// A value that is written in an expression. Contracts see its type and value as an op. Two literals are equal where
+/// these are.
+#[derive(Drop)]
 pub enum LiteralValue {
     /// No value. It is of the type of nulls.
     Null,
@@ -68,23 +71,12 @@ impl LiteralValue {
     pub fn is_in_range(&self) -> bool
         ensures { result ≡ is_literal (literal_type self.now) (literal_value self.now) }
     {
-        match self {
-            LiteralValue::Int(number) => materialize_dyn_int(*number).is_some(),
-            LiteralValue::Time(nanoseconds) => DataType::Time.has_number(i128::from(*nanoseconds)),
-            LiteralValue::Null
-            | LiteralValue::Boolean(_)
-            | LiteralValue::String(_)
-            | LiteralValue::Int8(_)
-            | LiteralValue::Int16(_)
-            | LiteralValue::Int32(_)
-            | LiteralValue::Int64(_)
-            | LiteralValue::UInt8(_)
-            | LiteralValue::UInt16(_)
-            | LiteralValue::UInt32(_)
-            | LiteralValue::UInt64(_)
-            | LiteralValue::Date(_)
-            | LiteralValue::DateTime(_, _)
-            | LiteralValue::Duration(_, _) => true,
+        if let LiteralValue::Int(number) = self {
+            return materialize_dyn_int(*number).is_some();
+        }
+        match self.number() {
+            Some(number) => self.get_datatype().has_number(number),
+            None => true,
         }
     }
 
@@ -115,6 +107,56 @@ impl LiteralValue {
         }
     }
 
+    // The number of a literal of a type of numbers or of time.
+    fn number(&self) -> Option<i128>
+        ensures { MatchOption result ((number : ℤ) → literal_value self.now ≢ IntValue number) (λ number. literal_value self.now ≡ IntValue number) }
+    {
+        Some(match self {
+            LiteralValue::Int(number) => *number,
+            LiteralValue::Int8(number) => i128::from(*number),
+            LiteralValue::Int16(number) => i128::from(*number),
+            LiteralValue::Int32(number) => i128::from(*number),
+            LiteralValue::Int64(number) => i128::from(*number),
+            LiteralValue::UInt8(number) => i128::from(*number),
+            LiteralValue::UInt16(number) => i128::from(*number),
+            LiteralValue::UInt32(number) => i128::from(*number),
+            LiteralValue::UInt64(number) => i128::from(*number),
+            LiteralValue::Date(days) => i128::from(*days),
+            LiteralValue::Time(nanoseconds) => i128::from(*nanoseconds),
+            LiteralValue::DateTime(count, _) => i128::from(*count),
+            LiteralValue::Duration(count, _) => i128::from(*count),
+            LiteralValue::Null | LiteralValue::Boolean(_) | LiteralValue::String(_) => return None,
+        })
+    }
+
+    // Whether both have the same value, of whatever types.
+    fn is_same_value(&self, other: &LiteralValue) -> bool
+        ensures { result ≡ same_value (literal_value self.now) (literal_value other.now) }
+    {
+        match self {
+            LiteralValue::Null => matches!(other, LiteralValue::Null),
+            LiteralValue::Boolean(truth) => match other {
+                LiteralValue::Boolean(own) => *truth == *own,
+                _ => false,
+            },
+            LiteralValue::String(text) => match other {
+                LiteralValue::String(own) => *text == *own,
+                _ => false,
+            },
+            _number => match (self.number(), other.number()) {
+                (Some(number), Some(own)) => number == own,
+                _ => false,
+            },
+        }
+    }
+
+    /// Whether both are of one type and have the same value.
+    pub fn is_same(&self, other: &LiteralValue) -> bool
+        ensures { result ≡ same_literal self.now other.now }
+    {
+        self.get_datatype() == other.get_datatype() && self.is_same_value(other)
+    }
+
     pub fn try_clone(&self, alloc: Global) -> Result<LiteralValue, PlanError>
         ensures ok { IfOk result (λ copy. literal_op copy ≡ literal_op self.now) }
         ensures err { IfErr result (λ error. error ≡ no_memory) }
@@ -137,6 +179,50 @@ impl LiteralValue {
             LiteralValue::DateTime(count, unit) => LiteralValue::DateTime(*count, *unit),
             LiteralValue::Duration(count, unit) => LiteralValue::Duration(*count, *unit),
         })
+    }
+}
+
+impl PartialEq for LiteralValue {
+    ghost use Rattle.std.specs.Cmp.{partial_equiv_from_equiv};
+    ghost use Rattle.plan_dsl.specs.SameExpressions.{same_literal};
+    ghost use Rattle.plan_dsl.specs.ExpressionLaws.{same_literal_is_equivalence};
+
+    ghost eq = { same_literal };
+
+    ghost laws = { partial_equiv_from_equiv same_literal_is_equivalence };
+
+    fn eq(&self, other: &LiteralValue) -> bool {
+        self.is_same(other)
+    }
+}
+
+impl Eq for LiteralValue {
+    ghost use Rattle.plan_dsl.specs.ExpressionLaws.{same_literal_is_equivalence};
+
+    ghost laws = { same_literal_is_equivalence };
+}
+
+impl Hash for LiteralValue {
+    ghost use Rattle.plan_dsl.specs.Literals.{literal_type, literal_value};
+    ghost use Rattle.plan_dsl.specs.SameExpressions.{literal_writes};
+    ghost use Rattle.plan_dsl.specs.ExpressionLaws.{same_literal_hash};
+
+    ghost hash_input = { λ a. literal_writes (literal_type a) (literal_value a) };
+
+    ghost respects_eq = { same_literal_hash };
+
+    fn hash<H: Hasher>(&self, state: &mut H) {
+        self.get_datatype().hash(state);
+        match self {
+            LiteralValue::Null => {}
+            LiteralValue::Boolean(truth) => truth.hash(state),
+            LiteralValue::String(text) => text.hash(state),
+            _number => {
+                if let Some(number) = self.number() {
+                    number.hash(state);
+                }
+            }
+        }
     }
 }
 

@@ -1,9 +1,9 @@
 //! Expressions and plans, and their copies.
 
+mod equality;
 mod literals;
 
 use crate::expr::Expr;
-use crate::literal::LiteralValue;
 use crate::operator::Operator;
 use crate::plan::{DslPlan, Exprs, ProjectionOptions};
 use crate::udfs::Udfs;
@@ -117,64 +117,6 @@ fn operators_are_written_as_signs(rt: HostRuntime) -> Result<(), Fail> {
     ] {
         let text = format!(in rt.alloc(); "{}", operator)?;
         assert_eq!(rt; text.as_str(), sign);
-    }
-    Ok(())
-}
-
-// Expressions of which no two are equal.
-fn expressions(alloc: Global) -> Result<Vec<Expr>, Fail> {
-    let mut expressions = Vec::new(alloc);
-    for name in ["first", "second"] {
-        expressions.push(column(alloc, name)?)?;
-    }
-    for (left, operator, right) in [
-        ("first", Operator::Plus, "second"),
-        ("second", Operator::Plus, "first"),
-        ("first", Operator::Lt, "second"),
-        ("first", Operator::LtEq, "second"),
-    ] {
-        expressions.push(binary(alloc, left, operator, right)?)?;
-    }
-    push_casts(alloc, &mut expressions)?;
-    push_literals(&mut expressions)?;
-    Ok(expressions)
-}
-
-fn push_casts(alloc: Global, expressions: &mut Vec<Expr>) -> Result<(), Fail> {
-    for (name, options) in [
-        ("first", CastOptions::Strict),
-        ("first", CastOptions::NonStrict),
-        ("second", CastOptions::Strict),
-    ] {
-        let input = column(alloc, name)?;
-        expressions.push(cast(alloc, input, DataType::Int8, options)?)?;
-    }
-    let input = binary(alloc, "first", Operator::Lt, "second")?;
-    expressions.push(cast(alloc, input, DataType::Boolean, CastOptions::Strict)?)?;
-    Ok(())
-}
-
-fn push_literals(expressions: &mut Vec<Expr>) -> Result<(), Fail> {
-    for value in [
-        LiteralValue::Int(1),
-        LiteralValue::Int(2),
-        LiteralValue::Int8(1),
-        LiteralValue::UInt8(1),
-    ] {
-        expressions.push(Expr::Literal(value))?;
-    }
-    Ok(())
-}
-
-#[test]
-fn copies_of_expressions_are_equal(rt: HostRuntime) -> Result<(), Fail> {
-    let expressions = expressions(rt.alloc())?;
-    for (number, expression) in expressions.as_slice().iter().enumerate() {
-        let copy = expression.try_clone(rt.alloc())?;
-        assert_eq!(rt; hash_of(&copy), hash_of(expression));
-        for (other_number, other) in expressions.as_slice().iter().enumerate() {
-            assert_eq!(rt; copy == *other, number == other_number);
-        }
     }
     Ok(())
 }

@@ -13,6 +13,7 @@ pub mod NameLemmas
 pub mod OnLiterals
 pub mod PartLemmas
 pub mod ResultLemmas
+pub mod SameValueLemmas
 pub mod SchemaCallLemmas
 pub mod SchemaLemmas
 pub mod SchemaPairLemmas

@@ -12,5 +12,6 @@ pub mod Schemas
 pub mod Supertypes
 pub mod TypeLaws
 pub mod Types
+pub mod ValueLaws
 pub mod Values
 pub mod ValueViews

@@ -61,6 +61,7 @@ impl From<PlanError> for CastError {
 }
 
 /// Whether there is a cast from the one type to the other: each type of columns is cast to itself, and null to each.
+/// Lists are cast where their items are, and structs of as many fields where these are, by place and whatever their names.
 #[cycle(cast_pairs)]
 pub fn can_cast(from: &DataType, to: &DataType) -> bool
     ensures { result ≡ can_cast (ty from.now) (ty to.now) }
@@ -116,7 +117,9 @@ fn is_written(dtype: &DataType) -> bool
 }
 
 /// The value in another type, where the cast has one for it. Null stays null. Texts are read as an optional sign and
-/// digits, and numbers and truth values are written; times are counted in the target's unit and rounded down.
+/// digits, and numbers and truth values are written; times are counted in the target's unit and rounded down. Lists are
+/// cast by their items, and structs by their parts, in order: where one fails, the whole fails, and where one has no
+/// place in a cast that isn't strict, it alone becomes null.
 #[cycle(value_casts)]
 #[tactic(auto, using(crate::proofs::PartLemmas::list_values))]
 pub fn cast_value(

@@ -9,10 +9,10 @@ use crate::field::Field;
 use std::alloc::Global;
 use std::hash::{Hash, Hasher};
 
-/// How a cast treats a value that has no place in its target.
+/// How a cast treats a value that has no place in its target: of a list or a struct each item or part for itself.
 #[derive(Clone, Copy, PartialEq, Eq, Hash)]
 pub enum CastOptions {
-    /// The value is a data fault.
+    /// The value is a data fault, and so is the list or the struct that it is in.
     Strict,
     /// The value becomes null.
     NonStrict,
@@ -86,7 +86,7 @@ pub struct Fields {
 }
 
 /// The type of a column, or of a number without one. Contracts see it as a `Ty`. Two types are equal where these are,
-/// so moments and spans of other units are of other types.
+/// so moments and spans of other units are of other types, and structs of other names or another order of fields too.
 #[derive(Drop)]
 #[cycle(data_type)]
 pub enum DataType {
@@ -163,7 +163,8 @@ impl DataType {
         )
     }
 
-    /// Whether values of the type that aren't null are in an order: those of each type of columns are, but that of null.
+    /// Whether values of the type that aren't null are in an order: those of each type of columns are, but that of null,
+    /// lists and structs.
     pub fn is_ord(&self) -> bool
         ensures { result ≡ is_ord (ty self.now) }
     {
@@ -265,7 +266,7 @@ impl DataType {
             && self.width() == other.width()
     }
 
-    /// Whether both are one type.
+    /// Whether both are one type: structs by the names and types of their fields, in order.
     #[cycle(same_types)]
     #[tactic(auto, using(crate::proofs::FieldLemmas::listed_fields))]
     pub fn is_same(&self, other: &DataType) -> bool

@@ -12,6 +12,7 @@ use std::alloc::Global;
 
 /// The type that holds the values of both, where there is one. Null is of any type, truth values beside an integer are of
 /// its type, both are written beside a text, days become moments beside moments, and of two units the coarser is taken.
+/// Lists have the common type of their items, and structs of the same names, in order, have those of their fields.
 #[cycle(supertypes)]
 pub fn get_supertype(
     alloc: Global,

@@ -7,6 +7,7 @@ mod lists_and_structs;
 mod numbers;
 mod schema_calls;
 mod types;
+mod values;
 
 use crate::dtype::DataType;
 use crate::error::{ErrorKind, Place, PlanError};

@@ -33,7 +33,7 @@ pub fn trees_of_literals()
     ensures tree { tree_of (Literal (Int (pos 1))) ≡ node (LiteralOp (Untyped (pos 1)) (IntValue (pos 1))) no_more }
 {}
 
-/// A literal's value is one of its type, and not null. A number without a type is one of Int64 or UInt64 at least.
+/// A literal's value is one of its type, and null of its own type alone. A number without a type is one of Int64 or UInt64.
 pub fn values_of_literals()
     ensures int8 { map (λ number. is_literal (Integer true 8) (IntValue number)) (neg_ℤ (pos 129) ∷ neg_ℤ (pos 128) ∷ pos 127 ∷ pos 128 ∷ [])
         ≡ false ∷ true ∷ true ∷ false ∷ [] }

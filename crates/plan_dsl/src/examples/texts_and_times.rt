@@ -467,10 +467,10 @@ pub fn refused_casts_of_texts_and_times()
         ≡ Err InvalidOperation ∷ [] }
 {}
 
-/// A literal of a text or a time has a value of its type. Null is a literal of no type.
+/// A literal of a text or a time has a value of its type. Null is a literal of its own type alone.
 pub fn literals_of_texts_and_times()
     ensures texts { map (is_literal TextType) (TextValue (codes "a") ∷ TextValue [] ∷ TruthValue true ∷ IntValue (pos 1) ∷ NullValue ∷ []) ≡ true ∷ true ∷ false ∷ false ∷ false ∷ [] }
-    ensures nulls { map (is_literal NullType) (NullValue ∷ TextValue [] ∷ IntValue (pos 0) ∷ []) ≡ false ∷ false ∷ false ∷ [] }
+    ensures nulls { map (is_literal NullType) (NullValue ∷ TextValue [] ∷ IntValue (pos 0) ∷ []) ≡ true ∷ false ∷ false ∷ [] }
     ensures days { map (λ number. is_literal DateType (IntValue number)) (neg_ℤ (pos 2147483649) ∷ neg_ℤ (pos 2147483648) ∷ pos 2147483647 ∷ pos 2147483648 ∷ [])
         ≡ false ∷ true ∷ true ∷ false ∷ [] }
     ensures times_of_a_day { map (λ number. is_literal TimeType (IntValue number)) (neg_ℤ (pos 1) ∷ pos 0 ∷ pos 86399999999999 ∷ pos 86400000000000 ∷ [])

@@ -3,7 +3,7 @@
 
 ghost use Rattle.std.specs.Prelude.{◌≡◌, ℕ, List, [], ◌∷◌, pos, neg_ℤ, map, codes, true, false, Some, None, Ok, Err};
 ghost use Rattle.std.specs.List.{list_all, list_any};
-ghost use Rattle.plan_types.specs.Types.{Ty, ListType, StructType, Untyped, Fields, no_field, with_field, ty, is_bare, is_integer, is_known, is_ord, is_temporal, is_text, same_type, width_of};
+ghost use Rattle.plan_types.specs.Types.{Ty, ListType, StructType, Untyped, Fields, no_field, with_field, ty, is_bare, is_integer, is_known, is_ord, is_temporal, is_null, is_truth, is_text, same_type, width_of};
 ghost use Rattle.plan_types.specs.Values.{Val, NullValue, TruthValue, IntValue, TextValue, ListValue, StructValue, Vals, no_value, with_value, in_range, fits, all_fit};
 ghost use Rattle.plan_types.specs.Supertypes.{supertype, upcast};
 ghost use Rattle.plan_types.specs.CommonTypes.{type_alone, own_type, type_beside, common_type};
@@ -31,6 +31,8 @@ pub fn classes_of_lists_and_structs()
     ensures temporal { list_any is_temporal (ListType (ty Date) ∷ ListType (ty (Datetime Nanoseconds)) ∷ StructType (with_field (codes "a") (ty Date) no_field) ∷ []) ≡ false }
     ensures integer { list_any is_integer (ListType (ty Int8) ∷ StructType (with_field (codes "a") (ty Int8) no_field) ∷ []) ≡ false }
     ensures text { list_any is_text (ListType (ty String) ∷ StructType (with_field (codes "a") (ty String) no_field) ∷ []) ≡ false }
+    ensures null { list_any is_null (ListType (ty Null) ∷ StructType no_field ∷ StructType (with_field (codes "a") (ty Null) no_field) ∷ []) ≡ false }
+    ensures truth { list_any is_truth (ListType (ty Boolean) ∷ StructType (with_field (codes "a") (ty Boolean) no_field) ∷ []) ≡ false }
     ensures bare { map is_bare (ListType (ty Int8) ∷ StructType no_field ∷ ty Int8 ∷ ty Null ∷ Untyped (pos 1) ∷ []) ≡ false ∷ false ∷ true ∷ true ∷ true ∷ [] }
     ensures width { map width_of (ListType (ty Int8) ∷ StructType (with_field (codes "a") (ty Int8) no_field) ∷ []) ≡ 0 ∷ 0 ∷ [] }
     ensures range { map (λ type. in_range type (pos 0)) (ListType (ty Int8) ∷ StructType (with_field (codes "a") (ty Int8) no_field) ∷ []) ≡ false ∷ false ∷ [] }

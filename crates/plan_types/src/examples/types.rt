@@ -2,7 +2,7 @@
 
 ghost use Rattle.std.specs.Prelude.{◌≡◌, [], ◌∷◌, pos, neg_ℤ, map, true, false};
 ghost use Rattle.std.specs.List.{list_all, list_any};
-ghost use Rattle.plan_types.specs.Types.{NullType, Truth, Integer, TextType, DateType, TimeType, DatetimeType, DurationType, Untyped, ty, is_known, is_integer, is_signed_integer, is_unsigned_integer, is_text, is_temporal, is_ord, width_of, per_day, coarser, same_type};
+ghost use Rattle.plan_types.specs.Types.{NullType, Truth, Integer, TextType, DateType, TimeType, DatetimeType, DurationType, Untyped, ty, is_known, is_null, is_truth, is_integer, is_signed_integer, is_unsigned_integer, is_text, is_temporal, is_ord, width_of, per_day, coarser, same_type};
 ghost use Rattle.plan_types.specs.declared.dtype.TimeUnit.{TimeUnit};
 ghost use Rattle.plan_types.specs.declared.dtype.TimeUnit.TheVariants.{Nanoseconds, Microseconds, Milliseconds};
 ghost use Rattle.plan_types.specs.declared.dtype.UnknownKind.TheVariants.{Int};
@@ -35,6 +35,10 @@ pub fn type_examples()
 
 /// Which types each class has: a number without a type is in none.
 pub fn classes_of_types()
+    ensures null { is_null (ty Null) ≡ true }
+    ensures no_null { (unit : TimeUnit) → list_any is_null (map ty (Boolean ∷ Int8 ∷ Int16 ∷ Int32 ∷ Int64 ∷ UInt8 ∷ UInt16 ∷ UInt32 ∷ UInt64 ∷ String ∷ Date ∷ Time ∷ Datetime unit ∷ Duration unit ∷ Unknown (Int (pos 1)) ∷ [])) ≡ false }
+    ensures truth { is_truth (ty Boolean) ≡ true }
+    ensures no_truth { (unit : TimeUnit) → list_any is_truth (map ty (Null ∷ Int8 ∷ Int16 ∷ Int32 ∷ Int64 ∷ UInt8 ∷ UInt16 ∷ UInt32 ∷ UInt64 ∷ String ∷ Date ∷ Time ∷ Datetime unit ∷ Duration unit ∷ Unknown (Int (pos 1)) ∷ [])) ≡ false }
     ensures integer { list_all is_integer (map ty (Int8 ∷ Int16 ∷ Int32 ∷ Int64 ∷ UInt8 ∷ UInt16 ∷ UInt32 ∷ UInt64 ∷ [])) ≡ true }
     ensures no_integer { (unit : TimeUnit) → list_any is_integer (map ty (Null ∷ Boolean ∷ String ∷ Date ∷ Time ∷ Datetime unit ∷ Duration unit ∷ Unknown (Int (pos 1)) ∷ [])) ≡ false }
     ensures signed_integer { list_all is_signed_integer (map ty (Int8 ∷ Int16 ∷ Int32 ∷ Int64 ∷ [])) ≡ true }

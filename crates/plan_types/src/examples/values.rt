@@ -1,9 +1,9 @@
-//! Worked examples on values: ranges of types, and which values fit a type.
+//! Worked examples on values: ranges of types, which values fit a type, and when two are one.
 
 ghost use Rattle.std.specs.Prelude.{◌≡◌, ℤ, [], ◌∷◌, pos, neg_ℤ, map, codes, true, false};
 ghost use Rattle.std.specs.List.{list_all, list_any};
 ghost use Rattle.plan_types.specs.Types.{Untyped, ty};
-ghost use Rattle.plan_types.specs.Values.{NullValue, TruthValue, IntValue, TextValue, in_range, fits, all_fit};
+ghost use Rattle.plan_types.specs.Values.{NullValue, TruthValue, IntValue, TextValue, ListValue, StructValue, no_value, with_value, in_range, fits, all_fit, same_value};
 ghost use Rattle.plan_types.specs.declared.dtype.TimeUnit.{TimeUnit};
 ghost use Rattle.plan_types.specs.declared.dtype.TimeUnit.TheVariants.{Nanoseconds, Microseconds, Milliseconds};
 ghost use Rattle.plan_types.specs.declared.dtype.DataType.TheVariants.{Null, Boolean, Int8, Int16, Int32, Int64, UInt8, UInt16, UInt32, UInt64, String, Date, Time, Datetime, Duration};
@@ -92,4 +92,35 @@ pub fn fitting_times()
     ensures truth { (unit : TimeUnit) → list_any (λ type. fits (TruthValue true) (ty type)) (Date ∷ Time ∷ Datetime unit ∷ Duration unit ∷ []) ≡ false }
     ensures midnight { map (λ type. fits (IntValue (pos 86400000000000)) (ty type)) (Date ∷ Time ∷ Datetime Nanoseconds ∷ Duration Milliseconds ∷ []) ≡ false ∷ false ∷ true ∷ true ∷ [] }
     ensures below_zero { map (λ type. fits (IntValue (neg_ℤ (pos 1))) (ty type)) (Date ∷ Time ∷ Datetime Microseconds ∷ Duration Nanoseconds ∷ []) ≡ true ∷ false ∷ true ∷ true ∷ [] }
+{}
+
+/// Two values are one where both are null, or both have the same truth, number or text. Values of two kinds never are.
+pub fn same_bare_values()
+    ensures null { map (same_value NullValue) (NullValue ∷ TruthValue false ∷ IntValue (pos 0) ∷ TextValue (codes "") ∷ ListValue no_value ∷ StructValue no_value ∷ [])
+        ≡ true ∷ false ∷ false ∷ false ∷ false ∷ false ∷ [] }
+    ensures yes { map (same_value (TruthValue true)) (TruthValue true ∷ TruthValue false ∷ NullValue ∷ IntValue (pos 1) ∷ TextValue (codes "true") ∷ [])
+        ≡ true ∷ false ∷ false ∷ false ∷ false ∷ [] }
+    ensures no { map (same_value (TruthValue false)) (TruthValue true ∷ TruthValue false ∷ NullValue ∷ IntValue (pos 0) ∷ [])
+        ≡ false ∷ true ∷ false ∷ false ∷ [] }
+    ensures number { map (same_value (IntValue (pos 1))) (IntValue (pos 1) ∷ IntValue (pos 2) ∷ IntValue (neg_ℤ (pos 1)) ∷ NullValue ∷ TruthValue true ∷ TextValue (codes "1") ∷ [])
+        ≡ true ∷ false ∷ false ∷ false ∷ false ∷ false ∷ [] }
+    ensures text { map (same_value (TextValue (codes "ab"))) (TextValue (codes "ab") ∷ TextValue (codes "a") ∷ TextValue (codes "ba") ∷ TextValue (codes "") ∷ NullValue ∷ [])
+        ≡ true ∷ false ∷ false ∷ false ∷ false ∷ [] }
+{}
+
+/// Lists are one where their items are, in order, and structs where their parts are. A null in them is the same as another.
+pub fn same_lists_and_structs()
+    ensures empty { map (same_value (ListValue no_value)) (ListValue no_value ∷ StructValue no_value ∷ ListValue (with_value NullValue no_value) ∷ NullValue ∷ [])
+        ≡ true ∷ false ∷ false ∷ false ∷ [] }
+    ensures items { map (same_value (ListValue (with_value (IntValue (pos 1)) (with_value NullValue no_value))))
+        (ListValue (with_value (IntValue (pos 1)) (with_value NullValue no_value)) ∷ ListValue (with_value (IntValue (pos 1)) (with_value (IntValue (pos 0)) no_value))
+        ∷ ListValue (with_value NullValue (with_value (IntValue (pos 1)) no_value)) ∷ ListValue (with_value (IntValue (pos 1)) no_value) ∷ [])
+        ≡ true ∷ false ∷ false ∷ false ∷ [] }
+    ensures longer { same_value (ListValue (with_value (IntValue (pos 1)) no_value)) (ListValue (with_value (IntValue (pos 1)) (with_value NullValue no_value))) ≡ false }
+    ensures parts { map (same_value (StructValue (with_value (IntValue (pos 1)) (with_value (TextValue (codes "x")) no_value))))
+        (StructValue (with_value (IntValue (pos 1)) (with_value (TextValue (codes "x")) no_value)) ∷ StructValue (with_value (IntValue (pos 1)) (with_value (TextValue (codes "y")) no_value))
+        ∷ ListValue (with_value (IntValue (pos 1)) (with_value (TextValue (codes "x")) no_value)) ∷ [])
+        ≡ true ∷ false ∷ false ∷ [] }
+    ensures inside { map (λ truth. same_value (ListValue (with_value (ListValue (with_value (TruthValue true) no_value)) no_value)) (ListValue (with_value (ListValue (with_value (TruthValue truth) no_value)) no_value))) (true ∷ false ∷ [])
+        ≡ true ∷ false ∷ [] }
 {}

@@ -4,10 +4,14 @@ use Rattle.plan_dsl.proofs.OperandLemmas.{operands_same, operands_strict}
 use Rattle.plan_dsl.proofs.CastLemmas.{taken_types_stay}
 use Rattle.plan_dsl.proofs.FitLemmas.{meaning_has_type}
 use Rattle.plan_dsl.proofs.RunLemmas.{strict_is_meaning}
+use Rattle.plan_dsl.proofs.SwapLemmas.{says_swapped}
 use Rattle.plan_dsl.proofs.laws.expression_laws.Goals as goal
 
 pub returns-clause-taken_stay : goal.returns-clause-taken_stay
 returns-clause-taken_stay c = taken_types_stay
+
+pub returns-clause-swapped : goal.returns-clause-swapped
+returns-clause-swapped c = says_swapped
 
 pub returns-clause-strict_run : goal.returns-clause-strict_run
 returns-clause-strict_run c = strict_is_meaning

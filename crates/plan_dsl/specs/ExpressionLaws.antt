@@ -1,0 +1,131 @@
+-- Laws of comparing expressions.
+use Rattle.std.specs.Prelude.{◌≡◌, Bool, true, false, ◌==◌, ◌&&◌, ◌++◌}
+use Rattle.std.specs.Cmp.{IsEquivalence}
+use Rattle.std.specs.Hash as fed
+use Rattle.std.specs.Str.{bytes_eq}
+use Rattle.std.proofs.Common.{refl, ap, ◌∙◌}
+use Rattle.std.proofs.lemmas.Slice.Eq.{bytes_eq-Decides}
+use Rattle.std.proofs.lemmas.Bool.{eqb-true, and_parts, and_from}
+use Rattle.std.proofs.lemmas.Bool.Decides.{Decides-eqb}
+use Rattle.std.proofs.lemmas.Cmp.{on_equiv}
+use Rattle.std.specs.Ordering.{on}
+use Rattle.plan_types.specs.Types.{Ty, same_type}
+use Rattle.plan_types.specs.TypeLaws.{equivalence_from_exact, same_type_exact, same_type_own}
+use Rattle.plan_types.specs.Values.{Val, same_value}
+use Rattle.plan_types.specs.ValueLaws.{same_value_exact, same_value_own}
+use Rattle.plan_types.specs.declared.dtype.CastOptions.{CastOptions}
+use Rattle.plan_types.specs.declared.dtype.CastOptions.TheVariants.{Strict, NonStrict, Overflowing}
+use Rattle.plan_dsl.specs.declared.expr.Expr.{Expr}
+use Rattle.plan_dsl.specs.declared.literal.LiteralValue.{LiteralValue}
+use Rattle.plan_dsl.specs.declared.operator.Operator.{Operator}
+use Rattle.plan_dsl.specs.declared.operator.Operator.TheVariants.{Eq, EqValidity, NotEq, NotEqValidity, Lt, LtEq, Gt, GtEq, Plus, Minus, Multiply, Divide, FloorDivide, Modulus, And, Or, Xor, LogicalAnd, LogicalOr}
+use Rattle.plan_dsl.specs.Trees.{Tree, Trees, node, no_more, more}
+use Rattle.plan_dsl.specs.Ops.{Op, ColumnOp, LiteralOp, BinaryOp, CastOp, Expression}
+use Rattle.plan_dsl.specs.Expressions.{tree_of}
+use Rattle.plan_dsl.specs.Literals.{literal_type, literal_value, literal_op}
+use Rattle.plan_dsl.specs.SameExpressions.{operator_rank, same_operator, options_rank, same_options, same_literal, same_op, same_tree, same_trees, literal_writes, op_writes, tree_writes}
+
+-- operators and ways to cast that compare equal are one
+pub same_operator_exact : (a b : Operator) → same_operator a b ≡ true → a ≡ b
+same_operator_exact Eq Eq h = refl
+same_operator_exact EqValidity EqValidity h = refl
+same_operator_exact NotEq NotEq h = refl
+same_operator_exact NotEqValidity NotEqValidity h = refl
+same_operator_exact Lt Lt h = refl
+same_operator_exact LtEq LtEq h = refl
+same_operator_exact Gt Gt h = refl
+same_operator_exact GtEq GtEq h = refl
+same_operator_exact Plus Plus h = refl
+same_operator_exact Minus Minus h = refl
+same_operator_exact Multiply Multiply h = refl
+same_operator_exact Divide Divide h = refl
+same_operator_exact FloorDivide FloorDivide h = refl
+same_operator_exact Modulus Modulus h = refl
+same_operator_exact And And h = refl
+same_operator_exact Or Or h = refl
+same_operator_exact Xor Xor h = refl
+same_operator_exact LogicalAnd LogicalAnd h = refl
+same_operator_exact LogicalOr LogicalOr h = refl
+same_operator_exact _ _ h = cc
+
+pub same_operator_own : (a : Operator) → same_operator a a ≡ true
+same_operator_own a = (Decides-eqb (operator_rank a) (operator_rank a)).1 refl
+
+pub same_options_exact : (a b : CastOptions) → same_options a b ≡ true → a ≡ b
+same_options_exact Strict Strict h = refl
+same_options_exact NonStrict NonStrict h = refl
+same_options_exact Overflowing Overflowing h = refl
+same_options_exact _ _ h = cc
+
+pub same_options_own : (a : CastOptions) → same_options a a ≡ true
+same_options_own a = (Decides-eqb (options_rank a) (options_rank a)).1 refl
+
+-- nodes that compare equal do the same
+pub same_op_exact : (a b : Op) → same_op a b ≡ true → a ≡ b
+same_op_exact (ColumnOp name) (ColumnOp other) h = ap ColumnOp ((bytes_eq-Decides name other).0 h)
+same_op_exact (LiteralOp type value) (LiteralOp other given) h =
+    let parts = and_parts (same_type type other) (same_value value given) h in
+    ap (λ t. LiteralOp t value) (same_type_exact type other parts.0) ∙ ap (LiteralOp other) (same_value_exact value given parts.1)
+same_op_exact (BinaryOp operator) (BinaryOp other) h = ap BinaryOp (same_operator_exact operator other h)
+same_op_exact (CastOp target options) (CastOp other given) h =
+    let parts = and_parts (same_type target other) (same_options options given) h in
+    ap (λ t. CastOp t options) (same_type_exact target other parts.0) ∙ ap (CastOp other) (same_options_exact options given parts.1)
+same_op_exact _ _ h = cc
+
+pub same_op_own : (a : Op) → same_op a a ≡ true
+same_op_own (ColumnOp name) = (bytes_eq-Decides name name).1 refl
+same_op_own (LiteralOp type value) = and_from _ _ (same_type_own type) (same_value_own value)
+same_op_own (BinaryOp operator) = same_operator_own operator
+same_op_own (CastOp target options) = and_from _ _ (same_type_own target) (same_options_own options)
+
+-- trees that compare equal are one where nodes are, and each is equal to itself
+module _ {O : Type 0} (test : O → O → Bool) where
+  mutual
+    pub same_tree_exact : ((a b : O) → test a b ≡ true → a ≡ b) → (t u : Tree O) → same_tree test t u ≡ true → t ≡ u
+    same_tree_exact exact (node op children) (node other others) h =
+        let parts = and_parts (test op other) (same_trees test children others) h in
+        ap (λ o. node o children) (exact op other parts.0) ∙ ap (node other) (same_trees_exact exact children others parts.1)
+
+    pub same_trees_exact : ((a b : O) → test a b ≡ true → a ≡ b) → (t u : Trees O) → same_trees test t u ≡ true → t ≡ u
+    same_trees_exact exact no_more no_more h = refl
+    same_trees_exact exact no_more (more other others) h = cc
+    same_trees_exact exact (more child rest) no_more h = cc
+    same_trees_exact exact (more child rest) (more other others) h =
+        let parts = and_parts (same_tree test child other) (same_trees test rest others) h in
+        ap (λ t. more t rest) (same_tree_exact exact child other parts.0) ∙ ap (more other) (same_trees_exact exact rest others parts.1)
+
+  mutual
+    pub same_tree_own : ((a : O) → test a a ≡ true) → (t : Tree O) → same_tree test t t ≡ true
+    same_tree_own own (node op children) = and_from _ _ (own op) (same_trees_own own children)
+
+    pub same_trees_own : ((a : O) → test a a ≡ true) → (t : Trees O) → same_trees test t t ≡ true
+    same_trees_own own no_more = refl
+    same_trees_own own (more child rest) = and_from _ _ (same_tree_own own child) (same_trees_own own rest)
+
+-- ---- literals
+
+-- literals are compared as their ops are
+abbrev pub literals_compared : IsEquivalence (on literal_op same_op)
+literals_compared = on_equiv literal_op (equivalence_from_exact same_op same_op_exact same_op_own)
+
+pub same_literal_is_equivalence : IsEquivalence same_literal
+same_literal_is_equivalence = literals_compared
+
+-- equal literals are hashed alike
+pub same_literal_hash : (a b : LiteralValue) → same_literal a b ≡ true → literal_writes (literal_type a) (literal_value a) ≡ literal_writes (literal_type b) (literal_value b)
+same_literal_hash a b h =
+    let parts = and_parts (same_type (literal_type a) (literal_type b)) (same_value (literal_value a) (literal_value b)) h in
+    ap (λ t. literal_writes t (literal_value a)) (same_type_exact (literal_type a) (literal_type b) parts.0)
+    ∙ ap (literal_writes (literal_type b)) (same_value_exact (literal_value a) (literal_value b) parts.1)
+
+-- ---- expressions
+
+pub same_expression_exact : (t u : Expression) → same_tree same_op t u ≡ true → t ≡ u
+same_expression_exact = same_tree_exact same_op same_op_exact
+
+pub same_expression_is_equivalence : IsEquivalence (on tree_of (same_tree same_op))
+same_expression_is_equivalence = on_equiv tree_of (equivalence_from_exact (same_tree same_op) same_expression_exact (same_tree_own same_op same_op_own))
+
+-- equal expressions are hashed alike
+pub same_expression_hash : (a b : Expr) → same_tree same_op (tree_of a) (tree_of b) ≡ true → tree_writes op_writes (tree_of a) ≡ tree_writes op_writes (tree_of b)
+same_expression_hash a b h = ap (tree_writes op_writes) (same_expression_exact (tree_of a) (tree_of b) h)
