@@ -3,9 +3,11 @@
 mod bad_queries;
 mod faults;
 mod filters;
+mod literal_kinds;
 mod literals;
 mod names;
 mod nested;
+mod operators;
 mod times;
 mod types;
 

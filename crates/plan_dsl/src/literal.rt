@@ -1,5 +1,5 @@
 //! Literals: values that are written in an expression.
-ghost use Rattle.std.specs.Prelude.{◌≡◌, ◌≢◌, ◌&&◌, ◌||◌, ℤ, false, MatchOption, IfOk, IfErr};
+ghost use Rattle.std.specs.Prelude.{◌≡◌, ◌≢◌, ◌&&◌, ◌||◌, ℤ, is_some, MatchOption, IfSome, IfOk, IfErr};
 ghost use Rattle.plan_dsl.specs.Literals.{is_literal, literal_op, literal_type, literal_value};
 ghost use Rattle.plan_dsl.specs.Ops.{LiteralOp};
 ghost use Rattle.plan_dsl.specs.SameExpressions.{same_literal};
@@ -82,8 +82,8 @@ impl LiteralValue {
 
     /// The literal of that type and number, where the type is one of integers or of time whose range has the number.
     pub fn of_number(dtype: &DataType, number: i128) -> Option<LiteralValue>
-        ensures { MatchOption result (((is_integer (ty dtype.now) || is_temporal (ty dtype.now)) && in_range (ty dtype.now) number) ≡ false)
-            (λ value. literal_op value ≡ LiteralOp (ty dtype.now) (IntValue number)) }
+        ensures has { is_some result ≡ ((is_integer (ty dtype.now) || is_temporal (ty dtype.now)) && in_range (ty dtype.now) number) }
+        ensures literal { IfSome result (λ value. literal_op value ≡ LiteralOp (ty dtype.now) (IntValue number)) }
     {
         match dtype {
             DataType::Int8 => i8::try_from(number).ok().map(LiteralValue::Int8),
@@ -228,7 +228,8 @@ impl Hash for LiteralValue {
 
 // The time of day of so many nanoseconds, where a day has them.
 fn time_of(number: i128) -> Option<LiteralValue>
-    ensures { MatchOption result (in_range TimeType number ≡ false) (λ value. literal_op value ≡ LiteralOp TimeType (IntValue number)) }
+    ensures has { is_some result ≡ in_range TimeType number }
+    ensures literal { IfSome result (λ value. literal_op value ≡ LiteralOp TimeType (IntValue number)) }
 {
     if !DataType::Time.has_number(number) {
         return None;
@@ -238,8 +239,8 @@ fn time_of(number: i128) -> Option<LiteralValue>
 
 // The moment of so many units, where 64 bits have them.
 fn moment_of(number: i128, unit: TimeUnit) -> Option<LiteralValue>
-    ensures { MatchOption result (in_range (DatetimeType unit) number ≡ false)
-        (λ value. literal_op value ≡ LiteralOp (DatetimeType unit) (IntValue number)) }
+    ensures has { is_some result ≡ in_range (DatetimeType unit) number }
+    ensures literal { IfSome result (λ value. literal_op value ≡ LiteralOp (DatetimeType unit) (IntValue number)) }
 {
     match i64::try_from(number) {
         Ok(count) => Some(LiteralValue::DateTime(count, unit)),
@@ -249,8 +250,8 @@ fn moment_of(number: i128, unit: TimeUnit) -> Option<LiteralValue>
 
 // The span of so many units, where 64 bits have them.
 fn span_of(number: i128, unit: TimeUnit) -> Option<LiteralValue>
-    ensures { MatchOption result (in_range (DurationType unit) number ≡ false)
-        (λ value. literal_op value ≡ LiteralOp (DurationType unit) (IntValue number)) }
+    ensures has { is_some result ≡ in_range (DurationType unit) number }
+    ensures literal { IfSome result (λ value. literal_op value ≡ LiteralOp (DurationType unit) (IntValue number)) }
 {
     match i64::try_from(number) {
         Ok(count) => Some(LiteralValue::Duration(count, unit)),

@@ -4,7 +4,7 @@ use Rattle.std.specs.Option.{option_map_or}
 use Rattle.serde_json.specs.Data.{Data, Num, unsigned, negative, float, number}
 use Rattle.serde_json.specs.Find.{as_i64, as_u64}
 use Rattle.plan_types.specs.Schemas.{Name}
-use Rattle.plan_json.specs.Faults.{FaultKind, BadShape, BadFloat, BadName, Form, a_query, table_list, column_list, field_list, a_column, a_type, a_unit, a_text, a_table, a_new_name, a_plan, a_scan, a_filter, a_selection, expression_list, an_expression, a_literal, operands, an_operator, a_cast, a_mode, own_fault, shape_fault, unless}
+use Rattle.plan_json.specs.Faults.{FaultKind, BadShape, BadFloat, BadName, Form, a_query, table_list, column_list, field_list, a_column, a_type, a_unit, a_text, a_table, a_new_name, a_plan, a_scan, a_filter, a_selection, expression_list, an_expression, a_literal, a_number_text, a_typed_literal, a_counted_type, a_number_of, operands, an_operator, a_cast, a_mode, own_fault, shape_fault, unless}
 use Rattle.plan_json.specs.Looking.{is_float}
 use Rattle.plan_json.specs.Queries.{text_of}
 
@@ -57,6 +57,10 @@ own_named (a_selection tables) d kind e = of_test d _ kind e
 own_named expression_list d kind e = of_test d _ kind e
 own_named an_expression d kind e = of_test d _ kind e
 own_named a_literal d kind e = of_test d _ kind e
+own_named a_number_text d kind e = of_test d _ kind e
+own_named a_typed_literal d kind e = of_test d _ kind e
+own_named a_counted_type d kind e = of_test d _ kind e
+own_named (a_number_of type) d kind e = of_test d _ kind e
 own_named operands d kind e = of_test d _ kind e
 own_named an_operator d kind e = of_test d _ kind e
 own_named a_cast d kind e = of_test d _ kind e

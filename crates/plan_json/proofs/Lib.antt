@@ -4,6 +4,7 @@ pub mod FaultLemmas
 pub mod FloatLaws
 pub mod FormLemmas
 pub mod ItemLemmas
+pub mod LiteralLemmas
 pub mod LookingLemmas
 pub mod NoFaults
 pub mod OnLiterals

@@ -13,9 +13,9 @@ use Rattle.serde_json.specs.Find.{as_array}
 use Rattle.plan_json.specs.Errors.{IsErrorOf}
 use Rattle.plan_json.specs.declared.error.JsonError.{JsonError}
 use Rattle.plan_json.specs.declared.error.JsonError.TheVariants.{NotJson, Shape, Float, Name as Name', NoMemory}
-use Rattle.plan_json.specs.Faults.{FaultKind, BadShape, BadFloat, BadName, key, number, Path, Form, a_query, table_list, column_list, field_list, a_column, a_type, a_unit, a_text, a_table, a_new_name, a_plan, a_scan, a_filter, a_selection, expression_list, an_expression, a_literal, operands, an_operator, a_cast, a_mode, Part, part, own_fault, parts_of, shape_fault, unless, each, each_table, query_parts, table_parts, column_parts, one_part, declared_names, IsBadAt}
+use Rattle.plan_json.specs.Faults.{FaultKind, BadShape, BadFloat, BadName, key, number, Path, Form, a_query, table_list, column_list, field_list, a_column, a_type, a_unit, a_text, a_table, a_new_name, a_plan, a_scan, a_filter, a_selection, expression_list, an_expression, a_literal, a_number_text, a_typed_literal, a_counted_type, a_number_of, operands, an_operator, a_cast, a_mode, Part, part, own_fault, parts_of, has_type_shape, may_be_counted, shape_fault, unless, each, each_table, query_parts, table_parts, column_parts, number_part, typed_parts, one_part, declared_names, IsBadAt}
 use Rattle.plan_json.specs.Looking.{both, two_members, two_items, three_items, all_of, some_of}
-use Rattle.plan_json.specs.Queries.{QueryModel, text_of, type_named, type_of, datetime_type, duration_type, list_type, struct_type, struct_of, fields_from, unit_of, literal_of, literal_expression, operator_of, mode_of, column_of, column_name, columns_of, columns_from, table_of, table_name, table_limit, tables_of, tables_from, expression_of, binary_of, binary_expression, cast_of, cast_expression, expressions_of, column_expression, table_at, scan_plan, scan_of, empty_plan, filter_plan, select_plan, plan_of, filter_of, select_of, query_of, query_from, IsQueryOf}
+use Rattle.plan_json.specs.Queries.{QueryModel, text_of, type_named, type_of, datetime_type, duration_type, list_type, struct_type, struct_of, fields_from, unit_of, literal_of, literal_expression, number_text_of, counted, counted_of, is_counted, number_of, typed_from, typed_of, operator_of, mode_of, column_of, column_name, columns_of, columns_from, table_of, table_name, table_limit, tables_of, tables_from, expression_of, binary_of, binary_expression, cast_of, cast_expression, expressions_of, column_expression, table_at, scan_plan, scan_of, empty_plan, filter_plan, select_plan, plan_of, filter_of, select_of, query_of, query_from, IsQueryOf}
 use Rattle.plan_json.specs.Tables.{Declared}
 use Rattle.plan_json.proofs.DeclarationLemmas.{table_name-read, declared_names-read}
 use Rattle.plan_json.proofs.ColumnLemmas.{column_of-parts, fields_as_columns}
@@ -71,6 +71,10 @@ IsWell (a_selection names) d = (tables : Declared) × (names_of tables ≡ names
 IsWell expression_list d = Given (expressions_of d)
 IsWell an_expression d = Given (expression_of d)
 IsWell a_literal d = Given (literal_of d)
+IsWell a_number_text d = Given (number_text_of d)
+IsWell a_typed_literal d = Given (typed_of d)
+IsWell a_counted_type d = Given (counted_of d)
+IsWell (a_number_of type) d = Given (number_of type d)
 IsWell operands d = Given (binary_of d)
 IsWell an_operator d = Given (operator_of d)
 IsWell a_cast d = Given (cast_of d)
@@ -138,15 +142,34 @@ own_type _ kind (x, e) bad = cc
 
 own_expression : (d : Data) (kind : FaultKind) → Given (expression_of d) → own_fault an_expression d ≡ Some kind → ⊥
 own_expression (object (member word value no_members)) kind well bad =
-    go (bytes_eq word (codes "col")) (bytes_eq word (codes "lit")) (bytes_eq word (codes "bin")) (bytes_eq word (codes "cast")) well bad
+    go (bytes_eq word (codes "col")) (bytes_eq word (codes "lit")) (bytes_eq word (codes "int")) (bytes_eq word (codes "typed")) (bytes_eq word (codes "bin")) (bytes_eq word (codes "cast")) well bad
   where
-    go : (a l b c : Bool) → Given (cond a (option_map column_expression (text_of value)) (cond l (option_map literal_expression (literal_of value)) (cond b (binary_of value) (cond c (cast_of value) None)))) → bad_member word value (cond a (Some a_text) (cond l (Some a_literal) (cond b (Some operands) (cond c (Some a_cast) None)))) ≡ Some kind → ⊥
-    go true l b c h bad = cc
-    go false true b c h bad = cc
-    go false false true c h bad = cc
-    go false false false true h bad = cc
-    go false false false false (x, e) bad = cc
+    go : (a l i t b c : Bool) → Given (cond a (option_map column_expression (text_of value)) (cond l (option_map literal_expression (literal_of value)) (cond i (option_map literal_expression (number_text_of value)) (cond t (option_map literal_expression (typed_of value)) (cond b (binary_of value) (cond c (cast_of value) None)))))) → bad_member word value (cond a (Some a_text) (cond l (Some a_literal) (cond i (Some a_number_text) (cond t (Some a_typed_literal) (cond b (Some operands) (cond c (Some a_cast) None)))))) ≡ Some kind → ⊥
+    go true l i t b c h bad = cc
+    go false true i t b c h bad = cc
+    go false false true t b c h bad = cc
+    go false false false true b c h bad = cc
+    go false false false false true c h bad = cc
+    go false false false false false true h bad = cc
+    go false false false false false false (x, e) bad = cc
 own_expression _ kind (x, e) bad = cc
+
+-- a type of integers or of time has no fault of its own
+own_counted : (d : Data) (kind : FaultKind) → Given (counted_of d) → own_fault a_counted_type d ≡ Some kind → ⊥
+own_counted d kind (t, e) bad =
+    let found = chained counted (type_of d) t e in
+    own_type d kind (found.0, found.1) (ap (λ b. unless (shape_fault d) (b)) (unsplit (has_type_shape d) (may_be_counted d) (ap (λ o. option_map_or is_counted o true) found.1 ∙ passes found.0 t found.2)) ∙ bad)
+  where
+    passes : (type t : Ty) → counted type ≡ Some t → is_counted type ≡ true
+    passes type t h = go (is_counted type) h
+      where
+        go : (b : Bool) → cond b (Some type) None ≡ Some t → b ≡ true
+        go true h = refl
+        go false h = cc
+
+    unsplit : (a b : Bool) → b ≡ true → a ≡ (a && b)
+    unsplit true b h = sym h
+    unsplit false b h = refl
 
 own_plan : (names : List Name) (tables : Declared) (d : Data) (kind : FaultKind) → Given (plan_of tables d) → own_fault (a_plan names) d ≡ Some kind → ⊥
 own_plan names tables (object (member word value no_members)) kind well bad =
@@ -201,6 +224,10 @@ own_none (a_selection names) d kind (tables, same, well) bad = own_selection tab
 own_none expression_list d kind well bad = own_list (shape_fault d) (λ items. true) (all_of expression_of) (λ items h. refl) (as_array d) kind well bad
 own_none an_expression d kind well bad = own_expression d kind well bad
 own_none a_literal d kind well bad = there (shape_fault d) (literal_of d) kind well bad
+own_none a_number_text d kind well bad = there (shape_fault d) (number_text_of d) kind well bad
+own_none a_typed_literal d kind well bad = there_first (shape_fault d) typed_from (two_items d) kind well bad
+own_none a_counted_type d kind well bad = own_counted d kind well bad
+own_none (a_number_of type) d kind well bad = there (shape_fault d) (number_of type d) kind well bad
 own_none operands d kind well bad = own_operands d kind well bad
 own_none an_operator d kind well bad = there (shape_fault d) (operator_of d) kind well bad
 own_none a_cast d kind well bad = own_cast d kind well bad
@@ -344,15 +371,28 @@ parts_type _ p (x, e) here = cc
 
 parts_expression : (d : Data) (p : Part) → Given (expression_of d) → Contains (parts_of an_expression d) p → WellPart p
 parts_expression (object (member word value no_members)) p well here =
-    go (bytes_eq word (codes "col")) (bytes_eq word (codes "lit")) (bytes_eq word (codes "bin")) (bytes_eq word (codes "cast")) well here
+    go (bytes_eq word (codes "col")) (bytes_eq word (codes "lit")) (bytes_eq word (codes "int")) (bytes_eq word (codes "typed")) (bytes_eq word (codes "bin")) (bytes_eq word (codes "cast")) well here
   where
-    go : (a l b c : Bool) → Given (cond a (option_map column_expression (text_of value)) (cond l (option_map literal_expression (literal_of value)) (cond b (binary_of value) (cond c (cast_of value) None)))) → Contains (only word value (cond a (Some a_text) (cond l (Some a_literal) (cond b (Some operands) (cond c (Some a_cast) None))))) p → WellPart p
-    go true l b c (tree, e) h = one_of (part (key word) a_text value) p (mapped column_expression (text_of value) tree e) h
-    go false true b c (tree, e) h = one_of (part (key word) a_literal value) p (mapped literal_expression (literal_of value) tree e) h
-    go false false true c given h = one_of (part (key word) operands value) p given h
-    go false false false true given h = one_of (part (key word) a_cast value) p given h
-    go false false false false given h = none_of p h
+    go : (a l i t b c : Bool) → Given (cond a (option_map column_expression (text_of value)) (cond l (option_map literal_expression (literal_of value)) (cond i (option_map literal_expression (number_text_of value)) (cond t (option_map literal_expression (typed_of value)) (cond b (binary_of value) (cond c (cast_of value) None)))))) → Contains (only word value (cond a (Some a_text) (cond l (Some a_literal) (cond i (Some a_number_text) (cond t (Some a_typed_literal) (cond b (Some operands) (cond c (Some a_cast) None))))))) p → WellPart p
+    go true l i t b c (tree, e) h = one_of (part (key word) a_text value) p (mapped column_expression (text_of value) tree e) h
+    go false true i t b c (tree, e) h = one_of (part (key word) a_literal value) p (mapped literal_expression (literal_of value) tree e) h
+    go false false true t b c (tree, e) h = one_of (part (key word) a_number_text value) p (mapped literal_expression (number_text_of value) tree e) h
+    go false false false true b c (tree, e) h = one_of (part (key word) a_typed_literal value) p (mapped literal_expression (typed_of value) tree e) h
+    go false false false false true c given h = one_of (part (key word) operands value) p given h
+    go false false false false false true given h = one_of (part (key word) a_cast value) p given h
+    go false false false false false false given h = none_of p h
 parts_expression _ p (x, e) here = cc
+
+parts_typed : (d : Data) (p : Part) → Given (typed_of d) → Contains (parts_of a_typed_literal d) p → WellPart p
+parts_typed d p (op, e) here =
+    let pair = chained typed_from (two_items d) op e in
+    let type = chained (λ t. number_of t pair.0.1) (counted_of pair.0.0) op pair.2 in
+    two_of (part (number 0) a_counted_type pair.0.0) (part (number 1) (a_number_of type.0) pair.0.1) p (type.0, type.1) (op, type.2)
+    (subst (λ o. Contains (part (number 0) a_counted_type pair.0.0 ∷ option_map_or (number_part pair.0.1) o []) p) type.1 (held typed_parts _ pair.0 p pair.1 here))
+
+parts_counted : (d : Data) (p : Part) → Given (counted_of d) → Contains (parts_of a_counted_type d) p → WellPart p
+parts_counted d p (t, e) here =
+    let found = chained counted (type_of d) t e in parts_type d p (found.0, found.1) here
 
 parts_operands : (d : Data) (p : Part) → Given (binary_of d) → Contains (parts_of operands d) p → WellPart p
 parts_operands (array (item x (item y (item z no_items)))) p (tree, e) here =
@@ -410,6 +450,10 @@ parts_well (a_selection names) d p (tables, same, well) here = parts_selection n
 parts_well expression_list d p well here = parts_expressions d p well here
 parts_well an_expression d p well here = parts_expression d p well here
 parts_well a_literal d p well here = none_of p here
+parts_well a_number_text d p well here = none_of p here
+parts_well a_typed_literal d p well here = parts_typed d p well here
+parts_well a_counted_type d p well here = parts_counted d p well here
+parts_well (a_number_of type) d p well here = none_of p here
 parts_well operands d p well here = parts_operands d p well here
 parts_well an_operator d p well here = none_of p here
 parts_well a_cast d p well here = parts_cast d p well here

@@ -1,15 +1,16 @@
 -- Faults of a value that is to be a query.
 -- A place in the value asks for a form. A value can break the form itself, and it asks for forms of
 -- its parts. So a fault stands at the end of a path of such parts.
-use Rattle.std.specs.Prelude.{◌≡◌, ℕ, ◌+◌, List, [], ◌∷◌, ◌++◌, Bool, true, false, not, ◌||◌, Option, Some, None, option_map, option_and_then, is_some, codes, nat_lt, Contains, if◌then◌else◌}
+use Rattle.std.specs.Prelude.{◌≡◌, ℕ, ◌+◌, List, [], ◌∷◌, ◌++◌, Bool, true, false, not, ◌&&◌, ◌||◌, Option, Some, None, option_map, option_and_then, is_some, codes, nat_lt, Contains, if◌then◌else◌}
 use Rattle.std.specs.Option.{option_map_or}
 use Rattle.std.specs.Str.{bytes_eq}
 use Rattle.serde_json.specs.Data.{Data, Items, no_items, item}
 use Rattle.serde_json.specs.Events.{items_len}
 use Rattle.serde_json.specs.Find.{as_str, as_array}
 use Rattle.plan_types.specs.Schemas.{Name, is_among, repeats}
+use Rattle.plan_types.specs.Types.{Ty}
 use Rattle.plan_json.specs.Looking.{is_float, only_member, two_members, two_items, three_items, some_of}
-use Rattle.plan_json.specs.Queries.{text_of, type_named, unit_of, literal_of, operator_of, mode_of, column_name, table_name, table_limit}
+use Rattle.plan_json.specs.Queries.{text_of, type_named, type_of, unit_of, literal_of, number_text_of, is_counted, counted_of, number_of, operator_of, mode_of, column_name, table_name, table_limit}
 
 pub data FaultKind : Type 0 where
   -- the value breaks the form
@@ -29,12 +30,13 @@ pub data Step : Type 0 where
 abbrev pub Path : Type 0
 Path = List Step
 
--- What a place asks for. A table and its name come with the names of the tables before it, and a
--- plan with those of all tables.
+-- What a place asks for. A table and its name come with the names of the tables before it, a plan
+-- with those of all tables, and a number with the type that is written beside it.
 pub data Form : Type 0 where
   a_query table_list column_list field_list a_column a_type a_unit a_text : Form
   a_table a_new_name a_plan a_scan a_filter a_selection : List Name → Form
-  expression_list an_expression a_literal operands an_operator a_cast a_mode : Form
+  expression_list an_expression a_literal a_number_text a_typed_literal a_counted_type operands an_operator a_cast a_mode : Form
+  a_number_of : Ty → Form
 
 -- a part of a value: the step to it, what its place asks for, and the part itself
 pub record Part : Type 0 where
@@ -60,8 +62,10 @@ abbrev pub expression_form : List ℕ → Option Form
 expression_form word =
     if bytes_eq word (codes "col") then Some a_text else (
     if bytes_eq word (codes "lit") then Some a_literal else (
+    if bytes_eq word (codes "int") then Some a_number_text else (
+    if bytes_eq word (codes "typed") then Some a_typed_literal else (
     if bytes_eq word (codes "bin") then Some operands else (
-    if bytes_eq word (codes "cast") then Some a_cast else None)))
+    if bytes_eq word (codes "cast") then Some a_cast else None)))))
 
 -- what a plan's only key asks of its value
 abbrev pub plan_form : List Name → List ℕ → Option Form
@@ -97,6 +101,14 @@ list_fault test d = unless (shape_fault d) (option_map_or test (as_array d) fals
 abbrev pub is_type_name : Data → Bool
 is_type_name d = is_some (option_and_then type_named (as_str d))
 
+-- whether it has the shape of a type, whatever its parts are
+abbrev pub has_type_shape : Data → Bool
+has_type_shape d = is_type_name d || is_some (only_part type_form d)
+
+-- whether it is no type of another kind than those of integers and of time
+abbrev pub may_be_counted : Data → Bool
+may_be_counted d = option_map_or is_counted (type_of d) true
+
 -- how a value itself breaks the form
 abbrev pub own_fault : Form → Data → Option FaultKind
 own_fault a_query d = unless (shape_fault d) (is_some (two_members (codes "tables") (codes "plan") d))
@@ -104,7 +116,7 @@ own_fault table_list d = list_fault (λ items. nat_lt (items_len items) table_li
 own_fault column_list d = list_fault (λ items. not (repeats (some_of column_name items))) d
 own_fault field_list d = list_fault (λ items. true) d
 own_fault a_column d = unless (shape_fault d) (is_some (two_items d))
-own_fault a_type d = unless (shape_fault d) (is_type_name d || is_some (only_part type_form d))
+own_fault a_type d = unless (shape_fault d) (has_type_shape d)
 own_fault a_unit d = unless (shape_fault d) (is_some (unit_of d))
 own_fault a_text d = unless (shape_fault d) (is_some (text_of d))
 own_fault (a_table before) d = unless (shape_fault d) (is_some (two_members (codes "name") (codes "columns") d))
@@ -116,6 +128,10 @@ own_fault (a_selection tables) d = unless (shape_fault d) (is_some (two_items d)
 own_fault expression_list d = list_fault (λ items. true) d
 own_fault an_expression d = unless (shape_fault d) (is_some (only_part expression_form d))
 own_fault a_literal d = unless (shape_fault d) (is_some (literal_of d))
+own_fault a_number_text d = unless (shape_fault d) (is_some (number_text_of d))
+own_fault a_typed_literal d = unless (shape_fault d) (is_some (two_items d))
+own_fault a_counted_type d = unless (shape_fault d) (has_type_shape d && may_be_counted d)
+own_fault (a_number_of type) d = unless (shape_fault d) (is_some (number_of type d))
 own_fault operands d = unless (shape_fault d) (is_some (three_items d))
 own_fault an_operator d = unless (shape_fault d) (is_some (operator_of d))
 own_fault a_cast d = unless (shape_fault d) (is_some (three_items d))
@@ -153,6 +169,13 @@ filter_parts tables pair = part (number 0) (a_plan tables) pair.0 ∷ part (numb
 abbrev pub selection_parts : List Name → Data × Data → List Part
 selection_parts tables pair = part (number 0) (a_plan tables) pair.0 ∷ part (number 1) expression_list pair.1 ∷ []
 
+-- the number has a place only beside a type that it may be of
+abbrev pub number_part : Data → Ty → List Part
+number_part d type = part (number 1) (a_number_of type) d ∷ []
+
+abbrev pub typed_parts : Data × Data → List Part
+typed_parts pair = part (number 0) a_counted_type pair.0 ∷ option_map_or (number_part pair.1) (counted_of pair.0) []
+
 abbrev pub operand_parts : Data × Data × Data → List Part
 operand_parts triple =
     part (number 0) an_operator triple.0 ∷ part (number 1) an_expression triple.1 ∷ part (number 2) an_expression triple.2 ∷ []
@@ -184,6 +207,10 @@ parts_of (a_selection tables) d = option_map_or (selection_parts tables) (two_it
 parts_of expression_list d = option_map_or (each an_expression 0) (as_array d) []
 parts_of an_expression d = one_part (only_part expression_form d)
 parts_of a_literal d = []
+parts_of a_number_text d = []
+parts_of a_typed_literal d = option_map_or typed_parts (two_items d) []
+parts_of a_counted_type d = one_part (only_part type_form d)
+parts_of (a_number_of type) d = []
 parts_of operands d = option_map_or operand_parts (three_items d) []
 parts_of an_operator d = []
 parts_of a_cast d = option_map_or cast_parts (three_items d) []

@@ -1,15 +1,16 @@
 -- The query that a value is.
 -- There is one function for each form. Each gives what a value of that form means, and nothing
 -- where the value hasn't the form.
-use Rattle.std.specs.Prelude.{◌≡◌, ℕ, ℤ, ◌^◌, ◌&&◌, List, [], map, not, Option, Some, None, option_map, option_and_then, codes, nat_lt, position, if◌then◌else◌, true, false}
+use Rattle.std.specs.Prelude.{◌≡◌, ℕ, ℤ, ◌^◌, ◌==◌, ◌&&◌, ◌||◌, Bool, List, [], map, not, Option, Some, None, option_map, option_and_then, codes, nat_lt, position, slice_index, if◌then◌else◌, true, false}
 use Rattle.std.specs.Map.{lookup}
 use Rattle.std.specs.Str.{chars, bytes_eq}
-use Rattle.serde_json.specs.Data.{Data, string, array, object, Items, no_items, item, no_members, member}
+use Rattle.serde_json.specs.Data.{Data, null, boolean, number as numeral, string, array, object, Items, no_items, item, no_members, member}
 use Rattle.serde_json.specs.Events.{items_len}
 use Rattle.serde_json.specs.Find.{get, as_str, as_array}
 use Rattle.plan_types.specs.Schemas.{Name, Columns, same_name, names_of, repeats}
-use Rattle.plan_types.specs.Types.{Ty, NullType, Truth, Integer, TextType, DateType, TimeType, DatetimeType, DurationType, ListType, StructType, Untyped, Fields, no_field, with_field}
-use Rattle.plan_types.specs.Values.{IntValue}
+use Rattle.plan_types.specs.Casts.{number_in}
+use Rattle.plan_types.specs.Types.{Ty, NullType, Truth, Integer, TextType, DateType, TimeType, DatetimeType, DurationType, ListType, StructType, Untyped, Fields, no_field, with_field, is_integer, is_temporal}
+use Rattle.plan_types.specs.Values.{NullValue, TruthValue, IntValue, TextValue, in_range}
 use Rattle.plan_types.specs.declared.dtype.CastOptions.{CastOptions}
 use Rattle.plan_types.specs.declared.dtype.CastOptions.TheVariants.{Strict, NonStrict, Overflowing}
 use Rattle.plan_types.specs.declared.dtype.TimeUnit.{TimeUnit}
@@ -18,7 +19,7 @@ use Rattle.plan_dsl.specs.Ops.{Op, ColumnOp, LiteralOp, BinaryOp, CastOp, Expres
 use Rattle.plan_dsl.specs.Plans.{Plan, named, scan_op, select_op, filter_op, plan_tree}
 use Rattle.plan_dsl.specs.Trees.{node, no_more, more}
 use Rattle.plan_dsl.specs.declared.operator.Operator.{Operator}
-use Rattle.plan_dsl.specs.declared.operator.Operator.TheVariants.{Eq, NotEq, Lt, LtEq, Gt, GtEq, Plus}
+use Rattle.plan_dsl.specs.declared.operator.Operator.TheVariants.{Eq, EqValidity, NotEq, NotEqValidity, Lt, LtEq, Gt, GtEq, Plus, Minus, Multiply, Divide, FloorDivide, Modulus, And, Or, Xor, LogicalAnd, LogicalOr}
 use Rattle.plan_json.specs.Looking.{both, whole_number, two_members, two_items, all_of, some_of}
 use Rattle.plan_json.specs.Tables.{Declared, declared}
 use Rattle.plan_json.specs.declared.read.Query.{Query}
@@ -107,12 +108,24 @@ abbrev mutual
 abbrev pub operator_named : List ℕ → Option Operator
 operator_named name =
     if bytes_eq name (codes "Eq") then Some Eq else (
+    if bytes_eq name (codes "EqValidity") then Some EqValidity else (
     if bytes_eq name (codes "NotEq") then Some NotEq else (
+    if bytes_eq name (codes "NotEqValidity") then Some NotEqValidity else (
     if bytes_eq name (codes "Lt") then Some Lt else (
     if bytes_eq name (codes "LtEq") then Some LtEq else (
     if bytes_eq name (codes "Gt") then Some Gt else (
     if bytes_eq name (codes "GtEq") then Some GtEq else (
-    if bytes_eq name (codes "Plus") then Some Plus else None))))))
+    if bytes_eq name (codes "Plus") then Some Plus else (
+    if bytes_eq name (codes "Minus") then Some Minus else (
+    if bytes_eq name (codes "Multiply") then Some Multiply else (
+    if bytes_eq name (codes "Divide") then Some Divide else (
+    if bytes_eq name (codes "FloorDivide") then Some FloorDivide else (
+    if bytes_eq name (codes "Modulus") then Some Modulus else (
+    if bytes_eq name (codes "And") then Some And else (
+    if bytes_eq name (codes "Or") then Some Or else (
+    if bytes_eq name (codes "Xor") then Some Xor else (
+    if bytes_eq name (codes "LogicalAnd") then Some LogicalAnd else (
+    if bytes_eq name (codes "LogicalOr") then Some LogicalOr else None))))))))))))))))))
 
 abbrev pub operator_of : Data → Option Operator
 operator_of d = option_and_then operator_named (as_str d)
@@ -167,13 +180,64 @@ tables_of d = option_and_then tables_from (as_array d)
 abbrev pub column_expression : Name → Expression
 column_expression name = node (ColumnOp name) no_more
 
+-- null, a truth value and a text have types of their own
+abbrev pub null_op : Op
+null_op = LiteralOp NullType NullValue
+
+abbrev pub truth_op : Bool → Op
+truth_op truth = LiteralOp Truth (TruthValue truth)
+
+abbrev pub text_op : Name → Op
+text_op text = LiteralOp TextType (TextValue text)
+
 -- a number without a type
 abbrev pub number_op : ℤ → Op
 number_op number = LiteralOp (Untyped number) (IntValue number)
 
--- a whole number
+-- null, a truth value, a text, or a whole number without a type
 abbrev pub literal_of : Data → Option Op
-literal_of d = option_map number_op (whole_number d)
+literal_of null = Some null_op
+literal_of (boolean truth) = Some (truth_op truth)
+literal_of (string text) = Some (text_op (chars text))
+literal_of (numeral n) = option_map number_op (whole_number (numeral n))
+literal_of (array ds) = None
+literal_of (object ms) = None
+
+-- a number that 128 bits with a sign hold
+abbrev pub narrow : ℤ → Option ℤ
+narrow number = if in_range (Integer true 128) number then Some number else None
+
+-- the number that bytes write: digits, behind an optional `-`
+abbrev pub number_written : List ℕ → Option ℤ
+number_written bytes = if slice_index bytes 0 == 43 then None else option_and_then narrow (number_in bytes)
+
+-- a text that writes a number without a type
+abbrev pub number_text_of : Data → Option Op
+number_text_of d = option_map number_op (option_and_then number_written (as_str d))
+
+-- a type of integers or of time
+abbrev pub is_counted : Ty → Bool
+is_counted type = is_integer type || is_temporal type
+
+abbrev pub counted : Ty → Option Ty
+counted type = if is_counted type then Some type else None
+
+abbrev pub counted_of : Data → Option Ty
+counted_of d = option_and_then counted (type_of d)
+
+-- a number of such a type, whose range has it
+abbrev pub typed_op : Ty → ℤ → Option Op
+typed_op type number = if is_counted type && in_range type number then Some (LiteralOp type (IntValue number)) else None
+
+abbrev pub number_of : Ty → Data → Option Op
+number_of type d = option_and_then (typed_op type) (whole_number d)
+
+abbrev pub typed_from : Data × Data → Option Op
+typed_from pair = option_and_then (λ type. number_of type pair.1) (counted_of pair.0)
+
+-- `[type, number]`
+abbrev pub typed_of : Data → Option Op
+typed_of d = option_and_then typed_from (two_items d)
 
 abbrev pub literal_expression : Op → Expression
 literal_expression op = node op no_more
@@ -192,8 +256,10 @@ abbrev mutual
   expression_of (object (member key value no_members)) =
       if bytes_eq key (codes "col") then option_map column_expression (text_of value) else (
       if bytes_eq key (codes "lit") then option_map literal_expression (literal_of value) else (
+      if bytes_eq key (codes "int") then option_map literal_expression (number_text_of value) else (
+      if bytes_eq key (codes "typed") then option_map literal_expression (typed_of value) else (
       if bytes_eq key (codes "bin") then binary_of value else (
-      if bytes_eq key (codes "cast") then cast_of value else None)))
+      if bytes_eq key (codes "cast") then cast_of value else None)))))
   expression_of _ = None
 
   -- `[operator, expression, expression]`

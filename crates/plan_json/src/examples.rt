@@ -1,7 +1,9 @@
 //! Worked examples of the definitions. The functions do nothing: their clauses are the examples.
 #![tactic(auto, unfolding(crate::proofs::OnLiterals::values_on_literals))]
 
-ghost use Rattle.std.specs.Prelude.{◌≡◌, ℕ, ℤ, pos, negsuc, [], ◌∷◌, Float, List, Some, None, String, codes, string_bytes, true, false};
+pub mod literals;
+
+ghost use Rattle.std.specs.Prelude.{◌≡◌, pos, negsuc, [], ◌∷◌, Float, List, Some, None, String, codes, string_bytes, true, false};
 ghost use Rattle.std.specs.Global.{Global};
 ghost use Rattle.plan_types.specs.Types.{NullType, Truth, Integer, TextType, DateType, TimeType, DatetimeType, DurationType, ListType, StructType, Untyped, no_field, with_field};
 ghost use Rattle.plan_types.specs.Values.{IntValue};
@@ -10,13 +12,13 @@ ghost use Rattle.plan_types.specs.declared.dtype.TimeUnit.TheVariants.{Nanosecon
 ghost use Rattle.plan_dsl.specs.Ops.{ColumnOp, LiteralOp, BinaryOp, CastOp};
 ghost use Rattle.plan_dsl.specs.Plans.{empty_table, named, scan_op, select_op, filter_op};
 ghost use Rattle.plan_dsl.specs.Trees.{node, no_more, more};
-ghost use Rattle.plan_dsl.specs.declared.operator.Operator.TheVariants.{Eq, Lt, GtEq, Plus};
+ghost use Rattle.plan_dsl.specs.declared.operator.Operator.TheVariants.{Lt, GtEq, Plus};
 ghost use Rattle.serde_json.specs.Data.{array, boolean, no_items, item, no_members, member, float, negative, null, number, object, string, unsigned};
 ghost use Rattle.plan_json.specs.Bytes.{IsRefusalOf, WritesQuery};
 ghost use Rattle.plan_json.specs.Errors.{escaped, pointer_text};
 ghost use Rattle.plan_json.specs.Faults as fault;
 ghost use Rattle.plan_json.specs.Faults.{BadFloat, BadName, BadShape, IsBadAt, key, own_fault};
-ghost use Rattle.plan_json.specs.Queries.{QueryModel, expression_of, literal_of, number_op, operator_of, plan_of, query_of, type_of, unit_of};
+ghost use Rattle.plan_json.specs.Queries.{QueryModel, expression_of, number_op, plan_of, query_of, type_of, unit_of};
 ghost use Rattle.plan_json.specs.declared.error.JsonError.TheVariants.{NotJson, Shape, Float as Float', Name};
 
 /// A query: its tables by name and columns, and its plan over them.
@@ -167,25 +169,6 @@ pub fn filter_examples()
         plan_of [] (object (member (codes "filter") (array (item empty (item (array (item predicate no_items)) no_items))) no_members)) ≡ None }
 {}
 
-/// A literal: a whole number that is held as an i64 or as a u64. It has no type.
-pub fn literal_examples()
-    ensures unsigned_number { (n : ℕ) → literal_of (number (unsigned n)) ≡ Some (LiteralOp (Untyped (pos n)) (IntValue (pos n))) }
-    ensures negative_number { (z : ℤ) → literal_of (number (negative z)) ≡ Some (LiteralOp (Untyped z) (IntValue z)) }
-    ensures float_number { (x : Float) → literal_of (number (float x)) ≡ None }
-    ensures nothing { literal_of null ≡ None }
-    ensures truth { literal_of (boolean true) ≡ None }
-    ensures text { literal_of (string (codes "1")) ≡ None }
-    ensures list { literal_of (array (item (number (unsigned 1)) no_items)) ≡ None }
-    ensures expression { expression_of (object (member (codes "lit") (number (negative (negsuc 299))) no_members))
-        ≡ Some (node (number_op (negsuc 299)) no_more) }
-    ensures sum { let left = object (member (codes "lit") (number (unsigned 18446744073709551615)) no_members) in
-        let right = object (member (codes "col") (string (codes "a")) no_members) in
-        let operands = array (item (string (codes "Plus")) (item left (item right no_items))) in
-        expression_of (object (member (codes "bin") operands no_members))
-        ≡ Some (node (BinaryOp Plus) (more (node (number_op (pos 18446744073709551615)) no_more) (more (node (ColumnOp (codes "a")) no_more) no_more))) }
-    ensures two_keys { expression_of (object (member (codes "col") (string (codes "a")) (member (codes "lit") (number (unsigned 1)) no_members))) ≡ None }
-{}
-
 /// An expression: an object of one key, which names its form.
 pub fn expression_examples()
     ensures comparison { let left = object (member (codes "col") (string (codes "a")) no_members) in
@@ -223,8 +206,6 @@ pub fn expression_examples()
         expression_of (object (member (codes "cast") parts no_members)) ≡ None }
     ensures cast_of_none { let parts = array (item null (item (string (codes "Int64")) (item (string (codes "Strict")) no_items))) in
         expression_of (object (member (codes "cast") parts no_members)) ≡ None }
-    ensures operator { operator_of (string (codes "Eq")) ≡ Some Eq }
-    ensures sign { operator_of (string (codes "==")) ≡ None }
 {}
 
 /// Bytes that write a query, and bytes that write none.
@@ -287,7 +268,7 @@ pub fn fault_examples()
     ensures known_plan { own_fault (fault.a_plan []) (object (member (codes "scan") null no_members)) ≡ None }
     ensures unknown_expression { own_fault fault.an_expression (object (member (codes "neg") (number (unsigned 1)) no_members)) ≡ Some BadShape }
     ensures known_expression { own_fault fault.an_expression (object (member (codes "bin") null no_members)) ≡ None }
-    ensures unknown_operator { own_fault fault.an_operator (string (codes "Minus")) ≡ Some BadShape }
+    ensures unknown_operator { own_fault fault.an_operator (string (codes "Power")) ≡ Some BadShape }
     ensures known_operator { own_fault fault.an_operator (string (codes "NotEq")) ≡ None }
     ensures short_cast { own_fault fault.a_cast (array (item null (item (string (codes "Int8")) no_items))) ≡ Some BadShape }
     ensures whole_cast { own_fault fault.a_cast (array (item null (item null (item null no_items)))) ≡ None }
@@ -298,8 +279,6 @@ pub fn fault_examples()
     ensures short_filter { own_fault (fault.a_filter []) (array (item null no_items)) ≡ Some BadShape }
     ensures long_filter { own_fault (fault.a_filter []) (array (item null (item null (item null no_items)))) ≡ Some BadShape }
     ensures whole_filter { own_fault (fault.a_filter []) (array (item null (item null no_items))) ≡ None }
-    ensures literal { own_fault fault.a_literal (number (negative (negsuc 0))) ≡ None }
-    ensures no_literal { own_fault fault.a_literal null ≡ Some BadShape }
     ensures no_list { own_fault fault.table_list (object no_members) ≡ Some BadShape }
 {}
 
@@ -317,10 +296,8 @@ pub fn float_examples()
     ensures plan { (x : Float) → own_fault (fault.a_plan []) (number (float x)) ≡ Some BadFloat }
     ensures filter { (x : Float) → own_fault (fault.a_filter []) (number (float x)) ≡ Some BadFloat }
     ensures expression { (x : Float) → own_fault fault.an_expression (number (float x)) ≡ Some BadFloat }
-    ensures literal { (x : Float) → own_fault fault.a_literal (number (float x)) ≡ Some BadFloat }
     ensures operator { (x : Float) → own_fault fault.an_operator (number (float x)) ≡ Some BadFloat }
     ensures whole_number { own_fault fault.an_operator (number (negative (negsuc 0))) ≡ Some BadShape }
-    ensures list_with_float { (x : Float) → own_fault fault.a_literal (array (item (number (float x)) no_items)) ≡ Some BadShape }
 {}
 
 /// A fault stands at the end of a path of keys and item numbers.

@@ -2,17 +2,16 @@
 ghost use Rattle.std.specs.Prelude.{◌≡◌, Some, IfOk, IfErr};
 ghost use Rattle.serde_json.specs.View.{view};
 ghost use Rattle.plan_dsl.specs.Expressions.{tree_of};
-ghost use Rattle.plan_dsl.specs.Literals.{literal_op};
 ghost use Rattle.plan_dsl.specs.Plans.{trees_of};
 ghost use Rattle.plan_json.specs.Errors.{IsErrorOf};
-ghost use Rattle.plan_json.specs.Faults.{an_expression, a_literal, operands, an_operator, a_cast, a_mode, expression_list};
-ghost use Rattle.plan_json.specs.Queries.{expression_of, literal_of, binary_of, operator_named, operator_of, cast_of, mode_named, mode_of, expressions_of};
+ghost use Rattle.plan_json.specs.Faults.{an_expression, operands, an_operator, a_cast, a_mode, expression_list};
+ghost use Rattle.plan_json.specs.Queries.{expression_of, binary_of, operator_named, operator_of, cast_of, mode_named, mode_of, expressions_of};
 
 use super::dtype::{read_text, read_type};
 use super::error::{JsonError, Step, at};
-use super::value::{only_member, three_items, whole_number};
+use super::literal::{read_literal, read_number_text, read_typed};
+use super::value::{only_member, three_items};
 use plan_dsl::expr::Expr;
-use plan_dsl::literal::LiteralValue;
 use plan_dsl::operator::Operator;
 use plan_dsl::plan::Exprs;
 use plan_types::dtype::CastOptions;
@@ -36,6 +35,14 @@ pub(crate) fn read_expression(alloc: Global, value: &Value) -> Result<Expr, Json
                 let literal = at(alloc, Step::Key("lit"), read_literal(alloc, inner))?;
                 Ok(Expr::Literal(literal))
             }
+            "int" => {
+                let literal = at(alloc, Step::Key("int"), read_number_text(alloc, inner))?;
+                Ok(Expr::Literal(literal))
+            }
+            "typed" => {
+                let literal = at(alloc, Step::Key("typed"), read_typed(alloc, inner))?;
+                Ok(Expr::Literal(literal))
+            }
             "bin" => {
                 let expr = at(alloc, Step::Key("bin"), read_binary(alloc, inner))?;
                 Ok(expr)
@@ -46,17 +53,6 @@ pub(crate) fn read_expression(alloc: Global, value: &Value) -> Result<Expr, Json
             }
             _ => Err(JsonError::shape(alloc, value)),
         },
-    }
-}
-
-// A literal: a whole number, which has no type.
-fn read_literal(alloc: Global, value: &Value) -> Result<LiteralValue, JsonError>
-    ensures ok { IfOk result (λ literal. literal_of (view value.now) ≡ Some (literal_op literal)) }
-    ensures err { IfErr result (IsErrorOf a_literal (view value.now)) }
-{
-    match whole_number(value) {
-        None => Err(JsonError::shape(alloc, value)),
-        Some(number) => Ok(LiteralValue::Int(number)),
     }
 }
 
@@ -99,12 +95,24 @@ fn operator_named(name: &str) -> Option<Operator>
 {
     match name {
         "Eq" => Some(Operator::Eq),
+        "EqValidity" => Some(Operator::EqValidity),
         "NotEq" => Some(Operator::NotEq),
+        "NotEqValidity" => Some(Operator::NotEqValidity),
         "Lt" => Some(Operator::Lt),
         "LtEq" => Some(Operator::LtEq),
         "Gt" => Some(Operator::Gt),
         "GtEq" => Some(Operator::GtEq),
         "Plus" => Some(Operator::Plus),
+        "Minus" => Some(Operator::Minus),
+        "Multiply" => Some(Operator::Multiply),
+        "Divide" => Some(Operator::Divide),
+        "FloorDivide" => Some(Operator::FloorDivide),
+        "Modulus" => Some(Operator::Modulus),
+        "And" => Some(Operator::And),
+        "Or" => Some(Operator::Or),
+        "Xor" => Some(Operator::Xor),
+        "LogicalAnd" => Some(Operator::LogicalAnd),
+        "LogicalOr" => Some(Operator::LogicalOr),
         _ => None,
     }
 }

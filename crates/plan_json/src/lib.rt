@@ -11,6 +11,7 @@ pub mod error;
 pub mod examples;
 mod expression;
 pub mod laws;
+mod literal;
 mod plan;
 pub mod read;
 pub mod tables;

@@ -1,11 +1,10 @@
 //! Outside texts, and what reading them says.
 
+mod literals;
+mod operators;
 mod types;
 
 use super::read::read_query;
-use plan_dsl::expr::Expr;
-use plan_dsl::literal::LiteralValue;
-use plan_dsl::plan::DslPlan;
 use std::alloc::{AllocError, Global};
 use std::test::Fail;
 
@@ -257,81 +256,6 @@ fn refuses_parts_of_filters(rt: HostRuntime) -> Result<(), Fail> {
     Ok(())
 }
 
-// The number of the literal by which the plan filters.
-fn filtered_by(plan: &DslPlan) -> Option<i128> {
-    match plan {
-        DslPlan::Filter { predicate, .. } => match predicate {
-            Expr::Literal(LiteralValue::Int(number)) => Some(*number),
-            _ => None,
-        },
-        _ => None,
-    }
-}
-
-// A query of a filter by the literal of that text.
-fn literal_query(alloc: Global, literal: &str) -> Result<String, AllocError> {
-    let mut text = String::from_str(
-        alloc,
-        "{\"tables\":[],\"plan\":{\"filter\":[{\"empty\":[]},{\"lit\":",
-    )?;
-    text.push_str(literal)?;
-    text.push_str("}]}}")?;
-    Ok(text)
-}
-
-#[test]
-fn reads_whole_numbers(rt: HostRuntime) -> Result<(), Fail> {
-    for (literal, want) in [
-        ("0", 0),
-        ("7", 7),
-        ("-300", -300),
-        ("9223372036854775808", 9223372036854775808),
-        ("18446744073709551615", 18446744073709551615),
-        ("-9223372036854775808", -9223372036854775808),
-    ] {
-        let text = literal_query(rt.alloc(), literal)?;
-        let query = read_query(rt.alloc(), text.as_bytes())?;
-        let found: Option<i128> = filtered_by(&query.plan);
-        assert!(rt; found == Some(want));
-    }
-    Ok(())
-}
-
-#[test]
-fn tells_numbers_that_are_not_whole(rt: HostRuntime) -> Result<(), Fail> {
-    for literal in [
-        "1.5",
-        "-0",
-        "1.0",
-        "1e3",
-        "18446744073709551616",
-        "-9223372036854775809",
-    ] {
-        let text = literal_query(rt.alloc(), literal)?;
-        let found = answer(rt.alloc(), text.as_bytes())?;
-        assert!(rt;
-            found.as_str() == "Float /plan/filter/1/lit",
-            "{found} of {literal}"
-        );
-    }
-    let text = literal_query(rt.alloc(), "1e400")?;
-    assert!(rt; answer(rt.alloc(), text.as_bytes())?.as_str() == "NotJson");
-    Ok(())
-}
-
-#[test]
-fn refuses_literals_that_are_no_numbers(rt: HostRuntime) -> Result<(), Fail> {
-    for literal in ["null", "true", "\"1\"", "[1]", "[1.5]", "{\"Int8\":1.5}"] {
-        let text = literal_query(rt.alloc(), literal)?;
-        let found = answer(rt.alloc(), text.as_bytes())?;
-        assert!(rt;
-            found.as_str() == "Shape /plan/filter/1/lit",
-            "{found} of {literal}"
-        );
-    }
-    Ok(())
-}
-
 #[test]
 fn reads_expressions(rt: HostRuntime) -> Result<(), Fail> {
     for (plan, want) in [
@@ -344,7 +268,7 @@ fn reads_expressions(rt: HostRuntime) -> Result<(), Fail> {
             "Shape /plan/select/1/1",
         ),
         (
-            "{\"select\":[{\"empty\":[]},[{\"bin\":[\"Minus\",{\"col\":\"a\"},{\"col\":\"a\"}]}]]}",
+            "{\"select\":[{\"empty\":[]},[{\"bin\":[\"Power\",{\"col\":\"a\"},{\"col\":\"a\"}]}]]}",
             "Shape /plan/select/1/0/bin/0",
         ),
         (
@@ -367,26 +291,6 @@ fn reads_expressions(rt: HostRuntime) -> Result<(), Fail> {
         let found = query_answer(rt.alloc(), "[]", plan)?;
         assert!(rt; found.as_str() == want, "{found} in place of {want}");
     }
-    Ok(())
-}
-
-// The answer to a select of one operator of that name.
-fn operator_answer(alloc: Global, name: &str) -> Result<String, Fail> {
-    let mut text = String::from_str(alloc, "{\"bin\":[\"")?;
-    text.push_str(name)?;
-    text.push_str("\",{\"col\":\"a\"},{\"col\":\"b\"}]}")?;
-    let found = expression_answer(alloc, text.as_str())?;
-    Ok(found)
-}
-
-#[test]
-fn reads_each_operator(rt: HostRuntime) -> Result<(), Fail> {
-    for name in ["Eq", "NotEq", "Lt", "LtEq", "Gt", "GtEq", "Plus"] {
-        let found = operator_answer(rt.alloc(), name)?;
-        assert!(rt; found.as_str() == "query");
-    }
-    let found = operator_answer(rt.alloc(), "<")?;
-    assert!(rt; found.as_str() == "Shape /plan/select/1/0/bin/0");
     Ok(())
 }
 

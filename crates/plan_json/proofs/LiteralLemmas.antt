@@ -1,0 +1,103 @@
+-- Literals: numbers that texts write, and types of numbers.
+use Rattle.std.proofs.Common.{◌≡◌, ℕ, ◌^◌, ◌<◌, List, [], ◌∷◌, Contains, Option, Some, None, Result, Ok, Err, Bool, true, false, cond, ◌&&◌, ◌==◌, ℤ, slice_index, option_and_then, refl, sym, ap, subst, ◌∙◌, arith, FitsSigned}
+use Rattle.std.specs.Prelude.{pos, negsuc}
+use Rattle.std.specs.Int.{w128}
+use Rattle.std.specs.Option.{option_map_or}
+use Rattle.std.specs.Str.Parse.{ParsesSigned}
+use Rattle.std.proofs.lemmas.Int.{ints}
+use Rattle.plan_types.specs.Casts.{number_in}
+use Rattle.plan_types.specs.Types.{Ty, Integer}
+use Rattle.plan_types.specs.Values.{IntValue, in_range}
+use Rattle.plan_types.proofs.DigitLemmas.{read_number, read_fits, no_number_read}
+use Rattle.plan_dsl.specs.Ops.{LiteralOp}
+use Rattle.serde_json.specs.Data.{Data}
+use Rattle.plan_json.specs.Errors.{IsBadAtPointer, IsErrorOf}
+use Rattle.plan_json.specs.Faults.{FaultKind, BadShape, BadFloat, BadName, a_counted_type, a_number_of, a_type, has_type_shape, may_be_counted, number, number_part, own_fault, part, typed_parts, shape_fault, unless}
+use Rattle.plan_json.specs.Queries.{counted, counted_of, is_counted, narrow, number_of, number_written, type_of, typed_op}
+use Rattle.plan_json.specs.Looking.{whole_number}
+use Rattle.plan_json.specs.declared.error.JsonError.{JsonError}
+use Rattle.plan_json.specs.declared.error.JsonError.TheVariants.{NotJson, Shape, Float, Name, NoMemory}
+
+-- ---- 128 bits with a sign
+
+wide_pos : (n : ℕ) → n < 2 ^ 127 → in_range (Integer true 128) (pos n) ≡ true
+wide_pos n h = grind (arith, ints)
+
+wide_neg : (n : ℕ) → n < 2 ^ 127 → in_range (Integer true 128) (negsuc n) ≡ true
+wide_neg n h = grind (arith, ints)
+
+fits_wide : (z : ℤ) → FitsSigned w128 z → in_range (Integer true 128) z ≡ true
+fits_wide (pos n) fits = wide_pos n fits.sfits
+fits_wide (negsuc n) fits = wide_neg n fits.sfits
+
+pos_wide : (n : ℕ) → in_range (Integer true 128) (pos n) ≡ true → n < 2 ^ 127
+pos_wide n h = grind (arith, ints)
+
+neg_wide : (n : ℕ) → in_range (Integer true 128) (negsuc n) ≡ true → n < 2 ^ 127
+neg_wide n h = grind (arith, ints)
+
+wide_fits : (z : ℤ) → in_range (Integer true 128) z ≡ true → FitsSigned w128 z
+wide_fits (pos n) h = record { sfits = pos_wide n h }
+wide_fits (negsuc n) h = record { sfits = neg_wide n h }
+
+-- ---- numbers that texts write
+
+without_plus : (bytes : List ℕ) → (slice_index bytes 0 == 43) ≡ false → number_written bytes ≡ option_and_then narrow (number_in bytes)
+without_plus bytes h = ap (λ b. cond b None (option_and_then narrow (number_in bytes))) h
+
+pub with_plus : (bytes : List ℕ) → (slice_index bytes 0 == 43) ≡ true → number_written bytes ≡ None
+with_plus bytes h = ap (λ b. cond b None (option_and_then narrow (number_in bytes))) h
+
+pub written : {E : Type 0} (bytes : List ℕ) (r : Result ℤ E) (z : ℤ) → ParsesSigned w128 10 bytes r → r ≡ Ok z → (slice_index bytes 0 == 43) ≡ false → number_written bytes ≡ Some z
+written bytes r z parses is plain =
+    without_plus bytes plain ∙ ap (option_and_then narrow) (read_number bytes r z parses is) ∙ ap (λ b. cond b (Some z) None) (fits_wide z (read_fits bytes r z parses is))
+
+pub unwritten : {E : Type 0} (bytes : List ℕ) (r : Result ℤ E) (error : E) → ParsesSigned w128 10 bytes r → r ≡ Err error → (slice_index bytes 0 == 43) ≡ false → number_written bytes ≡ None
+unwritten bytes r error parses is plain =
+    without_plus bytes plain ∙ go (number_in bytes) (λ z e wide. no_number_read bytes r error parses is z e (wide_fits z wide))
+  where
+    go : (o : Option ℤ) → ((z : ℤ) → o ≡ Some z → in_range (Integer true 128) z ≡ true → ⊥) → option_and_then narrow o ≡ None
+    go None none = refl
+    go (Some z) none = elim (in_range (Integer true 128) z) as (λ b. in_range (Integer true 128) z ≡ b → cond b (Some z) None ≡ None) [ true ↦ λ e. absurd (none z refl e) | false ↦ λ e. refl ] refl
+
+-- ---- types of integers and of time
+
+-- an error of a value that must be a type is one of a value that must be such a type
+pub counted_error : (d : Data) (error : JsonError) → IsErrorOf a_type d error → IsErrorOf a_counted_type d error
+counted_error d error bad = go error bad
+  where
+    more : (fault kind : FaultKind) (a b : Bool) → unless fault a ≡ Some kind → unless fault (a && b) ≡ Some kind
+    more fault kind true b h = cc
+    more fault kind false b h = h
+
+    along : (kind : FaultKind) (text : List ℕ) → IsBadAtPointer a_type d kind text → IsBadAtPointer a_counted_type d kind text
+    along kind text ([], is, h) = ([], is, more (shape_fault d) kind (has_type_shape d) (may_be_counted d) h)
+    along kind text (step ∷ steps, is, below) = (step ∷ steps, is, below)
+
+    go : (error : JsonError) → IsErrorOf a_type d error → IsErrorOf a_counted_type d error
+    go NotJson h = absurd h
+    go (Shape path) h = along BadShape _ h
+    go (Float path) h = along BadFloat _ h
+    go (Name path) h = along BadName _ h
+    go NoMemory h = tt
+
+-- a type of another kind is at fault itself
+pub other_kind : (d : Data) (type : Ty) → type_of d ≡ Some type → is_counted type ≡ false → own_fault a_counted_type d ≡ Some (shape_fault d)
+other_kind d type is other =
+    ap (λ o. unless (shape_fault d) (has_type_shape d && option_map_or is_counted o true)) is ∙ ap (λ b. unless (shape_fault d) (has_type_shape d && b)) other ∙ none (has_type_shape d)
+  where
+    none : (b : Bool) → unless (shape_fault d) (b && false) ≡ Some (shape_fault d)
+    none true = refl
+    none false = refl
+
+pub counted_type : (d : Data) (type : Ty) → type_of d ≡ Some type → is_counted type ≡ true → counted_of d ≡ Some type
+counted_type d type is own = ap (option_and_then counted) is ∙ ap (λ b. cond b (Some type) None) own
+
+-- a number that the type has
+pub number_had : (type : Ty) (d : Data) (z : ℤ) → Some z ≡ whole_number d → (is_counted type && in_range type z) ≡ true → number_of type d ≡ Some (LiteralOp type (IntValue z))
+number_had type d z is has = ap (option_and_then (typed_op type)) (sym is) ∙ ap (λ b. cond b (Some (LiteralOp type (IntValue z))) None) has
+
+-- the number stands behind the type
+pub number_place : (first second : Data) (type : Ty) → counted_of first ≡ Some type → Contains (typed_parts (first, second)) (part (number 1) (a_number_of type) second)
+number_place first second type is =
+    subst (λ o. Contains (part (number 0) a_counted_type first ∷ option_map_or (number_part second) o []) (part (number 1) (a_number_of type) second)) (sym is) (1, omega arith, refl)

@@ -1,0 +1,114 @@
+//! Literals.
+ghost use Rattle.std.specs.Prelude.{◌≡◌, ◌==◌, Some, None, slice_index, IfOk, IfErr, MatchOption};
+ghost use Rattle.serde_json.specs.View.{view};
+ghost use Rattle.plan_dsl.specs.Literals.{literal_op};
+ghost use Rattle.plan_types.specs.Types.{ty};
+ghost use Rattle.plan_json.specs.Errors.{IsErrorOf};
+ghost use Rattle.plan_json.specs.Faults.{a_counted_type, a_literal, a_number_of, a_number_text, a_typed_literal};
+ghost use Rattle.plan_json.specs.Queries.{counted_of, literal_of, number_of, number_text_of, number_written, typed_of};
+
+use super::dtype::read_type;
+use super::error::{JsonError, Step, at};
+use super::value::{two_items, whole_number};
+use plan_dsl::literal::LiteralValue;
+use plan_types::dtype::DataType;
+use plan_types::text::PlSmallStr;
+use serde_json::Value;
+use std::alloc::Global;
+
+// A literal that is written as it is: null, a truth value, a text, or a whole number, which has no type.
+pub(crate) fn read_literal(alloc: Global, value: &Value) -> Result<LiteralValue, JsonError>
+    ensures ok { IfOk result (λ literal. literal_of (view value.now) ≡ Some (literal_op literal)) }
+    ensures err { IfErr result (IsErrorOf a_literal (view value.now)) }
+{
+    match value {
+        Value::Null => Ok(LiteralValue::Null),
+        Value::Bool(truth) => Ok(LiteralValue::Boolean(*truth)),
+        Value::String(text) => {
+            let text = PlSmallStr::new(alloc, text.as_str())?;
+            Ok(LiteralValue::String(text))
+        }
+        Value::Number(_) => match whole_number(value) {
+            None => Err(JsonError::shape(alloc, value)),
+            Some(number) => Ok(LiteralValue::Int(number)),
+        },
+        Value::Array(_) | Value::Object(_) => Err(JsonError::shape(alloc, value)),
+    }
+}
+
+// A text that writes a whole number, which has no type.
+pub(crate) fn read_number_text(alloc: Global, value: &Value) -> Result<LiteralValue, JsonError>
+    ensures ok { IfOk result (λ literal. number_text_of (view value.now) ≡ Some (literal_op literal)) }
+    ensures err { IfErr result (IsErrorOf a_number_text (view value.now)) }
+{
+    match value.as_str() {
+        None => Err(JsonError::shape(alloc, value)),
+        Some(text) => match number_written(text) {
+            None => Err(JsonError::shape(alloc, value)),
+            Some(number) => Ok(LiteralValue::Int(number)),
+        },
+    }
+}
+
+// The number that a text writes: digits, behind an optional `-`, where 128 bits with a sign hold it.
+fn number_written(text: &str) -> Option<i128>
+    ensures { MatchOption result (number_written text.now ≡ None) (λ number. number_written text.now ≡ Some number) }
+{
+    if starts_with_plus(text.as_bytes()) {
+        return None;
+    }
+    match text.parse::<i128>() {
+        Ok(number) => Some(number),
+        Err(_) => None,
+    }
+}
+
+fn starts_with_plus(bytes: &[u8]) -> bool
+    ensures { result ≡ (slice_index bytes.now 0 == 43) }
+{
+    if bytes.is_empty() {
+        return false;
+    }
+    bytes[0] == b'+'
+}
+
+// A number of a type: `[type, number]`.
+pub(crate) fn read_typed(alloc: Global, value: &Value) -> Result<LiteralValue, JsonError>
+    ensures ok { IfOk result (λ literal. typed_of (view value.now) ≡ Some (literal_op literal)) }
+    ensures err { IfErr result (IsErrorOf a_typed_literal (view value.now)) }
+{
+    match two_items(value) {
+        None => Err(JsonError::shape(alloc, value)),
+        Some((dtype, number)) => {
+            let dtype = at(alloc, Step::Item(0), read_counted(alloc, dtype))?;
+            let literal = at(alloc, Step::Item(1), read_number_of(alloc, &dtype, number))?;
+            Ok(literal)
+        }
+    }
+}
+
+// A type of integers or of time.
+fn read_counted(alloc: Global, value: &Value) -> Result<DataType, JsonError>
+    ensures ok { IfOk result (λ dtype. counted_of (view value.now) ≡ Some (ty dtype)) }
+    ensures err { IfErr result (IsErrorOf a_counted_type (view value.now)) }
+{
+    let dtype = read_type(alloc, value)?;
+    if !dtype.is_integer() && !dtype.is_temporal() {
+        return Err(JsonError::shape(alloc, value));
+    }
+    Ok(dtype)
+}
+
+// A whole number that the type has.
+fn read_number_of(alloc: Global, dtype: &DataType, value: &Value) -> Result<LiteralValue, JsonError>
+    ensures ok { IfOk result (λ literal. number_of (ty dtype.now) (view value.now) ≡ Some (literal_op literal)) }
+    ensures err { IfErr result (IsErrorOf (a_number_of (ty dtype.now)) (view value.now)) }
+{
+    match whole_number(value) {
+        None => Err(JsonError::shape(alloc, value)),
+        Some(number) => match LiteralValue::of_number(dtype, number) {
+            None => Err(JsonError::shape(alloc, value)),
+            Some(literal) => Ok(literal),
+        },
+    }
+}
