@@ -34,12 +34,7 @@ fn select(alloc: Global, operator: &str, left: &str, right: &str) -> Result<Stri
 }
 
 // Whether that select has this column, and so many casts.
-fn is_reported(
-    alloc: Global,
-    input: &str,
-    column: &str,
-    casts: u8,
-) -> Result<bool, Fail> {
+fn is_reported(alloc: Global, input: &str, column: &str, casts: u8) -> Result<bool, Fail> {
     let seen = lower(alloc, input)?;
     let text = format!(in alloc; ". projection ({column})\n.0 df {SCHEMA}\ncasts {casts}\n")?;
     Ok(seen.number == 0 && seen.has_plan && seen.written.as_slice() == text.as_bytes())
@@ -91,7 +86,10 @@ fn each_operator_has_its_type(rt: HostRuntime) -> Result<(), Fail> {
         ("Plus", "s", "c", "\"s\" String", 1),
     ] {
         let input = select(alloc, operator, left, right)?;
-        assert!(rt; is_reported(alloc, input.as_str(), column, casts)?, "{left} {operator} {right}");
+        assert!(rt;
+            is_reported(alloc, input.as_str(), column, casts)?,
+            "{left} {operator} {right}"
+        );
     }
     Ok(())
 }
@@ -111,7 +109,10 @@ fn times_are_subtracted_and_multiplied(rt: HostRuntime) -> Result<(), Fail> {
         ("Multiply", "i", "p", "\"i\" Duration(us)", 0),
     ] {
         let input = select(alloc, operator, left, right)?;
-        assert!(rt; is_reported(alloc, input.as_str(), column, casts)?, "{left} {operator} {right}");
+        assert!(rt;
+            is_reported(alloc, input.as_str(), column, casts)?,
+            "{left} {operator} {right}"
+        );
     }
     Ok(())
 }
@@ -144,7 +145,11 @@ fn operators_refuse_other_operands(rt: HostRuntime) -> Result<(), Fail> {
         let text = format!(in alloc; "refused {kind} .\n")?;
         assert_eq!(rt; seen.number, 1, "{left} {operator} {right}");
         assert!(rt; !seen.has_plan);
-        assert_eq!(rt; seen.written.as_slice(), text.as_bytes(), "{left} {operator} {right}");
+        assert_eq!(rt;
+            seen.written.as_slice(),
+            text.as_bytes(),
+            "{left} {operator} {right}"
+        );
     }
     Ok(())
 }
