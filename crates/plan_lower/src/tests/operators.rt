@@ -65,15 +65,19 @@ fn class_scan(alloc: Global) -> Result<DslPlan, PlanError> {
     Ok(DslPlan::DataFrameScan { table, schema })
 }
 
+fn without_table(alloc: Global, text: &str) -> Result<String, AllocError> {
+    match text.split_once(" over table (") {
+        Some((node, _)) => String::from_str(alloc, node),
+        None => String::from_str(alloc, text),
+    }
+}
+
 // What a select of the expression over the table becomes, without the table.
 pub(super) fn answer(alloc: Global, step: &str) -> Result<String, Fail> {
     let plan = class_scan(alloc)?;
     let found = answer_over(alloc, plan, &[step])?;
-    let node = match found.as_str().split_once(" over table (") {
-        Some((node, _)) => node,
-        None => found.as_str(),
-    };
-    Ok(String::from_str(alloc, node)?)
+    let node = without_table(alloc, found.as_str())?;
+    Ok(node)
 }
 
 // The operator between two texts.

@@ -87,7 +87,7 @@ fn assert_number(
 
 #[test]
 fn days_and_moments_are_cast(rt: HostRuntime) -> Result<(), Fail> {
-    for (number, from, to, want) in [
+    for (number, from, to, want) in &[
         (10_957, Date, Datetime(Ns), Some(946_684_800_000_000_000)),
         (10_957, Date, Datetime(Us), Some(946_684_800_000_000)),
         (10_957, Date, Datetime(Ms), Some(946_684_800_000)),
@@ -113,14 +113,14 @@ fn days_and_moments_are_cast(rt: HostRuntime) -> Result<(), Fail> {
         (946_684_800_000_000, Datetime(Us), Date, Some(10_957)),
         (185_542_587_187_200_000, Datetime(Ms), Date, None),
     ] {
-        assert_number(&rt, rt.alloc(), number, &from, &to, want)?;
+        assert_number(&rt, rt.alloc(), *number, from, to, *want)?;
     }
     Ok(())
 }
 
 #[test]
 fn moments_and_spans_are_cast_to_other_units(rt: HostRuntime) -> Result<(), Fail> {
-    for (number, from, to, want) in [
+    for (number, from, to, want) in &[
         (-1, Datetime(Ns), Datetime(Ms), Some(-1)),
         (1_999, Datetime(Ns), Datetime(Us), Some(1)),
         (-7, Datetime(Ms), Datetime(Us), Some(-7_000)),
@@ -132,14 +132,14 @@ fn moments_and_spans_are_cast_to_other_units(rt: HostRuntime) -> Result<(), Fail
         (7, Duration(Ms), Duration(Ns), Some(7_000_000)),
         (9_223_372_036_854_776, Duration(Us), Duration(Ns), None),
     ] {
-        assert_number(&rt, rt.alloc(), number, &from, &to, want)?;
+        assert_number(&rt, rt.alloc(), *number, from, to, *want)?;
     }
     Ok(())
 }
 
 #[test]
 fn times_are_cast_to_numbers_and_back(rt: HostRuntime) -> Result<(), Fail> {
-    for (number, from, to, want) in [
+    for (number, from, to, want) in &[
         (-1, Date, Int64, Some(-1)),
         (86_399_999_999_999, Time, Int64, Some(86_399_999_999_999)),
         (-8, Datetime(Ns), Int64, Some(-8)),
@@ -153,14 +153,14 @@ fn times_are_cast_to_numbers_and_back(rt: HostRuntime) -> Result<(), Fail> {
         (9, Int64, Duration(Ns), Some(9)),
         (5, Time, Time, Some(5)),
     ] {
-        assert_number(&rt, rt.alloc(), number, &from, &to, want)?;
+        assert_number(&rt, rt.alloc(), *number, from, to, *want)?;
     }
     Ok(())
 }
 
 #[test]
 fn texts_are_cast_to_integers(rt: HostRuntime) -> Result<(), Fail> {
-    for (text, to, want) in [
+    for (text, to, want) in &[
         ("12", Int8, Some(12)),
         ("+12", Int8, Some(12)),
         ("-12", Int8, Some(-12)),
@@ -182,7 +182,7 @@ fn texts_are_cast_to_integers(rt: HostRuntime) -> Result<(), Fail> {
         ("-1234567890123456789012345678901234567890", Int64, None),
         ("0000000000000000000000000000000000000011", Int8, Some(11)),
     ] {
-        assert_text(&rt, rt.alloc(), text, &to, want)?;
+        assert_text(&rt, rt.alloc(), text, to, *want)?;
     }
     Ok(())
 }
@@ -244,7 +244,7 @@ fn assert_written(
 
 #[test]
 fn values_are_cast_to_texts(rt: HostRuntime) -> Result<(), Fail> {
-    for (value, from, want) in [
+    for (value, from, want) in &[
         (Value::Int(-128), Int8, "-128"),
         (Value::Int(0), Int8, "0"),
         (Value::Int(10), UInt8, "10"),
@@ -261,7 +261,7 @@ fn values_are_cast_to_texts(rt: HostRuntime) -> Result<(), Fail> {
         (Value::Boolean(true), Boolean, "true"),
         (Value::Boolean(false), Boolean, "false"),
     ] {
-        assert_written(&rt, rt.alloc(), &value, &from, want)?;
+        assert_written(&rt, rt.alloc(), value, from, want)?;
     }
     Ok(())
 }
@@ -277,7 +277,7 @@ fn texts_stay_texts(rt: HostRuntime) -> Result<(), Fail> {
 
 #[test]
 fn null_stays_null(rt: HostRuntime) -> Result<(), Fail> {
-    for (from, to) in [
+    for (from, to) in &[
         (Null, Null),
         (Null, Boolean),
         (Null, UInt64),
@@ -294,14 +294,14 @@ fn null_stays_null(rt: HostRuntime) -> Result<(), Fail> {
         (Time, Int64),
         (Int64, Time),
     ] {
-        assert_cast(&rt, rt.alloc(), &Value::Null, &from, &to, &Value::Null)?;
+        assert_cast(&rt, rt.alloc(), &Value::Null, from, to, &Value::Null)?;
     }
     Ok(())
 }
 
 #[test]
 fn there_are_casts(rt: HostRuntime) -> Result<(), Fail> {
-    for (from, to) in [
+    for (from, to) in &[
         (Null, Null),
         (Null, Time),
         (Boolean, Boolean),
@@ -330,14 +330,14 @@ fn there_are_casts(rt: HostRuntime) -> Result<(), Fail> {
         (Duration(Ms), Duration(Ns)),
         (Duration(Us), Int64),
     ] {
-        assert!(rt; can_cast(&from, &to));
+        assert!(rt; can_cast(from, to));
     }
     Ok(())
 }
 
 #[test]
 fn there_are_no_other_casts(rt: HostRuntime) -> Result<(), Fail> {
-    for (from, to) in [
+    for (from, to) in &[
         (Boolean, Null),
         (Int64, Null),
         (DataType::String, Null),
@@ -370,14 +370,34 @@ fn there_are_no_other_casts(rt: HostRuntime) -> Result<(), Fail> {
         (Duration(Ms), Date),
         (Duration(Ms), Int32),
     ] {
-        assert!(rt; !can_cast(&from, &to));
+        assert!(rt; !can_cast(from, to));
+    }
+    Ok(())
+}
+
+// A number without a place fails in a strict cast, is null in another, and keeps its low bits in one that overflows.
+fn assert_wraps(
+    rt: &impl Abort,
+    alloc: Global,
+    number: i128,
+    to: &DataType,
+    low_bits: i128,
+) -> Result<(), CastError> {
+    let value = Value::Int(number);
+    for (options, want) in &[
+        (CastOptions::Strict, None),
+        (CastOptions::NonStrict, Some(Value::Null)),
+        (CastOptions::Overflowing, Some(Value::Int(low_bits))),
+    ] {
+        let found = converted(rt, alloc, &value, &Int64, to, *options)?;
+        assert!(rt; found == *want);
     }
     Ok(())
 }
 
 #[test]
 fn numbers_out_of_range_are_cast(rt: HostRuntime) -> Result<(), Fail> {
-    for (number, to, low_bits) in [
+    for (number, to, low_bits) in &[
         (300, Int8, 44),
         (200, Int8, -56),
         (-129, Int8, 127),
@@ -388,28 +408,14 @@ fn numbers_out_of_range_are_cast(rt: HostRuntime) -> Result<(), Fail> {
         (4_294_967_297, UInt32, 1),
         (-1, UInt64, 18_446_744_073_709_551_615),
     ] {
-        let value = Value::Int(number);
-        let from = Int64;
-        let strict = converted(&rt, rt.alloc(), &value, &from, &to, CastOptions::Strict)?;
-        assert!(rt; strict.is_none());
-        let null = converted(&rt, rt.alloc(), &value, &from, &to, CastOptions::NonStrict)?;
-        assert!(rt; null == Some(Value::Null));
-        let low = converted(
-            &rt,
-            rt.alloc(),
-            &value,
-            &from,
-            &to,
-            CastOptions::Overflowing,
-        )?;
-        assert!(rt; low == Some(Value::Int(low_bits)));
+        assert_wraps(&rt, rt.alloc(), *number, to, *low_bits)?;
     }
     Ok(())
 }
 
 #[test]
 fn truth_values_and_integers_are_cast(rt: HostRuntime) -> Result<(), Fail> {
-    for (value, from, to, want) in [
+    for (value, from, to, want) in &[
         (Value::Int(2), Int64, Int8, Value::Int(2)),
         (Value::Int(255), UInt8, Int16, Value::Int(255)),
         (Value::Int(2), Int64, Boolean, Value::Boolean(true)),
@@ -419,7 +425,7 @@ fn truth_values_and_integers_are_cast(rt: HostRuntime) -> Result<(), Fail> {
         (Value::Boolean(false), Boolean, Int64, Value::Int(0)),
         (Value::Boolean(true), Boolean, Boolean, Value::Boolean(true)),
     ] {
-        assert_cast(&rt, rt.alloc(), &value, &from, &to, &want)?;
+        assert_cast(&rt, rt.alloc(), value, from, to, want)?;
     }
     Ok(())
 }

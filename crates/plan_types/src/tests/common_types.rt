@@ -29,7 +29,7 @@ fn assert_supertype(
 
 #[test]
 fn common_types_of_integers(rt: HostRuntime) -> Result<(), Fail> {
-    for (left, right, want) in [
+    for (left, right, want) in &[
         (Int8, Int8, Some(Int8)),
         (Int8, Int16, Some(Int16)),
         (Int8, Int32, Some(Int32)),
@@ -67,14 +67,14 @@ fn common_types_of_integers(rt: HostRuntime) -> Result<(), Fail> {
         (Int64, UInt32, Some(Int64)),
         (Int64, UInt64, None),
     ] {
-        assert_supertype(&rt, rt.alloc(), &left, &right, want.as_ref())?;
+        assert_supertype(&rt, rt.alloc(), left, right, want.as_ref())?;
     }
     Ok(())
 }
 
 #[test]
 fn common_types_of_truth_values(rt: HostRuntime) -> Result<(), Fail> {
-    for (left, right, want) in [
+    for (left, right, want) in &[
         (Boolean, Boolean, Some(Boolean)),
         (Boolean, Int8, Some(Int8)),
         (Boolean, Int16, Some(Int16)),
@@ -85,14 +85,14 @@ fn common_types_of_truth_values(rt: HostRuntime) -> Result<(), Fail> {
         (Boolean, UInt32, Some(UInt32)),
         (Boolean, UInt64, Some(UInt64)),
     ] {
-        assert_supertype(&rt, rt.alloc(), &left, &right, want.as_ref())?;
+        assert_supertype(&rt, rt.alloc(), left, right, want.as_ref())?;
     }
     Ok(())
 }
 
 #[test]
 fn null_is_of_any_type(rt: HostRuntime) -> Result<(), Fail> {
-    for (left, right, want) in [
+    for (left, right, want) in &[
         (Null, Null, Null),
         (Null, Boolean, Boolean),
         (Null, Int8, Int8),
@@ -108,14 +108,14 @@ fn null_is_of_any_type(rt: HostRuntime) -> Result<(), Fail> {
             Unknown(UnknownKind::Int(5)),
         ),
     ] {
-        assert_supertype(&rt, rt.alloc(), &left, &right, Some(&want))?;
+        assert_supertype(&rt, rt.alloc(), left, right, Some(want))?;
     }
     Ok(())
 }
 
 #[test]
 fn truth_values_and_integers_are_written_beside_texts(rt: HostRuntime) -> Result<(), Fail> {
-    for (left, right, want) in [
+    for (left, right, want) in &[
         (DataType::String, Boolean, DataType::String),
         (DataType::String, Int8, DataType::String),
         (DataType::String, Int16, DataType::String),
@@ -127,14 +127,14 @@ fn truth_values_and_integers_are_written_beside_texts(rt: HostRuntime) -> Result
         (DataType::String, UInt64, DataType::String),
         (DataType::String, DataType::String, DataType::String),
     ] {
-        assert_supertype(&rt, rt.alloc(), &left, &right, Some(&want))?;
+        assert_supertype(&rt, rt.alloc(), left, right, Some(want))?;
     }
     Ok(())
 }
 
 #[test]
 fn times_have_common_types(rt: HostRuntime) -> Result<(), Fail> {
-    for (left, right, want) in [
+    for (left, right, want) in &[
         (Date, Date, Date),
         (Time, Time, Time),
         (Date, Datetime(Ns), Datetime(Ns)),
@@ -149,7 +149,7 @@ fn times_have_common_types(rt: HostRuntime) -> Result<(), Fail> {
         (Duration(Us), Duration(Ms), Duration(Ms)),
         (Duration(Ms), Duration(Ms), Duration(Ms)),
     ] {
-        assert_supertype(&rt, rt.alloc(), &left, &right, Some(&want))?;
+        assert_supertype(&rt, rt.alloc(), left, right, Some(want))?;
     }
     Ok(())
 }
@@ -174,7 +174,7 @@ fn assert_none(
 
 #[test]
 fn types_without_a_common_one_are_refused(rt: HostRuntime) -> Result<(), Fail> {
-    for (left, right) in [
+    for (left, right) in &[
         (UInt64, Int8),
         (UInt64, Int64),
         (DataType::String, Date),
@@ -195,21 +195,33 @@ fn types_without_a_common_one_are_refused(rt: HostRuntime) -> Result<(), Fail> {
         (Unknown(UnknownKind::Int(5)), Int64),
         (Unknown(UnknownKind::Int(5)), DataType::String),
     ] {
-        assert_none(&rt, rt.alloc(), &left, &right)?;
+        assert_none(&rt, rt.alloc(), left, right)?;
     }
+    Ok(())
+}
+
+// There is that common type, and no refusal.
+fn assert_found(
+    rt: &impl Abort,
+    alloc: Global,
+    left: &DataType,
+    right: &DataType,
+    want: &DataType,
+) -> Result<(), Fail> {
+    let found = try_get_supertype(alloc, left, right)?;
+    assert!(rt; found == *want);
     Ok(())
 }
 
 #[test]
 fn a_common_type_is_no_refusal(rt: HostRuntime) -> Result<(), Fail> {
-    for (left, right, want) in [
+    for (left, right, want) in &[
         (UInt32, Int32, Int64),
         (Null, Date, Date),
         (DataType::String, UInt8, DataType::String),
         (Date, Datetime(Us), Datetime(Us)),
     ] {
-        let found = try_get_supertype(rt.alloc(), &left, &right)?;
-        assert!(rt; found == want);
+        assert_found(&rt, rt.alloc(), left, right, want)?;
     }
     Ok(())
 }

@@ -5,11 +5,12 @@ use crate::frame::{Frame, FrameError};
 use crate::text::PlSmallStr;
 use crate::value::Value;
 use std::alloc::Global;
+use std::process::Abort;
 use std::test::Fail;
 
 #[test]
 fn values_fit_types(rt: HostRuntime) -> Result<(), Fail> {
-    for (value, int8, boolean) in [
+    for (value, int8, boolean) in &[
         (Value::Null, true, true),
         (Value::Boolean(true), false, true),
         (Value::Int(127), true, false),
@@ -17,22 +18,32 @@ fn values_fit_types(rt: HostRuntime) -> Result<(), Fail> {
         (Value::Int(-128), true, false),
         (Value::Int(-129), false, false),
     ] {
-        assert_eq!(rt; value.fits(&DataType::Int8), int8);
-        assert_eq!(rt; value.fits(&DataType::Boolean), boolean);
+        assert_eq!(rt; value.fits(&DataType::Int8), *int8);
+        assert_eq!(rt; value.fits(&DataType::Boolean), *boolean);
         let copy = value.try_clone(rt.alloc())?;
-        assert!(rt; copy == value);
+        assert!(rt; copy == *value);
     }
+    Ok(())
+}
+
+fn text_value(alloc: Global) -> Result<Value, Fail> {
+    let text = PlSmallStr::new(alloc, "5")?;
+    Ok(Value::Text(text))
+}
+
+#[test]
+fn texts_are_copied(rt: HostRuntime) -> Result<(), Fail> {
+    let value = text_value(rt.alloc())?;
+    let copy = value.try_clone(rt.alloc())?;
+    assert!(rt; copy == value);
+    assert!(rt; copy != Value::Int(5));
     Ok(())
 }
 
 #[test]
 fn texts_fit_their_own_type(rt: HostRuntime) -> Result<(), Fail> {
-    let text = PlSmallStr::new(rt.alloc(), "5")?;
-    let value = Value::Text(text);
-    let copy = value.try_clone(rt.alloc())?;
-    assert!(rt; copy == value);
-    assert!(rt; copy != Value::Int(5));
-    for (dtype, fits) in [
+    let value = text_value(rt.alloc())?;
+    for (dtype, fits) in &[
         (DataType::String, true),
         (DataType::Null, false),
         (DataType::Boolean, false),
@@ -40,8 +51,8 @@ fn texts_fit_their_own_type(rt: HostRuntime) -> Result<(), Fail> {
         (DataType::Date, false),
         (DataType::Datetime(TimeUnit::Nanoseconds), false),
     ] {
-        assert_eq!(rt; copy.fits(&dtype), fits);
-        assert!(rt; Value::Null.fits(&dtype));
+        assert_eq!(rt; value.fits(dtype), *fits);
+        assert!(rt; Value::Null.fits(dtype));
     }
     Ok(())
 }
@@ -56,13 +67,15 @@ fn numbers_fit_times_in_their_range(rt: HostRuntime) -> Result<(), Fail> {
         (86_400_000_000_000, false, false, true),
         (9_223_372_036_854_775_808, false, false, false),
     ] {
-        let value = Value::Int(number);
-        assert_eq!(rt; value.fits(&DataType::Date), date);
-        assert_eq!(rt; value.fits(&DataType::Time), time);
-        let moments = DataType::Datetime(TimeUnit::Milliseconds);
-        assert_eq!(rt; value.fits(&moments), moment);
-        assert!(rt; !value.fits(&DataType::Null));
-        assert!(rt; !value.fits(&DataType::String));
+        for (dtype, fits) in &[
+            (DataType::Date, date),
+            (DataType::Time, time),
+            (DataType::Datetime(TimeUnit::Milliseconds), moment),
+            (DataType::Null, false),
+            (DataType::String, false),
+        ] {
+            assert_eq!(rt; Value::Int(number).fits(dtype), *fits);
+        }
     }
     Ok(())
 }
@@ -93,16 +106,37 @@ fn three(alloc: Global, days: Value) -> Result<Vec<Column>, Fail> {
     Ok(columns)
 }
 
+// The column of that number has the name, the type and the first value.
+fn assert_column(
+    rt: &impl Abort,
+    frame: &Frame,
+    number: usize,
+    name: &str,
+    dtype: &DataType,
+    first: &Value,
+) {
+    assert!(rt; number < frame.width());
+    let column = frame.column(number);
+    assert_eq!(rt; column.name.as_str(), name);
+    assert!(rt; column.dtype == *dtype);
+    assert!(rt; column.values.items.first() == Some(first));
+}
+
+// The frame of a copy of these columns.
+fn copied(alloc: Global, columns: Vec<Column>) -> Result<Frame, Fail> {
+    let frame = Frame::new(alloc, columns)?;
+    let copy = frame.try_clone(alloc)?;
+    Ok(copy)
+}
+
 #[test]
 fn texts_days_and_null_make_a_frame(rt: HostRuntime) -> Result<(), Fail> {
     let columns = three(rt.alloc(), Value::Int(-2_147_483_648))?;
-    let frame = Frame::new(rt.alloc(), columns)?;
-    let copy = frame.try_clone(rt.alloc())?;
+    let copy = copied(rt.alloc(), columns)?;
     assert_eq!(rt; copy.height(), 2);
-    assert!(rt; copy.width() == 3);
-    let column = copy.column(1);
-    assert!(rt; column.dtype == DataType::Date);
-    assert!(rt; column.values.items.first() == Some(&Value::Int(-2_147_483_648)));
+    assert_eq!(rt; copy.width(), 3);
+    let first = Value::Int(-2_147_483_648);
+    assert_column(&rt, &copy, 1, "d", &DataType::Date, &first);
     Ok(())
 }
 
@@ -165,14 +199,10 @@ fn columns_make_a_frame(rt: HostRuntime) -> Result<(), Fail> {
 #[test]
 fn a_copy_has_the_same_columns(rt: HostRuntime) -> Result<(), Fail> {
     let columns = both(rt.alloc(), "a", 2, "b", 2)?;
-    let frame = Frame::new(rt.alloc(), columns)?;
-    let copy = frame.try_clone(rt.alloc())?;
+    let copy = copied(rt.alloc(), columns)?;
     assert_eq!(rt; copy.height(), 2);
-    assert!(rt; copy.width() == 2);
-    let column = copy.column(1);
-    assert_eq!(rt; column.name.as_str(), "b");
-    assert!(rt; column.dtype == DataType::Int8);
-    assert!(rt; column.values.items.first() == Some(&Value::Int(0)));
+    assert_eq!(rt; copy.width(), 2);
+    assert_column(&rt, &copy, 1, "b", &DataType::Int8, &Value::Int(0));
     Ok(())
 }
 

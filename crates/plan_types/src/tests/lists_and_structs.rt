@@ -84,14 +84,26 @@ fn types_are_imploded(rt: HostRuntime) -> Result<(), Fail> {
     Ok(())
 }
 
+// The type beside that of lists of the item's type has that common type.
+fn assert_beside(
+    rt: &impl Abort,
+    alloc: Global,
+    left: &DataType,
+    item: DataType,
+    want: &Option<DataType>,
+) -> Result<(), PlanError> {
+    let right = item.implode(alloc)?;
+    let found = get_supertype(alloc, left, &right)?;
+    assert!(rt; found == *want);
+    Ok(())
+}
+
 #[test]
 fn lists_have_common_types(rt: HostRuntime) -> Result<(), Fail> {
     let left = Int8.implode(rt.alloc())?;
     for (item, want) in [(Null, Some(Int8)), (UInt8, Some(Int16)), (UInt64, None)] {
-        let right = item.implode(rt.alloc())?;
         let want = list_of(rt.alloc(), want)?;
-        let found = get_supertype(rt.alloc(), &left, &right)?;
-        assert!(rt; found == want);
+        assert_beside(&rt, rt.alloc(), &left, item, &want)?;
     }
     Ok(())
 }
@@ -111,9 +123,15 @@ fn copies_of_nested_values_are_equal(rt: HostRuntime) -> Result<(), Fail> {
     let copy = nested.try_clone(rt.alloc())?;
     assert!(rt; copy == nested);
     assert_eq!(rt; hash_of(&copy), hash_of(&nested));
+    Ok(())
+}
+
+#[test]
+fn other_nested_values_differ(rt: HostRuntime) -> Result<(), Fail> {
+    let nested = nested_value(rt.alloc(), Value::Int(5))?;
     for value in [Value::Null, Value::Int(6)] {
         let other = nested_value(rt.alloc(), value)?;
-        assert!(rt; copy != other);
+        assert!(rt; nested != other);
     }
     Ok(())
 }

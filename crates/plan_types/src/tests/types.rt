@@ -7,6 +7,7 @@ use crate::dtype::DataType::{
 };
 use crate::dtype::TimeUnit::{Microseconds as Us, Milliseconds as Ms, Nanoseconds as Ns};
 use crate::dtype::{CastOptions, DataType, UnknownKind, get_time_units};
+use std::process::Abort;
 use std::test::Fail;
 
 // Each type, and those of two numbers without one.
@@ -50,17 +51,31 @@ fn each_type_is_equal_to_itself_alone(rt: HostRuntime) -> Result<(), Fail> {
 
 #[test]
 fn copies_are_equal_and_hashed_alike(rt: HostRuntime) -> Result<(), Fail> {
-    for dtype in all_types() {
+    for dtype in &all_types() {
         let copy = dtype.try_clone(rt.alloc())?;
-        assert!(rt; copy == dtype);
-        assert_eq!(rt; hash_of(&copy), hash_of(&dtype));
+        assert!(rt; copy == *dtype);
+        assert_eq!(rt; hash_of(&copy), hash_of(dtype));
     }
     Ok(())
 }
 
+fn assert_integer(rt: &impl Abort, dtype: &DataType, signed: bool, width: u32) {
+    assert!(rt; dtype.is_integer());
+    assert_eq!(rt; dtype.is_signed_integer(), signed);
+    assert_eq!(rt; dtype.is_unsigned_integer(), !signed);
+    assert_eq!(rt; dtype.width(), width);
+}
+
+fn assert_bare(rt: &impl Abort, dtype: &DataType) {
+    assert!(rt; !dtype.is_temporal());
+    assert!(rt; dtype.is_ord());
+    assert!(rt; dtype.is_known());
+    assert_eq!(rt; dtype.untyped_number(), None);
+}
+
 #[test]
 fn integers_tell_sign_and_width(rt: HostRuntime) -> Result<(), Fail> {
-    for (dtype, signed, width) in [
+    for (dtype, signed, width) in &[
         (Int8, true, 8),
         (Int16, true, 16),
         (Int32, true, 32),
@@ -70,21 +85,22 @@ fn integers_tell_sign_and_width(rt: HostRuntime) -> Result<(), Fail> {
         (UInt32, false, 32),
         (UInt64, false, 64),
     ] {
-        assert!(rt; dtype.is_integer());
-        assert_eq!(rt; dtype.is_signed_integer(), signed);
-        assert_eq!(rt; dtype.is_unsigned_integer(), !signed);
-        assert_eq!(rt; dtype.width(), width);
-        assert!(rt; !dtype.is_temporal());
-        assert!(rt; dtype.is_ord());
-        assert!(rt; dtype.is_known());
-        assert_eq!(rt; dtype.untyped_number(), None);
+        assert_integer(&rt, dtype, *signed, *width);
+        assert_bare(&rt, dtype);
     }
     Ok(())
 }
 
+fn assert_no_integer(rt: &impl Abort, dtype: &DataType) {
+    assert!(rt; !dtype.is_integer());
+    assert!(rt; !dtype.is_signed_integer());
+    assert!(rt; !dtype.is_unsigned_integer());
+    assert_eq!(rt; dtype.width(), 0);
+}
+
 #[test]
 fn other_types_are_no_integers(rt: HostRuntime) -> Result<(), Fail> {
-    for (dtype, temporal, ord, known) in [
+    for (dtype, temporal, ord, known) in &[
         (Null, false, false, true),
         (Boolean, false, true, true),
         (DataType::String, false, true, true),
@@ -95,13 +111,10 @@ fn other_types_are_no_integers(rt: HostRuntime) -> Result<(), Fail> {
         (Duration(Us), true, true, true),
         (Unknown(UnknownKind::Int(1)), false, false, false),
     ] {
-        assert!(rt; !dtype.is_integer());
-        assert!(rt; !dtype.is_signed_integer());
-        assert!(rt; !dtype.is_unsigned_integer());
-        assert_eq!(rt; dtype.width(), 0);
-        assert_eq!(rt; dtype.is_temporal(), temporal);
-        assert_eq!(rt; dtype.is_ord(), ord);
-        assert_eq!(rt; dtype.is_known(), known);
+        assert_no_integer(&rt, dtype);
+        assert_eq!(rt; dtype.is_temporal(), *temporal);
+        assert_eq!(rt; dtype.is_ord(), *ord);
+        assert_eq!(rt; dtype.is_known(), *known);
     }
     Ok(())
 }
@@ -110,7 +123,7 @@ fn other_types_are_no_integers(rt: HostRuntime) -> Result<(), Fail> {
 fn types_have_the_times_of_their_range(rt: HostRuntime) -> Result<(), Fail> {
     let (below, least) = (-9_223_372_036_854_775_809, -9_223_372_036_854_775_808);
     let (greatest, past) = (9_223_372_036_854_775_807, 9_223_372_036_854_775_808);
-    for (dtype, below, least, greatest, past) in [
+    for (dtype, below, least, greatest, past) in &[
         (
             Date,
             -2_147_483_649,
@@ -124,10 +137,10 @@ fn types_have_the_times_of_their_range(rt: HostRuntime) -> Result<(), Fail> {
         (Duration(Us), below, least, greatest, past),
     ] {
         for (number, has) in [
-            (below, false),
-            (least, true),
-            (greatest, true),
-            (past, false),
+            (*below, false),
+            (*least, true),
+            (*greatest, true),
+            (*past, false),
         ] {
             assert_eq!(rt; dtype.has_number(number), has);
         }
@@ -137,7 +150,7 @@ fn types_have_the_times_of_their_range(rt: HostRuntime) -> Result<(), Fail> {
 
 #[test]
 fn other_types_have_no_numbers(rt: HostRuntime) -> Result<(), Fail> {
-    for dtype in [Null, Boolean, DataType::String] {
+    for dtype in &[Null, Boolean, DataType::String] {
         for number in [-1, 0, 1] {
             assert!(rt; !dtype.has_number(number));
         }
