@@ -159,3 +159,18 @@ fn rules_broken_under_and_over_a_filter_are_told_with_their_place(
     }
     Ok(())
 }
+
+#[test]
+fn a_number_is_not_compared_to_a_text(rt: HostRuntime) -> Result<(), Fail> {
+    let seen = lower(
+        rt.alloc(),
+        "{\"tables\":[{\"name\":\"t\",\"columns\":[[\"a\",\"Int32\"]]}],\"plan\":{\"filter\":[{\"scan\":\"t\"},{\"bin\":[\"Eq\",{\"col\":\"a\"},{\"lit\":\"x\"}]}]}}",
+    )?;
+    assert_eq!(rt;
+        seen.written.as_slice(),
+        b"refused InvalidOperation .\n".as_slice()
+    );
+    assert_eq!(rt; seen.number, 1);
+    assert!(rt; !seen.has_plan);
+    Ok(())
+}
