@@ -4,7 +4,7 @@ use Rattle.std.specs.Prelude.{ℤ}
 use Rattle.plan_types.specs.Types.{Ty, NullType, Truth, Integer, TextType, DateType, TimeType, DatetimeType, DurationType, ListType, StructType, Untyped, Fields, no_field, with_field, are_known, is_known, per_day}
 use Rattle.plan_types.specs.Values.{Val, NullValue, TruthValue, IntValue, TextValue, ListValue, StructValue, Vals, no_value, with_value, in_range, fits, items_fit, parts_fit}
 use Rattle.plan_types.specs.declared.dtype.CastOptions.{CastOptions}
-use Rattle.plan_types.specs.declared.dtype.CastOptions.TheVariants.{NonStrict}
+use Rattle.plan_types.specs.declared.dtype.CastOptions.TheVariants.{Strict, NonStrict, Overflowing}
 use Rattle.plan_types.specs.declared.dtype.TimeUnit.{TimeUnit}
 use Rattle.plan_types.specs.Supertypes.{in_front, super_fields, supertype, signed_above}
 use Rattle.std.specs.Str.{bytes_eq}
