@@ -2,7 +2,7 @@
 
 ghost use Rattle.std.specs.Prelude.{◌≡◌, [], ◌∷◌, map, pos, neg_ℤ, codes, nat_eq, true, false};
 ghost use Rattle.std.specs.Hash.{le_bytes};
-ghost use Rattle.plan_types.specs.Types.{Truth, Integer, Untyped};
+ghost use Rattle.plan_types.specs.Types.{Truth, Integer, ListType, Untyped};
 ghost use Rattle.plan_types.specs.Values.{NullValue, TruthValue, IntValue, ListValue, no_value};
 ghost use Rattle.plan_types.specs.declared.dtype.CastOptions.TheVariants.{Strict, NonStrict, Overflowing};
 ghost use Rattle.plan_types.specs.declared.dtype.TimeUnit.TheVariants.{Nanoseconds, Microseconds};
@@ -67,4 +67,6 @@ pub fn hashes_of_expressions()
         ≡ (3 ∷ []) ∷ le_bytes 4 8 ∷ (1 ∷ []) ∷ (0 ∷ []) ∷ (97 ∷ []) ∷ (255 ∷ []) ∷ [] }
     ensures truth { tree_writes op_writes (node (LiteralOp Truth (TruthValue true)) no_more) ≡ (1 ∷ []) ∷ le_bytes 4 1 ∷ (1 ∷ []) ∷ [] }
     ensures list { op_writes (LiteralOp Truth (ListValue no_value)) ≡ (1 ∷ []) ∷ le_bytes 4 1 ∷ [] }
+    ensures cast_to_list { op_writes (CastOp (ListType (Integer true 8)) Strict) ≡ (3 ∷ []) ∷ le_bytes 4 13 ∷ le_bytes 4 8 ∷ (0 ∷ []) ∷ [] }
+    ensures untyped { op_writes (LiteralOp (Untyped (pos 5)) (IntValue (pos 5))) ≡ (1 ∷ []) ∷ le_bytes 4 12 ∷ le_bytes 16 5 ∷ le_bytes 16 5 ∷ [] }
 {}

@@ -52,7 +52,7 @@ fn value_of(alloc: Global, number: usize) -> Result<Value, PlanError> {
 fn assert_same(rt: &impl Abort, left: &Value, right: &Value, same: bool) {
     assert_eq!(rt; left == right, same);
     assert_eq!(rt; left.is_same(right), same);
-    assert!(rt; !same || hash_of(left) == hash_of(right));
+    assert_eq!(rt; hash_of(left) == hash_of(right), same);
 }
 
 #[test]
