@@ -10,22 +10,27 @@ ghost use Rattle.plan_types.specs.declared.error.ErrorKind.TheVariants.{ColumnNo
 ghost use Rattle.plan_types.specs.declared.schema.Schema.{Schema};
 ghost use Rattle.plan_dsl.specs.declared.expr.Expr.TheVariants.{Column};
 ghost use Rattle.plan_dsl.specs.declared.operator.Operator.TheVariants.{Minus};
-ghost use Rattle.plan_dsl.specs.declared.plan.DslPlan.TheVariants.{DataFrameScan, Filter'};
+ghost use Rattle.plan_dsl.specs.declared.plan.DslPlan.TheVariants.{DataFrameScan, Filter', Select'};
+ghost use Rattle.plan_dsl.specs.declared.plan.Exprs.{Exprs};
+ghost use Rattle.plan_dsl.specs.declared.plan.ProjectionOptions.{ProjectionOptions};
 ghost use Rattle.plan_dsl.specs.Trees.{node, no_more, more};
 ghost use Rattle.plan_dsl.specs.Ops.{ColumnOp, LiteralOp, BinaryOp};
 ghost use Rattle.plan_dsl.specs.Typing.{Typed, own_kind};
 ghost use Rattle.plan_dsl.specs.Laws.{operator_node};
-ghost use Rattle.plan_dsl.specs.Plans.{ScanKind, SelectKind, FilterKind, named, scan_op, select_op, filter_op, plan_tree};
+ghost use Rattle.plan_dsl.specs.Plans.{ScanKind, SelectKind, FilterKind, named, scan_op, select_op, filter_op, plan_tree, options_in};
 ghost use Rattle.plan_dsl.specs.PlanRules.{Signature, select_kinds, scan_kinds, predicate_kinds, filter_kinds, columns_of, as_schema, under_one, schema_by, top_kinds};
 ghost use Rattle.plan_dsl.specs.PlanKernels.{Evaluated, Series, series_on, shared_length, in_front, rows_of, rows_where_true, kept_rows};
 
-/// A plan's tree has the parts of the plan, and a node's expressions are under their own names.
+/// A plan's tree has the parts of the plan, and a node's expressions are under their own names. Its selects keep their options beside it.
 pub fn trees_of_plans()
     ensures scan { (schema : Schema) → plan_tree (DataFrameScan (Some 3) schema) ≡ node (scan_op (Some 3) (columns schema)) no_more }
     ensures empty { (schema : Schema) → plan_tree (DataFrameScan None schema) ≡ node (scan_op None (columns schema)) no_more }
     ensures filter { (p : _) (schema : Schema) → plan_tree (Filter' p (DataFrameScan (Some 0) schema) (Column (codes "keep")))
         ≡ node (filter_op (record { name = codes "keep"; expression = node (ColumnOp (codes "keep")) no_more })) (more (node (scan_op (Some 0) (columns schema)) no_more) no_more) }
     ensures null { named (node (LiteralOp NullType NullValue) no_more) ≡ record { name = codes "literal"; expression = node (LiteralOp NullType NullValue) no_more } }
+    ensures options { (p q r : _) (expr inner : Exprs) (schema : Schema) → let checked : ProjectionOptions = record { duplicate_check = true } in
+        let unchecked : ProjectionOptions = record { duplicate_check = false } in
+        options_in (Select' expr p (Filter' q (Select' inner r (DataFrameScan None schema) checked) (Column (codes "keep"))) unchecked) ≡ unchecked ∷ checked ∷ [] }
     ensures operator { let a = node (ColumnOp (codes "a")) no_more in
         let b = node (ColumnOp (codes "b")) no_more in
         operator_node Minus a b ≡ node (BinaryOp Minus) (more a (more b no_more)) }
