@@ -200,3 +200,20 @@ mutual
             )
         | false ↦ λ h. cc
       ] h
+
+-- what is cast has a type of columns
+mutual
+  pub source_known : (from target : Ty) → can_cast from target ≡ true → is_known from ≡ true
+  source_known (ListType item) (ListType other) h = source_known item other h
+  source_known (StructType fields) (StructType others) h = sources_known fields others h
+  source_known (ListType item) _ h = cc
+  source_known (StructType fields) _ h = cc
+  source_known (Untyped number) _ h = cc
+  source_known _ _ h = refl
+
+  sources_known : (fields others : Fields) → can_cast_fields fields others ≡ true → are_known fields ≡ true
+  sources_known no_field _ h = refl
+  sources_known (with_field name type rest) no_field h = cc
+  sources_known (with_field name type rest) (with_field other found others) h =
+      let parts = and_parts (can_cast type found) (can_cast_fields rest others) h in
+      and_from (is_known type) (are_known rest) (source_known type found parts.0) (sources_known rest others parts.1)

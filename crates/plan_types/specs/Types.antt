@@ -1,7 +1,7 @@
 -- Types of columns.
 -- An integer type is known by its sign and its number of bits. Moments (Datetime) and spans (Duration) are counted in
 -- a unit. A whole number that is written without a type has one for itself, which no column has.
-use Rattle.std.specs.Prelude.{ℕ, ℤ, Bool, true, false, ◌&&◌, ◌==◌, ◌+◌, nat_lt, List, [], ◌∷◌, map, if◌then◌else◌}
+use Rattle.std.specs.Prelude.{ℕ, ℤ, Bool, true, false, ◌&&◌, ◌||◌, ◌==◌, ◌+◌, nat_lt, List, [], ◌∷◌, map, if◌then◌else◌}
 use Rattle.std.specs.Ordering.{int_eq}
 use Rattle.std.specs.Str.{bytes_eq}
 use Rattle.plan_types.specs.declared.dtype.TimeUnit.{TimeUnit}
@@ -117,6 +117,10 @@ is_temporal TimeType = true
 is_temporal (DatetimeType unit) = true
 is_temporal (DurationType unit) = true
 is_temporal type = false
+
+-- whether values of the type that aren't null are numbers: integers, or counts of time
+abbrev pub is_counted : Ty → Bool
+is_counted type = is_integer type || is_temporal type
 
 -- whether values of the type that aren't null are in an order
 abbrev pub is_ord : Ty → Bool

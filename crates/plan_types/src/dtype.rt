@@ -1,7 +1,7 @@
 //! Types of columns, and units of time.
 ghost use Rattle.std.specs.Prelude.{◌≡◌, ◌≢◌, ◌↔◌, ℤ, pos, false, true, IsTrue, MatchOption, IfOk, IfErr};
 ghost use Rattle.plan_types.specs.Errors.{no_memory};
-ghost use Rattle.plan_types.specs.Types.{DatetimeType, DurationType, ListType, Untyped, is_bare, fields_in, fields_of, are_known, same_fields, same_type, coarser, per_day, ty, is_integer, is_known, is_ord, is_signed_integer, is_temporal, is_unsigned_integer, type_code, unit_rank, width_of};
+ghost use Rattle.plan_types.specs.Types.{DatetimeType, DurationType, ListType, Untyped, is_bare, fields_in, fields_of, are_known, same_fields, same_type, coarser, per_day, ty, is_counted, is_integer, is_known, is_ord, is_signed_integer, is_temporal, is_unsigned_integer, type_code, unit_rank, width_of};
 ghost use Rattle.plan_types.specs.Values.{in_range};
 
 use crate::error::PlanError;
@@ -161,6 +161,13 @@ impl DataType {
             self,
             DataType::Date | DataType::Time | DataType::Datetime(_) | DataType::Duration(_)
         )
+    }
+
+    /// Whether values of the type that aren't null are numbers: it is a type of integers or of time.
+    pub fn is_counted(&self) -> bool
+        ensures { result ≡ is_counted (ty self.now) }
+    {
+        self.is_integer() || self.is_temporal()
     }
 
     /// Whether values of the type that aren't null are in an order: those of each type of columns are, but that of null,

@@ -2,7 +2,7 @@
 
 ghost use Rattle.std.specs.Prelude.{◌≡◌, [], ◌∷◌, pos, neg_ℤ, map, true, false};
 ghost use Rattle.std.specs.List.{list_all, list_any};
-ghost use Rattle.plan_types.specs.Types.{NullType, Truth, Integer, TextType, DateType, TimeType, DatetimeType, DurationType, Untyped, ty, is_known, is_null, is_truth, is_integer, is_signed_integer, is_unsigned_integer, is_text, is_temporal, is_ord, width_of, per_day, coarser, same_type};
+ghost use Rattle.plan_types.specs.Types.{NullType, Truth, Integer, TextType, DateType, TimeType, DatetimeType, DurationType, Untyped, ty, is_counted, is_known, is_null, is_truth, is_integer, is_signed_integer, is_unsigned_integer, is_text, is_temporal, is_ord, width_of, per_day, coarser, same_type};
 ghost use Rattle.plan_types.specs.declared.dtype.TimeUnit.{TimeUnit};
 ghost use Rattle.plan_types.specs.declared.dtype.TimeUnit.TheVariants.{Nanoseconds, Microseconds, Milliseconds};
 ghost use Rattle.plan_types.specs.declared.dtype.UnknownKind.TheVariants.{Int};
@@ -49,6 +49,8 @@ pub fn classes_of_types()
     ensures no_text { (unit : TimeUnit) → list_any is_text (map ty (Null ∷ Boolean ∷ Int8 ∷ Int16 ∷ Int32 ∷ Int64 ∷ UInt8 ∷ UInt16 ∷ UInt32 ∷ UInt64 ∷ Date ∷ Time ∷ Datetime unit ∷ Duration unit ∷ Unknown (Int (pos 1)) ∷ [])) ≡ false }
     ensures temporal { (unit : TimeUnit) → list_all is_temporal (map ty (Date ∷ Time ∷ Datetime unit ∷ Duration unit ∷ [])) ≡ true }
     ensures no_temporal { list_any is_temporal (map ty (Null ∷ Boolean ∷ Int8 ∷ Int16 ∷ Int32 ∷ Int64 ∷ UInt8 ∷ UInt16 ∷ UInt32 ∷ UInt64 ∷ String ∷ Unknown (Int (pos 1)) ∷ [])) ≡ false }
+    ensures counted { (unit : TimeUnit) → list_all is_counted (map ty (Int8 ∷ Int16 ∷ Int32 ∷ Int64 ∷ UInt8 ∷ UInt16 ∷ UInt32 ∷ UInt64 ∷ Date ∷ Time ∷ Datetime unit ∷ Duration unit ∷ [])) ≡ true }
+    ensures not_counted { list_any is_counted (map ty (Null ∷ Boolean ∷ String ∷ Unknown (Int (pos 1)) ∷ [])) ≡ false }
     ensures ord { (unit : TimeUnit) → list_all is_ord (map ty (Boolean ∷ Int8 ∷ Int16 ∷ Int32 ∷ Int64 ∷ UInt8 ∷ UInt16 ∷ UInt32 ∷ UInt64 ∷ String ∷ Date ∷ Time ∷ Datetime unit ∷ Duration unit ∷ [])) ≡ true }
     ensures no_ord { list_any is_ord (map ty (Null ∷ Unknown (Int (pos 1)) ∷ [])) ≡ false }
     ensures known { (unit : TimeUnit) → list_all is_known (map ty (Null ∷ Boolean ∷ Int8 ∷ Int16 ∷ Int32 ∷ Int64 ∷ UInt8 ∷ UInt16 ∷ UInt32 ∷ UInt64 ∷ String ∷ Date ∷ Time ∷ Datetime unit ∷ Duration unit ∷ [])) ≡ true }
