@@ -18,6 +18,8 @@ use Rattle.plan_types.specs.declared.dtype.TimeUnit.TheVariants.{Nanoseconds, Mi
 use Rattle.plan_dsl.specs.Ops.{Op, ColumnOp, LiteralOp, BinaryOp, CastOp, Expression}
 use Rattle.plan_dsl.specs.Plans.{Plan, named, scan_op, select_op, filter_op, plan_tree}
 use Rattle.plan_dsl.specs.Trees.{node, no_more, more}
+use Rattle.plan_dsl.specs.declared.plan.DslPlan.{DslPlan}
+use Rattle.plan_dsl.specs.declared.plan.DslPlan.TheVariants.{DataFrameScan, Filter', Select'}
 use Rattle.plan_dsl.specs.declared.operator.Operator.{Operator}
 use Rattle.plan_dsl.specs.declared.operator.Operator.TheVariants.{Eq, EqValidity, NotEq, NotEqValidity, Lt, LtEq, Gt, GtEq, Plus, Minus, Multiply, Divide, FloorDivide, Modulus, And, Or, Xor, LogicalAnd, LogicalOr}
 use Rattle.plan_json.specs.Looking.{both, whole_number, two_members, two_items, all_of, some_of}
@@ -328,6 +330,12 @@ query_from parts =
 -- `{"tables": tables, "plan": plan}`
 abbrev pub query_of : Data → Option QueryModel
 query_of d = option_and_then query_from (two_members (codes "tables") (codes "plan") d)
+
+-- whether some select of the plan has its option set, which no query can write
+abbrev pub has_flags : DslPlan → Bool
+has_flags (DataFrameScan table schema) = false
+has_flags (Select' expr p input options) = options.duplicate_check || has_flags input
+has_flags (Filter' p input predicate) = has_flags input
 
 -- the value is the query
 abbrev pub IsQueryOf : Data → QueryModel → Type 0
