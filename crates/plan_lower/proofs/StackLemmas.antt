@@ -1,5 +1,5 @@
 -- Coercion over a work stack: what is reached is strict, but for what waits.
-use Rattle.std.proofs.Common.{◌≡◌, ◌≢◌, ◌⊎◌, ℕ, ◌<◌, ◌≤◌, List, [], ◌∷◌, ◌++◌, length, map, Option, Some, Ok, slice_get, refl, sym, ap, ◌∙◌, subst, arith, true, false, inl, inr, ⊎_elim, append_assoc}
+use Rattle.std.proofs.Common.{◌≡◌, ◌≢◌, ◌⊎◌, ℕ, ◌<◌, ◌≤◌, List, [], ◌∷◌, ◌++◌, length, map, Option, Some, Result, Ok, Err, OnErr, slice_get, refl, sym, ap, ◌∙◌, subst, arith, true, false, inl, inr, ⊎_elim, append_assoc}
 use Rattle.std.specs.List.{AllByRecursion}
 use Rattle.std.proofs.lemmas.List.{map-append}
 use Rattle.std.proofs.lemmas.Bool.{false≢true}
@@ -17,11 +17,11 @@ use Rattle.plan_arena.specs.declared.arena.Node.{Node}
 use Rattle.plan_arena.specs.declared.aexpr.AExpr.{AExpr}
 use Rattle.plan_arena.specs.Denotation.{Denotes, DenoteAll}
 use Rattle.plan_arena.specs.Layers.{layer, inputs_of, shape_of}
-use Rattle.plan_arena.specs.Items.{HoldsExpression, HoldsFrom, expression_layer}
+use Rattle.plan_arena.specs.Items.{Grows, HoldsExpression, HoldsFrom, expression_layer}
 use Rattle.plan_arena.proofs.DenotationLemmas.{denotes_one, replaced, same_or_other}
-use Rattle.plan_arena.proofs.ItemLemmas.{from_laws, expression_got}
+use Rattle.plan_arena.proofs.ItemLemmas.{from_laws, expression_got, grown_held, tree_grown}
 use Rattle.plan_lower.specs.Typed.{HasKnownType}
-use Rattle.plan_lower.specs.Coercion.{DenotesKnown, DenotesSame, KeepsBelow, Visits, IsCoerced, numbers}
+use Rattle.plan_lower.specs.Coercion.{DenotesKnown, DenotesSame, KeepsBelow, StaysSame, Visits, IsCoerced, numbers}
 
 layer_inputs_of : (o : Option _) (op : Op) (inputs : List ℕ) (item : AExpr) → o ≡ Some (expression_layer item) → o ≡ Some (layer op inputs) → inputs ≡ inputs_of (expression_layer item)
 layer_inputs_of o op inputs item p q = let e : layer op inputs ≡ expression_layer item = cc in ap inputs_of e
@@ -214,20 +214,49 @@ pending_start registry schema first items roots all = record {
 held_from : (first : ℕ) (items : List AExpr) (n : ℕ) (t : Expression) → Denotes (HoldsFrom first items) n t → first ≤ n
 held_from first items n (node op ts) d = d.1.0
 
-pub pending_step : (registry : Registry) (schema : Columns) (first : ℕ) (old items items' : List AExpr) (at : ℕ) (rest stack roots : List ℕ) → Pending registry schema first old items (rest ++ at ∷ []) roots → ((n : ℕ) (op : Op) (inputs : List ℕ) → n ≢ at → HoldsExpression items n op inputs → HoldsExpression items' n op inputs) → ((t : Expression) → Denotes (HoldsFrom first items) at t → HasKnownType (typing registry schema t) → Visits registry schema first items' at t) → ((op : Op) (inputs : List ℕ) → HoldsExpression items' at op inputs → stack ≡ rest ++ inputs) → Pending registry schema first old items' stack roots
-pending_step registry schema first old items items' at rest stack roots p elsewhere visit pushed =
+-- what holds anyhow holds of a refusal
+pub on_refusal : {T E P : Type 0} (r : Result T E) → P → OnErr r P
+on_refusal (Ok x) p = tt
+on_refusal (Err e) p = p
+
+-- what stays by the work so far
+pub stays_now : (registry : Registry) (schema : Columns) (first : ℕ) (old new : List AExpr) (stack roots : List ℕ) → Pending registry schema first old new stack roots → StaysSame registry schema first old new
+stays_now registry schema first old new stack roots p = record { below = p.below; trees = p.trees }
+
+-- and where the arena has only grown since
+pub stays_grown : (registry : Registry) (schema : Columns) (first : ℕ) (old items items' : List AExpr) (stack roots : List ℕ) → Pending registry schema first old items stack roots → Grows items items' → StaysSame registry schema first old items'
+stays_grown registry schema first old items items' stack roots p g = record {
+  below = λ n op inputs lower h. grown_held items items' g n op inputs (p.below n op inputs lower h);
+  trees = λ n t d.
+      let one = p.trees n t d in
+      record { tree = one.tree; denotes = tree_grown first first items items' (omega arith) g n one.tree one.denotes; same = one.same };
+}
+
+-- and where the last node was visited since
+pub stays_visited : (registry : Registry) (schema : Columns) (first : ℕ) (old items items' : List AExpr) (at : ℕ) (rest roots : List ℕ) → Pending registry schema first old items (rest ++ at ∷ []) roots → ((n : ℕ) (op : Op) (inputs : List ℕ) → n ≢ at → HoldsExpression items n op inputs → HoldsExpression items' n op inputs) → ((t : Expression) → Denotes (HoldsFrom first items) at t → HasKnownType (typing registry schema t) → Visits registry schema first items' at t) → StaysSame registry schema first old items'
+stays_visited registry schema first old items items' at rest roots p elsewhere visit =
     let here = all_last (DenotesKnown registry schema first items) rest at p.waiting in
     let v = visit here.tree here.denotes here.has in
-    let grown = pushed v.op v.inputs v.held.1 in
     let from = held_from first items at here.tree here.denotes in
-    let rest_typed = all_weaker (DenotesKnown registry schema first items) (DenotesKnown registry schema first items') (typed_step registry schema first items items' at rest here.tree here.denotes v elsewhere) rest (all_front (DenotesKnown registry schema first items) rest (at ∷ []) p.waiting) in
-    let inputs_typed = children_typed registry schema first items' v.inputs v.children v.strict.typed v.denotes v.strict.types (operands_known schema v.op (types_of v.strict.typed) v.strict.strict) in
     record {
       below = λ n op inputs lower h. elsewhere n op inputs (λ e. lower (omega (arith, from, e))) (p.below n op inputs lower h);
       trees = λ n t d.
           let one = p.trees n t d in
           let two = becomes registry schema first items items' at rest here.tree here.denotes v elsewhere n one.tree one.denotes in
           record { tree = two.0; denotes = two.1; same = same_then registry schema t one.tree two.0 one.same two.2 };
+    }
+
+pub pending_step : (registry : Registry) (schema : Columns) (first : ℕ) (old items items' : List AExpr) (at : ℕ) (rest stack roots : List ℕ) → Pending registry schema first old items (rest ++ at ∷ []) roots → ((n : ℕ) (op : Op) (inputs : List ℕ) → n ≢ at → HoldsExpression items n op inputs → HoldsExpression items' n op inputs) → ((t : Expression) → Denotes (HoldsFrom first items) at t → HasKnownType (typing registry schema t) → Visits registry schema first items' at t) → ((op : Op) (inputs : List ℕ) → HoldsExpression items' at op inputs → stack ≡ rest ++ inputs) → Pending registry schema first old items' stack roots
+pending_step registry schema first old items items' at rest stack roots p elsewhere visit pushed =
+    let here = all_last (DenotesKnown registry schema first items) rest at p.waiting in
+    let v = visit here.tree here.denotes here.has in
+    let grown = pushed v.op v.inputs v.held.1 in
+    let stays = stays_visited registry schema first old items items' at rest roots p elsewhere visit in
+    let rest_typed = all_weaker (DenotesKnown registry schema first items) (DenotesKnown registry schema first items') (typed_step registry schema first items items' at rest here.tree here.denotes v elsewhere) rest (all_front (DenotesKnown registry schema first items) rest (at ∷ []) p.waiting) in
+    let inputs_typed = children_typed registry schema first items' v.inputs v.children v.strict.typed v.denotes v.strict.types (operands_known schema v.op (types_of v.strict.typed) v.strict.strict) in
+    record {
+      below = stays.below;
+      trees = stays.trees;
       waiting = subst (AllByRecursion (DenotesKnown registry schema first items')) (sym grown) (all_joined (DenotesKnown registry schema first items') rest v.inputs rest_typed inputs_typed);
       settled = subst (λ s. AllByRecursion (λ n. (t : Expression) × SettledBut registry schema first items' s n t) roots) (sym grown) (roots_step registry schema first items items' at rest here.tree here.denotes v elsewhere roots p.settled);
     }

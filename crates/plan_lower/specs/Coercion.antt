@@ -97,6 +97,11 @@ pub record ChangesOperands (registry : Registry) (schema : Columns) (items : Lis
 abbrev pub numbers : List Node → List ℕ
 numbers nodes = map (λ n. n.0) nodes
 
+-- What stays as roots are coerced: items below the number, and each tree becomes one that says the same.
+pub record StaysSame (registry : Registry) (schema : Columns) (first : ℕ) (old new : List AExpr) : Type 0 where
+  pub below : KeepsBelow first old new
+  pub trees : (n : ℕ) (t : Expression) → Denotes (HoldsFrom first old) n t → DenotesSame registry schema first new n t
+
 -- What coercion of these roots leaves: items below the number stay, each tree becomes one that says the
 -- same, and each root's is strict.
 pub record IsCoerced (registry : Registry) (schema : Columns) (first : ℕ) (old new : List AExpr) (roots : List ℕ) : Type 0 where

@@ -9,6 +9,8 @@ mod texts;
 mod times;
 
 use crate::conversion::dsl_to_ir::PlanLowering;
+use parts::part_scan;
+use plan_arena::plan::IRPlan;
 use plan_dsl::expr::Expr;
 use plan_dsl::literal::LiteralValue;
 use plan_dsl::operator::Operator;
@@ -18,26 +20,74 @@ use plan_types::dtype::{CastOptions, DataType, TimeUnit, UnknownKind};
 use plan_types::error::PlanError;
 use plan_types::schema::Schema;
 use plan_types::text::PlSmallStr;
-use std::alloc::Global;
+use std::alloc::{AllocError, Global};
+use std::process::Abort;
 use std::test::Fail;
-use texts::{plan_text, refusal_text};
+use texts::{checks_names, plan_text, refusal_text};
+use times::time_scan;
 
-// The scan of table 7.
-fn scan(alloc: Global) -> Result<DslPlan, PlanError> {
-    let mut schema = Schema::new(alloc);
-    for (name, dtype) in [
-        ("a", DataType::Int8),
-        ("b", DataType::Int32),
-        ("c", DataType::Int64),
-        ("d", DataType::UInt64),
-        ("e", DataType::UInt8),
-        ("f", DataType::Boolean),
-    ] {
-        let name = PlSmallStr::new(alloc, name)?;
-        schema.with_column(name, dtype)?;
+// The forms of table 7 over which queries stand.
+#[derive(Clone, Copy)]
+enum Table {
+    Numbers,
+    Parts,
+    Times,
+}
+
+fn scan(alloc: Global, table: Table) -> Result<DslPlan, Fail> {
+    match table {
+        Table::Numbers => number_scan(alloc),
+        Table::Parts => part_scan(alloc),
+        Table::Times => time_scan(alloc),
     }
+}
+
+const NUMBERS: &str = "table (a Int8, b Int32, c Int64, d UInt64, e UInt8, f Boolean)";
+
+fn table_text(table: Table) -> &'static str {
+    match table {
+        Table::Numbers => NUMBERS,
+        Table::Parts => parts::TABLE,
+        Table::Times => times::TABLE,
+    }
+}
+
+// Adds a column.
+fn add(alloc: Global, schema: &mut Schema, name: &str, dtype: DataType) -> Result<(), PlanError> {
+    let name = PlSmallStr::new(alloc, name)?;
+    schema.with_column(name, dtype)?;
+    Ok(())
+}
+
+// Adds columns of the types of those names.
+fn add_all(alloc: Global, schema: &mut Schema, columns: &[(&str, &str)]) -> Result<(), Fail> {
+    for (name, dtype) in columns {
+        let dtype = type_of(alloc, dtype)?.ok_or("no such type")?;
+        add(alloc, schema, name, dtype)?;
+    }
+    Ok(())
+}
+
+// The scan of table 7 with those columns.
+fn scan_of(alloc: Global, columns: &[(&str, &str)]) -> Result<DslPlan, Fail> {
+    let mut schema = Schema::new(alloc);
+    add_all(alloc, &mut schema, columns)?;
     let table = Some(7);
     Ok(DslPlan::DataFrameScan { table, schema })
+}
+
+fn number_scan(alloc: Global) -> Result<DslPlan, Fail> {
+    scan_of(
+        alloc,
+        &[
+            ("a", "Int8"),
+            ("b", "Int32"),
+            ("c", "Int64"),
+            ("d", "UInt64"),
+            ("e", "UInt8"),
+            ("f", "Boolean"),
+        ],
+    )
 }
 
 fn operator(word: &str) -> Option<Operator> {
@@ -253,101 +303,197 @@ fn answer_over(alloc: Global, plan: DslPlan, steps: &[&str]) -> Result<String, F
     }
 }
 
-fn answer(alloc: Global, steps: &[&str]) -> Result<String, Fail> {
-    let plan = scan(alloc)?;
+fn answer(alloc: Global, table: Table, steps: &[&str]) -> Result<String, Fail> {
+    let plan = scan(alloc, table)?;
     answer_over(alloc, plan, steps)
 }
 
-const TABLE: &str = "table (a Int8, b Int32, c Int64, d UInt64, e UInt8, f Boolean)";
-
-// The step's node over the table.
-fn over_table(alloc: Global, node: &str) -> Result<String, Fail> {
+// The node over the table.
+fn over_table(alloc: Global, table: Table, node: &str) -> Result<String, AllocError> {
     let mut text = String::from_str(alloc, node)?;
     text.push_str(" over ")?;
-    text.push_str(TABLE)?;
+    text.push_str(table_text(table))?;
     Ok(text)
+}
+
+// The steps over the table become that.
+fn assert_answer(
+    rt: &impl Abort,
+    alloc: Global,
+    table: Table,
+    steps: &[&str],
+    want: &str,
+) -> Result<(), Fail> {
+    let found = answer(alloc, table, steps)?;
+    assert_eq!(rt; found.as_str(), want);
+    Ok(())
+}
+
+// The steps over the table become that node over it.
+fn assert_node(
+    rt: &impl Abort,
+    alloc: Global,
+    table: Table,
+    steps: &[&str],
+    node: &str,
+) -> Result<(), Fail> {
+    let want = over_table(alloc, table, node)?;
+    assert_answer(rt, alloc, table, steps, want.as_str())
+}
+
+// Each step over the table becomes the node beside it, over the table.
+fn assert_nodes(
+    rt: &impl Abort,
+    alloc: Global,
+    table: Table,
+    cases: &[(&str, &str)],
+) -> Result<(), Fail> {
+    for (step, node) in cases {
+        assert_node(rt, alloc, table, &[*step], node)?;
+    }
+    Ok(())
+}
+
+// Each step over the table becomes that.
+fn assert_answers(
+    rt: &impl Abort,
+    alloc: Global,
+    table: Table,
+    steps: &[&str],
+    want: &str,
+) -> Result<(), Fail> {
+    for step in steps {
+        assert_answer(rt, alloc, table, &[*step], want)?;
+    }
+    Ok(())
+}
+
+// The plan becomes that.
+fn assert_lowered(rt: &impl Abort, alloc: Global, plan: DslPlan, want: &str) -> Result<(), Fail> {
+    let found = answer_over(alloc, plan, &[])?;
+    assert_eq!(rt; found.as_str(), want);
+    Ok(())
+}
+
+// The steps over the table become so many nodes of a plan.
+fn assert_size(
+    rt: &impl Abort,
+    alloc: Global,
+    steps: &[&str],
+    nodes: usize,
+) -> Result<IRPlan, Fail> {
+    let plan = query(alloc, number_scan(alloc)?, steps)?;
+    let plan = plan.to_alp(alloc, &Udfs::new(alloc))?;
+    assert_eq!(rt; plan.lp_arena.len(), nodes);
+    Ok(plan)
 }
 
 #[test]
 fn scans_stand_for_themselves(rt: HostRuntime) -> Result<(), Fail> {
     let alloc = rt.alloc();
-    let plan = scan(alloc)?.to_alp(alloc, &Udfs::new(alloc))?;
-    assert_eq!(rt; plan_text(alloc, &plan)?.as_str(), TABLE);
-    assert_eq!(rt; plan.lp_arena.len(), 1);
-    assert!(rt; plan.expr_arena.is_empty());
-    let plan = DslPlan::default(alloc)?.to_alp(alloc, &Udfs::new(alloc))?;
-    assert_eq!(rt; plan_text(alloc, &plan)?.as_str(), "nothing ()");
-    Ok(())
+    assert_answer(&rt, alloc, Table::Numbers, &[], NUMBERS)?;
+    assert_answer(&rt, alloc, Table::Parts, &[], parts::TABLE)?;
+    assert_answer(&rt, alloc, Table::Times, &[], times::TABLE)
+}
+
+#[test]
+fn the_empty_table_stands_for_itself(rt: HostRuntime) -> Result<(), Fail> {
+    let alloc = rt.alloc();
+    assert_lowered(&rt, alloc, DslPlan::default(alloc)?, "nothing ()")
 }
 
 #[test]
 fn sums_have_casts_where_types_differ(rt: HostRuntime) -> Result<(), Fail> {
-    let alloc = rt.alloc();
-    for (expr, want) in [
-        ("a", "select a = a, (a Int8)"),
-        ("+ a a", "select a = + a a, (a Int8)"),
-        ("+ a b", "select a = + Int32? a b, (a Int32)"),
-        ("+ b a", "select b = + b Int32? a, (b Int32)"),
-        ("+ + a b c", "select a = + Int64? + Int32? a b c, (a Int64)"),
-        ("+ c + a b", "select c = + c Int64? + Int32? a b, (c Int64)"),
-        ("+ + a b b", "select a = + + Int32? a b b, (a Int32)"),
-    ] {
-        let want = over_table(alloc, want)?;
-        assert_eq!(rt; answer(alloc, &[expr])?.as_str(), want.as_str());
-    }
+    assert_nodes(
+        &rt,
+        rt.alloc(),
+        Table::Numbers,
+        &[
+            ("a", "select a = a, (a Int8)"),
+            ("+ a a", "select a = + a a, (a Int8)"),
+            ("+ a b", "select a = + Int32? a b, (a Int32)"),
+            ("+ b a", "select b = + b Int32? a, (b Int32)"),
+            ("+ + a b c", "select a = + Int64? + Int32? a b c, (a Int64)"),
+            ("+ c + a b", "select c = + c Int64? + Int32? a b, (c Int64)"),
+            ("+ + a b b", "select a = + + Int32? a b b, (a Int32)"),
+        ],
+    )
+}
+
+#[test]
+fn a_scan_is_one_node(rt: HostRuntime) -> Result<(), Fail> {
+    let plan = assert_size(&rt, rt.alloc(), &[], 1)?;
+    assert!(rt; plan.expr_arena.is_empty());
     Ok(())
 }
 
 #[test]
 fn a_select_and_its_scan_are_two_nodes(rt: HostRuntime) -> Result<(), Fail> {
-    let alloc = rt.alloc();
-    let plan = query(alloc, scan(alloc)?, &["+ a b"])?.to_alp(alloc, &Udfs::new(alloc))?;
-    assert_eq!(rt; plan.lp_arena.len(), 2);
+    let _plan = assert_size(&rt, rt.alloc(), &["+ a b"], 2)?;
     Ok(())
 }
 
 #[test]
 fn selects_keep_the_order(rt: HostRuntime) -> Result<(), Fail> {
-    let alloc = rt.alloc();
-    for (expr, want) in [
-        ("b, a", "select b = b, a = a, (b Int32, a Int8)"),
-        (
-            "d, + a c, b",
-            "select d = d, a = + Int64? a c, b = b, (d UInt64, a Int64, b Int32)",
-        ),
-    ] {
-        let want = over_table(alloc, want)?;
-        assert_eq!(rt; answer(alloc, &[expr])?.as_str(), want.as_str());
-    }
+    assert_nodes(
+        &rt,
+        rt.alloc(),
+        Table::Numbers,
+        &[
+            ("b, a", "select b = b, a = a, (b Int32, a Int8)"),
+            (
+                "d, + a c, b",
+                "select d = d, a = + Int64? a c, b = b, (d UInt64, a Int64, b Int32)",
+            ),
+        ],
+    )
+}
+
+// A select of the table's first column with that option.
+fn assert_option(rt: &impl Abort, alloc: Global, duplicate_check: bool) -> Result<(), Fail> {
+    let mut items = Vec::new(alloc);
+    items.push(expr(alloc, "a")?)?;
+    let plan = DslPlan::Select {
+        expr: Exprs { items },
+        input: Box::new(alloc, number_scan(alloc)?)?,
+        options: ProjectionOptions { duplicate_check },
+    };
+    let plan = plan.to_alp(alloc, &Udfs::new(alloc))?;
+    assert_eq!(rt; checks_names(&plan)?, duplicate_check);
     Ok(())
 }
 
 #[test]
+fn a_select_keeps_its_options(rt: HostRuntime) -> Result<(), Fail> {
+    assert_option(&rt, rt.alloc(), true)?;
+    assert_option(&rt, rt.alloc(), false)
+}
+
+#[test]
 fn selects_see_the_select_below(rt: HostRuntime) -> Result<(), Fail> {
-    let alloc = rt.alloc();
-    let upper = "select a = + a Int64? b, (a Int64) over ";
-    let lower = "select b = b, a = + Int64? a c, (b Int32, a Int64) over ";
-    let want = format!(in alloc; "{upper}{lower}{TABLE}")?;
-    let found = answer(alloc, &["b, + a c", "+ a b"])?;
-    assert_eq!(rt; found.as_str(), want.as_str());
-    Ok(())
+    let node =
+        "select a = + a Int64? b, (a Int64) over select b = b, a = + Int64? a c, (b Int32, a Int64)";
+    assert_node(
+        &rt,
+        rt.alloc(),
+        Table::Numbers,
+        &["b, + a c", "+ a b"],
+        node,
+    )
 }
 
 #[test]
 fn a_select_of_nothing_stands_over_the_empty_table(rt: HostRuntime) -> Result<(), Fail> {
     let alloc = rt.alloc();
     let want = "select () over nothing ()";
-    assert_eq!(rt; answer(alloc, &[""])?.as_str(), want);
-    assert_eq!(rt; answer(alloc, &["+ a b", ""])?.as_str(), want);
-    let found = answer(alloc, &["", ""])?;
-    assert_eq!(rt; found.as_str(), want);
-    Ok(())
+    assert_answer(&rt, alloc, Table::Numbers, &[""], want)?;
+    assert_answer(&rt, alloc, Table::Numbers, &["+ a b", ""], want)?;
+    assert_answer(&rt, alloc, Table::Numbers, &["", ""], want)
 }
 
 #[test]
 fn refusals_name_the_rule_and_the_place(rt: HostRuntime) -> Result<(), Fail> {
-    let alloc = rt.alloc();
-    for (selects, want) in [
+    for (selects, want) in &[
         (["a", "a", "+ d a"], "ColumnNotFound"),
         (["a, d", "a, d", "+ d a"], "SchemaMismatch"),
         (["a", "+ a b", "a"], "ColumnNotFound 0"),
@@ -358,8 +504,7 @@ fn refusals_name_the_rule_and_the_place(rt: HostRuntime) -> Result<(), Fail> {
         (["a, x, a", "x", "x"], "ColumnNotFound 0 0"),
         (["a", "", "a"], "ColumnNotFound"),
     ] {
-        let found = answer(alloc, selects.as_slice())?;
-        assert_eq!(rt; found.as_str(), want);
+        assert_answer(&rt, rt.alloc(), Table::Numbers, selects.as_slice(), want)?;
     }
     Ok(())
 }

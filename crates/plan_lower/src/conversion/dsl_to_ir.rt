@@ -30,18 +30,22 @@ use std::alloc::Global;
 
 /// Lowering of a query's plan.
 pub trait PlanLowering {
+    // The plan that is lowered.
+    ghost tree: { Self → Plan };
+
     /// The typed plan in two arenas of its own: a plan for each query that is well formed, else the kind and
     /// the place of a rule that it breaks.
-    fn to_alp(self, alloc: Global, udfs: &Udfs) -> Result<IRPlan, PlanError>;
+    fn to_alp(self, alloc: Global, udfs: &Udfs) -> Result<IRPlan, PlanError>
+        ensures answers { Answers (registry udfs.now) (tree self) result }
+        ensures typed { IfOk result (IsTyped (registry udfs.now) (tree self)) }
+        ensures sound { IfOk result (IsSound (registry udfs.now) (tree self)) }
+        ensures same_frame { IfOk result (GivesSameFrame (registry udfs.now) (tree self)) };
 }
 
 impl PlanLowering for DslPlan {
-    fn to_alp(self, alloc: Global, udfs: &Udfs) -> Result<IRPlan, PlanError>
-        ensures answers { Answers (registry udfs.now) (plan_tree self) result }
-        ensures typed { IfOk result (IsTyped (registry udfs.now) (plan_tree self)) }
-        ensures sound { IfOk result (IsSound (registry udfs.now) (plan_tree self)) }
-        ensures same_frame { IfOk result (GivesSameFrame (registry udfs.now) (plan_tree self)) }
-    {
+    ghost tree = { plan_tree };
+
+    fn to_alp(self, alloc: Global, udfs: &Udfs) -> Result<IRPlan, PlanError> {
         let mut lp_arena = Arena::new(alloc);
         let mut expr_arena = Arena::new(alloc);
         let top = lower(self, &mut expr_arena, &mut lp_arena, udfs)?;

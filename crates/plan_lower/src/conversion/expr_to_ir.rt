@@ -6,6 +6,7 @@ ghost use Rattle.plan_dsl.specs.Literals.{settled};
 ghost use Rattle.plan_dsl.specs.Names.{name_of};
 ghost use Rattle.plan_arena.specs.Denotation.{Denotes};
 ghost use Rattle.plan_arena.specs.Items.{named_node, output_text, HoldsFrom, Grows};
+ghost use Rattle.plan_arena.specs.OutputNames.{kept_output, output_of};
 
 use plan_arena::aexpr::AExpr;
 use plan_arena::arena::{Arena, Node};
@@ -20,6 +21,7 @@ use std::alloc::Global;
 /// Adds an expression's nodes, and answers the top one with the expression's name.
 pub fn to_expr_ir(expr: Expr, arena: &mut Arena<AExpr>) -> Result<ExprIR, PlanError>
     ensures name { IfOk result (λ expr_ir. (named_node expr_ir).name ≡ name_of (tree_of expr)) }
+    ensures output { IfOk result (λ expr_ir. kept_output expr_ir ≡ output_of (tree_of expr)) }
     ensures denotes { IfOk result (λ expr_ir. Denotes (HoldsFrom (length arena.old) arena.new) (named_node expr_ir).expression (tree_of expr)) }
     ensures grows { Grows arena.old arena.new }
     ensures err { IfErr result (λ error. error ≡ no_memory) }
@@ -49,6 +51,7 @@ pub fn settle(expr: Expr) -> Expr
 // The name, which is that of the leftmost column or literal.
 fn output_name(expr: &Expr, alloc: Global) -> Result<OutputName, PlanError>
     ensures ok { IfOk result (λ name. output_text name ≡ name_of (tree_of expr.now)) }
+    ensures output { IfOk result (λ name. name ≡ output_of (tree_of expr.now)) }
     ensures err { IfErr result (λ error. error ≡ no_memory) }
 {
     match expr {

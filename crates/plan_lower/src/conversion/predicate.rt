@@ -1,5 +1,5 @@
 //! The predicate of a filter.
-ghost use Rattle.std.specs.Prelude.{ℕ, List, OnOk, IfOk, IfErr};
+ghost use Rattle.std.specs.Prelude.{ℕ, List, IfOk, IfErr};
 ghost use Rattle.plan_types.specs.Schemas.{columns};
 ghost use Rattle.plan_dsl.specs.Expressions.{tree_of};
 ghost use Rattle.plan_dsl.specs.Ops.{Op};
@@ -30,8 +30,8 @@ pub fn lower_predicate(
 ) -> Result<ExprIR, PlanError>
     ensures ok { IfOk result (λ expr_ir. HasPredicate (registry udfs.now) (columns schema.now) arena.new
         (tree_of predicate) (named_node expr_ir)) }
-    ensures kept { OnOk result ((n : ℕ) (op : Op) (inputs : List ℕ) →
-        HoldsExpression arena.old n op inputs → HoldsExpression arena.new n op inputs) }
+    ensures kept { (n : ℕ) (op : Op) (inputs : List ℕ) →
+        HoldsExpression arena.old n op inputs → HoldsExpression arena.new n op inputs }
     ensures err { IfErr result (IsPredicateRefusal (registry udfs.now) (columns schema.now) (tree_of predicate)) }
 {
     let mut types = TypeTable::new(arena.allocator(), arena.len());

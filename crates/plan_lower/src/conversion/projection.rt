@@ -48,8 +48,8 @@ pub fn project_strictly(
 ) -> Result<Projection, PlanError>
     ensures ok { IfOk result (λ projection. HasOutputs (registry udfs.now) (columns schema.now) arena.new
         (trees_of exprs) (map named_node projection.expr.items.items) (columns projection.schema)) }
-    ensures kept { OnOk result ((n : ℕ) (op : Op) (inputs : List ℕ) →
-        HoldsExpression arena.old n op inputs → HoldsExpression arena.new n op inputs) }
+    ensures kept { (n : ℕ) (op : Op) (inputs : List ℕ) →
+        HoldsExpression arena.old n op inputs → HoldsExpression arena.new n op inputs }
     ensures err { IfErr result (IsProjectionRefusal (registry udfs.now) (columns schema.now) (trees_of exprs)) }
 {
     let mut types = TypeTable::new(arena.allocator(), arena.len());

@@ -1,12 +1,12 @@
 //! The work stack of coercion.
-ghost use Rattle.std.specs.Prelude.{◌≡◌, ℕ, ◌<◌, ◌≤◌, List, [], ◌++◌, length, IfErr, OnOk};
+ghost use Rattle.std.specs.Prelude.{◌≡◌, ℕ, ◌<◌, ◌≤◌, List, [], ◌++◌, length, IfErr, OnErr, OnOk};
 ghost use Rattle.std.specs.List.{AllByRecursion};
 ghost use Rattle.plan_types.specs.Errors.{no_memory};
 ghost use Rattle.plan_types.specs.Schemas.{Columns};
 ghost use Rattle.plan_dsl.specs.Ops.{Op};
 ghost use Rattle.plan_dsl.specs.Registry.{Registry};
 ghost use Rattle.plan_arena.specs.Items.{HoldsExpression};
-ghost use Rattle.plan_lower.specs.Coercion.{DenotesKnown, IsCoerced, numbers};
+ghost use Rattle.plan_lower.specs.Coercion.{DenotesKnown, IsCoerced, StaysSame, numbers};
 ghost use Rattle.plan_lower.specs.KeptTypes.{HasRightTypes, IsKept, IsRight};
 
 use crate::conversion::type_coercion::coerce_node;
@@ -30,6 +30,9 @@ pub fn coerce_types(
     ensures ok { OnOk result ((registry : Registry) (schema : Columns) (first : ℕ) → IsRight registry schema arena.old types.old →
         first ≤ length arena.old → AllByRecursion (DenotesKnown registry schema first arena.old) (numbers stack.old.items) →
         IsCoerced registry schema first arena.old arena.new (numbers stack.old.items)) }
+    ensures stays { OnErr result ((registry : Registry) (schema : Columns) (first : ℕ) → IsRight registry schema arena.old types.old →
+        first ≤ length arena.old → AllByRecursion (DenotesKnown registry schema first arena.old) (numbers stack.old.items) →
+        StaysSame registry schema first arena.old arena.new) }
     ensures empty { OnOk result (stack.new.items ≡ []) }
     ensures longer { length arena.old ≤ length arena.new }
     ensures err { IfErr result (λ error. error ≡ no_memory) }

@@ -1,5 +1,5 @@
 //! Operands are made of the types to which their node takes them: by casts, or as literals.
-ghost use Rattle.std.specs.Prelude.{◌≡◌, ◌≢◌, ℕ, ◌<◌, ◌≤◌, List, [], ◌∷◌, length, false, IfOk, IfErr, OnOk};
+ghost use Rattle.std.specs.Prelude.{◌≡◌, ◌≢◌, ℕ, ◌<◌, ◌≤◌, List, [], ◌∷◌, length, false, IfOk, IfErr, OnErr, OnOk};
 ghost use Rattle.plan_types.specs.Errors.{no_memory};
 ghost use Rattle.plan_types.specs.Schemas.{Columns};
 ghost use Rattle.plan_types.specs.Types.{Ty, ty, Untyped};
@@ -41,6 +41,7 @@ pub fn coerce_node(
     ensures elsewhere { (n : ℕ) (op : Op) (inputs : List ℕ) → n ≢ node.0 →
         HoldsExpression arena.old n op inputs → HoldsExpression arena.new n op inputs }
     ensures longer { length arena.old ≤ length arena.new }
+    ensures grows { OnErr result (Grows arena.old arena.new) }
     ensures err { IfErr result (λ error. error ≡ no_memory) }
 {
     match arena.get(node) {
@@ -88,6 +89,7 @@ fn coerce_binary(
     ensures elsewhere { (n : ℕ) (op : Op) (inputs : List ℕ) → n ≢ node.0 →
         HoldsExpression arena.old n op inputs → HoldsExpression arena.new n op inputs }
     ensures longer { length arena.old ≤ length arena.new }
+    ensures grows { OnErr result (Grows arena.old arena.new) }
     ensures err { IfErr result (λ error. error ≡ no_memory) }
 {
     let changes = operand_changes(node, left, op, right, arena, types)?;
@@ -120,6 +122,7 @@ fn coerce_cast(
     ensures elsewhere { (n : ℕ) (op : Op) (inputs : List ℕ) → n ≢ node.0 →
         HoldsExpression arena.old n op inputs → HoldsExpression arena.new n op inputs }
     ensures longer { length arena.old ≤ length arena.new }
+    ensures grows { OnErr result (Grows arena.old arena.new) }
     ensures err { IfErr result (λ error. error ≡ no_memory) }
 {
     let Some(alone) = materialize_dyn_int(number) else {

@@ -13,7 +13,7 @@ ghost use Rattle.plan_arena.specs.declared.arena.Node.{Node};
 ghost use Rattle.plan_arena.specs.declared.aexpr.AExpr.TheVariants.{Column, Literal, BinaryExpr, Cast};
 ghost use Rattle.plan_lower.specs.declared.type_table.TypeTable.{TypeTable};
 ghost use Rattle.plan_lower.specs.declared.conversion.type_coercion.Change.TheVariants.{Keep, CastTo};
-ghost use Rattle.plan_lower.specs.Coercion.{DenotesTyped, DenotesKnown, KeepsBelow, DenotesSame, Visits, ChangesOperands, IsCoerced, numbers};
+ghost use Rattle.plan_lower.specs.Coercion.{DenotesTyped, DenotesKnown, KeepsBelow, DenotesSame, Visits, ChangesOperands, IsCoerced, StaysSame, numbers};
 
 /// A node denotes a typed expression of nodes from a number on, or one whose type is of columns.
 pub fn nodes_of_typed_expressions()
@@ -118,6 +118,12 @@ pub fn coerced_sums()
         ¬ (IsCoerced [] schema 0 before after (2 ∷ [])) }
     ensures number_left { ¬ (IsCoerced [] [] 0 (Literal (Int (pos 5)) ∷ []) (Literal (Int (pos 5)) ∷ []) (0 ∷ [])) }
     ensures item_below { ¬ (IsCoerced [] [] 1 (Column (codes "a") ∷ []) (Column (codes "b") ∷ []) []) }
+    ensures nothing_done { let schema = (codes "a", Integer true 8) ∷ [] in
+        let items = Column (codes "a") ∷ Column (codes "b") ∷ [] in
+        StaysSame [] schema 0 items items }
+    ensures other_item_below { ¬ (StaysSame [] [] 1 (Column (codes "a") ∷ []) (Column (codes "b") ∷ [])) }
+    ensures other_tree { let schema = (codes "a", Integer true 8) ∷ (codes "b", Integer true 8) ∷ [] in
+        ¬ (StaysSame [] schema 0 (Column (codes "a") ∷ []) (Column (codes "b") ∷ [])) }
     ensures items_below { KeepsBelow 1 (Column (codes "a") ∷ Column (codes "b") ∷ []) (Column (codes "a") ∷ Column (codes "c") ∷ []) }
     ensures same { let schema = (codes "a", Integer true 8) ∷ [] in
         DenotesSame [] schema 0 (Column (codes "a") ∷ []) 0 (node (ColumnOp (codes "a")) no_more) }

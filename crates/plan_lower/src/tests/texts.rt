@@ -256,6 +256,14 @@ pub(super) fn plan_text(alloc: Global, plan: &IRPlan) -> Result<String, Fail> {
     Err(Fail::from("no scan"))
 }
 
+// Whether the top is a select that asks for distinct names.
+pub(super) fn checks_names(plan: &IRPlan) -> Result<bool, Fail> {
+    match item(&plan.lp_arena, plan.lp_top)? {
+        IR::Select { options, .. } => Ok(options.duplicate_check),
+        _ => Err(Fail::from("no select")),
+    }
+}
+
 // The broken rule, and the steps to the place.
 pub(super) fn refusal_text(alloc: Global, error: &PlanError) -> Result<String, AllocError> {
     let mut text = format!(in alloc; "{:?}", error.kind)?;

@@ -6,7 +6,7 @@ use Rattle.plan_types.proofs.ResultLemmas.{passed_on}
 use Rattle.plan_dsl.specs.Expressions.{tree_of}
 use Rattle.plan_dsl.specs.Registry.{registry}
 use Rattle.plan_arena.specs.Items.{named_node}
-use Rattle.plan_arena.proofs.ItemLemmas.{length-grown}
+use Rattle.plan_arena.proofs.ItemLemmas.{grown_held, length-grown}
 use Rattle.plan_lower.specs.Coercion.{IsCoerced, numbers}
 use Rattle.plan_lower.proofs.ProjectionLemmas.{one_output, root_typed, has_predicate, refused_predicate, other_type_refused, not_true, not_false, earlier_kept}
 use Rattle.plan_lower.proofs.TableLemmas.{right_start}
@@ -54,3 +54,21 @@ returns-clause-kept c =
     let roots = ap numbers stacked ∙ ap (λ k. k ∷ []) c.node-2.ensures in
     let coerced = c.in_ok-coerce_types.ensures.ok r schema first c.in_ok-expr_ir.ensures.right (length-grown _ _ c.in_ok-expr_ir.ensures.grows) (root_typed r schema first c.add_typed.new.arena _ _ is.1 roots) in
     earlier_kept c.args.arena.now c.add_typed.new.arena c.coerce_types.new.arena c.in_ok-expr_ir.ensures.grows coerced.below
+
+pub returns-in_err-expr_ir-clause-kept : goal.returns-in_err-expr_ir-clause-kept
+returns-in_err-expr_ir-clause-kept c = grown_held c.args.arena.now c.add_typed.new.arena c.add_typed.ensures.grows
+
+pub returns-then-ne-clause-kept : goal.returns-then-ne-clause-kept
+returns-then-ne-clause-kept c = grown_held c.args.arena.now c.add_typed.new.arena c.in_ok-expr_ir.ensures.grows
+
+pub returns-in_err-coerce_types-clause-kept : goal.returns-in_err-coerce_types-clause-kept
+returns-in_err-coerce_types-clause-kept c =
+    let r = registry c.args.udfs.now in
+    let schema = columns c.args.schema.now in
+    let first = length c.args.arena.now in
+    let n = (named_node c.in_ok-expr_ir.expr_ir).expression in
+    let is = one_output r schema first c.add_typed.new.arena (tree_of c.args.predicate) n c.node.result.0 (ty c.get.result.now) c.in_ok-expr_ir.ensures.denotes c.node.ensures (kept_type r schema c.add_typed.new.arena c.add_typed.new.types c.in_ok-expr_ir.ensures.right c.node.result.0 _ c.get.ensures) in
+    let stacked = c.in_ok-push.ensures.ok ∙ ap (λ l. l ++ c.node-2.result ∷ []) c.new-stack.ensures.items in
+    let roots = ap numbers stacked ∙ ap (λ k. k ∷ []) c.node-2.ensures in
+    let stays = c.in_err-coerce_types.ensures.stays r schema first c.in_ok-expr_ir.ensures.right (length-grown _ _ c.in_ok-expr_ir.ensures.grows) (root_typed r schema first c.add_typed.new.arena _ _ is.1 roots) in
+    earlier_kept c.args.arena.now c.add_typed.new.arena c.coerce_types.new.arena c.in_ok-expr_ir.ensures.grows stays.below

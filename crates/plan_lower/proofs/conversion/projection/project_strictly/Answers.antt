@@ -2,7 +2,7 @@ use Rattle.std.proofs.Common.{length, sym, ◌∙◌, subst, arith}
 use Rattle.std.specs.List.{AllByRecursion}
 use Rattle.plan_types.specs.Schemas.{columns}
 use Rattle.plan_dsl.specs.Registry.{registry}
-use Rattle.plan_arena.proofs.ItemLemmas.{length-grown}
+use Rattle.plan_arena.proofs.ItemLemmas.{grown_held, length-grown}
 use Rattle.plan_lower.specs.Coercion.{DenotesKnown, IsCoerced}
 use Rattle.plan_lower.specs.KeptTypes.{IsKept}
 use Rattle.plan_lower.proofs.ProjectionLemmas.{roots_are, roots_typed, has_outputs, earlier_kept}
@@ -38,3 +38,18 @@ returns-clause-kept c =
     let typed = subst (AllByRecursion (DenotesKnown (registry c.args.udfs.now) (columns c.args.schema.now) first c.project.new.arena)) (sym roots) (roots_typed (registry c.args.udfs.now) (columns c.args.schema.now) first first c.project.new.arena (omega arith) p.outputs p.each) in
     let coerced = c.in_ok-coerce_types.ensures.ok (registry c.args.udfs.now) (columns c.args.schema.now) first c.in_ok-projection.ensures.right (length-grown _ _ c.in_ok-projection.ensures.grows) typed in
     earlier_kept c.args.arena.now c.project.new.arena c.coerce_types.new.arena c.in_ok-projection.ensures.grows coerced.below
+
+pub returns-in_err-projection-clause-kept : goal.returns-in_err-projection-clause-kept
+returns-in_err-projection-clause-kept c = grown_held c.args.arena.now c.project.new.arena c.project.ensures.grows
+
+pub returns-in_err-stack-clause-kept : goal.returns-in_err-stack-clause-kept
+returns-in_err-stack-clause-kept c = grown_held c.args.arena.now c.project.new.arena c.in_ok-projection.ensures.grows
+
+pub returns-in_err-coerce_types-clause-kept : goal.returns-in_err-coerce_types-clause-kept
+returns-in_err-coerce_types-clause-kept c =
+    let p = c.in_ok-projection.ensures.ok in
+    let first = length c.args.arena.now in
+    let roots = c.in_ok-stack.ensures.ok ∙ roots_are c.in_ok-projection.projection.expr.items.items p.outputs p.nodes_are in
+    let typed = subst (AllByRecursion (DenotesKnown (registry c.args.udfs.now) (columns c.args.schema.now) first c.project.new.arena)) (sym roots) (roots_typed (registry c.args.udfs.now) (columns c.args.schema.now) first first c.project.new.arena (omega arith) p.outputs p.each) in
+    let stays = c.in_err-coerce_types.ensures.stays (registry c.args.udfs.now) (columns c.args.schema.now) first c.in_ok-projection.ensures.right (length-grown _ _ c.in_ok-projection.ensures.grows) typed in
+    earlier_kept c.args.arena.now c.project.new.arena c.coerce_types.new.arena c.in_ok-projection.ensures.grows stays.below

@@ -4,7 +4,7 @@ use Rattle.plan_arena.proofs.ItemLemmas.{tree_within}
 use Rattle.plan_lower.specs.Coercion.{numbers}
 use Rattle.plan_lower.specs.KeptTypes.{IsKept}
 use Rattle.plan_lower.proofs.CoercionLemmas.{plain_tree}
-use Rattle.plan_lower.proofs.StackLemmas.{Pending, pending_start, pending_step, pending_end, pushed_one, all_last, no_numbers}
+use Rattle.plan_lower.proofs.StackLemmas.{Pending, pending_start, pending_step, pending_end, pushed_one, all_last, no_numbers, on_refusal, stays_now, stays_grown, stays_visited}
 use Rattle.plan_lower.proofs.TableLemmas.{known_typed, waiting_known}
 use Rattle.plan_lower.proofs.conversion.stack_opt.coerce_types.Goals as goal
 
@@ -58,3 +58,19 @@ loop-turn-preserved c =
           let p = subst (λ s. Pending registry schema first c.args.arena.now c.loop-turn.arena s (numbers c.args.stack.now.items)) popped (c.loop-turn.invariant.pending registry schema first before le all) in
           pending_step registry schema first c.args.arena.now c.loop-turn.arena c.coerce_node.new.arena c.in-Some.node.0 (numbers c.pop.new.self.items) (numbers c.push_inputs.new.stack.items) (numbers c.args.stack.now.items) p visited.elsewhere (λ t d has. visited.ok registry schema first t (c.loop-turn.invariant.right registry schema before) (omega (arith, le, c.loop-turn.invariant.longer)) d has) c.in_ok-push_inputs.ensures.ok;
     }
+
+pub returns-in_err-coerce_node-clause-stays : goal.returns-in_err-coerce_node-clause-stays
+returns-in_err-coerce_node-clause-stays c = on_refusal c.from_residual.result (λ registry schema first right le all.
+    let p = c.loop-turn.invariant.pending registry schema first right le all in
+    stays_grown registry schema first c.args.arena.now c.loop-turn.arena c.coerce_node.new.arena (numbers c.loop-turn.stack.items) (numbers c.args.stack.now.items) p c.in_err-coerce_node.ensures.grows)
+
+pub returns-in_err-push_inputs-clause-stays : goal.returns-in_err-push_inputs-clause-stays
+returns-in_err-push_inputs-clause-stays c = on_refusal c.from_residual-in_err-push_inputs.result (λ registry schema first right le all.
+    let popped = pushed_one c.pop.new.self.items c.loop-turn.stack.items c.in-Some.node c.in-Some.ensures.items in
+    let p = subst (λ s. Pending registry schema first c.args.arena.now c.loop-turn.arena s (numbers c.args.stack.now.items)) popped (c.loop-turn.invariant.pending registry schema first right le all) in
+    let visited = c.in_ok-coerce_node.ensures in
+    stays_visited registry schema first c.args.arena.now c.loop-turn.arena c.coerce_node.new.arena c.in-Some.node.0 (numbers c.pop.new.self.items) (numbers c.args.stack.now.items) p visited.elsewhere (λ t d has. visited.ok registry schema first t (c.loop-turn.invariant.right registry schema right) (omega (arith, le, c.loop-turn.invariant.longer)) d has))
+
+pub returns-clause-stays : goal.returns-clause-stays
+returns-clause-stays c = λ registry schema first right le all.
+    stays_now registry schema first c.args.arena.now c.loop-turn.arena (numbers c.loop-turn.stack.items) (numbers c.args.stack.now.items) (c.loop-turn.invariant.pending registry schema first right le all)

@@ -45,6 +45,7 @@ returns-in_default c =
       extends = extends_itself c.args.types.now;
       elsewhere = λ n op inputs other h. h;
       longer = omega arith;
+      grows = tt;
       err = tt;
     }
 

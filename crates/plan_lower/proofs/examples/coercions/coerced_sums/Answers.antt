@@ -126,6 +126,20 @@ pub returns-clause-item_below : goal.returns-clause-item_below
 returns-clause-item_below c = λ coerced.
     other_name (column_name (codes "b") (codes "a") (coerced.below 0 (ColumnOp (codes "a")) [] (λ le. omega (arith, le)) refl))
 
+pub returns-clause-nothing_done : goal.returns-clause-nothing_done
+returns-clause-nothing_done c = record {
+  below = λ n op inputs lower h. h;
+  trees = λ n t d. record { tree = t; denotes = d; same = record { typing = refl; name = refl; meaning = λ rows. refl } };
+}
+
+pub returns-clause-other_item_below : goal.returns-clause-other_item_below
+returns-clause-other_item_below c = λ stays.
+    other_name (column_name (codes "b") (codes "a") (stays.below 0 (ColumnOp (codes "a")) [] (λ le. omega (arith, le)) refl))
+
+pub returns-clause-other_tree : goal.returns-clause-other_tree
+returns-clause-other_tree c = λ stays.
+    other_name (same_tree [] ((codes "a", Integer true 8) ∷ (codes "b", Integer true 8) ∷ []) 0 (Column (codes "b") ∷ []) 0 a b (stays.trees 0 a ([], (omega arith, refl), tt)) ([], (omega arith, refl), tt)).name
+
 kept_first : (n : ℕ) (op : Op) (inputs : List ℕ) → ¬ (1 ≤ n) → HoldsExpression (Column (codes "a") ∷ Column (codes "b") ∷ []) n op inputs → HoldsExpression (Column (codes "a") ∷ Column (codes "c") ∷ []) n op inputs
 kept_first zero op inputs below h = h
 kept_first (suc n) op inputs below h = absurd (below (omega arith))
