@@ -44,6 +44,10 @@ pub expression_grown : (items added : List AExpr) (n : ℕ) (op : Op) (inputs : 
 expression_grown items added n op inputs h =
     ap (λ l. slice_get l n) (map-append expression_layer items added) ∙ slice_get-append (map expression_layer items) (map expression_layer added) n _ h
 
+-- the same of an arena that has grown
+pub grown_held : (old new : List AExpr) → Grows old new → (n : ℕ) (op : Op) (inputs : List ℕ) → HoldsExpression old n op inputs → HoldsExpression new n op inputs
+grown_held old new g n op inputs h = subst (λ l. HoldsExpression l n op inputs) (sym g.longer) (expression_grown old g.added n op inputs h)
+
 -- a new item is there
 pub expression_added : (items : List AExpr) (item : AExpr) → slice_get (map expression_layer (items ++ item ∷ [])) (length items) ≡ Some (expression_layer item)
 expression_added items item =
@@ -210,7 +214,7 @@ module _ (plans : List IR) (item : IR) (flat : PlanOp ℕ) (n : ℕ) (is : plan_
 -- what is held from a number on is held from a lower one, when the arena has grown
 pub from_grown : (first lower : ℕ) (items grown : List AExpr) → lower ≤ first → Grows items grown → (n : ℕ) (op : Op) (inputs : List ℕ) → HoldsFrom first items n op inputs → HoldsFrom lower grown n op inputs
 from_grown first lower items grown le g n op inputs h =
-    (omega (arith, h.0), subst (λ l. HoldsExpression l n op inputs) (sym g.longer) (expression_grown items g.added n op inputs h.1))
+    (omega (arith, h.0), grown_held items grown g n op inputs h.1)
 
 -- a tree of nodes from a number on, when the arena has grown
 pub tree_grown : (first lower : ℕ) (items grown : List AExpr) → lower ≤ first → Grows items grown → (n : ℕ) (t : Expression) → Denotes (HoldsFrom first items) n t → Denotes (HoldsFrom lower grown) n t

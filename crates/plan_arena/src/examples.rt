@@ -25,6 +25,7 @@ ghost use Rattle.plan_arena.specs.Denotation.{Denotes, DenotesTree, depth_at};
 ghost use Rattle.plan_arena.specs.Items.{expression_layer, output_text, HoldsExpression, DenoteNamed, HoldsPlan};
 ghost use Rattle.plan_arena.specs.Runs.{top_schema, IsAccepted, IsStrictPlan, plan_run, RunsSoundly};
 
+pub mod items;
 pub mod literals;
 
 /// The layer of an expression's item is what it does, and the numbers of its inputs.

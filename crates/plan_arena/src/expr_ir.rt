@@ -1,6 +1,7 @@
 //! Expressions of a lowered plan: a node, and the name of its column.
 ghost use Rattle.std.specs.Prelude.{◌≡◌, IfOk, IfErr};
 ghost use Rattle.plan_arena.specs.Items.{named_node, output_text};
+ghost use Rattle.plan_arena.specs.OutputNames.{kept_output};
 ghost use Rattle.plan_types.specs.Errors.{no_memory};
 
 use crate::arena::Node;
@@ -37,7 +38,8 @@ pub struct ExprIR {
 
 impl ExprIR {
     pub fn new(node: Node, output_name: OutputName) -> ExprIR
-        ensures { named_node result ≡ record { name = output_text output_name; expression = node.0 } }
+        ensures named { named_node result ≡ record { name = output_text output_name; expression = node.0 } }
+        ensures output { kept_output result ≡ output_name }
     {
         ExprIR { node, output_name }
     }

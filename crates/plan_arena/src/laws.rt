@@ -1,8 +1,19 @@
 //! Laws of lowered plans. The functions do nothing: their clauses are the laws.
-ghost use Rattle.plan_arena.specs.Laws.{AcceptedRunsSoundly, DenotesOnePlan};
+ghost use Rattle.plan_arena.specs.Laws.{AcceptedRunsSoundly, DenotesOnePlan, ExpressionsStay, OutputsAreNames, PlansStay};
 
 /// What is accepted and strict runs soundly, and a lowered plan is one plan.
 pub fn plan_laws()
     ensures sound { AcceptedRunsSoundly }
     ensures one { DenotesOnePlan }
+{}
+
+/// What nodes denote stays as arenas grow.
+pub fn growth_laws()
+    ensures expressions { ExpressionsStay }
+    ensures plans { PlansStay }
+{}
+
+/// The name that an expression's column has is the expression's.
+pub fn name_laws()
+    ensures { OutputsAreNames }
 {}

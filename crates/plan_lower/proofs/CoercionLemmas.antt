@@ -39,7 +39,7 @@ use Rattle.plan_arena.specs.Denotation.{Denotes, DenoteAll, DenotesTree}
 use Rattle.plan_arena.specs.Layers.{layer, shape_of}
 use Rattle.plan_arena.specs.Items.{HoldsExpression, HoldsFrom, Grows, expression_layer}
 use Rattle.plan_arena.proofs.DenotationLemmas.{kept_below, all_kept_below}
-use Rattle.plan_arena.proofs.ItemLemmas.{tree_grown, added_denotes, length-grown, grows_then, any_node, from_laws, from_top, one_child, no_children, expression_elsewhere, expression_written, expression_grown, within}
+use Rattle.plan_arena.proofs.ItemLemmas.{tree_grown, added_denotes, length-grown, grows_then, any_node, from_laws, from_top, one_child, no_children, expression_elsewhere, expression_written, grown_held, within}
 use Rattle.plan_lower.specs.declared.conversion.type_coercion.Change.{Change}
 use Rattle.plan_lower.specs.declared.conversion.type_coercion.Change.TheVariants.{Keep, CastTo, Become}
 use Rattle.plan_lower.specs.Coercion.{DenotesTyped, Visits, IsChangeFor, changed_by, is_kept, ChangesOperands}
@@ -52,13 +52,9 @@ use Rattle.plan_lower.proofs.TypingLemmas.{AllHaveType, AllRefused}
 pub plain_tree : {registry : Registry} {schema : Columns} {items : List AExpr} {n : ℕ} → DenotesTyped registry schema 0 items n → DenotesTree (HoldsExpression items) n
 plain_tree {items = items} {n = n} d = record { tree = d.tree; denotes = any_node 0 items n d.tree d.denotes }
 
--- what an arena holds it holds when it has grown
-pub grown_elsewhere : (old new : List AExpr) → Grows old new → (n : ℕ) (op : Op) (inputs : List ℕ) → HoldsExpression old n op inputs → HoldsExpression new n op inputs
-grown_elsewhere old new g n op inputs h = subst (λ l. HoldsExpression l n op inputs) (sym g.longer) (expression_grown old g.added n op inputs h)
-
--- and when another item was written
+-- what an arena holds it holds when it has grown and another item was written
 pub written_elsewhere : (old new : List AExpr) (at : ℕ) (item : AExpr) → Grows old new → (n : ℕ) (op : Op) (inputs : List ℕ) → n ≢ at → HoldsExpression old n op inputs → HoldsExpression (set new at item) n op inputs
-written_elsewhere old new at item g n op inputs other h = expression_elsewhere new at item n op inputs other (grown_elsewhere old new g n op inputs h)
+written_elsewhere old new at item g n op inputs other h = expression_elsewhere new at item n op inputs other (grown_held old new g n op inputs h)
 
 refused_as : (r : Result Typed ErrorKind) (typed : Typed) (error : PlanError) → r ≡ Ok typed → IsRefusal r error → error ≡ no_memory
 refused_as r typed error is (no_room e) = e

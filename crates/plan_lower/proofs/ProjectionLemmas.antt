@@ -23,12 +23,11 @@ use Rattle.plan_arena.specs.declared.expr_ir.ExprIR.{ExprIR}
 use Rattle.plan_arena.specs.Items.{HoldsFrom, HoldsExpression, Grows, DenoteNamed, named_node, expression_layer}
 use Rattle.plan_arena.specs.Layers.{shape_of, inputs_of}
 use Rattle.plan_arena.proofs.DenotationLemmas.{denotes_one}
-use Rattle.plan_arena.proofs.ItemLemmas.{any_node, tree_grown, from_laws, expression_laws}
+use Rattle.plan_arena.proofs.ItemLemmas.{any_node, tree_grown, from_laws, expression_laws, grown_held}
 use Rattle.plan_lower.specs.Coercion.{DenotesKnown, DenotesSame, KeepsBelow, IsCoerced}
 use Rattle.plan_lower.specs.KeptTypes.{IsKept, Extends}
 use Rattle.plan_lower.specs.Outputs.{Lowered, lowered_named, lowered_column, IsLowered, HasOutputs}
 use Rattle.plan_lower.specs.declared.type_table.TypeTable.{TypeTable}
-use Rattle.plan_lower.proofs.CoercionLemmas.{grown_elsewhere}
 use Rattle.plan_lower.proofs.StackLemmas.{all_weaker, all_joined}
 use Rattle.plan_types.specs.Errors.{IsRefusal, no_room as short, broken}
 use Rattle.plan_lower.specs.Typed.{HasType}
@@ -233,4 +232,4 @@ pub earlier_kept : (old mid new : List AExpr) → Grows old mid → KeepsBelow (
 earlier_kept old mid new g below n op inputs h =
     let within = (expression_laws old).below n op inputs h in
     let short : length (shape_of (map expression_layer old)) ≡ length old = length-map (map expression_layer old) inputs_of ∙ length-map old expression_layer in
-    below n op inputs (λ le. absurd (omega (arith, within, short, le))) (grown_elsewhere old mid g n op inputs h)
+    below n op inputs (λ le. absurd (omega (arith, within, short, le))) (grown_held old mid g n op inputs h)

@@ -32,12 +32,12 @@ use Rattle.plan_arena.specs.Denotation.{Denotes, DenotesTree, depth_at}
 use Rattle.plan_arena.specs.Layers.{layer, shape_of, inputs_of}
 use Rattle.plan_arena.specs.Items.{HoldsExpression, HoldsFrom, Grows, expression_layer}
 use Rattle.plan_arena.proofs.DenotationLemmas.{denotes_one, kept, same_or_other, inputs_denote}
-use Rattle.plan_arena.proofs.ItemLemmas.{held_top, one_child, expression_laws, from_laws, any_node, from_zero, expression_elsewhere, expression_written, expression_added, tree_grown, within}
+use Rattle.plan_arena.proofs.ItemLemmas.{held_top, one_child, expression_laws, from_laws, any_node, from_zero, expression_elsewhere, expression_written, expression_added, tree_grown, within, grown_held}
 use Rattle.plan_lower.specs.declared.type_table.TypeTable.{TypeTable}
 use Rattle.plan_lower.specs.Coercion.{DenotesTyped, Visits}
 use Rattle.plan_lower.specs.KeptTypes.{Keeps, IsKept, Extends, IsTypedNode, IsRight, HasRightTypes, first_node}
 use Rattle.plan_lower.specs.Typed.{HasType}
-use Rattle.plan_lower.proofs.CoercionLemmas.{grown_elsewhere, one_type}
+use Rattle.plan_lower.proofs.CoercionLemmas.{one_type}
 use Rattle.plan_lower.proofs.StackLemmas.{becomes, all_weaker, all_front, all_joined, all_last}
 use Rattle.plan_lower.proofs.TypingLemmas.{AllHaveType, cast_typed, literal_typed}
 
@@ -224,7 +224,7 @@ pub right_grown : (registry : Registry) (schema : Columns) (old new : List AExpr
 right_grown registry schema old new table g right = record {
   each = λ n dtype k.
       let e = right.each n dtype k in
-      let stays = grown_elsewhere old new g in
+      let stays = grown_held old new g in
       node_stays registry schema old new table table n (ty dtype) e e.tree (kept (HoldsExpression old) (HoldsExpression new) stays n e.tree e.denotes) refl (stays n) (λ m k. k);
 }
 
@@ -298,7 +298,7 @@ node_within items n op inputs h =
 -- a node that was written anew, with its op over operands that were changed
 module _ (old new : List AExpr) (table : TypeTable) (at : ℕ) (op : Op) (ns ms : List ℕ) (item : AExpr) (is : expression_layer item ≡ layer op ms) (held : HoldsExpression old at op ns) (g : Grows old new) where
   before_write : HoldsExpression new at op ns
-  before_write = grown_elsewhere old new g at _ _ held
+  before_write = grown_held old new g at _ _ held
 
   pub written_here : HoldsExpression (set new at item) at op ms
   written_here = expression_written new at item (node_within new at op ns before_write) ∙ ap Some is

@@ -168,7 +168,7 @@ pub fn typed_lists()
         let typed : Typed = record { type = ListType Truth; many = true } in
         map (λ target. typing [] ((codes "a", NullType) ∷ []) (node (CastOp target Strict) (more a no_more))) (ListType Truth ∷ ListType (Untyped (pos 1)) ∷ []) ≡ Ok typed ∷ Err InvalidOperation ∷ [] }
     ensures literals { map (is_literal (ListType (Integer true 8))) (ListValue (with_value (IntValue (pos 1)) (with_value NullValue no_value)) ∷ ListValue (with_value (IntValue (pos 300)) no_value) ∷ NullValue ∷ [])
-        ≡ true ∷ false ∷ false ∷ [] }
+        ≡ false ∷ false ∷ false ∷ [] }
     ensures literals_of_untyped { is_literal (ListType (Untyped (pos 1))) (ListValue (with_value (IntValue (pos 1)) no_value)) ≡ false }
 {}
 

@@ -3,8 +3,8 @@ use Rattle.plan_dsl.specs.Ops.{BinaryOp, Expression}
 use Rattle.plan_arena.specs.declared.aexpr.AExpr.TheVariants.{BinaryExpr}
 use Rattle.plan_arena.specs.Denotation.{Denotes}
 use Rattle.plan_arena.specs.Items.{HoldsFrom}
-use Rattle.plan_arena.proofs.ItemLemmas.{tree_within, length-grown, grows_then}
-use Rattle.plan_lower.proofs.CoercionLemmas.{plain_tree, visits_binary, grown_elsewhere, written_elsewhere}
+use Rattle.plan_arena.proofs.ItemLemmas.{tree_within, length-grown, grows_then, grown_held}
+use Rattle.plan_lower.proofs.CoercionLemmas.{plain_tree, visits_binary, written_elsewhere}
 use Rattle.plan_lower.proofs.TableLemmas.{known_typed, known_inputs, first_below, right_over, extends_then}
 use Rattle.plan_lower.proofs.conversion.type_coercion.coerce_binary.Goals as goal
 
@@ -26,11 +26,11 @@ replace-requires c =
     omega (arith, here, length-grown _ _ c.in_ok-left.ensures.grows, length-grown _ _ c.in_ok-right.ensures.grows)
 
 pub returns-in_err-left-clause-elsewhere : goal.returns-in_err-left-clause-elsewhere
-returns-in_err-left-clause-elsewhere c = λ n op inputs other h. grown_elsewhere _ _ c.change_to.ensures.grows n op inputs h
+returns-in_err-left-clause-elsewhere c = λ n op inputs other h. grown_held _ _ c.change_to.ensures.grows n op inputs h
 
 pub returns-in_err-right-clause-elsewhere : goal.returns-in_err-right-clause-elsewhere
 returns-in_err-right-clause-elsewhere c = λ n op inputs other h.
-    grown_elsewhere _ _ c.change_to-2.ensures.grows n op inputs (grown_elsewhere _ _ c.in_ok-left.ensures.grows n op inputs h)
+    grown_held _ _ c.change_to-2.ensures.grows n op inputs (grown_held _ _ c.in_ok-left.ensures.grows n op inputs h)
 
 pub returns-clause-ok : goal.returns-clause-ok
 returns-clause-ok c = λ registry schema first t right le d.
@@ -61,6 +61,6 @@ returns-clause-extends c = extends_then c.args.types.now c.change_to.new.types c
 
 pub returns-clause-elsewhere : goal.returns-clause-elsewhere
 returns-clause-elsewhere c = λ n op inputs other h.
-    let before = grown_elsewhere _ _ c.in_ok-left.ensures.grows n op inputs h in
+    let before = grown_held _ _ c.in_ok-left.ensures.grows n op inputs h in
     let written = written_elsewhere _ _ c.args.node.0 _ c.in_ok-right.ensures.grows n op inputs other before in
     rw c.replace.ensures.items written

@@ -9,10 +9,10 @@ use Rattle.plan_dsl.specs.Strictness.{CanBecome}
 use Rattle.plan_arena.specs.Denotation.{Denotes}
 use Rattle.plan_arena.specs.Items.{HoldsFrom}
 use Rattle.plan_arena.specs.declared.aexpr.AExpr.TheVariants.{Cast}
-use Rattle.plan_arena.proofs.ItemLemmas.{tree_within, length-grown}
+use Rattle.plan_arena.proofs.ItemLemmas.{tree_within, length-grown, grown_held}
 use Rattle.plan_lower.specs.Coercion.{IsChangeFor}
 use Rattle.plan_lower.proofs.TypingLemmas.{AllHaveType}
-use Rattle.plan_lower.proofs.CoercionLemmas.{plain_tree, grown_elsewhere, written_elsewhere, visits_number, number_becomes, found_alone}
+use Rattle.plan_lower.proofs.CoercionLemmas.{plain_tree, written_elsewhere, visits_number, number_becomes, found_alone}
 use Rattle.plan_lower.proofs.TableLemmas.{known_typed, known_inputs, kept_type, cast_there, alone_there, first_below, right_over}
 use Rattle.plan_lower.proofs.conversion.type_coercion.coerce_cast.Goals as goal
 
@@ -35,7 +35,7 @@ change_to-requires c =
     first_below c.args.arena.now c.args.types.now c.args.node.0 c.requires.kept (tree_within c.args.arena.now c.args.node.0 (plain_tree (known_typed is.registry is.schema c.args.arena.now c.args.types.now is.right c.args.node.0 c.requires.kept)))
 
 pub returns-in_err-expr-clause-elsewhere : goal.returns-in_err-expr-clause-elsewhere
-returns-in_err-expr-clause-elsewhere c = λ n op inputs other h. grown_elsewhere _ _ c.change_to.ensures.grows n op inputs h
+returns-in_err-expr-clause-elsewhere c = λ n op inputs other h. grown_held _ _ c.change_to.ensures.grows n op inputs h
 
 pub replace-requires : goal.replace-requires
 replace-requires c =
