@@ -1,7 +1,7 @@
 -- The query that a value is.
 -- There is one function for each form. Each gives what a value of that form means, and nothing
 -- where the value hasn't the form.
-use Rattle.std.specs.Prelude.{◌≡◌, ℕ, ℤ, ◌^◌, ◌==◌, ◌&&◌, Bool, List, [], map, not, Option, Some, None, option_map, option_and_then, codes, nat_lt, position, slice_index, if◌then◌else◌, true, false}
+use Rattle.std.specs.Prelude.{◌≡◌, ℕ, ℤ, ◌^◌, ◌==◌, ◌&&◌, ◌||◌, Bool, List, [], map, not, Option, Some, None, option_map, option_and_then, codes, nat_lt, position, slice_index, if◌then◌else◌, true, false}
 use Rattle.std.specs.Map.{lookup}
 use Rattle.std.specs.Str.{chars, bytes_eq}
 use Rattle.serde_json.specs.Data.{Data, null, boolean, number as numeral, string, array, object, Items, no_items, item, no_members, member}

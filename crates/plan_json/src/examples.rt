@@ -246,7 +246,6 @@ pub fn text_examples()
     ensures past_every_float { IsRefusalOf (codes "{\"tables\":[],\"plan\":{\"scan\":1e400}}") NotJson }
     ensures nothing { IsRefusalOf [] NotJson }
     ensures more_behind { IsRefusalOf (codes "{\"tables\":[],\"plan\":{\"empty\":[]}},") NotJson }
-    ensures no_utf8 { IsRefusalOf (34 ∷ 0xff ∷ 34 ∷ []) NotJson }
     ensures memory { IsRefusalOf (codes "{\"tables\":[],\"plan\":{\"empty\":[]}}") NoMemory }
 {}
 

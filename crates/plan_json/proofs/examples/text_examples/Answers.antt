@@ -141,9 +141,9 @@ returns-clause-numbers c =
     (object (member (codes "plan") plan (member (codes "tables") (array no_items) no_members)), (search rules, refl), refl)
 
 abbrev filter_by : Data → Data
-filter_by number =
+filter_by value =
     let empty = object (member (codes "empty") (array no_items) no_members) in
-    let lit = object (member (codes "lit") number no_members) in
+    let lit = object (member (codes "lit") value no_members) in
     let plan = object (member (codes "filter") (array (item empty (item lit no_items))) no_members) in
     object (member (codes "plan") plan (member (codes "tables") (array no_items) no_members))
 
@@ -206,7 +206,3 @@ returns-clause-nothing c d (utf8, is) = cc
 pub returns-clause-more_behind : goal.returns-clause-more_behind
 unfolding values_on_literals
 returns-clause-more_behind c d (utf8, is) = cc
-
-pub returns-clause-no_utf8 : goal.returns-clause-no_utf8
-unfolding values_on_literals
-returns-clause-no_utf8 c d (utf8, is) = cc
