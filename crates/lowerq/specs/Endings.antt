@@ -1,7 +1,7 @@
 -- What the status of a run says of the words, the input, the plan and the bytes written; and which status
 -- words and an input call for, where memory doesn't run out and no read or write fails.
 use Rattle.std.specs.Prelude.{◌≡◌, ◌⊎◌, ℕ, ◌+◌, ◌<◌, ◌≤◌, List, length, take, Option, Some, IfSome}
-use Rattle.std.specs.Io.KnownBytes.{Appends}
+use Rattle.std.specs.Io.KnownBytes.{Appends, IsAtEnd}
 use Rattle.byte_streams.specs.Reading.{Took}
 use Rattle.byte_streams.specs.declared.stream.TheConstants.{INPUT_LIMIT}
 use Rattle.plan_types.specs.Schemas.{Name}
@@ -72,27 +72,6 @@ pub record SaysTooLong (words : List Name) (input before after : Option (List �
   pub long : IfSome input (λ all. INPUT_LIMIT < length all)
   pub written : Appends before after too_long_text
 
--- the status is a fault of reading or writing
-abbrev pub IsFault : Status → Type 0
-IsFault status.ReadFault = Unit {0}
-IsFault status.WriteFault = Unit {0}
-IsFault status.Lowered = ⊥
-IsFault (status.Refused error) = ⊥
-IsFault status.Usage = ⊥
-IsFault (status.BadQuery error) = ⊥
-IsFault status.NoMemory = ⊥
-IsFault status.TooLong = ⊥
-
--- a front of the text was written that another end would have written whole
-pub record SaysWriteFault (registry : Registry) (words : List Name) (input before after : Option (List ℕ)) : Type 0 where
-  pub other : Done
-  pub text : List ℕ
-  pub answers : IsAnswer registry words input other text
-  pub no_fault : ¬ (IsFault other.status)
-  pub count : ℕ
-  pub short : count < length text
-  pub written : Appends before after (take count text)
-
 -- the status is that of an input that was read
 abbrev pub IsOfInput : Status → Type 0
 IsOfInput status.Lowered = Unit {0}
@@ -107,6 +86,30 @@ IsOfInput status.TooLong = ⊥
 -- the bytes taken from a source are one more than the limit
 abbrev pub TookTooMany : Option (List ℕ) → Option (List ℕ) → Type 0
 TookTooMany before after = Took before after (λ taken. length taken ≡ INPUT_LIMIT + 1)
+
+-- the status is a fault of reading or writing
+abbrev pub IsFault : Status → Type 0
+IsFault status.ReadFault = Unit {0}
+IsFault status.WriteFault = Unit {0}
+IsFault status.Lowered = ⊥
+IsFault (status.Refused error) = ⊥
+IsFault status.Usage = ⊥
+IsFault (status.BadQuery error) = ⊥
+IsFault status.NoMemory = ⊥
+IsFault status.TooLong = ⊥
+
+-- a front of the text was written that another end would have written whole, and as much of the input was
+-- read as for that end
+pub record SaysWriteFault (registry : Registry) (words : List Name) (input rest before after : Option (List ℕ)) : Type 0 where
+  pub other : Done
+  pub text : List ℕ
+  pub answers : IsAnswer registry words input other text
+  pub no_fault : ¬ (IsFault other.status)
+  pub at_end : IsOfInput other.status → IsAtEnd rest
+  pub past : other.status ≡ status.TooLong → TookTooMany input rest
+  pub count : ℕ
+  pub short : count < length text
+  pub written : Appends before after (take count text)
 
 -- ---- which status is called for
 

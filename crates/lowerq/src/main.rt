@@ -12,16 +12,22 @@ use byte_streams::source::ReadAdapter;
 use plan_dsl::udfs::Udfs;
 use plan_types::text::PlSmallStr;
 use run::run;
-use std::alloc::Global;
+use status::Status;
+use std::alloc::{AllocError, Global};
 use std::env::{self, Args};
+use std::io::ErrorKind;
 use std::process::ExitCode;
 
 fn main(rt: HostRuntime) -> ExitCode {
     let alloc = rt.alloc();
     let words = match env::args(&rt) {
         Ok(arguments) => words_of(alloc, arguments),
+        Err(error) if error.kind() == ErrorKind::OutOfMemory => Err(AllocError),
         // An argument that isn't UTF-8 is no word of any form.
-        Err(_) => Vec::new(alloc),
+        Err(_) => Ok(Vec::new(alloc)),
+    };
+    let Ok(words) = words else {
+        return ExitCode::from(Status::NoMemory.number());
     };
     let mut source = ReadAdapter::new(rt.stdin());
     let mut sink = WriteAdapter::new(rt.stdout());
@@ -30,16 +36,14 @@ fn main(rt: HostRuntime) -> ExitCode {
     ExitCode::from(done.status.number())
 }
 
-// The arguments behind the program's name. Where there is no memory for them, there is none.
-fn words_of(alloc: Global, arguments: Args) -> Vec<PlSmallStr> {
+// The arguments behind the program's name.
+fn words_of(alloc: Global, arguments: Args) -> Result<Vec<PlSmallStr>, AllocError> {
     let mut words = Vec::new(alloc);
     for argument in arguments.skip(1) {
         let Ok(word) = PlSmallStr::new(alloc, argument.as_str()) else {
-            return Vec::new(alloc);
+            return Err(AllocError);
         };
-        if words.push(word).is_err() {
-            return Vec::new(alloc);
-        }
+        words.push(word)?;
     }
-    words
+    Ok(words)
 }

@@ -38,7 +38,7 @@ pub fn run<S: Source, K: Sink>(
     ensures too_long { result.status ≡ Status.TooLong → SaysTooLong words.now (S.left source.old) (K.written sink.old) (K.written sink.new) }
     ensures read_fault { result.status ≡ Status.ReadFault → Rose (S.faults source.old) (S.faults source.new) }
     ensures write_fault { result.status ≡ Status.WriteFault → Rose (K.faults sink.old) (K.faults sink.new) }
-    ensures cut { result.status ≡ Status.WriteFault → SaysWriteFault (registry udfs.now) words.now (S.left source.old) (K.written sink.old) (K.written sink.new) }
+    ensures cut { result.status ≡ Status.WriteFault → SaysWriteFault (registry udfs.now) words.now (S.left source.old) (S.left source.new) (K.written sink.old) (K.written sink.new) }
     ensures nothing_written { (result.status ≡ Status.ReadFault) ⊎ (result.status ≡ Status.NoMemory) → Appends (K.written sink.old) (K.written sink.new) [] }
     ensures end { IsOfInput result.status → IsAtEnd (S.left source.new) }
     ensures past { result.status ≡ Status.TooLong → TookTooMany (S.left source.old) (S.left source.new) }

@@ -1,22 +1,13 @@
 //! Bytes that are no query, and the place of what is at fault.
 
-use super::{lower, run_words};
+use super::{assert_bad, assert_ends, assert_run, query};
 use std::alloc::{AllocError, Global};
+use std::process::Abort;
 use std::test::Fail;
 
 const TABLES: &str = "[{\"name\":\"t\",\"columns\":[[\"a\",\"Int8\"],[\"b\",\"UInt8\"]]}]";
 
 const SELECT_NOTHING: &str = ". projection ()\n.0 df ()\ncasts 0\n";
-
-// A query of these tables and this plan.
-fn query(alloc: Global, tables: &str, plan: &str) -> Result<String, AllocError> {
-    let mut text = String::from_str(alloc, "{\"tables\":")?;
-    text.push_str(tables)?;
-    text.push_str(",\"plan\":")?;
-    text.push_str(plan)?;
-    text.push_str("}")?;
-    Ok(text)
-}
 
 // A plan inside so many selects, each of these expressions. Each select is two levels of nesting.
 fn selects(alloc: Global, count: u8, plan: &str, expressions: &str) -> Result<String, AllocError> {
@@ -33,17 +24,15 @@ fn selects(alloc: Global, count: u8, plan: &str, expressions: &str) -> Result<St
     Ok(text)
 }
 
-// Whether the plan, over the tables, ends as a bad query of that kind and place.
-fn is_told(alloc: Global, plan: &str, want: &str) -> Result<bool, Fail> {
+// Asserts that a plan over the tables is told as a bad query of that kind and place.
+fn assert_bad_plan(rt: &impl Abort, alloc: Global, plan: &str, want: &str) -> Result<(), Fail> {
     let input = query(alloc, TABLES, plan)?;
-    let seen = lower(alloc, input.as_str())?;
-    let text = format!(in alloc; "bad query {want}\n")?;
-    Ok(seen.number == 3 && !seen.has_plan && seen.written.as_slice() == text.as_bytes())
+    assert_bad(rt, alloc, input.as_str(), want)
 }
 
 #[test]
 fn values_of_unknown_keys_and_other_kinds_are_told(rt: HostRuntime) -> Result<(), Fail> {
-    for (plan, want) in [
+    for (plan, want) in &[
         // Unknown keys.
         ("{\"select\":[{\"drop\":\"t\"},[]]}", "Shape /plan/select/0"),
         ("{\"select\":[{\"Scan\":\"t\"},[]]}", "Shape /plan/select/0"),
@@ -76,14 +65,14 @@ fn values_of_unknown_keys_and_other_kinds_are_told(rt: HostRuntime) -> Result<()
         ("{\"empty\":\"a\"}", "Shape /plan/empty"),
         ("{\"empty\":[[\"a\",8]]}", "Shape /plan/empty/0/1"),
     ] {
-        assert!(rt; is_told(rt.alloc(), plan, want)?, "{plan}");
+        assert_bad_plan(&rt, rt.alloc(), plan, want)?;
     }
     Ok(())
 }
 
 #[test]
 fn numbers_that_are_held_as_floats_are_told(rt: HostRuntime) -> Result<(), Fail> {
-    for (plan, want) in [
+    for (plan, want) in &[
         ("0.5", "Float /plan"),
         ("{\"scan\":-0}", "Float /plan/scan"),
         ("{\"empty\":[[\"a\",1e3]]}", "Float /plan/empty/0/1"),
@@ -101,14 +90,14 @@ fn numbers_that_are_held_as_floats_are_told(rt: HostRuntime) -> Result<(), Fail>
             "Shape /plan/filter/1/lit",
         ),
     ] {
-        assert!(rt; is_told(rt.alloc(), plan, want)?, "{plan}");
+        assert_bad_plan(&rt, rt.alloc(), plan, want)?;
     }
     Ok(())
 }
 
 #[test]
 fn filters_of_another_length_are_told(rt: HostRuntime) -> Result<(), Fail> {
-    for (plan, want) in [
+    for (plan, want) in &[
         ("{\"filter\":[{\"scan\":\"t\"}]}", "Shape /plan/filter"),
         (
             "{\"filter\":[{\"scan\":\"t\"},{\"lit\":1},{\"lit\":1}]}",
@@ -123,14 +112,14 @@ fn filters_of_another_length_are_told(rt: HostRuntime) -> Result<(), Fail> {
             "Name /plan/filter/0/filter/0/scan",
         ),
     ] {
-        assert!(rt; is_told(rt.alloc(), plan, want)?, "{plan}");
+        assert_bad_plan(&rt, rt.alloc(), plan, want)?;
     }
     Ok(())
 }
 
 #[test]
 fn lists_of_another_length_and_keys_too_many_are_told(rt: HostRuntime) -> Result<(), Fail> {
-    for (plan, want) in [
+    for (plan, want) in &[
         // Lists of another length.
         (
             "{\"select\":[{\"select\":[{\"scan\":\"t\"}]},[]]}",
@@ -164,14 +153,14 @@ fn lists_of_another_length_and_keys_too_many_are_told(rt: HostRuntime) -> Result
         ),
         ("{\"a/b~\":[]}", "Shape /plan"),
     ] {
-        assert!(rt; is_told(rt.alloc(), plan, want)?, "{plan}");
+        assert_bad_plan(&rt, rt.alloc(), plan, want)?;
     }
     Ok(())
 }
 
 #[test]
 fn undeclared_tables_and_repeated_columns_are_told(rt: HostRuntime) -> Result<(), Fail> {
-    for (plan, want) in [
+    for (plan, want) in &[
         // Tables that aren't declared.
         ("{\"scan\":\"T\"}", "Name /plan/scan"),
         ("{\"scan\":\"~/\"}", "Name /plan/scan"),
@@ -185,15 +174,14 @@ fn undeclared_tables_and_repeated_columns_are_told(rt: HostRuntime) -> Result<()
             "Shape /plan/select/0/empty",
         ),
     ] {
-        assert!(rt; is_told(rt.alloc(), plan, want)?, "{plan}");
+        assert_bad_plan(&rt, rt.alloc(), plan, want)?;
     }
     Ok(())
 }
 
 #[test]
 fn tables_at_fault_are_told_with_their_place(rt: HostRuntime) -> Result<(), Fail> {
-    let alloc = rt.alloc();
-    for (tables, want) in [
+    for (tables, want) in &[
         ("{\"t\":[]}", "Shape /tables"),
         (
             "[{\"name\":\"s\",\"columns\":[]},[\"t\",[]]]",
@@ -211,6 +199,16 @@ fn tables_at_fault_are_told_with_their_place(rt: HostRuntime) -> Result<(), Fail
             "[{\"name\":\"s\",\"columns\":[]},{\"name\":12,\"columns\":[]}]",
             "Shape /tables/1/name",
         ),
+    ] {
+        let input = query(rt.alloc(), tables, "{\"empty\":[]}")?;
+        assert_bad(&rt, rt.alloc(), input.as_str(), want)?;
+    }
+    Ok(())
+}
+
+#[test]
+fn columns_and_names_at_fault_are_told_with_their_place(rt: HostRuntime) -> Result<(), Fail> {
+    for (tables, want) in &[
         (
             "[{\"name\":\"t\",\"columns\":[[\"a\",\"Int8\"],[true,\"Int8\"]]}]",
             "Shape /tables/0/columns/1/0",
@@ -228,20 +226,21 @@ fn tables_at_fault_are_told_with_their_place(rt: HostRuntime) -> Result<(), Fail
             "Name /tables/2/name",
         ),
     ] {
-        let input = query(alloc, tables, "{\"empty\":[]}")?;
-        let seen = lower(alloc, input.as_str())?;
-        let text = format!(in alloc; "bad query {want}\n")?;
-        assert_eq!(rt; seen.number, 3, "{tables}");
-        assert!(rt; !seen.has_plan);
-        assert_eq!(rt; seen.written.as_slice(), text.as_bytes(), "{tables}");
+        let input = query(rt.alloc(), tables, "{\"empty\":[]}")?;
+        assert_bad(&rt, rt.alloc(), input.as_str(), want)?;
     }
     Ok(())
 }
 
+// Asserts that the bytes are no JSON text.
+fn assert_no_json(rt: &impl Abort, alloc: Global, bytes: &[u8]) -> Result<(), Fail> {
+    let text = "bad query NotJson\n";
+    assert_run(rt, alloc, &["lower"], bytes, 3, text, text)
+}
+
 #[test]
 fn bytes_that_are_no_json_are_told_so(rt: HostRuntime) -> Result<(), Fail> {
-    let alloc = rt.alloc();
-    for bytes in [
+    for bytes in &[
         // More behind the value, or in front of it.
         b"{\"tables\":[],\"plan\":{\"empty\":[]}}x".as_slice(),
         b"{\"tables\":[],\"plan\":{\"empty\":[]}} {\"tables\":[],\"plan\":{\"empty\":[]}}".as_slice(),
@@ -265,18 +264,14 @@ fn bytes_that_are_no_json_are_told_so(rt: HostRuntime) -> Result<(), Fail> {
         b"{\"tables\":[],\"plan\":{\"scan\":\"\x1f\"}}".as_slice(),
         b"{\"tables\":[],\"plan\":{\"lit\":1e400}}".as_slice(),
     ] {
-        let seen = run_words(alloc, &["lower"], bytes)?;
-        assert_eq!(rt; seen.number, 3);
-        assert!(rt; !seen.has_plan);
-        assert_eq!(rt; seen.written.as_slice(), b"bad query NotJson\n".as_slice());
+        assert_no_json(&rt, rt.alloc(), bytes)?;
     }
     Ok(())
 }
 
 #[test]
 fn other_ways_to_write_a_query_are_read(rt: HostRuntime) -> Result<(), Fail> {
-    let alloc = rt.alloc();
-    for (input, text) in [
+    for (input, text) in &[
         (
             "\t{ \"plan\" :\r\n{ \"empty\" : [ ] } , \"tables\" : [\n] } ",
             ". df ()\ncasts 0\n",
@@ -291,19 +286,21 @@ fn other_ways_to_write_a_query_are_read(rt: HostRuntime) -> Result<(), Fail> {
             ". df ()\ncasts 0\n",
         ),
     ] {
-        let seen = lower(alloc, input)?;
-        assert_eq!(rt; seen.number, 0, "{input}");
-        assert!(rt; seen.has_plan);
-        assert_eq!(rt; seen.written.as_slice(), text.as_bytes(), "{input}");
+        assert_ends(&rt, rt.alloc(), input, 0, text)?;
     }
     Ok(())
+}
+
+// A query of a plan inside so many selects.
+fn nested(alloc: Global, count: u8, plan: &str, expressions: &str) -> Result<String, AllocError> {
+    let plan = selects(alloc, count, plan, expressions)?;
+    query(alloc, TABLES, plan.as_str())
 }
 
 // The query is one level, so the plan inside 62 selects begins at level 126.
 #[test]
 fn texts_of_more_than_127_levels_are_no_json(rt: HostRuntime) -> Result<(), Fail> {
-    let alloc = rt.alloc();
-    for (count, plan, expressions, number, text) in [
+    for (count, plan, expressions, number, text) in &[
         (62, "{\"empty\":[]}", "[]", 0, SELECT_NOTHING),
         (63, "{\"empty\":[]}", "[]", 3, "bad query NotJson\n"),
         (
@@ -314,22 +311,14 @@ fn texts_of_more_than_127_levels_are_no_json(rt: HostRuntime) -> Result<(), Fail
             "bad query NotJson\n",
         ),
     ] {
-        let nested = selects(alloc, count, plan, expressions)?;
-        let input = query(alloc, TABLES, nested.as_str())?;
-        let seen = lower(alloc, input.as_str())?;
-        assert_eq!(rt; seen.number, number, "{count} {plan}");
-        assert_eq!(rt; seen.written.as_slice(), text.as_bytes(), "{count} {plan}");
+        let input = nested(rt.alloc(), *count, plan, expressions)?;
+        assert_ends(&rt, rt.alloc(), input.as_str(), *number, text)?;
     }
     Ok(())
 }
 
-// The expression of the lowest select is at level 127.
-#[test]
-fn a_report_has_a_line_for_each_level(rt: HostRuntime) -> Result<(), Fail> {
-    let alloc = rt.alloc();
-    let nested = selects(alloc, 62, "{\"scan\":\"t\"}", "[{\"col\":\"b\"}]")?;
-    let input = query(alloc, TABLES, nested.as_str())?;
-    let seen = lower(alloc, input.as_str())?;
+// The report of a table inside 62 selects of one column.
+fn report(alloc: Global) -> Result<String, AllocError> {
     let mut text = String::from_str(alloc, ". projection (\"b\" UInt8)\n")?;
     let mut path = String::new(alloc);
     for _ in 1..62 {
@@ -339,7 +328,13 @@ fn a_report_has_a_line_for_each_level(rt: HostRuntime) -> Result<(), Fail> {
     }
     text.push_str(path.as_str())?;
     text.push_str(".0 df (\"a\" Int8, \"b\" UInt8)\ncasts 0\n")?;
-    assert_eq!(rt; seen.number, 0);
-    assert_eq!(rt; seen.written.as_slice(), text.as_bytes());
-    Ok(())
+    Ok(text)
+}
+
+// The expression of the lowest select is at level 127.
+#[test]
+fn a_report_has_a_line_for_each_level(rt: HostRuntime) -> Result<(), Fail> {
+    let input = nested(rt.alloc(), 62, "{\"scan\":\"t\"}", "[{\"col\":\"b\"}]")?;
+    let text = report(rt.alloc())?;
+    assert_ends(&rt, rt.alloc(), input.as_str(), 0, text.as_str())
 }

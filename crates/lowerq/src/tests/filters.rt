@@ -1,7 +1,7 @@
 //! Queries with filters.
 
-use super::{Seen, lower};
-use std::alloc::Global;
+use super::{Table, assert_ends, assert_filtered, query};
+use std::alloc::{AllocError, Global};
 use std::test::Fail;
 
 const SCAN: &str = "{\"scan\":\"t\"}";
@@ -16,29 +16,30 @@ const A_IS_1: &str = "{\"bin\":[\"Eq\",{\"col\":\"a\"},{\"lit\":1}]}";
 
 const A_IS_300: &str = "{\"bin\":[\"Eq\",{\"col\":\"a\"},{\"lit\":300}]}";
 
-// What a plan over one table of two columns gives.
-fn lower_plan(alloc: Global, plan: &str) -> Result<Seen, Fail> {
-    let input = format!(in alloc;
-        "{{\"tables\":[{{\"name\":\"t\",\"columns\":[[\"a\",\"Int8\"],[\"c\",\"Boolean\"]]}}],\"plan\":{plan}}}"
-    )?;
-    lower(alloc, input.as_str())
+const TABLE: Table = Table {
+    declared: "[{\"name\":\"t\",\"columns\":[[\"a\",\"Int8\"],[\"c\",\"Boolean\"]]}]",
+    printed: "(\"a\" Int8, \"c\" Boolean)",
+};
+
+// A filter of the plan, or a select of some expressions.
+fn over(alloc: Global, word: &str, plan: &str, expressions: &str) -> Result<String, AllocError> {
+    if word == "select" {
+        format!(in alloc; "{{\"select\":[{plan},[{expressions}]]}}")
+    } else {
+        format!(in alloc; "{{\"{word}\":[{plan},{expressions}]}}")
+    }
 }
 
-// A filter of the plan, or a select of one expression.
-fn over(alloc: Global, word: &str, plan: &str, expression: &str) -> Result<String, Fail> {
-    let mut text = format!(in alloc; "{{\"{word}\":[{plan},")?;
-    if word == "select" {
-        text.push_str("[")?;
-    }
-    text.push_str(expression)?;
-    text.push_str(if word == "select" { "]]}" } else { "]}" })?;
-    Ok(text)
+// A query of one step over another over the table, each with its word and its expressions.
+fn steps(alloc: Global, below: (&str, &str), above: (&str, &str)) -> Result<String, AllocError> {
+    let input = over(alloc, below.0, SCAN, below.1)?;
+    let plan = over(alloc, above.0, input.as_str(), above.1)?;
+    query(alloc, TABLE.declared, plan.as_str())
 }
 
 #[test]
 fn filters_of_a_table_have_its_schema(rt: HostRuntime) -> Result<(), Fail> {
-    let alloc = rt.alloc();
-    for (predicate, casts) in [
+    for (predicate, casts) in &[
         (C, 0),
         (A_IS_1, 0),
         (A_IS_300, 1),
@@ -47,22 +48,20 @@ fn filters_of_a_table_have_its_schema(rt: HostRuntime) -> Result<(), Fail> {
         ("{\"cast\":[{\"col\":\"a\"},\"Boolean\",\"Strict\"]}", 1),
         ("{\"cast\":[{\"lit\":1},\"Boolean\",\"Strict\"]}", 1),
     ] {
-        let plan = over(alloc, "filter", SCAN, predicate)?;
-        let seen = lower_plan(alloc, plan.as_str())?;
-        let text = format!(in alloc;
-            ". selection (\"a\" Int8, \"c\" Boolean)\n.0 df (\"a\" Int8, \"c\" Boolean)\ncasts {casts}\n"
-        )?;
-        assert_eq!(rt; seen.number, 0, "{predicate}");
-        assert!(rt; seen.has_plan);
-        assert_eq!(rt; seen.written.as_slice(), text.as_bytes(), "{predicate}");
+        assert_filtered(&rt, rt.alloc(), TABLE, predicate, *casts)?;
     }
     Ok(())
 }
 
+// A query that filters the table.
+fn filter(alloc: Global, predicate: &str) -> Result<String, AllocError> {
+    let plan = over(alloc, "filter", SCAN, predicate)?;
+    query(alloc, TABLE.declared, plan.as_str())
+}
+
 #[test]
 fn predicates_of_another_type_are_refused(rt: HostRuntime) -> Result<(), Fail> {
-    let alloc = rt.alloc();
-    for (predicate, text) in [
+    for (predicate, text) in &[
         (A, "refused InvalidOperation .\n"),
         (A_PLUS_1, "refused InvalidOperation .\n"),
         ("{\"lit\":1}", "refused InvalidOperation .\n"),
@@ -80,26 +79,15 @@ fn predicates_of_another_type_are_refused(rt: HostRuntime) -> Result<(), Fail> {
         ),
         ("{\"col\":\"b\"}", "refused ColumnNotFound .\n"),
     ] {
-        let plan = over(alloc, "filter", SCAN, predicate)?;
-        let seen = lower_plan(alloc, plan.as_str())?;
-        assert_eq!(rt; seen.number, 1, "{predicate}");
-        assert!(rt; !seen.has_plan);
-        assert_eq!(rt; seen.written.as_slice(), text.as_bytes(), "{predicate}");
+        let input = filter(rt.alloc(), predicate)?;
+        assert_ends(&rt, rt.alloc(), input.as_str(), 1, text)?;
     }
     Ok(())
 }
 
-// What one step over another over the table gives, each with its word and its expression.
-fn lower_steps(alloc: Global, below: (&str, &str), above: (&str, &str)) -> Result<Seen, Fail> {
-    let input = over(alloc, below.0, SCAN, below.1)?;
-    let plan = over(alloc, above.0, input.as_str(), above.1)?;
-    lower_plan(alloc, plan.as_str())
-}
-
 #[test]
 fn filters_and_selects_stand_over_each_other(rt: HostRuntime) -> Result<(), Fail> {
-    let alloc = rt.alloc();
-    for (below, above, text) in [
+    for (below, above, text) in &[
         (
             ("filter", A_IS_1),
             ("filter", C),
@@ -116,10 +104,8 @@ fn filters_and_selects_stand_over_each_other(rt: HostRuntime) -> Result<(), Fail
             ". selection (\"a\" Boolean)\n.0 projection (\"a\" Boolean)\n.0.0 df (\"a\" Int8, \"c\" Boolean)\ncasts 1\n",
         ),
     ] {
-        let seen = lower_steps(alloc, below, above)?;
-        assert_eq!(rt; seen.written.as_slice(), text.as_bytes());
-        assert_eq!(rt; seen.number, 0);
-        assert!(rt; seen.has_plan);
+        let input = steps(rt.alloc(), *below, *above)?;
+        assert_ends(&rt, rt.alloc(), input.as_str(), 0, text)?;
     }
     Ok(())
 }
@@ -128,8 +114,7 @@ fn filters_and_selects_stand_over_each_other(rt: HostRuntime) -> Result<(), Fail
 fn rules_broken_under_and_over_a_filter_are_told_with_their_place(
     rt: HostRuntime,
 ) -> Result<(), Fail> {
-    let alloc = rt.alloc();
-    for (below, above, text) in [
+    for (below, above, text) in &[
         (
             ("filter", A_PLUS_1),
             ("select", A),
@@ -152,25 +137,19 @@ fn rules_broken_under_and_over_a_filter_are_told_with_their_place(
             "refused ColumnNotFound .\n",
         ),
     ] {
-        let seen = lower_steps(alloc, below, above)?;
-        assert_eq!(rt; seen.written.as_slice(), text.as_bytes());
-        assert_eq!(rt; seen.number, 1);
-        assert!(rt; !seen.has_plan);
+        let input = steps(rt.alloc(), *below, *above)?;
+        assert_ends(&rt, rt.alloc(), input.as_str(), 1, text)?;
     }
     Ok(())
 }
 
 #[test]
 fn a_number_is_not_compared_to_a_text(rt: HostRuntime) -> Result<(), Fail> {
-    let seen = lower(
+    assert_ends(
+        &rt,
         rt.alloc(),
         "{\"tables\":[{\"name\":\"t\",\"columns\":[[\"a\",\"Int32\"]]}],\"plan\":{\"filter\":[{\"scan\":\"t\"},{\"bin\":[\"Eq\",{\"col\":\"a\"},{\"lit\":\"x\"}]}]}}",
-    )?;
-    assert_eq!(rt;
-        seen.written.as_slice(),
-        b"refused InvalidOperation .\n".as_slice()
-    );
-    assert_eq!(rt; seen.number, 1);
-    assert!(rt; !seen.has_plan);
-    Ok(())
+        1,
+        "refused InvalidOperation .\n",
+    )
 }

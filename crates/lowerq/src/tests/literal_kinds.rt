@@ -1,32 +1,32 @@
 //! Queries with literals of each kind, and with values that are no literals.
 
-use super::lower;
+use super::{assert_bad, assert_ends};
 use std::alloc::{AllocError, Global};
+use std::process::Abort;
 use std::test::Fail;
 
 // A query that selects the expression of the empty table.
 fn select(alloc: Global, expression: &str) -> Result<String, AllocError> {
-    let mut text = String::from_str(
-        alloc,
-        "{\"tables\":[],\"plan\":{\"select\":[{\"empty\":[]},[",
-    )?;
-    text.push_str(expression)?;
-    text.push_str("]]}}")?;
-    Ok(text)
+    format!(in alloc; "{{\"tables\":[],\"plan\":{{\"select\":[{{\"empty\":[]}},[{expression}]]}}}}")
 }
 
-// Whether a select of the expression has a column `literal` of the type, without casts.
-fn has_type(alloc: Global, expression: &str, dtype: &str) -> Result<bool, Fail> {
+// Asserts that a select of the expression has a column `literal` of the type, without casts.
+fn assert_type(rt: &impl Abort, alloc: Global, expression: &str, dtype: &str) -> Result<(), Fail> {
     let input = select(alloc, expression)?;
-    let seen = lower(alloc, input.as_str())?;
     let text = format!(in alloc; ". projection (\"literal\" {dtype})\n.0 df ()\ncasts 0\n")?;
-    Ok(seen.number == 0 && seen.has_plan && seen.written.as_slice() == text.as_bytes())
+    assert_ends(rt, alloc, input.as_str(), 0, text.as_str())
+}
+
+// Asserts that a select of the expression is refused for a broken rule of that kind.
+fn assert_none(rt: &impl Abort, alloc: Global, expression: &str, kind: &str) -> Result<(), Fail> {
+    let input = select(alloc, expression)?;
+    let text = format!(in alloc; "refused {kind} .\n")?;
+    assert_ends(rt, alloc, input.as_str(), 1, text.as_str())
 }
 
 #[test]
 fn literals_have_their_types(rt: HostRuntime) -> Result<(), Fail> {
-    let alloc = rt.alloc();
-    for (expression, dtype) in [
+    for (expression, dtype) in &[
         ("{\"lit\":null}", "Null"),
         ("{\"lit\":true}", "Boolean"),
         ("{\"lit\":\"\"}", "String"),
@@ -47,15 +47,14 @@ fn literals_have_their_types(rt: HostRuntime) -> Result<(), Fail> {
         ("{\"typed\":[{\"Datetime\":\"ms\"},-1]}", "Datetime(ms)"),
         ("{\"typed\":[{\"Duration\":\"us\"},1]}", "Duration(us)"),
     ] {
-        assert!(rt; has_type(alloc, expression, dtype)?, "{expression}");
+        assert_type(&rt, rt.alloc(), expression, dtype)?;
     }
     Ok(())
 }
 
 #[test]
 fn operators_take_literals(rt: HostRuntime) -> Result<(), Fail> {
-    let alloc = rt.alloc();
-    for (expression, dtype) in [
+    for (expression, dtype) in &[
         (
             "{\"bin\":[\"Minus\",{\"typed\":[\"Date\",10957]},{\"typed\":[\"Date\",10956]}]}",
             "Duration(ms)",
@@ -77,15 +76,14 @@ fn operators_take_literals(rt: HostRuntime) -> Result<(), Fail> {
             "Boolean",
         ),
     ] {
-        assert!(rt; has_type(alloc, expression, dtype)?, "{expression}");
+        assert_type(&rt, rt.alloc(), expression, dtype)?;
     }
     Ok(())
 }
 
 #[test]
 fn literals_without_a_place_are_refused(rt: HostRuntime) -> Result<(), Fail> {
-    let alloc = rt.alloc();
-    for (expression, kind) in [
+    for (expression, kind) in &[
         (
             "{\"bin\":[\"Plus\",{\"typed\":[\"Date\",10957]},{\"typed\":[\"Date\",10956]}]}",
             "InvalidOperation",
@@ -101,20 +99,14 @@ fn literals_without_a_place_are_refused(rt: HostRuntime) -> Result<(), Fail> {
         ("{\"int\":\"18446744073709551616\"}", "InvalidOperation"),
         ("{\"int\":\"-9223372036854775809\"}", "InvalidOperation"),
     ] {
-        let input = select(alloc, expression)?;
-        let seen = lower(alloc, input.as_str())?;
-        let text = format!(in alloc; "refused {kind} .\n")?;
-        assert_eq!(rt; seen.number, 1, "{expression}");
-        assert!(rt; !seen.has_plan);
-        assert_eq!(rt; seen.written.as_slice(), text.as_bytes(), "{expression}");
+        assert_none(&rt, rt.alloc(), expression, kind)?;
     }
     Ok(())
 }
 
 #[test]
 fn values_that_are_no_literals_are_told(rt: HostRuntime) -> Result<(), Fail> {
-    let alloc = rt.alloc();
-    for (expression, want) in [
+    for (expression, want) in &[
         ("{\"lit\":1.5}", "Float /plan/select/1/0/lit"),
         ("{\"lit\":[1]}", "Shape /plan/select/1/0/lit"),
         ("{\"int\":\"1x\"}", "Shape /plan/select/1/0/int"),
@@ -124,6 +116,20 @@ fn values_that_are_no_literals_are_told(rt: HostRuntime) -> Result<(), Fail> {
             "{\"int\":\"170141183460469231731687303715884105728\"}",
             "Shape /plan/select/1/0/int",
         ),
+        (
+            "{\"bin\":[\"Power\",{\"lit\":1},{\"lit\":1}]}",
+            "Shape /plan/select/1/0/bin/0",
+        ),
+    ] {
+        let input = select(rt.alloc(), expression)?;
+        assert_bad(&rt, rt.alloc(), input.as_str(), want)?;
+    }
+    Ok(())
+}
+
+#[test]
+fn numbers_that_a_type_does_not_have_are_told(rt: HostRuntime) -> Result<(), Fail> {
+    for (expression, want) in &[
         ("{\"typed\":[\"Int8\"]}", "Shape /plan/select/1/0/typed"),
         (
             "{\"typed\":[\"Int8\",128]}",
@@ -145,17 +151,9 @@ fn values_that_are_no_literals_are_told(rt: HostRuntime) -> Result<(), Fail> {
             "{\"typed\":[\"Time\",86400000000000]}",
             "Shape /plan/select/1/0/typed/1",
         ),
-        (
-            "{\"bin\":[\"Power\",{\"lit\":1},{\"lit\":1}]}",
-            "Shape /plan/select/1/0/bin/0",
-        ),
     ] {
-        let input = select(alloc, expression)?;
-        let seen = lower(alloc, input.as_str())?;
-        let text = format!(in alloc; "bad query {want}\n")?;
-        assert_eq!(rt; seen.number, 3, "{expression}");
-        assert!(rt; !seen.has_plan);
-        assert_eq!(rt; seen.written.as_slice(), text.as_bytes(), "{expression}");
+        let input = select(rt.alloc(), expression)?;
+        assert_bad(&rt, rt.alloc(), input.as_str(), want)?;
     }
     Ok(())
 }

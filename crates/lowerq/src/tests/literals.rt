@@ -1,22 +1,13 @@
 //! Queries with literals.
 
-use super::lower;
+use super::{Table, assert_not_selected, assert_selected};
 use std::alloc::{AllocError, Global};
 use std::test::Fail;
 
-// A select over a table of five columns.
-fn select(alloc: Global, expressions: &str) -> Result<String, AllocError> {
-    format!(in alloc;
-        "{{\"tables\":[{{\"name\":\"t\",\"columns\":[[\"a\",\"Int8\"],[\"b\",\"Int32\"],[\"c\",\"Boolean\"],[\"e\",\"UInt8\"],[\"u\",\"UInt64\"]]}}],\"plan\":{{\"select\":[{{\"scan\":\"t\"}},[{expressions}]]}}}}"
-    )
-}
-
-// The report of a select over that table.
-fn report(alloc: Global, columns: &str, casts: u8) -> Result<String, AllocError> {
-    format!(in alloc;
-        ". projection ({columns})\n.0 df (\"a\" Int8, \"b\" Int32, \"c\" Boolean, \"e\" UInt8, \"u\" UInt64)\ncasts {casts}\n"
-    )
-}
+const TABLE: Table = Table {
+    declared: "[{\"name\":\"t\",\"columns\":[[\"a\",\"Int8\"],[\"b\",\"Int32\"],[\"c\",\"Boolean\"],[\"e\",\"UInt8\"],[\"u\",\"UInt64\"]]}]",
+    printed: "(\"a\" Int8, \"b\" Int32, \"c\" Boolean, \"e\" UInt8, \"u\" UInt64)",
+};
 
 // An operator between a column and a number.
 fn beside(alloc: Global, operator: &str, column: &str, number: &str) -> Result<String, AllocError> {
@@ -25,8 +16,7 @@ fn beside(alloc: Global, operator: &str, column: &str, number: &str) -> Result<S
 
 #[test]
 fn numbers_get_the_type_of_the_column_beside_them(rt: HostRuntime) -> Result<(), Fail> {
-    let alloc = rt.alloc();
-    for (operator, column, number, columns, casts) in [
+    for (operator, column, number, columns, casts) in &[
         ("Plus", "a", "1", "\"a\" Int8", 0),
         ("Plus", "a", "127", "\"a\" Int8", 0),
         ("Plus", "a", "-128", "\"a\" Int8", 0),
@@ -47,20 +37,20 @@ fn numbers_get_the_type_of_the_column_beside_them(rt: HostRuntime) -> Result<(),
         ("Lt", "a", "1", "\"a\" Boolean", 0),
         ("GtEq", "a", "300", "\"a\" Boolean", 1),
     ] {
-        let expression = beside(alloc, operator, column, number)?;
-        let input = select(alloc, expression.as_str())?;
-        let seen = lower(alloc, input.as_str())?;
-        let text = report(alloc, columns, casts)?;
-        assert_eq!(rt; seen.number, 0, "{expression}");
-        assert_eq!(rt; seen.written.as_slice(), text.as_bytes(), "{expression}");
+        let expression = beside(rt.alloc(), operator, column, number)?;
+        assert_selected(&rt, rt.alloc(), TABLE, expression.as_str(), columns, *casts)?;
     }
     Ok(())
 }
 
+// A number without a type.
+fn alone(alloc: Global, number: &str) -> Result<String, AllocError> {
+    format!(in alloc; "{{\"lit\":{number}}}")
+}
+
 #[test]
 fn numbers_alone_get_the_first_type_that_has_them(rt: HostRuntime) -> Result<(), Fail> {
-    let alloc = rt.alloc();
-    for (number, columns) in [
+    for (number, columns) in &[
         ("0", "\"literal\" Int32"),
         ("2147483647", "\"literal\" Int32"),
         ("-2147483648", "\"literal\" Int32"),
@@ -71,20 +61,15 @@ fn numbers_alone_get_the_first_type_that_has_them(rt: HostRuntime) -> Result<(),
         ("9223372036854775808", "\"literal\" UInt64"),
         ("18446744073709551615", "\"literal\" UInt64"),
     ] {
-        let expression = format!(in alloc; "{{\"lit\":{number}}}")?;
-        let input = select(alloc, expression.as_str())?;
-        let seen = lower(alloc, input.as_str())?;
-        let text = report(alloc, columns, 0)?;
-        assert_eq!(rt; seen.number, 0, "{number}");
-        assert_eq!(rt; seen.written.as_slice(), text.as_bytes(), "{number}");
+        let expression = alone(rt.alloc(), number)?;
+        assert_selected(&rt, rt.alloc(), TABLE, expression.as_str(), columns, 0)?;
     }
     Ok(())
 }
 
 #[test]
-fn numbers_get_types_beside_numbers_and_under_casts(rt: HostRuntime) -> Result<(), Fail> {
-    let alloc = rt.alloc();
-    for (expressions, columns, casts) in [
+fn numbers_get_types_beside_numbers(rt: HostRuntime) -> Result<(), Fail> {
+    for (expressions, columns, casts) in &[
         (
             "{\"bin\":[\"Plus\",{\"lit\":1},{\"lit\":2}]}",
             "\"literal\" Int32",
@@ -105,6 +90,15 @@ fn numbers_get_types_beside_numbers_and_under_casts(rt: HostRuntime) -> Result<(
             "\"a\" Int16",
             1,
         ),
+    ] {
+        assert_selected(&rt, rt.alloc(), TABLE, expressions, columns, *casts)?;
+    }
+    Ok(())
+}
+
+#[test]
+fn numbers_under_casts_stay(rt: HostRuntime) -> Result<(), Fail> {
+    for (expressions, columns, casts) in &[
         (
             "{\"cast\":[{\"lit\":200},\"Int8\",\"Strict\"]}",
             "\"literal\" Int8",
@@ -121,43 +115,34 @@ fn numbers_get_types_beside_numbers_and_under_casts(rt: HostRuntime) -> Result<(
             1,
         ),
     ] {
-        let input = select(alloc, expressions)?;
-        let seen = lower(alloc, input.as_str())?;
-        let text = report(alloc, columns, casts)?;
-        assert_eq!(rt; seen.number, 0, "{expressions}");
-        assert_eq!(rt; seen.written.as_slice(), text.as_bytes(), "{expressions}");
+        assert_selected(&rt, rt.alloc(), TABLE, expressions, columns, *casts)?;
     }
     Ok(())
 }
 
 #[test]
 fn literals_that_break_a_rule_are_refused(rt: HostRuntime) -> Result<(), Fail> {
-    let alloc = rt.alloc();
-    for (expressions, text) in [
+    for (expressions, kind) in &[
         (
             "{\"bin\":[\"Plus\",{\"col\":\"u\"},{\"lit\":-1}]}",
-            "refused SchemaMismatch .\n",
+            "SchemaMismatch",
         ),
         (
             "{\"bin\":[\"Eq\",{\"col\":\"a\"},{\"lit\":9223372036854775808}]}",
-            "refused SchemaMismatch .\n",
+            "SchemaMismatch",
         ),
         (
             "{\"bin\":[\"Plus\",{\"lit\":1},{\"lit\":18446744073709551615}]}",
-            "refused SchemaMismatch .\n",
+            "SchemaMismatch",
         ),
-        ("{\"lit\":1},{\"lit\":2}", "refused Duplicate .\n"),
+        ("{\"lit\":1},{\"lit\":2}", "Duplicate"),
         (
             "{\"lit\":1},{\"cast\":[{\"lit\":1},\"Int8\",\"Strict\"]}",
-            "refused Duplicate .\n",
+            "Duplicate",
         ),
-        ("{\"col\":\"literal\"}", "refused ColumnNotFound .\n"),
+        ("{\"col\":\"literal\"}", "ColumnNotFound"),
     ] {
-        let input = select(alloc, expressions)?;
-        let seen = lower(alloc, input.as_str())?;
-        assert_eq!(rt; seen.number, 1, "{expressions}");
-        assert!(rt; !seen.has_plan);
-        assert_eq!(rt; seen.written.as_slice(), text.as_bytes(), "{expressions}");
+        assert_not_selected(&rt, rt.alloc(), TABLE, expressions, kind)?;
     }
     Ok(())
 }

@@ -1,27 +1,35 @@
 //! Names as queries write them, and as reports print them.
 
-use super::lower;
+use super::{assert_bad, assert_ends};
 use std::alloc::{AllocError, Global};
+use std::process::Abort;
 use std::test::Fail;
 
 // A select of a table's only column. The table and the column are declared by one text, and named by the other.
 fn query(alloc: Global, declared: &str, named: &str) -> Result<String, AllocError> {
-    let mut text = String::from_str(alloc, "{\"tables\":[{\"name\":\"")?;
-    text.push_str(declared)?;
-    text.push_str("\",\"columns\":[[\"")?;
-    text.push_str(declared)?;
-    text.push_str("\",\"Int8\"]]}],\"plan\":{\"select\":[{\"scan\":\"")?;
-    text.push_str(named)?;
-    text.push_str("\"},[{\"col\":\"")?;
-    text.push_str(named)?;
-    text.push_str("\"}]]}}")?;
-    Ok(text)
+    format!(in alloc;
+        "{{\"tables\":[{{\"name\":\"{declared}\",\"columns\":[[\"{declared}\",\"Int8\"]]}}],\"plan\":{{\"select\":[{{\"scan\":\"{named}\"}},[{{\"col\":\"{named}\"}}]]}}}}"
+    )
+}
+
+// Asserts that the two texts write one name, and how it is printed.
+fn assert_same(
+    rt: &impl Abort,
+    alloc: Global,
+    declared: &str,
+    named: &str,
+    printed: &str,
+) -> Result<(), Fail> {
+    let input = query(alloc, declared, named)?;
+    let text = format!(in alloc;
+        ". projection (\"{printed}\" Int8)\n.0 df (\"{printed}\" Int8)\ncasts 0\n"
+    )?;
+    assert_ends(rt, alloc, input.as_str(), 0, text.as_str())
 }
 
 #[test]
 fn names_are_one_whichever_escapes_write_them(rt: HostRuntime) -> Result<(), Fail> {
-    let alloc = rt.alloc();
-    for (declared, named, printed) in [
+    for (declared, named, printed) in &[
         ("", "", ""),
         ("a", "\\u0061", "a"),
         ("~/", "\\u007e\\/", "~/"),
@@ -38,7 +46,16 @@ fn names_are_one_whichever_escapes_write_them(rt: HostRuntime) -> Result<(), Fai
         ("\\u001F", "\\u001f", "\\u001f"),
         ("\\u0020", " ", " "),
         ("\\u007f", "\u{7f}", "\u{7f}"),
-        // Characters of two, three and four bytes.
+    ] {
+        assert_same(&rt, rt.alloc(), declared, named, printed)?;
+    }
+    Ok(())
+}
+
+// Of two, three and four bytes.
+#[test]
+fn wide_characters_are_one_whichever_escapes_write_them(rt: HostRuntime) -> Result<(), Fail> {
+    for (declared, named, printed) in &[
         ("\u{e9}", "\\u00E9", "\u{e9}"),
         ("\\u2028", "\u{2028}", "\u{2028}"),
         ("\u{ffff}", "\\uffff", "\u{ffff}"),
@@ -52,21 +69,14 @@ fn names_are_one_whichever_escapes_write_them(rt: HostRuntime) -> Result<(), Fai
             "\\\"a\\u0001\u{1f600}\\\\",
         ),
     ] {
-        let input = query(alloc, declared, named)?;
-        let seen = lower(alloc, input.as_str())?;
-        let text = format!(in alloc;
-            ". projection (\"{printed}\" Int8)\n.0 df (\"{printed}\" Int8)\ncasts 0\n"
-        )?;
-        assert_eq!(rt; seen.number, 0, "{input}");
-        assert_eq!(rt; seen.written.as_slice(), text.as_bytes(), "{input}");
+        assert_same(&rt, rt.alloc(), declared, named, printed)?;
     }
     Ok(())
 }
 
 #[test]
 fn names_of_other_characters_are_others(rt: HostRuntime) -> Result<(), Fail> {
-    let alloc = rt.alloc();
-    for (declared, named) in [
+    for (declared, named) in &[
         ("a", "A"),
         ("a", "a "),
         ("a", ""),
@@ -74,36 +84,25 @@ fn names_of_other_characters_are_others(rt: HostRuntime) -> Result<(), Fail> {
         ("\\u001f", "\\\\u001f"),
         ("\u{1f600}", "\\uf600"),
     ] {
-        let input = query(alloc, declared, named)?;
-        let seen = lower(alloc, input.as_str())?;
-        assert_eq!(rt; seen.number, 3, "{input}");
-        assert_eq!(rt;
-            seen.written.as_slice(),
-            b"bad query Name /plan/select/0/scan\n".as_slice()
-        );
+        let input = query(rt.alloc(), declared, named)?;
+        assert_bad(&rt, rt.alloc(), input.as_str(), "Name /plan/select/0/scan")?;
     }
-    let seen = lower(
-        alloc,
+    assert_ends(
+        &rt,
+        rt.alloc(),
         "{\"tables\":[],\"plan\":{\"select\":[{\"empty\":[[\"\u{e9}\",\"Int8\"]]},[{\"col\":\"e\u{301}\"}]]}}",
-    )?;
-    assert_eq!(rt; seen.number, 1);
-    assert_eq!(rt;
-        seen.written.as_slice(),
-        b"refused ColumnNotFound .\n".as_slice()
-    );
-    Ok(())
+        1,
+        "refused ColumnNotFound .\n",
+    )
 }
 
 #[test]
 fn a_sum_has_the_name_of_its_left_operand(rt: HostRuntime) -> Result<(), Fail> {
-    let alloc = rt.alloc();
-    let seen = lower(
-        alloc,
+    assert_ends(
+        &rt,
+        rt.alloc(),
         "{\"tables\":[],\"plan\":{\"select\":[{\"empty\":[[\"\\ud83d\\ude00\",\"Int16\"],[\"\\\\\",\"UInt16\"]]},[{\"bin\":[\"Plus\",{\"col\":\"\u{1f600}\"},{\"col\":\"\\u005c\"}]},{\"col\":\"\\\\\"}]]}}",
-    )?;
-    let text =
-        ". projection (\"\u{1f600}\" Int32, \"\\\\\" UInt16)\n.0 df (\"\u{1f600}\" Int16, \"\\\\\" UInt16)\ncasts 2\n";
-    assert_eq!(rt; seen.number, 0);
-    assert_eq!(rt; seen.written.as_slice(), text.as_bytes());
-    Ok(())
+        0,
+        ". projection (\"\u{1f600}\" Int32, \"\\\\\" UInt16)\n.0 df (\"\u{1f600}\" Int16, \"\\\\\" UInt16)\ncasts 2\n",
+    )
 }

@@ -1,20 +1,16 @@
 //! Queries with truth values, comparisons and written casts.
 
-use super::lower;
-use std::alloc::{AllocError, Global};
+use super::{Table, assert_not_selected, assert_selected, operation};
 use std::test::Fail;
 
-// A select of one expression over a table of three columns.
-fn select(alloc: Global, expression: &str) -> Result<String, AllocError> {
-    format!(in alloc;
-        "{{\"tables\":[{{\"name\":\"t\",\"columns\":[[\"a\",\"Int8\"],[\"b\",\"Int32\"],[\"c\",\"Boolean\"],[\"u\",\"UInt64\"]]}}],\"plan\":{{\"select\":[{{\"scan\":\"t\"}},[{expression}]]}}}}"
-    )
-}
+const TABLE: Table = Table {
+    declared: "[{\"name\":\"t\",\"columns\":[[\"a\",\"Int8\"],[\"b\",\"Int32\"],[\"c\",\"Boolean\"],[\"u\",\"UInt64\"]]}]",
+    printed: "(\"a\" Int8, \"b\" Int32, \"c\" Boolean, \"u\" UInt64)",
+};
 
 #[test]
-fn selects_have_the_types_and_casts_of_the_rows(rt: HostRuntime) -> Result<(), Fail> {
-    let alloc = rt.alloc();
-    for (expression, column, casts) in [
+fn comparisons_and_sums_have_their_types_and_casts(rt: HostRuntime) -> Result<(), Fail> {
+    for (expression, column, casts) in &[
         (
             "{\"bin\":[\"Lt\",{\"cast\":[{\"col\":\"a\"},\"Int64\",\"Strict\"]},{\"col\":\"b\"}]}",
             "\"a\" Boolean",
@@ -41,6 +37,20 @@ fn selects_have_the_types_and_casts_of_the_rows(rt: HostRuntime) -> Result<(), F
             0,
         ),
         (
+            "{\"bin\":[\"NotEq\",{\"bin\":[\"LtEq\",{\"col\":\"a\"},{\"col\":\"b\"}]},{\"bin\":[\"Gt\",{\"col\":\"b\"},{\"col\":\"a\"}]}]}",
+            "\"a\" Boolean",
+            2,
+        ),
+    ] {
+        assert_selected(&rt, rt.alloc(), TABLE, expression, column, *casts)?;
+    }
+    Ok(())
+}
+
+#[test]
+fn written_casts_are_counted(rt: HostRuntime) -> Result<(), Fail> {
+    for (expression, column, casts) in &[
+        (
             "{\"cast\":[{\"col\":\"a\"},\"Boolean\",\"NonStrict\"]}",
             "\"a\" Boolean",
             1,
@@ -50,37 +60,23 @@ fn selects_have_the_types_and_casts_of_the_rows(rt: HostRuntime) -> Result<(), F
             "\"u\" Int8",
             2,
         ),
-        (
-            "{\"bin\":[\"NotEq\",{\"bin\":[\"LtEq\",{\"col\":\"a\"},{\"col\":\"b\"}]},{\"bin\":[\"Gt\",{\"col\":\"b\"},{\"col\":\"a\"}]}]}",
-            "\"a\" Boolean",
-            2,
-        ),
     ] {
-        let input = select(alloc, expression)?;
-        let seen = lower(alloc, input.as_str())?;
-        let text = format!(in alloc;
-            ". projection ({column})\n.0 df (\"a\" Int8, \"b\" Int32, \"c\" Boolean, \"u\" UInt64)\ncasts {casts}\n"
-        )?;
-        assert_eq!(rt; seen.number, 0, "{expression}");
-        assert_eq!(rt; seen.written.as_slice(), text.as_bytes(), "{expression}");
+        assert_selected(&rt, rt.alloc(), TABLE, expression, column, *casts)?;
     }
     Ok(())
 }
 
 #[test]
 fn comparisons_without_a_common_type_are_refused(rt: HostRuntime) -> Result<(), Fail> {
-    let alloc = rt.alloc();
-    for operator in ["Eq", "NotEq", "Lt", "LtEq", "Gt", "GtEq", "Plus"] {
-        let expression = format!(in alloc;
-            "{{\"bin\":[\"{operator}\",{{\"col\":\"u\"}},{{\"col\":\"a\"}}]}}"
+    for operator in &["Eq", "NotEq", "Lt", "LtEq", "Gt", "GtEq", "Plus"] {
+        let expression = operation(rt.alloc(), operator, "u", "a")?;
+        assert_not_selected(
+            &rt,
+            rt.alloc(),
+            TABLE,
+            expression.as_str(),
+            "SchemaMismatch",
         )?;
-        let input = select(alloc, expression.as_str())?;
-        let seen = lower(alloc, input.as_str())?;
-        assert_eq!(rt; seen.number, 1, "{operator}");
-        assert_eq!(rt;
-            seen.written.as_slice(),
-            "refused SchemaMismatch .\n".as_bytes()
-        );
     }
     Ok(())
 }
