@@ -29,7 +29,7 @@ use Rattle.plan_dsl.specs.Meaning.{meaning, meaning_all, node_meaning, taken_mea
 use Rattle.plan_dsl.specs.Strictness.{CanBecome}
 use Rattle.plan_dsl.specs.Laws.{AreOf}
 use Rattle.plan_dsl.proofs.CastLemmas.{or_false}
-use Rattle.plan_dsl.proofs.OperandLemmas.{AllBecome, op_becomes}
+use Rattle.plan_dsl.proofs.OperandLemmas.{AllBecome, op_becomes, typed_to}
 use Rattle.plan_dsl.proofs.TypingLemmas.{ok_same, ok_where, by_children, by_no_children}
 use Rattle.plan_dsl.proofs.OperatorLemmas.{TakesOperands, operands_taken}
 
@@ -43,12 +43,6 @@ AllMean [] [] = Unit {0}
 AllMean (t ∷ ts) (m ∷ ms) = MeansType t m × AllMean ts ms
 AllMean [] (m ∷ ms) = ⊥
 AllMean (t ∷ ts) [] = ⊥
-
--- the typings of operands that are taken to these types
-abbrev pub retyped : List Typed → List Ty → List Typed
-retyped [] targets = []
-retyped (t ∷ ts) [] = []
-retyped (t ∷ ts) (target ∷ targets) = record { type = target; many = t.many } ∷ retyped ts targets
 
 -- ---- casts
 
@@ -85,7 +79,7 @@ cast_means from target options many input each h rows =
     elim (same_type from target) as (λ b. same_type from target ≡ b → Meets (AreOf (record { type = target; many = many })) (cond b input (λ rows. then_do (input rows) (cast_values from target options)) rows)) [ true ↦ λ e. subst (λ t. Meets (AreOf (record { type = t; many = many })) (input rows)) (same_type_exact from target e) (h rows) | false ↦ λ e. meets_then (AreOf (record { type = from; many = many })) (AreOf (record { type = target; many = many })) (input rows) (cast_values from target options) (h rows) (λ values of. meets_as (AreCast target (length values)) (AreOf (record { type = target; many = many })) (cast_values from target options values) (cast_values_fit from target options values each of.fitting) (λ found made. record { fitting = made.fitting; single = λ one. made.as_many ∙ of.single one })) ] refl
 
 -- operands that are taken have the types to which they are taken
-taken_mean : (typed : List Typed) (targets : List Ty) (operands : List Meaning) → AllBecome (types_of typed) targets → AllMean typed operands → AllMean (retyped typed targets) (taken_to (types_of typed) targets operands)
+taken_mean : (typed : List Typed) (targets : List Ty) (operands : List Meaning) → AllBecome (types_of typed) targets → AllMean typed operands → AllMean (typed_to typed targets) (taken_to (types_of typed) targets operands)
 taken_mean [] targets [] b h = tt
 taken_mean [] targets (m ∷ ms) b h = absurd h
 taken_mean (t ∷ ts) [] operands b h = tt
@@ -137,7 +131,7 @@ operator_values_fit operator l r type many left right each h k single =
 
 -- what a node gives whose operands have the types to which it takes them
 abbrev NodeMeans : Frame → Op → List Typed → Taken → Type 0
-NodeMeans frame op typed taken = (operands : List Meaning) → AllMean (retyped typed taken.operands) operands → MeansType (record { type = taken.type; many = is_many op typed }) (kernel frame op taken.operands taken.type operands)
+NodeMeans frame op typed taken = (operands : List Meaning) → AllMean (typed_to typed taken.operands) operands → MeansType (record { type = taken.type; many = is_many op typed }) (kernel frame op taken.operands taken.type operands)
 
 column_means : (frame : Frame) (name : Name) (found : Option Ty) (taken : Taken) → IsFrame frame → type_at frame.schema name ≡ found → column_type found ≡ Ok taken → NodeMeans frame (ColumnOp name) [] taken
 column_means frame name None taken of at takes operands h rows = cc
