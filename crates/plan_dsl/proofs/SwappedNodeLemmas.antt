@@ -1,6 +1,6 @@
 -- Nodes of an operator over swapped operands: where the operator takes swapped operands to the same types and gives the
 -- same columns of them, the node has the same type and meaning.
-use Rattle.std.proofs.Common.{◌≡◌, ℕ, Bool, true, false, ◌||◌, List, [], ◌∷◌, Ok, refl, sym, ap, ◌∙◌, subst}
+use Rattle.std.proofs.Common.{◌≡◌, ℕ, Bool, true, false, ◌||◌, List, [], ◌∷◌, Ok, refl, sym, ap, ◌∙◌}
 use Rattle.plan_types.specs.Types.{Ty}
 use Rattle.plan_types.specs.Schemas.{Columns}
 use Rattle.plan_types.specs.Values.{Val}

@@ -1,6 +1,6 @@
 -- Arithmetic of times: sums, differences and multiples, each by its rows.
 use Rattle.std.proofs.Common.{◌≡◌, ℕ, Bool, true, false, cond, nat_lt, Some, None, Result, Ok, IsTrue, refl, ap, arith}
-use Rattle.std.specs.Prelude.{ℤ, ◌*◌, ◌-ℤ◌, ◌*ℤ◌}
+use Rattle.std.specs.Prelude.{◌*◌, ◌-ℤ◌, ◌*ℤ◌}
 use Rattle.std.proofs.lemmas.Bool.{ltb-true}
 use Rattle.plan_types.specs.Types.{Ty, Integer, DateType, TimeType, DatetimeType, DurationType, coarser, is_known}
 use Rattle.plan_types.specs.Values.{Val, fits}

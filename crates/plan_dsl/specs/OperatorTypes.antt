@@ -6,10 +6,9 @@
 -- A text is joined to texts, truth values and nulls. All else is of the operands' common type, and truth values are
 -- counted where they are added.
 use Rattle.std.specs.Prelude.{ℕ, nat_lt, Bool, true, false, not, ◌&&◌, ◌||◌, List, [], ◌∷◌, Option, Some, None, Result, Ok, Err, if◌then◌else◌}
-use Rattle.plan_types.specs.Types.{Ty, NullType, Truth, Integer, TextType, DateType, TimeType, DatetimeType, DurationType, coarser, is_bare, is_counted, is_integer, is_null, is_temporal, is_text, is_truth}
+use Rattle.plan_types.specs.Types.{Ty, Truth, Integer, TextType, DateType, TimeType, DatetimeType, DurationType, coarser, is_bare, is_counted, is_integer, is_null, is_temporal, is_text, is_truth}
 use Rattle.plan_types.specs.CommonTypes.{type_beside}
 use Rattle.plan_types.specs.Supertypes.{supertype}
-use Rattle.plan_types.specs.declared.dtype.TimeUnit.{TimeUnit}
 use Rattle.plan_types.specs.declared.dtype.TimeUnit.TheVariants.{Nanoseconds, Milliseconds}
 use Rattle.plan_types.specs.declared.error.ErrorKind.{ErrorKind}
 use Rattle.plan_types.specs.declared.error.ErrorKind.TheVariants.{SchemaMismatch, InvalidOperation}

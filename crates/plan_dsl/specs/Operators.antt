@@ -6,7 +6,7 @@
 -- the same where their values are, in order.
 use Rattle.std.specs.Prelude.{ℕ, zero, suc, ℤ, pos, negsuc, neg_ℤ, ◌+ℤ◌, ◌-ℤ◌, ◌*ℤ◌, int_lt, int_div, nat_lt, bit_and, bit_or, bit_xor, ◌==◌, List, [], ◌∷◌, ◌++◌, Bool, true, false, not, ◌&&◌, ◌||◌, Option, Some, None, codes, encode_utf8_all, if◌then◌else◌}
 use Rattle.std.specs.Int.{int_div_euclid}
-use Rattle.plan_types.specs.Types.{Ty, DateType, Integer, per_day, width_of}
+use Rattle.plan_types.specs.Types.{Ty, DateType, per_day, width_of}
 use Rattle.plan_types.specs.Values.{Val, NullValue, TruthValue, IntValue, TextValue, same_value}
 use Rattle.plan_types.specs.Casts.{wrapped, low_bits, number_of}
 use Rattle.plan_types.specs.declared.dtype.TimeUnit.TheVariants.{Milliseconds}
