@@ -1,6 +1,7 @@
 //! Whole runs, from words and bytes to a status and a text.
 
 mod bad_queries;
+mod documents;
 mod faults;
 mod filters;
 mod literal_kinds;

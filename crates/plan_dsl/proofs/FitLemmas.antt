@@ -7,7 +7,7 @@ use Rattle.plan_types.specs.Types.{Ty, Untyped, is_known, same_type}
 use Rattle.plan_types.specs.TypeLaws.{same_type_exact}
 use Rattle.plan_types.specs.Schemas.{Name, type_at}
 use Rattle.plan_types.specs.CommonTypes.{type_alone}
-use Rattle.plan_types.specs.Values.{Val, NullValue, IntValue, fits, all_fit}
+use Rattle.plan_types.specs.Values.{Val, NullValue, IntValue, ListValue, StructValue, fits, all_fit}
 use Rattle.plan_types.specs.Outcomes.{Outcome, Done, Meets, then_do}
 use Rattle.plan_types.specs.Casts.{Converted, Gives, Fails, can_cast, cast}
 use Rattle.plan_types.specs.Frames.{Frame, IsFrame}
@@ -147,6 +147,8 @@ column_means frame name (Some type) taken of at takes operands h rows =
 
 literal_fits : (type : Ty) (value : Val) → is_literal_of type value ≡ true → IsTrue (fits value type)
 literal_fits type NullValue h = refl
+literal_fits type (ListValue items) h = cc
+literal_fits type (StructValue parts) h = cc
 literal_fits type _ h = h
 
 literal_node_means : (frame : Frame) (type : Ty) (value : Val) (taken : Taken) → literal_taken type value ≡ Ok taken → NodeMeans frame (LiteralOp type value) [] taken

@@ -1,7 +1,7 @@
 -- What an operator takes two types of columns to: that they can become it, that what was taken stays, and that over values
 -- that fit the types the operator gives values of its own.
-use Rattle.std.proofs.Common.{◌≡◌, inl, ℕ, Bool, true, false, ◌&&◌, cond, nat_lt, Option, Some, None, Result, Ok, Err, IsTrue, refl, subst}
-use Rattle.std.specs.Prelude.{ℤ, ◌*◌}
+use Rattle.std.proofs.Common.{◌≡◌, inl, ℕ, Bool, true, false, ◌&&◌, cond, Option, Some, None, Result, Ok, Err, IsTrue, refl, subst}
+use Rattle.std.specs.Prelude.{ℤ}
 use Rattle.std.proofs.lemmas.Bool.{and_from}
 use Rattle.plan_types.specs.Types.{Ty, NullType, Truth, Integer, is_integer, is_known, is_text}
 use Rattle.plan_types.specs.Values.{Val, in_range, fits}
@@ -9,7 +9,7 @@ use Rattle.plan_types.specs.Supertypes.{supertype, signed_above}
 use Rattle.plan_types.specs.Casts.{can_cast}
 use Rattle.plan_types.specs.declared.error.ErrorKind.{ErrorKind}
 use Rattle.plan_types.proofs.SupertypeLemmas.{some_same, supertype_holds}
-use Rattle.plan_types.proofs.CommonLemmas.{supertype_known}
+use Rattle.plan_types.proofs.CommonLemmas.{signed_above_is, supertype_known}
 use Rattle.plan_types.proofs.CastLemmas.{supertype_casts}
 use Rattle.plan_dsl.specs.OperatorTypes.{Taken, pair_to, both_to}
 use Rattle.plan_dsl.proofs.TypingLemmas.{ok_same}
@@ -29,14 +29,7 @@ some_is P a b e p = subst P (some_same a b e) p
 -- ---- common types that have the operands' values
 
 above_integer : (m n : ℕ) (found : Ty) → signed_above m n ≡ Some found → is_integer found ≡ true
-above_integer m n found h =
-    elim (nat_lt n m) as (λ b. cond b (Some (Integer true m)) (cond (nat_lt n 64) (Some (Integer true (2 * n))) None) ≡ Some found → is_integer found ≡ true) [
-      | true ↦ λ h. let same : Integer true m ≡ found = cc in subst (λ t. is_integer t ≡ true) same refl
-      | false ↦ λ h. elim (nat_lt n 64) as (λ b. cond b (Some (Integer true (2 * n))) None ≡ Some found → is_integer found ≡ true) [
-        | true ↦ λ h. let same : Integer true (2 * n) ≡ found = cc in subst (λ t. is_integer t ≡ true) same refl
-        | false ↦ λ h. cc
-      ] h
-    ] h
+above_integer = signed_above_is is_integer (λ bits. refl)
 
 -- an integer's common type with what is no text is an integer's
 pub integer_common : (a b c : Ty) → is_integer a ≡ true → is_text b ≡ false → supertype a b ≡ Some c → is_integer c ≡ true

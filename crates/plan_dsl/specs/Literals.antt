@@ -4,7 +4,7 @@
 -- what stands beside it.
 use Rattle.std.specs.Prelude.{pos, Bool, true, false, is_some, ◌&&◌, unwrap_or}
 use Rattle.plan_types.specs.Types.{Ty, NullType, Truth, Integer, TextType, DateType, TimeType, DatetimeType, DurationType, Untyped, is_null}
-use Rattle.plan_types.specs.Values.{Val, NullValue, TruthValue, IntValue, TextValue, fits}
+use Rattle.plan_types.specs.Values.{Val, NullValue, TruthValue, IntValue, TextValue, ListValue, StructValue, fits}
 use Rattle.plan_types.specs.CommonTypes.{type_alone}
 use Rattle.plan_dsl.specs.declared.literal.LiteralValue.{LiteralValue}
 use Rattle.plan_dsl.specs.declared.literal.LiteralValue.TheVariants.{Null, Boolean, String, Int, Int8, Int16, Int32, Int64, UInt8, UInt16, UInt32, UInt64, Date, Time, DateTime, Duration}
@@ -50,9 +50,11 @@ literal_value (Duration count unit) = IntValue count
 abbrev pub literal_op : LiteralValue → Op
 literal_op value = LiteralOp (literal_type value) (literal_value value)
 
--- whether a literal of the type may have the value: null is one of its own type alone
+-- whether a literal of the type may have the value: null is one of its own type alone, and no literal is a list or a struct
 abbrev pub is_literal_of : Ty → Val → Bool
 is_literal_of type NullValue = is_null type
+is_literal_of type (ListValue items) = false
+is_literal_of type (StructValue parts) = false
 is_literal_of type value = fits value type
 
 -- whether there is a literal of the type with the value: a number without a type has one alone

@@ -6,7 +6,7 @@
 -- A text is joined to texts, truth values and nulls. All else is of the operands' common type, and truth values are
 -- counted where they are added.
 use Rattle.std.specs.Prelude.{ℕ, nat_lt, Bool, true, false, not, ◌&&◌, ◌||◌, List, [], ◌∷◌, Option, Some, None, Result, Ok, Err, if◌then◌else◌}
-use Rattle.plan_types.specs.Types.{Ty, NullType, Truth, Integer, TextType, DateType, TimeType, DatetimeType, DurationType, coarser, is_bare, is_integer, is_null, is_temporal, is_text, is_truth}
+use Rattle.plan_types.specs.Types.{Ty, NullType, Truth, Integer, TextType, DateType, TimeType, DatetimeType, DurationType, coarser, is_bare, is_counted, is_integer, is_null, is_temporal, is_text, is_truth}
 use Rattle.plan_types.specs.CommonTypes.{type_beside}
 use Rattle.plan_types.specs.Supertypes.{supertype}
 use Rattle.plan_types.specs.declared.dtype.TimeUnit.{TimeUnit}
@@ -34,7 +34,7 @@ both_to (Some type) result = Ok (pair_to type type (result type))
 
 -- whether a text stands beside a number or a time
 abbrev pub is_text_beside : Ty → Ty → Bool
-is_text_beside text other = is_text text && (is_integer other || is_temporal other)
+is_text_beside text other = is_text text && is_counted other
 
 abbrev pub comparison_types : Ty → Ty → Result Taken ErrorKind
 comparison_types left right =

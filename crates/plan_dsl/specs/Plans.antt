@@ -4,6 +4,7 @@ use Rattle.plan_types.specs.Schemas.{Columns, Name, columns}
 use Rattle.plan_dsl.specs.declared.plan.DslPlan.{DslPlan}
 use Rattle.plan_dsl.specs.declared.plan.DslPlan.TheVariants.{DataFrameScan, Filter', Select'}
 use Rattle.plan_dsl.specs.declared.plan.Exprs.{Exprs}
+use Rattle.plan_dsl.specs.declared.plan.ProjectionOptions.{ProjectionOptions}
 use Rattle.plan_dsl.specs.Trees.{Tree, node, no_more, more}
 use Rattle.plan_dsl.specs.Ops.{Expression}
 use Rattle.plan_dsl.specs.Expressions.{tree_of}
@@ -52,6 +53,12 @@ abbrev pub plan_tree : DslPlan → Plan
 plan_tree (DataFrameScan table schema) = node (scan_op table (columns schema)) no_more
 plan_tree (Select' expr p input options) = node (select_op (map named (trees_of expr)) []) (more (plan_tree input) no_more)
 plan_tree (Filter' p input predicate) = node (filter_op (named (tree_of predicate))) (more (plan_tree input) no_more)
+
+-- the options of a plan's selects, from the top down: its tree has none of them, since they mean nothing
+abbrev pub options_in : DslPlan → List ProjectionOptions
+options_in (DataFrameScan table schema) = []
+options_in (Select' expr p input options) = options ∷ options_in input
+options_in (Filter' p input predicate) = options_in input
 
 -- the empty table without columns
 abbrev pub empty_table : Plan

@@ -4,7 +4,7 @@
 use Rattle.std.specs.Prelude.{ℕ, Bool, true, false, ◌&&◌, ◌==◌, List, [], ◌++◌, encode_utf8_all}
 use Rattle.std.specs.Hash as fed
 use Rattle.std.specs.Str.{bytes_eq}
-use Rattle.plan_types.specs.Types.{Ty, same_type, type_code}
+use Rattle.plan_types.specs.Types.{Ty, same_type, type_writes}
 use Rattle.plan_types.specs.Values.{Val, NullValue, TruthValue, IntValue, TextValue, ListValue, StructValue, same_value}
 use Rattle.plan_types.specs.declared.dtype.CastOptions.{CastOptions}
 use Rattle.plan_types.specs.declared.dtype.CastOptions.TheVariants.{Strict, NonStrict, Overflowing}
@@ -86,13 +86,13 @@ bare_writes (ListValue items) = []
 bare_writes (StructValue parts) = []
 
 abbrev pub literal_writes : Ty → Val → List (List ℕ)
-literal_writes type value = fed.u32 (type_code type) ++ bare_writes value
+literal_writes type value = type_writes type ++ bare_writes value
 
 abbrev pub op_writes : Op → List (List ℕ)
 op_writes (ColumnOp name) = fed.u8 0 ++ fed.str (encode_utf8_all name)
 op_writes (LiteralOp type value) = fed.u8 1 ++ literal_writes type value
 op_writes (BinaryOp operator) = fed.u8 2 ++ fed.u8 (operator_rank operator)
-op_writes (CastOp target options) = fed.u8 3 ++ (fed.u32 (type_code target) ++ fed.u8 (options_rank options))
+op_writes (CastOp target options) = fed.u8 3 ++ (type_writes target ++ fed.u8 (options_rank options))
 
 -- each node, before its children
 abbrev mutual

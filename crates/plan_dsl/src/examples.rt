@@ -9,6 +9,8 @@ pub mod literal_kinds;
 pub mod literals;
 pub mod meanings;
 pub mod operators;
+pub mod parts_of_expressions;
+pub mod parts_of_plans;
 pub mod plans;
 pub mod same_expressions;
 pub mod strictness;

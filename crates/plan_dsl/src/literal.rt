@@ -1,10 +1,10 @@
 //! Literals: values that are written in an expression.
-ghost use Rattle.std.specs.Prelude.{◌≡◌, ◌≢◌, ◌&&◌, ◌||◌, ℤ, is_some, MatchOption, IfSome, IfOk, IfErr};
+ghost use Rattle.std.specs.Prelude.{◌≡◌, ◌≢◌, ◌&&◌, ℤ, is_some, MatchOption, IfSome, IfOk, IfErr};
 ghost use Rattle.plan_dsl.specs.Literals.{is_literal, literal_op, literal_type, literal_value};
 ghost use Rattle.plan_dsl.specs.Ops.{LiteralOp};
 ghost use Rattle.plan_dsl.specs.SameExpressions.{same_literal};
 ghost use Rattle.plan_types.specs.Errors.{no_memory};
-ghost use Rattle.plan_types.specs.Types.{TimeType, DatetimeType, DurationType, ty, is_integer, is_temporal};
+ghost use Rattle.plan_types.specs.Types.{TimeType, DatetimeType, DurationType, ty, is_counted};
 ghost use Rattle.plan_types.specs.Values.{IntValue, in_range, same_value};
 
 use plan_types::common_type::materialize_dyn_int;
@@ -82,7 +82,7 @@ impl LiteralValue {
 
     /// The literal of that type and number, where the type is one of integers or of time whose range has the number.
     pub fn of_number(dtype: &DataType, number: i128) -> Option<LiteralValue>
-        ensures has { is_some result ≡ ((is_integer (ty dtype.now) || is_temporal (ty dtype.now)) && in_range (ty dtype.now) number) }
+        ensures has { is_some result ≡ (is_counted (ty dtype.now) && in_range (ty dtype.now) number) }
         ensures literal { IfSome result (λ value. literal_op value ≡ LiteralOp (ty dtype.now) (IntValue number)) }
     {
         match dtype {

@@ -1,6 +1,6 @@
 //! Plans as a user writes them.
 ghost use Rattle.std.specs.Prelude.{◌≡◌, true, IfOk, IfErr};
-ghost use Rattle.plan_dsl.specs.Plans.{plan_tree, empty_table, trees_of};
+ghost use Rattle.plan_dsl.specs.Plans.{plan_tree, options_in, empty_table, trees_of};
 ghost use Rattle.plan_types.specs.Errors.{no_memory};
 
 use crate::expr::Expr;
@@ -79,6 +79,7 @@ impl DslPlan {
 
     pub fn try_clone(&self, alloc: Global) -> Result<DslPlan, PlanError>
         ensures ok { IfOk result (λ copy. plan_tree copy ≡ plan_tree self.now) }
+        ensures options { IfOk result (λ copy. options_in copy ≡ options_in self.now) }
         ensures err { IfErr result (λ error. error ≡ no_memory) }
     {
         match self {

@@ -6,14 +6,14 @@ use Rattle.std.specs.Option.{option_map_or}
 use Rattle.std.specs.Str.Parse.{ParsesSigned}
 use Rattle.std.proofs.lemmas.Int.{ints}
 use Rattle.plan_types.specs.Casts.{number_in}
-use Rattle.plan_types.specs.Types.{Ty, Integer}
+use Rattle.plan_types.specs.Types.{Ty, Integer, is_counted}
 use Rattle.plan_types.specs.Values.{IntValue, in_range}
 use Rattle.plan_types.proofs.DigitLemmas.{read_number, read_fits, no_number_read}
 use Rattle.plan_dsl.specs.Ops.{LiteralOp}
 use Rattle.serde_json.specs.Data.{Data}
 use Rattle.plan_json.specs.Errors.{IsBadAtPointer, IsErrorOf}
 use Rattle.plan_json.specs.Faults.{FaultKind, BadShape, BadFloat, BadName, a_counted_type, a_number_of, a_type, has_type_shape, may_be_counted, number, number_part, own_fault, part, typed_parts, shape_fault, unless}
-use Rattle.plan_json.specs.Queries.{counted, counted_of, is_counted, narrow, number_of, number_written, type_of, typed_op}
+use Rattle.plan_json.specs.Queries.{counted, counted_of, narrow, number_of, number_written, type_of, typed_op}
 use Rattle.plan_json.specs.Looking.{whole_number}
 use Rattle.plan_json.specs.declared.error.JsonError.{JsonError}
 use Rattle.plan_json.specs.declared.error.JsonError.TheVariants.{NotJson, Shape, Float, Name, NoMemory}

@@ -3,7 +3,7 @@ use Rattle.std.proofs.Common.{◌≡◌, ℕ, zero, suc, ◌+◌, ◌<◌, List,
 use Rattle.std.specs.Option.{option_map_or}
 use Rattle.plan_types.specs.Schemas.{Name, Columns, names_of, is_among, repeats}
 use Rattle.plan_types.proofs.NameLemmas.{repeats-apart}
-use Rattle.plan_types.specs.Types.{Ty, fields_from as fields_of_columns}
+use Rattle.plan_types.specs.Types.{Ty, is_counted, fields_from as fields_of_columns}
 use Rattle.plan_types.specs.declared.dtype.CastOptions.{CastOptions}
 use Rattle.plan_dsl.specs.Ops.{Expression}
 use Rattle.plan_dsl.specs.declared.operator.Operator.{Operator}
@@ -15,7 +15,7 @@ use Rattle.plan_json.specs.declared.error.JsonError.{JsonError}
 use Rattle.plan_json.specs.declared.error.JsonError.TheVariants.{NotJson, Shape, Float, Name as Name', NoMemory}
 use Rattle.plan_json.specs.Faults.{FaultKind, BadShape, BadFloat, BadName, key, number, Path, Form, a_query, table_list, column_list, field_list, a_column, a_type, a_unit, a_text, a_table, a_new_name, a_plan, a_scan, a_filter, a_selection, expression_list, an_expression, a_literal, a_number_text, a_typed_literal, a_counted_type, a_number_of, operands, an_operator, a_cast, a_mode, Part, part, own_fault, parts_of, has_type_shape, may_be_counted, shape_fault, unless, each, each_table, query_parts, table_parts, column_parts, number_part, typed_parts, one_part, declared_names, IsBadAt}
 use Rattle.plan_json.specs.Looking.{both, two_members, two_items, three_items, all_of, some_of}
-use Rattle.plan_json.specs.Queries.{QueryModel, text_of, type_named, type_of, datetime_type, duration_type, list_type, struct_type, struct_of, fields_from, unit_of, literal_of, literal_expression, number_text_of, counted, counted_of, is_counted, number_of, typed_from, typed_of, operator_of, mode_of, column_of, column_name, columns_of, columns_from, table_of, table_name, table_limit, tables_of, tables_from, expression_of, binary_of, binary_expression, cast_of, cast_expression, expressions_of, column_expression, table_at, scan_plan, scan_of, empty_plan, filter_plan, select_plan, plan_of, filter_of, select_of, query_of, query_from, IsQueryOf}
+use Rattle.plan_json.specs.Queries.{QueryModel, text_of, type_named, type_of, datetime_type, duration_type, list_type, struct_type, struct_of, fields_from, unit_of, literal_of, literal_expression, number_text_of, counted, counted_of, number_of, typed_from, typed_of, operator_of, mode_of, column_of, column_name, columns_of, columns_from, table_of, table_name, table_limit, tables_of, tables_from, expression_of, binary_of, binary_expression, cast_of, cast_expression, expressions_of, column_expression, table_at, scan_plan, scan_of, empty_plan, filter_plan, select_plan, plan_of, filter_of, select_of, query_of, query_from, IsQueryOf}
 use Rattle.plan_json.specs.Tables.{Declared}
 use Rattle.plan_json.proofs.DeclarationLemmas.{table_name-read, declared_names-read}
 use Rattle.plan_json.proofs.ColumnLemmas.{column_of-parts, fields_as_columns}

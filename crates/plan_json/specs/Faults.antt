@@ -8,9 +8,9 @@ use Rattle.serde_json.specs.Data.{Data, Items, no_items, item}
 use Rattle.serde_json.specs.Events.{items_len}
 use Rattle.serde_json.specs.Find.{as_str, as_array}
 use Rattle.plan_types.specs.Schemas.{Name, is_among, repeats}
-use Rattle.plan_types.specs.Types.{Ty}
+use Rattle.plan_types.specs.Types.{Ty, is_counted}
 use Rattle.plan_json.specs.Looking.{is_float, only_member, two_members, two_items, three_items, some_of}
-use Rattle.plan_json.specs.Queries.{text_of, type_named, type_of, unit_of, literal_of, number_text_of, is_counted, counted_of, number_of, operator_of, mode_of, column_name, table_name, table_limit}
+use Rattle.plan_json.specs.Queries.{text_of, type_named, type_of, unit_of, literal_of, number_text_of, counted_of, number_of, operator_of, mode_of, column_name, table_name, table_limit}
 
 pub data FaultKind : Type 0 where
   -- the value breaks the form

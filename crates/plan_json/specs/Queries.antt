@@ -1,7 +1,7 @@
 -- The query that a value is.
 -- There is one function for each form. Each gives what a value of that form means, and nothing
 -- where the value hasn't the form.
-use Rattle.std.specs.Prelude.{◌≡◌, ℕ, ℤ, ◌^◌, ◌==◌, ◌&&◌, ◌||◌, Bool, List, [], map, not, Option, Some, None, option_map, option_and_then, codes, nat_lt, position, slice_index, if◌then◌else◌, true, false}
+use Rattle.std.specs.Prelude.{◌≡◌, ℕ, ℤ, ◌^◌, ◌==◌, ◌&&◌, Bool, List, [], map, not, Option, Some, None, option_map, option_and_then, codes, nat_lt, position, slice_index, if◌then◌else◌, true, false}
 use Rattle.std.specs.Map.{lookup}
 use Rattle.std.specs.Str.{chars, bytes_eq}
 use Rattle.serde_json.specs.Data.{Data, null, boolean, number as numeral, string, array, object, Items, no_items, item, no_members, member}
@@ -9,7 +9,7 @@ use Rattle.serde_json.specs.Events.{items_len}
 use Rattle.serde_json.specs.Find.{get, as_str, as_array}
 use Rattle.plan_types.specs.Schemas.{Name, Columns, same_name, names_of, repeats}
 use Rattle.plan_types.specs.Casts.{number_in}
-use Rattle.plan_types.specs.Types.{Ty, NullType, Truth, Integer, TextType, DateType, TimeType, DatetimeType, DurationType, ListType, StructType, Untyped, Fields, no_field, with_field, is_integer, is_temporal}
+use Rattle.plan_types.specs.Types.{Ty, NullType, Truth, Integer, TextType, DateType, TimeType, DatetimeType, DurationType, ListType, StructType, Untyped, Fields, no_field, with_field, is_counted}
 use Rattle.plan_types.specs.Values.{NullValue, TruthValue, IntValue, TextValue, in_range}
 use Rattle.plan_types.specs.declared.dtype.CastOptions.{CastOptions}
 use Rattle.plan_types.specs.declared.dtype.CastOptions.TheVariants.{Strict, NonStrict, Overflowing}
@@ -18,6 +18,8 @@ use Rattle.plan_types.specs.declared.dtype.TimeUnit.TheVariants.{Nanoseconds, Mi
 use Rattle.plan_dsl.specs.Ops.{Op, ColumnOp, LiteralOp, BinaryOp, CastOp, Expression}
 use Rattle.plan_dsl.specs.Plans.{Plan, named, scan_op, select_op, filter_op, plan_tree}
 use Rattle.plan_dsl.specs.Trees.{node, no_more, more}
+use Rattle.plan_dsl.specs.declared.plan.DslPlan.{DslPlan}
+use Rattle.plan_dsl.specs.declared.plan.DslPlan.TheVariants.{DataFrameScan, Filter', Select'}
 use Rattle.plan_dsl.specs.declared.operator.Operator.{Operator}
 use Rattle.plan_dsl.specs.declared.operator.Operator.TheVariants.{Eq, EqValidity, NotEq, NotEqValidity, Lt, LtEq, Gt, GtEq, Plus, Minus, Multiply, Divide, FloorDivide, Modulus, And, Or, Xor, LogicalAnd, LogicalOr}
 use Rattle.plan_json.specs.Looking.{both, whole_number, two_members, two_items, all_of, some_of}
@@ -216,9 +218,6 @@ abbrev pub number_text_of : Data → Option Op
 number_text_of d = option_map number_op (option_and_then number_written (as_str d))
 
 -- a type of integers or of time
-abbrev pub is_counted : Ty → Bool
-is_counted type = is_integer type || is_temporal type
-
 abbrev pub counted : Ty → Option Ty
 counted type = if is_counted type then Some type else None
 
@@ -331,6 +330,12 @@ query_from parts =
 -- `{"tables": tables, "plan": plan}`
 abbrev pub query_of : Data → Option QueryModel
 query_of d = option_and_then query_from (two_members (codes "tables") (codes "plan") d)
+
+-- whether some select of the plan has its option set, which no query can write
+abbrev pub has_flags : DslPlan → Bool
+has_flags (DataFrameScan table schema) = false
+has_flags (Select' expr p input options) = options.duplicate_check || has_flags input
+has_flags (Filter' p input predicate) = has_flags input
 
 -- the value is the query
 abbrev pub IsQueryOf : Data → QueryModel → Type 0

@@ -1,7 +1,10 @@
 //! Worked examples of the definitions. The functions do nothing: their clauses are the examples.
 #![tactic(auto, unfolding(crate::proofs::OnLiterals::values_on_literals))]
 
+pub mod errors;
+pub mod forms;
 pub mod literals;
+pub mod parts;
 
 ghost use Rattle.std.specs.Prelude.{◌≡◌, pos, negsuc, [], ◌∷◌, Float, List, Some, None, String, codes, string_bytes, true, false};
 ghost use Rattle.std.specs.Global.{Global};
@@ -19,7 +22,7 @@ ghost use Rattle.plan_json.specs.Errors.{escaped, pointer_text};
 ghost use Rattle.plan_json.specs.Faults as fault;
 ghost use Rattle.plan_json.specs.Faults.{BadFloat, BadName, BadShape, IsBadAt, key, own_fault};
 ghost use Rattle.plan_json.specs.Queries.{QueryModel, expression_of, number_op, plan_of, query_of, type_of, unit_of};
-ghost use Rattle.plan_json.specs.declared.error.JsonError.TheVariants.{NotJson, Shape, Float as Float', Name};
+ghost use Rattle.plan_json.specs.declared.error.JsonError.TheVariants.{NotJson, Shape, Float as Float', Name, NoMemory};
 
 /// A query: its tables by name and columns, and its plan over them.
 pub fn query_examples()
@@ -227,6 +230,24 @@ pub fn text_examples()
         → IsRefusalOf (codes "{\"tables\":[],\"plan\":{\"filter\":[{\"empty\":[]},{\"lit\":1.5}]}}") (Float' path) }
     ensures numbers { WritesQuery (codes "{\"tables\":[],\"plan\":{\"filter\":[{\"empty\":[]},{\"lit\":-7}]}}")
         (record { tables = []; plan = node (filter_op (named (node (number_op (negsuc 6)) no_more))) (more empty_table no_more) }) }
+    ensures least_number { WritesQuery (codes "{\"tables\":[],\"plan\":{\"filter\":[{\"empty\":[]},{\"lit\":-9223372036854775808}]}}")
+        (record { tables = []; plan = node (filter_op (named (node (number_op (negsuc 9223372036854775807)) no_more))) (more empty_table no_more) }) }
+    ensures greatest_number { WritesQuery (codes "{\"tables\":[],\"plan\":{\"filter\":[{\"empty\":[]},{\"lit\":18446744073709551615}]}}")
+        (record { tables = []; plan = node (filter_op (named (node (number_op (pos 18446744073709551615)) no_more))) (more empty_table no_more) }) }
+    ensures past_greatest_number { (path : String Global) → string_bytes path ≡ codes "/plan/scan"
+        → IsRefusalOf (codes "{\"tables\":[],\"plan\":{\"scan\":18446744073709551616}}") (Float' path) }
+    ensures below_least_number { (path : String Global) → string_bytes path ≡ codes "/plan/scan"
+        → IsRefusalOf (codes "{\"tables\":[],\"plan\":{\"scan\":-9223372036854775809}}") (Float' path) }
+    ensures minus_zero { (path : String Global) → string_bytes path ≡ codes "/plan/scan"
+        → IsRefusalOf (codes "{\"tables\":[],\"plan\":{\"scan\":-0}}") (Float' path) }
+    ensures zero { (path : String Global) → string_bytes path ≡ codes "/plan/scan"
+        → IsRefusalOf (codes "{\"tables\":[],\"plan\":{\"scan\":0}}") (Shape path) }
+    ensures last_key_counts { WritesQuery (codes "{\"tables\":1,\"plan\":2,\"tables\":[],\"plan\":{\"empty\":[]}}") (record { tables = []; plan = empty_table }) }
+    ensures past_every_float { IsRefusalOf (codes "{\"tables\":[],\"plan\":{\"scan\":1e400}}") NotJson }
+    ensures nothing { IsRefusalOf [] NotJson }
+    ensures more_behind { IsRefusalOf (codes "{\"tables\":[],\"plan\":{\"empty\":[]}},") NotJson }
+    ensures no_utf8 { IsRefusalOf (34 ∷ 0xff ∷ 34 ∷ []) NotJson }
+    ensures memory { IsRefusalOf (codes "{\"tables\":[],\"plan\":{\"empty\":[]}}") NoMemory }
 {}
 
 /// How a value itself breaks the form that its place asks for.

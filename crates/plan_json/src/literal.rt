@@ -93,7 +93,7 @@ fn read_counted(alloc: Global, value: &Value) -> Result<DataType, JsonError>
     ensures err { IfErr result (IsErrorOf a_counted_type (view value.now)) }
 {
     let dtype = read_type(alloc, value)?;
-    if !dtype.is_integer() && !dtype.is_temporal() {
+    if !dtype.is_counted() {
         return Err(JsonError::shape(alloc, value));
     }
     Ok(dtype)

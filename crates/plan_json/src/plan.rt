@@ -1,11 +1,11 @@
 //! Plans.
-ghost use Rattle.std.specs.Prelude.{◌≡◌, Some, IfOk, IfErr};
+ghost use Rattle.std.specs.Prelude.{◌≡◌, Some, false, IfOk, IfErr};
 ghost use Rattle.serde_json.specs.View.{view};
 ghost use Rattle.plan_dsl.specs.Plans.{plan_tree};
 ghost use Rattle.plan_types.specs.Schemas.{names_of};
 ghost use Rattle.plan_json.specs.Errors.{IsErrorOf};
 ghost use Rattle.plan_json.specs.Faults.{a_plan, a_scan, a_filter, a_selection};
-ghost use Rattle.plan_json.specs.Queries.{plan_of, scan_of, filter_of, select_of};
+ghost use Rattle.plan_json.specs.Queries.{has_flags, plan_of, scan_of, filter_of, select_of};
 ghost use Rattle.plan_json.specs.Tables.{declared};
 
 use super::columns::read_columns;
@@ -23,6 +23,7 @@ use std::alloc::Global;
 pub(crate) fn read_plan(alloc: Global, tables: &Tables, value: &Value) -> Result<DslPlan, JsonError>
     ensures ok { IfOk result (λ plan. plan_of (declared tables.now) (view value.now)
         ≡ Some (plan_tree plan)) }
+    ensures flags { IfOk result (λ plan. has_flags plan ≡ false) }
     ensures err { IfErr result (IsErrorOf (a_plan (names_of (declared tables.now))) (view value.now)) }
 {
     match only_member(value) {
@@ -64,6 +65,7 @@ pub(crate) fn read_plan(alloc: Global, tables: &Tables, value: &Value) -> Result
 fn read_scan(alloc: Global, tables: &Tables, value: &Value) -> Result<DslPlan, JsonError>
     ensures ok { IfOk result (λ plan. scan_of (declared tables.now) (view value.now)
         ≡ Some (plan_tree plan)) }
+    ensures flags { IfOk result (λ plan. has_flags plan ≡ false) }
     ensures err { IfErr result (IsErrorOf (a_scan (names_of (declared tables.now))) (view value.now)) }
 {
     let name = read_text(alloc, value)?;
@@ -84,6 +86,7 @@ fn read_scan(alloc: Global, tables: &Tables, value: &Value) -> Result<DslPlan, J
 fn read_filter(alloc: Global, tables: &Tables, value: &Value) -> Result<DslPlan, JsonError>
     ensures ok { IfOk result (λ plan. filter_of (declared tables.now) (view value.now)
         ≡ Some (plan_tree plan)) }
+    ensures flags { IfOk result (λ plan. has_flags plan ≡ false) }
     ensures err { IfErr result (IsErrorOf (a_filter (names_of (declared tables.now))) (view value.now)) }
 {
     match two_items(value) {
@@ -102,6 +105,7 @@ fn read_filter(alloc: Global, tables: &Tables, value: &Value) -> Result<DslPlan,
 fn read_select(alloc: Global, tables: &Tables, value: &Value) -> Result<DslPlan, JsonError>
     ensures ok { IfOk result (λ plan. select_of (declared tables.now) (view value.now)
         ≡ Some (plan_tree plan)) }
+    ensures flags { IfOk result (λ plan. has_flags plan ≡ false) }
     ensures err { IfErr result (IsErrorOf (a_selection (names_of (declared tables.now))) (view value.now)) }
 {
     match two_items(value) {

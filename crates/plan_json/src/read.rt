@@ -1,11 +1,11 @@
 //! Queries.
-ghost use Rattle.std.specs.Prelude.{◌≡◌, Some, IfOk, IfErr};
+ghost use Rattle.std.specs.Prelude.{◌≡◌, Some, false, IfOk, IfErr};
 ghost use Rattle.serde_json.specs.Data.{Data};
 ghost use Rattle.serde_json.specs.View.{view};
 ghost use Rattle.plan_json.specs.Bytes.{IsTextOf, IsRefusalOf, WritesQuery};
 ghost use Rattle.plan_json.specs.Errors.{IsErrorOf};
 ghost use Rattle.plan_json.specs.Faults.{a_query};
-ghost use Rattle.plan_json.specs.Queries.{QueryModel, IsQueryOf, query_model};
+ghost use Rattle.plan_json.specs.Queries.{QueryModel, IsQueryOf, has_flags, query_model};
 
 use super::declarations::read_tables;
 use super::error::{JsonError, Step, at};
@@ -26,6 +26,8 @@ pub struct Query {
 /// Reads the query that the bytes write.
 pub fn read_query(alloc: Global, bytes: &[u8]) -> Result<Query, JsonError>
     ensures ok { IfOk result (λ query. WritesQuery bytes.now (query_model query)) }
+    // An option that no query can write is off.
+    ensures flags { IfOk result (λ query. has_flags query.plan ≡ false) }
     ensures err { IfErr result (IsRefusalOf bytes.now) }
     // The bytes of a query are refused for want of memory alone.
     ensures complete { (query : QueryModel) → WritesQuery bytes.now query
@@ -49,6 +51,7 @@ pub fn read_query(alloc: Global, bytes: &[u8]) -> Result<Query, JsonError>
 // A query: `{"tables": tables, "plan": plan}`.
 fn read_value(alloc: Global, value: &Value) -> Result<Query, JsonError>
     ensures ok { IfOk result (λ query. IsQueryOf (view value.now) (query_model query)) }
+    ensures flags { IfOk result (λ query. has_flags query.plan ≡ false) }
     ensures err { IfErr result (IsErrorOf a_query (view value.now)) }
 {
     match two_members(value, "tables", "plan") {

@@ -45,7 +45,8 @@ use Rattle.plan_lower.specs.declared.conversion.type_coercion.Change.TheVariants
 use Rattle.plan_lower.specs.Coercion.{DenotesTyped, Visits, IsChangeFor, changed_by, is_kept, ChangesOperands}
 use Rattle.plan_lower.specs.declared.type_table.TypeTable.{TypeTable}
 use Rattle.plan_lower.specs.Typed.{HasKnownType}
-use Rattle.plan_lower.proofs.TypingLemmas.{AllHaveType, AllRefused, source_known}
+use Rattle.plan_types.proofs.CastLemmas.{source_known}
+use Rattle.plan_lower.proofs.TypingLemmas.{AllHaveType, AllRefused}
 
 -- a typed expression is a tree
 pub plain_tree : {registry : Registry} {schema : Columns} {items : List AExpr} {n : ℕ} → DenotesTyped registry schema 0 items n → DenotesTree (HoldsExpression items) n

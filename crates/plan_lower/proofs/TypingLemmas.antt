@@ -1,12 +1,12 @@
 -- The type of a node, from those of its inputs.
 use Rattle.std.proofs.Common.{◌≡◌, ◌≢◌, ℕ, Bool, true, false, cond, List, [], ◌∷◌, Option, Some, None, Result, Ok, Err, is_ok, refl, sym, ap, ◌∙◌, ⊎_elim}
 use Rattle.std.specs.Prelude.{ℤ}
-use Rattle.std.proofs.lemmas.Bool.{and_parts, and_from}
-use Rattle.plan_types.specs.Types.{Ty, ListType, StructType, Untyped, Fields, no_field, with_field, are_known, is_known}
+use Rattle.plan_types.specs.Types.{Ty, Untyped, is_known}
 use Rattle.plan_types.specs.Values.{Val}
 use Rattle.plan_types.specs.Schemas.{Columns, Name, type_at}
 use Rattle.plan_types.specs.CommonTypes.{known_type, type_alone}
-use Rattle.plan_types.specs.Casts.{can_cast, can_cast_fields}
+use Rattle.plan_types.specs.Casts.{can_cast}
+use Rattle.plan_types.proofs.CastLemmas.{source_known}
 use Rattle.plan_types.specs.Errors.{at_top, IsMemoryOr, IsRefusal, no_room, broken}
 use Rattle.plan_types.specs.declared.error.ErrorKind.{ErrorKind}
 use Rattle.plan_types.specs.declared.error.ErrorKind.TheVariants.{ColumnNotFound, InvalidOperation}
@@ -50,23 +50,6 @@ pub cast_of : (target : Ty) (alone : Option Ty) (copy : Ty) → is_ok (cast_take
 cast_of target alone copy h same =
     let found = takes_cast target alone h in
     (found.0, found.1 ∙ ap (λ t. Ok (record { operands = found.0 ∷ []; type = t })) (sym same))
-
--- what is cast has a type of columns
-mutual
-  pub source_known : (from target : Ty) → can_cast from target ≡ true → is_known from ≡ true
-  source_known (ListType item) (ListType other) h = source_known item other h
-  source_known (StructType fields) (StructType others) h = sources_known fields others h
-  source_known (ListType item) _ h = cc
-  source_known (StructType fields) _ h = cc
-  source_known (Untyped number) _ h = cc
-  source_known _ _ h = refl
-
-  sources_known : (fields others : Fields) → can_cast_fields fields others ≡ true → are_known fields ≡ true
-  sources_known no_field _ h = refl
-  sources_known (with_field name type rest) no_field h = cc
-  sources_known (with_field name type rest) (with_field other found others) h =
-      let parts = and_parts (can_cast type found) (can_cast_fields rest others) h in
-      and_from (is_known type) (are_known rest) (source_known type found parts.0) (sources_known rest others parts.1)
 
 uncast : (from target : Ty) → is_known from ≡ false → can_cast from target ≡ false
 uncast from target unknown =

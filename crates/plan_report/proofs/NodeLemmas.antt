@@ -16,7 +16,7 @@ use Rattle.plan_arena.specs.declared.aexpr.AExpr.{AExpr}
 use Rattle.plan_arena.specs.declared.ir.IR.{IR}
 use Rattle.plan_arena.specs.declared.ir.IR.TheVariants.{DataFrameScan, Filter, Select}
 use Rattle.plan_arena.proofs.DenotationLemmas.{inputs_denote}
-use Rattle.plan_arena.proofs.ItemLemmas.{expression_laws, plan_laws, expression_got, item_denotes}
+use Rattle.plan_arena.proofs.ItemLemmas.{expression_laws, plan_laws, plan_got, expression_got, item_denotes}
 use Rattle.plan_report.specs.Casts.{DenoteOutputs}
 use Rattle.plan_report.specs.Texts.{kind_text}
 use Rattle.plan_report.specs.Report.{line_text, node_line, plan_lines, IsSchemaAt}
@@ -34,28 +34,10 @@ layer_inputs a b ms ns e = cc
 abbrev pub LeadsDown : {Op : Type 0} → (ℕ → Op → List ℕ → Type 0) → List (List ℕ) → ℕ → List ℕ → Type 0
 LeadsDown holds shape n inputs = AllByRecursion (λ m. DenotesTree holds m × (depth_at shape m < depth_at shape n)) inputs
 
-expression_there : (items : List AExpr) (n : ℕ) (t : Expression) → Denotes (HoldsExpression items) n t → n < length (map expression_layer items)
-expression_there items n (node op ts) d = slice_get_within (map expression_layer items) n _ d.1
-
--- a node that denotes an expression is in the arena
-pub expression_within : (items : List AExpr) (n : ℕ) → DenotesTree (HoldsExpression items) n → n < length items
-expression_within items n d = let there = expression_there items n d.tree d.denotes in omega (arith, length-map items expression_layer)
-
 -- an expression's inputs denote expressions
 pub expression_inputs : (items : List AExpr) (n : ℕ) (item : AExpr) → slice_get items n ≡ Some item → (op : Op) (inputs : List ℕ) → expression_layer item ≡ layer op inputs → DenotesTree (HoldsExpression items) n → LeadsDown (HoldsExpression items) (shape_of (map expression_layer items)) n inputs
 expression_inputs items n item got op inputs is d =
     inputs_denote (shape_of (map expression_layer items)) (HoldsExpression items) (expression_laws items) n op inputs (expression_got items n item got ∙ ap Some is) d
-
--- what `get` answers is held
-pub plan_got : (plans : List IR) (n : ℕ) (item : IR) → slice_get plans n ≡ Some item → slice_get (map plan_layer plans) n ≡ Some (plan_layer item)
-plan_got plans n item h = slice_get-map plan_layer plans n ∙ ap (option_map plan_layer) h
-
-plan_there : (expressions : List AExpr) (plans : List IR) (n : ℕ) (t : Plan) → Denotes (HoldsPlan expressions plans) n t → n < length (map plan_layer plans)
-plan_there expressions plans n (node op ts) d = slice_get_within (map plan_layer plans) n _ d.1.item
-
--- a node that denotes a plan is in the arena
-pub plan_within : (expressions : List AExpr) (plans : List IR) (n : ℕ) → DenotesTree (HoldsPlan expressions plans) n → n < length plans
-plan_within expressions plans n d = let there = plan_there expressions plans n d.tree d.denotes in omega (arith, length-map plans plan_layer)
 
 module _ (expressions : List AExpr) (plans : List IR) (n : ℕ) (item : IR) (got : slice_get plans n ≡ Some item) (flat : PlanOp ℕ) (inputs : List ℕ) (is : plan_layer item ≡ layer flat inputs) where
   held : (op : PlanOp Expression) (ms : List ℕ) (h : HoldsPlan expressions plans n op ms) → layer h.flat ms ≡ layer flat inputs

@@ -4,7 +4,7 @@ use Rattle.std.specs.Prelude.{ℤ}
 use Rattle.plan_types.specs.Types.{Ty, NullType, Truth, Integer, TextType, DateType, TimeType, DatetimeType, DurationType, ListType, StructType, Untyped, Fields, no_field, with_field, are_known, is_known, per_day}
 use Rattle.plan_types.specs.Values.{Val, NullValue, TruthValue, IntValue, TextValue, ListValue, StructValue, Vals, no_value, with_value, in_range, fits, items_fit, parts_fit}
 use Rattle.plan_types.specs.declared.dtype.CastOptions.{CastOptions}
-use Rattle.plan_types.specs.declared.dtype.CastOptions.TheVariants.{NonStrict}
+use Rattle.plan_types.specs.declared.dtype.CastOptions.TheVariants.{Strict, NonStrict, Overflowing}
 use Rattle.plan_types.specs.declared.dtype.TimeUnit.{TimeUnit}
 use Rattle.plan_types.specs.Supertypes.{in_front, super_fields, supertype, signed_above}
 use Rattle.std.specs.Str.{bytes_eq}
@@ -61,32 +61,45 @@ mutual
       let p = and_parts (fits first type) (parts_fit rest others) h in
       ap (λ c. converted_in_front c (cast_parts rest others others options)) (cast_itself first type options p.0) ∙ ap (converted_in_front (Gives first)) (parts_itself rest others options p.1)
 
-placed_never_fails : (type : Ty) (number : ℤ) → placed NonStrict type number ≢ Fails
-placed_never_fails type number e =
-    elim (in_range type number) as (λ b. cond b (Gives (IntValue number)) (no_place NonStrict) ≡ Fails → ⊥) [ true ↦ λ g. cc | false ↦ λ g. cc ] e
+no_place_never_fails : (options : CastOptions) → options ≢ Strict → no_place options ≢ Fails
+no_place_never_fails Strict n e = n refl
+no_place_never_fails NonStrict n e = cc
+no_place_never_fails Overflowing n e = cc
 
-integer_never_fails : (number : ℤ) (target : Ty) → integer_to number target NonStrict ≢ Fails
-integer_never_fails number Truth e = cc
-integer_never_fails number TextType e = cc
-integer_never_fails number (Integer signed bits) e =
-    elim (in_range (Integer signed bits) number) as (λ b. cond b (Gives (IntValue number)) (out_of_range NonStrict (Integer signed bits) number) ≡ Fails → ⊥) [ true ↦ λ g. cc | false ↦ λ g. cc ] e
-integer_never_fails number target e = placed_never_fails target number e
+out_of_range_never_fails : (options : CastOptions) (target : Ty) (number : ℤ) → options ≢ Strict → out_of_range options target number ≢ Fails
+out_of_range_never_fails Strict target number n e = n refl
+out_of_range_never_fails NonStrict target number n e = cc
+out_of_range_never_fails Overflowing target number n e = cc
 
-number_never_fails : (from : Ty) (number : ℤ) (target : Ty) → number_to from number target NonStrict ≢ Fails
-number_never_fails DateType number (DatetimeType unit) e = placed_never_fails (DatetimeType unit) (rescaled 1 (per_day unit) number) e
-number_never_fails (DatetimeType unit) number DateType e = placed_never_fails DateType (rescaled (per_day unit) 1 number) e
-number_never_fails (DatetimeType unit) number (DatetimeType other) e = placed_never_fails (DatetimeType other) (rescaled (per_day unit) (per_day other) number) e
-number_never_fails (DurationType unit) number (DurationType other) e = placed_never_fails (DurationType other) (rescaled (per_day unit) (per_day other) number) e
-number_never_fails from number target e = integer_never_fails number target e
+placed_never_fails : (options : CastOptions) (type : Ty) (number : ℤ) → options ≢ Strict → placed options type number ≢ Fails
+placed_never_fails options type number n e =
+    elim (in_range type number) as (λ b. cond b (Gives (IntValue number)) (no_place options) ≡ Fails → ⊥) [ true ↦ λ g. cc | false ↦ no_place_never_fails options n ] e
 
-truth_never_fails : (truth : Bool) (target : Ty) → truth_to truth target NonStrict ≢ Fails
-truth_never_fails truth (Integer signed bits) e = integer_never_fails (number_of truth) (Integer signed bits) e
-truth_never_fails truth _ e = cc
+integer_never_fails : (number : ℤ) (target : Ty) (options : CastOptions) → options ≢ Strict → integer_to number target options ≢ Fails
+integer_never_fails number Truth options n e = cc
+integer_never_fails number TextType options n e = cc
+integer_never_fails number (Integer signed bits) options n e =
+    elim (in_range (Integer signed bits) number) as (λ b. cond b (Gives (IntValue number)) (out_of_range options (Integer signed bits) number) ≡ Fails → ⊥) [ true ↦ λ g. cc | false ↦ out_of_range_never_fails options (Integer signed bits) number n ] e
+integer_never_fails number target options n e = placed_never_fails options target number n e
 
-text_never_fails : (text : List ℕ) (target : Ty) → text_to text target NonStrict ≢ Fails
-text_never_fails text (Integer signed bits) e =
-    elim (number_in (encode_utf8_all text)) as (λ o. read_as (Integer signed bits) NonStrict o ≡ Fails → ⊥) [ None ↦ λ g. cc | Some number ↦ λ g. placed_never_fails (Integer signed bits) number g ] e
-text_never_fails text _ e = cc
+number_never_fails : (from : Ty) (number : ℤ) (target : Ty) (options : CastOptions) → options ≢ Strict → number_to from number target options ≢ Fails
+number_never_fails DateType number (DatetimeType unit) options n e = placed_never_fails options (DatetimeType unit) (rescaled 1 (per_day unit) number) n e
+number_never_fails (DatetimeType unit) number DateType options n e = placed_never_fails options DateType (rescaled (per_day unit) 1 number) n e
+number_never_fails (DatetimeType unit) number (DatetimeType other) options n e = placed_never_fails options (DatetimeType other) (rescaled (per_day unit) (per_day other) number) n e
+number_never_fails (DurationType unit) number (DurationType other) options n e = placed_never_fails options (DurationType other) (rescaled (per_day unit) (per_day other) number) n e
+number_never_fails from number target options n e = integer_never_fails number target options n e
+
+truth_never_fails : (truth : Bool) (target : Ty) (options : CastOptions) → options ≢ Strict → truth_to truth target options ≢ Fails
+truth_never_fails truth Truth options n e = cc
+truth_never_fails truth (Integer signed bits) options n e = integer_never_fails (number_of truth) (Integer signed bits) options n e
+truth_never_fails truth TextType options n e = cc
+truth_never_fails truth _ options n e = no_place_never_fails options n e
+
+text_never_fails : (text : List ℕ) (target : Ty) (options : CastOptions) → options ≢ Strict → text_to text target options ≢ Fails
+text_never_fails text (Integer signed bits) options n e =
+    elim (number_in (encode_utf8_all text)) as (λ o. read_as (Integer signed bits) options o ≡ Fails → ⊥) [ None ↦ no_place_never_fails options n | Some number ↦ placed_never_fails options (Integer signed bits) number n ] e
+text_never_fails text TextType options n e = cc
+text_never_fails text _ options n e = no_place_never_fails options n e
 
 in_front_never_fails : (c : Converted) (rest : Option Vals) → c ≢ Fails → rest ≢ None → converted_in_front c rest ≢ None
 in_front_never_fails Fails rest f g e = f refl
@@ -99,29 +112,29 @@ gathered_never_fails make (Some values) g e = cc
 
 -- one that isn't strict never fails
 mutual
-  pub cast_never_fails : (value : Val) (from target : Ty) → cast value from target NonStrict ≢ Fails
-  cast_never_fails NullValue from target e = cc
-  cast_never_fails (TruthValue truth) from target e = truth_never_fails truth target e
-  cast_never_fails (IntValue number) from target e = number_never_fails from number target e
-  cast_never_fails (TextValue text) from target e = text_never_fails text target e
-  cast_never_fails (ListValue items) (ListType item) (ListType other) e = gathered_never_fails ListValue (cast_items items item other NonStrict) (items_never_fail items item other) e
-  cast_never_fails (ListValue items) (ListType item) _ e = cc
-  cast_never_fails (ListValue items) _ target e = cc
-  cast_never_fails (StructValue parts) (StructType fields) (StructType others) e = gathered_never_fails StructValue (cast_parts parts fields others NonStrict) (parts_never_fail parts fields others) e
-  cast_never_fails (StructValue parts) (StructType fields) _ e = cc
-  cast_never_fails (StructValue parts) _ target e = cc
+  pub cast_never_fails : (value : Val) (from target : Ty) (options : CastOptions) → options ≢ Strict → cast value from target options ≢ Fails
+  cast_never_fails NullValue from target options n e = cc
+  cast_never_fails (TruthValue truth) from target options n e = truth_never_fails truth target options n e
+  cast_never_fails (IntValue number) from target options n e = number_never_fails from number target options n e
+  cast_never_fails (TextValue text) from target options n e = text_never_fails text target options n e
+  cast_never_fails (ListValue items) (ListType item) (ListType other) options n e = gathered_never_fails ListValue (cast_items items item other options) (items_never_fail items item other options n) e
+  cast_never_fails (ListValue items) (ListType item) _ options n e = no_place_never_fails options n e
+  cast_never_fails (ListValue items) _ target options n e = no_place_never_fails options n e
+  cast_never_fails (StructValue parts) (StructType fields) (StructType others) options n e = gathered_never_fails StructValue (cast_parts parts fields others options) (parts_never_fail parts fields others options n) e
+  cast_never_fails (StructValue parts) (StructType fields) _ options n e = no_place_never_fails options n e
+  cast_never_fails (StructValue parts) _ target options n e = no_place_never_fails options n e
 
-  items_never_fail : (items : Vals) (from target : Ty) → cast_items items from target NonStrict ≢ None
-  items_never_fail no_value from target e = cc
-  items_never_fail (with_value first rest) from target e =
-      in_front_never_fails (cast first from target NonStrict) (cast_items rest from target NonStrict) (cast_never_fails first from target) (items_never_fail rest from target) e
+  items_never_fail : (items : Vals) (from target : Ty) (options : CastOptions) → options ≢ Strict → cast_items items from target options ≢ None
+  items_never_fail no_value from target options n e = cc
+  items_never_fail (with_value first rest) from target options n e =
+      in_front_never_fails (cast first from target options) (cast_items rest from target options) (cast_never_fails first from target options n) (items_never_fail rest from target options n) e
 
-  parts_never_fail : (parts : Vals) (fields others : Fields) → cast_parts parts fields others NonStrict ≢ None
-  parts_never_fail (with_value first rest) (with_field name from froms) (with_field other target targets) e =
-      in_front_never_fails (cast first from target NonStrict) (cast_parts rest froms targets NonStrict) (cast_never_fails first from target) (parts_never_fail rest froms targets) e
-  parts_never_fail no_value _ _ e = cc
-  parts_never_fail (with_value first rest) no_field _ e = cc
-  parts_never_fail (with_value first rest) (with_field name from froms) no_field e = cc
+  parts_never_fail : (parts : Vals) (fields others : Fields) (options : CastOptions) → options ≢ Strict → cast_parts parts fields others options ≢ None
+  parts_never_fail (with_value first rest) (with_field name from froms) (with_field other target targets) options n e =
+      in_front_never_fails (cast first from target options) (cast_parts rest froms targets options) (cast_never_fails first from target options n) (parts_never_fail rest froms targets options n) e
+  parts_never_fail no_value _ _ options n e = cc
+  parts_never_fail (with_value first rest) no_field _ options n e = cc
+  parts_never_fail (with_value first rest) (with_field name from froms) no_field options n e = cc
 
 pub given_fits : (value converted : Val) (from target : Ty) (options : CastOptions) → fits value from ≡ true → can_cast from target ≡ true → cast value from target options ≡ Gives converted → fits converted target ≡ true
 given_fits value converted from target options h k e = subst (ConvertedFits target) e (cast_fits value from target options h k)
@@ -200,3 +213,20 @@ mutual
             )
         | false ↦ λ h. cc
       ] h
+
+-- what is cast has a type of columns
+mutual
+  pub source_known : (from target : Ty) → can_cast from target ≡ true → is_known from ≡ true
+  source_known (ListType item) (ListType other) h = source_known item other h
+  source_known (StructType fields) (StructType others) h = sources_known fields others h
+  source_known (ListType item) _ h = cc
+  source_known (StructType fields) _ h = cc
+  source_known (Untyped number) _ h = cc
+  source_known _ _ h = refl
+
+  sources_known : (fields others : Fields) → can_cast_fields fields others ≡ true → are_known fields ≡ true
+  sources_known no_field _ h = refl
+  sources_known (with_field name type rest) no_field h = cc
+  sources_known (with_field name type rest) (with_field other found others) h =
+      let parts = and_parts (can_cast type found) (can_cast_fields rest others) h in
+      and_from (is_known type) (are_known rest) (source_known type found parts.0) (sources_known rest others parts.1)

@@ -80,15 +80,19 @@ pub beside_known : (left right found : Ty) → type_beside left right ≡ Some f
 beside_known (Untyped number) right found h = (own_has number right found h).1
 beside_known left right found h = known_is left found h
 
-above_known : (m n : ℕ) (found : Ty) → signed_above m n ≡ Some found → is_known found ≡ true
-above_known m n found h =
-    elim (nat_lt n m) as (λ b. cond b (Some (Integer true m)) (cond (nat_lt n 64) (Some (Integer true (2 * n))) None) ≡ Some found → is_known found ≡ true) [
-      | true ↦ λ h. let same : Integer true m ≡ found = cc in subst (λ t. is_known t ≡ true) same refl
-      | false ↦ λ h. elim (nat_lt n 64) as (λ b. cond b (Some (Integer true (2 * n))) None ≡ Some found → is_known found ≡ true) [
-        | true ↦ λ h. let same : Integer true (2 * n) ≡ found = cc in subst (λ t. is_known t ≡ true) same refl
+-- what is true of each signed type is true of the least one that holds a signed and an unsigned type
+pub signed_above_is : (P : Ty → Bool) → ((bits : ℕ) → P (Integer true bits) ≡ true) → (m n : ℕ) (found : Ty) → signed_above m n ≡ Some found → P found ≡ true
+signed_above_is P each m n found h =
+    elim (nat_lt n m) as (λ b. cond b (Some (Integer true m)) (cond (nat_lt n 64) (Some (Integer true (2 * n))) None) ≡ Some found → P found ≡ true) [
+      | true ↦ λ h. let same : Integer true m ≡ found = cc in subst (λ t. P t ≡ true) same (each m)
+      | false ↦ λ h. elim (nat_lt n 64) as (λ b. cond b (Some (Integer true (2 * n))) None ≡ Some found → P found ≡ true) [
+        | true ↦ λ h. let same : Integer true (2 * n) ≡ found = cc in subst (λ t. P t ≡ true) same (each (2 * n))
         | false ↦ λ h. cc
       ] h
     ] h
+
+above_known : (m n : ℕ) (found : Ty) → signed_above m n ≡ Some found → is_known found ≡ true
+above_known = signed_above_is is_known (λ bits. refl)
 
 known_as : (made found : Ty) → made ≡ found → is_known made ≡ true → is_known found ≡ true
 known_as made found e k = subst (λ t. is_known t ≡ true) e k

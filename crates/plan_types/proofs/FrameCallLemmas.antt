@@ -1,9 +1,11 @@
 -- Columns that nothing keeps from being a frame are one, and their schema is copied name by name.
-use Rattle.std.proofs.Common.{◌≡◌, ℕ, zero, suc, ◌+◌, ◌<◌, List, [], ◌∷◌, ◌++◌, length, map, drop, get_or, Option, Some, None, is_none, true, false, IsTrue, cond, refl, sym, ap, ◌∙◌, subst, append_assoc, append-nil, slice_get, unwrap_or, is_some, Bool}
+use Rattle.std.proofs.Common.{◌≡◌, ℕ, zero, suc, ◌+◌, ◌<◌, List, [], ◌∷◌, ◌++◌, length, map, drop, get_or, Option, Some, None, is_none, true, false, IsTrue, cond, refl, sym, ap, ◌∙◌, ◌||◌, not, subst, append_assoc, append-nil, slice_get, unwrap_or, Bool}
 use Rattle.std.proofs.lemmas.List.{drop_more, map-append}
-use Rattle.std.specs.List.{AllByRecursion, range_with_len}
+use Rattle.std.specs.List.{AllByRecursion, list_any, range_with_len}
+use Rattle.std.specs.Borrow.{Bor}
+use Rattle.indexmap.specs.IndexSet.{insert_key}
 use Rattle.plan_types.specs.Types.{Ty, ty}
-use Rattle.plan_types.specs.Schemas.{Name, Columns, HasDistinctNames, is_among, names_of, repeats, type_at, with_column}
+use Rattle.plan_types.specs.Schemas.{Name, Columns, HasDistinctNames, is_among, repeats, same_name, with_column}
 use Rattle.plan_types.specs.Values.{Val, NullValue, fits}
 use Rattle.plan_types.specs.Frames.{RowFits, HasNoRowsWithoutColumns, IsFrame}
 use Rattle.plan_types.specs.FrameFaults.{repeated_name, other_length, misfit_from, misfit, else_fault, frame_fault, vals_of, framed, heads_of, head_of, height_of, row_of}
@@ -14,7 +16,7 @@ use Rattle.plan_types.specs.declared.frame.FrameError.{FrameError}
 use Rattle.plan_types.specs.declared.frame.FrameError.TheVariants.{Duplicate, Misfit}
 use Rattle.plan_types.proofs.ListLemmas.{map-map}
 use Rattle.plan_types.proofs.NameLemmas.{repeats-push}
-use Rattle.plan_types.proofs.SchemaLemmas.{distinct_from_test, copied_more, is_among-type_at, with_column-new, none_there as none_there_at}
+use Rattle.plan_types.proofs.SchemaLemmas.{distinct_from_test, copied_more}
 
 pub none_there : (fault : Option FrameError) → is_none fault ≡ true → fault ≡ None
 none_there None h = refl
@@ -81,19 +83,39 @@ copied_head done cs i c all distinct within at e =
     let left : c ∷ drop (i + 1) cs ≡ drop i cs = ap (λ y. y ∷ drop (i + 1) cs) at ∙ sym (drop_more cs i c within) in
     copied_more done (head_of c) (heads_of (drop (i + 1) cs)) all distinct (ap (λ l. done ++ heads_of l) left ∙ e)
 
+-- the names that references show
+abbrev pub names_shown : List (Bor Name) → List Name
+names_shown keys = map (λ key. key.now) keys
+
+among_shown : (keys : List (Bor Name)) (name : Name) → list_any (λ key. same_name name key.now) keys ≡ is_among name (names_shown keys)
+among_shown [] name = refl
+among_shown (key ∷ keys) name = ap (λ b. same_name name key.now || b) (among_shown keys name)
+
 -- a column's name is looked up among those before it
-met_name : (seen : Columns) (cs : List Column) (i : ℕ) (c : Column) (b : Bool) → i < length cs → c ≡ get_or cs i c → is_some (type_at seen c.name) ≡ b → repeated_name (names_of seen) (drop i cs) ≡ cond b (Some (Duplicate c.name)) (repeated_name (names_of seen ++ c.name ∷ []) (drop (i + 1) cs))
+met_name : (seen : List (Bor Name)) (cs : List Column) (i : ℕ) (c : Column) (b : Bool) → i < length cs → c ≡ get_or cs i c → list_any (λ key. same_name c.name key.now) seen ≡ b → repeated_name (names_shown seen) (drop i cs) ≡ cond b (Some (Duplicate c.name)) (repeated_name (names_shown seen ++ c.name ∷ []) (drop (i + 1) cs))
 met_name seen cs i c b within at e =
     let left : c ∷ drop (i + 1) cs ≡ drop i cs = ap (λ y. y ∷ drop (i + 1) cs) at ∙ sym (drop_more cs i c within) in
-    ap (repeated_name (names_of seen)) (sym left) ∙ ap (λ b. cond b (Some (Duplicate c.name)) (repeated_name (names_of seen ++ c.name ∷ []) (drop (i + 1) cs))) (is_among-type_at seen c.name ∙ e)
+    ap (repeated_name (names_shown seen)) (sym left) ∙ ap (λ b. cond b (Some (Duplicate c.name)) (repeated_name (names_shown seen ++ c.name ∷ []) (drop (i + 1) cs))) (sym (among_shown seen c.name) ∙ e)
 
-pub met_again : (fault : Option FrameError) (seen : Columns) (cs : List Column) (i : ℕ) (c : Column) → i < length cs → c ≡ get_or cs i c → is_some (type_at seen c.name) ≡ true → fault ≡ repeated_name (names_of seen) (drop i cs) → fault ≡ Some (Duplicate c.name)
-met_again fault seen cs i c within at e is = is ∙ met_name seen cs i c true within at e
+was_there : (new b : Bool) → new ≡ not b → new ≡ false → b ≡ true
+was_there new true h f = refl
+was_there new false h f = cc
 
-pub met_first : (fault : Option FrameError) (seen : Columns) (cs : List Column) (i : ℕ) (c : Column) → i < length cs → c ≡ get_or cs i c → is_some (type_at seen c.name) ≡ false → fault ≡ repeated_name (names_of seen) (drop i cs) → fault ≡ repeated_name (names_of (with_column seen c.name (ty c.dtype))) (drop (i + 1) cs)
-met_first fault seen cs i c within at e is =
-    let new = with_column-new seen c.name (ty c.dtype) (none_there_at (type_at seen c.name) e) in
-    is ∙ met_name seen cs i c false within at e ∙ ap (λ names. repeated_name names (drop (i + 1) cs)) (sym (ap names_of new ∙ map-append (λ entry. entry.0) seen ((c.name, ty c.dtype) ∷ [])))
+was_new : (new b : Bool) → new ≡ not b → new ≡ true → b ≡ false
+was_new new false h t = refl
+was_new new true h t = cc
+
+-- the set of names says whether it had the name
+pub met_again : (fault : Option FrameError) (seen : List (Bor Name)) (cs : List Column) (i : ℕ) (c : Column) (new : Bool) → i < length cs → c ≡ get_or cs i c → new ≡ not (list_any (λ key. same_name c.name key.now) seen) → new ≡ false → fault ≡ repeated_name (names_shown seen) (drop i cs) → fault ≡ Some (Duplicate c.name)
+met_again fault seen cs i c new within at told old is = is ∙ met_name seen cs i c true within at (was_there new _ told old)
+
+pub met_first : (fault : Option FrameError) (seen more : List (Bor Name)) (cs : List Column) (i : ℕ) (c : Column) (key : Bor Name) (new : Bool) → key.now ≡ c.name → i < length cs → c ≡ get_or cs i c → new ≡ not (list_any (λ other. same_name key.now other.now) seen) → new ≡ true → more ≡ insert_key (λ x y. same_name x.now y.now) seen key → fault ≡ repeated_name (names_shown seen) (drop i cs) → fault ≡ repeated_name (names_shown more) (drop (i + 1) cs)
+met_first fault seen more cs i c key new shows within at told fresh grown is =
+    let none : list_any (λ other. same_name key.now other.now) seen ≡ false = was_new new _ told fresh in
+    let last : more ≡ seen ++ key ∷ [] = grown ∙ ap (λ b. cond b seen (seen ++ key ∷ [])) none in
+    let names : names_shown more ≡ names_shown seen ++ c.name ∷ [] = ap names_shown last ∙ map-append (λ k. k.now) seen (key ∷ []) ∙ ap (λ n. names_shown seen ++ n ∷ []) shows in
+    let apart : list_any (λ other. same_name c.name other.now) seen ≡ false = ap (λ n. list_any (λ other. same_name n other.now) seen) (sym shows) ∙ none in
+    is ∙ met_name seen cs i c false within at apart ∙ ap (λ names. repeated_name names (drop (i + 1) cs)) (sym names)
 
 -- each frame of the code is one
 pub frame_is_frame : (frame : Frame) → IsFrame (frame_of frame)

@@ -7,6 +7,7 @@ pub mod FittingLemmas
 pub mod FrameCallLemmas
 pub mod FrameCopyLemmas
 pub mod FrameRowLemmas
+pub mod HashLemmas
 pub mod ListLemmas
 pub mod MadeLemmas
 pub mod NameLemmas

@@ -2,7 +2,6 @@
 use Rattle.std.proofs.Common.{◌≡◌, ◌≢◌, ℕ, ℤ, suc, Bool, true, false, ◌&&◌, List as Many, [], ◌∷◌, length, refl, sym, ap, ◌∙◌}
 use Rattle.plan_types.specs.Values.{NullValue, TruthValue, IntValue, TextValue, ListValue, StructValue, same_value, same_values}
 use Rattle.plan_types.specs.ValueViews.{val_of, values_in}
-use Rattle.plan_types.specs.ValueLaws.{value_count}
 use Rattle.plan_types.specs.declared.value.Value.{Value, Null, Boolean, Int, Text, List, Struct}
 use Rattle.plan_types.specs.declared.value.Parts.{Parts}
 use Rattle.plan_types.proofs.PartLemmas.{list_of, struct_of}
@@ -44,8 +43,3 @@ values_apart [] (w ∷ ws) n = refl
 values_apart (v ∷ vs) [] n = refl
 values_apart (v ∷ vs) (w ∷ ws) n =
     nothing_same (same_value (val_of v) (val_of w)) ∙ ap (λ b. same_value (val_of v) (val_of w) && b) (values_apart vs ws (λ e. n (ap suc e)))
-
--- a list has as many values as its length
-pub counted : (vs : Many Value) → value_count (values_in vs) ≡ length vs
-counted [] = refl
-counted (v ∷ vs) = ap suc (counted vs)

@@ -1,7 +1,6 @@
 -- Laws of comparing types.
-use Rattle.std.specs.Prelude.{◌≡◌, ℕ, Bool, true, false, List, ◌++◌, encode_utf8_all}
+use Rattle.std.specs.Prelude.{◌≡◌, ℕ, Bool, true, false, List}
 use Rattle.std.specs.Cmp.{IsEquivalence}
-use Rattle.std.specs.Hash as fed
 use Rattle.std.proofs.Common.{refl, sym, ap, subst, rules}
 use Rattle.std.specs.Prelude.{◌&&◌}
 use Rattle.std.specs.Str.{bytes_eq}
@@ -11,7 +10,7 @@ use Rattle.std.proofs.lemmas.Bool.{eqb-true, and_parts, and_from}
 use Rattle.std.proofs.lemmas.Bool.Decides.{same_from_decides, Decides-int_eq}
 use Rattle.std.proofs.lemmas.Cmp.{on_equiv}
 use Rattle.std.specs.Ordering.{on}
-use Rattle.plan_types.specs.Types.{Ty, NullType, Truth, Integer, TextType, DateType, TimeType, DatetimeType, DurationType, ListType, StructType, Untyped, Fields, no_field, with_field, ty, same_unit, field_of, same_type, same_fields, same_field, type_code}
+use Rattle.plan_types.specs.Types.{Ty, NullType, Truth, Integer, TextType, DateType, TimeType, DatetimeType, DurationType, ListType, StructType, Untyped, Fields, no_field, with_field, ty, same_unit, field_of, same_type, same_fields, same_field, type_writes, field_writes}
 use Rattle.plan_types.specs.declared.dtype.DataType.{DataType}
 use Rattle.plan_types.specs.declared.field.Field.{Field}
 use Rattle.plan_types.specs.declared.dtype.TimeUnit.{TimeUnit}
@@ -98,10 +97,9 @@ pub same_field_is_equivalence : IsEquivalence (on field_of same_field)
 same_field_is_equivalence = on_equiv field_of (equivalence_from_exact same_field same_field_exact same_field_own)
 
 -- equal types are hashed alike
-pub same_hash : (a b : DataType) → same_type (ty a) (ty b) ≡ true → fed.u32 (type_code (ty a)) ≡ fed.u32 (type_code (ty b))
-same_hash a b t = ap (λ t. fed.u32 (type_code t)) (same_type_exact (ty a) (ty b) t)
+pub same_hash : (a b : DataType) → same_type (ty a) (ty b) ≡ true → type_writes (ty a) ≡ type_writes (ty b)
+same_hash a b t = ap type_writes (same_type_exact (ty a) (ty b) t)
 
 -- and so are equal fields
-pub same_field_hash : (a b : Field) → same_field (field_of a) (field_of b) ≡ true → fed.str (encode_utf8_all (field_of a).0) ++ fed.u32 (type_code (field_of a).1) ≡ fed.str (encode_utf8_all (field_of b).0) ++ fed.u32 (type_code (field_of b).1)
-same_field_hash a b t =
-    ap (λ f. fed.str (encode_utf8_all f.0) ++ fed.u32 (type_code f.1)) (same_field_exact (field_of a) (field_of b) t)
+pub same_field_hash : (a b : Field) → same_field (field_of a) (field_of b) ≡ true → field_writes (field_of a) ≡ field_writes (field_of b)
+same_field_hash a b t = ap field_writes (same_field_exact (field_of a) (field_of b) t)

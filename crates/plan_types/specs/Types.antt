@@ -1,7 +1,9 @@
 -- Types of columns.
 -- An integer type is known by its sign and its number of bits. Moments (Datetime) and spans (Duration) are counted in
 -- a unit. A whole number that is written without a type has one for itself, which no column has.
-use Rattle.std.specs.Prelude.{ℕ, ℤ, Bool, true, false, ◌&&◌, ◌==◌, ◌+◌, nat_lt, List, [], ◌∷◌, map, if◌then◌else◌}
+use Rattle.std.specs.Prelude.{ℕ, suc, ℤ, Bool, true, false, ◌&&◌, ◌||◌, ◌==◌, ◌+◌, nat_lt, List, [], ◌∷◌, ◌++◌, map, encode_utf8_all, if◌then◌else◌}
+use Rattle.std.specs.Hash as fed
+use Rattle.std.specs.Hash.{HashWrites}
 use Rattle.std.specs.Ordering.{int_eq}
 use Rattle.std.specs.Str.{bytes_eq}
 use Rattle.plan_types.specs.declared.dtype.TimeUnit.{TimeUnit}
@@ -118,6 +120,10 @@ is_temporal (DatetimeType unit) = true
 is_temporal (DurationType unit) = true
 is_temporal type = false
 
+-- whether values of the type that aren't null are numbers: integers, or counts of time
+abbrev pub is_counted : Ty → Bool
+is_counted type = is_integer type || is_temporal type
+
 -- whether values of the type that aren't null are in an order
 abbrev pub is_ord : Ty → Bool
 is_ord NullType = false
@@ -193,7 +199,7 @@ abbrev mutual
 abbrev pub same_field : List ℕ × Ty → List ℕ × Ty → Bool
 same_field left right = bytes_eq left.0 right.0 && same_type left.1 right.1
 
--- a number by which types are hashed
+-- a number for each kind of type: one for all numbers without a type, one for all lists, and one for all structs
 abbrev pub type_code : Ty → ℕ
 type_code NullType = 0
 type_code Truth = 1
@@ -207,3 +213,28 @@ type_code (DurationType unit) = 9 + unit_rank unit
 type_code (Untyped number) = 12
 type_code (ListType item) = 13
 type_code (StructType fields) = 14
+
+-- how many fields there are
+abbrev pub field_count : Fields → ℕ
+field_count no_field = 0
+field_count (with_field name type rest) = suc (field_count rest)
+
+-- what of a type is hashed: its number, and then its items' type, or how many fields it has and each name and type, in
+-- order, or the number that has no type
+abbrev mutual
+  pub type_writes : Ty → HashWrites
+  type_writes (ListType item) = fed.u32 13 ++ type_writes item
+  type_writes (StructType fields) = fed.u32 14 ++ (fed.usize (field_count fields) ++ each_field_writes fields)
+  type_writes (Untyped number) = fed.u32 12 ++ fed.i128 number
+  type_writes type = fed.u32 (type_code type)
+
+  pub each_field_writes : Fields → HashWrites
+  each_field_writes no_field = []
+  each_field_writes (with_field name type rest) = (fed.str (encode_utf8_all name) ++ type_writes type) ++ each_field_writes rest
+
+abbrev pub fields_writes : Fields → HashWrites
+fields_writes fields = fed.usize (field_count fields) ++ each_field_writes fields
+
+-- what of a field is hashed: its name, and then its type
+abbrev pub field_writes : List ℕ × Ty → HashWrites
+field_writes named = fed.str (encode_utf8_all named.0) ++ type_writes named.1

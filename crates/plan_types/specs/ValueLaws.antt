@@ -1,5 +1,5 @@
 -- Laws of comparing values, and what of them is hashed.
-use Rattle.std.specs.Prelude.{◌≡◌, ℕ, suc, true, false, ◌++◌, encode_utf8_all}
+use Rattle.std.specs.Prelude.{◌≡◌, ℕ, suc, true, false, [], ◌++◌, encode_utf8_all}
 use Rattle.std.specs.Cmp.{IsEquivalence}
 use Rattle.std.specs.Hash as fed
 use Rattle.std.specs.Hash.{HashWrites}
@@ -60,17 +60,23 @@ abbrev pub value_count : Vals → ℕ
 value_count no_value = 0
 value_count (with_value first rest) = suc (value_count rest)
 
--- what of a value is hashed: its kind, and its number or text, or how many values it has
-abbrev pub parts_writes : Vals → HashWrites
-parts_writes parts = fed.usize (value_count parts)
+-- what of a value is hashed: its kind, and its truth, number or text, or how many values it has and each of them, in
+-- order
+abbrev mutual
+  pub value_writes : Val → HashWrites
+  value_writes NullValue = fed.u32 0
+  value_writes (TruthValue truth) = fed.u32 1 ++ fed.bool truth
+  value_writes (IntValue number) = fed.u32 2 ++ fed.i128 number
+  value_writes (TextValue text) = fed.u32 3 ++ fed.str (encode_utf8_all text)
+  value_writes (ListValue items) = fed.u32 4 ++ (fed.usize (value_count items) ++ each_writes items)
+  value_writes (StructValue parts) = fed.u32 5 ++ (fed.usize (value_count parts) ++ each_writes parts)
 
-abbrev pub value_writes : Val → HashWrites
-value_writes NullValue = fed.u32 0
-value_writes (TruthValue truth) = fed.u32 1 ++ fed.bool truth
-value_writes (IntValue number) = fed.u32 2 ++ fed.i128 number
-value_writes (TextValue text) = fed.u32 3 ++ fed.str (encode_utf8_all text)
-value_writes (ListValue items) = fed.u32 4 ++ parts_writes items
-value_writes (StructValue parts) = fed.u32 5 ++ parts_writes parts
+  pub each_writes : Vals → HashWrites
+  each_writes no_value = []
+  each_writes (with_value first rest) = value_writes first ++ each_writes rest
+
+abbrev pub parts_writes : Vals → HashWrites
+parts_writes parts = fed.usize (value_count parts) ++ each_writes parts
 
 -- equal values are hashed alike
 pub same_value_hash : (a b : Value) → same_value (val_of a) (val_of b) ≡ true → value_writes (val_of a) ≡ value_writes (val_of b)

@@ -1,7 +1,8 @@
 //! Types of columns, and units of time.
 ghost use Rattle.std.specs.Prelude.{◌≡◌, ◌≢◌, ◌↔◌, ℤ, pos, false, true, IsTrue, MatchOption, IfOk, IfErr};
+ghost use Rattle.std.specs.List.{fold};
 ghost use Rattle.plan_types.specs.Errors.{no_memory};
-ghost use Rattle.plan_types.specs.Types.{DatetimeType, DurationType, ListType, Untyped, is_bare, fields_in, fields_of, are_known, same_fields, same_type, coarser, per_day, ty, is_integer, is_known, is_ord, is_signed_integer, is_temporal, is_unsigned_integer, type_code, unit_rank, width_of};
+ghost use Rattle.plan_types.specs.Types.{DatetimeType, DurationType, ListType, Untyped, is_bare, fields_in, fields_of, fields_writes, are_known, same_fields, same_type, coarser, per_day, ty, is_counted, is_integer, is_known, is_ord, is_signed_integer, is_temporal, is_unsigned_integer, type_code, type_writes, unit_rank, width_of};
 ghost use Rattle.plan_types.specs.Values.{in_range};
 
 use crate::error::PlanError;
@@ -163,6 +164,13 @@ impl DataType {
         )
     }
 
+    /// Whether values of the type that aren't null are numbers: it is a type of integers or of time.
+    pub fn is_counted(&self) -> bool
+        ensures { result ≡ is_counted (ty self.now) }
+    {
+        self.is_integer() || self.is_temporal()
+    }
+
     /// Whether values of the type that aren't null are in an order: those of each type of columns are, but that of null,
     /// lists and structs.
     pub fn is_ord(&self) -> bool
@@ -236,7 +244,7 @@ impl DataType {
         }
     }
 
-    // A number by which types are hashed.
+    // A number for each kind of type.
     fn code(&self) -> u32
         ensures { result ≡ type_code (ty self.now) }
     {
@@ -253,6 +261,20 @@ impl DataType {
             DataType::Struct(_) => 14,
             DataType::Int8 | DataType::Int16 | DataType::Int32 | DataType::Int64 => self.width(),
             _unsigned => 128 + self.width(),
+        }
+    }
+
+    // Feeds the type's number to the hasher, and then its items' type or its fields, or the number that has no type.
+    #[cycle(type_hashes)]
+    fn feed<H: Hasher>(&self, state: &mut H)
+        ensures { state.new ≡ fold H.write state.old (type_writes (ty self.now)) }
+    {
+        self.code().hash(state);
+        match self {
+            DataType::List(item) => item.feed(state),
+            DataType::Struct(fields) => feed_fields(fields.items.as_slice(), state),
+            DataType::Unknown(UnknownKind::Int(number)) => number.hash(state),
+            _ => {}
         }
     }
 
@@ -395,6 +417,18 @@ fn are_known(fields: &[Field]) -> bool
     true
 }
 
+// Feeds how many fields there are to the hasher, and then each one's name and type, in order.
+#[cycle(type_hashes)]
+fn feed_fields<H: Hasher>(fields: &[Field], state: &mut H)
+    ensures { state.new ≡ fold H.write state.old (fields_writes (fields_in fields.now)) }
+{
+    fields.len().hash(state);
+    for field in fields {
+        field.name.hash(state);
+        field.dtype.feed(state);
+    }
+}
+
 // Whether the fields have the same names and types, in the same order.
 #[cycle(same_types)]
 fn same_fields(left: &[Field], right: &[Field]) -> bool
@@ -448,15 +482,14 @@ impl Eq for DataType {
 }
 
 impl Hash for DataType {
-    ghost use Rattle.std.specs.Hash as fed;
-    ghost use Rattle.plan_types.specs.Types.{ty, type_code};
+    ghost use Rattle.plan_types.specs.Types.{ty, type_writes};
     ghost use Rattle.plan_types.specs.TypeLaws.{same_hash};
 
-    ghost hash_input = { λ a. fed.u32 (type_code (ty a)) };
+    ghost hash_input = { λ a. type_writes (ty a) };
 
     ghost respects_eq = { same_hash };
 
     fn hash<H: Hasher>(&self, state: &mut H) {
-        self.code().hash(state);
+        self.feed(state);
     }
 }

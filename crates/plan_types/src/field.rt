@@ -83,12 +83,10 @@ impl Eq for Field {
 }
 
 impl Hash for Field {
-    ghost use Rattle.std.specs.Prelude.{◌++◌, encode_utf8_all};
-    ghost use Rattle.std.specs.Hash as fed;
-    ghost use Rattle.plan_types.specs.Types.{field_of, type_code};
+    ghost use Rattle.plan_types.specs.Types.{field_of, field_writes};
     ghost use Rattle.plan_types.specs.TypeLaws.{same_field_hash};
 
-    ghost hash_input = { λ a. fed.str (encode_utf8_all (field_of a).0) ++ fed.u32 (type_code (field_of a).1) };
+    ghost hash_input = { λ a. field_writes (field_of a) };
 
     ghost respects_eq = { same_field_hash };
 

@@ -9,6 +9,7 @@ use crate::column::Column;
 use crate::error::PlanError;
 use crate::schema::Schema;
 use crate::text::PlSmallStr;
+use indexmap::IndexSet;
 use std::alloc::{AllocError, Global};
 use thiserror::Error;
 
@@ -143,15 +144,15 @@ fn check_names(alloc: Global, columns: &[Column]) -> Result<(), FrameError>
     ensures ok { OnOk result (repeated_name [] columns.now ≡ None) }
     ensures err { IfErr result (IsFault (repeated_name [] columns.now)) }
 {
-    let mut seen = Schema::new(alloc);
+    let mut seen = IndexSet::new(alloc);
     for column in columns {
-        if seen.contains(&column.name) {
+        let Ok(new) = seen.insert(&column.name) else {
+            return Err(FrameError::NoMemory);
+        };
+        if !new {
             let name = copied(alloc, &column.name)?;
             return Err(FrameError::Duplicate { name });
         }
-        let Ok(()) = add_head(alloc, &mut seen, column) else {
-            return Err(FrameError::NoMemory);
-        };
     }
     Ok(())
 }

@@ -7,7 +7,7 @@ ghost use Rattle.plan_types.specs.CommonTypes.{common_type, type_beside};
 ghost use Rattle.plan_types.specs.Supertypes.{supertype};
 ghost use Rattle.plan_types.specs.Values.{Val, fits, in_range};
 ghost use Rattle.plan_types.specs.declared.dtype.CastOptions.{CastOptions};
-ghost use Rattle.plan_types.specs.declared.dtype.CastOptions.TheVariants.{NonStrict};
+ghost use Rattle.plan_types.specs.declared.dtype.CastOptions.TheVariants.{Strict};
 
 /// A common type doesn't depend on the order, a type has itself with itself, and a common type of integers has each
 /// number that one of the two has. There is a cast from each of two types to their common type.
@@ -36,7 +36,7 @@ pub fn common_type_laws()
 pub fn cast_laws()
     ensures itself { (value : Val) (type : Ty) (options : CastOptions) → fits value type ≡ true
         → cast value type type options ≡ Gives value }
-    ensures never_fails { (value : Val) (from target : Ty) → cast value from target NonStrict ≢ Fails }
+    ensures never_fails { (value : Val) (from target : Ty) (options : CastOptions) → options ≢ Strict → cast value from target options ≢ Fails }
     ensures fits { (value converted : Val) (from target : Ty) (options : CastOptions) → fits value from ≡ true → can_cast from target ≡ true
         → cast value from target options ≡ Gives converted → fits converted target ≡ true }
     ensures own { (a : Ty) → is_known a ≡ true → can_cast a a ≡ true }

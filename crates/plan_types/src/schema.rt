@@ -74,8 +74,7 @@ impl Schema {
     /// `get`, with a refusal where no column has the name.
     pub fn try_get(&self, name: &PlSmallStr) -> Result<&DataType, PlanError>
         ensures ok { IfOk result (λ dtype. type_at (columns self.now) name.now ≡ Some (ty dtype.now)) }
-        ensures err { IfErr result (IsMemoryOr ErrorKind.ColumnNotFound (IsNewName (columns self.now) name.now)) }
-        ensures kind { IfErr result (λ error. error.kind ≡ ErrorKind.ColumnNotFound) }
+        ensures err { IfErr result (λ error. (error ≡ at_top ErrorKind.ColumnNotFound) × IsNewName (columns self.now) name.now) }
     {
         match self.get(name) {
             Some(dtype) => Ok(dtype),

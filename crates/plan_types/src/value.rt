@@ -1,7 +1,9 @@
 //! Values of columns.
 ghost use Rattle.std.specs.Prelude.{◌≡◌, IfOk, IfErr};
+ghost use Rattle.std.specs.List.{fold};
 ghost use Rattle.plan_types.specs.Errors.{no_memory};
 ghost use Rattle.plan_types.specs.Types.{fields_in, ty};
+ghost use Rattle.plan_types.specs.ValueLaws.{value_writes, parts_writes};
 ghost use Rattle.plan_types.specs.ValueViews.{val_of, values_in};
 ghost use Rattle.plan_types.specs.Values.{fits, items_fit, parts_fit, same_value, same_values};
 
@@ -109,6 +111,36 @@ impl Value {
         }
     }
 
+    // Feeds the value's kind to the hasher, and then its truth, its number, its text or its values.
+    #[cycle(value_hashes)]
+    fn feed<H: Hasher>(&self, state: &mut H)
+        ensures { state.new ≡ fold H.write state.old (value_writes (val_of self.now)) }
+    {
+        match self {
+            Value::Null => 0u32.hash(state),
+            Value::Boolean(truth) => {
+                1u32.hash(state);
+                truth.hash(state);
+            }
+            Value::Int(number) => {
+                2u32.hash(state);
+                number.hash(state);
+            }
+            Value::Text(text) => {
+                3u32.hash(state);
+                text.hash(state);
+            }
+            Value::List(items) => {
+                4u32.hash(state);
+                feed_values(items.items.as_slice(), state);
+            }
+            Value::Struct(parts) => {
+                5u32.hash(state);
+                feed_values(parts.items.as_slice(), state);
+            }
+        }
+    }
+
     #[cycle(value_copies)]
     pub fn try_clone(&self, alloc: Global) -> Result<Value, PlanError>
         ensures ok { IfOk result (λ copy. val_of copy ≡ val_of self.now) }
@@ -148,6 +180,17 @@ fn same_values(left: &[Value], right: &[Value]) -> bool
         }
     }
     true
+}
+
+// Feeds how many values there are to the hasher, and then each, in order.
+#[cycle(value_hashes)]
+fn feed_values<H: Hasher>(values: &[Value], state: &mut H)
+    ensures { state.new ≡ fold H.write state.old (parts_writes (values_in values.now)) }
+{
+    values.len().hash(state);
+    for value in values {
+        value.feed(state);
+    }
 }
 
 // Whether each item fits the type.
@@ -200,7 +243,6 @@ impl Eq for Value {
     ghost laws = { same_value_is_equivalence };
 }
 
-/// Lists and structs are hashed by their number of values alone.
 impl Hash for Value {
     ghost use Rattle.plan_types.specs.ValueViews.{val_of};
     ghost use Rattle.plan_types.specs.ValueLaws.{value_writes, same_value_hash};
@@ -210,29 +252,7 @@ impl Hash for Value {
     ghost respects_eq = { same_value_hash };
 
     fn hash<H: Hasher>(&self, state: &mut H) {
-        match self {
-            Value::Null => 0u32.hash(state),
-            Value::Boolean(truth) => {
-                1u32.hash(state);
-                truth.hash(state);
-            }
-            Value::Int(number) => {
-                2u32.hash(state);
-                number.hash(state);
-            }
-            Value::Text(text) => {
-                3u32.hash(state);
-                text.hash(state);
-            }
-            Value::List(items) => {
-                4u32.hash(state);
-                items.hash(state);
-            }
-            Value::Struct(parts) => {
-                5u32.hash(state);
-                parts.hash(state);
-            }
-        }
+        self.feed(state);
     }
 }
 
@@ -266,6 +286,6 @@ impl Hash for Parts {
     ghost respects_eq = { same_values_hash };
 
     fn hash<H: Hasher>(&self, state: &mut H) {
-        self.items.as_slice().len().hash(state);
+        feed_values(self.items.as_slice(), state);
     }
 }

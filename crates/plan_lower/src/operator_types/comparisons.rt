@@ -60,5 +60,5 @@ fn is_text_apart(left: &DataType, right: &DataType) -> bool
 fn is_text_beside(text: &DataType, other: &DataType) -> bool
     ensures { result ≡ is_text_beside (ty text.now) (ty other.now) }
 {
-    matches!(text, DataType::String) && (other.is_integer() || other.is_temporal())
+    matches!(text, DataType::String) && other.is_counted()
 }

@@ -3,7 +3,7 @@
 
 ghost use Rattle.std.specs.Prelude.{◌≡◌, ℕ, List, [], ◌∷◌, pos, neg_ℤ, map, codes, true, false, Some, None, Ok, Err};
 ghost use Rattle.std.specs.List.{list_all, list_any};
-ghost use Rattle.plan_types.specs.Types.{Ty, ListType, StructType, Untyped, Fields, no_field, with_field, ty, is_bare, is_integer, is_known, is_ord, is_temporal, is_null, is_truth, is_text, same_type, width_of};
+ghost use Rattle.plan_types.specs.Types.{Ty, ListType, StructType, Untyped, Fields, no_field, with_field, ty, is_bare, is_counted, is_integer, is_known, is_ord, is_temporal, is_null, is_truth, is_text, same_type, width_of};
 ghost use Rattle.plan_types.specs.Values.{Val, NullValue, TruthValue, IntValue, TextValue, ListValue, StructValue, Vals, no_value, with_value, in_range, fits, all_fit};
 ghost use Rattle.plan_types.specs.Supertypes.{supertype, upcast};
 ghost use Rattle.plan_types.specs.CommonTypes.{type_alone, own_type, type_beside, common_type};
@@ -28,6 +28,7 @@ pub fn known_lists_and_structs()
 /// Lists and structs are in no order, whatever is in them, and in no class of types: they have no width and no numbers.
 pub fn classes_of_lists_and_structs()
     ensures ord { list_any is_ord (ListType (ty Int8) ∷ ListType (ty String) ∷ StructType no_field ∷ StructType (with_field (codes "a") (ty Int8) no_field) ∷ []) ≡ false }
+    ensures counted { list_any is_counted (ListType (ty Int8) ∷ StructType (with_field (codes "a") (ty Date) no_field) ∷ []) ≡ false }
     ensures temporal { list_any is_temporal (ListType (ty Date) ∷ ListType (ty (Datetime Nanoseconds)) ∷ StructType (with_field (codes "a") (ty Date) no_field) ∷ []) ≡ false }
     ensures integer { list_any is_integer (ListType (ty Int8) ∷ StructType (with_field (codes "a") (ty Int8) no_field) ∷ []) ≡ false }
     ensures text { list_any is_text (ListType (ty String) ∷ StructType (with_field (codes "a") (ty String) no_field) ∷ []) ≡ false }

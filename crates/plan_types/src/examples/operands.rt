@@ -46,7 +46,9 @@ pub fn types_of_numbers_beside_integers()
     ensures unsigned { map (λ number. own_type number (ty UInt8)) (pos 255 ∷ pos 256 ∷ pos 65535 ∷ pos 65536 ∷ pos 4294967296 ∷ [])
         ≡ Some (ty UInt8) ∷ Some (ty UInt16) ∷ Some (ty UInt16) ∷ Some (ty UInt32) ∷ Some (ty UInt64) ∷ [] }
     ensures below_zero { map (λ number. own_type number (ty UInt8)) (neg_ℤ (pos 1) ∷ neg_ℤ (pos 129) ∷ []) ≡ Some (ty Int8) ∷ Some (ty Int16) ∷ [] }
+    ensures far_below_zero { map (λ number. own_type number (ty UInt64)) (neg_ℤ (pos 32769) ∷ neg_ℤ (pos 2147483649) ∷ neg_ℤ (pos 9223372036854775808) ∷ []) ≡ Some (ty Int32) ∷ Some (ty Int64) ∷ Some (ty Int64) ∷ [] }
     ensures none { map (λ type. own_type (pos 18446744073709551616) (ty type)) (Int8 ∷ UInt64 ∷ []) ≡ None ∷ None ∷ [] }
+    ensures none_below_zero { map (λ type. own_type (neg_ℤ (pos 9223372036854775809)) (ty type)) (Int8 ∷ UInt8 ∷ []) ≡ None ∷ None ∷ [] }
     ensures truths { map (λ number. own_type number (ty Boolean)) (pos 1 ∷ pos 2147483648 ∷ []) ≡ Some (ty Int32) ∷ Some (ty Int64) ∷ [] }
     ensures untyped { map (λ number. own_type number (Untyped (pos 5))) (pos 1 ∷ pos 9223372036854775808 ∷ []) ≡ Some (ty Int32) ∷ Some (ty UInt64) ∷ [] }
 {}

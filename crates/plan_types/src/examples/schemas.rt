@@ -1,8 +1,8 @@
 //! Worked examples on schemas: names, columns, and calls on them.
 
-ghost use Rattle.std.specs.Prelude.{◌≡◌, [], ◌∷◌, codes, true, false, Some, None, Ok, Err, insert};
-ghost use Rattle.plan_types.specs.Types.{Ty, ty};
-ghost use Rattle.plan_types.specs.Schemas.{Name, type_at, with_column, is_among, repeats, names_of};
+ghost use Rattle.std.specs.Prelude.{◌≡◌, pos, [], ◌∷◌, codes, true, false, Some, None, Ok, Err, insert};
+ghost use Rattle.plan_types.specs.Types.{Ty, ListType, Untyped, ty};
+ghost use Rattle.plan_types.specs.Schemas.{Name, IsNewName, HasDistinctNames, type_at, with_column, is_among, repeats, names_of, all_known};
 ghost use Rattle.plan_types.specs.SchemaCalls.{column_at, same_names, common_columns, super_columns};
 ghost use Rattle.plan_types.specs.declared.error.ErrorKind.TheVariants.{SchemaMismatch, InvalidOperation};
 ghost use Rattle.plan_types.specs.declared.dtype.TimeUnit.TheVariants.{Nanoseconds, Microseconds, Milliseconds};
@@ -42,6 +42,24 @@ pub fn repeated_names()
     ensures apart { repeats (codes "a" ∷ codes "b" ∷ codes "a" ∷ []) ≡ true }
     ensures later { repeats (codes "a" ∷ codes "b" ∷ codes "c" ∷ codes "b" ∷ []) ≡ true }
     ensures of_columns { names_of ((codes "a", ty Int8) ∷ (codes "b", ty Int32) ∷ []) ≡ codes "a" ∷ codes "b" ∷ [] }
+{}
+
+/// Names that no column has, and columns of which no two have one name.
+pub fn new_and_distinct_names()
+    ensures new { IsNewName ((codes "a", ty Int8) ∷ []) (codes "b") }
+    ensures known { ¬ (IsNewName ((codes "a", ty Int8) ∷ (codes "b", ty Int8) ∷ []) (codes "b")) }
+    ensures no_columns { HasDistinctNames [] }
+    ensures distinct { HasDistinctNames ((codes "a", ty Int8) ∷ (codes "b", ty Int8) ∷ (codes "A", ty Int8) ∷ []) }
+    ensures repeated { ¬ (HasDistinctNames ((codes "b", ty Int8) ∷ (codes "a", ty Int8) ∷ (codes "c", ty Int8) ∷ (codes "a", ty UInt8) ∷ [])) }
+{}
+
+/// Whether each column has a type of columns, at every depth.
+pub fn columns_of_known_types()
+    ensures none { all_known [] ≡ true }
+    ensures known { all_known ((codes "a", ty Null) ∷ (codes "b", ListType (ty Int8)) ∷ []) ≡ true }
+    ensures first { all_known ((codes "a", Untyped (pos 5)) ∷ (codes "b", ty Int8) ∷ []) ≡ false }
+    ensures last { all_known ((codes "a", ty Int8) ∷ (codes "b", Untyped (pos 5)) ∷ []) ≡ false }
+    ensures deep { all_known ((codes "a", ListType (ListType (Untyped (pos 5)))) ∷ []) ≡ false }
 {}
 
 /// A name is found at the first column that has it.

@@ -74,4 +74,6 @@ pub fn order_of_texts()
     ensures shorter { slice_cmp nat_cmp (codes "a") (codes "ab") ≡ Less }
     ensures empty { slice_cmp nat_cmp [] (codes "a") ≡ Less }
     ensures other_case { slice_cmp nat_cmp (codes "a") (codes "B") ≡ Greater }
+    ensures past_ascii { slice_cmp nat_cmp (codes "z") (codes "é") ≡ Less }
+    ensures past_two_bytes { slice_cmp nat_cmp (codes "ｚ") (codes "😀") ≡ Less }
 {}

@@ -1,8 +1,9 @@
 //! Worked examples on types: which there are, their classes, when two are one, and units of time.
 
-ghost use Rattle.std.specs.Prelude.{◌≡◌, [], ◌∷◌, pos, neg_ℤ, map, true, false};
+ghost use Rattle.std.specs.Prelude.{◌≡◌, [], ◌∷◌, pos, neg_ℤ, map, codes, true, false};
 ghost use Rattle.std.specs.List.{list_all, list_any};
-ghost use Rattle.plan_types.specs.Types.{NullType, Truth, Integer, TextType, DateType, TimeType, DatetimeType, DurationType, Untyped, ty, is_known, is_null, is_truth, is_integer, is_signed_integer, is_unsigned_integer, is_text, is_temporal, is_ord, width_of, per_day, coarser, same_type};
+ghost use Rattle.plan_types.specs.Types.{NullType, Truth, Integer, TextType, DateType, TimeType, DatetimeType, DurationType, Untyped, ty, is_counted, is_known, is_null, is_truth, is_integer, is_signed_integer, is_unsigned_integer, is_text, is_temporal, is_ord, width_of, per_day, unit_rank, coarser, same_type, same_field, same_fields, fields_in, field_of, no_field, with_field};
+ghost use Rattle.plan_types.specs.declared.field.Field.{Field};
 ghost use Rattle.plan_types.specs.declared.dtype.TimeUnit.{TimeUnit};
 ghost use Rattle.plan_types.specs.declared.dtype.TimeUnit.TheVariants.{Nanoseconds, Microseconds, Milliseconds};
 ghost use Rattle.plan_types.specs.declared.dtype.UnknownKind.TheVariants.{Int};
@@ -49,6 +50,8 @@ pub fn classes_of_types()
     ensures no_text { (unit : TimeUnit) → list_any is_text (map ty (Null ∷ Boolean ∷ Int8 ∷ Int16 ∷ Int32 ∷ Int64 ∷ UInt8 ∷ UInt16 ∷ UInt32 ∷ UInt64 ∷ Date ∷ Time ∷ Datetime unit ∷ Duration unit ∷ Unknown (Int (pos 1)) ∷ [])) ≡ false }
     ensures temporal { (unit : TimeUnit) → list_all is_temporal (map ty (Date ∷ Time ∷ Datetime unit ∷ Duration unit ∷ [])) ≡ true }
     ensures no_temporal { list_any is_temporal (map ty (Null ∷ Boolean ∷ Int8 ∷ Int16 ∷ Int32 ∷ Int64 ∷ UInt8 ∷ UInt16 ∷ UInt32 ∷ UInt64 ∷ String ∷ Unknown (Int (pos 1)) ∷ [])) ≡ false }
+    ensures counted { (unit : TimeUnit) → list_all is_counted (map ty (Int8 ∷ Int16 ∷ Int32 ∷ Int64 ∷ UInt8 ∷ UInt16 ∷ UInt32 ∷ UInt64 ∷ Date ∷ Time ∷ Datetime unit ∷ Duration unit ∷ [])) ≡ true }
+    ensures not_counted { list_any is_counted (map ty (Null ∷ Boolean ∷ String ∷ Unknown (Int (pos 1)) ∷ [])) ≡ false }
     ensures ord { (unit : TimeUnit) → list_all is_ord (map ty (Boolean ∷ Int8 ∷ Int16 ∷ Int32 ∷ Int64 ∷ UInt8 ∷ UInt16 ∷ UInt32 ∷ UInt64 ∷ String ∷ Date ∷ Time ∷ Datetime unit ∷ Duration unit ∷ [])) ≡ true }
     ensures no_ord { list_any is_ord (map ty (Null ∷ Unknown (Int (pos 1)) ∷ [])) ≡ false }
     ensures known { (unit : TimeUnit) → list_all is_known (map ty (Null ∷ Boolean ∷ Int8 ∷ Int16 ∷ Int32 ∷ Int64 ∷ UInt8 ∷ UInt16 ∷ UInt32 ∷ UInt64 ∷ String ∷ Date ∷ Time ∷ Datetime unit ∷ Duration unit ∷ [])) ≡ true }
@@ -87,9 +90,22 @@ pub fn same_types_of_texts_and_times()
         ≡ false ∷ true ∷ false ∷ [] }
 {}
 
+/// Fields by their names and types, in order: two are one where both are.
+pub fn fields_of_structs()
+    ensures field { let a : Field = record { name = codes "a"; dtype = Int8 } in field_of a ≡ (codes "a", ty Int8) }
+    ensures fields { let a : Field = record { name = codes "a"; dtype = Int8 } in let b : Field = record { name = codes "b"; dtype = Date } in
+        fields_in (b ∷ a ∷ b ∷ []) ≡ with_field (codes "b") DateType (with_field (codes "a") (Integer true 8) (with_field (codes "b") DateType no_field)) }
+    ensures none { fields_in [] ≡ no_field }
+    ensures same { map (same_field (codes "a", ty Int8)) ((codes "a", ty Int8) ∷ (codes "a", ty UInt8) ∷ (codes "b", ty Int8) ∷ (codes "", ty Int8) ∷ []) ≡ true ∷ false ∷ false ∷ false ∷ [] }
+    ensures same_in_order { map (same_fields (with_field (codes "a") (ty Int8) (with_field (codes "b") (ty Int8) no_field)))
+        (with_field (codes "a") (ty Int8) (with_field (codes "b") (ty Int8) no_field) ∷ with_field (codes "b") (ty Int8) (with_field (codes "a") (ty Int8) no_field) ∷ with_field (codes "a") (ty Int8) no_field ∷ no_field ∷ [])
+        ≡ true ∷ false ∷ false ∷ false ∷ [] }
+{}
+
 /// How many of each unit a day has, and of two units the coarser: milliseconds are the coarsest.
 pub fn units_of_time()
     ensures day { map per_day (Nanoseconds ∷ Microseconds ∷ Milliseconds ∷ []) ≡ 86400000000000 ∷ 86400000000 ∷ 86400000 ∷ [] }
+    ensures rank { map unit_rank (Nanoseconds ∷ Microseconds ∷ Milliseconds ∷ []) ≡ 0 ∷ 1 ∷ 2 ∷ [] }
     ensures nanoseconds { map (coarser Nanoseconds) (Nanoseconds ∷ Microseconds ∷ Milliseconds ∷ []) ≡ Nanoseconds ∷ Microseconds ∷ Milliseconds ∷ [] }
     ensures microseconds { map (coarser Microseconds) (Nanoseconds ∷ Microseconds ∷ Milliseconds ∷ []) ≡ Microseconds ∷ Microseconds ∷ Milliseconds ∷ [] }
     ensures milliseconds { map (coarser Milliseconds) (Nanoseconds ∷ Microseconds ∷ Milliseconds ∷ []) ≡ Milliseconds ∷ Milliseconds ∷ Milliseconds ∷ [] }

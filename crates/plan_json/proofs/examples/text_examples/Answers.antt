@@ -1,7 +1,7 @@
 use Rattle.std.proofs.Common.{◌≡◌, [], ◌∷◌, Some, None, negsuc, codes, refl, ap, ◌∙◌, rules, arith}
-use Rattle.serde_json.specs.Data.{array, no_items, item, no_members, member, float, negative, number, object, string}
+use Rattle.serde_json.specs.Data.{Data, array, no_items, item, no_members, member, float, negative, number, object, string, unsigned}
 use Rattle.plan_json.specs.Faults as fault
-use Rattle.plan_json.specs.Faults.{key, part}
+use Rattle.plan_json.specs.Faults.{FaultKind, BadFloat, BadShape, IsBadAt, key, own_fault, part}
 use Rattle.plan_json.specs.Queries.{query_of}
 use Rattle.plan_json.proofs.OnLiterals.{values_on_literals}
 use Rattle.plan_json.proofs.examples.text_examples.Goals as goal
@@ -139,3 +139,74 @@ returns-clause-numbers c =
     let lit = object (member (codes "lit") (number (negative (negsuc 6))) no_members) in
     let plan = object (member (codes "filter") (array (item empty (item lit no_items))) no_members) in
     (object (member (codes "plan") plan (member (codes "tables") (array no_items) no_members)), (search rules, refl), refl)
+
+abbrev filter_by : Data → Data
+filter_by number =
+    let empty = object (member (codes "empty") (array no_items) no_members) in
+    let lit = object (member (codes "lit") number no_members) in
+    let plan = object (member (codes "filter") (array (item empty (item lit no_items))) no_members) in
+    object (member (codes "plan") plan (member (codes "tables") (array no_items) no_members))
+
+abbrev scan_of : Data → Data
+scan_of name =
+    let plan = object (member (codes "scan") name no_members) in
+    object (member (codes "plan") plan (member (codes "tables") (array no_items) no_members))
+
+-- the name of a scan breaks its form
+scan_at_fault : (name : Data) (kind : FaultKind) → own_fault (fault.a_scan []) name ≡ Some kind → IsBadAt fault.a_query (scan_of name) kind (key (codes "plan") ∷ key (codes "scan") ∷ [])
+scan_at_fault name kind bad = (
+  part (key (codes "plan")) (fault.a_plan []) (object (member (codes "scan") name no_members)),
+  (1, omega arith, refl),
+  refl,
+  (part (key (codes "scan")) (fault.a_scan []) name, (0, omega arith, refl), refl, bad),
+)
+
+pub returns-clause-least_number : goal.returns-clause-least_number
+unfolding values_on_literals
+returns-clause-least_number c = (filter_by (number (negative (negsuc 9223372036854775807))), (search rules, refl), refl)
+
+pub returns-clause-greatest_number : goal.returns-clause-greatest_number
+unfolding values_on_literals
+returns-clause-greatest_number c = (filter_by (number (unsigned 18446744073709551615)), (search rules, refl), refl)
+
+pub returns-clause-past_greatest_number : goal.returns-clause-past_greatest_number
+unfolding values_on_literals
+returns-clause-past_greatest_number c path is =
+    (scan_of (number (float _)), (search rules, refl), (key (codes "plan") ∷ key (codes "scan") ∷ [], is, scan_at_fault (number (float _)) BadFloat refl))
+
+pub returns-clause-below_least_number : goal.returns-clause-below_least_number
+unfolding values_on_literals
+returns-clause-below_least_number c path is =
+    (scan_of (number (float _)), (search rules, refl), (key (codes "plan") ∷ key (codes "scan") ∷ [], is, scan_at_fault (number (float _)) BadFloat refl))
+
+pub returns-clause-minus_zero : goal.returns-clause-minus_zero
+unfolding values_on_literals
+returns-clause-minus_zero c path is =
+    (scan_of (number (float _)), (search rules, refl), (key (codes "plan") ∷ key (codes "scan") ∷ [], is, scan_at_fault (number (float _)) BadFloat refl))
+
+pub returns-clause-zero : goal.returns-clause-zero
+unfolding values_on_literals
+returns-clause-zero c path is =
+    (scan_of (number (unsigned 0)), (search rules, refl), (key (codes "plan") ∷ key (codes "scan") ∷ [], is, scan_at_fault (number (unsigned 0)) BadShape refl))
+
+pub returns-clause-last_key_counts : goal.returns-clause-last_key_counts
+unfolding values_on_literals
+returns-clause-last_key_counts c =
+    let empty = object (member (codes "empty") (array no_items) no_members) in
+    (object (member (codes "plan") empty (member (codes "tables") (array no_items) no_members)), (search rules, refl), refl)
+
+pub returns-clause-past_every_float : goal.returns-clause-past_every_float
+unfolding values_on_literals
+returns-clause-past_every_float c d (utf8, is) = cc
+
+pub returns-clause-nothing : goal.returns-clause-nothing
+unfolding values_on_literals
+returns-clause-nothing c d (utf8, is) = cc
+
+pub returns-clause-more_behind : goal.returns-clause-more_behind
+unfolding values_on_literals
+returns-clause-more_behind c d (utf8, is) = cc
+
+pub returns-clause-no_utf8 : goal.returns-clause-no_utf8
+unfolding values_on_literals
+returns-clause-no_utf8 c d (utf8, is) = cc

@@ -1,4 +1,4 @@
-use Rattle.std.proofs.Common.{[], sym, ap, ◌∙◌, subst, arith}
+use Rattle.std.proofs.Common.{[], inr, sym, ap, ◌∙◌, subst, arith}
 use Rattle.plan_types.specs.Schemas.{columns}
 use Rattle.plan_types.specs.Types.{ty}
 use Rattle.plan_types.specs.Errors.{IsRefusal}
@@ -24,7 +24,7 @@ get-requires t c =
 pub returns-in_err-found-in-Column-clause-err : goal.returns-in_err-found-in-Column-clause-err
 returns-in_err-found-in-Column-clause-err t c =
     let held = got_held c.args.arena.now c.args.node.0 c.get.result.now _ _ c.get.ensures (ap expression_layer c.in-Column.is) in
-    passed_on c.from_residual.result c.in_err-found-in-Column.field-0.0 _ c.from_residual.ensures.1 (column_refused c.args.arena.now (registry c.args.udfs.now) (columns c.args.schema.now) c.args.node.0 c.in-Column.name _ held c.in_err-found-in-Column.ensures.err)
+    passed_on c.from_residual.result c.in_err-found-in-Column.field-0.0 _ c.from_residual.ensures.1 (column_refused c.args.arena.now (registry c.args.udfs.now) (columns c.args.schema.now) c.args.node.0 c.in-Column.name _ held (inr c.in_err-found-in-Column.ensures.err))
 
 pub keep-requires : goal.keep-requires
 keep-requires t c =

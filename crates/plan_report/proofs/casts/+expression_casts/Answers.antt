@@ -1,11 +1,12 @@
 use Rattle.std.proofs.Common.{[], ◌∷◌, ap, arith}
 use Rattle.plan_arena.specs.Items.{expression_layer}
-use Rattle.plan_report.proofs.NodeLemmas.{expression_within, expression_inputs}
+use Rattle.plan_arena.proofs.ItemLemmas.{tree_within}
+use Rattle.plan_report.proofs.NodeLemmas.{expression_inputs}
 use Rattle.plan_report.proofs.CastLemmas.{expression_counted}
 use Rattle.plan_report.proofs.casts.+expression_casts.Goals as goal
 
 pub get-item-requires : goal.get-item-requires
-get-item-requires t c = expression_within c.args.arena.now c.args.node.0 c.requires
+get-item-requires t c = tree_within c.args.arena.now c.args.node.0 c.requires
 
 pub expression_casts-requires : goal.expression_casts-requires
 expression_casts-requires t c =

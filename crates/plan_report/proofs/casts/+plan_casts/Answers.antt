@@ -1,6 +1,7 @@
 use Rattle.std.proofs.Common.{[], ◌∷◌, ap, arith}
 use Rattle.plan_arena.specs.Items.{named_node, plan_layer}
-use Rattle.plan_report.proofs.NodeLemmas.{plan_within, plan_inputs, plan_outputs}
+use Rattle.plan_arena.proofs.ItemLemmas.{plan_within}
+use Rattle.plan_report.proofs.NodeLemmas.{plan_inputs, plan_outputs}
 use Rattle.plan_report.proofs.CastLemmas.{no_outputs, only_named, only_output, plan_counted}
 use Rattle.plan_report.proofs.casts.+plan_casts.Goals as goal
 

@@ -1,9 +1,9 @@
 use Rattle.std.proofs.Common.{◌++◌, refl, ap, ◌∙◌, arith, string_bytes}
 use Rattle.plan_types.specs.Schemas.{columns}
 use Rattle.plan_arena.specs.Items.{plan_layer}
-use Rattle.plan_arena.proofs.ItemLemmas.{item_inputs}
+use Rattle.plan_arena.proofs.ItemLemmas.{item_inputs, plan_within}
 use Rattle.plan_report.specs.Report.{plan_lines}
-use Rattle.plan_report.proofs.NodeLemmas.{plan_within, plan_inputs, lent_schema, filter_schema, leaf_lines, one_lines}
+use Rattle.plan_report.proofs.NodeLemmas.{plan_inputs, lent_schema, filter_schema, leaf_lines, one_lines}
 use Rattle.plan_report.proofs.report.+push_lines.Goals as goal
 
 pub get-item-requires : goal.get-item-requires

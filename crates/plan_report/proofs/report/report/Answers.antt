@@ -1,6 +1,6 @@
 use Rattle.plan_types.specs.Schemas.{columns}
-use Rattle.plan_arena.proofs.ItemLemmas.{item_inputs}
-use Rattle.plan_report.proofs.NodeLemmas.{plan_within, lent_schema}
+use Rattle.plan_arena.proofs.ItemLemmas.{item_inputs, plan_within}
+use Rattle.plan_report.proofs.NodeLemmas.{lent_schema}
 use Rattle.plan_report.proofs.report.report.Goals as goal
 
 pub root-requires : goal.root-requires
