@@ -10,13 +10,14 @@ ghost use Rattle.plan_dsl.specs.declared.plan.DslPlan.TheVariants.{DataFrameScan
 ghost use Rattle.plan_dsl.specs.declared.plan.Exprs.{Exprs};
 ghost use Rattle.plan_dsl.specs.declared.plan.ProjectionOptions.{ProjectionOptions};
 ghost use Rattle.serde_json.specs.Data.{array, item, no_items, null, string};
-ghost use Rattle.plan_json.specs.Errors.{IsBelow, IsErrBelow, IsErrorOf, IsOwn, IsPlain};
+ghost use Rattle.plan_json.specs.Errors.{IsBelow, IsErrBelow, IsErrorOf, IsOwn, IsPlain, step_of};
 ghost use Rattle.plan_json.specs.Faults as fault;
 ghost use Rattle.plan_json.specs.Faults.{BadFloat, BadName, BadShape, key};
 ghost use Rattle.plan_json.specs.Queries.{has_flags, query_model};
 ghost use Rattle.plan_json.specs.Tables.{declared};
 ghost use Rattle.plan_json.specs.declared.error.JsonError.{JsonError};
 ghost use Rattle.plan_json.specs.declared.error.JsonError.TheVariants.{NotJson, Shape, Float, Name, NoMemory};
+ghost use Rattle.plan_json.specs.declared.error.Step.TheVariants.{Item, Key};
 ghost use Rattle.plan_json.specs.declared.read.Query.{Query};
 
 /// An error of a value itself has the empty path, and the name of its kind.
@@ -53,8 +54,10 @@ pub fn errors_of_parts()
         → let read : Result ℕ JsonError = Err (Shape path) in IsErrBelow (fault.number 1) read (Shape longer) }
 {}
 
-/// A step of a word with `~` or `/` needs an escape.
+/// The code's steps are those of paths. A step of a word with `~` or `/` needs an escape.
 pub fn plain_steps()
+    ensures of_an_item { step_of (Item 12) ≡ fault.number 12 }
+    ensures of_a_key { (word : _) → step_of (Key word) ≡ key word.now }
     ensures word { IsPlain (key (codes "columns")) }
     ensures number { IsPlain (fault.number 12) }
     ensures slash { ¬ (IsPlain (key (codes "a/b"))) }
