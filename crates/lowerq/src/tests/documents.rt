@@ -1,24 +1,7 @@
 //! The examples of the documents that no other test runs.
 
-use super::lower;
-use std::alloc::Global;
+use super::{assert_bad, assert_ends};
 use std::test::Fail;
-
-// Whether the input ends with that status and that text.
-fn ends(alloc: Global, input: &str, number: u8, text: &str) -> Result<bool, Fail> {
-    let seen = lower(alloc, input)?;
-    Ok(
-        seen.number == number
-            && seen.has_plan == (number == 0)
-            && seen.written.as_slice() == text.as_bytes(),
-    )
-}
-
-// Whether the input ends as a bad query of that kind and place.
-fn is_told(alloc: Global, input: &str, want: &str) -> Result<bool, Fail> {
-    let text = format!(in alloc; "bad query {want}\n")?;
-    ends(alloc, input, 3, text.as_str())
-}
 
 #[test]
 fn plans_end_as_documented(rt: HostRuntime) -> Result<(), Fail> {
@@ -39,7 +22,7 @@ fn plans_end_as_documented(rt: HostRuntime) -> Result<(), Fail> {
             "refused SchemaMismatch .0\n",
         ),
     ] {
-        assert!(rt; ends(rt.alloc(), input, *number, text)?, "{input}");
+        assert_ends(&rt, rt.alloc(), input, *number, text)?;
     }
     Ok(())
 }
@@ -76,7 +59,7 @@ fn tables_at_fault_are_told_as_documented(rt: HostRuntime) -> Result<(), Fail> {
             "Name /tables/1/name",
         ),
     ] {
-        assert!(rt; is_told(rt.alloc(), input, want)?, "{input}");
+        assert_bad(&rt, rt.alloc(), input, want)?;
     }
     Ok(())
 }
@@ -116,7 +99,7 @@ fn plans_at_fault_are_told_as_documented(rt: HostRuntime) -> Result<(), Fail> {
             "Shape /plan/select/1/0/cast/2",
         ),
     ] {
-        assert!(rt; is_told(rt.alloc(), input, want)?, "{input}");
+        assert_bad(&rt, rt.alloc(), input, want)?;
     }
     Ok(())
 }
