@@ -16,6 +16,7 @@ pub mod PlanRules
 pub mod Plans
 pub mod Registry
 pub mod SameExpressions
+pub mod Samples
 pub mod StrictRun
 pub mod Strictness
 pub mod Trees
