@@ -2,9 +2,7 @@
 #![tactic(auto)]
 
 pub mod conversion;
-pub mod examples;
+mod examples;
 pub mod operator_types;
-#[cfg(test)]
-mod tests;
 pub mod type_table;
 pub mod typing;

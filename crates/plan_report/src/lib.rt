@@ -5,6 +5,6 @@
 #![tactic(auto)]
 
 mod casts;
-pub mod examples;
+mod examples;
 pub mod report;
 mod texts;

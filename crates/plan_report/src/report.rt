@@ -120,6 +120,3 @@ fn push_casts_line(alloc: Global, text: &mut String, casts: u64) -> Result<(), A
     push_number(alloc, text, casts)?;
     text.push_str("\n")
 }
-
-#[cfg(test)]
-mod tests;
