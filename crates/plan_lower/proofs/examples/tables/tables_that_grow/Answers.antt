@@ -4,7 +4,7 @@ use Rattle.plan_lower.specs.KeptTypes.{IsKept}
 use Rattle.plan_lower.proofs.examples.tables.tables_that_grow.Goals as goal
 
 pub returns-clause-less : goal.returns-clause-less
-returns-clause-less c = λ old new first types first' types' extends.
+returns-clause-less c = λ old first types new first' types' extends.
     let before : IsKept old 1 = record { dtype = dtype.Int32; keeps = rw (first, types) (omega arith, refl) } in
     let after = (extends.kept 1 before).keeps.1 in
     cc
