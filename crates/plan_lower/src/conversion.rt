@@ -2,7 +2,7 @@
 
 pub mod dsl_to_ir;
 pub mod expr_to_ir;
-pub mod predicate;
-pub mod projection;
-pub mod stack_opt;
-pub mod type_coercion;
+mod predicate;
+mod projection;
+mod stack_opt;
+mod type_coercion;

@@ -3,6 +3,6 @@
 
 pub mod conversion;
 mod examples;
-pub mod operator_types;
-pub mod type_table;
-pub mod typing;
+mod operator_types;
+mod type_table;
+mod typing;

@@ -20,10 +20,10 @@ use std::alloc::Global;
 
 /// The types to which an operator takes its operands, and the type of its result.
 #[derive(Drop)]
-pub struct OperandTypes {
-    pub left: DataType,
-    pub right: DataType,
-    pub result: DataType,
+pub(crate) struct OperandTypes {
+    pub(crate) left: DataType,
+    pub(crate) right: DataType,
+    pub(crate) result: DataType,
 }
 
 impl OperandTypes {
@@ -48,7 +48,7 @@ impl OperandTypes {
 }
 
 /// The types to which an operator takes operands of these types, of which a number without a type gets one first.
-pub fn operand_types(
+pub(crate) fn operand_types(
     alloc: Global,
     left: &DataType,
     op: Operator,

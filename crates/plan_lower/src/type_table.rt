@@ -11,14 +11,14 @@ use std::alloc::Global;
 
 /// The types of an arena's nodes, from a first number on. Contracts see what it keeps as `Keeps`.
 #[derive(Drop)]
-pub struct TypeTable {
+pub(crate) struct TypeTable {
     first: usize,
     types: Vec<Option<DataType>>,
 }
 
 impl TypeTable {
     /// A table that keeps no type yet, for nodes from that number on.
-    pub fn new(alloc: Global, first: usize) -> TypeTable
+    pub(crate) fn new(alloc: Global, first: usize) -> TypeTable
         ensures first { first_node result ≡ first }
         ensures empty { (n : ℕ) → ¬ (IsKept result n) }
     {
@@ -29,7 +29,7 @@ impl TypeTable {
     }
 
     /// The type that is kept for a node.
-    pub fn kept(&self, node: Node) -> Option<&DataType>
+    pub(crate) fn kept(&self, node: Node) -> Option<&DataType>
         ensures { MatchOption result (¬ (IsKept self.now node.0)) (λ dtype. Keeps self.now node.0 dtype.now) }
     {
         if node.0 < self.first {
@@ -42,7 +42,7 @@ impl TypeTable {
     }
 
     /// The type that is kept for a node which has one.
-    pub fn get(&self, node: Node) -> &DataType
+    pub(crate) fn get(&self, node: Node) -> &DataType
         requires { IsKept self.now node.0 }
         ensures { Keeps self.now node.0 result.now }
     {
@@ -53,7 +53,7 @@ impl TypeTable {
     }
 
     /// Keeps a type for a node.
-    pub fn keep(&mut self, node: Node, dtype: DataType) -> Result<(), PlanError>
+    pub(crate) fn keep(&mut self, node: Node, dtype: DataType) -> Result<(), PlanError>
         requires { first_node self.old ≤ node.0 }
         ensures first { first_node self.new ≡ first_node self.old }
         ensures kept { OnOk result (Keeps self.new node.0 dtype) }

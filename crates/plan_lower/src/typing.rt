@@ -26,7 +26,7 @@ use plan_types::schema::Schema;
 use std::alloc::Global;
 
 /// Types the expression at a node, over a frame of the schema. A node whose type is kept is not typed anew.
-pub fn type_nodes(
+pub(crate) fn type_nodes(
     node: Node,
     arena: &Arena<AExpr>,
     schema: &Schema,

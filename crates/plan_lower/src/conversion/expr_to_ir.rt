@@ -32,7 +32,7 @@ pub fn to_expr_ir(expr: Expr, arena: &mut Arena<AExpr>) -> Result<ExprIR, PlanEr
 }
 
 /// The expression as a plan's node takes it: a number without a type at its top gets the one that it has alone.
-pub fn settle(expr: Expr) -> Expr
+pub(crate) fn settle(expr: Expr) -> Expr
     ensures { tree_of result ≡ settled (tree_of expr) }
 {
     let Expr::Literal(LiteralValue::Int(number)) = &expr else {

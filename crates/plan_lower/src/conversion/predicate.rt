@@ -22,7 +22,7 @@ use smallvec::SmallVec;
 
 /// Adds a predicate's nodes, types them over a frame of the schema, asks that it is of the type of truth
 /// values, and puts casts round operands.
-pub fn lower_predicate(
+pub(crate) fn lower_predicate(
     predicate: Expr,
     schema: &Schema,
     arena: &mut Arena<AExpr>,

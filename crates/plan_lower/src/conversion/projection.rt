@@ -34,13 +34,13 @@ use std::alloc::Global;
 
 /// Lowered expressions, and the schema of their columns.
 #[derive(Drop)]
-pub struct Projection {
-    pub expr: ExprIRs,
-    pub schema: Schema,
+pub(crate) struct Projection {
+    pub(crate) expr: ExprIRs,
+    pub(crate) schema: Schema,
 }
 
 /// Adds the expressions' nodes, types them over a frame of the schema, and puts casts round their operands.
-pub fn project_strictly(
+pub(crate) fn project_strictly(
     exprs: Exprs,
     schema: &Schema,
     arena: &mut Arena<AExpr>,
@@ -72,7 +72,7 @@ fn roots_of(exprs: &ExprIRs, alloc: Global) -> Result<Stack, PlanError>
 }
 
 /// Adds the expressions' nodes, and types them over a frame of the schema. No casts are put in yet.
-pub fn project(
+pub(crate) fn project(
     exprs: Exprs,
     schema: &Schema,
     arena: &mut Arena<AExpr>,
@@ -133,7 +133,7 @@ fn project_one(
 
 /// Adds an expression's nodes, and types them over a frame of the schema. A number without a type at its top gets
 /// the one that it has alone.
-pub fn add_typed(
+pub(crate) fn add_typed(
     expr: Expr,
     schema: &Schema,
     arena: &mut Arena<AExpr>,

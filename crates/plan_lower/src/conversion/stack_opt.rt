@@ -17,10 +17,10 @@ use plan_types::error::{ErrorKind, PlanError};
 use smallvec::SmallVec;
 
 /// Nodes that wait to be visited. Most expressions need no allocation for them.
-pub type Stack = SmallVec<Node, 8>;
+pub(crate) type Stack = SmallVec<Node, 8>;
 
 /// Puts casts round the operands of each node that the stacked roots reach, a node before its inputs.
-pub fn coerce_types(
+pub(crate) fn coerce_types(
     stack: &mut Stack,
     arena: &mut Arena<AExpr>,
     types: &mut TypeTable,

@@ -25,7 +25,7 @@ use plan_types::dtype::{CastOptions, DataType, UnknownKind};
 use plan_types::error::PlanError;
 
 /// Makes the operands of the node of the types to which it takes them, where theirs are others.
-pub fn coerce_node(
+pub(crate) fn coerce_node(
     node: Node,
     arena: &mut Arena<AExpr>,
     types: &mut TypeTable,
@@ -144,7 +144,7 @@ fn coerce_cast(
 
 /// What makes an operand of one type one of another.
 #[derive(Drop)]
-pub enum Change {
+pub(crate) enum Change {
     /// It is of that type already.
     Keep,
     /// A cast to the type stands round it.
