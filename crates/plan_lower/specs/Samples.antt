@@ -1,7 +1,9 @@
 -- What the worked examples share: columns a and b, their sum with and without a cast, what arenas hold of them, and plans.
 use Rattle.std.specs.Prelude.{◌≡◌, ℕ, ℤ, List, [], ◌∷◌, map, pos, codes, true, false, Option, Some}
+use Rattle.std.specs.List.{AllByRecursion}
 use Rattle.plan_types.specs.Types.{Ty, Truth, Integer, StructType, Untyped, no_field, with_field}
 use Rattle.plan_types.specs.Values.{IntValue}
+use Rattle.plan_types.specs.Errors.{IsRefusal, at_top}
 use Rattle.plan_types.specs.Schemas.{Name, Columns}
 use Rattle.plan_types.specs.declared.dtype.DataType.{DataType}
 use Rattle.plan_types.specs.declared.dtype.DataType.TheVariants as dtype
@@ -13,7 +15,7 @@ use Rattle.plan_dsl.specs.declared.operator.Operator.TheVariants.{Plus}
 use Rattle.plan_dsl.specs.Trees.{node, no_more, more}
 use Rattle.plan_dsl.specs.Ops.{ColumnOp, LiteralOp, BinaryOp, CastOp, Expression}
 use Rattle.plan_dsl.specs.Plans.{PlanOp, Plan, Named, named, scan_op, select_op, filter_op}
-use Rattle.plan_dsl.specs.Typing.{Typed}
+use Rattle.plan_dsl.specs.Typing.{Typed, typing}
 use Rattle.plan_arena.specs.Layers.{Layer, layer}
 use Rattle.plan_arena.specs.Items.{plan_layer}
 use Rattle.plan_arena.specs.declared.arena.Node.{Node}
@@ -22,9 +24,12 @@ use Rattle.plan_arena.specs.declared.aexpr.AExpr.TheVariants.{Column, BinaryExpr
 use Rattle.plan_arena.specs.declared.ir.IR.{IR}
 use Rattle.plan_arena.specs.declared.plan.IRPlan.{IRPlan}
 use Rattle.plan_lower.specs.declared.type_table.TypeTable.{TypeTable}
+use Rattle.plan_lower.specs.declared.conversion.type_coercion.Change.{Change}
+use Rattle.plan_lower.specs.Coercion.{IsChangeFor}
 use Rattle.plan_lower.specs.Lowering.{source_select}
 use Rattle.plan_lower.specs.Outputs.{Lowered}
 use Rattle.plan_lower.specs.Projection.{Output}
+use Rattle.plan_lower.specs.Typed.{HasType}
 
 abbrev pub int8 : Ty
 int8 = Integer true 8
@@ -142,9 +147,13 @@ node_named name n = record { name = name; expression = n }
 abbrev pub output : Expression → ℕ → Typed → Output
 output tree n typed = record { tree = tree; node = n; typed = typed }
 
+-- an expression with its type and what stands for it
+abbrev pub lowered_to : Expression → Ty → Expression → Lowered
+lowered_to tree type after = record { tree = tree; typed = of_type type; after = after }
+
 -- an expression that stands for itself
 abbrev pub as_it_is : Expression → Ty → Lowered
-as_it_is tree type = record { tree = tree; typed = of_type type; after = tree }
+as_it_is tree type = lowered_to tree type tree
 
 -- the first table
 abbrev pub scan_of : Columns → Plan
@@ -189,3 +198,18 @@ abbrev pub ForSum : (IRPlan → Type 0) → Type 0
 ForSum Has =
     (lowering : IRPlan) → lowering.lp_top.0 ≡ 1 → lowering.expr_arena ≡ strict_items
     → map plan_layer lowering.lp_arena ≡ scan_layer (Some 0) two_columns ∷ select_layer 2 (one_column int32) ∷ [] → Has lowering
+
+-- what makes operands of the first types ones of the second
+abbrev pub AreChanges : List (Ty × Ty × Change) → Type 0
+AreChanges cases = AllByRecursion (λ case. IsChangeFor case.0 case.1 case.2) cases
+
+abbrev pub AreNoChanges : List (Ty × Ty × Change) → Type 0
+AreNoChanges cases = AllByRecursion (λ case. ¬ (IsChangeFor case.0 case.1 case.2)) cases
+
+-- expressions over columns, which have these types
+abbrev pub HaveTypes : List (Columns × Expression × Ty) → Type 0
+HaveTypes cases = AllByRecursion (λ case. HasType (typing [] case.0 case.1) case.2) cases
+
+-- expressions over columns, which are refused by that kind
+abbrev pub AreRefused : ErrorKind → List (Columns × Expression) → Type 0
+AreRefused kind cases = AllByRecursion (λ case. IsRefusal (typing [] case.0 case.1) (at_top kind)) cases

@@ -1,12 +1,17 @@
-//! Outputs of selects, and predicates.
+//! Outputs of selects, and predicates, with what lowering makes of them.
 
 ghost use Rattle.std.specs.Prelude.{◌≡◌, [], ◌∷◌, pos, codes};
+ghost use Rattle.plan_types.specs.Types.{Truth};
 ghost use Rattle.plan_types.specs.Errors.{no_memory, at_top};
-ghost use Rattle.plan_types.specs.declared.error.ErrorKind.TheVariants.{ColumnNotFound, Duplicate};
+ghost use Rattle.plan_types.specs.declared.error.ErrorKind.TheVariants.{ColumnNotFound, Duplicate, InvalidOperation};
 ghost use Rattle.plan_dsl.specs.declared.literal.LiteralValue.TheVariants.{Int, Int32};
+ghost use Rattle.plan_dsl.specs.Trees.{node, no_more, more};
+ghost use Rattle.plan_dsl.specs.Plans.{empty_table, select_op};
 ghost use Rattle.plan_arena.specs.declared.aexpr.AExpr.TheVariants.{Literal};
+ghost use Rattle.plan_lower.specs.Outputs.{IsLowered, SelectsTo, HasOutputs, lowered_named, lowered_column, over, lowered_select};
+ghost use Rattle.plan_lower.specs.Predicates.{FiltersBy, HasPredicate, IsPredicateRefusal, lowered_filter};
 ghost use Rattle.plan_lower.specs.Projection.{IsOutput, Projects, AddsOutput, IsOutputRefusal, RefusesOne, IsProjectionRefusal, output_node, output_column};
-ghost use Rattle.plan_lower.specs.Samples.{int8, int16, int32, one_column, two_columns, of_type, of_one, a, b, c, five, columns_and, a_items, node_named, output};
+ghost use Rattle.plan_lower.specs.Samples.{int8, int16, int32, one_column, columns_of, two_columns, truths, of_type, of_one, a, b, c, keep, five, sum, strict_sum, wide, columns_and, a_items, keep_items, node_named, output, lowered_to, as_it_is, scan_of, select_over, filter_over};
 
 /// An output's node denotes its expression as a plan takes it, with its typing.
 pub fn outputs_of_expressions()
@@ -42,4 +47,43 @@ pub fn refusals_of_projections()
     ensures projection_without_memory { IsProjectionRefusal [] [] [] no_memory }
     ensures of_nothing { ¬ (RefusesOne [] [] [] (at_top Duplicate)) }
     ensures projection_of_nothing { ¬ (IsProjectionRefusal [] [] [] (at_top Duplicate)) }
+{}
+
+/// What stands for an expression says the same and is strict.
+pub fn lowered_expressions()
+    ensures sum { IsLowered [] two_columns (lowered_to sum int32 strict_sum) }
+    ensures not_strict { ¬ (IsLowered [] two_columns (as_it_is sum int32)) }
+    ensures other_expression { ¬ (IsLowered [] (columns_of int8 int8) (lowered_to a int8 b)) }
+    ensures name { lowered_named (lowered_to a int8 wide) ≡ record { name = codes "a"; expression = wide } }
+    ensures column { lowered_column (as_it_is a int8) ≡ (codes "a", int8) }
+{}
+
+/// Outputs of a select, which stand for its expressions under distinct names.
+pub fn lowered_selects()
+    ensures select { SelectsTo [] (one_column int8) (a ∷ []) (as_it_is a int8 ∷ []) }
+    ensures other_tree { ¬ (SelectsTo [] (one_column int8) (b ∷ []) (as_it_is a int8 ∷ [])) }
+    ensures repeated { ¬ (SelectsTo [] (one_column int8) (a ∷ a ∷ []) (as_it_is a int8 ∷ as_it_is a int8 ∷ [])) }
+    ensures nodes { HasOutputs [] (one_column int8) a_items (a ∷ []) (node_named (codes "a") 0 ∷ []) (one_column int8) }
+    ensures no_nodes { ¬ (HasOutputs [] (one_column int8) a_items (a ∷ []) [] (one_column int8)) }
+    ensures over_an_input { lowered_select (as_it_is a int8 ∷ []) (scan_of (one_column int8)) ≡ select_over (scan_of (one_column int8)) a (one_column int8) }
+    ensures of_nothing { lowered_select [] (scan_of (one_column int8)) ≡ node (select_op [] []) (more empty_table no_more) }
+    ensures over_nothing { over [] (scan_of (one_column int8)) ≡ empty_table }
+{}
+
+/// A predicate is of the type of truth values, and what stands for it says the same.
+pub fn lowered_predicates()
+    ensures predicate { FiltersBy [] truths keep (as_it_is keep Truth) }
+    ensures number { ¬ (FiltersBy [] (one_column int8) a (as_it_is a int8)) }
+    ensures node { HasPredicate [] truths keep_items keep (node_named (codes "keep") 0) }
+    ensures node_of_a_number { ¬ (HasPredicate [] (one_column int8) a_items a (node_named (codes "a") 0)) }
+    ensures filter { lowered_filter (as_it_is keep Truth) (scan_of truths) ≡ filter_over (scan_of truths) keep }
+{}
+
+/// Why an expression can't be a predicate: it has no type, or another than that of truth values.
+pub fn refusals_of_predicates()
+    ensures memory { IsPredicateRefusal [] [] a no_memory }
+    ensures no_such_column { IsPredicateRefusal [] [] a (at_top ColumnNotFound) }
+    ensures number { IsPredicateRefusal [] (one_column int8) a (at_top InvalidOperation) }
+    ensures other_kind { ¬ (IsPredicateRefusal [] (one_column int8) a (at_top ColumnNotFound)) }
+    ensures predicate { ¬ (IsPredicateRefusal [] truths keep (at_top InvalidOperation)) }
 {}

@@ -17,7 +17,7 @@ use Rattle.plan_lower.specs.declared.type_table.TypeTable.{TypeTable}
 use Rattle.plan_lower.specs.Typed.{HasType}
 use Rattle.plan_lower.specs.KeptTypes.{IsKept, IsTypedNode, IsRight}
 use Rattle.plan_lower.proofs.ExampleLemmas.{one_expression, kept_at, has_one}
-use Rattle.plan_lower.proofs.examples.tables.tables_that_are_right.Goals as goal
+use Rattle.plan_lower.proofs.examples.types.tables_that_are_right.Goals as goal
 
 abbrev a : Expression
 a = node (ColumnOp (codes "a")) no_more

@@ -1,36 +1,56 @@
-//! Types of expressions, and tables that keep them by node.
+//! Types and refusals of expressions, and tables that keep types by node.
 
-ghost use Rattle.std.specs.Prelude.{◌≡◌, [], ◌∷◌, pos, Some, None};
-ghost use Rattle.plan_types.specs.Types.{Untyped};
+ghost use Rattle.std.specs.Prelude.{◌≡◌, [], ◌∷◌, pos, codes, Some, None};
+ghost use Rattle.plan_types.specs.Types.{NullType, Truth, TextType, DateType, TimeType, DatetimeType, DurationType, ListType, StructType, Untyped, no_field, with_field};
 ghost use Rattle.plan_types.specs.Errors.{IsRefusal, no_memory, at_top};
 ghost use Rattle.plan_types.specs.declared.dtype.DataType.TheVariants.{Int8, Int16, Int32};
-ghost use Rattle.plan_types.specs.declared.error.ErrorKind.TheVariants.{ColumnNotFound, SchemaMismatch};
+ghost use Rattle.plan_types.specs.declared.dtype.TimeUnit.TheVariants.{Nanoseconds, Microseconds};
+ghost use Rattle.plan_types.specs.declared.error.ErrorKind.TheVariants.{ColumnNotFound, SchemaMismatch, InvalidOperation};
 ghost use Rattle.plan_dsl.specs.declared.literal.LiteralValue.TheVariants as value;
+ghost use Rattle.plan_dsl.specs.declared.operator.Operator.TheVariants.{Eq, Lt, GtEq, Plus};
 ghost use Rattle.plan_dsl.specs.Typing.{typing};
 ghost use Rattle.plan_arena.specs.declared.aexpr.AExpr.TheVariants.{Literal};
 ghost use Rattle.plan_lower.specs.declared.type_table.TypeTable.{TypeTable};
 ghost use Rattle.plan_lower.specs.KeptTypes.{first_node, Keeps, IsKept, Extends, IsTypedNode, IsRight, HasRightTypes};
 ghost use Rattle.plan_lower.specs.Typed.{HasType, HasKnownType};
-ghost use Rattle.plan_lower.specs.Samples.{int8, int16, int32, one_column, two_columns, a, c, five, sum_items, a_items, refused, ForTable};
+ghost use Rattle.plan_lower.specs.Samples.{int8, int16, int32, int64, one_column, two_columns, columns_of, struct_of, a, b, c, number, five, binary, cast_to, strictly_cast_to, sum_items, a_items, refused, ForTable, HaveTypes, AreRefused};
 
-/// What typing an expression says: its type, and whether that is one of columns.
+/// What typing an expression says: its type, and whether that is one of columns. Casts have their target's type.
 pub fn types_of_expressions()
-    ensures type_of_a_column { HasType (typing [] (one_column int8) a) int8 }
+    ensures types { HaveTypes ((one_column int8, a, int8) ∷ ([], five, Untyped (pos 5)) ∷ []) }
     ensures other_type { ¬ (HasType (typing [] (one_column int8) a) int16) }
     ensures no_such_column { ¬ (HasType (typing [] (one_column int8) c) int8) }
-    ensures number { HasType (typing [] [] five) (Untyped (pos 5)) }
     ensures known { HasKnownType (typing [] (one_column int8) a) }
     ensures number_is_not_known { ¬ (HasKnownType (typing [] [] five)) }
     ensures nothing_is_known { ¬ (HasKnownType (typing [] (one_column int8) c)) }
+    ensures casts { HaveTypes ((one_column int64, strictly_cast_to (DatetimeType Microseconds) a, DatetimeType Microseconds) ∷
+        ([], strictly_cast_to (DurationType Nanoseconds) (number (pos 3000000000)), DurationType Nanoseconds) ∷
+        (one_column TextType, cast_to int8 a, int8) ∷ (one_column NullType, cast_to DateType a, DateType) ∷ []) }
+    ensures lists { HaveTypes ((columns_of (ListType int8) (ListType int64), binary Eq a b, Truth) ∷
+        (one_column (ListType int8), cast_to (ListType TextType) a, ListType TextType) ∷
+        (one_column NullType, strictly_cast_to (ListType DateType) a, ListType DateType) ∷ []) }
+    ensures structs { let two = StructType (with_field (codes "x") int8 (with_field (codes "y") TextType no_field)) in
+        let target = struct_of (codes "y") TextType in
+        HaveTypes ((one_column two, a, two) ∷ (one_column (struct_of (codes "x") int8), strictly_cast_to target a, target) ∷ []) }
 {}
 
 /// A refusal of an expression is the kind that its typing gives, at the top, or want of memory.
 pub fn refusals_of_expressions()
-    ensures kind { IsRefusal (typing [] (one_column int8) c) (at_top ColumnNotFound) }
+    ensures no_such_column { AreRefused ColumnNotFound ((one_column int8, c) ∷ []) }
     ensures memory { IsRefusal (typing [] (one_column int8) a) no_memory }
     ensures other_kind { ¬ (IsRefusal (typing [] (one_column int8) c) (at_top SchemaMismatch)) }
     ensures other_place { ¬ (IsRefusal (typing [] (one_column int8) c) (refused ColumnNotFound (0 ∷ []))) }
     ensures of_what_is_typed { ¬ (IsRefusal (typing [] (one_column int8) a) (at_top ColumnNotFound)) }
+    ensures texts_and_times { AreRefused InvalidOperation ((columns_of TextType int32, binary Eq a b) ∷
+        (columns_of (DatetimeType Nanoseconds) TextType, binary Lt a b) ∷ (one_column DateType, binary Plus a a) ∷
+        (one_column TextType, binary Plus a five) ∷ (one_column TextType, cast_to DateType a) ∷ ([], strictly_cast_to TimeType five) ∷ []) }
+    ensures lists { AreRefused InvalidOperation ((one_column (ListType int8), binary Lt a a) ∷ (one_column (ListType int8), binary Plus a a) ∷
+        (one_column (ListType int8), cast_to (ListType DateType) a) ∷ ([], cast_to (ListType int32) five) ∷ []) }
+    ensures structs { AreRefused InvalidOperation ((columns_of NullType (StructType no_field), binary GtEq a b) ∷
+        (one_column (struct_of (codes "x") int8), binary Plus a five) ∷ []) }
+    ensures no_common_type { AreRefused SchemaMismatch ((columns_of DateType TimeType, binary Eq a b) ∷
+        (columns_of (ListType TextType) TextType, binary Lt a b) ∷
+        (columns_of (struct_of (codes "x") Truth) (struct_of (codes "y") Truth), binary Eq a b) ∷ []) }
 {}
 
 /// A table keeps types from its first node on.

@@ -8,7 +8,7 @@ use Rattle.plan_arena.specs.declared.aexpr.AExpr.TheVariants.{Column}
 use Rattle.plan_arena.specs.Items.{DenoteNamed}
 use Rattle.plan_lower.specs.Outputs.{Lowered, SelectsTo, lowered_named}
 use Rattle.plan_lower.proofs.ExampleLemmas.{column_strict}
-use Rattle.plan_lower.proofs.examples.lowered.lowered_selects.Goals as goal
+use Rattle.plan_lower.proofs.examples.outputs.lowered_selects.Goals as goal
 
 abbrev schema : Columns
 schema = (codes "a", Integer true 8) ∷ []

@@ -11,7 +11,7 @@ use Rattle.plan_arena.specs.Layers.{layer}
 use Rattle.plan_arena.specs.declared.aexpr.AExpr.{AExpr}
 use Rattle.plan_arena.specs.declared.aexpr.AExpr.TheVariants.{Column, BinaryExpr}
 use Rattle.plan_lower.proofs.ExampleLemmas.{visited, strict_as}
-use Rattle.plan_lower.proofs.examples.parts.visits_of_parts.Goals as goal
+use Rattle.plan_lower.proofs.examples.coercions.visits_of_parts.Goals as goal
 
 abbrev a : Expression
 a = node (ColumnOp (codes "a")) no_more

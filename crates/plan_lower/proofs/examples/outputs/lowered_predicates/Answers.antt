@@ -6,7 +6,7 @@ use Rattle.plan_dsl.specs.Ops.{ColumnOp, Expression}
 use Rattle.plan_lower.specs.Outputs.{Lowered}
 use Rattle.plan_lower.specs.Predicates.{FiltersBy}
 use Rattle.plan_lower.proofs.ExampleLemmas.{column_strict}
-use Rattle.plan_lower.proofs.examples.lowered.lowered_predicates.Goals as goal
+use Rattle.plan_lower.proofs.examples.outputs.lowered_predicates.Goals as goal
 
 abbrev schema : Columns
 schema = (codes "keep", Truth) ∷ []

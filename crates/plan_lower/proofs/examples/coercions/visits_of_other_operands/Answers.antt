@@ -12,7 +12,7 @@ use Rattle.plan_dsl.specs.OperatorTypes.{pair_to}
 use Rattle.plan_arena.specs.declared.aexpr.AExpr.{AExpr}
 use Rattle.plan_arena.specs.declared.aexpr.AExpr.TheVariants.{Column, BinaryExpr, Cast}
 use Rattle.plan_lower.proofs.ExampleLemmas.{visited}
-use Rattle.plan_lower.proofs.examples.operands.visits_of_other_operands.Goals as goal
+use Rattle.plan_lower.proofs.examples.coercions.visits_of_other_operands.Goals as goal
 
 abbrev a : Expression
 a = node (ColumnOp (codes "a")) no_more

@@ -2,7 +2,7 @@ use Rattle.std.proofs.Common.{true, refl}
 use Rattle.plan_types.specs.Types.{Integer}
 use Rattle.plan_types.specs.declared.error.ErrorKind.TheVariants.{ColumnNotFound}
 use Rattle.plan_lower.specs.Predicates.{without_type, of_other_type}
-use Rattle.plan_lower.proofs.examples.lowered.refusals_of_predicates.Goals as goal
+use Rattle.plan_lower.proofs.examples.outputs.refusals_of_predicates.Goals as goal
 
 pub returns-clause-no_such_column : goal.returns-clause-no_such_column
 returns-clause-no_such_column c = without_type ColumnNotFound refl refl

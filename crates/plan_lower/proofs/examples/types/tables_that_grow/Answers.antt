@@ -1,7 +1,7 @@
 use Rattle.std.proofs.Common.{refl, arith}
 use Rattle.plan_types.specs.declared.dtype.DataType.TheVariants as dtype
 use Rattle.plan_lower.specs.KeptTypes.{IsKept}
-use Rattle.plan_lower.proofs.examples.tables.tables_that_grow.Goals as goal
+use Rattle.plan_lower.proofs.examples.types.tables_that_grow.Goals as goal
 
 pub returns-clause-less : goal.returns-clause-less
 returns-clause-less c = λ old first types new first' types' extends.
