@@ -1,11 +1,26 @@
 //! The error of sources and sinks, and the plan of failures that those in memory follow.
 
-ghost use Rattle.std.specs.Prelude.{◌≡◌, ◌↔◌, [], IsTrue, Contains};
+ghost use Rattle.std.specs.Prelude.{◌≡◌, ◌↔◌, [], Ok, IsErr, IfOk, OnErr, IsTrue, Contains};
 ghost use Rattle.byte_streams.specs.Streams.{one_more};
 
 /// A read or a write failed. The source or sink has counted it.
 #[derive(Clone, Copy, Debug, PartialEq, Eq)]
 pub struct Failed;
+
+/// What an adapter answers to an answer of its reader or writer, and its count of failures behind it.
+/// Each failure counts once, and nothing else does.
+pub(crate) fn counted<E: Drop>(
+    answer: Result<usize, E>,
+    faults: u64,
+) -> (Result<usize, Failed>, u64)
+    ensures moved { IfOk answer (λ n. (result.0 ≡ Ok n) × (result.1 ≡ faults)) }
+    ensures failed { OnErr answer (IsErr result.0 × (result.1 ≡ one_more faults)) }
+{
+    match answer {
+        Ok(count) => (Ok(count), faults),
+        Err(_) => (Err(Failed), faults.saturating_add(1)),
+    }
+}
 
 /// Numbers calls from 0, and has the numbers of those that fail.
 #[derive(Debug, Drop)]

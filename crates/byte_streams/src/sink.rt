@@ -1,13 +1,14 @@
 //! Sinks of bytes: the trait, two sinks in memory, and an adapter over any writer.
 
-ghost use Rattle.std.specs.Prelude.{◌≡◌, ◌⊎◌, ◌↔◌, ℕ, ◌+◌, ◌-◌, ◌<◌, ◌≤◌, ◌++◌, min, List, [], length, take, vec_len, vec_capacity, if◌then◌else◌, is_ok, Some, IsErr, IsTrue, IfOk, OnErr, Contains};
+ghost use Rattle.std.specs.Prelude.{◌≡◌, ◌⊎◌, ◌↔◌, ℕ, ◌+◌, ◌-◌, ◌<◌, ◌≤◌, ◌++◌, min, List, [], length, take, vec_len, vec_capacity, if◌then◌else◌, is_ok, Some, Ok, IsErr, IsTrue, IfOk, OnErr, Contains};
 ghost use Rattle.std.specs.declared.option.Option.{Option};
 ghost use Rattle.std.specs.Io.{WritesAtMost};
 ghost use Rattle.std.specs.Io.KnownBytes.{WriteAppends};
 ghost use Rattle.byte_streams.specs.Streams.{AdapterState, HasCause, IsFull, PlainSinkState, SinkState, TakesSome, one_more, plain_faults};
 
-use crate::faults::{Failed, FaultPlan};
+use crate::faults::{Failed, FaultPlan, counted};
 use std::alloc::{AllocError, Global};
+use std::io;
 use std::io::Write;
 use std::marker::Model;
 
@@ -236,6 +237,18 @@ impl Sink for PlainSink {
     }
 }
 
+// A writer's answer to a piece of so many bytes, which has failed where it takes none of them.
+fn taken(answer: io::Result<usize>, asked: usize) -> Result<usize, Failed>
+    ensures some { IfOk answer (λ n. (0 < n) ⊎ (asked ≡ 0) → result ≡ Ok n) }
+    ensures none { IfOk answer (λ n. n ≡ 0 → 0 < asked → IsErr result) }
+    ensures failed { OnErr answer (IsErr result) }
+{
+    match answer {
+        Ok(count) if count > 0 || asked == 0 => Ok(count),
+        _ => Err(Failed),
+    }
+}
+
 /// Any writer as a sink. A write that takes nothing of a piece with bytes is a failure, and so is an
 /// interrupted one. It flushes nothing: the runtime's standard output has no buffer.
 #[derive(Drop)]
@@ -283,12 +296,9 @@ impl<W: Write> Sink for WriteAdapter<W> {
         ensures count { self.new.faults
             ≡ (if is_ok result then self.old.faults else one_more self.old.faults) }
     {
-        match self.inner.write(piece) {
-            Ok(count) if count > 0 || piece.is_empty() => Ok(count),
-            _ => {
-                self.faults = self.faults.saturating_add(1);
-                Err(Failed)
-            }
-        }
+        let taken = taken(self.inner.write(piece), piece.len());
+        let (answer, faults) = counted(taken, self.faults);
+        self.faults = faults;
+        answer
     }
 }

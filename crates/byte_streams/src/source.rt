@@ -6,7 +6,7 @@ ghost use Rattle.std.specs.Io.{ReadsAtMost};
 ghost use Rattle.std.specs.Io.KnownBytes.{ReadConsumes};
 ghost use Rattle.byte_streams.specs.Streams.{AdapterState, HasCause, SourceState, one_more};
 
-use crate::faults::{Failed, FaultPlan};
+use crate::faults::{Failed, FaultPlan, counted};
 use std::io::Read;
 use std::marker::Model;
 
@@ -219,12 +219,8 @@ impl<R: Read> Source for ReadAdapter<R> {
         ensures count { self.new.faults
             ≡ (if is_ok result then self.old.faults else one_more self.old.faults) }
     {
-        match self.inner.read(into) {
-            Ok(count) => Ok(count),
-            Err(_) => {
-                self.faults = self.faults.saturating_add(1);
-                Err(Failed)
-            }
-        }
+        let (answer, faults) = counted(self.inner.read(into), self.faults);
+        self.faults = faults;
+        answer
     }
 }
