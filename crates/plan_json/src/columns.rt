@@ -26,7 +26,10 @@ pub(crate) fn read_columns(alloc: Global, value: &Value) -> Result<Schema, JsonE
             for (number, item) in items.iter().enumerate() {
                 let column = at(alloc, Step::Item(number), read_column(alloc, item))?;
                 let Field { name, dtype } = column;
-                let before = schema.with_column(name, dtype)?;
+                let before = match schema.with_column(name, dtype) {
+                    Ok(before) => before,
+                    Err(error) => return Err(JsonError::out_of_memory(error)),
+                };
                 if before.is_some() {
                     return Err(JsonError::shape(alloc, value));
                 }

@@ -22,10 +22,10 @@ pub(crate) fn read_text(alloc: Global, value: &Value) -> Result<PlSmallStr, Json
 {
     match value.as_str() {
         None => Err(JsonError::shape(alloc, value)),
-        Some(text) => {
-            let text = PlSmallStr::new(alloc, text)?;
-            Ok(text)
-        }
+        Some(text) => match PlSmallStr::new(alloc, text) {
+            Ok(text) => Ok(text),
+            Err(error) => Err(JsonError::out_of_memory(error)),
+        },
     }
 }
 

@@ -1,6 +1,7 @@
 //! Why bytes are no query, and where.
 ghost use Rattle.std.specs.Prelude.{◌≡◌, ◌++◌, Ok, IfOk, IfErr, string_bytes};
 ghost use Rattle.serde_json.specs.View.{view};
+ghost use Rattle.plan_types.specs.Errors.{no_memory};
 ghost use Rattle.plan_json.specs.Errors.{IsBelow, IsErrBelow, IsOwn, IsPlain, step_of, step_text};
 ghost use Rattle.plan_json.specs.Faults.{BadName, shape_fault};
 
@@ -49,6 +50,14 @@ impl JsonError {
         } else {
             JsonError::Shape { path }
         }
+    }
+
+    // Want of memory. No other refusal of `plan_types` can be turned into it.
+    pub(crate) fn out_of_memory(_error: PlanError) -> JsonError
+        requires { _error ≡ no_memory }
+        ensures { result ≡ JsonError.NoMemory }
+    {
+        JsonError::NoMemory
     }
 
     // The value itself is the wrong name.
@@ -125,18 +134,6 @@ impl<T: Drop> From<AllocFailed<T>> for JsonError {
     ghost from_gives = { λ _ error. error ≡ NoMemory };
 
     fn from(_error: AllocFailed<T>) -> JsonError {
-        JsonError::NoMemory
-    }
-}
-
-// The calls of `plan_types` that reading makes refuse for want of memory alone.
-impl From<PlanError> for JsonError {
-    ghost use Rattle.std.specs.Prelude.{◌≡◌};
-    ghost use Rattle.plan_json.specs.declared.error.JsonError.TheVariants.{NoMemory};
-
-    ghost from_gives = { λ _ error. error ≡ NoMemory };
-
-    fn from(_error: PlanError) -> JsonError {
         JsonError::NoMemory
     }
 }

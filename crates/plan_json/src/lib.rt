@@ -15,6 +15,4 @@ mod literal;
 mod plan;
 pub mod read;
 pub mod tables;
-#[cfg(test)]
-mod tests;
 mod value;

@@ -24,10 +24,10 @@ pub(crate) fn read_literal(alloc: Global, value: &Value) -> Result<LiteralValue,
     match value {
         Value::Null => Ok(LiteralValue::Null),
         Value::Bool(truth) => Ok(LiteralValue::Boolean(*truth)),
-        Value::String(text) => {
-            let text = PlSmallStr::new(alloc, text.as_str())?;
-            Ok(LiteralValue::String(text))
-        }
+        Value::String(text) => match PlSmallStr::new(alloc, text.as_str()) {
+            Ok(text) => Ok(LiteralValue::String(text)),
+            Err(error) => Err(JsonError::out_of_memory(error)),
+        },
         Value::Number(_) => match whole_number(value) {
             None => Err(JsonError::shape(alloc, value)),
             Some(number) => Ok(LiteralValue::Int(number)),

@@ -71,13 +71,13 @@ fn read_scan(alloc: Global, tables: &Tables, value: &Value) -> Result<DslPlan, J
     let name = read_text(alloc, value)?;
     match tables.find(&name) {
         None => Err(JsonError::name(alloc)),
-        Some((number, schema)) => {
-            let schema = schema.try_clone(alloc)?;
-            Ok(DslPlan::DataFrameScan {
+        Some((number, schema)) => match schema.try_clone(alloc) {
+            Ok(schema) => Ok(DslPlan::DataFrameScan {
                 table: Some(number),
                 schema,
-            })
-        }
+            }),
+            Err(error) => Err(JsonError::out_of_memory(error)),
+        },
     }
 }
 

@@ -9,9 +9,9 @@ use std::alloc::Global;
 
 /// A table's name and its columns.
 #[derive(Drop)]
-pub struct Table {
-    pub name: PlSmallStr,
-    pub schema: Schema,
+pub(crate) struct Table {
+    pub(crate) name: PlSmallStr,
+    pub(crate) schema: Schema,
 }
 
 /// Tables, numbered from 0. No two have one name. Contracts see their list as `declared`.
@@ -29,7 +29,7 @@ impl Tables {
     ghost use Rattle.plan_json.specs.Tables.{declared};
 
     /// No tables.
-    pub fn new(alloc: Global) -> Tables
+    pub(crate) fn new(alloc: Global) -> Tables
         ensures { declared result ≡ [] }
     {
         Tables {
@@ -58,14 +58,14 @@ impl Tables {
         self.items.get_index(number)
     }
 
-    pub fn contains(&self, name: &PlSmallStr) -> bool
+    pub(crate) fn contains(&self, name: &PlSmallStr) -> bool
         ensures { result ≡ is_among name.now (names_of (declared self.now)) }
     {
         self.items.contains_key(name)
     }
 
     /// The number and the columns of the table of that name.
-    pub fn find(&self, name: &PlSmallStr) -> Option<(u32, &Schema)>
+    pub(crate) fn find(&self, name: &PlSmallStr) -> Option<(u32, &Schema)>
         ensures { option_map (λ table. (table.0, columns table.1.now)) result
             ≡ table_at (declared self.now) name.now }
     {
@@ -76,7 +76,7 @@ impl Tables {
     }
 
     /// Declares one more table.
-    pub fn push(&mut self, table: Table) -> Result<(), JsonError>
+    pub(crate) fn push(&mut self, table: Table) -> Result<(), JsonError>
         requires new { is_among table.name (names_of (declared self.old)) ≡ false }
         requires room { length (declared self.old) + 1 < 2 ^ 32 }
         ensures ok { OnOk result (declared self.new

@@ -20,17 +20,17 @@ returns-in_err-column-in-Some-clause-err c =
 pub returns-then-is_some-clause-err : goal.returns-then-is_some-clause-err
 returns-then-is_some-clause-err c =
     let items = c.as_slice-items.ensures.value in
-    let there = ap is_some (sym c.in_ok-before-in-Some.ensures.before) ∙ is_some-option_map ty _ ∙ sym c.is_some.ensures ∙ c.if-is_some.true in
+    let there = ap is_some (sym c.in-Ok.ensures.before) ∙ is_some-option_map ty _ ∙ sym c.is_some.ensures ∙ c.if-is_some.true in
     let column = IfOk-at_ok _ c.in_ok-column-in-Some.ensures.ok c.read_column.ensures.ok in
     IsErrorOf-own column_list _ _ _ c.shape-then-is_some.ensures
     (column_repeated _ c.as_slice-items.result.now c.loop-number.number _ _ _ (ap (λ vs. Some (items_view vs)) items ∙ c.in-Some.ensures) c.loop-number-test.true c.index-items-number.is c.loop-number.invariant.read column there)
 
 pub loop-number-preserved : goal.loop-number-preserved
 loop-number-preserved c =
-    let new = ap is_some (sym c.in_ok-before-in-Some.ensures.before) ∙ is_some-option_map ty _ ∙ sym c.is_some.ensures ∙ c.if-is_some.false in
+    let new = ap is_some (sym c.in-Ok.ensures.before) ∙ is_some-option_map ty _ ∙ sym c.is_some.ensures ∙ c.if-is_some.false in
     let column = IfOk-at_ok _ c.in_ok-column-in-Some.ensures.ok c.read_column.ensures.ok in
     let more = columns_more (columns c.loop-number.schema) _ _ new c.loop-number.invariant.distinct in
-    let all = c.in_ok-before-in-Some.ensures.ok ∙ more.0 in
+    let all = c.in-Ok.ensures.ok ∙ more.0 in
     record {
       read = all_of-more column_of c.as_slice-items.result.now c.loop-number.number _ _ _ c.loop-number-test.true c.index-items-number.is c.loop-number.invariant.read column ∙ ap Some (sym all);
       distinct = ap (λ cs. repeats (names_of cs)) all ∙ more.1;
