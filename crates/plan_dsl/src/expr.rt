@@ -76,47 +76,34 @@ impl Expr {
         }
     }
 
-    /// Whether both are one tree: the same columns, literals, operators and casts, in the same places.
-    pub fn is_same(&self, other: &Expr) -> bool
+    // Whether both are one tree: the same columns, literals, operators and casts, in the same places.
+    pub(crate) fn is_same(&self, other: &Expr) -> bool
         ensures { result ≡ same_tree same_op (tree_of self.now) (tree_of other.now) }
     {
-        match self {
-            Expr::Column(name) => match other {
-                Expr::Column(own) => *name == *own,
-                _ => false,
-            },
-            Expr::Literal(value) => match other {
-                Expr::Literal(own) => value.is_same(own),
-                _ => false,
-            },
-            Expr::BinaryExpr { left, op, right } => match other {
+        match (self, other) {
+            (Expr::Column(name), Expr::Column(own)) => *name == *own,
+            (Expr::Literal(value), Expr::Literal(own)) => value.is_same(own),
+            (
+                Expr::BinaryExpr { left, op, right },
                 Expr::BinaryExpr {
                     left: own_left,
                     op: own_op,
                     right: own_right,
-                } => {
-                    operator_rank(*op) == operator_rank(*own_op)
-                        && left.is_same(own_left)
-                        && right.is_same(own_right)
-                }
-                _ => false,
-            },
-            Expr::Cast {
-                expr,
-                dtype,
-                options,
-            } => match other {
+                },
+            ) => *op == *own_op && left.is_same(own_left) && right.is_same(own_right),
+            (
+                Expr::Cast {
+                    expr,
+                    dtype,
+                    options,
+                },
                 Expr::Cast {
                     expr: own_expr,
                     dtype: own_dtype,
                     options: own_options,
-                } => {
-                    dtype.is_same(own_dtype)
-                        && options_rank(*options) == options_rank(*own_options)
-                        && expr.is_same(own_expr)
-                }
-                _ => false,
-            },
+                },
+            ) => dtype.is_same(own_dtype) && *options == *own_options && expr.is_same(own_expr),
+            _ => false,
         }
     }
 

@@ -4,7 +4,7 @@ ghost use Rattle.plan_dsl.specs.Literals.{is_literal, literal_op, literal_type, 
 ghost use Rattle.plan_dsl.specs.Ops.{LiteralOp};
 ghost use Rattle.plan_dsl.specs.SameExpressions.{same_literal};
 ghost use Rattle.plan_types.specs.Errors.{no_memory};
-ghost use Rattle.plan_types.specs.Types.{TimeType, DatetimeType, DurationType, ty, is_counted};
+ghost use Rattle.plan_types.specs.Types.{TimeType, ty, is_counted};
 ghost use Rattle.plan_types.specs.Values.{IntValue, in_range, same_value};
 
 use plan_types::common_type::materialize_dyn_int;
@@ -96,8 +96,14 @@ impl LiteralValue {
             DataType::UInt64 => u64::try_from(number).ok().map(LiteralValue::UInt64),
             DataType::Date => i32::try_from(number).ok().map(LiteralValue::Date),
             DataType::Time => time_of(number),
-            DataType::Datetime(unit) => moment_of(number, *unit),
-            DataType::Duration(unit) => span_of(number, *unit),
+            DataType::Datetime(unit) => {
+                let count = i64::try_from(number).ok()?;
+                Some(LiteralValue::DateTime(count, *unit))
+            }
+            DataType::Duration(unit) => {
+                let count = i64::try_from(number).ok()?;
+                Some(LiteralValue::Duration(count, *unit))
+            }
             DataType::Null
             | DataType::Boolean
             | DataType::String
@@ -133,25 +139,19 @@ impl LiteralValue {
     fn is_same_value(&self, other: &LiteralValue) -> bool
         ensures { result ≡ same_value (literal_value self.now) (literal_value other.now) }
     {
-        match self {
-            LiteralValue::Null => matches!(other, LiteralValue::Null),
-            LiteralValue::Boolean(truth) => match other {
-                LiteralValue::Boolean(own) => *truth == *own,
-                _ => false,
-            },
-            LiteralValue::String(text) => match other {
-                LiteralValue::String(own) => *text == *own,
-                _ => false,
-            },
-            _number => match (self.number(), other.number()) {
+        match (self, other) {
+            (LiteralValue::Null, LiteralValue::Null) => true,
+            (LiteralValue::Boolean(truth), LiteralValue::Boolean(own)) => *truth == *own,
+            (LiteralValue::String(text), LiteralValue::String(own)) => *text == *own,
+            _ => match (self.number(), other.number()) {
                 (Some(number), Some(own)) => number == own,
                 _ => false,
             },
         }
     }
 
-    /// Whether both are of one type and have the same value.
-    pub fn is_same(&self, other: &LiteralValue) -> bool
+    // Whether both are of one type and have the same value.
+    pub(crate) fn is_same(&self, other: &LiteralValue) -> bool
         ensures { result ≡ same_literal self.now other.now }
     {
         self.get_datatype() == other.get_datatype() && self.is_same_value(other)
@@ -235,26 +235,4 @@ fn time_of(number: i128) -> Option<LiteralValue>
         return None;
     }
     i64::try_from(number).ok().map(LiteralValue::Time)
-}
-
-// The moment of so many units, where 64 bits have them.
-fn moment_of(number: i128, unit: TimeUnit) -> Option<LiteralValue>
-    ensures has { is_some result ≡ in_range (DatetimeType unit) number }
-    ensures literal { IfSome result (λ value. literal_op value ≡ LiteralOp (DatetimeType unit) (IntValue number)) }
-{
-    match i64::try_from(number) {
-        Ok(count) => Some(LiteralValue::DateTime(count, unit)),
-        Err(_) => None,
-    }
-}
-
-// The span of so many units, where 64 bits have them.
-fn span_of(number: i128, unit: TimeUnit) -> Option<LiteralValue>
-    ensures has { is_some result ≡ in_range (DurationType unit) number }
-    ensures literal { IfSome result (λ value. literal_op value ≡ LiteralOp (DurationType unit) (IntValue number)) }
-{
-    match i64::try_from(number) {
-        Ok(count) => Some(LiteralValue::Duration(count, unit)),
-        Err(_) => None,
-    }
 }
