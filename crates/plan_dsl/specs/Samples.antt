@@ -1,13 +1,14 @@
 -- What the worked examples share: tables of cases, types, values, expressions, plans and frames.
 use Prim.Native.String.{String}
 use Rattle.std.specs.Prelude.{◌≡◌, ℕ, ℤ, pos, neg_ℤ, List, [], ◌∷◌, map, codes, true, false, Some, None, Result, Ok, Err}
-use Rattle.plan_types.specs.Types.{Ty, Integer, Untyped}
+use Rattle.plan_types.specs.Types.{Ty, Truth, Integer, Untyped}
 use Rattle.plan_types.specs.Values.{Val, NullValue, TruthValue, IntValue, TextValue}
 use Rattle.plan_types.specs.Schemas.{Columns}
 use Rattle.plan_types.specs.Frames.{Frame, Row, row_numbers}
 use Rattle.plan_types.specs.Outcomes.{Outcome}
 use Rattle.plan_types.specs.declared.dtype.CastOptions.{CastOptions}
 use Rattle.plan_types.specs.declared.error.ErrorKind.{ErrorKind}
+use Rattle.plan_types.specs.declared.error.ErrorKind.TheVariants.{SchemaMismatch}
 use Rattle.plan_dsl.specs.declared.operator.Operator.{Operator}
 use Rattle.plan_dsl.specs.declared.operator.Operator.TheVariants.{Eq, EqValidity, NotEq, NotEqValidity, Lt, LtEq, Gt, GtEq, Plus, Minus, Multiply, Divide, FloorDivide, Modulus, And, Or, Xor, LogicalAnd, LogicalOr}
 use Rattle.plan_dsl.specs.Trees.{node, no_more, more}
@@ -18,6 +19,8 @@ use Rattle.plan_dsl.specs.OperatorTypes.{Taken, pair_to, operator_types}
 use Rattle.plan_dsl.specs.Meaning.{meaning}
 use Rattle.plan_dsl.specs.StrictRun.{strict_run}
 use Rattle.plan_dsl.specs.Plans.{Plan, named, scan_op, select_op, filter_op}
+use Rattle.plan_dsl.specs.PlanRules.{Signature}
+use Rattle.plan_dsl.specs.PlanKernels.{Series}
 
 -- ---- tables of cases
 
@@ -141,6 +144,15 @@ b = column "b"
 abbrev pub c : Expression
 c = column "c"
 
+abbrev pub d : Expression
+d = column "d"
+
+abbrev pub t : Expression
+t = column "t"
+
+abbrev pub u : Expression
+u = column "u"
+
 -- a number without a type
 abbrev pub literal : ℤ → Expression
 literal value = node (LiteralOp (Untyped value) (IntValue value)) no_more
@@ -204,3 +216,50 @@ select outputs input = node (select_op (map named outputs) []) (more input no_mo
 
 abbrev pub keep : Expression → Plan → Plan
 keep predicate input = node (filter_op (named predicate)) (more input no_more)
+
+-- ---- parts of plans
+
+abbrev pub schema_ab : Columns
+schema_ab = (codes "a", int8) ∷ (codes "b", int32) ∷ []
+
+-- with a column of no common type with the first
+abbrev pub schema_au : Columns
+schema_au = (codes "a", int8) ∷ (codes "u", uint64) ∷ []
+
+abbrev pub schema_abu : Columns
+schema_abu = (codes "a", int8) ∷ (codes "b", int32) ∷ (codes "u", uint64) ∷ []
+
+abbrev pub schema_flagged : Columns
+schema_flagged = (codes "a", int8) ∷ (codes "keep", Truth) ∷ []
+
+-- four rows: the first column is less, null, greater and less
+abbrev pub mixed : Frame
+mixed =
+    frame_with schema_ab (
+    (number 1 ∷ number 10 ∷ []) ∷
+    (null ∷ number 20 ∷ []) ∷
+    (number 100 ∷ number 20 ∷ []) ∷
+    (number 5 ∷ number 300 ∷ []) ∷ [])
+
+-- four rows beside truth values and a null
+abbrev pub flagged : Frame
+flagged =
+    frame_with schema_flagged (
+    (number 1 ∷ yes ∷ []) ∷
+    (number 2 ∷ null ∷ []) ∷
+    (number 3 ∷ no ∷ []) ∷
+    (null ∷ yes ∷ []) ∷ [])
+
+-- the table of that number
+abbrev pub scan_of : ℕ → Columns → Plan
+scan_of place schema = node (scan_op (Some place) schema) no_more
+
+abbrev pub series : String → Ty → List Val → Series
+series name type values = record { name = codes name; type = type; values = values }
+
+-- an expression that has a typing and breaks nothing, and one that breaks kinds of rule
+abbrev pub signed : String → Result Typed ErrorKind → Signature
+signed name typing = record { name = codes name; typing = typing; kinds = [] }
+
+abbrev pub refused : String → List ErrorKind → Signature
+refused name kinds = record { name = codes name; typing = Err SchemaMismatch; kinds = kinds }

@@ -1,13 +1,11 @@
 //! Queries as a user writes them: expressions, plans, and the registry of functions.
 #![tactic(auto)]
 
-pub mod examples;
+mod examples;
 pub mod expr;
 pub mod laws;
 pub mod literal;
 pub mod operator;
 pub mod plan;
 pub mod plan_laws;
-#[cfg(test)]
-mod tests;
 pub mod udfs;

@@ -1,376 +1,125 @@
 //! Filters: their frames, their schemas and the rules that they break.
 
-ghost use Rattle.std.specs.Prelude.{◌≡◌, [], ◌∷◌, pos, codes, true, false, Some, None};
-ghost use Rattle.plan_types.specs.Types.{NullType, Truth, Integer, TextType, Untyped};
-ghost use Rattle.plan_types.specs.Values.{NullValue, TruthValue, IntValue, TextValue};
+ghost use Rattle.std.specs.Prelude.{◌≡◌, [], ◌∷◌, pos, codes, Some, None};
+ghost use Rattle.plan_types.specs.Types.{NullType, Truth, TextType};
+ghost use Rattle.plan_types.specs.Values.{NullValue, TextValue};
 ghost use Rattle.plan_types.specs.Outcomes.{Done, Fault, Stuck};
-ghost use Rattle.plan_types.specs.Frames.{Frame, empty_frame};
+ghost use Rattle.plan_types.specs.Frames.{empty_frame};
+ghost use Rattle.plan_types.specs.declared.dtype.CastOptions.{CastOptions};
 ghost use Rattle.plan_types.specs.declared.dtype.CastOptions.TheVariants.{Strict, NonStrict};
 ghost use Rattle.plan_types.specs.declared.error.ErrorKind.TheVariants.{ColumnNotFound, InvalidOperation, SchemaMismatch};
-ghost use Rattle.plan_dsl.specs.declared.operator.Operator.TheVariants.{Eq, Lt, Gt, Plus, And};
-ghost use Rattle.plan_dsl.specs.Trees.{node, no_more, more};
-ghost use Rattle.plan_dsl.specs.Ops.{ColumnOp, LiteralOp, BinaryOp, CastOp, Expression};
-ghost use Rattle.plan_dsl.specs.Plans.{PlanOp, FilterKind, named, scan_op, select_op, filter_op};
+ghost use Rattle.plan_dsl.specs.declared.operator.Operator.TheVariants.{Gt, And};
+ghost use Rattle.plan_dsl.specs.Trees.{node, no_more};
+ghost use Rattle.plan_dsl.specs.Ops.{Expression, LiteralOp};
+ghost use Rattle.plan_dsl.specs.Plans.{PlanOp, FilterKind, named, filter_op};
 ghost use Rattle.plan_dsl.specs.PlanRules.{plan_rule, schema_of, schema_at, broken_kinds, IsWellFormed, Breaks};
 ghost use Rattle.plan_dsl.specs.PlanKernels.{for_rows, kept_rows, plan_kernel};
 ghost use Rattle.plan_dsl.specs.PlanMeaning.{by_meaning, source_meaning, FitsPlan};
 ghost use Rattle.plan_dsl.specs.Counts.{cast_count, node_count};
+ghost use Rattle.plan_dsl.specs.Samples.{Gives, GivesOfTwo, GivesAll, int8, int32, int64, null, yes, no, number, text, column, a, b, c, u, literal, binary, sum, less, equal, cast_as, frame_with, mixed, flagged, schema_ab, schema_au, schema_flagged, scan, empty_scan, select, keep};
 
 /// A filter keeps the rows for which its predicate is true: null is not. A fault of the predicate, or of the input, is one of it.
 pub fn frames_of_filters()
-    ensures true_rows { let table : Frame = record {
-      schema = (codes "a", Integer true 8) ∷ (codes "keep", Truth) ∷ [];
-      rows = (IntValue (pos 1) ∷ TruthValue true ∷ []) ∷ (IntValue (pos 2) ∷ NullValue ∷ []) ∷ (IntValue (pos 3) ∷ TruthValue false ∷ []) ∷ (NullValue ∷ TruthValue true ∷ []) ∷ [];
-    } in
-        let scan = node (scan_op (Some 0) ((codes "a", Integer true 8) ∷ (codes "keep", Truth) ∷ [])) no_more in
-        let keep = node (ColumnOp (codes "keep")) no_more in
-        let kept : Frame = record {
-          schema = (codes "a", Integer true 8) ∷ (codes "keep", Truth) ∷ [];
-          rows = (IntValue (pos 1) ∷ TruthValue true ∷ []) ∷ (NullValue ∷ TruthValue true ∷ []) ∷ [];
-        } in
-        source_meaning [] (table ∷ []) (node (filter_op (named keep)) (more scan no_more)) ≡ Done kept }
-    ensures comparison { let table : Frame = record {
-      schema = (codes "a", Integer true 8) ∷ (codes "b", Integer true 32) ∷ [];
-      rows = (IntValue (pos 1) ∷ IntValue (pos 10) ∷ []) ∷ (NullValue ∷ IntValue (pos 20) ∷ []) ∷ (IntValue (pos 100) ∷ IntValue (pos 20) ∷ []) ∷ (IntValue (pos 5) ∷ IntValue (pos 300) ∷ []) ∷ [];
-    } in
-        let scan = node (scan_op (Some 0) ((codes "a", Integer true 8) ∷ (codes "b", Integer true 32) ∷ [])) no_more in
-        let a = node (ColumnOp (codes "a")) no_more in
-        let b = node (ColumnOp (codes "b")) no_more in
-        let less = node (BinaryOp Lt) (more a (more b no_more)) in
-        let kept : Frame = record {
-          schema = (codes "a", Integer true 8) ∷ (codes "b", Integer true 32) ∷ [];
-          rows = (IntValue (pos 1) ∷ IntValue (pos 10) ∷ []) ∷ (IntValue (pos 5) ∷ IntValue (pos 300) ∷ []) ∷ [];
-        } in
-        source_meaning [] (table ∷ []) (node (filter_op (named less)) (more scan no_more)) ≡ Done kept }
-    ensures over_a_filter { let table : Frame = record {
-      schema = (codes "a", Integer true 8) ∷ (codes "b", Integer true 32) ∷ [];
-      rows = (IntValue (pos 1) ∷ IntValue (pos 10) ∷ []) ∷ (NullValue ∷ IntValue (pos 20) ∷ []) ∷ (IntValue (pos 100) ∷ IntValue (pos 20) ∷ []) ∷ (IntValue (pos 5) ∷ IntValue (pos 300) ∷ []) ∷ [];
-    } in
-        let scan = node (scan_op (Some 0) ((codes "a", Integer true 8) ∷ (codes "b", Integer true 32) ∷ [])) no_more in
-        let a = node (ColumnOp (codes "a")) no_more in
-        let b = node (ColumnOp (codes "b")) no_more in
-        let less = node (BinaryOp Lt) (more a (more b no_more)) in
-        let equal = node (BinaryOp Eq) (more a (more a no_more)) in
-        let inner = node (filter_op (named equal)) (more scan no_more) in
-        let kept : Frame = record {
-          schema = (codes "a", Integer true 8) ∷ (codes "b", Integer true 32) ∷ [];
-          rows = (IntValue (pos 1) ∷ IntValue (pos 10) ∷ []) ∷ (IntValue (pos 5) ∷ IntValue (pos 300) ∷ []) ∷ [];
-        } in
-        source_meaning [] (table ∷ []) (node (filter_op (named less)) (more inner no_more)) ≡ Done kept }
-    ensures under_a_select { let table : Frame = record {
-      schema = (codes "a", Integer true 8) ∷ (codes "keep", Truth) ∷ [];
-      rows = (IntValue (pos 1) ∷ TruthValue true ∷ []) ∷ (IntValue (pos 2) ∷ NullValue ∷ []) ∷ (IntValue (pos 3) ∷ TruthValue false ∷ []) ∷ (NullValue ∷ TruthValue true ∷ []) ∷ [];
-    } in
-        let scan = node (scan_op (Some 0) ((codes "a", Integer true 8) ∷ (codes "keep", Truth) ∷ [])) no_more in
-        let a = node (ColumnOp (codes "a")) no_more in
-        let keep = node (ColumnOp (codes "keep")) no_more in
-        let inner = node (filter_op (named keep)) (more scan no_more) in
-        let chosen : Frame = record {
-          schema = (codes "a", Integer true 8) ∷ [];
-          rows = (IntValue (pos 1) ∷ []) ∷ (NullValue ∷ []) ∷ [];
-        } in
-        source_meaning [] (table ∷ []) (node (select_op (named a ∷ []) []) (more inner no_more)) ≡ Done chosen }
-    ensures no_row { let table : Frame = record {
-      schema = (codes "a", Integer true 8) ∷ (codes "keep", Truth) ∷ [];
-      rows = (IntValue (pos 2) ∷ NullValue ∷ []) ∷ (IntValue (pos 3) ∷ TruthValue false ∷ []) ∷ [];
-    } in
-        let scan = node (scan_op (Some 0) ((codes "a", Integer true 8) ∷ (codes "keep", Truth) ∷ [])) no_more in
-        let keep = node (ColumnOp (codes "keep")) no_more in
-        let none : Frame = record {
-          schema = (codes "a", Integer true 8) ∷ (codes "keep", Truth) ∷ [];
-          rows = [];
-        } in
-        source_meaning [] (table ∷ []) (node (filter_op (named keep)) (more scan no_more)) ≡ Done none }
-    ensures fault { let table : Frame = record {
-      schema = (codes "a", Integer true 8) ∷ (codes "b", Integer true 32) ∷ [];
-      rows = (IntValue (pos 1) ∷ IntValue (pos 10) ∷ []) ∷ (NullValue ∷ IntValue (pos 20) ∷ []) ∷ (IntValue (pos 100) ∷ IntValue (pos 20) ∷ []) ∷ (IntValue (pos 5) ∷ IntValue (pos 300) ∷ []) ∷ [];
-    } in
-        let scan = node (scan_op (Some 0) ((codes "a", Integer true 8) ∷ (codes "b", Integer true 32) ∷ [])) no_more in
-        let a = node (ColumnOp (codes "a")) no_more in
-        let b = node (ColumnOp (codes "b")) no_more in
-        let narrow = node (BinaryOp Lt) (more a (more (node (CastOp (Integer true 8) Strict) (more b no_more)) no_more)) in
-        source_meaning [] (table ∷ []) (node (filter_op (named narrow)) (more scan no_more)) ≡ Fault }
-    ensures no_fault_over_no_rows { let scan = node (scan_op None ((codes "a", Integer true 8) ∷ (codes "b", Integer true 32) ∷ [])) no_more in
-        let a = node (ColumnOp (codes "a")) no_more in
-        let b = node (ColumnOp (codes "b")) no_more in
-        let narrow = node (BinaryOp Lt) (more a (more (node (CastOp (Integer true 8) Strict) (more b no_more)) no_more)) in
-        let none : Frame = record {
-          schema = (codes "a", Integer true 8) ∷ (codes "b", Integer true 32) ∷ [];
-          rows = [];
-        } in
-        source_meaning [] [] (node (filter_op (named narrow)) (more scan no_more)) ≡ Done none }
-    ensures over_a_fault { let table : Frame = record {
-      schema = (codes "a", Integer true 8) ∷ (codes "b", Integer true 32) ∷ [];
-      rows = (IntValue (pos 1) ∷ IntValue (pos 10) ∷ []) ∷ (NullValue ∷ IntValue (pos 20) ∷ []) ∷ (IntValue (pos 100) ∷ IntValue (pos 20) ∷ []) ∷ (IntValue (pos 5) ∷ IntValue (pos 300) ∷ []) ∷ [];
-    } in
-        let scan = node (scan_op (Some 0) ((codes "a", Integer true 8) ∷ (codes "b", Integer true 32) ∷ [])) no_more in
-        let a = node (ColumnOp (codes "a")) no_more in
-        let b = node (ColumnOp (codes "b")) no_more in
-        let narrow = node (BinaryOp Lt) (more a (more (node (CastOp (Integer true 8) Strict) (more b no_more)) no_more)) in
-        let inner = node (select_op (named narrow ∷ []) []) (more scan no_more) in
-        source_meaning [] (table ∷ []) (node (filter_op (named a)) (more inner no_more)) ≡ Fault }
-    ensures fault_of_rows_that_a_filter_drops { let table : Frame = record {
-      schema = (codes "a", Integer true 8) ∷ (codes "b", Integer true 32) ∷ [];
-      rows = (IntValue (pos 1) ∷ IntValue (pos 10) ∷ []) ∷ (NullValue ∷ IntValue (pos 20) ∷ []) ∷ (IntValue (pos 100) ∷ IntValue (pos 20) ∷ []) ∷ (IntValue (pos 5) ∷ IntValue (pos 300) ∷ []) ∷ [];
-    } in
-        let scan = node (scan_op (Some 0) ((codes "a", Integer true 8) ∷ (codes "b", Integer true 32) ∷ [])) no_more in
-        let a = node (ColumnOp (codes "a")) no_more in
-        let b = node (ColumnOp (codes "b")) no_more in
-        let narrow = node (BinaryOp Lt) (more a (more (node (CastOp (Integer true 8) Strict) (more b no_more)) no_more)) in
-        let small = node (BinaryOp Lt) (more b (more (node (CastOp (Integer true 32) Strict) (more a no_more)) no_more)) in
-        let inner = node (filter_op (named small)) (more scan no_more) in
-        let kept : Frame = record {
-          schema = (codes "a", Integer true 8) ∷ (codes "b", Integer true 32) ∷ [];
-          rows = [];
-        } in
-        source_meaning [] (table ∷ []) (node (filter_op (named narrow)) (more inner no_more)) ≡ Done kept }
-    ensures over_what_is_stuck { let a = node (ColumnOp (codes "a")) no_more in
-        plan_kernel [] (by_meaning []) (filter_op (named a)) (Stuck ∷ []) ≡ Stuck }
+    ensures true_rows { Gives (λ rows. source_meaning [] (frame_with schema_flagged rows ∷ []) (keep (column "keep") (scan schema_flagged))) (
+        (flagged.rows, Done (frame_with schema_flagged ((number 1 ∷ yes ∷ []) ∷ (null ∷ yes ∷ []) ∷ []))) ∷
+        ((number 2 ∷ null ∷ []) ∷ (number 3 ∷ no ∷ []) ∷ [], Done (frame_with schema_flagged [])) ∷ []) }
+    ensures under_a_select { source_meaning [] (flagged ∷ []) (select (a ∷ []) (keep (column "keep") (scan schema_flagged)))
+        ≡ Done (frame_with ((codes "a", int8) ∷ []) ((number 1 ∷ []) ∷ (null ∷ []) ∷ [])) }
+    ensures comparisons { let kept = frame_with schema_ab ((number 1 ∷ number 10 ∷ []) ∷ (number 5 ∷ number 300 ∷ []) ∷ []) in
+        GivesAll (source_meaning [] (mixed ∷ [])) (Done kept) (
+        keep (less a b) (scan schema_ab) ∷
+        keep (less a b) (keep (equal a a) (scan schema_ab)) ∷ []) }
+    ensures faults { let narrow = less a (cast_as Strict int8 b) in
+        Gives (source_meaning [] (mixed ∷ [])) (
+        (keep narrow (scan schema_ab), Fault) ∷
+        (keep narrow (empty_scan schema_ab), Done (frame_with schema_ab [])) ∷
+        (keep a (select (narrow ∷ []) (scan schema_ab)), Fault) ∷
+        (keep narrow (keep (less b (cast_as Strict int32 a)) (scan schema_ab)), Done (frame_with schema_ab [])) ∷ []) }
+    ensures over_what_is_stuck { plan_kernel [] (by_meaning []) (filter_op (named a)) (Stuck ∷ []) ≡ Stuck }
     ensures without_a_predicate { let op : PlanOp Expression = record { kind = FilterKind; expressions = []; schema = [] } in
         plan_kernel [] (by_meaning []) op (Done empty_frame ∷ []) ≡ Stuck }
 {}
 
 /// A predicate has a value for each row, or a single one that is repeated. Any other number of values is a fault.
 pub fn values_for_rows()
-    ensures one_for_each { for_rows 2 (TruthValue true ∷ NullValue ∷ []) ≡ Done (TruthValue true ∷ NullValue ∷ []) }
-    ensures one_repeated { for_rows 3 (TruthValue true ∷ []) ≡ Done (TruthValue true ∷ TruthValue true ∷ TruthValue true ∷ []) }
-    ensures one_for_one { for_rows 1 (TruthValue false ∷ []) ≡ Done (TruthValue false ∷ []) }
-    ensures one_for_no_row { for_rows 0 (TruthValue true ∷ []) ≡ Done [] }
-    ensures none_for_no_row { for_rows 0 [] ≡ Done [] }
-    ensures none_for_some_rows { for_rows 2 [] ≡ Fault }
-    ensures too_few { for_rows 3 (TruthValue true ∷ TruthValue false ∷ []) ≡ Fault }
-    ensures too_many_for_one_row { for_rows 1 (TruthValue true ∷ TruthValue false ∷ []) ≡ Fault }
-    ensures some_for_no_row { for_rows 0 (TruthValue true ∷ TruthValue false ∷ []) ≡ Fault }
-    ensures true_for_each_row { let table : Frame = record {
-      schema = (codes "a", Integer true 8) ∷ (codes "keep", Truth) ∷ [];
-      rows = (IntValue (pos 1) ∷ TruthValue true ∷ []) ∷ (IntValue (pos 2) ∷ NullValue ∷ []) ∷ (IntValue (pos 3) ∷ TruthValue false ∷ []) ∷ (NullValue ∷ TruthValue true ∷ []) ∷ [];
-    } in
-        kept_rows table (TruthValue true ∷ []) ≡ Done table }
-    ensures null_for_each_row { let table : Frame = record {
-      schema = (codes "a", Integer true 8) ∷ (codes "keep", Truth) ∷ [];
-      rows = (IntValue (pos 1) ∷ TruthValue true ∷ []) ∷ (IntValue (pos 2) ∷ NullValue ∷ []) ∷ (IntValue (pos 3) ∷ TruthValue false ∷ []) ∷ (NullValue ∷ TruthValue true ∷ []) ∷ [];
-    } in
-        let none : Frame = record {
-          schema = (codes "a", Integer true 8) ∷ (codes "keep", Truth) ∷ [];
-          rows = [];
-        } in
-        kept_rows table (NullValue ∷ []) ≡ Done none }
-    ensures wrong_number { let table : Frame = record {
-      schema = (codes "a", Integer true 8) ∷ (codes "keep", Truth) ∷ [];
-      rows = (IntValue (pos 1) ∷ TruthValue true ∷ []) ∷ (IntValue (pos 2) ∷ NullValue ∷ []) ∷ (IntValue (pos 3) ∷ TruthValue false ∷ []) ∷ (NullValue ∷ TruthValue true ∷ []) ∷ [];
-    } in
-        kept_rows table (TruthValue true ∷ TruthValue true ∷ []) ≡ Fault }
+    ensures done { GivesOfTwo for_rows (
+        (2, yes ∷ null ∷ [], Done (yes ∷ null ∷ [])) ∷
+        (3, yes ∷ [], Done (yes ∷ yes ∷ yes ∷ [])) ∷
+        (1, no ∷ [], Done (no ∷ [])) ∷
+        (0, yes ∷ [], Done []) ∷
+        (0, [], Done []) ∷ []) }
+    ensures wrong_numbers { GivesOfTwo for_rows (
+        (2, [], Fault) ∷ (3, yes ∷ no ∷ [], Fault) ∷ (1, yes ∷ no ∷ [], Fault) ∷ (0, yes ∷ no ∷ [], Fault) ∷ []) }
+    ensures rows { Gives (kept_rows flagged) (
+        (yes ∷ [], Done flagged) ∷
+        (null ∷ [], Done (frame_with schema_flagged [])) ∷
+        (yes ∷ yes ∷ [], Fault) ∷ []) }
 {}
 
 /// A filter has the schema of its input. One whose predicate has another type than that of truth values has none, also over no rows.
 pub fn schemas_of_filters()
-    ensures column { let scan = node (scan_op (Some 0) ((codes "a", Integer true 8) ∷ (codes "keep", Truth) ∷ [])) no_more in
-        let keep = node (ColumnOp (codes "keep")) no_more in
-        schema_of [] (node (filter_op (named keep)) (more scan no_more)) ≡ Some ((codes "a", Integer true 8) ∷ (codes "keep", Truth) ∷ []) }
-    ensures comparison { let scan = node (scan_op (Some 0) ((codes "a", Integer true 8) ∷ (codes "b", Integer true 32) ∷ [])) no_more in
-        let a = node (ColumnOp (codes "a")) no_more in
-        let b = node (ColumnOp (codes "b")) no_more in
-        let less = node (BinaryOp Lt) (more a (more b no_more)) in
-        schema_of [] (node (filter_op (named less)) (more scan no_more)) ≡ Some ((codes "a", Integer true 8) ∷ (codes "b", Integer true 32) ∷ []) }
-    ensures over_a_select { let scan = node (scan_op (Some 0) ((codes "a", Integer true 8) ∷ (codes "b", Integer true 32) ∷ [])) no_more in
-        let a = node (ColumnOp (codes "a")) no_more in
-        let b = node (ColumnOp (codes "b")) no_more in
-        let sum = node (BinaryOp Plus) (more b (more a no_more)) in
-        let inner = node (select_op (named sum ∷ []) []) (more scan no_more) in
-        let equal = node (BinaryOp Eq) (more b (more b no_more)) in
-        schema_of [] (node (filter_op (named equal)) (more inner no_more)) ≡ Some ((codes "b", Integer true 32) ∷ []) }
-    ensures cast { let scan = node (scan_op (Some 0) ((codes "a", Integer true 8) ∷ (codes "b", Integer true 32) ∷ [])) no_more in
-        let a = node (ColumnOp (codes "a")) no_more in
-        let truth = node (CastOp Truth Strict) (more a no_more) in
-        schema_of [] (node (filter_op (named truth)) (more scan no_more)) ≡ Some ((codes "a", Integer true 8) ∷ (codes "b", Integer true 32) ∷ []) }
-    ensures number { let scan = node (scan_op (Some 0) ((codes "a", Integer true 8) ∷ (codes "b", Integer true 32) ∷ [])) no_more in
-        let a = node (ColumnOp (codes "a")) no_more in
-        schema_of [] (node (filter_op (named a)) (more scan no_more)) ≡ None }
-    ensures number_over_no_rows { let scan = node (scan_op None ((codes "a", Integer true 8) ∷ (codes "b", Integer true 32) ∷ [])) no_more in
-        let a = node (ColumnOp (codes "a")) no_more in
-        schema_of [] (node (filter_op (named a)) (more scan no_more)) ≡ None }
-    ensures unknown_column { let scan = node (scan_op (Some 0) ((codes "a", Integer true 8) ∷ (codes "b", Integer true 32) ∷ [])) no_more in
-        let c = node (ColumnOp (codes "c")) no_more in
-        schema_of [] (node (filter_op (named c)) (more scan no_more)) ≡ None }
-    ensures column_that_the_input_lost { let scan = node (scan_op (Some 0) ((codes "a", Integer true 8) ∷ (codes "keep", Truth) ∷ [])) no_more in
-        let a = node (ColumnOp (codes "a")) no_more in
-        let keep = node (ColumnOp (codes "keep")) no_more in
-        let inner = node (select_op (named a ∷ []) []) (more scan no_more) in
-        schema_of [] (node (filter_op (named keep)) (more inner no_more)) ≡ None }
-    ensures two_predicates { let keep = node (ColumnOp (codes "keep")) no_more in
-        let op : PlanOp Expression = record { kind = FilterKind; expressions = named keep ∷ named keep ∷ []; schema = [] } in
-        plan_rule [] op (Some ((codes "a", Integer true 8) ∷ (codes "keep", Truth) ∷ []) ∷ []) ≡ None }
+    ensures truths { Gives (schema_of []) (
+        (keep (column "keep") (scan schema_flagged), Some schema_flagged) ∷
+        (keep (less a b) (scan schema_ab), Some schema_ab) ∷
+        (keep (equal b b) (select (sum b a ∷ []) (scan schema_ab)), Some ((codes "b", int32) ∷ [])) ∷
+        (keep (cast_as Strict Truth a) (scan schema_ab), Some schema_ab) ∷ []) }
+    ensures refused { GivesAll (schema_of []) None (
+        keep a (scan schema_ab) ∷
+        keep a (empty_scan schema_ab) ∷
+        keep c (scan schema_ab) ∷
+        keep (column "keep") (select (a ∷ []) (scan schema_flagged)) ∷ []) }
+    ensures two_predicates { let op : PlanOp Expression = record { kind = FilterKind; expressions = named (column "keep") ∷ named (column "keep") ∷ []; schema = [] } in
+        plan_rule [] op (Some schema_flagged ∷ []) ≡ None }
 {}
 
 /// A filter breaks what its predicate breaks as an expression. A typed predicate breaks a rule where its type isn't that of truth values.
 pub fn kinds_that_filters_break()
-    ensures none { let keep = node (ColumnOp (codes "keep")) no_more in
-        broken_kinds [] (filter_op (named keep)) (Some ((codes "a", Integer true 8) ∷ (codes "keep", Truth) ∷ []) ∷ []) ≡ [] }
-    ensures number { let a = node (ColumnOp (codes "a")) no_more in
-        broken_kinds [] (filter_op (named a)) (Some ((codes "a", Integer true 8) ∷ (codes "keep", Truth) ∷ []) ∷ []) ≡ InvalidOperation ∷ [] }
-    ensures sum_of_truth_values { let keep = node (ColumnOp (codes "keep")) no_more in
-        let sum = node (BinaryOp Plus) (more keep (more keep no_more)) in
-        broken_kinds [] (filter_op (named sum)) (Some ((codes "a", Integer true 8) ∷ (codes "keep", Truth) ∷ []) ∷ []) ≡ InvalidOperation ∷ [] }
-    ensures unknown_column { let c = node (ColumnOp (codes "c")) no_more in
-        broken_kinds [] (filter_op (named c)) (Some ((codes "a", Integer true 8) ∷ (codes "keep", Truth) ∷ []) ∷ []) ≡ ColumnNotFound ∷ [] }
-    ensures no_common_type { let schema = (codes "a", Integer true 8) ∷ (codes "u", Integer false 64) ∷ [] in
-        let a = node (ColumnOp (codes "a")) no_more in
-        let u = node (ColumnOp (codes "u")) no_more in
-        let equal = node (BinaryOp Eq) (more u (more a no_more)) in
-        broken_kinds [] (filter_op (named equal)) (Some schema ∷ []) ≡ SchemaMismatch ∷ [] }
-    ensures over_an_input_without_schema { let c = node (ColumnOp (codes "c")) no_more in
-        broken_kinds [] (filter_op (named c)) (None ∷ []) ≡ [] }
+    ensures over_an_input { GivesOfTwo (λ schema predicate. broken_kinds [] (filter_op (named predicate)) (Some schema ∷ [])) (
+        (schema_flagged, column "keep", []) ∷
+        (schema_flagged, a, InvalidOperation ∷ []) ∷
+        (schema_flagged, sum (column "keep") (column "keep"), InvalidOperation ∷ []) ∷
+        (schema_flagged, c, ColumnNotFound ∷ []) ∷
+        (schema_au, equal u a, SchemaMismatch ∷ []) ∷
+        ([], node (LiteralOp NullType NullValue) no_more, InvalidOperation ∷ []) ∷ []) }
+    ensures over_an_input_without_schema { broken_kinds [] (filter_op (named c)) (None ∷ []) ≡ [] }
 {}
 
 /// The node at a place below a filter: its schema, and the rules that it breaks.
 pub fn places_below_filters()
-    ensures top { let scan = node (scan_op (Some 0) ((codes "a", Integer true 8) ∷ (codes "b", Integer true 32) ∷ [])) no_more in
-        let a = node (ColumnOp (codes "a")) no_more in
-        let b = node (ColumnOp (codes "b")) no_more in
-        let less = node (BinaryOp Lt) (more a (more b no_more)) in
-        let filter = node (filter_op (named less)) (more scan no_more) in
-        schema_at [] filter [] ≡ Some ((codes "a", Integer true 8) ∷ (codes "b", Integer true 32) ∷ []) }
-    ensures input { let scan = node (scan_op (Some 0) ((codes "a", Integer true 8) ∷ (codes "b", Integer true 32) ∷ [])) no_more in
-        let a = node (ColumnOp (codes "a")) no_more in
-        let b = node (ColumnOp (codes "b")) no_more in
-        let less = node (BinaryOp Lt) (more a (more b no_more)) in
-        let inner = node (select_op (named b ∷ named a ∷ []) []) (more scan no_more) in
-        let filter = node (filter_op (named less)) (more inner no_more) in
-        schema_at [] filter (0 ∷ []) ≡ Some ((codes "b", Integer true 32) ∷ (codes "a", Integer true 8) ∷ []) }
-    ensures scan { let scan = node (scan_op (Some 0) ((codes "a", Integer true 8) ∷ (codes "b", Integer true 32) ∷ [])) no_more in
-        let a = node (ColumnOp (codes "a")) no_more in
-        let b = node (ColumnOp (codes "b")) no_more in
-        let less = node (BinaryOp Lt) (more a (more b no_more)) in
-        let inner = node (select_op (named b ∷ named a ∷ []) []) (more scan no_more) in
-        let filter = node (filter_op (named less)) (more inner no_more) in
-        schema_at [] filter (0 ∷ 0 ∷ []) ≡ Some ((codes "a", Integer true 8) ∷ (codes "b", Integer true 32) ∷ []) }
-    ensures no_second_input { let scan = node (scan_op (Some 0) ((codes "a", Integer true 8) ∷ (codes "b", Integer true 32) ∷ [])) no_more in
-        let a = node (ColumnOp (codes "a")) no_more in
-        let b = node (ColumnOp (codes "b")) no_more in
-        let less = node (BinaryOp Lt) (more a (more b no_more)) in
-        let filter = node (filter_op (named less)) (more scan no_more) in
-        schema_at [] filter (1 ∷ []) ≡ None }
-    ensures above_a_refusal { let scan = node (scan_op (Some 0) ((codes "a", Integer true 8) ∷ (codes "b", Integer true 32) ∷ [])) no_more in
-        let a = node (ColumnOp (codes "a")) no_more in
-        let b = node (ColumnOp (codes "b")) no_more in
-        let less = node (BinaryOp Lt) (more a (more b no_more)) in
-        let inner = node (filter_op (named a)) (more scan no_more) in
-        let filter = node (filter_op (named less)) (more inner no_more) in
-        schema_at [] filter [] ≡ None }
-    ensures broken { let scan = node (scan_op (Some 0) ((codes "a", Integer true 8) ∷ (codes "b", Integer true 32) ∷ [])) no_more in
-        let a = node (ColumnOp (codes "a")) no_more in
-        let b = node (ColumnOp (codes "b")) no_more in
-        let less = node (BinaryOp Lt) (more a (more b no_more)) in
-        let inner = node (filter_op (named a)) (more scan no_more) in
-        Breaks [] InvalidOperation [] inner }
-    ensures broken_below { let scan = node (scan_op (Some 0) ((codes "a", Integer true 8) ∷ (codes "b", Integer true 32) ∷ [])) no_more in
-        let a = node (ColumnOp (codes "a")) no_more in
-        let b = node (ColumnOp (codes "b")) no_more in
-        let less = node (BinaryOp Lt) (more a (more b no_more)) in
-        let inner = node (filter_op (named a)) (more scan no_more) in
-        let filter = node (filter_op (named less)) (more inner no_more) in
-        Breaks [] InvalidOperation (0 ∷ []) filter }
-    ensures not_above { let scan = node (scan_op (Some 0) ((codes "a", Integer true 8) ∷ (codes "b", Integer true 32) ∷ [])) no_more in
-        let a = node (ColumnOp (codes "a")) no_more in
-        let b = node (ColumnOp (codes "b")) no_more in
-        let less = node (BinaryOp Lt) (more a (more b no_more)) in
-        let inner = node (filter_op (named a)) (more scan no_more) in
-        let filter = node (filter_op (named less)) (more inner no_more) in
-        ¬ (Breaks [] InvalidOperation [] filter) }
-    ensures ill_formed { let scan = node (scan_op (Some 0) ((codes "a", Integer true 8) ∷ (codes "b", Integer true 32) ∷ [])) no_more in
-        let a = node (ColumnOp (codes "a")) no_more in
-        let b = node (ColumnOp (codes "b")) no_more in
-        let less = node (BinaryOp Lt) (more a (more b no_more)) in
-        let inner = node (filter_op (named a)) (more scan no_more) in
-        let filter = node (filter_op (named less)) (more inner no_more) in
-        ¬ (IsWellFormed [] filter) }
-    ensures well_formed { let scan = node (scan_op (Some 0) ((codes "a", Integer true 8) ∷ (codes "b", Integer true 32) ∷ [])) no_more in
-        let a = node (ColumnOp (codes "a")) no_more in
-        let b = node (ColumnOp (codes "b")) no_more in
-        let less = node (BinaryOp Lt) (more a (more b no_more)) in
-        let inner = node (filter_op (named less)) (more scan no_more) in
-        let filter = node (filter_op (named less)) (more inner no_more) in
-        IsWellFormed [] filter }
+    ensures schemas { let filter = keep (less a b) (scan schema_ab) in
+        let over_select = keep (less a b) (select (b ∷ a ∷ []) (scan schema_ab)) in
+        GivesOfTwo (schema_at []) (
+        (filter, [], Some schema_ab) ∷
+        (over_select, 0 ∷ [], Some ((codes "b", int32) ∷ (codes "a", int8) ∷ [])) ∷
+        (over_select, 0 ∷ 0 ∷ [], Some schema_ab) ∷
+        (filter, 1 ∷ [], None) ∷
+        (keep (less a b) (keep a (scan schema_ab)), [], None) ∷ []) }
+    ensures broken { let inner = keep a (scan schema_ab) in
+        Breaks [] InvalidOperation [] inner × Breaks [] InvalidOperation (0 ∷ []) (keep (less a b) inner) }
+    ensures not_above { ¬ (Breaks [] InvalidOperation [] (keep (less a b) (keep a (scan schema_ab)))) }
+    ensures ill_formed { ¬ (IsWellFormed [] (keep (less a b) (keep a (scan schema_ab)))) }
+    ensures well_formed { IsWellFormed [] (keep (less a b) (keep (less a b) (scan schema_ab))) }
 {}
 
 /// A predicate's casts count, a filter is a node, and it asks of the tables what its input asks.
 pub fn filters_counted_and_fitted()
-    ensures casts { let scan = node (scan_op (Some 0) ((codes "a", Integer true 8) ∷ (codes "b", Integer true 32) ∷ [])) no_more in
-        let a = node (ColumnOp (codes "a")) no_more in
-        let b = node (ColumnOp (codes "b")) no_more in
-        let less = node (BinaryOp Lt) (more a (more b no_more)) in
-        let wide = node (BinaryOp Lt) (more (node (CastOp (Integer true 32) NonStrict) (more a no_more)) (more b no_more)) in
-        let inner = node (filter_op (named wide)) (more scan no_more) in
-        let filter = node (filter_op (named less)) (more inner no_more) in
-        cast_count filter ≡ 1 }
-    ensures nodes { let scan = node (scan_op (Some 0) ((codes "a", Integer true 8) ∷ (codes "b", Integer true 32) ∷ [])) no_more in
-        let a = node (ColumnOp (codes "a")) no_more in
-        let b = node (ColumnOp (codes "b")) no_more in
-        let less = node (BinaryOp Lt) (more a (more b no_more)) in
-        let inner = node (filter_op (named less)) (more scan no_more) in
-        let filter = node (filter_op (named less)) (more inner no_more) in
-        node_count filter ≡ 3 }
-    ensures fitting { let table : Frame = record {
-      schema = (codes "a", Integer true 8) ∷ (codes "b", Integer true 32) ∷ [];
-      rows = (IntValue (pos 1) ∷ IntValue (pos 10) ∷ []) ∷ (NullValue ∷ IntValue (pos 20) ∷ []) ∷ (IntValue (pos 100) ∷ IntValue (pos 20) ∷ []) ∷ (IntValue (pos 5) ∷ IntValue (pos 300) ∷ []) ∷ [];
-    } in
-        let scan = node (scan_op (Some 0) ((codes "a", Integer true 8) ∷ (codes "b", Integer true 32) ∷ [])) no_more in
-        let a = node (ColumnOp (codes "a")) no_more in
-        let b = node (ColumnOp (codes "b")) no_more in
-        let less = node (BinaryOp Lt) (more a (more b no_more)) in
-        let filter = node (filter_op (named less)) (more scan no_more) in
-        FitsPlan (table ∷ []) filter }
-    ensures no_such_table { let scan = node (scan_op (Some 0) ((codes "a", Integer true 8) ∷ (codes "b", Integer true 32) ∷ [])) no_more in
-        let a = node (ColumnOp (codes "a")) no_more in
-        let b = node (ColumnOp (codes "b")) no_more in
-        let less = node (BinaryOp Lt) (more a (more b no_more)) in
-        let filter = node (filter_op (named less)) (more scan no_more) in
-        ¬ (FitsPlan [] filter) }
+    ensures casts { cast_count (keep (less a b) (keep (less (cast_as NonStrict int32 a) b) (scan schema_ab))) ≡ 1 }
+    ensures nodes { node_count (keep (less a b) (keep (less a b) (scan schema_ab))) ≡ 3 }
+    ensures fitting { FitsPlan (mixed ∷ []) (keep (less a b) (scan schema_ab)) }
+    ensures no_such_table { ¬ (FitsPlan [] (keep (less a b) (scan schema_ab))) }
 {}
 
 /// A filter by a text that is read as a number: a text that is none is a data fault where the cast is strict, also beside a false value, and else it is null.
 pub fn filters_by_casts_of_texts()
-    ensures strict { let table : Frame = record {
-      schema = (codes "s", TextType) ∷ (codes "b", Integer true 64) ∷ [];
-      rows = (TextValue (codes "x") ∷ IntValue (pos 2) ∷ []) ∷ [];
-    } in
-        let scan = node (scan_op (Some 0) ((codes "s", TextType) ∷ (codes "b", Integer true 64) ∷ [])) no_more in
-        let s = node (ColumnOp (codes "s")) no_more in
-        let b = node (ColumnOp (codes "b")) no_more in
-        let zero = node (LiteralOp (Untyped (pos 0)) (IntValue (pos 0))) no_more in
-        let one = node (LiteralOp (Untyped (pos 1)) (IntValue (pos 1))) no_more in
-        let number = node (CastOp (Integer true 64) Strict) (more s no_more) in
-        let both = node (BinaryOp And) (more (node (BinaryOp Gt) (more number (more zero no_more))) (more (node (BinaryOp Eq) (more b (more one no_more))) no_more)) in
-        source_meaning [] (table ∷ []) (node (filter_op (named both)) (more scan no_more)) ≡ Fault }
-    ensures not_strict { let table : Frame = record {
-      schema = (codes "s", TextType) ∷ (codes "b", Integer true 64) ∷ [];
-      rows = (TextValue (codes "x") ∷ IntValue (pos 2) ∷ []) ∷ (TextValue (codes "x") ∷ IntValue (pos 1) ∷ []) ∷ (TextValue (codes "7") ∷ IntValue (pos 1) ∷ []) ∷ [];
-    } in
-        let scan = node (scan_op (Some 0) ((codes "s", TextType) ∷ (codes "b", Integer true 64) ∷ [])) no_more in
-        let s = node (ColumnOp (codes "s")) no_more in
-        let b = node (ColumnOp (codes "b")) no_more in
-        let zero = node (LiteralOp (Untyped (pos 0)) (IntValue (pos 0))) no_more in
-        let one = node (LiteralOp (Untyped (pos 1)) (IntValue (pos 1))) no_more in
-        let number = node (CastOp (Integer true 64) NonStrict) (more s no_more) in
-        let both = node (BinaryOp And) (more (node (BinaryOp Gt) (more number (more zero no_more))) (more (node (BinaryOp Eq) (more b (more one no_more))) no_more)) in
-        let kept : Frame = record {
-          schema = (codes "s", TextType) ∷ (codes "b", Integer true 64) ∷ [];
-          rows = (TextValue (codes "7") ∷ IntValue (pos 1) ∷ []) ∷ [];
-        } in
-        source_meaning [] (table ∷ []) (node (filter_op (named both)) (more scan no_more)) ≡ Done kept }
-    ensures select_of_nothing_over_a_fault { let table : Frame = record {
-      schema = (codes "s", TextType) ∷ [];
-      rows = (TextValue (codes "x") ∷ []) ∷ [];
-    } in
-        let scan = node (scan_op (Some 0) ((codes "s", TextType) ∷ [])) no_more in
-        let s = node (ColumnOp (codes "s")) no_more in
-        let zero = node (LiteralOp (Untyped (pos 0)) (IntValue (pos 0))) no_more in
-        let positive = node (BinaryOp Gt) (more (node (CastOp (Integer true 64) Strict) (more s no_more)) (more zero no_more)) in
-        let filter = node (filter_op (named positive)) (more scan no_more) in
-        source_meaning [] (table ∷ []) (node (select_op [] []) (more filter no_more)) ≡ Done empty_frame }
-    ensures text_beside_a_number { let a = node (ColumnOp (codes "a")) no_more in
-        let x = node (LiteralOp TextType (TextValue (codes "x"))) no_more in
-        let scan = node (scan_op (Some 0) ((codes "a", Integer true 32) ∷ [])) no_more in
-        Breaks [] InvalidOperation [] (node (filter_op (named (node (BinaryOp Eq) (more a (more x no_more))))) (more scan no_more)) }
-    ensures null { broken_kinds [] (filter_op (named (node (LiteralOp NullType NullValue) no_more))) (Some [] ∷ []) ≡ InvalidOperation ∷ [] }
+    ensures of_two { let schema = (codes "s", TextType) ∷ (codes "b", int64) ∷ [] in
+        let filter = λ (options : CastOptions). keep (binary And (binary Gt (cast_as options int64 (column "s")) (literal (pos 0))) (equal b (literal (pos 1)))) (scan schema) in
+        let three_rows = (text "x" ∷ number 2 ∷ []) ∷ (text "x" ∷ number 1 ∷ []) ∷ (text "7" ∷ number 1 ∷ []) ∷ [] in
+        GivesOfTwo (λ options rows. source_meaning [] (frame_with schema rows ∷ []) (filter options)) (
+        (Strict, (text "x" ∷ number 2 ∷ []) ∷ [], Fault) ∷
+        (NonStrict, three_rows, Done (frame_with schema ((text "7" ∷ number 1 ∷ []) ∷ []))) ∷ []) }
+    ensures select_of_nothing_over_a_fault { let schema = (codes "s", TextType) ∷ [] in
+        let filter = keep (binary Gt (cast_as Strict int64 (column "s")) (literal (pos 0))) (scan schema) in
+        source_meaning [] (frame_with schema ((text "x" ∷ []) ∷ []) ∷ []) (select [] filter) ≡ Done empty_frame }
+    ensures text_beside_a_number { let x = node (LiteralOp TextType (TextValue (codes "x"))) no_more in
+        Breaks [] InvalidOperation [] (keep (equal a x) (scan ((codes "a", int32) ∷ []))) }
 {}

@@ -1,323 +1,131 @@
 //! What expressions give on frames.
 
-ghost use Rattle.std.specs.Prelude.{◌≡◌, [], ◌∷◌, pos, neg_ℤ, codes, true, false, Some, None, is_err};
-ghost use Rattle.plan_types.specs.Types.{Truth, Integer};
-ghost use Rattle.plan_types.specs.Values.{NullValue, TruthValue, IntValue};
+ghost use Rattle.std.specs.Prelude.{◌≡◌, [], ◌∷◌, pos, neg_ℤ, map, codes, true, false, Some, None, is_err};
+ghost use Rattle.std.specs.List.{AllByRecursion};
+ghost use Rattle.plan_types.specs.Types.{Truth, DateType};
 ghost use Rattle.plan_types.specs.Outcomes.{Done, Fault, Stuck};
-ghost use Rattle.plan_types.specs.Frames.{Frame};
 ghost use Rattle.plan_types.specs.declared.dtype.CastOptions.TheVariants.{Strict, NonStrict, Overflowing};
-ghost use Rattle.plan_dsl.specs.declared.operator.Operator.TheVariants.{Plus};
+ghost use Rattle.plan_dsl.specs.declared.operator.Operator.TheVariants.{Plus, Minus, Multiply, Divide, FloorDivide, Modulus};
 ghost use Rattle.plan_dsl.specs.Trees.{node, no_more, more};
 ghost use Rattle.plan_dsl.specs.Ops.{ColumnOp, BinaryOp, CastOp};
 ghost use Rattle.plan_dsl.specs.Typing.{Typed, typing};
 ghost use Rattle.plan_dsl.specs.Kernels.{common_length, stretched, operator_values};
 ghost use Rattle.plan_dsl.specs.Meaning.{meaning};
-ghost use Rattle.plan_dsl.specs.StrictRun.{strict_run};
 ghost use Rattle.plan_dsl.specs.Laws.{AreOf};
+ghost use Rattle.plan_dsl.specs.Samples.{Gives, GivesOfTwo, GivesAll, int8, int16, int32, int64, uint8, null, yes, no, number, negative, column, a, b, c, binary, sum, cast_as, frame_with, means, runs, table, schema_ab, schema_abu};
 
 /// A sum is made in the common type, and null in an operand gives null.
 pub fn meanings_of_sums()
-    ensures column { let frame : Frame = record {
-      schema = (codes "a", Integer true 8) ∷ (codes "b", Integer true 32) ∷ [];
-      rows = (IntValue (pos 1) ∷ IntValue (pos 10) ∷ []) ∷ (NullValue ∷ IntValue (pos 20) ∷ []) ∷ (IntValue (pos 100) ∷ IntValue (pos 200) ∷ []) ∷ [];
-    } in
-        let a = node (ColumnOp (codes "a")) no_more in
-        meaning [] frame a (0 ∷ 1 ∷ 2 ∷ []) ≡ Done (IntValue (pos 1) ∷ NullValue ∷ IntValue (pos 100) ∷ []) }
-    ensures sum { let frame : Frame = record {
-      schema = (codes "a", Integer true 8) ∷ (codes "b", Integer true 32) ∷ [];
-      rows = (IntValue (pos 1) ∷ IntValue (pos 10) ∷ []) ∷ (NullValue ∷ IntValue (pos 20) ∷ []) ∷ (IntValue (pos 100) ∷ IntValue (pos 200) ∷ []) ∷ [];
-    } in
-        let a = node (ColumnOp (codes "a")) no_more in
-        let b = node (ColumnOp (codes "b")) no_more in
-        meaning [] frame (node (BinaryOp Plus) (more a (more b no_more))) (0 ∷ 1 ∷ 2 ∷ [])
-        ≡ Done (IntValue (pos 11) ∷ NullValue ∷ IntValue (pos 300) ∷ []) }
-    ensures null_on_the_right { let frame : Frame = record {
-      schema = (codes "a", Integer true 8) ∷ (codes "b", Integer true 32) ∷ [];
-      rows = (IntValue (pos 1) ∷ IntValue (pos 10) ∷ []) ∷ (NullValue ∷ IntValue (pos 20) ∷ []) ∷ (IntValue (pos 100) ∷ IntValue (pos 200) ∷ []) ∷ [];
-    } in
-        let a = node (ColumnOp (codes "a")) no_more in
-        let b = node (ColumnOp (codes "b")) no_more in
-        meaning [] frame (node (BinaryOp Plus) (more b (more a no_more))) (0 ∷ 1 ∷ 2 ∷ [])
-        ≡ Done (IntValue (pos 11) ∷ NullValue ∷ IntValue (pos 300) ∷ []) }
-    ensures sum_that_wraps { let frame : Frame = record {
-      schema = (codes "a", Integer true 8) ∷ (codes "b", Integer true 32) ∷ [];
-      rows = (IntValue (pos 1) ∷ IntValue (pos 10) ∷ []) ∷ (NullValue ∷ IntValue (pos 20) ∷ []) ∷ (IntValue (pos 100) ∷ IntValue (pos 200) ∷ []) ∷ [];
-    } in
-        let a = node (ColumnOp (codes "a")) no_more in
-        meaning [] frame (node (BinaryOp Plus) (more a (more a no_more))) (0 ∷ 1 ∷ 2 ∷ [])
-        ≡ Done (IntValue (pos 2) ∷ NullValue ∷ IntValue (neg_ℤ (pos 56)) ∷ []) }
-    ensures sum_of_casts { let frame : Frame = record {
-      schema = (codes "a", Integer true 8) ∷ (codes "b", Integer true 32) ∷ [];
-      rows = (IntValue (pos 1) ∷ IntValue (pos 10) ∷ []) ∷ (NullValue ∷ IntValue (pos 20) ∷ []) ∷ (IntValue (pos 100) ∷ IntValue (pos 200) ∷ []) ∷ [];
-    } in
-        let a = node (ColumnOp (codes "a")) no_more in
-        let wide = node (CastOp (Integer true 16) NonStrict) (more a no_more) in
-        meaning [] frame (node (BinaryOp Plus) (more wide (more wide no_more))) (0 ∷ 1 ∷ 2 ∷ [])
-        ≡ Done (IntValue (pos 2) ∷ NullValue ∷ IntValue (pos 200) ∷ []) }
-    ensures sum_of_sum { let frame : Frame = record {
-      schema = (codes "a", Integer true 8) ∷ (codes "b", Integer true 32) ∷ [];
-      rows = (IntValue (pos 1) ∷ IntValue (pos 10) ∷ []) ∷ (NullValue ∷ IntValue (pos 20) ∷ []) ∷ (IntValue (pos 100) ∷ IntValue (pos 200) ∷ []) ∷ [];
-    } in
-        let a = node (ColumnOp (codes "a")) no_more in
-        let b = node (ColumnOp (codes "b")) no_more in
-        let sum = node (BinaryOp Plus) (more a (more a no_more)) in
-        meaning [] frame (node (BinaryOp Plus) (more sum (more b no_more))) (0 ∷ 1 ∷ 2 ∷ [])
-        ≡ Done (IntValue (pos 12) ∷ NullValue ∷ IntValue (pos 144) ∷ []) }
-    ensures unknown_column { let frame : Frame = record {
-      schema = (codes "a", Integer true 8) ∷ (codes "b", Integer true 32) ∷ [];
-      rows = (IntValue (pos 1) ∷ IntValue (pos 10) ∷ []) ∷ (NullValue ∷ IntValue (pos 20) ∷ []) ∷ (IntValue (pos 100) ∷ IntValue (pos 200) ∷ []) ∷ [];
-    } in
-        let c = node (ColumnOp (codes "c")) no_more in
-        meaning [] frame c (0 ∷ 1 ∷ 2 ∷ []) ≡ Stuck }
-    ensures unknown_operand { let frame : Frame = record {
-      schema = (codes "a", Integer true 8) ∷ (codes "b", Integer true 32) ∷ [];
-      rows = (IntValue (pos 1) ∷ IntValue (pos 10) ∷ []) ∷ (NullValue ∷ IntValue (pos 20) ∷ []) ∷ (IntValue (pos 100) ∷ IntValue (pos 200) ∷ []) ∷ [];
-    } in
-        let a = node (ColumnOp (codes "a")) no_more in
-        let c = node (ColumnOp (codes "c")) no_more in
-        meaning [] frame (node (BinaryOp Plus) (more a (more c no_more))) (0 ∷ 1 ∷ 2 ∷ []) ≡ Stuck }
+    ensures typed { let wide = cast_as NonStrict int16 a in
+        Gives (means table) (
+        (a, Done (number 1 ∷ null ∷ number 100 ∷ [])) ∷
+        (sum a b, Done (number 11 ∷ null ∷ number 300 ∷ [])) ∷
+        (sum b a, Done (number 11 ∷ null ∷ number 300 ∷ [])) ∷
+        (sum a a, Done (number 2 ∷ null ∷ negative 56 ∷ [])) ∷
+        (sum wide wide, Done (number 2 ∷ null ∷ number 200 ∷ [])) ∷
+        (sum (sum a a) b, Done (number 12 ∷ null ∷ number 144 ∷ [])) ∷ []) }
+    ensures unknown_columns { GivesAll (means table) Stuck (c ∷ sum a c ∷ []) }
+{}
+
+/// The operands' order counts in a difference, a product wraps around in the common type, and of quotients one is rounded
+/// toward 0, and one down. A division by 0 is null. Between two days are milliseconds.
+pub fn meanings_of_other_arithmetic()
+    ensures differences { Gives (means table) (
+        (binary Minus b a, Done (number 9 ∷ null ∷ number 100 ∷ [])) ∷
+        (binary Minus a b, Done (negative 9 ∷ null ∷ negative 100 ∷ [])) ∷ []) }
+    ensures products { Gives (means table) (
+        (binary Multiply a b, Done (number 10 ∷ null ∷ number 20000 ∷ [])) ∷
+        (binary Multiply a a, Done (number 1 ∷ null ∷ number 16 ∷ [])) ∷ []) }
+    ensures quotients { let signs = frame_with schema_ab (
+        (number 3 ∷ negative 7 ∷ []) ∷ (negative 3 ∷ number 7 ∷ []) ∷ (negative 3 ∷ negative 7 ∷ []) ∷ (number 0 ∷ number 7 ∷ []) ∷ []) in
+        Gives (λ operator. means signs (binary operator b a)) (
+        (Divide, Done (negative 2 ∷ negative 2 ∷ number 2 ∷ null ∷ [])) ∷
+        (FloorDivide, Done (negative 3 ∷ negative 3 ∷ number 2 ∷ null ∷ [])) ∷
+        (Modulus, Done (number 2 ∷ negative 2 ∷ negative 1 ∷ null ∷ [])) ∷ []) }
+    ensures days { let dates = frame_with ((codes "a", DateType) ∷ (codes "b", DateType) ∷ []) (
+        (number 10957 ∷ number 10956 ∷ []) ∷ (number 10956 ∷ number 10957 ∷ []) ∷ (negative 1 ∷ number 1 ∷ []) ∷ (null ∷ number 1 ∷ []) ∷ []) in
+        means dates (binary Minus a b) ≡ Done (number 86400000 ∷ negative 86400000 ∷ negative 172800000 ∷ null ∷ []) }
 {}
 
 /// An expression gives a value for each row that it is asked on, in the order of the rows.
 pub fn meanings_on_some_rows()
-    ensures no_rows { let frame : Frame = record {
-      schema = (codes "a", Integer true 8) ∷ (codes "b", Integer true 32) ∷ [];
-      rows = (IntValue (pos 1) ∷ IntValue (pos 10) ∷ []) ∷ (NullValue ∷ IntValue (pos 20) ∷ []) ∷ (IntValue (pos 100) ∷ IntValue (pos 200) ∷ []) ∷ [];
-    } in
-        let a = node (ColumnOp (codes "a")) no_more in
-        let b = node (ColumnOp (codes "b")) no_more in
-        meaning [] frame (node (BinaryOp Plus) (more a (more b no_more))) [] ≡ Done [] }
-    ensures last_row { let frame : Frame = record {
-      schema = (codes "a", Integer true 8) ∷ (codes "b", Integer true 32) ∷ [];
-      rows = (IntValue (pos 1) ∷ IntValue (pos 10) ∷ []) ∷ (NullValue ∷ IntValue (pos 20) ∷ []) ∷ (IntValue (pos 100) ∷ IntValue (pos 200) ∷ []) ∷ [];
-    } in
-        let a = node (ColumnOp (codes "a")) no_more in
-        let b = node (ColumnOp (codes "b")) no_more in
-        meaning [] frame (node (BinaryOp Plus) (more a (more b no_more))) (2 ∷ []) ≡ Done (IntValue (pos 300) ∷ []) }
-    ensures repeated_and_out_of_order { let frame : Frame = record {
-      schema = (codes "a", Integer true 8) ∷ (codes "b", Integer true 32) ∷ [];
-      rows = (IntValue (pos 1) ∷ IntValue (pos 10) ∷ []) ∷ (NullValue ∷ IntValue (pos 20) ∷ []) ∷ (IntValue (pos 100) ∷ IntValue (pos 200) ∷ []) ∷ [];
-    } in
-        let a = node (ColumnOp (codes "a")) no_more in
-        let b = node (ColumnOp (codes "b")) no_more in
-        meaning [] frame (node (BinaryOp Plus) (more a (more b no_more))) (2 ∷ 0 ∷ 2 ∷ 1 ∷ [])
-        ≡ Done (IntValue (pos 300) ∷ IntValue (pos 11) ∷ IntValue (pos 300) ∷ NullValue ∷ []) }
-    ensures column_out_of_order { let frame : Frame = record {
-      schema = (codes "a", Integer true 8) ∷ (codes "b", Integer true 32) ∷ [];
-      rows = (IntValue (pos 1) ∷ IntValue (pos 10) ∷ []) ∷ (NullValue ∷ IntValue (pos 20) ∷ []) ∷ (IntValue (pos 100) ∷ IntValue (pos 200) ∷ []) ∷ [];
-    } in
-        let b = node (ColumnOp (codes "b")) no_more in
-        meaning [] frame b (1 ∷ 0 ∷ 0 ∷ []) ≡ Done (IntValue (pos 20) ∷ IntValue (pos 10) ∷ IntValue (pos 10) ∷ []) }
+    ensures rows { GivesOfTwo (meaning [] table) (
+        (sum a b, [], Done []) ∷
+        (sum a b, 2 ∷ [], Done (number 300 ∷ [])) ∷
+        (sum a b, 2 ∷ 0 ∷ 2 ∷ 1 ∷ [], Done (number 300 ∷ number 11 ∷ number 300 ∷ null ∷ [])) ∷
+        (b, 1 ∷ 0 ∷ 0 ∷ [], Done (number 20 ∷ number 10 ∷ number 10 ∷ [])) ∷ []) }
 {}
 
 /// A strict cast of a value out of range is a fault, and so is each node above it.
 pub fn meanings_of_casts()
-    ensures strict { let frame : Frame = record {
-      schema = (codes "a", Integer true 8) ∷ (codes "b", Integer true 32) ∷ [];
-      rows = (IntValue (pos 1) ∷ IntValue (pos 10) ∷ []) ∷ (NullValue ∷ IntValue (pos 20) ∷ []) ∷ (IntValue (pos 100) ∷ IntValue (pos 200) ∷ []) ∷ [];
-    } in
-        let b = node (ColumnOp (codes "b")) no_more in
-        meaning [] frame (node (CastOp (Integer true 8) Strict) (more b no_more)) (0 ∷ 1 ∷ 2 ∷ []) ≡ Fault }
-    ensures not_strict { let frame : Frame = record {
-      schema = (codes "a", Integer true 8) ∷ (codes "b", Integer true 32) ∷ [];
-      rows = (IntValue (pos 1) ∷ IntValue (pos 10) ∷ []) ∷ (NullValue ∷ IntValue (pos 20) ∷ []) ∷ (IntValue (pos 100) ∷ IntValue (pos 200) ∷ []) ∷ [];
-    } in
-        let b = node (ColumnOp (codes "b")) no_more in
-        meaning [] frame (node (CastOp (Integer true 8) NonStrict) (more b no_more)) (0 ∷ 1 ∷ 2 ∷ [])
-        ≡ Done (IntValue (pos 10) ∷ IntValue (pos 20) ∷ NullValue ∷ []) }
-    ensures overflowing { let frame : Frame = record {
-      schema = (codes "a", Integer true 8) ∷ (codes "b", Integer true 32) ∷ [];
-      rows = (IntValue (pos 1) ∷ IntValue (pos 10) ∷ []) ∷ (NullValue ∷ IntValue (pos 20) ∷ []) ∷ (IntValue (pos 100) ∷ IntValue (pos 200) ∷ []) ∷ [];
-    } in
-        let b = node (ColumnOp (codes "b")) no_more in
-        meaning [] frame (node (CastOp (Integer true 8) Overflowing) (more b no_more)) (0 ∷ 1 ∷ 2 ∷ [])
-        ≡ Done (IntValue (pos 10) ∷ IntValue (pos 20) ∷ IntValue (neg_ℤ (pos 56)) ∷ []) }
-    ensures strict_on_rows_in_range { let frame : Frame = record {
-      schema = (codes "a", Integer true 8) ∷ (codes "b", Integer true 32) ∷ [];
-      rows = (IntValue (pos 1) ∷ IntValue (pos 10) ∷ []) ∷ (NullValue ∷ IntValue (pos 20) ∷ []) ∷ (IntValue (pos 100) ∷ IntValue (pos 200) ∷ []) ∷ [];
-    } in
-        let b = node (ColumnOp (codes "b")) no_more in
-        meaning [] frame (node (CastOp (Integer true 8) Strict) (more b no_more)) (0 ∷ 1 ∷ [])
-        ≡ Done (IntValue (pos 10) ∷ IntValue (pos 20) ∷ []) }
-    ensures null_under_strict { let frame : Frame = record {
-      schema = (codes "a", Integer true 8) ∷ (codes "b", Integer true 32) ∷ [];
-      rows = (IntValue (pos 1) ∷ IntValue (pos 10) ∷ []) ∷ (NullValue ∷ IntValue (pos 20) ∷ []) ∷ (IntValue (pos 100) ∷ IntValue (pos 200) ∷ []) ∷ [];
-    } in
-        let a = node (ColumnOp (codes "a")) no_more in
-        meaning [] frame (node (CastOp (Integer false 8) Strict) (more a no_more)) (0 ∷ 1 ∷ 2 ∷ [])
-        ≡ Done (IntValue (pos 1) ∷ NullValue ∷ IntValue (pos 100) ∷ []) }
-    ensures fault_on_the_left { let frame : Frame = record {
-      schema = (codes "a", Integer true 8) ∷ (codes "b", Integer true 32) ∷ [];
-      rows = (IntValue (pos 1) ∷ IntValue (pos 10) ∷ []) ∷ (NullValue ∷ IntValue (pos 20) ∷ []) ∷ (IntValue (pos 100) ∷ IntValue (pos 200) ∷ []) ∷ [];
-    } in
-        let a = node (ColumnOp (codes "a")) no_more in
-        let b = node (ColumnOp (codes "b")) no_more in
-        let narrow = node (CastOp (Integer true 8) Strict) (more b no_more) in
-        meaning [] frame (node (BinaryOp Plus) (more narrow (more a no_more))) (0 ∷ 1 ∷ 2 ∷ []) ≡ Fault }
-    ensures fault_on_the_right { let frame : Frame = record {
-      schema = (codes "a", Integer true 8) ∷ (codes "b", Integer true 32) ∷ [];
-      rows = (IntValue (pos 1) ∷ IntValue (pos 10) ∷ []) ∷ (NullValue ∷ IntValue (pos 20) ∷ []) ∷ (IntValue (pos 100) ∷ IntValue (pos 200) ∷ []) ∷ [];
-    } in
-        let a = node (ColumnOp (codes "a")) no_more in
-        let b = node (ColumnOp (codes "b")) no_more in
-        let narrow = node (CastOp (Integer true 8) Strict) (more b no_more) in
-        meaning [] frame (node (BinaryOp Plus) (more a (more narrow no_more))) (0 ∷ 1 ∷ 2 ∷ []) ≡ Fault }
-    ensures fault_under_a_cast { let frame : Frame = record {
-      schema = (codes "a", Integer true 8) ∷ (codes "b", Integer true 32) ∷ [];
-      rows = (IntValue (pos 1) ∷ IntValue (pos 10) ∷ []) ∷ (NullValue ∷ IntValue (pos 20) ∷ []) ∷ (IntValue (pos 100) ∷ IntValue (pos 200) ∷ []) ∷ [];
-    } in
-        let b = node (ColumnOp (codes "b")) no_more in
-        let narrow = node (CastOp (Integer true 8) Strict) (more b no_more) in
-        meaning [] frame (node (CastOp (Integer true 64) NonStrict) (more narrow no_more)) (0 ∷ 1 ∷ 2 ∷ []) ≡ Fault }
+    ensures options { Gives (λ options. means table (cast_as options int8 b)) (
+        (Strict, Fault) ∷
+        (NonStrict, Done (number 10 ∷ number 20 ∷ null ∷ [])) ∷
+        (Overflowing, Done (number 10 ∷ number 20 ∷ negative 56 ∷ [])) ∷ []) }
+    ensures strict_on_rows_in_range { meaning [] table (cast_as Strict int8 b) (0 ∷ 1 ∷ []) ≡ Done (number 10 ∷ number 20 ∷ []) }
+    ensures null_under_strict { means table (cast_as Strict uint8 a) ≡ Done (number 1 ∷ null ∷ number 100 ∷ []) }
+    ensures faults_below { let narrow = cast_as Strict int8 b in
+        GivesAll (means table) Fault (sum narrow a ∷ sum a narrow ∷ cast_as NonStrict int64 narrow ∷ []) }
 {}
 
 /// As it is written an expression runs only where each operand has the type to which it is taken.
 pub fn expressions_run_as_written()
-    ensures column { let frame : Frame = record {
-      schema = (codes "a", Integer true 8) ∷ (codes "b", Integer true 32) ∷ [];
-      rows = (IntValue (pos 1) ∷ IntValue (pos 10) ∷ []) ∷ (NullValue ∷ IntValue (pos 20) ∷ []) ∷ (IntValue (pos 100) ∷ IntValue (pos 200) ∷ []) ∷ [];
-    } in
-        let a = node (ColumnOp (codes "a")) no_more in
-        strict_run [] frame a (0 ∷ 1 ∷ 2 ∷ []) ≡ Done (IntValue (pos 1) ∷ NullValue ∷ IntValue (pos 100) ∷ []) }
-    ensures sum_of_two_types { let frame : Frame = record {
-      schema = (codes "a", Integer true 8) ∷ (codes "b", Integer true 32) ∷ [];
-      rows = (IntValue (pos 1) ∷ IntValue (pos 10) ∷ []) ∷ (NullValue ∷ IntValue (pos 20) ∷ []) ∷ (IntValue (pos 100) ∷ IntValue (pos 200) ∷ []) ∷ [];
-    } in
-        let a = node (ColumnOp (codes "a")) no_more in
-        let b = node (ColumnOp (codes "b")) no_more in
-        strict_run [] frame (node (BinaryOp Plus) (more a (more b no_more))) (0 ∷ 1 ∷ 2 ∷ []) ≡ Stuck }
-    ensures sum_with_its_cast { let frame : Frame = record {
-      schema = (codes "a", Integer true 8) ∷ (codes "b", Integer true 32) ∷ [];
-      rows = (IntValue (pos 1) ∷ IntValue (pos 10) ∷ []) ∷ (NullValue ∷ IntValue (pos 20) ∷ []) ∷ (IntValue (pos 100) ∷ IntValue (pos 200) ∷ []) ∷ [];
-    } in
-        let a = node (ColumnOp (codes "a")) no_more in
-        let b = node (ColumnOp (codes "b")) no_more in
-        let wide = node (CastOp (Integer true 32) NonStrict) (more a no_more) in
-        let sum = node (BinaryOp Plus) (more wide (more b no_more)) in
-        strict_run [] frame sum (0 ∷ 1 ∷ 2 ∷ []) ≡ Done (IntValue (pos 11) ∷ NullValue ∷ IntValue (pos 300) ∷ []) }
-    ensures the_same_as_meant { let frame : Frame = record {
-      schema = (codes "a", Integer true 8) ∷ (codes "b", Integer true 32) ∷ [];
-      rows = (IntValue (pos 1) ∷ IntValue (pos 10) ∷ []) ∷ (NullValue ∷ IntValue (pos 20) ∷ []) ∷ (IntValue (pos 100) ∷ IntValue (pos 200) ∷ []) ∷ [];
-    } in
-        let a = node (ColumnOp (codes "a")) no_more in
-        let b = node (ColumnOp (codes "b")) no_more in
-        let wide = node (CastOp (Integer true 32) NonStrict) (more a no_more) in
-        let sum = node (BinaryOp Plus) (more wide (more b no_more)) in
-        strict_run [] frame sum (0 ∷ 1 ∷ 2 ∷ []) ≡ meaning [] frame sum (0 ∷ 1 ∷ 2 ∷ []) }
-    ensures sum_of_one_type { let frame : Frame = record {
-      schema = (codes "a", Integer true 8) ∷ (codes "b", Integer true 32) ∷ [];
-      rows = (IntValue (pos 1) ∷ IntValue (pos 10) ∷ []) ∷ (NullValue ∷ IntValue (pos 20) ∷ []) ∷ (IntValue (pos 100) ∷ IntValue (pos 200) ∷ []) ∷ [];
-    } in
-        let a = node (ColumnOp (codes "a")) no_more in
-        strict_run [] frame (node (BinaryOp Plus) (more a (more a no_more))) (0 ∷ 1 ∷ 2 ∷ [])
-        ≡ Done (IntValue (pos 2) ∷ NullValue ∷ IntValue (neg_ℤ (pos 56)) ∷ []) }
-    ensures under_a_cast { let frame : Frame = record {
-      schema = (codes "a", Integer true 8) ∷ (codes "b", Integer true 32) ∷ [];
-      rows = (IntValue (pos 1) ∷ IntValue (pos 10) ∷ []) ∷ (NullValue ∷ IntValue (pos 20) ∷ []) ∷ (IntValue (pos 100) ∷ IntValue (pos 200) ∷ []) ∷ [];
-    } in
-        let a = node (ColumnOp (codes "a")) no_more in
-        let b = node (ColumnOp (codes "b")) no_more in
-        let sum = node (BinaryOp Plus) (more a (more b no_more)) in
-        strict_run [] frame (node (CastOp (Integer true 64) NonStrict) (more sum no_more)) (0 ∷ 1 ∷ 2 ∷ []) ≡ Stuck }
-    ensures fault { let frame : Frame = record {
-      schema = (codes "a", Integer true 8) ∷ (codes "b", Integer true 32) ∷ [];
-      rows = (IntValue (pos 1) ∷ IntValue (pos 10) ∷ []) ∷ (NullValue ∷ IntValue (pos 20) ∷ []) ∷ (IntValue (pos 100) ∷ IntValue (pos 200) ∷ []) ∷ [];
-    } in
-        let a = node (ColumnOp (codes "a")) no_more in
-        let b = node (ColumnOp (codes "b")) no_more in
-        let narrow = node (CastOp (Integer true 8) Strict) (more b no_more) in
-        strict_run [] frame (node (BinaryOp Plus) (more a (more narrow no_more))) (0 ∷ 1 ∷ 2 ∷ []) ≡ Fault }
-    ensures unknown_column { let frame : Frame = record {
-      schema = (codes "a", Integer true 8) ∷ (codes "b", Integer true 32) ∷ [];
-      rows = (IntValue (pos 1) ∷ IntValue (pos 10) ∷ []) ∷ (NullValue ∷ IntValue (pos 20) ∷ []) ∷ (IntValue (pos 100) ∷ IntValue (pos 200) ∷ []) ∷ [];
-    } in
-        let c = node (ColumnOp (codes "c")) no_more in
-        strict_run [] frame c (0 ∷ 1 ∷ 2 ∷ []) ≡ Stuck }
+    ensures strict { Gives (runs table) (
+        (a, Done (number 1 ∷ null ∷ number 100 ∷ [])) ∷
+        (sum a a, Done (number 2 ∷ null ∷ negative 56 ∷ [])) ∷
+        (sum (cast_as NonStrict int32 a) b, Done (number 11 ∷ null ∷ number 300 ∷ [])) ∷
+        (sum a (cast_as Strict int8 b), Fault) ∷ []) }
+    ensures the_same_as_meant { let sum_with_its_cast = sum (cast_as NonStrict int32 a) b in
+        runs table sum_with_its_cast ≡ means table sum_with_its_cast }
+    ensures others { GivesAll (runs table) Stuck (sum a b ∷ cast_as NonStrict int64 (sum a b) ∷ c ∷ []) }
 {}
 
 /// A node over another number of operands than its own has no type and no meaning.
 pub fn nodes_of_wrong_numbers_of_operands()
-    ensures sum_of_none { let schema = (codes "a", Integer true 8) ∷ (codes "b", Integer true 32) ∷ (codes "u", Integer false 64) ∷ [] in
-        is_err (typing [] schema (node (BinaryOp Plus) no_more)) ≡ true }
-    ensures sum_of_one { let schema = (codes "a", Integer true 8) ∷ (codes "b", Integer true 32) ∷ (codes "u", Integer false 64) ∷ [] in
-        let a = node (ColumnOp (codes "a")) no_more in
-        is_err (typing [] schema (node (BinaryOp Plus) (more a no_more))) ≡ true }
-    ensures sum_of_three { let schema = (codes "a", Integer true 8) ∷ (codes "b", Integer true 32) ∷ (codes "u", Integer false 64) ∷ [] in
-        let a = node (ColumnOp (codes "a")) no_more in
-        is_err (typing [] schema (node (BinaryOp Plus) (more a (more a (more a no_more))))) ≡ true }
-    ensures cast_of_none { let schema = (codes "a", Integer true 8) ∷ (codes "b", Integer true 32) ∷ (codes "u", Integer false 64) ∷ [] in
-        is_err (typing [] schema (node (CastOp (Integer true 32) NonStrict) no_more)) ≡ true }
-    ensures cast_of_two { let schema = (codes "a", Integer true 8) ∷ (codes "b", Integer true 32) ∷ (codes "u", Integer false 64) ∷ [] in
-        let a = node (ColumnOp (codes "a")) no_more in
-        is_err (typing [] schema (node (CastOp (Integer true 32) NonStrict) (more a (more a no_more)))) ≡ true }
-    ensures column_of_one { let schema = (codes "a", Integer true 8) ∷ (codes "b", Integer true 32) ∷ (codes "u", Integer false 64) ∷ [] in
-        let a = node (ColumnOp (codes "a")) no_more in
-        is_err (typing [] schema (node (ColumnOp (codes "a")) (more a no_more))) ≡ true }
-    ensures meaning_of_one { let frame : Frame = record {
-      schema = (codes "a", Integer true 8) ∷ (codes "b", Integer true 32) ∷ [];
-      rows = (IntValue (pos 1) ∷ IntValue (pos 10) ∷ []) ∷ (NullValue ∷ IntValue (pos 20) ∷ []) ∷ (IntValue (pos 100) ∷ IntValue (pos 200) ∷ []) ∷ [];
-    } in
-        let a = node (ColumnOp (codes "a")) no_more in
-        meaning [] frame (node (BinaryOp Plus) (more a no_more)) (0 ∷ 1 ∷ 2 ∷ []) ≡ Stuck }
-    ensures meaning_of_two { let frame : Frame = record {
-      schema = (codes "a", Integer true 8) ∷ (codes "b", Integer true 32) ∷ [];
-      rows = (IntValue (pos 1) ∷ IntValue (pos 10) ∷ []) ∷ (NullValue ∷ IntValue (pos 20) ∷ []) ∷ (IntValue (pos 100) ∷ IntValue (pos 200) ∷ []) ∷ [];
-    } in
-        let a = node (ColumnOp (codes "a")) no_more in
-        meaning [] frame (node (CastOp (Integer true 32) NonStrict) (more a (more a no_more))) (0 ∷ 1 ∷ 2 ∷ [])
-        ≡ Stuck }
+    ensures types { let operator = BinaryOp Plus in
+        let cast = CastOp int32 NonStrict in
+        GivesAll (λ tree. is_err (typing [] schema_abu tree)) true (
+        node operator no_more ∷
+        node operator (more a no_more) ∷
+        node operator (more a (more a (more a no_more))) ∷
+        node cast no_more ∷
+        node cast (more a (more a no_more)) ∷
+        node (ColumnOp (codes "a")) (more a no_more) ∷ []) }
+    ensures meanings { GivesAll (means table) Stuck (
+        node (BinaryOp Plus) (more a no_more) ∷ node (CastOp int32 NonStrict) (more a (more a no_more)) ∷ []) }
 {}
 
 /// Columns of one length have it, one of a single value the other's, and other lengths none.
 pub fn common_lengths()
-    ensures equal { common_length 3 3 ≡ Some 3 }
-    ensures one_on_the_left { common_length 1 4 ≡ Some 4 }
-    ensures one_on_the_right { common_length 4 1 ≡ Some 4 }
-    ensures unequal { common_length 2 3 ≡ None }
-    ensures no_rows { common_length 0 0 ≡ Some 0 }
-    ensures one_beside_no_rows { common_length 1 0 ≡ Some 0 }
-    ensures no_rows_beside_one { common_length 0 1 ≡ Some 0 }
-    ensures no_rows_beside_two { common_length 0 2 ≡ None }
+    ensures lengths { GivesOfTwo common_length (
+        (3, 3, Some 3) ∷ (1, 4, Some 4) ∷ (4, 1, Some 4) ∷ (2, 3, None) ∷
+        (0, 0, Some 0) ∷ (1, 0, Some 0) ∷ (0, 1, Some 0) ∷ (0, 2, None) ∷ []) }
 {}
 
 /// A column of one value is repeated beside a longer one, and to nothing beside one without values.
 pub fn columns_side_by_side()
-    ensures repeated { stretched 3 (IntValue (pos 5) ∷ [])
-        ≡ IntValue (pos 5) ∷ IntValue (pos 5) ∷ IntValue (pos 5) ∷ [] }
-    ensures to_nothing { stretched 0 (IntValue (pos 5) ∷ []) ≡ [] }
-    ensures as_long { stretched 2 (IntValue (pos 5) ∷ IntValue (pos 6) ∷ [])
-        ≡ IntValue (pos 5) ∷ IntValue (pos 6) ∷ [] }
-    ensures equal { operator_values Plus (Integer true 8) (Integer true 8) (IntValue (pos 1) ∷ IntValue (pos 2) ∷ []) (IntValue (pos 10) ∷ IntValue (pos 20) ∷ [])
-        ≡ Done (IntValue (pos 11) ∷ IntValue (pos 22) ∷ []) }
-    ensures one_on_the_left { operator_values Plus (Integer true 8) (Integer true 8) (IntValue (pos 1) ∷ []) (IntValue (pos 10) ∷ NullValue ∷ IntValue (pos 127) ∷ [])
-        ≡ Done (IntValue (pos 11) ∷ NullValue ∷ IntValue (neg_ℤ (pos 128)) ∷ []) }
-    ensures one_on_the_right { operator_values Plus (Integer true 8) (Integer true 8) (IntValue (pos 1) ∷ IntValue (pos 2) ∷ []) (NullValue ∷ [])
-        ≡ Done (NullValue ∷ NullValue ∷ []) }
-    ensures one_beside_none { operator_values Plus (Integer true 8) (Integer true 8) (IntValue (pos 1) ∷ []) ([]) ≡ Done [] }
-    ensures unequal { operator_values Plus (Integer true 8) (Integer true 8) (IntValue (pos 1) ∷ IntValue (pos 2) ∷ []) (IntValue (pos 1) ∷ IntValue (pos 2) ∷ IntValue (pos 3) ∷ [])
-        ≡ Fault }
+    ensures stretched { GivesOfTwo stretched (
+        (3, number 5 ∷ [], number 5 ∷ number 5 ∷ number 5 ∷ []) ∷
+        (0, number 5 ∷ [], []) ∷
+        (2, number 5 ∷ number 6 ∷ [], number 5 ∷ number 6 ∷ []) ∷ []) }
+    ensures sums { GivesOfTwo (operator_values Plus int8 int8) (
+        (number 1 ∷ number 2 ∷ [], number 10 ∷ number 20 ∷ [], Done (number 11 ∷ number 22 ∷ [])) ∷
+        (number 1 ∷ [], number 10 ∷ null ∷ number 127 ∷ [], Done (number 11 ∷ null ∷ negative 128 ∷ [])) ∷
+        (number 1 ∷ number 2 ∷ [], null ∷ [], Done (null ∷ null ∷ [])) ∷
+        (number 1 ∷ [], [], Done []) ∷
+        (number 1 ∷ number 2 ∷ [], number 1 ∷ number 2 ∷ number 3 ∷ [], Fault) ∷ []) }
 {}
 
 /// Values of a type fit it, and there is one alone where there are not many.
 pub fn values_of_a_type()
-    ensures many { let typed : Typed = record { type = Integer true 8; many = true } in
-        AreOf typed (IntValue (pos 1) ∷ NullValue ∷ IntValue (pos 127) ∷ []) }
-    ensures many_of_none { let typed : Typed = record { type = Integer true 8; many = true } in
-        AreOf typed ([]) }
-    ensures one { let typed : Typed = record { type = Integer true 8; many = false } in
-        AreOf typed (IntValue (pos 5) ∷ []) }
-    ensures one_too_great { let typed : Typed = record { type = Integer true 8; many = false } in
-        ¬ (AreOf typed (IntValue (pos 128) ∷ [])) }
-    ensures last_too_great { let typed : Typed = record { type = Integer true 8; many = true } in
-        ¬ (AreOf typed (IntValue (pos 1) ∷ IntValue (pos 128) ∷ [])) }
-    ensures two_of_one { let typed : Typed = record { type = Integer true 8; many = false } in
-        ¬ (AreOf typed (IntValue (pos 1) ∷ IntValue (pos 2) ∷ [])) }
-    ensures none_of_one { let typed : Typed = record { type = Integer true 8; many = false } in
-        ¬ (AreOf typed ([])) }
+    ensures of_many { let typed : Typed = record { type = int8; many = true } in
+        AllByRecursion (AreOf typed) ((number 1 ∷ null ∷ number 127 ∷ []) ∷ [] ∷ []) }
+    ensures not_of_many { let typed : Typed = record { type = int8; many = true } in
+        AllByRecursion (λ values. ¬ (AreOf typed values)) ((number 1 ∷ number 128 ∷ []) ∷ (number 1 ∷ yes ∷ []) ∷ []) }
+    ensures of_one { let typed : Typed = record { type = int8; many = false } in
+        AreOf typed (number 5 ∷ []) }
+    ensures not_of_one { let typed : Typed = record { type = int8; many = false } in
+        AllByRecursion (λ values. ¬ (AreOf typed values)) ((number 128 ∷ []) ∷ (number 1 ∷ number 2 ∷ []) ∷ [] ∷ []) }
     ensures truths { let typed : Typed = record { type = Truth; many = true } in
-        AreOf typed (TruthValue true ∷ NullValue ∷ TruthValue false ∷ []) }
-    ensures number_among_truths { let typed : Typed = record { type = Truth; many = true } in
-        ¬ (AreOf typed (TruthValue true ∷ IntValue (pos 1) ∷ [])) }
-    ensures truth_among_numbers { let typed : Typed = record { type = Integer true 8; many = true } in
-        ¬ (AreOf typed (IntValue (pos 1) ∷ TruthValue true ∷ [])) }
+        AreOf typed (yes ∷ null ∷ no ∷ []) × ¬ (AreOf typed (yes ∷ number 1 ∷ [])) }
 {}

@@ -1,72 +1,51 @@
-//! Expressions that are one, and what they are hashed by.
+//! Expressions that are one.
 
-ghost use Rattle.std.specs.Prelude.{◌≡◌, [], ◌∷◌, map, pos, neg_ℤ, codes, nat_eq, true, false};
-ghost use Rattle.std.specs.Hash.{le_bytes};
-ghost use Rattle.plan_types.specs.Types.{Truth, Integer, ListType, Untyped};
-ghost use Rattle.plan_types.specs.Values.{NullValue, TruthValue, IntValue, ListValue, no_value};
+ghost use Rattle.std.specs.Prelude.{◌≡◌, ℕ, [], ◌∷◌, pos, neg_ℤ, codes, nat_eq, true, false};
+ghost use Rattle.plan_types.specs.Types.{Truth, Untyped};
 ghost use Rattle.plan_types.specs.declared.dtype.CastOptions.TheVariants.{Strict, NonStrict, Overflowing};
 ghost use Rattle.plan_types.specs.declared.dtype.TimeUnit.TheVariants.{Nanoseconds, Microseconds};
 ghost use Rattle.plan_dsl.specs.declared.literal.LiteralValue.TheVariants.{Null, Boolean, String, Int, Int8, Int16, UInt8, Date, Time, DateTime, Duration};
 ghost use Rattle.plan_dsl.specs.declared.operator.Operator.TheVariants.{Eq, EqValidity, Plus, And, Or, LogicalAnd, LogicalOr};
 ghost use Rattle.plan_dsl.specs.Trees.{node, no_more, more};
 ghost use Rattle.plan_dsl.specs.Ops.{ColumnOp, LiteralOp, BinaryOp, CastOp};
-ghost use Rattle.plan_dsl.specs.SameExpressions.{same_literal, same_op, same_tree, op_writes, tree_writes};
+ghost use Rattle.plan_dsl.specs.SameExpressions.{same_literal, same_op, same_tree};
+ghost use Rattle.plan_dsl.specs.Samples.{Gives, GivesAll, int8, uint8, null, yes, number, a, b, typed_literal, binary, sum, cast_as};
 
 /// Two literals are one where their types and their values are.
 pub fn same_literals()
-    ensures number { map (same_literal (Int8 (pos 1))) (Int8 (pos 1) ∷ Int8 (neg_ℤ (pos 1)) ∷ Int16 (pos 1) ∷ UInt8 1 ∷ Int (pos 1) ∷ Date (pos 1) ∷ Time (pos 1) ∷ Boolean true ∷ Null ∷ [])
-        ≡ true ∷ false ∷ false ∷ false ∷ false ∷ false ∷ false ∷ false ∷ false ∷ [] }
-    ensures untyped { map (same_literal (Int (pos 1))) (Int (pos 1) ∷ Int (pos 2) ∷ Int8 (pos 1) ∷ []) ≡ true ∷ false ∷ false ∷ [] }
-    ensures units { map (same_literal (DateTime (pos 1) Microseconds)) (DateTime (pos 1) Microseconds ∷ DateTime (pos 2) Microseconds ∷ DateTime (pos 1) Nanoseconds ∷ Duration (pos 1) Microseconds ∷ [])
-        ≡ true ∷ false ∷ false ∷ false ∷ [] }
-    ensures text { map (same_literal (String (codes "1"))) (String (codes "1") ∷ String (codes "11") ∷ String (codes "") ∷ Int (pos 1) ∷ Null ∷ []) ≡ true ∷ false ∷ false ∷ false ∷ false ∷ [] }
-    ensures truth { map (same_literal (Boolean true)) (Boolean true ∷ Boolean false ∷ Null ∷ []) ≡ true ∷ false ∷ false ∷ [] }
-    ensures null { map (same_literal Null) (Null ∷ Boolean false ∷ Int (pos 0) ∷ String [] ∷ []) ≡ true ∷ false ∷ false ∷ false ∷ [] }
+    ensures one { GivesAll (λ literal. same_literal literal literal) true (
+        Int8 (pos 1) ∷ Int (pos 1) ∷ DateTime (pos 1) Microseconds ∷ String (codes "1") ∷ Boolean true ∷ Null ∷ []) }
+    ensures number { GivesAll (same_literal (Int8 (pos 1))) false (
+        Int8 (neg_ℤ (pos 1)) ∷ Int16 (pos 1) ∷ UInt8 1 ∷ Int (pos 1) ∷ Date (pos 1) ∷ Time (pos 1) ∷ Boolean true ∷ Null ∷ []) }
+    ensures untyped { GivesAll (same_literal (Int (pos 1))) false (Int (pos 2) ∷ Int8 (pos 1) ∷ []) }
+    ensures units { GivesAll (same_literal (DateTime (pos 1) Microseconds)) false (
+        DateTime (pos 2) Microseconds ∷ DateTime (pos 1) Nanoseconds ∷ Duration (pos 1) Microseconds ∷ []) }
+    ensures text { GivesAll (same_literal (String (codes "1"))) false (String (codes "11") ∷ String (codes "") ∷ Int (pos 1) ∷ Null ∷ []) }
+    ensures truth { GivesAll (same_literal (Boolean true)) false (Boolean false ∷ Null ∷ []) }
+    ensures null { GivesAll (same_literal Null) false (Boolean false ∷ Int (pos 0) ∷ String [] ∷ []) }
 {}
 
 /// Two nodes do the same where they are of one kind, and all that they name is the same.
 pub fn same_nodes()
-    ensures columns { map (same_op (ColumnOp (codes "a"))) (ColumnOp (codes "a") ∷ ColumnOp (codes "b") ∷ ColumnOp (codes "aa") ∷ ColumnOp [] ∷ []) ≡ true ∷ false ∷ false ∷ false ∷ [] }
-    ensures operators { map (same_op (BinaryOp And)) (BinaryOp And ∷ BinaryOp LogicalAnd ∷ BinaryOp Or ∷ []) ≡ true ∷ false ∷ false ∷ [] }
-    ensures comparisons { map (same_op (BinaryOp Eq)) (BinaryOp Eq ∷ BinaryOp EqValidity ∷ BinaryOp LogicalOr ∷ []) ≡ true ∷ false ∷ false ∷ [] }
-    ensures casts { map (same_op (CastOp (Integer true 8) Strict)) (CastOp (Integer true 8) Strict ∷ CastOp (Integer true 8) NonStrict ∷ CastOp (Integer true 8) Overflowing ∷ CastOp (Integer false 8) Strict ∷ CastOp Truth Strict ∷ [])
-        ≡ true ∷ false ∷ false ∷ false ∷ false ∷ [] }
-    ensures literals { map (same_op (LiteralOp (Integer true 8) (IntValue (pos 1)))) (LiteralOp (Integer true 8) (IntValue (pos 1)) ∷ LiteralOp (Integer true 8) (IntValue (pos 2)) ∷ LiteralOp (Integer true 8) NullValue ∷ LiteralOp (Untyped (pos 1)) (IntValue (pos 1)) ∷ [])
-        ≡ true ∷ false ∷ false ∷ false ∷ [] }
-    ensures other_kind { map (same_op (BinaryOp Plus)) (ColumnOp (codes "+") ∷ LiteralOp Truth (TruthValue true) ∷ CastOp Truth Strict ∷ []) ≡ false ∷ false ∷ false ∷ [] }
+    ensures one { GivesAll (λ op. same_op op op) true (
+        ColumnOp (codes "a") ∷ BinaryOp And ∷ BinaryOp Eq ∷ CastOp int8 Strict ∷ LiteralOp int8 (number 1) ∷ []) }
+    ensures columns { GivesAll (same_op (ColumnOp (codes "a"))) false (ColumnOp (codes "b") ∷ ColumnOp (codes "aa") ∷ ColumnOp [] ∷ []) }
+    ensures operators { GivesAll (same_op (BinaryOp And)) false (BinaryOp LogicalAnd ∷ BinaryOp Or ∷ []) }
+    ensures comparisons { GivesAll (same_op (BinaryOp Eq)) false (BinaryOp EqValidity ∷ BinaryOp LogicalOr ∷ []) }
+    ensures casts { GivesAll (same_op (CastOp int8 Strict)) false (CastOp int8 NonStrict ∷ CastOp int8 Overflowing ∷ CastOp uint8 Strict ∷ CastOp Truth Strict ∷ []) }
+    ensures literals { GivesAll (same_op (LiteralOp int8 (number 1))) false (LiteralOp int8 (number 2) ∷ LiteralOp int8 null ∷ LiteralOp (Untyped (pos 1)) (number 1) ∷ []) }
+    ensures other_kind { GivesAll (same_op (BinaryOp Plus)) false (ColumnOp (codes "+") ∷ LiteralOp Truth yes ∷ CastOp Truth Strict ∷ []) }
 {}
 
 /// Two expressions are one where their nodes do the same in the same places.
 pub fn same_expressions()
-    ensures sums { let a = node (ColumnOp (codes "a")) no_more in
-        let b = node (ColumnOp (codes "b")) no_more in
-        map (same_tree same_op (node (BinaryOp Plus) (more a (more b no_more))))
-        (node (BinaryOp Plus) (more a (more b no_more)) ∷ node (BinaryOp Plus) (more b (more a no_more)) ∷ node (BinaryOp Plus) (more a (more a no_more)) ∷ node (BinaryOp Or) (more a (more b no_more)) ∷ node (BinaryOp Plus) (more a no_more) ∷ a ∷ [])
-        ≡ true ∷ false ∷ false ∷ false ∷ false ∷ false ∷ [] }
-    ensures sides { let a = node (ColumnOp (codes "a")) no_more in
-        let sum = node (BinaryOp Plus) (more a (more a no_more)) in
-        same_tree same_op (node (BinaryOp Plus) (more sum (more a no_more))) (node (BinaryOp Plus) (more a (more sum no_more))) ≡ false }
-    ensures far_below { let one = node (LiteralOp (Integer true 8) (IntValue (pos 1))) no_more in
-        let two = node (LiteralOp (Integer true 8) (IntValue (pos 2))) no_more in
-        map (λ leaf. same_tree same_op (node (CastOp Truth Strict) (more (node (BinaryOp Plus) (more one (more leaf no_more))) no_more)) (node (CastOp Truth Strict) (more (node (BinaryOp Plus) (more one (more two no_more))) no_more))) (one ∷ two ∷ [])
-        ≡ false ∷ true ∷ [] }
-    ensures casts { let a = node (ColumnOp (codes "a")) no_more in
-        map (same_tree same_op (node (CastOp Truth Strict) (more a no_more))) (node (CastOp Truth Strict) (more a no_more) ∷ node (CastOp Truth NonStrict) (more a no_more) ∷ a ∷ []) ≡ true ∷ false ∷ false ∷ [] }
-    ensures other_trees { map (same_tree nat_eq (node 1 (more (node 2 no_more) no_more))) (node 1 (more (node 2 no_more) no_more) ∷ node 1 (more (node 3 no_more) no_more) ∷ node 1 no_more ∷ []) ≡ true ∷ false ∷ false ∷ [] }
-{}
-
-/// Each node is hashed before its children: the number of its kind, and then what it names.
-pub fn hashes_of_expressions()
-    ensures column { tree_writes op_writes (node (ColumnOp (codes "a")) no_more) ≡ (0 ∷ []) ∷ (97 ∷ []) ∷ (255 ∷ []) ∷ [] }
-    ensures sum { let a = node (ColumnOp (codes "a")) no_more in
-        let b = node (ColumnOp (codes "b")) no_more in
-        tree_writes op_writes (node (BinaryOp Plus) (more a (more b no_more)))
-        ≡ (2 ∷ []) ∷ (8 ∷ []) ∷ (0 ∷ []) ∷ (97 ∷ []) ∷ (255 ∷ []) ∷ (0 ∷ []) ∷ (98 ∷ []) ∷ (255 ∷ []) ∷ [] }
-    ensures cast { let a = node (ColumnOp (codes "a")) no_more in
-        tree_writes op_writes (node (CastOp (Integer true 8) NonStrict) (more a no_more))
-        ≡ (3 ∷ []) ∷ le_bytes 4 8 ∷ (1 ∷ []) ∷ (0 ∷ []) ∷ (97 ∷ []) ∷ (255 ∷ []) ∷ [] }
-    ensures truth { tree_writes op_writes (node (LiteralOp Truth (TruthValue true)) no_more) ≡ (1 ∷ []) ∷ le_bytes 4 1 ∷ (1 ∷ []) ∷ [] }
-    ensures list { op_writes (LiteralOp Truth (ListValue no_value)) ≡ (1 ∷ []) ∷ le_bytes 4 1 ∷ [] }
-    ensures cast_to_list { op_writes (CastOp (ListType (Integer true 8)) Strict) ≡ (3 ∷ []) ∷ le_bytes 4 13 ∷ le_bytes 4 8 ∷ (0 ∷ []) ∷ [] }
-    ensures untyped { op_writes (LiteralOp (Untyped (pos 5)) (IntValue (pos 5))) ≡ (1 ∷ []) ∷ le_bytes 4 12 ∷ le_bytes 16 5 ∷ le_bytes 16 5 ∷ [] }
+    ensures one { let far_below = cast_as Strict Truth (sum (typed_literal int8 (pos 1)) (typed_literal int8 (pos 2))) in
+        GivesAll (λ tree. same_tree same_op tree tree) true (sum a b ∷ cast_as Strict Truth a ∷ far_below ∷ []) }
+    ensures sums { GivesAll (same_tree same_op (sum a b)) false (sum b a ∷ sum a a ∷ binary Or a b ∷ node (BinaryOp Plus) (more a no_more) ∷ a ∷ []) }
+    ensures sides { same_tree same_op (sum (sum a a) a) (sum a (sum a a)) ≡ false }
+    ensures far_below { let one = typed_literal int8 (pos 1) in
+        same_tree same_op (cast_as Strict Truth (sum one one)) (cast_as Strict Truth (sum one (typed_literal int8 (pos 2)))) ≡ false }
+    ensures casts { GivesAll (same_tree same_op (cast_as Strict Truth a)) false (cast_as NonStrict Truth a ∷ a ∷ []) }
+    ensures other_trees { let under = λ (number : ℕ). node 1 (more (node number no_more) no_more) in
+        Gives (same_tree nat_eq (under 2)) ((under 2, true) ∷ (under 3, false) ∷ (node 1 no_more, false) ∷ []) }
 {}
