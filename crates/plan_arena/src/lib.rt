@@ -3,10 +3,8 @@
 
 pub mod aexpr;
 pub mod arena;
-pub mod examples;
+mod examples;
 pub mod expr_ir;
 pub mod ir;
 pub mod laws;
 pub mod plan;
-#[cfg(test)]
-mod tests;

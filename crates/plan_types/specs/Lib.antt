@@ -7,6 +7,7 @@ pub mod FrameViews
 pub mod Frames
 pub mod Outcomes
 pub mod Places
+pub mod Samples
 pub mod SchemaCalls
 pub mod Schemas
 pub mod Supertypes

@@ -9,13 +9,11 @@ pub mod column;
 pub mod common_type;
 pub mod dtype;
 pub mod error;
-pub mod examples;
+mod examples;
 pub mod field;
 pub mod frame;
 pub mod laws;
 pub mod schema;
 pub mod supertype;
-#[cfg(test)]
-mod tests;
 pub mod text;
 pub mod value;
