@@ -4,7 +4,11 @@ use Rattle.plan_types.specs.Types.{Ty, NullType, Truth, TextType, Integer, DateT
 use Rattle.plan_types.specs.Values.{Val, NullValue, TruthValue, IntValue, TextValue, ListValue, StructValue}
 use Rattle.plan_types.specs.ValueViews.{values_from}
 use Rattle.plan_types.specs.Schemas.{Name, Columns}
-use Rattle.plan_types.specs.Casts.{Converted, Gives, no_place, cast}
+use Rattle.plan_types.specs.Casts.{Converted, Gives, Fails, no_place, cast}
+use Rattle.plan_types.specs.Frames.{Row, Frame}
+use Rattle.plan_types.specs.declared.column.Column.{Column}
+use Rattle.plan_types.specs.declared.column.Values.{Values}
+use Rattle.plan_types.specs.declared.dtype.DataType.{DataType}
 use Rattle.plan_types.specs.declared.dtype.CastOptions.{CastOptions}
 use Rattle.plan_types.specs.declared.dtype.CastOptions.TheVariants.{Strict, NonStrict, Overflowing}
 use Rattle.plan_types.specs.declared.dtype.TimeUnit.{TimeUnit}
@@ -49,21 +53,21 @@ abbrev pub bare_types : TimeUnit → List Ty
 bare_types unit = integers ++ other_types unit
 
 -- types of structs: of two fields, of one, and of none
-abbrev pub ab_struct : Ty → Ty → Ty
-ab_struct left right = StructType (fields_from ((codes "a", left) ∷ (codes "b", right) ∷ []))
+abbrev pub struct_ab : Ty → Ty → Ty
+struct_ab left right = StructType (fields_from ((codes "a", left) ∷ (codes "b", right) ∷ []))
 
-abbrev pub a_struct : Ty → Ty
-a_struct type = StructType (fields_from ((codes "a", type) ∷ []))
+abbrev pub struct_a : Ty → Ty
+struct_a type = StructType (fields_from ((codes "a", type) ∷ []))
 
-abbrev pub no_struct : Ty
-no_struct = StructType (fields_from [])
+abbrev pub struct_none : Ty
+struct_none = StructType (fields_from [])
 
 -- types with parts
 abbrev pub inner_types : List Ty
 inner_types = NullType ∷ Truth ∷ Integer true 8 ∷ TextType ∷ DateType ∷ DatetimeType Nanoseconds ∷ []
 
 abbrev pub nested_types : List Ty
-nested_types = no_struct ∷ map ListType inner_types ++ map a_struct inner_types
+nested_types = struct_none ∷ map ListType inner_types ++ map struct_a inner_types
 
 -- types of numbers that are written without one
 abbrev pub untyped : List Ty
@@ -79,10 +83,107 @@ distinct_types =
     types Nanoseconds
     ++ DatetimeType Microseconds ∷ DatetimeType Milliseconds ∷ DurationType Microseconds ∷ DurationType Milliseconds ∷ []
     ++ Untyped (pos 6) ∷ ListType (Integer true 16) ∷ ListType (ListType (Integer true 8)) ∷ ListType (DatetimeType Milliseconds) ∷ []
-    ++ a_struct (Integer false 8) ∷ ab_struct (Integer true 8) (ListType DateType) ∷ ab_struct (Integer true 8) (Integer true 8) ∷ []
+    ++ struct_a (Integer false 8) ∷ struct_ab (Integer true 8) (ListType DateType) ∷ struct_ab (Integer true 8) (Integer true 8) ∷ []
     ++ map (λ names. StructType (fields_from (map (λ name. (name, Integer true 8)) names)))
     ((codes "a" ∷ codes "c" ∷ []) ∷ (codes "a" ∷ codes "B" ∷ []) ∷ (codes "a" ∷ codes "a" ∷ []) ∷ (codes "b" ∷ codes "a" ∷ []) ∷ [])
 
 -- of two units the coarser, for each pair of units
 abbrev pub coarser_units : List (List TimeUnit)
 coarser_units = units ∷ (Microseconds ∷ Microseconds ∷ Milliseconds ∷ []) ∷ map (λ unit. Milliseconds) units ∷ []
+
+-- lists and structs of these values
+abbrev pub list_value : List Val → Val
+list_value values = ListValue (values_from values)
+
+abbrev pub struct_value : List Val → Val
+struct_value values = StructValue (values_from values)
+
+-- texts
+abbrev pub text_values : List Val
+text_values = map (λ text. TextValue (codes text)) ("" ∷ "1" ∷ "5" ∷ "a" ∷ "ab" ∷ "ba" ∷ "true" ∷ [])
+
+-- values without parts, and values with parts, of which no two are one
+abbrev pub bare_values : List Val
+bare_values = NullValue ∷ TruthValue true ∷ TruthValue false ∷ map IntValue (minus 1 ∷ pos 0 ∷ pos 1 ∷ pos 2 ∷ pos 5 ∷ []) ++ text_values
+
+abbrev pub list_values : List Val
+list_values =
+    map list_value ([] ∷ (NullValue ∷ []) ∷ (IntValue (pos 1) ∷ []) ∷ (IntValue (pos 1) ∷ NullValue ∷ []) ∷ (IntValue (pos 1) ∷ IntValue (pos 0) ∷ []) ∷ (NullValue ∷ IntValue (pos 1) ∷ []) ∷ [])
+
+abbrev pub distinct_values : List Val
+distinct_values =
+    bare_values
+    ++ list_values
+    ++ map list_value ((IntValue (pos 1) ∷ TextValue (codes "x") ∷ []) ∷ (list_value (TruthValue true ∷ []) ∷ []) ∷ (list_value (TruthValue false ∷ []) ∷ []) ∷ [])
+    ++ map struct_value ([] ∷ (IntValue (pos 1) ∷ TextValue (codes "x") ∷ []) ∷ (IntValue (pos 1) ∷ TextValue (codes "y") ∷ []) ∷ [])
+
+-- a list of structs of a list, in which the type or the value stands
+abbrev pub deep_type : Ty → Ty
+deep_type type = ListType (struct_a (ListType type))
+
+abbrev pub deep_value : Val → Val
+deep_value value = list_value (struct_value (list_value (IntValue (pos 1) ∷ value ∷ []) ∷ []) ∷ NullValue ∷ [])
+
+-- in any way to cast, values of the first type become the last ones in the second
+abbrev pub CastsValues : List (Val × Ty × Ty × Val) → Type 0
+CastsValues cases = (options : CastOptions) → map (λ c. cast c.0 c.1 c.2 options) cases ≡ map (λ c. Gives c.3) cases
+
+-- a strict cast fails, one that isn't strict gives the first of the last two values, and one that overflows the second
+abbrev pub FailsWhereStrict : List (Val × Ty × Ty × Val × Val) → Type 0
+FailsWhereStrict cases = map (λ c. map (cast c.0 c.1 c.2) modes) cases ≡ map (λ c. Fails ∷ Gives c.3 ∷ Gives c.4 ∷ []) cases
+
+-- a number, or what has no place in the target
+abbrev pub number_or_none : CastOptions → Option ℤ → Converted
+number_or_none options None = no_place options
+number_or_none options (Some number) = Gives (IntValue number)
+
+-- in any way to cast from the one type to the other, numbers become others or have no place
+abbrev pub CastsNumbers : Ty → Ty → List (ℤ × Option ℤ) → Type 0
+CastsNumbers from target cases = (options : CastOptions) → map (λ c. cast (IntValue c.0) from target options) cases ≡ map (λ c. number_or_none options c.1) cases
+
+-- the same of texts, each beside the type that it is cast to
+abbrev pub ReadsNumbers : List (List ℕ × Ty × Option ℤ) → Type 0
+ReadsNumbers cases = (options : CastOptions) → map (λ c. cast (TextValue c.0) TextType c.1 options) cases ≡ map (λ c. number_or_none options c.2) cases
+
+-- numbers of moments or spans in a unit, and what they are in another one
+abbrev pub unit_cases : List (TimeUnit × TimeUnit × ℤ × Option ℤ)
+unit_cases =
+    (Nanoseconds, Nanoseconds, minus 1, Some (minus 1))
+    ∷ (Nanoseconds, Microseconds, pos 1999, Some (pos 1))
+    ∷ (Nanoseconds, Microseconds, minus 1001, Some (minus 2))
+    ∷ (Nanoseconds, Milliseconds, pos 1999999, Some (pos 1))
+    ∷ (Nanoseconds, Milliseconds, minus 1, Some (minus 1))
+    ∷ (Nanoseconds, Milliseconds, minus 1000000, Some (minus 1))
+    ∷ (Nanoseconds, Milliseconds, minus 1000001, Some (minus 2))
+    ∷ (Nanoseconds, Milliseconds, minus 9223372036854775808, Some (minus 9223372036855))
+    ∷ (Microseconds, Milliseconds, pos 1999, Some (pos 1))
+    ∷ (Microseconds, Milliseconds, minus 1, Some (minus 1))
+    ∷ (Microseconds, Nanoseconds, minus 7, Some (minus 7000))
+    ∷ (Microseconds, Nanoseconds, pos 9223372036854776, None)
+    ∷ (Milliseconds, Microseconds, minus 7, Some (minus 7000))
+    ∷ (Milliseconds, Microseconds, pos 9223372036854776, None)
+    ∷ (Milliseconds, Nanoseconds, pos 7, Some (pos 7000000))
+    ∷ (Milliseconds, Nanoseconds, pos 9223372036854, Some (pos 9223372036854000000))
+    ∷ (Milliseconds, Nanoseconds, pos 9223372036855, None)
+    ∷ (Milliseconds, Nanoseconds, minus 9223372036854, Some (minus 9223372036854000000))
+    ∷ (Milliseconds, Nanoseconds, minus 9223372036855, None)
+    ∷ []
+
+-- what types in those units are cast to
+abbrev pub CastsUnits : (TimeUnit → Ty) → Type 0
+CastsUnits type = (options : CastOptions) → map (λ c. cast (IntValue c.2) (type c.0) (type c.1) options) unit_cases ≡ map (λ c. number_or_none options c.3) unit_cases
+
+-- schemas of one column and of two
+abbrev pub schema_a : Ty → Columns
+schema_a type = (codes "a", type) ∷ []
+
+abbrev pub schema_ab : Ty → Ty → Columns
+schema_ab left right = (codes "a", left) ∷ (codes "b", right) ∷ []
+
+-- a frame of these columns and rows
+abbrev pub frame_with : Columns → List Row → Frame
+frame_with schema rows = record { schema = schema; rows = rows }
+
+-- a column of the code
+abbrev pub column_with : Name → DataType → Values → Column
+column_with name dtype values = record { name = name; dtype = dtype; values = values }

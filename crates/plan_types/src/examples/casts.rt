@@ -1,169 +1,168 @@
-//! Worked examples on casts: which there are, and those of null, truth values and integers.
+//! Worked examples on casts, and on the order of texts.
 #![tactic(auto, unfolding(crate::proofs::OnLiterals::texts_on_literals))]
 
-ghost use Rattle.std.specs.Prelude.{◌≡◌, [], ◌∷◌, pos, neg_ℤ, map, codes, true, false};
-ghost use Rattle.std.specs.List.{list_all, list_any};
-ghost use Rattle.plan_types.specs.Types.{Untyped, ty};
-ghost use Rattle.plan_types.specs.Values.{NullValue, TruthValue, IntValue, TextValue};
+ghost use Rattle.std.specs.Prelude.{◌≡◌, ◌++◌, ◌||◌, ℕ, List, [], ◌∷◌, pos, map, codes, Some, None, true, false};
+ghost use Rattle.std.specs.List.{filter, list_all, list_any};
+ghost use Rattle.std.specs.Ordering.{nat_cmp};
+ghost use Rattle.std.specs.Cmp.Lexicographic.{slice_cmp};
+ghost use Rattle.std.specs.declared.cmp.Ordering.TheVariants.{Less, Equal, Greater};
+ghost use Rattle.plan_types.specs.Types.{Ty, NullType, Truth, TextType, DateType, TimeType, DatetimeType, DurationType, ListType, StructType, Untyped, fields_from, ty};
+ghost use Rattle.plan_types.specs.Values.{Val, NullValue, TruthValue, IntValue, TextValue};
 ghost use Rattle.plan_types.specs.Casts.{Gives, Fails, can_cast, cast, wrapped, number_of, is_nonzero, no_place};
+ghost use Rattle.plan_types.specs.Samples.{Maps, MapsPairs, CastsNumbers, CastsUnits, CastsValues, FailsWhereStrict, ReadsNumbers, struct_a, struct_ab, bare_types, deep_type, deep_value, integers, list_value, minus, modes, nested_types, struct_none, struct_value, times, types, unsigned_integers, untyped};
 ghost use Rattle.plan_types.specs.declared.dtype.CastOptions.{CastOptions};
-ghost use Rattle.plan_types.specs.declared.dtype.TimeUnit.{TimeUnit};
 ghost use Rattle.plan_types.specs.declared.dtype.CastOptions.TheVariants.{Strict, NonStrict, Overflowing};
-ghost use Rattle.plan_types.specs.declared.dtype.TimeUnit.TheVariants.{Nanoseconds, Milliseconds};
-ghost use Rattle.plan_types.specs.declared.dtype.DataType.TheVariants.{Null, Boolean, Int8, Int16, Int32, Int64, UInt8, UInt16, UInt32, UInt64, String, Date, Time, Datetime, Duration};
+ghost use Rattle.plan_types.specs.declared.dtype.TimeUnit.{TimeUnit};
+ghost use Rattle.plan_types.specs.declared.dtype.TimeUnit.TheVariants.{Nanoseconds, Microseconds, Milliseconds};
+ghost use Rattle.plan_types.specs.declared.dtype.DataType.TheVariants.{Int8, Int16, Int32, Int64, UInt8, UInt32, UInt64};
 
-/// Which types there is a cast to: each type to itself among them.
-pub fn cast_pairs()
-    ensures own_type { (unit : TimeUnit) → list_all (λ type. can_cast (ty type) (ty type)) (Null ∷ Boolean ∷ Int8 ∷ Int16 ∷ Int32 ∷ Int64 ∷ UInt8 ∷ UInt16 ∷ UInt32 ∷ UInt64 ∷ String ∷ Date ∷ Time ∷ Datetime unit ∷ Duration unit ∷ []) ≡ true }
-    ensures null { (unit : TimeUnit) → list_all (can_cast (ty Null)) (map ty (Null ∷ Boolean ∷ Int8 ∷ Int16 ∷ Int32 ∷ Int64 ∷ UInt8 ∷ UInt16 ∷ UInt32 ∷ UInt64 ∷ String ∷ Date ∷ Time ∷ Datetime unit ∷ Duration unit ∷ [])) ≡ true }
-    ensures int8 { list_all (can_cast (ty Int8)) (map ty (Int8 ∷ Int16 ∷ Int32 ∷ Int64 ∷ UInt8 ∷ UInt16 ∷ UInt32 ∷ UInt64 ∷ Boolean ∷ String ∷ [])) ≡ true }
-    ensures int16 { list_all (can_cast (ty Int16)) (map ty (Int8 ∷ Int16 ∷ Int32 ∷ Int64 ∷ UInt8 ∷ UInt16 ∷ UInt32 ∷ UInt64 ∷ Boolean ∷ String ∷ [])) ≡ true }
-    ensures int32 { list_all (can_cast (ty Int32)) (map ty (Int8 ∷ Int16 ∷ Int32 ∷ Int64 ∷ UInt8 ∷ UInt16 ∷ UInt32 ∷ UInt64 ∷ Boolean ∷ String ∷ [])) ≡ true }
-    ensures int64 { list_all (can_cast (ty Int64)) (map ty (Int8 ∷ Int16 ∷ Int32 ∷ Int64 ∷ UInt8 ∷ UInt16 ∷ UInt32 ∷ UInt64 ∷ Boolean ∷ String ∷ [])) ≡ true }
-    ensures uint8 { list_all (can_cast (ty UInt8)) (map ty (Int8 ∷ Int16 ∷ Int32 ∷ Int64 ∷ UInt8 ∷ UInt16 ∷ UInt32 ∷ UInt64 ∷ Boolean ∷ String ∷ [])) ≡ true }
-    ensures uint16 { list_all (can_cast (ty UInt16)) (map ty (Int8 ∷ Int16 ∷ Int32 ∷ Int64 ∷ UInt8 ∷ UInt16 ∷ UInt32 ∷ UInt64 ∷ Boolean ∷ String ∷ [])) ≡ true }
-    ensures uint32 { list_all (can_cast (ty UInt32)) (map ty (Int8 ∷ Int16 ∷ Int32 ∷ Int64 ∷ UInt8 ∷ UInt16 ∷ UInt32 ∷ UInt64 ∷ Boolean ∷ String ∷ [])) ≡ true }
-    ensures uint64 { list_all (can_cast (ty UInt64)) (map ty (Int8 ∷ Int16 ∷ Int32 ∷ Int64 ∷ UInt8 ∷ UInt16 ∷ UInt32 ∷ UInt64 ∷ Boolean ∷ String ∷ [])) ≡ true }
-    ensures boolean { list_all (can_cast (ty Boolean)) (map ty (Int8 ∷ Int16 ∷ Int32 ∷ Int64 ∷ UInt8 ∷ UInt16 ∷ UInt32 ∷ UInt64 ∷ String ∷ [])) ≡ true }
-    ensures text { list_all (can_cast (ty String)) (map ty (Int8 ∷ Int16 ∷ Int32 ∷ Int64 ∷ UInt8 ∷ UInt16 ∷ UInt32 ∷ UInt64 ∷ [])) ≡ true }
-    ensures date { (unit : TimeUnit) → list_all (can_cast (ty Date)) (map ty (Datetime unit ∷ Int64 ∷ [])) ≡ true }
-    ensures time { can_cast (ty Time) (ty Int64) ≡ true }
-    ensures datetime { (unit other : TimeUnit) → list_all (can_cast (ty (Datetime unit))) (map ty (Date ∷ Datetime other ∷ Int64 ∷ [])) ≡ true }
-    ensures duration { (unit other : TimeUnit) → list_all (can_cast (ty (Duration unit))) (map ty (Duration other ∷ Int64 ∷ [])) ≡ true }
-    ensures times_of_numbers { (unit : TimeUnit) → list_all (can_cast (ty Int64)) (map ty (Date ∷ Time ∷ Datetime unit ∷ Duration unit ∷ [])) ≡ true }
+/// The types to which there is a cast, and no others: only null is cast to the type of null, only numbers of Int64 are
+/// cast to times, and nothing is cast to the type of a number without one, nor from it.
+pub fn types_that_are_cast_to()
+    ensures bare { (unit other : TimeUnit) → Maps (λ from. filter (can_cast from) (bare_types other)) ((NullType, bare_types other) ∷ (Truth, integers ++ Truth ∷ TextType ∷ [])
+        ∷ (TextType, integers ++ TextType ∷ []) ∷ (DateType, ty Int64 ∷ DateType ∷ DatetimeType other ∷ []) ∷ (TimeType, ty Int64 ∷ TimeType ∷ [])
+        ∷ (DatetimeType unit, ty Int64 ∷ DateType ∷ DatetimeType other ∷ []) ∷ (DurationType unit, ty Int64 ∷ DurationType other ∷ []) ∷ (ty Int64, integers ++ Truth ∷ TextType ∷ times other)
+        ∷ map (λ type. (type, integers ++ Truth ∷ TextType ∷ [])) (ty Int8 ∷ ty Int16 ∷ ty Int32 ∷ unsigned_integers)) }
+    ensures own_type { (unit : TimeUnit) → list_all (λ type. can_cast type type) (bare_types unit ++ nested_types ++ ListType (ListType NullType) ∷ []) ≡ true }
+    ensures untyped { (unit : TimeUnit) → list_any (λ number. list_any (λ type. can_cast type number || can_cast number type) (types unit)) untyped ≡ false }
 {}
 
-/// There is no other cast: only null is cast to the type of null, only numbers of Int64 are cast to times, and nothing is
-/// cast to the type of a number without one.
-pub fn pairs_without_a_cast()
-    ensures to_null { (unit : TimeUnit) → list_any (λ type. can_cast (ty type) (ty Null)) (Boolean ∷ Int8 ∷ Int16 ∷ Int32 ∷ Int64 ∷ UInt8 ∷ UInt16 ∷ UInt32 ∷ UInt64 ∷ String ∷ Date ∷ Time ∷ Datetime unit ∷ Duration unit ∷ []) ≡ false }
-    ensures to_untyped { (unit : TimeUnit) → list_any (λ type. can_cast (ty type) (Untyped (pos 5))) (Null ∷ Boolean ∷ Int8 ∷ Int16 ∷ Int32 ∷ Int64 ∷ UInt8 ∷ UInt16 ∷ UInt32 ∷ UInt64 ∷ String ∷ Date ∷ Time ∷ Datetime unit ∷ Duration unit ∷ []) ≡ false }
-    ensures from_untyped { (unit : TimeUnit) → list_any (can_cast (Untyped (pos 5))) (Untyped (pos 5) ∷ map ty (Null ∷ Boolean ∷ Int8 ∷ Int16 ∷ Int32 ∷ Int64 ∷ UInt8 ∷ UInt16 ∷ UInt32 ∷ UInt64 ∷ String ∷ Date ∷ Time ∷ Datetime unit ∷ Duration unit ∷ [])) ≡ false }
-    ensures boolean { (unit : TimeUnit) → list_any (can_cast (ty Boolean)) (map ty (Date ∷ Time ∷ Datetime unit ∷ Duration unit ∷ [])) ≡ false }
-    ensures text { (unit : TimeUnit) → list_any (can_cast (ty String)) (map ty (Boolean ∷ Date ∷ Time ∷ Datetime unit ∷ Duration unit ∷ [])) ≡ false }
-    ensures int8 { (unit : TimeUnit) → list_any (can_cast (ty Int8)) (map ty (Date ∷ Time ∷ Datetime unit ∷ Duration unit ∷ [])) ≡ false }
-    ensures int16 { (unit : TimeUnit) → list_any (can_cast (ty Int16)) (map ty (Date ∷ Time ∷ Datetime unit ∷ Duration unit ∷ [])) ≡ false }
-    ensures int32 { (unit : TimeUnit) → list_any (can_cast (ty Int32)) (map ty (Date ∷ Time ∷ Datetime unit ∷ Duration unit ∷ [])) ≡ false }
-    ensures uint8 { (unit : TimeUnit) → list_any (can_cast (ty UInt8)) (map ty (Date ∷ Time ∷ Datetime unit ∷ Duration unit ∷ [])) ≡ false }
-    ensures uint16 { (unit : TimeUnit) → list_any (can_cast (ty UInt16)) (map ty (Date ∷ Time ∷ Datetime unit ∷ Duration unit ∷ [])) ≡ false }
-    ensures uint32 { (unit : TimeUnit) → list_any (can_cast (ty UInt32)) (map ty (Date ∷ Time ∷ Datetime unit ∷ Duration unit ∷ [])) ≡ false }
-    ensures uint64 { (unit : TimeUnit) → list_any (can_cast (ty UInt64)) (map ty (Date ∷ Time ∷ Datetime unit ∷ Duration unit ∷ [])) ≡ false }
-    ensures date { (unit : TimeUnit) → list_any (can_cast (ty Date)) (map ty (Boolean ∷ Int8 ∷ Int16 ∷ Int32 ∷ UInt8 ∷ UInt16 ∷ UInt32 ∷ UInt64 ∷ String ∷ Time ∷ Duration unit ∷ [])) ≡ false }
-    ensures time { (unit : TimeUnit) → list_any (can_cast (ty Time)) (map ty (Boolean ∷ Int8 ∷ Int16 ∷ Int32 ∷ UInt8 ∷ UInt16 ∷ UInt32 ∷ UInt64 ∷ String ∷ Date ∷ Datetime unit ∷ Duration unit ∷ [])) ≡ false }
-    ensures datetime { (unit other : TimeUnit) → list_any (can_cast (ty (Datetime unit))) (map ty (Boolean ∷ Int8 ∷ Int16 ∷ Int32 ∷ UInt8 ∷ UInt16 ∷ UInt32 ∷ UInt64 ∷ String ∷ Time ∷ Duration other ∷ [])) ≡ false }
-    ensures duration { (unit other : TimeUnit) → list_any (can_cast (ty (Duration unit))) (map ty (Boolean ∷ Int8 ∷ Int16 ∷ Int32 ∷ UInt8 ∷ UInt16 ∷ UInt32 ∷ UInt64 ∷ String ∷ Date ∷ Time ∷ Datetime other ∷ [])) ≡ false }
+/// Lists are cast where their items are, and structs of as many fields where the fields are, by place, whatever the names.
+pub fn lists_and_structs_that_are_cast()
+    ensures lists { MapsPairs (λ from target. can_cast (ListType from) (ListType target)) ((ty Int8, TextType, true) ∷ (ty Int8, Truth, true) ∷ (NullType, ListType (ty Int8), true)
+        ∷ (ty Int8, DateType, false) ∷ (ty Int8, NullType, false) ∷ (ty Int8, ListType (ty Int8), false) ∷ (ty Int8, Untyped (pos 1), false) ∷ []) }
+    ensures null { map (can_cast NullType) (ListType (ty Int8) ∷ struct_none ∷ ListType (Untyped (pos 1)) ∷ []) ≡ true ∷ true ∷ false ∷ [] }
+    ensures from_lists { list_any (can_cast (ListType (ty Int8))) (ty Int8 ∷ TextType ∷ struct_none ∷ struct_a (ty Int8) ∷ NullType ∷ []) ≡ false }
+    ensures to_lists { list_any (λ type. can_cast type (ListType (ty Int8))) (ty Int8 ∷ TextType ∷ struct_none ∷ Untyped (pos 1) ∷ []) ≡ false }
+    ensures from_structs { list_any (can_cast (struct_a (ty Int8))) (ty Int8 ∷ TextType ∷ ListType (ty Int8) ∷ struct_none ∷ NullType ∷ []) ≡ false }
+    ensures by_place { can_cast (struct_ab (ty Int8) DateType) (StructType (fields_from ((codes "b", TextType) ∷ (codes "c", ty Int64) ∷ []))) ≡ true }
+    ensures structs { MapsPairs can_cast ((struct_ab (ty Int8) DateType, struct_ab (ty Int8) TextType, false) ∷ (struct_ab DateType (ty Int8), struct_ab TextType (ty Int8), false)
+        ∷ (struct_ab (ty Int8) (ty Int8), struct_a (ty Int8), false) ∷ (struct_a (ty Int8), struct_ab (ty Int8) NullType, false) ∷ []) }
 {}
 
-/// What has no place in the target fails where the cast is strict, and else is null. The examples of casts say
-/// `no_place options` for this.
+/// What has no place in the target fails where the cast is strict, and is else null; a number of an integer type that is
+/// cast to another keeps its low bits where the cast overflows. Null stays null in each cast.
 pub fn values_without_a_place()
-    ensures modes { map no_place (Strict ∷ NonStrict ∷ Overflowing ∷ []) ≡ Fails ∷ Gives NullValue ∷ Gives NullValue ∷ [] }
-    ensures text { map (cast (TextValue (codes "128")) (ty String) (ty Int8)) (Strict ∷ NonStrict ∷ Overflowing ∷ []) ≡ Fails ∷ Gives NullValue ∷ Gives NullValue ∷ [] }
-    ensures day { map (cast (IntValue (pos 2147483648)) (ty Int64) (ty Date)) (Strict ∷ NonStrict ∷ Overflowing ∷ []) ≡ Fails ∷ Gives NullValue ∷ Gives NullValue ∷ [] }
+    ensures modes { map no_place modes ≡ Fails ∷ Gives NullValue ∷ Gives NullValue ∷ [] }
+    ensures values { FailsWhereStrict ((TextValue (codes "128"), TextType, ty Int8, NullValue, NullValue) ∷ (IntValue (pos 2147483648), ty Int64, DateType, NullValue, NullValue)
+        ∷ (IntValue (pos 4294967301), ty Int64, DateType, NullValue, NullValue) ∷ (IntValue (pos 200), ty UInt8, ty Int8, NullValue, IntValue (minus 56))
+        ∷ (IntValue (minus 1), ty Int8, ty UInt8, NullValue, IntValue (pos 255)) ∷ (IntValue (minus 1), ty Int64, ty UInt64, NullValue, IntValue (pos 18446744073709551615))
+        ∷ (IntValue (minus 129), ty Int16, ty Int8, NullValue, IntValue (pos 127)) ∷ (IntValue (pos 18446744073709551615), ty UInt64, ty Int64, NullValue, IntValue (minus 1))
+        ∷ (IntValue (minus 2), ty Int8, ty UInt32, NullValue, IntValue (pos 4294967294)) ∷ (IntValue (pos 300), ty Int64, ty Int8, NullValue, IntValue (pos 44)) ∷ []) }
+    ensures null { (from target : Ty) (options : CastOptions) → cast NullValue from target options ≡ Gives NullValue }
 {}
 
-/// Null stays null in each cast.
-pub fn casts_of_null()
-    ensures to_null { (options : CastOptions) → cast NullValue (ty Null) (ty Null) options ≡ Gives NullValue }
-    ensures to_string { (options : CastOptions) → cast NullValue (ty Null) (ty String) options ≡ Gives NullValue }
-    ensures to_date { (options : CastOptions) → cast NullValue (ty Null) (ty Date) options ≡ Gives NullValue }
-    ensures to_time { (options : CastOptions) → cast NullValue (ty Null) (ty Time) options ≡ Gives NullValue }
-    ensures to_datetime { (options : CastOptions) → cast NullValue (ty Null) (ty (Datetime Nanoseconds)) options ≡ Gives NullValue }
-    ensures to_duration { (options : CastOptions) → cast NullValue (ty Null) (ty (Duration Milliseconds)) options ≡ Gives NullValue }
-    ensures to_boolean { (options : CastOptions) → cast NullValue (ty Null) (ty Boolean) options ≡ Gives NullValue }
-    ensures to_int8 { (options : CastOptions) → cast NullValue (ty Null) (ty Int8) options ≡ Gives NullValue }
-    ensures string_to_int8 { (options : CastOptions) → cast NullValue (ty String) (ty Int8) options ≡ Gives NullValue }
-    ensures int8_to_string { (options : CastOptions) → cast NullValue (ty Int8) (ty String) options ≡ Gives NullValue }
-    ensures boolean_to_string { (options : CastOptions) → cast NullValue (ty Boolean) (ty String) options ≡ Gives NullValue }
-    ensures date_to_datetime_in_nanoseconds { (options : CastOptions) → cast NullValue (ty Date) (ty (Datetime Nanoseconds)) options ≡ Gives NullValue }
-    ensures datetime_in_nanoseconds_to_date { (options : CastOptions) → cast NullValue (ty (Datetime Nanoseconds)) (ty Date) options ≡ Gives NullValue }
-    ensures datetime_in_nanoseconds_to_datetime_in_milliseconds { (options : CastOptions) → cast NullValue (ty (Datetime Nanoseconds)) (ty (Datetime Milliseconds)) options ≡ Gives NullValue }
-    ensures duration_in_milliseconds_to_duration_in_nanoseconds { (options : CastOptions) → cast NullValue (ty (Duration Milliseconds)) (ty (Duration Nanoseconds)) options ≡ Gives NullValue }
-    ensures time_to_int64 { (options : CastOptions) → cast NullValue (ty Time) (ty Int64) options ≡ Gives NullValue }
-    ensures int64_to_time { (options : CastOptions) → cast NullValue (ty Int64) (ty Time) options ≡ Gives NullValue }
+/// A number in the target's range is kept, and so is what already has the type. As a number false is 0 and true is 1, and
+/// each number but 0 is true.
+pub fn numbers_and_truth_values()
+    ensures kept { CastsValues ((IntValue (minus 128), ty Int64, ty Int8, IntValue (minus 128)) ∷ (IntValue (pos 255), ty Int64, ty UInt8, IntValue (pos 255)) ∷ (IntValue (pos 127), ty UInt8, ty Int8, IntValue (pos 127))
+        ∷ (IntValue (pos 127), ty Int8, ty Int8, IntValue (pos 127)) ∷ (IntValue (pos 7), Untyped (pos 7), ty Int8, IntValue (pos 7)) ∷ []) }
+    ensures truths { map number_of (false ∷ true ∷ []) ≡ pos 0 ∷ pos 1 ∷ [] }
+    ensures truths_to_integers { (options : CastOptions) → map (λ type. map (λ truth. cast (TruthValue truth) Truth type options) (false ∷ true ∷ [])) integers ≡ map (λ type. Gives (IntValue (pos 0)) ∷ Gives (IntValue (pos 1)) ∷ []) integers }
+    ensures nonzero { map is_nonzero (pos 0 ∷ pos 1 ∷ minus 1 ∷ pos 200 ∷ []) ≡ false ∷ true ∷ true ∷ true ∷ [] }
+    ensures to_truths { CastsValues ((IntValue (pos 0), ty Int64, Truth, TruthValue false) ∷ (IntValue (pos 1), ty Int64, Truth, TruthValue true) ∷ (IntValue (minus 1), ty Int64, Truth, TruthValue true) ∷ (IntValue (pos 200), ty Int64, Truth, TruthValue true)
+        ∷ (IntValue (pos 0), ty UInt8, Truth, TruthValue false) ∷ (IntValue (pos 2), ty UInt8, Truth, TruthValue true) ∷ (IntValue (pos 255), ty UInt8, Truth, TruthValue true) ∷ (IntValue (pos 256), ty Int64, Truth, TruthValue true)
+        ∷ (TruthValue false, Truth, Truth, TruthValue false) ∷ (TruthValue true, Truth, Truth, TruthValue true) ∷ []) }
 {}
 
-/// 200 as an Int8, whose greatest number is 127.
-pub fn casts_out_of_range()
-    ensures strict { cast (IntValue (pos 200)) (ty UInt8) (ty Int8) Strict ≡ Fails }
-    ensures not_strict { cast (IntValue (pos 200)) (ty UInt8) (ty Int8) NonStrict ≡ Gives NullValue }
-    ensures overflowing { cast (IntValue (pos 200)) (ty UInt8) (ty Int8) Overflowing ≡ Gives (IntValue (neg_ℤ (pos 56))) }
-    ensures negative { cast (IntValue (neg_ℤ (pos 1))) (ty Int8) (ty UInt8) Overflowing ≡ Gives (IntValue (pos 255)) }
-    ensures negative_strict { cast (IntValue (neg_ℤ (pos 1))) (ty Int64) (ty UInt64) Strict ≡ Fails }
-    ensures below_least { cast (IntValue (neg_ℤ (pos 129))) (ty Int16) (ty Int8) Overflowing ≡ Gives (IntValue (pos 127)) }
-    ensures all_bits { cast (IntValue (pos 18446744073709551615)) (ty UInt64) (ty Int64) Overflowing ≡ Gives (IntValue (neg_ℤ (pos 1))) }
-    ensures widened { cast (IntValue (neg_ℤ (pos 2))) (ty Int8) (ty UInt32) Overflowing ≡ Gives (IntValue (pos 4294967294)) }
-{}
-
-/// A number in the target's range is kept, and so are null and what already has the type.
-pub fn casts_that_keep()
-    ensures strict { cast (IntValue (neg_ℤ (pos 128))) (ty Int64) (ty Int8) Strict ≡ Gives (IntValue (neg_ℤ (pos 128))) }
-    ensures not_strict { cast (IntValue (pos 255)) (ty Int64) (ty UInt8) NonStrict ≡ Gives (IntValue (pos 255)) }
-    ensures overflowing { cast (IntValue (pos 127)) (ty UInt8) (ty Int8) Overflowing ≡ Gives (IntValue (pos 127)) }
-    ensures null_strict { cast NullValue (ty Int64) (ty Int8) Strict ≡ Gives NullValue }
-    ensures null_not_strict { cast NullValue (ty Int64) (ty Int8) NonStrict ≡ Gives NullValue }
-    ensures null_overflowing { cast NullValue (ty Int64) (ty Int8) Overflowing ≡ Gives NullValue }
-    ensures own_type { cast (IntValue (pos 127)) (ty Int8) (ty Int8) Strict ≡ Gives (IntValue (pos 127)) }
-    ensures null_of_own_type { cast NullValue (ty Int8) (ty Int8) Strict ≡ Gives NullValue }
-{}
-
-/// As a number false is 0 and true is 1, in each type and whatever the cast does with other numbers.
-pub fn casts_of_truth_values_to_integers()
-    ensures numbers { map number_of (false ∷ true ∷ []) ≡ pos 0 ∷ pos 1 ∷ [] }
-    ensures false_strict { map (λ type. cast (TruthValue false) (ty Boolean) (ty type) Strict) (Int8 ∷ Int16 ∷ Int32 ∷ Int64 ∷ [])
-        ≡ Gives (IntValue (pos 0)) ∷ Gives (IntValue (pos 0)) ∷ Gives (IntValue (pos 0)) ∷ Gives (IntValue (pos 0)) ∷ [] }
-    ensures true_strict { map (λ type. cast (TruthValue true) (ty Boolean) (ty type) Strict) (Int8 ∷ Int16 ∷ Int32 ∷ Int64 ∷ [])
-        ≡ Gives (IntValue (pos 1)) ∷ Gives (IntValue (pos 1)) ∷ Gives (IntValue (pos 1)) ∷ Gives (IntValue (pos 1)) ∷ [] }
-    ensures false_strict_unsigned { map (λ type. cast (TruthValue false) (ty Boolean) (ty type) Strict) (UInt8 ∷ UInt16 ∷ UInt32 ∷ UInt64 ∷ [])
-        ≡ Gives (IntValue (pos 0)) ∷ Gives (IntValue (pos 0)) ∷ Gives (IntValue (pos 0)) ∷ Gives (IntValue (pos 0)) ∷ [] }
-    ensures true_strict_unsigned { map (λ type. cast (TruthValue true) (ty Boolean) (ty type) Strict) (UInt8 ∷ UInt16 ∷ UInt32 ∷ UInt64 ∷ [])
-        ≡ Gives (IntValue (pos 1)) ∷ Gives (IntValue (pos 1)) ∷ Gives (IntValue (pos 1)) ∷ Gives (IntValue (pos 1)) ∷ [] }
-    ensures not_strict { map (λ truth. cast (TruthValue truth) (ty Boolean) (ty Int8) NonStrict) (false ∷ true ∷ [])
-        ≡ Gives (IntValue (pos 0)) ∷ Gives (IntValue (pos 1)) ∷ [] }
-    ensures overflowing { map (λ truth. cast (TruthValue truth) (ty Boolean) (ty UInt64) Overflowing) (false ∷ true ∷ [])
-        ≡ Gives (IntValue (pos 0)) ∷ Gives (IntValue (pos 1)) ∷ [] }
-    ensures null { map (cast NullValue (ty Boolean) (ty Int8)) (Strict ∷ NonStrict ∷ Overflowing ∷ [])
-        ≡ Gives NullValue ∷ Gives NullValue ∷ Gives NullValue ∷ [] }
-{}
-
-/// Each number but 0 is true, and a truth value stays as it is.
-pub fn casts_to_truth_values()
-    ensures nonzero { map is_nonzero (pos 0 ∷ pos 1 ∷ neg_ℤ (pos 1) ∷ pos 200 ∷ []) ≡ false ∷ true ∷ true ∷ true ∷ [] }
-    ensures strict { map (λ number. cast (IntValue number) (ty Int64) (ty Boolean) Strict) (pos 0 ∷ pos 1 ∷ neg_ℤ (pos 1) ∷ pos 200 ∷ [])
-        ≡ Gives (TruthValue false) ∷ Gives (TruthValue true) ∷ Gives (TruthValue true) ∷ Gives (TruthValue true) ∷ [] }
-    ensures not_strict { map (λ number. cast (IntValue number) (ty Int64) (ty Boolean) NonStrict) (pos 0 ∷ pos 1 ∷ neg_ℤ (pos 1) ∷ pos 200 ∷ [])
-        ≡ Gives (TruthValue false) ∷ Gives (TruthValue true) ∷ Gives (TruthValue true) ∷ Gives (TruthValue true) ∷ [] }
-    ensures overflowing { map (λ number. cast (IntValue number) (ty Int64) (ty Boolean) Overflowing) (pos 0 ∷ pos 1 ∷ neg_ℤ (pos 1) ∷ pos 200 ∷ [])
-        ≡ Gives (TruthValue false) ∷ Gives (TruthValue true) ∷ Gives (TruthValue true) ∷ Gives (TruthValue true) ∷ [] }
-    ensures unsigned { map (λ number. cast (IntValue number) (ty UInt8) (ty Boolean) Strict) (pos 0 ∷ pos 2 ∷ pos 255 ∷ [])
-        ≡ Gives (TruthValue false) ∷ Gives (TruthValue true) ∷ Gives (TruthValue true) ∷ [] }
-    ensures zero_low_bits { cast (IntValue (pos 256)) (ty Int64) (ty Boolean) Overflowing ≡ Gives (TruthValue true) }
-    ensures false_stays { map (cast (TruthValue false) (ty Boolean) (ty Boolean)) (Strict ∷ NonStrict ∷ Overflowing ∷ [])
-        ≡ Gives (TruthValue false) ∷ Gives (TruthValue false) ∷ Gives (TruthValue false) ∷ [] }
-    ensures true_stays { map (cast (TruthValue true) (ty Boolean) (ty Boolean)) (Strict ∷ NonStrict ∷ Overflowing ∷ [])
-        ≡ Gives (TruthValue true) ∷ Gives (TruthValue true) ∷ Gives (TruthValue true) ∷ [] }
-    ensures null { map (cast NullValue (ty Int64) (ty Boolean)) (Strict ∷ NonStrict ∷ Overflowing ∷ [])
-        ≡ Gives NullValue ∷ Gives NullValue ∷ Gives NullValue ∷ [] }
-    ensures null_of_own_type { map (cast NullValue (ty Boolean) (ty Boolean)) (Strict ∷ NonStrict ∷ Overflowing ∷ [])
-        ≡ Gives NullValue ∷ Gives NullValue ∷ Gives NullValue ∷ [] }
-{}
-
-/// The number of a type with the same low bits.
+/// The number of a type with the same low bits: those of moments and spans have 64, with a sign.
 pub fn numbers_that_wrap()
-    ensures int8_above { map (wrapped (ty Int8)) (pos 127 ∷ pos 128 ∷ pos 255 ∷ pos 256 ∷ [])
-        ≡ pos 127 ∷ neg_ℤ (pos 128) ∷ neg_ℤ (pos 1) ∷ pos 0 ∷ [] }
-    ensures int8_below { map (wrapped (ty Int8)) (neg_ℤ (pos 1) ∷ neg_ℤ (pos 128) ∷ neg_ℤ (pos 129) ∷ neg_ℤ (pos 256) ∷ [])
-        ≡ neg_ℤ (pos 1) ∷ neg_ℤ (pos 128) ∷ pos 127 ∷ pos 0 ∷ [] }
-    ensures uint8_above { map (wrapped (ty UInt8)) (pos 0 ∷ pos 255 ∷ pos 256 ∷ pos 511 ∷ [])
-        ≡ pos 0 ∷ pos 255 ∷ pos 0 ∷ pos 255 ∷ [] }
-    ensures uint8_below { map (wrapped (ty UInt8)) (neg_ℤ (pos 1) ∷ neg_ℤ (pos 255) ∷ neg_ℤ (pos 256) ∷ neg_ℤ (pos 257) ∷ [])
-        ≡ pos 255 ∷ pos 1 ∷ pos 0 ∷ pos 255 ∷ [] }
-    ensures int64 { map (wrapped (ty Int64)) (pos 9223372036854775807 ∷ pos 9223372036854775808 ∷ neg_ℤ (pos 9223372036854775809) ∷ [])
-        ≡ pos 9223372036854775807 ∷ neg_ℤ (pos 9223372036854775808) ∷ pos 9223372036854775807 ∷ [] }
-    ensures uint64 { map (wrapped (ty UInt64)) (pos 18446744073709551616 ∷ neg_ℤ (pos 1) ∷ neg_ℤ (pos 18446744073709551616) ∷ [])
-        ≡ pos 0 ∷ pos 18446744073709551615 ∷ pos 0 ∷ [] }
-    ensures moments { map (wrapped (ty (Datetime Nanoseconds))) (pos 9223372036854775807 ∷ pos 9223372036854775808 ∷ [])
-        ≡ pos 9223372036854775807 ∷ neg_ℤ (pos 9223372036854775808) ∷ [] }
-    ensures spans { map (wrapped (ty (Duration Milliseconds))) (neg_ℤ (pos 9223372036854775808) ∷ neg_ℤ (pos 9223372036854775809) ∷ [])
-        ≡ neg_ℤ (pos 9223372036854775808) ∷ pos 9223372036854775807 ∷ [] }
+    ensures int8 { Maps (wrapped (ty Int8)) ((pos 127, pos 127) ∷ (pos 128, minus 128) ∷ (pos 255, minus 1) ∷ (pos 256, pos 0) ∷ (minus 1, minus 1) ∷ (minus 128, minus 128) ∷ (minus 129, pos 127) ∷ (minus 256, pos 0) ∷ []) }
+    ensures uint8 { Maps (wrapped (ty UInt8)) ((pos 0, pos 0) ∷ (pos 255, pos 255) ∷ (pos 256, pos 0) ∷ (pos 511, pos 255) ∷ (minus 1, pos 255) ∷ (minus 255, pos 1) ∷ (minus 256, pos 0) ∷ (minus 257, pos 255) ∷ []) }
+    ensures int64 { (unit : TimeUnit) → map (λ type. map (wrapped type) (pos 9223372036854775807 ∷ pos 9223372036854775808 ∷ minus 9223372036854775808 ∷ minus 9223372036854775809 ∷ [])) (ty Int64 ∷ DatetimeType unit ∷ DurationType unit ∷ [])
+        ≡ map (λ type. pos 9223372036854775807 ∷ minus 9223372036854775808 ∷ minus 9223372036854775808 ∷ pos 9223372036854775807 ∷ []) (ty Int64 ∷ DatetimeType unit ∷ DurationType unit ∷ []) }
+    ensures uint64 { Maps (wrapped (ty UInt64)) ((pos 18446744073709551616, pos 0) ∷ (minus 1, pos 18446744073709551615) ∷ (minus 18446744073709551616, pos 0) ∷ []) }
+{}
+
+/// A text is a number where it is an optional sign and digits, and has no place where it is anything else or out of range.
+/// One that is out of range keeps no low bits.
+pub fn texts_as_numbers()
+    ensures digits { ReadsNumbers ((codes "12", ty Int8, Some (pos 12)) ∷ (codes "+12", ty Int8, Some (pos 12)) ∷ (codes "-12", ty Int8, Some (minus 12)) ∷ (codes "-0", ty Int8, Some (pos 0)) ∷ (codes "007", ty UInt8, Some (pos 7)) ∷ (codes "-0", ty UInt8, Some (pos 0)) ∷ []) }
+    ensures ends { ReadsNumbers ((codes "127", ty Int8, Some (pos 127)) ∷ (codes "-128", ty Int8, Some (minus 128)) ∷ (codes "128", ty Int8, None) ∷ (codes "-129", ty Int8, None) ∷ (codes "-1", ty UInt8, None)
+        ∷ (codes "18446744073709551615", ty UInt64, Some (pos 18446744073709551615)) ∷ (codes "18446744073709551616", ty UInt64, None) ∷ []) }
+    ensures forty_digits { ReadsNumbers ((codes "1234567890123456789012345678901234567890", ty UInt64, None) ∷ (codes "-1234567890123456789012345678901234567890", ty Int64, None)
+        ∷ (codes "0000000000000000000000000000000000000011", ty Int8, Some (pos 11)) ∷ []) }
+    ensures others { ReadsNumbers (map (λ text. (text, ty Int64, None)) (codes "" ∷ codes "+" ∷ codes "-" ∷ codes "+-1" ∷ codes "--1" ∷ codes "1-" ∷ codes "12x" ∷ codes "x12" ∷ codes " 12" ∷ codes "12 "
+        ∷ codes "1.0" ∷ codes "1_000" ∷ codes "0x10" ∷ codes "true" ∷ codes "१२" ∷ [])) }
+{}
+
+/// Numbers are written in decimal digits, with a minus below zero, and truth values as words. A text stays as it is.
+pub fn casts_to_texts()
+    ensures { let text : Val × Ty × List ℕ → Val × Ty × Ty × Val = λ c. (c.0, c.1, TextType, TextValue c.2) in
+        CastsValues (map text ((IntValue (minus 128), ty Int8, codes "-128") ∷ (IntValue (pos 0), ty Int8, codes "0") ∷ (IntValue (pos 7), ty Int16, codes "7") ∷ (IntValue (pos 10), ty UInt8, codes "10") ∷ (IntValue (minus 1), ty Int32, codes "-1")
+        ∷ (IntValue (minus 9223372036854775808), ty Int64, codes "-9223372036854775808") ∷ (IntValue (pos 18446744073709551615), ty UInt64, codes "18446744073709551615")
+        ∷ (TruthValue true, Truth, codes "true") ∷ (TruthValue false, Truth, codes "false") ∷ (TextValue (codes " 12x"), TextType, codes " 12x") ∷ (TextValue (codes ""), TextType, codes "") ∷ [])) }
+{}
+
+/// Texts are in the order of the first characters that differ, and a shorter one stands before its longer one.
+pub fn order_of_texts()
+    ensures { MapsPairs (slice_cmp nat_cmp) ((codes "ab", codes "ab", Equal) ∷ (codes "ab", codes "b", Less) ∷ (codes "ac", codes "ab", Greater) ∷ (codes "a", codes "ab", Less) ∷ (codes "", codes "a", Less)
+        ∷ (codes "a", codes "B", Greater) ∷ (codes "z", codes "é", Less) ∷ (codes "ｚ", codes "😀", Less) ∷ []) }
+{}
+
+/// Days are counted in the units of moments, which are rounded down to days: 2000-01-01 is day 10957. The first and the
+/// last day are past the range of nanoseconds and microseconds.
+pub fn days_and_moments()
+    ensures in_nanoseconds { CastsNumbers DateType (DatetimeType Nanoseconds) ((pos 10957, Some (pos 946684800000000000)) ∷ (pos 0, Some (pos 0)) ∷ (minus 1, Some (minus 86400000000000))
+        ∷ (pos 106751, Some (pos 9223286400000000000)) ∷ (pos 106752, None) ∷ (minus 2147483648, None) ∷ (pos 2147483647, None) ∷ []) }
+    ensures in_microseconds { CastsNumbers DateType (DatetimeType Microseconds) ((pos 10957, Some (pos 946684800000000)) ∷ (minus 2147483648, None) ∷ (pos 2147483647, None) ∷ []) }
+    ensures in_milliseconds { CastsNumbers DateType (DatetimeType Milliseconds) ((pos 10957, Some (pos 946684800000)) ∷ (minus 1, Some (minus 86400000))
+        ∷ (minus 2147483648, Some (minus 185542587187200000)) ∷ (pos 2147483647, Some (pos 185542587100800000)) ∷ []) }
+    ensures from_nanoseconds { CastsNumbers (DatetimeType Nanoseconds) DateType ((pos 946684800000000000, Some (pos 10957)) ∷ (pos 0, Some (pos 0)) ∷ (minus 1, Some (minus 1)) ∷ (pos 86399999999999, Some (pos 0))
+        ∷ (pos 86400000000000, Some (pos 1)) ∷ (minus 86400000000000, Some (minus 1)) ∷ (minus 86400000000001, Some (minus 2)) ∷ []) }
+    ensures from_microseconds { CastsNumbers (DatetimeType Microseconds) DateType ((pos 946684800000000, Some (pos 10957)) ∷ (minus 1, Some (minus 1)) ∷ []) }
+    ensures from_milliseconds { CastsNumbers (DatetimeType Milliseconds) DateType ((pos 946684800000, Some (pos 10957)) ∷ (minus 1, Some (minus 1)) ∷ (pos 185542587187199999, Some (pos 2147483647)) ∷ (pos 185542587187200000, None)
+        ∷ (minus 185542587187200000, Some (minus 2147483648)) ∷ (minus 185542587187200001, None) ∷ []) }
+{}
+
+/// Moments and spans in a coarser unit are rounded down, and in a finer one multiplied. Days, times, moments and spans are
+/// numbers of Int64, and are numbers of Int64 in their range.
+pub fn units_and_numbers()
+    ensures moments { CastsUnits DatetimeType }
+    ensures spans { CastsUnits DurationType }
+    ensures itself { CastsValues ((IntValue (minus 5), DateType, DateType, IntValue (minus 5)) ∷ (IntValue (pos 5), TimeType, TimeType, IntValue (pos 5)) ∷ []) }
+    ensures to_numbers { CastsValues ((IntValue (minus 1), DateType, ty Int64, IntValue (minus 1)) ∷ (IntValue (pos 86399999999999), TimeType, ty Int64, IntValue (pos 86399999999999))
+        ∷ (IntValue (minus 9223372036854775808), DatetimeType Nanoseconds, ty Int64, IntValue (minus 9223372036854775808)) ∷ (IntValue (pos 9223372036854775807), DurationType Milliseconds, ty Int64, IntValue (pos 9223372036854775807)) ∷ []) }
+    ensures to_days { CastsNumbers (ty Int64) DateType ((pos 2147483647, Some (pos 2147483647)) ∷ (minus 2147483648, Some (minus 2147483648)) ∷ (pos 2147483648, None) ∷ (minus 2147483649, None) ∷ []) }
+    ensures to_times { CastsNumbers (ty Int64) TimeType ((pos 86399999999999, Some (pos 86399999999999)) ∷ (pos 0, Some (pos 0)) ∷ (pos 86400000000000, None) ∷ (minus 1, None) ∷ []) }
+    ensures to_moments { CastsNumbers (ty Int64) (DatetimeType Microseconds) ((minus 9223372036854775808, Some (minus 9223372036854775808)) ∷ []) }
+    ensures to_spans { CastsNumbers (ty Int64) (DurationType Nanoseconds) ((pos 9223372036854775807, Some (pos 9223372036854775807)) ∷ []) }
+{}
+
+/// Lists are cast item by item, and structs part by part, whatever the names. Null stays null, as a whole and inside.
+pub fn casts_of_lists_and_structs()
+    ensures lists { CastsValues ((list_value [], ListType (ty Int64), ListType (ty Int8), list_value []) ∷ (list_value (NullValue ∷ []), ListType NullType, ListType (ListType (ty Int8)), list_value (NullValue ∷ []))
+        ∷ (list_value (IntValue (pos 1) ∷ NullValue ∷ []), ListType (ty Int8), ListType (ty Int8), list_value (IntValue (pos 1) ∷ NullValue ∷ []))
+        ∷ (list_value (IntValue (pos 1) ∷ NullValue ∷ IntValue (minus 2) ∷ []), ListType (ty Int8), ListType TextType, list_value (TextValue (codes "1") ∷ NullValue ∷ TextValue (codes "-2") ∷ [])) ∷ []) }
+    ensures structs { CastsValues ((struct_value [], struct_none, struct_none, struct_value [])
+        ∷ (
+          struct_value (IntValue (pos 1) ∷ TruthValue true ∷ NullValue ∷ []),
+          StructType (fields_from ((codes "a", DateType) ∷ (codes "b", Truth) ∷ (codes "c", ty Int8) ∷ [])),
+          StructType (fields_from ((codes "b", DatetimeType Milliseconds) ∷ (codes "x", ty Int8) ∷ (codes "y", Truth) ∷ [])),
+          struct_value (IntValue (pos 86400000) ∷ IntValue (pos 1) ∷ NullValue ∷ []),
+        ) ∷ []) }
+    ensures deep { CastsValues ((deep_value (IntValue (pos 100)), deep_type (ty UInt8), deep_type (ty Int8), deep_value (IntValue (pos 100))) ∷ []) }
+{}
+
+/// A strict cast fails where one item or part does. Else that one is null, or keeps its low bits where the cast overflows.
+/// The rest is cast as ever, and the list that it is in isn't null.
+pub fn casts_of_failing_items()
+    ensures items { FailsWhereStrict ((
+      list_value (IntValue (pos 1) ∷ IntValue (pos 200) ∷ IntValue (pos 3) ∷ []),
+      ListType (ty UInt8),
+      ListType (ty Int8),
+      list_value (IntValue (pos 1) ∷ NullValue ∷ IntValue (pos 3) ∷ []),
+      list_value (IntValue (pos 1) ∷ IntValue (minus 56) ∷ IntValue (pos 3) ∷ []),
+    )
+        ∷ (list_value (TextValue (codes "x") ∷ TextValue (codes "7") ∷ []), ListType TextType, ListType (ty Int8), list_value (NullValue ∷ IntValue (pos 7) ∷ []), list_value (NullValue ∷ IntValue (pos 7) ∷ [])) ∷ []) }
+    ensures parts { FailsWhereStrict ((
+      struct_value (IntValue (pos 200) ∷ TextValue (codes "x") ∷ []),
+      struct_ab (ty UInt8) TextType,
+      struct_ab (ty Int8) TextType,
+      struct_value (NullValue ∷ TextValue (codes "x") ∷ []),
+      struct_value (IntValue (minus 56) ∷ TextValue (codes "x") ∷ []),
+    )
+        ∷ (struct_value (NullValue ∷ TextValue (codes "x") ∷ []), struct_ab (ty UInt8) TextType, struct_ab (ty Int8) (ty UInt8), struct_value (NullValue ∷ NullValue ∷ []), struct_value (NullValue ∷ NullValue ∷ [])) ∷ []) }
+    ensures deep { FailsWhereStrict ((deep_value (IntValue (pos 200)), deep_type (ty UInt8), deep_type (ty Int8), deep_value NullValue, deep_value (IntValue (minus 56)))
+        ∷ (list_value (list_value (IntValue (pos 2147483648) ∷ []) ∷ []), ListType (ListType (ty Int64)), ListType (ListType DateType), list_value (list_value (NullValue ∷ []) ∷ []), list_value (list_value (NullValue ∷ []) ∷ [])) ∷ []) }
 {}

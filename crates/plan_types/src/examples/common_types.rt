@@ -5,7 +5,7 @@ ghost use Rattle.std.specs.List.{filter, list_any};
 ghost use Rattle.plan_types.specs.Types.{Ty, NullType, Truth, TextType, DateType, TimeType, DatetimeType, DurationType, ListType, StructType, Untyped, fields_from, ty};
 ghost use Rattle.plan_types.specs.Supertypes.{supertype, upcast};
 ghost use Rattle.plan_types.specs.CommonTypes.{literal_type, type_alone, own_type, type_beside, common_type};
-ghost use Rattle.plan_types.specs.Samples.{Maps, MapsPairs, a_struct, ab_struct, coarser_units, distinct_types, integers, minus, no_struct, other_types, times, types, units};
+ghost use Rattle.plan_types.specs.Samples.{Maps, MapsPairs, struct_a, struct_ab, coarser_units, distinct_types, integers, minus, struct_none, other_types, times, types, units};
 ghost use Rattle.plan_types.specs.declared.error.ErrorKind.TheVariants.{SchemaMismatch, InvalidOperation};
 ghost use Rattle.plan_types.specs.declared.dtype.TimeUnit.{TimeUnit};
 ghost use Rattle.plan_types.specs.declared.dtype.TimeUnit.TheVariants.{Nanoseconds, Microseconds, Milliseconds};
@@ -61,14 +61,14 @@ pub fn common_types_of_lists_and_structs()
         ∷ (NullType, ty Int8, Some (ListType (ty Int8))) ∷ (ty UInt8, ty Int8, Some (ListType (ty Int16))) ∷ (Truth, TextType, Some (ListType TextType))
         ∷ (DateType, DatetimeType Nanoseconds, Some (ListType (DatetimeType Nanoseconds))) ∷ (ListType (ty Int8), ListType (ty Int32), Some (ListType (ListType (ty Int32))))
         ∷ (ty Int8, ty UInt64, None) ∷ (ty Int8, DateType, None) ∷ (ty Int8, ListType (ty Int8), None) ∷ []) }
-    ensures structs { MapsPairs supertype ((no_struct, no_struct, Some no_struct) ∷ (ab_struct (ty Int8) NullType, ab_struct (ty UInt8) (ListType DateType), Some (ab_struct (ty Int16) (ListType DateType)))
-        ∷ (ab_struct (ty Int8) (ty Int64), ab_struct (ty Int8) (ty UInt64), None) ∷ (ab_struct (ty Int8) (ty Int8), a_struct (ty Int8), None) ∷ (no_struct, a_struct NullType, None)
-        ∷ (ab_struct (ty Int8) (ty Int8), StructType (fields_from ((codes "b", ty Int8) ∷ (codes "a", ty Int8) ∷ [])), None) ∷ []) }
-    ensures names { Maps (λ name. supertype (a_struct (ty Int8)) (StructType (fields_from ((name, ty Int8) ∷ [])))) ((codes "a", Some (a_struct (ty Int8))) ∷ (codes "b", None) ∷ (codes "A", None) ∷ []) }
+    ensures structs { MapsPairs supertype ((struct_none, struct_none, Some struct_none) ∷ (struct_ab (ty Int8) NullType, struct_ab (ty UInt8) (ListType DateType), Some (struct_ab (ty Int16) (ListType DateType)))
+        ∷ (struct_ab (ty Int8) (ty Int64), struct_ab (ty Int8) (ty UInt64), None) ∷ (struct_ab (ty Int8) (ty Int8), struct_a (ty Int8), None) ∷ (struct_none, struct_a NullType, None)
+        ∷ (struct_ab (ty Int8) (ty Int8), StructType (fields_from ((codes "b", ty Int8) ∷ (codes "a", ty Int8) ∷ [])), None) ∷ []) }
+    ensures names { Maps (λ name. supertype (struct_a (ty Int8)) (StructType (fields_from ((name, ty Int8) ∷ [])))) ((codes "a", Some (struct_a (ty Int8))) ∷ (codes "b", None) ∷ (codes "A", None) ∷ []) }
     ensures repeated_names { let twice : Ty → Ty → Ty = λ first second. StructType (fields_from ((codes "a", first) ∷ (codes "a", second) ∷ [])) in
         supertype (twice (ty Int8) (ty Int8)) (twice (ty Int16) (ty Int32)) ≡ Some (twice (ty Int16) (ty Int32)) }
-    ensures others { list_any (λ type. list_any (λ other. is_some (supertype type other) || is_some (supertype other type)) (ty Int8 ∷ TextType ∷ [])) (ListType (ty Int8) ∷ no_struct ∷ []) ≡ false }
-    ensures lists_and_structs { MapsPairs supertype ((ListType (ty Int8), no_struct, None) ∷ (no_struct, ListType (ty Int8), None) ∷ (no_struct, ListType NullType, None) ∷ []) }
+    ensures others { list_any (λ type. list_any (λ other. is_some (supertype type other) || is_some (supertype other type)) (ty Int8 ∷ TextType ∷ [])) (ListType (ty Int8) ∷ struct_none ∷ []) ≡ false }
+    ensures lists_and_structs { MapsPairs supertype ((ListType (ty Int8), struct_none, None) ∷ (struct_none, ListType (ty Int8), None) ∷ (struct_none, ListType NullType, None) ∷ []) }
 {}
 
 /// Alone a number is of the first of Int32, Int64 and UInt64 that has it, and so it is beside what is no integer.
@@ -80,9 +80,9 @@ pub fn types_of_numbers_alone()
         Maps (λ number. map (own_type number) (other_types unit)) ((pos 5, each (Some (ty Int32))) ∷ (pos 1, each (Some (ty Int32))) ∷ (pos 2147483648, each (Some (ty Int64)))
         ∷ (pos 9223372036854775808, each (Some (ty UInt64))) ∷ (pos 18446744073709551616, each None) ∷ []) }
     ensures untyped_and_parts { MapsPairs own_type ((pos 1, Untyped (pos 5), Some (ty Int32)) ∷ (pos 9223372036854775808, Untyped (pos 5), Some (ty UInt64))
-        ∷ (pos 5, ListType (ty Int8), Some (ty Int32)) ∷ (pos 5, no_struct, Some (ty Int32)) ∷ []) }
+        ∷ (pos 5, ListType (ty Int8), Some (ty Int32)) ∷ (pos 5, struct_none, Some (ty Int32)) ∷ []) }
     ensures operands { Maps type_alone ((Untyped (pos 5), Some (ty Int32)) ∷ (Untyped (pos 2147483648), Some (ty Int64)) ∷ (Untyped (pos 18446744073709551616), None) ∷ (TextType, Some TextType) ∷ (NullType, Some NullType)
-        ∷ (ListType (Untyped (pos 1)), None) ∷ (a_struct (Untyped (pos 1)), None) ∷ (ListType (ty Int8), Some (ListType (ty Int8))) ∷ (no_struct, Some no_struct) ∷ []) }
+        ∷ (ListType (Untyped (pos 1)), None) ∷ (struct_a (Untyped (pos 1)), None) ∷ (ListType (ty Int8), Some (ListType (ty Int8))) ∷ (struct_none, Some struct_none) ∷ []) }
 {}
 
 /// Beside an integer type a number is of that type where it has it, else of the least that does. A column's type stays as

@@ -3,7 +3,7 @@
 ghost use Rattle.std.specs.Prelude.{◌≡◌, ◌==◌, ◌++◌, [], ◌∷◌, pos, map, codes, true, false};
 ghost use Rattle.std.specs.List.{filter, list_all, list_any};
 ghost use Rattle.plan_types.specs.Types.{Ty, NullType, Truth, Integer, TextType, DateType, TimeType, DatetimeType, DurationType, ListType, Untyped, ty, is_bare, is_counted, is_known, is_null, is_truth, is_integer, is_signed_integer, is_unsigned_integer, is_text, is_temporal, is_ord, width_of, per_day, unit_rank, coarser, same_type, same_field, fields_in, field_of, no_field, with_field};
-ghost use Rattle.plan_types.specs.Samples.{a_struct, ab_struct, bare_types, coarser_units, distinct_types, integers, minus, nested_types, other_types, signed_integers, times, types, units, unsigned_integers, untyped};
+ghost use Rattle.plan_types.specs.Samples.{struct_a, struct_ab, bare_types, coarser_units, distinct_types, integers, minus, nested_types, other_types, signed_integers, times, types, units, unsigned_integers, untyped};
 ghost use Rattle.plan_types.specs.declared.field.Field.{Field};
 ghost use Rattle.plan_types.specs.declared.dtype.TimeUnit.{TimeUnit};
 ghost use Rattle.plan_types.specs.declared.dtype.UnknownKind.TheVariants.{Int};
@@ -37,10 +37,10 @@ pub fn classes_of_types()
 /// A type is one of columns where no number's own type stands in it, at any depth.
 pub fn known_types()
     ensures known { (unit : TimeUnit) → list_all is_known (bare_types unit ++ nested_types) ≡ true }
-    ensures deep { list_all is_known (ListType (ListType NullType) ∷ ab_struct (ty Int8) TextType ∷ ab_struct (ty Int8) (ListType (ty Int8)) ∷ ListType (a_struct (ListType DateType)) ∷ []) ≡ true }
+    ensures deep { list_all is_known (ListType (ListType NullType) ∷ struct_ab (ty Int8) TextType ∷ struct_ab (ty Int8) (ListType (ty Int8)) ∷ ListType (struct_a (ListType DateType)) ∷ []) ≡ true }
     ensures unknown { let number : Ty = Untyped (pos 1) in
-        list_any is_known (number ∷ ListType number ∷ ListType (ListType number) ∷ ab_struct (ty Int8) number ∷ ab_struct (ty Int8) (ListType number)
-        ∷ ab_struct number (ty Int8) ∷ ListType (a_struct (ListType number)) ∷ []) ≡ false }
+        list_any is_known (number ∷ ListType number ∷ ListType (ListType number) ∷ struct_ab (ty Int8) number ∷ struct_ab (ty Int8) (ListType number)
+        ∷ struct_ab number (ty Int8) ∷ ListType (struct_a (ListType number)) ∷ []) ≡ false }
 {}
 
 /// A type is the same as itself alone: integers by sign and bits, times by their unit, lists by their items' type, structs
