@@ -1,18 +1,12 @@
 //! Lowers the query that standard input gives, and prints a report of its typed plan.
 #![tactic(auto)]
 
-mod answer;
-pub mod run;
-pub mod status;
-#[cfg(test)]
-mod tests;
-
 use byte_streams::sink::WriteAdapter;
 use byte_streams::source::ReadAdapter;
 use plan_dsl::udfs::Udfs;
 use plan_types::text::PlSmallStr;
-use run::run;
-use status::Status;
+use query_run::run::run;
+use query_run::status::Status;
 use std::alloc::{AllocError, Global};
 use std::env::{self, Args};
 use std::io::ErrorKind;
@@ -27,13 +21,13 @@ fn main(rt: HostRuntime) -> ExitCode {
         Err(_) => Ok(Vec::new(alloc)),
     };
     let Ok(words) = words else {
-        return ExitCode::from(Status::NoMemory.number());
+        return Status::NoMemory.exit_code();
     };
     let mut source = ReadAdapter::new(rt.stdin());
     let mut sink = WriteAdapter::new(rt.stdout());
     let udfs = Udfs::new(alloc);
     let done = run(alloc, words.as_slice(), &mut source, &mut sink, &udfs);
-    ExitCode::from(done.status.number())
+    done.status.exit_code()
 }
 
 // The arguments behind the program's name.
