@@ -1,5 +1,4 @@
 //! Cases in the text of a file.
-ghost use Rattle.std.specs.Prelude.{◌≡◌, ◌++◌, ◌∷◌, [], codes};
 
 use bstr::ByteSlice;
 use plan_types::text::PlSmallStr;
@@ -8,7 +7,7 @@ use std::alloc::{AllocError, Global};
 /// A case: what it shows, the words and the input of a run, and how that is to end.
 #[derive(Drop)]
 pub(crate) struct Case<'a> {
-    /// The comment lines.
+    /// The first comment line.
     pub(crate) shows: &'a [u8],
     pub(crate) words: Vec<PlSmallStr>,
     pub(crate) input: &'a [u8],
@@ -36,8 +35,11 @@ pub(crate) fn next_case(alloc: Global, text: &[u8]) -> Result<Found<'_>, AllocEr
     let Some((asked, answered)) = text.split_once_str(b"\n---- ") else {
         return Ok(Found::Malformed);
     };
-    let (shows, asked) = split_comments(asked);
-    let (line, input) = split_line(asked);
+    let (shows, _asked) = split_line(asked);
+    let (line, input) = split_line(without_comments(asked));
+    if !shows.starts_with_str(b"#") {
+        return Ok(Found::Malformed);
+    }
     let Some(words) = words_of(alloc, line)? else {
         return Ok(Found::Malformed);
     };
@@ -46,9 +48,6 @@ pub(crate) fn next_case(alloc: Global, text: &[u8]) -> Result<Found<'_>, AllocEr
         return Ok(Found::Malformed);
     };
     let (text, after) = split_text(answered);
-    if shows.is_empty() {
-        return Ok(Found::Malformed);
-    }
     let case = Case {
         shows,
         words,
@@ -72,16 +71,15 @@ fn without_blank_lines(text: &[u8]) -> &[u8] {
 }
 
 // The first line, and what stands behind it.
-fn split_line(text: &[u8]) -> (&[u8], &[u8])
-{
+fn split_line(text: &[u8]) -> (&[u8], &[u8]) {
     match text.split_once_str(b"\n") {
         Some((line, rest)) => (line, rest),
         None => (text, &text[text.len()..]),
     }
 }
 
-// The lines at the front that begin with `#`, and what stands behind them.
-fn split_comments(text: &[u8]) -> (&[u8], &[u8]) {
+// The text behind the lines at the front that begin with `#`.
+fn without_comments(text: &[u8]) -> &[u8] {
     let mut rest = text;
     for _ in 0..text.len() {
         match rest {
@@ -92,7 +90,7 @@ fn split_comments(text: &[u8]) -> (&[u8], &[u8]) {
             _ => break,
         }
     }
-    text.split_at(text.len() - rest.len())
+    rest
 }
 
 // The words of a line: behind `$`, each behind one space.
@@ -102,7 +100,7 @@ fn words_of(alloc: Global, line: &[u8]) -> Result<Option<Vec<PlSmallStr>>, Alloc
     };
     let mut words = Vec::new(alloc);
     for (number, word) in listed.split_str(b" ").enumerate() {
-        let Ok(word) = core::str::from_utf8(word) else {
+        let Ok(word) = std::str::from_utf8(word) else {
             return Ok(None);
         };
         if number == 0 {
@@ -120,7 +118,7 @@ fn words_of(alloc: Global, line: &[u8]) -> Result<Option<Vec<PlSmallStr>>, Alloc
 }
 
 fn number_of(line: &[u8]) -> Option<u8> {
-    let text = core::str::from_utf8(line).ok()?;
+    let text = std::str::from_utf8(line).ok()?;
     text.parse::<u8>().ok()
 }
 

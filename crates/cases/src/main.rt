@@ -6,6 +6,7 @@ mod trial;
 
 use case::{Case, Found, next_case};
 use plan_dsl::udfs::Udfs;
+use std::env::Env;
 use std::process::ExitCode;
 use std::rt::Files;
 use std::{env, fs, io};
