@@ -4,4 +4,5 @@ pub mod Errors
 pub mod Faults
 pub mod Looking
 pub mod Queries
+pub mod Samples
 pub mod Tables

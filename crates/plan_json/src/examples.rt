@@ -2,404 +2,157 @@
 #![tactic(auto, unfolding(crate::proofs::OnLiterals::values_on_literals))]
 
 pub mod errors;
-pub mod forms;
-pub mod literals;
-pub mod parts;
+pub mod faults;
 
-ghost use Rattle.std.specs.Prelude.{◌≡◌, pos, negsuc, [], ◌∷◌, Float, List, Some, None, String, codes, string_bytes, true, false};
-ghost use Rattle.std.specs.Global.{Global};
-ghost use Rattle.plan_types.specs.Types.{NullType, Truth, Integer, TextType, DateType, TimeType, DatetimeType, DurationType, ListType, StructType, Untyped, no_field, with_field};
-ghost use Rattle.plan_types.specs.Values.{IntValue};
+ghost use Rattle.std.specs.Prelude.{◌≡◌, pos, [], ◌∷◌, Some, None, codes, nat_lt, true, false, ℕ, ℤ, negsuc, Float, List};
+ghost use Rattle.plan_types.specs.Types.{NullType, Truth, Integer, TextType, DateType, TimeType, DatetimeType, DurationType, ListType, StructType, no_field, with_field, Untyped};
 ghost use Rattle.plan_types.specs.declared.dtype.CastOptions.TheVariants.{Strict, NonStrict, Overflowing};
 ghost use Rattle.plan_types.specs.declared.dtype.TimeUnit.TheVariants.{Nanoseconds, Microseconds, Milliseconds};
-ghost use Rattle.plan_dsl.specs.Ops.{ColumnOp, LiteralOp, BinaryOp, CastOp};
-ghost use Rattle.plan_dsl.specs.Plans.{empty_table, named, scan_op, select_op, filter_op};
-ghost use Rattle.plan_dsl.specs.Trees.{node, no_more, more};
-ghost use Rattle.plan_dsl.specs.declared.operator.Operator.TheVariants.{Lt, GtEq, Plus};
-ghost use Rattle.serde_json.specs.Data.{array, boolean, no_items, item, no_members, member, float, negative, null, number, object, string, unsigned};
+ghost use Rattle.plan_dsl.specs.Plans.{empty_table};
+ghost use Rattle.plan_dsl.specs.declared.operator.Operator.TheVariants.{Lt, GtEq, Plus, Eq, EqValidity, NotEq, NotEqValidity, LtEq, Gt, Minus, Multiply, Divide, FloorDivide, Modulus, And, Or, Xor, LogicalAnd, LogicalOr};
+ghost use Rattle.serde_json.specs.Data.{Items, array, boolean, member, no_members, null, object, float, negative, number, string, unsigned};
+ghost use Rattle.serde_json.specs.Events.{items_len};
+ghost use Rattle.plan_json.specs.Queries.{columns_of, expression_of, plan_of, query_of, table_limit, tables_of, type_of, unit_of, literal_of, number_text_of, number_written, operator_of, typed_of, QueryModel};
+ghost use Rattle.plan_json.specs.Samples.{Gives, GivesAll, bin, binary, cast_to, cast_value, col, column, column_value, empty_value, filter, filter_value, int8, int64, keyed, keyed_twice, list, moments, query, query_value, scan, scan_value, select, select_value, spans, table_value, untyped, whole, word, below_zero, leaf, typed, Each, Refused, Writes, NoJson};
+ghost use Rattle.plan_types.specs.Values.{NullValue, TruthValue, TextValue};
+ghost use Rattle.plan_dsl.specs.Ops.{LiteralOp};
 ghost use Rattle.plan_json.specs.Bytes.{IsRefusalOf, WritesQuery};
-ghost use Rattle.plan_json.specs.Errors.{escaped, pointer_text};
-ghost use Rattle.plan_json.specs.Faults as fault;
-ghost use Rattle.plan_json.specs.Faults.{BadFloat, BadName, BadShape, IsBadAt, key, own_fault};
-ghost use Rattle.plan_json.specs.Queries.{QueryModel, expression_of, number_op, plan_of, query_of, type_of, unit_of};
-ghost use Rattle.plan_json.specs.declared.error.JsonError.TheVariants.{NotJson, Shape, Float as Float', Name, NoMemory};
+ghost use Rattle.plan_json.specs.Faults.{BadFloat, BadName, BadShape, key};
+ghost use Rattle.plan_json.specs.declared.error.JsonError.TheVariants.{NoMemory};
 
-/// A query: its tables by name and columns, and its plan over them.
-pub fn query_examples()
-    ensures least { let empty = object (member (codes "empty") (array no_items) no_members) in
-        query_of (object (member (codes "plan") empty (member (codes "tables") (array no_items) no_members)))
-        ≡ Some (record { tables = []; plan = empty_table }) }
-    ensures whole { let a = string (codes "a") in
-        let b = string (codes "b") in
-        let first = array (item a (item (string (codes "Int8")) no_items)) in
-        let second = array (item b (item (string (codes "UInt32")) no_items)) in
-        let columns = array (item first (item second no_items)) in
-        let table = object (member (codes "columns") columns (member (codes "name") (string (codes "t")) no_members)) in
-        let left = object (member (codes "col") a no_members) in
-        let right = object (member (codes "col") b no_members) in
-        let operands = array (item (string (codes "Plus")) (item left (item right no_items))) in
-        let sum = object (member (codes "bin") operands no_members) in
-        let scan = object (member (codes "scan") (string (codes "t")) no_members) in
-        let selection = array (item scan (item (array (item sum (item right no_items))) no_items)) in
-        let plan = object (member (codes "select") selection no_members) in
-        let d = object (member (codes "plan") plan (member (codes "tables") (array (item table no_items)) no_members)) in
-        let schema = (codes "a", Integer true 8) ∷ (codes "b", Integer false 32) ∷ [] in
-        let column_a = node (ColumnOp (codes "a")) no_more in
-        let column_b = node (ColumnOp (codes "b")) no_more in
-        let total = node (BinaryOp Plus) (more column_a (more column_b no_more)) in
-        let top = select_op (named total ∷ named column_b ∷ []) [] in
-        query_of d ≡ Some (record {
-          tables = (codes "t", schema) ∷ [];
-          plan = node top (more (node (scan_op (Some 0) schema) no_more) no_more);
-        }) }
-    ensures second_table { let first = object (member (codes "columns") (array no_items) (member (codes "name") (string (codes "t")) no_members)) in
-        let second = object (member (codes "columns") (array no_items) (member (codes "name") (string []) no_members)) in
-        let scan = object (member (codes "scan") (string []) no_members) in
-        query_of (object (member (codes "plan") scan (member (codes "tables") (array (item first (item second no_items))) no_members)))
-        ≡ Some (record { tables = (codes "t", []) ∷ ([], []) ∷ []; plan = node (scan_op (Some 1) []) no_more }) }
-    ensures key_too_many { let empty = object (member (codes "empty") (array no_items) no_members) in
-        query_of (object (member (codes "plan") empty (member (codes "tables") (array no_items) (member (codes "x") null no_members)))) ≡ None }
-    ensures no_plan { query_of (object (member (codes "tables") (array no_items) no_members)) ≡ None }
-    ensures unknown_key { let empty = object (member (codes "empty") (array no_items) no_members) in
-        query_of (object (member (codes "plans") empty (member (codes "tables") (array no_items) no_members))) ≡ None }
-    ensures other_kind { query_of (boolean true) ≡ None }
-    ensures unknown_plan { let plan = object (member (codes "drop") (array no_items) no_members) in
-        query_of (object (member (codes "plan") plan (member (codes "tables") (array no_items) no_members))) ≡ None }
-    ensures undeclared_table { let scan = object (member (codes "scan") (string (codes "t")) no_members) in
-        query_of (object (member (codes "plan") scan (member (codes "tables") (array no_items) no_members))) ≡ None }
-    ensures table_twice { let table = object (member (codes "columns") (array no_items) (member (codes "name") (string (codes "t")) no_members)) in
-        let scan = object (member (codes "scan") (string (codes "t")) no_members) in
-        query_of (object (member (codes "plan") scan (member (codes "tables") (array (item table (item table no_items))) no_members))) ≡ None }
-    ensures column_twice { let column = array (item (string (codes "a")) (item (string (codes "Int8")) no_items)) in
-        let empty = object (member (codes "empty") (array (item column (item column no_items))) no_members) in
-        query_of (object (member (codes "plan") empty (member (codes "tables") (array no_items) no_members))) ≡ None }
+/// Queries, and the tables and columns that they declare: tables by name and columns, no two of one name, and a plan over them.
+pub fn declaration_examples()
+    ensures queries { let declared = list (column_value "a" "Int8" ∷ column_value "b" "UInt32" ∷ []) in let sum = bin (word "Plus" ∷ col "a" ∷ col "b" ∷ []) in
+        let selection = select_value (scan_value "t" ∷ list (sum ∷ col "b" ∷ []) ∷ []) in let columns = (codes "a", int8) ∷ (codes "b", Integer false 32) ∷ [] in
+        let plan = select (binary Plus (column "a") (column "b") ∷ column "b" ∷ []) (scan (Some 0) columns) in let two = table_value "t" (list []) ∷ table_value "" (list []) ∷ [] in
+        Gives query_of ((query_value [] empty_value, Some (query [] empty_table)) ∷
+        (query_value (table_value "t" declared ∷ []) selection, Some (query ((codes "t", columns) ∷ []) plan)) ∷
+        (query_value two (scan_value ""), Some (query ((codes "t", []) ∷ ([], []) ∷ []) (scan (Some 1) []))) ∷ []) }
+    ensures no_queries { let t = table_value "t" (list []) in let twice = list (column_value "a" "Int8" ∷ column_value "a" "Int8" ∷ []) in
+        GivesAll query_of None (object (member (codes "plan") empty_value (member (codes "tables") (list []) (member (codes "x") null no_members))) ∷
+        keyed "tables" (list []) ∷ keyed_twice "plans" empty_value "tables" (list []) ∷ boolean true ∷
+        query_value [] (keyed "drop" (list [])) ∷ query_value [] (scan_value "t") ∷ query_value (t ∷ t ∷ []) (scan_value "t") ∷ query_value [] (keyed "empty" twice) ∷ []) }
+    ensures tables { let s = table_value "s" (list []) in let t = table_value "t" (list []) in
+        Gives tables_of ((list [], Some []) ∷ (list (table_value "t" (list (column_value "a" "Int8" ∷ [])) ∷ []), Some ((codes "t", (codes "a", int8) ∷ []) ∷ [])) ∷
+        (list (t ∷ s ∷ []), Some ((codes "t", []) ∷ (codes "s", []) ∷ [])) ∷ []) }
+    ensures too_many_tables { (tables : Items) → nat_lt (items_len tables) table_limit ≡ false → tables_of (array tables) ≡ None }
+    ensures no_tables { GivesAll tables_of None (object no_members ∷ list (keyed "name" (word "t") ∷ []) ∷ list (keyed_twice "cols" (list []) "name" (word "t") ∷ []) ∷
+        list (object (member (codes "columns") (list []) (member (codes "name") (word "t") (member (codes "rows") null no_members))) ∷ []) ∷
+        list (keyed_twice "columns" (list []) "name" (whole 1) ∷ []) ∷ []) }
+    ensures columns { Gives columns_of ((list [], Some []) ∷
+        (list (column_value "b" "Null" ∷ list (word "a" ∷ moments "us" ∷ []) ∷ []), Some ((codes "b", NullType) ∷ (codes "a", DatetimeType Microseconds) ∷ [])) ∷ []) }
+    ensures no_columns { GivesAll columns_of None (list (column_value "a" "Int8" ∷ column_value "b" "Int8" ∷ column_value "a" "Int16" ∷ []) ∷
+        keyed "a" (word "Int8") ∷ list (list (word "a" ∷ []) ∷ []) ∷ list (list (word "a" ∷ word "Int8" ∷ null ∷ []) ∷ []) ∷ list (column_value "Int8" "a" ∷ []) ∷ []) }
 {}
 
-/// A type: a name, or an object of one key with a unit of time.
+/// A type: a name, or an object of one key with a unit of time, with the type of a list's items or with a struct's fields, each a name and a type.
 pub fn type_examples()
-    ensures nothing { type_of (string (codes "Null")) ≡ Some NullType }
-    ensures truth { type_of (string (codes "Boolean")) ≡ Some Truth }
-    ensures least { type_of (string (codes "Int8")) ≡ Some (Integer true 8) }
-    ensures short { type_of (string (codes "Int16")) ≡ Some (Integer true 16) }
-    ensures middle { type_of (string (codes "Int32")) ≡ Some (Integer true 32) }
-    ensures long { type_of (string (codes "Int64")) ≡ Some (Integer true 64) }
-    ensures least_unsigned { type_of (string (codes "UInt8")) ≡ Some (Integer false 8) }
-    ensures short_unsigned { type_of (string (codes "UInt16")) ≡ Some (Integer false 16) }
-    ensures middle_unsigned { type_of (string (codes "UInt32")) ≡ Some (Integer false 32) }
-    ensures long_unsigned { type_of (string (codes "UInt64")) ≡ Some (Integer false 64) }
-    ensures text { type_of (string (codes "String")) ≡ Some TextType }
-    ensures date { type_of (string (codes "Date")) ≡ Some DateType }
-    ensures time { type_of (string (codes "Time")) ≡ Some TimeType }
-    ensures fine_moment { type_of (object (member (codes "Datetime") (string (codes "ns")) no_members)) ≡ Some (DatetimeType Nanoseconds) }
-    ensures moment { type_of (object (member (codes "Datetime") (string (codes "us")) no_members)) ≡ Some (DatetimeType Microseconds) }
-    ensures coarse_moment { type_of (object (member (codes "Datetime") (string (codes "ms")) no_members)) ≡ Some (DatetimeType Milliseconds) }
-    ensures fine_span { type_of (object (member (codes "Duration") (string (codes "ns")) no_members)) ≡ Some (DurationType Nanoseconds) }
-    ensures span { type_of (object (member (codes "Duration") (string (codes "us")) no_members)) ≡ Some (DurationType Microseconds) }
-    ensures coarse_span { type_of (object (member (codes "Duration") (string (codes "ms")) no_members)) ≡ Some (DurationType Milliseconds) }
-    ensures short_name { type_of (string (codes "Bool")) ≡ None }
-    ensures lower_case { type_of (string (codes "null")) ≡ None }
-    ensures without_unit { type_of (string (codes "Datetime")) ≡ None }
-    ensures unknown_unit { type_of (object (member (codes "Datetime") (string (codes "s")) no_members)) ≡ None }
-    ensures unit_that_is_no_text { type_of (object (member (codes "Duration") null no_members)) ≡ None }
-    ensures unit_of_none { type_of (object (member (codes "Date") (string (codes "ms")) no_members)) ≡ None }
-    ensures two_keys { type_of (object (member (codes "Datetime") (string (codes "ms")) (member (codes "Duration") (string (codes "ms")) no_members))) ≡ None }
-    ensures no_key { type_of (object no_members) ≡ None }
-    ensures other_kind { type_of null ≡ None }
-    ensures list { type_of (array (item (string (codes "Date")) no_items)) ≡ None }
-    ensures unit { unit_of (string (codes "us")) ≡ Some Microseconds }
-    ensures upper_case { unit_of (string (codes "US")) ≡ None }
+    ensures names { Gives (λ name. type_of (word name)) (
+        ("Null", Some NullType) ∷ ("Boolean", Some Truth) ∷ ("String", Some TextType) ∷ ("Date", Some DateType) ∷ ("Time", Some TimeType) ∷
+        ("Int8", Some int8) ∷ ("Int16", Some (Integer true 16)) ∷ ("Int32", Some (Integer true 32)) ∷ ("Int64", Some int64) ∷
+        ("UInt8", Some (Integer false 8)) ∷ ("UInt16", Some (Integer false 16)) ∷ ("UInt32", Some (Integer false 32)) ∷ ("UInt64", Some (Integer false 64)) ∷ []) }
+    ensures of_units { Gives type_of (
+        (moments "ns", Some (DatetimeType Nanoseconds)) ∷ (moments "us", Some (DatetimeType Microseconds)) ∷ (moments "ms", Some (DatetimeType Milliseconds)) ∷
+        (spans "ns", Some (DurationType Nanoseconds)) ∷ (spans "us", Some (DurationType Microseconds)) ∷ (spans "ms", Some (DurationType Milliseconds)) ∷ []) }
+    ensures none { GivesAll type_of None (word "Bool" ∷ word "null" ∷ word "Datetime" ∷ moments "s" ∷ keyed "Duration" null ∷ keyed "Date" (word "ms") ∷
+        keyed_twice "Datetime" (word "ms") "Duration" (word "ms") ∷ object no_members ∷ null ∷ list (word "Date" ∷ []) ∷ []) }
+    ensures units { Gives (λ name. unit_of (word name)) (("us", Some Microseconds) ∷ ("US", None) ∷ []) }
+    ensures nested { let texts = list (word "b" ∷ keyed "List" (word "String") ∷ []) in let a = column_value "a" "Time" in
+        Gives type_of ((keyed "List" (word "Int8"), Some (ListType int8)) ∷ (keyed "List" (moments "ms"), Some (ListType (DatetimeType Milliseconds))) ∷
+        (keyed "List" (keyed "List" (word "Date")), Some (ListType (ListType DateType))) ∷ (keyed "Struct" (list []), Some (StructType no_field)) ∷
+        (keyed "Struct" (list (column_value "a" "Int8" ∷ texts ∷ [])), Some (StructType (with_field (codes "a") int8 (with_field (codes "b") (ListType TextType) no_field)))) ∷
+        (keyed "Struct" (list (a ∷ a ∷ [])), Some (StructType (with_field (codes "a") TimeType (with_field (codes "a") TimeType no_field)))) ∷
+        (keyed "Struct" (list (list (word "" ∷ keyed "Struct" (list []) ∷ []) ∷ [])), Some (StructType (with_field [] (StructType no_field) no_field))) ∷ []) }
+    ensures no_nested { let known = column_value "a" "Int8" in
+        GivesAll type_of None (word "List" ∷ keyed "List" (word "List") ∷ keyed "List" (list (word "Date" ∷ word "Time" ∷ [])) ∷ keyed "list" (word "Int8") ∷
+        keyed "Struct" (keyed "a" (word "Int8")) ∷ keyed "Struct" (list (list (word "a" ∷ []) ∷ [])) ∷
+        keyed "Struct" (list (list (word "a" ∷ word "Int8" ∷ null ∷ []) ∷ [])) ∷ keyed "Struct" (list (list (null ∷ word "Int8" ∷ []) ∷ [])) ∷
+        keyed "Struct" (list (known ∷ column_value "a" "int8" ∷ [])) ∷ []) }
 {}
 
-/// A type of lists has the type of their items, and a type of structs a list of fields, each with a name and a type.
-pub fn nested_type_examples()
-    ensures list { type_of (object (member (codes "List") (string (codes "Int8")) no_members)) ≡ Some (ListType (Integer true 8)) }
-    ensures list_of_moments { let item_type = object (member (codes "Datetime") (string (codes "ms")) no_members) in
-        type_of (object (member (codes "List") item_type no_members)) ≡ Some (ListType (DatetimeType Milliseconds)) }
-    ensures list_of_lists { let inner = object (member (codes "List") (string (codes "Date")) no_members) in
-        type_of (object (member (codes "List") inner no_members)) ≡ Some (ListType (ListType DateType)) }
-    ensures no_fields { type_of (object (member (codes "Struct") (array no_items) no_members)) ≡ Some (StructType no_field) }
-    ensures two_fields { let texts = object (member (codes "List") (string (codes "String")) no_members) in
-        let first = array (item (string (codes "a")) (item (string (codes "Int8")) no_items)) in
-        let second = array (item (string (codes "b")) (item texts no_items)) in
-        type_of (object (member (codes "Struct") (array (item first (item second no_items))) no_members))
-        ≡ Some (StructType (with_field (codes "a") (Integer true 8) (with_field (codes "b") (ListType TextType) no_field))) }
-    ensures name_twice { let field = array (item (string (codes "a")) (item (string (codes "Time")) no_items)) in
-        type_of (object (member (codes "Struct") (array (item field (item field no_items))) no_members))
-        ≡ Some (StructType (with_field (codes "a") TimeType (with_field (codes "a") TimeType no_field))) }
-    ensures struct_in_struct { let inner = object (member (codes "Struct") (array no_items) no_members) in
-        let field = array (item (string []) (item inner no_items)) in
-        type_of (object (member (codes "Struct") (array (item field no_items)) no_members))
-        ≡ Some (StructType (with_field [] (StructType no_field) no_field)) }
-    ensures list_without_items { type_of (string (codes "List")) ≡ None }
-    ensures list_of_unknown { type_of (object (member (codes "List") (string (codes "List")) no_members)) ≡ None }
-    ensures list_of_two { let types = array (item (string (codes "Date")) (item (string (codes "Time")) no_items)) in
-        type_of (object (member (codes "List") types no_members)) ≡ None }
-    ensures lower_case { type_of (object (member (codes "list") (string (codes "Int8")) no_members)) ≡ None }
-    ensures fields_by_key { let fields = object (member (codes "a") (string (codes "Int8")) no_members) in
-        type_of (object (member (codes "Struct") fields no_members)) ≡ None }
-    ensures short_field { let field = array (item (string (codes "a")) no_items) in
-        type_of (object (member (codes "Struct") (array (item field no_items)) no_members)) ≡ None }
-    ensures long_field { let field = array (item (string (codes "a")) (item (string (codes "Int8")) (item null no_items))) in
-        type_of (object (member (codes "Struct") (array (item field no_items)) no_members)) ≡ None }
-    ensures nameless_field { let field = array (item null (item (string (codes "Int8")) no_items)) in
-        type_of (object (member (codes "Struct") (array (item field no_items)) no_members)) ≡ None }
-    ensures field_of_unknown { let field = array (item (string (codes "a")) (item (string (codes "int8")) no_items)) in
-        let known = array (item (string (codes "a")) (item (string (codes "Int8")) no_items)) in
-        type_of (object (member (codes "Struct") (array (item known (item field no_items))) no_members)) ≡ None }
+/// A scan names a declared table, and the empty table has the columns that are written. A filter has its input and a predicate, a select its input and a list.
+pub fn plan_examples()
+    ensures over_two { let a = (codes "a", Truth) ∷ [] in
+        Gives (plan_of ((codes "t", a) ∷ (codes "s", []) ∷ [])) ((scan_value "t", Some (scan (Some 0) a)) ∷ (scan_value "s", Some (scan (Some 1) [])) ∷ []) }
+    ensures unread_over_one { GivesAll (plan_of ((codes "t", []) ∷ [])) None (
+        scan_value "T" ∷ keyed "scan" (whole 0) ∷ keyed "empty" (word "t") ∷ keyed_twice "empty" (list []) "scan" (word "t") ∷ word "t" ∷ []) }
+    ensures over_none { Gives (plan_of []) ((keyed "empty" (list (column_value "a" "Boolean" ∷ [])), Some (scan None ((codes "a", Truth) ∷ []))) ∷ (object no_members, None) ∷ []) }
+    ensures filters { let one = keyed "lit" (whole 1) in let two = keyed "lit" (whole 2) in
+        Gives (plan_of []) ((filter_value (empty_value ∷ col "a" ∷ []), Some (filter (column "a") empty_table)) ∷
+        (filter_value (filter_value (empty_value ∷ one ∷ []) ∷ two ∷ []), Some (filter (untyped (pos 2)) (filter (untyped (pos 1)) empty_table))) ∷
+        (filter_value (empty_value ∷ []), None) ∷ (filter_value (empty_value ∷ col "a" ∷ col "a" ∷ []), None) ∷ (filter_value (empty_value ∷ list (col "a" ∷ []) ∷ []), None) ∷ []) }
+    ensures selects { Gives (plan_of []) ((select_value (empty_value ∷ list [] ∷ []), Some (select [] empty_table)) ∷
+        (select_value (empty_value ∷ list (col "b" ∷ col "a" ∷ []) ∷ []), Some (select (column "b" ∷ column "a" ∷ []) empty_table)) ∷
+        (select_value (empty_value ∷ []), None) ∷ (select_value (empty_value ∷ list [] ∷ list [] ∷ []), None) ∷
+        (select_value (empty_value ∷ col "a" ∷ []), None) ∷ (select_value (list [] ∷ empty_value ∷ []), None) ∷ []) }
 {}
 
-/// A filter: its input, and the expression that is true for the rows which it keeps.
-pub fn filter_examples()
-    ensures filter { let empty = object (member (codes "empty") (array no_items) no_members) in
-        let predicate = object (member (codes "col") (string (codes "a")) no_members) in
-        plan_of [] (object (member (codes "filter") (array (item empty (item predicate no_items))) no_members))
-        ≡ Some (node (filter_op (named (node (ColumnOp (codes "a")) no_more))) (more empty_table no_more)) }
-    ensures filter_of_filter { let empty = object (member (codes "empty") (array no_items) no_members) in
-        let first = object (member (codes "lit") (number (unsigned 1)) no_members) in
-        let second = object (member (codes "lit") (number (unsigned 2)) no_members) in
-        let inner = object (member (codes "filter") (array (item empty (item first no_items))) no_members) in
-        let below = node (filter_op (named (node (LiteralOp (Untyped (pos 1)) (IntValue (pos 1))) no_more))) (more empty_table no_more) in
-        let top = filter_op (named (node (LiteralOp (Untyped (pos 2)) (IntValue (pos 2))) no_more)) in
-        plan_of [] (object (member (codes "filter") (array (item inner (item second no_items))) no_members))
-        ≡ Some (node top (more below no_more)) }
-    ensures short { let empty = object (member (codes "empty") (array no_items) no_members) in
-        plan_of [] (object (member (codes "filter") (array (item empty no_items)) no_members)) ≡ None }
-    ensures long { let empty = object (member (codes "empty") (array no_items) no_members) in
-        let predicate = object (member (codes "col") (string (codes "a")) no_members) in
-        plan_of [] (object (member (codes "filter") (array (item empty (item predicate (item predicate no_items)))) no_members)) ≡ None }
-    ensures list_of_predicates { let empty = object (member (codes "empty") (array no_items) no_members) in
-        let predicate = object (member (codes "col") (string (codes "a")) no_members) in
-        plan_of [] (object (member (codes "filter") (array (item empty (item (array (item predicate no_items)) no_items))) no_members)) ≡ None }
-{}
-
-/// An expression: an object of one key, which names its form.
+/// An expression: an object of one key, which names its form. An operator is written by its name.
 pub fn expression_examples()
-    ensures comparison { let left = object (member (codes "col") (string (codes "a")) no_members) in
-        let right = object (member (codes "col") (string (codes "b")) no_members) in
-        let operands = array (item (string (codes "GtEq")) (item left (item right no_items))) in
-        expression_of (object (member (codes "bin") operands no_members))
-        ≡ Some (node (BinaryOp GtEq) (more (node (ColumnOp (codes "a")) no_more) (more (node (ColumnOp (codes "b")) no_more) no_more))) }
-    ensures cast_to_truth { let operand = object (member (codes "col") (string (codes "a")) no_members) in
-        let parts = array (item operand (item (string (codes "Boolean")) (item (string (codes "NonStrict")) no_items))) in
-        expression_of (object (member (codes "cast") parts no_members))
-        ≡ Some (node (CastOp Truth NonStrict) (more (node (ColumnOp (codes "a")) no_more) no_more)) }
-    ensures cast_of_cast { let operand = object (member (codes "col") (string (codes "a")) no_members) in
-        let below = array (item operand (item (string (codes "Int64")) (item (string (codes "Strict")) no_items))) in
-        let inner = object (member (codes "cast") below no_members) in
-        let parts = array (item inner (item (string (codes "UInt8")) (item (string (codes "Overflowing")) no_items))) in
-        expression_of (object (member (codes "cast") parts no_members))
-        ≡ Some (node (CastOp (Integer false 8) Overflowing) (more (node (CastOp (Integer true 64) Strict) (more (node (ColumnOp (codes "a")) no_more) no_more)) no_more)) }
-    ensures compared_cast { let left = object (member (codes "col") (string (codes "a")) no_members) in
-        let parts = array (item left (item (string (codes "Int64")) (item (string (codes "Strict")) no_items))) in
-        let cast = object (member (codes "cast") parts no_members) in
-        let right = object (member (codes "col") (string (codes "b")) no_members) in
-        let operands = array (item (string (codes "Lt")) (item cast (item right no_items))) in
-        expression_of (object (member (codes "bin") operands no_members))
-        ≡ Some (node (BinaryOp Lt) (more (node (CastOp (Integer true 64) Strict) (more (node (ColumnOp (codes "a")) no_more) no_more)) (more (node (ColumnOp (codes "b")) no_more) no_more))) }
-    ensures cast_to_moments { let operand = object (member (codes "col") (string (codes "a")) no_members) in
-        let target = object (member (codes "Datetime") (string (codes "ms")) no_members) in
-        let parts = array (item operand (item target (item (string (codes "Strict")) no_items))) in
-        expression_of (object (member (codes "cast") parts no_members))
-        ≡ Some (node (CastOp (DatetimeType Milliseconds) Strict) (more (node (ColumnOp (codes "a")) no_more) no_more)) }
-    ensures unknown_mode { let operand = object (member (codes "col") (string (codes "a")) no_members) in
-        let parts = array (item operand (item (string (codes "Int64")) (item (string (codes "strict")) no_items))) in
-        expression_of (object (member (codes "cast") parts no_members)) ≡ None }
-    ensures short_cast { let operand = object (member (codes "col") (string (codes "a")) no_members) in
-        let parts = array (item operand (item (string (codes "Int64")) no_items)) in
-        expression_of (object (member (codes "cast") parts no_members)) ≡ None }
-    ensures cast_of_none { let parts = array (item null (item (string (codes "Int64")) (item (string (codes "Strict")) no_items))) in
-        expression_of (object (member (codes "cast") parts no_members)) ≡ None }
+    ensures read { let strict = cast_value (col "a" ∷ word "Int64" ∷ word "Strict" ∷ []) in let strictly = cast_to int64 Strict (column "a") in
+        Gives expression_of ((col "a", Some (column "a")) ∷ (col "", Some (column "")) ∷ (bin (word "GtEq" ∷ col "a" ∷ col "b" ∷ []), Some (binary GtEq (column "a") (column "b"))) ∷
+        (cast_value (col "a" ∷ word "Boolean" ∷ word "NonStrict" ∷ []), Some (cast_to Truth NonStrict (column "a"))) ∷
+        (cast_value (strict ∷ word "UInt8" ∷ word "Overflowing" ∷ []), Some (cast_to (Integer false 8) Overflowing strictly)) ∷
+        (bin (word "Lt" ∷ strict ∷ col "b" ∷ []), Some (binary Lt strictly (column "b"))) ∷
+        (cast_value (col "a" ∷ moments "ms" ∷ word "Strict" ∷ []), Some (cast_to (DatetimeType Milliseconds) Strict (column "a"))) ∷ []) }
+    ensures unread { let a = col "a" in
+        GivesAll expression_of None (cast_value (a ∷ word "Int64" ∷ word "strict" ∷ []) ∷ cast_value (a ∷ word "Int64" ∷ []) ∷ cast_value (null ∷ word "Int64" ∷ word "Strict" ∷ []) ∷
+        cast_value (a ∷ word "Int64" ∷ word "Strict" ∷ null ∷ []) ∷ keyed "col" (whole 0) ∷ bin (word "plus" ∷ a ∷ a ∷ []) ∷ bin (word "Plus" ∷ a ∷ []) ∷
+        bin (word "Plus" ∷ a ∷ a ∷ a ∷ []) ∷ bin (a ∷ word "Plus" ∷ a ∷ []) ∷ bin (word "Plus" ∷ word "a" ∷ a ∷ []) ∷ keyed "column" (word "a") ∷ object no_members ∷ word "a" ∷ []) }
+    ensures operators { Gives (λ name. operator_of (word name)) (("Eq", Some Eq) ∷ ("EqValidity", Some EqValidity) ∷ ("NotEq", Some NotEq) ∷ ("NotEqValidity", Some NotEqValidity) ∷
+        ("Lt", Some Lt) ∷ ("LtEq", Some LtEq) ∷ ("Gt", Some Gt) ∷ ("GtEq", Some GtEq) ∷ ("Plus", Some Plus) ∷ ("Minus", Some Minus) ∷
+        ("Multiply", Some Multiply) ∷ ("Divide", Some Divide) ∷ ("FloorDivide", Some FloorDivide) ∷ ("Modulus", Some Modulus) ∷
+        ("And", Some And) ∷ ("Or", Some Or) ∷ ("Xor", Some Xor) ∷ ("LogicalAnd", Some LogicalAnd) ∷ ("LogicalOr", Some LogicalOr) ∷ []) }
+    ensures no_operators { GivesAll operator_of None (word "==" ∷ word "and" ∷ word "Power" ∷ null ∷ []) }
+{}
+
+/// Literals: as they are written, as a text of digits, which is within 128 bits with a sign, and with a type, whose range has the number.
+pub fn literal_examples()
+    ensures unsigned_number { (n : ℕ) → literal_of (number (unsigned n)) ≡ Some (typed (Untyped (pos n)) (pos n)) }
+    ensures negative_number { (z : ℤ) → literal_of (number (negative z)) ≡ Some (typed (Untyped z) z) }
+    ensures float_number { (x : Float) → literal_of (number (float x)) ≡ None }
+    ensures others { Gives literal_of ((null, Some (LiteralOp NullType NullValue)) ∷ (boolean true, Some (LiteralOp Truth (TruthValue true))) ∷
+        (boolean false, Some (LiteralOp Truth (TruthValue false))) ∷ (word "1", Some (LiteralOp TextType (TextValue (codes "1")))) ∷
+        (string (0xc3 ∷ 0xa9 ∷ []), Some (LiteralOp TextType (TextValue (0xe9 ∷ [])))) ∷ (list (whole 1 ∷ []), None) ∷ (object no_members, None) ∷ []) }
+    ensures expressions { let greatest : ℕ = 18446744073709551615 in let sum = binary Plus (untyped (pos greatest)) (column "a") in
+        Gives expression_of ((keyed "lit" (below_zero 299), Some (untyped (negsuc 299))) ∷
+        (bin (word "Plus" ∷ keyed "lit" (whole greatest) ∷ col "a" ∷ []), Some sum) ∷ (keyed_twice "col" (word "a") "lit" (whole 1), None) ∷ []) }
+    ensures numbers { Gives (λ text. number_written (codes text)) (("300", Some (pos 300)) ∷ ("-300", Some (negsuc 299)) ∷ ("007", Some (pos 7)) ∷ ("-0", Some (pos 0)) ∷
+        ("170141183460469231731687303715884105727", Some (pos 170141183460469231731687303715884105727)) ∷
+        ("-170141183460469231731687303715884105728", Some (negsuc 170141183460469231731687303715884105727)) ∷ []) }
+    ensures no_number_texts { GivesAll (λ text. number_written (codes text)) None (
+        "170141183460469231731687303715884105728" ∷ "-170141183460469231731687303715884105729" ∷ "+5" ∷ "" ∷ "-" ∷ "-+5" ∷ "1x" ∷ " 1" ∷ "1.0" ∷ []) }
+    ensures no_text { number_text_of (whole 1) ≡ None }
+    ensures number_text { expression_of (keyed "int" (word "-1")) ≡ Some (untyped (negsuc 0)) }
+    ensures in_range { Gives typed_of ((list (word "Int8" ∷ whole 127 ∷ []), Some (typed int8 (pos 127))) ∷ (list (word "Int8" ∷ below_zero 127 ∷ []), Some (typed int8 (negsuc 127))) ∷
+        (list (word "UInt64" ∷ whole 18446744073709551615 ∷ []), Some (typed (Integer false 64) (pos 18446744073709551615))) ∷
+        (list (word "Date" ∷ whole 10957 ∷ []), Some (typed DateType (pos 10957))) ∷ (list (word "Time" ∷ whole 86399999999999 ∷ []), Some (typed TimeType (pos 86399999999999))) ∷
+        (list (moments "ms" ∷ below_zero 0 ∷ []), Some (typed (DatetimeType Milliseconds) (negsuc 0))) ∷
+        (list (spans "ns" ∷ whole 9223372036854775807 ∷ []), Some (typed (DurationType Nanoseconds) (pos 9223372036854775807))) ∷ []) }
+    ensures none_typed { GivesAll typed_of None (list (word "Int8" ∷ whole 128 ∷ []) ∷ list (word "Int8" ∷ below_zero 128 ∷ []) ∷ list (word "UInt8" ∷ below_zero 0 ∷ []) ∷
+        list (word "Date" ∷ whole 2147483648 ∷ []) ∷ list (word "Time" ∷ whole 86400000000000 ∷ []) ∷ list (word "Time" ∷ below_zero 0 ∷ []) ∷
+        list (spans "ns" ∷ whole 9223372036854775808 ∷ []) ∷ list (word "String" ∷ whole 1 ∷ []) ∷ list (word "Boolean" ∷ whole 1 ∷ []) ∷
+        list (keyed "List" (word "Int8") ∷ whole 1 ∷ []) ∷ list (word "Int8" ∷ []) ∷ list (word "Int8" ∷ whole 1 ∷ null ∷ []) ∷ []) }
+    ensures typed_float { (x : Float) → typed_of (list (word "Int8" ∷ number (float x) ∷ [])) ≡ None }
+    ensures typed_literal { expression_of (keyed "typed" (list (word "UInt8" ∷ whole 255 ∷ []))) ≡ Some (leaf (typed (Integer false 8) (pos 255))) }
 {}
 
 /// Bytes that write a query, and bytes that write none.
 pub fn text_examples()
-    ensures least { WritesQuery (codes " {\"tables\": [], \"plan\": {\"empty\": []}}\n") (record { tables = []; plan = empty_table }) }
-    ensures escaped_name { WritesQuery (codes "{\"tables\":[],\"plan\":{\"empty\":[[\"\\ud83d\\ude00\",\"Int64\"]]}}")
-        (record { tables = []; plan = node (scan_op None ((0x1f600 ∷ [], Integer true 64) ∷ [])) no_more }) }
-    ensures times { WritesQuery (codes "{\"tables\":[],\"plan\":{\"empty\":[[\"a\",\"Time\"],[\"b\",{\"Datetime\":\"us\"}]]}}")
-        (record { tables = []; plan = node (scan_op None ((codes "a", TimeType) ∷ (codes "b", DatetimeType Microseconds) ∷ [])) no_more }) }
+    ensures written { let moments = (codes "a", TimeType) ∷ (codes "b", DatetimeType Microseconds) ∷ [] in
+        Each Writes ((" {\"tables\": [], \"plan\": {\"empty\": []}}\n", query [] empty_table) ∷
+        ("{\"tables\":[],\"plan\":{\"empty\":[[\"\\ud83d\\ude00\",\"Int64\"]]}}", query [] (scan None ((0x1f600 ∷ [], int64) ∷ []))) ∷
+        ("{\"tables\":[],\"plan\":{\"empty\":[[\"a\",\"Time\"],[\"b\",{\"Datetime\":\"us\"}]]}}", query [] (scan None moments)) ∷
+        ("{\"tables\":[],\"plan\":{\"filter\":[{\"empty\":[]},{\"lit\":-7}]}}", query [] (filter (untyped (negsuc 6)) empty_table)) ∷
+        ("{\"tables\":[],\"plan\":{\"filter\":[{\"empty\":[]},{\"lit\":-9223372036854775808}]}}", query [] (filter (untyped (negsuc 9223372036854775807)) empty_table)) ∷
+        ("{\"tables\":[],\"plan\":{\"filter\":[{\"empty\":[]},{\"lit\":18446744073709551615}]}}", query [] (filter (untyped (pos 18446744073709551615)) empty_table)) ∷
+        ("{\"tables\":1,\"plan\":2,\"tables\":[],\"plan\":{\"empty\":[]}}", query [] empty_table) ∷ []) }
+    ensures refused { Each Refused (("{\"tables\":[],\"plan\":{\"drop\":[]}}", BadShape, "/plan") ∷
+        ("{\"tables\":[],\"plan\":{\"empty\":[[\"a\",{\"Datetime\":\"s\"}]]}}", BadShape, "/plan/empty/0/1/Datetime") ∷
+        ("{\"tables\":[],\"plan\":{\"scan\":\"t\"}}", BadName, "/plan/scan") ∷ ("{\"tables\":[],\"plan\":{\"filter\":[{\"empty\":[]},{\"lit\":1.5}]}}", BadFloat, "/plan/filter/1/lit") ∷
+        ("{\"tables\":[],\"plan\":{\"scan\":18446744073709551616}}", BadFloat, "/plan/scan") ∷ ("{\"tables\":[],\"plan\":{\"scan\":-9223372036854775809}}", BadFloat, "/plan/scan") ∷
+        ("{\"tables\":[],\"plan\":{\"scan\":-0}}", BadFloat, "/plan/scan") ∷ ("{\"tables\":[],\"plan\":{\"scan\":0}}", BadShape, "/plan/scan") ∷ []) }
+    ensures no_json { Each NoJson ("{\"tables\":[" ∷ "{\"tables\":[],\"plan\":{\"scan\":1e400}}" ∷ "" ∷ "{\"tables\":[],\"plan\":{\"empty\":[]}}," ∷ []) }
     ensures other_value { (query : QueryModel) → ¬ (WritesQuery (codes "[]") query) }
-    ensures cut { IsRefusalOf (codes "{\"tables\":[") NotJson }
-    ensures unknown_plan { (path : String Global) → string_bytes path ≡ codes "/plan"
-        → IsRefusalOf (codes "{\"tables\":[],\"plan\":{\"drop\":[]}}") (Shape path) }
-    ensures unknown_unit { (path : String Global) → string_bytes path ≡ codes "/plan/empty/0/1/Datetime"
-        → IsRefusalOf (codes "{\"tables\":[],\"plan\":{\"empty\":[[\"a\",{\"Datetime\":\"s\"}]]}}") (Shape path) }
-    ensures undeclared_table { (path : String Global) → string_bytes path ≡ codes "/plan/scan"
-        → IsRefusalOf (codes "{\"tables\":[],\"plan\":{\"scan\":\"t\"}}") (Name path) }
-    ensures float { (path : String Global) → string_bytes path ≡ codes "/plan/filter/1/lit"
-        → IsRefusalOf (codes "{\"tables\":[],\"plan\":{\"filter\":[{\"empty\":[]},{\"lit\":1.5}]}}") (Float' path) }
-    ensures numbers { WritesQuery (codes "{\"tables\":[],\"plan\":{\"filter\":[{\"empty\":[]},{\"lit\":-7}]}}")
-        (record { tables = []; plan = node (filter_op (named (node (number_op (negsuc 6)) no_more))) (more empty_table no_more) }) }
-    ensures least_number { WritesQuery (codes "{\"tables\":[],\"plan\":{\"filter\":[{\"empty\":[]},{\"lit\":-9223372036854775808}]}}")
-        (record { tables = []; plan = node (filter_op (named (node (number_op (negsuc 9223372036854775807)) no_more))) (more empty_table no_more) }) }
-    ensures greatest_number { WritesQuery (codes "{\"tables\":[],\"plan\":{\"filter\":[{\"empty\":[]},{\"lit\":18446744073709551615}]}}")
-        (record { tables = []; plan = node (filter_op (named (node (number_op (pos 18446744073709551615)) no_more))) (more empty_table no_more) }) }
-    ensures past_greatest_number { (path : String Global) → string_bytes path ≡ codes "/plan/scan"
-        → IsRefusalOf (codes "{\"tables\":[],\"plan\":{\"scan\":18446744073709551616}}") (Float' path) }
-    ensures below_least_number { (path : String Global) → string_bytes path ≡ codes "/plan/scan"
-        → IsRefusalOf (codes "{\"tables\":[],\"plan\":{\"scan\":-9223372036854775809}}") (Float' path) }
-    ensures minus_zero { (path : String Global) → string_bytes path ≡ codes "/plan/scan"
-        → IsRefusalOf (codes "{\"tables\":[],\"plan\":{\"scan\":-0}}") (Float' path) }
-    ensures zero { (path : String Global) → string_bytes path ≡ codes "/plan/scan"
-        → IsRefusalOf (codes "{\"tables\":[],\"plan\":{\"scan\":0}}") (Shape path) }
-    ensures last_key_counts { WritesQuery (codes "{\"tables\":1,\"plan\":2,\"tables\":[],\"plan\":{\"empty\":[]}}") (record { tables = []; plan = empty_table }) }
-    ensures past_every_float { IsRefusalOf (codes "{\"tables\":[],\"plan\":{\"scan\":1e400}}") NotJson }
-    ensures nothing { IsRefusalOf [] NotJson }
-    ensures more_behind { IsRefusalOf (codes "{\"tables\":[],\"plan\":{\"empty\":[]}},") NotJson }
     ensures memory { IsRefusalOf (codes "{\"tables\":[],\"plan\":{\"empty\":[]}}") NoMemory }
-{}
-
-/// How a value itself breaks the form that its place asks for.
-pub fn fault_examples()
-    ensures key_too_many { own_fault fault.a_query (object (member (codes "plan") null (member (codes "tables") null (member (codes "x") null no_members))))
-        ≡ Some BadShape }
-    ensures two_keys { own_fault fault.a_query (object (member (codes "plan") null (member (codes "tables") null no_members))) ≡ None }
-    ensures other_kind { own_fault fault.a_text (number (unsigned 1)) ≡ Some BadShape }
-    ensures text { own_fault fault.a_text (string (codes "a")) ≡ None }
-    ensures unknown_type { own_fault fault.a_type (string (codes "int8")) ≡ Some BadShape }
-    ensures known_type { own_fault fault.a_type (string (codes "UInt64")) ≡ None }
-    ensures type_without_unit { own_fault fault.a_type (string (codes "Datetime")) ≡ Some BadShape }
-    ensures type_of_unit { own_fault fault.a_type (object (member (codes "Duration") null no_members)) ≡ None }
-    ensures type_of_unknown_key { own_fault fault.a_type (object (member (codes "duration") null no_members)) ≡ Some BadShape }
-    ensures type_of_two_keys { own_fault fault.a_type (object (member (codes "Datetime") null (member (codes "Duration") null no_members))) ≡ Some BadShape }
-    ensures type_of_no_key { own_fault fault.a_type (object no_members) ≡ Some BadShape }
-    ensures unknown_unit { own_fault fault.a_unit (string (codes "s")) ≡ Some BadShape }
-    ensures known_unit { own_fault fault.a_unit (string (codes "ns")) ≡ None }
-    ensures list_of_unknown { own_fault fault.a_type (object (member (codes "List") null no_members)) ≡ None }
-    ensures struct_of_unknown { own_fault fault.a_type (object (member (codes "Struct") null no_members)) ≡ None }
-    ensures type_of_list { own_fault fault.a_type (array (item (string (codes "Date")) no_items)) ≡ Some BadShape }
-    ensures no_field_list { own_fault fault.field_list (object no_members) ≡ Some BadShape }
-    ensures field_twice { let field = array (item (string (codes "a")) (item null no_items)) in
-        own_fault fault.field_list (array (item field (item field no_items))) ≡ None }
-    ensures long_column { own_fault fault.a_column (array (item null (item null (item null no_items)))) ≡ Some BadShape }
-    ensures short_column { own_fault fault.a_column (array (item null no_items)) ≡ Some BadShape }
-    ensures column_twice { let column = array (item (string (codes "a")) (item null no_items)) in
-        own_fault fault.column_list (array (item column (item null (item column no_items)))) ≡ Some BadShape }
-    ensures two_columns { let first = array (item (string (codes "a")) (item null no_items)) in
-        let second = array (item (string (codes "A")) (item null no_items)) in
-        own_fault fault.column_list (array (item first (item second no_items))) ≡ None }
-    ensures table_twice { own_fault (fault.a_new_name (codes "s" ∷ codes "t" ∷ [])) (string (codes "t")) ≡ Some BadName }
-    ensures new_table { own_fault (fault.a_new_name (codes "s" ∷ [])) (string (codes "t")) ≡ None }
-    ensures nameless_table { own_fault (fault.a_new_name (codes "s" ∷ [])) null ≡ Some BadShape }
-    ensures undeclared_table { own_fault (fault.a_scan (codes "s" ∷ [])) (string (codes "t")) ≡ Some BadName }
-    ensures declared_table { own_fault (fault.a_scan (codes "s" ∷ codes "t" ∷ [])) (string (codes "t")) ≡ None }
-    ensures unknown_plan { own_fault (fault.a_plan []) (object (member (codes "drop") null no_members)) ≡ Some BadShape }
-    ensures two_plans { own_fault (fault.a_plan []) (object (member (codes "empty") null (member (codes "scan") null no_members))) ≡ Some BadShape }
-    ensures known_plan { own_fault (fault.a_plan []) (object (member (codes "scan") null no_members)) ≡ None }
-    ensures unknown_expression { own_fault fault.an_expression (object (member (codes "neg") (number (unsigned 1)) no_members)) ≡ Some BadShape }
-    ensures known_expression { own_fault fault.an_expression (object (member (codes "bin") null no_members)) ≡ None }
-    ensures unknown_operator { own_fault fault.an_operator (string (codes "Power")) ≡ Some BadShape }
-    ensures known_operator { own_fault fault.an_operator (string (codes "NotEq")) ≡ None }
-    ensures short_cast { own_fault fault.a_cast (array (item null (item (string (codes "Int8")) no_items))) ≡ Some BadShape }
-    ensures whole_cast { own_fault fault.a_cast (array (item null (item null (item null no_items)))) ≡ None }
-    ensures unknown_mode { own_fault fault.a_mode (string (codes "strict")) ≡ Some BadShape }
-    ensures known_mode { own_fault fault.a_mode (string (codes "Overflowing")) ≡ None }
-    ensures short_operands { own_fault fault.operands (array (item (string (codes "Plus")) (item null no_items))) ≡ Some BadShape }
-    ensures empty_list { own_fault fault.expression_list (array no_items) ≡ None }
-    ensures short_filter { own_fault (fault.a_filter []) (array (item null no_items)) ≡ Some BadShape }
-    ensures long_filter { own_fault (fault.a_filter []) (array (item null (item null (item null no_items)))) ≡ Some BadShape }
-    ensures whole_filter { own_fault (fault.a_filter []) (array (item null (item null no_items))) ≡ None }
-    ensures no_list { own_fault fault.table_list (object no_members) ≡ Some BadShape }
-{}
-
-/// A number that is held as a float, where something else is asked for.
-pub fn float_examples()
-    ensures query { (x : Float) → own_fault fault.a_query (number (float x)) ≡ Some BadFloat }
-    ensures list { (x : Float) → own_fault fault.table_list (number (float x)) ≡ Some BadFloat }
-    ensures columns { (x : Float) → own_fault fault.column_list (number (float x)) ≡ Some BadFloat }
-    ensures fields { (x : Float) → own_fault fault.field_list (number (float x)) ≡ Some BadFloat }
-    ensures text { (x : Float) → own_fault fault.a_text (number (float x)) ≡ Some BadFloat }
-    ensures type_name { (x : Float) → own_fault fault.a_type (number (float x)) ≡ Some BadFloat }
-    ensures unit_name { (x : Float) → own_fault fault.a_unit (number (float x)) ≡ Some BadFloat }
-    ensures new_name { (x : Float) → own_fault (fault.a_new_name []) (number (float x)) ≡ Some BadFloat }
-    ensures table { (x : Float) → own_fault (fault.a_scan (codes "t" ∷ [])) (number (float x)) ≡ Some BadFloat }
-    ensures plan { (x : Float) → own_fault (fault.a_plan []) (number (float x)) ≡ Some BadFloat }
-    ensures filter { (x : Float) → own_fault (fault.a_filter []) (number (float x)) ≡ Some BadFloat }
-    ensures expression { (x : Float) → own_fault fault.an_expression (number (float x)) ≡ Some BadFloat }
-    ensures operator { (x : Float) → own_fault fault.an_operator (number (float x)) ≡ Some BadFloat }
-    ensures whole_number { own_fault fault.an_operator (number (negative (negsuc 0))) ≡ Some BadShape }
-{}
-
-/// A fault stands at the end of a path of keys and item numbers.
-pub fn place_examples()
-    ensures whole { IsBadAt fault.a_query null BadShape [] }
-    ensures undeclared_table { let scan = object (member (codes "scan") (string (codes "t")) no_members) in
-        let d = object (member (codes "plan") scan (member (codes "tables") (array no_items) no_members)) in
-        IsBadAt fault.a_query d BadName (key (codes "plan") ∷ key (codes "scan") ∷ []) }
-    ensures second_table { let table = object (member (codes "columns") (array no_items) (member (codes "name") (string (codes "t")) no_members)) in
-        let d = object (member (codes "plan") null (member (codes "tables") (array (item table (item table no_items))) no_members)) in
-        IsBadAt fault.a_query d BadName (key (codes "tables") ∷ fault.number 1 ∷ key (codes "name") ∷ []) }
-    ensures column_list { let column = array (item (string (codes "a")) (item (string (codes "Int8")) no_items)) in
-        let table = object (member (codes "columns") (array (item column (item column no_items))) (member (codes "name") (string (codes "t")) no_members)) in
-        let d = object (member (codes "plan") null (member (codes "tables") (array (item table no_items)) no_members)) in
-        IsBadAt fault.a_query d BadShape (key (codes "tables") ∷ fault.number 0 ∷ key (codes "columns") ∷ []) }
-    ensures unknown_expression { let neg = object (member (codes "neg") null no_members) in
-        let col = object (member (codes "col") (string (codes "a")) no_members) in
-        let sum = object (member (codes "bin") (array (item (string (codes "Plus")) (item col (item neg no_items)))) no_members) in
-        let selection = array (item null (item (array (item col (item sum no_items))) no_items)) in
-        let d = object (member (codes "plan") (object (member (codes "select") selection no_members)) (member (codes "tables") (array no_items) no_members)) in
-        IsBadAt fault.a_query d BadShape (key (codes "plan") ∷ key (codes "select") ∷ fault.number 1 ∷ fault.number 1 ∷ key (codes "bin") ∷ fault.number 2 ∷ []) }
-    ensures cast_of_unknown { let neg = object (member (codes "neg") null no_members) in
-        let cast = object (member (codes "cast") (array (item neg (item null (item null no_items)))) no_members) in
-        IsBadAt fault.an_expression cast BadShape (key (codes "cast") ∷ fault.number 0 ∷ []) }
-    ensures cast_to_unknown { let cast = object (member (codes "cast") (array (item null (item (string (codes "bool")) (item null no_items)))) no_members) in
-        IsBadAt fault.an_expression cast BadShape (key (codes "cast") ∷ fault.number 1 ∷ []) }
-    ensures cast_to_unknown_unit { let target = object (member (codes "Datetime") (string (codes "s")) no_members) in
-        let cast = object (member (codes "cast") (array (item null (item target (item null no_items)))) no_members) in
-        IsBadAt fault.an_expression cast BadShape (key (codes "cast") ∷ fault.number 1 ∷ key (codes "Datetime") ∷ []) }
-    ensures column_of_float { (x : Float) → let dtype = object (member (codes "Duration") (number (float x)) no_members) in
-        IsBadAt fault.column_list (array (item (array (item null (item dtype no_items))) no_items)) BadFloat (fault.number 0 ∷ fault.number 1 ∷ key (codes "Duration") ∷ []) }
-    ensures unknown_mode { let below = array (item null (item null (item (string (codes "Wrapping")) no_items))) in
-        let inner = object (member (codes "cast") below no_members) in
-        let cast = object (member (codes "cast") (array (item inner (item null (item null no_items)))) no_members) in
-        IsBadAt fault.an_expression cast BadShape (key (codes "cast") ∷ fault.number 0 ∷ key (codes "cast") ∷ fault.number 2 ∷ []) }
-    ensures float { (x : Float) → let lit = object (member (codes "lit") (number (float x)) no_members) in
-        let plan = object (member (codes "filter") (array (item null (item lit no_items))) no_members) in
-        let d = object (member (codes "plan") plan (member (codes "tables") (array no_items) no_members)) in
-        IsBadAt fault.a_query d BadFloat (key (codes "plan") ∷ key (codes "filter") ∷ fault.number 1 ∷ key (codes "lit") ∷ []) }
-    ensures float_is_no_shape { (x : Float) → let lit = object (member (codes "lit") (number (float x)) no_members) in
-        ¬ (IsBadAt fault.an_expression lit BadShape (key (codes "lit") ∷ [])) }
-    ensures first_table_stays { let table = object (member (codes "columns") (array no_items) (member (codes "name") (string (codes "t")) no_members)) in
-        let d = object (member (codes "plan") null (member (codes "tables") (array (item table (item table no_items))) no_members)) in
-        ¬ (IsBadAt fault.a_query d BadName (key (codes "tables") ∷ fault.number 0 ∷ key (codes "name") ∷ [])) }
-    ensures none_below_an_unknown_type { (kind : fault.FaultKind) (path : List fault.Step)
-        → ¬ (IsBadAt fault.a_type (object (member (codes "Date") (string (codes "s")) no_members)) kind (key (codes "Date") ∷ path)) }
-    ensures none_below_an_unknown_key { (kind : fault.FaultKind) (path : List fault.Step)
-        → let d = object (member (codes "plan") null (member (codes "tables") null (member (codes "x/y") null no_members))) in
-        ¬ (IsBadAt fault.a_query d kind (key (codes "x/y") ∷ path)) }
-{}
-
-/// Below a type stand the type of a list's items, the list of a struct's fields, and a field's name and type.
-pub fn nested_place_examples()
-    ensures item_type { let d = object (member (codes "List") (string (codes "int8")) no_members) in
-        IsBadAt fault.a_type d BadShape (key (codes "List") ∷ []) }
-    ensures unit_of_items { let items = object (member (codes "Datetime") (string (codes "s")) no_members) in
-        let d = object (member (codes "List") items no_members) in
-        IsBadAt fault.a_type d BadShape (key (codes "List") ∷ key (codes "Datetime") ∷ []) }
-    ensures fields { (x : Float) → let d = object (member (codes "Struct") (number (float x)) no_members) in
-        IsBadAt fault.a_type d BadFloat (key (codes "Struct") ∷ []) }
-    ensures short_field { let field = array (item (string (codes "a")) no_items) in
-        let d = object (member (codes "Struct") (array (item null (item field no_items))) no_members) in
-        IsBadAt fault.a_type d BadShape (key (codes "Struct") ∷ fault.number 1 ∷ []) }
-    ensures field_name { let field = array (item null (item null no_items)) in
-        let d = object (member (codes "Struct") (array (item field no_items)) no_members) in
-        IsBadAt fault.a_type d BadShape (key (codes "Struct") ∷ fault.number 0 ∷ fault.number 0 ∷ []) }
-    ensures field_type { let list = object (member (codes "List") null no_members) in
-        let field = array (item null (item list no_items)) in
-        let d = object (member (codes "Struct") (array (item field no_items)) no_members) in
-        IsBadAt fault.a_type d BadShape (key (codes "Struct") ∷ fault.number 0 ∷ fault.number 1 ∷ key (codes "List") ∷ []) }
-    ensures none_below_an_unknown_key { (kind : fault.FaultKind) (path : List fault.Step)
-        → ¬ (IsBadAt fault.a_type (object (member (codes "list") (string (codes "s")) no_members)) kind (key (codes "list") ∷ path)) }
-{}
-
-/// A pointer has each step behind a slash. In a key, `~` is `~0` and `/` is `~1`.
-pub fn pointer_examples()
-    ensures plain { escaped (codes "columns") ≡ codes "columns" }
-    ensures slash { escaped (codes "a/b") ≡ codes "a~1b" }
-    ensures tilde { escaped (codes "m~n") ≡ codes "m~0n" }
-    ensures like_escapes { escaped (codes "~1/~0") ≡ codes "~01~1~00" }
-    ensures whole { pointer_text [] ≡ [] }
-    ensures steps { pointer_text (key (codes "tables") ∷ fault.number 0 ∷ key (codes "columns") ∷ fault.number 12 ∷ [])
-        ≡ codes "/tables/0/columns/12" }
-    ensures escapes { pointer_text (key (codes "~/") ∷ key [] ∷ key (codes "0") ∷ []) ≡ codes "/~0~1//0" }
 {}

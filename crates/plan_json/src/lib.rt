@@ -8,7 +8,7 @@ mod columns;
 mod declarations;
 mod dtype;
 pub mod error;
-pub mod examples;
+mod examples;
 mod expression;
 pub mod laws;
 mod literal;

@@ -1,0 +1,184 @@
+-- What the worked examples share: tables of cases, and values and trees in short.
+use Prim.Native.String.{String as Literal}
+use Rattle.std.specs.Prelude.{◌≡◌, ◌+◌, ℕ, ℤ, negsuc, List, [], ◌∷◌, map, codes, ⊤, true, Option, String, string_bytes}
+use Rattle.std.specs.Global.{Global}
+use Rattle.serde_json.specs.Data.{Data, Items, array, no_items, item, no_members, member, negative, number, object, string, unsigned}
+use Rattle.plan_types.specs.Schemas.{Columns}
+use Rattle.plan_types.specs.Types.{Ty, Integer, Untyped}
+use Rattle.plan_types.specs.Values.{IntValue}
+use Rattle.plan_types.specs.declared.dtype.CastOptions.{CastOptions}
+use Rattle.plan_dsl.specs.declared.operator.Operator.{Operator}
+use Rattle.plan_dsl.specs.Ops.{ColumnOp, LiteralOp, BinaryOp, CastOp, Expression, Op}
+use Rattle.plan_dsl.specs.Plans.{Plan, named, scan_op, select_op, filter_op}
+use Rattle.plan_dsl.specs.Trees.{node, no_more, more}
+use Rattle.plan_json.specs.Bytes.{IsRefusalOf, WritesQuery}
+use Rattle.plan_json.specs.Faults.{FaultKind, BadShape, BadFloat, BadName, Form, IsBadAt, Part, Path, key, number as at_number, own_fault, part, parts_of}
+use Rattle.plan_json.specs.Queries.{QueryModel}
+use Rattle.plan_json.specs.Tables.{Declared}
+use Rattle.plan_json.specs.declared.error.JsonError.{JsonError}
+use Rattle.plan_json.specs.declared.error.JsonError.TheVariants.{NotJson, Shape, Float, Name}
+
+-- ---- tables of cases
+
+-- the definition gives each case the answer that stands beside it
+abbrev pub Gives : {Case Answer : Type 0} → (Case → Answer) → List (Case × Answer) → Type 0
+Gives definition table = map (λ row. definition row.0) table ≡ map (λ row. row.1) table
+
+-- it gives every case the one answer
+abbrev pub GivesAll : {Case Answer : Type 0} → (Case → Answer) → Answer → List Case → Type 0
+GivesAll definition answer cases = map definition cases ≡ map (λ _. answer) cases
+
+abbrev pub EachOf : {Case : Type 0} → (Case → Type 0) → List Case → Type 0
+EachOf statement [] = ⊤
+EachOf statement (c ∷ cs) = statement c × EachOf statement cs
+
+-- the statement holds of each case
+pub record Each {Case : Type 0} (statement : Case → Type 0) (cases : List Case) : Type 0 where
+  pub each : EachOf statement cases
+
+-- ---- values
+
+abbrev pub items_of : List Data → Items
+items_of [] = no_items
+items_of (d ∷ ds) = item d (items_of ds)
+
+abbrev pub list : List Data → Data
+list ds = array (items_of ds)
+
+abbrev pub word : Literal → Data
+word text = string (codes text)
+
+abbrev pub whole : ℕ → Data
+whole n = number (unsigned n)
+
+-- -1 - n
+abbrev pub below_zero : ℕ → Data
+below_zero n = number (negative (negsuc n))
+
+abbrev pub keyed : Literal → Data → Data
+keyed name value = object (member (codes name) value no_members)
+
+abbrev pub keyed_twice : Literal → Data → Literal → Data → Data
+keyed_twice name value other_name other = object (member (codes name) value (member (codes other_name) other no_members))
+
+-- of a unit of time
+abbrev pub moments : Literal → Data
+moments unit = keyed "Datetime" (word unit)
+
+abbrev pub spans : Literal → Data
+spans unit = keyed "Duration" (word unit)
+
+abbrev pub column_value : Literal → Literal → Data
+column_value name type = list (word name ∷ word type ∷ [])
+
+abbrev pub table_value : Literal → Data → Data
+table_value name columns = keyed_twice "columns" columns "name" (word name)
+
+abbrev pub query_value : List Data → Data → Data
+query_value tables plan = keyed_twice "plan" plan "tables" (list tables)
+
+abbrev pub col : Literal → Data
+col name = keyed "col" (word name)
+
+abbrev pub bin : List Data → Data
+bin parts = keyed "bin" (list parts)
+
+abbrev pub cast_value : List Data → Data
+cast_value parts = keyed "cast" (list parts)
+
+abbrev pub scan_value : Literal → Data
+scan_value table = keyed "scan" (word table)
+
+abbrev pub empty_value : Data
+empty_value = keyed "empty" (list [])
+
+abbrev pub filter_value : List Data → Data
+filter_value parts = keyed "filter" (list parts)
+
+abbrev pub select_value : List Data → Data
+select_value parts = keyed "select" (list parts)
+
+-- ---- trees
+
+abbrev pub int8 : Ty
+int8 = Integer true 8
+
+abbrev pub int64 : Ty
+int64 = Integer true 64
+
+abbrev pub leaf : Op → Expression
+leaf op = node op no_more
+
+abbrev pub column : Literal → Expression
+column name = leaf (ColumnOp (codes name))
+
+abbrev pub typed : Ty → ℤ → Op
+typed type n = LiteralOp type (IntValue n)
+
+-- a number without a type
+abbrev pub untyped : ℤ → Expression
+untyped n = leaf (typed (Untyped n) n)
+
+abbrev pub binary : Operator → Expression → Expression → Expression
+binary operator left right = node (BinaryOp operator) (more left (more right no_more))
+
+abbrev pub cast_to : Ty → CastOptions → Expression → Expression
+cast_to type mode operand = node (CastOp type mode) (more operand no_more)
+
+abbrev pub scan : Option ℕ → Columns → Plan
+scan table columns = node (scan_op table columns) no_more
+
+abbrev pub select : List Expression → Plan → Plan
+select outputs input = node (select_op (map named outputs) []) (more input no_more)
+
+abbrev pub filter : Expression → Plan → Plan
+filter predicate input = node (filter_op (named predicate)) (more input no_more)
+
+abbrev pub query : Declared → Plan → QueryModel
+query tables plan = record { tables = tables; plan = plan }
+
+-- ---- parts and faults
+
+abbrev pub fault_in : Form × Data → Option FaultKind
+fault_in case = own_fault case.0 case.1
+
+abbrev pub parts_in : Form × Data → List Part
+parts_in case = parts_of case.0 case.1
+
+abbrev pub under : Literal → Form → Data → List Part
+under name form value = part (key (codes name)) form value ∷ []
+
+abbrev pub from_number : ℕ → List (Form × Data) → List Part
+from_number n [] = []
+from_number n (asked ∷ rest) = part (at_number n) asked.0 asked.1 ∷ from_number (n + 1) rest
+
+-- the items of a list, and what is asked of each
+abbrev pub in_turn : List (Form × Data) → List Part
+in_turn asked = from_number 0 asked
+
+abbrev pub to : Literal → Path → Path
+to name path = key (codes name) ∷ path
+
+-- a value of the form is at fault in this way at the path's end
+abbrev pub BadAt : Form × Data × FaultKind × Path → Type 0
+BadAt case = IsBadAt case.0 case.1 case.2 case.3
+
+abbrev pub NotBadAt : Form × Data × FaultKind × Path → Type 0
+NotBadAt case = ¬ (IsBadAt case.0 case.1 case.2 case.3)
+
+-- ---- texts
+
+abbrev pub error_of : FaultKind → String Global → JsonError
+error_of BadShape path = Shape path
+error_of BadFloat path = Float path
+error_of BadName path = Name path
+
+abbrev pub Writes : Literal × QueryModel → Type 0
+Writes case = WritesQuery (codes case.0) case.1
+
+-- the text is refused in this way at the pointer
+abbrev pub Refused : Literal × FaultKind × Literal → Type 0
+Refused case = (path : String Global) → string_bytes path ≡ codes case.2 → IsRefusalOf (codes case.0) (error_of case.1 path)
+
+abbrev pub NoJson : Literal → Type 0
+NoJson text = IsRefusalOf (codes text) NotJson
