@@ -1,22 +1,30 @@
 -- What the worked examples share: tables of cases, types, values, expressions, plans and frames.
 use Prim.Native.String.{String}
 use Rattle.std.specs.Prelude.{◌≡◌, ℕ, ℤ, pos, neg_ℤ, List, [], ◌∷◌, map, codes, true, false, Some, None, Result, Ok, Err}
-use Rattle.plan_types.specs.Types.{Ty, Truth, Integer, Untyped}
-use Rattle.plan_types.specs.Values.{Val, NullValue, TruthValue, IntValue, TextValue}
+use Rattle.plan_types.specs.Types.{Ty, NullType, Truth, Integer, TextType, DateType, TimeType, DatetimeType, DurationType, StructType, Untyped, fields_from}
+use Rattle.plan_types.specs.Values.{Val, NullValue, TruthValue, IntValue, TextValue, ListValue, StructValue}
+use Rattle.plan_types.specs.ValueViews.{values_from}
 use Rattle.plan_types.specs.Schemas.{Columns}
 use Rattle.plan_types.specs.Frames.{Frame, Row, row_numbers}
-use Rattle.plan_types.specs.Outcomes.{Outcome}
+use Rattle.plan_types.specs.Outcomes.{Outcome, Done}
 use Rattle.plan_types.specs.declared.dtype.CastOptions.{CastOptions}
+use Rattle.plan_types.specs.declared.dtype.CastOptions.TheVariants.{Strict, NonStrict, Overflowing}
+use Rattle.plan_types.specs.declared.dtype.TimeUnit.TheVariants.{Microseconds}
 use Rattle.plan_types.specs.declared.error.ErrorKind.{ErrorKind}
 use Rattle.plan_types.specs.declared.error.ErrorKind.TheVariants.{SchemaMismatch}
+use Rattle.plan_dsl.specs.declared.expr.Expr.TheVariants.{Literal}
+use Rattle.plan_dsl.specs.declared.literal.LiteralValue.{LiteralValue}
 use Rattle.plan_dsl.specs.declared.operator.Operator.{Operator}
 use Rattle.plan_dsl.specs.declared.operator.Operator.TheVariants.{Eq, EqValidity, NotEq, NotEqValidity, Lt, LtEq, Gt, GtEq, Plus, Minus, Multiply, Divide, FloorDivide, Modulus, And, Or, Xor, LogicalAnd, LogicalOr}
 use Rattle.plan_dsl.specs.Trees.{node, no_more, more}
 use Rattle.plan_dsl.specs.Ops.{ColumnOp, LiteralOp, BinaryOp, CastOp, Expression}
-use Rattle.plan_dsl.specs.Typing.{Typed}
+use Rattle.plan_dsl.specs.Expressions.{tree_of}
+use Rattle.plan_dsl.specs.Literals.{is_literal}
+use Rattle.plan_dsl.specs.Typing.{Typed, typing}
 use Rattle.plan_dsl.specs.Operators.{operator_value}
 use Rattle.plan_dsl.specs.OperatorTypes.{Taken, pair_to, operator_types}
 use Rattle.plan_dsl.specs.Meaning.{meaning}
+use Rattle.plan_dsl.specs.Strictness.{as_operand}
 use Rattle.plan_dsl.specs.StrictRun.{strict_run}
 use Rattle.plan_dsl.specs.Plans.{Plan, named, scan_op, select_op, filter_op}
 use Rattle.plan_dsl.specs.PlanRules.{Signature}
@@ -62,6 +70,26 @@ uint32 = Integer false 32
 abbrev pub uint64 : Ty
 uint64 = Integer false 64
 
+-- structs of fields of these names and types
+abbrev pub struct_type : Columns → Ty
+struct_type fields = StructType (fields_from fields)
+
+abbrev pub one_field : String → Ty → Ty
+one_field name type = struct_type ((codes name, type) ∷ [])
+
+abbrev pub moment : Ty
+moment = DatetimeType Microseconds
+
+abbrev pub span : Ty
+span = DurationType Microseconds
+
+-- the types of times, and others
+abbrev pub times : List Ty
+times = DateType ∷ TimeType ∷ moment ∷ span ∷ []
+
+abbrev pub no_times : List Ty
+no_times = NullType ∷ Truth ∷ int32 ∷ int64 ∷ TextType ∷ Untyped (pos 1) ∷ []
+
 -- ---- values
 
 abbrev pub null : Val
@@ -82,10 +110,19 @@ negative size = IntValue (neg_ℤ (pos size))
 abbrev pub text : String → Val
 text characters = TextValue (codes characters)
 
+abbrev pub list : List Val → Val
+list items = ListValue (values_from items)
+
+abbrev pub struct_of : List Val → Val
+struct_of parts = StructValue (values_from parts)
+
 -- ---- operators
 
 abbrev pub comparisons : List Operator
 comparisons = Eq ∷ NotEq ∷ Lt ∷ LtEq ∷ Gt ∷ GtEq ∷ []
+
+abbrev pub equalities : List Operator
+equalities = Eq ∷ EqValidity ∷ NotEq ∷ NotEqValidity ∷ []
 
 abbrev pub orders : List Operator
 orders = Lt ∷ LtEq ∷ Gt ∷ GtEq ∷ []
@@ -115,6 +152,9 @@ logical = LogicalAnd ∷ LogicalOr ∷ []
 abbrev pub both_as : Ty → Ty → Result Taken ErrorKind
 both_as type result = Ok (pair_to type type result)
 
+abbrev pub taken : Ty → Ty → Ty → Result Taken ErrorKind
+taken left right result = Ok (pair_to left right result)
+
 -- each of the operators takes the two types so
 abbrev pub Take : List Operator → List (Ty × Ty × Result Taken ErrorKind) → Type 0
 Take operators table =
@@ -130,7 +170,14 @@ Refuse operators kind table =
 abbrev pub Compute : List Operator → Ty → Ty → List (Val × Val × List Val) → Type 0
 Compute operators from type table = GivesOfTwo (λ left right. map (λ operator. operator_value operator from type left right) operators) table
 
+-- what an operator gives: each row has the first value's type, the result's, two values and the answer
+abbrev pub ComputeEach : Operator → List (Ty × Ty × Val × Val × Val) → Type 0
+ComputeEach operator table = map (λ row. operator_value operator row.0 row.1 row.2 row.3) table ≡ map (λ row. row.4) table
+
 -- ---- expressions
+
+abbrev pub all_options : List CastOptions
+all_options = Strict ∷ NonStrict ∷ Overflowing ∷ []
 
 abbrev pub column : String → Expression
 column name = node (ColumnOp (codes name)) no_more
@@ -147,11 +194,29 @@ c = column "c"
 abbrev pub d : Expression
 d = column "d"
 
+abbrev pub f : Expression
+f = column "f"
+
+abbrev pub m : Expression
+m = column "m"
+
+abbrev pub n : Expression
+n = column "n"
+
+abbrev pub s : Expression
+s = column "s"
+
 abbrev pub t : Expression
 t = column "t"
 
 abbrev pub u : Expression
 u = column "u"
+
+abbrev pub w : Expression
+w = column "w"
+
+abbrev pub x : Expression
+x = column "x"
 
 -- a number without a type
 abbrev pub literal : ℤ → Expression
@@ -159,6 +224,35 @@ literal value = node (LiteralOp (Untyped value) (IntValue value)) no_more
 
 abbrev pub typed_literal : Ty → ℤ → Expression
 typed_literal type value = node (LiteralOp type (IntValue value)) no_more
+
+-- numbers without a type: small ones, one below 0, two that Int8 hasn't, the greatest that has a type, and one past it
+abbrev pub one : Expression
+one = literal (pos 1)
+
+abbrev pub two : Expression
+two = literal (pos 2)
+
+abbrev pub five : Expression
+five = literal (pos 5)
+
+abbrev pub below : Expression
+below = literal (neg_ℤ (pos 1))
+
+abbrev pub wide : Expression
+wide = literal (pos 300)
+
+abbrev pub two_hundred : Expression
+two_hundred = literal (pos 200)
+
+abbrev pub widest : Expression
+widest = literal (pos 18446744073709551615)
+
+abbrev pub huge : Expression
+huge = literal (pos 18446744073709551616)
+
+-- a literal as it is written
+abbrev pub written : LiteralValue → Expression
+written value = tree_of (Literal value)
 
 abbrev pub binary : Operator → Expression → Expression → Expression
 binary operator left right = node (BinaryOp operator) (more left (more right no_more))
@@ -175,12 +269,33 @@ equal left right = binary Eq left right
 abbrev pub cast_as : CastOptions → Ty → Expression → Expression
 cast_as options target operand = node (CastOp target options) (more operand no_more)
 
+-- of each type the first values are those of literals, and the others aren't
+abbrev pub HasLiterals : List (Ty × List Val × List Val) → Type 0
+HasLiterals table =
+    map (λ row. map (is_literal row.0) row.1 ∷ map (is_literal row.0) row.2 ∷ []) table
+    ≡ map (λ row. map (λ _. true) row.1 ∷ map (λ _. false) row.2 ∷ []) table
+
+-- an operand of the first type, made one of the second: each row has these types, the operand, and what is made of it
+abbrev pub AreOperands : List (Ty × Ty × Expression × Expression) → Type 0
+AreOperands table = map (λ row. as_operand row.0 row.1 row.2) table ≡ map (λ row. row.3) table
+
+-- a column of each first type has no strict cast to each of the types beside it
+abbrev pub RefuseCasts : ErrorKind → List (Ty × List Ty) → Type 0
+RefuseCasts kind table =
+    map (λ row. map (λ target. typing [] ((codes "a", row.0) ∷ []) (cast_as Strict target a)) row.1) table ≡ map (λ row. map (λ _. Err kind) row.1) table
+
 -- the typing of what has one value, and of what may have more
+abbrev pub one_value : Ty → Typed
+one_value type = record { type = type; many = false }
+
+abbrev pub many_values : Ty → Typed
+many_values type = record { type = type; many = true }
+
 abbrev pub of_one : Ty → Result Typed ErrorKind
-of_one type = Ok (record { type = type; many = false })
+of_one type = Ok (one_value type)
 
 abbrev pub of_many : Ty → Result Typed ErrorKind
-of_many type = Ok (record { type = type; many = true })
+of_many type = Ok (many_values type)
 
 -- ---- frames
 
@@ -194,6 +309,22 @@ means frame tree = meaning [] frame tree (row_numbers frame)
 abbrev pub runs : Frame → Expression → Outcome (List Val)
 runs frame tree = strict_run [] frame tree (row_numbers frame)
 
+-- a frame of one column of this type
+abbrev pub alone : Ty → List Val → Frame
+alone type values = frame_with ((codes "a", type) ∷ []) (map (λ value. value ∷ []) values)
+
+-- a frame of two columns of these types, row by row
+abbrev pub beside : Ty → Ty → List (Val × Val) → Frame
+beside left right rows = frame_with ((codes "a", left) ∷ (codes "b", right) ∷ []) (map (λ row. row.0 ∷ row.1 ∷ []) rows)
+
+-- what an operator means between two columns of these types: each row has their values and what it gives
+abbrev pub Mean : Operator → Ty → Ty → List (Val × Val × Val) → Type 0
+Mean operator left right table = means (beside left right (map (λ row. (row.0, row.1)) table)) (binary operator a b) ≡ Done (map (λ row. row.2) table)
+
+-- the same, as it runs where it is written
+abbrev pub Run : Operator → Ty → Ty → List (Val × Val × Val) → Type 0
+Run operator left right table = runs (beside left right (map (λ row. (row.0, row.1)) table)) (binary operator a b) ≡ Done (map (λ row. row.2) table)
+
 -- three rows, with a null
 abbrev pub table : Frame
 table =
@@ -201,6 +332,64 @@ table =
     (number 1 ∷ number 10 ∷ []) ∷
     (null ∷ number 20 ∷ []) ∷
     (number 100 ∷ number 200 ∷ []) ∷ [])
+
+abbrev pub four_columns : Columns
+four_columns = (codes "a", int8) ∷ (codes "b", int64) ∷ (codes "t", Truth) ∷ (codes "u", uint64) ∷ []
+
+-- numbers of two types
+abbrev pub two_widths : Frame
+two_widths =
+    frame_with ((codes "a", int8) ∷ (codes "b", int64) ∷ []) (
+    (number 1 ∷ number 2 ∷ []) ∷
+    (number 2 ∷ number 2 ∷ []) ∷
+    (null ∷ number 2 ∷ []) ∷
+    (number 2 ∷ null ∷ []) ∷
+    (number 3 ∷ negative 200 ∷ []) ∷ [])
+
+-- the same, of which some are 0
+abbrev pub some_zeros : Frame
+some_zeros =
+    frame_with ((codes "a", int8) ∷ (codes "b", int64) ∷ []) (
+    (number 1 ∷ number 2 ∷ []) ∷
+    (number 0 ∷ negative 200 ∷ []) ∷
+    (null ∷ number 2 ∷ []) ∷
+    (negative 1 ∷ null ∷ []) ∷ [])
+
+abbrev pub truths_and_numbers : Frame
+truths_and_numbers =
+    frame_with ((codes "t", Truth) ∷ (codes "a", int8) ∷ []) (
+    (yes ∷ number 1 ∷ []) ∷
+    (yes ∷ number 2 ∷ []) ∷
+    (no ∷ negative 1 ∷ []) ∷
+    (null ∷ number 1 ∷ []) ∷
+    (yes ∷ number 127 ∷ []) ∷ [])
+
+-- numbers with and without a sign, and truth values
+abbrev pub signs_and_truths : Frame
+signs_and_truths =
+    frame_with ((codes "a", int8) ∷ (codes "u", uint8) ∷ (codes "t", Truth) ∷ []) (
+    (number 100 ∷ number 0 ∷ yes ∷ []) ∷
+    (number 127 ∷ number 255 ∷ no ∷ []) ∷
+    (null ∷ null ∷ null ∷ []) ∷ [])
+
+-- days beside moments, at midnight and elsewhere
+abbrev pub days_and_moments : Frame
+days_and_moments =
+    frame_with ((codes "d", DateType) ∷ (codes "m", moment) ∷ []) (
+    (number 1 ∷ number 86400000000 ∷ []) ∷
+    (number 1 ∷ number 86400000001 ∷ []) ∷
+    (negative 1 ∷ negative 86400000001 ∷ []) ∷
+    (null ∷ number 0 ∷ []) ∷
+    (number 0 ∷ null ∷ []) ∷ [])
+
+-- texts, truth values and nulls
+abbrev pub texts_and_truths : Frame
+texts_and_truths =
+    frame_with ((codes "x", TextType) ∷ (codes "b", Truth) ∷ (codes "n", NullType) ∷ []) (
+    (text "true" ∷ yes ∷ null ∷ []) ∷
+    (text "is " ∷ no ∷ null ∷ []) ∷
+    (null ∷ yes ∷ null ∷ []) ∷
+    (text "" ∷ null ∷ null ∷ []) ∷ [])
 
 -- ---- plans
 

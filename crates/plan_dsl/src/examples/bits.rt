@@ -1,135 +1,74 @@
 //! Truth values and bits, comparisons of nulls, and kinds of operators.
 
-ghost use Rattle.std.specs.Prelude.{◌≡◌, [], ◌∷◌, pos, neg_ℤ, map, replicate, codes, true, false, Some, None, Ok, Err};
-ghost use Rattle.plan_types.specs.Types.{NullType, Truth, Integer, TextType, DateType, DurationType, ListType, Untyped};
-ghost use Rattle.plan_types.specs.Values.{NullValue, TruthValue, IntValue, ListValue, no_value};
+ghost use Rattle.std.specs.Prelude.{◌≡◌, [], ◌∷◌, pos, map, codes, true, false, Some, None};
+ghost use Rattle.plan_types.specs.Types.{NullType, Truth, TextType, DateType, DurationType, ListType, Untyped};
 ghost use Rattle.plan_types.specs.declared.dtype.TimeUnit.TheVariants.{Milliseconds};
 ghost use Rattle.plan_types.specs.declared.error.ErrorKind.TheVariants.{SchemaMismatch, InvalidOperation};
 ghost use Rattle.plan_dsl.specs.declared.operator.InequalityOperator.TheVariants as Inequality;
 ghost use Rattle.plan_dsl.specs.declared.operator.Operator.TheVariants.{Eq, EqValidity, NotEq, NotEqValidity, Lt, LtEq, Gt, GtEq, Plus, Minus, Multiply, Divide, FloorDivide, Modulus, And, Or, Xor, LogicalAnd, LogicalOr};
-ghost use Rattle.plan_dsl.specs.Operators.{inequality, is_comparison, operator_sign, operator_value, swapped};
-ghost use Rattle.plan_dsl.specs.OperatorTypes.{pair_to, operator_types};
+ghost use Rattle.plan_dsl.specs.Operators.{inequality, is_comparison, operator_sign, swapped};
+ghost use Rattle.plan_dsl.specs.Samples.{GivesAll, Take, Refuse, Compute, arithmetic, bits, comparisons, logical, orders, with_nulls, both_as, int8, int16, int32, int64, uint8, uint16, uint64, null, yes, no, number, negative, list};
 
 /// False beside anything is not both, true beside anything is either, and else null is null.
 pub fn truth_values_combined()
-    ensures false_beside_false { map (λ operator. operator_value operator Truth Truth (TruthValue false) (TruthValue false)) (And ∷ Or ∷ Xor ∷ LogicalAnd ∷ LogicalOr ∷ [])
-        ≡ TruthValue false ∷ TruthValue false ∷ TruthValue false ∷ TruthValue false ∷ TruthValue false ∷ [] }
-    ensures false_beside_true { map (λ operator. operator_value operator Truth Truth (TruthValue false) (TruthValue true)) (And ∷ Or ∷ Xor ∷ LogicalAnd ∷ LogicalOr ∷ [])
-        ≡ TruthValue false ∷ TruthValue true ∷ TruthValue true ∷ TruthValue false ∷ TruthValue true ∷ [] }
-    ensures false_beside_null { map (λ operator. operator_value operator Truth Truth (TruthValue false) NullValue) (And ∷ Or ∷ Xor ∷ LogicalAnd ∷ LogicalOr ∷ [])
-        ≡ TruthValue false ∷ NullValue ∷ NullValue ∷ TruthValue false ∷ NullValue ∷ [] }
-    ensures true_beside_false { map (λ operator. operator_value operator Truth Truth (TruthValue true) (TruthValue false)) (And ∷ Or ∷ Xor ∷ LogicalAnd ∷ LogicalOr ∷ [])
-        ≡ TruthValue false ∷ TruthValue true ∷ TruthValue true ∷ TruthValue false ∷ TruthValue true ∷ [] }
-    ensures true_beside_true { map (λ operator. operator_value operator Truth Truth (TruthValue true) (TruthValue true)) (And ∷ Or ∷ Xor ∷ LogicalAnd ∷ LogicalOr ∷ [])
-        ≡ TruthValue true ∷ TruthValue true ∷ TruthValue false ∷ TruthValue true ∷ TruthValue true ∷ [] }
-    ensures true_beside_null { map (λ operator. operator_value operator Truth Truth (TruthValue true) NullValue) (And ∷ Or ∷ Xor ∷ LogicalAnd ∷ LogicalOr ∷ [])
-        ≡ NullValue ∷ TruthValue true ∷ NullValue ∷ NullValue ∷ TruthValue true ∷ [] }
-    ensures null_beside_false { map (λ operator. operator_value operator Truth Truth NullValue (TruthValue false)) (And ∷ Or ∷ Xor ∷ LogicalAnd ∷ LogicalOr ∷ [])
-        ≡ TruthValue false ∷ NullValue ∷ NullValue ∷ TruthValue false ∷ NullValue ∷ [] }
-    ensures null_beside_true { map (λ operator. operator_value operator Truth Truth NullValue (TruthValue true)) (And ∷ Or ∷ Xor ∷ LogicalAnd ∷ LogicalOr ∷ [])
-        ≡ NullValue ∷ TruthValue true ∷ NullValue ∷ NullValue ∷ TruthValue true ∷ [] }
-    ensures null_beside_null { map (λ operator. operator_value operator Truth Truth NullValue NullValue) (And ∷ Or ∷ Xor ∷ LogicalAnd ∷ LogicalOr ∷ [])
-        ≡ NullValue ∷ NullValue ∷ NullValue ∷ NullValue ∷ NullValue ∷ [] }
+    ensures values { Compute (And ∷ Or ∷ Xor ∷ LogicalAnd ∷ LogicalOr ∷ []) Truth Truth (
+        (no, no, no ∷ no ∷ no ∷ no ∷ no ∷ []) ∷ (no, yes, no ∷ yes ∷ yes ∷ no ∷ yes ∷ []) ∷ (no, null, no ∷ null ∷ null ∷ no ∷ null ∷ []) ∷
+        (yes, no, no ∷ yes ∷ yes ∷ no ∷ yes ∷ []) ∷ (yes, yes, yes ∷ yes ∷ no ∷ yes ∷ yes ∷ []) ∷ (yes, null, null ∷ yes ∷ null ∷ null ∷ yes ∷ []) ∷
+        (null, no, no ∷ null ∷ null ∷ no ∷ null ∷ []) ∷ (null, yes, null ∷ yes ∷ null ∷ null ∷ yes ∷ []) ∷ (null, null, null ∷ null ∷ null ∷ null ∷ null ∷ []) ∷ []) }
 {}
 
 /// Numbers are combined by their bits, in their type.
 pub fn bits_combined()
-    ensures positive { map (λ operator. operator_value operator (Integer true 8) (Integer true 8) (IntValue (pos 12)) (IntValue (pos 10))) (And ∷ Or ∷ Xor ∷ [])
-        ≡ IntValue (pos 8) ∷ IntValue (pos 14) ∷ IntValue (pos 6) ∷ [] }
-    ensures negative_and_positive { map (λ operator. operator_value operator (Integer true 8) (Integer true 8) (IntValue (neg_ℤ (pos 1))) (IntValue (pos 5))) (And ∷ Or ∷ Xor ∷ [])
-        ≡ IntValue (pos 5) ∷ IntValue (neg_ℤ (pos 1)) ∷ IntValue (neg_ℤ (pos 6)) ∷ [] }
-    ensures two_negatives { map (λ operator. operator_value operator (Integer true 8) (Integer true 8) (IntValue (neg_ℤ (pos 8))) (IntValue (neg_ℤ (pos 3)))) (And ∷ Or ∷ Xor ∷ [])
-        ≡ IntValue (neg_ℤ (pos 8)) ∷ IntValue (neg_ℤ (pos 3)) ∷ IntValue (pos 5) ∷ [] }
-    ensures least_and_greatest { map (λ operator. operator_value operator (Integer true 8) (Integer true 8) (IntValue (neg_ℤ (pos 128))) (IntValue (pos 127))) (And ∷ Or ∷ Xor ∷ [])
-        ≡ IntValue (pos 0) ∷ IntValue (neg_ℤ (pos 1)) ∷ IntValue (neg_ℤ (pos 1)) ∷ [] }
-    ensures without_a_sign { map (λ operator. operator_value operator (Integer false 8) (Integer false 8) (IntValue (pos 255)) (IntValue (pos 15))) (And ∷ Or ∷ Xor ∷ [])
-        ≡ IntValue (pos 15) ∷ IntValue (pos 255) ∷ IntValue (pos 240) ∷ [] }
-    ensures widest { map (λ operator. operator_value operator (Integer false 64) (Integer false 64) (IntValue (pos 18446744073709551615)) (IntValue (pos 1))) (And ∷ Or ∷ Xor ∷ [])
-        ≡ IntValue (pos 1) ∷ IntValue (pos 18446744073709551615) ∷ IntValue (pos 18446744073709551614) ∷ [] }
-    ensures null_on_the_left { map (λ operator. operator_value operator (Integer true 8) (Integer true 8) NullValue (IntValue (pos 0))) (And ∷ Or ∷ Xor ∷ [])
-        ≡ NullValue ∷ NullValue ∷ NullValue ∷ [] }
-    ensures null_on_the_right { map (λ operator. operator_value operator (Integer true 8) (Integer true 8) (IntValue (pos 0)) NullValue) (And ∷ Or ∷ Xor ∷ [])
-        ≡ NullValue ∷ NullValue ∷ NullValue ∷ [] }
-    ensures two_nulls { map (λ operator. operator_value operator NullType NullType NullValue NullValue) (And ∷ Or ∷ Xor ∷ [])
-        ≡ NullValue ∷ NullValue ∷ NullValue ∷ [] }
+    ensures with_a_sign { Compute bits int8 int8 (
+        (number 12, number 10, number 8 ∷ number 14 ∷ number 6 ∷ []) ∷
+        (negative 1, number 5, number 5 ∷ negative 1 ∷ negative 6 ∷ []) ∷
+        (negative 8, negative 3, negative 8 ∷ negative 3 ∷ number 5 ∷ []) ∷
+        (negative 128, number 127, number 0 ∷ negative 1 ∷ negative 1 ∷ []) ∷ []) }
+    ensures without_a_sign { Compute bits uint8 uint8 ((number 255, number 15, number 15 ∷ number 255 ∷ number 240 ∷ []) ∷ []) }
+    ensures widest { let most = number 18446744073709551615 in
+        Compute bits uint64 uint64 ((most, number 1, number 1 ∷ most ∷ number 18446744073709551614 ∷ []) ∷ []) }
+    ensures with_null { Compute bits int8 int8 (
+        (null, number 0, null ∷ null ∷ null ∷ []) ∷ (number 0, null, null ∷ null ∷ null ∷ []) ∷ []) }
+    ensures two_nulls { Compute bits NullType NullType ((null, null, null ∷ null ∷ null ∷ []) ∷ []) }
 {}
 
-/// Bits are of truth values, integers and nulls, in their common type.
+/// Bits are of truth values, integers and nulls, in their common type, and truth values and nulls alone are combined as truth values.
 pub fn types_of_bits()
-    ensures truth_values { map (λ operator. operator_types operator (Truth ∷ Truth ∷ [])) (And ∷ Or ∷ Xor ∷ [])
-        ≡ replicate 3 (Ok (pair_to Truth Truth Truth)) }
-    ensures truth_and_integer { map (λ operator. operator_types operator (Truth ∷ Integer true 8 ∷ [])) (And ∷ Or ∷ Xor ∷ [])
-        ≡ replicate 3 (Ok (pair_to (Integer true 8) (Integer true 8) (Integer true 8))) }
-    ensures two_widths { map (λ operator. operator_types operator (Integer true 8 ∷ Integer true 64 ∷ [])) (And ∷ Or ∷ Xor ∷ [])
-        ≡ replicate 3 (Ok (pair_to (Integer true 64) (Integer true 64) (Integer true 64))) }
-    ensures null_and_truth { map (λ operator. operator_types operator (NullType ∷ Truth ∷ [])) (And ∷ Or ∷ Xor ∷ [])
-        ≡ replicate 3 (Ok (pair_to Truth Truth Truth)) }
-    ensures null_and_integer { map (λ operator. operator_types operator (Integer false 16 ∷ NullType ∷ [])) (And ∷ Or ∷ Xor ∷ [])
-        ≡ replicate 3 (Ok (pair_to (Integer false 16) (Integer false 16) (Integer false 16))) }
-    ensures two_nulls { map (λ operator. operator_types operator (NullType ∷ NullType ∷ [])) (And ∷ Or ∷ Xor ∷ [])
-        ≡ replicate 3 (Ok (pair_to NullType NullType NullType)) }
-    ensures integer_and_number { map (λ operator. operator_types operator (Integer true 8 ∷ Untyped (pos 1) ∷ [])) (And ∷ Or ∷ Xor ∷ [])
-        ≡ replicate 3 (Ok (pair_to (Integer true 8) (Integer true 8) (Integer true 8))) }
-    ensures truth_and_number { map (λ operator. operator_types operator (Truth ∷ Untyped (pos 1) ∷ [])) (And ∷ Or ∷ Xor ∷ [])
-        ≡ replicate 3 (Ok (pair_to (Integer true 32) (Integer true 32) (Integer true 32))) }
-    ensures without_a_common_type { map (λ operator. operator_types operator (Integer false 64 ∷ Integer true 8 ∷ [])) (And ∷ Or ∷ Xor ∷ [])
-        ≡ replicate 3 (Err SchemaMismatch) }
-    ensures text { map (λ operator. operator_types operator (TextType ∷ Truth ∷ [])) (And ∷ Or ∷ Xor ∷ [])
-        ≡ replicate 3 (Err InvalidOperation) }
-    ensures time { map (λ operator. operator_types operator (Integer true 64 ∷ DurationType Milliseconds ∷ [])) (And ∷ Or ∷ Xor ∷ [])
-        ≡ replicate 3 (Err InvalidOperation) }
-    ensures list { map (λ operator. operator_types operator (ListType Truth ∷ ListType Truth ∷ [])) (And ∷ Or ∷ Xor ∷ [])
-        ≡ replicate 3 (Err InvalidOperation) }
-    ensures day_and_null { map (λ operator. operator_types operator (DateType ∷ NullType ∷ [])) (And ∷ Or ∷ Xor ∷ [])
-        ≡ replicate 3 (Err InvalidOperation) }
-{}
-
-/// Truth values and nulls alone are combined as truth values.
-pub fn types_of_combined_truth_values()
-    ensures truth_values { map (λ operator. operator_types operator (Truth ∷ Truth ∷ [])) (LogicalAnd ∷ LogicalOr ∷ [])
-        ≡ replicate 2 (Ok (pair_to Truth Truth Truth)) }
-    ensures truth_and_null { map (λ operator. operator_types operator (Truth ∷ NullType ∷ [])) (LogicalAnd ∷ LogicalOr ∷ [])
-        ≡ replicate 2 (Ok (pair_to Truth Truth Truth)) }
-    ensures two_nulls { map (λ operator. operator_types operator (NullType ∷ NullType ∷ [])) (LogicalAnd ∷ LogicalOr ∷ [])
-        ≡ replicate 2 (Ok (pair_to Truth Truth Truth)) }
-    ensures truth_and_integer { map (λ operator. operator_types operator (Truth ∷ Integer true 8 ∷ [])) (LogicalAnd ∷ LogicalOr ∷ [])
-        ≡ replicate 2 (Err InvalidOperation) }
-    ensures number_and_truth { map (λ operator. operator_types operator (Untyped (pos 1) ∷ Truth ∷ [])) (LogicalAnd ∷ LogicalOr ∷ [])
-        ≡ replicate 2 (Err InvalidOperation) }
-    ensures text_and_truth { map (λ operator. operator_types operator (TextType ∷ Truth ∷ [])) (LogicalAnd ∷ LogicalOr ∷ [])
-        ≡ replicate 2 (Err InvalidOperation) }
-    ensures lists { map (λ operator. operator_types operator (ListType Truth ∷ Truth ∷ [])) (LogicalAnd ∷ LogicalOr ∷ [])
-        ≡ replicate 2 (Err InvalidOperation) }
+    ensures common { Take bits (
+        (Truth, Truth, both_as Truth Truth) ∷ (Truth, int8, both_as int8 int8) ∷ (int8, int64, both_as int64 int64) ∷
+        (NullType, Truth, both_as Truth Truth) ∷ (uint16, NullType, both_as uint16 uint16) ∷ (NullType, NullType, both_as NullType NullType) ∷
+        (int8, Untyped (pos 1), both_as int8 int8) ∷ (Truth, Untyped (pos 1), both_as int32 int32) ∷ []) }
+    ensures without_a_common_type { Refuse bits SchemaMismatch ((uint64 ∷ [], int8 ∷ []) ∷ []) }
+    ensures without_bits { Refuse bits InvalidOperation (
+        (TextType ∷ [], Truth ∷ []) ∷ (int64 ∷ [], DurationType Milliseconds ∷ []) ∷
+        (ListType Truth ∷ [], ListType Truth ∷ []) ∷ (DateType ∷ [], NullType ∷ []) ∷ []) }
+    ensures truth_values { Take logical (
+        (Truth, Truth, both_as Truth Truth) ∷ (Truth, NullType, both_as Truth Truth) ∷ (NullType, NullType, both_as Truth Truth) ∷ []) }
+    ensures no_truth_values { Refuse logical InvalidOperation (
+        (Truth ∷ [], int8 ∷ []) ∷ (Untyped (pos 1) ∷ TextType ∷ ListType Truth ∷ [], Truth ∷ []) ∷ []) }
 {}
 
 /// Two comparisons are of nulls too: null is the same as null, and as no other value.
 pub fn comparisons_of_nulls()
-    ensures two_nulls { map (λ operator. operator_value operator Truth Truth NullValue NullValue) (EqValidity ∷ NotEqValidity ∷ [])
-        ≡ TruthValue true ∷ TruthValue false ∷ [] }
-    ensures null_and_number { map (λ operator. operator_value operator Truth Truth NullValue (IntValue (pos 0))) (EqValidity ∷ NotEqValidity ∷ [])
-        ≡ TruthValue false ∷ TruthValue true ∷ [] }
-    ensures truth_and_null { map (λ operator. operator_value operator Truth Truth (TruthValue false) NullValue) (EqValidity ∷ NotEqValidity ∷ [])
-        ≡ TruthValue false ∷ TruthValue true ∷ [] }
-    ensures same_numbers { map (λ operator. operator_value operator Truth Truth (IntValue (pos 7)) (IntValue (pos 7))) (EqValidity ∷ NotEqValidity ∷ [])
-        ≡ TruthValue true ∷ TruthValue false ∷ [] }
-    ensures other_numbers { map (λ operator. operator_value operator Truth Truth (IntValue (pos 7)) (IntValue (neg_ℤ (pos 7)))) (EqValidity ∷ NotEqValidity ∷ [])
-        ≡ TruthValue false ∷ TruthValue true ∷ [] }
-    ensures empty_list_and_null { map (λ operator. operator_value operator Truth Truth (ListValue no_value) NullValue) (EqValidity ∷ NotEqValidity ∷ [])
-        ≡ TruthValue false ∷ TruthValue true ∷ [] }
-    ensures types { map (λ operator. operator_types operator (Integer true 8 ∷ Integer false 8 ∷ [])) (EqValidity ∷ NotEqValidity ∷ [])
-        ≡ replicate 2 (Ok (pair_to (Integer true 16) (Integer true 16) Truth)) }
-    ensures refused { map (λ operator. operator_types operator (TextType ∷ DateType ∷ [])) (EqValidity ∷ NotEqValidity ∷ [])
-        ≡ replicate 2 (Err InvalidOperation) }
+    ensures values { Compute with_nulls Truth Truth (
+        (null, null, yes ∷ no ∷ []) ∷ (null, number 0, no ∷ yes ∷ []) ∷ (no, null, no ∷ yes ∷ []) ∷ (list [], null, no ∷ yes ∷ []) ∷
+        (number 7, number 7, yes ∷ no ∷ []) ∷ (number 7, negative 7, no ∷ yes ∷ []) ∷ []) }
+    ensures types { Take with_nulls ((int8, uint8, both_as int16 Truth) ∷ []) }
+    ensures refused { Refuse with_nulls InvalidOperation ((TextType ∷ [], DateType ∷ []) ∷ []) }
 {}
 
-/// Which operators are comparisons, and which say the same of swapped operands.
+/// How each operator is written, which are comparisons, and which say the same of swapped operands.
 pub fn kinds_of_operators()
-    ensures comparisons { map is_comparison (Eq ∷ EqValidity ∷ NotEq ∷ NotEqValidity ∷ Lt ∷ LtEq ∷ Gt ∷ GtEq ∷ And ∷ Or ∷ Xor ∷ []) ≡ replicate 11 true }
-    ensures others { map is_comparison (Plus ∷ Minus ∷ Multiply ∷ Divide ∷ FloorDivide ∷ Modulus ∷ LogicalAnd ∷ LogicalOr ∷ []) ≡ replicate 8 false }
-    ensures same_swapped { map swapped (Eq ∷ EqValidity ∷ NotEq ∷ NotEqValidity ∷ And ∷ Or ∷ Xor ∷ LogicalAnd ∷ LogicalOr ∷ []) ≡ map Some (Eq ∷ EqValidity ∷ NotEq ∷ NotEqValidity ∷ And ∷ Or ∷ Xor ∷ LogicalAnd ∷ LogicalOr ∷ []) }
-    ensures orders_swapped { map swapped (Lt ∷ LtEq ∷ Gt ∷ GtEq ∷ []) ≡ map Some (Gt ∷ GtEq ∷ Lt ∷ LtEq ∷ []) }
-    ensures not_swapped { map swapped (Plus ∷ Minus ∷ Multiply ∷ Divide ∷ FloorDivide ∷ Modulus ∷ []) ≡ replicate 6 None }
-    ensures inequalities { map inequality (Inequality.Lt ∷ Inequality.LtEq ∷ Inequality.Gt ∷ Inequality.GtEq ∷ []) ≡ Lt ∷ LtEq ∷ Gt ∷ GtEq ∷ [] }
-    ensures signs { map operator_sign (EqValidity ∷ NotEqValidity ∷ Minus ∷ Multiply ∷ Divide ∷ FloorDivide ∷ Modulus ∷ And ∷ Or ∷ Xor ∷ LogicalAnd ∷ LogicalOr ∷ [])
-        ≡ codes "==v" ∷ codes "!=v" ∷ codes "-" ∷ codes "*" ∷ codes "//" ∷ codes "floor_div" ∷ codes "%" ∷ codes "&" ∷ codes "|" ∷ codes "^" ∷ codes "&" ∷ codes "|" ∷ [] }
+    ensures comparisons { GivesAll is_comparison true (Eq ∷ EqValidity ∷ NotEq ∷ NotEqValidity ∷ Lt ∷ LtEq ∷ Gt ∷ GtEq ∷ bits) }
+    ensures others { GivesAll is_comparison false (LogicalAnd ∷ LogicalOr ∷ arithmetic) }
+    ensures same_swapped { map swapped (Eq ∷ EqValidity ∷ NotEq ∷ NotEqValidity ∷ LogicalAnd ∷ LogicalOr ∷ bits)
+        ≡ map Some (Eq ∷ EqValidity ∷ NotEq ∷ NotEqValidity ∷ LogicalAnd ∷ LogicalOr ∷ bits) }
+    ensures orders_swapped { map swapped orders ≡ map Some (Gt ∷ GtEq ∷ Lt ∷ LtEq ∷ []) }
+    ensures not_swapped { GivesAll swapped None arithmetic }
+    ensures inequalities { map inequality (Inequality.Lt ∷ Inequality.LtEq ∷ Inequality.Gt ∷ Inequality.GtEq ∷ []) ≡ orders }
+    ensures signs { map operator_sign (Plus ∷ Minus ∷ Multiply ∷ Divide ∷ FloorDivide ∷ Modulus ∷ [])
+        ≡ codes "+" ∷ codes "-" ∷ codes "*" ∷ codes "//" ∷ codes "floor_div" ∷ codes "%" ∷ [] }
+    ensures signs_of_comparisons { map operator_sign (EqValidity ∷ NotEqValidity ∷ comparisons)
+        ≡ codes "==v" ∷ codes "!=v" ∷ codes "==" ∷ codes "!=" ∷ codes "<" ∷ codes "<=" ∷ codes ">" ∷ codes ">=" ∷ [] }
+    ensures signs_of_bits { map operator_sign (LogicalAnd ∷ LogicalOr ∷ bits) ≡ codes "&" ∷ codes "|" ∷ codes "&" ∷ codes "|" ∷ codes "^" ∷ [] }
 {}

@@ -1,657 +1,195 @@
 //! Literals: names, types, what they give, and plans that have them.
 
-ghost use Rattle.std.specs.Prelude.{◌≡◌, [], ◌∷◌, map, pos, neg_ℤ, codes, true, false, Some, None, Ok, Err};
-ghost use Rattle.plan_types.specs.Types.{Truth, Integer, Untyped};
-ghost use Rattle.plan_types.specs.Values.{NullValue, TruthValue, IntValue};
+ghost use Rattle.std.specs.Prelude.{◌≡◌, [], ◌∷◌, map, pos, neg_ℤ, codes, false, Some, None, Err};
+ghost use Rattle.plan_types.specs.Types.{Truth, Untyped};
 ghost use Rattle.plan_types.specs.Outcomes.{Done, Fault, Stuck};
-ghost use Rattle.plan_types.specs.Frames.{Frame};
 ghost use Rattle.plan_types.specs.declared.dtype.CastOptions.TheVariants.{Strict, NonStrict, Overflowing};
 ghost use Rattle.plan_types.specs.declared.error.ErrorKind.TheVariants.{ColumnNotFound, Duplicate, SchemaMismatch, InvalidOperation};
 ghost use Rattle.plan_dsl.specs.declared.literal.LiteralValue.TheVariants.{Int, Int8, Int64, UInt8, UInt64};
-ghost use Rattle.plan_dsl.specs.declared.expr.Expr.TheVariants.{Literal};
-ghost use Rattle.plan_dsl.specs.declared.operator.Operator.TheVariants.{Lt, Plus};
 ghost use Rattle.plan_dsl.specs.Trees.{node, no_more, more};
-ghost use Rattle.plan_dsl.specs.Ops.{ColumnOp, LiteralOp, BinaryOp, CastOp};
-ghost use Rattle.plan_dsl.specs.Expressions.{tree_of};
+ghost use Rattle.plan_dsl.specs.Ops.{LiteralOp};
 ghost use Rattle.plan_dsl.specs.Names.{name_of};
-ghost use Rattle.plan_dsl.specs.Literals.{is_literal, literal_op, settled};
-ghost use Rattle.plan_dsl.specs.Typing.{Typed, is_many, typing, kinds_in};
+ghost use Rattle.plan_dsl.specs.Literals.{literal_op, settled};
+ghost use Rattle.plan_dsl.specs.Typing.{is_many, typing, kinds_in};
 ghost use Rattle.plan_dsl.specs.Meaning.{meaning};
-ghost use Rattle.plan_dsl.specs.Strictness.{CanBecome, IsStrict, as_operand};
+ghost use Rattle.plan_dsl.specs.Strictness.{CanBecome, IsStrict};
 ghost use Rattle.plan_dsl.specs.StrictRun.{strict_run};
 ghost use Rattle.plan_dsl.specs.Plans.{named, scan_op, select_op, filter_op};
 ghost use Rattle.plan_dsl.specs.PlanRules.{schema_of, broken_kinds, IsWellFormed, Breaks};
 ghost use Rattle.plan_dsl.specs.PlanMeaning.{source_meaning};
+ghost use Rattle.plan_dsl.specs.Samples.{Gives, GivesAll, HasLiterals, AreOperands, int8, int16, int32, int64, uint8, uint16, uint64, null, yes, no, number, negative, written, a, c, n, t, u, w, literal, typed_literal, one, two, five, below, wide, two_hundred, widest, huge, sum, less, cast_as, of_one, of_many, means, runs, frame_with, alone, table, signs_and_truths, schema_ab, scan, empty_scan, select, keep};
 
-/// A literal is a value of a type. A number without a type has one for itself.
-pub fn trees_of_literals()
-    ensures untyped { literal_op (Int (neg_ℤ (pos 5))) ≡ LiteralOp (Untyped (neg_ℤ (pos 5))) (IntValue (neg_ℤ (pos 5))) }
-    ensures signed { literal_op (Int8 (neg_ℤ (pos 128))) ≡ LiteralOp (Integer true 8) (IntValue (neg_ℤ (pos 128))) }
-    ensures wide { literal_op (Int64 (pos 1)) ≡ LiteralOp (Integer true 64) (IntValue (pos 1)) }
-    ensures unsigned { literal_op (UInt8 255) ≡ LiteralOp (Integer false 8) (IntValue (pos 255)) }
-    ensures widest { literal_op (UInt64 18446744073709551615) ≡ LiteralOp (Integer false 64) (IntValue (pos 18446744073709551615)) }
-    ensures tree { tree_of (Literal (Int (pos 1))) ≡ node (LiteralOp (Untyped (pos 1)) (IntValue (pos 1))) no_more }
-{}
-
-/// A literal's value is one of its type, and null of its own type alone. A number without a type is one of Int64 or UInt64.
-pub fn values_of_literals()
-    ensures int8 { map (λ number. is_literal (Integer true 8) (IntValue number)) (neg_ℤ (pos 129) ∷ neg_ℤ (pos 128) ∷ pos 127 ∷ pos 128 ∷ [])
-        ≡ false ∷ true ∷ true ∷ false ∷ [] }
-    ensures truth { map (is_literal Truth) (TruthValue true ∷ IntValue (pos 1) ∷ NullValue ∷ []) ≡ true ∷ false ∷ false ∷ [] }
-    ensures no_number { map (is_literal (Integer true 8)) (TruthValue true ∷ NullValue ∷ []) ≡ false ∷ false ∷ [] }
-    ensures own_number { map (λ number. is_literal (Untyped (pos 5)) (IntValue number)) (pos 4 ∷ pos 5 ∷ pos 6 ∷ []) ≡ false ∷ true ∷ false ∷ [] }
-    ensures null { is_literal (Untyped (pos 5)) NullValue ≡ false }
-    ensures limits { map (λ number. is_literal (Untyped number) (IntValue number)) (neg_ℤ (pos 9223372036854775809) ∷ neg_ℤ (pos 9223372036854775808) ∷ pos 18446744073709551615 ∷ pos 18446744073709551616 ∷ [])
-        ≡ false ∷ true ∷ true ∷ false ∷ [] }
-{}
-
-/// A literal is named `literal`, and so is what has one at its left end.
-pub fn names_of_literals()
-    ensures untyped { let one = node (LiteralOp (Untyped (pos 1)) (IntValue (pos 1))) no_more in
-        name_of one ≡ codes "literal" }
-    ensures typed { let one = node (LiteralOp (Integer true 8) (IntValue (pos 1))) no_more in
-        name_of one ≡ codes "literal" }
-    ensures cast { let one = node (LiteralOp (Untyped (pos 1)) (IntValue (pos 1))) no_more in
-        name_of (node (CastOp (Integer true 8) Strict) (more one no_more)) ≡ codes "literal" }
-    ensures literal_first { let a = node (ColumnOp (codes "a")) no_more in
-        let one = node (LiteralOp (Untyped (pos 1)) (IntValue (pos 1))) no_more in
-        name_of (node (BinaryOp Plus) (more one (more a no_more))) ≡ codes "literal" }
-    ensures literal_last { let a = node (ColumnOp (codes "a")) no_more in
-        let one = node (LiteralOp (Untyped (pos 1)) (IntValue (pos 1))) no_more in
-        name_of (node (BinaryOp Plus) (more a (more one no_more))) ≡ codes "a" }
+/// A literal is a value of a type, and null of its own type alone. A number without a type is one of Int64 or UInt64. A literal
+/// is named `literal`, and so is what has one at its left end.
+pub fn values_and_names_of_literals()
+    ensures ops { Gives literal_op (
+        (Int (neg_ℤ (pos 5)), LiteralOp (Untyped (neg_ℤ (pos 5))) (negative 5)) ∷
+        (Int8 (neg_ℤ (pos 128)), LiteralOp int8 (negative 128)) ∷ (Int64 (pos 1), LiteralOp int64 (number 1)) ∷
+        (UInt8 255, LiteralOp uint8 (number 255)) ∷ (UInt64 18446744073709551615, LiteralOp uint64 (number 18446744073709551615)) ∷ []) }
+    ensures tree { written (Int (pos 1)) ≡ one }
+    ensures typed { HasLiterals (
+        (int8, negative 128 ∷ number 127 ∷ [], negative 129 ∷ number 128 ∷ yes ∷ null ∷ []) ∷
+        (Truth, yes ∷ [], number 1 ∷ null ∷ []) ∷ []) }
+    ensures untyped { HasLiterals (
+        (Untyped (pos 5), number 5 ∷ [], number 4 ∷ number 6 ∷ null ∷ []) ∷
+        (Untyped (neg_ℤ (pos 9223372036854775808)), negative 9223372036854775808 ∷ [], []) ∷
+        (Untyped (neg_ℤ (pos 9223372036854775809)), [], negative 9223372036854775809 ∷ []) ∷
+        (Untyped (pos 18446744073709551615), number 18446744073709551615 ∷ [], []) ∷
+        (Untyped (pos 18446744073709551616), [], number 18446744073709551616 ∷ []) ∷ []) }
+    ensures names { GivesAll name_of (codes "literal") (one ∷ typed_literal int8 (pos 1) ∷ cast_as Strict int8 one ∷ sum one a ∷ []) }
+    ensures name_of_a_column_first { name_of (sum a one) ≡ codes "a" }
 {}
 
 /// A number without a type at the top gets the one that it has alone, if there is one. Nothing else changes.
 pub fn settled_literals()
-    ensures int32 { settled (node (LiteralOp (Untyped (pos 5)) (IntValue (pos 5))) no_more) ≡ node (LiteralOp (Integer true 32) (IntValue (pos 5))) no_more }
-    ensures int64 { settled (node (LiteralOp (Untyped (neg_ℤ (pos 2147483649))) (IntValue (neg_ℤ (pos 2147483649)))) no_more)
-        ≡ node (LiteralOp (Integer true 64) (IntValue (neg_ℤ (pos 2147483649)))) no_more }
-    ensures uint64 { settled (node (LiteralOp (Untyped (pos 18446744073709551615)) (IntValue (pos 18446744073709551615))) no_more)
-        ≡ node (LiteralOp (Integer false 64) (IntValue (pos 18446744073709551615))) no_more }
-    ensures past_every_type { let huge = node (LiteralOp (Untyped (pos 18446744073709551616)) (IntValue (pos 18446744073709551616))) no_more in
-        settled huge ≡ huge }
-    ensures typed { let one = node (LiteralOp (Integer false 8) (IntValue (pos 1))) no_more in
-        settled one ≡ one }
-    ensures column { let a = node (ColumnOp (codes "a")) no_more in
-        settled a ≡ a }
-    ensures below_the_top { let one = node (LiteralOp (Untyped (pos 1)) (IntValue (pos 1))) no_more in
-        let cast = node (CastOp (Integer true 8) Strict) (more one no_more) in
-        settled (node (BinaryOp Plus) (more one (more cast no_more))) ≡ node (BinaryOp Plus) (more one (more cast no_more)) }
+    ensures untyped { Gives settled (
+        (five, typed_literal int32 (pos 5)) ∷
+        (literal (neg_ℤ (pos 2147483649)), typed_literal int64 (neg_ℤ (pos 2147483649))) ∷
+        (widest, typed_literal uint64 (pos 18446744073709551615)) ∷ []) }
+    ensures others { let others = huge ∷ typed_literal uint8 (pos 1) ∷ a ∷ sum one (cast_as Strict int8 one) ∷ [] in
+        map settled others ≡ others }
 {}
 
 /// A literal alone has its own type, and one value.
 pub fn types_of_literals_alone()
-    ensures untyped { let one = node (LiteralOp (Untyped (pos 1)) (IntValue (pos 1))) no_more in
-        let typed : Typed = record { type = Untyped (pos 1); many = false } in
-        typing [] [] one ≡ Ok typed }
-    ensures settled { let one = node (LiteralOp (Untyped (pos 1)) (IntValue (pos 1))) no_more in
-        let typed : Typed = record { type = Integer true 32; many = false } in
-        typing [] [] (settled one) ≡ Ok typed }
-    ensures settled_widest { let widest = node (LiteralOp (Untyped (pos 18446744073709551615)) (IntValue (pos 18446744073709551615))) no_more in
-        let typed : Typed = record { type = Integer false 64; many = false } in
-        typing [] [] (settled widest) ≡ Ok typed }
-    ensures typed { let one = node (LiteralOp (Integer false 16) (IntValue (pos 1))) no_more in
-        let typed : Typed = record { type = Integer false 16; many = false } in
-        typing [] [] one ≡ Ok typed }
-    ensures cast { let many = node (LiteralOp (Untyped (pos 200)) (IntValue (pos 200))) no_more in
-        let typed : Typed = record { type = Integer true 8; many = false } in
-        typing [] [] (node (CastOp (Integer true 8) Strict) (more many no_more)) ≡ Ok typed }
-    ensures two { let one = node (LiteralOp (Untyped (pos 1)) (IntValue (pos 1))) no_more in
-        let two = node (LiteralOp (Untyped (pos 2)) (IntValue (pos 2))) no_more in
-        let typed : Typed = record { type = Integer true 32; many = false } in
-        typing [] [] (node (BinaryOp Plus) (more one (more two no_more))) ≡ Ok typed }
-    ensures two_wide { let one = node (LiteralOp (Untyped (pos 1)) (IntValue (pos 1))) no_more in
-        let wide = node (LiteralOp (Untyped (pos 2147483648)) (IntValue (pos 2147483648))) no_more in
-        let typed : Typed = record { type = Integer true 64; many = false } in
-        typing [] [] (node (BinaryOp Plus) (more one (more wide no_more))) ≡ Ok typed }
-    ensures beside_a_typed_one { let one = node (LiteralOp (Integer true 8) (IntValue (pos 1))) no_more in
-        let wide = node (LiteralOp (Untyped (pos 200)) (IntValue (pos 200))) no_more in
-        let typed : Typed = record { type = Integer true 16; many = false } in
-        typing [] [] (node (BinaryOp Plus) (more one (more wide no_more))) ≡ Ok typed }
-    ensures comparison { let one = node (LiteralOp (Untyped (pos 1)) (IntValue (pos 1))) no_more in
-        let two = node (LiteralOp (Untyped (pos 2)) (IntValue (pos 2))) no_more in
-        let typed : Typed = record { type = Truth; many = false } in
-        typing [] [] (node (BinaryOp Lt) (more one (more two no_more))) ≡ Ok typed }
-    ensures length { is_many (LiteralOp (Untyped (pos 1)) (IntValue (pos 1))) [] ≡ false }
-    ensures length_of_a_typed_one { is_many (LiteralOp (Integer true 8) (IntValue (pos 1))) [] ≡ false }
+    ensures types { Gives (typing [] []) (
+        (one, of_one (Untyped (pos 1))) ∷ (settled one, of_one int32) ∷ (settled widest, of_one uint64) ∷
+        (typed_literal uint16 (pos 1), of_one uint16) ∷ (cast_as Strict int8 two_hundred, of_one int8) ∷ []) }
+    ensures types_of_two { Gives (typing [] []) (
+        (sum one two, of_one int32) ∷ (sum one (literal (pos 2147483648)), of_one int64) ∷
+        (sum (typed_literal int8 (pos 1)) two_hundred, of_one int16) ∷ (less one two, of_one Truth) ∷ []) }
+    ensures lengths { GivesAll (λ op. is_many op []) false (LiteralOp (Untyped (pos 1)) (number 1) ∷ LiteralOp int8 (number 1) ∷ []) }
 {}
 
 /// Beside a column a number has the column's type where it fits, else the least that has it.
 pub fn types_of_literals_beside_columns()
-    ensures kept { let schema = (codes "a", Integer true 8) ∷ (codes "u", Integer false 8) ∷ (codes "w", Integer false 64) ∷ (codes "t", Truth) ∷ [] in
-        let a = node (ColumnOp (codes "a")) no_more in
-        let one = node (LiteralOp (Untyped (pos 1)) (IntValue (pos 1))) no_more in
-        let typed : Typed = record { type = Integer true 8; many = true } in
-        typing [] schema (node (BinaryOp Plus) (more a (more one no_more))) ≡ Ok typed }
-    ensures wider { let schema = (codes "a", Integer true 8) ∷ (codes "u", Integer false 8) ∷ (codes "w", Integer false 64) ∷ (codes "t", Truth) ∷ [] in
-        let a = node (ColumnOp (codes "a")) no_more in
-        let wide = node (LiteralOp (Untyped (pos 300)) (IntValue (pos 300))) no_more in
-        let typed : Typed = record { type = Integer true 16; many = true } in
-        typing [] schema (node (BinaryOp Plus) (more a (more wide no_more))) ≡ Ok typed }
-    ensures literal_first { let schema = (codes "a", Integer true 8) ∷ (codes "u", Integer false 8) ∷ (codes "w", Integer false 64) ∷ (codes "t", Truth) ∷ [] in
-        let a = node (ColumnOp (codes "a")) no_more in
-        let wide = node (LiteralOp (Untyped (pos 300)) (IntValue (pos 300))) no_more in
-        let typed : Typed = record { type = Integer true 16; many = true } in
-        typing [] schema (node (BinaryOp Plus) (more wide (more a no_more))) ≡ Ok typed }
-    ensures over_a_sum { let schema = (codes "a", Integer true 8) ∷ (codes "u", Integer false 8) ∷ (codes "w", Integer false 64) ∷ (codes "t", Truth) ∷ [] in
-        let a = node (ColumnOp (codes "a")) no_more in
-        let one = node (LiteralOp (Untyped (pos 1)) (IntValue (pos 1))) no_more in
-        let wide = node (LiteralOp (Untyped (pos 300)) (IntValue (pos 300))) no_more in
-        let sum = node (BinaryOp Plus) (more a (more one no_more)) in
-        let typed : Typed = record { type = Integer true 16; many = true } in
-        typing [] schema (node (BinaryOp Plus) (more sum (more wide no_more))) ≡ Ok typed }
-    ensures unsigned { let schema = (codes "a", Integer true 8) ∷ (codes "u", Integer false 8) ∷ (codes "w", Integer false 64) ∷ (codes "t", Truth) ∷ [] in
-        let u = node (ColumnOp (codes "u")) no_more in
-        let wide = node (LiteralOp (Untyped (pos 300)) (IntValue (pos 300))) no_more in
-        let typed : Typed = record { type = Integer false 16; many = true } in
-        typing [] schema (node (BinaryOp Plus) (more u (more wide no_more))) ≡ Ok typed }
-    ensures below_zero { let schema = (codes "a", Integer true 8) ∷ (codes "u", Integer false 8) ∷ (codes "w", Integer false 64) ∷ (codes "t", Truth) ∷ [] in
-        let u = node (ColumnOp (codes "u")) no_more in
-        let minus = node (LiteralOp (Untyped (neg_ℤ (pos 1))) (IntValue (neg_ℤ (pos 1)))) no_more in
-        let typed : Typed = record { type = Integer true 16; many = true } in
-        typing [] schema (node (BinaryOp Plus) (more u (more minus no_more))) ≡ Ok typed }
-    ensures widest { let schema = (codes "a", Integer true 8) ∷ (codes "u", Integer false 8) ∷ (codes "w", Integer false 64) ∷ (codes "t", Truth) ∷ [] in
-        let w = node (ColumnOp (codes "w")) no_more in
-        let widest = node (LiteralOp (Untyped (pos 18446744073709551615)) (IntValue (pos 18446744073709551615))) no_more in
-        let typed : Typed = record { type = Integer false 64; many = true } in
-        typing [] schema (node (BinaryOp Plus) (more w (more widest no_more))) ≡ Ok typed }
-    ensures truth { let schema = (codes "a", Integer true 8) ∷ (codes "u", Integer false 8) ∷ (codes "w", Integer false 64) ∷ (codes "t", Truth) ∷ [] in
-        let t = node (ColumnOp (codes "t")) no_more in
-        let one = node (LiteralOp (Untyped (pos 1)) (IntValue (pos 1))) no_more in
-        let typed : Typed = record { type = Integer true 32; many = true } in
-        typing [] schema (node (BinaryOp Plus) (more t (more one no_more))) ≡ Ok typed }
-    ensures typed { let schema = (codes "a", Integer true 8) ∷ (codes "u", Integer false 8) ∷ (codes "w", Integer false 64) ∷ (codes "t", Truth) ∷ [] in
-        let a = node (ColumnOp (codes "a")) no_more in
-        let one = node (LiteralOp (Integer true 32) (IntValue (pos 1))) no_more in
-        let typed : Typed = record { type = Integer true 32; many = true } in
-        typing [] schema (node (BinaryOp Plus) (more a (more one no_more))) ≡ Ok typed }
-    ensures comparison { let schema = (codes "a", Integer true 8) ∷ (codes "u", Integer false 8) ∷ (codes "w", Integer false 64) ∷ (codes "t", Truth) ∷ [] in
-        let a = node (ColumnOp (codes "a")) no_more in
-        let wide = node (LiteralOp (Untyped (pos 300)) (IntValue (pos 300))) no_more in
-        let typed : Typed = record { type = Truth; many = true } in
-        typing [] schema (node (BinaryOp Lt) (more a (more wide no_more))) ≡ Ok typed }
+    ensures types { Gives (typing [] ((codes "a", int8) ∷ (codes "u", uint8) ∷ (codes "w", uint64) ∷ (codes "t", Truth) ∷ [])) (
+        (sum a one, of_many int8) ∷ (sum a wide, of_many int16) ∷ (sum wide a, of_many int16) ∷ (sum (sum a one) wide, of_many int16) ∷
+        (sum u wide, of_many uint16) ∷ (sum u below, of_many int16) ∷ (sum w widest, of_many uint64) ∷ (sum t one, of_many int32) ∷
+        (sum a (typed_literal int32 (pos 1)), of_many int32) ∷ (less a wide, of_many Truth) ∷ []) }
 {}
 
 /// A literal that is past every type is refused, and so is a type of a number as that of a column or of a cast.
 pub fn refused_literals()
-    ensures past_every_type { let huge = node (LiteralOp (Untyped (pos 18446744073709551616)) (IntValue (pos 18446744073709551616))) no_more in
-        typing [] [] huge ≡ Err InvalidOperation }
-    ensures below_every_type { let least = node (LiteralOp (Untyped (neg_ℤ (pos 9223372036854775809))) (IntValue (neg_ℤ (pos 9223372036854775809)))) no_more in
-        typing [] [] least ≡ Err InvalidOperation }
-    ensures settled { let huge = node (LiteralOp (Untyped (pos 18446744073709551616)) (IntValue (pos 18446744073709551616))) no_more in
-        typing [] [] (settled huge) ≡ Err InvalidOperation }
-    ensures in_a_sum { let schema = (codes "a", Integer true 8) ∷ (codes "w", Integer false 64) ∷ [] in
-        let a = node (ColumnOp (codes "a")) no_more in
-        let huge = node (LiteralOp (Untyped (pos 18446744073709551616)) (IntValue (pos 18446744073709551616))) no_more in
-        typing [] schema (node (BinaryOp Plus) (more a (more huge no_more))) ≡ Err InvalidOperation }
-    ensures in_a_cast { let huge = node (LiteralOp (Untyped (pos 18446744073709551616)) (IntValue (pos 18446744073709551616))) no_more in
-        typing [] [] (node (CastOp (Integer true 64) NonStrict) (more huge no_more)) ≡ Err InvalidOperation }
-    ensures no_common_type { let schema = (codes "a", Integer true 8) ∷ (codes "w", Integer false 64) ∷ [] in
-        let w = node (ColumnOp (codes "w")) no_more in
-        let minus = node (LiteralOp (Untyped (neg_ℤ (pos 1))) (IntValue (neg_ℤ (pos 1)))) no_more in
-        typing [] schema (node (BinaryOp Plus) (more w (more minus no_more))) ≡ Err SchemaMismatch }
-    ensures typed_out_of_range { let literal = node (LiteralOp (Integer true 8) (IntValue (pos 128))) no_more in
-        typing [] [] literal ≡ Err InvalidOperation }
-    ensures null { let literal = node (LiteralOp (Integer true 8) NullValue) no_more in
-        typing [] [] literal ≡ Err InvalidOperation }
-    ensures column { let schema = (codes "n", Untyped (pos 1)) ∷ [] in
-        let n = node (ColumnOp (codes "n")) no_more in
-        typing [] schema n ≡ Err InvalidOperation }
-    ensures target { let schema = (codes "a", Integer true 8) ∷ (codes "w", Integer false 64) ∷ [] in
-        let a = node (ColumnOp (codes "a")) no_more in
-        typing [] schema (node (CastOp (Untyped (pos 1)) NonStrict) (more a no_more)) ≡ Err InvalidOperation }
-    ensures own_target { let one = node (LiteralOp (Untyped (pos 1)) (IntValue (pos 1))) no_more in
-        typing [] [] (node (CastOp (Untyped (pos 1)) NonStrict) (more one no_more)) ≡ Err InvalidOperation }
-    ensures with_an_operand { let schema = (codes "a", Integer true 8) ∷ (codes "w", Integer false 64) ∷ [] in
-        let a = node (ColumnOp (codes "a")) no_more in
-        typing [] schema (node (LiteralOp (Integer true 8) (IntValue (pos 1))) (more a no_more)) ≡ Err SchemaMismatch }
+    ensures alone { GivesAll (typing [] []) (Err InvalidOperation) (
+        huge ∷ literal (neg_ℤ (pos 9223372036854775809)) ∷ settled huge ∷ cast_as NonStrict int64 huge ∷
+        typed_literal int8 (pos 128) ∷ node (LiteralOp int8 null) no_more ∷ cast_as NonStrict (Untyped (pos 1)) one ∷ []) }
+    ensures beside_columns { Gives (typing [] ((codes "a", int8) ∷ (codes "w", uint64) ∷ [])) (
+        (sum a huge, Err InvalidOperation) ∷
+        (sum w below, Err SchemaMismatch) ∷
+        (cast_as NonStrict (Untyped (pos 1)) a, Err InvalidOperation) ∷
+        (node (LiteralOp int8 (number 1)) (more a no_more), Err SchemaMismatch) ∷ []) }
+    ensures column { typing [] ((codes "n", Untyped (pos 1)) ∷ []) n ≡ Err InvalidOperation }
 {}
 
 /// The kinds that literals break, and nodes over them.
 pub fn kinds_that_literals_break()
-    ensures none { let schema = (codes "a", Integer true 8) ∷ (codes "w", Integer false 64) ∷ [] in
-        let a = node (ColumnOp (codes "a")) no_more in
-        let wide = node (LiteralOp (Untyped (pos 300)) (IntValue (pos 300))) no_more in
-        kinds_in [] schema (node (BinaryOp Plus) (more a (more wide no_more))) ≡ [] }
-    ensures alone { let huge = node (LiteralOp (Untyped (pos 18446744073709551616)) (IntValue (pos 18446744073709551616))) no_more in
-        kinds_in [] [] huge ≡ InvalidOperation ∷ [] }
-    ensures in_a_sum { let schema = (codes "a", Integer true 8) ∷ (codes "w", Integer false 64) ∷ [] in
-        let c = node (ColumnOp (codes "c")) no_more in
-        let huge = node (LiteralOp (Untyped (pos 18446744073709551616)) (IntValue (pos 18446744073709551616))) no_more in
-        kinds_in [] schema (node (BinaryOp Plus) (more c (more huge no_more))) ≡ ColumnNotFound ∷ InvalidOperation ∷ [] }
-    ensures no_common_type { let schema = (codes "a", Integer true 8) ∷ (codes "w", Integer false 64) ∷ [] in
-        let w = node (ColumnOp (codes "w")) no_more in
-        let minus = node (LiteralOp (Untyped (neg_ℤ (pos 1))) (IntValue (neg_ℤ (pos 1)))) no_more in
-        kinds_in [] schema (node (BinaryOp Lt) (more minus (more w no_more))) ≡ SchemaMismatch ∷ [] }
-    ensures target { let one = node (LiteralOp (Untyped (pos 1)) (IntValue (pos 1))) no_more in
-        kinds_in [] [] (node (CastOp (Untyped (pos 1)) Strict) (more one no_more)) ≡ InvalidOperation ∷ [] }
-    ensures column { let schema = (codes "n", Untyped (pos 1)) ∷ [] in
-        let n = node (ColumnOp (codes "n")) no_more in
-        kinds_in [] schema (node (BinaryOp Plus) (more n (more n no_more))) ≡ InvalidOperation ∷ InvalidOperation ∷ [] }
+    ensures alone { GivesAll (kinds_in [] []) (InvalidOperation ∷ []) (huge ∷ cast_as Strict (Untyped (pos 1)) one ∷ []) }
+    ensures beside_columns { Gives (kinds_in [] ((codes "a", int8) ∷ (codes "w", uint64) ∷ [])) (
+        (sum a wide, []) ∷ (sum c huge, ColumnNotFound ∷ InvalidOperation ∷ []) ∷ (less below w, SchemaMismatch ∷ []) ∷ []) }
+    ensures columns { kinds_in [] ((codes "n", Untyped (pos 1)) ∷ []) (sum n n) ≡ InvalidOperation ∷ InvalidOperation ∷ [] }
 {}
 
-/// A literal gives one value on any rows, and beside a column it is repeated.
+/// A literal gives one value on any rows, and beside a column it is repeated. A cast of it is one of its value, also on no rows.
 pub fn meanings_of_literals()
-    ensures alone { let frame : Frame = record {
-      schema = (codes "a", Integer true 8) ∷ (codes "u", Integer false 8) ∷ (codes "t", Truth) ∷ [];
-      rows = (IntValue (pos 100) ∷ IntValue (pos 0) ∷ TruthValue true ∷ []) ∷ (IntValue (pos 127) ∷ IntValue (pos 255) ∷ TruthValue false ∷ []) ∷ (NullValue ∷ NullValue ∷ NullValue ∷ []) ∷ [];
-    } in
-        let five = node (LiteralOp (Untyped (pos 5)) (IntValue (pos 5))) no_more in
-        meaning [] frame five (0 ∷ 1 ∷ 2 ∷ []) ≡ Done (IntValue (pos 5) ∷ []) }
-    ensures alone_on_no_rows { let frame : Frame = record {
-      schema = (codes "a", Integer true 8) ∷ (codes "u", Integer false 8) ∷ (codes "t", Truth) ∷ [];
-      rows = (IntValue (pos 100) ∷ IntValue (pos 0) ∷ TruthValue true ∷ []) ∷ (IntValue (pos 127) ∷ IntValue (pos 255) ∷ TruthValue false ∷ []) ∷ (NullValue ∷ NullValue ∷ NullValue ∷ []) ∷ [];
-    } in
-        let five = node (LiteralOp (Untyped (pos 5)) (IntValue (pos 5))) no_more in
-        meaning [] frame five [] ≡ Done (IntValue (pos 5) ∷ []) }
-    ensures typed_on_no_rows { let frame : Frame = record {
-      schema = (codes "a", Integer true 8) ∷ (codes "u", Integer false 8) ∷ (codes "t", Truth) ∷ [];
-      rows = (IntValue (pos 100) ∷ IntValue (pos 0) ∷ TruthValue true ∷ []) ∷ (IntValue (pos 127) ∷ IntValue (pos 255) ∷ TruthValue false ∷ []) ∷ (NullValue ∷ NullValue ∷ NullValue ∷ []) ∷ [];
-    } in
-        let five = node (LiteralOp (Integer false 8) (IntValue (pos 5))) no_more in
-        meaning [] frame five [] ≡ Done (IntValue (pos 5) ∷ []) }
-    ensures wider { let frame : Frame = record {
-      schema = (codes "a", Integer true 8) ∷ (codes "u", Integer false 8) ∷ (codes "t", Truth) ∷ [];
-      rows = (IntValue (pos 100) ∷ IntValue (pos 0) ∷ TruthValue true ∷ []) ∷ (IntValue (pos 127) ∷ IntValue (pos 255) ∷ TruthValue false ∷ []) ∷ (NullValue ∷ NullValue ∷ NullValue ∷ []) ∷ [];
-    } in
-        let a = node (ColumnOp (codes "a")) no_more in
-        let wide = node (LiteralOp (Untyped (pos 300)) (IntValue (pos 300))) no_more in
-        meaning [] frame (node (BinaryOp Plus) (more a (more wide no_more))) (0 ∷ 1 ∷ 2 ∷ []) ≡ Done (IntValue (pos 400) ∷ IntValue (pos 427) ∷ NullValue ∷ []) }
-    ensures literal_first { let frame : Frame = record {
-      schema = (codes "a", Integer true 8) ∷ (codes "u", Integer false 8) ∷ (codes "t", Truth) ∷ [];
-      rows = (IntValue (pos 100) ∷ IntValue (pos 0) ∷ TruthValue true ∷ []) ∷ (IntValue (pos 127) ∷ IntValue (pos 255) ∷ TruthValue false ∷ []) ∷ (NullValue ∷ NullValue ∷ NullValue ∷ []) ∷ [];
-    } in
-        let a = node (ColumnOp (codes "a")) no_more in
-        let wide = node (LiteralOp (Untyped (pos 300)) (IntValue (pos 300))) no_more in
-        meaning [] frame (node (BinaryOp Plus) (more wide (more a no_more))) (0 ∷ 1 ∷ 2 ∷ []) ≡ Done (IntValue (pos 400) ∷ IntValue (pos 427) ∷ NullValue ∷ []) }
-    ensures sum_that_wraps { let frame : Frame = record {
-      schema = (codes "a", Integer true 8) ∷ (codes "u", Integer false 8) ∷ (codes "t", Truth) ∷ [];
-      rows = (IntValue (pos 100) ∷ IntValue (pos 0) ∷ TruthValue true ∷ []) ∷ (IntValue (pos 127) ∷ IntValue (pos 255) ∷ TruthValue false ∷ []) ∷ (NullValue ∷ NullValue ∷ NullValue ∷ []) ∷ [];
-    } in
-        let a = node (ColumnOp (codes "a")) no_more in
-        let one = node (LiteralOp (Untyped (pos 1)) (IntValue (pos 1))) no_more in
-        meaning [] frame (node (BinaryOp Plus) (more a (more one no_more))) (0 ∷ 1 ∷ 2 ∷ []) ≡ Done (IntValue (pos 101) ∷ IntValue (neg_ℤ (pos 128)) ∷ NullValue ∷ []) }
-    ensures sum_on_no_rows { let frame : Frame = record {
-      schema = (codes "a", Integer true 8) ∷ (codes "u", Integer false 8) ∷ (codes "t", Truth) ∷ [];
-      rows = (IntValue (pos 100) ∷ IntValue (pos 0) ∷ TruthValue true ∷ []) ∷ (IntValue (pos 127) ∷ IntValue (pos 255) ∷ TruthValue false ∷ []) ∷ (NullValue ∷ NullValue ∷ NullValue ∷ []) ∷ [];
-    } in
-        let a = node (ColumnOp (codes "a")) no_more in
-        let one = node (LiteralOp (Untyped (pos 1)) (IntValue (pos 1))) no_more in
-        meaning [] frame (node (BinaryOp Plus) (more a (more one no_more))) [] ≡ Done [] }
-    ensures below_zero { let frame : Frame = record {
-      schema = (codes "a", Integer true 8) ∷ (codes "u", Integer false 8) ∷ (codes "t", Truth) ∷ [];
-      rows = (IntValue (pos 100) ∷ IntValue (pos 0) ∷ TruthValue true ∷ []) ∷ (IntValue (pos 127) ∷ IntValue (pos 255) ∷ TruthValue false ∷ []) ∷ (NullValue ∷ NullValue ∷ NullValue ∷ []) ∷ [];
-    } in
-        let u = node (ColumnOp (codes "u")) no_more in
-        let minus = node (LiteralOp (Untyped (neg_ℤ (pos 1))) (IntValue (neg_ℤ (pos 1)))) no_more in
-        meaning [] frame (node (BinaryOp Plus) (more u (more minus no_more))) (0 ∷ 1 ∷ 2 ∷ []) ≡ Done (IntValue (neg_ℤ (pos 1)) ∷ IntValue (pos 254) ∷ NullValue ∷ []) }
-    ensures truth { let frame : Frame = record {
-      schema = (codes "a", Integer true 8) ∷ (codes "u", Integer false 8) ∷ (codes "t", Truth) ∷ [];
-      rows = (IntValue (pos 100) ∷ IntValue (pos 0) ∷ TruthValue true ∷ []) ∷ (IntValue (pos 127) ∷ IntValue (pos 255) ∷ TruthValue false ∷ []) ∷ (NullValue ∷ NullValue ∷ NullValue ∷ []) ∷ [];
-    } in
-        let t = node (ColumnOp (codes "t")) no_more in
-        let five = node (LiteralOp (Untyped (pos 5)) (IntValue (pos 5))) no_more in
-        meaning [] frame (node (BinaryOp Plus) (more t (more five no_more))) (0 ∷ 1 ∷ 2 ∷ []) ≡ Done (IntValue (pos 6) ∷ IntValue (pos 5) ∷ NullValue ∷ []) }
-    ensures comparison { let frame : Frame = record {
-      schema = (codes "a", Integer true 8) ∷ (codes "u", Integer false 8) ∷ (codes "t", Truth) ∷ [];
-      rows = (IntValue (pos 100) ∷ IntValue (pos 0) ∷ TruthValue true ∷ []) ∷ (IntValue (pos 127) ∷ IntValue (pos 255) ∷ TruthValue false ∷ []) ∷ (NullValue ∷ NullValue ∷ NullValue ∷ []) ∷ [];
-    } in
-        let a = node (ColumnOp (codes "a")) no_more in
-        let limit = node (LiteralOp (Untyped (pos 127)) (IntValue (pos 127))) no_more in
-        meaning [] frame (node (BinaryOp Lt) (more a (more limit no_more))) (0 ∷ 1 ∷ 2 ∷ []) ≡ Done (TruthValue true ∷ TruthValue false ∷ NullValue ∷ []) }
-    ensures wide_comparison { let frame : Frame = record {
-      schema = (codes "a", Integer true 8) ∷ (codes "u", Integer false 8) ∷ (codes "t", Truth) ∷ [];
-      rows = (IntValue (pos 100) ∷ IntValue (pos 0) ∷ TruthValue true ∷ []) ∷ (IntValue (pos 127) ∷ IntValue (pos 255) ∷ TruthValue false ∷ []) ∷ (NullValue ∷ NullValue ∷ NullValue ∷ []) ∷ [];
-    } in
-        let a = node (ColumnOp (codes "a")) no_more in
-        let wide = node (LiteralOp (Untyped (pos 300)) (IntValue (pos 300))) no_more in
-        meaning [] frame (node (BinaryOp Lt) (more wide (more a no_more))) (0 ∷ 1 ∷ 2 ∷ []) ≡ Done (TruthValue false ∷ TruthValue false ∷ NullValue ∷ []) }
-    ensures two_on_no_rows { let frame : Frame = record {
-      schema = (codes "a", Integer true 8) ∷ (codes "u", Integer false 8) ∷ (codes "t", Truth) ∷ [];
-      rows = (IntValue (pos 100) ∷ IntValue (pos 0) ∷ TruthValue true ∷ []) ∷ (IntValue (pos 127) ∷ IntValue (pos 255) ∷ TruthValue false ∷ []) ∷ (NullValue ∷ NullValue ∷ NullValue ∷ []) ∷ [];
-    } in
-        let one = node (LiteralOp (Untyped (pos 1)) (IntValue (pos 1))) no_more in
-        let two = node (LiteralOp (Untyped (pos 2)) (IntValue (pos 2))) no_more in
-        meaning [] frame (node (BinaryOp Plus) (more one (more two no_more))) [] ≡ Done (IntValue (pos 3) ∷ []) }
-    ensures two_that_wrap { let frame : Frame = record {
-      schema = (codes "a", Integer true 8) ∷ (codes "u", Integer false 8) ∷ (codes "t", Truth) ∷ [];
-      rows = (IntValue (pos 100) ∷ IntValue (pos 0) ∷ TruthValue true ∷ []) ∷ (IntValue (pos 127) ∷ IntValue (pos 255) ∷ TruthValue false ∷ []) ∷ (NullValue ∷ NullValue ∷ NullValue ∷ []) ∷ [];
-    } in
-        let one = node (LiteralOp (Untyped (pos 1)) (IntValue (pos 1))) no_more in
-        let greatest = node (LiteralOp (Untyped (pos 2147483647)) (IntValue (pos 2147483647))) no_more in
-        meaning [] frame (node (BinaryOp Plus) (more greatest (more one no_more))) [] ≡ Done (IntValue (neg_ℤ (pos 2147483648)) ∷ []) }
-    ensures past_every_type { let frame : Frame = record {
-      schema = (codes "a", Integer true 8) ∷ (codes "u", Integer false 8) ∷ (codes "t", Truth) ∷ [];
-      rows = (IntValue (pos 100) ∷ IntValue (pos 0) ∷ TruthValue true ∷ []) ∷ (IntValue (pos 127) ∷ IntValue (pos 255) ∷ TruthValue false ∷ []) ∷ (NullValue ∷ NullValue ∷ NullValue ∷ []) ∷ [];
-    } in
-        let huge = node (LiteralOp (Untyped (pos 18446744073709551616)) (IntValue (pos 18446744073709551616))) no_more in
-        meaning [] frame huge (0 ∷ 1 ∷ 2 ∷ []) ≡ Stuck }
-{}
-
-/// A cast of a literal is one of its value, also on no rows.
-pub fn meanings_of_casts_of_literals()
-    ensures strict { let frame : Frame = record {
-      schema = (codes "a", Integer true 8) ∷ (codes "u", Integer false 8) ∷ (codes "t", Truth) ∷ [];
-      rows = (IntValue (pos 100) ∷ IntValue (pos 0) ∷ TruthValue true ∷ []) ∷ (IntValue (pos 127) ∷ IntValue (pos 255) ∷ TruthValue false ∷ []) ∷ (NullValue ∷ NullValue ∷ NullValue ∷ []) ∷ [];
-    } in
-        let many = node (LiteralOp (Untyped (pos 200)) (IntValue (pos 200))) no_more in
-        meaning [] frame (node (CastOp (Integer true 8) Strict) (more many no_more)) (0 ∷ 1 ∷ 2 ∷ []) ≡ Fault }
-    ensures strict_on_no_rows { let frame : Frame = record {
-      schema = (codes "a", Integer true 8) ∷ (codes "u", Integer false 8) ∷ (codes "t", Truth) ∷ [];
-      rows = (IntValue (pos 100) ∷ IntValue (pos 0) ∷ TruthValue true ∷ []) ∷ (IntValue (pos 127) ∷ IntValue (pos 255) ∷ TruthValue false ∷ []) ∷ (NullValue ∷ NullValue ∷ NullValue ∷ []) ∷ [];
-    } in
-        let many = node (LiteralOp (Untyped (pos 200)) (IntValue (pos 200))) no_more in
-        meaning [] frame (node (CastOp (Integer true 8) Strict) (more many no_more)) [] ≡ Fault }
-    ensures strict_in_range { let frame : Frame = record {
-      schema = (codes "a", Integer true 8) ∷ (codes "u", Integer false 8) ∷ (codes "t", Truth) ∷ [];
-      rows = (IntValue (pos 100) ∷ IntValue (pos 0) ∷ TruthValue true ∷ []) ∷ (IntValue (pos 127) ∷ IntValue (pos 255) ∷ TruthValue false ∷ []) ∷ (NullValue ∷ NullValue ∷ NullValue ∷ []) ∷ [];
-    } in
-        let many = node (LiteralOp (Untyped (pos 200)) (IntValue (pos 200))) no_more in
-        meaning [] frame (node (CastOp (Integer false 8) Strict) (more many no_more)) [] ≡ Done (IntValue (pos 200) ∷ []) }
-    ensures not_strict { let frame : Frame = record {
-      schema = (codes "a", Integer true 8) ∷ (codes "u", Integer false 8) ∷ (codes "t", Truth) ∷ [];
-      rows = (IntValue (pos 100) ∷ IntValue (pos 0) ∷ TruthValue true ∷ []) ∷ (IntValue (pos 127) ∷ IntValue (pos 255) ∷ TruthValue false ∷ []) ∷ (NullValue ∷ NullValue ∷ NullValue ∷ []) ∷ [];
-    } in
-        let many = node (LiteralOp (Untyped (pos 200)) (IntValue (pos 200))) no_more in
-        meaning [] frame (node (CastOp (Integer true 8) NonStrict) (more many no_more)) (0 ∷ 1 ∷ 2 ∷ []) ≡ Done (NullValue ∷ []) }
-    ensures overflowing { let frame : Frame = record {
-      schema = (codes "a", Integer true 8) ∷ (codes "u", Integer false 8) ∷ (codes "t", Truth) ∷ [];
-      rows = (IntValue (pos 100) ∷ IntValue (pos 0) ∷ TruthValue true ∷ []) ∷ (IntValue (pos 127) ∷ IntValue (pos 255) ∷ TruthValue false ∷ []) ∷ (NullValue ∷ NullValue ∷ NullValue ∷ []) ∷ [];
-    } in
-        let many = node (LiteralOp (Untyped (pos 200)) (IntValue (pos 200))) no_more in
-        meaning [] frame (node (CastOp (Integer true 8) Overflowing) (more many no_more)) (0 ∷ 1 ∷ 2 ∷ []) ≡ Done (IntValue (neg_ℤ (pos 56)) ∷ []) }
-    ensures to_truth { let frame : Frame = record {
-      schema = (codes "a", Integer true 8) ∷ (codes "u", Integer false 8) ∷ (codes "t", Truth) ∷ [];
-      rows = (IntValue (pos 100) ∷ IntValue (pos 0) ∷ TruthValue true ∷ []) ∷ (IntValue (pos 127) ∷ IntValue (pos 255) ∷ TruthValue false ∷ []) ∷ (NullValue ∷ NullValue ∷ NullValue ∷ []) ∷ [];
-    } in
-        let many = node (LiteralOp (Untyped (pos 200)) (IntValue (pos 200))) no_more in
-        meaning [] frame (node (CastOp (Truth) Strict) (more many no_more)) (0 ∷ 1 ∷ 2 ∷ []) ≡ Done (TruthValue true ∷ []) }
-    ensures typed { let frame : Frame = record {
-      schema = (codes "a", Integer true 8) ∷ (codes "u", Integer false 8) ∷ (codes "t", Truth) ∷ [];
-      rows = (IntValue (pos 100) ∷ IntValue (pos 0) ∷ TruthValue true ∷ []) ∷ (IntValue (pos 127) ∷ IntValue (pos 255) ∷ TruthValue false ∷ []) ∷ (NullValue ∷ NullValue ∷ NullValue ∷ []) ∷ [];
-    } in
-        let many = node (LiteralOp (Integer false 8) (IntValue (pos 200))) no_more in
-        meaning [] frame (node (CastOp (Integer true 8) Strict) (more many no_more)) [] ≡ Fault }
-    ensures in_a_sum_on_no_rows { let frame : Frame = record {
-      schema = (codes "a", Integer true 8) ∷ (codes "u", Integer false 8) ∷ (codes "t", Truth) ∷ [];
-      rows = (IntValue (pos 100) ∷ IntValue (pos 0) ∷ TruthValue true ∷ []) ∷ (IntValue (pos 127) ∷ IntValue (pos 255) ∷ TruthValue false ∷ []) ∷ (NullValue ∷ NullValue ∷ NullValue ∷ []) ∷ [];
-    } in
-        let a = node (ColumnOp (codes "a")) no_more in
-        let many = node (LiteralOp (Untyped (pos 200)) (IntValue (pos 200))) no_more in
-        meaning [] frame (node (BinaryOp Plus) (more a (more (node (CastOp (Integer true 8) Strict) (more many no_more)) no_more))) [] ≡ Fault }
+    ensures on_all_rows { Gives (means signs_and_truths) (
+        (five, Done (number 5 ∷ [])) ∷
+        (sum a wide, Done (number 400 ∷ number 427 ∷ null ∷ [])) ∷
+        (sum wide a, Done (number 400 ∷ number 427 ∷ null ∷ [])) ∷
+        (sum a one, Done (number 101 ∷ negative 128 ∷ null ∷ [])) ∷
+        (sum u below, Done (negative 1 ∷ number 254 ∷ null ∷ [])) ∷
+        (sum t five, Done (number 6 ∷ number 5 ∷ null ∷ [])) ∷
+        (less a (literal (pos 127)), Done (yes ∷ no ∷ null ∷ [])) ∷
+        (less wide a, Done (no ∷ no ∷ null ∷ [])) ∷
+        (huge, Stuck) ∷ []) }
+    ensures on_no_rows { Gives (λ tree. meaning [] signs_and_truths tree []) (
+        (five, Done (number 5 ∷ [])) ∷ (typed_literal uint8 (pos 5), Done (number 5 ∷ [])) ∷ (sum a one, Done []) ∷
+        (sum one two, Done (number 3 ∷ [])) ∷ (sum (literal (pos 2147483647)) one, Done (negative 2147483648 ∷ [])) ∷ []) }
+    ensures casts_on_all_rows { Gives (means signs_and_truths) (
+        (cast_as Strict int8 two_hundred, Fault) ∷
+        (cast_as NonStrict int8 two_hundred, Done (null ∷ [])) ∷
+        (cast_as Overflowing int8 two_hundred, Done (negative 56 ∷ [])) ∷
+        (cast_as Strict Truth two_hundred, Done (yes ∷ [])) ∷ []) }
+    ensures casts_on_no_rows { Gives (λ tree. meaning [] signs_and_truths tree []) (
+        (cast_as Strict int8 two_hundred, Fault) ∷
+        (cast_as Strict uint8 two_hundred, Done (number 200 ∷ [])) ∷
+        (cast_as Strict int8 (typed_literal uint8 (pos 200)), Fault) ∷
+        (sum a (cast_as Strict int8 two_hundred), Fault) ∷ []) }
 {}
 
 /// As it is written a number without a type is stuck, and a literal of a type gives its value.
 pub fn literals_run_as_written()
-    ensures untyped { let frame : Frame = record {
-      schema = (codes "a", Integer true 8) ∷ (codes "u", Integer false 8) ∷ (codes "t", Truth) ∷ [];
-      rows = (IntValue (pos 100) ∷ IntValue (pos 0) ∷ TruthValue true ∷ []) ∷ (IntValue (pos 127) ∷ IntValue (pos 255) ∷ TruthValue false ∷ []) ∷ (NullValue ∷ NullValue ∷ NullValue ∷ []) ∷ [];
-    } in
-        let five = node (LiteralOp (Untyped (pos 5)) (IntValue (pos 5))) no_more in
-        strict_run [] frame five (0 ∷ 1 ∷ 2 ∷ []) ≡ Stuck }
-    ensures untyped_operand { let frame : Frame = record {
-      schema = (codes "a", Integer true 8) ∷ (codes "u", Integer false 8) ∷ (codes "t", Truth) ∷ [];
-      rows = (IntValue (pos 100) ∷ IntValue (pos 0) ∷ TruthValue true ∷ []) ∷ (IntValue (pos 127) ∷ IntValue (pos 255) ∷ TruthValue false ∷ []) ∷ (NullValue ∷ NullValue ∷ NullValue ∷ []) ∷ [];
-    } in
-        let a = node (ColumnOp (codes "a")) no_more in
-        let one = node (LiteralOp (Untyped (pos 1)) (IntValue (pos 1))) no_more in
-        strict_run [] frame (node (BinaryOp Plus) (more a (more one no_more))) (0 ∷ 1 ∷ 2 ∷ []) ≡ Stuck }
-    ensures two_untyped_operands { let frame : Frame = record {
-      schema = (codes "a", Integer true 8) ∷ (codes "u", Integer false 8) ∷ (codes "t", Truth) ∷ [];
-      rows = (IntValue (pos 100) ∷ IntValue (pos 0) ∷ TruthValue true ∷ []) ∷ (IntValue (pos 127) ∷ IntValue (pos 255) ∷ TruthValue false ∷ []) ∷ (NullValue ∷ NullValue ∷ NullValue ∷ []) ∷ [];
-    } in
-        let one = node (LiteralOp (Untyped (pos 1)) (IntValue (pos 1))) no_more in
-        strict_run [] frame (node (BinaryOp Plus) (more one (more one no_more))) (0 ∷ 1 ∷ 2 ∷ []) ≡ Stuck }
-    ensures untyped_under_a_cast { let frame : Frame = record {
-      schema = (codes "a", Integer true 8) ∷ (codes "u", Integer false 8) ∷ (codes "t", Truth) ∷ [];
-      rows = (IntValue (pos 100) ∷ IntValue (pos 0) ∷ TruthValue true ∷ []) ∷ (IntValue (pos 127) ∷ IntValue (pos 255) ∷ TruthValue false ∷ []) ∷ (NullValue ∷ NullValue ∷ NullValue ∷ []) ∷ [];
-    } in
-        let five = node (LiteralOp (Untyped (pos 5)) (IntValue (pos 5))) no_more in
-        strict_run [] frame (node (CastOp (Integer true 8) Strict) (more five no_more)) (0 ∷ 1 ∷ 2 ∷ []) ≡ Stuck }
-    ensures typed { let frame : Frame = record {
-      schema = (codes "a", Integer true 8) ∷ (codes "u", Integer false 8) ∷ (codes "t", Truth) ∷ [];
-      rows = (IntValue (pos 100) ∷ IntValue (pos 0) ∷ TruthValue true ∷ []) ∷ (IntValue (pos 127) ∷ IntValue (pos 255) ∷ TruthValue false ∷ []) ∷ (NullValue ∷ NullValue ∷ NullValue ∷ []) ∷ [];
-    } in
-        let five = node (LiteralOp (Integer true 8) (IntValue (pos 5))) no_more in
-        strict_run [] frame five (0 ∷ 1 ∷ 2 ∷ []) ≡ Done (IntValue (pos 5) ∷ []) }
-    ensures typed_on_no_rows { let frame : Frame = record {
-      schema = (codes "a", Integer true 8) ∷ (codes "u", Integer false 8) ∷ (codes "t", Truth) ∷ [];
-      rows = (IntValue (pos 100) ∷ IntValue (pos 0) ∷ TruthValue true ∷ []) ∷ (IntValue (pos 127) ∷ IntValue (pos 255) ∷ TruthValue false ∷ []) ∷ (NullValue ∷ NullValue ∷ NullValue ∷ []) ∷ [];
-    } in
-        let five = node (LiteralOp (Integer true 8) (IntValue (pos 5))) no_more in
-        strict_run [] frame five [] ≡ Done (IntValue (pos 5) ∷ []) }
-    ensures typed_operand { let frame : Frame = record {
-      schema = (codes "a", Integer true 8) ∷ (codes "u", Integer false 8) ∷ (codes "t", Truth) ∷ [];
-      rows = (IntValue (pos 100) ∷ IntValue (pos 0) ∷ TruthValue true ∷ []) ∷ (IntValue (pos 127) ∷ IntValue (pos 255) ∷ TruthValue false ∷ []) ∷ (NullValue ∷ NullValue ∷ NullValue ∷ []) ∷ [];
-    } in
-        let a = node (ColumnOp (codes "a")) no_more in
-        let one = node (LiteralOp (Integer true 8) (IntValue (pos 1))) no_more in
-        strict_run [] frame (node (BinaryOp Plus) (more a (more one no_more))) (0 ∷ 1 ∷ 2 ∷ []) ≡ Done (IntValue (pos 101) ∷ IntValue (neg_ℤ (pos 128)) ∷ NullValue ∷ []) }
-    ensures operand_of_another_type { let frame : Frame = record {
-      schema = (codes "a", Integer true 8) ∷ (codes "u", Integer false 8) ∷ (codes "t", Truth) ∷ [];
-      rows = (IntValue (pos 100) ∷ IntValue (pos 0) ∷ TruthValue true ∷ []) ∷ (IntValue (pos 127) ∷ IntValue (pos 255) ∷ TruthValue false ∷ []) ∷ (NullValue ∷ NullValue ∷ NullValue ∷ []) ∷ [];
-    } in
-        let a = node (ColumnOp (codes "a")) no_more in
-        let wide = node (LiteralOp (Integer true 16) (IntValue (pos 300))) no_more in
-        strict_run [] frame (node (BinaryOp Plus) (more a (more wide no_more))) (0 ∷ 1 ∷ 2 ∷ []) ≡ Stuck }
-    ensures beside_a_cast { let frame : Frame = record {
-      schema = (codes "a", Integer true 8) ∷ (codes "u", Integer false 8) ∷ (codes "t", Truth) ∷ [];
-      rows = (IntValue (pos 100) ∷ IntValue (pos 0) ∷ TruthValue true ∷ []) ∷ (IntValue (pos 127) ∷ IntValue (pos 255) ∷ TruthValue false ∷ []) ∷ (NullValue ∷ NullValue ∷ NullValue ∷ []) ∷ [];
-    } in
-        let a = node (ColumnOp (codes "a")) no_more in
-        let wide = node (LiteralOp (Integer true 16) (IntValue (pos 300))) no_more in
-        strict_run [] frame (node (BinaryOp Plus) (more (node (CastOp (Integer true 16) NonStrict) (more a no_more)) (more wide no_more))) (0 ∷ 1 ∷ 2 ∷ []) ≡ Done (IntValue (pos 400) ∷ IntValue (pos 427) ∷ NullValue ∷ []) }
-    ensures typed_under_a_cast { let frame : Frame = record {
-      schema = (codes "a", Integer true 8) ∷ (codes "u", Integer false 8) ∷ (codes "t", Truth) ∷ [];
-      rows = (IntValue (pos 100) ∷ IntValue (pos 0) ∷ TruthValue true ∷ []) ∷ (IntValue (pos 127) ∷ IntValue (pos 255) ∷ TruthValue false ∷ []) ∷ (NullValue ∷ NullValue ∷ NullValue ∷ []) ∷ [];
-    } in
-        let many = node (LiteralOp (Integer true 32) (IntValue (pos 200))) no_more in
-        strict_run [] frame (node (CastOp (Integer true 8) Strict) (more many no_more)) [] ≡ Fault }
+    ensures untyped { GivesAll (runs signs_and_truths) Stuck (five ∷ sum a one ∷ sum one one ∷ cast_as Strict int8 five ∷ []) }
+    ensures typed { Gives (runs signs_and_truths) (
+        (typed_literal int8 (pos 5), Done (number 5 ∷ [])) ∷
+        (sum a (typed_literal int8 (pos 1)), Done (number 101 ∷ negative 128 ∷ null ∷ [])) ∷
+        (sum a (typed_literal int16 (pos 300)), Stuck) ∷
+        (sum (cast_as NonStrict int16 a) (typed_literal int16 (pos 300)), Done (number 400 ∷ number 427 ∷ null ∷ [])) ∷ []) }
+    ensures typed_on_no_rows { Gives (λ tree. strict_run [] signs_and_truths tree []) (
+        (typed_literal int8 (pos 5), Done (number 5 ∷ [])) ∷ (cast_as Strict int8 (typed_literal int32 (pos 200)), Fault) ∷ []) }
 {}
 
 /// A number without a type becomes a literal of the type to which it is taken, and a literal of another type gets a cast.
 pub fn literals_as_operands()
-    ensures untyped { let wide = node (LiteralOp (Untyped (pos 300)) (IntValue (pos 300))) no_more in
-        let typed = node (LiteralOp (Integer true 16) (IntValue (pos 300))) no_more in
-        as_operand (Untyped (pos 300)) (Integer true 16) wide ≡ typed }
-    ensures typed { let one = node (LiteralOp (Integer true 8) (IntValue (pos 1))) no_more in
-        as_operand (Integer true 8) (Integer true 16) one ≡ node (CastOp (Integer true 16) NonStrict) (more one no_more) }
-    ensures own_type { let one = node (LiteralOp (Integer true 8) (IntValue (pos 1))) no_more in
-        as_operand (Integer true 8) (Integer true 8) one ≡ one }
-    ensures in_range { CanBecome (Untyped (pos 300)) (Integer true 16) }
-    ensures out_of_range { ¬ (CanBecome (Untyped (pos 300)) (Integer true 8)) }
+    ensures operands { AreOperands (
+        (Untyped (pos 300), int16, wide, typed_literal int16 (pos 300)) ∷
+        (int8, int16, typed_literal int8 (pos 1), cast_as NonStrict int16 (typed_literal int8 (pos 1))) ∷
+        (int8, int8, typed_literal int8 (pos 1), typed_literal int8 (pos 1)) ∷ []) }
+    ensures in_range { CanBecome (Untyped (pos 300)) int16 }
+    ensures out_of_range { ¬ (CanBecome (Untyped (pos 300)) int8) }
     ensures unknown { ¬ (CanBecome (Untyped (pos 300)) (Untyped (pos 300))) }
 {}
 
 /// A literal of a type is strict, and so is an operator between it and an expression of that type. A number without a type is not.
 pub fn strict_literals()
-    ensures typed { let schema = (codes "a", Integer true 8) ∷ [] in
-        let one = node (LiteralOp (Integer true 8) (IntValue (pos 1))) no_more in
-        IsStrict [] schema one }
-    ensures sum_of_one_type { let schema = (codes "a", Integer true 8) ∷ [] in
-        let a = node (ColumnOp (codes "a")) no_more in
-        let one = node (LiteralOp (Integer true 8) (IntValue (pos 1))) no_more in
-        IsStrict [] schema (node (BinaryOp Plus) (more a (more one no_more))) }
-    ensures untyped { let schema = (codes "a", Integer true 8) ∷ [] in
-        let one = node (LiteralOp (Untyped (pos 1)) (IntValue (pos 1))) no_more in
-        ¬ (IsStrict [] schema one) }
-    ensures untyped_operand { let schema = (codes "a", Integer true 8) ∷ [] in
-        let a = node (ColumnOp (codes "a")) no_more in
-        let one = node (LiteralOp (Untyped (pos 1)) (IntValue (pos 1))) no_more in
-        ¬ (IsStrict [] schema (node (BinaryOp Plus) (more a (more one no_more)))) }
-    ensures untyped_under_a_cast { let schema = (codes "a", Integer true 8) ∷ [] in
-        let one = node (LiteralOp (Untyped (pos 1)) (IntValue (pos 1))) no_more in
-        ¬ (IsStrict [] schema (node (CastOp (Integer true 8) Strict) (more one no_more))) }
-    ensures operand_of_another_type { let schema = (codes "a", Integer true 8) ∷ [] in
-        let a = node (ColumnOp (codes "a")) no_more in
-        let one = node (LiteralOp (Integer true 16) (IntValue (pos 1))) no_more in
-        ¬ (IsStrict [] schema (node (BinaryOp Plus) (more a (more one no_more)))) }
+    ensures typed { let schema = (codes "a", int8) ∷ [] in
+        IsStrict [] schema (typed_literal int8 (pos 1)) × IsStrict [] schema (sum a (typed_literal int8 (pos 1))) }
+    ensures untyped { let schema = (codes "a", int8) ∷ [] in
+        ¬ (IsStrict [] schema one) × ¬ (IsStrict [] schema (sum a one)) × ¬ (IsStrict [] schema (cast_as Strict int8 one)) }
+    ensures operand_of_another_type { ¬ (IsStrict [] ((codes "a", int8) ∷ []) (sum a (typed_literal int16 (pos 1)))) }
 {}
 
 /// In a select a literal has the type that it has alone, and a filter asks for a truth value.
 pub fn schemas_of_plans_of_literals()
-    ensures alone { let scan = node (scan_op (Some 0) ((codes "a", Integer true 8) ∷ (codes "b", Integer true 32) ∷ [])) no_more in
-        let five = node (LiteralOp (Untyped (pos 5)) (IntValue (pos 5))) no_more in
-        schema_of [] (node (select_op (named five ∷ []) []) (more scan no_more)) ≡ Some ((codes "literal", Integer true 32) ∷ []) }
-    ensures widest { let scan = node (scan_op (Some 0) ((codes "a", Integer true 8) ∷ (codes "b", Integer true 32) ∷ [])) no_more in
-        let widest = node (LiteralOp (Untyped (pos 18446744073709551615)) (IntValue (pos 18446744073709551615))) no_more in
-        schema_of [] (node (select_op (named widest ∷ []) []) (more scan no_more)) ≡ Some ((codes "literal", Integer false 64) ∷ []) }
-    ensures past_every_type { let scan = node (scan_op (Some 0) ((codes "a", Integer true 8) ∷ (codes "b", Integer true 32) ∷ [])) no_more in
-        let huge = node (LiteralOp (Untyped (pos 18446744073709551616)) (IntValue (pos 18446744073709551616))) no_more in
-        schema_of [] (node (select_op (named huge ∷ []) []) (more scan no_more)) ≡ None }
-    ensures typed { let scan = node (scan_op (Some 0) ((codes "a", Integer true 8) ∷ (codes "b", Integer true 32) ∷ [])) no_more in
-        let five = node (LiteralOp (Integer false 8) (IntValue (pos 5))) no_more in
-        schema_of [] (node (select_op (named five ∷ []) []) (more scan no_more)) ≡ Some ((codes "literal", Integer false 8) ∷ []) }
-    ensures beside_columns { let scan = node (scan_op (Some 0) ((codes "a", Integer true 8) ∷ (codes "b", Integer true 32) ∷ [])) no_more in
-        let a = node (ColumnOp (codes "a")) no_more in
-        let five = node (LiteralOp (Untyped (pos 5)) (IntValue (pos 5))) no_more in
-        let sum = node (BinaryOp Plus) (more a (more five no_more)) in
-        schema_of [] (node (select_op (named sum ∷ named five ∷ []) []) (more scan no_more)) ≡ Some ((codes "a", Integer true 8) ∷ (codes "literal", Integer true 32) ∷ []) }
-    ensures two_literals { let scan = node (scan_op (Some 0) ((codes "a", Integer true 8) ∷ (codes "b", Integer true 32) ∷ [])) no_more in
-        let one = node (LiteralOp (Untyped (pos 1)) (IntValue (pos 1))) no_more in
-        let two = node (LiteralOp (Untyped (pos 2)) (IntValue (pos 2))) no_more in
-        schema_of [] (node (select_op (named one ∷ named two ∷ []) []) (more scan no_more)) ≡ None }
-    ensures comparison { let scan = node (scan_op (Some 0) ((codes "a", Integer true 8) ∷ (codes "b", Integer true 32) ∷ [])) no_more in
-        let a = node (ColumnOp (codes "a")) no_more in
-        let five = node (LiteralOp (Untyped (pos 5)) (IntValue (pos 5))) no_more in
-        let less = node (BinaryOp Lt) (more a (more five no_more)) in
-        schema_of [] (node (filter_op (named less)) (more scan no_more)) ≡ Some ((codes "a", Integer true 8) ∷ (codes "b", Integer true 32) ∷ []) }
-    ensures filter_by_a_literal { let scan = node (scan_op (Some 0) ((codes "a", Integer true 8) ∷ (codes "b", Integer true 32) ∷ [])) no_more in
-        let five = node (LiteralOp (Untyped (pos 5)) (IntValue (pos 5))) no_more in
-        schema_of [] (node (filter_op (named five)) (more scan no_more)) ≡ None }
-    ensures untyped_column { let scan = node (scan_op (Some 0) ((codes "a", Integer true 8) ∷ (codes "n", Untyped (pos 1)) ∷ [])) no_more in
-        schema_of [] scan ≡ None }
+    ensures selects { Gives (λ outputs. schema_of [] (select outputs (scan schema_ab))) (
+        (five ∷ [], Some ((codes "literal", int32) ∷ [])) ∷
+        (typed_literal uint8 (pos 5) ∷ [], Some ((codes "literal", uint8) ∷ [])) ∷
+        (widest ∷ [], Some ((codes "literal", uint64) ∷ [])) ∷
+        (sum a five ∷ five ∷ [], Some ((codes "a", int8) ∷ (codes "literal", int32) ∷ [])) ∷
+        (huge ∷ [], None) ∷ (one ∷ two ∷ [], None) ∷ []) }
+    ensures filters { Gives (λ predicate. schema_of [] (keep predicate (scan schema_ab))) ((less a five, Some schema_ab) ∷ (five, None) ∷ []) }
+    ensures untyped_column { schema_of [] (scan ((codes "a", int8) ∷ (codes "n", Untyped (pos 1)) ∷ [])) ≡ None }
 {}
 
 /// The kinds that plans of literals break, and where.
 pub fn rules_that_literals_break()
-    ensures alone { let five = node (LiteralOp (Untyped (pos 5)) (IntValue (pos 5))) no_more in
-        broken_kinds [] (select_op (named five ∷ []) []) (Some [] ∷ []) ≡ [] }
-    ensures past_every_type { let huge = node (LiteralOp (Untyped (pos 18446744073709551616)) (IntValue (pos 18446744073709551616))) no_more in
-        broken_kinds [] (select_op (named huge ∷ []) []) (Some [] ∷ []) ≡ InvalidOperation ∷ [] }
-    ensures two_literals { let one = node (LiteralOp (Untyped (pos 1)) (IntValue (pos 1))) no_more in
-        let two = node (LiteralOp (Untyped (pos 2)) (IntValue (pos 2))) no_more in
-        broken_kinds [] (select_op (named one ∷ named two ∷ []) []) (Some [] ∷ []) ≡ Duplicate ∷ [] }
-    ensures filter_by_a_literal { let five = node (LiteralOp (Untyped (pos 5)) (IntValue (pos 5))) no_more in
-        broken_kinds [] (filter_op (named five)) (Some [] ∷ []) ≡ InvalidOperation ∷ [] }
-    ensures untyped_column { let schema = (codes "a", Integer true 8) ∷ (codes "n", Untyped (pos 1)) ∷ [] in
-        broken_kinds [] (scan_op (Some 0) schema) [] ≡ InvalidOperation ∷ [] }
-    ensures at_the_select { let scan = node (scan_op (Some 0) ((codes "a", Integer true 8) ∷ (codes "b", Integer true 32) ∷ [])) no_more in
-        let huge = node (LiteralOp (Untyped (pos 18446744073709551616)) (IntValue (pos 18446744073709551616))) no_more in
-        Breaks [] InvalidOperation [] (node (select_op (named huge ∷ []) []) (more scan no_more)) }
-    ensures below_a_select { let scan = node (scan_op (Some 0) ((codes "a", Integer true 8) ∷ (codes "b", Integer true 32) ∷ [])) no_more in
-        let five = node (LiteralOp (Untyped (pos 5)) (IntValue (pos 5))) no_more in
-        let huge = node (LiteralOp (Untyped (pos 18446744073709551616)) (IntValue (pos 18446744073709551616))) no_more in
-        let inner = node (select_op (named huge ∷ []) []) (more scan no_more) in
-        Breaks [] InvalidOperation (0 ∷ []) (node (select_op (named five ∷ []) []) (more inner no_more)) }
-    ensures at_the_scan { let scan = node (scan_op (Some 0) ((codes "n", Untyped (pos 1)) ∷ [])) no_more in
-        let five = node (LiteralOp (Untyped (pos 5)) (IntValue (pos 5))) no_more in
-        Breaks [] InvalidOperation (0 ∷ []) (node (select_op (named five ∷ []) []) (more scan no_more)) }
-    ensures ill_formed { let scan = node (scan_op (Some 0) ((codes "a", Integer true 8) ∷ (codes "b", Integer true 32) ∷ [])) no_more in
-        let huge = node (LiteralOp (Untyped (pos 18446744073709551616)) (IntValue (pos 18446744073709551616))) no_more in
-        ¬ (IsWellFormed [] (node (select_op (named huge ∷ []) []) (more scan no_more))) }
-    ensures well_formed { let scan = node (scan_op (Some 0) ((codes "a", Integer true 8) ∷ (codes "b", Integer true 32) ∷ [])) no_more in
-        let widest = node (LiteralOp (Untyped (pos 18446744073709551615)) (IntValue (pos 18446744073709551615))) no_more in
-        IsWellFormed [] (node (select_op (named widest ∷ []) []) (more scan no_more)) }
+    ensures selects { Gives (λ outputs. broken_kinds [] (select_op (map named outputs) []) (Some [] ∷ [])) (
+        (five ∷ [], []) ∷ (huge ∷ [], InvalidOperation ∷ []) ∷ (one ∷ two ∷ [], Duplicate ∷ []) ∷ []) }
+    ensures filter_by_a_literal { broken_kinds [] (filter_op (named five)) (Some [] ∷ []) ≡ InvalidOperation ∷ [] }
+    ensures untyped_column { broken_kinds [] (scan_op (Some 0) ((codes "a", int8) ∷ (codes "n", Untyped (pos 1)) ∷ [])) [] ≡ InvalidOperation ∷ [] }
+    ensures at_the_select { Breaks [] InvalidOperation [] (select (huge ∷ []) (scan schema_ab)) }
+    ensures below_a_select { Breaks [] InvalidOperation (0 ∷ []) (select (five ∷ []) (select (huge ∷ []) (scan schema_ab))) }
+    ensures at_the_scan { Breaks [] InvalidOperation (0 ∷ []) (select (five ∷ []) (scan ((codes "n", Untyped (pos 1)) ∷ []))) }
+    ensures ill_formed { ¬ (IsWellFormed [] (select (huge ∷ []) (scan schema_ab))) }
+    ensures well_formed { IsWellFormed [] (select (widest ∷ []) (scan schema_ab)) }
 {}
 
 /// A select of a literal alone gives one row, also over no rows. Beside a column the literal is repeated.
 pub fn frames_of_plans_of_literals()
-    ensures alone { let table : Frame = record {
-      schema = (codes "a", Integer true 8) ∷ (codes "b", Integer true 32) ∷ [];
-      rows = (IntValue (pos 1) ∷ IntValue (pos 10) ∷ []) ∷ (NullValue ∷ IntValue (pos 20) ∷ []) ∷ (IntValue (pos 100) ∷ IntValue (pos 200) ∷ []) ∷ [];
-    } in
-        let scan = node (scan_op (Some 0) ((codes "a", Integer true 8) ∷ (codes "b", Integer true 32) ∷ [])) no_more in
-        let five = node (LiteralOp (Untyped (pos 5)) (IntValue (pos 5))) no_more in
-        let chosen : Frame = record {
-          schema = (codes "literal", Integer true 32) ∷ [];
-          rows = (IntValue (pos 5) ∷ []) ∷ [];
-        } in
-        source_meaning [] (table ∷ []) (node (select_op (named five ∷ []) []) (more scan no_more)) ≡ Done chosen }
-    ensures alone_over_no_rows { let scan = node (scan_op None ((codes "a", Integer true 8) ∷ (codes "b", Integer true 32) ∷ [])) no_more in
-        let five = node (LiteralOp (Untyped (pos 5)) (IntValue (pos 5))) no_more in
-        let chosen : Frame = record {
-          schema = (codes "literal", Integer true 32) ∷ [];
-          rows = (IntValue (pos 5) ∷ []) ∷ [];
-        } in
-        source_meaning [] [] (node (select_op (named five ∷ []) []) (more scan no_more)) ≡ Done chosen }
-    ensures widest { let scan = node (scan_op None ((codes "a", Integer true 8) ∷ (codes "b", Integer true 32) ∷ [])) no_more in
-        let widest = node (LiteralOp (Untyped (pos 18446744073709551615)) (IntValue (pos 18446744073709551615))) no_more in
-        let chosen : Frame = record {
-          schema = (codes "literal", Integer false 64) ∷ [];
-          rows = (IntValue (pos 18446744073709551615) ∷ []) ∷ [];
-        } in
-        source_meaning [] [] (node (select_op (named widest ∷ []) []) (more scan no_more)) ≡ Done chosen }
-    ensures beside_a_column { let table : Frame = record {
-      schema = (codes "a", Integer true 8) ∷ (codes "b", Integer true 32) ∷ [];
-      rows = (IntValue (pos 1) ∷ IntValue (pos 10) ∷ []) ∷ (NullValue ∷ IntValue (pos 20) ∷ []) ∷ (IntValue (pos 100) ∷ IntValue (pos 200) ∷ []) ∷ [];
-    } in
-        let scan = node (scan_op (Some 0) ((codes "a", Integer true 8) ∷ (codes "b", Integer true 32) ∷ [])) no_more in
-        let a = node (ColumnOp (codes "a")) no_more in
-        let five = node (LiteralOp (Untyped (pos 5)) (IntValue (pos 5))) no_more in
-        let chosen : Frame = record {
-          schema = (codes "literal", Integer true 32) ∷ (codes "a", Integer true 8) ∷ [];
-          rows = (IntValue (pos 5) ∷ IntValue (pos 1) ∷ []) ∷ (IntValue (pos 5) ∷ NullValue ∷ []) ∷ (IntValue (pos 5) ∷ IntValue (pos 100) ∷ []) ∷ [];
-        } in
-        source_meaning [] (table ∷ []) (node (select_op (named five ∷ named a ∷ []) []) (more scan no_more)) ≡ Done chosen }
-    ensures beside_a_column_over_no_rows { let scan = node (scan_op None ((codes "a", Integer true 8) ∷ (codes "b", Integer true 32) ∷ [])) no_more in
-        let a = node (ColumnOp (codes "a")) no_more in
-        let five = node (LiteralOp (Untyped (pos 5)) (IntValue (pos 5))) no_more in
-        let chosen : Frame = record {
-          schema = (codes "literal", Integer true 32) ∷ (codes "a", Integer true 8) ∷ [];
-          rows = [];
-        } in
-        source_meaning [] [] (node (select_op (named five ∷ named a ∷ []) []) (more scan no_more)) ≡ Done chosen }
-    ensures sum { let table : Frame = record {
-      schema = (codes "a", Integer true 8) ∷ (codes "b", Integer true 32) ∷ [];
-      rows = (IntValue (pos 1) ∷ IntValue (pos 10) ∷ []) ∷ (NullValue ∷ IntValue (pos 20) ∷ []) ∷ (IntValue (pos 100) ∷ IntValue (pos 200) ∷ []) ∷ [];
-    } in
-        let scan = node (scan_op (Some 0) ((codes "a", Integer true 8) ∷ (codes "b", Integer true 32) ∷ [])) no_more in
-        let a = node (ColumnOp (codes "a")) no_more in
-        let wide = node (LiteralOp (Untyped (pos 300)) (IntValue (pos 300))) no_more in
-        let sum = node (BinaryOp Plus) (more a (more wide no_more)) in
-        let chosen : Frame = record {
-          schema = (codes "a", Integer true 16) ∷ [];
-          rows = (IntValue (pos 301) ∷ []) ∷ (NullValue ∷ []) ∷ (IntValue (pos 400) ∷ []) ∷ [];
-        } in
-        source_meaning [] (table ∷ []) (node (select_op (named sum ∷ []) []) (more scan no_more)) ≡ Done chosen }
-    ensures strict_cast_over_no_rows { let scan = node (scan_op None ((codes "a", Integer true 8) ∷ (codes "b", Integer true 32) ∷ [])) no_more in
-        let many = node (LiteralOp (Untyped (pos 200)) (IntValue (pos 200))) no_more in
-        let narrow = node (CastOp (Integer true 8) Strict) (more many no_more) in
-        source_meaning [] [] (node (select_op (named narrow ∷ []) []) (more scan no_more)) ≡ Fault }
-    ensures comparison { let table : Frame = record {
-      schema = (codes "a", Integer true 8) ∷ (codes "b", Integer true 32) ∷ [];
-      rows = (IntValue (pos 1) ∷ IntValue (pos 10) ∷ []) ∷ (NullValue ∷ IntValue (pos 20) ∷ []) ∷ (IntValue (pos 100) ∷ IntValue (pos 200) ∷ []) ∷ [];
-    } in
-        let scan = node (scan_op (Some 0) ((codes "a", Integer true 8) ∷ (codes "b", Integer true 32) ∷ [])) no_more in
-        let a = node (ColumnOp (codes "a")) no_more in
-        let five = node (LiteralOp (Untyped (pos 5)) (IntValue (pos 5))) no_more in
-        let less = node (BinaryOp Lt) (more five (more a no_more)) in
-        let kept : Frame = record {
-          schema = (codes "a", Integer true 8) ∷ (codes "b", Integer true 32) ∷ [];
-          rows = (IntValue (pos 100) ∷ IntValue (pos 200) ∷ []) ∷ [];
-        } in
-        source_meaning [] (table ∷ []) (node (filter_op (named less)) (more scan no_more)) ≡ Done kept }
-    ensures true_for_each_row { let table : Frame = record {
-      schema = (codes "a", Integer true 8) ∷ (codes "b", Integer true 32) ∷ [];
-      rows = (IntValue (pos 1) ∷ IntValue (pos 10) ∷ []) ∷ (NullValue ∷ IntValue (pos 20) ∷ []) ∷ (IntValue (pos 100) ∷ IntValue (pos 200) ∷ []) ∷ [];
-    } in
-        let scan = node (scan_op (Some 0) ((codes "a", Integer true 8) ∷ (codes "b", Integer true 32) ∷ [])) no_more in
-        let one = node (LiteralOp (Untyped (pos 1)) (IntValue (pos 1))) no_more in
-        let two = node (LiteralOp (Untyped (pos 2)) (IntValue (pos 2))) no_more in
-        let less = node (BinaryOp Lt) (more one (more two no_more)) in
-        source_meaning [] (table ∷ []) (node (filter_op (named less)) (more scan no_more)) ≡ Done table }
-    ensures false_for_each_row { let table : Frame = record {
-      schema = (codes "a", Integer true 8) ∷ (codes "b", Integer true 32) ∷ [];
-      rows = (IntValue (pos 1) ∷ IntValue (pos 10) ∷ []) ∷ (NullValue ∷ IntValue (pos 20) ∷ []) ∷ (IntValue (pos 100) ∷ IntValue (pos 200) ∷ []) ∷ [];
-    } in
-        let scan = node (scan_op (Some 0) ((codes "a", Integer true 8) ∷ (codes "b", Integer true 32) ∷ [])) no_more in
-        let one = node (LiteralOp (Untyped (pos 1)) (IntValue (pos 1))) no_more in
-        let two = node (LiteralOp (Untyped (pos 2)) (IntValue (pos 2))) no_more in
-        let less = node (BinaryOp Lt) (more two (more one no_more)) in
-        let none : Frame = record {
-          schema = (codes "a", Integer true 8) ∷ (codes "b", Integer true 32) ∷ [];
-          rows = [];
-        } in
-        source_meaning [] (table ∷ []) (node (filter_op (named less)) (more scan no_more)) ≡ Done none }
+    ensures selects { Gives (λ outputs. source_meaning [] (table ∷ []) (select outputs (scan schema_ab))) (
+        (five ∷ [], Done (frame_with ((codes "literal", int32) ∷ []) ((number 5 ∷ []) ∷ []))) ∷ (
+          five ∷ a ∷ [],
+          Done (frame_with ((codes "literal", int32) ∷ (codes "a", int8) ∷ []) (
+              (number 5 ∷ number 1 ∷ []) ∷ (number 5 ∷ null ∷ []) ∷ (number 5 ∷ number 100 ∷ []) ∷ [])),
+        ) ∷
+        (sum a wide ∷ [], Done (alone int16 (number 301 ∷ null ∷ number 400 ∷ []))) ∷ []) }
+    ensures selects_over_no_rows { Gives (λ outputs. source_meaning [] [] (select outputs (empty_scan schema_ab))) (
+        (five ∷ [], Done (frame_with ((codes "literal", int32) ∷ []) ((number 5 ∷ []) ∷ []))) ∷
+        (widest ∷ [], Done (frame_with ((codes "literal", uint64) ∷ []) ((number 18446744073709551615 ∷ []) ∷ []))) ∷
+        (five ∷ a ∷ [], Done (frame_with ((codes "literal", int32) ∷ (codes "a", int8) ∷ []) [])) ∷
+        (cast_as Strict int8 two_hundred ∷ [], Fault) ∷ []) }
+    ensures filters { Gives (λ predicate. source_meaning [] (table ∷ []) (keep predicate (scan schema_ab))) (
+        (less five a, Done (frame_with schema_ab ((number 100 ∷ number 200 ∷ []) ∷ []))) ∷
+        (less one two, Done table) ∷
+        (less two one, Done (frame_with schema_ab [])) ∷ []) }
 {}

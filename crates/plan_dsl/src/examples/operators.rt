@@ -1,535 +1,146 @@
 //! Operators: comparisons and sums of numbers and of truth values, and casts that are written round them.
 
-ghost use Rattle.std.specs.Prelude.{◌≡◌, [], ◌∷◌, pos, neg_ℤ, map, codes, true, false, Ok, Err};
-ghost use Rattle.plan_types.specs.Types.{Truth, Integer};
-ghost use Rattle.plan_types.specs.Values.{NullValue, TruthValue, IntValue};
+ghost use Rattle.std.specs.Prelude.{◌≡◌, [], ◌∷◌, replicate, codes, true, false, Err};
+ghost use Rattle.plan_types.specs.Types.{Truth};
 ghost use Rattle.plan_types.specs.Outcomes.{Done, Stuck};
-ghost use Rattle.plan_types.specs.Frames.{Frame};
 ghost use Rattle.plan_types.specs.declared.dtype.CastOptions.TheVariants.{Strict, NonStrict, Overflowing};
 ghost use Rattle.plan_types.specs.declared.error.ErrorKind.TheVariants.{ColumnNotFound, SchemaMismatch};
 ghost use Rattle.plan_dsl.specs.declared.operator.Operator.TheVariants.{Eq, NotEq, Lt, LtEq, Gt, GtEq, Plus};
-ghost use Rattle.plan_dsl.specs.Operators.{operator_sign, operator_value};
-ghost use Rattle.plan_dsl.specs.Trees.{node, no_more, more};
-ghost use Rattle.plan_dsl.specs.Ops.{ColumnOp, BinaryOp, CastOp};
+ghost use Rattle.plan_dsl.specs.Operators.{operator_value};
+ghost use Rattle.plan_dsl.specs.Ops.{BinaryOp};
 ghost use Rattle.plan_dsl.specs.Names.{name_of};
-ghost use Rattle.plan_dsl.specs.Typing.{Typed, is_many, typing};
-ghost use Rattle.plan_dsl.specs.OperatorTypes.{Taken, operator_types};
+ghost use Rattle.plan_dsl.specs.Typing.{is_many, typing};
 ghost use Rattle.plan_dsl.specs.Meaning.{meaning};
 ghost use Rattle.plan_dsl.specs.StrictRun.{strict_run};
+ghost use Rattle.plan_dsl.specs.Samples.{Gives, GivesAll, GivesOfTwo, Take, Refuse, Compute, ComputeEach, Mean, comparisons, both_as, int8, int16, int64, uint8, uint32, uint64, null, yes, no, number, negative, a, b, c, t, u, binary, sum, less, equal, cast_as, all_options, one_value, many_values, of_many, means, runs, beside, four_columns, two_widths, some_zeros, truths_and_numbers};
 
-/// How each operator is written.
-pub fn operators_as_written()
-    ensures equal { operator_sign Eq ≡ codes "==" }
-    ensures not_equal { operator_sign NotEq ≡ codes "!=" }
-    ensures less { operator_sign Lt ≡ codes "<" }
-    ensures less_or_equal { operator_sign LtEq ≡ codes "<=" }
-    ensures greater { operator_sign Gt ≡ codes ">" }
-    ensures greater_or_equal { operator_sign GtEq ≡ codes ">=" }
-    ensures plus { operator_sign Plus ≡ codes "+" }
+/// A comparison takes both operands to their common type, and is a truth value. A sum has that type, and truth values are
+/// counted in 32 bits without a sign.
+pub fn types_of_comparisons_and_sums()
+    ensures comparisons { Take comparisons (
+        (int8, int8, both_as int8 Truth) ∷ (int8, int64, both_as int64 Truth) ∷ (uint8, int8, both_as int16 Truth) ∷
+        (Truth, Truth, both_as Truth Truth) ∷ (Truth, int8, both_as int8 Truth) ∷ (uint64, Truth, both_as uint64 Truth) ∷ []) }
+    ensures sums { Take (Plus ∷ []) (
+        (Truth, Truth, both_as Truth uint32) ∷ (Truth, int8, both_as int8 int8) ∷ (int8, Truth, both_as int8 int8) ∷
+        (uint64, Truth, both_as uint64 uint64) ∷ (uint32, Truth, both_as uint32 uint32) ∷ (int8, int64, both_as int64 int64) ∷ []) }
+    ensures without_a_common_type { Refuse (Plus ∷ comparisons) SchemaMismatch ((uint64 ∷ [], int8 ∷ []) ∷ (int8 ∷ [], uint64 ∷ []) ∷ []) }
 {}
 
-/// A comparison takes both operands to their common type, and is a truth value.
-pub fn types_of_comparisons()
-    ensures one_type { let taken : Taken = record { operands = Integer true 8 ∷ Integer true 8 ∷ []; type = Truth } in
-        map (λ operator. operator_types operator (Integer true 8 ∷ Integer true 8 ∷ [])) (Eq ∷ NotEq ∷ Lt ∷ LtEq ∷ Gt ∷ GtEq ∷ [])
-        ≡ Ok taken ∷ Ok taken ∷ Ok taken ∷ Ok taken ∷ Ok taken ∷ Ok taken ∷ [] }
-    ensures two_widths { let taken : Taken = record { operands = Integer true 64 ∷ Integer true 64 ∷ []; type = Truth } in
-        map (λ operator. operator_types operator (Integer true 8 ∷ Integer true 64 ∷ [])) (Eq ∷ NotEq ∷ Lt ∷ LtEq ∷ Gt ∷ GtEq ∷ [])
-        ≡ Ok taken ∷ Ok taken ∷ Ok taken ∷ Ok taken ∷ Ok taken ∷ Ok taken ∷ [] }
-    ensures two_signs { let taken : Taken = record { operands = Integer true 16 ∷ Integer true 16 ∷ []; type = Truth } in
-        map (λ operator. operator_types operator (Integer false 8 ∷ Integer true 8 ∷ [])) (Eq ∷ NotEq ∷ Lt ∷ LtEq ∷ Gt ∷ GtEq ∷ [])
-        ≡ Ok taken ∷ Ok taken ∷ Ok taken ∷ Ok taken ∷ Ok taken ∷ Ok taken ∷ [] }
-    ensures truths { let taken : Taken = record { operands = Truth ∷ Truth ∷ []; type = Truth } in
-        map (λ operator. operator_types operator (Truth ∷ Truth ∷ [])) (Eq ∷ NotEq ∷ Lt ∷ LtEq ∷ Gt ∷ GtEq ∷ [])
-        ≡ Ok taken ∷ Ok taken ∷ Ok taken ∷ Ok taken ∷ Ok taken ∷ Ok taken ∷ [] }
-    ensures truth_beside_integer { let taken : Taken = record { operands = Integer true 8 ∷ Integer true 8 ∷ []; type = Truth } in
-        map (λ operator. operator_types operator (Truth ∷ Integer true 8 ∷ [])) (Eq ∷ NotEq ∷ Lt ∷ LtEq ∷ Gt ∷ GtEq ∷ [])
-        ≡ Ok taken ∷ Ok taken ∷ Ok taken ∷ Ok taken ∷ Ok taken ∷ Ok taken ∷ [] }
-    ensures integer_beside_truth { let taken : Taken = record { operands = Integer false 64 ∷ Integer false 64 ∷ []; type = Truth } in
-        map (λ operator. operator_types operator (Integer false 64 ∷ Truth ∷ [])) (Eq ∷ NotEq ∷ Lt ∷ LtEq ∷ Gt ∷ GtEq ∷ [])
-        ≡ Ok taken ∷ Ok taken ∷ Ok taken ∷ Ok taken ∷ Ok taken ∷ Ok taken ∷ [] }
-    ensures no_common_type { map (λ operator. operator_types operator (Integer false 64 ∷ Integer true 8 ∷ [])) (Eq ∷ NotEq ∷ Lt ∷ LtEq ∷ Gt ∷ GtEq ∷ [])
-        ≡ Err SchemaMismatch ∷ Err SchemaMismatch ∷ Err SchemaMismatch ∷ Err SchemaMismatch ∷ Err SchemaMismatch ∷ Err SchemaMismatch ∷ [] }
-    ensures no_common_type_turned_round { map (λ operator. operator_types operator (Integer true 8 ∷ Integer false 64 ∷ [])) (Eq ∷ NotEq ∷ Lt ∷ LtEq ∷ Gt ∷ GtEq ∷ [])
-        ≡ Err SchemaMismatch ∷ Err SchemaMismatch ∷ Err SchemaMismatch ∷ Err SchemaMismatch ∷ Err SchemaMismatch ∷ Err SchemaMismatch ∷ [] }
+/// Numbers are compared by size, and false is less than true. A comparison with null is null, whichever side it is on.
+pub fn comparisons_of_values()
+    ensures numbers { Compute comparisons Truth Truth (
+        (number 1, number 2, no ∷ yes ∷ yes ∷ yes ∷ no ∷ no ∷ []) ∷
+        (number 2, number 2, yes ∷ no ∷ no ∷ yes ∷ no ∷ yes ∷ []) ∷
+        (number 3, number 2, no ∷ yes ∷ no ∷ no ∷ yes ∷ yes ∷ []) ∷
+        (negative 3, number 2, no ∷ yes ∷ yes ∷ yes ∷ no ∷ no ∷ []) ∷
+        (number 0, negative 1, no ∷ yes ∷ no ∷ no ∷ yes ∷ yes ∷ []) ∷
+        (negative 2, negative 1, no ∷ yes ∷ yes ∷ yes ∷ no ∷ no ∷ []) ∷
+        (negative 1, negative 2, no ∷ yes ∷ no ∷ no ∷ yes ∷ yes ∷ []) ∷
+        (negative 2, negative 2, yes ∷ no ∷ no ∷ yes ∷ no ∷ yes ∷ []) ∷
+        (negative 9223372036854775808, number 9223372036854775807, no ∷ yes ∷ yes ∷ yes ∷ no ∷ no ∷ []) ∷
+        (number 18446744073709551615, number 18446744073709551614, no ∷ yes ∷ no ∷ no ∷ yes ∷ yes ∷ []) ∷ []) }
+    ensures truth_values { Compute comparisons Truth Truth (
+        (no, no, yes ∷ no ∷ no ∷ yes ∷ no ∷ yes ∷ []) ∷ (no, yes, no ∷ yes ∷ yes ∷ yes ∷ no ∷ no ∷ []) ∷
+        (yes, no, no ∷ yes ∷ no ∷ no ∷ yes ∷ yes ∷ []) ∷ (yes, yes, yes ∷ no ∷ no ∷ yes ∷ no ∷ yes ∷ []) ∷ []) }
+    ensures nulls { let nulls = replicate 6 null in
+        Compute comparisons Truth Truth (
+        (null, number 1, nulls) ∷ (number 1, null, nulls) ∷ (null, yes, nulls) ∷ (no, null, nulls) ∷ (null, null, nulls) ∷ []) }
 {}
 
-/// A sum has the common type of its operands. Truth values are counted in 32 bits without a sign.
-pub fn types_of_sums()
-    ensures truths { let taken : Taken = record { operands = Truth ∷ Truth ∷ []; type = Integer false 32 } in
-        operator_types Plus (Truth ∷ Truth ∷ []) ≡ Ok taken }
-    ensures truth_beside_integer { let taken : Taken = record { operands = Integer true 8 ∷ Integer true 8 ∷ []; type = Integer true 8 } in
-        operator_types Plus (Truth ∷ Integer true 8 ∷ []) ≡ Ok taken }
-    ensures integer_beside_truth { let taken : Taken = record { operands = Integer true 8 ∷ Integer true 8 ∷ []; type = Integer true 8 } in
-        operator_types Plus (Integer true 8 ∷ Truth ∷ []) ≡ Ok taken }
-    ensures widest_beside_truth { let taken : Taken = record { operands = Integer false 64 ∷ Integer false 64 ∷ []; type = Integer false 64 } in
-        operator_types Plus (Integer false 64 ∷ Truth ∷ []) ≡ Ok taken }
-    ensures count_beside_truth { let taken : Taken = record { operands = Integer false 32 ∷ Integer false 32 ∷ []; type = Integer false 32 } in
-        operator_types Plus (Integer false 32 ∷ Truth ∷ []) ≡ Ok taken }
-    ensures two_widths { let taken : Taken = record { operands = Integer true 64 ∷ Integer true 64 ∷ []; type = Integer true 64 } in
-        operator_types Plus (Integer true 8 ∷ Integer true 64 ∷ []) ≡ Ok taken }
-    ensures no_common_type { operator_types Plus (Integer false 64 ∷ Integer true 8 ∷ []) ≡ Err SchemaMismatch }
-{}
-
-/// Numbers are compared by size.
-pub fn comparisons_of_numbers()
-    ensures one_beside_two { map (λ operator. operator_value operator Truth Truth (IntValue (pos 1)) (IntValue (pos 2))) (Eq ∷ NotEq ∷ Lt ∷ LtEq ∷ Gt ∷ GtEq ∷ [])
-        ≡ TruthValue false ∷ TruthValue true ∷ TruthValue true ∷ TruthValue true ∷ TruthValue false ∷ TruthValue false ∷ [] }
-    ensures two_beside_two { map (λ operator. operator_value operator Truth Truth (IntValue (pos 2)) (IntValue (pos 2))) (Eq ∷ NotEq ∷ Lt ∷ LtEq ∷ Gt ∷ GtEq ∷ [])
-        ≡ TruthValue true ∷ TruthValue false ∷ TruthValue false ∷ TruthValue true ∷ TruthValue false ∷ TruthValue true ∷ [] }
-    ensures three_beside_two { map (λ operator. operator_value operator Truth Truth (IntValue (pos 3)) (IntValue (pos 2))) (Eq ∷ NotEq ∷ Lt ∷ LtEq ∷ Gt ∷ GtEq ∷ [])
-        ≡ TruthValue false ∷ TruthValue true ∷ TruthValue false ∷ TruthValue false ∷ TruthValue true ∷ TruthValue true ∷ [] }
-    ensures negative_beside_positive { map (λ operator. operator_value operator Truth Truth (IntValue (neg_ℤ (pos 3))) (IntValue (pos 2))) (Eq ∷ NotEq ∷ Lt ∷ LtEq ∷ Gt ∷ GtEq ∷ [])
-        ≡ TruthValue false ∷ TruthValue true ∷ TruthValue true ∷ TruthValue true ∷ TruthValue false ∷ TruthValue false ∷ [] }
-    ensures zero_beside_negative { map (λ operator. operator_value operator Truth Truth (IntValue (pos 0)) (IntValue (neg_ℤ (pos 1)))) (Eq ∷ NotEq ∷ Lt ∷ LtEq ∷ Gt ∷ GtEq ∷ [])
-        ≡ TruthValue false ∷ TruthValue true ∷ TruthValue false ∷ TruthValue false ∷ TruthValue true ∷ TruthValue true ∷ [] }
-    ensures two_negatives { map (λ operator. operator_value operator Truth Truth (IntValue (neg_ℤ (pos 2))) (IntValue (neg_ℤ (pos 1)))) (Eq ∷ NotEq ∷ Lt ∷ LtEq ∷ Gt ∷ GtEq ∷ [])
-        ≡ TruthValue false ∷ TruthValue true ∷ TruthValue true ∷ TruthValue true ∷ TruthValue false ∷ TruthValue false ∷ [] }
-    ensures two_negatives_turned_round { map (λ operator. operator_value operator Truth Truth (IntValue (neg_ℤ (pos 1))) (IntValue (neg_ℤ (pos 2)))) (Eq ∷ NotEq ∷ Lt ∷ LtEq ∷ Gt ∷ GtEq ∷ [])
-        ≡ TruthValue false ∷ TruthValue true ∷ TruthValue false ∷ TruthValue false ∷ TruthValue true ∷ TruthValue true ∷ [] }
-    ensures equal_negatives { map (λ operator. operator_value operator Truth Truth (IntValue (neg_ℤ (pos 2))) (IntValue (neg_ℤ (pos 2)))) (Eq ∷ NotEq ∷ Lt ∷ LtEq ∷ Gt ∷ GtEq ∷ [])
-        ≡ TruthValue true ∷ TruthValue false ∷ TruthValue false ∷ TruthValue true ∷ TruthValue false ∷ TruthValue true ∷ [] }
-    ensures ends_of_a_range { map (λ operator. operator_value operator Truth Truth (IntValue (neg_ℤ (pos 9223372036854775808))) (IntValue (pos 9223372036854775807))) (Eq ∷ NotEq ∷ Lt ∷ LtEq ∷ Gt ∷ GtEq ∷ [])
-        ≡ TruthValue false ∷ TruthValue true ∷ TruthValue true ∷ TruthValue true ∷ TruthValue false ∷ TruthValue false ∷ [] }
-    ensures two_greatest { map (λ operator. operator_value operator Truth Truth (IntValue (pos 18446744073709551615)) (IntValue (pos 18446744073709551614))) (Eq ∷ NotEq ∷ Lt ∷ LtEq ∷ Gt ∷ GtEq ∷ [])
-        ≡ TruthValue false ∷ TruthValue true ∷ TruthValue false ∷ TruthValue false ∷ TruthValue true ∷ TruthValue true ∷ [] }
-{}
-
-/// False is less than true.
-pub fn comparisons_of_truth_values()
-    ensures false_beside_true { map (λ operator. operator_value operator Truth Truth (TruthValue false) (TruthValue true)) (Eq ∷ NotEq ∷ Lt ∷ LtEq ∷ Gt ∷ GtEq ∷ [])
-        ≡ TruthValue false ∷ TruthValue true ∷ TruthValue true ∷ TruthValue true ∷ TruthValue false ∷ TruthValue false ∷ [] }
-    ensures true_beside_false { map (λ operator. operator_value operator Truth Truth (TruthValue true) (TruthValue false)) (Eq ∷ NotEq ∷ Lt ∷ LtEq ∷ Gt ∷ GtEq ∷ [])
-        ≡ TruthValue false ∷ TruthValue true ∷ TruthValue false ∷ TruthValue false ∷ TruthValue true ∷ TruthValue true ∷ [] }
-    ensures false_beside_false { map (λ operator. operator_value operator Truth Truth (TruthValue false) (TruthValue false)) (Eq ∷ NotEq ∷ Lt ∷ LtEq ∷ Gt ∷ GtEq ∷ [])
-        ≡ TruthValue true ∷ TruthValue false ∷ TruthValue false ∷ TruthValue true ∷ TruthValue false ∷ TruthValue true ∷ [] }
-    ensures true_beside_true { map (λ operator. operator_value operator Truth Truth (TruthValue true) (TruthValue true)) (Eq ∷ NotEq ∷ Lt ∷ LtEq ∷ Gt ∷ GtEq ∷ [])
-        ≡ TruthValue true ∷ TruthValue false ∷ TruthValue false ∷ TruthValue true ∷ TruthValue false ∷ TruthValue true ∷ [] }
-{}
-
-/// A comparison with null is null, whichever side it is on, and so is that of two nulls.
-pub fn comparisons_with_null()
-    ensures null_beside_number { map (λ operator. operator_value operator Truth Truth NullValue (IntValue (pos 1))) (Eq ∷ NotEq ∷ Lt ∷ LtEq ∷ Gt ∷ GtEq ∷ [])
-        ≡ NullValue ∷ NullValue ∷ NullValue ∷ NullValue ∷ NullValue ∷ NullValue ∷ [] }
-    ensures number_beside_null { map (λ operator. operator_value operator Truth Truth (IntValue (pos 1)) NullValue) (Eq ∷ NotEq ∷ Lt ∷ LtEq ∷ Gt ∷ GtEq ∷ [])
-        ≡ NullValue ∷ NullValue ∷ NullValue ∷ NullValue ∷ NullValue ∷ NullValue ∷ [] }
-    ensures null_beside_truth { map (λ operator. operator_value operator Truth Truth NullValue (TruthValue true)) (Eq ∷ NotEq ∷ Lt ∷ LtEq ∷ Gt ∷ GtEq ∷ [])
-        ≡ NullValue ∷ NullValue ∷ NullValue ∷ NullValue ∷ NullValue ∷ NullValue ∷ [] }
-    ensures truth_beside_null { map (λ operator. operator_value operator Truth Truth (TruthValue false) NullValue) (Eq ∷ NotEq ∷ Lt ∷ LtEq ∷ Gt ∷ GtEq ∷ [])
-        ≡ NullValue ∷ NullValue ∷ NullValue ∷ NullValue ∷ NullValue ∷ NullValue ∷ [] }
-    ensures two_nulls { map (λ operator. operator_value operator Truth Truth NullValue NullValue) (Eq ∷ NotEq ∷ Lt ∷ LtEq ∷ Gt ∷ GtEq ∷ [])
-        ≡ NullValue ∷ NullValue ∷ NullValue ∷ NullValue ∷ NullValue ∷ NullValue ∷ [] }
-{}
-
-/// A sum of truth values is how many of them are true. One with null is null.
-pub fn sums_of_truth_values()
-    ensures both_true { operator_value Plus (Integer false 32) (Integer false 32) (TruthValue true) (TruthValue true) ≡ IntValue (pos 2) }
-    ensures left_true { operator_value Plus (Integer false 32) (Integer false 32) (TruthValue true) (TruthValue false) ≡ IntValue (pos 1) }
-    ensures right_true { operator_value Plus (Integer false 32) (Integer false 32) (TruthValue false) (TruthValue true) ≡ IntValue (pos 1) }
-    ensures both_false { operator_value Plus (Integer false 32) (Integer false 32) (TruthValue false) (TruthValue false) ≡ IntValue (pos 0) }
-    ensures null_beside_true { operator_value Plus (Integer false 32) (Integer false 32) NullValue (TruthValue true) ≡ NullValue }
-    ensures true_beside_null { operator_value Plus (Integer false 32) (Integer false 32) (TruthValue true) NullValue ≡ NullValue }
-    ensures null_beside_false { operator_value Plus (Integer false 32) (Integer false 32) NullValue (TruthValue false) ≡ NullValue }
-    ensures false_beside_null { operator_value Plus (Integer false 32) (Integer false 32) (TruthValue false) NullValue ≡ NullValue }
-    ensures two_nulls { operator_value Plus (Integer false 32) (Integer false 32) NullValue NullValue ≡ NullValue }
-{}
-
-/// A sum of numbers wraps around in its type.
-pub fn sums_of_numbers()
-    ensures within { operator_value Plus (Integer true 8) (Integer true 8) (IntValue (pos 100)) (IntValue (neg_ℤ (pos 101))) ≡ IntValue (neg_ℤ (pos 1)) }
-    ensures past_the_greatest { operator_value Plus (Integer true 8) (Integer true 8) (IntValue (pos 127)) (IntValue (pos 1)) ≡ IntValue (neg_ℤ (pos 128)) }
-    ensures below_the_least { operator_value Plus (Integer true 8) (Integer true 8) (IntValue (neg_ℤ (pos 128))) (IntValue (neg_ℤ (pos 1))) ≡ IntValue (pos 127) }
-    ensures without_a_sign { operator_value Plus (Integer false 8) (Integer false 8) (IntValue (pos 200)) (IntValue (pos 100)) ≡ IntValue (pos 44) }
-    ensures counts { operator_value Plus (Integer false 32) (Integer false 32) (IntValue (pos 4294967295)) (IntValue (pos 1)) ≡ IntValue (pos 0) }
-    ensures null_beside_number { operator_value Plus (Integer true 8) (Integer true 8) NullValue (IntValue (pos 1)) ≡ NullValue }
-    ensures number_beside_null { operator_value Plus (Integer true 8) (Integer true 8) (IntValue (pos 1)) NullValue ≡ NullValue }
-    ensures two_nulls { operator_value Plus (Integer true 8) (Integer true 8) NullValue NullValue ≡ NullValue }
+/// A sum of truth values is how many of them are true, and one of numbers wraps around in its type. One with null is null.
+pub fn sums_of_values()
+    ensures truth_values { GivesOfTwo (operator_value Plus uint32 uint32) (
+        (no, no, number 0) ∷ (no, yes, number 1) ∷ (no, null, null) ∷
+        (yes, no, number 1) ∷ (yes, yes, number 2) ∷ (yes, null, null) ∷
+        (null, no, null) ∷ (null, yes, null) ∷ (null, null, null) ∷ []) }
+    ensures numbers { ComputeEach Plus (
+        (int8, int8, number 100, negative 101, negative 1) ∷
+        (int8, int8, number 127, number 1, negative 128) ∷ (int8, int8, negative 128, negative 1, number 127) ∷
+        (uint8, uint8, number 200, number 100, number 44) ∷ (uint32, uint32, number 4294967295, number 1, number 0) ∷
+        (int8, int8, null, number 1, null) ∷ (int8, int8, number 1, null, null) ∷ (int8, int8, null, null, null) ∷ []) }
 {}
 
 /// A comparison has its first operand's name and the type of truth values, and is refused where an operand is.
 pub fn typing_of_comparisons()
-    ensures name { let a = node (ColumnOp (codes "a")) no_more in
-        let b = node (ColumnOp (codes "b")) no_more in
-        name_of (node (BinaryOp Lt) (more b (more a no_more))) ≡ codes "b" }
-    ensures two_widths { let schema = (codes "a", Integer true 8) ∷ (codes "b", Integer true 64) ∷ (codes "t", Truth) ∷ (codes "u", Integer false 64) ∷ [] in
-        let a = node (ColumnOp (codes "a")) no_more in
-        let b = node (ColumnOp (codes "b")) no_more in
-        let typed : Typed = record { type = Truth; many = true } in
-        map (λ operator. typing [] schema (node (BinaryOp operator) (more a (more b no_more)))) (Eq ∷ NotEq ∷ Lt ∷ LtEq ∷ Gt ∷ GtEq ∷ [])
-        ≡ Ok typed ∷ Ok typed ∷ Ok typed ∷ Ok typed ∷ Ok typed ∷ Ok typed ∷ [] }
-    ensures truth_beside_integer { let schema = (codes "a", Integer true 8) ∷ (codes "b", Integer true 64) ∷ (codes "t", Truth) ∷ (codes "u", Integer false 64) ∷ [] in
-        let t = node (ColumnOp (codes "t")) no_more in
-        let u = node (ColumnOp (codes "u")) no_more in
-        let typed : Typed = record { type = Truth; many = true } in
-        typing [] schema (node (BinaryOp Eq) (more t (more u no_more))) ≡ Ok typed }
-    ensures of_comparisons { let schema = (codes "a", Integer true 8) ∷ (codes "b", Integer true 64) ∷ (codes "t", Truth) ∷ (codes "u", Integer false 64) ∷ [] in
-        let a = node (ColumnOp (codes "a")) no_more in
-        let b = node (ColumnOp (codes "b")) no_more in
-        let less = node (BinaryOp Lt) (more a (more b no_more)) in
-        let equal = node (BinaryOp Eq) (more b (more a no_more)) in
-        let typed : Typed = record { type = Truth; many = true } in
-        typing [] schema (node (BinaryOp GtEq) (more less (more equal no_more))) ≡ Ok typed }
-    ensures sum_of_comparisons { let schema = (codes "a", Integer true 8) ∷ (codes "b", Integer true 64) ∷ (codes "t", Truth) ∷ (codes "u", Integer false 64) ∷ [] in
-        let a = node (ColumnOp (codes "a")) no_more in
-        let b = node (ColumnOp (codes "b")) no_more in
-        let less = node (BinaryOp Lt) (more a (more b no_more)) in
-        let typed : Typed = record { type = Integer false 32; many = true } in
-        typing [] schema (node (BinaryOp Plus) (more less (more less no_more))) ≡ Ok typed }
-    ensures sum_with_an_integer { let schema = (codes "a", Integer true 8) ∷ (codes "b", Integer true 64) ∷ (codes "t", Truth) ∷ (codes "u", Integer false 64) ∷ [] in
-        let a = node (ColumnOp (codes "a")) no_more in
-        let t = node (ColumnOp (codes "t")) no_more in
-        let typed : Typed = record { type = Integer true 8; many = true } in
-        typing [] schema (node (BinaryOp Plus) (more t (more a no_more))) ≡ Ok typed }
-    ensures no_common_type { let schema = (codes "a", Integer true 8) ∷ (codes "b", Integer true 64) ∷ (codes "t", Truth) ∷ (codes "u", Integer false 64) ∷ [] in
-        let a = node (ColumnOp (codes "a")) no_more in
-        let u = node (ColumnOp (codes "u")) no_more in
-        typing [] schema (node (BinaryOp Lt) (more u (more a no_more))) ≡ Err SchemaMismatch }
-    ensures unknown_column { let schema = (codes "a", Integer true 8) ∷ (codes "b", Integer true 64) ∷ (codes "t", Truth) ∷ (codes "u", Integer false 64) ∷ [] in
-        let a = node (ColumnOp (codes "a")) no_more in
-        let c = node (ColumnOp (codes "c")) no_more in
-        typing [] schema (node (BinaryOp Lt) (more a (more c no_more))) ≡ Err ColumnNotFound }
-    ensures of_single_values { let one : Typed = record { type = Integer true 8; many = false } in
-        map (λ operator. is_many (BinaryOp operator) (one ∷ one ∷ [])) (Eq ∷ NotEq ∷ Lt ∷ LtEq ∷ Gt ∷ GtEq ∷ [])
-        ≡ false ∷ false ∷ false ∷ false ∷ false ∷ false ∷ [] }
-    ensures of_many_values { let one : Typed = record { type = Integer true 8; many = false } in
-        let many : Typed = record { type = Integer true 8; many = true } in
-        map (λ operator. is_many (BinaryOp operator) (one ∷ many ∷ [])) (Eq ∷ NotEq ∷ Lt ∷ LtEq ∷ Gt ∷ GtEq ∷ [])
-        ≡ true ∷ true ∷ true ∷ true ∷ true ∷ true ∷ [] }
+    ensures name { name_of (less b a) ≡ codes "b" }
+    ensures two_widths { GivesAll (λ operator. typing [] four_columns (binary operator a b)) (of_many Truth) comparisons }
+    ensures types { Gives (typing [] four_columns) (
+        (equal t u, of_many Truth) ∷
+        (binary GtEq (less a b) (equal b a), of_many Truth) ∷
+        (sum (less a b) (less a b), of_many uint32) ∷
+        (sum t a, of_many int8) ∷
+        (less u a, Err SchemaMismatch) ∷
+        (less a c, Err ColumnNotFound) ∷ []) }
+    ensures of_single_values { GivesAll (λ operator. is_many (BinaryOp operator) (one_value int8 ∷ one_value int8 ∷ [])) false comparisons }
+    ensures of_many_values { GivesAll (λ operator. is_many (BinaryOp operator) (one_value int8 ∷ many_values int8 ∷ [])) true comparisons }
 {}
 
-/// Numbers of two types are compared in the common one, row by row.
+/// Numbers of two types are compared in the common one, row by row: as the numbers that they are, and not by their bits.
 pub fn meanings_of_comparisons()
-    ensures equal { let frame : Frame = record {
-      schema = (codes "a", Integer true 8) ∷ (codes "b", Integer true 64) ∷ [];
-      rows = (IntValue (pos 1) ∷ IntValue (pos 2) ∷ []) ∷ (IntValue (pos 2) ∷ IntValue (pos 2) ∷ []) ∷ (NullValue ∷ IntValue (pos 2) ∷ []) ∷ (IntValue (pos 2) ∷ NullValue ∷ []) ∷ (IntValue (pos 3) ∷ IntValue (neg_ℤ (pos 200)) ∷ []) ∷ [];
-    } in
-        let a = node (ColumnOp (codes "a")) no_more in
-        let b = node (ColumnOp (codes "b")) no_more in
-        meaning [] frame (node (BinaryOp Eq) (more a (more b no_more))) (0 ∷ 1 ∷ 2 ∷ 3 ∷ 4 ∷ [])
-        ≡ Done (TruthValue false ∷ TruthValue true ∷ NullValue ∷ NullValue ∷ TruthValue false ∷ []) }
-    ensures not_equal { let frame : Frame = record {
-      schema = (codes "a", Integer true 8) ∷ (codes "b", Integer true 64) ∷ [];
-      rows = (IntValue (pos 1) ∷ IntValue (pos 2) ∷ []) ∷ (IntValue (pos 2) ∷ IntValue (pos 2) ∷ []) ∷ (NullValue ∷ IntValue (pos 2) ∷ []) ∷ (IntValue (pos 2) ∷ NullValue ∷ []) ∷ (IntValue (pos 3) ∷ IntValue (neg_ℤ (pos 200)) ∷ []) ∷ [];
-    } in
-        let a = node (ColumnOp (codes "a")) no_more in
-        let b = node (ColumnOp (codes "b")) no_more in
-        meaning [] frame (node (BinaryOp NotEq) (more a (more b no_more))) (0 ∷ 1 ∷ 2 ∷ 3 ∷ 4 ∷ [])
-        ≡ Done (TruthValue true ∷ TruthValue false ∷ NullValue ∷ NullValue ∷ TruthValue true ∷ []) }
-    ensures less { let frame : Frame = record {
-      schema = (codes "a", Integer true 8) ∷ (codes "b", Integer true 64) ∷ [];
-      rows = (IntValue (pos 1) ∷ IntValue (pos 2) ∷ []) ∷ (IntValue (pos 2) ∷ IntValue (pos 2) ∷ []) ∷ (NullValue ∷ IntValue (pos 2) ∷ []) ∷ (IntValue (pos 2) ∷ NullValue ∷ []) ∷ (IntValue (pos 3) ∷ IntValue (neg_ℤ (pos 200)) ∷ []) ∷ [];
-    } in
-        let a = node (ColumnOp (codes "a")) no_more in
-        let b = node (ColumnOp (codes "b")) no_more in
-        meaning [] frame (node (BinaryOp Lt) (more a (more b no_more))) (0 ∷ 1 ∷ 2 ∷ 3 ∷ 4 ∷ [])
-        ≡ Done (TruthValue true ∷ TruthValue false ∷ NullValue ∷ NullValue ∷ TruthValue false ∷ []) }
-    ensures less_or_equal { let frame : Frame = record {
-      schema = (codes "a", Integer true 8) ∷ (codes "b", Integer true 64) ∷ [];
-      rows = (IntValue (pos 1) ∷ IntValue (pos 2) ∷ []) ∷ (IntValue (pos 2) ∷ IntValue (pos 2) ∷ []) ∷ (NullValue ∷ IntValue (pos 2) ∷ []) ∷ (IntValue (pos 2) ∷ NullValue ∷ []) ∷ (IntValue (pos 3) ∷ IntValue (neg_ℤ (pos 200)) ∷ []) ∷ [];
-    } in
-        let a = node (ColumnOp (codes "a")) no_more in
-        let b = node (ColumnOp (codes "b")) no_more in
-        meaning [] frame (node (BinaryOp LtEq) (more a (more b no_more))) (0 ∷ 1 ∷ 2 ∷ 3 ∷ 4 ∷ [])
-        ≡ Done (TruthValue true ∷ TruthValue true ∷ NullValue ∷ NullValue ∷ TruthValue false ∷ []) }
-    ensures greater { let frame : Frame = record {
-      schema = (codes "a", Integer true 8) ∷ (codes "b", Integer true 64) ∷ [];
-      rows = (IntValue (pos 1) ∷ IntValue (pos 2) ∷ []) ∷ (IntValue (pos 2) ∷ IntValue (pos 2) ∷ []) ∷ (NullValue ∷ IntValue (pos 2) ∷ []) ∷ (IntValue (pos 2) ∷ NullValue ∷ []) ∷ (IntValue (pos 3) ∷ IntValue (neg_ℤ (pos 200)) ∷ []) ∷ [];
-    } in
-        let a = node (ColumnOp (codes "a")) no_more in
-        let b = node (ColumnOp (codes "b")) no_more in
-        meaning [] frame (node (BinaryOp Gt) (more a (more b no_more))) (0 ∷ 1 ∷ 2 ∷ 3 ∷ 4 ∷ [])
-        ≡ Done (TruthValue false ∷ TruthValue false ∷ NullValue ∷ NullValue ∷ TruthValue true ∷ []) }
-    ensures greater_or_equal { let frame : Frame = record {
-      schema = (codes "a", Integer true 8) ∷ (codes "b", Integer true 64) ∷ [];
-      rows = (IntValue (pos 1) ∷ IntValue (pos 2) ∷ []) ∷ (IntValue (pos 2) ∷ IntValue (pos 2) ∷ []) ∷ (NullValue ∷ IntValue (pos 2) ∷ []) ∷ (IntValue (pos 2) ∷ NullValue ∷ []) ∷ (IntValue (pos 3) ∷ IntValue (neg_ℤ (pos 200)) ∷ []) ∷ [];
-    } in
-        let a = node (ColumnOp (codes "a")) no_more in
-        let b = node (ColumnOp (codes "b")) no_more in
-        meaning [] frame (node (BinaryOp GtEq) (more a (more b no_more))) (0 ∷ 1 ∷ 2 ∷ 3 ∷ 4 ∷ [])
-        ≡ Done (TruthValue false ∷ TruthValue true ∷ NullValue ∷ NullValue ∷ TruthValue true ∷ []) }
-    ensures wider_type_on_the_left { let frame : Frame = record {
-      schema = (codes "a", Integer true 8) ∷ (codes "b", Integer true 64) ∷ [];
-      rows = (IntValue (pos 1) ∷ IntValue (pos 2) ∷ []) ∷ (IntValue (pos 2) ∷ IntValue (pos 2) ∷ []) ∷ (NullValue ∷ IntValue (pos 2) ∷ []) ∷ (IntValue (pos 2) ∷ NullValue ∷ []) ∷ (IntValue (pos 3) ∷ IntValue (neg_ℤ (pos 200)) ∷ []) ∷ [];
-    } in
-        let a = node (ColumnOp (codes "a")) no_more in
-        let b = node (ColumnOp (codes "b")) no_more in
-        meaning [] frame (node (BinaryOp Lt) (more b (more a no_more))) (0 ∷ 1 ∷ 2 ∷ 3 ∷ 4 ∷ [])
-        ≡ Done (TruthValue false ∷ TruthValue false ∷ NullValue ∷ NullValue ∷ TruthValue true ∷ []) }
-    ensures some_rows { let frame : Frame = record {
-      schema = (codes "a", Integer true 8) ∷ (codes "b", Integer true 64) ∷ [];
-      rows = (IntValue (pos 1) ∷ IntValue (pos 2) ∷ []) ∷ (IntValue (pos 2) ∷ IntValue (pos 2) ∷ []) ∷ (NullValue ∷ IntValue (pos 2) ∷ []) ∷ (IntValue (pos 2) ∷ NullValue ∷ []) ∷ (IntValue (pos 3) ∷ IntValue (neg_ℤ (pos 200)) ∷ []) ∷ [];
-    } in
-        let a = node (ColumnOp (codes "a")) no_more in
-        let b = node (ColumnOp (codes "b")) no_more in
-        meaning [] frame (node (BinaryOp Gt) (more a (more b no_more))) (4 ∷ 2 ∷ 0 ∷ [])
-        ≡ Done (TruthValue true ∷ NullValue ∷ TruthValue false ∷ []) }
-    ensures no_common_type { let frame : Frame = record {
-      schema = (codes "a", Integer true 8) ∷ (codes "u", Integer false 64) ∷ [];
-      rows = (IntValue (pos 1) ∷ IntValue (pos 1) ∷ []) ∷ [];
-    } in
-        let a = node (ColumnOp (codes "a")) no_more in
-        let u = node (ColumnOp (codes "u")) no_more in
-        meaning [] frame (node (BinaryOp Eq) (more u (more a no_more))) (0 ∷ []) ≡ Stuck }
-{}
-
-/// Numbers with and without a sign are compared as the numbers that they are, and not by their bits.
-pub fn comparisons_of_two_signs()
-    ensures equal { let frame : Frame = record {
-      schema = (codes "s", Integer true 8) ∷ (codes "u", Integer false 8) ∷ [];
-      rows = (IntValue (neg_ℤ (pos 1)) ∷ IntValue (pos 255) ∷ []) ∷ (IntValue (pos 127) ∷ IntValue (pos 127) ∷ []) ∷ (IntValue (pos 5) ∷ IntValue (pos 200) ∷ []) ∷ [];
-    } in
-        let s = node (ColumnOp (codes "s")) no_more in
-        let u = node (ColumnOp (codes "u")) no_more in
-        meaning [] frame (node (BinaryOp Eq) (more s (more u no_more))) (0 ∷ 1 ∷ 2 ∷ [])
-        ≡ Done (TruthValue false ∷ TruthValue true ∷ TruthValue false ∷ []) }
-    ensures less { let frame : Frame = record {
-      schema = (codes "s", Integer true 8) ∷ (codes "u", Integer false 8) ∷ [];
-      rows = (IntValue (neg_ℤ (pos 1)) ∷ IntValue (pos 255) ∷ []) ∷ (IntValue (pos 127) ∷ IntValue (pos 127) ∷ []) ∷ (IntValue (pos 5) ∷ IntValue (pos 200) ∷ []) ∷ [];
-    } in
-        let s = node (ColumnOp (codes "s")) no_more in
-        let u = node (ColumnOp (codes "u")) no_more in
-        meaning [] frame (node (BinaryOp Lt) (more s (more u no_more))) (0 ∷ 1 ∷ 2 ∷ [])
-        ≡ Done (TruthValue true ∷ TruthValue false ∷ TruthValue true ∷ []) }
+    ensures all_rows { Gives (means two_widths) (
+        (equal a b, Done (no ∷ yes ∷ null ∷ null ∷ no ∷ [])) ∷
+        (binary NotEq a b, Done (yes ∷ no ∷ null ∷ null ∷ yes ∷ [])) ∷
+        (less a b, Done (yes ∷ no ∷ null ∷ null ∷ no ∷ [])) ∷
+        (binary LtEq a b, Done (yes ∷ yes ∷ null ∷ null ∷ no ∷ [])) ∷
+        (binary Gt a b, Done (no ∷ no ∷ null ∷ null ∷ yes ∷ [])) ∷
+        (binary GtEq a b, Done (no ∷ yes ∷ null ∷ null ∷ yes ∷ [])) ∷
+        (less b a, Done (no ∷ no ∷ null ∷ null ∷ yes ∷ [])) ∷ []) }
+    ensures some_rows { meaning [] two_widths (binary Gt a b) (4 ∷ 2 ∷ 0 ∷ []) ≡ Done (yes ∷ null ∷ no ∷ []) }
+    ensures without_a_common_type { means (beside int8 uint64 ((number 1, number 1) ∷ [])) (equal b a) ≡ Stuck }
+    ensures equal_of_two_signs { Mean Eq int8 uint8 ((negative 1, number 255, no) ∷ (number 127, number 127, yes) ∷ (number 5, number 200, no) ∷ []) }
+    ensures less_of_two_signs { Mean Lt int8 uint8 ((negative 1, number 255, yes) ∷ (number 127, number 127, no) ∷ (number 5, number 200, yes) ∷ []) }
 {}
 
 /// Beside a number a truth value is compared and added as 0 or 1. Truth values alone are ordered, and counted.
 pub fn meanings_on_truth_values()
-    ensures equal_to_a_number { let frame : Frame = record {
-      schema = (codes "t", Truth) ∷ (codes "a", Integer true 8) ∷ [];
-      rows = (TruthValue true ∷ IntValue (pos 1) ∷ []) ∷ (TruthValue true ∷ IntValue (pos 2) ∷ []) ∷ (TruthValue false ∷ IntValue (neg_ℤ (pos 1)) ∷ []) ∷ (NullValue ∷ IntValue (pos 1) ∷ []) ∷ (TruthValue true ∷ IntValue (pos 127) ∷ []) ∷ [];
-    } in
-        let t = node (ColumnOp (codes "t")) no_more in
-        let a = node (ColumnOp (codes "a")) no_more in
-        meaning [] frame (node (BinaryOp Eq) (more t (more a no_more))) (0 ∷ 1 ∷ 2 ∷ 3 ∷ 4 ∷ [])
-        ≡ Done (TruthValue true ∷ TruthValue false ∷ TruthValue false ∷ NullValue ∷ TruthValue false ∷ []) }
-    ensures less_than_a_number { let frame : Frame = record {
-      schema = (codes "t", Truth) ∷ (codes "a", Integer true 8) ∷ [];
-      rows = (TruthValue true ∷ IntValue (pos 1) ∷ []) ∷ (TruthValue true ∷ IntValue (pos 2) ∷ []) ∷ (TruthValue false ∷ IntValue (neg_ℤ (pos 1)) ∷ []) ∷ (NullValue ∷ IntValue (pos 1) ∷ []) ∷ (TruthValue true ∷ IntValue (pos 127) ∷ []) ∷ [];
-    } in
-        let t = node (ColumnOp (codes "t")) no_more in
-        let a = node (ColumnOp (codes "a")) no_more in
-        meaning [] frame (node (BinaryOp Lt) (more t (more a no_more))) (0 ∷ 1 ∷ 2 ∷ 3 ∷ 4 ∷ [])
-        ≡ Done (TruthValue false ∷ TruthValue true ∷ TruthValue false ∷ NullValue ∷ TruthValue true ∷ []) }
-    ensures sum_with_a_number { let frame : Frame = record {
-      schema = (codes "t", Truth) ∷ (codes "a", Integer true 8) ∷ [];
-      rows = (TruthValue true ∷ IntValue (pos 1) ∷ []) ∷ (TruthValue true ∷ IntValue (pos 2) ∷ []) ∷ (TruthValue false ∷ IntValue (neg_ℤ (pos 1)) ∷ []) ∷ (NullValue ∷ IntValue (pos 1) ∷ []) ∷ (TruthValue true ∷ IntValue (pos 127) ∷ []) ∷ [];
-    } in
-        let t = node (ColumnOp (codes "t")) no_more in
-        let a = node (ColumnOp (codes "a")) no_more in
-        meaning [] frame (node (BinaryOp Plus) (more t (more a no_more))) (0 ∷ 1 ∷ 2 ∷ 3 ∷ 4 ∷ [])
-        ≡ Done (IntValue (pos 2) ∷ IntValue (pos 3) ∷ IntValue (neg_ℤ (pos 1)) ∷ NullValue ∷ IntValue (neg_ℤ (pos 128)) ∷ []) }
-    ensures order { let frame : Frame = record {
-      schema = (codes "t", Truth) ∷ (codes "f", Truth) ∷ [];
-      rows = (TruthValue true ∷ TruthValue true ∷ []) ∷ (TruthValue true ∷ TruthValue false ∷ []) ∷ (TruthValue false ∷ TruthValue true ∷ []) ∷ (TruthValue false ∷ TruthValue false ∷ []) ∷ (NullValue ∷ TruthValue true ∷ []) ∷ (TruthValue false ∷ NullValue ∷ []) ∷ [];
-    } in
-        let t = node (ColumnOp (codes "t")) no_more in
-        let f = node (ColumnOp (codes "f")) no_more in
-        meaning [] frame (node (BinaryOp Lt) (more t (more f no_more))) (0 ∷ 1 ∷ 2 ∷ 3 ∷ 4 ∷ 5 ∷ [])
-        ≡ Done (TruthValue false ∷ TruthValue false ∷ TruthValue true ∷ TruthValue false ∷ NullValue ∷ NullValue ∷ []) }
-    ensures count { let frame : Frame = record {
-      schema = (codes "t", Truth) ∷ (codes "f", Truth) ∷ [];
-      rows = (TruthValue true ∷ TruthValue true ∷ []) ∷ (TruthValue true ∷ TruthValue false ∷ []) ∷ (TruthValue false ∷ TruthValue true ∷ []) ∷ (TruthValue false ∷ TruthValue false ∷ []) ∷ (NullValue ∷ TruthValue true ∷ []) ∷ (TruthValue false ∷ NullValue ∷ []) ∷ [];
-    } in
-        let t = node (ColumnOp (codes "t")) no_more in
-        let f = node (ColumnOp (codes "f")) no_more in
-        meaning [] frame (node (BinaryOp Plus) (more t (more f no_more))) (0 ∷ 1 ∷ 2 ∷ 3 ∷ 4 ∷ 5 ∷ [])
-        ≡ Done (IntValue (pos 2) ∷ IntValue (pos 1) ∷ IntValue (pos 1) ∷ IntValue (pos 0) ∷ NullValue ∷ NullValue ∷ []) }
-    ensures count_of_three { let frame : Frame = record {
-      schema = (codes "t", Truth) ∷ (codes "f", Truth) ∷ [];
-      rows = (TruthValue true ∷ TruthValue true ∷ []) ∷ (TruthValue true ∷ TruthValue false ∷ []) ∷ (TruthValue false ∷ TruthValue true ∷ []) ∷ (TruthValue false ∷ TruthValue false ∷ []) ∷ (NullValue ∷ TruthValue true ∷ []) ∷ (TruthValue false ∷ NullValue ∷ []) ∷ [];
-    } in
-        let t = node (ColumnOp (codes "t")) no_more in
-        let f = node (ColumnOp (codes "f")) no_more in
-        let two = node (BinaryOp Plus) (more t (more f no_more)) in
-        meaning [] frame (node (BinaryOp Plus) (more two (more t no_more))) (0 ∷ 1 ∷ 2 ∷ 3 ∷ 4 ∷ 5 ∷ [])
-        ≡ Done (IntValue (pos 3) ∷ IntValue (pos 2) ∷ IntValue (pos 1) ∷ IntValue (pos 0) ∷ NullValue ∷ NullValue ∷ []) }
+    ensures beside_numbers { Gives (means truths_and_numbers) (
+        (equal t a, Done (yes ∷ no ∷ no ∷ null ∷ no ∷ [])) ∷
+        (less t a, Done (no ∷ yes ∷ no ∷ null ∷ yes ∷ [])) ∷
+        (sum t a, Done (number 2 ∷ number 3 ∷ negative 1 ∷ null ∷ negative 128 ∷ [])) ∷ []) }
+    ensures alone { let frame = beside Truth Truth ((yes, yes) ∷ (yes, no) ∷ (no, yes) ∷ (no, no) ∷ (null, yes) ∷ (no, null) ∷ []) in
+        Gives (means frame) (
+        (less a b, Done (no ∷ no ∷ yes ∷ no ∷ null ∷ null ∷ [])) ∷
+        (sum a b, Done (number 2 ∷ number 1 ∷ number 1 ∷ number 0 ∷ null ∷ null ∷ [])) ∷
+        (sum (sum a b) a, Done (number 3 ∷ number 2 ∷ number 1 ∷ number 0 ∷ null ∷ null ∷ [])) ∷ []) }
 {}
 
 /// As it is written a comparison runs only where both operands have the common type.
 pub fn comparisons_run_as_written()
-    ensures two_types { let frame : Frame = record {
-      schema = (codes "a", Integer true 8) ∷ (codes "b", Integer true 64) ∷ [];
-      rows = (IntValue (pos 1) ∷ IntValue (pos 2) ∷ []) ∷ (NullValue ∷ IntValue (pos 2) ∷ []) ∷ (IntValue (pos 3) ∷ IntValue (neg_ℤ (pos 200)) ∷ []) ∷ [];
-    } in
-        let a = node (ColumnOp (codes "a")) no_more in
-        let b = node (ColumnOp (codes "b")) no_more in
-        map (λ operator. strict_run [] frame (node (BinaryOp operator) (more a (more b no_more))) (0 ∷ 1 ∷ 2 ∷ [])) (Eq ∷ NotEq ∷ Lt ∷ LtEq ∷ Gt ∷ GtEq ∷ [])
-        ≡ Stuck ∷ Stuck ∷ Stuck ∷ Stuck ∷ Stuck ∷ Stuck ∷ [] }
-    ensures two_types_on_no_rows { let frame : Frame = record {
-      schema = (codes "a", Integer true 8) ∷ (codes "b", Integer true 64) ∷ [];
-      rows = (IntValue (pos 1) ∷ IntValue (pos 2) ∷ []) ∷ (NullValue ∷ IntValue (pos 2) ∷ []) ∷ (IntValue (pos 3) ∷ IntValue (neg_ℤ (pos 200)) ∷ []) ∷ [];
-    } in
-        let a = node (ColumnOp (codes "a")) no_more in
-        let b = node (ColumnOp (codes "b")) no_more in
-        strict_run [] frame (node (BinaryOp Lt) (more b (more a no_more))) [] ≡ Stuck }
-    ensures with_its_cast { let frame : Frame = record {
-      schema = (codes "a", Integer true 8) ∷ (codes "b", Integer true 64) ∷ [];
-      rows = (IntValue (pos 1) ∷ IntValue (pos 2) ∷ []) ∷ (NullValue ∷ IntValue (pos 2) ∷ []) ∷ (IntValue (pos 3) ∷ IntValue (neg_ℤ (pos 200)) ∷ []) ∷ [];
-    } in
-        let a = node (ColumnOp (codes "a")) no_more in
-        let b = node (ColumnOp (codes "b")) no_more in
-        let wide = node (CastOp (Integer true 64) NonStrict) (more a no_more) in
-        strict_run [] frame (node (BinaryOp Lt) (more wide (more b no_more))) (0 ∷ 1 ∷ 2 ∷ [])
-        ≡ Done (TruthValue true ∷ NullValue ∷ TruthValue false ∷ []) }
-    ensures one_type { let frame : Frame = record {
-      schema = (codes "a", Integer true 8) ∷ (codes "b", Integer true 64) ∷ [];
-      rows = (IntValue (pos 1) ∷ IntValue (pos 2) ∷ []) ∷ (NullValue ∷ IntValue (pos 2) ∷ []) ∷ (IntValue (pos 3) ∷ IntValue (neg_ℤ (pos 200)) ∷ []) ∷ [];
-    } in
-        let a = node (ColumnOp (codes "a")) no_more in
-        strict_run [] frame (node (BinaryOp GtEq) (more a (more a no_more))) (0 ∷ 1 ∷ 2 ∷ [])
-        ≡ Done (TruthValue true ∷ NullValue ∷ TruthValue true ∷ []) }
-    ensures truth_beside_number { let frame : Frame = record {
-      schema = (codes "t", Truth) ∷ (codes "a", Integer true 8) ∷ [];
-      rows = (TruthValue true ∷ IntValue (pos 1) ∷ []) ∷ (TruthValue false ∷ IntValue (pos 2) ∷ []) ∷ (NullValue ∷ IntValue (pos 1) ∷ []) ∷ [];
-    } in
-        let t = node (ColumnOp (codes "t")) no_more in
-        let a = node (ColumnOp (codes "a")) no_more in
-        map (λ operator. strict_run [] frame (node (BinaryOp operator) (more t (more a no_more))) (0 ∷ 1 ∷ 2 ∷ [])) (Eq ∷ Lt ∷ Plus ∷ [])
-        ≡ Stuck ∷ Stuck ∷ Stuck ∷ [] }
-    ensures truth_with_its_cast { let frame : Frame = record {
-      schema = (codes "t", Truth) ∷ (codes "a", Integer true 8) ∷ [];
-      rows = (TruthValue true ∷ IntValue (pos 1) ∷ []) ∷ (TruthValue false ∷ IntValue (pos 2) ∷ []) ∷ (NullValue ∷ IntValue (pos 1) ∷ []) ∷ [];
-    } in
-        let t = node (ColumnOp (codes "t")) no_more in
-        let a = node (ColumnOp (codes "a")) no_more in
-        let number = node (CastOp (Integer true 8) NonStrict) (more t no_more) in
-        strict_run [] frame (node (BinaryOp Eq) (more number (more a no_more))) (0 ∷ 1 ∷ 2 ∷ [])
-        ≡ Done (TruthValue true ∷ TruthValue false ∷ NullValue ∷ []) }
-    ensures count_of_truths { let frame : Frame = record {
-      schema = (codes "t", Truth) ∷ (codes "a", Integer true 8) ∷ [];
-      rows = (TruthValue true ∷ IntValue (pos 1) ∷ []) ∷ (TruthValue false ∷ IntValue (pos 2) ∷ []) ∷ (NullValue ∷ IntValue (pos 1) ∷ []) ∷ [];
-    } in
-        let t = node (ColumnOp (codes "t")) no_more in
-        strict_run [] frame (node (BinaryOp Plus) (more t (more t no_more))) (0 ∷ 1 ∷ 2 ∷ [])
-        ≡ Done (IntValue (pos 2) ∷ IntValue (pos 0) ∷ NullValue ∷ []) }
-    ensures count_of_three { let frame : Frame = record {
-      schema = (codes "t", Truth) ∷ (codes "a", Integer true 8) ∷ [];
-      rows = (TruthValue true ∷ IntValue (pos 1) ∷ []) ∷ (TruthValue false ∷ IntValue (pos 2) ∷ []) ∷ (NullValue ∷ IntValue (pos 1) ∷ []) ∷ [];
-    } in
-        let t = node (ColumnOp (codes "t")) no_more in
-        let two = node (BinaryOp Plus) (more t (more t no_more)) in
-        strict_run [] frame (node (BinaryOp Plus) (more two (more t no_more))) (0 ∷ 1 ∷ 2 ∷ []) ≡ Stuck }
+    ensures two_types { GivesAll (λ operator. runs two_widths (binary operator a b)) Stuck comparisons }
+    ensures two_types_on_no_rows { strict_run [] two_widths (less b a) [] ≡ Stuck }
+    ensures one_type { Gives (runs two_widths) (
+        (less (cast_as NonStrict int64 a) b, Done (yes ∷ no ∷ null ∷ null ∷ no ∷ [])) ∷
+        (binary GtEq a a, Done (yes ∷ yes ∷ null ∷ yes ∷ yes ∷ [])) ∷ []) }
+    ensures truth_values { Gives (runs truths_and_numbers) (
+        (equal t a, Stuck) ∷ (less t a, Stuck) ∷ (sum t a, Stuck) ∷
+        (equal (cast_as NonStrict int8 t) a, Done (yes ∷ no ∷ no ∷ null ∷ no ∷ [])) ∷
+        (sum t t, Done (number 2 ∷ number 2 ∷ number 0 ∷ null ∷ number 2 ∷ [])) ∷
+        (sum (sum t t) t, Stuck) ∷ []) }
 {}
 
 /// A written cast has its target as its type, whatever stands under it.
 pub fn typing_of_written_casts()
-    ensures of_a_comparison { let schema = (codes "a", Integer true 8) ∷ (codes "b", Integer true 64) ∷ (codes "t", Truth) ∷ (codes "u", Integer false 64) ∷ [] in
-        let a = node (ColumnOp (codes "a")) no_more in
-        let b = node (ColumnOp (codes "b")) no_more in
-        let less = node (BinaryOp Lt) (more a (more b no_more)) in
-        let typed : Typed = record { type = Integer true 8; many = true } in
-        map (λ options. typing [] schema (node (CastOp (Integer true 8) options) (more less no_more))) (Strict ∷ NonStrict ∷ Overflowing ∷ [])
-        ≡ Ok typed ∷ Ok typed ∷ Ok typed ∷ [] }
-    ensures to_boolean { let schema = (codes "a", Integer true 8) ∷ (codes "b", Integer true 64) ∷ (codes "t", Truth) ∷ (codes "u", Integer false 64) ∷ [] in
-        let a = node (ColumnOp (codes "a")) no_more in
-        let typed : Typed = record { type = Truth; many = true } in
-        map (λ options. typing [] schema (node (CastOp Truth options) (more a no_more))) (Strict ∷ NonStrict ∷ Overflowing ∷ [])
-        ≡ Ok typed ∷ Ok typed ∷ Ok typed ∷ [] }
-    ensures to_the_own_type { let schema = (codes "a", Integer true 8) ∷ (codes "b", Integer true 64) ∷ (codes "t", Truth) ∷ (codes "u", Integer false 64) ∷ [] in
-        let t = node (ColumnOp (codes "t")) no_more in
-        let typed : Typed = record { type = Truth; many = true } in
-        typing [] schema (node (CastOp Truth Strict) (more t no_more)) ≡ Ok typed }
-    ensures under_a_sum { let schema = (codes "a", Integer true 8) ∷ (codes "b", Integer true 64) ∷ (codes "t", Truth) ∷ (codes "u", Integer false 64) ∷ [] in
-        let a = node (ColumnOp (codes "a")) no_more in
-        let b = node (ColumnOp (codes "b")) no_more in
-        let truth = node (CastOp Truth NonStrict) (more a no_more) in
-        let other = node (CastOp Truth NonStrict) (more b no_more) in
-        let typed : Typed = record { type = Integer false 32; many = true } in
-        typing [] schema (node (BinaryOp Plus) (more truth (more other no_more))) ≡ Ok typed }
-    ensures that_helps_a_comparison { let schema = (codes "a", Integer true 8) ∷ (codes "b", Integer true 64) ∷ (codes "t", Truth) ∷ (codes "u", Integer false 64) ∷ [] in
-        let a = node (ColumnOp (codes "a")) no_more in
-        let u = node (ColumnOp (codes "u")) no_more in
-        let signed = node (CastOp (Integer true 64) NonStrict) (more u no_more) in
-        let typed : Typed = record { type = Truth; many = true } in
-        typing [] schema (node (BinaryOp Eq) (more signed (more a no_more))) ≡ Ok typed }
-    ensures of_a_refused_comparison { let schema = (codes "a", Integer true 8) ∷ (codes "b", Integer true 64) ∷ (codes "t", Truth) ∷ (codes "u", Integer false 64) ∷ [] in
-        let a = node (ColumnOp (codes "a")) no_more in
-        let u = node (ColumnOp (codes "u")) no_more in
-        let equal = node (BinaryOp Eq) (more u (more a no_more)) in
-        typing [] schema (node (CastOp (Integer true 8) NonStrict) (more equal no_more)) ≡ Err SchemaMismatch }
-    ensures name { let a = node (ColumnOp (codes "a")) no_more in
-        let b = node (ColumnOp (codes "b")) no_more in
-        let less = node (BinaryOp Lt) (more b (more a no_more)) in
-        name_of (node (CastOp (Integer true 8) Strict) (more less no_more)) ≡ codes "b" }
+    ensures of_a_comparison { GivesAll (λ options. typing [] four_columns (cast_as options int8 (less a b))) (of_many int8) all_options }
+    ensures to_boolean { GivesAll (λ options. typing [] four_columns (cast_as options Truth a)) (of_many Truth) all_options }
+    ensures types { Gives (typing [] four_columns) (
+        (cast_as Strict Truth t, of_many Truth) ∷
+        (sum (cast_as NonStrict Truth a) (cast_as NonStrict Truth b), of_many uint32) ∷
+        (equal (cast_as NonStrict int64 u) a, of_many Truth) ∷
+        (cast_as NonStrict int8 (equal u a), Err SchemaMismatch) ∷ []) }
+    ensures name { name_of (cast_as Strict int8 (less b a)) ≡ codes "b" }
 {}
 
 /// A comparison that is cast to an integer gives 0 or 1, and a number that is cast to a truth value whether it isn't 0.
 pub fn meanings_of_written_casts()
-    ensures of_a_comparison { let frame : Frame = record {
-      schema = (codes "a", Integer true 8) ∷ (codes "b", Integer true 64) ∷ [];
-      rows = (IntValue (pos 1) ∷ IntValue (pos 2) ∷ []) ∷ (IntValue (pos 0) ∷ IntValue (neg_ℤ (pos 200)) ∷ []) ∷ (NullValue ∷ IntValue (pos 2) ∷ []) ∷ (IntValue (neg_ℤ (pos 1)) ∷ NullValue ∷ []) ∷ [];
-    } in
-        let a = node (ColumnOp (codes "a")) no_more in
-        let b = node (ColumnOp (codes "b")) no_more in
-        let less = node (BinaryOp Lt) (more a (more b no_more)) in
-        let given = Done (IntValue (pos 1) ∷ IntValue (pos 0) ∷ NullValue ∷ NullValue ∷ []) in
-        map (λ options. meaning [] frame (node (CastOp (Integer true 8) options) (more less no_more)) (0 ∷ 1 ∷ 2 ∷ 3 ∷ [])) (Strict ∷ NonStrict ∷ Overflowing ∷ [])
-        ≡ given ∷ given ∷ given ∷ [] }
-    ensures to_boolean { let frame : Frame = record {
-      schema = (codes "a", Integer true 8) ∷ (codes "b", Integer true 64) ∷ [];
-      rows = (IntValue (pos 1) ∷ IntValue (pos 2) ∷ []) ∷ (IntValue (pos 0) ∷ IntValue (neg_ℤ (pos 200)) ∷ []) ∷ (NullValue ∷ IntValue (pos 2) ∷ []) ∷ (IntValue (neg_ℤ (pos 1)) ∷ NullValue ∷ []) ∷ [];
-    } in
-        let a = node (ColumnOp (codes "a")) no_more in
-        let given = Done (TruthValue true ∷ TruthValue false ∷ NullValue ∷ TruthValue true ∷ []) in
-        map (λ options. meaning [] frame (node (CastOp Truth options) (more a no_more)) (0 ∷ 1 ∷ 2 ∷ 3 ∷ [])) (Strict ∷ NonStrict ∷ Overflowing ∷ [])
-        ≡ given ∷ given ∷ given ∷ [] }
-    ensures there_and_back { let frame : Frame = record {
-      schema = (codes "a", Integer true 8) ∷ (codes "b", Integer true 64) ∷ [];
-      rows = (IntValue (pos 1) ∷ IntValue (pos 2) ∷ []) ∷ (IntValue (pos 0) ∷ IntValue (neg_ℤ (pos 200)) ∷ []) ∷ (NullValue ∷ IntValue (pos 2) ∷ []) ∷ (IntValue (neg_ℤ (pos 1)) ∷ NullValue ∷ []) ∷ [];
-    } in
-        let b = node (ColumnOp (codes "b")) no_more in
-        let truth = node (CastOp Truth Strict) (more b no_more) in
-        meaning [] frame (node (CastOp (Integer true 8) Strict) (more truth no_more)) (0 ∷ 1 ∷ 2 ∷ 3 ∷ [])
-        ≡ Done (IntValue (pos 1) ∷ IntValue (pos 1) ∷ IntValue (pos 1) ∷ NullValue ∷ []) }
-    ensures to_the_own_type { let frame : Frame = record {
-      schema = (codes "a", Integer true 8) ∷ (codes "b", Integer true 64) ∷ [];
-      rows = (IntValue (pos 1) ∷ IntValue (pos 2) ∷ []) ∷ (IntValue (pos 0) ∷ IntValue (neg_ℤ (pos 200)) ∷ []) ∷ (NullValue ∷ IntValue (pos 2) ∷ []) ∷ (IntValue (neg_ℤ (pos 1)) ∷ NullValue ∷ []) ∷ [];
-    } in
-        let a = node (ColumnOp (codes "a")) no_more in
-        let truth = node (CastOp Truth Strict) (more a no_more) in
-        meaning [] frame (node (CastOp Truth Overflowing) (more truth no_more)) (0 ∷ 1 ∷ 2 ∷ 3 ∷ [])
-        ≡ Done (TruthValue true ∷ TruthValue false ∷ NullValue ∷ TruthValue true ∷ []) }
-    ensures number_beside_a_truth { let frame : Frame = record {
-      schema = (codes "a", Integer true 8) ∷ (codes "b", Integer true 64) ∷ [];
-      rows = (IntValue (pos 1) ∷ IntValue (pos 2) ∷ []) ∷ (IntValue (pos 0) ∷ IntValue (neg_ℤ (pos 200)) ∷ []) ∷ (NullValue ∷ IntValue (pos 2) ∷ []) ∷ (IntValue (neg_ℤ (pos 1)) ∷ NullValue ∷ []) ∷ [];
-    } in
-        let a = node (ColumnOp (codes "a")) no_more in
-        let truth = node (CastOp Truth Strict) (more a no_more) in
-        meaning [] frame (node (BinaryOp Eq) (more truth (more a no_more))) (0 ∷ 1 ∷ 2 ∷ 3 ∷ [])
-        ≡ Done (TruthValue true ∷ TruthValue true ∷ NullValue ∷ TruthValue false ∷ []) }
-    ensures count_of_casts { let frame : Frame = record {
-      schema = (codes "a", Integer true 8) ∷ (codes "b", Integer true 64) ∷ [];
-      rows = (IntValue (pos 1) ∷ IntValue (pos 2) ∷ []) ∷ (IntValue (pos 0) ∷ IntValue (neg_ℤ (pos 200)) ∷ []) ∷ (NullValue ∷ IntValue (pos 2) ∷ []) ∷ (IntValue (neg_ℤ (pos 1)) ∷ NullValue ∷ []) ∷ [];
-    } in
-        let a = node (ColumnOp (codes "a")) no_more in
-        let b = node (ColumnOp (codes "b")) no_more in
-        let truth = node (CastOp Truth Strict) (more a no_more) in
-        let other = node (CastOp Truth Strict) (more b no_more) in
-        meaning [] frame (node (BinaryOp Plus) (more truth (more other no_more))) (0 ∷ 1 ∷ 2 ∷ 3 ∷ [])
-        ≡ Done (IntValue (pos 2) ∷ IntValue (pos 1) ∷ NullValue ∷ NullValue ∷ []) }
-    ensures as_written { let frame : Frame = record {
-      schema = (codes "a", Integer true 8) ∷ (codes "b", Integer true 64) ∷ [];
-      rows = (IntValue (pos 1) ∷ IntValue (pos 2) ∷ []) ∷ (IntValue (pos 0) ∷ IntValue (neg_ℤ (pos 200)) ∷ []) ∷ (NullValue ∷ IntValue (pos 2) ∷ []) ∷ (IntValue (neg_ℤ (pos 1)) ∷ NullValue ∷ []) ∷ [];
-    } in
-        let a = node (ColumnOp (codes "a")) no_more in
-        strict_run [] frame (node (CastOp Truth Strict) (more a no_more)) (0 ∷ 1 ∷ 2 ∷ 3 ∷ [])
-        ≡ Done (TruthValue true ∷ TruthValue false ∷ NullValue ∷ TruthValue true ∷ []) }
-    ensures comparison_as_written { let frame : Frame = record {
-      schema = (codes "a", Integer true 8) ∷ (codes "b", Integer true 64) ∷ [];
-      rows = (IntValue (pos 1) ∷ IntValue (pos 2) ∷ []) ∷ (IntValue (pos 0) ∷ IntValue (neg_ℤ (pos 200)) ∷ []) ∷ (NullValue ∷ IntValue (pos 2) ∷ []) ∷ (IntValue (neg_ℤ (pos 1)) ∷ NullValue ∷ []) ∷ [];
-    } in
-        let a = node (ColumnOp (codes "a")) no_more in
-        let b = node (ColumnOp (codes "b")) no_more in
-        let less = node (BinaryOp Lt) (more a (more b no_more)) in
-        strict_run [] frame (node (CastOp (Integer true 8) Strict) (more less no_more)) (0 ∷ 1 ∷ 2 ∷ 3 ∷ []) ≡ Stuck }
-    ensures comparison_with_its_casts { let frame : Frame = record {
-      schema = (codes "a", Integer true 8) ∷ (codes "b", Integer true 64) ∷ [];
-      rows = (IntValue (pos 1) ∷ IntValue (pos 2) ∷ []) ∷ (IntValue (pos 0) ∷ IntValue (neg_ℤ (pos 200)) ∷ []) ∷ (NullValue ∷ IntValue (pos 2) ∷ []) ∷ (IntValue (neg_ℤ (pos 1)) ∷ NullValue ∷ []) ∷ [];
-    } in
-        let a = node (ColumnOp (codes "a")) no_more in
-        let b = node (ColumnOp (codes "b")) no_more in
-        let wide = node (CastOp (Integer true 64) NonStrict) (more a no_more) in
-        let less = node (BinaryOp Lt) (more wide (more b no_more)) in
-        strict_run [] frame (node (CastOp (Integer true 8) Strict) (more less no_more)) (0 ∷ 1 ∷ 2 ∷ 3 ∷ [])
-        ≡ Done (IntValue (pos 1) ∷ IntValue (pos 0) ∷ NullValue ∷ NullValue ∷ []) }
+    ensures of_a_comparison { GivesAll (λ options. means some_zeros (cast_as options int8 (less a b))) (Done (number 1 ∷ number 0 ∷ null ∷ null ∷ [])) all_options }
+    ensures to_boolean { GivesAll (λ options. means some_zeros (cast_as options Truth a)) (Done (yes ∷ no ∷ null ∷ yes ∷ [])) all_options }
+    ensures of_casts { Gives (means some_zeros) (
+        (cast_as Strict int8 (cast_as Strict Truth b), Done (number 1 ∷ number 1 ∷ number 1 ∷ null ∷ [])) ∷
+        (cast_as Overflowing Truth (cast_as Strict Truth a), Done (yes ∷ no ∷ null ∷ yes ∷ [])) ∷
+        (equal (cast_as Strict Truth a) a, Done (yes ∷ yes ∷ null ∷ no ∷ [])) ∷
+        (sum (cast_as Strict Truth a) (cast_as Strict Truth b), Done (number 2 ∷ number 1 ∷ null ∷ null ∷ [])) ∷ []) }
+    ensures as_written { Gives (runs some_zeros) (
+        (cast_as Strict Truth a, Done (yes ∷ no ∷ null ∷ yes ∷ [])) ∷
+        (cast_as Strict int8 (less a b), Stuck) ∷
+        (cast_as Strict int8 (less (cast_as NonStrict int64 a) b), Done (number 1 ∷ number 0 ∷ null ∷ null ∷ [])) ∷ []) }
 {}

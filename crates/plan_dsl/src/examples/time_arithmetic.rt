@@ -1,84 +1,74 @@
-//! Differences and products of times: types, refusals and values.
+//! Differences, products and quotients of times: types, refusals and values.
 
-ghost use Rattle.std.specs.Prelude.{◌≡◌, [], ◌∷◌, pos, neg_ℤ, map, replicate, true, false, Ok, Err};
-ghost use Rattle.plan_types.specs.Types.{NullType, Truth, Integer, TextType, DateType, TimeType, DatetimeType, DurationType, ListType, Untyped};
-ghost use Rattle.plan_types.specs.Values.{NullValue, IntValue};
-ghost use Rattle.plan_types.specs.declared.dtype.TimeUnit.TheVariants.{Nanoseconds, Microseconds, Milliseconds};
+ghost use Rattle.std.specs.Prelude.{[], ◌∷◌, pos, neg_ℤ};
+ghost use Rattle.plan_types.specs.Types.{NullType, Truth, TextType, DateType, TimeType, DatetimeType, DurationType, ListType, Untyped};
+ghost use Rattle.plan_types.specs.declared.dtype.TimeUnit.TheVariants.{Nanoseconds, Milliseconds};
 ghost use Rattle.plan_types.specs.declared.error.ErrorKind.TheVariants.{SchemaMismatch, InvalidOperation};
-ghost use Rattle.plan_dsl.specs.declared.operator.Operator.TheVariants.{Minus, Multiply, Divide, FloorDivide, Modulus};
-ghost use Rattle.plan_dsl.specs.Operators.{operator_value};
-ghost use Rattle.plan_dsl.specs.OperatorTypes.{pair_to, operator_types};
+ghost use Rattle.plan_dsl.specs.declared.operator.Operator.TheVariants.{Minus, Multiply};
+ghost use Rattle.plan_dsl.specs.Samples.{Take, Refuse, ComputeEach, quotients, both_as, taken, int8, int64, uint32, uint64, moment, span, times, no_times, null, number, negative};
 
-/// Between two times lies a span, in the coarser unit, and a span before a moment is a moment.
+/// Between two times lies a span, in the coarser unit, and a span before a moment is a moment. No other times have a
+/// difference, whichever side they are on.
 pub fn types_of_differences_of_times()
-    ensures days { operator_types Minus (DateType ∷ DateType ∷ []) ≡ Ok (pair_to DateType DateType (DurationType Milliseconds)) }
-    ensures times_of_a_day { operator_types Minus (TimeType ∷ TimeType ∷ []) ≡ Ok (pair_to TimeType TimeType (DurationType Nanoseconds)) }
-    ensures day_and_moment { operator_types Minus (DateType ∷ (DatetimeType Microseconds) ∷ []) ≡ Ok (pair_to (DatetimeType Microseconds) (DatetimeType Microseconds) (DurationType Microseconds)) }
-    ensures moment_and_day { operator_types Minus ((DatetimeType Nanoseconds) ∷ DateType ∷ []) ≡ Ok (pair_to (DatetimeType Nanoseconds) (DatetimeType Nanoseconds) (DurationType Nanoseconds)) }
-    ensures moments { operator_types Minus ((DatetimeType Nanoseconds) ∷ (DatetimeType Nanoseconds) ∷ []) ≡ Ok (pair_to (DatetimeType Nanoseconds) (DatetimeType Nanoseconds) (DurationType Nanoseconds)) }
-    ensures moment_and_coarser_moment { operator_types Minus ((DatetimeType Nanoseconds) ∷ (DatetimeType Milliseconds) ∷ []) ≡ Ok (pair_to (DatetimeType Milliseconds) (DatetimeType Milliseconds) (DurationType Milliseconds)) }
-    ensures moment_and_finer_moment { operator_types Minus ((DatetimeType Microseconds) ∷ (DatetimeType Nanoseconds) ∷ []) ≡ Ok (pair_to (DatetimeType Microseconds) (DatetimeType Microseconds) (DurationType Microseconds)) }
-    ensures spans { operator_types Minus ((DurationType Microseconds) ∷ (DurationType Microseconds) ∷ []) ≡ Ok (pair_to (DurationType Microseconds) (DurationType Microseconds) (DurationType Microseconds)) }
-    ensures span_and_coarser_span { operator_types Minus ((DurationType Nanoseconds) ∷ (DurationType Microseconds) ∷ []) ≡ Ok (pair_to (DurationType Microseconds) (DurationType Microseconds) (DurationType Microseconds)) }
-    ensures span_and_finer_span { operator_types Minus ((DurationType Milliseconds) ∷ (DurationType Nanoseconds) ∷ []) ≡ Ok (pair_to (DurationType Milliseconds) (DurationType Milliseconds) (DurationType Milliseconds)) }
-    ensures moment_and_coarser_span { operator_types Minus ((DatetimeType Nanoseconds) ∷ (DurationType Milliseconds) ∷ []) ≡ Ok (pair_to (DatetimeType Milliseconds) (DurationType Milliseconds) (DatetimeType Milliseconds)) }
-    ensures moment_and_finer_span { operator_types Minus ((DatetimeType Milliseconds) ∷ (DurationType Microseconds) ∷ []) ≡ Ok (pair_to (DatetimeType Milliseconds) (DurationType Milliseconds) (DatetimeType Milliseconds)) }
+    ensures days_and_times_of_a_day { Take (Minus ∷ []) (
+        (DateType, DateType, both_as DateType (DurationType Milliseconds)) ∷
+        (TimeType, TimeType, both_as TimeType (DurationType Nanoseconds)) ∷
+        (DateType, moment, both_as moment span) ∷
+        (DatetimeType Nanoseconds, DateType, both_as (DatetimeType Nanoseconds) (DurationType Nanoseconds)) ∷ []) }
+    ensures moments { Take (Minus ∷ []) (
+        (DatetimeType Nanoseconds, DatetimeType Nanoseconds, both_as (DatetimeType Nanoseconds) (DurationType Nanoseconds)) ∷
+        (DatetimeType Nanoseconds, DatetimeType Milliseconds, both_as (DatetimeType Milliseconds) (DurationType Milliseconds)) ∷
+        (moment, DatetimeType Nanoseconds, both_as moment span) ∷ []) }
+    ensures spans { Take (Minus ∷ []) (
+        (span, span, both_as span span) ∷ (DurationType Nanoseconds, span, both_as span span) ∷
+        (DurationType Milliseconds, DurationType Nanoseconds, both_as (DurationType Milliseconds) (DurationType Milliseconds)) ∷ []) }
+    ensures moments_and_spans { let taken = taken (DatetimeType Milliseconds) (DurationType Milliseconds) (DatetimeType Milliseconds) in
+        Take (Minus ∷ []) ((DatetimeType Nanoseconds, DurationType Milliseconds, taken) ∷ (DatetimeType Milliseconds, span, taken) ∷ []) }
+    ensures beside_others { Refuse (Minus ∷ []) InvalidOperation ((times, ListType DateType ∷ no_times) ∷ (ListType DateType ∷ no_times, times) ∷ []) }
+    ensures times { Refuse (Minus ∷ []) InvalidOperation (
+        (DateType ∷ [], TimeType ∷ span ∷ DurationType Milliseconds ∷ []) ∷
+        (TimeType ∷ [], DateType ∷ moment ∷ DatetimeType Nanoseconds ∷ span ∷ DurationType Nanoseconds ∷ []) ∷
+        (moment ∷ [], TimeType ∷ []) ∷
+        (span ∷ [], DateType ∷ TimeType ∷ moment ∷ []) ∷ []) }
 {}
 
-/// No other times have a difference.
-pub fn refused_differences_of_times()
-    ensures days { map (λ right. operator_types Minus (DateType ∷ right ∷ [])) (NullType ∷ Truth ∷ Integer true 64 ∷ TextType ∷ Untyped (pos 1) ∷ ListType DateType ∷ TimeType ∷ DurationType Milliseconds ∷ [])
-        ≡ replicate 8 (Err InvalidOperation) }
-    ensures times_of_a_day { map (λ right. operator_types Minus (TimeType ∷ right ∷ [])) (NullType ∷ Truth ∷ Integer true 64 ∷ TextType ∷ Untyped (pos 1) ∷ ListType DateType ∷ DateType ∷ DatetimeType Nanoseconds ∷ DurationType Nanoseconds ∷ [])
-        ≡ replicate 9 (Err InvalidOperation) }
-    ensures moments { map (λ right. operator_types Minus (DatetimeType Microseconds ∷ right ∷ [])) (NullType ∷ Truth ∷ Integer true 64 ∷ TextType ∷ Untyped (pos 1) ∷ ListType DateType ∷ TimeType ∷ [])
-        ≡ replicate 7 (Err InvalidOperation) }
-    ensures spans { map (λ right. operator_types Minus (DurationType Microseconds ∷ right ∷ [])) (NullType ∷ Truth ∷ Integer true 64 ∷ TextType ∷ Untyped (pos 1) ∷ ListType DateType ∷ DateType ∷ TimeType ∷ DatetimeType Microseconds ∷ [])
-        ≡ replicate 9 (Err InvalidOperation) }
-    ensures before_days { map (λ left. operator_types Minus (left ∷ DateType ∷ [])) (NullType ∷ Truth ∷ Integer true 64 ∷ TextType ∷ Untyped (pos 1) ∷ ListType DateType ∷ [])
-        ≡ replicate 6 (Err InvalidOperation) }
-    ensures before_spans { map (λ left. operator_types Minus (left ∷ DurationType Microseconds ∷ [])) (NullType ∷ Truth ∷ Integer true 64 ∷ TextType ∷ Untyped (pos 1) ∷ ListType DateType ∷ [])
-        ≡ replicate 6 (Err InvalidOperation) }
-{}
-
-/// A span is multiplied by an integer, which is taken to 64 bits with a sign.
+/// A span is multiplied by an integer, which is taken to 64 bits with a sign. No other times have a product, and none a
+/// quotient, whichever side they are on.
 pub fn types_of_products_of_times()
-    ensures span_and_integer { operator_types Multiply ((DurationType Microseconds) ∷ Integer true 8 ∷ []) ≡ Ok (pair_to (DurationType Microseconds) (Integer true 64) (DurationType Microseconds)) }
-    ensures integer_and_span { operator_types Multiply (Integer false 32 ∷ (DurationType Milliseconds) ∷ []) ≡ Ok (pair_to (Integer true 64) (DurationType Milliseconds) (DurationType Milliseconds)) }
-    ensures span_and_widest { operator_types Multiply ((DurationType Nanoseconds) ∷ Integer true 64 ∷ []) ≡ Ok (pair_to (DurationType Nanoseconds) (Integer true 64) (DurationType Nanoseconds)) }
-    ensures span_and_number { operator_types Multiply ((DurationType Nanoseconds) ∷ Untyped (pos 2) ∷ []) ≡ Ok (pair_to (DurationType Nanoseconds) (Integer true 64) (DurationType Nanoseconds)) }
-    ensures number_and_span { operator_types Multiply (Untyped (neg_ℤ (pos 3000000000)) ∷ (DurationType Nanoseconds) ∷ []) ≡ Ok (pair_to (Integer true 64) (DurationType Nanoseconds) (DurationType Nanoseconds)) }
-    ensures span_and_widest_without_a_sign { operator_types Multiply (DurationType Nanoseconds ∷ Integer false 64 ∷ []) ≡ Err SchemaMismatch }
-    ensures widest_without_a_sign_and_span { operator_types Multiply (Integer false 64 ∷ DurationType Nanoseconds ∷ []) ≡ Err SchemaMismatch }
-    ensures span_and_wide_number { operator_types Multiply (DurationType Nanoseconds ∷ Untyped (pos 9223372036854775808) ∷ []) ≡ Err SchemaMismatch }
-{}
-
-/// No other times have a product, and none a quotient.
-pub fn refused_products_of_times()
-    ensures spans { map (λ right. operator_types Multiply (DurationType Microseconds ∷ right ∷ [])) (DurationType Microseconds ∷ DurationType Milliseconds ∷ DatetimeType Microseconds ∷ DateType ∷ TimeType ∷ NullType ∷ Truth ∷ TextType ∷ [])
-        ≡ replicate 8 (Err InvalidOperation) }
-    ensures moments { map (λ right. operator_types Multiply (DatetimeType Microseconds ∷ right ∷ [])) (Integer true 64 ∷ Untyped (pos 2) ∷ DurationType Microseconds ∷ NullType ∷ [])
-        ≡ replicate 4 (Err InvalidOperation) }
-    ensures days { map (λ left. operator_types Multiply (left ∷ DateType ∷ [])) (Integer true 64 ∷ DateType ∷ Truth ∷ [])
-        ≡ replicate 3 (Err InvalidOperation) }
-    ensures quotients { map (λ operator. operator_types operator (DurationType Milliseconds ∷ Integer true 64 ∷ [])) (Divide ∷ FloorDivide ∷ Modulus ∷ [])
-        ≡ replicate 3 (Err InvalidOperation) }
-    ensures quotients_of_spans { map (λ operator. operator_types operator (DurationType Milliseconds ∷ DurationType Milliseconds ∷ [])) (Divide ∷ FloorDivide ∷ Modulus ∷ [])
-        ≡ replicate 3 (Err InvalidOperation) }
+    ensures span_first { Take (Multiply ∷ []) (
+        (span, int8, taken span int64 span) ∷
+        (DurationType Nanoseconds, int64, taken (DurationType Nanoseconds) int64 (DurationType Nanoseconds)) ∷
+        (DurationType Nanoseconds, Untyped (pos 2), taken (DurationType Nanoseconds) int64 (DurationType Nanoseconds)) ∷ []) }
+    ensures integer_first { Take (Multiply ∷ []) (
+        (uint32, DurationType Milliseconds, taken int64 (DurationType Milliseconds) (DurationType Milliseconds)) ∷
+        (Untyped (neg_ℤ (pos 3000000000)), DurationType Nanoseconds, taken int64 (DurationType Nanoseconds) (DurationType Nanoseconds)) ∷ []) }
+    ensures widest_without_a_sign { let widest = uint64 ∷ Untyped (pos 9223372036854775808) ∷ [] in
+        Refuse (Multiply ∷ []) SchemaMismatch ((DurationType Nanoseconds ∷ [], widest) ∷ (widest, DurationType Nanoseconds ∷ []) ∷ []) }
+    ensures times { Refuse (Multiply ∷ []) InvalidOperation ((times, times) ∷ (span ∷ [], DurationType Milliseconds ∷ []) ∷ []) }
+    ensures beside_no_integers { let others = NullType ∷ Truth ∷ TextType ∷ [] in
+        Refuse (Multiply ∷ []) InvalidOperation ((times, others) ∷ (others, times) ∷ []) }
+    ensures beside_integers { let integers = int8 ∷ int64 ∷ Untyped (pos 2) ∷ [] in
+        let no_spans = DateType ∷ TimeType ∷ moment ∷ [] in
+        Refuse (Multiply ∷ []) InvalidOperation ((no_spans, integers) ∷ (integers, no_spans) ∷ []) }
+    ensures quotients { Refuse quotients InvalidOperation (
+        (times, times) ∷ (times, no_times) ∷ (no_times, times) ∷ (DurationType Milliseconds ∷ [], int64 ∷ DurationType Milliseconds ∷ []) ∷ []) }
 {}
 
 /// Days have 86400000 milliseconds between them. Other times are counted in their own unit, and all wrap around in 64 bits with a sign.
 pub fn differences_and_products_of_times()
-    ensures days { operator_value Minus DateType (DurationType Milliseconds) (IntValue (pos 10957)) (IntValue (pos 10956)) ≡ IntValue (pos 86400000) }
-    ensures days_turned_round { operator_value Minus DateType (DurationType Milliseconds) (IntValue (pos 10956)) (IntValue (pos 10957)) ≡ IntValue (neg_ℤ (pos 86400000)) }
-    ensures days_far_apart { operator_value Minus DateType (DurationType Milliseconds) (IntValue (pos 2147483647)) (IntValue (neg_ℤ (pos 2147483648))) ≡ IntValue (pos 371085174288000000) }
-    ensures day_and_null { operator_value Minus DateType (DurationType Milliseconds) (IntValue (pos 1)) NullValue ≡ NullValue }
-    ensures times_of_a_day { operator_value Minus TimeType (DurationType Nanoseconds) (IntValue (pos 0)) (IntValue (pos 86399999999999)) ≡ IntValue (neg_ℤ (pos 86399999999999)) }
-    ensures moments { operator_value Minus (DatetimeType Milliseconds) (DurationType Milliseconds) (IntValue (pos 1000)) (IntValue (pos 1)) ≡ IntValue (pos 999) }
-    ensures moments_far_apart { operator_value Minus (DatetimeType Nanoseconds) (DurationType Nanoseconds) (IntValue (pos 9223372036854775807)) (IntValue (neg_ℤ (pos 1))) ≡ IntValue (neg_ℤ (pos 9223372036854775808)) }
-    ensures moment_and_span { operator_value Minus (DatetimeType Microseconds) (DatetimeType Microseconds) (IntValue (neg_ℤ (pos 9223372036854775808))) (IntValue (pos 1)) ≡ IntValue (pos 9223372036854775807) }
-    ensures spans { operator_value Minus (DurationType Microseconds) (DurationType Microseconds) (IntValue (pos 5)) (IntValue (pos 7)) ≡ IntValue (neg_ℤ (pos 2)) }
-    ensures span_and_integer { operator_value Multiply (DurationType Microseconds) (DurationType Microseconds) (IntValue (pos 5)) (IntValue (neg_ℤ (pos 7))) ≡ IntValue (neg_ℤ (pos 35)) }
-    ensures integer_and_span { operator_value Multiply (Integer true 64) (DurationType Microseconds) (IntValue (pos 4611686018427387904)) (IntValue (pos 2)) ≡ IntValue (neg_ℤ (pos 9223372036854775808)) }
-    ensures integer_and_null { operator_value Multiply (Integer true 64) (DurationType Microseconds) (IntValue (pos 2)) NullValue ≡ NullValue }
+    ensures days { ComputeEach Minus (
+        (DateType, DurationType Milliseconds, number 10957, number 10956, number 86400000) ∷
+        (DateType, DurationType Milliseconds, number 10956, number 10957, negative 86400000) ∷
+        (DateType, DurationType Milliseconds, number 2147483647, negative 2147483648, number 371085174288000000) ∷
+        (DateType, DurationType Milliseconds, number 1, null, null) ∷ []) }
+    ensures other_differences { ComputeEach Minus (
+        (TimeType, DurationType Nanoseconds, number 0, number 86399999999999, negative 86399999999999) ∷
+        (DatetimeType Milliseconds, DurationType Milliseconds, number 1000, number 1, number 999) ∷
+        (DatetimeType Nanoseconds, DurationType Nanoseconds, number 9223372036854775807, negative 1, negative 9223372036854775808) ∷
+        (moment, moment, negative 9223372036854775808, number 1, number 9223372036854775807) ∷
+        (span, span, number 5, number 7, negative 2) ∷ []) }
+    ensures products { ComputeEach Multiply (
+        (span, span, number 5, negative 7, negative 35) ∷
+        (int64, span, number 4611686018427387904, number 2, negative 9223372036854775808) ∷
+        (int64, span, number 2, null, null) ∷ []) }
 {}
