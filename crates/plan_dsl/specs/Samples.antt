@@ -360,6 +360,7 @@ truths_and_numbers =
     frame_with ((codes "t", Truth) ∷ (codes "a", int8) ∷ []) (
     (yes ∷ number 1 ∷ []) ∷
     (yes ∷ number 2 ∷ []) ∷
+    (no ∷ number 2 ∷ []) ∷
     (no ∷ negative 1 ∷ []) ∷
     (null ∷ number 1 ∷ []) ∷
     (yes ∷ number 127 ∷ []) ∷ [])

@@ -7,7 +7,7 @@ ghost use Rattle.plan_types.specs.declared.error.ErrorKind.TheVariants.{SchemaMi
 ghost use Rattle.plan_dsl.specs.declared.operator.InequalityOperator.TheVariants as Inequality;
 ghost use Rattle.plan_dsl.specs.declared.operator.Operator.TheVariants.{Eq, EqValidity, NotEq, NotEqValidity, Lt, LtEq, Gt, GtEq, Plus, Minus, Multiply, Divide, FloorDivide, Modulus, And, Or, Xor, LogicalAnd, LogicalOr};
 ghost use Rattle.plan_dsl.specs.Operators.{inequality, is_comparison, operator_sign, swapped};
-ghost use Rattle.plan_dsl.specs.Samples.{GivesAll, Take, Refuse, Compute, arithmetic, bits, comparisons, logical, orders, with_nulls, both_as, int8, int16, int32, int64, uint8, uint16, uint64, null, yes, no, number, negative, list};
+ghost use Rattle.plan_dsl.specs.Samples.{GivesAll, Take, Refuse, Compute, arithmetic, bits, comparisons, logical, orders, with_nulls, both_as, int8, int16, int32, int64, uint8, uint16, uint64, times, no_times, null, yes, no, number, negative, list};
 
 /// False beside anything is not both, true beside anything is either, and else null is null.
 pub fn truth_values_combined()
@@ -40,12 +40,13 @@ pub fn types_of_bits()
         (int8, Untyped (pos 1), both_as int8 int8) ∷ (Truth, Untyped (pos 1), both_as int32 int32) ∷ []) }
     ensures without_a_common_type { Refuse bits SchemaMismatch ((uint64 ∷ [], int8 ∷ []) ∷ []) }
     ensures without_bits { Refuse bits InvalidOperation (
-        (TextType ∷ [], Truth ∷ []) ∷ (int64 ∷ [], DurationType Milliseconds ∷ []) ∷
-        (ListType Truth ∷ [], ListType Truth ∷ []) ∷ (DateType ∷ [], NullType ∷ []) ∷ []) }
+        (TextType ∷ times, no_times) ∷ (no_times, TextType ∷ times) ∷
+        (int64 ∷ [], DurationType Milliseconds ∷ []) ∷ (ListType Truth ∷ [], ListType Truth ∷ []) ∷ []) }
     ensures truth_values { Take logical (
         (Truth, Truth, both_as Truth Truth) ∷ (Truth, NullType, both_as Truth Truth) ∷ (NullType, NullType, both_as Truth Truth) ∷ []) }
     ensures no_truth_values { Refuse logical InvalidOperation (
-        (Truth ∷ [], int8 ∷ []) ∷ (Untyped (pos 1) ∷ TextType ∷ ListType Truth ∷ [], Truth ∷ []) ∷ []) }
+        (Truth ∷ [], int8 ∷ []) ∷ (Untyped (pos 1) ∷ ListType Truth ∷ [], Truth ∷ []) ∷
+        (TextType ∷ times, no_times) ∷ (no_times, TextType ∷ times) ∷ []) }
 {}
 
 /// Two comparisons are of nulls too: null is the same as null, and as no other value.

@@ -94,9 +94,9 @@ pub fn meanings_of_comparisons()
 /// Beside a number a truth value is compared and added as 0 or 1. Truth values alone are ordered, and counted.
 pub fn meanings_on_truth_values()
     ensures beside_numbers { Gives (means truths_and_numbers) (
-        (equal t a, Done (yes ∷ no ∷ no ∷ null ∷ no ∷ [])) ∷
-        (less t a, Done (no ∷ yes ∷ no ∷ null ∷ yes ∷ [])) ∷
-        (sum t a, Done (number 2 ∷ number 3 ∷ negative 1 ∷ null ∷ negative 128 ∷ [])) ∷ []) }
+        (equal t a, Done (yes ∷ no ∷ no ∷ no ∷ null ∷ no ∷ [])) ∷
+        (less t a, Done (no ∷ yes ∷ yes ∷ no ∷ null ∷ yes ∷ [])) ∷
+        (sum t a, Done (number 2 ∷ number 3 ∷ number 2 ∷ negative 1 ∷ null ∷ negative 128 ∷ [])) ∷ []) }
     ensures alone { let frame = beside Truth Truth ((yes, yes) ∷ (yes, no) ∷ (no, yes) ∷ (no, no) ∷ (null, yes) ∷ (no, null) ∷ []) in
         Gives (means frame) (
         (less a b, Done (no ∷ no ∷ yes ∷ no ∷ null ∷ null ∷ [])) ∷
@@ -113,8 +113,8 @@ pub fn comparisons_run_as_written()
         (binary GtEq a a, Done (yes ∷ yes ∷ null ∷ yes ∷ yes ∷ [])) ∷ []) }
     ensures truth_values { Gives (runs truths_and_numbers) (
         (equal t a, Stuck) ∷ (less t a, Stuck) ∷ (sum t a, Stuck) ∷
-        (equal (cast_as NonStrict int8 t) a, Done (yes ∷ no ∷ no ∷ null ∷ no ∷ [])) ∷
-        (sum t t, Done (number 2 ∷ number 2 ∷ number 0 ∷ null ∷ number 2 ∷ [])) ∷
+        (equal (cast_as NonStrict int8 t) a, Done (yes ∷ no ∷ no ∷ no ∷ null ∷ no ∷ [])) ∷
+        (sum t t, Done (number 2 ∷ number 2 ∷ number 0 ∷ number 0 ∷ null ∷ number 2 ∷ [])) ∷
         (sum (sum t t) t, Stuck) ∷ []) }
 {}
 
