@@ -14,15 +14,12 @@ use Rattle.plan_arena.specs.Items.{expression_layer, plan_layer, HoldsExpression
 use Rattle.plan_arena.specs.Runs.{own_schema, top_schema, first_schema}
 use Rattle.plan_arena.specs.declared.aexpr.AExpr.{AExpr}
 use Rattle.plan_arena.specs.declared.ir.IR.{IR}
-use Rattle.plan_arena.proofs.DenotationLemmas.{HasShape, denotes_one, kept, inputs_denote, depth_of_inputs}
+use Rattle.plan_arena.proofs.DenotationLemmas.{HasShape, some_same, denotes_one, kept, inputs_denote, depth_of_inputs}
 
-some_same : {A : Type 0} (o : Option A) (x y : A) → o ≡ Some x → o ≡ Some y → x ≡ y
-some_same o x y p q = cc
-
-layer_op : {Op : Type 0} (a b : Op) (ms ns : List ℕ) → layer a ms ≡ layer b ns → a ≡ b
+pub layer_op : {Op : Type 0} (a b : Op) (ms ns : List ℕ) → layer a ms ≡ layer b ns → a ≡ b
 layer_op a b ms ns e = cc
 
-layer_inputs : {Op : Type 0} (a b : Op) (ms ns : List ℕ) → layer a ms ≡ layer b ns → ms ≡ ns
+pub layer_inputs : {Op : Type 0} (a b : Op) (ms ns : List ℕ) → layer a ms ≡ layer b ns → ms ≡ ns
 layer_inputs a b ms ns e = cc
 
 layer_node : {Op : Type 0} (a b : Op) (ms ns : List ℕ) (ts : Trees Op) → layer a ms ≡ layer b ns → node a ts ≡ node b ts

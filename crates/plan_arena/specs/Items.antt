@@ -6,9 +6,9 @@ use Rattle.plan_types.specs.Types.{ty}
 use Rattle.plan_types.specs.Schemas.{Name, columns}
 use Rattle.plan_dsl.specs.Ops.{Op, ColumnOp, BinaryOp, CastOp, Expression}
 use Rattle.plan_dsl.specs.Literals.{literal_op}
-use Rattle.plan_dsl.specs.Plans.{PlanOp, Plan, Named, scan_op, select_op, filter_op}
+use Rattle.plan_dsl.specs.Plans.{PlanKind, ScanKind, SelectKind, FilterKind, PlanOp, Plan, Named, scan_op, select_op, filter_op}
 use Rattle.plan_arena.specs.Denotation.{Denotes, DenoteAll, DenotesTree}
-use Rattle.plan_arena.specs.Layers.{Layer, layer, inputs_of}
+use Rattle.plan_arena.specs.Layers.{Layer, layer, op_of, inputs_of}
 use Rattle.plan_dsl.specs.Trees.{node}
 use Rattle.plan_arena.specs.declared.aexpr.AExpr.{AExpr}
 use Rattle.plan_arena.specs.declared.aexpr.AExpr.TheVariants.{Column, Literal, BinaryExpr, Cast}
@@ -40,11 +40,14 @@ plan_layer (DataFrameScan table schema) = layer (scan_op table (columns schema))
 plan_layer (Select expr input schema options) = layer (select_op (map named_node expr.items.items) (columns schema)) (input.0 ∷ [])
 plan_layer (Filter input predicate) = layer (filter_op (named_node predicate)) (input.0 ∷ [])
 
--- what a report calls a node
+-- what a report calls a node of the kind
+abbrev pub kind_text : PlanKind → List ℕ
+kind_text (ScanKind table) = codes "df"
+kind_text SelectKind = codes "projection"
+kind_text FilterKind = codes "selection"
+
 abbrev pub node_name : IR → List ℕ
-node_name (DataFrameScan table schema) = codes "df"
-node_name (Select expr input schema options) = codes "projection"
-node_name (Filter input predicate) = codes "selection"
+node_name item = kind_text (op_of (plan_layer item)).kind
 
 -- the expression at the node does this, over these inputs
 abbrev pub HoldsExpression : List AExpr → ℕ → Op → List ℕ → Type 0

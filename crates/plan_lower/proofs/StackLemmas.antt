@@ -1,5 +1,5 @@
 -- Coercion over a work stack: what is reached is strict, but for what waits.
-use Rattle.std.proofs.Common.{◌≡◌, ◌≢◌, ◌⊎◌, ℕ, ◌<◌, ◌≤◌, List, [], ◌∷◌, ◌++◌, length, map, Option, Some, Result, Ok, Err, OnErr, slice_get, refl, sym, ap, ◌∙◌, subst, arith, true, false, inl, inr, ⊎_elim, append_assoc}
+use Rattle.std.proofs.Common.{◌≡◌, ◌≢◌, ◌⊎◌, ℕ, ◌<◌, ◌≤◌, List, [], ◌∷◌, ◌++◌, length, map, Some, Result, Ok, Err, OnErr, slice_get, refl, sym, ap, ◌∙◌, subst, arith, true, false, inl, inr, ⊎_elim, append_assoc}
 use Rattle.std.specs.List.{AllByRecursion}
 use Rattle.std.proofs.lemmas.List.{map-append}
 use Rattle.std.proofs.lemmas.Bool.{false≢true}
@@ -18,17 +18,14 @@ use Rattle.plan_arena.specs.declared.aexpr.AExpr.{AExpr}
 use Rattle.plan_arena.specs.Denotation.{Denotes, DenoteAll}
 use Rattle.plan_arena.specs.Layers.{layer, inputs_of, shape_of}
 use Rattle.plan_arena.specs.Items.{Grows, HoldsExpression, HoldsFrom, expression_layer}
-use Rattle.plan_arena.proofs.DenotationLemmas.{denotes_one, replaced, same_or_other}
+use Rattle.plan_arena.proofs.DenotationLemmas.{some_same, denotes_one, replaced, same_or_other}
 use Rattle.plan_arena.proofs.ItemLemmas.{from_laws, expression_got, grown_held, tree_grown}
 use Rattle.plan_lower.specs.Typed.{HasKnownType}
 use Rattle.plan_lower.specs.Coercion.{DenotesKnown, DenotesSame, KeepsBelow, StaysSame, Visits, IsCoerced, numbers}
 
-layer_inputs_of : (o : Option _) (op : Op) (inputs : List ℕ) (item : AExpr) → o ≡ Some (expression_layer item) → o ≡ Some (layer op inputs) → inputs ≡ inputs_of (expression_layer item)
-layer_inputs_of o op inputs item p q = let e : layer op inputs ≡ expression_layer item = cc in ap inputs_of e
-
 -- the inputs that a node holds are its item's
 pub inputs_are : (items : List AExpr) (n : ℕ) (item : AExpr) (op : Op) (inputs : List ℕ) → slice_get items n ≡ Some item → HoldsExpression items n op inputs → inputs ≡ inputs_of (expression_layer item)
-inputs_are items n item op inputs got held = layer_inputs_of _ op inputs item (expression_got items n item got) held
+inputs_are items n item op inputs got held = ap inputs_of (some_same _ (layer op inputs) _ held (expression_got items n item got))
 
 pub pushed_one : (old new : List Node) (a : Node) → new ≡ old ++ a ∷ [] → numbers new ≡ numbers old ++ a.0 ∷ []
 pushed_one old new a e = ap numbers e ∙ map-append (λ (n : Node). n.0) old (a ∷ [])

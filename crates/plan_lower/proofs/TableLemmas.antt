@@ -31,8 +31,8 @@ use Rattle.plan_arena.specs.declared.aexpr.AExpr.TheVariants.{Literal, Cast}
 use Rattle.plan_arena.specs.Denotation.{Denotes, DenotesTree, depth_at}
 use Rattle.plan_arena.specs.Layers.{layer, shape_of, inputs_of}
 use Rattle.plan_arena.specs.Items.{HoldsExpression, HoldsFrom, Grows, expression_layer}
-use Rattle.plan_arena.proofs.DenotationLemmas.{denotes_one, kept, same_or_other, inputs_denote}
-use Rattle.plan_arena.proofs.ItemLemmas.{held_top, one_child, expression_laws, from_laws, any_node, from_zero, expression_elsewhere, expression_written, expression_added, tree_grown, within, grown_held}
+use Rattle.plan_arena.proofs.DenotationLemmas.{some_same, denotes_one, kept, same_or_other, inputs_denote}
+use Rattle.plan_arena.proofs.ItemLemmas.{layer_op, layer_inputs, held_top, one_child, expression_laws, from_laws, any_node, from_zero, expression_elsewhere, expression_written, expression_added, tree_grown, within, grown_held}
 use Rattle.plan_lower.specs.declared.type_table.TypeTable.{TypeTable}
 use Rattle.plan_lower.specs.Coercion.{DenotesTyped, Visits}
 use Rattle.plan_lower.specs.KeptTypes.{Keeps, IsKept, Extends, IsTypedNode, IsRight, HasRightTypes, first_node}
@@ -40,15 +40,6 @@ use Rattle.plan_lower.specs.Typed.{HasType}
 use Rattle.plan_lower.proofs.CoercionLemmas.{one_type}
 use Rattle.plan_lower.proofs.StackLemmas.{becomes, all_weaker, all_front, all_joined, all_last}
 use Rattle.plan_lower.proofs.TypingLemmas.{AllHaveType, cast_typed, literal_typed}
-
-layer_op : (a b : Op) (ms ns : List ℕ) → layer a ms ≡ layer b ns → a ≡ b
-layer_op a b ms ns e = cc
-
-layer_inputs : (a b : Op) (ms ns : List ℕ) → layer a ms ≡ layer b ns → ms ≡ ns
-layer_inputs a b ms ns e = cc
-
-some_same : {A : Type 0} (o : Option A) (x y : A) → o ≡ Some x → o ≡ Some y → x ≡ y
-some_same o x y p q = cc
 
 -- a node holds one op over one list of inputs
 held_op : (items : List AExpr) (n : ℕ) (a b : Op) (ms ns : List ℕ) → HoldsExpression items n a ms → HoldsExpression items n b ns → a ≡ b

@@ -13,9 +13,10 @@ use Rattle.plan_arena.specs.Items.{named_node, expression_layer, plan_layer, Hol
 use Rattle.plan_arena.specs.declared.aexpr.AExpr.{AExpr}
 use Rattle.plan_arena.specs.declared.expr_ir.ExprIR.{ExprIR}
 use Rattle.plan_arena.specs.declared.ir.IR.{IR}
-use Rattle.plan_arena.proofs.ItemLemmas.{expression_got}
+use Rattle.plan_arena.proofs.DenotationLemmas.{some_same}
+use Rattle.plan_arena.proofs.ItemLemmas.{layer_op, layer_inputs, expression_got}
 use Rattle.plan_dsl.specs.Counts.{op_casts, expression_casts, outputs_casts, plan_op_casts, cast_count}
-use Rattle.plan_report.proofs.NodeLemmas.{some_same, layer_op, layer_inputs, held_op, held_children}
+use Rattle.plan_report.proofs.NodeLemmas.{held_op, held_children}
 
 -- a count for each node, of the tree that it denotes
 abbrev pub CountAll : {Op : Type 0} → (ℕ → Op → List ℕ → Type 0) → (Tree Op → ℕ) → List ℕ → List ℕ → Type 0

@@ -1,34 +1,21 @@
 -- What the nodes of the two arenas lead to.
-use Rattle.std.proofs.Common.{◌≡◌, ℕ, ◌<◌, List, [], ◌∷◌, ◌++◌, length, map, Option, Some, slice_get, sym, ap, ◌∙◌, subst, arith, append_assoc}
+use Rattle.std.proofs.Common.{◌≡◌, ℕ, ◌<◌, List, [], ◌∷◌, ◌++◌, map, Some, slice_get, sym, ap, ◌∙◌, subst, append_assoc}
 use Rattle.std.specs.List.{AllByRecursion}
-use Rattle.std.specs.Option.{option_map}
-use Rattle.std.proofs.lemmas.List.{length-map, append-nil}
-use Rattle.std.proofs.lemmas.Option.{slice_get-map, slice_get_within}
+use Rattle.std.proofs.lemmas.List.{append-nil}
 use Rattle.plan_types.specs.Schemas.{Columns}
 use Rattle.plan_dsl.specs.Trees.{Trees, node, no_more, more}
 use Rattle.plan_dsl.specs.Ops.{Op, Expression}
 use Rattle.plan_dsl.specs.Plans.{PlanOp, Plan, FilterKind}
 use Rattle.plan_arena.specs.Denotation.{Denotes, DenoteAll, DenotesTree, depth_at}
-use Rattle.plan_arena.specs.Layers.{layer, shape_of}
-use Rattle.plan_arena.specs.Items.{expression_layer, plan_layer, node_name, HoldsExpression, HoldsPlan, DenotesItem}
+use Rattle.plan_arena.specs.Layers.{Layer, layer, op_of, shape_of}
+use Rattle.plan_arena.specs.Items.{expression_layer, plan_layer, kind_text, node_name, HoldsExpression, HoldsPlan, DenotesItem}
 use Rattle.plan_arena.specs.Runs.{own_schema, top_schema, first_schema}
 use Rattle.plan_arena.specs.declared.aexpr.AExpr.{AExpr}
 use Rattle.plan_arena.specs.declared.ir.IR.{IR}
-use Rattle.plan_arena.specs.declared.ir.IR.TheVariants.{DataFrameScan, Filter, Select}
-use Rattle.plan_arena.proofs.DenotationLemmas.{inputs_denote}
-use Rattle.plan_arena.proofs.ItemLemmas.{expression_laws, plan_laws, plan_got, expression_got, item_denotes}
+use Rattle.plan_arena.proofs.DenotationLemmas.{some_same, inputs_denote}
+use Rattle.plan_arena.proofs.ItemLemmas.{layer_op, layer_inputs, expression_laws, plan_laws, plan_got, expression_got, item_denotes}
 use Rattle.plan_report.specs.Casts.{DenoteOutputs}
-use Rattle.plan_report.specs.Texts.{kind_text}
 use Rattle.plan_report.specs.Report.{line_text, node_line, plan_lines, IsSchemaAt}
-
-pub some_same : {A : Type 0} (o : Option A) (x y : A) → o ≡ Some x → o ≡ Some y → x ≡ y
-some_same o x y p q = cc
-
-pub layer_op : {Op : Type 0} (a b : Op) (ms ns : List ℕ) → layer a ms ≡ layer b ns → a ≡ b
-layer_op a b ms ns e = cc
-
-pub layer_inputs : {Op : Type 0} (a b : Op) (ms ns : List ℕ) → layer a ms ≡ layer b ns → ms ≡ ns
-layer_inputs a b ms ns e = cc
 
 -- each input denotes a tree, and leads less far down than the node
 abbrev pub LeadsDown : {Op : Type 0} → (ℕ → Op → List ℕ → Type 0) → List (List ℕ) → ℕ → List ℕ → Type 0
@@ -69,9 +56,7 @@ module _ (expressions : List AExpr) (plans : List IR) (n : ℕ) (item : IR) (got
 
 -- an item's name is its op's
 item_name : (item : IR) (flat : PlanOp ℕ) (inputs : List ℕ) → plan_layer item ≡ layer flat inputs → node_name item ≡ kind_text flat.kind
-item_name (DataFrameScan table schema) flat inputs e = ap (λ f. kind_text f.kind) (layer_op _ flat [] inputs e)
-item_name (Filter input predicate) flat inputs e = ap (λ f. kind_text f.kind) (layer_op _ flat (input.0 ∷ []) inputs e)
-item_name (Select expr input schema options) flat inputs e = ap (λ f. kind_text f.kind) (layer_op _ flat (input.0 ∷ []) inputs e)
+item_name item flat inputs e = ap (λ (l : Layer (PlanOp ℕ)). kind_text (op_of l).kind) e
 
 -- the schema that an item lends is that of the plans that its node denotes
 pub lent_schema : (expressions : List AExpr) (plans : List IR) (n : ℕ) (item : IR) (cols : Columns) → slice_get plans n ≡ Some item → ((es : List AExpr) (t : Plan) → DenotesItem es plans item t → cols ≡ top_schema t) → IsSchemaAt expressions plans n cols

@@ -9,10 +9,10 @@ use Rattle.plan_dsl.specs.Plans.{PlanOp, Plan}
 use Rattle.plan_dsl.specs.Counts.{cast_count}
 use Rattle.plan_arena.specs.Runs.{own_schema, top_schema, first_schema}
 use Rattle.plan_arena.specs.Denotation.{Denotes}
-use Rattle.plan_arena.specs.Items.{HoldsPlan}
+use Rattle.plan_arena.specs.Items.{HoldsPlan, kind_text}
 use Rattle.plan_arena.specs.declared.aexpr.AExpr.{AExpr}
 use Rattle.plan_arena.specs.declared.ir.IR.{IR}
-use Rattle.plan_report.specs.Texts.{schema_text, path_text, kind_text, error_kind_text}
+use Rattle.plan_report.specs.Texts.{schema_text, path_text, error_kind_text}
 
 -- a line: the place, the name and the schema
 abbrev pub line_text : List ℕ → List ℕ → Columns → List ℕ

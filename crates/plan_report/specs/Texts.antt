@@ -9,7 +9,6 @@ use Rattle.plan_types.specs.declared.dtype.TimeUnit.{TimeUnit}
 use Rattle.plan_types.specs.declared.dtype.TimeUnit.TheVariants.{Nanoseconds, Microseconds, Milliseconds}
 use Rattle.plan_types.specs.declared.error.ErrorKind.{ErrorKind}
 use Rattle.plan_types.specs.declared.error.ErrorKind.TheVariants.{ColumnNotFound, Duplicate, SchemaMismatch, InvalidOperation, NoMemory}
-use Rattle.plan_dsl.specs.Plans.{PlanKind, ScanKind, SelectKind, FilterKind}
 
 -- a name as JSON, with its quotes and escapes
 abbrev pub name_text : Name → List ℕ
@@ -73,11 +72,6 @@ step_text step = codes "." ++ decimal step
 abbrev pub path_text : List ℕ → List ℕ
 path_text [] = codes "."
 path_text (step ∷ steps) = step_text step ++ flat_map step_text steps
-
-abbrev pub kind_text : PlanKind → List ℕ
-kind_text (ScanKind table) = codes "df"
-kind_text SelectKind = codes "projection"
-kind_text FilterKind = codes "selection"
 
 abbrev pub error_kind_text : ErrorKind → List ℕ
 error_kind_text ColumnNotFound = codes "ColumnNotFound"

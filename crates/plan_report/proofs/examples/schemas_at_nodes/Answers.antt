@@ -9,7 +9,7 @@ use Rattle.plan_arena.specs.Items.{HoldsPlan}
 use Rattle.plan_arena.specs.Runs.{first_schema, own_schema, top_schema}
 use Rattle.plan_arena.specs.declared.ir.IR.TheVariants.{DataFrameScan}
 use Rattle.plan_report.proofs.NodeLemmas.{held_op}
-use Rattle.plan_report.proofs.examples.nodes.schemas_at_nodes.Goals as goal
+use Rattle.plan_report.proofs.examples.schemas_at_nodes.Goals as goal
 
 scan_schema : (schema : Schema) (plan : Plan) → Denotes (HoldsPlan [] (DataFrameScan None schema ∷ [])) 0 plan → columns schema ≡ top_schema plan
 scan_schema schema (node op ts) (inputs, h, below) =

@@ -5,7 +5,7 @@ use Rattle.plan_dsl.specs.Trees.{node, no_more}
 use Rattle.plan_arena.specs.Denotation.{Denotes}
 use Rattle.plan_arena.specs.Items.{DenoteNamed, HoldsExpression}
 use Rattle.plan_arena.specs.declared.aexpr.AExpr.TheVariants.{Column}
-use Rattle.plan_report.proofs.examples.nodes.outputs_that_denote.Goals as goal
+use Rattle.plan_report.proofs.examples.outputs_that_denote.Goals as goal
 
 pub returns-clause-none : goal.returns-clause-none
 returns-clause-none c expressions = record { outputs = []; denote = tt }
