@@ -4,10 +4,8 @@ use Rattle.plan_types.specs.Schemas.{Name, Columns, same_name}
 use Rattle.plan_types.specs.Types.{Ty, Integer, is_known}
 use Rattle.plan_types.specs.declared.error.ErrorKind.{ErrorKind}
 use Rattle.plan_dsl.specs.Registry.{Registry}
-use Rattle.plan_dsl.specs.declared.operator.Operator.TheVariants.{Plus}
-use Rattle.plan_types.specs.declared.dtype.CastOptions.TheVariants.{NonStrict}
-use Rattle.plan_dsl.specs.Trees.{Trees, node, no_more, more}
-use Rattle.plan_dsl.specs.Ops.{Op, ColumnOp, BinaryOp, CastOp, Expression}
+use Rattle.plan_dsl.specs.Trees.{Trees, node, no_more}
+use Rattle.plan_dsl.specs.Ops.{Op, ColumnOp, Expression}
 use Rattle.plan_dsl.specs.Strictness.{IsSame, IsStrict, IsStrictNode, IsStrictOver, same_types}
 use Rattle.plan_dsl.specs.Typing.{Typed, operand_types, types_of, typing_all}
 use Rattle.plan_dsl.specs.OperatorTypes.{Taken}
@@ -22,6 +20,7 @@ use Rattle.plan_lower.specs.declared.type_table.TypeTable.{TypeTable}
 use Rattle.plan_lower.specs.KeptTypes.{Keeps}
 use Rattle.plan_types.specs.declared.dtype.DataType.{DataType}
 use Rattle.plan_lower.specs.Typed.{HasType, HasKnownType}
+use Rattle.plan_lower.specs.Samples.{of_type, two_columns, wide, strict_sum}
 
 -- a node denotes one tree
 pub one_tree : (first : ℕ) (items : List AExpr) (n : ℕ) (t u : Expression) → Denotes (HoldsFrom first items) n t → Denotes (HoldsFrom first items) n u → t ≡ u
@@ -77,19 +76,9 @@ same_tree registry schema first items n before tree found d = subst (IsSame regi
 pub column_strict : (schema : Columns) (name : Name) (type : Ty) → operand_types schema (ColumnOp name) [] ≡ Ok (record { operands = []; type = type }) → is_known type ≡ true → IsStrict [] schema (node (ColumnOp name) no_more)
 column_strict schema name type takes known = (record { typed = []; types = refl; strict = record { taken = record { operands = []; type = type }; takes = takes; kept = refl; known = known } }, tt)
 
--- the sum of an Int8 column, which is cast, and an Int32 one is strict
-abbrev of_type : Ty → Typed
-of_type type = record { type = type; many = true }
-
-abbrev two_columns : Columns
-two_columns = (codes "a", Integer true 8) ∷ (codes "b", Integer true 32) ∷ []
-
-abbrev wide : Expression
-wide = node (CastOp (Integer true 32) NonStrict) (more (node (ColumnOp (codes "a")) no_more) no_more)
-
 cast_strict : IsStrict [] two_columns wide
 cast_strict = (record { typed = of_type (Integer true 8) ∷ []; types = refl; strict = record { taken = record { operands = Integer true 8 ∷ []; type = Integer true 32 }; takes = refl; kept = refl; known = refl } }, (column_strict two_columns (codes "a") (Integer true 8) refl refl, tt))
 
-pub sum_strict : IsStrict [] two_columns (node (BinaryOp Plus) (more wide (more (node (ColumnOp (codes "b")) no_more) no_more)))
+pub sum_strict : IsStrict [] two_columns strict_sum
 sum_strict = let type = Integer true 32 in
     (record { typed = of_type type ∷ of_type type ∷ []; types = refl; strict = record { taken = record { operands = type ∷ type ∷ []; type = type }; takes = refl; kept = refl; known = refl } }, (cast_strict, (column_strict two_columns (codes "b") type refl refl, tt)))

@@ -177,6 +177,10 @@ scan_layer table columns = layer (scan_op table columns) []
 abbrev pub select_layer : ℕ → Columns → Layer (PlanOp ℕ)
 select_layer n columns = layer (select_op (node_named (codes "a") n ∷ []) columns) (0 ∷ [])
 
+-- a scan of the two columns, and a select of the expression at node 2 over it
+abbrev pub sum_layers : List (Layer (PlanOp ℕ))
+sum_layers = scan_layer (Some 0) two_columns ∷ select_layer 2 (one_column int32) ∷ []
+
 abbrev pub refused : ErrorKind → List ℕ → PlanError
 refused kind place = record { kind = kind; place = place }
 
@@ -197,7 +201,7 @@ ForScan table columns Has =
 abbrev pub ForSum : (IRPlan → Type 0) → Type 0
 ForSum Has =
     (lowering : IRPlan) → lowering.lp_top.0 ≡ 1 → lowering.expr_arena ≡ strict_items
-    → map plan_layer lowering.lp_arena ≡ scan_layer (Some 0) two_columns ∷ select_layer 2 (one_column int32) ∷ [] → Has lowering
+    → map plan_layer lowering.lp_arena ≡ sum_layers → Has lowering
 
 -- what makes operands of the first types ones of the second
 abbrev pub AreChanges : List (Ty × Ty × Change) → Type 0

@@ -1,116 +1,88 @@
 use Rattle.std.proofs.Common.{◌≡◌, ◌≤◌, ℕ, zero, suc, List, [], ◌∷◌, pos, codes, true, false, Some, slice_get, refl, sym, ap, subst, arith}
-use Rattle.plan_types.specs.Types.{Ty, Integer, Untyped, same_type}
-use Rattle.plan_types.specs.Schemas.{Name, Columns}
+use Rattle.plan_types.specs.Types.{Untyped, same_type}
+use Rattle.plan_types.specs.Schemas.{Name}
 use Rattle.plan_types.specs.Values.{IntValue}
 use Rattle.plan_types.specs.declared.dtype.DataType.TheVariants as dtype
-use Rattle.plan_types.specs.declared.dtype.CastOptions.TheVariants.{NonStrict}
 use Rattle.plan_dsl.specs.declared.literal.LiteralValue.TheVariants.{Int}
 use Rattle.plan_dsl.specs.declared.operator.Operator.TheVariants.{Plus}
 use Rattle.plan_dsl.specs.Trees.{node, no_more, more}
-use Rattle.plan_dsl.specs.Ops.{Op, ColumnOp, LiteralOp, BinaryOp, CastOp, Expression}
-use Rattle.plan_dsl.specs.Typing.{Typed, typing}
+use Rattle.plan_dsl.specs.Ops.{Op, ColumnOp, LiteralOp, BinaryOp, Expression}
+use Rattle.plan_dsl.specs.Typing.{typing}
 use Rattle.plan_dsl.proofs.TypingLemmas.{ok_same}
 use Rattle.plan_arena.specs.declared.aexpr.AExpr.{AExpr}
-use Rattle.plan_arena.specs.declared.aexpr.AExpr.TheVariants.{Column, Literal, BinaryExpr, Cast}
+use Rattle.plan_arena.specs.declared.aexpr.AExpr.TheVariants.{Column, Literal}
 use Rattle.plan_arena.specs.Denotation.{Denotes}
 use Rattle.plan_arena.specs.Layers.{layer}
 use Rattle.plan_arena.specs.Items.{HoldsExpression, HoldsFrom}
 use Rattle.plan_arena.proofs.ItemLemmas.{got_held}
 use Rattle.plan_lower.specs.Coercion.{DenotesSame}
+use Rattle.plan_lower.specs.Samples.{int8, int32, int64, columns_of, two_columns, of_type, a, b, binary, cast_to, sum, strict_sum, pair, cast_of, columns_and, sum_items, strict_items}
 use Rattle.plan_lower.proofs.ExampleLemmas.{one_tree, sum_strict, strict_as, strict_root, same_tree, other_name}
 use Rattle.plan_lower.proofs.examples.coercions.coerced_sums.Goals as goal
 
-abbrev schema : Columns
-schema = (codes "a", Integer true 8) ∷ (codes "b", Integer true 32) ∷ []
-
-abbrev a : Expression
-a = node (ColumnOp (codes "a")) no_more
-
-abbrev b : Expression
-b = node (ColumnOp (codes "b")) no_more
-
-abbrev cast_to : Ty → Expression → Expression
-cast_to type tree = node (CastOp type NonStrict) (more tree no_more)
-
-abbrev of_type : Ty → Typed
-of_type type = record { type = type; many = true }
-
-abbrev sum : Expression → Expression → Expression
-sum left right = node (BinaryOp Plus) (more left (more right no_more))
-
--- the sum at node 2, with other items behind it
-abbrev items : AExpr → List AExpr → List AExpr
-items top behind = Column (codes "a") ∷ Column (codes "b") ∷ top ∷ behind
-
-abbrev before : List AExpr
-before = items (BinaryExpr (record { 0 = 0 }) Plus (record { 0 = 1 })) []
-
-abbrev after : List AExpr
-after = items (BinaryExpr (record { 0 = 3 }) Plus (record { 0 = 1 })) (Cast (record { 0 = 0 }) dtype.Int32 NonStrict ∷ [])
-
 abbrev wide : List AExpr
-wide = items (BinaryExpr (record { 0 = 3 }) Plus (record { 0 = 4 })) (Cast (record { 0 = 0 }) dtype.Int64 NonStrict ∷ Cast (record { 0 = 1 }) dtype.Int64 NonStrict ∷ [])
+wide = columns_and (pair 3 Plus 4 ∷ cast_of 0 dtype.Int64 ∷ cast_of 1 dtype.Int64 ∷ [])
 
 abbrev turned : List AExpr
-turned = items (BinaryExpr (record { 0 = 1 }) Plus (record { 0 = 3 })) (Cast (record { 0 = 0 }) dtype.Int32 NonStrict ∷ [])
+turned = columns_and (pair 1 Plus 3 ∷ cast_of 0 dtype.Int32 ∷ [])
 
 column_denotes : (items : List AExpr) (n : ℕ) (name : Name) → slice_get items n ≡ Some (Column name) → Denotes (HoldsFrom 0 items) n (node (ColumnOp name) no_more)
 column_denotes items n name got = ([], (omega arith, got_held items n (Column name) (ColumnOp name) [] got refl), tt)
 
-before_denotes : Denotes (HoldsFrom 0 before) 2 (sum a b)
-before_denotes = (0 ∷ 1 ∷ [], (omega arith, refl), (column_denotes before 0 (codes "a") refl, (column_denotes before 1 (codes "b") refl, tt)))
+before_denotes : Denotes (HoldsFrom 0 sum_items) 2 sum
+before_denotes = (0 ∷ 1 ∷ [], (omega arith, refl), (column_denotes sum_items 0 (codes "a") refl, (column_denotes sum_items 1 (codes "b") refl, tt)))
 
-after_denotes : Denotes (HoldsFrom 0 after) 2 (sum (cast_to (Integer true 32) a) b)
-after_denotes = (3 ∷ 1 ∷ [], (omega arith, refl), ((0 ∷ [], (omega arith, refl), (column_denotes after 0 (codes "a") refl, tt)), (column_denotes after 1 (codes "b") refl, tt)))
+after_denotes : Denotes (HoldsFrom 0 strict_items) 2 strict_sum
+after_denotes = (3 ∷ 1 ∷ [], (omega arith, refl), ((0 ∷ [], (omega arith, refl), (column_denotes strict_items 0 (codes "a") refl, tt)), (column_denotes strict_items 1 (codes "b") refl, tt)))
 
-wide_denotes : Denotes (HoldsFrom 0 wide) 2 (sum (cast_to (Integer true 64) a) (cast_to (Integer true 64) b))
+wide_denotes : Denotes (HoldsFrom 0 wide) 2 (binary Plus (cast_to int64 a) (cast_to int64 b))
 wide_denotes = (3 ∷ 4 ∷ [], (omega arith, refl), ((0 ∷ [], (omega arith, refl), (column_denotes wide 0 (codes "a") refl, tt)), ((1 ∷ [], (omega arith, refl), (column_denotes wide 1 (codes "b") refl, tt)), tt)))
 
-turned_denotes : Denotes (HoldsFrom 0 turned) 2 (sum b (cast_to (Integer true 32) a))
+turned_denotes : Denotes (HoldsFrom 0 turned) 2 (binary Plus b (cast_to int32 a))
 turned_denotes = (1 ∷ 3 ∷ [], (omega arith, refl), (column_denotes turned 1 (codes "b") refl, ((0 ∷ [], (omega arith, refl), (column_denotes turned 0 (codes "a") refl, tt)), tt)))
 
 no_item : {A : Type 0} (n : ℕ) (x : A) → slice_get [] n ≡ Some x → ⊥
 no_item n x e = cc
 
-no_node : (n : ℕ) (t : Expression) → Denotes (HoldsFrom 0 before) (suc (suc (suc n))) t → ⊥
+no_node : (n : ℕ) (t : Expression) → Denotes (HoldsFrom 0 sum_items) (suc (suc (suc n))) t → ⊥
 no_node n (node op ts) d = no_item n _ d.1.1
 
 -- the columns stay, and the sum becomes one that says the same
-kept : (n : ℕ) (t : Expression) → Denotes (HoldsFrom 0 before) n t → DenotesSame [] schema 0 after n t
-kept zero t d = subst (DenotesSame [] schema 0 after 0) (sym (one_tree 0 before 0 t a d (column_denotes before 0 (codes "a") refl)))
-    (record { tree = a; denotes = column_denotes after 0 (codes "a") refl; same = record { typing = refl; name = refl; meaning = λ rows. refl } })
-kept (suc zero) t d = subst (DenotesSame [] schema 0 after 1) (sym (one_tree 0 before 1 t b d (column_denotes before 1 (codes "b") refl)))
-    (record { tree = b; denotes = column_denotes after 1 (codes "b") refl; same = record { typing = refl; name = refl; meaning = λ rows. refl } })
-kept (suc (suc zero)) t d = subst (DenotesSame [] schema 0 after 2) (sym (one_tree 0 before 2 t (sum a b) d before_denotes))
-    (record { tree = sum (cast_to (Integer true 32) a) b; denotes = after_denotes; same = record { typing = refl; name = refl; meaning = λ rows. refl } })
+kept : (n : ℕ) (t : Expression) → Denotes (HoldsFrom 0 sum_items) n t → DenotesSame [] two_columns 0 strict_items n t
+kept zero t d = subst (DenotesSame [] two_columns 0 strict_items 0) (sym (one_tree 0 sum_items 0 t a d (column_denotes sum_items 0 (codes "a") refl)))
+    (record { tree = a; denotes = column_denotes strict_items 0 (codes "a") refl; same = record { typing = refl; name = refl; meaning = λ rows. refl } })
+kept (suc zero) t d = subst (DenotesSame [] two_columns 0 strict_items 1) (sym (one_tree 0 sum_items 1 t b d (column_denotes sum_items 1 (codes "b") refl)))
+    (record { tree = b; denotes = column_denotes strict_items 1 (codes "b") refl; same = record { typing = refl; name = refl; meaning = λ rows. refl } })
+kept (suc (suc zero)) t d = subst (DenotesSame [] two_columns 0 strict_items 2) (sym (one_tree 0 sum_items 2 t sum d before_denotes))
+    (record { tree = strict_sum; denotes = after_denotes; same = record { typing = refl; name = refl; meaning = λ rows. refl } })
 kept (suc (suc (suc n))) t d = absurd (no_node n t d)
 
 pub returns-clause-cast : goal.returns-clause-cast
 returns-clause-cast c = record {
   below = λ n op inputs absent h. absurd (absent (omega arith));
   trees = kept;
-  strict = ((sum (cast_to (Integer true 32) a) b, after_denotes, sum_strict), tt);
+  strict = ((strict_sum, after_denotes, sum_strict), tt);
 }
 
 pub returns-clause-unchanged : goal.returns-clause-unchanged
 returns-clause-unchanged c = λ coerced.
-    let type = Integer true 32 in
-    let strict = strict_root [] schema 0 before 2 (sum a b) coerced.strict.0 before_denotes in
-    let same : false ≡ true = (strict_as [] schema (BinaryOp Plus) (more a (more b no_more)) (of_type (Integer true 8) ∷ of_type type ∷ []) (record { operands = type ∷ type ∷ []; type = type }) strict.0 refl refl).0 in
+    let type = int32 in
+    let strict = strict_root [] two_columns 0 sum_items 2 sum coerced.strict.0 before_denotes in
+    let same : false ≡ true = (strict_as [] two_columns (BinaryOp Plus) (more a (more b no_more)) (of_type int8 ∷ of_type type ∷ []) (record { operands = type ∷ type ∷ []; type = type }) strict.0 refl refl).0 in
     cc
 
 pub returns-clause-both_to_another_type : goal.returns-clause-both_to_another_type
 returns-clause-both_to_another_type c = λ coerced.
-    let tree = sum (cast_to (Integer true 64) a) (cast_to (Integer true 64) b) in
-    let same = same_tree [] schema 0 wide 2 (sum a b) tree (coerced.trees 2 (sum a b) before_denotes) wide_denotes in
-    let one = ok_same (typing [] schema tree) (of_type (Integer true 64)) (of_type (Integer true 32)) refl same.typing in
-    let differs : true ≡ false = ap (λ t. same_type (Integer true 64) t.type) one in
+    let tree = binary Plus (cast_to int64 a) (cast_to int64 b) in
+    let same = same_tree [] two_columns 0 wide 2 sum tree (coerced.trees 2 sum before_denotes) wide_denotes in
+    let one = ok_same (typing [] two_columns tree) (of_type int64) (of_type int32) refl same.typing in
+    let differs : true ≡ false = ap (λ t. same_type int64 t.type) one in
     cc
 
 -- the sum has the name of the other column
 pub returns-clause-turned_round : goal.returns-clause-turned_round
 returns-clause-turned_round c = λ coerced.
-    other_name (same_tree [] schema 0 turned 2 (sum a b) (sum b (cast_to (Integer true 32) a)) (coerced.trees 2 (sum a b) before_denotes) turned_denotes).name
+    other_name (same_tree [] two_columns 0 turned 2 sum (binary Plus b (cast_to int32 a)) (coerced.trees 2 sum before_denotes) turned_denotes).name
 
 pub returns-clause-number_left : goal.returns-clause-number_left
 returns-clause-number_left c = λ coerced.
@@ -138,9 +110,9 @@ returns-clause-other_item_below c = λ stays.
 
 pub returns-clause-other_tree : goal.returns-clause-other_tree
 returns-clause-other_tree c = λ stays.
-    other_name (same_tree [] ((codes "a", Integer true 8) ∷ (codes "b", Integer true 8) ∷ []) 0 (Column (codes "b") ∷ []) 0 a b (stays.trees 0 a ([], (omega arith, refl), tt)) ([], (omega arith, refl), tt)).name
+    other_name (same_tree [] (columns_of int8 int8) 0 (Column (codes "b") ∷ []) 0 a b (stays.trees 0 a ([], (omega arith, refl), tt)) ([], (omega arith, refl), tt)).name
 
-kept_first : (n : ℕ) (op : Op) (inputs : List ℕ) → ¬ (1 ≤ n) → HoldsExpression (Column (codes "a") ∷ Column (codes "b") ∷ []) n op inputs → HoldsExpression (Column (codes "a") ∷ Column (codes "c") ∷ []) n op inputs
+kept_first : (n : ℕ) (op : Op) (inputs : List ℕ) → ¬ (1 ≤ n) → HoldsExpression (columns_and []) n op inputs → HoldsExpression (Column (codes "a") ∷ Column (codes "c") ∷ []) n op inputs
 kept_first zero op inputs below h = h
 kept_first (suc n) op inputs below h = absurd (below (omega arith))
 
@@ -152,4 +124,4 @@ returns-clause-same c = record { tree = a; denotes = ([], (omega arith, refl), t
 
 pub returns-clause-not_same : goal.returns-clause-not_same
 returns-clause-not_same c = λ found.
-    other_name (same_tree [] ((codes "a", Integer true 8) ∷ (codes "b", Integer true 8) ∷ []) 0 (Column (codes "b") ∷ []) 0 a b found ([], (omega arith, refl), tt)).name
+    other_name (same_tree [] (columns_of int8 int8) 0 (Column (codes "b") ∷ []) 0 a b found ([], (omega arith, refl), tt)).name

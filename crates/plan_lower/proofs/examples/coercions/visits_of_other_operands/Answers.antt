@@ -1,30 +1,14 @@
-use Rattle.std.proofs.Common.{List, [], ◌∷◌, codes, true, refl, arith}
-use Rattle.plan_types.specs.Types.{Ty, Truth, Integer, TextType, DatetimeType, DurationType}
-use Rattle.plan_types.specs.Schemas.{Columns}
+use Rattle.std.proofs.Common.{[], ◌∷◌, refl, arith}
+use Rattle.plan_types.specs.Types.{Truth, TextType, DatetimeType, DurationType}
 use Rattle.plan_types.specs.declared.dtype.DataType.TheVariants as dtype
 use Rattle.plan_types.specs.declared.dtype.TimeUnit.TheVariants.{Nanoseconds, Microseconds, Milliseconds}
-use Rattle.plan_types.specs.declared.dtype.CastOptions.TheVariants.{NonStrict}
 use Rattle.plan_dsl.specs.declared.operator.Operator.TheVariants.{Eq, Plus}
-use Rattle.plan_dsl.specs.Trees.{node, no_more, more}
-use Rattle.plan_dsl.specs.Ops.{ColumnOp, BinaryOp, CastOp, Expression}
-use Rattle.plan_dsl.specs.Typing.{Typed}
+use Rattle.plan_dsl.specs.Trees.{no_more, more}
+use Rattle.plan_dsl.specs.Ops.{BinaryOp}
 use Rattle.plan_dsl.specs.OperatorTypes.{pair_to}
-use Rattle.plan_arena.specs.declared.aexpr.AExpr.{AExpr}
-use Rattle.plan_arena.specs.declared.aexpr.AExpr.TheVariants.{Column, BinaryExpr, Cast}
+use Rattle.plan_lower.specs.Samples.{int8, columns_of, of_type, a, b, binary, cast_to, pair, cast_of, columns_and}
 use Rattle.plan_lower.proofs.ExampleLemmas.{visited}
 use Rattle.plan_lower.proofs.examples.coercions.visits_of_other_operands.Goals as goal
-
-abbrev a : Expression
-a = node (ColumnOp (codes "a")) no_more
-
-abbrev b : Expression
-b = node (ColumnOp (codes "b")) no_more
-
-abbrev cast_to : Ty → Expression → Expression
-cast_to type tree = node (CastOp type NonStrict) (more tree no_more)
-
-abbrev of_type : Ty → Typed
-of_type type = record { type = type; many = true }
 
 pub returns-clause-span_in_another_unit : goal.returns-clause-span_in_another_unit
 returns-clause-span_in_another_unit c = let moment = DatetimeType Microseconds in let span = DurationType Microseconds in record {
@@ -40,11 +24,10 @@ returns-clause-span_in_another_unit c = let moment = DatetimeType Microseconds i
 -- there is no such cast
 pub returns-clause-span_as_a_moment : goal.returns-clause-span_as_a_moment
 returns-clause-span_as_a_moment c = λ v.
-    let schema : Columns = (codes "a", DatetimeType Microseconds) ∷ (codes "b", DurationType Nanoseconds) ∷ [] in
-    let items : List AExpr = Column (codes "a") ∷ Column (codes "b") ∷ BinaryExpr (record { 0 = 0 }) Plus (record { 0 = 3 }) ∷ Cast (record { 0 = 1 }) (dtype.Datetime Microseconds) NonStrict ∷ [] in
-    let before = node (BinaryOp Plus) (more a (more b no_more)) in
-    let after = node (BinaryOp Plus) (more a (more (cast_to (DatetimeType Microseconds) b) no_more)) in
-    let says = visited [] schema 0 items 2 before after v (0 ∷ 3 ∷ [], (omega arith, refl), (([], (omega arith, refl), tt), ((1 ∷ [], (omega arith, refl), (([], (omega arith, refl), tt), tt)), tt))) in
+    let schema = columns_of (DatetimeType Microseconds) (DurationType Nanoseconds) in
+    let items = columns_and (pair 0 Plus 3 ∷ cast_of 1 (dtype.Datetime Microseconds) ∷ []) in
+    let after = binary Plus a (cast_to (DatetimeType Microseconds) b) in
+    let says = visited [] schema 0 items 2 (binary Plus a b) after v (0 ∷ 3 ∷ [], (omega arith, refl), (([], (omega arith, refl), tt), ((1 ∷ [], (omega arith, refl), (([], (omega arith, refl), tt), tt)), tt))) in
     let typed = says.1.types in
     cc
 
@@ -71,7 +54,7 @@ returns-clause-truth_value_beside_a_text c = record {
 }
 
 pub returns-clause-null_beside_a_number : goal.returns-clause-null_beside_a_number
-returns-clause-null_beside_a_number c = let type = Integer true 8 in record {
+returns-clause-null_beside_a_number c = let type = int8 in record {
   op = BinaryOp Eq;
   inputs = 3 ∷ 1 ∷ [];
   children = more (cast_to type a) (more b no_more);

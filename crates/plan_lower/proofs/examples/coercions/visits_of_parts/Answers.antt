@@ -1,32 +1,17 @@
-use Rattle.std.proofs.Common.{◌≡◌, List, [], ◌∷◌, codes, true, false, Some, refl, ap, arith}
-use Rattle.plan_types.specs.Types.{Ty, Truth, Integer, TextType, ListType, StructType, no_field, with_field}
-use Rattle.plan_types.specs.Schemas.{Columns}
+use Rattle.std.proofs.Common.{◌≡◌, [], ◌∷◌, codes, true, false, Some, refl, ap, arith}
+use Rattle.plan_types.specs.Types.{Truth, TextType, ListType}
 use Rattle.plan_types.specs.declared.dtype.CastOptions.TheVariants.{NonStrict}
 use Rattle.plan_dsl.specs.declared.operator.Operator.TheVariants.{Eq}
-use Rattle.plan_dsl.specs.Trees.{node, no_more, more}
-use Rattle.plan_dsl.specs.Ops.{ColumnOp, BinaryOp, CastOp, Expression}
-use Rattle.plan_dsl.specs.Typing.{Typed}
+use Rattle.plan_dsl.specs.Trees.{no_more, more}
+use Rattle.plan_dsl.specs.Ops.{BinaryOp, CastOp}
 use Rattle.plan_dsl.specs.OperatorTypes.{Taken, pair_to}
 use Rattle.plan_arena.specs.Layers.{layer}
-use Rattle.plan_arena.specs.declared.aexpr.AExpr.{AExpr}
-use Rattle.plan_arena.specs.declared.aexpr.AExpr.TheVariants.{Column, BinaryExpr}
+use Rattle.plan_lower.specs.Samples.{int8, int64, columns_of, struct_of, of_type, a, b, binary, cast_to, pair, columns_and}
 use Rattle.plan_lower.proofs.ExampleLemmas.{visited, strict_as}
 use Rattle.plan_lower.proofs.examples.coercions.visits_of_parts.Goals as goal
 
-abbrev a : Expression
-a = node (ColumnOp (codes "a")) no_more
-
-abbrev b : Expression
-b = node (ColumnOp (codes "b")) no_more
-
-abbrev cast_to : Ty → Expression → Expression
-cast_to type tree = node (CastOp type NonStrict) (more tree no_more)
-
-abbrev of_type : Ty → Typed
-of_type type = record { type = type; many = true }
-
 pub returns-clause-lists : goal.returns-clause-lists
-returns-clause-lists c = λ target is. let type = ListType (Integer true 64) in record {
+returns-clause-lists c = λ target is. let type = ListType int64 in record {
   op = BinaryOp Eq;
   inputs = 3 ∷ 1 ∷ [];
   children = more (cast_to type a) (more b no_more);
@@ -37,7 +22,7 @@ returns-clause-lists c = λ target is. let type = ListType (Integer true 64) in 
 }
 
 pub returns-clause-structs : goal.returns-clause-structs
-returns-clause-structs c = λ target is. let type = StructType (with_field (codes "x") TextType no_field) in record {
+returns-clause-structs c = λ target is. let type = struct_of (codes "x") TextType in record {
   op = BinaryOp Eq;
   inputs = 0 ∷ 3 ∷ [];
   children = more a (more (cast_to type b) no_more);
@@ -50,11 +35,10 @@ returns-clause-structs c = λ target is. let type = StructType (with_field (code
 -- the left operand isn't of the common type
 pub returns-clause-not_cast : goal.returns-clause-not_cast
 returns-clause-not_cast c = λ v.
-    let common = ListType (Integer true 64) in
-    let schema : Columns = (codes "a", ListType (Integer true 8)) ∷ (codes "b", common) ∷ [] in
-    let items : List AExpr = Column (codes "a") ∷ Column (codes "b") ∷ BinaryExpr (record { 0 = 0 }) Eq (record { 0 = 1 }) ∷ [] in
-    let tree = node (BinaryOp Eq) (more a (more b no_more)) in
-    let says = visited [] schema 0 items 2 tree tree v (0 ∷ 1 ∷ [], (omega arith, refl), (([], (omega arith, refl), tt), (([], (omega arith, refl), tt), tt))) in
+    let common = ListType int64 in
+    let schema = columns_of (ListType int8) common in
+    let tree = binary Eq a b in
+    let says = visited [] schema 0 (columns_and (pair 0 Eq 1 ∷ [])) 2 tree tree v (0 ∷ 1 ∷ [], (omega arith, refl), (([], (omega arith, refl), tt), (([], (omega arith, refl), tt), tt))) in
     let taken : Taken = pair_to common common Truth in
-    let same : false ≡ true = (strict_as [] schema (BinaryOp Eq) (more a (more b no_more)) (of_type (ListType (Integer true 8)) ∷ of_type common ∷ []) taken says.1 refl refl).0 in
+    let same : false ≡ true = (strict_as [] schema (BinaryOp Eq) (more a (more b no_more)) (of_type (ListType int8) ∷ of_type common ∷ []) taken says.1 refl refl).0 in
     cc

@@ -1,15 +1,11 @@
-use Rattle.std.proofs.Common.{◌≡◌, List, [], ◌∷◌, ◌++◌, codes, true, refl, ap}
-use Rattle.plan_types.specs.Types.{Integer}
+use Rattle.std.proofs.Common.{◌≡◌, List, [], ◌∷◌, ◌++◌, codes, refl, ap}
 use Rattle.plan_types.specs.Errors.{at_top, no_memory}
 use Rattle.plan_types.specs.declared.error.ErrorKind.TheVariants.{ColumnNotFound, Duplicate, NoMemory}
 use Rattle.plan_types.specs.declared.error.PlanError.{PlanError}
-use Rattle.plan_dsl.specs.Trees.{node, no_more}
-use Rattle.plan_dsl.specs.Ops.{ColumnOp, Expression}
+use Rattle.plan_dsl.specs.Ops.{Expression}
 use Rattle.plan_lower.specs.Projection.{RefusesOne, IsProjectionRefusal, untyped, repeated, out_of_memory, refused}
+use Rattle.plan_lower.specs.Samples.{int8, one_column, column, a}
 use Rattle.plan_lower.proofs.examples.outputs.refusals_of_projections.Goals as goal
-
-abbrev a : Expression
-a = node (ColumnOp (codes "a")) no_more
 
 pub returns-clause-no_such_column : goal.returns-clause-no_such_column
 returns-clause-no_such_column c = untyped ColumnNotFound refl refl
@@ -20,7 +16,7 @@ returns-clause-second c = record {
   tree = a;
   back = [];
   split = refl;
-  before = (codes "a", Integer true 8) ∷ [];
+  before = one_column int8;
   names = refl;
   refusal = repeated refl refl;
 }
@@ -28,7 +24,7 @@ returns-clause-second c = record {
 pub returns-clause-first : goal.returns-clause-first
 returns-clause-first c = refused (record {
   front = [];
-  tree = node (ColumnOp (codes "c")) no_more;
+  tree = column (codes "c");
   back = [];
   split = refl;
   before = [];

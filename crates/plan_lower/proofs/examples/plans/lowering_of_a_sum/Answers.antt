@@ -6,28 +6,29 @@ use Rattle.plan_arena.specs.Denotation.{Denotes}
 use Rattle.plan_arena.specs.Items.{HoldsPlan, DenotesPlan, plan_layer}
 use Rattle.plan_arena.specs.Runs.{plan_run, RunsSoundly}
 use Rattle.plan_arena.proofs.RunLemmas.{runs_soundly}
-use Rattle.plan_lower.proofs.ExamplePlanLemmas.{one_plan, query, lowered, items, layers, lowered_denotes, built}
+use Rattle.plan_lower.specs.Samples.{query, lowered_query, strict_items, sum_layers}
+use Rattle.plan_lower.proofs.ExamplePlanLemmas.{one_plan, lowered_denotes, built}
 use Rattle.plan_lower.proofs.examples.plans.lowering_of_a_sum.Goals as goal
 
-denotes : (lowering : IRPlan) → lowering.lp_top.0 ≡ 1 → lowering.expr_arena ≡ items → map plan_layer lowering.lp_arena ≡ layers → DenotesPlan lowering lowered
+denotes : (lowering : IRPlan) → lowering.lp_top.0 ≡ 1 → lowering.expr_arena ≡ strict_items → map plan_layer lowering.lp_arena ≡ sum_layers → DenotesPlan lowering lowered_query
 denotes lowering top expressions plans =
-    subst (λ n. Denotes (HoldsPlan lowering.expr_arena lowering.lp_arena) n lowered) (sym top)
-    (subst (λ es. Denotes (HoldsPlan es lowering.lp_arena) 1 lowered) (sym expressions) (lowered_denotes lowering.lp_arena plans))
+    subst (λ n. Denotes (HoldsPlan lowering.expr_arena lowering.lp_arena) n lowered_query) (sym top)
+    (subst (λ es. Denotes (HoldsPlan es lowering.lp_arena) 1 lowered_query) (sym expressions) (lowered_denotes lowering.lp_arena plans))
 
-sound : (tables : List Frame) → FitsPlan tables query → RunsSoundly [] tables lowered
-sound tables fits = runs_soundly [] tables lowered built.accepted built.strict (built.fits tables fits)
+sound : (tables : List Frame) → FitsPlan tables query → RunsSoundly [] tables lowered_query
+sound tables fits = runs_soundly [] tables lowered_query built.accepted built.strict (built.fits tables fits)
 
 pub returns-clause-typed : goal.returns-clause-typed
 returns-clause-typed c = λ lowering top expressions plans.
-    record { tree = lowered; denotes = denotes lowering top expressions plans; accepted = built.accepted; strict = built.strict; schema = built.schema }
+    record { tree = lowered_query; denotes = denotes lowering top expressions plans; accepted = built.accepted; strict = built.strict; schema = built.schema }
 
 pub returns-clause-sound : goal.returns-clause-sound
 returns-clause-sound c = λ lowering top expressions plans tree d tables fits.
-    subst (RunsSoundly [] tables) (one_plan lowering.expr_arena lowering.lp_arena lowering.lp_top.0 lowered tree (denotes lowering top expressions plans) d) (sound tables fits)
+    subst (RunsSoundly [] tables) (one_plan lowering.expr_arena lowering.lp_arena lowering.lp_top.0 lowered_query tree (denotes lowering top expressions plans) d) (sound tables fits)
 
 pub returns-clause-same_frame : goal.returns-clause-same_frame
 returns-clause-same_frame c = λ lowering top expressions plans tree d tables fits.
-    subst (λ t. plan_run [] tables t ≡ source_meaning [] tables query) (one_plan lowering.expr_arena lowering.lp_arena lowering.lp_top.0 lowered tree (denotes lowering top expressions plans) d) (built.same tables fits)
+    subst (λ t. plan_run [] tables t ≡ source_meaning [] tables query) (one_plan lowering.expr_arena lowering.lp_arena lowering.lp_top.0 lowered_query tree (denotes lowering top expressions plans) d) (built.same tables fits)
 
 pub returns-clause-all : goal.returns-clause-all
 returns-clause-all c = λ lowering top expressions plans. record {

@@ -11,7 +11,8 @@ use Rattle.plan_arena.specs.Layers.{layer}
 use Rattle.plan_arena.specs.Items.{HoldsPlan, DenotesPlan, plan_layer}
 use Rattle.plan_arena.specs.Runs.{top_schema}
 use Rattle.plan_lower.specs.Lowering.{source_select}
-use Rattle.plan_lower.proofs.ExamplePlanLemmas.{one_plan, item_at, scan_denotes, two_columns, a}
+use Rattle.plan_lower.specs.Samples.{two_columns, a}
+use Rattle.plan_lower.proofs.ExamplePlanLemmas.{one_plan, item_at, scan_denotes}
 use Rattle.plan_lower.proofs.examples.plans.no_lowerings.Goals as goal
 
 denotes : (lowering : IRPlan) (table : Option ℕ) (schema : Columns) → lowering.lp_top.0 ≡ 0 → map plan_layer lowering.lp_arena ≡ layer (scan_op table schema) [] ∷ [] → DenotesPlan lowering (node (scan_op table schema) no_more)

@@ -1,29 +1,21 @@
-use Rattle.std.proofs.Common.{◌≡◌, List, [], ◌∷◌, map, codes, Ok, Err, subst}
+use Rattle.std.proofs.Common.{◌≡◌, List, [], ◌∷◌, map, Ok, Err, subst}
 use Rattle.std.specs.List.{AllByRecursion}
 use Rattle.plan_types.specs.Types.{Truth}
-use Rattle.plan_types.specs.Schemas.{Columns}
 use Rattle.plan_types.specs.declared.error.ErrorKind.TheVariants.{ColumnNotFound}
-use Rattle.plan_dsl.specs.Trees.{node, no_more}
-use Rattle.plan_dsl.specs.Ops.{ColumnOp, Expression}
 use Rattle.plan_dsl.specs.Literals.{settled}
 use Rattle.plan_dsl.specs.Typing.{typing}
 use Rattle.plan_lower.specs.Outputs.{Lowered, IsLowered}
+use Rattle.plan_lower.specs.Samples.{one_column, c}
 use Rattle.plan_lower.proofs.examples.plans.no_nodes_for_plans.Goals as goal
 
-abbrev schema : Columns
-schema = (codes "a", Truth) ∷ []
-
-abbrev column : Expression
-column = node (ColumnOp (codes "c")) no_more
-
-first_tree : (output : Lowered) (outputs : List Lowered) → map (λ o. o.tree) (output ∷ outputs) ≡ column ∷ [] → output.tree ≡ column
+first_tree : (output : Lowered) (outputs : List Lowered) → map (λ o. o.tree) (output ∷ outputs) ≡ c ∷ [] → output.tree ≡ c
 first_tree output outputs e = cc
 
-no_outputs : (outputs : List Lowered) → map (λ o. o.tree) outputs ≡ column ∷ [] → AllByRecursion (IsLowered [] schema) outputs → ⊥
+no_outputs : (outputs : List Lowered) → map (λ o. o.tree) outputs ≡ c ∷ [] → AllByRecursion (IsLowered [] (one_column Truth)) outputs → ⊥
 no_outputs [] trees each = cc
 no_outputs (output ∷ outputs) trees each =
-    let typed : Err ColumnNotFound ≡ Ok output.typed = subst (λ t. typing [] schema (settled t) ≡ Ok output.typed) (first_tree output outputs trees) each.0.typed in
+    let typed : Err ColumnNotFound ≡ Ok output.typed = subst (λ t. typing [] (one_column Truth) (settled t) ≡ Ok output.typed) (first_tree output outputs trees) each.0.typed in
     cc
 
 pub returns-clause-select_of_no_column : goal.returns-clause-select_of_no_column
-returns-clause-select_of_no_column c = λ plans is. no_outputs is.outputs is.selects.trees_are is.selects.each
+returns-clause-select_of_no_column k = λ plans is. no_outputs is.outputs is.selects.trees_are is.selects.each

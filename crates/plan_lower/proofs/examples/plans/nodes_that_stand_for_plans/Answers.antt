@@ -4,9 +4,9 @@ use Rattle.plan_types.specs.Schemas.{Name, Columns}
 use Rattle.plan_dsl.specs.Trees.{node, no_more}
 use Rattle.plan_dsl.specs.Ops.{ColumnOp, Expression}
 use Rattle.plan_dsl.specs.Plans.{scan_op, select_op, filter_op}
-use Rattle.plan_arena.specs.declared.aexpr.AExpr.TheVariants.{Column}
 use Rattle.plan_arena.specs.Runs.{top_schema}
 use Rattle.plan_lower.specs.Outputs.{Lowered, IsLowered}
+use Rattle.plan_lower.specs.Samples.{a_items, keep_items, node_named, scan_of}
 use Rattle.plan_lower.proofs.ExampleLemmas.{column_strict}
 use Rattle.plan_lower.proofs.ExamplePlanLemmas.{one_plan, item_at, scan_denotes, built}
 use Rattle.plan_lower.proofs.examples.plans.nodes_that_stand_for_plans.Goals as goal
@@ -28,7 +28,7 @@ a_lowered = record { typed = refl; same = record { typing = refl; name = refl; m
 
 pub returns-clause-filter : goal.returns-clause-filter
 returns-clause-filter c = λ plans is.
-    let items = Column (codes "keep") ∷ [] in
+    let items = keep_items in
     let schema = truths (codes "keep") in
     let scan_at = scan_denotes items plans 0 (Some 0) schema (item_at plans _ 0 _ is refl) in
     record {
@@ -38,13 +38,13 @@ returns-clause-filter c = λ plans is.
         denotes = (
           0 ∷ [],
           record {
-            flat = filter_op (record { name = codes "keep"; expression = 0 });
+            flat = filter_op (node_named (codes "keep") 0);
             item = item_at plans _ 1 _ is refl;
             denotes = record { same_kind = refl; same_schema = refl; named = (refl, ([], refl, tt), tt) };
           },
           (scan_at, tt),
         );
-        kept = node (scan_op (Some 0) schema) no_more;
+        kept = scan_of schema;
         kept_denotes = scan_at;
         same_schema = refl;
       };
@@ -52,7 +52,7 @@ returns-clause-filter c = λ plans is.
 
 pub returns-clause-select : goal.returns-clause-select
 returns-clause-select c = λ plans is.
-    let items = Column (codes "a") ∷ [] in
+    let items = a_items in
     let schema = truths (codes "a") in
     record {
       outputs = output (codes "a") ∷ [];
@@ -60,7 +60,7 @@ returns-clause-select c = λ plans is.
       denotes = (
         0 ∷ [],
         record {
-          flat = select_op (record { name = codes "a"; expression = 0 } ∷ []) schema;
+          flat = select_op (node_named (codes "a") 0 ∷ []) schema;
           item = item_at plans _ 1 _ is refl;
           denotes = record { same_kind = refl; same_schema = refl; named = (refl, ([], refl, tt), tt) };
         },
