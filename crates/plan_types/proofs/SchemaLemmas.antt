@@ -7,8 +7,10 @@ use Rattle.std.proofs.lemmas.Bool.{or_parts}
 use Rattle.std.proofs.lemmas.Cmp.{nat_list_eq_equiv}
 use Rattle.indexmap.specs.IndexMap.{insert_entry}
 use Rattle.plan_types.specs.Types.{Ty, ty}
-use Rattle.plan_types.specs.Schemas.{Name, Columns, same_name, column_of, type_at, with_column, IsNewName, HasDistinctNames, is_among, repeats, names_of}
+use Rattle.plan_types.specs.Schemas.{Name, Columns, same_name, column_of, columns, type_at, with_column, IsNewName, HasDistinctNames, is_among, repeats, names_of}
 use Rattle.plan_types.specs.declared.dtype.DataType.{DataType}
+use Rattle.plan_types.specs.declared.schema.Schema.{Schema}
+use Rattle.plan_types.proofs.ListLemmas.{map-map}
 use Rattle.plan_types.proofs.NameLemmas.{repeats-again}
 
 -- a name's type is that of its entry
@@ -113,3 +115,13 @@ test_from_distinct (c ∷ cs) h =
 -- a name that columns have is found by the test behind theirs, whatever comes after it
 pub repeated_test : (before : Columns) (name : Name) (back : List Name) → is_some (type_at before name) ≡ true → repeats (names_of before ++ name ∷ back) ≡ true
 repeated_test before name back h = repeats-again (names_of before) name back (is_among-type_at before name ∙ h)
+
+-- a map's keys don't repeat
+pub unrepeated : (es : List (Name × DataType)) → IsDistinct same_name (keys_of es) → repeats (names_of es) ≡ false
+unrepeated es h =
+    ap repeats (sym (map-map (λ entry. entry.0) column_of es)) ∙ test_from_distinct (map column_of es) (HasDistinctNames-entries es h)
+
+-- the names of each schema are distinct
+pub schema_has_distinct_names : (schema : Schema) → HasDistinctNames (columns schema)
+schema_has_distinct_names schema =
+    distinct_from_test (columns schema) (ap repeats (map-map (λ entry. entry.0) column_of schema.fields.entries) ∙ schema.distinct)

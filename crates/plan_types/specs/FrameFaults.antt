@@ -4,7 +4,7 @@
 use Rattle.std.specs.Prelude.{◌≡◌, ◌⊎◌, ◌==◌, ◌++◌, ◌+◌, ℕ, List, [], ◌∷◌, length, map, Option, Some, None, if◌then◌else◌, slice_get, unwrap_or}
 use Rattle.std.specs.List.{range_with_len}
 use Rattle.plan_types.specs.Types.{Ty, ty}
-use Rattle.plan_types.specs.Schemas.{Name, Columns, is_among}
+use Rattle.plan_types.specs.Columns.{Name, Columns, is_among}
 use Rattle.plan_types.specs.Values.{Val, NullValue, fits}
 use Rattle.plan_types.specs.ValueViews.{val_of}
 use Rattle.plan_types.specs.Frames.{Row, Frame}

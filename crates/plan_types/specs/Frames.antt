@@ -4,7 +4,7 @@
 use Rattle.std.specs.Prelude.{◌≡◌, ℕ, List, [], ◌∷◌, length, IsTrue, if◌then◌else◌, slice_get, unwrap_or}
 use Rattle.std.specs.List.{AllByRecursion, range_with_len}
 use Rattle.plan_types.specs.Values.{Val, NullValue, fits}
-use Rattle.plan_types.specs.Schemas.{Name, Columns, same_name, HasDistinctNames}
+use Rattle.plan_types.specs.Columns.{Name, Columns, same_name, HasDistinctNames}
 
 abbrev pub Row : Type 0
 Row = List Val

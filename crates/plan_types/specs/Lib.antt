@@ -1,5 +1,6 @@
 -- What the contracts of this crate cite.
 pub mod Casts
+pub mod Columns
 pub mod CommonTypes
 pub mod Errors
 pub mod FrameFaults

@@ -5,7 +5,7 @@ use Rattle.std.specs.Prelude.{ℕ, suc, [], ◌∷◌, ◌&&◌, Option, Some, N
 use Rattle.std.specs.Option.{option_map}
 use Rattle.plan_types.specs.Types.{Ty}
 use Rattle.plan_types.specs.Supertypes.{supertype}
-use Rattle.plan_types.specs.Schemas.{Name, Columns, same_name}
+use Rattle.plan_types.specs.Columns.{Name, Columns, same_name}
 use Rattle.plan_types.specs.declared.error.ErrorKind.{ErrorKind}
 use Rattle.plan_types.specs.declared.error.ErrorKind.TheVariants.{SchemaMismatch, InvalidOperation}
 

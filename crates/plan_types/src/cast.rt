@@ -4,12 +4,12 @@ ghost use Rattle.std.specs.Fmt.{signed_decimal};
 ghost use Rattle.std.specs.Int.{int_div_euclid, w128};
 ghost use Rattle.plan_types.specs.Errors.{no_memory};
 ghost use Rattle.plan_types.specs.Casts.{Gives, can_cast, can_cast_fields, cast, cast_items, cast_parts, integer_to, no_place, number_in, number_to, placed, text_to, truth_text, truth_to, wrapped};
-ghost use Rattle.plan_types.specs.Types.{fields_in, ty, is_integer, is_text};
+ghost use Rattle.plan_types.specs.Types.{fields_in, per_day, ty, is_integer, is_text};
 ghost use Rattle.plan_types.specs.Values.{fits, in_range, items_fit, parts_fit};
 ghost use Rattle.plan_types.specs.ValueViews.{parts_of, val_of, values_in, IsCastError, IsPartsError};
 
-use crate::dtype::{CastOptions, DataType};
-use crate::error::PlanError;
+use crate::dtype::{CastOptions, DataType, TimeUnit};
+use crate::error::{ErrorKind, PlanError};
 use crate::field::Field;
 use crate::text::PlSmallStr;
 use crate::value::{Parts, Value};
@@ -49,14 +49,15 @@ impl<T: Drop> From<AllocFailed<T>> for CastError {
     }
 }
 
-impl From<PlanError> for CastError {
-    ghost use Rattle.std.specs.Prelude.{◌≡◌};
-    ghost use Rattle.plan_types.specs.declared.cast.CastError.TheVariants.{NoMemory};
-
-    ghost from_gives = { λ _ error. error ≡ NoMemory };
-
-    fn from(_error: PlanError) -> CastError {
-        CastError::NoMemory
+// Want of memory, where nothing else can come.
+fn out_of_memory(error: PlanError) -> CastError
+    requires { error ≡ no_memory }
+    ensures { result ≡ CastError.NoMemory }
+{
+    let PlanError { kind, place: _ } = error;
+    match kind {
+        ErrorKind::NoMemory => CastError::NoMemory,
+        _other => unreachable!(),
     }
 }
 
@@ -226,7 +227,7 @@ fn truth_to(
     match to {
         DataType::Boolean => Ok(Value::Boolean(truth)),
         DataType::String => {
-            let text = truth_text(alloc, truth)?;
+            let text = truth_text(alloc, truth).map_err(out_of_memory)?;
             Ok(Value::Text(text))
         }
         _other => {
@@ -294,7 +295,7 @@ fn integer_to(
         return Ok(Value::Boolean(number != 0));
     }
     if matches!(to, DataType::String) {
-        let text = digits(alloc, number)?;
+        let text = digits(alloc, number).map_err(out_of_memory)?;
         return Ok(Value::Text(text));
     }
     let overflows = matches!(options, CastOptions::Overflowing) && to.is_integer();
@@ -324,7 +325,7 @@ fn text_to(
     ensures err { IfErr result (IsCastError (text_to text.now (ty to.now) options)) }
 {
     if matches!(to, DataType::String) {
-        let text = text.try_clone(alloc)?;
+        let text = text.try_clone(alloc).map_err(out_of_memory)?;
         return Ok(Value::Text(text));
     }
     if !to.is_integer() {
@@ -371,8 +372,8 @@ fn no_place(options: CastOptions) -> Result<Value, CastError>
 
 // A number of so many to a day, counted in another number to a day and rounded down.
 fn rescaled(from: i128, target: i128, number: i128) -> i128
-    requires from { (pos 0 <ℤ from) × (from ≤ℤ pos 86400000000000) }
-    requires target { (pos 0 <ℤ target) × (target ≤ℤ pos 86400000000000) }
+    requires from { (pos 0 <ℤ from) × (from ≤ℤ pos (per_day TimeUnit.Nanoseconds)) }
+    requires target { (pos 0 <ℤ target) × (target ≤ℤ pos (per_day TimeUnit.Nanoseconds)) }
     requires number { (neg_ℤ (pos 9223372036854775808) ≤ℤ number) × (number ≤ℤ pos 9223372036854775807) }
     ensures { result ≡ int_div_euclid (number *ℤ target) from }
 {

@@ -2,7 +2,7 @@
 ghost use Rattle.std.specs.Prelude.{◌≡◌, IfOk, IfErr, Some, None, Ok};
 ghost use Rattle.std.specs.Option.{option_map};
 ghost use Rattle.plan_types.specs.CommonTypes.{literal_type, least_signed, least_unsigned, own_type, type_beside, common_type};
-ghost use Rattle.plan_types.specs.Errors.{no_memory, IsMemoryOr, IsRefusal};
+ghost use Rattle.plan_types.specs.Errors.{IsMemoryOr, IsRefusal};
 ghost use Rattle.plan_types.specs.Types.{ty};
 
 use crate::dtype::DataType;
@@ -27,25 +27,18 @@ pub fn materialize_dyn_int(number: i128) -> Option<DataType>
 
 /// The type of a number beside an operand of that type: an integer type that has the number stays, and else the
 /// least that has it is taken. Beside any other type a number has the type that it has alone.
-pub fn own_type(
-    alloc: Global,
-    number: i128,
-    beside: &DataType,
-) -> Result<Option<DataType>, PlanError>
-    ensures ok { IfOk result (λ found. option_map ty found ≡ own_type number (ty beside.now)) }
-    ensures err { IfErr result (λ error. error ≡ no_memory) }
+pub(crate) fn own_type(number: i128, beside: &DataType) -> Option<DataType>
+    ensures { option_map ty result ≡ own_type number (ty beside.now) }
 {
     if !beside.is_integer() {
-        return Ok(materialize_dyn_int(number));
+        materialize_dyn_int(number)
+    } else if beside.has_number(number) {
+        beside.bare_copy()
+    } else if beside.is_signed_integer() || number < 0 {
+        least_signed(number)
+    } else {
+        least_unsigned(number)
     }
-    if beside.has_number(number) {
-        let own = beside.try_clone(alloc)?;
-        return Ok(Some(own));
-    }
-    if beside.is_signed_integer() || number < 0 {
-        return Ok(least_signed(number));
-    }
-    Ok(least_unsigned(number))
 }
 
 // The least signed type, and UInt64 where no signed one has the number.
@@ -110,7 +103,7 @@ pub fn type_beside(
         let own = operand.try_clone(alloc)?;
         return Ok(own);
     };
-    match own_type(alloc, number, other)? {
+    match own_type(number, other) {
         Some(own) => Ok(own),
         None => Err(PlanError::at_top(ErrorKind::InvalidOperation)),
     }

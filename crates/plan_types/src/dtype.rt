@@ -39,7 +39,7 @@ pub enum TimeUnit {
 
 impl TimeUnit {
     /// How many of the unit a day has.
-    pub fn per_day(self) -> i128
+    pub(crate) fn per_day(self) -> i128
         ensures { result ≡ pos (per_day self) }
     {
         match self {
@@ -50,7 +50,7 @@ impl TimeUnit {
     }
 
     /// The unit's place among the units, from the finest to the coarsest.
-    pub fn rank(self) -> u32
+    pub(crate) fn rank(self) -> u32
         ensures { result ≡ unit_rank self }
     {
         match self {
@@ -226,13 +226,13 @@ impl DataType {
             DataType::UInt16 => u16::try_from(number).is_ok(),
             DataType::UInt32 => u32::try_from(number).is_ok(),
             DataType::UInt64 => u64::try_from(number).is_ok(),
-            DataType::Time => number >= 0 && number < 86_400_000_000_000,
+            DataType::Time => number >= 0 && number < TimeUnit::Nanoseconds.per_day(),
             DataType::Unknown(UnknownKind::Int(own)) => *own == number,
         }
     }
 
     /// How many bits a number of an integer type has, and 0 of another type.
-    pub fn width(&self) -> u32
+    pub(crate) fn width(&self) -> u32
         ensures { result ≡ width_of (ty self.now) }
     {
         match self {
@@ -347,7 +347,7 @@ impl DataType {
     }
 
     /// A copy of a type without parts.
-    pub fn bare_copy(&self) -> Option<DataType>
+    pub(crate) fn bare_copy(&self) -> Option<DataType>
         ensures { MatchOption result (is_bare (ty self.now) ≡ false) (λ copy. ty copy ≡ ty self.now) }
     {
         Some(match self {
@@ -450,7 +450,7 @@ fn is_datetime_in(dtype: &DataType, unit: TimeUnit) -> bool
     ensures { result ≡ same_type (DatetimeType unit) (ty dtype.now) }
 {
     match dtype {
-        DataType::Datetime(own) => unit.rank() == own.rank(),
+        DataType::Datetime(own) => unit == *own,
         _ => false,
     }
 }
@@ -460,7 +460,7 @@ fn is_duration_in(dtype: &DataType, unit: TimeUnit) -> bool
     ensures { result ≡ same_type (DurationType unit) (ty dtype.now) }
 {
     match dtype {
-        DataType::Duration(own) => unit.rank() == own.rank(),
+        DataType::Duration(own) => unit == *own,
         _ => false,
     }
 }

@@ -2,6 +2,7 @@
 ghost use Rattle.std.specs.Prelude.{◌≡◌, ◌<◌, [], ◌∷◌, IfOk, length, slice_index};
 
 use std::alloc::{AllocError, AllocFailed, Global};
+use std::fmt;
 use std::marker::Model;
 use thiserror::Error;
 
@@ -78,9 +79,22 @@ impl Place {
     }
 }
 
+/// A dot and its number for each step from the top down, and a dot alone at the top.
+impl fmt::Display for Place {
+    fn fmt<W: fmt::Write>(&self, f: &mut fmt::Formatter<W>) -> fmt::Result {
+        if self.depth() == 0 {
+            f.write_str(".")?;
+        }
+        for number in 0..self.depth() {
+            write!(f, ".{}", self.step(number))?;
+        }
+        Ok(())
+    }
+}
+
 /// A refusal: the rule, and the place of the node that breaks it.
 #[derive(Debug, Drop, Error)]
-#[error("{kind:?} at {place:?}")]
+#[error("{kind:?} at {place}")]
 pub struct PlanError {
     pub kind: ErrorKind,
     pub place: Place,

@@ -6,7 +6,7 @@ ghost use Rattle.plan_types.specs.Schemas.{columns as schema_columns, with_colum
 ghost use Rattle.plan_types.specs.Types.{ty};
 
 use crate::column::Column;
-use crate::error::PlanError;
+use crate::error::{ErrorKind, PlanError};
 use crate::schema::Schema;
 use crate::text::PlSmallStr;
 use indexmap::IndexSet;
@@ -17,19 +17,19 @@ use thiserror::Error;
 #[derive(Debug, Drop, Error)]
 pub enum FrameError {
     /// A column has the name of one before it.
-    #[error("two columns are named {name:?}")]
+    #[error("two columns are named \"{name}\"")]
     Duplicate {
         name: PlSmallStr,
     },
     /// A column has another number of values than the first.
-    #[error("column {name:?} has {found} values in place of {wanted}")]
+    #[error("column \"{name}\" has {found} values in place of {wanted}")]
     Length {
         name: PlSmallStr,
         found: usize,
         wanted: usize,
     },
     /// A value doesn't fit its column's type.
-    #[error("the value of column {name:?} in row {row} doesn't fit its type")]
+    #[error("the value of column \"{name}\" in row {row} doesn't fit its type")]
     Misfit {
         name: PlSmallStr,
         row: usize,
@@ -78,8 +78,7 @@ impl Frame {
 
     /// How many rows there are.
     pub fn height(&self) -> usize
-        ensures height { result ≡ length (frame_of self.now).rows }
-        ensures frame { IsFrame (frame_of self.now) }
+        ensures { result ≡ length (frame_of self.now).rows }
     {
         height(self.columns.as_slice())
     }
@@ -150,7 +149,7 @@ fn check_names(alloc: Global, columns: &[Column]) -> Result<(), FrameError>
             return Err(FrameError::NoMemory);
         };
         if !new {
-            let name = copied(alloc, &column.name)?;
+            let name = column.name.try_clone(alloc).map_err(out_of_memory)?;
             return Err(FrameError::Duplicate { name });
         }
     }
@@ -168,14 +167,15 @@ fn add_head(alloc: Global, schema: &mut Schema, column: &Column) -> Result<(), P
     Ok(())
 }
 
-// A copy of a name, for a refusal.
-fn copied(alloc: Global, name: &PlSmallStr) -> Result<PlSmallStr, FrameError>
-    ensures ok { IfOk result (λ copy. copy ≡ name.now) }
-    ensures err { IfErr result (λ error. error ≡ FrameError.NoMemory) }
+// Want of memory, where nothing else can come.
+fn out_of_memory(error: PlanError) -> FrameError
+    requires { error ≡ no_memory }
+    ensures { result ≡ FrameError.NoMemory }
 {
-    match name.try_clone(alloc) {
-        Ok(copy) => Ok(copy),
-        Err(_) => Err(FrameError::NoMemory),
+    let PlanError { kind, place: _ } = error;
+    match kind {
+        ErrorKind::NoMemory => FrameError::NoMemory,
+        _other => unreachable!(),
     }
 }
 
@@ -188,7 +188,7 @@ fn check_lengths(alloc: Global, columns: &[Column]) -> Result<(), FrameError>
     for column in columns {
         let found = column.values.items.len();
         if found != wanted {
-            let name = copied(alloc, &column.name)?;
+            let name = column.name.try_clone(alloc).map_err(out_of_memory)?;
             return Err(FrameError::Length {
                 name,
                 found,
@@ -218,7 +218,7 @@ fn check_column(alloc: Global, column: &Column) -> Result<(), FrameError>
     let values = column.values.items.as_slice();
     for row in 0..values.len() {
         if !values[row].fits(&column.dtype) {
-            let name = copied(alloc, &column.name)?;
+            let name = column.name.try_clone(alloc).map_err(out_of_memory)?;
             return Err(FrameError::Misfit { name, row });
         }
     }

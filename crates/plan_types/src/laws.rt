@@ -3,11 +3,17 @@
 ghost use Rattle.std.specs.Prelude.{◌≡◌, ◌≢◌, ◌⊎◌, ℤ, true, Some, Ok};
 ghost use Rattle.plan_types.specs.Types.{Ty, Untyped, is_integer, is_known};
 ghost use Rattle.plan_types.specs.Casts.{Gives, Fails, can_cast, cast};
+ghost use Rattle.plan_types.specs.Columns.{HasDistinctNames};
 ghost use Rattle.plan_types.specs.CommonTypes.{common_type, type_beside};
+ghost use Rattle.plan_types.specs.FrameViews.{frame_of};
+ghost use Rattle.plan_types.specs.Frames.{IsFrame};
+ghost use Rattle.plan_types.specs.Schemas.{columns};
 ghost use Rattle.plan_types.specs.Supertypes.{supertype};
 ghost use Rattle.plan_types.specs.Values.{Val, fits, in_range};
 ghost use Rattle.plan_types.specs.declared.dtype.CastOptions.{CastOptions};
 ghost use Rattle.plan_types.specs.declared.dtype.CastOptions.TheVariants.{Strict};
+ghost use Rattle.plan_types.specs.declared.frame.Frame.{Frame};
+ghost use Rattle.plan_types.specs.declared.schema.Schema.{Schema};
 
 /// A common type doesn't depend on the order, a type has itself with itself, and a common type of integers has each
 /// number that one of the two has. There is a cast from each of two types to their common type.
@@ -40,4 +46,11 @@ pub fn cast_laws()
     ensures fits { (value converted : Val) (from target : Ty) (options : CastOptions) → fits value from ≡ true → can_cast from target ≡ true
         → cast value from target options ≡ Gives converted → fits converted target ≡ true }
     ensures own { (a : Ty) → is_known a ≡ true → can_cast a a ≡ true }
+{}
+
+/// The names of each schema are distinct, and each frame is one: its names are distinct, its values fit their columns'
+/// types, and without columns it has no rows.
+pub fn frame_laws()
+    ensures schema { (schema : Schema) → HasDistinctNames (columns schema) }
+    ensures frame { (frame : Frame) → IsFrame (frame_of frame) }
 {}

@@ -1,10 +1,10 @@
 //! Schemas: the columns of a frame, in order.
-ghost use Rattle.std.specs.Prelude.{◌≡◌, ◌≢◌, ◌↔◌, ◌≤◌, ℕ, List, [], length, insert, true, not, Ok, None, is_some, slice_get, IsTrue, IfOk, IfErr, OnOk, OnErr, Some};
+ghost use Rattle.std.specs.Prelude.{◌≡◌, ◌≢◌, ◌↔◌, ◌≤◌, ℕ, List, [], length, insert, true, false, not, Ok, None, is_some, slice_get, IsTrue, IfOk, IfErr, OnOk, OnErr, Some};
 ghost use Rattle.std.specs.Bool.{Decides};
 ghost use Rattle.std.specs.Option.{option_map};
 ghost use Rattle.std.specs.Map.Iter.{ShowsInOrder, deref};
 ghost use Rattle.plan_types.specs.Errors.{at_top, no_memory, IsMemoryOr, IsRefusal};
-ghost use Rattle.plan_types.specs.Schemas.{all_known, columns, type_at, with_column, names_of, IsNewName, HasDistinctNames};
+ghost use Rattle.plan_types.specs.Columns.{all_known, names_of, repeats, type_at, with_column, IsNewName};
 ghost use Rattle.plan_types.specs.SchemaCalls.{column_at, same_names, common_columns, super_columns};
 ghost use Rattle.plan_types.specs.Types.{ty};
 
@@ -20,9 +20,12 @@ use std::alloc::Global;
 #[derive(Drop)]
 pub struct Schema {
     fields: IndexMap<PlSmallStr, DataType>,
+    ghost distinct: { repeats (names_of fields.entries) ≡ false },
 }
 
 impl Schema {
+    ghost use Rattle.plan_types.specs.Schemas.{columns};
+
     /// A schema without columns.
     pub fn new(alloc: Global) -> Schema
         ensures { columns result ≡ [] }
@@ -34,8 +37,7 @@ impl Schema {
 
     /// How many columns there are.
     pub fn len(&self) -> usize
-        ensures len { result ≡ length (columns self.now) }
-        ensures distinct { HasDistinctNames (columns self.now) }
+        ensures { result ≡ length (columns self.now) }
     {
         self.fields.len()
     }

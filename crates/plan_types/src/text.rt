@@ -6,6 +6,7 @@ ghost use Rattle.plan_types.specs.Errors.{no_memory};
 use crate::error::PlanError;
 use std::alloc::Global;
 use std::cmp::Ordering;
+use std::fmt;
 use std::hash::{Hash, Hasher};
 use std::marker::Model;
 
@@ -45,6 +46,12 @@ impl PlSmallStr {
         ensures err { IfErr result (λ error. error ≡ no_memory) }
     {
         PlSmallStr::new(alloc, self.as_str())
+    }
+}
+
+impl fmt::Display for PlSmallStr {
+    fn fmt<W: fmt::Write>(&self, f: &mut fmt::Formatter<W>) -> fmt::Result {
+        f.write_str(self.as_str())
     }
 }
 

@@ -1,7 +1,7 @@
 //! Plans to nodes of an arena.
 ghost use Rattle.std.specs.Prelude.{◌≡◌, ◌<◌, ◌⊎◌, ℕ, true, false, List, [], ◌∷◌, length, map, slice_get, Some, OnOk, IfOk, IfErr};
 ghost use Rattle.plan_types.specs.Errors.{no_memory, IsMemoryOr};
-ghost use Rattle.plan_types.specs.Schemas.{columns, all_known, HasDistinctNames};
+ghost use Rattle.plan_types.specs.Schemas.{columns, all_known};
 ghost use Rattle.plan_dsl.specs.Expressions.{tree_of};
 ghost use Rattle.plan_dsl.specs.Ops.{Op};
 ghost use Rattle.plan_dsl.specs.Plans.{Plan, plan_tree, trees_of, scan_op};
@@ -106,12 +106,10 @@ fn lower_scan(
     schema: Schema,
     lp_arena: &mut Arena<IR>,
 ) -> Result<Node, PlanError>
-    ensures distinct { HasDistinctNames (columns schema) }
     ensures known { OnOk result (all_known (columns schema) ≡ true) }
     ensures ok { IfOk result (λ node. slice_get (map plan_layer lp_arena.new) node.0 ≡ Some (layer (scan_op table (columns schema)) [])) }
     ensures err { IfErr result (IsMemoryOr ErrorKind.InvalidOperation (all_known (columns schema) ≡ false)) }
 {
-    let _width = schema.len();
     if !schema.is_known() {
         return Err(PlanError::at_top(ErrorKind::InvalidOperation));
     }

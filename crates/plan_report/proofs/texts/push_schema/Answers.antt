@@ -8,7 +8,7 @@ use Rattle.plan_report.proofs.texts.push_schema.Goals.{in-Some+in_ok-push_field,
 pub loop-index-preserved : goal.loop-index-preserved
 loop-index-preserved c =
     let cols = columns c.args.schema.now in
-    let within : c.loop-index.index < length cols = omega (arith, c.len-index-end.ensures.len) in
+    let within : c.loop-index.index < length cols = omega (arith, c.len-index-end.ensures) in
     elim c.match-get_at_index.branch [
       | in-Some+in_ok-push_field w ↦ joined_more field_text _ cols c.loop-index.index _ _ _ _ (sym w.in-Some.ensures) c.loop-index.invariant c.in_ok-push_separator.ensures (ap string_bytes w.text-is ∙ w.in_ok-push_field.ensures)
       | in_default w ↦ absurd (no_item cols c.loop-index.index within (sym w.in_default.ensures))

@@ -1,6 +1,7 @@
 use Rattle.std.proofs.Common.{[], map, sym, ap, ◌∙◌}
 use Rattle.plan_types.specs.Schemas.{columns}
 use Rattle.plan_types.proofs.ResultLemmas.{passed_on}
+use Rattle.plan_types.proofs.SchemaLemmas.{schema_has_distinct_names}
 use Rattle.plan_dsl.specs.Expressions.{tree_of}
 use Rattle.plan_dsl.specs.Plans.{plan_tree, trees_of, named, filter_op, select_op}
 use Rattle.plan_dsl.specs.Registry.{registry}
@@ -16,7 +17,7 @@ returns-in_err-node-in-DataFrameScan-clause-err t c =
 pub returns-in_ok-node-in-DataFrameScan-clause-ok :
     goal.returns-in_ok-node-in-DataFrameScan-clause-ok
 returns-in_ok-node-in-DataFrameScan-clause-ok t c =
-    scan_stands (registry c.args.udfs.now) c.args.expr_arena.now c.lower_scan.new.lp_arena c.in_ok-node-in-DataFrameScan.node.0 c.in-DataFrameScan.table (columns c.in-DataFrameScan.schema) (plan_tree c.args.plan) c.in_ok-node-in-DataFrameScan.ensures.ok c.in_ok-node-in-DataFrameScan.ensures.distinct c.in_ok-node-in-DataFrameScan.ensures.known (ap plan_tree c.in-DataFrameScan.is)
+    scan_stands (registry c.args.udfs.now) c.args.expr_arena.now c.lower_scan.new.lp_arena c.in_ok-node-in-DataFrameScan.node.0 c.in-DataFrameScan.table (columns c.in-DataFrameScan.schema) (plan_tree c.args.plan) c.in_ok-node-in-DataFrameScan.ensures.ok (schema_has_distinct_names c.in-DataFrameScan.schema) c.in_ok-node-in-DataFrameScan.ensures.known (ap plan_tree c.in-DataFrameScan.is)
 
 pub returns-in_err-node-in-Ok-clause-err : goal.returns-in_err-node-in-Ok-clause-err
 returns-in_err-node-in-Ok-clause-err t c =

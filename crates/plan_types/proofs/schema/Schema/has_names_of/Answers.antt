@@ -5,15 +5,15 @@ use Rattle.plan_types.proofs.SchemaPairLemmas.{names_apart, one_pair}
 use Rattle.plan_types.proofs.schema.Schema.has_names_of.Goals as goal
 
 pub returns-then-len : goal.returns-then-len
-returns-then-len c = names_apart (columns c.args.self.now) (columns c.args.other.now) (rw (← c.len.ensures.len, ← c.len-2.ensures.len) c.if-len.true)
+returns-then-len c = names_apart (columns c.args.self.now) (columns c.args.other.now) (rw (← c.len.ensures, ← c.len-2.ensures) c.if-len.true)
 
 pub returns-then-ne : goal.returns-then-ne
 returns-then-ne c =
     let cs = columns c.args.self.now in
     let ds = columns c.args.other.now in
     let n = c.loop-number.number in
-    let within : n < length cs = omega (arith, c.loop-number-test.true, c.len-number-end.ensures.len) in
-    let also : n < length ds = omega (arith, c.loop-number-test.true, c.len-number-end.ensures.len, c.len.ensures.len, c.len-2.ensures.len, c.if-len.false) in
+    let within : n < length cs = omega (arith, c.loop-number-test.true, c.len-number-end.ensures) in
+    let also : n < length ds = omega (arith, c.loop-number-test.true, c.len-number-end.ensures, c.len.ensures, c.len-2.ensures, c.if-len.false) in
     sym (one_pair cs ds c.name_at.result c.name_at-in-loop-number.result c.ne.result n (suc n) within also refl c.name_at.ensures c.name_at-in-loop-number.ensures c.ne.ensures c.loop-number.invariant ∙ ap (λ b. not b && same_names (drop (suc n) cs) (drop (suc n) ds)) c.if-ne.true)
 
 pub loop-number-preserved : goal.loop-number-preserved
@@ -22,6 +22,6 @@ loop-number-preserved c =
     let ds = columns c.args.other.now in
     let n = c.loop-number.number in
     let m = n + 1 in
-    let within : n < length cs = omega (arith, c.loop-number-test.true, c.len-number-end.ensures.len) in
-    let also : n < length ds = omega (arith, c.loop-number-test.true, c.len-number-end.ensures.len, c.len.ensures.len, c.len-2.ensures.len, c.if-len.false) in
+    let within : n < length cs = omega (arith, c.loop-number-test.true, c.len-number-end.ensures) in
+    let also : n < length ds = omega (arith, c.loop-number-test.true, c.len-number-end.ensures, c.len.ensures, c.len-2.ensures, c.if-len.false) in
     one_pair cs ds c.name_at.result c.name_at-in-loop-number.result c.ne.result n m within also (omega arith) c.name_at.ensures c.name_at-in-loop-number.ensures c.ne.ensures c.loop-number.invariant ∙ ap (λ b. not b && same_names (drop m cs) (drop m ds)) c.if-ne.false

@@ -1,9 +1,12 @@
 use Rattle.std.proofs.Common.{sym, ◌∙◌, ◌≤◌, length, arith}
 use Rattle.std.proofs.lemmas.List.{length-map}
 use Rattle.plan_types.specs.Schemas.{column_of}
-use Rattle.plan_types.proofs.SchemaLemmas.{none_there}
+use Rattle.plan_types.proofs.SchemaLemmas.{none_there, unrepeated}
 use Rattle.plan_types.proofs.SchemaPairLemmas.{put_in}
 use Rattle.plan_types.proofs.schema.Schema.insert_at_index.Goals as goal
+
+pub invariant_of-self : goal.invariant_of-self
+invariant_of-self c = record { distinct = unrepeated _ c.insert_before.ensures.unique }
 
 pub returns-clause-ok : goal.returns-clause-ok
 returns-clause-ok c =

@@ -2,8 +2,11 @@ use Rattle.std.proofs.Common.{map, sym, ap, ◌∙◌}
 use Rattle.std.specs.Option.{option_map}
 use Rattle.plan_types.specs.Types.{ty}
 use Rattle.plan_types.specs.Schemas.{column_of}
-use Rattle.plan_types.proofs.SchemaLemmas.{columns-insert_entry, type_at-entries}
+use Rattle.plan_types.proofs.SchemaLemmas.{columns-insert_entry, type_at-entries, unrepeated}
 use Rattle.plan_types.proofs.schema.Schema.with_column.Goals as goal
+
+pub invariant_of-self : goal.invariant_of-self
+invariant_of-self c = record { distinct = unrepeated _ c.insert.ensures.unique }
 
 pub returns-clause-ok : goal.returns-clause-ok
 returns-clause-ok c =
