@@ -11,7 +11,7 @@ pub mod OperatorLemmas
 pub mod RuleLemmas
 pub mod RunLemmas
 pub mod SameLemmas
-pub mod StrictTests
+mod StrictTests
 pub mod SwapLemmas
 pub mod SwappedNodeLemmas
 pub mod TakingLemmas
