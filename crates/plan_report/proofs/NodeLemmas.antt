@@ -101,6 +101,7 @@ module _ (expressions : List AExpr) (plans : List IR) (n : ℕ) (item : IR) (got
     one_child op m lined text (more u (more v vs)) d line below = absurd d.1
 
     -- the lines of a node with one child
-    pub one_lines : (flat : PlanOp ℕ) (m : ℕ) → plan_layer item ≡ layer flat (m ∷ []) → (lined text : List ℕ) → lined ≡ before ++ line_text path (node_name item) cols → ((u : Plan) → Denotes (HoldsPlan expressions plans) m u → text ≡ lined ++ plan_lines (path ++ 0 ∷ []) u) → (t : Plan) → Denotes (HoldsPlan expressions plans) n t → text ≡ before ++ plan_lines path t
-    one_lines flat m is lined text line below (node op ts) d =
-        one_child op m lined text ts (held_children expressions plans n item got flat (m ∷ []) is op d.0 d.1 ts d.2) (line ∙ ap (λ t. before ++ t) (held_line op d.0 d.1 ts (schema (node op ts) d))) below
+    pub one_lines : (flat : PlanOp ℕ) (m : ℕ) → plan_layer item ≡ layer flat (m ∷ []) → (lined text deeper : List ℕ) → lined ≡ before ++ line_text path (node_name item) cols → deeper ≡ path ++ 0 ∷ [] → ((u : Plan) → Denotes (HoldsPlan expressions plans) m u → text ≡ lined ++ plan_lines deeper u) → (t : Plan) → Denotes (HoldsPlan expressions plans) n t → text ≡ before ++ plan_lines path t
+    one_lines flat m is lined text deeper line step below (node op ts) d =
+        one_child op m lined text ts (held_children expressions plans n item got flat (m ∷ []) is op d.0 d.1 ts d.2) (line ∙ ap (λ t. before ++ t) (held_line op d.0 d.1 ts (schema (node op ts) d)))
+        (λ u e. below u e ∙ ap (λ p. lined ++ plan_lines p u) step)

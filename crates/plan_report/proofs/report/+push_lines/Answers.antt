@@ -1,8 +1,7 @@
-use Rattle.std.proofs.Common.{◌++◌, refl, ap, ◌∙◌, arith, string_bytes}
+use Rattle.std.proofs.Common.{refl, ap, arith}
 use Rattle.plan_types.specs.Schemas.{columns}
 use Rattle.plan_arena.specs.Items.{plan_layer}
 use Rattle.plan_arena.proofs.ItemLemmas.{item_inputs, plan_within}
-use Rattle.plan_report.specs.Report.{plan_lines}
 use Rattle.plan_report.proofs.NodeLemmas.{plan_inputs, lent_schema, filter_schema, leaf_lines, one_lines}
 use Rattle.plan_report.proofs.report.+push_lines.Goals as goal
 
@@ -36,10 +35,8 @@ returns-in-DataFrameScan-clause-lines t c =
 
 pub returns-in_ok-push_lines-in-Filter-clause-lines : goal.returns-in_ok-push_lines-in-Filter-clause-lines
 returns-in_ok-push_lines-in-Filter-clause-lines t c =
-    let lined = string_bytes c.push_line.new.text in
-    one_lines c.args.plan.now.expr_arena c.args.plan.now.lp_arena c.args.node.0 c.get-item.result.now c.get-item.ensures (columns c.args.schema.now) c.requires.schema c.args.path.now.items _ _ _ (ap plan_layer c.in-Filter.is) lined _ (rw (← c.as_slice.ensures.value, ← c.name.ensures) c.in_ok-push_line.ensures) (λ u d. c.in_ok-push_lines-in-Filter.ensures.lines u d ∙ ap (λ p. lined ++ plan_lines p u) c.in_ok-push-in-Filter.ensures.items)
+    one_lines c.args.plan.now.expr_arena c.args.plan.now.lp_arena c.args.node.0 c.get-item.result.now c.get-item.ensures (columns c.args.schema.now) c.requires.schema c.args.path.now.items _ _ _ (ap plan_layer c.in-Filter.is) _ _ _ (rw (← c.as_slice.ensures.value, ← c.name.ensures) c.in_ok-push_line.ensures) c.in_ok-push-in-Filter.ensures.items c.in_ok-push_lines-in-Filter.ensures.lines
 
 pub returns-in_ok-push_lines-in-Select-clause-lines : goal.returns-in_ok-push_lines-in-Select-clause-lines
 returns-in_ok-push_lines-in-Select-clause-lines t c =
-    let lined = string_bytes c.push_line.new.text in
-    one_lines c.args.plan.now.expr_arena c.args.plan.now.lp_arena c.args.node.0 c.get-item.result.now c.get-item.ensures (columns c.args.schema.now) c.requires.schema c.args.path.now.items _ _ _ (ap plan_layer c.in-Select.is) lined _ (rw (← c.as_slice.ensures.value, ← c.name.ensures) c.in_ok-push_line.ensures) (λ u d. c.in_ok-push_lines-in-Select.ensures.lines u d ∙ ap (λ p. lined ++ plan_lines p u) c.in_ok-push-in-Select.ensures.items)
+    one_lines c.args.plan.now.expr_arena c.args.plan.now.lp_arena c.args.node.0 c.get-item.result.now c.get-item.ensures (columns c.args.schema.now) c.requires.schema c.args.path.now.items _ _ _ (ap plan_layer c.in-Select.is) _ _ _ (rw (← c.as_slice.ensures.value, ← c.name.ensures) c.in_ok-push_line.ensures) c.in_ok-push-in-Select.ensures.items c.in_ok-push_lines-in-Select.ensures.lines
