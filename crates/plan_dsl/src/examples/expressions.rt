@@ -7,8 +7,8 @@ ghost use Rattle.plan_dsl.specs.declared.operator.Operator.TheVariants.{Plus};
 ghost use Rattle.plan_dsl.specs.Trees.{node, no_more, fold, tree_at, tree_depth};
 ghost use Rattle.plan_dsl.specs.Ops.{ColumnOp, BinaryOp, CastOp};
 ghost use Rattle.plan_dsl.specs.Names.{name_of};
-ghost use Rattle.plan_dsl.specs.Typing.{Typed, is_many, typing, kinds_in};
-ghost use Rattle.plan_dsl.specs.Samples.{Gives, GivesOfTwo, GivesAll, int8, int16, int32, int64, uint8, uint16, a, b, c, d, u, sum, cast_as, of_many, schema_abu};
+ghost use Rattle.plan_dsl.specs.Typing.{is_many, typing, kinds_in};
+ghost use Rattle.plan_dsl.specs.Samples.{Gives, GivesOfTwo, GivesAll, int8, int16, int32, int64, uint8, uint16, a, b, c, d, u, sum, cast_as, one_value, many_values, of_many, schema_abu};
 
 /// A column has its own name, and any other node that of its first child.
 pub fn names_of_expressions()
@@ -30,8 +30,8 @@ pub fn types_of_expressions()
 
 /// A column may have another length than one, and any other node where some input may.
 pub fn lengths_of_nodes()
-    ensures lengths { let one : Typed = record { type = int8; many = false } in
-        let many : Typed = record { type = int8; many = true } in
+    ensures lengths { let one = one_value int8 in
+        let many = many_values int8 in
         GivesOfTwo is_many (
         (ColumnOp (codes "a"), [], true) ∷
         (BinaryOp Plus, one ∷ one ∷ [], false) ∷ (BinaryOp Plus, many ∷ one ∷ [], true) ∷ (BinaryOp Plus, one ∷ many ∷ [], true) ∷

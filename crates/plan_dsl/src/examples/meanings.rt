@@ -8,11 +8,11 @@ ghost use Rattle.plan_types.specs.declared.dtype.CastOptions.TheVariants.{Strict
 ghost use Rattle.plan_dsl.specs.declared.operator.Operator.TheVariants.{Plus, Minus, Multiply, Divide, FloorDivide, Modulus};
 ghost use Rattle.plan_dsl.specs.Trees.{node, no_more, more};
 ghost use Rattle.plan_dsl.specs.Ops.{ColumnOp, BinaryOp, CastOp};
-ghost use Rattle.plan_dsl.specs.Typing.{Typed, typing};
+ghost use Rattle.plan_dsl.specs.Typing.{typing};
 ghost use Rattle.plan_dsl.specs.Kernels.{common_length, stretched, operator_values};
 ghost use Rattle.plan_dsl.specs.Meaning.{meaning};
 ghost use Rattle.plan_dsl.specs.Laws.{AreOf};
-ghost use Rattle.plan_dsl.specs.Samples.{Gives, GivesOfTwo, GivesAll, int8, int16, int32, int64, uint8, null, yes, no, number, negative, column, a, b, c, binary, sum, cast_as, frame_with, means, runs, table, schema_ab, schema_abu};
+ghost use Rattle.plan_dsl.specs.Samples.{Gives, GivesOfTwo, GivesAll, int8, int16, int32, int64, uint8, null, yes, no, number, negative, column, a, b, c, binary, sum, cast_as, one_value, many_values, frame_with, means, runs, table, schema_ab, schema_abu};
 
 /// A sum is made in the common type, and null in an operand gives null.
 pub fn meanings_of_sums()
@@ -118,14 +118,9 @@ pub fn columns_side_by_side()
 
 /// Values of a type fit it, and there is one alone where there are not many.
 pub fn values_of_a_type()
-    ensures of_many { let typed : Typed = record { type = int8; many = true } in
-        AllByRecursion (AreOf typed) ((number 1 ∷ null ∷ number 127 ∷ []) ∷ [] ∷ []) }
-    ensures not_of_many { let typed : Typed = record { type = int8; many = true } in
-        AllByRecursion (λ values. ¬ (AreOf typed values)) ((number 1 ∷ number 128 ∷ []) ∷ (number 1 ∷ yes ∷ []) ∷ []) }
-    ensures of_one { let typed : Typed = record { type = int8; many = false } in
-        AreOf typed (number 5 ∷ []) }
-    ensures not_of_one { let typed : Typed = record { type = int8; many = false } in
-        AllByRecursion (λ values. ¬ (AreOf typed values)) ((number 128 ∷ []) ∷ (number 1 ∷ number 2 ∷ []) ∷ [] ∷ []) }
-    ensures truths { let typed : Typed = record { type = Truth; many = true } in
-        AreOf typed (yes ∷ null ∷ no ∷ []) × ¬ (AreOf typed (yes ∷ number 1 ∷ [])) }
+    ensures of_many { AllByRecursion (AreOf (many_values int8)) ((number 1 ∷ null ∷ number 127 ∷ []) ∷ [] ∷ []) }
+    ensures not_of_many { AllByRecursion (λ values. ¬ (AreOf (many_values int8) values)) ((number 1 ∷ number 128 ∷ []) ∷ (number 1 ∷ yes ∷ []) ∷ []) }
+    ensures of_one { AreOf (one_value int8) (number 5 ∷ []) }
+    ensures not_of_one { AllByRecursion (λ values. ¬ (AreOf (one_value int8) values)) ((number 128 ∷ []) ∷ (number 1 ∷ number 2 ∷ []) ∷ [] ∷ []) }
+    ensures truths { AreOf (many_values Truth) (yes ∷ null ∷ no ∷ []) × ¬ (AreOf (many_values Truth) (yes ∷ number 1 ∷ [])) }
 {}

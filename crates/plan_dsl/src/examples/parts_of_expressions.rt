@@ -10,11 +10,11 @@ ghost use Rattle.plan_dsl.specs.declared.operator.Operator.TheVariants.{Plus, Lt
 ghost use Rattle.plan_dsl.specs.Trees.{no_more, more};
 ghost use Rattle.plan_dsl.specs.Ops.{ColumnOp, LiteralOp, BinaryOp, CastOp};
 ghost use Rattle.plan_dsl.specs.OperatorTypes.{Taken, pair_to};
-ghost use Rattle.plan_dsl.specs.Typing.{Typed, operand_types, typing_rule};
+ghost use Rattle.plan_dsl.specs.Typing.{operand_types, typing_rule};
 ghost use Rattle.plan_dsl.specs.Kernels.{Meaning, then_both, cast_meaning, column_values, operator_values, kernel};
 ghost use Rattle.plan_dsl.specs.Meaning.{taken_to};
 ghost use Rattle.plan_dsl.specs.Strictness.{same_types, as_operands};
-ghost use Rattle.plan_dsl.specs.Samples.{Gives, GivesOfTwo, GivesAll, int8, int16, int32, uint8, null, yes, number, text, a, t, literal, typed_literal, cast_as, of_many, frame_with};
+ghost use Rattle.plan_dsl.specs.Samples.{Gives, GivesOfTwo, GivesAll, int8, int16, int32, uint8, null, yes, number, text, a, t, literal, typed_literal, cast_as, one_value, many_values, of_many, frame_with};
 
 /// The types to which each kind of node takes its operands, and its own.
 pub fn types_of_operands()
@@ -29,9 +29,7 @@ pub fn types_of_operands()
         (CastOp int8 NonStrict, Untyped (pos 5) ∷ [], Ok (taken (int32 ∷ []) int8)) ∷ []) }
     ensures no_cast { GivesAll (λ target. operand_types [] (CastOp target Strict) (TextType ∷ [])) (Err InvalidOperation) (
         Truth ∷ NullType ∷ ListType TextType ∷ Untyped (pos 1) ∷ []) }
-    ensures length_of_a_rule { let one : Typed = record { type = int8; many = false } in
-        let many : Typed = record { type = int16; many = true } in
-        typing_rule [] [] (BinaryOp Plus) (one ∷ many ∷ []) ≡ of_many int16 }
+    ensures length_of_a_rule { typing_rule [] [] (BinaryOp Plus) (one_value int8 ∷ many_values int16 ∷ []) ≡ of_many int16 }
 {}
 
 /// Operands are cast to their types, not strictly: what has no place there is null.
