@@ -1,17 +1,15 @@
 -- Laws of comparing expressions.
-use Rattle.std.specs.Prelude.{◌≡◌, Bool, true, false, ◌==◌, ◌&&◌, ◌++◌}
+use Rattle.std.specs.Prelude.{◌≡◌, Bool, true}
 use Rattle.std.specs.Cmp.{IsEquivalence}
-use Rattle.std.specs.Hash as fed
-use Rattle.std.specs.Str.{bytes_eq}
 use Rattle.std.proofs.Common.{refl, ap, ◌∙◌}
 use Rattle.std.proofs.lemmas.Slice.Eq.{bytes_eq-Decides}
-use Rattle.std.proofs.lemmas.Bool.{eqb-true, and_parts, and_from}
+use Rattle.std.proofs.lemmas.Bool.{and_parts, and_from}
 use Rattle.std.proofs.lemmas.Bool.Decides.{Decides-eqb}
 use Rattle.std.proofs.lemmas.Cmp.{on_equiv}
 use Rattle.std.specs.Ordering.{on}
-use Rattle.plan_types.specs.Types.{Ty, same_type}
+use Rattle.plan_types.specs.Types.{same_type}
 use Rattle.plan_types.specs.TypeLaws.{equivalence_from_exact, same_type_exact, same_type_own}
-use Rattle.plan_types.specs.Values.{Val, same_value}
+use Rattle.plan_types.specs.Values.{same_value}
 use Rattle.plan_types.specs.ValueLaws.{same_value_exact, same_value_own}
 use Rattle.plan_types.specs.declared.dtype.CastOptions.{CastOptions}
 use Rattle.plan_types.specs.declared.dtype.CastOptions.TheVariants.{Strict, NonStrict, Overflowing}

@@ -1,6 +1,6 @@
 //! Trees of expressions, their names and their types.
 
-ghost use Rattle.std.specs.Prelude.{◌≡◌, ℕ, ◌+◌, [], ◌∷◌, sum as total, map, codes, true, false, Some, None, Err};
+ghost use Rattle.std.specs.Prelude.{◌≡◌, ℕ, ◌+◌, [], ◌∷◌, sum as total, codes, true, false, Some, None, Err};
 ghost use Rattle.plan_types.specs.declared.dtype.CastOptions.TheVariants.{Strict, NonStrict};
 ghost use Rattle.plan_types.specs.declared.error.ErrorKind.TheVariants.{ColumnNotFound, SchemaMismatch};
 ghost use Rattle.plan_dsl.specs.declared.operator.Operator.TheVariants.{Plus};
@@ -8,7 +8,7 @@ ghost use Rattle.plan_dsl.specs.Trees.{node, no_more, fold, tree_at, tree_depth}
 ghost use Rattle.plan_dsl.specs.Ops.{ColumnOp, BinaryOp, CastOp};
 ghost use Rattle.plan_dsl.specs.Names.{name_of};
 ghost use Rattle.plan_dsl.specs.Typing.{is_many, typing, kinds_in};
-ghost use Rattle.plan_dsl.specs.Samples.{Gives, GivesOfTwo, GivesAll, int8, int16, int32, int64, uint8, uint16, a, b, c, d, u, sum, cast_as, one_value, many_values, of_many, schema_abu};
+ghost use Rattle.plan_dsl.specs.Samples.{Gives, GivesOfTwo, int8, int16, int32, int64, uint8, uint16, a, b, c, d, u, sum, cast_as, one_value, many_values, of_many, schema_abu};
 
 /// A column has its own name, and any other node that of its first child.
 pub fn names_of_expressions()

@@ -1,6 +1,6 @@
 //! What expressions give on frames.
 
-ghost use Rattle.std.specs.Prelude.{◌≡◌, [], ◌∷◌, pos, neg_ℤ, map, codes, true, false, Some, None, is_err};
+ghost use Rattle.std.specs.Prelude.{◌≡◌, [], ◌∷◌, codes, true, Some, None, is_err};
 ghost use Rattle.std.specs.List.{AllByRecursion};
 ghost use Rattle.plan_types.specs.Types.{Truth, DateType};
 ghost use Rattle.plan_types.specs.Outcomes.{Done, Fault, Stuck};

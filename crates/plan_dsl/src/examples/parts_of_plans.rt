@@ -21,7 +21,7 @@ ghost use Rattle.plan_dsl.specs.Laws.{operator_node};
 ghost use Rattle.plan_dsl.specs.Plans.{ScanKind, SelectKind, FilterKind, named, scan_op, filter_op, plan_tree, options_in};
 ghost use Rattle.plan_dsl.specs.PlanRules.{select_kinds, scan_kinds, predicate_kinds, filter_kinds, columns_of, as_schema, under_one, schema_by, top_kinds};
 ghost use Rattle.plan_dsl.specs.PlanKernels.{Evaluated, series_on, shared_length, in_front, rows_of, rows_where_true, kept_rows};
-ghost use Rattle.plan_dsl.specs.Samples.{Gives, GivesOfTwo, GivesAll, int8, null, yes, no, number, column, a, b, c, many_values, of_one, of_many, frame_with, scan, select, keep, series, signed, refused};
+ghost use Rattle.plan_dsl.specs.Samples.{Gives, GivesOfTwo, int8, null, yes, no, number, column, a, b, c, many_values, of_one, of_many, frame_with, scan, select, keep, series, signed, refused};
 
 /// A plan's tree has the parts of the plan, and a node's expressions are under their own names. Its selects keep their options beside it.
 pub fn trees_of_plans()
