@@ -3,27 +3,27 @@ use Rattle.std.proofs.Common.{◌≡◌, ◌≢◌, ℕ, ◌+◌, ◌-◌, ◌<�
 use Rattle.std.specs.Bool.{Decides}
 use Rattle.std.specs.Option.{option_map, option_map_or, option_eq}
 use Rattle.std.specs.List.{position_or_len}
-use Rattle.std.specs.Map.{keys_of}
+use Rattle.std.specs.Map.{keys_of, values_of}
+use Rattle.indexmap.specs.Layout.{set_value_at, length-set_value_at}
 use Rattle.std.specs.Cmp.Lexicographic.{pointwise, pointwise_decides}
 use Rattle.std.proofs.lemmas.Bool.{le-ltb}
 use Rattle.std.proofs.lemmas.Bool.Decides.{Decides-at, Decides-like, Decides-and}
 use Rattle.std.proofs.lemmas.Slice.Eq.{bytes_eq-Decides}
-use Rattle.std.proofs.lemmas.List.{map-append, take-map, drop-map}
+use Rattle.std.proofs.Common.{length-append}
+use Rattle.std.proofs.lemmas.List.{length-map, map-append, take-map, drop-map}
 use Rattle.std.proofs.lemmas.List.Edits.{remove-append_right}
-use Rattle.std.proofs.Math.Seq.{drop-length}
 use Rattle.indexmap.specs.IndexMap.{insert_entry, move_index, index_before}
 use Rattle.plan_types.specs.Types.{Ty, ty, same_type}
 use Rattle.plan_types.specs.TypeLaws.{same_type_exact, same_type_own}
 use Rattle.plan_types.specs.Supertypes.{supertype}
-use Rattle.plan_types.specs.Schemas.{Name, Columns, same_name, column_of, with_column, names_of, repeats, IsNewName, HasDistinctNames}
-use Rattle.plan_types.specs.SchemaCalls.{same_names, in_front, common_columns, found_columns, super_columns}
+use Rattle.plan_types.specs.Schemas.{Name, Columns, same_name, column_of, names_of, IsNewName}
+use Rattle.plan_types.specs.SchemaCalls.{same_names, common_columns, common_types, found_columns, super_columns, type_in_front, types_of, with_types}
 use Rattle.plan_types.specs.Errors.{at_top, IsMemoryOr, IsRefusal, no_room, broken}
 use Rattle.plan_types.specs.declared.error.PlanError.{PlanError}
 use Rattle.plan_types.specs.declared.error.ErrorKind.TheVariants.{SchemaMismatch, InvalidOperation}
 use Rattle.plan_types.specs.declared.dtype.DataType.{DataType}
 use Rattle.plan_types.proofs.ListLemmas.{slice_get-seam}
-use Rattle.plan_types.proofs.NameLemmas.{repeats-apart}
-use Rattle.plan_types.proofs.SchemaLemmas.{IsNewName-head, IsNewName-tail, IsNewName-test, test_from_distinct, with_column-new}
+use Rattle.plan_types.proofs.SchemaLemmas.{IsNewName-head, IsNewName-tail}
 use Rattle.plan_types.proofs.SupertypeLemmas.{supertype_itself}
 
 -- ---- the same columns
@@ -147,56 +147,87 @@ drop_there [] n x h = cc
 drop_there (y ∷ xs) zero x h = ap (λ z. z ∷ xs) (some_inner y x h)
 drop_there (y ∷ xs) (suc n) x h = drop_there xs n x h
 
-abbrev behind : Columns → Option Columns → Option Columns
+abbrev behind : List Ty → Option (List Ty) → Option (List Ty)
 behind done None = None
 behind done (Some rest) = Some (done ++ rest)
 
-behind_none : (o : Option Columns) → o ≡ behind [] o
-behind_none None = refl
-behind_none (Some x) = refl
+behind_more : (done : List Ty) (type : Ty) (o : Option (List Ty)) → behind done (type_in_front (Some type) o) ≡ behind (done ++ type ∷ []) o
+behind_more done type None = refl
+behind_more done type (Some rest) = ap Some (sym (append_assoc done (type ∷ []) rest))
 
-behind_more : (done : Columns) (name : Name) (type : Ty) (o : Option Columns) → behind done (in_front name (Some type) o) ≡ behind (done ++ (name, type) ∷ []) o
-behind_more done name type None = refl
-behind_more done name type (Some rest) = ap Some (sym (append_assoc done ((name, type) ∷ []) rest))
+-- the common types that are done, and what is left of both
+abbrev pub Merging : List Ty → List Ty → List Ty → ℕ → Type 0
+Merging ts us done n = common_types ts us ≡ behind done (common_types (drop n ts) (drop n us))
 
--- the columns that are done, and what is left of both
-pub record Merging (cs ds done : Columns) (n : ℕ) : Type 0 where
-  pub common : common_columns cs ds ≡ behind done (common_columns (drop n cs) (drop n ds))
-  pub names : names_of done ++ names_of (drop n cs) ≡ names_of cs
+left_over : (ts us done : List Ty) (n : ℕ) (t u : Ty) → slice_get ts n ≡ Some t → slice_get us n ≡ Some u → Merging ts us done n → common_types ts us ≡ behind done (type_in_front (supertype t u) (common_types (drop (suc n) ts) (drop (suc n) us)))
+left_over ts us done n t u h g m =
+    m ∙ ap (λ l. behind done (common_types l (drop n us))) (drop_there ts n t h) ∙ ap (λ l. behind done (common_types (t ∷ drop (suc n) ts) l)) (drop_there us n u g)
 
-pub merging_start : (cs ds : Columns) → Merging cs ds [] 0
-merging_start cs ds = record { common = behind_none (common_columns cs ds); names = refl }
+pub merging_step : (ts us done new : List Ty) (n k : ℕ) (t u type : Ty) → slice_get ts n ≡ Some t → slice_get us n ≡ Some u → supertype t u ≡ Some type → k ≡ suc n → new ≡ done ++ type ∷ [] → Merging ts us done n → Merging ts us new k
+merging_step ts us done new n k t u type h g e next grown m =
+    rw (next, grown) (left_over ts us done n t u h g m ∙ ap (λ o. behind done (type_in_front o (common_types (drop (suc n) ts) (drop (suc n) us)))) e ∙ behind_more done type _)
 
-left_over : (cs ds done : Columns) (n : ℕ) (c d : Name × Ty) → slice_get cs n ≡ Some c → slice_get ds n ≡ Some d → Merging cs ds done n → common_columns cs ds ≡ behind done (in_front c.0 (supertype c.1 d.1) (common_columns (drop (suc n) cs) (drop (suc n) ds)))
-left_over cs ds done n c d h g m =
-    m.common ∙ ap (λ l. behind done (common_columns l (drop n ds))) (drop_there cs n c h) ∙ ap (λ l. behind done (common_columns (c ∷ drop (suc n) cs) l)) (drop_there ds n d g)
+-- where a pair has no common type there are no common types
+pub stuck_refused : (ts us done : List Ty) (n : ℕ) (t u : Ty) (e : PlanError) → slice_get ts n ≡ Some t → slice_get us n ≡ Some u → Merging ts us done n → IsMemoryOr SchemaMismatch (supertype t u ≡ None) e → IsMemoryOr SchemaMismatch (common_types ts us ≡ None) e
+stuck_refused ts us done n t u e h g m r =
+    elim r [ inl x ↦ inl x | inr b ↦ inr (b.0, left_over ts us done n t u h g m ∙ ap (λ o. behind done (type_in_front o (common_types (drop (suc n) ts) (drop (suc n) us)))) b.1) ]
 
-new_name : (cs ds done : Columns) (n : ℕ) (c : Name × Ty) → HasDistinctNames cs → slice_get cs n ≡ Some c → Merging cs ds done n → IsNewName done c.0
-new_name cs ds done n c distinct h m =
-    let all : names_of done ++ c.0 ∷ names_of (drop (suc n) cs) ≡ names_of cs = sym (ap (λ l. names_of done ++ names_of l) (drop_there cs n c h)) ∙ m.names in
-    IsNewName-test done c.0 (repeats-apart (names_of done) c.0 (names_of (drop (suc n) cs)) (ap repeats all ∙ test_from_distinct cs distinct))
+-- the type of an entry
+pub type_there : (es : List (Name × DataType)) (n : ℕ) (d : DataType) → slice_get (values_of es) n ≡ Some d → slice_get (types_of (map column_of es)) n ≡ Some (ty d)
+type_there [] n d h = cc
+type_there (e ∷ es) zero d h = ap (λ x. Some (ty x)) (some_inner e.1 d h)
+type_there (e ∷ es) (suc n) d h = type_there es n d h
 
-pub merging_step : (cs ds done new : Columns) (n k : ℕ) (c d : Name × Ty) (type : Ty) → HasDistinctNames cs → slice_get cs n ≡ Some c → slice_get ds n ≡ Some d → supertype c.1 d.1 ≡ Some type → k ≡ suc n → new ≡ with_column done c.0 type → Merging cs ds done n → Merging cs ds new k
-merging_step cs ds done new n k c d type distinct h g t next made m =
-    let grown : new ≡ done ++ (c.0, type) ∷ [] = made ∙ with_column-new done c.0 type (new_name cs ds done n c distinct h m) in
-    let common = left_over cs ds done n c d h g m ∙ ap (λ o. behind done (in_front c.0 o (common_columns (drop (suc n) cs) (drop (suc n) ds)))) t ∙ behind_more done c.0 type _ in
-    let names = ap (λ l. l ++ names_of (drop (suc n) cs)) (map-append (λ (x : Name × Ty). x.0) done ((c.0, type) ∷ [])) ∙ append_assoc (names_of done) (c.0 ∷ []) (names_of (drop (suc n) cs)) ∙ sym (ap (λ l. names_of done ++ names_of l) (drop_there cs n c h)) ∙ m.names in
-    subst (Merging cs ds new) (sym next) (subst (λ l. Merging cs ds l (suc n)) (sym grown) (record { common = common; names = names }))
+front_length : (o : Option Ty) (p : Option (List Ty)) (n : ℕ) (found : List Ty) → ((ts : List Ty) → p ≡ Some ts → length ts ≡ n) → type_in_front o p ≡ Some found → length found ≡ suc n
+front_length None p n found each h = cc
+front_length (Some t) None n found each h = cc
+front_length (Some t) (Some ts) n found each h = sym (ap length (some_inner (t ∷ ts) found h)) ∙ ap suc (each ts refl)
 
-pub merging_stuck : (cs ds done : Columns) (n : ℕ) (c d : Name × Ty) → slice_get cs n ≡ Some c → slice_get ds n ≡ Some d → supertype c.1 d.1 ≡ None → Merging cs ds done n → common_columns cs ds ≡ None
-merging_stuck cs ds done n c d h g t m =
-    left_over cs ds done n c d h g m ∙ ap (λ o. behind done (in_front c.0 o (common_columns (drop (suc n) cs) (drop (suc n) ds)))) t
+-- there is a common type for each pair
+pub as_many_types : (ts us found : List Ty) → common_types ts us ≡ Some found → length found ≡ length ts
+as_many_types [] [] found h = sym (ap length (some_inner [] found h))
+as_many_types [] (u ∷ us) found h = cc
+as_many_types (t ∷ ts) [] found h = cc
+as_many_types (t ∷ ts) (u ∷ us) found h = front_length (supertype t u) (common_types ts us) (length ts) found (as_many_types ts us) h
 
-pub merging_end : (cs ds done : Columns) (n : ℕ) → same_names cs ds ≡ true → n ≡ length cs → Merging cs ds done n → common_columns cs ds ≡ Some done
-merging_end cs ds done n same end m =
-    let left = ap (λ k. drop k cs) end ∙ drop-length cs in
-    let right = ap (λ k. drop k ds) (end ∙ as_many cs ds same) ∙ drop-length ds in
-    m.common ∙ ap (λ l. behind done (common_columns l (drop n ds))) left ∙ ap (λ l. behind done (common_columns [] l)) right ∙ ap Some (append_none done)
+no_types : (cs : Columns) → with_types cs [] ≡ cs
+no_types [] = refl
+no_types (c ∷ cs) = refl
+
+given_last : (es : List (Name × DataType)) (ds : List DataType) (d : DataType) → length ds < length es → with_types (map column_of (set_value_at es (length ds) d)) (map ty ds) ≡ with_types (map column_of es) (map ty (ds ++ d ∷ []))
+given_last [] ds d within = absurd (omega arith)
+given_last (e ∷ es) [] d within = ap (λ l. (e.0, ty d) ∷ l) (sym (no_types (map column_of es)))
+given_last (e ∷ es) (x ∷ ds) d within = ap (λ l. (e.0, ty x) ∷ l) (given_last es ds d (omega arith))
+
+-- the last of the types is given, and then those before it
+pub one_given : (es : List (Name × DataType)) (before ds : List DataType) (d : DataType) (n : ℕ) (all : Columns) → before ≡ ds ++ d ∷ [] → n ≡ length ds → (with_types (map column_of es) (map ty before) ≡ all) × (length before ≤ length (map column_of es)) → (with_types (map column_of (set_value_at es n d)) (map ty ds) ≡ all) × (length ds ≤ length (map column_of (set_value_at es n d)))
+one_given es before ds d n all grown last h =
+    let many : length before ≡ length ds + 1 = ap length grown ∙ length-append ds (d ∷ []) in
+    let within : length ds < length es = omega (arith, h.1, many, length-map es column_of) in
+    let given = ap (λ k. with_types (map column_of (set_value_at es k d)) (map ty ds)) last ∙ given_last es ds d within ∙ sym (ap (λ l. with_types (map column_of es) (map ty l)) grown) ∙ h.0 in
+    (given, omega (arith, within, length-map (set_value_at es n d) column_of, length-set_value_at es n d))
+
+pub all_given : (cs all : Columns) (ds : List DataType) → length ds ≡ 0 → (with_types cs (map ty ds) ≡ all) × (length ds ≤ length cs) → cs ≡ all
+all_given cs all [] none h = sym (no_types cs) ∙ h.0
+all_given cs all (d ∷ ds) none h = absurd (omega (arith, none))
+
+-- another value leaves the names
+pub same_entry_names : (es : List (Name × DataType)) (n : ℕ) (d : DataType) → names_of (set_value_at es n d) ≡ names_of es
+same_entry_names [] n d = refl
+same_entry_names (e ∷ es) zero d = refl
+same_entry_names (e ∷ es) (suc n) d = ap (λ l. e.0 ∷ l) (same_entry_names es n d)
+
+types_itself : (ts : List Ty) → common_types ts ts ≡ Some ts
+types_itself [] = refl
+types_itself (t ∷ ts) = ap (λ o. type_in_front o (common_types ts ts)) (supertype_itself t) ∙ ap (type_in_front (Some t)) (types_itself ts)
+
+own_types : (cs : Columns) → with_types cs (types_of cs) ≡ cs
+own_types [] = refl
+own_types (c ∷ cs) = ap (λ l. c ∷ l) (own_types cs)
 
 -- equal columns have themselves
 pub common_itself : (cs : Columns) → common_columns cs cs ≡ Some cs
-common_itself [] = refl
-common_itself (c ∷ cs) = ap (λ o. in_front c.0 o (common_columns cs cs)) (supertype_itself c.1) ∙ ap (in_front c.0 (Some c.1)) (common_itself cs)
+common_itself cs = ap (option_map (with_types cs)) (types_itself (types_of cs)) ∙ ap Some (own_types cs)
 
 -- a type changed, or is another than the other's, where the columns aren't the other's
 pub changed_where : (old ds new : Columns) (same : Bool) → common_columns old ds ≡ Some new → Decides same (old ≡ ds) → Decides (not (not same)) ((new ≡ old) × (new ≡ ds))
@@ -211,20 +242,13 @@ names_refused cs ds e differ is = broken InvalidOperation is (ap (λ b. cond b (
 types_asked : (cs ds : Columns) → same_names cs ds ≡ true → super_columns cs ds ≡ found_columns (common_columns cs ds)
 types_asked cs ds same = ap (λ b. cond b (found_columns (common_columns cs ds)) (Err InvalidOperation)) same
 
-pub types_refused : (cs ds : Columns) (e : PlanError) → same_names cs ds ≡ true → IsMemoryOr SchemaMismatch (common_columns cs ds ≡ None) e → IsRefusal (super_columns cs ds) e
+pub types_refused : (cs ds : Columns) (e : PlanError) → same_names cs ds ≡ true → IsMemoryOr SchemaMismatch (common_types (types_of cs) (types_of ds) ≡ None) e → IsRefusal (super_columns cs ds) e
 types_refused cs ds e same h =
-    elim h [ inl m ↦ no_room m | inr b ↦ broken SchemaMismatch b.0 (types_asked cs ds same ∙ ap found_columns b.1) ]
+    elim h [ inl m ↦ no_room m | inr b ↦ broken SchemaMismatch b.0 (types_asked cs ds same ∙ ap found_columns (ap (option_map (with_types cs)) b.1)) ]
+
+-- the columns with the common types
+pub common_given : (cs ds new : Columns) (ts : List Ty) → common_types (types_of cs) (types_of ds) ≡ Some ts → new ≡ with_types cs ts → common_columns cs ds ≡ Some new
+common_given cs ds new ts made given = ap (option_map (with_types cs)) made ∙ ap Some (sym given)
 
 pub super_found : (cs ds new : Columns) → same_names cs ds ≡ true → common_columns cs ds ≡ Some new → super_columns cs ds ≡ Ok new
 super_found cs ds new same made = types_asked cs ds same ∙ ap found_columns made
-
--- where a pair has no common type there are no common columns
-pub stuck_refused : (cs ds done : Columns) (n : ℕ) (c d : Name × Ty) (e : PlanError) → slice_get cs n ≡ Some c → slice_get ds n ≡ Some d → Merging cs ds done n → IsMemoryOr SchemaMismatch (supertype c.1 d.1 ≡ None) e → IsMemoryOr SchemaMismatch (common_columns cs ds ≡ None) e
-stuck_refused cs ds done n c d e h g m r =
-    elim r [ inl x ↦ inl x | inr b ↦ inr (b.0, merging_stuck cs ds done n c d h g b.1 m) ]
-
--- a place below the length isn't empty
-pub not_missing : {A : Type 0} (xs : List A) (n : ℕ) → n < length xs → None ≡ slice_get xs n → ⊥
-not_missing [] n within none = omega arith
-not_missing (x ∷ xs) zero within none = cc
-not_missing (x ∷ xs) (suc n) within none = not_missing xs n (omega arith) none

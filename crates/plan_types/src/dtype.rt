@@ -1,8 +1,8 @@
 //! Types of columns, and units of time.
-ghost use Rattle.std.specs.Prelude.{◌≡◌, ◌≢◌, ◌↔◌, ℤ, pos, false, true, IsTrue, MatchOption, IfOk, IfErr};
+ghost use Rattle.std.specs.Prelude.{◌≡◌, ◌≢◌, ◌↔◌, ◌&&◌, ℤ, pos, false, true, IsTrue, MatchOption, IfOk, IfErr};
 ghost use Rattle.std.specs.List.{fold};
 ghost use Rattle.plan_types.specs.Errors.{no_memory};
-ghost use Rattle.plan_types.specs.Types.{DatetimeType, DurationType, ListType, Untyped, is_bare, fields_in, fields_of, fields_writes, are_known, same_fields, same_type, coarser, per_day, ty, is_counted, is_integer, is_known, is_ord, is_signed_integer, is_temporal, is_unsigned_integer, type_code, type_writes, unit_rank, width_of};
+ghost use Rattle.plan_types.specs.Types.{ListType, Untyped, is_bare, fields_in, fields_of, fields_writes, are_known, same_fields, same_type, coarser, per_day, ty, is_counted, is_integer, is_known, is_ord, is_signed_integer, is_temporal, is_unsigned_integer, type_code, type_writes, unit_rank, width_of};
 ghost use Rattle.plan_types.specs.Values.{in_range};
 
 use crate::error::PlanError;
@@ -280,10 +280,10 @@ impl DataType {
 
     // Whether both are integer types of one sign and width.
     fn is_same_integer(&self, other: &DataType) -> bool
-        requires { is_integer (ty self.now) ≡ true }
-        ensures { result ≡ same_type (ty self.now) (ty other.now) }
+        ensures { result ≡ (is_integer (ty self.now) && same_type (ty self.now) (ty other.now)) }
     {
-        other.is_integer()
+        self.is_integer()
+            && other.is_integer()
             && self.is_signed_integer() == other.is_signed_integer()
             && self.width() == other.width()
     }
@@ -294,24 +294,20 @@ impl DataType {
     pub fn is_same(&self, other: &DataType) -> bool
         ensures { result ≡ same_type (ty self.now) (ty other.now) }
     {
-        match self {
-            DataType::Null => matches!(other, DataType::Null),
-            DataType::Boolean => matches!(other, DataType::Boolean),
-            DataType::String => matches!(other, DataType::String),
-            DataType::Date => matches!(other, DataType::Date),
-            DataType::Time => matches!(other, DataType::Time),
-            DataType::List(item) => match other {
-                DataType::List(own) => item.is_same(own),
-                _ => false,
-            },
-            DataType::Struct(fields) => match other {
-                DataType::Struct(own) => same_fields(fields.items.as_slice(), own.items.as_slice()),
-                _ => false,
-            },
-            DataType::Datetime(unit) => is_datetime_in(other, *unit),
-            DataType::Duration(unit) => is_duration_in(other, *unit),
-            DataType::Unknown(UnknownKind::Int(number)) => is_untyped_number(other, *number),
-            _integer => self.is_same_integer(other),
+        match (self, other) {
+            (DataType::Null, DataType::Null)
+            | (DataType::Boolean, DataType::Boolean)
+            | (DataType::String, DataType::String)
+            | (DataType::Date, DataType::Date)
+            | (DataType::Time, DataType::Time) => true,
+            (DataType::Datetime(unit), DataType::Datetime(own))
+            | (DataType::Duration(unit), DataType::Duration(own)) => unit == own,
+            (DataType::List(item), DataType::List(own)) => item.is_same(own),
+            (DataType::Struct(fields), DataType::Struct(own)) => {
+                same_fields(fields.items.as_slice(), own.items.as_slice())
+            }
+            (DataType::Unknown(kind), DataType::Unknown(own)) => kind == own,
+            _ => self.is_same_integer(other),
         }
     }
 
@@ -443,36 +439,6 @@ fn same_fields(left: &[Field], right: &[Field]) -> bool
         }
     }
     true
-}
-
-// Whether it is the type of moments in the unit.
-fn is_datetime_in(dtype: &DataType, unit: TimeUnit) -> bool
-    ensures { result ≡ same_type (DatetimeType unit) (ty dtype.now) }
-{
-    match dtype {
-        DataType::Datetime(own) => unit == *own,
-        _ => false,
-    }
-}
-
-// Whether it is the type of spans in the unit.
-fn is_duration_in(dtype: &DataType, unit: TimeUnit) -> bool
-    ensures { result ≡ same_type (DurationType unit) (ty dtype.now) }
-{
-    match dtype {
-        DataType::Duration(own) => unit == *own,
-        _ => false,
-    }
-}
-
-// Whether it is the own type of the number.
-fn is_untyped_number(dtype: &DataType, number: i128) -> bool
-    ensures { result ≡ same_type (Untyped number) (ty dtype.now) }
-{
-    match dtype {
-        DataType::Unknown(UnknownKind::Int(own)) => number == *own,
-        _ => false,
-    }
 }
 
 impl Eq for DataType {

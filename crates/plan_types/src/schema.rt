@@ -1,11 +1,11 @@
 //! Schemas: the columns of a frame, in order.
-ghost use Rattle.std.specs.Prelude.{◌≡◌, ◌≢◌, ◌↔◌, ◌≤◌, ℕ, List, [], length, insert, true, false, not, Ok, None, is_some, slice_get, IsTrue, IfOk, IfErr, OnOk, OnErr, Some};
+ghost use Rattle.std.specs.Prelude.{◌≡◌, ◌≢◌, ◌↔◌, ◌≤◌, ℕ, List, [], length, insert, map, true, false, not, Ok, None, is_some, slice_get, IsTrue, IfOk, IfErr, OnOk, OnErr, Some};
 ghost use Rattle.std.specs.Bool.{Decides};
 ghost use Rattle.std.specs.Option.{option_map};
 ghost use Rattle.std.specs.Map.Iter.{ShowsInOrder, deref};
 ghost use Rattle.plan_types.specs.Errors.{at_top, no_memory, IsMemoryOr, IsRefusal};
 ghost use Rattle.plan_types.specs.Columns.{all_known, names_of, repeats, type_at, with_column, IsNewName};
-ghost use Rattle.plan_types.specs.SchemaCalls.{column_at, same_names, common_columns, super_columns};
+ghost use Rattle.plan_types.specs.SchemaCalls.{column_at, common_types, same_names, super_columns, types_of, with_types};
 ghost use Rattle.plan_types.specs.Types.{ty};
 
 use crate::dtype::DataType;
@@ -182,9 +182,9 @@ impl Schema {
             return Err(PlanError::at_top(ErrorKind::InvalidOperation));
         }
         let alloc = *self.fields.allocator();
-        let merged = self.with_common_types(alloc, other)?;
+        let types = self.common_types(alloc, other)?;
         let changed = !self.has_columns_of(other);
-        *self = merged;
+        self.give_types(types);
         Ok(changed)
     }
 
@@ -211,24 +211,31 @@ impl Schema {
         Some(name)
     }
 
-    // The columns with the common types of their own and the other's at each place.
-    fn with_common_types(&self, alloc: Global, other: &Schema) -> Result<Schema, PlanError>
-        requires { same_names (columns self.now) (columns other.now) ≡ true }
-        ensures ok { IfOk result (λ merged. common_columns (columns self.now) (columns other.now) ≡ Some (columns merged)) }
-        ensures err { IfErr result (IsMemoryOr ErrorKind.SchemaMismatch (common_columns (columns self.now) (columns other.now) ≡ None)) }
+    // The common types of the columns and the other's, side by side.
+    fn common_types(&self, alloc: Global, other: &Schema) -> Result<Vec<DataType>, PlanError>
+        requires { length (columns self.now) ≡ length (columns other.now) }
+        ensures ok { IfOk result (λ types. common_types (types_of (columns self.now)) (types_of (columns other.now)) ≡ Some (map ty types.items)) }
+        ensures err { IfErr result (IsMemoryOr ErrorKind.SchemaMismatch (common_types (types_of (columns self.now)) (types_of (columns other.now)) ≡ None)) }
     {
-        let mut merged = Schema::new(alloc);
+        let mut types = Vec::new(alloc);
         for number in 0..self.len() {
-            match (self.get_at_index(number), other.get_at_index(number)) {
-                (Some((name, left)), Some((_name, right))) => {
-                    let common = try_get_supertype(alloc, left, right)?;
-                    let name = name.try_clone(alloc)?;
-                    merged.put(name, common)?;
-                }
-                _ => return Err(PlanError::at_top(ErrorKind::SchemaMismatch)),
-            }
+            let left = &self.fields[number];
+            let right = &other.fields[number];
+            let common = try_get_supertype(alloc, left, right)?;
+            types.push(common)?;
         }
-        Ok(merged)
+        Ok(types)
+    }
+
+    // Gives the columns the types, in order.
+    fn give_types(&mut self, mut types: Vec<DataType>)
+        requires { length types.items ≤ length (columns self.old) }
+        ensures { columns self.new ≡ with_types (columns self.old) (map ty types.items) }
+    {
+        while let Some(dtype) = types.pop() {
+            let number = types.len();
+            self.fields[number] = dtype;
+        }
     }
 
     pub fn try_clone(&self, alloc: Global) -> Result<Schema, PlanError>

@@ -118,108 +118,37 @@ fn bare_supertype(left: &DataType, right: &DataType) -> Option<DataType>
     requires right_bare { is_bare (ty right.now) ≡ true }
     ensures { option_map ty result ≡ supertype (ty left.now) (ty right.now) }
 {
-    if *left == *right {
-        left.bare_copy()
-    } else {
-        common_of_others(left, right)
-    }
-}
-
-// The common type of two types that differ, neither of which is that of null.
-fn common_of_others(left: &DataType, right: &DataType) -> Option<DataType>
-    requires left { same_type NullType (ty left.now) ≡ false }
-    requires right { same_type NullType (ty right.now) ≡ false }
-    requires differ { same_type (ty left.now) (ty right.now) ≡ false }
-    requires left_bare { is_bare (ty left.now) ≡ true }
-    requires right_bare { is_bare (ty right.now) ≡ true }
-    ensures { option_map ty result ≡ supertype (ty left.now) (ty right.now) }
-{
-    match left {
-        DataType::Boolean => beside_truth(right),
-        DataType::String => beside_text(right),
-        DataType::Date => beside_date(right),
-        DataType::Datetime(unit) => beside_datetime(*unit, right),
-        DataType::Duration(unit) => beside_duration(*unit, right),
-        DataType::Null
-        | DataType::Time
-        | DataType::List(_)
-        | DataType::Struct(_)
-        | DataType::Unknown(_) => None,
-        _integer => beside_integer(left, right),
-    }
-}
-
-// Truth values beside an integer are of its type, and beside a text are texts.
-fn beside_truth(right: &DataType) -> Option<DataType>
-    requires right { same_type NullType (ty right.now) ≡ false }
-    requires differ { same_type Truth (ty right.now) ≡ false }
-    ensures { option_map ty result ≡ supertype Truth (ty right.now) }
-{
-    match right {
-        DataType::String => Some(DataType::String),
-        _other => integer_copy(right),
-    }
-}
-
-// Integers and truth values beside a text are texts.
-fn beside_text(right: &DataType) -> Option<DataType>
-    requires right { same_type NullType (ty right.now) ≡ false }
-    requires differ { same_type TextType (ty right.now) ≡ false }
-    ensures { option_map ty result ≡ supertype TextType (ty right.now) }
-{
-    if right.is_integer() || matches!(right, DataType::Boolean) {
-        Some(DataType::String)
-    } else {
-        None
-    }
-}
-
-// Days beside moments are moments.
-fn beside_date(right: &DataType) -> Option<DataType>
-    requires right { same_type NullType (ty right.now) ≡ false }
-    requires differ { same_type DateType (ty right.now) ≡ false }
-    ensures { option_map ty result ≡ supertype DateType (ty right.now) }
-{
-    match right {
-        DataType::Datetime(unit) => Some(DataType::Datetime(*unit)),
-        _ => None,
-    }
-}
-
-// Moments beside days stay moments, and beside moments have the coarser unit.
-fn beside_datetime(unit: TimeUnit, right: &DataType) -> Option<DataType>
-    requires right { same_type NullType (ty right.now) ≡ false }
-    ensures { option_map ty result ≡ supertype (DatetimeType unit) (ty right.now) }
-{
-    match right {
-        DataType::Date => Some(DataType::Datetime(unit)),
-        DataType::Datetime(other) => Some(DataType::Datetime(get_time_units(unit, *other))),
-        _ => None,
-    }
-}
-
-// Spans beside spans have the coarser unit.
-fn beside_duration(unit: TimeUnit, right: &DataType) -> Option<DataType>
-    requires right { same_type NullType (ty right.now) ≡ false }
-    ensures { option_map ty result ≡ supertype (DurationType unit) (ty right.now) }
-{
-    match right {
-        DataType::Duration(other) => Some(DataType::Duration(get_time_units(unit, *other))),
+    match (left, right) {
+        (DataType::Boolean, DataType::String) | (DataType::String, DataType::Boolean) => {
+            Some(DataType::String)
+        }
+        (DataType::Date, DataType::Datetime(unit)) | (DataType::Datetime(unit), DataType::Date) => {
+            Some(DataType::Datetime(*unit))
+        }
+        (DataType::Datetime(unit), DataType::Datetime(other)) => {
+            Some(DataType::Datetime(get_time_units(*unit, *other)))
+        }
+        (DataType::Duration(unit), DataType::Duration(other)) => {
+            Some(DataType::Duration(get_time_units(*unit, *other)))
+        }
+        _ if left.is_integer() => beside_integer(left, right),
+        _ if right.is_integer() => beside_integer(right, left),
+        _ if *left == *right => left.bare_copy(),
         _ => None,
     }
 }
 
 // An integer type beside another type.
-fn beside_integer(left: &DataType, right: &DataType) -> Option<DataType>
-    requires left { is_integer (ty left.now) ≡ true }
-    requires right { same_type NullType (ty right.now) ≡ false }
-    requires differ { same_type (ty left.now) (ty right.now) ≡ false }
-    ensures { option_map ty result ≡ supertype (ty left.now) (ty right.now) }
+fn beside_integer(integer: &DataType, other: &DataType) -> Option<DataType>
+    requires integer { is_integer (ty integer.now) ≡ true }
+    requires known { same_type NullType (ty other.now) ≡ false }
+    ensures { option_map ty result ≡ supertype (ty integer.now) (ty other.now) }
 {
-    match right {
-        DataType::Boolean => integer_copy(left),
+    match other {
+        DataType::Boolean => integer.bare_copy(),
         DataType::String => Some(DataType::String),
-        _other => get_numeric_upcast_supertype_lossless(left, right),
+        _ if *integer == *other => integer.bare_copy(),
+        _ => get_numeric_upcast_supertype_lossless(integer, other),
     }
 }
 
