@@ -3,6 +3,7 @@
 -- where the value hasn't the form.
 use Rattle.std.specs.Prelude.{◌≡◌, ℕ, ℤ, ◌^◌, ◌==◌, ◌&&◌, ◌||◌, Bool, List, [], map, not, Option, Some, None, option_map, option_and_then, codes, nat_lt, position, slice_index, if◌then◌else◌, true, false}
 use Rattle.std.specs.Map.{lookup}
+use Rattle.std.specs.Option.{option_or}
 use Rattle.std.specs.Str.{chars, bytes_eq}
 use Rattle.serde_json.specs.Data.{Data, null, boolean, number as numeral, string, array, object, Items, no_items, item, no_members, member}
 use Rattle.serde_json.specs.Events.{items_len}
@@ -40,11 +41,8 @@ query_model query = record { tables = declared query.tables; plan = plan_tree qu
 abbrev pub text_of : Data → Option Name
 text_of d = option_map chars (as_str d)
 
--- the type of that name, of those without parts
-abbrev pub type_named : List ℕ → Option Ty
-type_named name =
-    if bytes_eq name (codes "Null") then Some NullType else (
-    if bytes_eq name (codes "Boolean") then Some Truth else (
+abbrev pub integer_named : List ℕ → Option Ty
+integer_named name =
     if bytes_eq name (codes "Int8") then Some (Integer true 8) else (
     if bytes_eq name (codes "Int16") then Some (Integer true 16) else (
     if bytes_eq name (codes "Int32") then Some (Integer true 32) else (
@@ -52,10 +50,20 @@ type_named name =
     if bytes_eq name (codes "UInt8") then Some (Integer false 8) else (
     if bytes_eq name (codes "UInt16") then Some (Integer false 16) else (
     if bytes_eq name (codes "UInt32") then Some (Integer false 32) else (
-    if bytes_eq name (codes "UInt64") then Some (Integer false 64) else (
+    if bytes_eq name (codes "UInt64") then Some (Integer false 64) else None)))))))
+
+-- the type of that name, of those without parts that are no integers
+abbrev pub plain_named : List ℕ → Option Ty
+plain_named name =
+    if bytes_eq name (codes "Null") then Some NullType else (
+    if bytes_eq name (codes "Boolean") then Some Truth else (
     if bytes_eq name (codes "String") then Some TextType else (
     if bytes_eq name (codes "Date") then Some DateType else (
-    if bytes_eq name (codes "Time") then Some TimeType else None))))))))))))
+    if bytes_eq name (codes "Time") then Some TimeType else None))))
+
+-- the type of that name, of those without parts
+abbrev pub type_named : List ℕ → Option Ty
+type_named name = option_or (integer_named name) (plain_named name)
 
 abbrev pub unit_named : List ℕ → Option TimeUnit
 unit_named name =
@@ -107,8 +115,8 @@ abbrev mutual
   column_of (array (item name (item type no_items))) = both (text_of name) (type_of type)
   column_of _ = None
 
-abbrev pub operator_named : List ℕ → Option Operator
-operator_named name =
+abbrev pub comparison_named : List ℕ → Option Operator
+comparison_named name =
     if bytes_eq name (codes "Eq") then Some Eq else (
     if bytes_eq name (codes "EqValidity") then Some EqValidity else (
     if bytes_eq name (codes "NotEq") then Some NotEq else (
@@ -116,18 +124,27 @@ operator_named name =
     if bytes_eq name (codes "Lt") then Some Lt else (
     if bytes_eq name (codes "LtEq") then Some LtEq else (
     if bytes_eq name (codes "Gt") then Some Gt else (
-    if bytes_eq name (codes "GtEq") then Some GtEq else (
+    if bytes_eq name (codes "GtEq") then Some GtEq else None)))))))
+
+abbrev pub arithmetic_named : List ℕ → Option Operator
+arithmetic_named name =
     if bytes_eq name (codes "Plus") then Some Plus else (
     if bytes_eq name (codes "Minus") then Some Minus else (
     if bytes_eq name (codes "Multiply") then Some Multiply else (
     if bytes_eq name (codes "Divide") then Some Divide else (
     if bytes_eq name (codes "FloorDivide") then Some FloorDivide else (
-    if bytes_eq name (codes "Modulus") then Some Modulus else (
+    if bytes_eq name (codes "Modulus") then Some Modulus else None)))))
+
+abbrev pub logic_named : List ℕ → Option Operator
+logic_named name =
     if bytes_eq name (codes "And") then Some And else (
     if bytes_eq name (codes "Or") then Some Or else (
     if bytes_eq name (codes "Xor") then Some Xor else (
     if bytes_eq name (codes "LogicalAnd") then Some LogicalAnd else (
-    if bytes_eq name (codes "LogicalOr") then Some LogicalOr else None))))))))))))))))))
+    if bytes_eq name (codes "LogicalOr") then Some LogicalOr else None))))
+
+abbrev pub operator_named : List ℕ → Option Operator
+operator_named name = option_or (option_or (comparison_named name) (arithmetic_named name)) (logic_named name)
 
 abbrev pub operator_of : Data → Option Operator
 operator_of d = option_and_then operator_named (as_str d)

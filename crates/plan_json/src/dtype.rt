@@ -5,7 +5,7 @@ ghost use Rattle.serde_json.specs.View.{view};
 ghost use Rattle.plan_types.specs.Types.{fields_of, ty};
 ghost use Rattle.plan_json.specs.Errors.{IsErrorOf};
 ghost use Rattle.plan_json.specs.Faults.{a_column, a_text, a_type, a_unit, field_list};
-ghost use Rattle.plan_json.specs.Queries.{column_of, struct_of, text_of, type_named, type_of, unit_named, unit_of};
+ghost use Rattle.plan_json.specs.Queries.{column_of, integer_named, plain_named, struct_of, text_of, type_named, type_of, unit_named, unit_of};
 
 use super::error::{JsonError, Step, at};
 use super::value::{only_member, two_items};
@@ -107,9 +107,17 @@ pub(crate) fn read_column(alloc: Global, value: &Value) -> Result<Field, JsonErr
 fn type_named(name: &str) -> Option<DataType>
     ensures { option_map ty result ≡ type_named name.now }
 {
+    match integer_named(name) {
+        Some(dtype) => Some(dtype),
+        None => plain_named(name),
+    }
+}
+
+// The type of integers of that name.
+fn integer_named(name: &str) -> Option<DataType>
+    ensures { option_map ty result ≡ integer_named name.now }
+{
     match name {
-        "Null" => Some(DataType::Null),
-        "Boolean" => Some(DataType::Boolean),
         "Int8" => Some(DataType::Int8),
         "Int16" => Some(DataType::Int16),
         "Int32" => Some(DataType::Int32),
@@ -118,6 +126,17 @@ fn type_named(name: &str) -> Option<DataType>
         "UInt16" => Some(DataType::UInt16),
         "UInt32" => Some(DataType::UInt32),
         "UInt64" => Some(DataType::UInt64),
+        _ => None,
+    }
+}
+
+// The type of that name, of those without parts that are no integers.
+fn plain_named(name: &str) -> Option<DataType>
+    ensures { option_map ty result ≡ plain_named name.now }
+{
+    match name {
+        "Null" => Some(DataType::Null),
+        "Boolean" => Some(DataType::Boolean),
         "String" => Some(DataType::String),
         "Date" => Some(DataType::Date),
         "Time" => Some(DataType::Time),

@@ -5,7 +5,7 @@ ghost use Rattle.plan_dsl.specs.Expressions.{tree_of};
 ghost use Rattle.plan_dsl.specs.Plans.{trees_of};
 ghost use Rattle.plan_json.specs.Errors.{IsErrorOf};
 ghost use Rattle.plan_json.specs.Faults.{an_expression, operands, an_operator, a_cast, a_mode, expression_list};
-ghost use Rattle.plan_json.specs.Queries.{expression_of, binary_of, operator_named, operator_of, cast_of, mode_named, mode_of, expressions_of};
+ghost use Rattle.plan_json.specs.Queries.{expression_of, binary_of, arithmetic_named, comparison_named, logic_named, operator_named, operator_of, cast_of, mode_named, mode_of, expressions_of};
 
 use super::dtype::{read_text, read_type};
 use super::error::{JsonError, Step, at};
@@ -89,9 +89,18 @@ fn read_operator(alloc: Global, value: &Value) -> Result<Operator, JsonError>
     }
 }
 
-// The operator of that name.
+// The operator of that name. Few names are looked at in one function, since its proof compares each with each.
 fn operator_named(name: &str) -> Option<Operator>
     ensures { result ≡ operator_named name.now }
+{
+    comparison_named(name)
+        .or(arithmetic_named(name))
+        .or(logic_named(name))
+}
+
+// The comparison of that name.
+fn comparison_named(name: &str) -> Option<Operator>
+    ensures { result ≡ comparison_named name.now }
 {
     match name {
         "Eq" => Some(Operator::Eq),
@@ -102,12 +111,30 @@ fn operator_named(name: &str) -> Option<Operator>
         "LtEq" => Some(Operator::LtEq),
         "Gt" => Some(Operator::Gt),
         "GtEq" => Some(Operator::GtEq),
+        _ => None,
+    }
+}
+
+// The arithmetic operator of that name.
+fn arithmetic_named(name: &str) -> Option<Operator>
+    ensures { result ≡ arithmetic_named name.now }
+{
+    match name {
         "Plus" => Some(Operator::Plus),
         "Minus" => Some(Operator::Minus),
         "Multiply" => Some(Operator::Multiply),
         "Divide" => Some(Operator::Divide),
         "FloorDivide" => Some(Operator::FloorDivide),
         "Modulus" => Some(Operator::Modulus),
+        _ => None,
+    }
+}
+
+// The operator of that name, of those that combine bits and truth values.
+fn logic_named(name: &str) -> Option<Operator>
+    ensures { result ≡ logic_named name.now }
+{
+    match name {
         "And" => Some(Operator::And),
         "Or" => Some(Operator::Or),
         "Xor" => Some(Operator::Xor),
