@@ -1,11 +1,11 @@
 //! Common types of two types.
-ghost use Rattle.std.specs.Prelude.{◌≡◌, IfOk, IfErr, Some, None, true, false, if◌then◌else◌};
+ghost use Rattle.std.specs.Prelude.{◌≡◌, IfOk, IfErr, Some, None, true, false};
 ghost use Rattle.std.specs.Option.{option_map};
 ghost use Rattle.plan_types.specs.Errors.{no_memory, IsMemoryOr};
 ghost use Rattle.plan_types.specs.Supertypes.{super_fields, supertype, signed_above, upcast};
-ghost use Rattle.plan_types.specs.Types.{NullType, DateType, DatetimeType, DurationType, ListType, StructType, TextType, Truth, fields_in, fields_of, is_bare, ty, same_type, is_integer, is_signed_integer, width_of};
+ghost use Rattle.plan_types.specs.Types.{NullType, ListType, StructType, fields_in, fields_of, is_bare, ty, same_type, is_integer, is_signed_integer, width_of};
 
-use crate::dtype::{DataType, Fields, TimeUnit, get_time_units};
+use crate::dtype::{DataType, Fields, get_time_units};
 use crate::error::{ErrorKind, PlanError};
 use crate::field::Field;
 use std::alloc::Global;
@@ -180,28 +180,11 @@ pub fn get_numeric_upcast_supertype_lossless(left: &DataType, right: &DataType) 
         } else {
             left
         };
-        integer_copy(wider)
+        wider.bare_copy()
     } else if left.is_signed_integer() {
         signed_upcast(left, right)
     } else {
         signed_upcast(right, left)
-    }
-}
-
-// The type, where it is one of integers.
-fn integer_copy(dtype: &DataType) -> Option<DataType>
-    ensures { option_map ty result ≡ (if is_integer (ty dtype.now) then Some (ty dtype.now) else None) }
-{
-    match dtype {
-        DataType::Int8 => Some(DataType::Int8),
-        DataType::Int16 => Some(DataType::Int16),
-        DataType::Int32 => Some(DataType::Int32),
-        DataType::Int64 => Some(DataType::Int64),
-        DataType::UInt8 => Some(DataType::UInt8),
-        DataType::UInt16 => Some(DataType::UInt16),
-        DataType::UInt32 => Some(DataType::UInt32),
-        DataType::UInt64 => Some(DataType::UInt64),
-        _other => None,
     }
 }
 
@@ -214,7 +197,7 @@ fn signed_upcast(signed: &DataType, unsigned: &DataType) -> Option<DataType>
 {
     let width = unsigned.width();
     if signed.width() > width {
-        integer_copy(signed)
+        signed.bare_copy()
     } else if width == 8 {
         Some(DataType::Int16)
     } else if width == 16 {

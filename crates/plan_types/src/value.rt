@@ -61,21 +61,15 @@ impl Value {
     pub fn fits(&self, dtype: &DataType) -> bool
         ensures { result ≡ fits (val_of self.now) (ty dtype.now) }
     {
-        match self {
-            Value::Null => true,
-            Value::Boolean(_) => matches!(dtype, DataType::Boolean),
-            Value::Int(number) => dtype.has_number(*number),
-            Value::Text(_) => matches!(dtype, DataType::String),
-            Value::List(items) => match dtype {
-                DataType::List(item) => items_fit(items.items.as_slice(), item),
-                _ => false,
-            },
-            Value::Struct(parts) => match dtype {
-                DataType::Struct(fields) => {
-                    parts_fit(parts.items.as_slice(), fields.items.as_slice())
-                }
-                _ => false,
-            },
+        match (self, dtype) {
+            (Value::Null, _) => true,
+            (Value::Boolean(_), DataType::Boolean) | (Value::Text(_), DataType::String) => true,
+            (Value::Int(number), _) => dtype.has_number(*number),
+            (Value::List(items), DataType::List(item)) => items_fit(items.items.as_slice(), item),
+            (Value::Struct(parts), DataType::Struct(fields)) => {
+                parts_fit(parts.items.as_slice(), fields.items.as_slice())
+            }
+            _ => false,
         }
     }
 
