@@ -3,7 +3,7 @@
 ghost use Rattle.std.specs.Prelude.{◌≡◌, ◌==◌, ◌++◌, [], ◌∷◌, pos, map, codes, true, false};
 ghost use Rattle.std.specs.List.{filter, list_all, list_any};
 ghost use Rattle.plan_types.specs.Types.{Ty, NullType, Truth, Integer, TextType, DateType, TimeType, DatetimeType, DurationType, ListType, Untyped, ty, is_bare, is_counted, is_known, is_null, is_truth, is_integer, is_signed_integer, is_unsigned_integer, is_text, is_temporal, is_ord, width_of, per_day, unit_rank, coarser, same_type, same_field, fields_in, field_of, no_field, with_field};
-ghost use Rattle.plan_types.specs.Samples.{struct_a, struct_ab, bare_types, coarser_units, distinct_types, integers, minus, nested_types, other_types, signed_integers, times, types, units, unsigned_integers, untyped};
+ghost use Rattle.plan_types.specs.Samples.{bare_types, coarser_units, distinct_types, int8, integers, minus, nested_types, number, other_types, signed_integers, struct_a, struct_ab, times, types, uint8, units, unsigned_integers, untyped};
 ghost use Rattle.plan_types.specs.declared.field.Field.{Field};
 ghost use Rattle.plan_types.specs.declared.dtype.TimeUnit.{TimeUnit};
 ghost use Rattle.plan_types.specs.declared.dtype.UnknownKind.TheVariants.{Int};
@@ -37,24 +37,23 @@ pub fn classes_of_types()
 /// A type is one of columns where no number's own type stands in it, at any depth.
 pub fn known_types()
     ensures known { (unit : TimeUnit) → list_all is_known (bare_types unit ++ nested_types) ≡ true }
-    ensures deep { list_all is_known (ListType (ListType NullType) ∷ struct_ab (ty Int8) TextType ∷ struct_ab (ty Int8) (ListType (ty Int8)) ∷ ListType (struct_a (ListType DateType)) ∷ []) ≡ true }
-    ensures unknown { let number : Ty = Untyped (pos 1) in
-        list_any is_known (number ∷ ListType number ∷ ListType (ListType number) ∷ struct_ab (ty Int8) number ∷ struct_ab (ty Int8) (ListType number)
-        ∷ struct_ab number (ty Int8) ∷ ListType (struct_a (ListType number)) ∷ []) ≡ false }
+    ensures deep { list_all is_known (ListType (ListType NullType) ∷ struct_ab int8 TextType ∷ struct_ab int8 (ListType int8) ∷ ListType (struct_a (ListType DateType)) ∷ []) ≡ true }
+    ensures unknown { let number : Ty = Untyped (pos 1) in list_any is_known (number ∷ ListType number ∷ ListType (ListType number) ∷ struct_ab int8 number ∷ struct_ab int8 (ListType number)
+        ∷ struct_ab number int8 ∷ ListType (struct_a (ListType number)) ∷ []) ≡ false }
 {}
 
 /// A type is the same as itself alone: integers by sign and bits, times by their unit, lists by their items' type, structs
 /// by names and types in order, and numbers' own types by the number. So are fields, by name and type.
 pub fn types_that_are_one()
     ensures types { map (λ type. filter (same_type type) distinct_types) distinct_types ≡ map (λ type. type ∷ []) distinct_types }
-    ensures fields { filter (same_field (codes "a", ty Int8)) ((codes "a", ty UInt8) ∷ (codes "b", ty Int8) ∷ (codes "a", ty Int8) ∷ (codes "", ty Int8) ∷ []) ≡ (codes "a", ty Int8) ∷ [] }
+    ensures fields { filter (same_field (codes "a", int8)) ((codes "a", uint8) ∷ (codes "b", int8) ∷ (codes "a", int8) ∷ (codes "", int8) ∷ []) ≡ (codes "a", int8) ∷ [] }
 {}
 
 /// Fields by their names and types, in order.
 pub fn fields_of_structs()
-    ensures field { let a : Field = record { name = codes "a"; dtype = Int8 } in field_of a ≡ (codes "a", ty Int8) }
-    ensures fields { let a : Field = record { name = codes "a"; dtype = Int8 } in let b : Field = record { name = codes "b"; dtype = Date } in
-        map fields_in ((b ∷ a ∷ b ∷ []) ∷ [] ∷ []) ≡ with_field (codes "b") DateType (with_field (codes "a") (Integer true 8) (with_field (codes "b") DateType no_field)) ∷ no_field ∷ [] }
+    ensures field { let a : Field = record { name = codes "a"; dtype = Int8 } in field_of a ≡ (codes "a", int8) }
+    ensures fields { let a : Field = record { name = codes "a"; dtype = Int8 } in let b : Field = record { name = codes "b"; dtype = Date } in map fields_in ((b ∷ a ∷ b ∷ []) ∷ [] ∷ [])
+        ≡ with_field (codes "b") DateType (with_field (codes "a") (Integer true 8) (with_field (codes "b") DateType no_field)) ∷ no_field ∷ [] }
 {}
 
 /// How many of each unit a day has, and of two units the coarser: milliseconds are the coarsest.
