@@ -10,7 +10,7 @@ use crate::error::{ErrorKind, PlanError};
 use crate::schema::Schema;
 use crate::text::PlSmallStr;
 use indexmap::IndexSet;
-use std::alloc::{AllocError, Global};
+use std::alloc::Global;
 use thiserror::Error;
 
 /// Why columns are no frame.
@@ -37,17 +37,6 @@ pub enum FrameError {
     /// Memory ran out. It may stand in place of any other answer.
     #[error("no memory")]
     NoMemory,
-}
-
-impl From<AllocError> for FrameError {
-    ghost use Rattle.std.specs.Prelude.{◌≡◌};
-    ghost use Rattle.plan_types.specs.declared.frame.FrameError.TheVariants.{NoMemory};
-
-    ghost from_gives = { λ _ error. error ≡ NoMemory };
-
-    fn from(_error: AllocError) -> FrameError {
-        FrameError::NoMemory
-    }
 }
 
 /// A frame. Contracts see its schema and its rows as `frame_of`.
