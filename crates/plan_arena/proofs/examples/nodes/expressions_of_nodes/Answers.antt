@@ -1,20 +1,12 @@
-use Rattle.std.proofs.Common.{◌≡◌, ℕ, List, [], ◌∷◌, codes, true, refl, subst}
-use Rattle.plan_types.specs.Types.{Integer}
-use Rattle.plan_types.specs.declared.dtype.DataType.TheVariants.{Int32}
-use Rattle.plan_types.specs.declared.dtype.CastOptions.TheVariants.{NonStrict}
-use Rattle.plan_dsl.specs.declared.operator.Operator.TheVariants.{Plus}
+use Rattle.std.proofs.Common.{◌≡◌, ℕ, List, [], ◌∷◌, refl, subst}
 use Rattle.plan_dsl.specs.Trees.{Trees, node, no_more, more}
-use Rattle.plan_dsl.specs.Ops.{Op, ColumnOp, CastOp, Expression}
-use Rattle.plan_arena.specs.declared.aexpr.AExpr.{AExpr}
-use Rattle.plan_arena.specs.declared.aexpr.AExpr.TheVariants.{Column, BinaryExpr, Cast}
+use Rattle.plan_dsl.specs.Ops.{Op, Expression}
 use Rattle.plan_arena.specs.Denotation.{Denotes, DenoteAll}
 use Rattle.plan_arena.specs.Items.{HoldsExpression}
-use Rattle.plan_arena.proofs.examples.expressions_of_nodes.Goals as goal
+use Rattle.plan_arena.specs.Samples.{circle, sum_items, wide_a}
+use Rattle.plan_arena.proofs.examples.nodes.expressions_of_nodes.Goals as goal
 
-abbrev items : List AExpr
-items = Column (codes "a") ∷ Column (codes "b") ∷ Cast (record { 0 = 0 }) Int32 NonStrict ∷ BinaryExpr (record { 0 = 2 }) Plus (record { 0 = 1 }) ∷ []
-
-cast_denotes : Denotes (HoldsExpression items) 2 (node (CastOp (Integer true 32) NonStrict) (more (node (ColumnOp (codes "a")) no_more) no_more))
+cast_denotes : Denotes (HoldsExpression sum_items) 2 wide_a
 cast_denotes = (0 ∷ [], refl, (([], refl, tt), tt))
 
 pub returns-clause-cast : goal.returns-clause-cast
@@ -24,9 +16,6 @@ pub returns-clause-sum : goal.returns-clause-sum
 returns-clause-sum c = (2 ∷ 1 ∷ [], refl, (cast_denotes, (([], refl, tt), tt)))
 
 -- a node that is its own input denotes no tree, since the child would be the whole
-abbrev circle : List AExpr
-circle = Cast (record { 0 = 0 }) Int32 NonStrict ∷ []
-
 its_input : (op : Op) (inputs : List ℕ) → HoldsExpression circle 0 op inputs → inputs ≡ 0 ∷ []
 its_input op inputs h = cc
 

@@ -1,0 +1,38 @@
+use Rattle.std.proofs.Common.{[], ◌∷◌, Option, ℕ, List, Some, codes, refl}
+use Rattle.plan_types.specs.Schemas.{Columns, columns}
+use Rattle.plan_dsl.specs.Plans.{scan_op, filter_op}
+use Rattle.plan_arena.specs.declared.aexpr.AExpr.{AExpr}
+use Rattle.plan_arena.specs.Items.{DenotesOp, output_text}
+use Rattle.plan_arena.proofs.examples.nodes.plans_of_items.Goals as goal
+
+scan_denotes : (items : List AExpr) (table : Option ℕ) (schema : Columns) → DenotesOp items (scan_op table schema) (scan_op table schema)
+scan_denotes items table schema = record { same_kind = refl; same_schema = refl; named = tt }
+
+pub returns-clause-held_scan : goal.returns-clause-held_scan
+returns-clause-held_scan c = λ schema. record { flat = scan_op (Some 0) (columns schema); item = refl; denotes = scan_denotes [] (Some 0) (columns schema) }
+
+pub returns-clause-held_filter : goal.returns-clause-held_filter
+returns-clause-held_filter c = λ name. record {
+  flat = filter_op (record { name = output_text name; expression = 0 });
+  item = refl;
+  denotes = record { same_kind = refl; same_schema = refl; named = (refl, ([], refl, tt), tt) };
+}
+
+pub returns-clause-scan : goal.returns-clause-scan
+returns-clause-scan c = λ schema.
+    ([], record { flat = scan_op (Some 0) (columns schema); is = refl; denotes = scan_denotes [] (Some 0) (columns schema) }, tt)
+
+pub returns-clause-filter : goal.returns-clause-filter
+returns-clause-filter c = λ schema. (
+  0 ∷ [],
+  record {
+    flat = filter_op (record { name = codes "a"; expression = 0 });
+    is = refl;
+    denotes = record { same_kind = refl; same_schema = refl; named = (refl, ([], refl, tt), tt) };
+  },
+  (([], record { flat = scan_op (Some 0) (columns schema); item = refl; denotes = scan_denotes _ (Some 0) (columns schema) }, tt), tt),
+)
+
+pub returns-clause-top : goal.returns-clause-top
+returns-clause-top c = λ schema.
+    ([], record { flat = scan_op (Some 3) (columns schema); item = refl; denotes = scan_denotes [] (Some 3) (columns schema) }, tt)

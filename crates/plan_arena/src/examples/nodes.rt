@@ -1,0 +1,139 @@
+//! Worked examples on items of the two arenas, and on what nodes denote.
+#![tactic(auto, unfolding(crate::specs::Denotation::depth_within, crate::specs::Denotation::depth_at))]
+
+ghost use Rattle.std.specs.Prelude.{◌≡◌, ℕ, List, [], ◌∷◌, pos, neg_ℤ, codes, true, false, Some, None};
+ghost use Rattle.std.specs.List.{AllByRecursion};
+ghost use Rattle.plan_types.specs.Types.{Integer, Untyped};
+ghost use Rattle.plan_types.specs.Values.{IntValue};
+ghost use Rattle.plan_types.specs.Schemas.{columns};
+ghost use Rattle.plan_types.specs.declared.schema.Schema.{Schema};
+ghost use Rattle.plan_types.specs.declared.dtype.CastOptions.TheVariants.{Strict, NonStrict};
+ghost use Rattle.plan_types.specs.declared.dtype.DataType.TheVariants.{UInt16};
+ghost use Rattle.plan_dsl.specs.declared.literal.LiteralValue.TheVariants.{Int, Int8, UInt64};
+ghost use Rattle.plan_dsl.specs.declared.operator.Operator.TheVariants.{Plus};
+ghost use Rattle.plan_dsl.specs.declared.plan.ProjectionOptions.{ProjectionOptions};
+ghost use Rattle.plan_dsl.specs.Trees.{node, no_more, more};
+ghost use Rattle.plan_dsl.specs.Ops.{ColumnOp, LiteralOp, BinaryOp, CastOp, Expression};
+ghost use Rattle.plan_dsl.specs.Plans.{Named, named, scan_op, select_op, filter_op};
+ghost use Rattle.plan_dsl.specs.Samples.{Gives, GivesOfTwo, int8, int32, a, b, cast_as, column, keep, literal, sum, typed_literal};
+ghost use Rattle.plan_arena.specs.declared.aexpr.AExpr.{AExpr};
+ghost use Rattle.plan_arena.specs.declared.aexpr.AExpr.TheVariants.{Column, Literal, BinaryExpr, Cast};
+ghost use Rattle.plan_arena.specs.declared.arena.Node.{Node};
+ghost use Rattle.plan_arena.specs.declared.expr_ir.ExprIR.{ExprIR};
+ghost use Rattle.plan_arena.specs.declared.expr_ir.ExprIRs.{ExprIRs};
+ghost use Rattle.plan_arena.specs.declared.expr_ir.OutputName.{OutputName};
+ghost use Rattle.plan_arena.specs.declared.expr_ir.OutputName.TheVariants.{ColumnLhs, LiteralLhs};
+ghost use Rattle.plan_arena.specs.declared.ir.IR.TheVariants.{DataFrameScan, Filter, Select};
+ghost use Rattle.plan_arena.specs.declared.plan.IRPlan.{IRPlan};
+ghost use Rattle.plan_arena.specs.Layers.{layer};
+ghost use Rattle.plan_arena.specs.Denotation.{Denotes, DenotesTree, depth_at};
+ghost use Rattle.plan_arena.specs.Items.{expression_layer, output_text, named_node, node_name, plan_layer, DenoteNamed, DenotesItem, DenotesPlan, Grows, HasInputs, HoldsExpression, HoldsFrom, HoldsPlan};
+ghost use Rattle.plan_arena.specs.OutputNames.{kept_output, output_of};
+ghost use Rattle.plan_arena.specs.Samples.{a_at, circle, named_at, node_at, strict_sum, sum_items, wide_a};
+
+/// The layer of an item is what it does, with its expressions' names and its schema, and the numbers of its inputs.
+pub fn layers_of_items()
+    ensures expressions { Gives expression_layer ((Column (codes "a"), layer (ColumnOp (codes "a")) [])
+        ∷ (Cast (node_at 7) UInt16 Strict, layer (CastOp (Integer false 16) Strict) (7 ∷ []))
+        ∷ (BinaryExpr (node_at 4) Plus (node_at 2), layer (BinaryOp Plus) (4 ∷ 2 ∷ []))
+        ∷ (Literal (Int (neg_ℤ (pos 5))), layer (LiteralOp (Untyped (neg_ℤ (pos 5))) (IntValue (neg_ℤ (pos 5)))) [])
+        ∷ (Literal (Int8 (neg_ℤ (pos 128))), layer (LiteralOp int8 (IntValue (neg_ℤ (pos 128)))) [])
+        ∷ (Literal (UInt64 18446744073709551615), layer (LiteralOp (Integer false 64) (IntValue (pos 18446744073709551615))) []) ∷ []) }
+    ensures plans { (schema : Schema) → Gives plan_layer ((DataFrameScan (Some 2) schema, layer (scan_op (Some 2) (columns schema)) [])
+        ∷ (DataFrameScan None schema, layer (scan_op None (columns schema)) []) ∷ (Filter (node_at 5) (a_at 3), layer (filter_op (named_at "a" 3)) (5 ∷ [])) ∷ []) }
+    ensures select { (exprs : ExprIRs) (schema : Schema) (options : ProjectionOptions) →
+        let literal_at : ExprIR = record { node = node_at 4; output_name = LiteralLhs (codes "literal") } in exprs.items.items ≡ a_at 3 ∷ literal_at ∷ [] →
+        plan_layer (Select exprs (node_at 5) schema options) ≡ layer (select_op (named_at "a" 3 ∷ named_at "literal" 4 ∷ []) (columns schema)) (5 ∷ []) }
+    ensures names { (schema : Schema) (input : Node) (predicate : ExprIR) (exprs : ExprIRs) (options : ProjectionOptions) → Gives node_name
+        ((DataFrameScan (Some 0) schema, codes "df") ∷ (DataFrameScan None schema, codes "df") ∷ (Filter input predicate, codes "selection")
+        ∷ (Select exprs input schema options, codes "projection") ∷ []) }
+{}
+
+/// The name of an expression's column comes from its leftmost column, or from a literal there.
+pub fn names_of_outputs()
+    ensures origins { Gives output_of ((a, ColumnLhs (codes "a")) ∷ (typed_literal int8 (pos 1), LiteralLhs (codes "literal")) ∷ (sum b a, ColumnLhs (codes "b"))
+        ∷ (sum (typed_literal int8 (pos 1)) a, LiteralLhs (codes "literal")) ∷ (cast_as NonStrict int32 a, ColumnLhs (codes "a")) ∷ (column "literal", ColumnLhs (codes "literal")) ∷ []) }
+    ensures kept { let expr : ExprIR = record { node = node_at 3; output_name = LiteralLhs (codes "literal") } in kept_output expr ≡ LiteralLhs (codes "literal") }
+    ensures texts { Gives output_text ((LiteralLhs (codes "literal"), codes "literal") ∷ (ColumnLhs (codes "a"), codes "a") ∷ []) }
+    ensures named { named_node (a_at 3) ≡ named_at "a" 3 }
+{}
+
+/// A node denotes the tree that its item and those of its inputs make.
+pub fn expressions_of_nodes()
+    ensures column { Denotes (HoldsExpression sum_items) 0 a }
+    ensures cast { Denotes (HoldsExpression sum_items) 2 wide_a }
+    ensures sum { Denotes (HoldsExpression sum_items) 3 strict_sum }
+    ensures others { AllByRecursion {X = ℕ × Expression} (λ c. ¬ (Denotes (HoldsExpression sum_items) c.0 c.1)) ((1, a) ∷ (3, sum a b) ∷ (3, sum b wide_a) ∷ (4, a) ∷ []) }
+    ensures circle { ¬ (DenotesTree (HoldsExpression circle) 0) }
+{}
+
+/// A node that has a literal denotes that of its type and value.
+pub fn literals_of_nodes()
+    ensures untyped { Denotes (HoldsExpression (Literal (Int (pos 1)) ∷ [])) 0 (literal (pos 1)) }
+    ensures typed { Denotes (HoldsExpression (Literal (Int8 (pos 1)) ∷ [])) 0 (typed_literal int8 (pos 1)) }
+    ensures others { AllByRecursion {X = AExpr × Expression} (λ c. ¬ (Denotes (HoldsExpression (c.0 ∷ [])) 0 c.1))
+        ((Literal (Int8 (pos 1)), typed_literal int8 (pos 2)) ∷ (Literal (Int (pos 1)), typed_literal int8 (pos 1)) ∷ (Column (codes "a"), typed_literal int8 (pos 1)) ∷ []) }
+    ensures sum { let items = Column (codes "a") ∷ Literal (Int8 (pos 1)) ∷ BinaryExpr (node_at 0) Plus (node_at 1) ∷ [] in
+        Denotes (HoldsExpression items) 2 (sum a (typed_literal int8 (pos 1))) }
+    ensures sum_of_another_literal { let items = Column (codes "a") ∷ Literal (Int8 (pos 1)) ∷ BinaryExpr (node_at 0) Plus (node_at 1) ∷ [] in
+        ¬ (Denotes (HoldsExpression items) 2 (sum a (literal (pos 1)))) }
+{}
+
+/// An output of a plan's node denotes an expression of its name.
+pub fn outputs_of_nodes()
+    ensures none { DenoteNamed [] [] [] }
+    ensures sum { DenoteNamed sum_items (named_at "a" 3 ∷ []) (named strict_sum ∷ []) }
+    ensures literal { DenoteNamed (Literal (Int8 (pos 1)) ∷ []) (named_at "literal" 0 ∷ []) (named (typed_literal int8 (pos 1)) ∷ []) }
+    ensures other_literal { ¬ (DenoteNamed (Literal (Int8 (pos 1)) ∷ []) (named_at "a" 0 ∷ []) (named (typed_literal int8 (pos 1)) ∷ [])) }
+    ensures others { AllByRecursion {X = List (Named ℕ) × List (Named Expression)} (λ c. ¬ (DenoteNamed sum_items c.0 c.1))
+        ((named_at "b" 3 ∷ [], named strict_sum ∷ []) ∷ (named_at "a" 0 ∷ [], named strict_sum ∷ []) ∷ ([], named a ∷ []) ∷ (named_at "a" 0 ∷ named_at "a" 0 ∷ [], named a ∷ []) ∷ []) }
+{}
+
+/// A plan's item denotes a plan over the plans that its inputs denote, and the top of a lowered plan the whole.
+pub fn plans_of_items()
+    ensures held_scan { (schema : Schema) → HoldsPlan [] (DataFrameScan (Some 0) schema ∷ []) 0 (scan_op (Some 0) (columns schema)) [] }
+    ensures other_table { (schema : Schema) → ¬ (HoldsPlan [] (DataFrameScan (Some 0) schema ∷ []) 0 (scan_op (Some 1) (columns schema)) []) }
+    ensures held_filter { (name : OutputName) → let predicate : ExprIR = record { node = node_at 0; output_name = name } in
+        let named_a : Named Expression = record { name = output_text name; expression = a } in
+        HoldsPlan (Column (codes "a") ∷ []) (Filter (node_at 0) predicate ∷ []) 0 (filter_op named_a) (0 ∷ []) }
+    ensures scan { (schema : Schema) → DenotesItem [] [] (DataFrameScan (Some 0) schema) (node (scan_op (Some 0) (columns schema)) no_more) }
+    ensures other_scan { (schema : Schema) → ¬ (DenotesItem [] [] (DataFrameScan (Some 0) schema) (node (scan_op None (columns schema)) no_more)) }
+    ensures filter { (schema : Schema) → DenotesItem (Column (codes "a") ∷ []) (DataFrameScan (Some 0) schema ∷ []) (Filter (node_at 0) (a_at 0))
+        (keep a (node (scan_op (Some 0) (columns schema)) no_more)) }
+    ensures filter_without_its_input { (schema : Schema) → ¬ (DenotesItem (Column (codes "a") ∷ []) (DataFrameScan (Some 0) schema ∷ []) (Filter (node_at 0) (a_at 0))
+        (node (filter_op (named a)) no_more)) }
+    ensures top { (schema : Schema) → let lowering : IRPlan = record {
+      lp_top = node_at 1;
+      lp_arena = DataFrameScan None schema ∷ DataFrameScan (Some 3) schema
+          ∷ [];
+      expr_arena = [];
+    } in DenotesPlan lowering (node (scan_op (Some 3) (columns schema)) no_more) }
+    ensures another_node { (schema : Schema) → let lowering : IRPlan = record {
+      lp_top = node_at 1;
+      lp_arena = DataFrameScan None schema ∷ DataFrameScan (Some 3) schema
+          ∷ [];
+      expr_arena = [];
+    } in ¬ (DenotesPlan lowering (node (scan_op None (columns schema)) no_more)) }
+{}
+
+/// The inputs of a plan's item denote plans, and lead into no circle.
+pub fn inputs_of_items()
+    ensures scan { (schema : Schema) → HasInputs [] (DataFrameScan (Some 0) schema) }
+    ensures filter { (schema : Schema) (predicate : ExprIR) → HasInputs (DataFrameScan (Some 0) schema ∷ []) (Filter (node_at 0) predicate) }
+    ensures no_such_input { (schema : Schema) (predicate : ExprIR) → ¬ (HasInputs (DataFrameScan (Some 0) schema ∷ []) (Filter (node_at 1) predicate)) }
+    ensures itself_as_its_input { (predicate : ExprIR) → ¬ (HasInputs (Filter (node_at 0) predicate ∷ []) (Filter (node_at 0) predicate)) }
+{}
+
+/// How far down the inputs lead, a node itself counted.
+pub fn depths_of_nodes()
+    ensures { GivesOfTwo depth_at (([] ∷ [], 0, 1) ∷ ([] ∷ (0 ∷ []) ∷ [], 1, 2) ∷ ([] ∷ [] ∷ (0 ∷ []) ∷ (2 ∷ 1 ∷ []) ∷ [], 3, 3) ∷ ([] ∷ (0 ∷ 0 ∷ []) ∷ [], 1, 2) ∷
+        ((1 ∷ []) ∷ [] ∷ [], 0, 2) ∷ []) }
+{}
+
+/// A node from a number on, and arenas that grow.
+pub fn arenas_that_grow()
+    ensures from_it { HoldsFrom 1 (Column (codes "a") ∷ Column (codes "b") ∷ []) 1 (ColumnOp (codes "b")) [] }
+    ensures not_from_it { AllByRecursion {X = ℕ × List ℕ} (λ c. ¬ (HoldsFrom c.0 (Column (codes "a") ∷ Column (codes "b") ∷ []) 1 (ColumnOp c.1) [])) ((2, codes "b") ∷ (1, codes "a") ∷ []) }
+    ensures grown { AllByRecursion (Grows {T = ℕ} (1 ∷ [])) ((1 ∷ []) ∷ (1 ∷ 2 ∷ []) ∷ []) }
+    ensures not_grown { AllByRecursion {X = List ℕ × List ℕ} (λ c. ¬ (Grows {T = ℕ} c.0 c.1)) ((1 ∷ 2 ∷ [], 1 ∷ []) ∷ (1 ∷ [], 2 ∷ 1 ∷ []) ∷ (1 ∷ [], 3 ∷ 2 ∷ []) ∷ []) }
+{}

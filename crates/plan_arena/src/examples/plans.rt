@@ -1,0 +1,70 @@
+//! Worked examples on lowered plans: which are accepted and strict, what they give, and which run soundly.
+
+ghost use Rattle.std.specs.Prelude.{◌≡◌, [], ◌∷◌, pos, true};
+ghost use Rattle.std.specs.List.{AllByRecursion};
+ghost use Rattle.plan_types.specs.Types.{Truth};
+ghost use Rattle.plan_types.specs.Outcomes.{Done, Fault, Stuck};
+ghost use Rattle.plan_types.specs.Frames.{empty_frame};
+ghost use Rattle.plan_types.specs.declared.dtype.CastOptions.TheVariants.{Strict};
+ghost use Rattle.plan_dsl.specs.Plans.{empty_table};
+ghost use Rattle.plan_dsl.specs.PlanMeaning.{source_meaning};
+ghost use Rattle.plan_dsl.specs.Samples.{Gives, int8, int16, int32, int64, number, null, yes, a, b, cast_as, column, empty_scan, frame_with, keep, less, literal, scan, scan_of, schema_ab, schema_flagged, select, sum, table, typed_literal};
+ghost use Rattle.plan_arena.specs.Runs.{top_schema, IsAccepted, IsStrictPlan, plan_run, RunsSoundly};
+ghost use Rattle.plan_arena.specs.Samples.{lowered_number, lowered_select, lowered_sum, narrowed, schema_of_one, sums, three_flagged, three_numbers};
+
+/// A lowered plan runs by its written casts alone, and gives what the query means.
+pub fn plans_run_as_written()
+    ensures runs { Gives (plan_run [] (table ∷ [])) ((lowered_sum (schema_of_one "a" int32), Done sums) ∷ (select (sum a b ∷ []) (scan schema_ab), Stuck)
+        ∷ (narrowed, Fault) ∷ (lowered_select [] [] empty_table, Done empty_frame) ∷ []) }
+    ensures meaning { source_meaning [] (table ∷ []) (select (sum a b ∷ []) (scan schema_ab)) ≡ Done sums }
+    ensures the_same_as_meant { plan_run [] (table ∷ []) (lowered_sum (schema_of_one "a" int32)) ≡ source_meaning [] (table ∷ []) (select (sum a b ∷ []) (scan schema_ab)) }
+    ensures no_such_table { plan_run [] [] (lowered_sum (schema_of_one "a" int32)) ≡ Stuck }
+    ensures number { Gives (plan_run [] [])
+        ((lowered_number int32 (typed_literal int32 (pos 5)), Done (frame_with (schema_of_one "literal" int32) ((number 5 ∷ []) ∷ [])))
+        ∷ (lowered_number int32 (literal (pos 5)), Stuck) ∷ []) }
+    ensures number_as_meant { plan_run [] [] (lowered_number int32 (typed_literal int32 (pos 5)))
+        ≡ source_meaning [] [] (select (literal (pos 5) ∷ []) (empty_scan (schema_of_one "a" int8))) }
+{}
+
+/// A lowered filter gives the rows that the query's filter means.
+pub fn filters_run_as_written()
+    ensures runs { Gives (plan_run [] (three_flagged ∷ [])) ((keep (column "keep") (scan schema_flagged), Done (frame_with schema_flagged ((number 1 ∷ yes ∷ []) ∷ [])))
+        ∷ (keep (cast_as Strict Truth (sum a (column "keep"))) (scan schema_flagged), Stuck) ∷ []) }
+    ensures the_same_as_meant { plan_run [] (three_flagged ∷ []) (keep (column "keep") (scan schema_flagged))
+        ≡ source_meaning [] (three_flagged ∷ []) (keep (column "keep") (scan schema_flagged)) }
+    ensures comparisons { Gives (λ five. plan_run [] (three_numbers ∷ []) (keep (less a five) (scan (schema_of_one "a" int8))))
+        ((typed_literal int8 (pos 5), Done (frame_with (schema_of_one "a" int8) ((number 1 ∷ []) ∷ []))) ∷ (literal (pos 5), Stuck) ∷ []) }
+{}
+
+/// A plan is accepted where each node has its own schema by the rules: a filter has that of its input.
+pub fn plans_that_are_accepted()
+    ensures schemas { Gives top_schema ((keep (column "keep") (scan schema_flagged), schema_flagged)
+        ∷ (keep a (keep (column "keep") (keep (column "keep") (scan schema_flagged))), schema_flagged) ∷ []) }
+    ensures accepted { AllByRecursion (IsAccepted []) (lowered_sum (schema_of_one "a" int32) ∷ keep (column "keep") (scan schema_flagged)
+        ∷ lowered_select (schema_of_one "a" int8) (a ∷ []) (keep (column "keep") (scan schema_flagged)) ∷ lowered_number int32 (typed_literal int32 (pos 5))
+        ∷ lowered_number int32 (literal (pos 5)) ∷ []) }
+    ensures others { AllByRecursion (λ plan. ¬ (IsAccepted [] plan)) (select (sum a b ∷ []) (scan schema_ab) ∷ lowered_sum (schema_of_one "a" int64)
+        ∷ keep a (scan schema_flagged) ∷ lowered_number int8 (typed_literal int32 (pos 5)) ∷ []) }
+{}
+
+/// A plan is strict where each expression is.
+pub fn plans_that_are_strict()
+    ensures sum { IsStrictPlan [] (lowered_sum (schema_of_one "a" int32)) }
+    ensures filter { IsStrictPlan [] (keep (column "keep") (scan schema_flagged)) }
+    ensures number { IsStrictPlan [] (lowered_number int32 (typed_literal int32 (pos 5))) }
+    ensures sum_of_two_types { ¬ (IsStrictPlan [] (select (sum a b ∷ []) (scan schema_ab))) }
+    ensures filter_of_two_types { ¬ (IsStrictPlan [] (keep (sum a (column "keep")) (scan schema_flagged))) }
+    ensures untyped { ¬ (IsStrictPlan [] (lowered_number int32 (literal (pos 5)))) }
+{}
+
+/// A plan runs soundly where no node is stuck, and each node's frame has exactly the node's own schema.
+pub fn plans_that_run_soundly()
+    ensures sums { AllByRecursion (RunsSoundly [] (table ∷ [])) (lowered_sum (schema_of_one "a" int32) ∷ narrowed ∷ []) }
+    ensures filters { AllByRecursion (RunsSoundly [] (three_flagged ∷ [])) (keep (column "keep") (scan schema_flagged)
+        ∷ lowered_select (schema_of_one "a" int8) (a ∷ []) (keep (column "keep") (scan schema_flagged)) ∷ []) }
+    ensures number { RunsSoundly [] [] (lowered_number int32 (typed_literal int32 (pos 5))) }
+    ensures stuck { ¬ (RunsSoundly [] (table ∷ []) (select (sum a b ∷ []) (scan schema_ab))) }
+    ensures stuck_below { ¬ (RunsSoundly [] (table ∷ []) (lowered_select [] [] (scan_of 1 []))) }
+    ensures other_schema { ¬ (RunsSoundly [] (table ∷ []) (lowered_select (schema_of_one "a" int16) (a ∷ []) (scan schema_ab))) }
+    ensures untyped { ¬ (RunsSoundly [] [] (lowered_number int32 (literal (pos 5)))) }
+{}
