@@ -1,0 +1,82 @@
+//! Names, types and hashes that the tests share.
+
+use plan_types::dtype::TimeUnit::{Microseconds, Milliseconds, Nanoseconds};
+use plan_types::dtype::{DataType, Fields, UnknownKind};
+use plan_types::field::Field;
+use plan_types::text::PlSmallStr;
+use std::alloc::Global;
+use std::hash::{FoldHasher, Hash, Hasher};
+use std::test::Fail;
+
+/// How many parts the tests give to what has parts.
+pub(crate) const SIZES: [usize; 5] = [0, 1, 2, 50, 300];
+
+/// How many bytes the tests give to a name.
+pub(crate) const LENGTHS: [usize; 5] = [0, 1, 2, 1_001, 100_000];
+
+pub(crate) fn hash_of<T: Hash>(value: &T) -> u64 {
+    let mut hasher = FoldHasher::default();
+    value.hash(&mut hasher);
+    hasher.finish()
+}
+
+/// The name of the part of that number.
+pub(crate) fn numbered(alloc: Global, number: usize) -> Result<PlSmallStr, Fail> {
+    let text = format!(in alloc; "part {number}")?;
+    let name = PlSmallStr::new(alloc, text.as_str())?;
+    Ok(name)
+}
+
+/// A name of so many bytes.
+pub(crate) fn long_name(alloc: Global, length: usize) -> Result<PlSmallStr, Fail> {
+    let text = "n".repeat(alloc, length)?;
+    let name = PlSmallStr::new(alloc, text.as_str())?;
+    Ok(name)
+}
+
+/// Each type without parts, and those of two numbers without one.
+pub(crate) fn bare_types() -> [DataType; 21] {
+    [
+        DataType::Null,
+        DataType::Boolean,
+        DataType::Int8,
+        DataType::Int16,
+        DataType::Int32,
+        DataType::Int64,
+        DataType::UInt8,
+        DataType::UInt16,
+        DataType::UInt32,
+        DataType::UInt64,
+        DataType::String,
+        DataType::Date,
+        DataType::Time,
+        DataType::Datetime(Nanoseconds),
+        DataType::Datetime(Microseconds),
+        DataType::Datetime(Milliseconds),
+        DataType::Duration(Nanoseconds),
+        DataType::Duration(Microseconds),
+        DataType::Duration(Milliseconds),
+        DataType::Unknown(UnknownKind::Int(1)),
+        DataType::Unknown(UnknownKind::Int(-1)),
+    ]
+}
+
+/// The type of structs of so many fields of the type.
+pub(crate) fn struct_type(alloc: Global, count: usize, dtype: &DataType) -> Result<DataType, Fail> {
+    let mut items = Vec::new(alloc);
+    for number in 0..count {
+        let name = numbered(alloc, number)?;
+        let dtype = dtype.try_clone(alloc)?;
+        items.push(Field::new(name, dtype))?;
+    }
+    Ok(DataType::Struct(Fields { items }))
+}
+
+/// The type of lists of lists, so many levels deep, of the type.
+pub(crate) fn deep_type(alloc: Global, levels: usize, dtype: &DataType) -> Result<DataType, Fail> {
+    let mut deep = dtype.try_clone(alloc)?;
+    for _ in 0..levels {
+        deep = deep.implode(alloc)?;
+    }
+    Ok(deep)
+}

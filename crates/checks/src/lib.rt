@@ -1,0 +1,13 @@
+//! Tests of what a proof can't show: with ample memory each call gives its answer, at any size.
+//!
+//! A contract lets want of memory stand in place of any answer. So each call that takes memory is made here, with no
+//! part, with one, two and many, and its answer is compared.
+#![tactic(auto)]
+
+#[cfg(test)]
+mod fixtures;
+pub mod sums;
+#[cfg(test)]
+mod types;
+#[cfg(test)]
+mod values;
