@@ -194,9 +194,6 @@ c = column "c"
 abbrev pub d : Expression
 d = column "d"
 
-abbrev pub f : Expression
-f = column "f"
-
 abbrev pub m : Expression
 m = column "m"
 
