@@ -2,10 +2,12 @@
 
 use plan_types::dtype::TimeUnit::{Microseconds, Milliseconds, Nanoseconds};
 use plan_types::dtype::{DataType, Fields, UnknownKind};
+use plan_types::error::{ErrorKind, PlanError};
 use plan_types::field::Field;
 use plan_types::text::PlSmallStr;
 use std::alloc::Global;
 use std::hash::{FoldHasher, Hash, Hasher};
+use std::process::Abort;
 use std::test::Fail;
 
 /// How many parts the tests give to what has parts.
@@ -79,4 +81,19 @@ pub(crate) fn deep_type(alloc: Global, levels: usize, dtype: &DataType) -> Resul
         deep = deep.implode(alloc)?;
     }
     Ok(deep)
+}
+
+/// The answer is a refusal of that kind, at the top.
+pub(crate) fn assert_refused<T: Drop>(
+    rt: &impl Abort,
+    answer: Result<T, PlanError>,
+    kind: ErrorKind,
+) {
+    match answer {
+        Ok(_) => panic!(rt; "it is refused"),
+        Err(error) => {
+            assert_eq!(rt; error.kind, kind);
+            assert_eq!(rt; error.place.depth(), 0);
+        }
+    }
 }

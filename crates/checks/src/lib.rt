@@ -6,6 +6,8 @@
 
 #[cfg(test)]
 mod fixtures;
+#[cfg(test)]
+mod schemas;
 pub mod sums;
 #[cfg(test)]
 mod types;
