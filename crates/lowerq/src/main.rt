@@ -1,6 +1,10 @@
 //! Lowers the query that standard input gives, and prints a report of its typed plan.
 #![tactic(auto)]
 
+ghost use Rattle.std.specs.Prelude.{◌≡◌, IfOk, map, drop, string_bytes};
+ghost use Rattle.std.specs.Str.{chars};
+ghost use Rattle.std.specs.Vec.Iter.{into_iter_items};
+
 use byte_streams::sink::WriteAdapter;
 use byte_streams::source::ReadAdapter;
 use plan_dsl::udfs::Udfs;
@@ -31,9 +35,12 @@ fn main(rt: HostRuntime) -> ExitCode {
 }
 
 // The arguments behind the program's name.
-fn words_of(alloc: Global, arguments: Args) -> Result<Vec<PlSmallStr>, AllocError> {
+fn words_of(alloc: Global, mut arguments: Args) -> Result<Vec<PlSmallStr>, AllocError>
+    ensures { IfOk result (λ words. words.items ≡ map (λ argument. chars (string_bytes argument)) (drop 1 (into_iter_items arguments.entry))) }
+{
+    let _program = arguments.next();
     let mut words = Vec::new(alloc);
-    for argument in arguments.skip(1) {
+    for argument in arguments {
         let Ok(word) = PlSmallStr::new(alloc, argument.as_str()) else {
             return Err(AllocError);
         };
