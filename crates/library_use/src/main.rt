@@ -18,24 +18,29 @@ use plan_types::dtype::DataType;
 use plan_types::error::PlanError;
 use plan_types::schema::Schema;
 use plan_types::text::PlSmallStr;
-use std::alloc::Global;
+use std::alloc::{AllocError, Global};
 use std::process::ExitCode;
+use thiserror::Error;
 
 /// Why a text has no typed plan.
-#[derive(Debug, Drop)]
+#[derive(Debug, Drop, Error)]
 pub enum Refusal {
     /// It is no query.
-    Text(JsonError),
+    #[error("{0}")]
+    Text(#[from] JsonError),
     /// Its plan breaks a rule.
-    Plan(PlanError),
+    #[error("{0}")]
+    Plan(#[from] PlanError),
+    #[error("{0}")]
+    Memory(#[from] AllocError),
 }
 
 /// The typed plan of a query's text.
 pub fn lower_text(alloc: Global, text: &[u8], udfs: &Udfs) -> Result<IRPlan, Refusal>
     ensures { IfOk result (StandsForText (registry udfs.now) text.now) }
 {
-    let query = read_query(alloc, text).map_err(Refusal::Text)?;
-    let plan = query.plan.to_alp(alloc, udfs).map_err(Refusal::Plan)?;
+    let query = read_query(alloc, text)?;
+    let plan = query.plan.to_alp(alloc, udfs)?;
     Ok(plan)
 }
 
@@ -51,19 +56,22 @@ const QUERY: &str =
     "{\"tables\":[{\"name\":\"t\",\"columns\":[[\"a\",\"Int8\"],[\"b\",\"Int32\"]]}],\"plan\":{\"select\":[{\"scan\":\"t\"},[{\"bin\":[\"Plus\",{\"col\":\"a\"},{\"col\":\"b\"}]}]]}}";
 
 fn main(rt: HostRuntime) -> ExitCode {
-    let alloc = rt.alloc();
-    match reports(alloc) {
-        Some(text) if rt.print(text.as_str()).is_ok() => ExitCode::SUCCESS,
-        _ => ExitCode::FAILURE,
+    let Ok(text) = reports(rt.alloc()) else {
+        return ExitCode::FAILURE;
+    };
+    match rt.print(text.as_str()) {
+        Ok(()) => ExitCode::SUCCESS,
+        Err(_) => ExitCode::FAILURE,
     }
 }
 
-// The reports of both plans.
-fn reports(alloc: Global) -> Option<String> {
+// The reports of a plan that is built, and of one that is read.
+fn reports(alloc: Global) -> Result<String, Refusal> {
     let udfs = Udfs::new(alloc);
-    let built = scan(alloc).ok()?.to_alp(alloc, &udfs).ok()?;
-    let read = lower_text(alloc, QUERY.as_bytes(), &udfs).ok()?;
-    let mut text = report(alloc, &built).ok()?;
-    text.push_str(report(alloc, &read).ok()?.as_str()).ok()?;
-    Some(text)
+    let built = scan(alloc)?.to_alp(alloc, &udfs)?;
+    let read = lower_text(alloc, QUERY.as_bytes(), &udfs)?;
+    let mut text = report(alloc, &built)?;
+    let second = report(alloc, &read)?;
+    text.push_str(second.as_str())?;
+    Ok(text)
 }
