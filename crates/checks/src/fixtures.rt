@@ -16,6 +16,9 @@ pub(crate) const SIZES: [usize; 5] = [0, 1, 2, 50, 300];
 /// How many bytes the tests give to a name.
 pub(crate) const LENGTHS: [usize; 5] = [0, 1, 2, 1_001, 100_000];
 
+/// How many levels the tests give to what is nested.
+pub(crate) const LEVELS: [usize; 5] = [0, 1, 2, 3, 60];
+
 pub(crate) fn hash_of<T: Hash>(value: &T) -> u64 {
     let mut hasher = FoldHasher::default();
     value.hash(&mut hasher);

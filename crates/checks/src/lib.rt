@@ -5,6 +5,8 @@
 #![tactic(auto)]
 
 #[cfg(test)]
+mod casts;
+#[cfg(test)]
 mod fixtures;
 #[cfg(test)]
 mod schemas;
