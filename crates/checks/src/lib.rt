@@ -9,6 +9,8 @@ mod casts;
 #[cfg(test)]
 mod fixtures;
 #[cfg(test)]
+mod frames;
+#[cfg(test)]
 mod schemas;
 pub mod sums;
 #[cfg(test)]
