@@ -11,6 +11,8 @@ mod fixtures;
 #[cfg(test)]
 mod frames;
 #[cfg(test)]
+mod plans;
+#[cfg(test)]
 mod schemas;
 pub mod sums;
 #[cfg(test)]
