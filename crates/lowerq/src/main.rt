@@ -36,7 +36,7 @@ fn main(rt: HostRuntime) -> ExitCode {
 
 // The arguments behind the program's name.
 fn words_of(alloc: Global, mut arguments: Args) -> Result<Vec<PlSmallStr>, AllocError>
-    ensures { IfOk result (λ words. words.items ≡ map (λ argument. chars (string_bytes argument)) (drop 1 (into_iter_items arguments.entry))) }
+    ensures { IfOk result (λ words. words.items ≡ map (λ argument. chars (string_bytes argument)) (drop 1 (into_iter_items arguments))) }
 {
     let _program = arguments.next();
     let mut words = Vec::new(alloc);
