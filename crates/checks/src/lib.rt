@@ -14,6 +14,8 @@ mod frames;
 mod plans;
 #[cfg(test)]
 mod schemas;
+#[cfg(test)]
+mod streams;
 pub mod sums;
 #[cfg(test)]
 mod types;
