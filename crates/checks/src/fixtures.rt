@@ -25,6 +25,12 @@ pub(crate) fn hash_of<T: Hash>(value: &T) -> u64 {
     hasher.finish()
 }
 
+/// Both are equal and hashed alike.
+pub(crate) fn assert_alike<T: Eq + Hash>(rt: &impl Abort, copy: &T, value: &T) {
+    assert!(rt; copy == value);
+    assert_eq!(rt; hash_of(copy), hash_of(value));
+}
+
 /// The name of the part of that number.
 pub(crate) fn numbered(alloc: Global, number: usize) -> Result<PlSmallStr, Fail> {
     let text = format!(in alloc; "part {number}")?;

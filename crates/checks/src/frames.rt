@@ -34,24 +34,34 @@ fn columns_of(alloc: Global, count: usize, rows: usize) -> Result<Vec<Column>, F
 }
 
 // The frame has so many columns and rows, of the number 5.
-fn assert_frame(
-    rt: &impl Abort,
-    alloc: Global,
-    frame: &Frame,
-    count: usize,
-    rows: usize,
-) -> Result<(), Fail> {
+fn assert_rows(rt: &impl Abort, frame: &Frame, count: usize, rows: usize) {
     assert_eq!(rt; frame.width(), count);
     assert_eq!(rt; frame.height(), rows);
-    let schema = frame.schema(alloc)?;
-    let want = schema_of(alloc, count, &DataType::Int8)?;
-    schema.matches_schema(&want)?;
     for number in 0..count {
         assert!(rt; number < frame.width());
         for value in frame.column(number).values.items.as_slice() {
             assert!(rt; *value == Value::Int(5));
         }
     }
+}
+
+fn assert_schema(alloc: Global, frame: &Frame, count: usize) -> Result<(), Fail> {
+    let schema = frame.schema(alloc)?;
+    let want = schema_of(alloc, count, &DataType::Int8)?;
+    schema.matches_schema(&want)?;
+    Ok(())
+}
+
+fn assert_copied_frame(
+    rt: &impl Abort,
+    alloc: Global,
+    frame: &Frame,
+    count: usize,
+    rows: usize,
+) -> Result<(), Fail> {
+    let copy = frame.try_clone(alloc)?;
+    assert_rows(rt, &copy, count, rows);
+    assert_schema(alloc, &copy, count)?;
     Ok(())
 }
 
@@ -60,9 +70,9 @@ fn frames_of_any_size_are_made_and_copied(rt: HostRuntime) -> Result<(), Fail> {
     for (count, rows) in [(0, 0), (1, 0), (1, 1), (2, 2), (50, 2), (2, 100_000)] {
         let columns = columns_of(rt.alloc(), count, rows)?;
         let frame = Frame::new(rt.alloc(), columns)?;
-        assert_frame(&rt, rt.alloc(), &frame, count, rows)?;
-        let copy = frame.try_clone(rt.alloc())?;
-        assert_frame(&rt, rt.alloc(), &copy, count, rows)?;
+        assert_rows(&rt, &frame, count, rows);
+        assert_schema(rt.alloc(), &frame, count)?;
+        assert_copied_frame(&rt, rt.alloc(), &frame, count, rows)?;
     }
     Ok(())
 }
@@ -87,50 +97,97 @@ fn columns_of_any_size_are_copied(rt: HostRuntime) -> Result<(), Fail> {
     Ok(())
 }
 
-// What is told of the columns with one more, which are no frame.
-fn fault_text(alloc: Global, count: usize, rows: usize, last: Column) -> Result<String, Fail> {
+// What is told of the columns, which are no frame.
+fn fault_text(alloc: Global, columns: Vec<Column>) -> Result<String, Fail> {
+    match Frame::new(alloc, columns) {
+        Ok(_) => Ok(String::from_str(alloc, "a frame")?),
+        Err(error) => Ok(error.to_string(alloc)?),
+    }
+}
+
+// So many columns with the last one are no frame, and that is told.
+fn assert_fault(
+    rt: &impl Abort,
+    alloc: Global,
+    count: usize,
+    rows: usize,
+    last: Column,
+    want: &str,
+) -> Result<(), Fail> {
     let mut columns = columns_of(alloc, count, rows)?;
     columns.push(last)?;
-    let answer = Frame::new(alloc, columns);
-    match &answer {
-        Ok(_) => Ok(String::from_str(alloc, "a frame")?),
-        Err(error) => Ok(format!(in alloc; "{error}")?),
-    }
+    let found = fault_text(alloc, columns)?;
+    assert_eq!(rt; found.as_str(), want);
+    Ok(())
 }
 
 #[test]
 fn a_name_that_stands_before_is_refused(rt: HostRuntime) -> Result<(), Fail> {
-    for others in [0, 1, 49] {
-        let last = column_of(rt.alloc(), numbered(rt.alloc(), others)?, 1)?;
-        let found = fault_text(rt.alloc(), others + 1, 2, last)?;
-        let want = format!(in rt.alloc(); "two columns are named \"part {others}\"")?;
-        assert!(rt; found.as_str() == want.as_str());
+    for (others, want) in [
+        (0, "two columns are named \"part 0\""),
+        (1, "two columns are named \"part 1\""),
+        (49, "two columns are named \"part 49\""),
+    ] {
+        let name = numbered(rt.alloc(), others)?;
+        let last = column_of(rt.alloc(), name, 1)?;
+        assert_fault(&rt, rt.alloc(), others + 1, 2, last, want)?;
     }
     Ok(())
 }
 
 #[test]
 fn another_length_is_refused(rt: HostRuntime) -> Result<(), Fail> {
-    for (count, rows) in [(1, 0usize), (2, 1), (50, 2), (1, 100_000)] {
-        let more = rows + 1;
-        let last = column_of(rt.alloc(), long_name(rt.alloc(), 3)?, more)?;
-        let found = fault_text(rt.alloc(), count, rows, last)?;
-        let want = format!(in rt.alloc(); "column \"nnn\" has {more} values in place of {rows}")?;
-        assert!(rt; found.as_str() == want.as_str());
+    for (count, rows, want) in [
+        (1, 0, "column \"nnn\" has 1 values in place of 0"),
+        (2, 1, "column \"nnn\" has 2 values in place of 1"),
+        (50, 2, "column \"nnn\" has 3 values in place of 2"),
+        (
+            1,
+            100_000,
+            "column \"nnn\" has 100001 values in place of 100000",
+        ),
+    ] {
+        let name = long_name(rt.alloc(), 3)?;
+        let last = column_of(rt.alloc(), name, rows + 1)?;
+        assert_fault(&rt, rt.alloc(), count, rows, last, want)?;
     }
     Ok(())
 }
 
+// A column that has so many numbers that fit it, and then one that doesn't.
+fn misfit(alloc: Global, rows: usize) -> Result<Column, Fail> {
+    let name = long_name(alloc, 3)?;
+    let mut column = column_of(alloc, name, rows)?;
+    column.values.items.push(Value::Int(128))?;
+    Ok(column)
+}
+
 #[test]
 fn a_value_that_does_not_fit_is_refused(rt: HostRuntime) -> Result<(), Fail> {
-    for (count, rows) in [(0, 0usize), (1, 1), (2, 2), (50, 2), (1, 100_000)] {
-        let mut last = column_of(rt.alloc(), long_name(rt.alloc(), 3)?, rows)?;
-        last.values.items.push(Value::Int(128))?;
-        let found = fault_text(rt.alloc(), count, rows + 1, last)?;
-        let want = format!(in rt.alloc();
-            "the value of column \"nnn\" in row {rows} doesn't fit its type"
-        )?;
-        assert!(rt; found.as_str() == want.as_str());
+    for (count, rows, want) in [
+        (
+            0,
+            0,
+            "the value of column \"nnn\" in row 0 doesn't fit its type",
+        ),
+        (
+            1,
+            1,
+            "the value of column \"nnn\" in row 1 doesn't fit its type",
+        ),
+        (
+            50,
+            2,
+            "the value of column \"nnn\" in row 2 doesn't fit its type",
+        ),
+        (
+            1,
+            100_000,
+            "the value of column \"nnn\" in row 100000 doesn't fit its type",
+        ),
+    ] {
+        let last = misfit(rt.alloc(), rows)?;
+        assert_fault(&rt, rt.alloc(), count, rows + 1, last, want)?;
     }
     Ok(())
 }

@@ -7,11 +7,15 @@
 #[cfg(test)]
 mod casts;
 #[cfg(test)]
+mod expressions;
+#[cfg(test)]
 mod fixtures;
 #[cfg(test)]
 mod frames;
 #[cfg(test)]
 mod plans;
+#[cfg(test)]
+mod refusals;
 #[cfg(test)]
 mod schemas;
 #[cfg(test)]
