@@ -13,9 +13,13 @@ mod fixtures;
 #[cfg(test)]
 mod frames;
 #[cfg(test)]
+mod lowering;
+#[cfg(test)]
 mod plans;
 #[cfg(test)]
 mod refusals;
+#[cfg(test)]
+mod runs;
 #[cfg(test)]
 mod schemas;
 #[cfg(test)]
