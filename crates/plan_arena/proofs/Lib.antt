@@ -1,3 +1,4 @@
 pub mod DenotationLemmas
 pub mod ItemLemmas
+pub mod NumberLemmas
 pub mod RunLemmas

@@ -14,8 +14,10 @@ use Rattle.plan_arena.specs.Runs.{plan_run}
 use Rattle.plan_arena.proofs.DenotationLemmas.{denotes_one}
 use Rattle.plan_arena.proofs.ItemLemmas.{plan_laws}
 use Rattle.plan_lower.specs.Lowering.{IsBuilt}
-use Rattle.plan_lower.specs.Samples.{int32, one_column, two_columns, strict_items, node_named, query, lowered_query, sum_layers}
-use Rattle.plan_lower.proofs.ExampleLemmas.{sum_strict}
+use Rattle.plan_infer.specs.Samples.{int32, one_column, two_columns}
+use Rattle.plan_coerce.specs.Samples.{strict_items}
+use Rattle.plan_lower.specs.Samples.{node_named, query, lowered_query, sum_layers}
+use Rattle.plan_coerce.proofs.ExampleLemmas.{sum_strict}
 
 -- a node denotes one plan
 pub one_plan : (expressions : List AExpr) (plans : List IR) (n : ℕ) (t u : Plan) → Denotes (HoldsPlan expressions plans) n t → Denotes (HoldsPlan expressions plans) n u → t ≡ u

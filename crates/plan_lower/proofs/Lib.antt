@@ -1,12 +1,5 @@
 pub mod BuiltLemmas
-pub mod CoercionLemmas
-pub mod ExampleLemmas
 pub mod ExamplePlanLemmas
 pub mod NodeLemmas
-pub mod OperandTypeLemmas
 pub mod PlanLemmas
 pub mod ProjectionLemmas
-pub mod StackLemmas
-pub mod TableLemmas
-pub mod TimeTypeLemmas
-pub mod TypingLemmas

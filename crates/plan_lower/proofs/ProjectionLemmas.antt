@@ -24,13 +24,14 @@ use Rattle.plan_arena.specs.Items.{HoldsFrom, HoldsExpression, Grows, DenoteName
 use Rattle.plan_arena.specs.Layers.{shape_of, inputs_of}
 use Rattle.plan_arena.proofs.DenotationLemmas.{denotes_one}
 use Rattle.plan_arena.proofs.ItemLemmas.{any_node, tree_grown, from_laws, expression_laws, grown_held}
-use Rattle.plan_lower.specs.Coercion.{DenotesKnown, DenotesSame, KeepsBelow, IsCoerced}
-use Rattle.plan_lower.specs.KeptTypes.{IsKept, Extends}
+use Rattle.plan_infer.specs.Typed.{DenotesKnown}
+use Rattle.plan_coerce.specs.Coercion.{DenotesSame, KeepsBelow, IsCoerced}
+use Rattle.plan_infer.specs.KeptTypes.{IsKept, Extends}
 use Rattle.plan_lower.specs.Outputs.{Lowered, lowered_named, lowered_column, IsLowered, HasOutputs}
-use Rattle.plan_lower.specs.declared.type_table.TypeTable.{TypeTable}
-use Rattle.plan_lower.proofs.StackLemmas.{all_weaker, all_joined}
+use Rattle.plan_infer.specs.declared.type_table.TypeTable.{TypeTable}
+use Rattle.plan_arena.proofs.NumberLemmas.{all_weaker, all_joined}
 use Rattle.plan_types.specs.Errors.{IsRefusal, no_room as short, broken}
-use Rattle.plan_lower.specs.Typed.{HasType}
+use Rattle.plan_infer.specs.Typed.{HasType}
 use Rattle.plan_lower.specs.Predicates.{HasPredicate, IsPredicateRefusal, without_room, without_type, of_other_type}
 use Rattle.plan_lower.specs.Projection.{Output, output_node, output_column, IsOutput, Projects, AddsOutput, IsOutputRefusal, no_room, untyped, IsProjectionRefusal, refused}
 

@@ -1,8 +1,6 @@
-//! Lowering: expressions to nodes, casts round operands, and plans.
+//! Lowering: expressions to nodes, and plans.
 
 pub mod dsl_to_ir;
 pub mod expr_to_ir;
 mod predicate;
 mod projection;
-mod stack_opt;
-mod type_coercion;

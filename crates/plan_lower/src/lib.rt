@@ -3,6 +3,3 @@
 
 pub mod conversion;
 mod examples;
-mod operator_types;
-mod type_table;
-mod typing;

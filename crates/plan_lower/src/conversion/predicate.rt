@@ -8,13 +8,13 @@ ghost use Rattle.plan_arena.specs.Items.{named_node, HoldsExpression};
 ghost use Rattle.plan_lower.specs.Predicates.{HasPredicate, IsPredicateRefusal};
 
 use crate::conversion::projection::add_typed;
-use crate::conversion::stack_opt::coerce_types;
-use crate::type_table::TypeTable;
 use plan_arena::aexpr::AExpr;
 use plan_arena::arena::Arena;
 use plan_arena::expr_ir::ExprIR;
+use plan_coerce::stack_opt::coerce_types;
 use plan_dsl::expr::Expr;
 use plan_dsl::udfs::Udfs;
+use plan_infer::type_table::TypeTable;
 use plan_types::dtype::DataType;
 use plan_types::error::{ErrorKind, PlanError};
 use plan_types::schema::Schema;

@@ -11,7 +11,9 @@ ghost use Rattle.plan_arena.specs.declared.aexpr.AExpr.TheVariants.{Literal};
 ghost use Rattle.plan_lower.specs.Outputs.{IsLowered, SelectsTo, HasOutputs, lowered_named, lowered_column, over, lowered_select};
 ghost use Rattle.plan_lower.specs.Predicates.{FiltersBy, HasPredicate, IsPredicateRefusal, lowered_filter};
 ghost use Rattle.plan_lower.specs.Projection.{IsOutput, Projects, AddsOutput, IsOutputRefusal, RefusesOne, IsProjectionRefusal, output_node, output_column};
-ghost use Rattle.plan_lower.specs.Samples.{int8, int16, int32, one_column, columns_of, two_columns, truths, of_type, of_one, a, b, c, keep, five, sum, strict_sum, wide, columns_and, a_items, keep_items, node_named, output, lowered_to, as_it_is, scan_of, select_over, filter_over};
+ghost use Rattle.plan_infer.specs.Samples.{int8, int16, int32, one_column, columns_of, two_columns, of_type, of_one, a, b, c, five, sum, columns_and, a_items};
+ghost use Rattle.plan_coerce.specs.Samples.{strict_sum, wide};
+ghost use Rattle.plan_lower.specs.Samples.{truths, keep, keep_items, node_named, output, lowered_to, as_it_is, scan_of, select_over, filter_over};
 
 /// An output's node denotes its expression as a plan takes it, with its typing.
 pub fn outputs_of_expressions()

@@ -11,7 +11,8 @@ ghost use Rattle.plan_arena.specs.declared.ir.IR.{IR};
 ghost use Rattle.plan_arena.specs.declared.plan.IRPlan.{IRPlan};
 ghost use Rattle.plan_arena.specs.Layers.{layer};
 ghost use Rattle.plan_lower.specs.Lowering.{IsBuilt, StandsAt, StandsFor, IsPlanRefusal, Answers, IsTyped, IsSound, GivesSameFrame, IsLoweringOf, source_select, source_filter, IsSelect, IsFilter, IsEmptyTableAt};
-ghost use Rattle.plan_lower.specs.Samples.{int8, int32, one_column, two_columns, truths, a, c, keep, sum, a_items, keep_items, node_named, scan_of, select_over, filter_over, query, lowered_query, scan_layer, select_layer, refused, ForPlans, ForScan, ForSum};
+ghost use Rattle.plan_infer.specs.Samples.{int8, int32, one_column, two_columns, a, c, sum, a_items, refused};
+ghost use Rattle.plan_lower.specs.Samples.{truths, keep, keep_items, node_named, scan_of, select_over, filter_over, query, lowered_query, scan_layer, select_layer, ForPlans, ForScan, ForSum};
 
 /// A plan is refused by a kind of rule that is broken at a place, or for want of memory.
 pub fn refusals_of_plans()

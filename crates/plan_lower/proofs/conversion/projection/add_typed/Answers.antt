@@ -10,8 +10,8 @@ use Rattle.plan_dsl.specs.Registry.{registry}
 use Rattle.plan_arena.specs.Denotation.{Denotes}
 use Rattle.plan_arena.specs.Items.{HoldsExpression, HoldsFrom, named_node}
 use Rattle.plan_arena.proofs.ItemLemmas.{any_node}
-use Rattle.plan_lower.specs.KeptTypes.{first_node}
-use Rattle.plan_lower.proofs.TableLemmas.{right_grown, tree_added}
+use Rattle.plan_infer.specs.KeptTypes.{first_node}
+use Rattle.plan_infer.proofs.TableLemmas.{right_grown, tree_added}
 use Rattle.plan_lower.proofs.conversion.projection.add_typed.Goals as goal
 
 pub type_nodes-requires : goal.type_nodes-requires

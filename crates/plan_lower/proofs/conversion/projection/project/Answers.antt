@@ -7,7 +7,7 @@ use Rattle.plan_arena.specs.Items.{named_node}
 use Rattle.plan_arena.proofs.ItemLemmas.{length-grown, grows_then}
 use Rattle.plan_lower.specs.Projection.{no_room}
 use Rattle.plan_lower.proofs.ProjectionLemmas.{projecting_step, projecting_refused, pushed_node, roots_kept}
-use Rattle.plan_lower.proofs.TableLemmas.{extends_then}
+use Rattle.plan_infer.proofs.TableLemmas.{extends_then}
 use Rattle.plan_lower.proofs.conversion.projection.project.Goals as goal
 
 pub returns-in_err-expr_ir-clause-err : goal.returns-in_err-expr_ir-clause-err

@@ -6,7 +6,7 @@ use Rattle.plan_dsl.specs.Expressions.{tree_of}
 use Rattle.plan_dsl.specs.Plans.{trees_of}
 use Rattle.plan_dsl.specs.Registry.{registry}
 use Rattle.plan_arena.specs.Items.{named_node, Grows}
-use Rattle.plan_lower.specs.KeptTypes.{Extends, IsKept, IsRight}
+use Rattle.plan_infer.specs.KeptTypes.{Extends, IsKept, IsRight}
 use Rattle.plan_lower.proofs.ProjectionLemmas.{Projecting}
 use Rattle.plan_lower.proofs.conversion.projection.project.Given as goal
 

@@ -6,8 +6,8 @@ use Rattle.plan_dsl.specs.Expressions.{tree_of}
 use Rattle.plan_dsl.specs.Registry.{registry}
 use Rattle.plan_arena.specs.Items.{named_node}
 use Rattle.plan_lower.proofs.ProjectionLemmas.{refused_output, adds_output}
-use Rattle.plan_lower.proofs.TypingLemmas.{AllHaveType}
-use Rattle.plan_lower.proofs.TableLemmas.{kept_type}
+use Rattle.plan_infer.proofs.TypingLemmas.{AllHaveType}
+use Rattle.plan_infer.proofs.TableLemmas.{kept_type}
 use Rattle.plan_lower.proofs.conversion.projection.project_one.Goals as goal
 
 pub returns-in_err-expr_ir-clause-err : goal.returns-in_err-expr_ir-clause-err

@@ -3,10 +3,11 @@ use Rattle.std.specs.List.{AllByRecursion}
 use Rattle.plan_types.specs.Schemas.{columns}
 use Rattle.plan_dsl.specs.Registry.{registry}
 use Rattle.plan_arena.proofs.ItemLemmas.{grown_held, length-grown}
-use Rattle.plan_lower.specs.Coercion.{DenotesKnown, IsCoerced}
-use Rattle.plan_lower.specs.KeptTypes.{IsKept}
+use Rattle.plan_infer.specs.Typed.{DenotesKnown}
+use Rattle.plan_coerce.specs.Coercion.{IsCoerced}
+use Rattle.plan_infer.specs.KeptTypes.{IsKept}
 use Rattle.plan_lower.proofs.ProjectionLemmas.{roots_are, roots_typed, has_outputs, earlier_kept}
-use Rattle.plan_lower.proofs.TableLemmas.{right_start}
+use Rattle.plan_infer.proofs.TableLemmas.{right_start}
 use Rattle.plan_lower.proofs.conversion.projection.project_strictly.Goals as goal
 
 pub project-requires : goal.project-requires

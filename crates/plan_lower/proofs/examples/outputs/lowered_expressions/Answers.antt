@@ -1,5 +1,5 @@
 use Rattle.std.proofs.Common.{refl}
-use Rattle.plan_lower.proofs.ExampleLemmas.{sum_strict}
+use Rattle.plan_coerce.proofs.ExampleLemmas.{sum_strict}
 use Rattle.plan_lower.proofs.examples.outputs.lowered_expressions.Goals as goal
 
 pub returns-clause-sum : goal.returns-clause-sum

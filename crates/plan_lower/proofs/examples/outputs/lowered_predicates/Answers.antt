@@ -2,7 +2,7 @@ use Rattle.std.proofs.Common.{[], codes, refl}
 use Rattle.plan_types.specs.Types.{Truth}
 use Rattle.plan_lower.specs.Predicates.{FiltersBy}
 use Rattle.plan_lower.specs.Samples.{truths, keep, as_it_is}
-use Rattle.plan_lower.proofs.ExampleLemmas.{column_strict}
+use Rattle.plan_coerce.proofs.ExampleLemmas.{column_strict}
 use Rattle.plan_lower.proofs.examples.outputs.lowered_predicates.Goals as goal
 
 filters : FiltersBy [] truths keep (as_it_is keep Truth)

@@ -2,8 +2,9 @@ use Rattle.std.proofs.Common.{◌≡◌, List, [], ◌∷◌, map, codes, refl}
 use Rattle.plan_arena.specs.declared.aexpr.AExpr.{AExpr}
 use Rattle.plan_arena.specs.Items.{DenoteNamed}
 use Rattle.plan_lower.specs.Outputs.{Lowered, SelectsTo, lowered_named}
-use Rattle.plan_lower.specs.Samples.{int8, one_column, a, as_it_is, a_items}
-use Rattle.plan_lower.proofs.ExampleLemmas.{column_strict}
+use Rattle.plan_infer.specs.Samples.{int8, one_column, a, a_items}
+use Rattle.plan_lower.specs.Samples.{as_it_is}
+use Rattle.plan_coerce.proofs.ExampleLemmas.{column_strict}
 use Rattle.plan_lower.proofs.examples.outputs.lowered_selects.Goals as goal
 
 selects : SelectsTo [] (one_column int8) (a ∷ []) (as_it_is a int8 ∷ [])

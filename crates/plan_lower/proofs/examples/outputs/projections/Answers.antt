@@ -1,6 +1,7 @@
 use Rattle.std.proofs.Common.{◌≡◌, List, [], ◌∷◌, map, refl, arith}
 use Rattle.plan_lower.specs.Projection.{Output, output_column}
-use Rattle.plan_lower.specs.Samples.{int8, int32, of_type, a, b, output}
+use Rattle.plan_infer.specs.Samples.{int8, int32, of_type, a, b}
+use Rattle.plan_lower.specs.Samples.{output}
 use Rattle.plan_lower.proofs.examples.outputs.projections.Goals as goal
 
 pub returns-clause-columns : goal.returns-clause-columns

@@ -4,7 +4,7 @@ use Rattle.plan_types.specs.declared.error.ErrorKind.TheVariants.{ColumnNotFound
 use Rattle.plan_types.specs.declared.error.PlanError.{PlanError}
 use Rattle.plan_dsl.specs.Ops.{Expression}
 use Rattle.plan_lower.specs.Projection.{RefusesOne, IsProjectionRefusal, untyped, repeated, out_of_memory, refused}
-use Rattle.plan_lower.specs.Samples.{int8, one_column, column, a}
+use Rattle.plan_infer.specs.Samples.{int8, one_column, column, a}
 use Rattle.plan_lower.proofs.examples.outputs.refusals_of_projections.Goals as goal
 
 pub returns-clause-no_such_column : goal.returns-clause-no_such_column

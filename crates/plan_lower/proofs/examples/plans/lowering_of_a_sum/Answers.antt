@@ -6,7 +6,8 @@ use Rattle.plan_arena.specs.Denotation.{Denotes}
 use Rattle.plan_arena.specs.Items.{HoldsPlan, DenotesPlan, plan_layer}
 use Rattle.plan_arena.specs.Runs.{plan_run, RunsSoundly}
 use Rattle.plan_arena.proofs.RunLemmas.{runs_soundly}
-use Rattle.plan_lower.specs.Samples.{query, lowered_query, strict_items, sum_layers}
+use Rattle.plan_coerce.specs.Samples.{strict_items}
+use Rattle.plan_lower.specs.Samples.{query, lowered_query, sum_layers}
 use Rattle.plan_lower.proofs.ExamplePlanLemmas.{one_plan, lowered_denotes, built}
 use Rattle.plan_lower.proofs.examples.plans.lowering_of_a_sum.Goals as goal
 

@@ -11,7 +11,7 @@ use Rattle.plan_arena.specs.Layers.{layer}
 use Rattle.plan_arena.specs.Items.{HoldsPlan, DenotesPlan, plan_layer}
 use Rattle.plan_arena.specs.Runs.{top_schema}
 use Rattle.plan_lower.specs.Lowering.{source_select}
-use Rattle.plan_lower.specs.Samples.{two_columns, a}
+use Rattle.plan_infer.specs.Samples.{two_columns, a}
 use Rattle.plan_lower.proofs.ExamplePlanLemmas.{one_plan, item_at, scan_denotes}
 use Rattle.plan_lower.proofs.examples.plans.no_lowerings.Goals as goal
 

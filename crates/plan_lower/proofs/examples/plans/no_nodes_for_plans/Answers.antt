@@ -5,7 +5,7 @@ use Rattle.plan_types.specs.declared.error.ErrorKind.TheVariants.{ColumnNotFound
 use Rattle.plan_dsl.specs.Literals.{settled}
 use Rattle.plan_dsl.specs.Typing.{typing}
 use Rattle.plan_lower.specs.Outputs.{Lowered, IsLowered}
-use Rattle.plan_lower.specs.Samples.{one_column, c}
+use Rattle.plan_infer.specs.Samples.{one_column, c}
 use Rattle.plan_lower.proofs.examples.plans.no_nodes_for_plans.Goals as goal
 
 first_tree : (output : Lowered) (outputs : List Lowered) → map (λ o. o.tree) (output ∷ outputs) ≡ c ∷ [] → output.tree ≡ c

@@ -6,8 +6,9 @@ use Rattle.plan_dsl.specs.Ops.{ColumnOp, Expression}
 use Rattle.plan_dsl.specs.Plans.{scan_op, select_op, filter_op}
 use Rattle.plan_arena.specs.Runs.{top_schema}
 use Rattle.plan_lower.specs.Outputs.{Lowered, IsLowered}
-use Rattle.plan_lower.specs.Samples.{a_items, keep_items, node_named, scan_of}
-use Rattle.plan_lower.proofs.ExampleLemmas.{column_strict}
+use Rattle.plan_infer.specs.Samples.{a_items}
+use Rattle.plan_lower.specs.Samples.{keep_items, node_named, scan_of}
+use Rattle.plan_coerce.proofs.ExampleLemmas.{column_strict}
 use Rattle.plan_lower.proofs.ExamplePlanLemmas.{one_plan, item_at, scan_denotes, built}
 use Rattle.plan_lower.proofs.examples.plans.nodes_that_stand_for_plans.Goals as goal
 

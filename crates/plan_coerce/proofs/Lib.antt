@@ -1,0 +1,4 @@
+pub mod CoercionLemmas
+pub mod ExampleLemmas
+pub mod RightLemmas
+pub mod StackLemmas

@@ -1,0 +1,129 @@
+use Rattle.std.proofs.Common.{◌≡◌, ◌≤◌, ℕ, zero, suc, List, [], ◌∷◌, pos, codes, true, false, Some, slice_get, refl, sym, ap, subst, arith}
+use Rattle.plan_types.specs.Types.{Untyped, same_type}
+use Rattle.plan_types.specs.Schemas.{Name}
+use Rattle.plan_types.specs.Values.{IntValue}
+use Rattle.plan_types.specs.declared.dtype.DataType.TheVariants as dtype
+use Rattle.plan_dsl.specs.declared.literal.LiteralValue.TheVariants.{Int}
+use Rattle.plan_dsl.specs.declared.operator.Operator.TheVariants.{Plus}
+use Rattle.plan_dsl.specs.Trees.{node, no_more, more}
+use Rattle.plan_dsl.specs.Ops.{Op, ColumnOp, LiteralOp, BinaryOp, Expression}
+use Rattle.plan_dsl.specs.Typing.{typing}
+use Rattle.plan_dsl.proofs.TypingLemmas.{ok_same}
+use Rattle.plan_arena.specs.declared.aexpr.AExpr.{AExpr}
+use Rattle.plan_arena.specs.declared.aexpr.AExpr.TheVariants.{Column, Literal}
+use Rattle.plan_arena.specs.Denotation.{Denotes}
+use Rattle.plan_arena.specs.Layers.{layer}
+use Rattle.plan_arena.specs.Items.{HoldsExpression, HoldsFrom}
+use Rattle.plan_arena.proofs.ItemLemmas.{got_held}
+use Rattle.plan_coerce.specs.Coercion.{DenotesSame}
+use Rattle.plan_infer.specs.Samples.{int8, int32, int64, columns_of, two_columns, of_type, a, b, binary, cast_to, sum, pair, columns_and, sum_items}
+use Rattle.plan_coerce.specs.Samples.{strict_sum, cast_of, strict_items}
+use Rattle.plan_infer.proofs.ExampleLemmas.{one_tree}
+use Rattle.plan_coerce.proofs.ExampleLemmas.{sum_strict, strict_as, strict_root, same_tree, other_name}
+use Rattle.plan_coerce.proofs.examples.coercions.coerced_sums.Goals as goal
+
+abbrev wide : List AExpr
+wide = columns_and (pair 3 Plus 4 ∷ cast_of 0 dtype.Int64 ∷ cast_of 1 dtype.Int64 ∷ [])
+
+abbrev turned : List AExpr
+turned = columns_and (pair 1 Plus 3 ∷ cast_of 0 dtype.Int32 ∷ [])
+
+column_denotes : (items : List AExpr) (n : ℕ) (name : Name) → slice_get items n ≡ Some (Column name) → Denotes (HoldsFrom 0 items) n (node (ColumnOp name) no_more)
+column_denotes items n name got = ([], (omega arith, got_held items n (Column name) (ColumnOp name) [] got refl), tt)
+
+before_denotes : Denotes (HoldsFrom 0 sum_items) 2 sum
+before_denotes = (0 ∷ 1 ∷ [], (omega arith, refl), (column_denotes sum_items 0 (codes "a") refl, (column_denotes sum_items 1 (codes "b") refl, tt)))
+
+after_denotes : Denotes (HoldsFrom 0 strict_items) 2 strict_sum
+after_denotes = (3 ∷ 1 ∷ [], (omega arith, refl), ((0 ∷ [], (omega arith, refl), (column_denotes strict_items 0 (codes "a") refl, tt)), (column_denotes strict_items 1 (codes "b") refl, tt)))
+
+wide_denotes : Denotes (HoldsFrom 0 wide) 2 (binary Plus (cast_to int64 a) (cast_to int64 b))
+wide_denotes = (3 ∷ 4 ∷ [], (omega arith, refl), ((0 ∷ [], (omega arith, refl), (column_denotes wide 0 (codes "a") refl, tt)), ((1 ∷ [], (omega arith, refl), (column_denotes wide 1 (codes "b") refl, tt)), tt)))
+
+turned_denotes : Denotes (HoldsFrom 0 turned) 2 (binary Plus b (cast_to int32 a))
+turned_denotes = (1 ∷ 3 ∷ [], (omega arith, refl), (column_denotes turned 1 (codes "b") refl, ((0 ∷ [], (omega arith, refl), (column_denotes turned 0 (codes "a") refl, tt)), tt)))
+
+no_item : {A : Type 0} (n : ℕ) (x : A) → slice_get [] n ≡ Some x → ⊥
+no_item n x e = cc
+
+no_node : (n : ℕ) (t : Expression) → Denotes (HoldsFrom 0 sum_items) (suc (suc (suc n))) t → ⊥
+no_node n (node op ts) d = no_item n _ d.1.1
+
+-- the columns stay, and the sum becomes one that says the same
+kept : (n : ℕ) (t : Expression) → Denotes (HoldsFrom 0 sum_items) n t → DenotesSame [] two_columns 0 strict_items n t
+kept zero t d = subst (DenotesSame [] two_columns 0 strict_items 0) (sym (one_tree 0 sum_items 0 t a d (column_denotes sum_items 0 (codes "a") refl)))
+    (record { tree = a; denotes = column_denotes strict_items 0 (codes "a") refl; same = record { typing = refl; name = refl; meaning = λ rows. refl } })
+kept (suc zero) t d = subst (DenotesSame [] two_columns 0 strict_items 1) (sym (one_tree 0 sum_items 1 t b d (column_denotes sum_items 1 (codes "b") refl)))
+    (record { tree = b; denotes = column_denotes strict_items 1 (codes "b") refl; same = record { typing = refl; name = refl; meaning = λ rows. refl } })
+kept (suc (suc zero)) t d = subst (DenotesSame [] two_columns 0 strict_items 2) (sym (one_tree 0 sum_items 2 t sum d before_denotes))
+    (record { tree = strict_sum; denotes = after_denotes; same = record { typing = refl; name = refl; meaning = λ rows. refl } })
+kept (suc (suc (suc n))) t d = absurd (no_node n t d)
+
+pub returns-clause-cast : goal.returns-clause-cast
+returns-clause-cast c = record {
+  below = λ n op inputs absent h. absurd (absent (omega arith));
+  trees = kept;
+  strict = ((strict_sum, after_denotes, sum_strict), tt);
+}
+
+pub returns-clause-unchanged : goal.returns-clause-unchanged
+returns-clause-unchanged c = λ coerced.
+    let type = int32 in
+    let strict = strict_root [] two_columns 0 sum_items 2 sum coerced.strict.0 before_denotes in
+    let same : false ≡ true = (strict_as [] two_columns (BinaryOp Plus) (more a (more b no_more)) (of_type int8 ∷ of_type type ∷ []) (record { operands = type ∷ type ∷ []; type = type }) strict.0 refl refl).0 in
+    cc
+
+pub returns-clause-both_to_another_type : goal.returns-clause-both_to_another_type
+returns-clause-both_to_another_type c = λ coerced.
+    let tree = binary Plus (cast_to int64 a) (cast_to int64 b) in
+    let same = same_tree [] two_columns 0 wide 2 sum tree (coerced.trees 2 sum before_denotes) wide_denotes in
+    let one = ok_same (typing [] two_columns tree) (of_type int64) (of_type int32) refl same.typing in
+    let differs : true ≡ false = ap (λ t. same_type int64 t.type) one in
+    cc
+
+-- the sum has the name of the other column
+pub returns-clause-turned_round : goal.returns-clause-turned_round
+returns-clause-turned_round c = λ coerced.
+    other_name (same_tree [] two_columns 0 turned 2 sum (binary Plus b (cast_to int32 a)) (coerced.trees 2 sum before_denotes) turned_denotes).name
+
+pub returns-clause-number_left : goal.returns-clause-number_left
+returns-clause-number_left c = λ coerced.
+    let op = LiteralOp (Untyped (pos 5)) (IntValue (pos 5)) in
+    let strict = strict_root [] [] 0 (Literal (Int (pos 5)) ∷ []) 0 (node op no_more) coerced.strict.0 ([], (omega arith, refl), tt) in
+    let known : false ≡ true = (strict_as [] [] op no_more [] (record { operands = []; type = Untyped (pos 5) }) strict.0 refl refl).1 in
+    cc
+
+column_name : (m n : Name) → Some (layer (ColumnOp m) []) ≡ Some (layer (ColumnOp n) []) → m ≡ n
+column_name m n e = cc
+
+pub returns-clause-item_below : goal.returns-clause-item_below
+returns-clause-item_below c = λ coerced.
+    other_name (column_name (codes "b") (codes "a") (coerced.below 0 (ColumnOp (codes "a")) [] (λ le. omega (arith, le)) refl))
+
+pub returns-clause-nothing_done : goal.returns-clause-nothing_done
+returns-clause-nothing_done c = record {
+  below = λ n op inputs lower h. h;
+  trees = λ n t d. record { tree = t; denotes = d; same = record { typing = refl; name = refl; meaning = λ rows. refl } };
+}
+
+pub returns-clause-other_item_below : goal.returns-clause-other_item_below
+returns-clause-other_item_below c = λ stays.
+    other_name (column_name (codes "b") (codes "a") (stays.below 0 (ColumnOp (codes "a")) [] (λ le. omega (arith, le)) refl))
+
+pub returns-clause-other_tree : goal.returns-clause-other_tree
+returns-clause-other_tree c = λ stays.
+    other_name (same_tree [] (columns_of int8 int8) 0 (Column (codes "b") ∷ []) 0 a b (stays.trees 0 a ([], (omega arith, refl), tt)) ([], (omega arith, refl), tt)).name
+
+kept_first : (n : ℕ) (op : Op) (inputs : List ℕ) → ¬ (1 ≤ n) → HoldsExpression (columns_and []) n op inputs → HoldsExpression (Column (codes "a") ∷ Column (codes "c") ∷ []) n op inputs
+kept_first zero op inputs below h = h
+kept_first (suc n) op inputs below h = absurd (below (omega arith))
+
+pub returns-clause-items_below : goal.returns-clause-items_below
+returns-clause-items_below c = kept_first
+
+pub returns-clause-same : goal.returns-clause-same
+returns-clause-same c = record { tree = a; denotes = ([], (omega arith, refl), tt); same = record { typing = refl; name = refl; meaning = λ rows. refl } }
+
+pub returns-clause-not_same : goal.returns-clause-not_same
+returns-clause-not_same c = λ found.
+    other_name (same_tree [] (columns_of int8 int8) 0 (Column (codes "b") ∷ []) 0 a b found ([], (omega arith, refl), tt)).name

@@ -1,0 +1,3 @@
+//! Worked examples of the definitions. The functions do nothing: their clauses are the examples.
+
+mod coercions;

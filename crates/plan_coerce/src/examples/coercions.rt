@@ -1,0 +1,124 @@
+//! Coercion: what makes an operand one of the type to which it is taken, and what becomes of an arena.
+
+ghost use Rattle.std.specs.Prelude.{◌≡◌, [], ◌∷◌, map, pos, neg_ℤ, codes, true, false, Some};
+ghost use Rattle.plan_types.specs.Types.{NullType, Truth, Integer, TextType, DateType, DatetimeType, DurationType, ListType, Untyped, ty};
+ghost use Rattle.plan_types.specs.declared.dtype.DataType.{DataType};
+ghost use Rattle.plan_types.specs.declared.dtype.DataType.TheVariants as dtype;
+ghost use Rattle.plan_types.specs.declared.dtype.TimeUnit.TheVariants.{Nanoseconds, Microseconds, Milliseconds};
+ghost use Rattle.plan_types.specs.declared.dtype.UnknownKind.TheVariants as unknown;
+ghost use Rattle.plan_dsl.specs.declared.literal.LiteralValue.TheVariants.{Int, Int8, Int16, UInt16};
+ghost use Rattle.plan_dsl.specs.declared.operator.Operator.TheVariants.{Eq, Plus};
+ghost use Rattle.plan_arena.specs.declared.aexpr.AExpr.TheVariants.{Column, Literal};
+ghost use Rattle.plan_coerce.specs.declared.type_coercion.Change.TheVariants.{Keep, CastTo, Become};
+ghost use Rattle.plan_infer.specs.Typed.{DenotesTyped, DenotesKnown};
+ghost use Rattle.plan_coerce.specs.Coercion.{KeepsBelow, DenotesSame, Visits, ChangesOperands, IsCoerced, StaysSame, changed_by, is_kept, numbers};
+ghost use Rattle.plan_infer.specs.Samples.{int8, int16, int32, int64, one_column, columns_of, two_columns, struct_of, a, b, literal, number, five, binary, cast_to, sum, at, pair, columns_and, sum_items, a_items, ForTable};
+ghost use Rattle.plan_coerce.specs.Samples.{cast_of, strict_items, AreChanges, AreNoChanges};
+
+/// An operand stays where it has the type, and is cast to no other than that to which it is taken.
+pub fn casts_of_operands()
+    ensures same_type { AreChanges ((int8, int8, Keep) ∷ (Truth, Truth, Keep) ∷ []) }
+    ensures other_type { AreNoChanges ((int8, int16, Keep) ∷ (int8, Integer false 8, Keep) ∷ (Untyped (pos 300), int16, Keep) ∷
+        (DurationType Nanoseconds, DurationType Microseconds, Keep) ∷ []) }
+    ensures cast { AreChanges ((int8, int16, CastTo dtype.Int16) ∷ (Truth, Integer false 32, CastTo dtype.UInt32) ∷
+        (DurationType Nanoseconds, DurationType Microseconds, CastTo (dtype.Duration Microseconds)) ∷
+        (DateType, DatetimeType Milliseconds, CastTo (dtype.Datetime Milliseconds)) ∷
+        (Truth, TextType, CastTo dtype.String) ∷ (NullType, int8, CastTo dtype.Int8) ∷ []) }
+    ensures no_such_cast { AreNoChanges ((TextType, DateType, CastTo dtype.Date) ∷ []) }
+    ensures cast_to_another_type { AreNoChanges ((int8, int16, CastTo dtype.Int32) ∷ []) }
+    ensures cast_to_its_own_type { AreNoChanges ((int8, int8, CastTo dtype.Int8) ∷ []) }
+    ensures cast_of_a_number { AreNoChanges ((Untyped (pos 300), int16, CastTo dtype.Int16) ∷
+        (int16, Untyped (pos 300), CastTo (dtype.Unknown (unknown.Int (pos 300)))) ∷ []) }
+{}
+
+/// A number without a type becomes a literal of the type, where that has the number.
+pub fn literals_of_numbers()
+    ensures literal { AreChanges ((Untyped (pos 300), int16, Become (Int16 (pos 300)) dtype.Int16) ∷
+        (Untyped (neg_ℤ (pos 128)), int8, Become (Int8 (neg_ℤ (pos 128))) dtype.Int8) ∷ []) }
+    ensures other_literal { AreNoChanges ((Untyped (pos 300), int8, Become (Int8 (pos 300)) dtype.Int8) ∷
+        (Untyped (pos 300), int16, Become (UInt16 300) dtype.UInt16) ∷
+        (Untyped (pos 300), int16, Become (Int16 (pos 301)) dtype.Int16) ∷
+        (Untyped (pos 300), int16, Become (Int16 (pos 300)) dtype.Int32) ∷
+        (Untyped (pos 300), int16, Become (Int (pos 300)) dtype.Int16) ∷
+        (int8, int16, Become (Int16 (pos 300)) dtype.Int16) ∷ []) }
+{}
+
+/// An expression that is changed: it stays, stands under a cast that is not strict, or gives way to a literal.
+pub fn changed_expressions()
+    ensures keep { changed_by Keep a ≡ a }
+    ensures cast { changed_by (CastTo dtype.Int16) a ≡ cast_to int16 a }
+    ensures literal { changed_by (Become (Int16 (pos 300)) dtype.Int16) (number (pos 300)) ≡ literal int16 (pos 300) }
+    ensures not_under_another_cast { ¬ (changed_by (CastTo dtype.Int16) a ≡ cast_to int32 a) }
+    ensures kept { map is_kept (Keep ∷ CastTo dtype.Int16 ∷ Become (Int16 (pos 300)) dtype.Int16 ∷ []) ≡ true ∷ false ∷ false ∷ [] }
+{}
+
+/// A node denotes a typed expression of nodes from a number on, or one whose type is of columns.
+pub fn nodes_of_typed_expressions()
+    ensures sum { DenotesTyped [] two_columns 0 sum_items 2 }
+    ensures sum_is_known { DenotesKnown [] two_columns 0 sum_items 2 }
+    ensures node_below_the_number { ¬ (DenotesTyped [] two_columns 1 sum_items 2) }
+    ensures no_such_column { ¬ (DenotesTyped [] ((codes "b", int32) ∷ []) 0 a_items 0) }
+    ensures number { DenotesTyped [] [] 0 (Literal (Int (pos 5)) ∷ []) 0 }
+    ensures number_is_not_known { ¬ (DenotesKnown [] [] 0 (Literal (Int (pos 5)) ∷ []) 0) }
+{}
+
+/// A visit leaves a strict node that says the same as the tree before: casts to the right types, in order.
+pub fn visits_of_a_sum()
+    ensures cast { Visits [] two_columns 0 strict_items 2 sum }
+    ensures without_a_cast { ¬ (Visits [] two_columns 0 sum_items 2 sum) }
+    ensures cast_to_another_type { ¬ (Visits [] two_columns 0 (columns_and (pair 3 Plus 1 ∷ cast_of 0 dtype.Int16 ∷ [])) 2 sum) }
+    ensures turned_round { ¬ (Visits [] two_columns 0 (columns_and (pair 1 Plus 3 ∷ cast_of 0 dtype.Int32 ∷ [])) 2 sum) }
+    ensures literal { Visits [] (one_column int8) 0 (Column (codes "a") ∷ pair 0 Plus 2 ∷ Literal (Int8 (pos 5)) ∷ []) 1 (binary Plus a five) }
+    ensures number_left { ¬ (Visits [] (one_column int8) 0 (Column (codes "a") ∷ pair 0 Plus 2 ∷ Literal (Int (pos 5)) ∷ []) 1 (binary Plus a five)) }
+{}
+
+/// Operands are cast to their common type, or each to the type to which the operator takes it.
+pub fn visits_of_other_operands()
+    ensures span_in_another_unit { Visits [] (columns_of (DatetimeType Microseconds) (DurationType Nanoseconds)) 0
+        (columns_and (pair 0 Plus 3 ∷ cast_of 1 (dtype.Duration Microseconds) ∷ [])) 2 (binary Plus a b) }
+    ensures span_as_a_moment { ¬ (Visits [] (columns_of (DatetimeType Microseconds) (DurationType Nanoseconds)) 0
+        (columns_and (pair 0 Plus 3 ∷ cast_of 1 (dtype.Datetime Microseconds) ∷ [])) 2 (binary Plus a b)) }
+    ensures date_beside_a_moment { Visits [] (columns_of DateType (DatetimeType Milliseconds)) 0
+        (columns_and (pair 3 Eq 1 ∷ cast_of 0 (dtype.Datetime Milliseconds) ∷ [])) 2 (binary Eq a b) }
+    ensures truth_value_beside_a_text { Visits [] (columns_of TextType Truth) 0
+        (columns_and (pair 0 Plus 3 ∷ cast_of 1 dtype.String ∷ [])) 2 (binary Plus a b) }
+    ensures null_beside_a_number { Visits [] (columns_of NullType int8) 0
+        (columns_and (pair 3 Eq 1 ∷ cast_of 0 dtype.Int8 ∷ [])) 2 (binary Eq a b) }
+{}
+
+/// Lists and structs are cast to their common type, where they are of others.
+pub fn visits_of_parts()
+    ensures lists { (target : DataType) → ty target ≡ ListType int64 → Visits [] (columns_of (ListType int8) (ListType int64)) 0
+        (columns_and (pair 3 Eq 1 ∷ cast_of 0 target ∷ [])) 2 (binary Eq a b) }
+    ensures structs { (target : DataType) → ty target ≡ struct_of (codes "x") TextType → Visits [] (columns_of (struct_of (codes "x") TextType) (struct_of (codes "x") Truth)) 0
+        (columns_and (pair 0 Eq 3 ∷ cast_of 1 target ∷ [])) 2 (binary Eq a b) }
+    ensures not_cast { ¬ (Visits [] (columns_of (ListType int8) (ListType int64)) 0 (columns_and (pair 0 Eq 1 ∷ [])) 2 (binary Eq a b)) }
+{}
+
+/// Coercion leaves items below a number, makes each tree one that says the same, and each root's a strict one.
+pub fn coerced_sums()
+    ensures cast { IsCoerced [] two_columns 0 sum_items strict_items (2 ∷ []) }
+    ensures unchanged { ¬ (IsCoerced [] two_columns 0 sum_items sum_items (2 ∷ [])) }
+    ensures both_to_another_type { let after = columns_and (pair 3 Plus 4 ∷ cast_of 0 dtype.Int64 ∷ cast_of 1 dtype.Int64 ∷ []) in
+        ¬ (IsCoerced [] two_columns 0 sum_items after (2 ∷ [])) }
+    ensures turned_round { ¬ (IsCoerced [] two_columns 0 sum_items (columns_and (pair 1 Plus 3 ∷ cast_of 0 dtype.Int32 ∷ [])) (2 ∷ [])) }
+    ensures number_left { ¬ (IsCoerced [] [] 0 (Literal (Int (pos 5)) ∷ []) (Literal (Int (pos 5)) ∷ []) (0 ∷ [])) }
+    ensures item_below { ¬ (IsCoerced [] [] 1 a_items (Column (codes "b") ∷ []) []) }
+    ensures nothing_done { StaysSame [] (one_column int8) 0 (columns_and []) (columns_and []) }
+    ensures other_item_below { ¬ (StaysSame [] [] 1 a_items (Column (codes "b") ∷ [])) }
+    ensures other_tree { ¬ (StaysSame [] (columns_of int8 int8) 0 a_items (Column (codes "b") ∷ [])) }
+    ensures items_below { KeepsBelow 1 (columns_and []) (Column (codes "a") ∷ Column (codes "c") ∷ []) }
+    ensures same { DenotesSame [] (one_column int8) 0 a_items 0 a }
+    ensures not_same { ¬ (DenotesSame [] (columns_of int8 int8) 0 (Column (codes "b") ∷ []) 0 a) }
+    ensures roots { numbers (at 3 ∷ at 1 ∷ []) ≡ 3 ∷ 1 ∷ [] }
+{}
+
+/// An operator's operands are changed by the types that the table keeps for them.
+pub fn changes_of_both_operands()
+    ensures cast { ForTable 0 (Some dtype.Int8 ∷ Some dtype.Int32 ∷ []) (λ table.
+        ChangesOperands [] two_columns (columns_and []) table 0 Plus 1 (CastTo dtype.Int32) Keep) }
+    ensures none { ForTable 0 (Some dtype.Int8 ∷ Some dtype.Int32 ∷ []) (λ table.
+        ¬ (ChangesOperands [] two_columns (columns_and []) table 0 Plus 1 Keep Keep)) }
+    ensures nothing_kept { ForTable 0 (Some dtype.Int8 ∷ []) (λ table.
+        ¬ (ChangesOperands [] two_columns (columns_and []) table 0 Plus 1 (CastTo dtype.Int32) Keep)) }
+{}

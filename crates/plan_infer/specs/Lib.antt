@@ -1,0 +1,4 @@
+-- What the contracts of this crate cite.
+pub mod KeptTypes
+pub mod Samples
+pub mod Typed

@@ -1,0 +1,122 @@
+-- What the worked examples share: columns a and b, their sum, what arenas hold of them, and tables of types.
+use Rattle.std.specs.Prelude.{◌≡◌, ℕ, ℤ, List, [], ◌∷◌, pos, codes, true, false, Option}
+use Rattle.std.specs.List.{AllByRecursion}
+use Rattle.plan_types.specs.Types.{Ty, Integer, StructType, Untyped, no_field, with_field}
+use Rattle.plan_types.specs.Values.{IntValue}
+use Rattle.plan_types.specs.Errors.{IsRefusal, at_top}
+use Rattle.plan_types.specs.Schemas.{Name, Columns}
+use Rattle.plan_types.specs.declared.dtype.DataType.{DataType}
+use Rattle.plan_types.specs.declared.dtype.DataType.TheVariants as dtype
+use Rattle.plan_types.specs.declared.dtype.CastOptions.TheVariants.{Strict, NonStrict}
+use Rattle.plan_types.specs.declared.error.ErrorKind.{ErrorKind}
+use Rattle.plan_types.specs.declared.error.PlanError.{PlanError}
+use Rattle.plan_dsl.specs.declared.operator.Operator.{Operator}
+use Rattle.plan_dsl.specs.declared.operator.Operator.TheVariants.{Plus}
+use Rattle.plan_dsl.specs.Trees.{node, no_more, more}
+use Rattle.plan_dsl.specs.Ops.{ColumnOp, LiteralOp, BinaryOp, CastOp, Expression}
+use Rattle.plan_dsl.specs.Typing.{Typed, typing}
+use Rattle.plan_arena.specs.declared.arena.Node.{Node}
+use Rattle.plan_arena.specs.declared.aexpr.AExpr.{AExpr}
+use Rattle.plan_arena.specs.declared.aexpr.AExpr.TheVariants.{Column, BinaryExpr}
+use Rattle.plan_infer.specs.declared.type_table.TypeTable.{TypeTable}
+use Rattle.plan_infer.specs.Typed.{HasType}
+
+abbrev pub int8 : Ty
+int8 = Integer true 8
+
+abbrev pub int16 : Ty
+int16 = Integer true 16
+
+abbrev pub int32 : Ty
+int32 = Integer true 32
+
+abbrev pub int64 : Ty
+int64 = Integer true 64
+
+-- a column a alone
+abbrev pub one_column : Ty → Columns
+one_column type = (codes "a", type) ∷ []
+
+-- columns a and b
+abbrev pub columns_of : Ty → Ty → Columns
+columns_of left right = (codes "a", left) ∷ (codes "b", right) ∷ []
+
+abbrev pub two_columns : Columns
+two_columns = columns_of int8 int32
+
+-- structs with one field
+abbrev pub struct_of : Name → Ty → Ty
+struct_of name type = StructType (with_field name type no_field)
+
+-- the typing of an expression with as many values as rows
+abbrev pub of_type : Ty → Typed
+of_type type = record { type = type; many = true }
+
+abbrev pub of_one : Ty → Typed
+of_one type = record { type = type; many = false }
+
+abbrev pub column : Name → Expression
+column name = node (ColumnOp name) no_more
+
+abbrev pub a : Expression
+a = column (codes "a")
+
+abbrev pub b : Expression
+b = column (codes "b")
+
+-- a column that no schema here has
+abbrev pub c : Expression
+c = column (codes "c")
+
+abbrev pub literal : Ty → ℤ → Expression
+literal type value = node (LiteralOp type (IntValue value)) no_more
+
+-- a number without a type
+abbrev pub number : ℤ → Expression
+number value = literal (Untyped value) value
+
+abbrev pub five : Expression
+five = number (pos 5)
+
+abbrev pub binary : Operator → Expression → Expression → Expression
+binary operator left right = node (BinaryOp operator) (more left (more right no_more))
+
+abbrev pub cast_to : Ty → Expression → Expression
+cast_to type tree = node (CastOp type NonStrict) (more tree no_more)
+
+abbrev pub strictly_cast_to : Ty → Expression → Expression
+strictly_cast_to type tree = node (CastOp type Strict) (more tree no_more)
+
+abbrev pub sum : Expression
+sum = binary Plus a b
+
+abbrev pub at : ℕ → Node
+at n = record { 0 = n }
+
+abbrev pub pair : ℕ → Operator → ℕ → AExpr
+pair left operator right = BinaryExpr (at left) operator (at right)
+
+-- columns a and b at nodes 0 and 1, with other items behind them
+abbrev pub columns_and : List AExpr → List AExpr
+columns_and behind = Column (codes "a") ∷ Column (codes "b") ∷ behind
+
+abbrev pub sum_items : List AExpr
+sum_items = columns_and (pair 0 Plus 1 ∷ [])
+
+abbrev pub a_items : List AExpr
+a_items = Column (codes "a") ∷ []
+
+abbrev pub refused : ErrorKind → List ℕ → PlanError
+refused kind place = record { kind = kind; place = place }
+
+-- a property of each table of types that keeps these from that node on
+abbrev pub ForTable : ℕ → List (Option DataType) → (TypeTable → Type 0) → Type 0
+ForTable first types Has = (table : TypeTable) → table.first ≡ first → table.types.items ≡ types → Has table
+
+-- expressions over columns, which have these types
+abbrev pub HaveTypes : List (Columns × Expression × Ty) → Type 0
+HaveTypes cases = AllByRecursion (λ case. HasType (typing [] case.0 case.1) case.2) cases
+
+-- expressions over columns, which are refused by that kind
+abbrev pub AreRefused : ErrorKind → List (Columns × Expression) → Type 0
+AreRefused kind cases = AllByRecursion (λ case. IsRefusal (typing [] case.0 case.1) (at_top kind)) cases

@@ -1,0 +1,7 @@
+//! Types of expressions in an arena, and tables that keep them by node.
+#![tactic(auto)]
+
+mod examples;
+pub mod operator_types;
+pub mod type_table;
+pub mod typing;
