@@ -1,6 +1,6 @@
 //! Casts of values of any size, and those that fail at the last of many parts.
 
-use crate::fixtures::{LENGTHS, LEVELS, SIZES, deep_type, long_name, struct_type};
+use crate::fixtures::{LENGTHS, LEVELS, NO_MEMORY, SIZES, deep_type, long_name, struct_type};
 use crate::values::{deep_value, list_of, parts_of, struct_of};
 use plan_types::cast::{CastError, can_cast, cast_value};
 use plan_types::dtype::CastOptions;
@@ -12,7 +12,6 @@ use plan_types::text::PlSmallStr;
 use plan_types::value::Value;
 use std::alloc::Global;
 use std::process::Abort;
-use std::test::Fail;
 
 // A cast gives that value, or it fails.
 fn assert_one_cast(
@@ -53,7 +52,7 @@ fn assert_cast(
 }
 
 #[test]
-fn values_without_parts_are_cast(rt: HostRuntime) -> Result<(), Fail> {
+fn values_without_parts_are_cast(rt: HostRuntime) {
     for (value, from, to, want) in &[
         (Value::Null, Null, Date, Value::Null),
         (Value::Null, Int8, Text, Value::Null),
@@ -79,24 +78,16 @@ fn values_without_parts_are_cast(rt: HostRuntime) -> Result<(), Fail> {
     ] {
         assert_cast(&rt, rt.alloc(), value, from, to, want);
     }
-    Ok(())
 }
 
 // Each way to cast the value to the type of texts gives that text.
-fn assert_written(
-    rt: &impl Abort,
-    alloc: Global,
-    value: &Value,
-    from: &DataType,
-    want: &str,
-) -> Result<(), Fail> {
-    let text = PlSmallStr::new(alloc, want)?;
+fn assert_written(rt: &impl Abort, alloc: Global, value: &Value, from: &DataType, want: &str) {
+    let text = PlSmallStr::new(alloc, want).expect(rt, NO_MEMORY);
     assert_cast(rt, alloc, value, from, &Text, &Value::Text(text));
-    Ok(())
 }
 
 #[test]
-fn values_are_cast_to_texts(rt: HostRuntime) -> Result<(), Fail> {
+fn values_are_cast_to_texts(rt: HostRuntime) {
     for (value, from, want) in &[
         (Value::Boolean(true), Boolean, "true"),
         (Value::Boolean(false), Boolean, "false"),
@@ -107,80 +98,76 @@ fn values_are_cast_to_texts(rt: HostRuntime) -> Result<(), Fail> {
             "-9223372036854775808",
         ),
     ] {
-        assert_written(&rt, rt.alloc(), value, from, want)?;
+        assert_written(&rt, rt.alloc(), value, from, want);
     }
-    Ok(())
 }
 
 #[test]
-fn texts_of_any_length_stay_texts(rt: HostRuntime) -> Result<(), Fail> {
+fn texts_of_any_length_stay_texts(rt: HostRuntime) {
     for length in LENGTHS {
-        let text = long_name(rt.alloc(), length)?;
+        let text = long_name(&rt, rt.alloc(), length);
         let value = Value::Text(text);
         assert_cast(&rt, rt.alloc(), &value, &Text, &Text, &value);
     }
-    Ok(())
 }
 
 #[test]
-fn texts_of_any_length_are_read_as_numbers(rt: HostRuntime) -> Result<(), Fail> {
+fn texts_of_any_length_are_read_as_numbers(rt: HostRuntime) {
     for zeros in LENGTHS {
-        let mut digits = "0".repeat(rt.alloc(), zeros)?;
-        digits.push_str("11")?;
-        let value = Value::Text(PlSmallStr::new(rt.alloc(), digits.as_str())?);
+        let mut digits = "0".repeat(rt.alloc(), zeros).expect(&rt, NO_MEMORY);
+        digits.push_str("11").expect(&rt, NO_MEMORY);
+        let value = Value::Text(PlSmallStr::new(rt.alloc(), digits.as_str()).expect(
+            &rt, NO_MEMORY,
+        ));
         assert_cast(&rt, rt.alloc(), &value, &Text, &Int8, &Value::Int(11));
     }
-    Ok(())
 }
 
 #[test]
-fn lists_of_any_size_are_cast(rt: HostRuntime) -> Result<(), Fail> {
-    let from = deep_type(rt.alloc(), 1, &Int64)?;
-    let to = deep_type(rt.alloc(), 1, &Boolean)?;
+fn lists_of_any_size_are_cast(rt: HostRuntime) {
+    let from = deep_type(&rt, rt.alloc(), 1, &Int64);
+    let to = deep_type(&rt, rt.alloc(), 1, &Boolean);
     for count in SIZES {
-        let value = list_of(rt.alloc(), count, &Value::Int(5))?;
-        let want = list_of(rt.alloc(), count, &Value::Boolean(true))?;
+        let value = list_of(&rt, rt.alloc(), count, &Value::Int(5));
+        let want = list_of(&rt, rt.alloc(), count, &Value::Boolean(true));
         assert_cast(&rt, rt.alloc(), &value, &from, &to, &want);
     }
-    Ok(())
 }
 
 #[test]
-fn structs_of_any_size_are_cast(rt: HostRuntime) -> Result<(), Fail> {
+fn structs_of_any_size_are_cast(rt: HostRuntime) {
     for count in SIZES {
-        let from = struct_type(rt.alloc(), count, &Int64)?;
-        let to = struct_type(rt.alloc(), count, &Boolean)?;
-        let value = struct_of(rt.alloc(), count, &Value::Int(5))?;
-        let want = struct_of(rt.alloc(), count, &Value::Boolean(true))?;
+        let from = struct_type(&rt, rt.alloc(), count, &Int64);
+        let to = struct_type(&rt, rt.alloc(), count, &Boolean);
+        let value = struct_of(&rt, rt.alloc(), count, &Value::Int(5));
+        let want = struct_of(&rt, rt.alloc(), count, &Value::Boolean(true));
         assert_cast(&rt, rt.alloc(), &value, &from, &to, &want);
     }
-    Ok(())
 }
 
 #[test]
-fn lists_of_any_depth_are_cast(rt: HostRuntime) -> Result<(), Fail> {
+fn lists_of_any_depth_are_cast(rt: HostRuntime) {
     for levels in LEVELS {
-        let from = deep_type(rt.alloc(), levels, &Int64)?;
-        let to = deep_type(rt.alloc(), levels, &UInt8)?;
-        let value = deep_value(rt.alloc(), levels, 5)?;
+        let from = deep_type(&rt, rt.alloc(), levels, &Int64);
+        let to = deep_type(&rt, rt.alloc(), levels, &UInt8);
+        let value = deep_value(&rt, rt.alloc(), levels, 5);
         assert_cast(&rt, rt.alloc(), &value, &from, &to, &value);
     }
-    Ok(())
 }
 
 // A list of so many values and a last one.
-fn with_last(alloc: Global, others: usize, last: Value) -> Result<Value, Fail> {
-    let mut parts = parts_of(alloc, others, &Value::Int(5))?;
-    parts.items.push(last)?;
-    Ok(Value::List(parts))
+fn with_last(rt: &impl Abort, alloc: Global, others: usize, last: Value) -> Value {
+    let mut parts = parts_of(rt, alloc, others, &Value::Int(5));
+    parts.items.push(last).expect(rt, NO_MEMORY);
+    Value::List(parts)
 }
 
 #[test]
-fn a_cast_fails_at_the_last_of_any_items(rt: HostRuntime) -> Result<(), Fail> {
-    let from = deep_type(rt.alloc(), 1, &Int64)?;
-    let to = deep_type(rt.alloc(), 1, &Int8)?;
+fn a_cast_fails_at_the_last_of_any_items(rt: HostRuntime) {
+    let from = deep_type(&rt, rt.alloc(), 1, &Int64);
+    let to = deep_type(&rt, rt.alloc(), 1, &Int8);
     for others in [0, 1, 2, 300, 100_000] {
-        let value = with_last(rt.alloc(), others, Value::Int(300))?;
+        let value = with_last(&rt, rt.alloc(), others, Value::Int(300));
         assert_one_cast(
             &rt,
             rt.alloc(),
@@ -190,7 +177,7 @@ fn a_cast_fails_at_the_last_of_any_items(rt: HostRuntime) -> Result<(), Fail> {
             CastOptions::Strict,
             None,
         );
-        let want = with_last(rt.alloc(), others, Value::Null)?;
+        let want = with_last(&rt, rt.alloc(), others, Value::Null);
         assert_one_cast(
             &rt,
             rt.alloc(),
@@ -201,15 +188,14 @@ fn a_cast_fails_at_the_last_of_any_items(rt: HostRuntime) -> Result<(), Fail> {
             Some(&want),
         );
     }
-    Ok(())
 }
 
 #[test]
-fn a_cast_fails_at_any_depth(rt: HostRuntime) -> Result<(), Fail> {
+fn a_cast_fails_at_any_depth(rt: HostRuntime) {
     for levels in LEVELS {
-        let from = deep_type(rt.alloc(), levels, &Int64)?;
-        let to = deep_type(rt.alloc(), levels, &Int8)?;
-        let value = deep_value(rt.alloc(), levels, 300)?;
+        let from = deep_type(&rt, rt.alloc(), levels, &Int64);
+        let to = deep_type(&rt, rt.alloc(), levels, &Int8);
+        let value = deep_value(&rt, rt.alloc(), levels, 300);
         assert_one_cast(
             &rt,
             rt.alloc(),
@@ -220,5 +206,4 @@ fn a_cast_fails_at_any_depth(rt: HostRuntime) -> Result<(), Fail> {
             None,
         );
     }
-    Ok(())
 }

@@ -1,25 +1,22 @@
 //! Literals, operators and expressions.
 
-use crate::fixtures::{LENGTHS, assert_alike, long_name};
+use crate::fixtures::{LENGTHS, NO_MEMORY, assert_alike, long_name};
 use crate::sums::{column, sum_of};
 use plan_dsl::expr::Expr;
 use plan_dsl::literal::LiteralValue;
 use plan_dsl::operator::Operator;
 use plan_types::dtype::TimeUnit::{Microseconds, Milliseconds, Nanoseconds};
 use plan_types::dtype::{CastOptions, DataType};
-use plan_types::error::PlanError;
 use std::alloc::Global;
 use std::process::Abort;
-use std::test::Fail;
 
-fn assert_literal(rt: &impl Abort, alloc: Global, value: &LiteralValue) -> Result<(), Fail> {
-    let copy = value.try_clone(alloc)?;
+fn assert_literal(rt: &impl Abort, alloc: Global, value: &LiteralValue) {
+    let copy = value.try_clone(alloc).expect(rt, NO_MEMORY);
     assert_alike(rt, &copy, value);
-    Ok(())
 }
 
 #[test]
-fn literals_of_each_kind_are_copied(rt: HostRuntime) -> Result<(), Fail> {
+fn literals_of_each_kind_are_copied(rt: HostRuntime) {
     for value in &[
         LiteralValue::Null,
         LiteralValue::Boolean(true),
@@ -38,13 +35,12 @@ fn literals_of_each_kind_are_copied(rt: HostRuntime) -> Result<(), Fail> {
         LiteralValue::DateTime(-1, Microseconds),
         LiteralValue::Duration(i64::MAX, Milliseconds),
     ] {
-        assert_literal(&rt, rt.alloc(), value)?;
+        assert_literal(&rt, rt.alloc(), value);
     }
-    Ok(())
 }
 
 #[test]
-fn operators_are_written_as_signs(rt: HostRuntime) -> Result<(), Fail> {
+fn operators_are_written_as_signs(rt: HostRuntime) {
     for (operator, sign) in [
         (Operator::Eq, "=="),
         (Operator::EqValidity, "==v"),
@@ -66,70 +62,67 @@ fn operators_are_written_as_signs(rt: HostRuntime) -> Result<(), Fail> {
         (Operator::LogicalAnd, "&"),
         (Operator::LogicalOr, "|"),
     ] {
-        let text = operator.to_string(rt.alloc())?;
+        let text = operator.to_string(rt.alloc()).expect(&rt, NO_MEMORY);
         assert_eq!(rt; text.as_str(), sign);
     }
-    Ok(())
 }
 
 /// So many casts of the column, one round another.
-pub(crate) fn casts_of(alloc: Global, name: &str, casts: usize) -> Result<Expr, PlanError> {
-    let mut expr = column(alloc, name)?;
+pub(crate) fn casts_of(rt: &impl Abort, alloc: Global, name: &str, casts: usize) -> Expr {
+    let mut expr = column(alloc, name).expect(rt, NO_MEMORY);
     for _ in 0..casts {
         expr = Expr::Cast {
-            expr: Box::new(alloc, expr)?,
+            expr: Box::new(alloc, expr).expect(rt, NO_MEMORY),
             dtype: DataType::Int64,
             options: CastOptions::Strict,
         };
     }
-    Ok(expr)
+    expr
 }
 
 /// The column of the last name, to which that of the first is added from the left so often.
 pub(crate) fn right_sum(
+    rt: &impl Abort,
     alloc: Global,
     first: &str,
     last: &str,
     additions: usize,
-) -> Result<Expr, PlanError> {
-    let mut sum = column(alloc, last)?;
+) -> Expr {
+    let mut sum = column(alloc, last).expect(rt, NO_MEMORY);
     for _ in 0..additions {
-        let left = column(alloc, first)?;
+        let left = column(alloc, first).expect(rt, NO_MEMORY);
         sum = Expr::BinaryExpr {
-            left: Box::new(alloc, left)?,
+            left: Box::new(alloc, left).expect(rt, NO_MEMORY),
             op: Operator::Plus,
-            right: Box::new(alloc, sum)?,
+            right: Box::new(alloc, sum).expect(rt, NO_MEMORY),
         };
     }
-    Ok(sum)
+    sum
 }
 
-fn assert_copied(rt: &impl Abort, alloc: Global, expr: &Expr) -> Result<(), Fail> {
-    let copy = expr.try_clone(alloc)?;
+fn assert_copied(rt: &impl Abort, alloc: Global, expr: &Expr) {
+    let copy = expr.try_clone(alloc).expect(rt, NO_MEMORY);
     assert_alike(rt, &copy, expr);
-    Ok(())
 }
 
 #[test]
-fn columns_and_literals_of_any_length_are_copied(rt: HostRuntime) -> Result<(), Fail> {
+fn columns_and_literals_of_any_length_are_copied(rt: HostRuntime) {
     for length in LENGTHS {
-        let expr = Expr::Column(long_name(rt.alloc(), length)?);
-        assert_copied(&rt, rt.alloc(), &expr)?;
-        let expr = Expr::Literal(LiteralValue::String(long_name(rt.alloc(), length)?));
-        assert_copied(&rt, rt.alloc(), &expr)?;
+        let expr = Expr::Column(long_name(&rt, rt.alloc(), length));
+        assert_copied(&rt, rt.alloc(), &expr);
+        let expr = Expr::Literal(LiteralValue::String(long_name(&rt, rt.alloc(), length)));
+        assert_copied(&rt, rt.alloc(), &expr);
     }
-    Ok(())
 }
 
 #[test]
-fn sums_and_casts_of_any_number_are_copied(rt: HostRuntime) -> Result<(), Fail> {
+fn sums_and_casts_of_any_number_are_copied(rt: HostRuntime) {
     for count in [0, 1, 2, 299] {
-        let expr = sum_of(rt.alloc(), "a", count)?;
-        assert_copied(&rt, rt.alloc(), &expr)?;
-        let expr = right_sum(rt.alloc(), "a", "b", count)?;
-        assert_copied(&rt, rt.alloc(), &expr)?;
-        let expr = casts_of(rt.alloc(), "a", count)?;
-        assert_copied(&rt, rt.alloc(), &expr)?;
+        let expr = sum_of(rt.alloc(), "a", count).expect(&rt, NO_MEMORY);
+        assert_copied(&rt, rt.alloc(), &expr);
+        let expr = right_sum(&rt, rt.alloc(), "a", "b", count);
+        assert_copied(&rt, rt.alloc(), &expr);
+        let expr = casts_of(&rt, rt.alloc(), "a", count);
+        assert_copied(&rt, rt.alloc(), &expr);
     }
-    Ok(())
 }

@@ -8,7 +8,9 @@ use plan_types::text::PlSmallStr;
 use std::alloc::Global;
 use std::hash::{FoldHasher, Hash, Hasher};
 use std::process::Abort;
-use std::test::Fail;
+
+/// What a test says that finds no memory.
+pub(crate) const NO_MEMORY: &str = "there is memory";
 
 /// How many parts the tests give to what has parts.
 pub(crate) const SIZES: [usize; 5] = [0, 1, 2, 50, 300];
@@ -32,17 +34,17 @@ pub(crate) fn assert_alike<T: Eq + Hash>(rt: &impl Abort, copy: &T, value: &T) {
 }
 
 /// The name of the part of that number.
-pub(crate) fn numbered(alloc: Global, number: usize) -> Result<PlSmallStr, Fail> {
-    let text = format!(in alloc; "part {number}")?;
-    let name = PlSmallStr::new(alloc, text.as_str())?;
-    Ok(name)
+pub(crate) fn numbered(rt: &impl Abort, alloc: Global, number: usize) -> PlSmallStr {
+    let text = format!(in alloc; "part {number}").expect(rt, NO_MEMORY);
+    let name = PlSmallStr::new(alloc, text.as_str()).expect(rt, NO_MEMORY);
+    name
 }
 
 /// A name of so many bytes.
-pub(crate) fn long_name(alloc: Global, length: usize) -> Result<PlSmallStr, Fail> {
-    let text = "n".repeat(alloc, length)?;
-    let name = PlSmallStr::new(alloc, text.as_str())?;
-    Ok(name)
+pub(crate) fn long_name(rt: &impl Abort, alloc: Global, length: usize) -> PlSmallStr {
+    let text = "n".repeat(alloc, length).expect(rt, NO_MEMORY);
+    let name = PlSmallStr::new(alloc, text.as_str()).expect(rt, NO_MEMORY);
+    name
 }
 
 /// Each type without parts, and those of two numbers without one.
@@ -73,23 +75,33 @@ pub(crate) fn bare_types() -> [DataType; 21] {
 }
 
 /// The type of structs of so many fields of the type.
-pub(crate) fn struct_type(alloc: Global, count: usize, dtype: &DataType) -> Result<DataType, Fail> {
+pub(crate) fn struct_type(
+    rt: &impl Abort,
+    alloc: Global,
+    count: usize,
+    dtype: &DataType,
+) -> DataType {
     let mut items = Vec::new(alloc);
     for number in 0..count {
-        let name = numbered(alloc, number)?;
-        let dtype = dtype.try_clone(alloc)?;
-        items.push(Field::new(name, dtype))?;
+        let name = numbered(rt, alloc, number);
+        let dtype = dtype.try_clone(alloc).expect(rt, NO_MEMORY);
+        items.push(Field::new(name, dtype)).expect(rt, NO_MEMORY);
     }
-    Ok(DataType::Struct(Fields { items }))
+    DataType::Struct(Fields { items })
 }
 
 /// The type of lists of lists, so many levels deep, of the type.
-pub(crate) fn deep_type(alloc: Global, levels: usize, dtype: &DataType) -> Result<DataType, Fail> {
-    let mut deep = dtype.try_clone(alloc)?;
+pub(crate) fn deep_type(
+    rt: &impl Abort,
+    alloc: Global,
+    levels: usize,
+    dtype: &DataType,
+) -> DataType {
+    let mut deep = dtype.try_clone(alloc).expect(rt, NO_MEMORY);
     for _ in 0..levels {
-        deep = deep.implode(alloc)?;
+        deep = deep.implode(alloc).expect(rt, NO_MEMORY);
     }
-    Ok(deep)
+    deep
 }
 
 /// The answer is a refusal of that kind, at the top.

@@ -1,6 +1,6 @@
 //! Frames of any number of columns and rows, and their faults.
 
-use crate::fixtures::{SIZES, long_name, numbered};
+use crate::fixtures::{NO_MEMORY, SIZES, long_name, numbered};
 use crate::schemas::schema_of;
 use crate::values::parts_of;
 use plan_types::column::{Column, Values};
@@ -10,27 +10,26 @@ use plan_types::text::PlSmallStr;
 use plan_types::value::Value;
 use std::alloc::Global;
 use std::process::Abort;
-use std::test::Fail;
 
 // A column of the number 5, in so many rows.
-fn column_of(alloc: Global, name: PlSmallStr, rows: usize) -> Result<Column, Fail> {
-    let parts = parts_of(alloc, rows, &Value::Int(5))?;
-    Ok(Column {
+fn column_of(rt: &impl Abort, alloc: Global, name: PlSmallStr, rows: usize) -> Column {
+    let parts = parts_of(rt, alloc, rows, &Value::Int(5));
+    Column {
         name,
         dtype: DataType::Int8,
         values: Values { items: parts.items },
-    })
+    }
 }
 
 // So many columns of so many rows.
-fn columns_of(alloc: Global, count: usize, rows: usize) -> Result<Vec<Column>, Fail> {
+fn columns_of(rt: &impl Abort, alloc: Global, count: usize, rows: usize) -> Vec<Column> {
     let mut columns = Vec::new(alloc);
     for number in 0..count {
-        let name = numbered(alloc, number)?;
-        let column = column_of(alloc, name, rows)?;
-        columns.push(column)?;
+        let name = numbered(rt, alloc, number);
+        let column = column_of(rt, alloc, name, rows);
+        columns.push(column).expect(rt, NO_MEMORY);
     }
-    Ok(columns)
+    columns
 }
 
 // The frame has so many columns and rows, of the number 5.
@@ -45,63 +44,52 @@ fn assert_rows(rt: &impl Abort, frame: &Frame, count: usize, rows: usize) {
     }
 }
 
-fn assert_schema(alloc: Global, frame: &Frame, count: usize) -> Result<(), Fail> {
-    let schema = frame.schema(alloc)?;
-    let want = schema_of(alloc, count, &DataType::Int8)?;
-    schema.matches_schema(&want)?;
-    Ok(())
+fn assert_schema(rt: &impl Abort, alloc: Global, frame: &Frame, count: usize) {
+    let schema = frame.schema(alloc).expect(rt, NO_MEMORY);
+    let want = schema_of(rt, alloc, count, &DataType::Int8);
+    schema.matches_schema(&want).expect(rt, NO_MEMORY);
 }
 
-fn assert_copied_frame(
-    rt: &impl Abort,
-    alloc: Global,
-    frame: &Frame,
-    count: usize,
-    rows: usize,
-) -> Result<(), Fail> {
-    let copy = frame.try_clone(alloc)?;
+fn assert_copied_frame(rt: &impl Abort, alloc: Global, frame: &Frame, count: usize, rows: usize) {
+    let copy = frame.try_clone(alloc).expect(rt, NO_MEMORY);
     assert_rows(rt, &copy, count, rows);
-    assert_schema(alloc, &copy, count)?;
-    Ok(())
+    assert_schema(rt, alloc, &copy, count);
 }
 
 #[test]
-fn frames_of_any_size_are_made_and_copied(rt: HostRuntime) -> Result<(), Fail> {
+fn frames_of_any_size_are_made_and_copied(rt: HostRuntime) {
     for (count, rows) in [(0, 0), (1, 0), (1, 1), (2, 2), (50, 2), (2, 100_000)] {
-        let columns = columns_of(rt.alloc(), count, rows)?;
-        let frame = Frame::new(rt.alloc(), columns)?;
+        let columns = columns_of(&rt, rt.alloc(), count, rows);
+        let frame = Frame::new(rt.alloc(), columns).expect(&rt, NO_MEMORY);
         assert_rows(&rt, &frame, count, rows);
-        assert_schema(rt.alloc(), &frame, count)?;
-        assert_copied_frame(&rt, rt.alloc(), &frame, count, rows)?;
+        assert_schema(&rt, rt.alloc(), &frame, count);
+        assert_copied_frame(&rt, rt.alloc(), &frame, count, rows);
     }
-    Ok(())
 }
 
-fn assert_copied(rt: &impl Abort, alloc: Global, column: &Column) -> Result<(), Fail> {
-    let copy = column.try_clone(alloc)?;
+fn assert_copied(rt: &impl Abort, alloc: Global, column: &Column) {
+    let copy = column.try_clone(alloc).expect(rt, NO_MEMORY);
     assert!(rt; copy.name == column.name);
     assert!(rt; copy.dtype == column.dtype);
     assert!(rt; copy.values.items.as_slice() == column.values.items.as_slice());
-    let values = column.values.try_clone(alloc)?;
+    let values = column.values.try_clone(alloc).expect(rt, NO_MEMORY);
     assert!(rt; values.items.as_slice() == column.values.items.as_slice());
-    Ok(())
 }
 
 #[test]
-fn columns_of_any_size_are_copied(rt: HostRuntime) -> Result<(), Fail> {
+fn columns_of_any_size_are_copied(rt: HostRuntime) {
     for rows in SIZES {
-        let name = long_name(rt.alloc(), 100 * rows)?;
-        let column = column_of(rt.alloc(), name, rows)?;
-        assert_copied(&rt, rt.alloc(), &column)?;
+        let name = long_name(&rt, rt.alloc(), 100 * rows);
+        let column = column_of(&rt, rt.alloc(), name, rows);
+        assert_copied(&rt, rt.alloc(), &column);
     }
-    Ok(())
 }
 
 // What is told of the columns, which are no frame.
-fn fault_text(alloc: Global, columns: Vec<Column>) -> Result<String, Fail> {
+fn fault_text(rt: &impl Abort, alloc: Global, columns: Vec<Column>) -> String {
     match Frame::new(alloc, columns) {
-        Ok(_) => Ok(String::from_str(alloc, "a frame")?),
-        Err(error) => Ok(error.to_string(alloc)?),
+        Ok(_) => String::from_str(alloc, "a frame").expect(rt, NO_MEMORY),
+        Err(error) => error.to_string(alloc).expect(rt, NO_MEMORY),
     }
 }
 
@@ -113,30 +101,28 @@ fn assert_fault(
     rows: usize,
     last: Column,
     want: &str,
-) -> Result<(), Fail> {
-    let mut columns = columns_of(alloc, count, rows)?;
-    columns.push(last)?;
-    let found = fault_text(alloc, columns)?;
+) {
+    let mut columns = columns_of(rt, alloc, count, rows);
+    columns.push(last).expect(rt, NO_MEMORY);
+    let found = fault_text(rt, alloc, columns);
     assert_eq!(rt; found.as_str(), want);
-    Ok(())
 }
 
 #[test]
-fn a_name_that_stands_before_is_refused(rt: HostRuntime) -> Result<(), Fail> {
+fn a_name_that_stands_before_is_refused(rt: HostRuntime) {
     for (others, want) in [
         (0, "two columns are named \"part 0\""),
         (1, "two columns are named \"part 1\""),
         (49, "two columns are named \"part 49\""),
     ] {
-        let name = numbered(rt.alloc(), others)?;
-        let last = column_of(rt.alloc(), name, 1)?;
-        assert_fault(&rt, rt.alloc(), others + 1, 2, last, want)?;
+        let name = numbered(&rt, rt.alloc(), others);
+        let last = column_of(&rt, rt.alloc(), name, 1);
+        assert_fault(&rt, rt.alloc(), others + 1, 2, last, want);
     }
-    Ok(())
 }
 
 #[test]
-fn another_length_is_refused(rt: HostRuntime) -> Result<(), Fail> {
+fn another_length_is_refused(rt: HostRuntime) {
     for (count, rows, want) in [
         (1, 0, "column \"nnn\" has 1 values in place of 0"),
         (2, 1, "column \"nnn\" has 2 values in place of 1"),
@@ -147,23 +133,26 @@ fn another_length_is_refused(rt: HostRuntime) -> Result<(), Fail> {
             "column \"nnn\" has 100001 values in place of 100000",
         ),
     ] {
-        let name = long_name(rt.alloc(), 3)?;
-        let last = column_of(rt.alloc(), name, rows + 1)?;
-        assert_fault(&rt, rt.alloc(), count, rows, last, want)?;
+        let name = long_name(&rt, rt.alloc(), 3);
+        let last = column_of(&rt, rt.alloc(), name, rows + 1);
+        assert_fault(&rt, rt.alloc(), count, rows, last, want);
     }
-    Ok(())
 }
 
 // A column that has so many numbers that fit it, and then one that doesn't.
-fn misfit(alloc: Global, rows: usize) -> Result<Column, Fail> {
-    let name = long_name(alloc, 3)?;
-    let mut column = column_of(alloc, name, rows)?;
-    column.values.items.push(Value::Int(128))?;
-    Ok(column)
+fn misfit(rt: &impl Abort, alloc: Global, rows: usize) -> Column {
+    let name = long_name(rt, alloc, 3);
+    let mut column = column_of(rt, alloc, name, rows);
+    column
+        .values
+        .items
+        .push(Value::Int(128))
+        .expect(rt, NO_MEMORY);
+    column
 }
 
 #[test]
-fn a_value_that_does_not_fit_is_refused(rt: HostRuntime) -> Result<(), Fail> {
+fn a_value_that_does_not_fit_is_refused(rt: HostRuntime) {
     for (count, rows, want) in [
         (
             0,
@@ -186,8 +175,7 @@ fn a_value_that_does_not_fit_is_refused(rt: HostRuntime) -> Result<(), Fail> {
             "the value of column \"nnn\" in row 100000 doesn't fit its type",
         ),
     ] {
-        let last = misfit(rt.alloc(), rows)?;
-        assert_fault(&rt, rt.alloc(), count, rows + 1, last, want)?;
+        let last = misfit(&rt, rt.alloc(), rows);
+        assert_fault(&rt, rt.alloc(), count, rows + 1, last, want);
     }
-    Ok(())
 }

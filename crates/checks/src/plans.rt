@@ -1,6 +1,6 @@
 //! Plans of any size: copies, and the arenas of lowered ones.
 
-use crate::fixtures::SIZES;
+use crate::fixtures::{NO_MEMORY, SIZES};
 use crate::schemas::schema_of;
 use crate::sums::{column, sum_of};
 use plan_arena::arena::{Arena, Node};
@@ -9,52 +9,57 @@ use plan_dsl::plan::{DslPlan, Exprs, ProjectionOptions};
 use plan_types::dtype::DataType;
 use std::alloc::Global;
 use std::process::Abort;
-use std::test::Fail;
 
 /// A scan of that table, with so many columns of truth values.
-pub(crate) fn scan_of(alloc: Global, table: Option<u32>, count: usize) -> Result<DslPlan, Fail> {
-    let schema = schema_of(alloc, count, &DataType::Boolean)?;
-    Ok(DslPlan::DataFrameScan { table, schema })
+pub(crate) fn scan_of(rt: &impl Abort, alloc: Global, table: Option<u32>, count: usize) -> DslPlan {
+    let schema = schema_of(rt, alloc, count, &DataType::Boolean);
+    DslPlan::DataFrameScan { table, schema }
 }
 
 /// So many filters over the plan, by its first column.
-pub(crate) fn filters_over(alloc: Global, plan: DslPlan, filters: usize) -> Result<DslPlan, Fail> {
+pub(crate) fn filters_over(
+    rt: &impl Abort,
+    alloc: Global,
+    plan: DslPlan,
+    filters: usize,
+) -> DslPlan {
     let mut plan = plan;
     for _ in 0..filters {
-        let input = Box::new(alloc, plan)?;
-        let predicate = column(alloc, "part 0")?;
+        let input = Box::new(alloc, plan).expect(rt, NO_MEMORY);
+        let predicate = column(alloc, "part 0").expect(rt, NO_MEMORY);
         plan = DslPlan::Filter { input, predicate };
     }
-    Ok(plan)
+    plan
 }
 
 // So many times the expression.
-fn exprs_of(alloc: Global, count: usize, expr: &Expr) -> Result<Exprs, Fail> {
+fn exprs_of(rt: &impl Abort, alloc: Global, count: usize, expr: &Expr) -> Exprs {
     let mut items = Vec::new(alloc);
     for _ in 0..count {
-        let copy = expr.try_clone(alloc)?;
-        items.push(copy)?;
+        let copy = expr.try_clone(alloc).expect(rt, NO_MEMORY);
+        items.push(copy).expect(rt, NO_MEMORY);
     }
-    Ok(Exprs { items })
+    Exprs { items }
 }
 
 /// A select of so many times the expression over the plan.
 pub(crate) fn select_of(
+    rt: &impl Abort,
     alloc: Global,
     expr: &Expr,
     count: usize,
     input: DslPlan,
-) -> Result<DslPlan, Fail> {
-    let input = Box::new(alloc, input)?;
-    let expr = exprs_of(alloc, count, expr)?;
+) -> DslPlan {
+    let input = Box::new(alloc, input).expect(rt, NO_MEMORY);
+    let expr = exprs_of(rt, alloc, count, expr);
     let options = ProjectionOptions {
         duplicate_check: false,
     };
-    Ok(DslPlan::Select {
+    DslPlan::Select {
         expr,
         input,
         options,
-    })
+    }
 }
 
 // Whether both are one plan.
@@ -94,84 +99,79 @@ fn is_same(left: &DslPlan, right: &DslPlan) -> bool {
 }
 
 // A copy of the plan is that plan.
-fn assert_copied(rt: &impl Abort, alloc: Global, plan: &DslPlan) -> Result<(), Fail> {
-    let copy = plan.try_clone(alloc)?;
+fn assert_copied(rt: &impl Abort, alloc: Global, plan: &DslPlan) {
+    let copy = plan.try_clone(alloc).expect(rt, NO_MEMORY);
     assert!(rt; is_same(&copy, plan));
-    Ok(())
 }
 
-fn assert_scan(
-    rt: &impl Abort,
-    alloc: Global,
-    table: Option<u32>,
-    count: usize,
-) -> Result<(), Fail> {
-    let scan = scan_of(alloc, table, count)?;
+fn assert_scan(rt: &impl Abort, alloc: Global, table: Option<u32>, count: usize) {
+    let scan = scan_of(rt, alloc, table, count);
     assert_copied(rt, alloc, &scan)
 }
 
 #[test]
-fn scans_of_any_size_are_copied(rt: HostRuntime) -> Result<(), Fail> {
+fn scans_of_any_size_are_copied(rt: HostRuntime) {
     for count in SIZES {
-        assert_scan(&rt, rt.alloc(), None, count)?;
-        assert_scan(&rt, rt.alloc(), Some(0), count)?;
-        assert_scan(&rt, rt.alloc(), Some(u32::MAX), count)?;
+        assert_scan(&rt, rt.alloc(), None, count);
+        assert_scan(&rt, rt.alloc(), Some(0), count);
+        assert_scan(&rt, rt.alloc(), Some(u32::MAX), count);
     }
-    Ok(())
 }
 
 #[test]
-fn the_default_plan_is_the_empty_table(rt: HostRuntime) -> Result<(), Fail> {
-    let plan = DslPlan::default(rt.alloc())?;
-    let empty = scan_of(rt.alloc(), None, 0)?;
+fn the_default_plan_is_the_empty_table(rt: HostRuntime) {
+    let plan = DslPlan::default(rt.alloc()).expect(&rt, NO_MEMORY);
+    let empty = scan_of(&rt, rt.alloc(), None, 0);
     assert!(rt; is_same(&empty, &plan));
-    Ok(())
 }
 
-fn assert_filters(rt: &impl Abort, alloc: Global, filters: usize) -> Result<(), Fail> {
-    let scan = scan_of(alloc, Some(3), 1)?;
-    let plan = filters_over(alloc, scan, filters)?;
+fn assert_filters(rt: &impl Abort, alloc: Global, filters: usize) {
+    let scan = scan_of(rt, alloc, Some(3), 1);
+    let plan = filters_over(rt, alloc, scan, filters);
     assert_copied(rt, alloc, &plan)
 }
 
 #[test]
-fn filters_of_any_depth_are_copied(rt: HostRuntime) -> Result<(), Fail> {
+fn filters_of_any_depth_are_copied(rt: HostRuntime) {
     for filters in [1, 2, 200] {
-        assert_filters(&rt, rt.alloc(), filters)?;
+        assert_filters(&rt, rt.alloc(), filters);
     }
-    Ok(())
 }
 
-fn assert_select(rt: &impl Abort, alloc: Global, expr: &Expr, count: usize) -> Result<(), Fail> {
-    let plan = select_of(alloc, expr, count, DslPlan::default(alloc)?)?;
+fn assert_select(rt: &impl Abort, alloc: Global, expr: &Expr, count: usize) {
+    let plan = select_of(
+        rt,
+        alloc,
+        expr,
+        count,
+        DslPlan::default(alloc).expect(rt, NO_MEMORY),
+    );
     assert_copied(rt, alloc, &plan)
 }
 
 #[test]
-fn selects_of_any_size_are_copied(rt: HostRuntime) -> Result<(), Fail> {
-    let sum = sum_of(rt.alloc(), "a", 2)?;
+fn selects_of_any_size_are_copied(rt: HostRuntime) {
+    let sum = sum_of(rt.alloc(), "a", 2).expect(&rt, NO_MEMORY);
     for count in SIZES {
-        assert_select(&rt, rt.alloc(), &sum, count)?;
+        assert_select(&rt, rt.alloc(), &sum, count);
     }
-    Ok(())
 }
 
 // An arena of the numbers below that one.
-fn numbers_below(rt: &impl Abort, alloc: Global, count: usize) -> Result<Arena<usize>, Fail> {
+fn numbers_below(rt: &impl Abort, alloc: Global, count: usize) -> Arena<usize> {
     let mut arena = Arena::new(alloc);
     for number in 0..count {
-        let node = arena.add(number)?;
+        let node = arena.add(number).expect(rt, NO_MEMORY);
         assert_eq!(rt; node, Node(number));
     }
-    Ok(arena)
+    arena
 }
 
 #[test]
-fn arenas_of_any_size_keep_their_items(rt: HostRuntime) -> Result<(), Fail> {
-    let arena = numbers_below(&rt, rt.alloc(), 10_000)?;
+fn arenas_of_any_size_keep_their_items(rt: HostRuntime) {
+    let arena = numbers_below(&rt, rt.alloc(), 10_000);
     assert_eq!(rt; arena.len(), 10_000);
     for number in 0..10_000usize {
         assert_eq!(rt; *arena.get(Node(number)), number);
     }
-    Ok(())
 }

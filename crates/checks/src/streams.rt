@@ -1,5 +1,6 @@
 //! Whole reads and writes over sources and sinks in memory, and over readers and writers.
 
+use crate::fixtures::NO_MEMORY;
 use byte_streams::faults::Failed;
 use byte_streams::sink::WriteAdapter;
 use byte_streams::source::{MemSource, ReadAdapter};
@@ -7,7 +8,6 @@ use byte_streams::stream::{ReadOutcome, read_all, write_all};
 use std::alloc::Global;
 use std::io::{self, ErrorKind, Read, Write};
 use std::process::Abort;
-use std::test::Fail;
 
 const TEXT: &[u8] = b"scan t, filter";
 
@@ -20,22 +20,20 @@ fn assert_bytes(rt: &impl Abort, outcome: &ReadOutcome, bytes: &[u8]) {
 }
 
 // So many blanks are read, at most that many at a time.
-fn assert_read(rt: &impl Abort, alloc: Global, count: usize, step: usize) -> Result<(), Fail> {
-    let text = vec![in alloc; b' '; count]?;
+fn assert_read(rt: &impl Abort, alloc: Global, count: usize, step: usize) {
+    let text = vec![in alloc; b' '; count].expect(rt, NO_MEMORY);
     assert!(rt; step > 0);
     let mut source = MemSource::new(&text, Vec::new(alloc)).in_steps(step);
     let outcome = read_all(alloc, &mut source);
     assert_bytes(rt, &outcome, text.as_slice());
-    Ok(())
 }
 
 #[test]
-fn inputs_of_any_size_are_read(rt: HostRuntime) -> Result<(), Fail> {
+fn inputs_of_any_size_are_read(rt: HostRuntime) {
     for count in [0, 1, 2, 8_191, 8_192, 8_193, 100_000] {
-        assert_read(&rt, rt.alloc(), count, 7)?;
-        assert_read(&rt, rt.alloc(), count, usize::MAX)?;
+        assert_read(&rt, rt.alloc(), count, 7);
+        assert_read(&rt, rt.alloc(), count, usize::MAX);
     }
-    Ok(())
 }
 
 // A reader that gives at most five bytes a read, of which one fails. It counts how often it is asked.

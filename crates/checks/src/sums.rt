@@ -1,10 +1,11 @@
 //! Sums of any length.
-ghost use Rattle.std.specs.Prelude.{◌≡◌, IfOk, IfErr};
+ghost use Rattle.std.specs.Prelude.{◌≡◌, [], ◌∷◌, codes, map, IfOk, IfErr};
 ghost use Rattle.std.specs.Str.{chars};
 ghost use Rattle.plan_types.specs.Errors.{no_memory};
 ghost use Rattle.plan_dsl.specs.Expressions.{tree_of};
-ghost use Rattle.plan_dsl.specs.Ops.{ColumnOp};
-ghost use Rattle.plan_dsl.specs.Trees.{node, no_more};
+ghost use Rattle.plan_dsl.specs.Ops.{ColumnOp, BinaryOp};
+ghost use Rattle.plan_dsl.specs.declared.operator.Operator.TheVariants.{Plus};
+ghost use Rattle.plan_dsl.specs.Trees.{node, no_more, more, tree_depth};
 ghost use Rattle.checks.specs.Sums.{sum_tree};
 
 use plan_dsl::expr::Expr;
@@ -39,4 +40,12 @@ pub fn sum_of(alloc: Global, name: &str, additions: usize) -> Result<Expr, PlanE
         };
     }
     Ok(sum)
+}
+
+// Sums, each worked out by hand.
+fn sums()
+    ensures alone { sum_tree (codes "a") 0 ≡ node (ColumnOp (codes "a")) no_more }
+    ensures twice { sum_tree (codes "a") 1 ≡ node (BinaryOp Plus) (more (node (ColumnOp (codes "a")) no_more) (more (node (ColumnOp (codes "a")) no_more) no_more)) }
+    ensures deeper { map (λ additions. tree_depth (sum_tree (codes "a") additions)) (0 ∷ 1 ∷ 2 ∷ 9 ∷ []) ≡ 1 ∷ 2 ∷ 3 ∷ 10 ∷ [] }
+{
 }
