@@ -4,11 +4,10 @@ use Rattle.std.specs.Prelude.{ℤ}
 use Rattle.std.specs.Option.{option_map}
 use Rattle.std.proofs.lemmas.Bool.{false≢true, and_from}
 use Rattle.plan_types.specs.Types.{Ty, Untyped, ty, is_integer, is_known, same_type}
-use Rattle.plan_types.specs.Schemas.{Columns, Name, type_at}
+use Rattle.plan_types.specs.Schemas.{Columns}
 use Rattle.plan_types.specs.Values.{Val, IntValue, in_range}
 use Rattle.plan_types.specs.Casts.{can_cast}
 use Rattle.plan_types.specs.CommonTypes.{type_alone}
-use Rattle.plan_types.specs.TypeLaws.{same_type_own}
 use Rattle.plan_types.specs.Errors.{no_memory, IsRefusal, no_room, broken}
 use Rattle.plan_types.specs.declared.error.PlanError.{PlanError}
 use Rattle.plan_types.specs.declared.error.ErrorKind.{ErrorKind}
@@ -21,15 +20,16 @@ use Rattle.plan_dsl.specs.declared.literal.LiteralValue.{LiteralValue}
 use Rattle.plan_dsl.specs.declared.operator.Operator.{Operator}
 use Rattle.plan_dsl.specs.Registry.{Registry}
 use Rattle.plan_dsl.specs.Trees.{Trees, node, no_more, more, tree_depth, trees_depth}
-use Rattle.plan_dsl.specs.Ops.{Op, ColumnOp, LiteralOp, BinaryOp, CastOp, Expression}
-use Rattle.plan_dsl.specs.Literals.{literal_op, literal_type, literal_value, is_literal}
-use Rattle.plan_dsl.specs.Typing.{Typed, typing, typing_all, types_of, operand_types, typed_before, column_type, cast_taken}
-use Rattle.plan_dsl.specs.OperatorTypes.{Taken}
-use Rattle.plan_dsl.specs.Strictness.{CanBecome, IsSame, IsStrictNode, changed, as_operand, as_operands, same_types}
+use Rattle.plan_dsl.specs.Ops.{Op, LiteralOp, BinaryOp, CastOp, Expression}
+use Rattle.plan_dsl.specs.Literals.{literal_op, literal_type, literal_value}
+use Rattle.plan_dsl.specs.Typing.{Typed, Ruling, rule, ruled_as, some_many, typing, typing_all, types_of, typed_before, cast_taken}
+use Rattle.plan_dsl.specs.OperatorTypes.{Taken, operator_types}
+use Rattle.plan_dsl.specs.Strictness.{CanBecome, IsSame, IsStrictOver, changed, as_operand, as_operands}
 use Rattle.plan_dsl.proofs.SameLemmas.{same_itself}
-use Rattle.plan_dsl.proofs.TypingLemmas.{ok_where, typed_parts}
-use Rattle.plan_dsl.proofs.LiteralLemmas.{cast_has_target}
-use Rattle.plan_dsl.proofs.OperatorLemmas.{operator_known}
+use Rattle.plan_dsl.proofs.TypingLemmas.{ok_same, ok_where, ruled_is, ruling_of, typed_parts}
+use Rattle.plan_dsl.proofs.OpLemmas.{AllBecome, keeps_rule, target_known}
+use Rattle.plan_dsl.proofs.OperatorLemmas.{pair_known}
+use Rattle.plan_dsl.proofs.StrictLemmas.{strict_from}
 use Rattle.plan_dsl.proofs.CastLemmas.{if_true, if_false}
 use Rattle.plan_dsl.proofs.OperandLemmas.{operands_same, operands_strict}
 use Rattle.plan_arena.specs.declared.arena.Node.{Node}
@@ -48,7 +48,7 @@ use Rattle.plan_infer.specs.declared.type_table.TypeTable.{TypeTable}
 use Rattle.plan_infer.specs.Typed.{HasKnownType}
 use Rattle.plan_types.proofs.CastLemmas.{source_known}
 use Rattle.plan_infer.proofs.TypingLemmas.{AllHaveType, AllRefused}
-use Rattle.plan_infer.proofs.TypingLemmas.{one_type}
+use Rattle.plan_infer.proofs.TypingLemmas.{one_typed}
 
 -- what an arena holds it holds when it has grown and another item was written
 pub written_elsewhere : (old new : List AExpr) (at : ℕ) (item : AExpr) → Grows old new → (n : ℕ) (op : Op) (inputs : List ℕ) → n ≢ at → HoldsExpression old n op inputs → HoldsExpression (set new at item) n op inputs
@@ -212,8 +212,36 @@ children_types registry schema first items (n ∷ ns) no_more types d h = absurd
 children_types registry schema first items [] no_more (type ∷ types) d h = absurd h
 children_types registry schema first items (n ∷ ns) (more t ts) [] d h = absurd h
 
+-- a node takes operands that are typed so to these types, and its own type is one of columns
+pub record TakesTo (registry : Registry) (schema : Columns) (op : Op) (typed : List Typed) (targets : List Ty) : Type 0 where
+  pub ruling : Ruling
+  pub rules : rule registry schema op typed ≡ Ok ruling
+  pub targets_are : ruling.operands ≡ targets
+  pub known : is_known ruling.own.type ≡ true
+
+binary_takes : (registry : Registry) (schema : Columns) (operator : Operator) (left right : Ty) (taken : Taken) → operator_types operator (left ∷ right ∷ []) ≡ Ok taken → (typed : List Typed) → types_of typed ≡ left ∷ right ∷ [] → TakesTo registry schema (BinaryOp operator) typed taken.operands
+binary_takes registry schema operator left right taken takes typed same = record {
+  ruling = ruling_of taken (some_many typed);
+  rules = ap (λ types. ruled_as (operator_types operator types) (some_many typed)) same ∙ ap (λ found. ruled_as found (some_many typed)) takes;
+  targets_are = refl;
+  known = pair_known operator left right taken takes;
+}
+
+head_is : (x y : Ty) → (x ∷ []) ≡ (y ∷ []) → x ≡ y
+head_is x y e = cc
+
+cast_takes : (registry : Registry) (schema : Columns) (target : Ty) (options : CastOptions) (from own : Ty) → type_alone from ≡ Some own → can_cast own target ≡ true → (typed : List Typed) → types_of typed ≡ from ∷ [] → TakesTo registry schema (CastOp target options) typed (own ∷ [])
+cast_takes registry schema target options from own alone casts (t ∷ []) same = record {
+  ruling = record { operands = own ∷ []; own = record { type = target; many = t.many } };
+  rules = ap (λ f. ruled_as (cast_taken target f) t.many) (ap type_alone (head_is t.type from same) ∙ alone) ∙ ap (λ b. ruled_as (cond b (Ok (record { operands = own ∷ []; type = target })) (Err InvalidOperation)) t.many) casts;
+  targets_are = refl;
+  known = target_known own target casts;
+}
+cast_takes registry schema target options from own alone casts [] same = cc
+cast_takes registry schema target options from own alone casts (t ∷ u ∷ ts) same = cc
+
 -- the visit of a node whose operands were made of the types to which it takes them
-module _ (registry : Registry) (schema : Columns) (old new : List AExpr) (at : ℕ) (op : Op) (item : AExpr) (types : List Ty) (taken : Taken) (takes : operand_types schema op types ≡ Ok taken) (known : is_known taken.type ≡ true) (g : Grows old new) where
+module _ (registry : Registry) (schema : Columns) (old new : List AExpr) (at : ℕ) (op : Op) (item : AExpr) (types targets : List Ty) (takes : (typed : List Typed) → types_of typed ≡ types → TakesTo registry schema op typed targets) (g : Grows old new) where
   operands_kept : (first : ℕ) (t : Expression) → first ≤ length old → at < length old → Denotes (HoldsFrom first new) at t → (ns ms : List ℕ) (froms targets : List Ty) (ts : Trees Op) → trees_depth ts < tree_depth t → DenoteAll (HoldsFrom first old) ns ts → AllTaken old new ns ms froms targets → DenoteAll (HoldsFrom first (set new at item)) ms (as_operands froms targets ts)
   operands_kept first t le here d [] [] [] [] no_more lt dts all = tt
   operands_kept first t le here d (n ∷ ns) (m ∷ ms) (from ∷ froms) (target ∷ targets) (more x ts) lt dts all = (
@@ -229,7 +257,7 @@ module _ (registry : Registry) (schema : Columns) (old new : List AExpr) (at : �
   operands_kept first t le here d (n ∷ ns) (m ∷ ms) [] targets (more x ts) lt dts all = absurd all
   operands_kept first t le here d (n ∷ ns) (m ∷ ms) (from ∷ froms) [] (more x ts) lt dts all = absurd all
 
-  pub visits_operands : (ns ms : List ℕ) → expression_layer item ≡ layer op ms → HoldsExpression old at op ns → AllHaveTypes old registry schema ns types → AllTaken old new ns ms types taken.operands → (first : ℕ) (t : Expression) → first ≤ length old → Denotes (HoldsFrom first old) at t → Visits registry schema first (set new at item) at t
+  pub visits_operands : (ns ms : List ℕ) → expression_layer item ≡ layer op ms → HoldsExpression old at op ns → AllHaveTypes old registry schema ns types → AllTaken old new ns ms types targets → (first : ℕ) (t : Expression) → first ≤ length old → Denotes (HoldsFrom first old) at t → Visits registry schema first (set new at item) at t
   visits_operands ns ms is held have all first t le dt =
       let longer = length-grown old new g in
       let top = from_top first old at op ns held t dt in
@@ -237,17 +265,17 @@ module _ (registry : Registry) (schema : Columns) (old new : List AExpr) (at : �
       let there : at < length new = omega arith in
       let depth = ap tree_depth top.1 in
       let below = children_types registry schema first old ns top.0 types top.2 have in
-      let takes' = ap (operand_types schema op) below.types_are ∙ takes in
+      let takes' = takes below.typed below.types_are in
       let later = tree_grown first first old new (omega arith) g at t dt in
-      let kept = operands_kept first t le here later ns ms types taken.operands top.0 (omega arith) top.2 all in
+      let kept = operands_kept first t le here later ns ms types targets top.0 (omega arith) top.2 all in
       record {
         op = op;
         inputs = ms;
-        children = as_operands (types_of below.typed) taken.operands top.0;
+        children = as_operands (types_of below.typed) takes'.ruling.operands top.0;
         held = (top.3, expression_written new at item there ∙ ap Some is);
-        denotes = subst (λ froms. DenoteAll (HoldsFrom first (set new at item)) ms (as_operands froms taken.operands top.0)) (sym below.types_are) kept;
-        same = subst (λ u. IsSame registry schema u (node op (as_operands (types_of below.typed) taken.operands top.0))) (sym top.1) (operands_same registry schema op top.0 below.typed below.is taken takes');
-        strict = operands_strict registry schema op top.0 below.typed below.is taken takes' known;
+        denotes = subst (λ found. DenoteAll (HoldsFrom first (set new at item)) ms (as_operands (types_of below.typed) found top.0)) (sym takes'.targets_are) (subst (λ froms. DenoteAll (HoldsFrom first (set new at item)) ms (as_operands froms targets top.0)) (sym below.types_are) kept);
+        same = subst (λ u. IsSame registry schema u (node op (as_operands (types_of below.typed) takes'.ruling.operands top.0))) (sym top.1) (operands_same registry schema op top.0 below.typed below.is takes'.ruling takes'.rules);
+        strict = operands_strict registry schema op top.0 below.typed below.is takes'.ruling takes'.rules takes'.known;
       }
 
 -- the visit of an operator
@@ -259,18 +287,12 @@ visits_binary registry schema old mid new at l r left right operator table left_
     let right_taken = taken_later old mid new r right.0 (ty c.right_kept) c.right_to g1 (taken_to mid new r right.0 (ty c.right_kept) c.right_to right_change c.right_changes right_denotes) in
     let fresh_l = fresh_where old left.0 (ty c.left_kept) c.left_to left_change c.left_changes left_fresh in
     let fresh_r = fresh_where mid right.0 (ty c.right_kept) c.right_to right_change c.right_changes right_fresh in
-    visits_operands registry schema old new at (BinaryOp operator) (BinaryExpr left operator right) ((ty c.left_kept) ∷ (ty c.right_kept) ∷ []) taken c.takes (operator_known operator ((ty c.left_kept) ∷ (ty c.right_kept) ∷ []) taken c.takes) (grows_then old mid new g1 g2) (l ∷ r ∷ []) (left.0 ∷ right.0 ∷ []) refl held (c.left_typed, (c.right_typed, tt)) (left_taken, fresh_l, (right_taken, (λ e. omega (arith, longer, fresh_r e)), tt))
+    visits_operands registry schema old new at (BinaryOp operator) (BinaryExpr left operator right) ((ty c.left_kept) ∷ (ty c.right_kept) ∷ []) taken.operands (binary_takes registry schema operator (ty c.left_kept) (ty c.right_kept) taken c.takes) (grows_then old mid new g1 g2) (l ∷ r ∷ []) (left.0 ∷ right.0 ∷ []) refl held (c.left_typed, (c.right_typed, tt)) (left_taken, fresh_l, (right_taken, (λ e. omega (arith, longer, fresh_r e)), tt))
 
 -- a node whose operands are none of them changed
-record UnchangedNode (registry : Registry) (schema : Columns) (op : Op) (ts : Trees Op) : Type 0 where
-  typed : List Typed
-  types : typing_all registry schema ts ≡ Ok typed
-  strict : IsStrictNode schema op (types_of typed)
-
-unchanged_visit : (registry : Registry) (schema : Columns) (items : List AExpr) (at : ℕ) (op : Op) (inputs : List ℕ) → HoldsExpression items at op inputs → (first : ℕ) (t : Expression) → first ≤ length items → Denotes (HoldsFrom first items) at t → ((ts : Trees Op) → t ≡ node op ts → DenoteAll (HoldsFrom first items) inputs ts → UnchangedNode registry schema op ts) → Visits registry schema first items at t
+unchanged_visit : (registry : Registry) (schema : Columns) (items : List AExpr) (at : ℕ) (op : Op) (inputs : List ℕ) → HoldsExpression items at op inputs → (first : ℕ) (t : Expression) → first ≤ length items → Denotes (HoldsFrom first items) at t → ((ts : Trees Op) → t ≡ node op ts → DenoteAll (HoldsFrom first items) inputs ts → IsStrictOver registry schema op ts) → Visits registry schema first items at t
 unchanged_visit registry schema items at op inputs held first t le dt unchanged =
     let top = from_top first items at op inputs held t dt in
-    let u = unchanged top.0 top.1 top.2 in
     record {
       op = op;
       inputs = inputs;
@@ -278,44 +300,31 @@ unchanged_visit registry schema items at op inputs held first t le dt unchanged 
       held = (top.3, held);
       denotes = top.2;
       same = subst (λ x. IsSame registry schema x (node op top.0)) (sym top.1) (same_itself registry schema (node op top.0));
-      strict = record { typed = u.typed; types = u.types; strict = u.strict };
+      strict = unchanged top.0 top.1 top.2;
     }
 
 -- a node without operands
-module _ (registry : Registry) (schema : Columns) (items : List AExpr) (at : ℕ) (op : Op) (held : HoldsExpression items at op []) (bare : (types : List Ty) (taken : Taken) → operand_types schema op types ≡ Ok taken → (types ≡ []) × (taken.operands ≡ [])) where
-  leaf_unchanged : (ts : Trees Op) → ts ≡ no_more → HasKnownType (typing registry schema (node op ts)) → UnchangedNode registry schema op ts
-  leaf_unchanged ts none has =
-      let p = typed_parts registry schema op ts has.typed has.is in
-      let types = bare (types_of p.below) p.taken p.takes in
-      let known = ap is_known (ap (λ (x : Typed). x.type) p.is) ∙ has.known in
-      record {
-        typed = p.below;
-        types = p.children_typed;
-        strict = record { taken = p.taken; takes = p.takes; kept = ap (λ l. same_types l p.taken.operands) types.0 ∙ ap (same_types []) types.1; known = known };
-      }
+no_targets : (targets : List Ty) → AllBecome [] targets → [] ≡ targets
+no_targets [] h = refl
+no_targets (target ∷ targets) h = absurd h
 
-  pub visits_leaf : (first : ℕ) (t : Expression) → first ≤ length items → Denotes (HoldsFrom first items) at t → HasKnownType (typing registry schema t) → Visits registry schema first items at t
-  visits_leaf first t le dt has =
-      unchanged_visit registry schema items at op [] held first t le dt (λ ts is d. leaf_unchanged ts (no_children (HoldsFrom first items) ts d) (subst (λ u. HasKnownType (typing registry schema u)) is has))
+leaf_strict : (registry : Registry) (schema : Columns) (op : Op) (ts : Trees Op) → ts ≡ no_more → HasKnownType (typing registry schema (node op ts)) → IsStrictOver registry schema op ts
+leaf_strict registry schema op ts none has =
+    let p = typed_parts registry schema op ts has.typed has.is in
+    let bare : [] ≡ p.below = ok_same (typing_all registry schema no_more) [] p.below refl (sym (ap (typing_all registry schema) none) ∙ p.children_typed) in
+    let keeps = keeps_rule registry schema op p.below p.ruling p.rules in
+    let targets = no_targets p.ruling.operands (subst (λ below. AllBecome (types_of below) p.ruling.operands) (sym bare) keeps.becomes) in
+    strict_from registry schema op ts p.below p.ruling p.children_typed p.rules (ap types_of (sym bare) ∙ targets) (ap (λ (t : Typed). is_known t.type) p.is ∙ has.known)
 
-column_bare : (o : Option Ty) (taken : Taken) → column_type o ≡ Ok taken → taken.operands ≡ []
-column_bare None taken h = cc
-column_bare (Some type) taken h = sym (ap (λ (x : Taken). x.operands) (ok_where (is_known type) _ taken InvalidOperation h).1)
-
-pub column_leaf : (schema : Columns) (name : Name) (types : List Ty) (taken : Taken) → operand_types schema (ColumnOp name) types ≡ Ok taken → (types ≡ []) × (taken.operands ≡ [])
-column_leaf schema name [] taken h = (refl, column_bare (type_at schema name) taken h)
-column_leaf schema name (type ∷ types) taken h = cc
-
-pub literal_leaf : (schema : Columns) (type : Ty) (value : Val) (types : List Ty) (taken : Taken) → operand_types schema (LiteralOp type value) types ≡ Ok taken → (types ≡ []) × (taken.operands ≡ [])
-literal_leaf schema type value [] taken h = (refl, sym (ap (λ (x : Taken). x.operands) (ok_where (is_literal type value) _ taken InvalidOperation h).1))
-literal_leaf schema type value (operand ∷ types) taken h = cc
+pub visits_leaf : (registry : Registry) (schema : Columns) (items : List AExpr) (at : ℕ) (op : Op) → HoldsExpression items at op [] → (first : ℕ) (t : Expression) → first ≤ length items → Denotes (HoldsFrom first items) at t → HasKnownType (typing registry schema t) → Visits registry schema first items at t
+visits_leaf registry schema items at op held first t le dt has =
+    unchanged_visit registry schema items at op [] held first t le dt (λ ts is d. leaf_strict registry schema op ts (no_children (HoldsFrom first items) ts d) (subst (λ u. HasKnownType (typing registry schema u)) is has))
 
 -- a cast of an operand that has a type of columns
-cast_unchanged : (schema : Columns) (target : Ty) (options : CastOptions) (from : Ty) (taken : Taken) → is_known from ≡ true → operand_types schema (CastOp target options) (from ∷ []) ≡ Ok taken → IsStrictNode schema (CastOp target options) (from ∷ [])
-cast_unchanged schema target options from taken known h =
-    let alone = ap (cast_taken target) (alone_itself from known) in
-    let p = ok_where (can_cast from target) _ taken InvalidOperation (sym alone ∙ h) in
-    record { taken = record { operands = from ∷ []; type = target }; takes = h ∙ ap Ok (sym p.1); kept = ap (λ b. b && true) (same_type_own from); known = (cast_has_target schema target options (from ∷ []) taken h).1 }
+cast_kept_own : (registry : Registry) (schema : Columns) (target : Ty) (options : CastOptions) (from : Typed) (ruling : Ruling) → is_known from.type ≡ true → rule registry schema (CastOp target options) (from ∷ []) ≡ Ok ruling → from.type ∷ [] ≡ ruling.operands
+cast_kept_own registry schema target options from ruling known h =
+    let alone = ap (cast_taken target) (alone_itself from.type known) in
+    ruled_is (λ r. from.type ∷ [] ≡ r.operands) (cast_taken target (type_alone from.type)) from.many ruling h (λ taken found. ap (λ (t : Taken). t.operands) (ok_where (can_cast from.type target) _ taken InvalidOperation (sym alone ∙ found)).1)
 
 pub visits_cast : (registry : Registry) (schema : Columns) (items : List AExpr) (at : ℕ) (target : Ty) (options : CastOptions) (input : ℕ) (from : Ty) → HoldsExpression items at (CastOp target options) (input ∷ []) → AllHaveType items registry schema input from → is_known from ≡ true → (first : ℕ) (t : Expression) → first ≤ length items → Denotes (HoldsFrom first items) at t → HasKnownType (typing registry schema t) → Visits registry schema first items at t
 visits_cast registry schema items at target options input from held has_from known first t le dt has =
@@ -324,17 +333,12 @@ visits_cast registry schema items at target options input from held has_from kno
     let here = ap (typing registry schema) (sym is) ∙ has.is in
     let p = typed_parts registry schema (CastOp target options) ts has.typed here in
     let hx = has_from one.0 (any_node first items input one.0 one.2) in
-    let types = one_type registry schema one.0 from hx.many p.below hx.is (sym (ap (typing_all registry schema) one.1) ∙ p.children_typed) in
-    record {
-      typed = p.below;
-      types = p.children_typed;
-      strict = subst (IsStrictNode schema (CastOp target options)) (sym types) (cast_unchanged schema target options from p.taken known (sym (ap (operand_types schema (CastOp target options)) types) ∙ p.takes));
-    })
+    let below = one_typed registry schema one.0 (record { type = from; many = hx.many }) p.below hx.is (sym (ap (typing_all registry schema) one.1) ∙ p.children_typed) in
+    let rules = ap (rule registry schema (CastOp target options)) below ∙ p.rules in
+    let kept = ap types_of (sym below) ∙ cast_kept_own registry schema target options (record { type = from; many = hx.many }) p.ruling known rules in
+    strict_from registry schema (CastOp target options) ts p.below p.ruling p.children_typed p.rules kept (ap (λ (t : Typed). is_known t.type) p.is ∙ has.known))
 
 -- the visit of a cast of a number without a type
 pub visits_number : (registry : Registry) (schema : Columns) (old new : List AExpr) (at input : ℕ) (target : DataType) (options : CastOptions) (number : ℤ) (alone : Ty) (fresh : Node) (change : Change) → HoldsExpression old at (CastOp (ty target) options) (input ∷ []) → AllHaveType old registry schema input (Untyped number) → type_alone (Untyped number) ≡ Some alone → can_cast alone (ty target) ≡ true → IsChangeFor (Untyped number) alone change → Grows old new → ((first : ℕ) (t : Expression) → first ≤ length old → Denotes (HoldsFrom first old) input t → Denotes (HoldsFrom first new) fresh.0 (changed_by change t)) → (is_kept change ≡ false → length old ≤ fresh.0) → (first : ℕ) (t : Expression) → first ≤ length old → Denotes (HoldsFrom first old) at t → Visits registry schema first (set new at (Cast fresh target options)) at t
 visits_number registry schema old new at input target options number alone fresh change held has is_alone casts is g denotes is_fresh =
-    let taken : Taken = record { operands = alone ∷ []; type = ty target } in
-    let takes : operand_types schema (CastOp (ty target) options) (Untyped number ∷ []) ≡ Ok taken = ap (cast_taken (ty target)) is_alone ∙ if_true (can_cast alone (ty target)) (Ok taken) (Err InvalidOperation) casts in
-    let known = (cast_has_target schema (ty target) options (Untyped number ∷ []) taken takes).1 in
-    visits_operands registry schema old new at (CastOp (ty target) options) (Cast fresh target options) (Untyped number ∷ []) taken takes known g (input ∷ []) (fresh.0 ∷ []) refl held (has, tt) (taken_to old new input fresh.0 (Untyped number) alone change is denotes, fresh_where old fresh.0 (Untyped number) alone change is is_fresh, tt)
+    visits_operands registry schema old new at (CastOp (ty target) options) (Cast fresh target options) (Untyped number ∷ []) (alone ∷ []) (cast_takes registry schema (ty target) options (Untyped number) alone is_alone casts) g (input ∷ []) (fresh.0 ∷ []) refl held (has, tt) (taken_to old new input fresh.0 (Untyped number) alone change is denotes, fresh_where old fresh.0 (Untyped number) alone change is is_fresh, tt)

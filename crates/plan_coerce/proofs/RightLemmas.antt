@@ -1,5 +1,5 @@
 -- Types that are kept by node stay right as coercion adds nodes and writes one.
-use Rattle.std.proofs.Common.{◌≡◌, ◌≢◌, ◌↔◌, ℕ, ◌<◌, ◌≤◌, ◌-◌, List, [], ◌∷◌, ◌++◌, length, map, set, true, cond, Some, Ok, Err, slice_get, refl, sym, ap, ◌∙◌, subst, arith, zero-le, ⊎_elim}
+use Rattle.std.proofs.Common.{◌≡◌, ◌≢◌, ◌↔◌, ℕ, ◌<◌, ◌≤◌, List, [], ◌∷◌, ◌++◌, length, map, set, true, cond, Some, Ok, Err, slice_get, refl, sym, ap, ◌∙◌, subst, arith, zero-le, ⊎_elim}
 use Rattle.std.specs.List.{AllByRecursion}
 use Rattle.std.proofs.lemmas.List.{length-map}
 use Rattle.plan_types.specs.Types.{ty, is_known}
@@ -22,7 +22,7 @@ use Rattle.plan_arena.specs.declared.aexpr.AExpr.TheVariants.{Literal, Cast}
 use Rattle.plan_arena.specs.Denotation.{Denotes, DenotesTree}
 use Rattle.plan_arena.specs.Layers.{layer, shape_of, inputs_of}
 use Rattle.plan_arena.specs.Items.{HoldsExpression, HoldsFrom, Grows, expression_layer}
-use Rattle.plan_arena.proofs.DenotationLemmas.{kept, same_or_other}
+use Rattle.plan_arena.proofs.DenotationLemmas.{same_or_other}
 use Rattle.plan_arena.proofs.ItemLemmas.{expression_laws, any_node, from_zero, expression_elsewhere, expression_written, expression_added, tree_grown, within, grown_held}
 use Rattle.plan_infer.specs.declared.type_table.TypeTable.{TypeTable}
 use Rattle.plan_infer.specs.Typed.{DenotesTyped}
@@ -31,7 +31,6 @@ use Rattle.plan_infer.specs.KeptTypes.{Keeps, IsKept, IsRight, HasRightTypes, fi
 use Rattle.plan_infer.proofs.TypingLemmas.{AllHaveType, cast_typed, literal_typed}
 use Rattle.plan_arena.proofs.NumberLemmas.{all_weaker, all_front, all_joined, all_last}
 use Rattle.plan_coerce.proofs.StackLemmas.{becomes}
-use Rattle.plan_dsl.specs.Strictness.{changed}
 use Rattle.plan_infer.proofs.TableLemmas.{held_inputs, top_held, node_stays, known_typed, known_inputs, kept_type, right_grown, right_more}
 use Rattle.plan_coerce.proofs.StackLemmas.{becomes}
 

@@ -2,7 +2,7 @@
 use Rattle.std.proofs.Common.{◌≡◌, ◌≢◌, ◌⊎◌, ℕ, ◌<◌, ◌≤◌, List, [], ◌∷◌, ◌++◌, length, map, Some, Result, Ok, Err, OnErr, slice_get, refl, sym, ap, ◌∙◌, subst, arith, true, false, inl, inr, ⊎_elim, append_assoc}
 use Rattle.std.specs.List.{AllByRecursion}
 use Rattle.std.proofs.lemmas.List.{map-append}
-use Rattle.std.proofs.lemmas.Bool.{false≢true}
+use Rattle.std.proofs.lemmas.Bool.{false≢true, and_from}
 use Rattle.plan_types.specs.Types.{is_known}
 use Rattle.plan_types.specs.Schemas.{Columns}
 use Rattle.plan_dsl.specs.Registry.{Registry}
@@ -11,7 +11,8 @@ use Rattle.plan_dsl.specs.Ops.{Op, Expression}
 use Rattle.plan_dsl.specs.Typing.{Typed, typing, typing_all, types_of}
 use Rattle.plan_dsl.proofs.TypingLemmas.{by_children}
 use Rattle.plan_dsl.proofs.OperandLemmas.{operands_known}
-use Rattle.plan_dsl.specs.Strictness.{IsSame, IsStrict, AllStrict, IsStrictOver}
+use Rattle.plan_dsl.proofs.StrictLemmas.{strict_parts}
+use Rattle.plan_dsl.specs.Strictness.{IsSame, IsStrict, AllStrict, IsStrictOver, are_strict, is_strict, is_strict_over}
 use Rattle.plan_dsl.proofs.SameLemmas.{same_itself, same_then, node_same, typings_same}
 use Rattle.plan_arena.specs.declared.arena.Node.{Node}
 use Rattle.plan_arena.specs.declared.aexpr.AExpr.{AExpr}
@@ -91,11 +92,11 @@ module _ (registry : Registry) (schema : Columns) (first : ℕ) (items : List AE
   mutual
     pub settled_strict : (n : ℕ) (t : Expression) → SettledBut registry schema first items [] n t → IsStrict registry schema t
     settled_strict n (node op ts) s =
-        ⊎_elim (λ w. absurd w.0) (λ h. (h.2, all_settled_strict h.0 ts h.3)) s
+        ⊎_elim (λ w. absurd w.0) (λ h. and_from (is_strict_over registry schema op (typing_all registry schema ts)) (are_strict registry schema ts) h.2 (all_settled_strict h.0 ts h.3)) s
 
     all_settled_strict : (ns : List ℕ) (ts : Trees Op) → AllSettledBut registry schema first items [] ns ts → AllStrict registry schema ts
-    all_settled_strict [] no_more s = tt
-    all_settled_strict (n ∷ ns) (more t ts) s = (settled_strict n t s.0, all_settled_strict ns ts s.1)
+    all_settled_strict [] no_more s = refl
+    all_settled_strict (n ∷ ns) (more t ts) s = and_from (is_strict registry schema t) (are_strict registry schema ts) (settled_strict n t s.0) (all_settled_strict ns ts s.1)
     all_settled_strict [] (more t ts) s = absurd s
     all_settled_strict (n ∷ ns) no_more s = absurd s
 
@@ -141,7 +142,7 @@ module _ (registry : Registry) (schema : Columns) (first : ℕ) (items items' : 
         (λ w. still_waits n (node op us) other w.0 w.1)
         (λ h.
         let kids = step_all h.0 us h.3 in
-        let strict : IsStrictOver registry schema op kids.0 = record { typed = h.2.typed; types = typings_same registry schema us kids.0 kids.2 ∙ h.2.types; strict = h.2.strict } in
+        let strict : IsStrictOver registry schema op kids.0 = ap (is_strict_over registry schema op) (typings_same registry schema us kids.0 kids.2) ∙ h.2 in
         (node op kids.0, inr (h.0, keeps n op h.0 other h.1, strict, kids.1), node_same registry schema op us kids.0 kids.2))
         s)
         (same_or_other n at)
@@ -236,7 +237,8 @@ pending_step registry schema first old items items' at rest stack roots p elsewh
     let grown = pushed v.op v.inputs v.held.1 in
     let stays = stays_visited registry schema first old items items' at rest roots p elsewhere visit in
     let rest_typed = all_weaker (DenotesKnown registry schema first items) (DenotesKnown registry schema first items') (typed_step registry schema first items items' at rest here.tree here.denotes v elsewhere) rest (all_front (DenotesKnown registry schema first items) rest (at ∷ []) p.waiting) in
-    let inputs_typed = children_typed registry schema first items' v.inputs v.children v.strict.typed v.denotes v.strict.types (operands_known schema v.op (types_of v.strict.typed) v.strict.strict) in
+    let s = strict_parts registry schema v.op v.children v.strict in
+    let inputs_typed = children_typed registry schema first items' v.inputs v.children s.typed v.denotes s.types (operands_known registry schema v.op v.children s) in
     record {
       below = stays.below;
       trees = stays.trees;

@@ -11,7 +11,7 @@ use Rattle.plan_arena.specs.declared.aexpr.AExpr.{AExpr}
 use Rattle.plan_arena.specs.declared.aexpr.AExpr.TheVariants.{Cast}
 use Rattle.plan_coerce.specs.declared.type_coercion.Change.{Change}
 use Rattle.plan_coerce.specs.Coercion.{IsChangeFor}
-use Rattle.plan_infer.specs.Samples.{int32, column, a, b, binary, cast_to, sum, at, pair, columns_and}
+use Rattle.plan_infer.specs.Samples.{int32, a, b, binary, cast_to, at, pair, columns_and}
 
 abbrev pub wide : Expression
 wide = cast_to int32 a

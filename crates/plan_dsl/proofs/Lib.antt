@@ -1,17 +1,19 @@
 pub mod ArithmeticLemmas
 pub mod BitLemmas
 pub mod CastLemmas
+pub mod ColumnLemmas
 pub mod ComparisonLemmas
 pub mod FitLemmas
 pub mod FrameLemmas
 pub mod KernelLemmas
 pub mod LiteralLemmas
+pub mod OpLemmas
 pub mod OperandLemmas
 pub mod OperatorLemmas
 pub mod RuleLemmas
 pub mod RunLemmas
 pub mod SameLemmas
-mod StrictTests
+pub mod StrictLemmas
 pub mod SwapLemmas
 pub mod SwappedNodeLemmas
 pub mod TakingLemmas

@@ -69,27 +69,16 @@ operands_taken operator left right taken h =
     ] refl h
 
 -- the result is a type of columns
-pub operator_known : (operator : Operator) (types : List Ty) (taken : Taken) → operator_types operator types ≡ Ok taken → is_known taken.type ≡ true
-operator_known operator [] taken h = cc
-operator_known operator (left ∷ []) taken h = cc
-operator_known operator (left ∷ right ∷ []) taken h =
+pub pair_known : (operator : Operator) (left right : Ty) (taken : Taken) → operator_types operator (left ∷ right ∷ []) ≡ Ok taken → is_known taken.type ≡ true
+pair_known operator left right taken h =
     let pair = (operands_taken operator left right taken h).pair in subst (λ (t : Taken). is_known t.type ≡ true) pair.is pair.known
-operator_known operator (left ∷ right ∷ third ∷ types) taken h = cc
 
 -- operands that were taken stay when they are taken again
-pair_stays : (operator : Operator) (a b : Ty) (taken : Taken) → TakesPair (pair_types operator) (operator_value operator) a b taken → operator_types operator taken.operands ≡ Ok taken
+pub pair_stays : (operator : Operator) (a b : Ty) (taken : Taken) (pair : TakesPair (pair_types operator) (operator_value operator) a b taken) → operator_types operator (pair.left ∷ pair.right ∷ []) ≡ Ok (pair_to pair.left pair.right pair.type)
 pair_stays operator a b taken pair =
-    let again = ap (λ o. with_types o (type_beside pair.right pair.left) (pair_types operator)) (own_beside pair.left pair.right pair.left_becomes.known)
+    ap (λ o. with_types o (type_beside pair.right pair.left) (pair_types operator)) (own_beside pair.left pair.right pair.left_becomes.known)
     ∙ ap (λ o. with_types (Some pair.left) o (pair_types operator)) (own_beside pair.right pair.left pair.right_becomes.known)
-    ∙ pair.stays in
-    subst (λ (t : Taken). operator_types operator t.operands ≡ Ok t) pair.is again
-
-pub operator_stay : (operator : Operator) (types : List Ty) (taken : Taken) → operator_types operator types ≡ Ok taken → operator_types operator taken.operands ≡ Ok taken
-operator_stay operator [] taken h = cc
-operator_stay operator (left ∷ []) taken h = cc
-operator_stay operator (left ∷ right ∷ []) taken h =
-    let o = operands_taken operator left right taken h in pair_stays operator o.left_own o.right_own taken o.pair
-operator_stay operator (left ∷ right ∷ third ∷ types) taken h = cc
+    ∙ pair.stays
 
 -- and an operand can become what it is taken to
 own_becomes : (operand other own target : Ty) → type_beside operand other ≡ Some own → Becomes own target → CanBecome operand target

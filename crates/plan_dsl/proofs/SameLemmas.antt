@@ -50,6 +50,6 @@ module _ (registry : Registry) (schema : Columns) where
     typing = ap (λ r. then_typed r (typing_rule registry schema op)) (typings_same ts us a);
     name = ap (op_name op) (names_same ts us a);
     meaning = λ rows. let frame : Frame = record { schema = schema; rows = rows } in
-        ap (λ r. node_meaning frame op r (meaning_all registry frame us)) (typings_same ts us a)
-        ∙ ap (node_meaning frame op (typing_all registry schema ts)) (meanings_same rows ts us a);
+        ap (λ r. node_meaning registry frame op r (meaning_all registry frame us)) (typings_same ts us a)
+        ∙ ap (node_meaning registry frame op (typing_all registry schema ts)) (meanings_same rows ts us a);
   }

@@ -5,7 +5,7 @@ use Rattle.plan_types.specs.declared.error.ErrorKind.{ErrorKind}
 use Rattle.plan_dsl.specs.Registry.{Registry}
 use Rattle.plan_dsl.specs.Trees.{Trees, node}
 use Rattle.plan_dsl.specs.Ops.{Op}
-use Rattle.plan_dsl.specs.Typing.{Typed, operand_types, types_of, is_many, typed_as, typing_rule, then_typed, typed_before, typing, typing_all}
+use Rattle.plan_dsl.specs.Typing.{Typed, Ruling, rule, ruled_as, own_typed, typing_rule, then_typed, typed_before, typing, typing_all}
 use Rattle.plan_dsl.specs.OperatorTypes.{Taken}
 
 -- what was found is one
@@ -27,20 +27,31 @@ pub ok_where : {A E : Type 0} (test : Bool) (x y : A) (error : E) → cond test 
 ok_where true x y error h = (refl, ok_same (Ok x) x y refl h)
 ok_where false x y error h = cc
 
+-- what a table of types says is what a rule says
+abbrev pub ruling_of : Taken → Bool → Ruling
+ruling_of taken many = record { operands = taken.operands; own = record { type = taken.type; many = many } }
+
+abbrev pub typed_as : Result Taken ErrorKind → Bool → Result Typed ErrorKind
+typed_as found many = own_typed (ruled_as found many)
+
+pub ruled_is : (P : Ruling → Type 0) (found : Result Taken ErrorKind) (many : Bool) (ruling : Ruling) → ruled_as found many ≡ Ok ruling → ((taken : Taken) → found ≡ Ok taken → P (ruling_of taken many)) → P ruling
+ruled_is P (Err kind) many ruling h each = cc
+ruled_is P (Ok taken) many ruling h each = subst P (ok_same (ruled_as (Ok taken) many) (ruling_of taken many) ruling refl h) (each taken refl)
+
 -- the parts of a typing
 pub record TypedParts (registry : Registry) (schema : Columns) (op : Op) (children : Trees Op) (typed : Typed) : Type 0 where
   pub below : List Typed
   pub children_typed : typing_all registry schema children ≡ Ok below
-  pub taken : Taken
-  pub takes : operand_types schema op (types_of below) ≡ Ok taken
-  pub is : record { type = taken.type; many = is_many op below } ≡ typed
+  pub ruling : Ruling
+  pub rules : rule registry schema op below ≡ Ok ruling
+  pub is : ruling.own ≡ typed
 
 pub typed_parts : (registry : Registry) (schema : Columns) (op : Op) (children : Trees Op) (typed : Typed) → typing registry schema (node op children) ≡ Ok typed → TypedParts registry schema op children typed
 typed_parts registry schema op children typed h =
     elim (typing_all registry schema children) as (λ r. typing_all registry schema children ≡ r → then_typed r (typing_rule registry schema op) ≡ Ok typed → TypedParts registry schema op children typed) [
       | Err kind ↦ λ e h. cc
-      | Ok below ↦ λ e h. elim (operand_types schema op (types_of below)) as (λ r. operand_types schema op (types_of below) ≡ r → typed_as r (is_many op below) ≡ Ok typed → TypedParts registry schema op children typed) [
+      | Ok below ↦ λ e h. elim (rule registry schema op below) as (λ r. rule registry schema op below ≡ r → own_typed r ≡ Ok typed → TypedParts registry schema op children typed) [
         | Err kind ↦ λ f h. cc
-        | Ok taken ↦ λ f h. record { below = below; children_typed = e; taken = taken; takes = f; is = ok_same (typed_as (Ok taken) (is_many op below)) _ typed refl h }
+        | Ok ruling ↦ λ f h. record { below = below; children_typed = e; ruling = ruling; rules = f; is = ok_same (own_typed (Ok ruling)) ruling.own typed refl h }
       ] refl h
     ] refl h

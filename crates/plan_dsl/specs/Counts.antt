@@ -1,15 +1,13 @@
 -- How many casts and nodes there are.
 use Rattle.std.specs.Prelude.{ℕ, ◌+◌, List, sum, sum_by}
 use Rattle.plan_dsl.specs.Trees.{fold}
-use Rattle.plan_dsl.specs.Ops.{Op, ColumnOp, LiteralOp, BinaryOp, CastOp, Expression}
+use Rattle.plan_dsl.specs.Ops.{Op, CastOp, Expression}
 use Rattle.plan_dsl.specs.Plans.{PlanOp, Named, Plan}
 
 -- the casts at and below a node, from those below each child
 abbrev pub op_casts : Op → List ℕ → ℕ
-op_casts (ColumnOp name) below = sum below
-op_casts (LiteralOp type value) below = sum below
-op_casts (BinaryOp operator) below = sum below
 op_casts (CastOp target options) below = 1 + sum below
+op_casts op below = sum below
 
 abbrev pub expression_casts : Expression → ℕ
 expression_casts tree = fold op_casts tree

@@ -2,7 +2,7 @@
 -- A column is a list of values. Two columns are brought to a common length: one of one value is
 -- repeated, and other unequal lengths are a data fault.
 use Rattle.std.specs.Prelude.{ℕ, List, [], ◌∷◌, map, length, replicate, Option, Some, None, ◌==◌, if◌then◌else◌}
-use Rattle.plan_types.specs.Types.{Ty, NullType, same_type}
+use Rattle.plan_types.specs.Types.{Ty, same_type}
 use Rattle.plan_types.specs.Schemas.{Name}
 use Rattle.plan_types.specs.Values.{Val}
 use Rattle.plan_types.specs.Outcomes.{Outcome, Done, Fault, Stuck, then_do}
@@ -11,6 +11,7 @@ use Rattle.plan_types.specs.Frames.{Frame, value_in, row_at}
 use Rattle.plan_types.specs.declared.dtype.CastOptions.{CastOptions}
 use Rattle.plan_dsl.specs.declared.operator.Operator.{Operator}
 use Rattle.plan_dsl.specs.Operators.{operator_value}
+use Rattle.plan_dsl.specs.Registry.{Registry}
 use Rattle.plan_dsl.specs.Ops.{Op, ColumnOp, LiteralOp, BinaryOp, CastOp}
 
 -- what an expression gives on the rows of these numbers
@@ -20,9 +21,10 @@ Meaning = List ℕ → Outcome (List Val)
 abbrev pub stuck : Meaning
 stuck rows = Stuck
 
--- goes on with two columns
-abbrev pub then_both : Outcome (List Val) → Outcome (List Val) → (List Val → List Val → Outcome (List Val)) → Outcome (List Val)
-then_both left right next = then_do left (λ l. then_do right (next l))
+-- what operands give on the rows of these numbers, each evaluated once. The first that gives nothing is the answer
+abbrev pub given : List Meaning → List ℕ → Outcome (List (List Val))
+given [] rows = Done []
+given (operand ∷ operands) rows = then_do (operand rows) (λ column. then_do (given operands rows) (λ columns. Done (column ∷ columns)))
 
 -- one more value in front
 abbrev pub value_before : Converted → Outcome (List Val) → Outcome (List Val)
@@ -34,7 +36,10 @@ abbrev pub cast_values : Ty → Ty → CastOptions → List Val → Outcome (Lis
 cast_values from target options [] = Done []
 cast_values from target options (value ∷ values) = value_before (cast value from target options) (cast_values from target options values)
 
--- a cast, which to the own type changes nothing
+-- a cast, which to the own type changes nothing: of a column, and of what an operand gives
+abbrev pub cast_column : Ty → Ty → CastOptions → List Val → Outcome (List Val)
+cast_column from target options values = if same_type from target then Done values else cast_values from target options values
+
 abbrev pub cast_meaning : Ty → Ty → CastOptions → Meaning → Meaning
 cast_meaning from target options input =
     if same_type from target then input else (λ rows. then_do (input rows) (cast_values from target options))
@@ -61,30 +66,19 @@ abbrev pub at_length : {A : Type 0} → Option ℕ → (ℕ → A) → Outcome A
 at_length None make = Fault
 at_length (Some count) make = Done (make count)
 
--- the first of types
-abbrev pub first_type : List Ty → Ty
-first_type [] = NullType
-first_type (type ∷ types) = type
-
 -- an operator on two columns, the first of that type
 abbrev pub operator_values : Operator → Ty → Ty → List Val → List Val → Outcome (List Val)
 operator_values operator from type left right =
     at_length (common_length (length left) (length right)) (λ count. at_each (operator_value operator from type) (stretched count left) (stretched count right))
 
 -- a frame's column at these rows
-abbrev pub column_values : Frame → Name → Meaning
-column_values frame name rows = Done (map (λ number. value_in frame.schema name (row_at frame number)) rows)
+abbrev pub column_values : Frame → Name → List ℕ → List Val
+column_values frame name rows = map (λ number. value_in frame.schema name (row_at frame number)) rows
 
--- what a node gives on a frame: its operands' types, its own type, and what its operands give
-abbrev pub kernel : Frame → Op → List Ty → Ty → List Meaning → Meaning
-kernel frame (ColumnOp name) types type operands = column_values frame name
-kernel frame (LiteralOp own value) types type operands = λ rows. Done (value ∷ [])
-kernel frame (BinaryOp operator) types type (left ∷ right ∷ []) = λ rows. then_both (left rows) (right rows) (operator_values operator (first_type types) type)
-kernel frame (BinaryOp operator) types type [] = stuck
-kernel frame (BinaryOp operator) types type (left ∷ []) = stuck
-kernel frame (BinaryOp operator) types type (left ∷ right ∷ third ∷ rest) = stuck
-kernel frame (CastOp target options) (from ∷ []) type (operand ∷ []) = cast_meaning from target options operand
-kernel frame (CastOp target options) [] type operands = stuck
-kernel frame (CastOp target options) (from ∷ []) type [] = stuck
-kernel frame (CastOp target options) (from ∷ []) type (first ∷ second ∷ rest) = stuck
-kernel frame (CastOp target options) (from ∷ other ∷ types) type operands = stuck
+-- what a node gives on rows of a frame: of its operands' types, its own type, and its operands' columns
+abbrev pub kernel : Registry → Frame → List ℕ → Op → List Ty → Ty → List (List Val) → Outcome (List Val)
+kernel registry frame rows (ColumnOp name) [] type [] = Done (column_values frame name rows)
+kernel registry frame rows (LiteralOp own value) [] type [] = Done (value ∷ [])
+kernel registry frame rows (BinaryOp operator) (from ∷ types) type (left ∷ right ∷ []) = operator_values operator from type left right
+kernel registry frame rows (CastOp target options) (from ∷ []) type (column ∷ []) = cast_column from target options column
+kernel registry frame rows op types type columns = Stuck

@@ -11,10 +11,10 @@ use Rattle.plan_dsl.specs.Registry.{Registry}
 use Rattle.plan_dsl.specs.Ops.{Op, LiteralOp, BinaryOp, Expression}
 use Rattle.plan_dsl.specs.Trees.{Trees, node, no_more, more}
 use Rattle.plan_dsl.specs.Plans.{Plan}
-use Rattle.plan_dsl.specs.Typing.{Typed, operand_types, types_of, typing, typing_all, kinds_in}
+use Rattle.plan_dsl.specs.Typing.{Typed, Ruling, rule, types_of, typed_to, typing, typing_all, kinds_in}
 use Rattle.plan_dsl.specs.declared.operator.Operator.{Operator}
 use Rattle.plan_dsl.specs.Operators.{operator_value, swapped}
-use Rattle.plan_dsl.specs.OperatorTypes.{Taken, pair_to, operator_types}
+use Rattle.plan_dsl.specs.OperatorTypes.{pair_to, operator_types}
 use Rattle.plan_dsl.specs.Kernels.{operator_values}
 use Rattle.plan_dsl.specs.Meaning.{meaning}
 use Rattle.plan_dsl.specs.Strictness.{IsStrict, IsSame, IsStrictOver, as_operands}
@@ -24,12 +24,12 @@ use Rattle.plan_dsl.specs.PlanMeaning.{source_meaning, FitsPlan}
 
 -- operands that were taken to their types are taken as they are
 abbrev pub TakenTypesStay : Type 0
-TakenTypesStay = (schema : Columns) (op : Op) (types : List Ty) (taken : Taken) → operand_types schema op types ≡ Ok taken → operand_types schema op taken.operands ≡ Ok taken
+TakenTypesStay = (registry : Registry) (schema : Columns) (op : Op) (typed : List Typed) (ruling : Ruling) → rule registry schema op typed ≡ Ok ruling → rule registry schema op (typed_to typed ruling.operands) ≡ Ok ruling
 
 -- a node over operands that were made of the types to which it takes them says the same, and is strict
 abbrev pub TakenOperandsSaySame : Type 0
-TakenOperandsSaySame = (registry : Registry) (schema : Columns) (op : Op) (trees : Trees Op) (typed : List Typed) (taken : Taken) → typing_all registry schema trees ≡ Ok typed → operand_types schema op (types_of typed) ≡ Ok taken → is_known taken.type ≡ true
-    → IsSame registry schema (node op trees) (node op (as_operands (types_of typed) taken.operands trees)) × IsStrictOver registry schema op (as_operands (types_of typed) taken.operands trees)
+TakenOperandsSaySame = (registry : Registry) (schema : Columns) (op : Op) (trees : Trees Op) (typed : List Typed) (ruling : Ruling) → typing_all registry schema trees ≡ Ok typed → rule registry schema op typed ≡ Ok ruling → is_known ruling.own.type ≡ true
+    → IsSame registry schema (node op trees) (node op (as_operands (types_of typed) ruling.operands trees)) × IsStrictOver registry schema op (as_operands (types_of typed) ruling.operands trees)
 
 -- an operator's node over two operands
 abbrev pub operator_node : Operator → Expression → Expression → Expression

@@ -9,7 +9,7 @@ use Rattle.plan_types.specs.CommonTypes.{type_alone}
 use Rattle.plan_dsl.specs.declared.literal.LiteralValue.{LiteralValue}
 use Rattle.plan_dsl.specs.declared.literal.LiteralValue.TheVariants.{Null, Boolean, String, Int, Int8, Int16, Int32, Int64, UInt8, UInt16, UInt32, UInt64, Date, Time, DateTime, Duration}
 use Rattle.plan_dsl.specs.Trees.{node}
-use Rattle.plan_dsl.specs.Ops.{Op, ColumnOp, LiteralOp, BinaryOp, CastOp, Expression}
+use Rattle.plan_dsl.specs.Ops.{Op, LiteralOp, Expression}
 
 abbrev pub literal_type : LiteralValue → Ty
 literal_type Null = NullType
@@ -66,10 +66,8 @@ abbrev pub settled_type : Ty → Ty
 settled_type type = unwrap_or (type_alone type) type
 
 abbrev pub settled_op : Op → Op
-settled_op (ColumnOp name) = ColumnOp name
 settled_op (LiteralOp type value) = LiteralOp (settled_type type) value
-settled_op (BinaryOp operator) = BinaryOp operator
-settled_op (CastOp target options) = CastOp target options
+settled_op op = op
 
 -- an expression as a plan's node takes it: a number without a type at its top gets one
 abbrev pub settled : Expression → Expression

@@ -3,15 +3,15 @@
 -- what its kernel says. A fault of an operand is a fault of the node. What has no type means nothing.
 use Rattle.std.specs.Prelude.{List, [], ◌∷◌, Result, Ok, Err}
 use Rattle.plan_types.specs.Types.{Ty}
+use Rattle.plan_types.specs.Outcomes.{then_do}
 use Rattle.plan_types.specs.Frames.{Frame}
 use Rattle.plan_types.specs.declared.error.ErrorKind.{ErrorKind}
 use Rattle.plan_types.specs.declared.dtype.CastOptions.TheVariants.{NonStrict}
 use Rattle.plan_dsl.specs.Registry.{Registry}
 use Rattle.plan_dsl.specs.Trees.{Trees, node, no_more, more}
 use Rattle.plan_dsl.specs.Ops.{Op, Expression}
-use Rattle.plan_dsl.specs.Typing.{Typed, operand_types, types_of, typing_all}
-use Rattle.plan_dsl.specs.OperatorTypes.{Taken}
-use Rattle.plan_dsl.specs.Kernels.{Meaning, stuck, cast_meaning, kernel}
+use Rattle.plan_dsl.specs.Typing.{Typed, Ruling, rule, types_of, typing_all}
+use Rattle.plan_dsl.specs.Kernels.{Meaning, stuck, given, cast_meaning, kernel}
 
 -- operands of the first types, cast to the second
 abbrev pub taken_to : List Ty → List Ty → List Meaning → List Meaning
@@ -20,18 +20,23 @@ taken_to (from ∷ types) [] operands = []
 taken_to (from ∷ types) (target ∷ targets) [] = []
 taken_to (from ∷ types) (target ∷ targets) (operand ∷ operands) = cast_meaning from target NonStrict operand ∷ taken_to types targets operands
 
--- a node over operands of these types, which it takes so
-abbrev pub taken_meaning : Frame → Op → List Ty → Result Taken ErrorKind → List Meaning → Meaning
-taken_meaning frame op types (Err kind) operands = stuck
-taken_meaning frame op types (Ok taken) operands = kernel frame op taken.operands taken.type (taken_to types taken.operands operands)
+-- what a node gives of operands that have the types to which it takes them
+abbrev pub applied : Registry → Frame → Op → Ruling → List Meaning → Meaning
+applied registry frame op ruling operands rows =
+    then_do (given operands rows) (kernel registry frame rows op ruling.operands ruling.own.type)
 
-abbrev pub node_meaning : Frame → Op → Result (List Typed) ErrorKind → List Meaning → Meaning
-node_meaning frame op (Err kind) operands = stuck
-node_meaning frame op (Ok typed) operands = taken_meaning frame op (types_of typed) (operand_types frame.schema op (types_of typed)) operands
+-- a node over operands of these types, by its rule
+abbrev pub ruled_meaning : Registry → Frame → Op → List Ty → Result Ruling ErrorKind → List Meaning → Meaning
+ruled_meaning registry frame op types (Err kind) operands = stuck
+ruled_meaning registry frame op types (Ok ruling) operands = applied registry frame op ruling (taken_to types ruling.operands operands)
+
+abbrev pub node_meaning : Registry → Frame → Op → Result (List Typed) ErrorKind → List Meaning → Meaning
+node_meaning registry frame op (Err kind) operands = stuck
+node_meaning registry frame op (Ok typed) operands = ruled_meaning registry frame op (types_of typed) (rule registry frame.schema op typed) operands
 
 abbrev mutual
   pub meaning : Registry → Frame → Expression → Meaning
-  meaning registry frame (node op children) = node_meaning frame op (typing_all registry frame.schema children) (meaning_all registry frame children)
+  meaning registry frame (node op children) = node_meaning registry frame op (typing_all registry frame.schema children) (meaning_all registry frame children)
 
   pub meaning_all : Registry → Frame → Trees Op → List Meaning
   meaning_all registry frame no_more = []

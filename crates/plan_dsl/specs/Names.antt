@@ -3,7 +3,7 @@
 use Rattle.std.specs.Prelude.{List, [], ◌∷◌, codes}
 use Rattle.plan_types.specs.Schemas.{Name}
 use Rattle.plan_dsl.specs.Trees.{fold}
-use Rattle.plan_dsl.specs.Ops.{Op, ColumnOp, LiteralOp, BinaryOp, CastOp, Expression}
+use Rattle.plan_dsl.specs.Ops.{Op, ColumnOp, LiteralOp, Expression}
 
 abbrev pub first_name : List Name → Name
 first_name [] = codes "literal"
@@ -13,8 +13,7 @@ first_name (name ∷ names) = name
 abbrev pub op_name : Op → List Name → Name
 op_name (ColumnOp name) names = name
 op_name (LiteralOp type value) names = codes "literal"
-op_name (BinaryOp operator) names = first_name names
-op_name (CastOp target options) names = first_name names
+op_name op names = first_name names
 
 abbrev pub name_of : Expression → Name
 name_of tree = fold op_name tree

@@ -1,18 +1,18 @@
 -- Strict expressions, and expressions that say the same.
 -- A node is strict where its operands have the types to which it takes them, and it is no number without a type.
-use Rattle.std.specs.Prelude.{◌≡◌, ◌≢◌, ℤ, Bool, true, false, ◌&&◌, List, [], ◌∷◌, Ok, if◌then◌else◌}
+use Rattle.std.specs.Prelude.{◌≡◌, ◌≢◌, ℤ, Bool, true, false, ◌&&◌, List, [], ◌∷◌, Result, Ok, Err, IsTrue, if◌then◌else◌}
 use Rattle.plan_types.specs.Types.{Ty, Untyped, is_integer, is_known, same_type}
 use Rattle.plan_types.specs.Casts.{can_cast}
 use Rattle.plan_types.specs.Values.{IntValue, in_range}
 use Rattle.plan_types.specs.Schemas.{Columns}
 use Rattle.plan_types.specs.Frames.{Row}
+use Rattle.plan_types.specs.declared.error.ErrorKind.{ErrorKind}
 use Rattle.plan_types.specs.declared.dtype.CastOptions.TheVariants.{NonStrict}
 use Rattle.plan_dsl.specs.Registry.{Registry}
 use Rattle.plan_dsl.specs.Trees.{Trees, node, no_more, more}
 use Rattle.plan_dsl.specs.Ops.{Op, LiteralOp, CastOp, Expression}
 use Rattle.plan_dsl.specs.Names.{name_of}
-use Rattle.plan_dsl.specs.Typing.{Typed, operand_types, types_of, typing, typing_all}
-use Rattle.plan_dsl.specs.OperatorTypes.{Taken}
+use Rattle.plan_dsl.specs.Typing.{Typed, Ruling, rule, types_of, typing, typing_all}
 use Rattle.plan_dsl.specs.Meaning.{meaning}
 
 -- whether the types are the same, one by one
@@ -22,27 +22,38 @@ same_types [] (target ∷ targets) = false
 same_types (type ∷ types) [] = false
 same_types (type ∷ types) (target ∷ targets) = same_type type target && same_types types targets
 
--- the node takes operands of these types as they are, and its own type is one of columns
-pub record IsStrictNode (schema : Columns) (op : Op) (types : List Ty) : Type 0 where
-  pub taken : Taken
-  pub takes : operand_types schema op types ≡ Ok taken
-  pub kept : same_types types taken.operands ≡ true
-  pub known : is_known taken.type ≡ true
+-- whether a node takes operands of these types as they are, and its own type is one of columns
+abbrev pub takes_own : List Ty → Ruling → Bool
+takes_own types ruling = same_types types ruling.operands && is_known ruling.own.type
 
--- the node over these children, which are typed, is strict
-pub record IsStrictOver (registry : Registry) (schema : Columns) (op : Op) (children : Trees Op) : Type 0 where
-  pub typed : List Typed
-  pub types : typing_all registry schema children ≡ Ok typed
-  pub strict : IsStrictNode schema op (types_of typed)
+abbrev pub is_strict_rule : List Ty → Result Ruling ErrorKind → Bool
+is_strict_rule types (Err kind) = false
+is_strict_rule types (Ok ruling) = takes_own types ruling
 
--- each node of the expression is strict
+-- whether a node is strict over typed children
+abbrev pub is_strict_over : Registry → Columns → Op → Result (List Typed) ErrorKind → Bool
+is_strict_over registry schema op (Err kind) = false
+is_strict_over registry schema op (Ok typed) = is_strict_rule (types_of typed) (rule registry schema op typed)
+
+-- whether each node of the expression is strict
 abbrev mutual
-  pub IsStrict : Registry → Columns → Expression → Type 0
-  IsStrict registry schema (node op children) = IsStrictOver registry schema op children × AllStrict registry schema children
+  pub is_strict : Registry → Columns → Expression → Bool
+  is_strict registry schema (node op children) =
+      is_strict_over registry schema op (typing_all registry schema children) && are_strict registry schema children
 
-  pub AllStrict : Registry → Columns → Trees Op → Type 0
-  AllStrict registry schema no_more = Unit {0}
-  AllStrict registry schema (more child rest) = IsStrict registry schema child × AllStrict registry schema rest
+  pub are_strict : Registry → Columns → Trees Op → Bool
+  are_strict registry schema no_more = true
+  are_strict registry schema (more child rest) = is_strict registry schema child && are_strict registry schema rest
+
+-- the node over these children is strict, the expression is, and each of the expressions is
+abbrev pub IsStrictOver : Registry → Columns → Op → Trees Op → Type 0
+IsStrictOver registry schema op children = IsTrue (is_strict_over registry schema op (typing_all registry schema children))
+
+abbrev pub IsStrict : Registry → Columns → Expression → Type 0
+IsStrict registry schema tree = IsTrue (is_strict registry schema tree)
+
+abbrev pub AllStrict : Registry → Columns → Trees Op → Type 0
+AllStrict registry schema trees = IsTrue (are_strict registry schema trees)
 
 -- an expression of the first type, made one of the second: a cast stands round it, and a number without a type
 -- becomes a literal

@@ -19,6 +19,11 @@ pub record Typed : Type 0 where
   pub type : Ty
   pub many : Bool
 
+-- what a node makes of typed operands: the types to which it takes them, and its own typing
+pub record Ruling : Type 0 where
+  pub operands : List Ty
+  pub own : Typed
+
 -- a column has no operand, and the type that the schema gives it, which is one of columns
 abbrev pub column_type : Option Ty → Result Taken ErrorKind
 column_type None = Err ColumnNotFound
@@ -34,18 +39,6 @@ cast_taken target None = Err InvalidOperation
 cast_taken target (Some from) =
     if can_cast from target then Ok (record { operands = from ∷ []; type = target }) else Err InvalidOperation
 
--- The types to which a node takes operands of these types. A node with another number of operands than its
--- own, which no expression has, has no type.
-abbrev pub operand_types : Columns → Op → List Ty → Result Taken ErrorKind
-operand_types schema (ColumnOp name) [] = column_type (type_at schema name)
-operand_types schema (ColumnOp name) (type ∷ types) = Err SchemaMismatch
-operand_types schema (LiteralOp type value) [] = literal_taken type value
-operand_types schema (LiteralOp type value) (operand ∷ types) = Err SchemaMismatch
-operand_types schema (BinaryOp operator) types = operator_types operator types
-operand_types schema (CastOp target options) [] = Err SchemaMismatch
-operand_types schema (CastOp target options) (from ∷ []) = cast_taken target (type_alone from)
-operand_types schema (CastOp target options) (from ∷ other ∷ types) = Err SchemaMismatch
-
 abbrev pub types_of : List Typed → List Ty
 types_of typed = map (λ t. t.type) typed
 
@@ -54,20 +47,33 @@ abbrev pub some_many : List Typed → Bool
 some_many [] = false
 some_many (t ∷ ts) = t.many || some_many ts
 
--- whether a node's column may have another length than one
-abbrev pub is_many : Op → List Typed → Bool
-is_many (ColumnOp name) children = true
-is_many (LiteralOp type value) children = false
-is_many (BinaryOp operator) children = some_many children
-is_many (CastOp target options) children = some_many children
+-- what a table of types says, of a column that may have another length than one or not
+abbrev pub ruled_as : Result Taken ErrorKind → Bool → Result Ruling ErrorKind
+ruled_as (Err kind) many = Err kind
+ruled_as (Ok taken) many = Ok (record { operands = taken.operands; own = record { type = taken.type; many = many } })
 
-abbrev pub typed_as : Result Taken ErrorKind → Bool → Result Typed ErrorKind
-typed_as (Err kind) many = Err kind
-typed_as (Ok taken) many = Ok (record { type = taken.type; many = many })
+-- The types to which a node takes operands that are typed so, and its own typing. A node with another number of
+-- operands than its own, which no expression has, has none.
+abbrev pub rule : Registry → Columns → Op → List Typed → Result Ruling ErrorKind
+rule registry schema (ColumnOp name) [] = ruled_as (column_type (type_at schema name)) true
+rule registry schema (LiteralOp type value) [] = ruled_as (literal_taken type value) false
+rule registry schema (BinaryOp operator) typed = ruled_as (operator_types operator (types_of typed)) (some_many typed)
+rule registry schema (CastOp target options) (from ∷ []) = ruled_as (cast_taken target (type_alone from.type)) from.many
+rule registry schema op typed = Err SchemaMismatch
+
+abbrev pub own_typed : Result Ruling ErrorKind → Result Typed ErrorKind
+own_typed (Err kind) = Err kind
+own_typed (Ok ruling) = Ok ruling.own
 
 -- a node's typing, from its children's
 abbrev pub typing_rule : Registry → Columns → Op → List Typed → Result Typed ErrorKind
-typing_rule registry schema op children = typed_as (operand_types schema op (types_of children)) (is_many op children)
+typing_rule registry schema op children = own_typed (rule registry schema op children)
+
+-- the typings of operands that were made of these types
+abbrev pub typed_to : List Typed → List Ty → List Typed
+typed_to [] targets = []
+typed_to (t ∷ ts) [] = []
+typed_to (t ∷ ts) (target ∷ targets) = record { type = target; many = t.many } ∷ typed_to ts targets
 
 -- goes on where a child is typed
 abbrev pub then_typed : {A : Type 0} → Result A ErrorKind → (A → Result Typed ErrorKind) → Result Typed ErrorKind

@@ -2,7 +2,6 @@
 use Rattle.std.proofs.Common.{◌≡◌, ℕ, ◌-◌, List, Option, Some, Result, Ok, slice_get, subst, ap, arith}
 use Rattle.plan_types.specs.Types.{Ty}
 use Rattle.plan_types.specs.declared.error.ErrorKind.{ErrorKind}
-use Rattle.plan_dsl.specs.Trees.{node}
 use Rattle.plan_dsl.specs.Ops.{Expression}
 use Rattle.plan_dsl.specs.Typing.{Typed}
 use Rattle.plan_dsl.proofs.TypingLemmas.{ok_same}

@@ -14,10 +14,10 @@ use Rattle.plan_types.specs.Schemas.{Columns}
 use Rattle.plan_types.specs.declared.dtype.DataType.{DataType}
 use Rattle.plan_types.specs.declared.dtype.CastOptions.{CastOptions}
 use Rattle.plan_dsl.specs.Registry.{Registry}
-use Rattle.plan_dsl.specs.Trees.{node, more}
+use Rattle.plan_dsl.specs.Trees.{node}
 use Rattle.plan_dsl.specs.Ops.{Op, CastOp, Expression}
-use Rattle.plan_dsl.specs.Typing.{cast_taken, operand_types, typing, typing_all}
-use Rattle.plan_dsl.proofs.TypingLemmas.{ok_where, typed_parts}
+use Rattle.plan_dsl.specs.Typing.{cast_taken, rule, typing, typing_all}
+use Rattle.plan_dsl.proofs.TypingLemmas.{ok_where, ruled_is, typed_parts}
 use Rattle.plan_dsl.proofs.LiteralLemmas.{typed_alone, typed_known}
 use Rattle.plan_arena.specs.declared.aexpr.AExpr.{AExpr}
 use Rattle.plan_arena.specs.Denotation.{Denotes, DenotesTree, depth_at}
@@ -28,7 +28,7 @@ use Rattle.plan_arena.proofs.ItemLemmas.{layer_op, layer_inputs, held_top, one_c
 use Rattle.plan_infer.specs.declared.type_table.TypeTable.{TypeTable}
 use Rattle.plan_infer.specs.Typed.{DenotesTyped, HasType}
 use Rattle.plan_infer.specs.KeptTypes.{Keeps, IsKept, Extends, IsTypedNode, IsRight, first_node}
-use Rattle.plan_infer.proofs.TypingLemmas.{one_type, AllHaveType}
+use Rattle.plan_infer.proofs.TypingLemmas.{one_typed, AllHaveType}
 use Rattle.plan_arena.proofs.NumberLemmas.{all_weaker}
 
 -- a node holds one op over one list of inputs
@@ -146,9 +146,9 @@ module _ (registry : Registry) (schema : Columns) (items : List AExpr) (table : 
       let one = one_child (HoldsExpression items) input top.0 top.2 in
       let has = kept_type input from keeps one.0 one.2 in
       let p = typed_parts registry schema (CastOp target options) top.0 e.typed (ap (typing registry schema) (sym top.1) ∙ e.is) in
-      let types = one_type registry schema one.0 (ty from) has.many p.below has.is (sym (ap (typing_all registry schema) one.1) ∙ p.children_typed) in
-      let takes = sym (ap (operand_types schema (CastOp target options)) types) ∙ p.takes in
-      (ok_where (can_cast own target) _ p.taken InvalidOperation (sym (ap (cast_taken target) alone) ∙ takes)).0
+      let below = one_typed registry schema one.0 (record { type = ty from; many = has.many }) p.below has.is (sym (ap (typing_all registry schema) one.1) ∙ p.children_typed) in
+      let rules = ap (rule registry schema (CastOp target options)) below ∙ p.rules in
+      ruled_is (λ r. can_cast own target ≡ true) (cast_taken target (type_alone (ty from))) has.many p.ruling rules (λ taken found. (ok_where (can_cast own target) _ taken InvalidOperation (sym (ap (cast_taken target) alone) ∙ found)).0)
 
   -- what is typed has a type alone
   pub alone_there : (n : ℕ) (dtype : DataType) → Keeps table n dtype → (own : Ty) × (type_alone (ty dtype) ≡ Some own)

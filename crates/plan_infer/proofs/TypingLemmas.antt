@@ -17,8 +17,9 @@ use Rattle.plan_dsl.specs.Registry.{Registry}
 use Rattle.plan_dsl.specs.Trees.{node, no_more, more}
 use Rattle.plan_dsl.specs.Ops.{ColumnOp, LiteralOp, BinaryOp, CastOp, Expression}
 use Rattle.plan_dsl.specs.Literals.{is_literal}
-use Rattle.plan_dsl.specs.Typing.{Typed, column_type, literal_taken, cast_taken, typed_as, typing_rule, then_typed, typed_before, typing, some_many, typing_all, types_of}
+use Rattle.plan_dsl.specs.Typing.{Typed, column_type, literal_taken, cast_taken, typing_rule, then_typed, typed_before, typing, some_many, typing_all}
 use Rattle.plan_dsl.specs.OperatorTypes.{Taken, operator_types}
+use Rattle.plan_dsl.proofs.TypingLemmas.{typed_as}
 use Rattle.plan_arena.specs.declared.aexpr.AExpr.{AExpr}
 use Rattle.plan_arena.specs.Denotation.{Denotes}
 use Rattle.plan_arena.specs.Items.{HoldsExpression}
@@ -172,7 +173,7 @@ module _ (items : List AExpr) (registry : Registry) (schema : Columns) (n : ℕ)
     cast_decided from t d hi =
         let top = cast_top t d in
         let ti = hi top.0 top.2 in
-        (some_many (record { type = from; many = ti.many } ∷ []), top.1 ∙ ap (cast_typing items registry schema target options) ti.is)
+        (ti.many, top.1 ∙ ap (cast_typing items registry schema target options) ti.is)
 
     pub cast_typed : (from : Ty) (taken : Taken) → AllHaveType items registry schema input from → cast_taken target (type_alone from) ≡ Ok taken → AllHaveType items registry schema n taken.type
     cast_typed from taken hi e t d =
@@ -190,7 +191,6 @@ module _ (items : List AExpr) (registry : Registry) (schema : Columns) (n : ℕ)
         let top = cast_top t d in
         refused_so _ _ error (λ kind e. top.1 ∙ ap (cast_typing items registry schema target options) e) (refused top.0 top.2)
 
--- the type of one operand
-pub one_type : (registry : Registry) (schema : Columns) (x : Expression) (from : Ty) (many : Bool) (below : List Typed) → typing registry schema x ≡ Ok (record { type = from; many = many }) → typing_all registry schema (more x no_more) ≡ Ok below → types_of below ≡ from ∷ []
-one_type registry schema x from many below h all =
-    sym (ap types_of (ok_same (typed_before (Ok (record { type = from; many = many })) (Ok [])) _ below refl (sym (ap (λ r. typed_before r (Ok [])) h) ∙ all)))
+-- the typings of one operand
+pub one_typed : (registry : Registry) (schema : Columns) (x : Expression) (typed : Typed) (below : List Typed) → typing registry schema x ≡ Ok typed → typing_all registry schema (more x no_more) ≡ Ok below → typed ∷ [] ≡ below
+one_typed registry schema x typed below h all = ok_same (typed_before (Ok typed) (Ok [])) (typed ∷ []) below refl (sym (ap (λ r. typed_before r (Ok [])) h) ∙ all)

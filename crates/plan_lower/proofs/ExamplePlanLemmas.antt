@@ -17,7 +17,6 @@ use Rattle.plan_lower.specs.Lowering.{IsBuilt}
 use Rattle.plan_infer.specs.Samples.{int32, one_column, two_columns}
 use Rattle.plan_coerce.specs.Samples.{strict_items}
 use Rattle.plan_lower.specs.Samples.{node_named, query, lowered_query, sum_layers}
-use Rattle.plan_coerce.proofs.ExampleLemmas.{sum_strict}
 
 -- a node denotes one plan
 pub one_plan : (expressions : List AExpr) (plans : List IR) (n : ℕ) (t u : Plan) → Denotes (HoldsPlan expressions plans) n t → Denotes (HoldsPlan expressions plans) n u → t ≡ u
@@ -56,7 +55,7 @@ built = record {
   well_formed = (refl, ((refl, tt), tt));
   schema = refl;
   accepted = (refl, ((refl, tt), tt));
-  strict = ((sum_strict, tt), ((tt, tt), tt));
+  strict = ((refl, tt), ((tt, tt), tt));
   fits = λ tables fits. (tt, ((fits.1.0.0, tt), tt));
   same = same_frame;
 }

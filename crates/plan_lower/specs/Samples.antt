@@ -2,11 +2,10 @@
 use Rattle.std.specs.Prelude.{◌≡◌, ℕ, List, [], ◌∷◌, map, codes, Option, Some}
 use Rattle.plan_types.specs.Types.{Ty, Truth}
 use Rattle.plan_types.specs.Schemas.{Name, Columns}
-use Rattle.plan_types.specs.declared.dtype.DataType.TheVariants as dtype
 use Rattle.plan_dsl.specs.Trees.{node, no_more, more}
 use Rattle.plan_dsl.specs.Ops.{Expression}
 use Rattle.plan_dsl.specs.Plans.{PlanOp, Plan, Named, named, scan_op, select_op, filter_op}
-use Rattle.plan_dsl.specs.Typing.{Typed, typing}
+use Rattle.plan_dsl.specs.Typing.{Typed}
 use Rattle.plan_arena.specs.Layers.{Layer, layer}
 use Rattle.plan_arena.specs.Items.{plan_layer}
 use Rattle.plan_arena.specs.declared.aexpr.AExpr.{AExpr}
@@ -16,7 +15,7 @@ use Rattle.plan_arena.specs.declared.plan.IRPlan.{IRPlan}
 use Rattle.plan_lower.specs.Lowering.{source_select}
 use Rattle.plan_lower.specs.Outputs.{Lowered}
 use Rattle.plan_lower.specs.Projection.{Output}
-use Rattle.plan_infer.specs.Samples.{int32, one_column, two_columns, of_type, column, a, sum, at}
+use Rattle.plan_infer.specs.Samples.{int32, one_column, two_columns, of_type, column, sum}
 use Rattle.plan_coerce.specs.Samples.{strict_sum, strict_items}
 
 -- a column of truth values

@@ -1,14 +1,14 @@
 //! Trees of expressions, their names and their types.
 
-ghost use Rattle.std.specs.Prelude.{◌≡◌, ℕ, ◌+◌, [], ◌∷◌, sum as total, codes, true, false, Some, None, Err};
+ghost use Rattle.std.specs.Prelude.{◌≡◌, ℕ, ◌+◌, [], ◌∷◌, sum as total, codes, Some, None, Err};
 ghost use Rattle.plan_types.specs.declared.dtype.CastOptions.TheVariants.{Strict, NonStrict};
 ghost use Rattle.plan_types.specs.declared.error.ErrorKind.TheVariants.{ColumnNotFound, SchemaMismatch};
 ghost use Rattle.plan_dsl.specs.declared.operator.Operator.TheVariants.{Plus};
 ghost use Rattle.plan_dsl.specs.Trees.{node, no_more, fold, tree_at, tree_depth};
 ghost use Rattle.plan_dsl.specs.Ops.{ColumnOp, BinaryOp, CastOp};
 ghost use Rattle.plan_dsl.specs.Names.{name_of};
-ghost use Rattle.plan_dsl.specs.Typing.{is_many, typing, kinds_in};
-ghost use Rattle.plan_dsl.specs.Samples.{Gives, GivesOfTwo, int8, int16, int32, int64, uint8, uint16, a, b, c, d, u, sum, cast_as, one_value, many_values, of_many, schema_abu};
+ghost use Rattle.plan_dsl.specs.Typing.{typing, typing_rule, kinds_in};
+ghost use Rattle.plan_dsl.specs.Samples.{Gives, GivesOfTwo, int8, int16, int32, int64, uint8, uint16, a, b, c, d, u, sum, cast_as, one_value, many_values, of_many, of_one, schema_abu};
 
 /// A column has its own name, and any other node that of its first child.
 pub fn names_of_expressions()
@@ -28,14 +28,14 @@ pub fn types_of_expressions()
         (sum (cast_as NonStrict int64 u) a, of_many int64) ∷ []) }
 {}
 
-/// A column may have another length than one, and any other node where some input may.
+/// A column may have another length than one, and an operator and a cast where some input may.
 pub fn lengths_of_nodes()
     ensures lengths { let one = one_value int8 in
         let many = many_values int8 in
-        GivesOfTwo is_many (
-        (ColumnOp (codes "a"), [], true) ∷
-        (BinaryOp Plus, one ∷ one ∷ [], false) ∷ (BinaryOp Plus, many ∷ one ∷ [], true) ∷ (BinaryOp Plus, one ∷ many ∷ [], true) ∷
-        (CastOp int32 Strict, one ∷ [], false) ∷ (CastOp int32 Strict, many ∷ [], true) ∷ []) }
+        GivesOfTwo (typing_rule [] ((codes "a", int8) ∷ [])) (
+        (ColumnOp (codes "a"), [], of_many int8) ∷
+        (BinaryOp Plus, one ∷ one ∷ [], of_one int8) ∷ (BinaryOp Plus, many ∷ one ∷ [], of_many int8) ∷ (BinaryOp Plus, one ∷ many ∷ [], of_many int8) ∷
+        (CastOp int32 Strict, one ∷ [], of_one int32) ∷ (CastOp int32 Strict, many ∷ [], of_many int32) ∷ []) }
 {}
 
 /// Typing refuses for what the first refused child is refused.

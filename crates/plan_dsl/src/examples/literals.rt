@@ -1,6 +1,6 @@
 //! Literals: names, types, what they give, and plans that have them.
 
-ghost use Rattle.std.specs.Prelude.{◌≡◌, [], ◌∷◌, map, pos, neg_ℤ, codes, false, Some, None, Err};
+ghost use Rattle.std.specs.Prelude.{◌≡◌, [], ◌∷◌, map, pos, neg_ℤ, codes, true, false, Some, None, Err};
 ghost use Rattle.plan_types.specs.Types.{Truth, Untyped};
 ghost use Rattle.plan_types.specs.Outcomes.{Done, Fault, Stuck};
 ghost use Rattle.plan_types.specs.declared.dtype.CastOptions.TheVariants.{Strict, NonStrict, Overflowing};
@@ -10,9 +10,9 @@ ghost use Rattle.plan_dsl.specs.Trees.{node, no_more, more};
 ghost use Rattle.plan_dsl.specs.Ops.{LiteralOp};
 ghost use Rattle.plan_dsl.specs.Names.{name_of};
 ghost use Rattle.plan_dsl.specs.Literals.{literal_op, settled};
-ghost use Rattle.plan_dsl.specs.Typing.{is_many, typing, kinds_in};
+ghost use Rattle.plan_dsl.specs.Typing.{typing, kinds_in};
 ghost use Rattle.plan_dsl.specs.Meaning.{meaning};
-ghost use Rattle.plan_dsl.specs.Strictness.{CanBecome, IsStrict};
+ghost use Rattle.plan_dsl.specs.Strictness.{CanBecome, is_strict};
 ghost use Rattle.plan_dsl.specs.StrictRun.{strict_run};
 ghost use Rattle.plan_dsl.specs.Plans.{named, scan_op, select_op, filter_op};
 ghost use Rattle.plan_dsl.specs.PlanRules.{schema_of, broken_kinds, IsWellFormed, Breaks};
@@ -58,7 +58,6 @@ pub fn types_of_literals_alone()
     ensures types_of_two { Gives (typing [] []) (
         (sum one two, of_one int32) ∷ (sum one (literal (pos 2147483648)), of_one int64) ∷
         (sum (typed_literal int8 (pos 1)) two_hundred, of_one int16) ∷ (less one two, of_one Truth) ∷ []) }
-    ensures lengths { GivesAll (λ op. is_many op []) false (LiteralOp (Untyped (pos 1)) (number 1) ∷ LiteralOp int8 (number 1) ∷ []) }
 {}
 
 /// Beside a column a number has the column's type where it fits, else the least that has it.
@@ -142,11 +141,9 @@ pub fn literals_as_operands()
 
 /// A literal of a type is strict, and so is an operator between it and an expression of that type. A number without a type is not.
 pub fn strict_literals()
-    ensures typed { let schema = (codes "a", int8) ∷ [] in
-        IsStrict [] schema (typed_literal int8 (pos 1)) × IsStrict [] schema (sum a (typed_literal int8 (pos 1))) }
-    ensures untyped { let schema = (codes "a", int8) ∷ [] in
-        ¬ (IsStrict [] schema one) × ¬ (IsStrict [] schema (sum a one)) × ¬ (IsStrict [] schema (cast_as Strict int8 one)) }
-    ensures operand_of_another_type { ¬ (IsStrict [] ((codes "a", int8) ∷ []) (sum a (typed_literal int16 (pos 1)))) }
+    ensures strict { Gives (is_strict [] ((codes "a", int8) ∷ [])) (
+        (typed_literal int8 (pos 1), true) ∷ (sum a (typed_literal int8 (pos 1)), true) ∷
+        (one, false) ∷ (sum a one, false) ∷ (cast_as Strict int8 one, false) ∷ (sum a (typed_literal int16 (pos 1)), false) ∷ []) }
 {}
 
 /// In a select a literal has the type that it has alone, and a filter asks for a truth value.

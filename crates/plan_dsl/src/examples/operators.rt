@@ -1,6 +1,6 @@
 //! Operators: comparisons and sums of numbers and of truth values, and casts that are written round them.
 
-ghost use Rattle.std.specs.Prelude.{◌≡◌, [], ◌∷◌, replicate, codes, true, false, Err};
+ghost use Rattle.std.specs.Prelude.{◌≡◌, [], ◌∷◌, replicate, codes, Err};
 ghost use Rattle.plan_types.specs.Types.{Truth};
 ghost use Rattle.plan_types.specs.Outcomes.{Done, Stuck};
 ghost use Rattle.plan_types.specs.declared.dtype.CastOptions.TheVariants.{Strict, NonStrict, Overflowing};
@@ -9,10 +9,10 @@ ghost use Rattle.plan_dsl.specs.declared.operator.Operator.TheVariants.{Eq, NotE
 ghost use Rattle.plan_dsl.specs.Operators.{operator_value};
 ghost use Rattle.plan_dsl.specs.Ops.{BinaryOp};
 ghost use Rattle.plan_dsl.specs.Names.{name_of};
-ghost use Rattle.plan_dsl.specs.Typing.{is_many, typing};
+ghost use Rattle.plan_dsl.specs.Typing.{typing, typing_rule};
 ghost use Rattle.plan_dsl.specs.Meaning.{meaning};
 ghost use Rattle.plan_dsl.specs.StrictRun.{strict_run};
-ghost use Rattle.plan_dsl.specs.Samples.{Gives, GivesAll, GivesOfTwo, Take, Refuse, Compute, ComputeEach, Mean, comparisons, both_as, int8, int16, int64, uint8, uint32, uint64, null, yes, no, number, negative, a, b, c, t, u, binary, sum, less, equal, cast_as, all_options, one_value, many_values, of_many, means, runs, beside, four_columns, two_widths, some_zeros, truths_and_numbers};
+ghost use Rattle.plan_dsl.specs.Samples.{Gives, GivesAll, GivesOfTwo, Take, Refuse, Compute, ComputeEach, Mean, comparisons, both_as, int8, int16, int64, uint8, uint32, uint64, null, yes, no, number, negative, a, b, c, t, u, binary, sum, less, equal, cast_as, all_options, one_value, many_values, of_many, of_one, means, runs, beside, four_columns, two_widths, some_zeros, truths_and_numbers};
 
 /// A comparison takes both operands to their common type, and is a truth value. A sum has that type, and truth values are
 /// counted in 32 bits without a sign.
@@ -71,8 +71,8 @@ pub fn typing_of_comparisons()
         (sum t a, of_many int8) ∷
         (less u a, Err SchemaMismatch) ∷
         (less a c, Err ColumnNotFound) ∷ []) }
-    ensures of_single_values { GivesAll (λ operator. is_many (BinaryOp operator) (one_value int8 ∷ one_value int8 ∷ [])) false comparisons }
-    ensures of_many_values { GivesAll (λ operator. is_many (BinaryOp operator) (one_value int8 ∷ many_values int8 ∷ [])) true comparisons }
+    ensures of_single_values { GivesAll (λ operator. typing_rule [] [] (BinaryOp operator) (one_value int8 ∷ one_value int8 ∷ [])) (of_one Truth) comparisons }
+    ensures of_many_values { GivesAll (λ operator. typing_rule [] [] (BinaryOp operator) (one_value int8 ∷ many_values int8 ∷ [])) (of_many Truth) comparisons }
 {}
 
 /// Numbers of two types are compared in the common one, row by row: as the numbers that they are, and not by their bits.

@@ -1,6 +1,6 @@
 //! Operators on nulls, texts and times: types, refusals, values and meanings.
 
-ghost use Rattle.std.specs.Prelude.{◌≡◌, [], ◌∷◌, pos, codes};
+ghost use Rattle.std.specs.Prelude.{◌≡◌, [], ◌∷◌, pos, codes, true, false};
 ghost use Rattle.plan_types.specs.Types.{NullType, Truth, TextType, DateType, TimeType, DatetimeType, DurationType, Untyped};
 ghost use Rattle.plan_types.specs.Outcomes.{Done, Stuck};
 ghost use Rattle.plan_types.specs.Frames.{empty_frame};
@@ -13,7 +13,7 @@ ghost use Rattle.plan_dsl.specs.Trees.{node, no_more};
 ghost use Rattle.plan_dsl.specs.Ops.{LiteralOp};
 ghost use Rattle.plan_dsl.specs.Typing.{typing};
 ghost use Rattle.plan_dsl.specs.Meaning.{meaning};
-ghost use Rattle.plan_dsl.specs.Strictness.{CanBecome, IsStrict};
+ghost use Rattle.plan_dsl.specs.Strictness.{CanBecome, is_strict};
 ghost use Rattle.plan_dsl.specs.Samples.{Mean, Run, HasLiterals, AreOperands, Gives, GivesAll, GivesOfTwo, Take, Refuse, RefuseCasts, Compute, ComputeEach, comparisons, both_as, taken, int8, int32, int64, uint32, uint64, moment, span, times, no_times, null, yes, no, number, negative, text, a, b, d, m, n, s, x, literal, typed_literal, sum, equal, less, cast_as, of_one, means, runs, alone, beside, days_and_moments, texts_and_truths};
 
 /// Spans are added to spans and to moments, in the coarser of the two units. No other sum has a time in it.
@@ -194,6 +194,5 @@ pub fn operands_of_texts_and_times()
 
 /// A sum of a moment and a span is strict where they have one unit.
 pub fn strict_sums_of_times()
-    ensures one_unit { IsStrict [] ((codes "m", moment) ∷ (codes "s", span) ∷ []) (sum m s) }
-    ensures two_units { ¬ (IsStrict [] ((codes "m", moment) ∷ (codes "s", DurationType Nanoseconds) ∷ []) (sum m s)) }
+    ensures units { Gives (λ type. is_strict [] ((codes "m", moment) ∷ (codes "s", type) ∷ []) (sum m s)) ((span, true) ∷ (DurationType Nanoseconds, false) ∷ []) }
 {}

@@ -6,9 +6,8 @@ use Rattle.plan_types.specs.Types.{Untyped, ty}
 use Rattle.plan_dsl.specs.Ops.{CastOp}
 use Rattle.plan_arena.specs.Items.{HoldsExpression, expression_layer}
 use Rattle.plan_arena.proofs.ItemLemmas.{tree_within, got_held}
-use Rattle.plan_dsl.specs.Literals.{literal_type, literal_value}
 use Rattle.plan_infer.proofs.TableLemmas.{plain_tree}
-use Rattle.plan_coerce.proofs.CoercionLemmas.{visits_leaf, visits_cast, column_leaf, literal_leaf}
+use Rattle.plan_coerce.proofs.CoercionLemmas.{visits_leaf, visits_cast}
 use Rattle.plan_infer.proofs.TableLemmas.{known_there, known_typed, known_inputs, kept_type, keeps_one, extends_itself}
 use Rattle.plan_coerce.proofs.type_coercion.coerce_node.Goals as goal
 
@@ -24,12 +23,12 @@ coerce_binary-requires-clause-held c =
 pub returns-in-Column-clause-ok : goal.returns-in-Column-clause-ok
 returns-in-Column-clause-ok c = λ registry schema first t right.
     let held = got_held c.args.arena.now c.args.node.0 c.get.result.now _ _ c.get.ensures (ap expression_layer c.in-Column.is) in
-    visits_leaf registry schema c.args.arena.now c.args.node.0 _ held (column_leaf schema _) first t
+    visits_leaf registry schema c.args.arena.now c.args.node.0 _ held first t
 
 pub returns-in-Literal-clause-ok : goal.returns-in-Literal-clause-ok
 returns-in-Literal-clause-ok c = λ registry schema first t right.
     let held = got_held c.args.arena.now c.args.node.0 c.get.result.now _ _ c.get.ensures (ap expression_layer c.in-Literal.is) in
-    visits_leaf registry schema c.args.arena.now c.args.node.0 _ held (literal_leaf schema (literal_type c.in-Literal.field-0) (literal_value c.in-Literal.field-0)) first t
+    visits_leaf registry schema c.args.arena.now c.args.node.0 _ held first t
 
 pub get-requires-in-Cast : goal.get-requires-in-Cast
 get-requires-in-Cast c =

@@ -1,14 +1,14 @@
 use Rattle.std.proofs.Common.{Ok, ap, ◌∙◌}
 use Rattle.plan_dsl.proofs.LiteralLemmas.{untyped_is_number}
 use Rattle.plan_dsl.proofs.OperandLemmas.{operands_same, operands_strict}
-use Rattle.plan_dsl.proofs.CastLemmas.{taken_types_stay}
+use Rattle.plan_dsl.proofs.OpLemmas.{keeps_rule}
 use Rattle.plan_dsl.proofs.FitLemmas.{meaning_has_type}
 use Rattle.plan_dsl.proofs.RunLemmas.{strict_is_meaning}
 use Rattle.plan_dsl.proofs.SwapLemmas.{says_swapped}
 use Rattle.plan_dsl.proofs.laws.expression_laws.Goals as goal
 
 pub returns-clause-taken_stay : goal.returns-clause-taken_stay
-returns-clause-taken_stay c = taken_types_stay
+returns-clause-taken_stay c registry schema op typed ruling rules = (keeps_rule registry schema op typed ruling rules).stays
 
 pub returns-clause-swapped : goal.returns-clause-swapped
 returns-clause-swapped c = says_swapped
@@ -24,5 +24,5 @@ returns-clause-untyped c registry schema number tree typed typing is =
     (untyped_is_number registry schema number tree typed.many (typing ∙ ap (λ type. Ok (record { type = type; many = typed.many })) is)).tree_is
 
 pub returns-clause-taken_operands : goal.returns-clause-taken_operands
-returns-clause-taken_operands c registry schema op trees typed taken h takes known =
-    (operands_same registry schema op trees typed h taken takes, operands_strict registry schema op trees typed h taken takes known)
+returns-clause-taken_operands c registry schema op trees typed ruling h rules known =
+    (operands_same registry schema op trees typed h ruling rules, operands_strict registry schema op trees typed h ruling rules known)

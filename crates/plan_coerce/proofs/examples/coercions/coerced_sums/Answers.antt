@@ -5,8 +5,8 @@ use Rattle.plan_types.specs.Values.{IntValue}
 use Rattle.plan_types.specs.declared.dtype.DataType.TheVariants as dtype
 use Rattle.plan_dsl.specs.declared.literal.LiteralValue.TheVariants.{Int}
 use Rattle.plan_dsl.specs.declared.operator.Operator.TheVariants.{Plus}
-use Rattle.plan_dsl.specs.Trees.{node, no_more, more}
-use Rattle.plan_dsl.specs.Ops.{Op, ColumnOp, LiteralOp, BinaryOp, Expression}
+use Rattle.plan_dsl.specs.Trees.{node, no_more}
+use Rattle.plan_dsl.specs.Ops.{Op, ColumnOp, LiteralOp, Expression}
 use Rattle.plan_dsl.specs.Typing.{typing}
 use Rattle.plan_dsl.proofs.TypingLemmas.{ok_same}
 use Rattle.plan_arena.specs.declared.aexpr.AExpr.{AExpr}
@@ -19,7 +19,7 @@ use Rattle.plan_coerce.specs.Coercion.{DenotesSame}
 use Rattle.plan_infer.specs.Samples.{int8, int32, int64, columns_of, two_columns, of_type, a, b, binary, cast_to, sum, pair, columns_and, sum_items}
 use Rattle.plan_coerce.specs.Samples.{strict_sum, cast_of, strict_items}
 use Rattle.plan_infer.proofs.ExampleLemmas.{one_tree}
-use Rattle.plan_coerce.proofs.ExampleLemmas.{sum_strict, strict_as, strict_root, same_tree, other_name}
+use Rattle.plan_coerce.proofs.ExampleLemmas.{strict_root, same_tree, other_name}
 use Rattle.plan_coerce.proofs.examples.coercions.coerced_sums.Goals as goal
 
 abbrev wide : List AExpr
@@ -63,14 +63,14 @@ pub returns-clause-cast : goal.returns-clause-cast
 returns-clause-cast c = record {
   below = λ n op inputs absent h. absurd (absent (omega arith));
   trees = kept;
-  strict = ((strict_sum, after_denotes, sum_strict), tt);
+  strict = ((strict_sum, after_denotes, refl), tt);
 }
 
 pub returns-clause-unchanged : goal.returns-clause-unchanged
 returns-clause-unchanged c = λ coerced.
     let type = int32 in
     let strict = strict_root [] two_columns 0 sum_items 2 sum coerced.strict.0 before_denotes in
-    let same : false ≡ true = (strict_as [] two_columns (BinaryOp Plus) (more a (more b no_more)) (of_type int8 ∷ of_type type ∷ []) (record { operands = type ∷ type ∷ []; type = type }) strict.0 refl refl).0 in
+    let same : false ≡ true = strict in
     cc
 
 pub returns-clause-both_to_another_type : goal.returns-clause-both_to_another_type
@@ -90,7 +90,7 @@ pub returns-clause-number_left : goal.returns-clause-number_left
 returns-clause-number_left c = λ coerced.
     let op = LiteralOp (Untyped (pos 5)) (IntValue (pos 5)) in
     let strict = strict_root [] [] 0 (Literal (Int (pos 5)) ∷ []) 0 (node op no_more) coerced.strict.0 ([], (omega arith, refl), tt) in
-    let known : false ≡ true = (strict_as [] [] op no_more [] (record { operands = []; type = Untyped (pos 5) }) strict.0 refl refl).1 in
+    let known : false ≡ true = strict in
     cc
 
 column_name : (m n : Name) → Some (layer (ColumnOp m) []) ≡ Some (layer (ColumnOp n) []) → m ≡ n

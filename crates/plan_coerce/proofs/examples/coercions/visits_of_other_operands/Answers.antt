@@ -1,12 +1,11 @@
-use Rattle.std.proofs.Common.{[], ◌∷◌, refl, arith}
-use Rattle.plan_types.specs.Types.{Truth, TextType, DatetimeType, DurationType}
+use Rattle.std.proofs.Common.{[], ◌∷◌, refl, arith, ◌≡◌, true, false}
+use Rattle.plan_types.specs.Types.{TextType, DatetimeType, DurationType}
 use Rattle.plan_types.specs.declared.dtype.DataType.TheVariants as dtype
 use Rattle.plan_types.specs.declared.dtype.TimeUnit.TheVariants.{Nanoseconds, Microseconds, Milliseconds}
 use Rattle.plan_dsl.specs.declared.operator.Operator.TheVariants.{Eq, Plus}
 use Rattle.plan_dsl.specs.Trees.{no_more, more}
 use Rattle.plan_dsl.specs.Ops.{BinaryOp}
-use Rattle.plan_dsl.specs.OperatorTypes.{pair_to}
-use Rattle.plan_infer.specs.Samples.{int8, columns_of, of_type, a, b, binary, cast_to, pair, columns_and}
+use Rattle.plan_infer.specs.Samples.{int8, columns_of, a, b, binary, cast_to, pair, columns_and}
 use Rattle.plan_coerce.specs.Samples.{cast_of}
 use Rattle.plan_coerce.proofs.ExampleLemmas.{visited}
 use Rattle.plan_coerce.proofs.examples.coercions.visits_of_other_operands.Goals as goal
@@ -19,7 +18,7 @@ returns-clause-span_in_another_unit c = let moment = DatetimeType Microseconds i
   held = (omega arith, refl);
   denotes = (([], (omega arith, refl), tt), ((1 ∷ [], (omega arith, refl), (([], (omega arith, refl), tt), tt)), tt));
   same = record { typing = refl; name = refl; meaning = λ rows. refl };
-  strict = record { typed = of_type moment ∷ of_type span ∷ []; types = refl; strict = record { taken = pair_to moment span moment; takes = refl; kept = refl; known = refl } };
+  strict = refl;
 }
 
 -- there is no such cast
@@ -29,7 +28,7 @@ returns-clause-span_as_a_moment c = λ v.
     let items = columns_and (pair 0 Plus 3 ∷ cast_of 1 (dtype.Datetime Microseconds) ∷ []) in
     let after = binary Plus a (cast_to (DatetimeType Microseconds) b) in
     let says = visited [] schema 0 items 2 (binary Plus a b) after v (0 ∷ 3 ∷ [], (omega arith, refl), (([], (omega arith, refl), tt), ((1 ∷ [], (omega arith, refl), (([], (omega arith, refl), tt), tt)), tt))) in
-    let typed = says.1.types in
+    let strict : false ≡ true = says.1 in
     cc
 
 pub returns-clause-date_beside_a_moment : goal.returns-clause-date_beside_a_moment
@@ -40,7 +39,7 @@ returns-clause-date_beside_a_moment c = let moment = DatetimeType Milliseconds i
   held = (omega arith, refl);
   denotes = ((0 ∷ [], (omega arith, refl), (([], (omega arith, refl), tt), tt)), (([], (omega arith, refl), tt), tt));
   same = record { typing = refl; name = refl; meaning = λ rows. refl };
-  strict = record { typed = of_type moment ∷ of_type moment ∷ []; types = refl; strict = record { taken = pair_to moment moment Truth; takes = refl; kept = refl; known = refl } };
+  strict = refl;
 }
 
 pub returns-clause-truth_value_beside_a_text : goal.returns-clause-truth_value_beside_a_text
@@ -51,7 +50,7 @@ returns-clause-truth_value_beside_a_text c = record {
   held = (omega arith, refl);
   denotes = (([], (omega arith, refl), tt), ((1 ∷ [], (omega arith, refl), (([], (omega arith, refl), tt), tt)), tt));
   same = record { typing = refl; name = refl; meaning = λ rows. refl };
-  strict = record { typed = of_type TextType ∷ of_type TextType ∷ []; types = refl; strict = record { taken = pair_to TextType TextType TextType; takes = refl; kept = refl; known = refl } };
+  strict = refl;
 }
 
 pub returns-clause-null_beside_a_number : goal.returns-clause-null_beside_a_number
@@ -62,5 +61,5 @@ returns-clause-null_beside_a_number c = let type = int8 in record {
   held = (omega arith, refl);
   denotes = ((0 ∷ [], (omega arith, refl), (([], (omega arith, refl), tt), tt)), (([], (omega arith, refl), tt), tt));
   same = record { typing = refl; name = refl; meaning = λ rows. refl };
-  strict = record { typed = of_type type ∷ of_type type ∷ []; types = refl; strict = record { taken = pair_to type type Truth; takes = refl; kept = refl; known = refl } };
+  strict = refl;
 }

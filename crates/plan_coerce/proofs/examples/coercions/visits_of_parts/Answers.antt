@@ -1,13 +1,12 @@
 use Rattle.std.proofs.Common.{◌≡◌, [], ◌∷◌, codes, true, false, Some, refl, ap, arith}
-use Rattle.plan_types.specs.Types.{Truth, TextType, ListType}
+use Rattle.plan_types.specs.Types.{TextType, ListType}
 use Rattle.plan_types.specs.declared.dtype.CastOptions.TheVariants.{NonStrict}
 use Rattle.plan_dsl.specs.declared.operator.Operator.TheVariants.{Eq}
 use Rattle.plan_dsl.specs.Trees.{no_more, more}
 use Rattle.plan_dsl.specs.Ops.{BinaryOp, CastOp}
-use Rattle.plan_dsl.specs.OperatorTypes.{Taken, pair_to}
 use Rattle.plan_arena.specs.Layers.{layer}
-use Rattle.plan_infer.specs.Samples.{int8, int64, columns_of, struct_of, of_type, a, b, binary, cast_to, pair, columns_and}
-use Rattle.plan_coerce.proofs.ExampleLemmas.{visited, strict_as}
+use Rattle.plan_infer.specs.Samples.{int8, int64, columns_of, struct_of, a, b, binary, cast_to, pair, columns_and}
+use Rattle.plan_coerce.proofs.ExampleLemmas.{visited}
 use Rattle.plan_coerce.proofs.examples.coercions.visits_of_parts.Goals as goal
 
 pub returns-clause-lists : goal.returns-clause-lists
@@ -18,7 +17,7 @@ returns-clause-lists c = λ target is. let type = ListType int64 in record {
   held = (omega arith, refl);
   denotes = ((0 ∷ [], (omega arith, ap (λ t. Some (layer (CastOp t NonStrict) (0 ∷ []))) is), (([], (omega arith, refl), tt), tt)), (([], (omega arith, refl), tt), tt));
   same = record { typing = refl; name = refl; meaning = λ rows. refl };
-  strict = record { typed = of_type type ∷ of_type type ∷ []; types = refl; strict = record { taken = pair_to type type Truth; takes = refl; kept = refl; known = refl } };
+  strict = refl;
 }
 
 pub returns-clause-structs : goal.returns-clause-structs
@@ -29,7 +28,7 @@ returns-clause-structs c = λ target is. let type = struct_of (codes "x") TextTy
   held = (omega arith, refl);
   denotes = (([], (omega arith, refl), tt), ((1 ∷ [], (omega arith, ap (λ t. Some (layer (CastOp t NonStrict) (1 ∷ []))) is), (([], (omega arith, refl), tt), tt)), tt));
   same = record { typing = refl; name = refl; meaning = λ rows. refl };
-  strict = record { typed = of_type type ∷ of_type type ∷ []; types = refl; strict = record { taken = pair_to type type Truth; takes = refl; kept = refl; known = refl } };
+  strict = refl;
 }
 
 -- the left operand isn't of the common type
@@ -39,6 +38,5 @@ returns-clause-not_cast c = λ v.
     let schema = columns_of (ListType int8) common in
     let tree = binary Eq a b in
     let says = visited [] schema 0 (columns_and (pair 0 Eq 1 ∷ [])) 2 tree tree v (0 ∷ 1 ∷ [], (omega arith, refl), (([], (omega arith, refl), tt), (([], (omega arith, refl), tt), tt))) in
-    let taken : Taken = pair_to common common Truth in
-    let same : false ≡ true = (strict_as [] schema (BinaryOp Eq) (more a (more b no_more)) (of_type (ListType int8) ∷ of_type common ∷ []) taken says.1 refl refl).0 in
+    let same : false ≡ true = says.1 in
     cc

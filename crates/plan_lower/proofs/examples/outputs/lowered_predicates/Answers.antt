@@ -1,14 +1,13 @@
-use Rattle.std.proofs.Common.{[], codes, refl}
+use Rattle.std.proofs.Common.{[], refl}
 use Rattle.plan_types.specs.Types.{Truth}
 use Rattle.plan_lower.specs.Predicates.{FiltersBy}
 use Rattle.plan_lower.specs.Samples.{truths, keep, as_it_is}
-use Rattle.plan_coerce.proofs.ExampleLemmas.{column_strict}
 use Rattle.plan_lower.proofs.examples.outputs.lowered_predicates.Goals as goal
 
 filters : FiltersBy [] truths keep (as_it_is keep Truth)
 filters = record {
   tree_is = refl;
-  is = record { typed = refl; same = record { typing = refl; name = refl; meaning = λ rows. refl }; strict = column_strict truths (codes "keep") Truth refl refl };
+  is = record { typed = refl; same = record { typing = refl; name = refl; meaning = λ rows. refl }; strict = refl };
   truth = refl;
 }
 

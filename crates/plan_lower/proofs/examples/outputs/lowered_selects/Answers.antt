@@ -1,16 +1,15 @@
-use Rattle.std.proofs.Common.{◌≡◌, List, [], ◌∷◌, map, codes, refl}
+use Rattle.std.proofs.Common.{◌≡◌, List, [], ◌∷◌, map, refl}
 use Rattle.plan_arena.specs.declared.aexpr.AExpr.{AExpr}
 use Rattle.plan_arena.specs.Items.{DenoteNamed}
 use Rattle.plan_lower.specs.Outputs.{Lowered, SelectsTo, lowered_named}
 use Rattle.plan_infer.specs.Samples.{int8, one_column, a, a_items}
 use Rattle.plan_lower.specs.Samples.{as_it_is}
-use Rattle.plan_coerce.proofs.ExampleLemmas.{column_strict}
 use Rattle.plan_lower.proofs.examples.outputs.lowered_selects.Goals as goal
 
 selects : SelectsTo [] (one_column int8) (a ∷ []) (as_it_is a int8 ∷ [])
 selects = record {
   trees_are = refl;
-  each = (record { typed = refl; same = record { typing = refl; name = refl; meaning = λ rows. refl }; strict = column_strict (one_column int8) (codes "a") int8 refl refl }, tt);
+  each = (record { typed = refl; same = record { typing = refl; name = refl; meaning = λ rows. refl }; strict = refl }, tt);
   distinct = (refl, tt);
 }
 

@@ -8,7 +8,6 @@ use Rattle.plan_arena.specs.Runs.{top_schema}
 use Rattle.plan_lower.specs.Outputs.{Lowered, IsLowered}
 use Rattle.plan_infer.specs.Samples.{a_items}
 use Rattle.plan_lower.specs.Samples.{keep_items, node_named, scan_of}
-use Rattle.plan_coerce.proofs.ExampleLemmas.{column_strict}
 use Rattle.plan_lower.proofs.ExamplePlanLemmas.{one_plan, item_at, scan_denotes, built}
 use Rattle.plan_lower.proofs.examples.plans.nodes_that_stand_for_plans.Goals as goal
 
@@ -22,10 +21,10 @@ abbrev output : Name → Lowered
 output name = let column : Expression = node (ColumnOp name) no_more in record { tree = column; typed = record { type = Truth; many = true }; after = column }
 
 keep_lowered : IsLowered [] (truths (codes "keep")) (output (codes "keep"))
-keep_lowered = record { typed = refl; same = record { typing = refl; name = refl; meaning = λ rows. refl }; strict = column_strict (truths (codes "keep")) (codes "keep") Truth refl refl }
+keep_lowered = record { typed = refl; same = record { typing = refl; name = refl; meaning = λ rows. refl }; strict = refl }
 
 a_lowered : IsLowered [] (truths (codes "a")) (output (codes "a"))
-a_lowered = record { typed = refl; same = record { typing = refl; name = refl; meaning = λ rows. refl }; strict = column_strict (truths (codes "a")) (codes "a") Truth refl refl }
+a_lowered = record { typed = refl; same = record { typing = refl; name = refl; meaning = λ rows. refl }; strict = refl }
 
 pub returns-clause-filter : goal.returns-clause-filter
 returns-clause-filter c = λ plans is.

@@ -1,0 +1,124 @@
+-- Columns that kernels make of fitting columns.
+use Rattle.std.proofs.Common.{◌≡◌, ◌∙◌, ℕ, zero, suc, Bool, true, false, cond, List, [], ◌∷◌, length, replicate, Some, None, IsTrue, refl, subst, arith, ap}
+use Rattle.std.proofs.lemmas.Bool.{and_parts, and_from}
+use Rattle.plan_types.specs.Types.{Ty, Untyped, same_type}
+use Rattle.plan_types.specs.TypeLaws.{same_type_exact}
+use Rattle.plan_types.specs.Values.{Val, NullValue, IntValue, ListValue, StructValue, fits, all_fit}
+use Rattle.plan_types.specs.Outcomes.{Outcome, Done, Meets}
+use Rattle.plan_types.specs.Casts.{Converted, Gives, Fails, cast}
+use Rattle.plan_types.specs.declared.dtype.CastOptions.{CastOptions}
+use Rattle.plan_types.specs.declared.dtype.CastOptions.TheVariants.{NonStrict}
+use Rattle.plan_types.proofs.ValueLemmas.{meets_then, meets_as, ConvertedFits, cast_fits, number_to_fits}
+use Rattle.plan_dsl.specs.declared.operator.Operator.{Operator}
+use Rattle.plan_dsl.specs.Operators.{operator_value}
+use Rattle.plan_dsl.specs.Literals.{is_literal_of}
+use Rattle.plan_dsl.specs.Typing.{Typed}
+use Rattle.plan_dsl.specs.Kernels.{cast_values, cast_column, common_length, stretched, at_each, at_length, operator_values, value_before}
+use Rattle.plan_dsl.specs.Strictness.{CanBecome}
+use Rattle.plan_dsl.specs.Laws.{AreOf}
+
+-- each column is of its typing, one by one
+abbrev pub AreAllOf : List Typed → List (List Val) → Type 0
+AreAllOf [] [] = Unit {0}
+AreAllOf (t ∷ ts) (c ∷ cs) = AreOf t c × AreAllOf ts cs
+AreAllOf [] (c ∷ cs) = ⊥
+AreAllOf (t ∷ ts) [] = ⊥
+
+-- what holds of none, of one column and of two holds of columns of so many typings
+pub of_none : (P : List (List Val) → Type 0) → P [] → (columns : List (List Val)) → AreAllOf [] columns → P columns
+of_none P h [] of = h
+of_none P h (c ∷ cs) of = absurd of
+
+pub of_one : (t : Typed) (P : List (List Val) → Type 0) → ((c : List Val) → AreOf t c → P (c ∷ [])) → (columns : List (List Val)) → AreAllOf (t ∷ []) columns → P columns
+of_one t P h [] of = absurd of
+of_one t P h (c ∷ cs) of = of_none (λ cs. P (c ∷ cs)) (h c of.0) cs of.1
+
+pub of_two : (t u : Typed) (P : List (List Val) → Type 0) → ((c d : List Val) → AreOf t c → AreOf u d → P (c ∷ d ∷ [])) → (columns : List (List Val)) → AreAllOf (t ∷ u ∷ []) columns → P columns
+of_two t u P h [] of = absurd of
+of_two t u P h (c ∷ cs) of = of_one u (λ cs. P (c ∷ cs)) (λ d fit. h c d of.0 fit) cs of.1
+
+-- ---- casts
+
+-- values that fit the type and are cast fit the target
+abbrev pub CastFits : Ty → Ty → CastOptions → Type 0
+CastFits from target options = (value : Val) → fits value from ≡ true → ConvertedFits target (cast value from target options)
+
+-- so do those of an operand that can become one of the target
+pub become_fits : (from target : Ty) → CanBecome from target → CastFits from target NonStrict
+become_fits (Untyped number) target can NullValue fit = refl
+become_fits (Untyped number) target can (IntValue other) fit = number_to_fits (Untyped number) other target NonStrict
+become_fits (Untyped number) target can _ fit = cc
+become_fits from target can value fit = cast_fits value from target NonStrict fit (can.casts (λ number e. cc))
+
+-- a column that is cast: as many values, which fit
+record AreCast (target : Ty) (count : ℕ) (values : List Val) : Type 0 where
+  pub fitting : IsTrue (all_fit values target)
+  pub as_many : length values ≡ count
+
+before_fits : (target : Ty) (count : ℕ) (converted : Converted) (rest : Outcome (List Val)) → ConvertedFits target converted → Meets (AreCast target count) rest → Meets (AreCast target (suc count)) (value_before converted rest)
+before_fits target count Fails rest h r = tt
+before_fits target count (Gives value) rest h r =
+    meets_then (AreCast target count) (AreCast target (suc count)) rest (λ values. Done (value ∷ values)) r (λ values of. record { fitting = and_from (fits value target) (all_fit values target) h of.fitting; as_many = ap suc of.as_many })
+
+cast_values_fit : (from target : Ty) (options : CastOptions) (values : List Val) → CastFits from target options → IsTrue (all_fit values from) → Meets (AreCast target (length values)) (cast_values from target options values)
+cast_values_fit from target options [] each h = record { fitting = refl; as_many = refl }
+cast_values_fit from target options (value ∷ values) each h =
+    let parts = and_parts (fits value from) (all_fit values from) h in
+    before_fits target (length values) (cast value from target options) (cast_values from target options values) (each value parts.0) (cast_values_fit from target options values each parts.1)
+
+-- a column of a type that is cast has the target's
+pub column_cast : (from target : Ty) (options : CastOptions) (many : Bool) (values : List Val) → CastFits from target options → AreOf (record { type = from; many = many }) values → Meets (AreOf (record { type = target; many = many })) (cast_values from target options values)
+column_cast from target options many values each of =
+    meets_as (AreCast target (length values)) (AreOf (record { type = target; many = many })) (cast_values from target options values) (cast_values_fit from target options values each of.fitting) (λ found made. record { fitting = made.fitting; single = λ one. made.as_many ∙ of.single one })
+
+pub cast_column_fits : (from target : Ty) (options : CastOptions) (many : Bool) (values : List Val) → CastFits from target options → AreOf (record { type = from; many = many }) values → Meets (AreOf (record { type = target; many = many })) (cast_column from target options values)
+cast_column_fits from target options many values each of =
+    elim (same_type from target) as (λ b. same_type from target ≡ b → Meets (AreOf (record { type = target; many = many })) (cond b (Done values) (cast_values from target options values))) [ true ↦ λ e. subst (λ t. AreOf (record { type = t; many = many }) values) (same_type_exact from target e) of | false ↦ λ e. column_cast from target options many values each of ] refl
+
+-- ---- operators
+
+at_each_fits : (f : Val → Val → Val) (l r type : Ty) → ((x y : Val) → IsTrue (fits x l) → IsTrue (fits y r) → IsTrue (fits (f x y) type)) → (left right : List Val) → IsTrue (all_fit left l) → IsTrue (all_fit right r) → IsTrue (all_fit (at_each f left right) type)
+at_each_fits f l r type each [] right h k = refl
+at_each_fits f l r type each (x ∷ left) [] h k = refl
+at_each_fits f l r type each (x ∷ left) (y ∷ right) h k =
+    let hs = and_parts (fits x l) (all_fit left l) h in
+    let ks = and_parts (fits y r) (all_fit right r) k in
+    and_from (fits (f x y) type) (all_fit (at_each f left right) type) (each x y hs.0 ks.0) (at_each_fits f l r type each left right hs.1 ks.1)
+
+replicate_fits : (count : ℕ) (value : Val) (type : Ty) → IsTrue (fits value type) → IsTrue (all_fit (replicate count value) type)
+replicate_fits zero value type h = refl
+replicate_fits (suc count) value type h = and_from (fits value type) (all_fit (replicate count value) type) h (replicate_fits count value type h)
+
+-- a column that is stretched still fits
+stretched_fits : (count : ℕ) (values : List Val) (type : Ty) → IsTrue (all_fit values type) → IsTrue (all_fit (stretched count values) type)
+stretched_fits count [] type h = refl
+stretched_fits count (value ∷ []) type h = replicate_fits count value type (and_parts (fits value type) true h).0
+stretched_fits count (first ∷ second ∷ rest) type h = h
+
+-- two columns of one value are not stretched
+single_each : (f : Val → Val → Val) (left right : List Val) (count : ℕ) → common_length (length left) (length right) ≡ Some count → length left ≡ 1 → length right ≡ 1 → length (at_each f (stretched count left) (stretched count right)) ≡ 1
+single_each f [] right count c l r = omega arith
+single_each f (x ∷ second ∷ left) right count c l r = omega arith
+single_each f (x ∷ []) [] count c l r = omega arith
+single_each f (x ∷ []) (y ∷ second ∷ right) count c l r = omega arith
+single_each f (x ∷ []) (y ∷ []) count c l r =
+    let one : 1 ≡ count = cc in subst (λ n. length (at_each f (replicate n x) (replicate n y)) ≡ 1) one refl
+
+pub operator_values_fit : (operator : Operator) (l r type : Ty) (many : Bool) (left right : List Val) → ((x y : Val) → IsTrue (fits x l) → IsTrue (fits y r) → IsTrue (fits (operator_value operator l type x y) type)) → IsTrue (all_fit left l) → IsTrue (all_fit right r) → (many ≡ false → (length left ≡ 1) × (length right ≡ 1)) → Meets (AreOf (record { type = type; many = many })) (operator_values operator l type left right)
+operator_values_fit operator l r type many left right each h k single =
+    let f = operator_value operator l type in
+    elim (common_length (length left) (length right)) as (λ o. common_length (length left) (length right) ≡ o → Meets (AreOf (record { type = type; many = many })) (at_length o (λ count. at_each f (stretched count left) (stretched count right)))) [
+      | None ↦ λ e. tt
+      | Some count ↦ λ e. record {
+        fitting = at_each_fits f l r type each (stretched count left) (stretched count right) (stretched_fits count left l h) (stretched_fits count right r k);
+        single = λ one. single_each f left right count e (single one).0 (single one).1;
+      }
+    ] refl
+
+-- ---- literals
+
+pub literal_fits : (type : Ty) (value : Val) → is_literal_of type value ≡ true → IsTrue (fits value type)
+literal_fits type NullValue h = refl
+literal_fits type (ListValue items) h = cc
+literal_fits type (StructValue parts) h = cc
+literal_fits type _ h = h
