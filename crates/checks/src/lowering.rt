@@ -9,17 +9,17 @@ use plan_dsl::udfs::Udfs;
 use plan_lower::conversion::dsl_to_ir::PlanLowering;
 use plan_report::report::{refusal, report};
 use plan_types::dtype::DataType;
-use std::alloc::Global;
+use std::alloc::{AllocError, Global};
 use std::process::Abort;
 
 /// How many filters stand one over another.
 const FILTERS: [usize; 5] = [0, 1, 2, 3, 200];
 
 // The report of the lowered plan, or of its refusal.
-fn answer(rt: &impl Abort, alloc: Global, plan: DslPlan) -> String {
+fn answer(alloc: Global, plan: DslPlan) -> Result<String, AllocError> {
     match plan.to_alp(alloc, &Udfs::new(alloc)) {
-        Ok(lowered) => report(alloc, &lowered).expect(rt, NO_MEMORY),
-        Err(error) => refusal(alloc, &error).expect(rt, NO_MEMORY),
+        Ok(lowered) => report(alloc, &lowered),
+        Err(error) => refusal(alloc, &error),
     }
 }
 
@@ -30,7 +30,7 @@ fn assert_sum(rt: &impl Abort, alloc: Global, additions: usize) {
         table: None,
         schema,
     };
-    let found = answer(rt, alloc, select_of(rt, alloc, &sum, 1, scan));
+    let found = answer(alloc, select_of(rt, alloc, &sum, 1, scan)).expect(rt, NO_MEMORY);
     assert!(rt;
         found.as_str() == ". projection (\"part 0\" Int8)\n.0 df (\"part 0\" Int8)\ncasts 0\n"
     );
@@ -69,7 +69,7 @@ fn filters_report(rt: &impl Abort, alloc: Global, filters: usize) -> String {
 
 fn assert_filters(rt: &impl Abort, alloc: Global, filters: usize) {
     let scan = scan_of(rt, alloc, Some(3), 1);
-    let found = answer(rt, alloc, filters_over(rt, alloc, scan, filters));
+    let found = answer(alloc, filters_over(rt, alloc, scan, filters)).expect(rt, NO_MEMORY);
     let want = filters_report(rt, alloc, filters);
     assert!(rt; found.as_str() == want.as_str());
 }
@@ -92,7 +92,7 @@ fn refused_text(rt: &impl Abort, alloc: Global, levels: usize) -> String {
 fn assert_refused(rt: &impl Abort, alloc: Global, filters: usize) {
     let missing = column(alloc, "missing").expect(rt, NO_MEMORY);
     let select = select_of(rt, alloc, &missing, 1, scan_of(rt, alloc, None, 1));
-    let found = answer(rt, alloc, filters_over(rt, alloc, select, filters));
+    let found = answer(alloc, filters_over(rt, alloc, select, filters)).expect(rt, NO_MEMORY);
     let want = refused_text(rt, alloc, filters);
     assert!(rt; found.as_str() == want.as_str());
 }

@@ -47,5 +47,4 @@ fn sums()
     ensures alone { sum_tree (codes "a") 0 ≡ node (ColumnOp (codes "a")) no_more }
     ensures twice { sum_tree (codes "a") 1 ≡ node (BinaryOp Plus) (more (node (ColumnOp (codes "a")) no_more) (more (node (ColumnOp (codes "a")) no_more) no_more)) }
     ensures deeper { map (λ additions. tree_depth (sum_tree (codes "a") additions)) (0 ∷ 1 ∷ 2 ∷ 9 ∷ []) ≡ 1 ∷ 2 ∷ 3 ∷ 10 ∷ [] }
-{
-}
+{}
