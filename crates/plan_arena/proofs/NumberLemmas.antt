@@ -1,5 +1,6 @@
 -- What all numbers of a list have.
-use Rattle.std.proofs.Common.{ℕ, List, [], ◌∷◌, ◌++◌}
+use Rattle.std.proofs.Common.{ℕ, List, [], ◌∷◌, ◌++◌, reverse, sym, subst}
+use Rattle.std.proofs.lemmas.Grind.{reverse_onto}
 use Rattle.std.specs.List.{AllByRecursion}
 
 pub all_front : (P : ℕ → Type 0) (ms ns : List ℕ) → AllByRecursion P (ms ++ ns) → AllByRecursion P ms
@@ -17,3 +18,8 @@ all_weaker P Q h (n ∷ ns) all = (h n all.0, all_weaker P Q h ns all.1)
 pub all_last : (P : ℕ → Type 0) (ms : List ℕ) (last : ℕ) → AllByRecursion P (ms ++ last ∷ []) → P last
 all_last P [] last all = all.0
 all_last P (m ∷ ms) last all = all_last P ms last all.1
+
+pub all_reversed : (P : ℕ → Type 0) (ns : List ℕ) → AllByRecursion P ns → AllByRecursion P (reverse ns)
+all_reversed P [] all = tt
+all_reversed P (n ∷ ns) all =
+    subst (AllByRecursion P) (sym (reverse_onto ns n [])) (all_joined P (reverse ns) (n ∷ []) (all_reversed P ns all.1) (all.0, tt))

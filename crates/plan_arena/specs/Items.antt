@@ -1,6 +1,6 @@
 -- The items of the two arenas.
 -- An item of the plans' arena holds a plan's op where its expression nodes denote that op's expressions.
-use Rattle.std.specs.Prelude.{◌≡◌, ◌≤◌, ℕ, List, [], ◌∷◌, ◌++◌, map, Some, slice_get, codes}
+use Rattle.std.specs.Prelude.{◌≡◌, ◌≤◌, ℕ, List, [], ◌∷◌, ◌++◌, map, set, Some, slice_get, codes}
 use Rattle.std.specs.List.{AllByRecursion}
 use Rattle.plan_types.specs.Types.{ty}
 use Rattle.plan_types.specs.Schemas.{Name, columns}
@@ -10,6 +10,7 @@ use Rattle.plan_dsl.specs.Plans.{PlanKind, ScanKind, SelectKind, FilterKind, Pla
 use Rattle.plan_arena.specs.Denotation.{Denotes, DenoteAll, DenotesTree}
 use Rattle.plan_arena.specs.Layers.{Layer, layer, op_of, inputs_of}
 use Rattle.plan_dsl.specs.Trees.{node}
+use Rattle.plan_arena.specs.declared.arena.Node.{Node}
 use Rattle.plan_arena.specs.declared.aexpr.AExpr.{AExpr}
 use Rattle.plan_arena.specs.declared.aexpr.AExpr.TheVariants.{Column, Literal, BinaryExpr, Cast}
 use Rattle.plan_arena.specs.declared.expr_ir.OutputName.{OutputName}
@@ -29,6 +30,10 @@ expression_layer (Cast expr dtype options) = layer (CastOp (ty dtype) options) (
 abbrev pub output_text : OutputName → Name
 output_text (ColumnLhs name) = name
 output_text (LiteralLhs name) = name
+
+-- the numbers of nodes
+abbrev pub numbers : List Node → List ℕ
+numbers nodes = map (λ n. n.0) nodes
 
 -- a node with the name of its column
 abbrev pub named_node : ExprIR → Named ℕ
@@ -100,3 +105,11 @@ DenotesPlan lowering plan = Denotes (HoldsPlan lowering.expr_arena lowering.lp_a
 pub record Grows {T : Type 0} (old new : List T) : Type 0 where
   pub added : List T
   pub longer : new ≡ old ++ added
+
+-- the item at the node does the same over these inputs, and no other has changed
+pub record Rewired (old new : List AExpr) (at : ℕ) (inputs : List ℕ) : Type 0 where
+  pub before : AExpr
+  pub after : AExpr
+  pub got : slice_get old at ≡ Some before
+  pub items : new ≡ set old at after
+  pub rewired : expression_layer after ≡ layer (op_of (expression_layer before)) inputs

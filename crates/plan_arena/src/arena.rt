@@ -1,7 +1,10 @@
 //! An arena: a list of items, each known by its number.
 ghost use Rattle.std.specs.Prelude.{◌≡◌, ◌<◌, ◌↔◌, [], ◌∷◌, ◌++◌, length, slice_get, slice_set, IsTrue, IfOk, IfErr, OnOk, OnErr, Some};
 ghost use Rattle.plan_types.specs.Errors.{no_memory};
+ghost use Rattle.plan_arena.specs.Layers.{inputs_of};
+ghost use Rattle.plan_arena.specs.Items.{expression_layer, numbers, Rewired};
 
+use crate::aexpr::AExpr;
 use plan_types::error::PlanError;
 use std::alloc::Global;
 use std::marker::Model;
@@ -80,5 +83,16 @@ impl<T: Drop> Arena<T> {
         let node = Node(self.items.len());
         self.items.push(item)?;
         Ok(node)
+    }
+}
+
+impl Arena<AExpr> {
+    /// Puts other inputs in place of those of the item at the node, as many as it has.
+    pub fn replace_inputs(&mut self, node: Node, inputs: &[Node])
+        requires there { node.0 < length self.old }
+        requires count { (item : AExpr) → slice_get self.old node.0 ≡ Some item → length inputs.now ≡ length (inputs_of (expression_layer item)) }
+        ensures { Rewired self.old self.new node.0 (numbers inputs.now) }
+    {
+        self.items[node.0].set_inputs(inputs);
     }
 }

@@ -1,67 +1,49 @@
 -- What the visit of a node leaves.
-use Rattle.std.proofs.Common.{◌≡◌, ◌≢◌, ℕ, ◌<◌, ◌≤◌, true, false, cond, List, [], ◌∷◌, ◌++◌, length, set, ◌&&◌, Option, Some, None, Result, Ok, Err, refl, sym, ap, ◌∙◌, subst, arith, map}
+use Rattle.std.proofs.Common.{◌≡◌, ◌≢◌, ℕ, ◌<◌, ◌≤◌, true, false, cond, List, [], ◌∷◌, ◌++◌, length, set, Some, Ok, refl, sym, ap, ◌∙◌, subst, arith, map, zero, suc, ◌+◌, take, get_or, slice_get}
 use Rattle.std.specs.Prelude.{ℤ}
-use Rattle.std.specs.Option.{option_map}
-use Rattle.std.proofs.lemmas.Bool.{false≢true, and_from}
+use Rattle.std.proofs.lemmas.Bool.{false≢true, and_parts}
 use Rattle.plan_types.specs.Types.{Ty, Untyped, ty, is_integer, is_known, same_type}
 use Rattle.plan_types.specs.Schemas.{Columns}
 use Rattle.plan_types.specs.Values.{Val, IntValue, in_range}
 use Rattle.plan_types.specs.Casts.{can_cast}
-use Rattle.plan_types.specs.CommonTypes.{type_alone}
-use Rattle.plan_types.specs.Errors.{no_memory, IsRefusal, no_room, broken}
-use Rattle.plan_types.specs.declared.error.PlanError.{PlanError}
-use Rattle.plan_types.specs.declared.error.ErrorKind.{ErrorKind}
-use Rattle.plan_types.specs.declared.error.ErrorKind.TheVariants.{InvalidOperation}
 use Rattle.plan_types.specs.declared.dtype.DataType.{DataType}
-use Rattle.plan_types.specs.declared.dtype.CastOptions.{CastOptions}
 use Rattle.plan_types.specs.declared.dtype.CastOptions.TheVariants.{NonStrict}
-use Rattle.plan_types.proofs.CommonLemmas.{alone_itself, alone_known, literal_has}
 use Rattle.plan_dsl.specs.declared.literal.LiteralValue.{LiteralValue}
-use Rattle.plan_dsl.specs.declared.operator.Operator.{Operator}
 use Rattle.plan_dsl.specs.Registry.{Registry}
 use Rattle.plan_dsl.specs.Trees.{Trees, node, no_more, more, tree_depth, trees_depth}
-use Rattle.plan_dsl.specs.Ops.{Op, LiteralOp, BinaryOp, CastOp, Expression}
-use Rattle.plan_dsl.specs.Literals.{literal_op, literal_type, literal_value}
-use Rattle.plan_dsl.specs.Typing.{Typed, Ruling, rule, ruled_as, some_many, typing, typing_all, types_of, typed_before, cast_taken}
-use Rattle.plan_dsl.specs.OperatorTypes.{Taken, operator_types}
-use Rattle.plan_dsl.specs.Strictness.{CanBecome, IsSame, IsStrictOver, changed, as_operand, as_operands}
-use Rattle.plan_dsl.proofs.SameLemmas.{same_itself}
-use Rattle.plan_dsl.proofs.TypingLemmas.{ok_same, ok_where, ruled_is, ruling_of, typed_parts}
-use Rattle.plan_dsl.proofs.OpLemmas.{AllBecome, keeps_rule, target_known}
-use Rattle.plan_dsl.proofs.OperatorLemmas.{pair_known}
-use Rattle.plan_dsl.proofs.StrictLemmas.{strict_from}
+use Rattle.plan_dsl.specs.Ops.{Op, LiteralOp, CastOp, Expression}
+use Rattle.plan_dsl.specs.Literals.{is_literal, literal_op, literal_type, literal_value}
+use Rattle.plan_dsl.proofs.LiteralLemmas.{becomes_literal}
+use Rattle.plan_dsl.specs.Typing.{Typed, typing, typing_all, types_of, Ruling, rule}
+use Rattle.plan_dsl.specs.Strictness.{CanBecome, IsSame, changed, as_operand, as_operands, IsStrictOver}
+use Rattle.plan_dsl.proofs.TypingLemmas.{ok_same, typed_parts, by_children, by_no_children}
 use Rattle.plan_dsl.proofs.CastLemmas.{if_true, if_false}
 use Rattle.plan_dsl.proofs.OperandLemmas.{operands_same, operands_strict}
 use Rattle.plan_arena.specs.declared.arena.Node.{Node}
 use Rattle.plan_arena.specs.declared.aexpr.AExpr.{AExpr}
-use Rattle.plan_arena.specs.declared.aexpr.AExpr.TheVariants.{Literal, BinaryExpr, Cast}
+use Rattle.plan_arena.specs.declared.aexpr.AExpr.TheVariants.{Literal, Cast}
 use Rattle.plan_arena.specs.Denotation.{Denotes, DenoteAll}
-use Rattle.plan_arena.specs.Layers.{layer, shape_of}
-use Rattle.plan_arena.specs.Items.{HoldsExpression, HoldsFrom, Grows, expression_layer}
-use Rattle.plan_arena.proofs.DenotationLemmas.{kept_below, all_kept_below}
-use Rattle.plan_arena.proofs.ItemLemmas.{tree_grown, added_denotes, length-grown, grows_then, any_node, from_laws, from_top, one_child, no_children, expression_elsewhere, expression_written, grown_held, within}
-use Rattle.plan_coerce.specs.declared.type_coercion.Change.{Change}
-use Rattle.plan_coerce.specs.declared.type_coercion.Change.TheVariants.{Keep, CastTo, Become}
-use Rattle.plan_infer.specs.Typed.{DenotesTyped}
-use Rattle.plan_coerce.specs.Coercion.{Visits, IsChangeFor, changed_by, is_kept, ChangesOperands}
-use Rattle.plan_infer.specs.declared.type_table.TypeTable.{TypeTable}
+use Rattle.plan_arena.specs.Layers.{layer, shape_of, op_of, inputs_of}
+use Rattle.plan_arena.specs.Items.{HoldsExpression, HoldsFrom, Grows, expression_layer, Rewired, numbers}
+use Rattle.plan_arena.proofs.DenotationLemmas.{kept_below, all_kept_below, some_same}
+use Rattle.plan_arena.proofs.ItemLemmas.{tree_grown, added_denotes, length-grown, any_node, from_laws, from_top, expression_elsewhere, expression_written, grown_held, within, expression_got}
 use Rattle.plan_infer.specs.Typed.{HasKnownType}
+use Rattle.plan_coerce.specs.Coercion.{Visits, Operand, IsChanged, AreChanged, IsReady, AllReady, DenotesSame}
+use Rattle.plan_infer.specs.declared.type_table.TypeTable.{TypeTable}
 use Rattle.plan_types.proofs.CastLemmas.{source_known}
-use Rattle.plan_infer.proofs.TypingLemmas.{AllHaveType, AllRefused}
-use Rattle.plan_infer.proofs.TypingLemmas.{one_typed}
+use Rattle.plan_types.proofs.ListLemmas.{mapped_more}
+use Rattle.std.proofs.lemmas.List.{map-append, length-map}
+use Rattle.std.proofs.lemmas.Option.{slice_get-get_or, get_or_from_slice_get}
+use Rattle.std.proofs.Math.Seq.{take-length}
+use Rattle.std.specs.List.{AllByRecursion}
+use Rattle.plan_infer.specs.KeptTypes.{Keeps, IsKept, Extends, AllKept, IsRight, IsTypedItem, TakesTo}
+use Rattle.plan_arena.proofs.NumberLemmas.{all_joined, all_weaker}
+use Rattle.plan_infer.proofs.TableLemmas.{keeps_one, kept_type, layer_held}
+use Rattle.plan_dsl.proofs.OpLemmas.{AllBecome, keeps_rule}
 
 -- what an arena holds it holds when it has grown and another item was written
 pub written_elsewhere : (old new : List AExpr) (at : ℕ) (item : AExpr) → Grows old new → (n : ℕ) (op : Op) (inputs : List ℕ) → n ≢ at → HoldsExpression old n op inputs → HoldsExpression (set new at item) n op inputs
 written_elsewhere old new at item g n op inputs other h = expression_elsewhere new at item n op inputs other (grown_held old new g n op inputs h)
-
-refused_as : (r : Result Typed ErrorKind) (typed : Typed) (error : PlanError) → r ≡ Ok typed → IsRefusal r error → error ≡ no_memory
-refused_as r typed error is (no_room e) = e
-refused_as r typed error is (broken kind e b) = cc
-
--- a typed expression is refused for want of memory alone
-pub refused_typed : (items : List AExpr) (registry : Registry) (schema : Columns) (n : ℕ) (error : PlanError) → DenotesTyped registry schema 0 items n → AllRefused items registry schema n error → error ≡ no_memory
-refused_typed items registry schema n error d refused =
-    refused_as _ d.typed error d.is (refused d.tree (any_node 0 items n d.tree d.denotes))
 
 -- a cast that was added round a tree
 pub cast_denotes : (first : ℕ) (old new : List AExpr) (input cast : Node) (target : DataType) (t : Expression) → first ≤ length old → new ≡ old ++ Cast input target NonStrict ∷ [] → cast.0 ≡ length old → Denotes (HoldsFrom first old) input.0 t → Denotes (HoldsFrom first new) cast.0 (node (CastOp (ty target) NonStrict) (more t no_more))
@@ -74,29 +56,6 @@ pub literal_denotes : (first : ℕ) (old new : List AExpr) (n : Node) (value : L
 literal_denotes first old new n value le grown at =
     added_denotes first old new (Literal value) n.0 (literal_op value) [] no_more le grown at refl tt
 
-number_is : (a b : ℤ) → Untyped a ≡ Untyped b → a ≡ b
-number_is a b e = cc
-
-change_literal : (target : Ty) (value : LiteralValue) (number : ℤ) (from : Ty) (t : Expression) → from ≡ Untyped number → literal_op value ≡ LiteralOp target (IntValue number) → node (literal_op value) no_more ≡ changed from target t
-change_literal target value number from t e is = ap (λ op. node op no_more) is ∙ sym (ap (λ f. changed f target t) e)
-
-change_cast : (from target : Ty) (dtype : DataType) (t : Expression) → is_known from ≡ true → ty dtype ≡ target → node (CastOp (ty dtype) NonStrict) (more t no_more) ≡ changed from target t
-change_cast (Untyped number) target dtype t known is = cc
-change_cast _ target dtype t known is = ap (λ u. node (CastOp u NonStrict) (more t no_more)) is
-
--- what an operand needs makes it one of its type
-change_is : (from target : Ty) (change : Change) (t : Expression) → IsChangeFor from target change → changed_by change t ≡ as_operand from target t
-change_is from target Keep t is = sym (if_true (same_type from target) t _ is)
-change_is from target (CastTo dtype) t is =
-    change_cast from target dtype t is.1 is.2 ∙ sym (if_false (same_type from target) t _ is.0)
-change_is from target (Become value dtype) t is =
-    change_literal target value is.1 from t is.2 is.3 ∙ sym (if_false (same_type from target) t _ is.0)
-
-is_changed : (from target : Ty) (change : Change) → IsChangeFor from target change → same_type from target ≡ false → is_kept change ≡ false
-is_changed from target Keep is other = absurd (false≢true (sym other ∙ is))
-is_changed from target (CastTo dtype) is other = refl
-is_changed from target (Become value dtype) is other = refl
-
 op_type : (a b : Ty) (v w : Val) → LiteralOp a v ≡ LiteralOp b w → a ≡ b
 op_type a b v w e = cc
 
@@ -104,26 +63,16 @@ op_value : (a b : Ty) (v w : Val) → LiteralOp a v ≡ LiteralOp b w → v ≡ 
 op_value a b v w e = cc
 
 -- the type of such a literal
-pub value_type : (target : Ty) (number : ℤ) (value : LiteralValue) → literal_op value ≡ LiteralOp target (IntValue number) → literal_type value ≡ target
+value_type : (target : Ty) (number : ℤ) (value : LiteralValue) → literal_op value ≡ LiteralOp target (IntValue number) → literal_type value ≡ target
 value_type target number value is = op_type (literal_type value) target (literal_value value) (IntValue number) is
 
 bare_kept : (first : ℕ) (items items' : List AExpr) (ns : List ℕ) → DenoteAll (HoldsFrom first items) ns no_more → DenoteAll (HoldsFrom first items') ns no_more
 bare_kept first items items' [] d = tt
 bare_kept first items items' (n ∷ ns) d = absurd d
 
--- a number that has a type alone can become one of it
-pub number_becomes : (number : ℤ) (own : Ty) → type_alone (Untyped number) ≡ Some own → CanBecome (Untyped number) own
-number_becomes number own h =
-    let has = literal_has number own h in
-    record {
-      known = alone_known (Untyped number) own h;
-      casts = λ apart. absurd (apart number refl);
-      has = λ other e. subst (λ n. (is_integer own && in_range own n) ≡ true) (number_is number other e) (and_from (is_integer own) (in_range own number) has.2 has.0);
-    }
-
-pub found_alone : (found : Option DataType) (alone : Option Ty) (own : Ty) → option_map ty found ≡ alone → alone ≡ Some own → found ≡ None → ⊥
-found_alone None alone own e is none = cc
-found_alone (Some dtype) alone own e is none = cc
+change_cast : (from target : Ty) (t : Expression) → is_known from ≡ true → node (CastOp target NonStrict) (more t no_more) ≡ changed from target t
+change_cast (Untyped number) target t known = cc
+change_cast _ target t known = refl
 
 -- an operand that is no number without a type is made one of the other by a cast
 pub becomes_cast : (from target : Ty) → CanBecome from target → ((number : ℤ) → from ≢ Untyped number) → (is_known from ≡ true) × (can_cast from target ≡ true)
@@ -153,192 +102,239 @@ module _ (first : ℕ) (items : List AExpr) (at : ℕ) (item : AExpr) (t : Expre
       let holds' = HoldsFrom first (set items at item) in
       elim (same_type from target) as (λ b. same_type from target ≡ b → Denotes holds m (cond b x (changed from target x)) → Denotes holds' m (cond b x (changed from target x))) [ true ↦ λ e dx. small_kept m x lt dx | false ↦ λ e dx. changed_kept from m target x lt (other e) dx ] refl dm
 
--- the nodes stand for the operands, made of the types to which they are taken
-abbrev pub TakenTo : List AExpr → List AExpr → ℕ → ℕ → Ty → Ty → Type 0
-TakenTo old new n m from target = (first : ℕ) (t : Expression) → first ≤ length old → Denotes (HoldsFrom first old) n t → Denotes (HoldsFrom first new) m (as_operand from target t)
-
-abbrev pub AllTaken : List AExpr → List AExpr → List ℕ → List ℕ → List Ty → List Ty → Type 0
-AllTaken old new [] [] [] [] = Unit {0}
-AllTaken old new (n ∷ ns) (m ∷ ms) (from ∷ types) (target ∷ targets) =
-    TakenTo old new n m from target × (same_type from target ≡ false → length old ≤ m) × AllTaken old new ns ms types targets
-AllTaken old new [] (m ∷ ms) types targets = ⊥
-AllTaken old new [] [] (from ∷ types) targets = ⊥
-AllTaken old new [] [] [] (target ∷ targets) = ⊥
-AllTaken old new (n ∷ ns) [] types targets = ⊥
-AllTaken old new (n ∷ ns) (m ∷ ms) [] targets = ⊥
-AllTaken old new (n ∷ ns) (m ∷ ms) (from ∷ types) [] = ⊥
-
--- what one change leaves
-pub taken_to : (old new : List AExpr) (n m : ℕ) (from target : Ty) (change : Change) → IsChangeFor from target change → ((first : ℕ) (t : Expression) → first ≤ length old → Denotes (HoldsFrom first old) n t → Denotes (HoldsFrom first new) m (changed_by change t)) → TakenTo old new n m from target
-taken_to old new n m from target change is denotes first t le d =
-    subst (Denotes (HoldsFrom first new) m) (change_is from target change t is) (denotes first t le d)
-
-pub fresh_where : (old : List AExpr) (m : ℕ) (from target : Ty) (change : Change) → IsChangeFor from target change → (is_kept change ≡ false → length old ≤ m) → same_type from target ≡ false → length old ≤ m
-fresh_where old m from target change is fresh other = fresh (is_changed from target change is other)
-
--- and what is added later keeps
-pub taken_grown : (old mid new : List AExpr) (n m : ℕ) (from target : Ty) → Grows mid new → TakenTo old mid n m from target → TakenTo old new n m from target
-taken_grown old mid new n m from target g taken first t le d = tree_grown first first mid new (omega arith) g m _ (taken first t le d)
-
-pub taken_later : (old mid new : List AExpr) (n m : ℕ) (from target : Ty) → Grows old mid → TakenTo mid new n m from target → TakenTo old new n m from target
-taken_later old mid new n m from target g taken first t le d =
-    let longer = length-grown old mid g in
-    taken first t (omega arith) (tree_grown first first old mid (omega arith) g n t d)
-
--- the inputs have these types
-abbrev pub AllHaveTypes : List AExpr → Registry → Columns → List ℕ → List Ty → Type 0
-AllHaveTypes items registry schema [] [] = Unit {0}
-AllHaveTypes items registry schema (n ∷ ns) (type ∷ types) = AllHaveType items registry schema n type × AllHaveTypes items registry schema ns types
-AllHaveTypes items registry schema [] (type ∷ types) = ⊥
-AllHaveTypes items registry schema (n ∷ ns) [] = ⊥
-
-record ChildrenTyped (registry : Registry) (schema : Columns) (ts : Trees Op) (types : List Ty) : Type 0 where
-  typed : List Typed
-  is : typing_all registry schema ts ≡ Ok typed
-  types_are : types_of typed ≡ types
-
-children_types : (registry : Registry) (schema : Columns) (first : ℕ) (items : List AExpr) (ns : List ℕ) (ts : Trees Op) (types : List Ty) → DenoteAll (HoldsFrom first items) ns ts → AllHaveTypes items registry schema ns types → ChildrenTyped registry schema ts types
-children_types registry schema first items [] no_more [] d h = record { typed = []; is = refl; types_are = refl }
-children_types registry schema first items (n ∷ ns) (more t ts) (type ∷ types) d h =
-    let has = h.0 t (any_node first items n t d.0) in
-    let rest = children_types registry schema first items ns ts types d.1 h.1 in
-    record {
-      typed = record { type = type; many = has.many } ∷ rest.typed;
-      is = ap (λ r. typed_before r (typing_all registry schema ts)) has.is ∙ ap (typed_before (Ok (record { type = type; many = has.many }))) rest.is;
-      types_are = ap (λ l. type ∷ l) rest.types_are;
-    }
-children_types registry schema first items [] (more t ts) types d h = absurd d
-children_types registry schema first items (n ∷ ns) no_more types d h = absurd d
-children_types registry schema first items [] no_more (type ∷ types) d h = absurd h
-children_types registry schema first items (n ∷ ns) (more t ts) [] d h = absurd h
-
--- a node takes operands that are typed so to these types, and its own type is one of columns
-pub record TakesTo (registry : Registry) (schema : Columns) (op : Op) (typed : List Typed) (targets : List Ty) : Type 0 where
-  pub ruling : Ruling
-  pub rules : rule registry schema op typed ≡ Ok ruling
-  pub targets_are : ruling.operands ≡ targets
-  pub known : is_known ruling.own.type ≡ true
-
-binary_takes : (registry : Registry) (schema : Columns) (operator : Operator) (left right : Ty) (taken : Taken) → operator_types operator (left ∷ right ∷ []) ≡ Ok taken → (typed : List Typed) → types_of typed ≡ left ∷ right ∷ [] → TakesTo registry schema (BinaryOp operator) typed taken.operands
-binary_takes registry schema operator left right taken takes typed same = record {
-  ruling = ruling_of taken (some_many typed);
-  rules = ap (λ types. ruled_as (operator_types operator types) (some_many typed)) same ∙ ap (λ found. ruled_as found (some_many typed)) takes;
-  targets_are = refl;
-  known = pair_known operator left right taken takes;
+-- an operand that has its type stays
+pub stays_as : (old : List AExpr) (table : TypeTable) (n : ℕ) (from : DataType) (target : Ty) → Keeps table n from → same_type (ty from) target ≡ true → IsChanged old old table (record { input = n; changed = n; from = ty from; target = target })
+stays_as old table n from target k same = record {
+  keeps = record { dtype = from; keeps = k; is = refl };
+  denotes = λ first t le d. subst (Denotes (HoldsFrom first old) n) (sym (if_true (same_type (ty from) target) t _ same)) d;
+  stays = λ e. refl;
+  fresh = λ e. absurd (false≢true (sym e ∙ same));
 }
 
-head_is : (x y : Ty) → (x ∷ []) ≡ (y ∷ []) → x ≡ y
-head_is x y e = cc
-
-cast_takes : (registry : Registry) (schema : Columns) (target : Ty) (options : CastOptions) (from own : Ty) → type_alone from ≡ Some own → can_cast own target ≡ true → (typed : List Typed) → types_of typed ≡ from ∷ [] → TakesTo registry schema (CastOp target options) typed (own ∷ [])
-cast_takes registry schema target options from own alone casts (t ∷ []) same = record {
-  ruling = record { operands = own ∷ []; own = record { type = target; many = t.many } };
-  rules = ap (λ f. ruled_as (cast_taken target f) t.many) (ap type_alone (head_is t.type from same) ∙ alone) ∙ ap (λ b. ruled_as (cond b (Ok (record { operands = own ∷ []; type = target })) (Err InvalidOperation)) t.many) casts;
-  targets_are = refl;
-  known = target_known own target casts;
+-- a cast round an operand of another type
+pub cast_round : (old new : List AExpr) (table : TypeTable) (n m : ℕ) (from : DataType) (target : Ty) → Keeps table n from → same_type (ty from) target ≡ false → is_known (ty from) ≡ true → m ≡ length old → ((first : ℕ) (t : Expression) → first ≤ length old → Denotes (HoldsFrom first old) n t → Denotes (HoldsFrom first new) m (node (CastOp target NonStrict) (more t no_more))) → IsChanged old new table (record { input = n; changed = m; from = ty from; target = target })
+cast_round old new table n m from target k other known at denotes = record {
+  keeps = record { dtype = from; keeps = k; is = refl };
+  denotes = λ first t le d. subst (Denotes (HoldsFrom first new) m) (change_cast (ty from) target t known ∙ sym (if_false (same_type (ty from) target) t _ other)) (denotes first t le d);
+  stays = λ e. absurd (false≢true (sym other ∙ e));
+  fresh = λ e. omega (arith, at);
 }
-cast_takes registry schema target options from own alone casts [] same = cc
-cast_takes registry schema target options from own alone casts (t ∷ u ∷ ts) same = cc
 
--- the visit of a node whose operands were made of the types to which it takes them
-module _ (registry : Registry) (schema : Columns) (old new : List AExpr) (at : ℕ) (op : Op) (item : AExpr) (types targets : List Ty) (takes : (typed : List Typed) → types_of typed ≡ types → TakesTo registry schema op typed targets) (g : Grows old new) where
-  operands_kept : (first : ℕ) (t : Expression) → first ≤ length old → at < length old → Denotes (HoldsFrom first new) at t → (ns ms : List ℕ) (froms targets : List Ty) (ts : Trees Op) → trees_depth ts < tree_depth t → DenoteAll (HoldsFrom first old) ns ts → AllTaken old new ns ms froms targets → DenoteAll (HoldsFrom first (set new at item)) ms (as_operands froms targets ts)
-  operands_kept first t le here d [] [] [] [] no_more lt dts all = tt
-  operands_kept first t le here d (n ∷ ns) (m ∷ ms) (from ∷ froms) (target ∷ targets) (more x ts) lt dts all = (
-    operand_kept first new at item t d m from target x (omega arith) (λ e s. absurd (omega (arith, all.1 e, s, here))) (all.0 first x le dts.0),
-    operands_kept first t le here d ns ms froms targets ts (omega arith) dts.1 all.2,
-  )
-  operands_kept first t le here d [] ms froms targets (more x ts) lt dts all = absurd dts
-  operands_kept first t le here d (n ∷ ns) ms froms targets no_more lt dts all = absurd dts
-  operands_kept first t le here d [] (m ∷ ms) froms targets no_more lt dts all = absurd all
-  operands_kept first t le here d [] [] (from ∷ froms) targets no_more lt dts all = absurd all
-  operands_kept first t le here d [] [] [] (target ∷ targets) no_more lt dts all = absurd all
-  operands_kept first t le here d (n ∷ ns) [] froms targets (more x ts) lt dts all = absurd all
-  operands_kept first t le here d (n ∷ ns) (m ∷ ms) [] targets (more x ts) lt dts all = absurd all
-  operands_kept first t le here d (n ∷ ns) (m ∷ ms) (from ∷ froms) [] (more x ts) lt dts all = absurd all
+literal_in_place : (target : Ty) (value : LiteralValue) (number : ℤ) (from : Ty) (t : Expression) → from ≡ Untyped number → literal_op value ≡ LiteralOp target (IntValue number) → node (literal_op value) no_more ≡ changed from target t
+literal_in_place target value number from t e is = ap (λ op. node op no_more) is ∙ sym (ap (λ f. changed f target t) e)
 
-  pub visits_operands : (ns ms : List ℕ) → expression_layer item ≡ layer op ms → HoldsExpression old at op ns → AllHaveTypes old registry schema ns types → AllTaken old new ns ms types targets → (first : ℕ) (t : Expression) → first ≤ length old → Denotes (HoldsFrom first old) at t → Visits registry schema first (set new at item) at t
-  visits_operands ns ms is held have all first t le dt =
-      let longer = length-grown old new g in
-      let top = from_top first old at op ns held t dt in
-      let here = within old at t (any_node first old at t dt) in
-      let there : at < length new = omega arith in
-      let depth = ap tree_depth top.1 in
-      let below = children_types registry schema first old ns top.0 types top.2 have in
-      let takes' = takes below.typed below.types_are in
-      let later = tree_grown first first old new (omega arith) g at t dt in
-      let kept = operands_kept first t le here later ns ms types targets top.0 (omega arith) top.2 all in
+-- a literal in place of a number without a type
+pub literal_for : (old new : List AExpr) (table : TypeTable) (n m : ℕ) (from : DataType) (target : Ty) (value : LiteralValue) (number : ℤ) → Keeps table n from → same_type (ty from) target ≡ false → ty from ≡ Untyped number → literal_op value ≡ LiteralOp target (IntValue number) → m ≡ length old → ((first : ℕ) → first ≤ length old → Denotes (HoldsFrom first new) m (node (literal_op value) no_more)) → IsChanged old new table (record { input = n; changed = m; from = ty from; target = target })
+literal_for old new table n m from target value number k other untyped is at denotes = record {
+  keeps = record { dtype = from; keeps = k; is = refl };
+  denotes = λ first t le d. subst (Denotes (HoldsFrom first new) m) (literal_in_place target value number (ty from) t untyped is ∙ sym (if_false (same_type (ty from) target) t _ other)) (denotes first le);
+  stays = λ e. absurd (false≢true (sym other ∙ e));
+  fresh = λ e. omega (arith, at);
+}
+
+-- such a literal has its value
+pub literal_is : (target : Ty) (value : LiteralValue) (number : ℤ) (from : Ty) → from ≡ Untyped number → CanBecome from target → literal_op value ≡ LiteralOp target (IntValue number) → (target ≡ literal_type value) × (is_literal (literal_type value) (literal_value value) ≡ true)
+literal_is target value number from untyped can is =
+    let type = value_type target number value is in
+    let has = and_parts (is_integer target) (in_range target number) (can.has number untyped) in
+    (sym type, ap (λ t. is_literal t (literal_value value)) type ∙ ap (is_literal target) (op_value (literal_type value) target (literal_value value) (IntValue number) is) ∙ becomes_literal target number can.known has.1)
+
+-- whatever type is kept for it
+pub changed_from : (old new : List AExpr) (table : TypeTable) (n m : ℕ) (from other : DataType) (target : Ty) → Keeps table n from → Keeps table n other → IsChanged old new table (record { input = n; changed = m; from = ty from; target = target }) → IsChanged old new table (record { input = n; changed = m; from = ty other; target = target })
+changed_from old new table n m from other target k l is =
+    subst (λ (d : DataType). IsChanged old new table (record { input = n; changed = m; from = ty d; target = target })) (keeps_one table n from other k l) is
+
+pub becomes_of : (table : TypeTable) (n : ℕ) (from : DataType) (target : Ty) → Keeps table n from → IsReady table n target → CanBecome (ty from) target
+becomes_of table n from target k ready = subst (λ (d : DataType). CanBecome (ty d) target) (keeps_one table n ready.dtype from ready.keeps k) ready.becomes
+
+-- ---- operands one by one
+
+-- an item that is there, whatever stands in where there is none
+pub same_place : {A : Type 0} (xs : List A) (i : ℕ) (x d : A) → i < length xs → x ≡ get_or xs i d → x ≡ get_or xs i x
+same_place xs i x d within is = is ∙ sym (get_or_from_slice_get xs i (get_or xs i d) x (slice_get-get_or xs i d within))
+
+-- operands that can become of their types are ready for them
+pub all_ready : (table : TypeTable) (ns : List ℕ) (types targets : List Ty) → AllKept table ns types → AllBecome types targets → AllReady table ns targets
+all_ready table [] [] [] k b = tt
+all_ready table (n ∷ ns) (type ∷ types) (target ∷ targets) k b =
+    (record { dtype = k.0.dtype; keeps = k.0.keeps; becomes = subst (λ t. CanBecome t target) (sym k.0.is) b.0 }, all_ready table ns types targets k.1 b.1)
+all_ready table [] [] (target ∷ targets) k b = absurd b
+all_ready table [] (type ∷ types) targets k b = absurd k
+all_ready table (n ∷ ns) [] targets k b = absurd k
+all_ready table (n ∷ ns) (type ∷ types) [] k b = absurd b
+
+-- so is what an item takes
+pub takes_ready : (table : TypeTable) (item : AExpr) (targets : List Ty) → (e : IsTypedItem table item) → TakesTo e.registry e.schema table item targets → AllReady table (inputs_of (expression_layer item)) targets
+takes_ready table item targets e takes =
+    let op = op_of (expression_layer item) in
+    let same = takes e.typed e.ruling e.kept e.rules in
+    let becomes = (keeps_rule e.registry e.schema op e.typed e.ruling e.rules).becomes in
+    subst (AllReady table (inputs_of (expression_layer item))) same (all_ready table (inputs_of (expression_layer item)) (types_of e.typed) e.ruling.operands e.kept becomes)
+
+pub ready_length : (table : TypeTable) (ns : List Node) (ts : List DataType) → AllReady table (numbers ns) (map ty ts) → length ns ≡ length ts
+ready_length table [] [] all = refl
+ready_length table (n ∷ ns) (t ∷ ts) all = ap suc (ready_length table ns ts all.1)
+ready_length table [] (t ∷ ts) all = absurd all
+ready_length table (n ∷ ns) [] all = absurd all
+
+pub ready_within : (table : TypeTable) (ns : List Node) (ts : List DataType) (i : ℕ) → AllReady table (numbers ns) (map ty ts) → i < length ns → i < length ts
+ready_within table ns ts i all lt = omega (arith, lt, ready_length table ns ts all)
+
+pub ready_there : (table : TypeTable) (ns : List Node) (ts : List DataType) (i : ℕ) (n : Node) (t : DataType) → AllReady table (numbers ns) (map ty ts) → i < length ns → IsReady table (get_or ns i n).0 (ty (get_or ts i t))
+ready_there table [] ts i n t all lt = absurd (omega (arith, lt))
+ready_there table (m ∷ ns) (u ∷ ts) zero n t all lt = all.0
+ready_there table (m ∷ ns) (u ∷ ts) (suc i) n t all lt = ready_there table ns ts i n t all.1 (omega (arith, lt))
+ready_there table (m ∷ ns) [] i n t all lt = absurd all
+
+-- one operand can be made of its type
+pub ready_at : (old new : TypeTable) (ns : List Node) (ts : List DataType) (i : ℕ) (n : Node) (t : DataType) → AllReady old (numbers ns) (map ty ts) → i < length ns → n ≡ get_or ns i n → t ≡ get_or ts i t → ((m : ℕ) (dtype : DataType) → Keeps old m dtype → Keeps new m dtype) → IsReady new n.0 (ty t)
+ready_at old new ns ts i n t all lt is_n is_t same =
+    let here = ready_there old ns ts i n t all lt in
+    let one = subst (λ (m : Node). IsReady old m.0 (ty (get_or ts i t))) (sym is_n) here in
+    let two = subst (λ (u : DataType). IsReady old n.0 (ty u)) (sym is_t) one in
+    record { dtype = two.dtype; keeps = same n.0 two.dtype two.keeps; becomes = two.becomes }
+
+grown_changed : (old mid new : List AExpr) (table : TypeTable) (os : List Operand) → Grows mid new → AllByRecursion (IsChanged old mid table) os → AllByRecursion (IsChanged old new table) os
+grown_changed old mid new table [] g all = tt
+grown_changed old mid new table (o ∷ os) g all = (
+  record {
+    keeps = all.0.keeps;
+    denotes = λ first t le d. tree_grown first first mid new (omega arith) g o.changed _ (all.0.denotes first t le d);
+    stays = all.0.stays;
+    fresh = all.0.fresh;
+  },
+  grown_changed old mid new table os g all.1,
+)
+
+-- none yet, and one more
+pub none_changed : (items : List AExpr) (table : TypeTable) → AreChanged items items table [] [] []
+none_changed items table = record { operands = []; inputs_are = refl; changed_are = refl; targets_are = refl; each = tt }
+
+all_more : {A : Type 0} (P : A → Type 0) (xs : List A) (x : A) → AllByRecursion P xs → P x → AllByRecursion P (xs ++ x ∷ [])
+all_more P [] x all p = (p, tt)
+all_more P (y ∷ xs) x all p = (all.0, all_more P xs x all.1 p)
+
+module _ (old mid new : List AExpr) (table table' : TypeTable) (inputs done grown : List Node) (targets : List DataType) (i : ℕ) (n m : Node) (target : DataType) where
+  pub changed_more : AreChanged old mid table (numbers (take i inputs)) (numbers done) (map ty (take i targets)) → i < length inputs → i < length targets → n ≡ get_or inputs i n → target ≡ get_or targets i target → grown ≡ done ++ m ∷ [] → Grows old mid → Grows mid new → (from : DataType) → Keeps table n.0 from → IsChanged mid new table' (record { input = n.0; changed = m.0; from = ty from; target = ty target }) → AreChanged old new table (numbers (take (i + 1) inputs)) (numbers grown) (map ty (take (i + 1) targets))
+  changed_more before within also is_n is_t longer g h from keeps one =
+      let o : Operand = record { input = n.0; changed = m.0; from = ty from; target = ty target } in
+      let here : IsChanged old new table o = record {
+        keeps = record { dtype = from; keeps = keeps; is = refl };
+        denotes = λ first t le d. one.denotes first t (omega (arith, le, length-grown old mid g)) (tree_grown first first old mid (omega arith) g n.0 t d);
+        stays = one.stays;
+        fresh = λ e. omega (arith, one.fresh e, length-grown old mid g);
+      } in
       record {
-        op = op;
-        inputs = ms;
-        children = as_operands (types_of below.typed) takes'.ruling.operands top.0;
-        held = (top.3, expression_written new at item there ∙ ap Some is);
-        denotes = subst (λ found. DenoteAll (HoldsFrom first (set new at item)) ms (as_operands (types_of below.typed) found top.0)) (sym takes'.targets_are) (subst (λ froms. DenoteAll (HoldsFrom first (set new at item)) ms (as_operands froms targets top.0)) (sym below.types_are) kept);
-        same = subst (λ u. IsSame registry schema u (node op (as_operands (types_of below.typed) takes'.ruling.operands top.0))) (sym top.1) (operands_same registry schema op top.0 below.typed below.is takes'.ruling takes'.rules);
-        strict = operands_strict registry schema op top.0 below.typed below.is takes'.ruling takes'.rules takes'.known;
+        operands = before.operands ++ o ∷ [];
+        inputs_are = mapped_more (λ (o : Operand). o.input) (λ (n : Node). n.0) before.operands _ o inputs i n within before.inputs_are refl refl is_n;
+        changed_are = map-append (λ (o : Operand). o.changed) before.operands (o ∷ []) ∙ ap (λ l. l ++ m.0 ∷ []) before.changed_are ∙ sym (map-append (λ (n : Node). n.0) done (m ∷ [])) ∙ ap numbers (sym longer);
+        targets_are = mapped_more (λ (o : Operand). o.target) ty before.operands _ o targets i target also before.targets_are refl refl is_t;
+        each = all_more (IsChanged old new table) before.operands o (grown_changed old mid new table before.operands h before.each) here;
       }
 
--- the visit of an operator
-pub visits_binary : (registry : Registry) (schema : Columns) (old mid new : List AExpr) (at l r : ℕ) (left right : Node) (operator : Operator) (table : TypeTable) (left_change right_change : Change) → HoldsExpression old at (BinaryOp operator) (l ∷ r ∷ []) → ChangesOperands registry schema old table l operator r left_change right_change → Grows old mid → Grows mid new → ((first : ℕ) (t : Expression) → first ≤ length old → Denotes (HoldsFrom first old) l t → Denotes (HoldsFrom first mid) left.0 (changed_by left_change t)) → (is_kept left_change ≡ false → length old ≤ left.0) → ((first : ℕ) (t : Expression) → first ≤ length mid → Denotes (HoldsFrom first mid) r t → Denotes (HoldsFrom first new) right.0 (changed_by right_change t)) → (is_kept right_change ≡ false → length mid ≤ right.0) → (first : ℕ) (t : Expression) → first ≤ length old → Denotes (HoldsFrom first old) at t → Visits registry schema first (set new at (BinaryExpr left operator right)) at t
-visits_binary registry schema old mid new at l r left right operator table left_change right_change held c g1 g2 left_denotes left_fresh right_denotes right_fresh =
-    let taken : Taken = record { operands = c.left_to ∷ c.right_to ∷ []; type = c.result } in
-    let longer = length-grown old mid g1 in
-    let left_taken = taken_grown old mid new l left.0 (ty c.left_kept) c.left_to g2 (taken_to old mid l left.0 (ty c.left_kept) c.left_to left_change c.left_changes left_denotes) in
-    let right_taken = taken_later old mid new r right.0 (ty c.right_kept) c.right_to g1 (taken_to mid new r right.0 (ty c.right_kept) c.right_to right_change c.right_changes right_denotes) in
-    let fresh_l = fresh_where old left.0 (ty c.left_kept) c.left_to left_change c.left_changes left_fresh in
-    let fresh_r = fresh_where mid right.0 (ty c.right_kept) c.right_to right_change c.right_changes right_fresh in
-    visits_operands registry schema old new at (BinaryOp operator) (BinaryExpr left operator right) ((ty c.left_kept) ∷ (ty c.right_kept) ∷ []) taken.operands (binary_takes registry schema operator (ty c.left_kept) (ty c.right_kept) taken c.takes) (grows_then old mid new g1 g2) (l ∷ r ∷ []) (left.0 ∷ right.0 ∷ []) refl held (c.left_typed, (c.right_typed, tt)) (left_taken, fresh_l, (right_taken, (λ e. omega (arith, longer, fresh_r e)), tt))
+-- the type of one more is kept
+pub kept_more : (old new : TypeTable) (done grown : List Node) (m : Node) → Extends old new → AllByRecursion (IsKept old) (numbers done) → IsKept new m.0 → grown ≡ done ++ m ∷ [] → AllByRecursion (IsKept new) (numbers grown)
+kept_more old new done grown m extends all k longer =
+    let one = ap numbers longer ∙ map-append (λ (n : Node). n.0) done (m ∷ []) in
+    subst (AllByRecursion (IsKept new)) (sym one) (all_joined (IsKept new) (numbers done) (m.0 ∷ []) (all_weaker (IsKept old) (IsKept new) extends.kept (numbers done) all) (k, tt))
 
--- a node whose operands are none of them changed
-unchanged_visit : (registry : Registry) (schema : Columns) (items : List AExpr) (at : ℕ) (op : Op) (inputs : List ℕ) → HoldsExpression items at op inputs → (first : ℕ) (t : Expression) → first ≤ length items → Denotes (HoldsFrom first items) at t → ((ts : Trees Op) → t ≡ node op ts → DenoteAll (HoldsFrom first items) inputs ts → IsStrictOver registry schema op ts) → Visits registry schema first items at t
-unchanged_visit registry schema items at op inputs held first t le dt unchanged =
-    let top = from_top first items at op inputs held t dt in
-    record {
-      op = op;
-      inputs = inputs;
-      children = top.0;
-      held = (top.3, held);
-      denotes = top.2;
-      same = subst (λ x. IsSame registry schema x (node op top.0)) (sym top.1) (same_itself registry schema (node op top.0));
-      strict = unchanged top.0 top.1 top.2;
-    }
+-- all of them
+pub all_changed : (old new : List AExpr) (table : TypeTable) (inputs outputs : List Node) (targets : List DataType) (i j : ℕ) → i ≡ length inputs → length inputs ≡ length targets → AreChanged old new table (numbers (take i inputs)) (numbers outputs) (map ty (take i targets)) → AreChanged old new table (numbers inputs) (numbers outputs) (map ty targets)
+all_changed old new table inputs outputs targets i j whole same c =
+    let xs = ap (λ k. take k inputs) whole ∙ take-length inputs in
+    let ts = ap (λ k. take k targets) (whole ∙ same) ∙ take-length targets in
+    subst (λ l. AreChanged old new table (numbers inputs) (numbers outputs) (map ty l)) ts (subst (λ l. AreChanged old new table (numbers l) (numbers outputs) (map ty (take i targets))) xs c)
 
--- a node without operands
-no_targets : (targets : List Ty) → AllBecome [] targets → [] ≡ targets
-no_targets [] h = refl
-no_targets (target ∷ targets) h = absurd h
+-- ---- the node over them
 
-leaf_strict : (registry : Registry) (schema : Columns) (op : Op) (ts : Trees Op) → ts ≡ no_more → HasKnownType (typing registry schema (node op ts)) → IsStrictOver registry schema op ts
-leaf_strict registry schema op ts none has =
-    let p = typed_parts registry schema op ts has.typed has.is in
-    let bare : [] ≡ p.below = ok_same (typing_all registry schema no_more) [] p.below refl (sym (ap (typing_all registry schema) none) ∙ p.children_typed) in
-    let keeps = keeps_rule registry schema op p.below p.ruling p.rules in
-    let targets = no_targets p.ruling.operands (subst (λ below. AllBecome (types_of below) p.ruling.operands) (sym bare) keeps.becomes) in
-    strict_from registry schema op ts p.below p.ruling p.children_typed p.rules (ap types_of (sym bare) ∙ targets) (ap (λ (t : Typed). is_known t.type) p.is ∙ has.known)
+-- a node whose operands are made of the types to which it takes them says the same, and is strict where its type is
+-- one of columns
+pub record Rewritten (registry : Registry) (schema : Columns) (first : ℕ) (items : List AExpr) (at : ℕ) (before : Expression) (typed : Typed) : Type 0 where
+  pub op : Op
+  pub inputs : List ℕ
+  pub children : Trees Op
+  pub held : HoldsFrom first items at op inputs
+  pub denotes : DenoteAll (HoldsFrom first items) inputs children
+  pub same : IsSame registry schema before (node op children)
+  pub strict : is_known typed.type ≡ true → IsStrictOver registry schema op children
 
-pub visits_leaf : (registry : Registry) (schema : Columns) (items : List AExpr) (at : ℕ) (op : Op) → HoldsExpression items at op [] → (first : ℕ) (t : Expression) → first ≤ length items → Denotes (HoldsFrom first items) at t → HasKnownType (typing registry schema t) → Visits registry schema first items at t
-visits_leaf registry schema items at op held first t le dt has =
-    unchanged_visit registry schema items at op [] held first t le dt (λ ts is d. leaf_strict registry schema op ts (no_children (HoldsFrom first items) ts d) (subst (λ u. HasKnownType (typing registry schema u)) is has))
+pub rewritten_same : (registry : Registry) (schema : Columns) (first : ℕ) (items : List AExpr) (at : ℕ) (before : Expression) (typed : Typed) → Rewritten registry schema first items at before typed → DenotesSame registry schema first items at before
+rewritten_same registry schema first items at before typed r = record { tree = node r.op r.children; denotes = (r.inputs, r.held, r.denotes); same = r.same }
 
--- a cast of an operand that has a type of columns
-cast_kept_own : (registry : Registry) (schema : Columns) (target : Ty) (options : CastOptions) (from : Typed) (ruling : Ruling) → is_known from.type ≡ true → rule registry schema (CastOp target options) (from ∷ []) ≡ Ok ruling → from.type ∷ [] ≡ ruling.operands
-cast_kept_own registry schema target options from ruling known h =
-    let alone = ap (cast_taken target) (alone_itself from.type known) in
-    ruled_is (λ r. from.type ∷ [] ≡ r.operands) (cast_taken target (type_alone from.type)) from.many ruling h (λ taken found. ap (λ (t : Taken). t.operands) (ok_where (can_cast from.type target) _ taken InvalidOperation (sym alone ∙ found)).1)
+pub rewritten_visits : (registry : Registry) (schema : Columns) (first : ℕ) (items : List AExpr) (at : ℕ) (before : Expression) (has : HasKnownType (typing registry schema before)) → Rewritten registry schema first items at before has.typed → Visits registry schema first items at before
+rewritten_visits registry schema first items at before has r = record { op = r.op; inputs = r.inputs; children = r.children; held = r.held; denotes = r.denotes; same = r.same; strict = r.strict has.known }
 
-pub visits_cast : (registry : Registry) (schema : Columns) (items : List AExpr) (at : ℕ) (target : Ty) (options : CastOptions) (input : ℕ) (from : Ty) → HoldsExpression items at (CastOp target options) (input ∷ []) → AllHaveType items registry schema input from → is_known from ≡ true → (first : ℕ) (t : Expression) → first ≤ length items → Denotes (HoldsFrom first items) at t → HasKnownType (typing registry schema t) → Visits registry schema first items at t
-visits_cast registry schema items at target options input from held has_from known first t le dt has =
-    unchanged_visit registry schema items at (CastOp target options) (input ∷ []) held first t le dt (λ ts is d.
-    let one = one_child (HoldsFrom first items) input ts d in
-    let here = ap (typing registry schema) (sym is) ∙ has.is in
-    let p = typed_parts registry schema (CastOp target options) ts has.typed here in
-    let hx = has_from one.0 (any_node first items input one.0 one.2) in
-    let below = one_typed registry schema one.0 (record { type = from; many = hx.many }) p.below hx.is (sym (ap (typing_all registry schema) one.1) ∙ p.children_typed) in
-    let rules = ap (rule registry schema (CastOp target options)) below ∙ p.rules in
-    let kept = ap types_of (sym below) ∙ cast_kept_own registry schema target options (record { type = from; many = hx.many }) p.ruling known rules in
-    strict_from registry schema (CastOp target options) ts p.below p.ruling p.children_typed p.rules kept (ap (λ (t : Typed). is_known t.type) p.is ∙ has.known))
+module _ (registry : Registry) (schema : Columns) (old new : List AExpr) (table : TypeTable) (right : IsRight registry schema old table) where
+  children_from : (first : ℕ) (os : List Operand) (ts : Trees Op) (typed : List Typed) → DenoteAll (HoldsFrom first old) (map (λ o. o.input) os) ts → typing_all registry schema ts ≡ Ok typed → AllByRecursion (IsChanged old new table) os → types_of typed ≡ map (λ o. o.from) os
+  children_from first [] no_more typed d h all = by_no_children (λ xs. types_of xs ≡ []) typed h refl
+  children_from first (o ∷ os) (more t ts) typed d h all =
+      by_children (λ xs. types_of xs ≡ o.from ∷ map (λ (o : Operand). o.from) os) _ _ typed h (λ x xs is rest.
+      let k = all.0.keeps in
+      let has = kept_type registry schema old table right o.input k.dtype k.keeps t (any_node first old o.input t d.0) in
+      let one = ap (λ (y : Typed). y.type) (ok_same _ x _ is has.is) ∙ k.is in
+      ap (λ y. y ∷ types_of xs) one ∙ ap (λ l. o.from ∷ l) (children_from first os ts xs d.1 rest all.1))
+  children_from first [] (more t ts) typed d h all = absurd d
+  children_from first (o ∷ os) no_more typed d h all = absurd d
 
--- the visit of a cast of a number without a type
-pub visits_number : (registry : Registry) (schema : Columns) (old new : List AExpr) (at input : ℕ) (target : DataType) (options : CastOptions) (number : ℤ) (alone : Ty) (fresh : Node) (change : Change) → HoldsExpression old at (CastOp (ty target) options) (input ∷ []) → AllHaveType old registry schema input (Untyped number) → type_alone (Untyped number) ≡ Some alone → can_cast alone (ty target) ≡ true → IsChangeFor (Untyped number) alone change → Grows old new → ((first : ℕ) (t : Expression) → first ≤ length old → Denotes (HoldsFrom first old) input t → Denotes (HoldsFrom first new) fresh.0 (changed_by change t)) → (is_kept change ≡ false → length old ≤ fresh.0) → (first : ℕ) (t : Expression) → first ≤ length old → Denotes (HoldsFrom first old) at t → Visits registry schema first (set new at (Cast fresh target options)) at t
-visits_number registry schema old new at input target options number alone fresh change held has is_alone casts is g denotes is_fresh =
-    visits_operands registry schema old new at (CastOp (ty target) options) (Cast fresh target options) (Untyped number ∷ []) (alone ∷ []) (cast_takes registry schema (ty target) options (Untyped number) alone is_alone casts) g (input ∷ []) (fresh.0 ∷ []) refl held (has, tt) (taken_to old new input fresh.0 (Untyped number) alone change is denotes, fresh_where old fresh.0 (Untyped number) alone change is is_fresh, tt)
+  kept_from : (os : List Operand) → AllByRecursion (IsChanged old new table) os → AllKept table (map (λ o. o.input) os) (map (λ o. o.from) os)
+  kept_from [] all = tt
+  kept_from (o ∷ os) all = (all.0.keeps, kept_from os all.1)
+
+  operands_kept : (item : AExpr) (at first : ℕ) (t : Expression) → first ≤ length old → at < length old → Denotes (HoldsFrom first new) at t → (os : List Operand) (ts : Trees Op) → trees_depth ts < tree_depth t → DenoteAll (HoldsFrom first old) (map (λ o. o.input) os) ts → AllByRecursion (IsChanged old new table) os → DenoteAll (HoldsFrom first (set new at item)) (map (λ o. o.changed) os) (as_operands (map (λ o. o.from) os) (map (λ o. o.target) os) ts)
+  operands_kept item at first t le here d [] no_more lt dts all = tt
+  operands_kept item at first t le here d (o ∷ os) (more x ts) lt dts all = (
+    operand_kept first new at item t d o.changed o.from o.target x (omega arith) (λ e s. absurd (omega (arith, all.0.fresh e, s, here))) (all.0.denotes first x le dts.0),
+    operands_kept item at first t le here d os ts (omega arith) dts.1 all.1,
+  )
+  operands_kept item at first t le here d [] (more x ts) lt dts all = absurd dts
+  operands_kept item at first t le here d (o ∷ os) no_more lt dts all = absurd dts
+
+  -- over the operands as a list
+  over_operands : (at : ℕ) (op : Op) (os : List Operand) (item : AExpr) → expression_layer item ≡ layer op (map (λ o. o.changed) os) → HoldsExpression old at op (map (λ o. o.input) os) → Grows old new → AllByRecursion (IsChanged old new table) os → ((typed : List Typed) (ruling : Ruling) → AllKept table (map (λ o. o.input) os) (types_of typed) → rule registry schema op typed ≡ Ok ruling → ruling.operands ≡ map (λ o. o.target) os) → (first : ℕ) (t : Expression) (typed : Typed) → first ≤ length old → Denotes (HoldsFrom first old) at t → typing registry schema t ≡ Ok typed → Rewritten registry schema first (set new at item) at t typed
+  over_operands at op os item is held g all takes first t typed le dt has =
+      let top = from_top first old at op (map (λ (o : Operand). o.input) os) held t dt in
+      let here = within old at t (any_node first old at t dt) in
+      let there : at < length new = omega (arith, here, length-grown old new g) in
+      let depth = ap tree_depth top.1 in
+      let p = typed_parts registry schema op top.0 typed (ap (typing registry schema) (sym top.1) ∙ has) in
+      let froms = children_from first os top.0 p.below top.2 p.children_typed all in
+      let targets = takes p.below p.ruling (subst (AllKept table (map (λ (o : Operand). o.input) os)) (sym froms) (kept_from os all)) p.rules in
+      let later = tree_grown first first old new (omega arith) g at t dt in
+      let kept = operands_kept item at first t le here later os top.0 (omega arith) top.2 all in
+      let as_they_are = ap (λ l. as_operands l p.ruling.operands top.0) froms ∙ ap (λ l. as_operands (map (λ (o : Operand). o.from) os) l top.0) targets in
+      let known : is_known typed.type ≡ true → is_known p.ruling.own.type ≡ true = λ k. ap is_known (ap (λ (x : Typed). x.type) p.is) ∙ k in
+      record {
+        op = op;
+        inputs = map (λ (o : Operand). o.changed) os;
+        children = as_operands (types_of p.below) p.ruling.operands top.0;
+        held = (top.3, expression_written new at item there ∙ ap Some is);
+        denotes = subst (DenoteAll (HoldsFrom first (set new at item)) (map (λ (o : Operand). o.changed) os)) (sym as_they_are) kept;
+        same = subst (λ u. IsSame registry schema u (node op (as_operands (types_of p.below) p.ruling.operands top.0))) (sym top.1) (operands_same registry schema op top.0 p.below p.children_typed p.ruling p.rules);
+        strict = λ k. operands_strict registry schema op top.0 p.below p.children_typed p.ruling p.rules (known k);
+      }
+
+-- what the item at the node says, before it was written
+pub item_is : (old new final : List AExpr) (at : ℕ) (op : Op) (ns ms : List ℕ) → HoldsExpression old at op ns → Grows old new → (rew : Rewired new final at ms) → expression_layer rew.after ≡ layer op ms
+item_is old new final at op ns ms held g rew =
+    let before = some_same _ (layer op ns) _ (grown_held old new g at op ns held) (expression_got new at rew.before rew.got) in
+    rew.rewired ∙ ap (λ l. layer (op_of l) ms) (sym before)
+
+-- the node, written over the operands that were changed
+pub rewritten : (registry : Registry) (schema : Columns) (old new final : List AExpr) (table : TypeTable) (at : ℕ) (item : AExpr) (ms : List ℕ) (targets : List Ty) → IsRight registry schema old table → slice_get old at ≡ Some item → Grows old new → AreChanged old new table (inputs_of (expression_layer item)) ms targets → TakesTo registry schema table item targets → Rewired new final at ms → (first : ℕ) (t : Expression) (typed : Typed) → first ≤ length old → Denotes (HoldsFrom first old) at t → typing registry schema t ≡ Ok typed → Rewritten registry schema first final at t typed
+rewritten registry schema old new final table at item ms targets right got g c takes rew first t typed le dt has =
+    let op = op_of (expression_layer item) in
+    let held : HoldsExpression old at op (inputs_of (expression_layer item)) = layer_held old at item got in
+    let is = item_is old new final at op (inputs_of (expression_layer item)) ms held g rew in
+    let made = over_operands registry schema old new table right at op c.operands rew.after (is ∙ ap (layer op) (sym c.changed_are)) (subst (HoldsExpression old at op) (sym c.inputs_are) held) g c.each (λ typed ruling k h. takes typed ruling (subst (λ ns. AllKept table ns (types_of typed)) c.inputs_are k) h ∙ sym c.targets_are) first t typed le dt has in
+    subst (λ items. Rewritten registry schema first items at t typed) (sym rew.items) made
+
+-- as many nodes as inputs stand for them
+pub changed_count : (old new : List AExpr) (table : TypeTable) (ns ms : List ℕ) (targets : List Ty) → AreChanged old new table ns ms targets → length ms ≡ length ns
+changed_count old new table ns ms targets c =
+    sym (ap length c.changed_are) ∙ length-map c.operands (λ (o : Operand). o.changed) ∙ sym (length-map c.operands (λ (o : Operand). o.input)) ∙ ap length c.inputs_are
+
+-- an item has the inputs that it had before others were added
+pub same_inputs : (old new : List AExpr) (at : ℕ) (item now : AExpr) → slice_get old at ≡ Some item → Grows old new → slice_get new at ≡ Some now → inputs_of (expression_layer now) ≡ inputs_of (expression_layer item)
+same_inputs old new at item now got g there =
+    let held = grown_held old new g at (op_of (expression_layer item)) (inputs_of (expression_layer item)) (layer_held old at item got) in
+    ap inputs_of (some_same _ _ (layer (op_of (expression_layer item)) (inputs_of (expression_layer item))) (expression_got new at now there) held)

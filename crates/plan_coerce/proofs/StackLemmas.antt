@@ -18,24 +18,26 @@ use Rattle.plan_arena.specs.declared.arena.Node.{Node}
 use Rattle.plan_arena.specs.declared.aexpr.AExpr.{AExpr}
 use Rattle.plan_arena.specs.Denotation.{Denotes, DenoteAll}
 use Rattle.plan_arena.specs.Layers.{layer, inputs_of, shape_of}
-use Rattle.plan_arena.specs.Items.{Grows, HoldsExpression, HoldsFrom, expression_layer}
+use Rattle.plan_arena.specs.Items.{Grows, HoldsExpression, HoldsFrom, expression_layer, numbers}
 use Rattle.plan_arena.proofs.DenotationLemmas.{some_same, denotes_one, replaced, same_or_other}
 use Rattle.plan_arena.proofs.ItemLemmas.{from_laws, expression_got, grown_held, tree_grown}
 use Rattle.plan_infer.specs.Typed.{HasKnownType}
 use Rattle.plan_infer.specs.Typed.{DenotesKnown}
-use Rattle.plan_coerce.specs.Coercion.{DenotesSame, KeepsBelow, StaysSame, Visits, IsCoerced, numbers}
-use Rattle.plan_arena.proofs.NumberLemmas.{all_front, all_joined, all_weaker, all_last}
+use Rattle.plan_coerce.specs.Coercion.{DenotesSame, KeepsBelow, StaysSame, Visits, IsCoerced}
+use Rattle.std.proofs.Common.{reverse}
+use Rattle.std.proofs.lemmas.Grind.{reverse_onto}
+use Rattle.plan_arena.proofs.NumberLemmas.{all_reversed, all_front, all_joined, all_weaker, all_last}
 
 -- the inputs that a node holds are its item's
-pub inputs_are : (items : List AExpr) (n : ℕ) (item : AExpr) (op : Op) (inputs : List ℕ) → slice_get items n ≡ Some item → HoldsExpression items n op inputs → inputs ≡ inputs_of (expression_layer item)
+inputs_are : (items : List AExpr) (n : ℕ) (item : AExpr) (op : Op) (inputs : List ℕ) → slice_get items n ≡ Some item → HoldsExpression items n op inputs → inputs ≡ inputs_of (expression_layer item)
 inputs_are items n item op inputs got held = ap inputs_of (some_same _ (layer op inputs) _ held (expression_got items n item got))
+
+-- so the inputs of a node are on the stack
+pub pushed : (items : List AExpr) (n : ℕ) (item : AExpr) (rest stack : List ℕ) → slice_get items n ≡ Some item → stack ≡ rest ++ reverse (inputs_of (expression_layer item)) → (op : Op) (inputs : List ℕ) → HoldsExpression items n op inputs → stack ≡ rest ++ reverse inputs
+pushed items n item rest stack got is op inputs held = is ∙ ap (λ l. rest ++ reverse l) (sym (inputs_are items n item op inputs got held))
 
 pub pushed_one : (old new : List Node) (a : Node) → new ≡ old ++ a ∷ [] → numbers new ≡ numbers old ++ a.0 ∷ []
 pushed_one old new a e = ap numbers e ∙ map-append (λ (n : Node). n.0) old (a ∷ [])
-
-pub pushed_two : (old mid new : List Node) (a b : Node) → mid ≡ old ++ a ∷ [] → new ≡ mid ++ b ∷ [] → numbers new ≡ numbers old ++ (a.0 ∷ b.0 ∷ [])
-pushed_two old mid new a b e f =
-    pushed_one mid new b f ∙ ap (λ l. l ++ b.0 ∷ []) (pushed_one old mid a e) ∙ append_assoc (numbers old) (a.0 ∷ []) (b.0 ∷ [])
 
 -- the node waits on the stack
 abbrev pub Waits : List ℕ → ℕ → Type 0
@@ -49,6 +51,11 @@ waits_front (m ∷ ms) ns n w = ⊎_elim (λ e. inl e) (λ v. inr (waits_front m
 waits_back : (ms ns : List ℕ) (n : ℕ) → Waits ns n → Waits (ms ++ ns) n
 waits_back [] ns n w = w
 waits_back (m ∷ ms) ns n w = inr (waits_back ms ns n w)
+
+waits_reversed : (ns : List ℕ) (n : ℕ) → Waits ns n → Waits (reverse ns) n
+waits_reversed [] n w = w
+waits_reversed (m ∷ ms) n w =
+    subst (λ l. Waits l n) (sym (reverse_onto ms m [])) (⊎_elim (λ e. waits_back (reverse ms) (m ∷ []) n (inl e)) (λ v. waits_front (reverse ms) (m ∷ []) n (waits_reversed ms n v)) w)
 
 -- what waited waits still, or was the last
 waits_but_last : (ms : List ℕ) (last n : ℕ) → Waits (ms ++ last ∷ []) n → Waits ms n ⊎ (n ≡ last)
@@ -103,6 +110,12 @@ module _ (registry : Registry) (schema : Columns) (first : ℕ) (items : List AE
 waiting_settled : (registry : Registry) (schema : Columns) (first : ℕ) (items : List AExpr) (stack : List ℕ) (n : ℕ) (t : Expression) → Waits stack n → Denotes (HoldsFrom first items) n t → SettledBut registry schema first items stack n t
 waiting_settled registry schema first items stack n (node op ts) w d = inl (w, d)
 
+-- every tree becomes one that says the same, where one node's does and no other item changes
+pub becomes : (registry : Registry) (schema : Columns) (first : ℕ) (items items' : List AExpr) (at : ℕ) (before : Expression) → Denotes (HoldsFrom first items) at before → DenotesSame registry schema first items' at before → ((n : ℕ) (op : Op) (inputs : List ℕ) → n ≢ at → HoldsExpression items n op inputs → HoldsExpression items' n op inputs) → (n : ℕ) (u : Expression) → Denotes (HoldsFrom first items) n u → (w : Expression) × Denotes (HoldsFrom first items') n w × IsSame registry schema u w
+becomes registry schema first items items' at before d same elsewhere n u e =
+    let keeps : (m : ℕ) (op : Op) (inputs : List ℕ) → m ≢ at → HoldsFrom first items m op inputs → HoldsFrom first items' m op inputs = λ m op inputs other h. (h.0, elsewhere m op inputs other h.1) in
+    replaced (shape_of (map expression_layer items)) (HoldsFrom first items) (HoldsFrom first items') (from_laws first items) at keeps before d (IsSame registry schema) (node_same registry schema) same.tree same.denotes same.same n u e
+
 -- the visit of the last node that waits
 module _ (registry : Registry) (schema : Columns) (first : ℕ) (items items' : List AExpr) (at : ℕ) (rest : List ℕ) (before : Expression) (d : Denotes (HoldsFrom first items) at before) (v : Visits registry schema first items' at before) (elsewhere : (n : ℕ) (op : Op) (inputs : List ℕ) → n ≢ at → HoldsExpression items n op inputs → HoldsExpression items' n op inputs) where
   keeps : (n : ℕ) (op : Op) (inputs : List ℕ) → n ≢ at → HoldsFrom first items n op inputs → HoldsFrom first items' n op inputs
@@ -114,27 +127,29 @@ module _ (registry : Registry) (schema : Columns) (first : ℕ) (items items' : 
   denotes_after : Denotes (HoldsFrom first items') at (node v.op v.children)
   denotes_after = (v.inputs, v.held, v.denotes)
 
+  visited_same : DenotesSame registry schema first items' at before
+  visited_same = record { tree = node v.op v.children; denotes = denotes_after; same = v.same }
+
   -- every tree becomes one that says the same
-  pub becomes : (n : ℕ) (u : Expression) → Denotes (HoldsFrom first items) n u → (w : Expression) × Denotes (HoldsFrom first items') n w × IsSame registry schema u w
-  becomes n u e =
-      replaced (shape_of (map expression_layer items)) (HoldsFrom first items) (HoldsFrom first items') (from_laws first items) at keeps before d (IsSame registry schema) (node_same registry schema) (node v.op v.children) denotes_after v.same n u e
+  pub all_become : (n : ℕ) (u : Expression) → Denotes (HoldsFrom first items) n u → (w : Expression) × Denotes (HoldsFrom first items') n w × IsSame registry schema u w
+  all_become n u e = becomes registry schema first items items' at before d visited_same elsewhere n u e
 
-  visited : SettledBut registry schema first items' (rest ++ v.inputs) at (node v.op v.children)
-  visited = inr (v.inputs, v.held, v.strict, all_waiting registry schema first items' (rest ++ v.inputs) v.inputs v.children (λ n w. waits_back rest v.inputs n w) v.denotes)
+  visited : SettledBut registry schema first items' (rest ++ reverse v.inputs) at (node v.op v.children)
+  visited = inr (v.inputs, v.held, v.strict, all_waiting registry schema first items' (rest ++ reverse v.inputs) v.inputs v.children (λ n w. waits_back rest (reverse v.inputs) n (waits_reversed v.inputs n w)) v.denotes)
 
-  visited_here : (n : ℕ) (u : Expression) → n ≡ at → Denotes (HoldsFrom first items) n u → (w : Expression) × SettledBut registry schema first items' (rest ++ v.inputs) n w × IsSame registry schema u w
+  visited_here : (n : ℕ) (u : Expression) → n ≡ at → Denotes (HoldsFrom first items) n u → (w : Expression) × SettledBut registry schema first items' (rest ++ reverse v.inputs) n w × IsSame registry schema u w
   visited_here n u e du =
       let one = denotes_one (shape_of (map expression_layer items)) (HoldsFrom first items) (from_laws first items) at before u d (subst (λ k. Denotes (HoldsFrom first items) k u) e du) in
-      (node v.op v.children, subst (λ k. SettledBut registry schema first items' (rest ++ v.inputs) k (node v.op v.children)) (sym e) visited, subst (λ w. IsSame registry schema w (node v.op v.children)) one v.same)
+      (node v.op v.children, subst (λ k. SettledBut registry schema first items' (rest ++ reverse v.inputs) k (node v.op v.children)) (sym e) visited, subst (λ w. IsSame registry schema w (node v.op v.children)) one v.same)
 
-  still_waits : (n : ℕ) (u : Expression) → n ≢ at → Waits (rest ++ at ∷ []) n → Denotes (HoldsFrom first items) n u → (w : Expression) × SettledBut registry schema first items' (rest ++ v.inputs) n w × IsSame registry schema u w
+  still_waits : (n : ℕ) (u : Expression) → n ≢ at → Waits (rest ++ at ∷ []) n → Denotes (HoldsFrom first items) n u → (w : Expression) × SettledBut registry schema first items' (rest ++ reverse v.inputs) n w × IsSame registry schema u w
   still_waits n u other w du =
-      let r = becomes n u du in
+      let r = all_become n u du in
       let waits = ⊎_elim (λ h. h) (λ e. absurd (other e)) (waits_but_last rest at n w) in
-      (r.0, waiting_settled registry schema first items' (rest ++ v.inputs) n r.0 (waits_front rest v.inputs n waits) r.1, r.2)
+      (r.0, waiting_settled registry schema first items' (rest ++ reverse v.inputs) n r.0 (waits_front rest (reverse v.inputs) n waits) r.1, r.2)
 
   mutual
-    step : (n : ℕ) (u : Expression) → SettledBut registry schema first items (rest ++ at ∷ []) n u → (w : Expression) × SettledBut registry schema first items' (rest ++ v.inputs) n w × IsSame registry schema u w
+    step : (n : ℕ) (u : Expression) → SettledBut registry schema first items (rest ++ at ∷ []) n u → (w : Expression) × SettledBut registry schema first items' (rest ++ reverse v.inputs) n w × IsSame registry schema u w
     step n (node op us) s =
         ⊎_elim
         (λ e. visited_here n (node op us) e (settled_denotes registry schema first items (rest ++ at ∷ []) n (node op us) s))
@@ -147,7 +162,7 @@ module _ (registry : Registry) (schema : Columns) (first : ℕ) (items items' : 
         s)
         (same_or_other n at)
 
-    step_all : (ns : List ℕ) (us : Trees Op) → AllSettledBut registry schema first items (rest ++ at ∷ []) ns us → (ws : Trees Op) × AllSettledBut registry schema first items' (rest ++ v.inputs) ns ws × AllRelated (IsSame registry schema) us ws
+    step_all : (ns : List ℕ) (us : Trees Op) → AllSettledBut registry schema first items (rest ++ at ∷ []) ns us → (ws : Trees Op) × AllSettledBut registry schema first items' (rest ++ reverse v.inputs) ns ws × AllRelated (IsSame registry schema) us ws
     step_all [] no_more s = (no_more, tt, tt)
     step_all (n ∷ ns) (more u us) s =
         let head = step n u s.0 in
@@ -156,13 +171,13 @@ module _ (registry : Registry) (schema : Columns) (first : ℕ) (items items' : 
     step_all [] (more u us) s = absurd s
     step_all (n ∷ ns) no_more s = absurd s
 
-  pub roots_step : (roots : List ℕ) → AllByRecursion (λ n. (t : Expression) × SettledBut registry schema first items (rest ++ at ∷ []) n t) roots → AllByRecursion (λ n. (t : Expression) × SettledBut registry schema first items' (rest ++ v.inputs) n t) roots
+  pub roots_step : (roots : List ℕ) → AllByRecursion (λ n. (t : Expression) × SettledBut registry schema first items (rest ++ at ∷ []) n t) roots → AllByRecursion (λ n. (t : Expression) × SettledBut registry schema first items' (rest ++ reverse v.inputs) n t) roots
   roots_step [] all = tt
   roots_step (n ∷ ns) all = let s = step n all.0.0 all.0.1 in ((s.0, s.1), roots_step ns all.1)
 
   pub typed_step : (n : ℕ) → DenotesKnown registry schema first items n → DenotesKnown registry schema first items' n
   typed_step n t =
-      let r = becomes n t.tree t.denotes in
+      let r = all_become n t.tree t.denotes in
       record { tree = r.0; denotes = r.1; has = record { typed = t.has.typed; is = r.2.typing ∙ t.has.is; known = t.has.known } }
 
 -- the inputs of a node that are typed, with types of columns
@@ -226,11 +241,11 @@ stays_visited registry schema first old items items' at rest roots p elsewhere v
       below = λ n op inputs lower h. elsewhere n op inputs (λ e. lower (omega (arith, from, e))) (p.below n op inputs lower h);
       trees = λ n t d.
           let one = p.trees n t d in
-          let two = becomes registry schema first items items' at rest here.tree here.denotes v elsewhere n one.tree one.denotes in
+          let two = all_become registry schema first items items' at rest here.tree here.denotes v elsewhere n one.tree one.denotes in
           record { tree = two.0; denotes = two.1; same = same_then registry schema t one.tree two.0 one.same two.2 };
     }
 
-pub pending_step : (registry : Registry) (schema : Columns) (first : ℕ) (old items items' : List AExpr) (at : ℕ) (rest stack roots : List ℕ) → Pending registry schema first old items (rest ++ at ∷ []) roots → ((n : ℕ) (op : Op) (inputs : List ℕ) → n ≢ at → HoldsExpression items n op inputs → HoldsExpression items' n op inputs) → ((t : Expression) → Denotes (HoldsFrom first items) at t → HasKnownType (typing registry schema t) → Visits registry schema first items' at t) → ((op : Op) (inputs : List ℕ) → HoldsExpression items' at op inputs → stack ≡ rest ++ inputs) → Pending registry schema first old items' stack roots
+pub pending_step : (registry : Registry) (schema : Columns) (first : ℕ) (old items items' : List AExpr) (at : ℕ) (rest stack roots : List ℕ) → Pending registry schema first old items (rest ++ at ∷ []) roots → ((n : ℕ) (op : Op) (inputs : List ℕ) → n ≢ at → HoldsExpression items n op inputs → HoldsExpression items' n op inputs) → ((t : Expression) → Denotes (HoldsFrom first items) at t → HasKnownType (typing registry schema t) → Visits registry schema first items' at t) → ((op : Op) (inputs : List ℕ) → HoldsExpression items' at op inputs → stack ≡ rest ++ reverse inputs) → Pending registry schema first old items' stack roots
 pending_step registry schema first old items items' at rest stack roots p elsewhere visit pushed =
     let here = all_last (DenotesKnown registry schema first items) rest at p.waiting in
     let v = visit here.tree here.denotes here.has in
@@ -242,7 +257,7 @@ pending_step registry schema first old items items' at rest stack roots p elsewh
     record {
       below = stays.below;
       trees = stays.trees;
-      waiting = subst (AllByRecursion (DenotesKnown registry schema first items')) (sym grown) (all_joined (DenotesKnown registry schema first items') rest v.inputs rest_typed inputs_typed);
+      waiting = subst (AllByRecursion (DenotesKnown registry schema first items')) (sym grown) (all_joined (DenotesKnown registry schema first items') rest (reverse v.inputs) rest_typed (all_reversed (DenotesKnown registry schema first items') v.inputs inputs_typed));
       settled = subst (λ s. AllByRecursion (λ n. (t : Expression) × SettledBut registry schema first items' s n t) roots) (sym grown) (roots_step registry schema first items items' at rest here.tree here.denotes v elsewhere roots p.settled);
     }
 

@@ -1,30 +1,19 @@
 -- What coercion leaves.
 -- A node that was visited is strict over its inputs, and says the same as before. Other items stay.
-use Rattle.std.specs.Prelude.{◌≡◌, ◌≤◌, ℕ, ℤ, Bool, true, false, List, [], ◌∷◌, map, Ok}
+use Rattle.std.specs.Prelude.{◌≡◌, ◌≤◌, ℕ, true, false, List, [], ◌∷◌, length, map}
 use Rattle.std.specs.List.{AllByRecursion}
-use Rattle.plan_types.specs.Types.{Ty, Untyped, ty, is_known, same_type}
-use Rattle.plan_types.specs.Casts.{can_cast}
-use Rattle.plan_types.specs.Values.{IntValue}
+use Rattle.plan_types.specs.Types.{Ty, ty, same_type}
 use Rattle.plan_types.specs.Schemas.{Columns}
-use Rattle.plan_types.specs.declared.dtype.CastOptions.TheVariants.{NonStrict}
-use Rattle.plan_dsl.specs.declared.operator.Operator.{Operator}
+use Rattle.plan_types.specs.declared.dtype.DataType.{DataType}
 use Rattle.plan_dsl.specs.Registry.{Registry}
-use Rattle.plan_dsl.specs.Trees.{Trees, node, no_more, more}
-use Rattle.plan_dsl.specs.Ops.{Op, LiteralOp, CastOp, Expression}
-use Rattle.plan_dsl.specs.Literals.{literal_op, literal_type, literal_value, is_literal}
-use Rattle.plan_dsl.specs.Typing.{typing}
-use Rattle.plan_dsl.specs.OperatorTypes.{operator_types}
-use Rattle.plan_dsl.specs.Strictness.{IsSame, IsStrict, IsStrictOver}
-use Rattle.plan_arena.specs.declared.arena.Node.{Node}
+use Rattle.plan_dsl.specs.Trees.{Trees, node}
+use Rattle.plan_dsl.specs.Ops.{Op, Expression}
+use Rattle.plan_dsl.specs.Strictness.{CanBecome, IsSame, IsStrict, IsStrictOver, as_operand}
 use Rattle.plan_arena.specs.declared.aexpr.AExpr.{AExpr}
 use Rattle.plan_arena.specs.Denotation.{Denotes, DenoteAll}
 use Rattle.plan_arena.specs.Items.{HoldsExpression, HoldsFrom}
-use Rattle.plan_coerce.specs.declared.type_coercion.Change.{Change}
-use Rattle.plan_coerce.specs.declared.type_coercion.Change.TheVariants.{Keep, CastTo, Become}
-use Rattle.plan_types.specs.declared.dtype.DataType.{DataType}
 use Rattle.plan_infer.specs.declared.type_table.TypeTable.{TypeTable}
-use Rattle.plan_infer.specs.KeptTypes.{Keeps}
-use Rattle.plan_infer.specs.Typed.{HasType}
+use Rattle.plan_infer.specs.KeptTypes.{Keeps, KeepsType}
 
 -- items below the number stay
 abbrev pub KeepsBelow : ℕ → List AExpr → List AExpr → Type 0
@@ -46,43 +35,41 @@ pub record Visits (registry : Registry) (schema : Columns) (first : ℕ) (items 
   pub same : IsSame registry schema before (node op children)
   pub strict : IsStrictOver registry schema op children
 
--- what makes an operand of the first type one of the second: nothing, a cast where there is one, or a literal in place
--- of a number without a type
-abbrev pub IsChangeFor : Ty → Ty → Change → Type 0
-IsChangeFor from target Keep = same_type from target ≡ true
-IsChangeFor from target (CastTo dtype) = (same_type from target ≡ false) × (is_known from ≡ true) × (ty dtype ≡ target) × (can_cast from target ≡ true)
-IsChangeFor from target (Become value dtype) =
-    (same_type from target ≡ false) × (number : ℤ) × (from ≡ Untyped number) × (literal_op value ≡ LiteralOp target (IntValue number)) × (is_literal (literal_type value) (literal_value value) ≡ true) × (ty dtype ≡ target)
+-- the operand at a node can be made of the type
+pub record IsReady (table : TypeTable) (n : ℕ) (target : Ty) : Type 0 where
+  pub dtype : DataType
+  pub keeps : Keeps table n dtype
+  pub becomes : CanBecome (ty dtype) target
 
--- an expression that is changed so
-abbrev pub changed_by : Change → Expression → Expression
-changed_by Keep tree = tree
-changed_by (CastTo dtype) tree = node (CastOp (ty dtype) NonStrict) (more tree no_more)
-changed_by (Become value dtype) tree = node (literal_op value) no_more
+-- operands at nodes, one by one
+abbrev pub AllReady : TypeTable → List ℕ → List Ty → Type 0
+AllReady table [] [] = Unit {0}
+AllReady table (n ∷ ns) (target ∷ targets) = IsReady table n target × AllReady table ns targets
+AllReady table [] (target ∷ targets) = ⊥
+AllReady table (n ∷ ns) [] = ⊥
 
-abbrev pub is_kept : Change → Bool
-is_kept Keep = true
-is_kept (CastTo dtype) = false
-is_kept (Become value dtype) = false
+-- an operand's node, the one that stands for it, its type, and the one to which it is taken
+pub record Operand : Type 0 where
+  pub input : ℕ
+  pub changed : ℕ
+  pub from : Ty
+  pub target : Ty
 
--- what an operator's operands need, whose types the table keeps
-pub record ChangesOperands (registry : Registry) (schema : Columns) (items : List AExpr) (table : TypeTable) (left : ℕ) (operator : Operator) (right : ℕ) (left_change right_change : Change) : Type 0 where
-  pub left_kept : DataType
-  pub left_keeps : Keeps table left left_kept
-  pub left_to : Ty
-  pub right_kept : DataType
-  pub right_keeps : Keeps table right right_kept
-  pub right_to : Ty
-  pub result : Ty
-  pub left_typed : (t : Expression) → Denotes (HoldsExpression items) left t → HasType (typing registry schema t) (ty left_kept)
-  pub right_typed : (t : Expression) → Denotes (HoldsExpression items) right t → HasType (typing registry schema t) (ty right_kept)
-  pub takes : operator_types operator (ty left_kept ∷ ty right_kept ∷ []) ≡ Ok (record { operands = left_to ∷ right_to ∷ []; type = result })
-  pub left_changes : IsChangeFor (ty left_kept) left_to left_change
-  pub right_changes : IsChangeFor (ty right_kept) right_to right_change
+-- The node stands for the operand, made of the type to which it is taken. An operand of that type stays, and others
+-- have a new node.
+pub record IsChanged (old new : List AExpr) (table : TypeTable) (operand : Operand) : Type 0 where
+  pub keeps : KeepsType table operand.input operand.from
+  pub denotes : (first : ℕ) (t : Expression) → first ≤ length old → Denotes (HoldsFrom first old) operand.input t → Denotes (HoldsFrom first new) operand.changed (as_operand operand.from operand.target t)
+  pub stays : same_type operand.from operand.target ≡ true → operand.changed ≡ operand.input
+  pub fresh : same_type operand.from operand.target ≡ false → length old ≤ operand.changed
 
--- the numbers of nodes
-abbrev pub numbers : List Node → List ℕ
-numbers nodes = map (λ n. n.0) nodes
+-- the same of each input, taken to these types
+pub record AreChanged (old new : List AExpr) (table : TypeTable) (inputs changed : List ℕ) (targets : List Ty) : Type 0 where
+  pub operands : List Operand
+  pub inputs_are : map (λ o. o.input) operands ≡ inputs
+  pub changed_are : map (λ o. o.changed) operands ≡ changed
+  pub targets_are : map (λ o. o.target) operands ≡ targets
+  pub each : AllByRecursion (IsChanged old new table) operands
 
 -- What stays as roots are coerced: items below the number, and each tree becomes one that says the same.
 pub record StaysSame (registry : Registry) (schema : Columns) (first : ℕ) (old new : List AExpr) : Type 0 where

@@ -1,7 +1,5 @@
--- What the worked examples share: the sum with a cast, what an arena holds of it, and changes of operands.
+-- What the worked examples share: the sum with a cast and what an arena holds of it.
 use Rattle.std.specs.Prelude.{ℕ, List, [], ◌∷◌}
-use Rattle.std.specs.List.{AllByRecursion}
-use Rattle.plan_types.specs.Types.{Ty}
 use Rattle.plan_types.specs.declared.dtype.DataType.{DataType}
 use Rattle.plan_types.specs.declared.dtype.DataType.TheVariants as dtype
 use Rattle.plan_types.specs.declared.dtype.CastOptions.TheVariants.{NonStrict}
@@ -9,8 +7,6 @@ use Rattle.plan_dsl.specs.declared.operator.Operator.TheVariants.{Plus}
 use Rattle.plan_dsl.specs.Ops.{Expression}
 use Rattle.plan_arena.specs.declared.aexpr.AExpr.{AExpr}
 use Rattle.plan_arena.specs.declared.aexpr.AExpr.TheVariants.{Cast}
-use Rattle.plan_coerce.specs.declared.type_coercion.Change.{Change}
-use Rattle.plan_coerce.specs.Coercion.{IsChangeFor}
 use Rattle.plan_infer.specs.Samples.{int32, a, b, binary, cast_to, at, pair, columns_and}
 
 abbrev pub wide : Expression
@@ -26,10 +22,3 @@ cast_of n dtype = Cast (at n) dtype NonStrict
 -- the same, with the first column cast
 abbrev pub strict_items : List AExpr
 strict_items = columns_and (pair 3 Plus 1 ∷ cast_of 0 dtype.Int32 ∷ [])
-
--- what makes operands of the first types ones of the second
-abbrev pub AreChanges : List (Ty × Ty × Change) → Type 0
-AreChanges cases = AllByRecursion (λ case. IsChangeFor case.0 case.1 case.2) cases
-
-abbrev pub AreNoChanges : List (Ty × Ty × Change) → Type 0
-AreNoChanges cases = AllByRecursion (λ case. ¬ (IsChangeFor case.0 case.1 case.2)) cases

@@ -3,26 +3,22 @@ ghost use Rattle.std.specs.Prelude.{◌≡◌, ℕ, ◌<◌, ◌≤◌, List, []
 ghost use Rattle.std.specs.List.{AllByRecursion};
 ghost use Rattle.plan_types.specs.Errors.{no_memory};
 ghost use Rattle.plan_types.specs.Schemas.{Columns};
-ghost use Rattle.plan_dsl.specs.Ops.{Op};
 ghost use Rattle.plan_dsl.specs.Registry.{Registry};
-ghost use Rattle.plan_arena.specs.Items.{HoldsExpression};
+ghost use Rattle.plan_arena.specs.Items.{numbers};
 ghost use Rattle.plan_infer.specs.Typed.{DenotesKnown};
-ghost use Rattle.plan_coerce.specs.Coercion.{IsCoerced, StaysSame, numbers};
+ghost use Rattle.plan_coerce.specs.Coercion.{IsCoerced, StaysSame};
 ghost use Rattle.plan_infer.specs.KeptTypes.{HasRightTypes, IsKept, IsRight};
 
 use crate::type_coercion::coerce_node;
-use plan_arena::aexpr::AExpr;
-use plan_arena::arena::{Arena, Node};
+use plan_arena::aexpr::{AExpr, Nodes};
+use plan_arena::arena::Arena;
 use plan_infer::type_table::TypeTable;
 use plan_types::error::{ErrorKind, PlanError};
-use smallvec::SmallVec;
 
-/// Nodes that wait to be visited. Most expressions need no allocation for them.
-pub type Stack = SmallVec<Node, 8>;
-
-/// Puts casts round the operands of each node that the stacked roots reach, a node before its inputs.
+/// Puts casts round the operands of each node that the stacked roots reach, a node before its inputs. The stack is
+/// empty at the end.
 pub fn coerce_types(
-    stack: &mut Stack,
+    stack: &mut Nodes,
     arena: &mut Arena<AExpr>,
     types: &mut TypeTable,
 ) -> Result<(), PlanError>
@@ -34,7 +30,29 @@ pub fn coerce_types(
     ensures stays { OnErr result ((registry : Registry) (schema : Columns) (first : ℕ) → IsRight registry schema arena.old types.old →
         first ≤ length arena.old → AllByRecursion (DenotesKnown registry schema first arena.old) (numbers stack.old.items) →
         StaysSame registry schema first arena.old arena.new) }
-    ensures empty { OnOk result (stack.new.items ≡ []) }
+    ensures empty { stack.new.items ≡ [] }
+    ensures longer { length arena.old ≤ length arena.new }
+    ensures err { IfErr result (λ error. error ≡ no_memory) }
+{
+    let done = coerce_stacked(stack, arena, types);
+    stack.clear();
+    done
+}
+
+// The same, with what is left on the stack after a refusal.
+fn coerce_stacked(
+    stack: &mut Nodes,
+    arena: &mut Arena<AExpr>,
+    types: &mut TypeTable,
+) -> Result<(), PlanError>
+    requires right { HasRightTypes arena.old types.old }
+    requires kept { AllByRecursion (IsKept types.old) (numbers stack.old.items) }
+    ensures ok { OnOk result ((registry : Registry) (schema : Columns) (first : ℕ) → IsRight registry schema arena.old types.old →
+        first ≤ length arena.old → AllByRecursion (DenotesKnown registry schema first arena.old) (numbers stack.old.items) →
+        IsCoerced registry schema first arena.old arena.new (numbers stack.old.items)) }
+    ensures stays { OnErr result ((registry : Registry) (schema : Columns) (first : ℕ) → IsRight registry schema arena.old types.old →
+        first ≤ length arena.old → AllByRecursion (DenotesKnown registry schema first arena.old) (numbers stack.old.items) →
+        StaysSame registry schema first arena.old arena.new) }
     ensures longer { length arena.old ≤ length arena.new }
     ensures err { IfErr result (λ error. error ≡ no_memory) }
 {
@@ -45,28 +63,7 @@ pub fn coerce_types(
             Some(node) => node,
         };
         coerce_node(node, arena, types)?;
-        push_inputs(node, arena, stack)?;
+        arena.get(node).inputs_rev(stack)?;
     }
     Err(PlanError::at_top(ErrorKind::NoMemory))
-}
-
-// Stacks the inputs of a node.
-fn push_inputs(node: Node, arena: &Arena<AExpr>, stack: &mut Stack) -> Result<(), PlanError>
-    requires { node.0 < length arena.now }
-    ensures ok { OnOk result ((op : Op) (inputs : List ℕ) → HoldsExpression arena.now node.0 op inputs →
-        numbers stack.new.items ≡ numbers stack.old.items ++ inputs) }
-    ensures err { IfErr result (λ error. error ≡ no_memory) }
-{
-    match arena.get(node) {
-        AExpr::Column(_) | AExpr::Literal(_) => Ok(()),
-        AExpr::BinaryExpr { left, right, .. } => {
-            stack.push(*left)?;
-            stack.push(*right)?;
-            Ok(())
-        }
-        AExpr::Cast { expr, .. } => {
-            stack.push(*expr)?;
-            Ok(())
-        }
-    }
 }

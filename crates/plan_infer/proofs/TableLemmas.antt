@@ -1,5 +1,5 @@
 -- Types that are kept by node: what is known of a node, and what stays as the table, the arena or one item changes.
-use Rattle.std.proofs.Common.{◌≡◌, ◌≢◌, ◌↔◌, ℕ, ◌<◌, ◌≤◌, ◌-◌, List, [], ◌∷◌, ◌++◌, length, map, get_or, set, true, is_some, MatchOption, Option, Some, None, slice_get, refl, sym, ap, ◌∙◌, subst, arith, ⊎_elim, length-append, append-nil}
+use Rattle.std.proofs.Common.{Ok, ◌≡◌, ◌≢◌, ◌↔◌, ℕ, ◌<◌, ◌≤◌, ◌-◌, List, [], ◌∷◌, ◌++◌, length, map, get_or, set, true, is_some, MatchOption, Option, Some, None, slice_get, refl, sym, ap, ◌∙◌, subst, arith, ⊎_elim, length-append, append-nil}
 use Rattle.std.specs.List.{AllByRecursion}
 use Rattle.std.proofs.lemmas.Option.{slice_get_within, slice_get-get_or}
 use Rattle.std.proofs.lemmas.Bool.{cases_lt}
@@ -14,22 +14,26 @@ use Rattle.plan_types.specs.Schemas.{Columns}
 use Rattle.plan_types.specs.declared.dtype.DataType.{DataType}
 use Rattle.plan_types.specs.declared.dtype.CastOptions.{CastOptions}
 use Rattle.plan_dsl.specs.Registry.{Registry}
-use Rattle.plan_dsl.specs.Trees.{node}
-use Rattle.plan_dsl.specs.Ops.{Op, CastOp, Expression}
-use Rattle.plan_dsl.specs.Typing.{cast_taken, rule, typing, typing_all}
-use Rattle.plan_dsl.proofs.TypingLemmas.{ok_where, ruled_is, typed_parts}
+use Rattle.plan_dsl.specs.Trees.{node, more, Trees, no_more}
+use Rattle.plan_dsl.specs.Ops.{Op, CastOp, Expression, BinaryOp}
+use Rattle.plan_dsl.specs.Typing.{cast_taken, rule, typing, typing_all, Typed, types_of, Ruling, some_many}
+use Rattle.plan_dsl.proofs.TypingLemmas.{ok_where, ruled_is, typed_parts, ok_same, by_children, by_no_children}
 use Rattle.plan_dsl.proofs.LiteralLemmas.{typed_alone, typed_known}
 use Rattle.plan_arena.specs.declared.aexpr.AExpr.{AExpr}
-use Rattle.plan_arena.specs.Denotation.{Denotes, DenotesTree, depth_at}
-use Rattle.plan_arena.specs.Layers.{shape_of}
+use Rattle.plan_arena.specs.Denotation.{Denotes, DenotesTree, depth_at, DenoteAll}
+use Rattle.plan_arena.specs.Layers.{shape_of, Layer, layer, op_of, inputs_of}
 use Rattle.plan_arena.specs.Items.{HoldsExpression, HoldsFrom, Grows, expression_layer}
 use Rattle.plan_arena.proofs.DenotationLemmas.{some_same, denotes_one, kept, same_or_other, inputs_denote}
-use Rattle.plan_arena.proofs.ItemLemmas.{layer_op, layer_inputs, held_top, one_child, expression_laws, from_laws, any_node, from_zero, tree_grown, within, grown_held}
+use Rattle.plan_arena.proofs.ItemLemmas.{layer_op, layer_inputs, held_top, one_child, expression_laws, from_laws, any_node, from_zero, tree_grown, within, grown_held, expression_got}
 use Rattle.plan_infer.specs.declared.type_table.TypeTable.{TypeTable}
 use Rattle.plan_infer.specs.Typed.{DenotesTyped, HasType}
-use Rattle.plan_infer.specs.KeptTypes.{Keeps, IsKept, Extends, IsTypedNode, IsRight, first_node}
-use Rattle.plan_infer.proofs.TypingLemmas.{one_typed, AllHaveType}
+use Rattle.plan_infer.specs.KeptTypes.{Keeps, IsKept, Extends, IsTypedNode, IsRight, first_node, AllKept, IsTypedItem}
+use Rattle.plan_infer.proofs.TypingLemmas.{one_typed, AllHaveType, never_refused, no_cast_of_none, cast_operands}
 use Rattle.plan_arena.proofs.NumberLemmas.{all_weaker}
+use Rattle.plan_dsl.specs.OperatorTypes.{Taken, operator_types}
+use Rattle.plan_dsl.specs.declared.operator.Operator.{Operator}
+use Rattle.plan_types.specs.Errors.{IsRefusal, IsMemoryOr, no_memory}
+use Rattle.plan_types.specs.declared.error.PlanError.{PlanError}
 
 -- a node holds one op over one list of inputs
 held_op : (items : List AExpr) (n : ℕ) (a b : Op) (ms ns : List ℕ) → HoldsExpression items n a ms → HoldsExpression items n b ns → a ≡ b
@@ -116,6 +120,13 @@ module _ (old new : TypeTable) (at index : ℕ) (dtype : DataType) (le : first_n
 pub found_kept : {A : Type 0} (table : TypeTable) (n : ℕ) (value : A → DataType) (found : Option A) → MatchOption found (¬ (IsKept table n)) (λ x. Keeps table n (value x)) → is_some found ≡ true → IsKept table n
 found_kept table n value None m e = cc
 found_kept table n value (Some x) m e = record { dtype = value x; keeps = m }
+
+-- an item holds its own layer
+layer_parts : (l : Layer Op) → l ≡ layer (op_of l) (inputs_of l)
+layer_parts (layer op inputs) = refl
+
+pub layer_held : (items : List AExpr) (n : ℕ) (item : AExpr) → slice_get items n ≡ Some item → HoldsExpression items n (op_of (expression_layer item)) (inputs_of (expression_layer item))
+layer_held items n item got = expression_got items n item got ∙ ap Some (layer_parts (expression_layer item))
 
 -- what is held at the top of a tree
 pub top_held : (items : List AExpr) (n : ℕ) (t : Expression) → Denotes (HoldsExpression items) n t → (op : Op) × (inputs : List ℕ) × HoldsExpression items n op inputs
@@ -254,3 +265,73 @@ extends_more old new at dtype first keeps others = record { first = first; kept 
 -- a typed expression is a tree
 pub plain_tree : {registry : Registry} {schema : Columns} {items : List AExpr} {n : ℕ} → DenotesTyped registry schema 0 items n → DenotesTree (HoldsExpression items) n
 plain_tree {items = items} {n = n} d = record { tree = d.tree; denotes = any_node 0 items n d.tree d.denotes }
+
+-- the types of a node's inputs are kept, one by one
+module _ (registry : Registry) (schema : Columns) (items : List AExpr) (table : TypeTable) (right : IsRight registry schema items table) where
+  kept_children : (ns : List ℕ) (ts : Trees Op) (typed : List Typed) → DenoteAll (HoldsExpression items) ns ts → typing_all registry schema ts ≡ Ok typed → AllByRecursion (IsKept table) ns → AllKept table ns (types_of typed)
+  kept_children [] no_more typed d h all = by_no_children (λ xs. AllKept table [] (types_of xs)) typed h tt
+  kept_children (n ∷ ns) (more t ts) typed d h all =
+      by_children (λ xs. AllKept table (n ∷ ns) (types_of xs)) _ _ typed h (λ x xs is rest.
+      let has = kept_type registry schema items table right n all.0.dtype all.0.keeps t d.0 in
+      (record { dtype = all.0.dtype; keeps = all.0.keeps; is = ap (λ (y : Typed). y.type) (ok_same _ _ x has.is is) }, kept_children ns ts xs d.1 rest all.1))
+  kept_children [] (more t ts) typed d h all = absurd d
+  kept_children (n ∷ ns) no_more typed d h all = absurd d
+
+  -- an item whose type is kept takes its inputs
+  pub typed_item : (n : ℕ) (item : AExpr) → slice_get items n ≡ Some item → IsKept table n → IsTypedItem table item
+  typed_item n item got k =
+      let op = op_of (expression_layer item) in
+      let inputs = inputs_of (expression_layer item) in
+      let held = layer_held items n item got in
+      let e = known_typed registry schema items table right n k in
+      let top = held_top items n op inputs held e.tree (any_node 0 items n e.tree e.denotes) in
+      let p = typed_parts registry schema op top.0 e.typed (ap (typing registry schema) (sym top.1) ∙ e.is) in
+      record {
+        registry = registry;
+        schema = schema;
+        typed = p.below;
+        kept = kept_children inputs top.0 p.below top.2 p.children_typed (known_inputs registry schema items table right n op inputs k held);
+        ruling = p.ruling;
+        rules = p.rules;
+      }
+
+-- what is kept for inputs is one list of types
+pub kept_one : (table : TypeTable) (ns : List ℕ) (types others : List Ty) → AllKept table ns types → AllKept table ns others → types ≡ others
+kept_one table [] [] [] k l = refl
+kept_one table (n ∷ ns) (type ∷ types) (other ∷ others) k l =
+    let one = sym k.0.is ∙ ap ty (keeps_one table n k.0.dtype l.0.dtype k.0.keeps l.0.keeps) ∙ l.0.is in
+    ap (λ t. t ∷ types) one ∙ ap (λ ts. other ∷ ts) (kept_one table ns types others k.1 l.1)
+kept_one table [] (type ∷ types) others k l = absurd k
+kept_one table [] [] (other ∷ others) k l = absurd l
+kept_one table (n ∷ ns) [] others k l = absurd k
+kept_one table (n ∷ ns) (type ∷ types) [] k l = absurd l
+
+-- an operator takes its operands as their kept types say, and a cast takes its operand to the type that it has alone
+pub binary_takes : (table : TypeTable) (operator : Operator) (l r : ℕ) (left right : DataType) (taken : Taken) → Keeps table l left → Keeps table r right → operator_types operator (ty left ∷ ty right ∷ []) ≡ Ok taken → (registry : Registry) (schema : Columns) (typed : List Typed) (ruling : Ruling) → AllKept table (l ∷ r ∷ []) (types_of typed) → rule registry schema (BinaryOp operator) typed ≡ Ok ruling → ruling.operands ≡ taken.operands
+binary_takes table operator l r left right taken kl kr is registry schema typed ruling kept h =
+    let same = kept_one table (l ∷ r ∷ []) (types_of typed) (ty left ∷ ty right ∷ []) kept (record { dtype = left; keeps = kl; is = refl }, (record { dtype = right; keeps = kr; is = refl }, tt)) in
+    ruled_is (λ r. r.operands ≡ taken.operands) (operator_types operator (types_of typed)) (some_many typed) ruling h (λ found e.
+    ap (λ (x : Taken). x.operands) (ok_same _ found taken (ap (operator_types operator) (sym same) ∙ e) is))
+
+pub cast_takes : (table : TypeTable) (target : Ty) (options : CastOptions) (input : ℕ) (from : DataType) (own : Ty) → Keeps table input from → type_alone (ty from) ≡ Some own → (registry : Registry) (schema : Columns) (typed : List Typed) (ruling : Ruling) → AllKept table (input ∷ []) (types_of typed) → rule registry schema (CastOp target options) typed ≡ Ok ruling → ruling.operands ≡ own ∷ []
+cast_takes table target options input from own k alone registry schema [] ruling kept h = cc
+cast_takes table target options input from own k alone registry schema (t ∷ []) ruling kept h =
+    let same : t.type ≡ ty from = sym kept.0.is ∙ ap ty (keeps_one table input kept.0.dtype from kept.0.keeps k) in
+    ruled_is (λ r. r.operands ≡ own ∷ []) (cast_taken target (type_alone t.type)) t.many ruling h (λ found e.
+    cast_operands target own found (sym (ap (cast_taken target) (ap type_alone same ∙ alone)) ∙ e))
+cast_takes table target options input from own k alone registry schema (t ∷ u ∷ ts) ruling kept h = cc
+
+-- what is typed is refused for want of memory alone
+pub binary_refused_never : (table : TypeTable) (operator : Operator) (l r : ℕ) (left right : DataType) (error : PlanError) → Keeps table l left → Keeps table r right → IsRefusal (operator_types operator (ty left ∷ ty right ∷ [])) error → (registry : Registry) (schema : Columns) (typed : List Typed) (ruling : Ruling) → AllKept table (l ∷ r ∷ []) (types_of typed) → rule registry schema (BinaryOp operator) typed ≡ Ok ruling → error ≡ no_memory
+binary_refused_never table operator l r left right error kl kr refused registry schema typed ruling kept h =
+    let same = kept_one table (l ∷ r ∷ []) (types_of typed) (ty left ∷ ty right ∷ []) kept (record { dtype = left; keeps = kl; is = refl }, (record { dtype = right; keeps = kr; is = refl }, tt)) in
+    ruled_is (λ r. error ≡ no_memory) (operator_types operator (types_of typed)) (some_many typed) ruling h (λ found e.
+    never_refused (operator_types operator (ty left ∷ ty right ∷ [])) found error (ap (operator_types operator) (sym same) ∙ e) refused)
+
+pub cast_refused_never : (table : TypeTable) (target : Ty) (options : CastOptions) (input : ℕ) (from : DataType) (error : PlanError) → Keeps table input from → IsMemoryOr InvalidOperation (type_alone (ty from) ≡ None) error → (registry : Registry) (schema : Columns) (typed : List Typed) (ruling : Ruling) → AllKept table (input ∷ []) (types_of typed) → rule registry schema (CastOp target options) typed ≡ Ok ruling → error ≡ no_memory
+cast_refused_never table target options input from error k refused registry schema [] ruling kept h = cc
+cast_refused_never table target options input from error k refused registry schema (t ∷ []) ruling kept h =
+    let same : t.type ≡ ty from = sym kept.0.is ∙ ap ty (keeps_one table input kept.0.dtype from kept.0.keeps k) in
+    ruled_is (λ r. error ≡ no_memory) (cast_taken target (type_alone t.type)) t.many ruling h (λ found e.
+    ⊎_elim (λ memory. memory) (λ none. absurd (no_cast_of_none target found (sym (ap (cast_taken target) (ap type_alone same ∙ none.1)) ∙ e))) refused)
+cast_refused_never table target options input from error k refused registry schema (t ∷ u ∷ ts) ruling kept h = cc

@@ -7,7 +7,7 @@ use Rattle.plan_types.specs.Schemas.{Columns, Name, type_at}
 use Rattle.plan_types.specs.CommonTypes.{known_type, type_alone}
 use Rattle.plan_types.specs.Casts.{can_cast}
 use Rattle.plan_types.proofs.CastLemmas.{source_known}
-use Rattle.plan_types.specs.Errors.{at_top, IsMemoryOr, IsRefusal, no_room, broken}
+use Rattle.plan_types.specs.Errors.{at_top, IsMemoryOr, IsRefusal, no_room, broken, no_memory}
 use Rattle.plan_types.specs.declared.error.ErrorKind.{ErrorKind}
 use Rattle.plan_types.specs.declared.error.ErrorKind.TheVariants.{ColumnNotFound, InvalidOperation}
 use Rattle.plan_types.specs.declared.error.PlanError.{PlanError}
@@ -17,15 +17,14 @@ use Rattle.plan_dsl.specs.Registry.{Registry}
 use Rattle.plan_dsl.specs.Trees.{node, no_more, more}
 use Rattle.plan_dsl.specs.Ops.{ColumnOp, LiteralOp, BinaryOp, CastOp, Expression}
 use Rattle.plan_dsl.specs.Literals.{is_literal}
-use Rattle.plan_dsl.specs.Typing.{Typed, column_type, literal_taken, cast_taken, typing_rule, then_typed, typed_before, typing, some_many, typing_all}
+use Rattle.plan_dsl.specs.Typing.{Typed, column_type, literal_taken, cast_taken, typing_rule, then_typed, typed_before, typing, some_many, typing_all, Ruling, rule}
 use Rattle.plan_dsl.specs.OperatorTypes.{Taken, operator_types}
-use Rattle.plan_dsl.proofs.TypingLemmas.{typed_as}
+use Rattle.plan_dsl.proofs.TypingLemmas.{typed_as, ok_same, ok_where, ruled_is}
 use Rattle.plan_arena.specs.declared.aexpr.AExpr.{AExpr}
 use Rattle.plan_arena.specs.Denotation.{Denotes}
 use Rattle.plan_arena.specs.Items.{HoldsExpression}
 use Rattle.plan_arena.proofs.ItemLemmas.{held_top, one_child, two_children, no_children}
 use Rattle.plan_infer.specs.Typed.{HasType}
-use Rattle.plan_dsl.proofs.TypingLemmas.{ok_same}
 
 -- a refusal below is one here, where the kinds are the same
 refused_so : {A B : Type 0} (from : Result A ErrorKind) (to : Result B ErrorKind) (error : PlanError) → ((kind : ErrorKind) → from ≡ Err kind → to ≡ Err kind) → IsRefusal from error → IsRefusal to error
@@ -194,3 +193,29 @@ module _ (items : List AExpr) (registry : Registry) (schema : Columns) (n : ℕ)
 -- the typings of one operand
 pub one_typed : (registry : Registry) (schema : Columns) (x : Expression) (typed : Typed) (below : List Typed) → typing registry schema x ≡ Ok typed → typing_all registry schema (more x no_more) ≡ Ok below → typed ∷ [] ≡ below
 one_typed registry schema x typed below h all = ok_same (typed_before (Ok typed) (Ok [])) (typed ∷ []) below refl (sym (ap (λ r. typed_before r (Ok [])) h) ∙ all)
+
+-- a node without operands takes none
+column_bare : (o : Option Ty) (taken : Taken) → column_type o ≡ Ok taken → taken.operands ≡ []
+column_bare None taken h = cc
+column_bare (Some type) taken h = sym (ap (λ (x : Taken). x.operands) (ok_where (is_known type) _ taken InvalidOperation h).1)
+
+pub column_takes : (registry : Registry) (schema : Columns) (name : Name) (typed : List Typed) (ruling : Ruling) → rule registry schema (ColumnOp name) typed ≡ Ok ruling → ruling.operands ≡ []
+column_takes registry schema name [] ruling h = ruled_is (λ r. r.operands ≡ []) (column_type (type_at schema name)) true ruling h (λ taken e. column_bare (type_at schema name) taken e)
+column_takes registry schema name (t ∷ ts) ruling h = cc
+
+pub literal_takes : (registry : Registry) (schema : Columns) (type : Ty) (value : Val) (typed : List Typed) (ruling : Ruling) → rule registry schema (LiteralOp type value) typed ≡ Ok ruling → ruling.operands ≡ []
+literal_takes registry schema type value [] ruling h =
+    ruled_is (λ r. r.operands ≡ []) (literal_taken type value) false ruling h (λ taken e. sym (ap (λ (x : Taken). x.operands) (ok_where (is_literal type value) _ taken InvalidOperation e).1))
+literal_takes registry schema type value (t ∷ ts) ruling h = cc
+
+-- a cast takes its operand to the type that it has alone
+pub cast_operands : (target own : Ty) (taken : Taken) → cast_taken target (Some own) ≡ Ok taken → taken.operands ≡ own ∷ []
+cast_operands target own taken h = sym (ap (λ (x : Taken). x.operands) (ok_where (can_cast own target) _ taken InvalidOperation h).1)
+
+pub no_cast_of_none : (target : Ty) (taken : Taken) → cast_taken target None ≡ Ok taken → ⊥
+no_cast_of_none target taken h = cc
+
+-- what is there is refused for want of memory alone
+pub never_refused : {A : Type 0} (found : Result A ErrorKind) (x : A) (error : PlanError) → found ≡ Ok x → IsRefusal found error → error ≡ no_memory
+never_refused found x error is (no_room e) = e
+never_refused found x error is (broken kind e b) = cc

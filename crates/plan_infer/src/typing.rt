@@ -1,16 +1,16 @@
 //! Types of expressions in an arena.
-ghost use Rattle.std.specs.Prelude.{◌≡◌, [], ◌∷◌, Ok, IfOk, IfErr, OnOk, is_ok};
-ghost use Rattle.plan_types.specs.Errors.{IsRefusal};
-ghost use Rattle.plan_types.specs.Schemas.{columns};
+ghost use Rattle.std.specs.Prelude.{◌≡◌, [], ◌∷◌, map, Some, None, Ok, IfOk, IfErr, OnOk, is_ok};
+ghost use Rattle.plan_types.specs.Errors.{IsMemoryOr, IsRefusal, no_memory};
+ghost use Rattle.plan_types.specs.Schemas.{Columns, columns};
 ghost use Rattle.plan_types.specs.CommonTypes.{type_alone};
 ghost use Rattle.plan_types.specs.Types.{Ty, ty};
 ghost use Rattle.plan_dsl.specs.Ops.{Expression};
-ghost use Rattle.plan_dsl.specs.Registry.{registry};
+ghost use Rattle.plan_dsl.specs.Registry.{Registry, registry};
 ghost use Rattle.plan_dsl.specs.Literals.{literal_type, literal_value};
 ghost use Rattle.plan_dsl.specs.Typing.{typing, cast_taken, literal_taken};
 ghost use Rattle.plan_arena.specs.Denotation.{Denotes, DenotesTree};
 ghost use Rattle.plan_arena.specs.Items.{HoldsExpression, HoldsFrom};
-ghost use Rattle.plan_infer.specs.KeptTypes.{Extends, IsKept, IsRight, first_node};
+ghost use Rattle.plan_infer.specs.KeptTypes.{Extends, IsKept, IsRight, IsTypedItem, TakesTo, first_node};
 
 use crate::operator_types::operand_types;
 use crate::type_table::TypeTable;
@@ -112,5 +112,51 @@ fn has_cast(from: &DataType, target: &DataType) -> bool
     match materialize_dyn_int(number) {
         Some(alone) => can_cast(&alone, target),
         None => false,
+    }
+}
+
+/// The types to which an item takes its inputs, whose types are kept.
+pub fn operand_types_of(
+    alloc: Global,
+    item: &AExpr,
+    types: &TypeTable,
+) -> Result<Vec<DataType>, PlanError>
+    requires { IsTypedItem types.now item.now }
+    ensures ok { IfOk result (λ targets. (registry : Registry) (schema : Columns) → TakesTo registry schema types.now item.now (map ty targets.items)) }
+    ensures err { IfErr result (λ error. error ≡ no_memory) }
+{
+    let mut targets = Vec::new(alloc);
+    match item {
+        AExpr::Column(_) => Ok(targets),
+        AExpr::Literal(_) => Ok(targets),
+        AExpr::BinaryExpr { left, op, right } => {
+            let taken = operand_types(alloc, types.get(*left), *op, types.get(*right))?;
+            targets.push(taken.left)?;
+            targets.push(taken.right)?;
+            Ok(targets)
+        }
+        AExpr::Cast { expr, .. } => {
+            let own = type_alone(alloc, types.get(*expr))?;
+            targets.push(own)?;
+            Ok(targets)
+        }
+    }
+}
+
+// The type that an operand has alone: of columns, or the one that a number without a type gets.
+fn type_alone(alloc: Global, operand: &DataType) -> Result<DataType, PlanError>
+    ensures ok { IfOk result (λ own. type_alone (ty operand.now) ≡ Some (ty own)) }
+    ensures err { IfErr result (IsMemoryOr ErrorKind.InvalidOperation (type_alone (ty operand.now) ≡ None)) }
+{
+    let Some(number) = operand.untyped_number() else {
+        if !operand.is_known() {
+            return Err(PlanError::at_top(ErrorKind::InvalidOperation));
+        }
+        let own = operand.try_clone(alloc)?;
+        return Ok(own);
+    };
+    match materialize_dyn_int(number) {
+        Some(own) => Ok(own),
+        None => Err(PlanError::at_top(ErrorKind::InvalidOperation)),
     }
 }

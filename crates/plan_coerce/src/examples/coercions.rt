@@ -9,48 +9,10 @@ ghost use Rattle.plan_types.specs.declared.dtype.UnknownKind.TheVariants as unkn
 ghost use Rattle.plan_dsl.specs.declared.literal.LiteralValue.TheVariants.{Int, Int8, Int16, UInt16};
 ghost use Rattle.plan_dsl.specs.declared.operator.Operator.TheVariants.{Eq, Plus};
 ghost use Rattle.plan_arena.specs.declared.aexpr.AExpr.TheVariants.{Column, Literal};
-ghost use Rattle.plan_coerce.specs.declared.type_coercion.Change.TheVariants.{Keep, CastTo, Become};
 ghost use Rattle.plan_infer.specs.Typed.{DenotesTyped, DenotesKnown};
-ghost use Rattle.plan_coerce.specs.Coercion.{KeepsBelow, DenotesSame, Visits, ChangesOperands, IsCoerced, StaysSame, changed_by, is_kept, numbers};
+ghost use Rattle.plan_coerce.specs.Coercion.{KeepsBelow, DenotesSame, Visits, IsCoerced, StaysSame};
 ghost use Rattle.plan_infer.specs.Samples.{int8, int16, int32, int64, one_column, columns_of, two_columns, struct_of, a, b, literal, number, five, binary, cast_to, sum, at, pair, columns_and, sum_items, a_items, ForTable};
-ghost use Rattle.plan_coerce.specs.Samples.{cast_of, strict_items, AreChanges, AreNoChanges};
-
-/// An operand stays where it has the type, and is cast to no other than that to which it is taken.
-pub fn casts_of_operands()
-    ensures same_type { AreChanges ((int8, int8, Keep) ∷ (Truth, Truth, Keep) ∷ []) }
-    ensures other_type { AreNoChanges ((int8, int16, Keep) ∷ (int8, Integer false 8, Keep) ∷ (Untyped (pos 300), int16, Keep) ∷
-        (DurationType Nanoseconds, DurationType Microseconds, Keep) ∷ []) }
-    ensures cast { AreChanges ((int8, int16, CastTo dtype.Int16) ∷ (Truth, Integer false 32, CastTo dtype.UInt32) ∷
-        (DurationType Nanoseconds, DurationType Microseconds, CastTo (dtype.Duration Microseconds)) ∷
-        (DateType, DatetimeType Milliseconds, CastTo (dtype.Datetime Milliseconds)) ∷
-        (Truth, TextType, CastTo dtype.String) ∷ (NullType, int8, CastTo dtype.Int8) ∷ []) }
-    ensures no_such_cast { AreNoChanges ((TextType, DateType, CastTo dtype.Date) ∷ []) }
-    ensures cast_to_another_type { AreNoChanges ((int8, int16, CastTo dtype.Int32) ∷ []) }
-    ensures cast_to_its_own_type { AreNoChanges ((int8, int8, CastTo dtype.Int8) ∷ []) }
-    ensures cast_of_a_number { AreNoChanges ((Untyped (pos 300), int16, CastTo dtype.Int16) ∷
-        (int16, Untyped (pos 300), CastTo (dtype.Unknown (unknown.Int (pos 300)))) ∷ []) }
-{}
-
-/// A number without a type becomes a literal of the type, where that has the number.
-pub fn literals_of_numbers()
-    ensures literal { AreChanges ((Untyped (pos 300), int16, Become (Int16 (pos 300)) dtype.Int16) ∷
-        (Untyped (neg_ℤ (pos 128)), int8, Become (Int8 (neg_ℤ (pos 128))) dtype.Int8) ∷ []) }
-    ensures other_literal { AreNoChanges ((Untyped (pos 300), int8, Become (Int8 (pos 300)) dtype.Int8) ∷
-        (Untyped (pos 300), int16, Become (UInt16 300) dtype.UInt16) ∷
-        (Untyped (pos 300), int16, Become (Int16 (pos 301)) dtype.Int16) ∷
-        (Untyped (pos 300), int16, Become (Int16 (pos 300)) dtype.Int32) ∷
-        (Untyped (pos 300), int16, Become (Int (pos 300)) dtype.Int16) ∷
-        (int8, int16, Become (Int16 (pos 300)) dtype.Int16) ∷ []) }
-{}
-
-/// An expression that is changed: it stays, stands under a cast that is not strict, or gives way to a literal.
-pub fn changed_expressions()
-    ensures keep { changed_by Keep a ≡ a }
-    ensures cast { changed_by (CastTo dtype.Int16) a ≡ cast_to int16 a }
-    ensures literal { changed_by (Become (Int16 (pos 300)) dtype.Int16) (number (pos 300)) ≡ literal int16 (pos 300) }
-    ensures not_under_another_cast { ¬ (changed_by (CastTo dtype.Int16) a ≡ cast_to int32 a) }
-    ensures kept { map is_kept (Keep ∷ CastTo dtype.Int16 ∷ Become (Int16 (pos 300)) dtype.Int16 ∷ []) ≡ true ∷ false ∷ false ∷ [] }
-{}
+ghost use Rattle.plan_coerce.specs.Samples.{cast_of, strict_items};
 
 /// A node denotes a typed expression of nodes from a number on, or one whose type is of columns.
 pub fn nodes_of_typed_expressions()
@@ -110,15 +72,4 @@ pub fn coerced_sums()
     ensures items_below { KeepsBelow 1 (columns_and []) (Column (codes "a") ∷ Column (codes "c") ∷ []) }
     ensures same { DenotesSame [] (one_column int8) 0 a_items 0 a }
     ensures not_same { ¬ (DenotesSame [] (columns_of int8 int8) 0 (Column (codes "b") ∷ []) 0 a) }
-    ensures roots { numbers (at 3 ∷ at 1 ∷ []) ≡ 3 ∷ 1 ∷ [] }
-{}
-
-/// An operator's operands are changed by the types that the table keeps for them.
-pub fn changes_of_both_operands()
-    ensures cast { ForTable 0 (Some dtype.Int8 ∷ Some dtype.Int32 ∷ []) (λ table.
-        ChangesOperands [] two_columns (columns_and []) table 0 Plus 1 (CastTo dtype.Int32) Keep) }
-    ensures none { ForTable 0 (Some dtype.Int8 ∷ Some dtype.Int32 ∷ []) (λ table.
-        ¬ (ChangesOperands [] two_columns (columns_and []) table 0 Plus 1 Keep Keep)) }
-    ensures nothing_kept { ForTable 0 (Some dtype.Int8 ∷ []) (λ table.
-        ¬ (ChangesOperands [] two_columns (columns_and []) table 0 Plus 1 (CastTo dtype.Int32) Keep)) }
 {}

@@ -11,17 +11,16 @@ ghost use Rattle.plan_dsl.specs.Plans.{trees_of};
 ghost use Rattle.plan_dsl.specs.Registry.{registry};
 ghost use Rattle.plan_dsl.specs.Typing.{typing};
 ghost use Rattle.plan_arena.specs.Denotation.{Denotes};
-ghost use Rattle.plan_arena.specs.Items.{named_node, Grows, HoldsExpression, HoldsFrom};
-ghost use Rattle.plan_coerce.specs.Coercion.{numbers};
+ghost use Rattle.plan_arena.specs.Items.{named_node, numbers, Grows, HoldsExpression, HoldsFrom};
 ghost use Rattle.plan_infer.specs.KeptTypes.{Extends, IsKept, IsRight, first_node};
 ghost use Rattle.plan_lower.specs.Outputs.{HasOutputs};
 ghost use Rattle.plan_lower.specs.Projection.{Projects, AddsOutput, IsOutputRefusal, IsProjectionRefusal};
 
 use crate::conversion::expr_to_ir::{settle, to_expr_ir};
-use plan_arena::aexpr::AExpr;
+use plan_arena::aexpr::{AExpr, Nodes};
 use plan_arena::arena::Arena;
 use plan_arena::expr_ir::{ExprIR, ExprIRs};
-use plan_coerce::stack_opt::{Stack, coerce_types};
+use plan_coerce::stack_opt::coerce_types;
 use plan_dsl::expr::Expr;
 use plan_dsl::plan::Exprs;
 use plan_dsl::udfs::Udfs;
@@ -60,7 +59,7 @@ pub(crate) fn project_strictly(
 }
 
 // The nodes of the expressions.
-fn roots_of(exprs: &ExprIRs, alloc: Global) -> Result<Stack, PlanError>
+fn roots_of(exprs: &ExprIRs, alloc: Global) -> Result<Nodes, PlanError>
     ensures ok { IfOk result (λ stack. numbers stack.items ≡ map (λ e. (named_node e).expression) exprs.now.items.items) }
     ensures err { IfErr result (λ error. error ≡ no_memory) }
 {

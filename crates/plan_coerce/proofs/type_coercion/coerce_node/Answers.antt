@@ -1,66 +1,73 @@
-use Rattle.std.proofs.Common.{[], ◌∷◌, sym, ap, ◌∙◌, subst, arith, rules}
-use Rattle.std.specs.Int.{w128}
-use Rattle.std.specs.Prelude.{FitsSigned}
-use Rattle.std.proofs.lemmas.Int.{to_z-of_z}
-use Rattle.plan_types.specs.Types.{Untyped, ty}
-use Rattle.plan_dsl.specs.Ops.{CastOp}
-use Rattle.plan_arena.specs.Items.{HoldsExpression, expression_layer}
-use Rattle.plan_arena.proofs.ItemLemmas.{tree_within, got_held}
-use Rattle.plan_infer.proofs.TableLemmas.{plain_tree}
-use Rattle.plan_coerce.proofs.CoercionLemmas.{visits_leaf, visits_cast}
-use Rattle.plan_infer.proofs.TableLemmas.{known_there, known_typed, known_inputs, kept_type, keeps_one, extends_itself}
+use Rattle.std.proofs.Common.{map, sym, ap, ◌∙◌, subst, arith, length}
+use Rattle.plan_types.specs.Types.{ty}
+use Rattle.plan_arena.specs.Layers.{inputs_of}
+use Rattle.plan_arena.specs.Items.{expression_layer, numbers, Rewired}
+use Rattle.std.proofs.lemmas.List.{length-map}
+use Rattle.plan_arena.proofs.DenotationLemmas.{some_same}
+use Rattle.plan_arena.proofs.ItemLemmas.{grown_held, length-grown}
+use Rattle.plan_infer.proofs.TableLemmas.{typed_item}
+use Rattle.plan_coerce.specs.Coercion.{AreChanged, AllReady}
+use Rattle.plan_coerce.proofs.CoercionLemmas.{changed_count, same_inputs, takes_ready, rewritten, rewritten_visits}
+use Rattle.plan_coerce.proofs.RightLemmas.{kept_within, elsewhere_kept, right_rewritten}
 use Rattle.plan_coerce.proofs.type_coercion.coerce_node.Goals as goal
 
 pub get-requires : goal.get-requires
-get-requires c =
+get-requires c = kept_within c.args.arena.now c.args.types.now c.args.node.0 c.requires.right c.requires.kept
+
+pub operand_types_of-requires : goal.operand_types_of-requires
+operand_types_of-requires c =
     let is = c.requires.right in
-    tree_within c.args.arena.now c.args.node.0 (plain_tree (known_typed is.registry is.schema c.args.arena.now c.args.types.now is.right c.args.node.0 c.requires.kept))
+    typed_item is.registry is.schema c.args.arena.now c.args.types.now is.right c.args.node.0 c.get.result.now c.get.ensures c.requires.kept
 
-pub coerce_binary-requires-clause-held : goal.coerce_binary-requires-clause-held
-coerce_binary-requires-clause-held c =
-    got_held c.args.arena.now c.args.node.0 c.get.result.now _ _ c.get.ensures (ap expression_layer c.in-BinaryExpr.is)
+pub get-requires-2 : goal.get-requires-2
+get-requires-2 c = kept_within c.args.arena.now c.args.types.now c.args.node.0 c.requires.right c.requires.kept
 
-pub returns-in-Column-clause-ok : goal.returns-in-Column-clause-ok
-returns-in-Column-clause-ok c = λ registry schema first t right.
-    let held = got_held c.args.arena.now c.args.node.0 c.get.result.now _ _ c.get.ensures (ap expression_layer c.in-Column.is) in
-    visits_leaf registry schema c.args.arena.now c.args.node.0 _ held first t
-
-pub returns-in-Literal-clause-ok : goal.returns-in-Literal-clause-ok
-returns-in-Literal-clause-ok c = λ registry schema first t right.
-    let held = got_held c.args.arena.now c.args.node.0 c.get.result.now _ _ c.get.ensures (ap expression_layer c.in-Literal.is) in
-    visits_leaf registry schema c.args.arena.now c.args.node.0 _ held first t
-
-pub get-requires-in-Cast : goal.get-requires-in-Cast
-get-requires-in-Cast c =
+pub operands_to-requires-clause-ready : goal.operands_to-requires-clause-ready
+operands_to-requires-clause-ready c =
     let is = c.requires.right in
-    let held = got_held c.args.arena.now c.args.node.0 c.get.result.now _ _ c.get.ensures (ap expression_layer c.in-Cast.is) in
-    (known_inputs is.registry is.schema c.args.arena.now c.args.types.now is.right c.args.node.0 _ _ c.requires.kept held).0
+    let item = c.get.result.now in
+    let e = typed_item is.registry is.schema c.args.arena.now c.args.types.now is.right c.args.node.0 item c.get.ensures c.requires.kept in
+    let ready = takes_ready c.args.types.now item (map ty c.in_ok-targets.targets.items) e (c.in_ok-targets.ensures.ok e.registry e.schema) in
+    let inputs = c.in_ok-inputs.ensures.ok ∙ ap (λ i. inputs_of (expression_layer i)) (some_same _ c.get-2.result.now item c.get-2.ensures c.get.ensures) in
+    let listed = ap numbers c.as_slice.ensures ∙ inputs in
+    subst (λ ns. AllReady c.args.types.now ns (map ty c.as_slice-2.result.now)) (sym listed) (subst (λ ts. AllReady c.args.types.now (inputs_of (expression_layer item)) (map ty ts)) (sym c.as_slice-2.ensures.value) ready)
 
-pub returns-in_default : goal.returns-in_default
-returns-in_default c =
-    let held = got_held c.args.arena.now c.args.node.0 c.get.result.now _ _ c.get.ensures (ap expression_layer c.in-Cast.is) in
-    record {
-      ok = λ registry schema first t right. visits_cast registry schema c.args.arena.now c.args.node.0 _ _ _ (ty c.get-in-Cast.result.now) held (kept_type registry schema c.args.arena.now c.args.types.now right c.in-Cast.expr.0 _ c.get-in-Cast.ensures) (known_there registry schema c.args.arena.now c.args.types.now right c.in-Cast.expr.0 _ c.get-in-Cast.ensures c.in_default.ensures) first t;
-      right = λ registry schema right. right;
-      extends = extends_itself c.args.types.now;
-      elsewhere = λ n op inputs other h. h;
-      longer = omega arith;
-      grows = tt;
-      err = tt;
-    }
+pub returns-in_err-operands-clause-elsewhere : goal.returns-in_err-operands-clause-elsewhere
+returns-in_err-operands-clause-elsewhere c = λ n op inputs other h. grown_held _ _ c.in_err-operands.ensures.grows n op inputs h
 
-pub coerce_cast-requires-clause-untyped : goal.coerce_cast-requires-clause-untyped
-coerce_cast-requires-clause-untyped c = λ from keeps.
-    let fits : FitsSigned w128 c.in-Some.number = search rules in
-    ap ty (keeps_one c.args.types.now c.in-Cast.expr.0 from c.get-in-Cast.result.now keeps c.get-in-Cast.ensures) ∙ c.in-Some.ensures ∙ ap Untyped (sym (to_z-of_z w128 c.in-Some.number fits))
+pub replace_inputs-requires-clause-there : goal.replace_inputs-requires-clause-there
+replace_inputs-requires-clause-there c =
+    let here = kept_within c.args.arena.now c.args.types.now c.args.node.0 c.requires.right c.requires.kept in
+    omega (arith, here, length-grown _ _ c.in_ok-operands.ensures.grows)
 
-pub returns-in-Column-clause-extends : goal.returns-in-Column-clause-extends
-returns-in-Column-clause-extends c = extends_itself c.args.types.now
+pub replace_inputs-requires-clause-count : goal.replace_inputs-requires-clause-count
+replace_inputs-requires-clause-count c = λ now there.
+    let item = c.get.result.now in
+    let inputs = c.in_ok-inputs.ensures.ok ∙ ap (λ i. inputs_of (expression_layer i)) (some_same _ c.get-2.result.now item c.get-2.ensures c.get.ensures) in
+    let changed = c.in_ok-operands.ensures.changed in
+    let count = changed_count _ _ _ _ _ _ changed ∙ ap length (ap numbers c.as_slice.ensures ∙ inputs) in
+    let same = same_inputs c.args.arena.now c.operands_to.new.arena c.args.node.0 item now c.get.ensures c.in_ok-operands.ensures.grows there in
+    ap length c.as_slice-3.ensures ∙ sym (length-map c.in_ok-operands.operands.items (λ n. n.0)) ∙ count ∙ sym (ap length same)
 
-pub returns-in-Literal-clause-extends : goal.returns-in-Literal-clause-extends
-returns-in-Literal-clause-extends c = extends_itself c.args.types.now
+pub returns-clause-ok : goal.returns-clause-ok
+returns-clause-ok c = λ registry schema first t right le d has.
+    let item = c.get.result.now in
+    let inputs = ap numbers c.as_slice.ensures ∙ c.in_ok-inputs.ensures.ok ∙ ap (λ i. inputs_of (expression_layer i)) (some_same _ c.get-2.result.now item c.get-2.ensures c.get.ensures) in
+    let listed = subst (λ ns. AreChanged c.args.arena.now c.operands_to.new.arena c.args.types.now ns (numbers c.in_ok-operands.operands.items) (map ty c.as_slice-2.result.now)) inputs c.in_ok-operands.ensures.changed in
+    let changed = subst (λ ts. AreChanged c.args.arena.now c.operands_to.new.arena c.args.types.now (inputs_of (expression_layer item)) (numbers c.in_ok-operands.operands.items) (map ty ts)) c.as_slice-2.ensures.value listed in
+    let rew = subst (λ ms. Rewired c.operands_to.new.arena c.replace_inputs.new.self c.args.node.0 (numbers ms)) c.as_slice-3.ensures c.replace_inputs.ensures in
+    rewritten_visits registry schema first c.replace_inputs.new.self c.args.node.0 t has (rewritten registry schema c.args.arena.now c.operands_to.new.arena c.replace_inputs.new.self c.args.types.now c.args.node.0 item (numbers c.in_ok-operands.operands.items) (map ty c.in_ok-targets.targets.items) right c.get.ensures c.in_ok-operands.ensures.grows changed (c.in_ok-targets.ensures.ok registry schema) rew first t has.typed le d has.is)
 
-pub coerce_cast-requires-clause-held : goal.coerce_cast-requires-clause-held
-coerce_cast-requires-clause-held c =
-    let held = got_held c.args.arena.now c.args.node.0 c.get.result.now _ _ c.get.ensures (ap expression_layer c.in-Cast.is) in
-    subst (λ u. HoldsExpression c.args.arena.now c.args.node.0 (CastOp u c.in-Cast.options) (c.in-Cast.expr.0 ∷ [])) (sym c.in_ok-dtype-in-Cast.ensures.ok) held
+pub returns-clause-right : goal.returns-clause-right
+returns-clause-right c = λ registry schema right.
+    let item = c.get.result.now in
+    let inputs = ap numbers c.as_slice.ensures ∙ c.in_ok-inputs.ensures.ok ∙ ap (λ i. inputs_of (expression_layer i)) (some_same _ c.get-2.result.now item c.get-2.ensures c.get.ensures) in
+    let listed = subst (λ ns. AreChanged c.args.arena.now c.operands_to.new.arena c.args.types.now ns (numbers c.in_ok-operands.operands.items) (map ty c.as_slice-2.result.now)) inputs c.in_ok-operands.ensures.changed in
+    let changed = subst (λ ts. AreChanged c.args.arena.now c.operands_to.new.arena c.args.types.now (inputs_of (expression_layer item)) (numbers c.in_ok-operands.operands.items) (map ty ts)) c.as_slice-2.ensures.value listed in
+    let rew = subst (λ ms. Rewired c.operands_to.new.arena c.replace_inputs.new.self c.args.node.0 (numbers ms)) c.as_slice-3.ensures c.replace_inputs.ensures in
+    right_rewritten registry schema c.args.arena.now c.operands_to.new.arena c.replace_inputs.new.self c.args.types.now c.operands_to.new.types c.args.node.0 item (numbers c.in_ok-operands.operands.items) (map ty c.in_ok-targets.targets.items) right c.requires.kept c.get.ensures c.in_ok-operands.ensures.grows changed (c.in_ok-targets.ensures.ok registry schema) rew c.in_ok-operands.ensures.kept (c.in_ok-operands.ensures.right registry schema right)
+
+pub returns-clause-elsewhere : goal.returns-clause-elsewhere
+returns-clause-elsewhere c = λ n op inputs other h.
+    let rew = subst (λ ms. Rewired c.operands_to.new.arena c.replace_inputs.new.self c.args.node.0 (numbers ms)) c.as_slice-3.ensures c.replace_inputs.ensures in
+    elsewhere_kept c.operands_to.new.arena c.replace_inputs.new.self c.args.node.0 _ rew n op inputs other (grown_held _ _ c.in_ok-operands.ensures.grows n op inputs h)

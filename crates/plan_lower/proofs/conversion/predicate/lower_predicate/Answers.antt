@@ -7,7 +7,8 @@ use Rattle.plan_dsl.specs.Expressions.{tree_of}
 use Rattle.plan_dsl.specs.Registry.{registry}
 use Rattle.plan_arena.specs.Items.{named_node}
 use Rattle.plan_arena.proofs.ItemLemmas.{grown_held, length-grown}
-use Rattle.plan_coerce.specs.Coercion.{IsCoerced, numbers}
+use Rattle.plan_coerce.specs.Coercion.{IsCoerced}
+use Rattle.plan_arena.specs.Items.{numbers}
 use Rattle.plan_lower.proofs.ProjectionLemmas.{one_output, root_typed, has_predicate, refused_predicate, other_type_refused, not_true, not_false, earlier_kept}
 use Rattle.plan_infer.proofs.TableLemmas.{right_start}
 use Rattle.plan_infer.proofs.TableLemmas.{kept_type}

@@ -1,6 +1,6 @@
 use Rattle.std.proofs.Common.{◌≡◌, map, take}
 use Rattle.plan_arena.specs.Items.{named_node}
-use Rattle.plan_coerce.specs.Coercion.{numbers}
+use Rattle.plan_arena.specs.Items.{numbers}
 use Rattle.plan_lower.proofs.conversion.projection.roots_of.Given as goal
 
 abbrev pub invariant-loop-expr : goal.invariant-loop-expr

@@ -3,10 +3,10 @@ use Rattle.std.specs.List.{AllByRecursion}
 use Rattle.plan_types.specs.Schemas.{Columns}
 use Rattle.plan_dsl.specs.Registry.{Registry}
 use Rattle.plan_infer.specs.Typed.{DenotesKnown}
-use Rattle.plan_coerce.specs.Coercion.{numbers}
+use Rattle.plan_arena.specs.Items.{numbers}
 use Rattle.plan_infer.specs.KeptTypes.{IsKept, IsRight}
 use Rattle.plan_coerce.proofs.StackLemmas.{Pending}
-use Rattle.plan_coerce.proofs.stack_opt.coerce_types.Given as goal
+use Rattle.plan_coerce.proofs.stack_opt.coerce_stacked.Given as goal
 
 abbrev pub invariant-loop-turn : goal.invariant-loop-turn
 invariant-loop-turn l =

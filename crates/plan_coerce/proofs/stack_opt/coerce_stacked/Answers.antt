@@ -1,14 +1,14 @@
 use Rattle.std.proofs.Common.{◌<◌, length, subst, arith}
 use Rattle.std.specs.List.{AllByRecursion}
 use Rattle.plan_arena.proofs.ItemLemmas.{tree_within}
-use Rattle.plan_coerce.specs.Coercion.{numbers}
+use Rattle.plan_arena.specs.Items.{numbers}
 use Rattle.plan_infer.specs.KeptTypes.{IsKept}
 use Rattle.plan_infer.proofs.TableLemmas.{plain_tree}
 use Rattle.plan_arena.proofs.NumberLemmas.{all_last}
-use Rattle.plan_coerce.proofs.StackLemmas.{Pending, pending_start, pending_step, pending_end, pushed_one, no_numbers, on_refusal, stays_now, stays_grown, stays_visited}
+use Rattle.plan_coerce.proofs.StackLemmas.{Pending, pending_start, pending_step, pending_end, pushed, pushed_one, no_numbers, on_refusal, stays_now, stays_grown, stays_visited}
 use Rattle.plan_infer.proofs.TableLemmas.{known_typed}
 use Rattle.plan_coerce.proofs.RightLemmas.{waiting_known}
-use Rattle.plan_coerce.proofs.stack_opt.coerce_types.Goals as goal
+use Rattle.plan_coerce.proofs.stack_opt.coerce_stacked.Goals as goal
 
 pub loop-turn-init : goal.loop-turn-init
 loop-turn-init c =
@@ -35,8 +35,8 @@ coerce_node-requires c =
       kept = all_last (IsKept c.loop-turn.types) (numbers c.pop.new.self.items) c.in-Some.node.0 known;
     }
 
-pub push_inputs-requires : goal.push_inputs-requires
-push_inputs-requires c =
+pub get-requires : goal.get-requires
+get-requires c =
     let popped = pushed_one c.pop.new.self.items c.loop-turn.stack.items c.in-Some.node c.in-Some.ensures.items in
     let known = subst (AllByRecursion (IsKept c.loop-turn.types)) popped c.loop-turn.invariant.kept in
     let here = all_last (IsKept c.loop-turn.types) (numbers c.pop.new.self.items) c.in-Some.node.0 known in
@@ -54,11 +54,11 @@ loop-turn-preserved c =
     let right = visited.right is.registry is.schema (c.loop-turn.invariant.right is.registry is.schema is.right) in
     record {
       longer = omega (arith, c.loop-turn.invariant.longer, visited.longer);
-      kept = waiting_known c.coerce_node.new.arena c.loop-turn.types c.coerce_node.new.types c.in-Some.node.0 (numbers c.pop.new.self.items) (numbers c.push_inputs.new.stack.items) known visited.extends.kept (record { registry = is.registry; schema = is.schema; right = right }) c.in_ok-push_inputs.ensures.ok;
+      kept = waiting_known c.coerce_node.new.arena c.loop-turn.types c.coerce_node.new.types c.in-Some.node.0 (numbers c.pop.new.self.items) (numbers c.inputs_rev.new.nodes.items) known visited.extends.kept (record { registry = is.registry; schema = is.schema; right = right }) (pushed c.coerce_node.new.arena c.in-Some.node.0 c.get.result.now (numbers c.pop.new.self.items) (numbers c.inputs_rev.new.nodes.items) c.get.ensures c.in_ok-inputs_rev.ensures.ok);
       right = λ registry schema before. visited.right registry schema (c.loop-turn.invariant.right registry schema before);
       pending = λ registry schema first before le all.
           let p = subst (λ s. Pending registry schema first c.args.arena.now c.loop-turn.arena s (numbers c.args.stack.now.items)) popped (c.loop-turn.invariant.pending registry schema first before le all) in
-          pending_step registry schema first c.args.arena.now c.loop-turn.arena c.coerce_node.new.arena c.in-Some.node.0 (numbers c.pop.new.self.items) (numbers c.push_inputs.new.stack.items) (numbers c.args.stack.now.items) p visited.elsewhere (λ t d has. visited.ok registry schema first t (c.loop-turn.invariant.right registry schema before) (omega (arith, le, c.loop-turn.invariant.longer)) d has) c.in_ok-push_inputs.ensures.ok;
+          pending_step registry schema first c.args.arena.now c.loop-turn.arena c.coerce_node.new.arena c.in-Some.node.0 (numbers c.pop.new.self.items) (numbers c.inputs_rev.new.nodes.items) (numbers c.args.stack.now.items) p visited.elsewhere (λ t d has. visited.ok registry schema first t (c.loop-turn.invariant.right registry schema before) (omega (arith, le, c.loop-turn.invariant.longer)) d has) (pushed c.coerce_node.new.arena c.in-Some.node.0 c.get.result.now (numbers c.pop.new.self.items) (numbers c.inputs_rev.new.nodes.items) c.get.ensures c.in_ok-inputs_rev.ensures.ok);
     }
 
 pub returns-in_err-coerce_node-clause-stays : goal.returns-in_err-coerce_node-clause-stays
@@ -66,8 +66,8 @@ returns-in_err-coerce_node-clause-stays c = on_refusal c.from_residual.result (�
     let p = c.loop-turn.invariant.pending registry schema first right le all in
     stays_grown registry schema first c.args.arena.now c.loop-turn.arena c.coerce_node.new.arena (numbers c.loop-turn.stack.items) (numbers c.args.stack.now.items) p c.in_err-coerce_node.ensures.grows)
 
-pub returns-in_err-push_inputs-clause-stays : goal.returns-in_err-push_inputs-clause-stays
-returns-in_err-push_inputs-clause-stays c = on_refusal c.from_residual-in_err-push_inputs.result (λ registry schema first right le all.
+pub returns-in_err-inputs_rev-clause-stays : goal.returns-in_err-inputs_rev-clause-stays
+returns-in_err-inputs_rev-clause-stays c = on_refusal c.from_residual-in_err-inputs_rev.result (λ registry schema first right le all.
     let popped = pushed_one c.pop.new.self.items c.loop-turn.stack.items c.in-Some.node c.in-Some.ensures.items in
     let p = subst (λ s. Pending registry schema first c.args.arena.now c.loop-turn.arena s (numbers c.args.stack.now.items)) popped (c.loop-turn.invariant.pending registry schema first right le all) in
     let visited = c.in_ok-coerce_node.ensures in
