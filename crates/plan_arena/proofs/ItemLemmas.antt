@@ -1,17 +1,21 @@
 -- The two arenas hold what their items say, and keep it as they grow or change at one node.
-use Rattle.std.proofs.Common.{◌≡◌, ◌≢◌, ℕ, ◌+◌, ◌<◌, ◌≤◌, List, [], ◌∷◌, ◌++◌, length, map, set, Option, Some, slice_get, sym, ap, ◌∙◌, subst, refl, arith, length-append, append_assoc}
+use Rattle.std.proofs.Common.{◌≡◌, ◌≢◌, ℕ, ◌+◌, ◌<◌, ◌≤◌, List, [], ◌∷◌, ◌++◌, length, map, set, Option, Some, None, is_some, IsTrue, slice_get, sym, ap, ◌∙◌, subst, refl, arith, length-append, append_assoc}
 use Rattle.std.specs.List.{AllByRecursion}
 use Rattle.std.specs.Option.{option_map}
 use Rattle.std.proofs.lemmas.Option.{slice_get-map, slice_get_within}
 use Rattle.std.proofs.lemmas.List.{map-append, map-set, length-map}
 use Rattle.plan_types.proofs.ListLemmas.{slice_get-append, slice_get-seam, slice_get-set_other, slice_get-set_same}
 use Rattle.plan_dsl.specs.Ops.{Op, Expression}
-use Rattle.plan_dsl.specs.Plans.{PlanOp, Plan, Named}
+use Rattle.plan_dsl.specs.Plans.{Named, PlanKind, ScanKind, SelectKind, FilterKind, PlanOp, Plan, filter_op}
+use Rattle.plan_dsl.specs.PlanRules.{where_unbroken, plan_rule, schema_of}
+use Rattle.plan_dsl.specs.Registry.{Registry}
+use Rattle.plan_types.specs.Schemas.{Columns}
+use Rattle.plan_types.specs.declared.error.ErrorKind.{ErrorKind}
 use Rattle.plan_dsl.specs.Trees.{Trees, node, no_more, more}
 use Rattle.plan_arena.specs.Denotation.{Denotes, DenoteAll, DenotesTree, greatest, depth_at}
 use Rattle.plan_arena.specs.Layers.{Layer, layer, inputs_of, shape_of}
-use Rattle.plan_arena.specs.Items.{expression_layer, plan_layer, HoldsExpression, HoldsFrom, DenoteNamed, DenotesOp, HoldsPlan, DenotesItem, HasInputs, Grows}
-use Rattle.plan_arena.specs.Runs.{own_schema, top_schema, first_schema}
+use Rattle.plan_arena.specs.Items.{expression_layer, plan_layer, HoldsExpression, HoldsFrom, DenoteNamed, DenotesKind, DenotesOp, HoldsPlan, DenotesItem, HasInputs, Grows}
+use Rattle.plan_arena.specs.Runs.{HasRecorded, IsAccepted, AllAccepted}
 use Rattle.plan_arena.specs.declared.aexpr.AExpr.{AExpr}
 use Rattle.plan_arena.specs.declared.ir.IR.{IR}
 use Rattle.plan_arena.proofs.DenotationLemmas.{HasShape, some_same, denotes_one, kept, inputs_denote, depth_of_inputs}
@@ -76,12 +80,21 @@ named_one items [] [] (y ∷ ys) d e = absurd e
 named_one items (n ∷ ns) [] fs d e = absurd d
 named_one items (n ∷ ns) (x ∷ xs) [] d e = absurd e
 
+list_one : {A : Type 0} (x y : A) → x ∷ [] ≡ y ∷ [] → x ≡ y
+list_one x y e = cc
+
+-- a kind over nodes is that of one kind over expressions
+kind_one : (items : List AExpr) (flat : PlanKind ℕ) (a b : PlanKind Expression) → DenotesKind items flat a → DenotesKind items flat b → a ≡ b
+kind_one items (ScanKind table schema) a b d e = d ∙ sym e
+kind_one items (SelectKind nodes) a b d e = d.1 ∙ ap SelectKind (named_one items nodes d.0 e.0 d.2 e.2) ∙ sym e.1
+kind_one items (FilterKind node) a b d e =
+    d.1 ∙ ap FilterKind (list_one d.0 e.0 (named_one items (node ∷ []) (d.0 ∷ []) (e.0 ∷ []) d.2 e.2)) ∙ sym e.1
+
 op_one : (items : List AExpr) (flat : PlanOp ℕ) (a b : PlanOp Expression) → DenotesOp items flat a → DenotesOp items flat b → a ≡ b
 op_one items flat a b d e =
-    let kind = sym d.same_kind ∙ e.same_kind in
-    let schema = sym d.same_schema ∙ e.same_schema in
-    let expressions = named_one items flat.expressions a.expressions b.expressions d.named e.named in
-    λ i. record { kind = kind i; expressions = expressions i; schema = schema i }
+    let kind = kind_one items flat.kind a.kind b.kind d.kind e.kind in
+    let recorded = sym d.same_recorded ∙ e.same_recorded in
+    λ i. record { kind = kind i; recorded = recorded i }
 
 -- the plans' arena holds one op at each node
 pub plan_laws : (expressions : List AExpr) (plans : List IR) → HasShape (shape_of (map plan_layer plans)) (HoldsPlan expressions plans)
@@ -100,6 +113,12 @@ named_kept items items' keeps (n ∷ ns) (e ∷ es) d =
     (d.0, kept (HoldsExpression items) (HoldsExpression items') keeps n.expression e.expression d.1, named_kept items items' keeps ns es d.2)
 named_kept items items' keeps [] (e ∷ es) d = absurd d
 named_kept items items' keeps (n ∷ ns) [] d = absurd d
+
+-- and so does a kind over nodes
+kind_kept : (items items' : List AExpr) → ((n : ℕ) (op : Op) (inputs : List ℕ) → HoldsExpression items n op inputs → HoldsExpression items' n op inputs) → (flat : PlanKind ℕ) (kind : PlanKind Expression) → DenotesKind items flat kind → DenotesKind items' flat kind
+kind_kept items items' keeps (ScanKind table schema) kind d = d
+kind_kept items items' keeps (SelectKind nodes) kind d = (d.0, d.1, named_kept items items' keeps nodes d.0 d.2)
+kind_kept items items' keeps (FilterKind node) kind d = (d.0, d.1, named_kept items items' keeps (node ∷ []) (d.0 ∷ []) d.2)
 
 -- a new plan item is there
 pub plan_added : (plans : List IR) (item : IR) → slice_get (map plan_layer (plans ++ item ∷ [])) (length plans) ≡ Some (plan_layer item)
@@ -123,9 +142,8 @@ plan_kept items items' plans grown keeps g n op inputs h = record {
   flat = h.flat;
   item = plan_stays plans grown g n (layer h.flat inputs) h.item;
   denotes = record {
-    same_kind = h.denotes.same_kind;
-    same_schema = h.denotes.same_schema;
-    named = named_kept items items' keeps h.flat.expressions op.expressions h.denotes.named;
+    same_recorded = h.denotes.same_recorded;
+    kind = kind_kept items items' keeps h.flat.kind op.kind h.denotes.kind;
   };
 }
 
@@ -144,6 +162,21 @@ plan_within items plans n d = plan_here items plans n d.tree d.denotes
 -- how far down an item leads
 abbrev pub item_depth : List IR → IR → ℕ
 item_depth plans item = 1 + greatest (depth_at (shape_of (map plan_layer plans))) (inputs_of (plan_layer item))
+
+unbroken_is : (kinds : List ErrorKind) (schema : Option Columns) → IsTrue (is_some (where_unbroken kinds schema)) → where_unbroken kinds schema ≡ schema
+unbroken_is [] schema h = refl
+unbroken_is (kind ∷ kinds) schema h = absurd cc
+
+filtered_schema : (registry : Registry) (predicate : Named Expression) (recorded : Option Columns) (schema : Option Columns) → IsTrue (is_some (plan_rule registry (record { kind = FilterKind predicate; recorded = recorded }) (schema ∷ []))) → plan_rule registry (record { kind = FilterKind predicate; recorded = recorded }) (schema ∷ []) ≡ schema
+filtered_schema registry predicate recorded None h = unbroken_is _ None h
+filtered_schema registry predicate recorded (Some schema) h = unbroken_is _ (Some schema) h
+
+-- a filter that has a schema has that of its input
+filter_keeps : (registry : Registry) (op : PlanOp Expression) (predicate : Named Expression) → op.kind ≡ FilterKind predicate → (schema : Option Columns) → IsTrue (is_some (plan_rule registry op (schema ∷ []))) → plan_rule registry op (schema ∷ []) ≡ schema
+filter_keeps registry op predicate kind schema h =
+    let rule : plan_rule registry op (schema ∷ []) ≡ plan_rule registry (record { kind = FilterKind predicate; recorded = op.recorded }) (schema ∷ []) =
+    ap (λ (k : PlanKind Expression). plan_rule registry (record { kind = k; recorded = op.recorded }) (schema ∷ [])) kind in
+    rule ∙ filtered_schema registry predicate op.recorded schema (subst (λ o. IsTrue (is_some o)) rule h)
 
 module _ (expressions : List AExpr) (plans : List IR) where
   -- a node that denotes a plan, with the item that `get` answers
@@ -181,20 +214,31 @@ module _ (expressions : List AExpr) (plans : List IR) where
 
   -- an item that denotes a plan, by what it does
   module _ (item : IR) (flat : PlanOp ℕ) (inputs : List ℕ) (is : plan_layer item ≡ layer flat inputs) where
-    -- the plan's schema is the item's own, over the first of the plans that its inputs denote
-    pub item_schema : (t : Plan) → DenotesItem expressions plans item t → (ts : Trees (PlanOp Expression)) × (own_schema flat.kind flat.schema (first_schema ts) ≡ top_schema t) × DenoteAll (HoldsPlan expressions plans) inputs ts
-    item_schema (node op ts) d =
-        let flats = layer_op flat d.1.flat inputs d.0 (sym is ∙ d.1.is) in
-        let same = layer_inputs flat d.1.flat inputs d.0 (sym is ∙ d.1.is) in (
-          ts,
-          ap (λ (f : PlanOp ℕ). own_schema f.kind f.schema (first_schema ts)) flats ∙ (λ i. own_schema (d.1.denotes.same_kind i) (d.1.denotes.same_schema i) (first_schema ts)),
-          subst (λ ns. DenoteAll (HoldsPlan expressions plans) ns ts) (sym same) d.2,
-        )
+    op_of_item : (op : PlanOp Expression) (ts : Trees (PlanOp Expression)) (d : DenotesItem expressions plans item (node op ts)) → d.1.flat ≡ flat
+    op_of_item op ts d = layer_op d.1.flat flat d.0 inputs (sym d.1.is ∙ is)
 
-  -- the first of the plans that one node denotes is its plan
-  pub first_of_one : (n : ℕ) (ts : Trees (PlanOp Expression)) → DenoteAll (HoldsPlan expressions plans) (n ∷ []) ts → (t : Plan) × (first_schema ts ≡ top_schema t) × Denotes (HoldsPlan expressions plans) n t
-  first_of_one n (more t ts) d = (t, refl, d.0)
-  first_of_one n no_more d = absurd d
+    -- the schema that an item records is its plan's by the rules
+    pub item_recorded : (registry : Registry) (schema : Columns) → flat.recorded ≡ Some schema → (t : Plan) → DenotesItem expressions plans item t → IsAccepted registry t → schema_of registry t ≡ Some schema
+    item_recorded registry schema recorded (node op ts) d accepted =
+        let same = sym d.1.denotes.same_recorded ∙ ap (λ (f : PlanOp ℕ). f.recorded) (op_of_item op ts d) ∙ recorded in
+        subst (λ r. HasRecorded r (schema_of registry (node op ts))) same accepted.0
+
+  -- a filter's item, whose input is known
+  module _ (item : IR) (predicate : Named ℕ) (n : ℕ) (is : plan_layer item ≡ layer (filter_op predicate) (n ∷ [])) where
+    filter_children : (registry : Registry) (op : PlanOp Expression) (e : Named Expression) → op.kind ≡ FilterKind e → (ts : Trees (PlanOp Expression)) → DenoteAll (HoldsPlan expressions plans) (n ∷ []) ts → IsTrue (is_some (schema_of registry (node op ts))) → AllAccepted registry ts → (t : Plan) × Denotes (HoldsPlan expressions plans) n t × IsAccepted registry t × (schema_of registry (node op ts) ≡ schema_of registry t)
+    filter_children registry op e kind (more t no_more) d there accepted = (t, d.0, accepted.0, filter_keeps registry op e kind (schema_of registry t) there)
+    filter_children registry op e kind no_more d there accepted = absurd d
+    filter_children registry op e kind (more t (more u ts)) d there accepted = absurd d.1
+
+    -- a filter has the schema of its input
+    pub filter_item : (registry : Registry) (t : Plan) → DenotesItem expressions plans item t → IsAccepted registry t → (u : Plan) × Denotes (HoldsPlan expressions plans) n u × IsAccepted registry u × (schema_of registry t ≡ schema_of registry u)
+    filter_item registry (node op ts) d accepted =
+        let flats = op_of_item item (filter_op predicate) (n ∷ []) is op ts d in
+        let inputs = layer_inputs d.1.flat (filter_op predicate) d.0 (n ∷ []) (sym d.1.is ∙ is) in
+        let kind = subst (λ (f : PlanOp ℕ). DenotesKind expressions f.kind op.kind) flats d.1.denotes.kind in
+        let none = sym d.1.denotes.same_recorded ∙ ap (λ (f : PlanOp ℕ). f.recorded) flats in
+        let there = subst (λ r. HasRecorded r (schema_of registry (node op ts))) none accepted.0 in
+        filter_children registry op kind.0 kind.1 ts (subst (λ ns. DenoteAll (HoldsPlan expressions plans) ns ts) inputs d.2) there accepted.1
 
 -- what an item with one input stands over, and how much further down the item leads
 module _ (plans : List IR) (item : IR) (flat : PlanOp ℕ) (n : ℕ) (is : plan_layer item ≡ layer flat (n ∷ [])) (h : HasInputs plans item) where

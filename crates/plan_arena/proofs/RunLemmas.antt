@@ -1,5 +1,5 @@
 -- Accepted and strict plans run soundly on fitting tables.
-use Rattle.std.proofs.Common.{◌≡◌, List, [], ◌∷◌, map, Option, refl, sym, ap, ◌∙◌, subst}
+use Rattle.std.proofs.Common.{◌≡◌, List, [], ◌∷◌, map, Option, Some, None, refl, sym, ap, ◌∙◌, subst}
 use Rattle.std.specs.List.{AllByRecursion}
 use Rattle.plan_types.specs.Schemas.{Columns}
 use Rattle.plan_types.specs.Outcomes.{Outcome, Meets}
@@ -7,19 +7,19 @@ use Rattle.plan_types.specs.Frames.{Frame, IsFrameOf}
 use Rattle.plan_dsl.specs.Registry.{Registry}
 use Rattle.plan_dsl.specs.Trees.{Trees, node, no_more, more, fold_all}
 use Rattle.plan_dsl.specs.Ops.{Expression}
-use Rattle.plan_dsl.specs.Plans.{PlanKind, ScanKind, SelectKind, FilterKind, PlanOp, Plan, Named}
+use Rattle.plan_dsl.specs.Plans.{Named, PlanKind, ScanKind, SelectKind, FilterKind, PlanOp, Plan, expressions_of, own_scans, scans_in}
 use Rattle.plan_dsl.specs.Typing.{typing}
 use Rattle.plan_dsl.specs.Kernels.{Meaning}
 use Rattle.plan_dsl.specs.Meaning.{meaning}
 use Rattle.plan_dsl.specs.Strictness.{IsStrict}
-use Rattle.plan_dsl.specs.PlanRules.{schemas_of}
-use Rattle.plan_dsl.specs.PlanKernels.{Evaluated, plan_kernel, frame_by}
-use Rattle.plan_dsl.specs.PlanMeaning.{by_meaning, FitsPlan, AllFitPlans}
-use Rattle.plan_dsl.proofs.FrameLemmas.{AllMeet, kernel_meets}
+use Rattle.plan_dsl.specs.PlanRules.{input_schema, schema_of, schemas_of}
+use Rattle.plan_dsl.specs.PlanKernels.{Evaluated, selected, filtered, plan_kernel, frame_by}
+use Rattle.plan_dsl.specs.PlanMeaning.{by_meaning, HasTables, FitsPlan, MeetsWhere}
+use Rattle.plan_dsl.proofs.FrameLemmas.{AllMeet, front_tables, back_tables, scans_below, kernel_meets}
 use Rattle.plan_dsl.proofs.KernelLemmas.{AgreeOn, selected_agrees, filtered_agrees}
 use Rattle.plan_dsl.proofs.LiteralLemmas.{strict_settled}
 use Rattle.plan_dsl.proofs.RunLemmas.{strict_is_meaning}
-use Rattle.plan_arena.specs.Runs.{top_schema, first_schema, IsAccepted, AllAccepted, IsStrictPlan, AllStrictPlans, by_running, plan_run, RunsSoundly, AllRunSoundly}
+use Rattle.plan_arena.specs.Runs.{HasRecorded, IsAccepted, AllAccepted, AreStrictOver, AreStrict, IsStrictPlan, AllStrictPlans, by_running, plan_run, RunsSoundly, AllRunSoundly}
 
 abbrev evaluated_as : Registry → Columns → Named Expression → Meaning → Evaluated
 evaluated_as registry schema output gives = record { name = output.name; typing = typing registry schema output.expression; gives = gives }
@@ -34,36 +34,60 @@ module _ (registry : Registry) where
       ∙ ap (λ tree. record { name = output.name; typing = typing registry schema tree; gives = meaning registry frame tree } ∷ map (by_running registry frame) outputs) (sym (strict_settled registry schema output.expression strict.0))
       ∙ ap (λ rest. by_meaning registry frame output ∷ rest) (strict_agree schema outputs strict.1 rows)
 
-  -- a strict node gives what it means
-  strict_node : (tables : List Frame) (kind : PlanKind) (op : PlanOp Expression) (schema : Columns) (schemas : List (Option Columns)) (outcomes : List (Outcome Frame)) → AllByRecursion (λ output. IsStrict registry schema output.expression) op.expressions → ((o : Outcome Frame) → outcomes ≡ o ∷ [] → Meets (IsFrameOf schema) o) → frame_by kind tables (by_running registry) op outcomes ≡ frame_by kind tables (by_meaning registry) op outcomes
-  strict_node tables (ScanKind table) op schema schemas [] strict meet = refl
-  strict_node tables (ScanKind table) op schema schemas (o ∷ os) strict meet = refl
-  strict_node tables SelectKind op schema schemas [] strict meet = refl
-  strict_node tables SelectKind op schema schemas (o ∷ []) strict meet =
-      selected_agrees (by_running registry) (by_meaning registry) op.expressions op.expressions schema o (strict_agree schema op.expressions strict) (meet o refl)
-  strict_node tables SelectKind op schema schemas (o ∷ p ∷ os) strict meet = refl
-  strict_node tables FilterKind op schema schemas [] strict meet = refl
-  strict_node tables FilterKind op schema schemas (o ∷ []) strict meet =
-      filtered_agrees (by_running registry) (by_meaning registry) op.expressions op.expressions schema o (strict_agree schema op.expressions strict) (meet o refl)
-  strict_node tables FilterKind op schema schemas (o ∷ p ∷ os) strict meet = refl
+  -- the only outcome is that of an input with a schema
+  only_input : (schemas : List (Option Columns)) (o : Outcome Frame) → AllMeet schemas (o ∷ []) → (schema : Option Columns) × (schemas ≡ schema ∷ []) × MeetsWhere schema o
+  only_input (schema ∷ []) o h = (schema, refl, h.0)
+  only_input [] o h = absurd h
+  only_input (schema ∷ other ∷ schemas) o h = absurd h.1
 
-  first_is : {A : Type 0} (x y : A) (xs ys : List A) → (x ∷ xs) ≡ (y ∷ ys) → x ≡ y
-  first_is x y xs ys e = cc
+  select_runs : (outputs : List (Named Expression)) (schema : Option Columns) (o : Outcome Frame) → AreStrictOver registry schema outputs → MeetsWhere schema o → selected (by_running registry) outputs o ≡ selected (by_meaning registry) outputs o
+  select_runs outputs None o strict meets = absurd meets
+  select_runs outputs (Some schema) o strict meets =
+      selected_agrees (by_running registry) (by_meaning registry) outputs outputs schema o (strict_agree schema outputs strict) meets
+
+  filter_runs : (predicate : Named Expression) (schema : Option Columns) (o : Outcome Frame) → AreStrictOver registry schema (predicate ∷ []) → MeetsWhere schema o → filtered (by_running registry) predicate o ≡ filtered (by_meaning registry) predicate o
+  filter_runs predicate None o strict meets = absurd meets
+  filter_runs predicate (Some schema) o strict meets =
+      filtered_agrees (by_running registry) (by_meaning registry) predicate predicate schema o (strict_agree schema (predicate ∷ []) strict) meets
+
+  -- a strict node gives what it means
+  strict_node : (tables : List Frame) (kind : PlanKind Expression) (schemas : List (Option Columns)) (outcomes : List (Outcome Frame)) → AreStrict registry schemas (expressions_of kind) → AllMeet schemas outcomes → frame_by kind tables (by_running registry) outcomes ≡ frame_by kind tables (by_meaning registry) outcomes
+  strict_node tables (ScanKind table schema) schemas [] strict meet = refl
+  strict_node tables (SelectKind outputs) schemas (o ∷ []) strict meet =
+      let under = only_input schemas o meet in
+      select_runs outputs under.0 o (subst (λ s. AreStrictOver registry (input_schema s 0) outputs) under.1 strict.0) under.2
+  strict_node tables (FilterKind predicate) schemas (o ∷ []) strict meet =
+      let under = only_input schemas o meet in
+      filter_runs predicate under.0 o (subst (λ s. AreStrictOver registry (input_schema s 0) (predicate ∷ [])) under.1 strict.0) under.2
+  strict_node tables kind schemas outcomes strict meet = refl
+
+  recorded_there : (recorded found : Option Columns) → HasRecorded recorded found → (schema : Columns) × (found ≡ Some schema)
+  recorded_there None None h = absurd cc
+  recorded_there None (Some schema) h = (schema, refl)
+  recorded_there (Some recorded) found h = (recorded, h)
+
+  -- an accepted plan has a schema
+  pub accepted_schema : (plan : Plan) → IsAccepted registry plan → (schema : Columns) × (schema_of registry plan ≡ Some schema)
+  accepted_schema (node op inputs) accepted = recorded_there op.recorded _ accepted.0
+
+  -- the top of what runs soundly
+  pub sound_top : (tables : List Frame) (plan : Plan) → RunsSoundly registry tables plan → MeetsWhere (schema_of registry plan) (plan_run registry tables plan)
+  sound_top tables (node op inputs) sound = sound.0
 
   mutual
     pub runs_soundly : (tables : List Frame) (plan : Plan) → IsAccepted registry plan → IsStrictPlan registry plan → FitsPlan tables plan → RunsSoundly registry tables plan
     runs_soundly tables (node op inputs) accepted strict fits =
-        let below = all_run_soundly tables inputs accepted.1 strict.1 fits.1 in
+        let below = all_run_soundly tables inputs accepted.1 strict.1 (back_tables tables (own_scans op.kind) (scans_below inputs) fits) in
+        let schemas = schemas_of registry inputs in
         let runs = fold_all (plan_kernel tables (by_running registry)) inputs in
-        let meets = kernel_meets registry tables op (schemas_of registry inputs) runs (top_schema (node op inputs)) fits.0 accepted.0 below.1 in
-        (subst (Meets (IsFrameOf (top_schema (node op inputs)))) (sym (strict_node tables op.kind op (first_schema inputs) (schemas_of registry inputs) runs strict.0 below.2)) meets, below.0)
+        let own = accepted_schema (node op inputs) accepted in
+        let meets = kernel_meets registry tables op schemas runs own.0 (front_tables tables (own_scans op.kind) (scans_below inputs) fits) own.1 below.1 in
+        let run = subst (Meets (IsFrameOf own.0)) (sym (strict_node tables op.kind schemas runs strict.0 below.1)) meets in
+        (subst (λ s. MeetsWhere s (plan_run registry tables (node op inputs))) (sym own.1) run, below.0)
 
-    all_run_soundly : (tables : List Frame) (inputs : Trees (PlanOp Expression)) → AllAccepted registry inputs → AllStrictPlans registry inputs → AllFitPlans tables inputs → AllRunSoundly registry tables inputs × AllMeet (schemas_of registry inputs) (fold_all (plan_kernel tables (by_running registry)) inputs) × ((o : Outcome Frame) → fold_all (plan_kernel tables (by_running registry)) inputs ≡ o ∷ [] → Meets (IsFrameOf (first_schema inputs)) o)
-    all_run_soundly tables no_more accepted strict fits = (tt, tt, λ o e. cc)
-    all_run_soundly tables (more (node op inputs) rest) accepted strict fits =
-        let head = runs_soundly tables (node op inputs) accepted.0 strict.0 fits.0 in
-        let tail = all_run_soundly tables rest accepted.1 strict.1 fits.1 in (
-          (head, tail.0),
-          subst (λ s. AllMeet (s ∷ schemas_of registry rest) (plan_run registry tables (node op inputs) ∷ fold_all (plan_kernel tables (by_running registry)) rest)) (sym accepted.0.0) (head.0, tail.1),
-          λ o e. subst (Meets (IsFrameOf (top_schema (node op inputs)))) (first_is (plan_run registry tables (node op inputs)) o (fold_all (plan_kernel tables (by_running registry)) rest) [] e) head.0,
-        )
+    all_run_soundly : (tables : List Frame) (inputs : Trees (PlanOp Expression)) → AllAccepted registry inputs → AllStrictPlans registry inputs → HasTables tables (scans_below inputs) → AllRunSoundly registry tables inputs × AllMeet (schemas_of registry inputs) (fold_all (plan_kernel tables (by_running registry)) inputs)
+    all_run_soundly tables no_more accepted strict fits = (tt, tt)
+    all_run_soundly tables (more plan rest) accepted strict fits =
+        let head = runs_soundly tables plan accepted.0 strict.0 (front_tables tables (scans_in plan) (scans_below rest) fits) in
+        let tail = all_run_soundly tables rest accepted.1 strict.1 (back_tables tables (scans_in plan) (scans_below rest) fits) in
+        ((head, tail.0), (sound_top tables plan head, tail.1))

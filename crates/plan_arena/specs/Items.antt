@@ -42,14 +42,14 @@ named_node expr = record { name = output_text expr.output_name; expression = exp
 -- a plan's item
 abbrev pub plan_layer : IR → Layer (PlanOp ℕ)
 plan_layer (DataFrameScan table schema) = layer (scan_op table (columns schema)) []
-plan_layer (Select expr input schema options) = layer (select_op (map named_node expr.items.items) (columns schema)) (input.0 ∷ [])
+plan_layer (Select expr input schema options) = layer (select_op (map named_node expr.items.items) (Some (columns schema))) (input.0 ∷ [])
 plan_layer (Filter input predicate) = layer (filter_op (named_node predicate)) (input.0 ∷ [])
 
 -- what a report calls a node of the kind
-abbrev pub kind_text : PlanKind → List ℕ
-kind_text (ScanKind table) = codes "df"
-kind_text SelectKind = codes "projection"
-kind_text FilterKind = codes "selection"
+abbrev pub kind_text : {E : Type 0} → PlanKind E → List ℕ
+kind_text (ScanKind table schema) = codes "df"
+kind_text (SelectKind outputs) = codes "projection"
+kind_text (FilterKind predicate) = codes "selection"
 
 abbrev pub node_name : IR → List ℕ
 node_name item = kind_text (op_of (plan_layer item)).kind
@@ -69,11 +69,18 @@ DenoteNamed expressions (n ∷ ns) (e ∷ es) = (n.name ≡ e.name) × Denotes (
 DenoteNamed expressions [] (e ∷ es) = ⊥
 DenoteNamed expressions (n ∷ ns) [] = ⊥
 
+-- a kind over nodes is a kind over expressions
+abbrev pub DenotesKind : List AExpr → PlanKind ℕ → PlanKind Expression → Type 0
+DenotesKind expressions (ScanKind table schema) kind = kind ≡ ScanKind table schema
+DenotesKind expressions (SelectKind nodes) kind =
+    (outputs : List (Named Expression)) × (kind ≡ SelectKind outputs) × DenoteNamed expressions nodes outputs
+DenotesKind expressions (FilterKind node) kind =
+    (predicate : Named Expression) × (kind ≡ FilterKind predicate) × DenoteNamed expressions (node ∷ []) (predicate ∷ [])
+
 -- an op over nodes is an op over expressions
 pub record DenotesOp (expressions : List AExpr) (flat : PlanOp ℕ) (op : PlanOp Expression) : Type 0 where
-  pub same_kind : flat.kind ≡ op.kind
-  pub same_schema : flat.schema ≡ op.schema
-  pub named : DenoteNamed expressions flat.expressions op.expressions
+  pub same_recorded : flat.recorded ≡ op.recorded
+  pub kind : DenotesKind expressions flat.kind op.kind
 
 -- the plan's item at the node does this, over these inputs
 pub record HoldsPlan (expressions : List AExpr) (plans : List IR) (n : ℕ) (op : PlanOp Expression) (inputs : List ℕ) : Type 0 where

@@ -1,6 +1,6 @@
 -- What the worked examples share beside the samples of expressions and plans: items of arenas, and lowered plans.
 use Prim.Native.String.{String}
-use Rattle.std.specs.Prelude.{ℕ, List, [], ◌∷◌, map, codes}
+use Rattle.std.specs.Prelude.{ℕ, List, [], ◌∷◌, map, codes, Some}
 use Rattle.plan_types.specs.Types.{Ty}
 use Rattle.plan_types.specs.Schemas.{Columns}
 use Rattle.plan_types.specs.Frames.{Frame}
@@ -47,7 +47,7 @@ schema_of_one name type = (codes name, type) ∷ []
 
 -- a lowered select, which records its schema
 abbrev pub lowered_select : Columns → List Expression → Plan → Plan
-lowered_select schema outputs input = node (select_op (map named outputs) schema) (more input no_more)
+lowered_select schema outputs input = node (select_op (map named outputs) (Some schema)) (more input no_more)
 
 -- the sum over its scan, a strict cast of numbers that a narrow type doesn't have, and a number over the empty table
 abbrev pub lowered_sum : Columns → Plan

@@ -1,10 +1,13 @@
 //! Lowered plans in an arena.
-ghost use Rattle.std.specs.Prelude.{◌≡◌, List, IfOk, IfErr};
+ghost use Rattle.std.specs.Prelude.{◌≡◌, List, IfOk, IfErr, IfSome, Some};
 ghost use Rattle.plan_types.specs.Errors.{no_memory};
 ghost use Rattle.plan_types.specs.Schemas.{columns};
 ghost use Rattle.plan_dsl.specs.Plans.{Plan};
-ghost use Rattle.plan_arena.specs.Items.{node_name, DenotesItem, HasInputs};
-ghost use Rattle.plan_arena.specs.Runs.{top_schema};
+ghost use Rattle.plan_dsl.specs.PlanRules.{schema_of};
+ghost use Rattle.plan_dsl.specs.Registry.{Registry};
+ghost use Rattle.plan_arena.specs.Items.{node_name, plan_layer, DenotesItem, HasInputs};
+ghost use Rattle.plan_arena.specs.Layers.{op_of};
+ghost use Rattle.plan_arena.specs.Runs.{IsAccepted};
 ghost use Rattle.plan_arena.specs.declared.aexpr.AExpr.{AExpr};
 
 use crate::arena::{Arena, Node};
@@ -49,7 +52,8 @@ impl IR {
         }
     }
 
-    /// The schema of the node's frame. The node's inputs lie in the arena.
+    /// The schema of the node's frame: the one that it records, and of a plan that is accepted the one that the
+    /// rules give it. The node's inputs lie in the arena.
     pub fn schema(
         &self,
         alloc: Global,
@@ -57,8 +61,9 @@ impl IR {
         _udfs: &Udfs,
     ) -> Result<Schema, PlanError>
         requires { HasInputs arena.now self.now }
-        ensures ok { IfOk result (λ schema. (expressions : List AExpr) (plan : Plan) →
-            DenotesItem expressions arena.now self.now plan → columns schema ≡ top_schema plan) }
+        ensures recorded { IfOk result (λ schema. IfSome (op_of (plan_layer self.now)).recorded (λ own. columns schema ≡ own)) }
+        ensures rule { IfOk result (λ schema. (expressions : List AExpr) (registry : Registry) (plan : Plan) →
+            DenotesItem expressions arena.now self.now plan → IsAccepted registry plan → schema_of registry plan ≡ Some (columns schema)) }
         ensures err { IfErr result (λ error. error ≡ no_memory) }
     {
         self.schema_ref(arena).try_clone(alloc)
@@ -67,8 +72,9 @@ impl IR {
     /// The schema of the node's frame, where it is kept: at the node, or at one below it.
     pub fn schema_ref<'a>(&'a self, arena: &'a Arena<IR>) -> &'a Schema
         requires { HasInputs arena.now self.now }
-        ensures { (expressions : List AExpr) (plan : Plan) →
-            DenotesItem expressions arena.now self.now plan → columns result.now ≡ top_schema plan }
+        ensures recorded { IfSome (op_of (plan_layer self.now)).recorded (λ own. columns result.now ≡ own) }
+        ensures rule { (expressions : List AExpr) (registry : Registry) (plan : Plan) →
+            DenotesItem expressions arena.now self.now plan → IsAccepted registry plan → schema_of registry plan ≡ Some (columns result.now) }
     {
         match self {
             IR::DataFrameScan { schema, .. } => schema,

@@ -1,5 +1,5 @@
 -- A plan's node over frames of the schemas of its inputs gives a frame of its own schema.
-use Rattle.std.proofs.Common.{◌≡◌, ℕ, zero, suc, List, [], ◌∷◌, map, replicate, slice_get, Option, Some, None, Bool, true, false, ◌&&◌, ◌||◌, ◌==◌, length, cond, IsTrue, Result, Ok, Err, refl, sym, ap, ◌∙◌, subst}
+use Rattle.std.proofs.Common.{◌≡◌, ℕ, zero, suc, List, [], ◌∷◌, ◌++◌, map, replicate, slice_get, Option, Some, None, Bool, true, false, ◌&&◌, ◌||◌, ◌==◌, length, cond, IsTrue, Result, Ok, Err, refl, sym, ap, ◌∙◌, subst}
 use Rattle.std.specs.List.{AllByRecursion}
 use Rattle.plan_types.specs.Types.{Ty}
 use Rattle.plan_types.specs.Schemas.{Name, Columns, HasDistinctNames}
@@ -11,29 +11,58 @@ use Rattle.plan_types.proofs.ValueLemmas.{meets_then}
 use Rattle.plan_dsl.specs.Registry.{Registry}
 use Rattle.plan_dsl.specs.Trees.{Trees, node, no_more, more, fold_all}
 use Rattle.plan_dsl.specs.Ops.{Expression}
-use Rattle.plan_dsl.specs.Plans.{PlanKind, ScanKind, SelectKind, PlanOp, Plan, Named, FilterKind}
+use Rattle.plan_dsl.specs.Plans.{Named, PlanKind, ScanKind, SelectKind, FilterKind, PlanOp, Plan, Scan, select_op, filter_op, own_scans, joined, scans_in}
 use Rattle.plan_dsl.specs.Literals.{settled}
 use Rattle.plan_dsl.specs.Typing.{Typed, typing}
 use Rattle.plan_dsl.specs.Meaning.{meaning}
 use Rattle.plan_dsl.specs.Kernels.{stretched, at_length}
-use Rattle.plan_dsl.specs.PlanKernels.{Series, series_typed, all_series, shared_length, in_front, rows_of, series_columns, framed, selected, table_frame, frame_by, plan_kernel, is_true, rows_where_true, kept_rows, filtered_on, filtered}
-use Rattle.plan_dsl.specs.PlanRules.{signatures, scan_kinds, select_kinds, column_before, columns_of, as_schema, where_unbroken, kinds_by, schema_by, plan_rule, schema_of, schemas_of, IsWellFormed, AllWellFormed, filter_kinds, under_one}
-use Rattle.plan_dsl.specs.PlanMeaning.{by_meaning, source_meaning, HasTable, FitsNode, FitsPlan, AllFitPlans}
+use Rattle.plan_dsl.specs.PlanKernels.{Series, series_typed, all_series, shared_length, in_front, rows_of, series_columns, framed, selected, table_frame, scanned, frame_by, plan_kernel, is_true, rows_where_true, kept_rows, filtered_on, filtered}
+use Rattle.plan_dsl.specs.PlanRules.{broken_kinds, scan_kinds, column_before, columns_of, schema_by, plan_rule, schema_of, schemas_of, IsWellFormed, AllWellFormed}
+use Rattle.plan_dsl.specs.PlanMeaning.{by_meaning, source_meaning, HasTable, HasTables, FitsPlan, MeetsWhere}
 use Rattle.plan_dsl.specs.Laws.{AreOf, MeaningHasSchema}
 use Rattle.plan_dsl.proofs.FitLemmas.{meaning_has_type}
-use Rattle.plan_dsl.proofs.RuleLemmas.{unbroken_kinds, unbroken_schema, as_schema_is, selected_distinct, predicate_typed, well_formed_schema}
+use Rattle.plan_dsl.proofs.RuleLemmas.{unbroken_kinds, unbroken_schema, scan_distinct, selected_distinct, predicate_typed, well_formed_schema}
 
--- an input has a schema, and gives a frame of it unless there is a fault
-abbrev pub MeetsWhere : Option Columns → Outcome Frame → Type 0
-MeetsWhere None outcome = ⊥
-MeetsWhere (Some schema) outcome = Meets (IsFrameOf schema) outcome
-
--- so does each input
+-- each input has a schema, and gives a frame of it unless there is a fault
 abbrev pub AllMeet : List (Option Columns) → List (Outcome Frame) → Type 0
 AllMeet [] [] = Unit {0}
 AllMeet [] (outcome ∷ outcomes) = ⊥
 AllMeet (schema ∷ schemas) [] = ⊥
 AllMeet (schema ∷ schemas) (outcome ∷ outcomes) = MeetsWhere schema outcome × AllMeet schemas outcomes
+
+-- of no inputs nothing is given, and of one there is one outcome
+no_outcome : (outcomes : List (Outcome Frame)) → AllMeet [] outcomes → outcomes ≡ []
+no_outcome [] h = refl
+no_outcome (o ∷ os) h = absurd h
+
+only_outcome : (schema : Option Columns) (outcomes : List (Outcome Frame)) → AllMeet (schema ∷ []) outcomes → (o : Outcome Frame) × (outcomes ≡ o ∷ []) × MeetsWhere schema o
+only_outcome schema (o ∷ []) h = (o, refl, h.0)
+only_outcome schema [] h = absurd h
+only_outcome schema (o ∷ p ∷ os) h = absurd h.1
+
+-- tables that have what two lists of scans ask for
+pub front_tables : (tables : List Frame) (xs ys : List Scan) → HasTables tables (xs ++ ys) → HasTables tables xs
+front_tables tables [] ys h = tt
+front_tables tables (x ∷ xs) ys h = (h.0, front_tables tables xs ys h.1)
+
+pub back_tables : (tables : List Frame) (xs ys : List Scan) → HasTables tables (xs ++ ys) → HasTables tables ys
+back_tables tables [] ys h = h
+back_tables tables (x ∷ xs) ys h = back_tables tables xs ys h.1
+
+pub all_tables : (tables : List Frame) (xs ys : List Scan) → HasTables tables xs → HasTables tables ys → HasTables tables (xs ++ ys)
+all_tables tables [] ys h k = k
+all_tables tables (x ∷ xs) ys h k = (h.0, all_tables tables xs ys h.1 k)
+
+-- the tables that plans side by side scan
+abbrev pub scans_below : Trees (PlanOp Expression) → List Scan
+scans_below inputs = joined (fold_all (λ op below. own_scans op.kind ++ joined below) inputs)
+
+-- what a node over one input asks for that scans no table itself
+pub fits_input : (tables : List Frame) (op : PlanOp Expression) (input : Plan) → FitsPlan tables (node op (more input no_more)) → FitsPlan tables input
+fits_input tables op input h = front_tables tables (scans_in input) [] (back_tables tables (own_scans op.kind) (scans_in input ++ []) h)
+
+pub fits_over : (tables : List Frame) (op : PlanOp Expression) (input : Plan) → own_scans op.kind ≡ [] → FitsPlan tables input → FitsPlan tables (node op (more input no_more))
+fits_over tables op input none h = subst (λ scans. HasTables tables (scans ++ (scans_in input ++ []))) (sym none) (all_tables tables (scans_in input) [] h tt)
 
 both : (a b : Bool) → IsTrue a → IsTrue b → IsTrue (a && b)
 both a b p q = ap (λ x. x && b) p ∙ q
@@ -177,87 +206,74 @@ kept_meets schema frame values h =
 
 module _ (registry : Registry) (frame : Frame) (is_frame : IsFrame frame) (rows : List ℕ) where
   -- expressions that have columns give columns of them
-  series_meet : (outputs : List (Named Expression)) (schema : Columns) → columns_of (signatures registry outputs frame.schema) ≡ Some schema → Meets (AreSeriesOf schema) (all_series rows (map (by_meaning registry frame) outputs))
+  series_meet : (outputs : List (Named Expression)) (schema : Columns) → columns_of registry frame.schema outputs ≡ Some schema → Meets (AreSeriesOf schema) (all_series rows (map (by_meaning registry frame) outputs))
   series_meet [] schema h = let e : [] ≡ schema = cc in record { columns = e; fitting = tt }
   series_meet (o ∷ os) schema h =
-      let later = columns_of (signatures registry os frame.schema) in
+      let later = columns_of registry frame.schema os in
       let gives = meaning registry frame (settled o.expression) rows in
       let rest = all_series rows (map (by_meaning registry frame) os) in
       elim (typing registry frame.schema (settled o.expression)) as (λ t. typing registry frame.schema (settled o.expression) ≡ t → column_before o.name t later ≡ Some schema → Meets (AreSeriesOf schema) (then_do (series_typed o.name t gives) (λ s. then_do rest (λ ss. Done (s ∷ ss))))) [ Err kind ↦ λ e h. absurd (absurd_none schema h) | Ok typed ↦ λ e h. elim later as (λ l. later ≡ l → column_before o.name (Ok typed) l ≡ Some schema → Meets (AreSeriesOf schema) (then_do (series_typed o.name (Ok typed) gives) (λ s. then_do rest (λ ss. Done (s ∷ ss))))) [ None ↦ λ el h. absurd (absurd_none schema h) | Some columns ↦ λ el h. one_meets o.name typed columns schema gives rest (some_same _ _ h) (meaning_has_type registry frame is_frame (settled o.expression) typed e rows) (series_meet os columns el) ] refl h ] refl h
 
-none_never : (kinds : List ErrorKind) (schema : Columns) → ¬ (where_unbroken kinds None ≡ Some schema)
-none_never [] schema h = absurd_none schema h
-none_never (k ∷ ks) schema h = absurd_none schema h
-
 module _ (registry : Registry) where
   -- a select of expressions that break no rule
-  outputs_meet : (output : Named Expression) (outputs : List (Named Expression)) (under schema : Columns) (frame : Frame) → IsFrameOf under frame → select_kinds (signatures registry (output ∷ outputs) under) ≡ [] → columns_of (signatures registry (output ∷ outputs) under) ≡ Some schema → Meets (IsFrameOf schema) (then_do (all_series (row_numbers frame) (map (by_meaning registry frame) (output ∷ outputs))) framed)
-  outputs_meet output outputs under schema frame h none columns =
-      let there = subst (λ c. columns_of (signatures registry (output ∷ outputs) c) ≡ Some schema) (sym h.schema_is) columns in
-      let distinct = selected_distinct (signatures registry (output ∷ outputs) under) schema none columns in
-      let some = has_column output.name (typing registry under (settled output.expression)) (columns_of (signatures registry outputs under)) schema columns in
+  outputs_meet : (output : Named Expression) (outputs : List (Named Expression)) (recorded : Option Columns) (under schema : Columns) (frame : Frame) → IsFrameOf under frame → broken_kinds registry (select_op (output ∷ outputs) recorded) (Some under ∷ []) ≡ [] → columns_of registry under (output ∷ outputs) ≡ Some schema → Meets (IsFrameOf schema) (then_do (all_series (row_numbers frame) (map (by_meaning registry frame) (output ∷ outputs))) framed)
+  outputs_meet output outputs recorded under schema frame h none columns =
+      let there = subst (λ c. columns_of registry c (output ∷ outputs) ≡ Some schema) (sym h.schema_is) columns in
+      let distinct = selected_distinct registry under (output ∷ outputs) recorded schema none columns in
+      let some = has_column output.name (typing registry under (settled output.expression)) (columns_of registry under outputs) schema columns in
       meets_then (AreSeriesOf schema) (IsFrameOf schema) _ framed (series_meet registry frame h.frame_is (row_numbers frame) (output ∷ outputs) schema there) (λ ss. framed_meets schema ss distinct some)
 
-  select_meets : (outputs : List (Named Expression)) (under schema : Columns) (input : Outcome Frame) → Meets (IsFrameOf under) input → select_kinds (signatures registry outputs under) ≡ [] → columns_of (signatures registry outputs under) ≡ Some schema → Meets (IsFrameOf schema) (selected (by_meaning registry) outputs input)
-  select_meets [] under schema input h none columns = without_columns schema (some_same _ _ columns)
-  select_meets (output ∷ outputs) under schema input h none columns =
-      meets_then (IsFrameOf under) (IsFrameOf schema) input _ h (λ frame k. outputs_meet output outputs under schema frame k none columns)
+  select_meets : (outputs : List (Named Expression)) (recorded : Option Columns) (under schema : Columns) (input : Outcome Frame) → Meets (IsFrameOf under) input → broken_kinds registry (select_op outputs recorded) (Some under ∷ []) ≡ [] → columns_of registry under outputs ≡ Some schema → Meets (IsFrameOf schema) (selected (by_meaning registry) outputs input)
+  select_meets [] recorded under schema input h none columns = without_columns schema (some_same _ _ columns)
+  select_meets (output ∷ outputs) recorded under schema input h none columns =
+      meets_then (IsFrameOf under) (IsFrameOf schema) input _ h (λ frame k. outputs_meet output outputs recorded under schema frame k none columns)
 
   -- a filter by a predicate that breaks no rule
-  predicate_meets : (predicate : Named Expression) (schema : Columns) (frame : Frame) → IsFrameOf schema frame → filter_kinds (signatures registry (predicate ∷ []) schema) ≡ [] → Meets (IsFrameOf schema) (filtered_on (by_meaning registry frame predicate ∷ []) frame)
+  predicate_meets : (predicate : Named Expression) (schema : Columns) (frame : Frame) → IsFrameOf schema frame → broken_kinds registry (filter_op predicate) (Some schema ∷ []) ≡ [] → Meets (IsFrameOf schema) (filtered_on (by_meaning registry frame predicate) frame)
   predicate_meets predicate schema frame h none =
       let typed = predicate_typed registry schema predicate none in
       let there = subst (λ c. typing registry c (settled predicate.expression) ≡ Ok typed.0) (sym h.schema_is) typed.1 in
       meets_then (AreOf typed.0) (IsFrameOf schema) _ (kept_rows frame) (meaning_has_type registry frame h.frame_is (settled predicate.expression) typed.0 there (row_numbers frame)) (λ values k. kept_meets schema frame values h)
 
-  filter_meets : (outputs : List (Named Expression)) (under schema : Columns) (input : Outcome Frame) → Meets (IsFrameOf under) input → filter_kinds (signatures registry outputs under) ≡ [] → under_one (signatures registry outputs under) under ≡ Some schema → Meets (IsFrameOf schema) (filtered (by_meaning registry) outputs input)
-  filter_meets [] under schema input h none is = absurd (absurd_none schema is)
-  filter_meets (predicate ∷ []) under schema input h none is =
-      subst (λ s. Meets (IsFrameOf s) (filtered (by_meaning registry) (predicate ∷ []) input)) (some_same _ _ is) (meets_then (IsFrameOf under) (IsFrameOf under) input _ h (λ frame k. predicate_meets predicate under frame k none))
-  filter_meets (first ∷ second ∷ rest) under schema input h none is = absurd (absurd_none schema is)
+  filter_meets : (predicate : Named Expression) (under schema : Columns) (input : Outcome Frame) → Meets (IsFrameOf under) input → broken_kinds registry (filter_op predicate) (Some under ∷ []) ≡ [] → under ≡ schema → Meets (IsFrameOf schema) (filtered (by_meaning registry) predicate input)
+  filter_meets predicate under schema input h none same =
+      subst (λ s. Meets (IsFrameOf s) (filtered (by_meaning registry) predicate input)) same (meets_then (IsFrameOf under) (IsFrameOf under) input _ h (λ frame k. predicate_meets predicate under frame k none))
 
-  node_meets : (kind : PlanKind) (tables : List Frame) (op : PlanOp Expression) (inputs : List (Option Columns)) (outcomes : List (Outcome Frame)) (schema : Columns) → FitsNode tables kind op.schema → where_unbroken (kinds_by kind op.schema (signatures registry op.expressions) inputs) (schema_by kind op.schema (signatures registry op.expressions) inputs) ≡ Some schema → AllMeet inputs outcomes → Meets (IsFrameOf schema) (frame_by kind tables (by_meaning registry) op outcomes)
-  node_meets (ScanKind (Some number)) tables op [] [] schema fits h k =
-      found_meets op.schema schema (slice_get tables number) (as_schema_is op.schema schema (unbroken_schema (scan_kinds op.schema) (as_schema op.schema) schema h)).0 fits
-  node_meets (ScanKind None) tables op [] [] schema fits h k =
-      let is = as_schema_is op.schema schema (unbroken_schema (scan_kinds op.schema) (as_schema op.schema) schema h) in empty_meets op.schema schema is.0 is.1
-  node_meets (ScanKind table) tables op [] (outcome ∷ outcomes) schema fits h k = absurd k
-  node_meets (ScanKind table) tables op (input ∷ inputs) outcomes schema fits h k = absurd (none_never (scan_kinds op.schema) schema h)
-  node_meets SelectKind tables op [] outcomes schema fits h k = absurd (absurd_none schema h)
-  node_meets SelectKind tables op (None ∷ inputs) outcomes schema fits h k = absurd (absurd_none schema h)
-  node_meets SelectKind tables op (Some under ∷ []) [] schema fits h k = absurd k
-  node_meets SelectKind tables op (Some under ∷ []) (outcome ∷ []) schema fits h k =
-      let kinds = select_kinds (signatures registry op.expressions under) in
-      let columns = columns_of (signatures registry op.expressions under) in
-      select_meets op.expressions under schema outcome k.0 (unbroken_kinds kinds columns schema h) (unbroken_schema kinds columns schema h)
-  node_meets SelectKind tables op (Some under ∷ []) (outcome ∷ other ∷ outcomes) schema fits h k = absurd k.1
-  node_meets SelectKind tables op (Some under ∷ other ∷ inputs) outcomes schema fits h k =
-      absurd (none_never (select_kinds (signatures registry op.expressions under)) schema h)
-  node_meets FilterKind tables op [] outcomes schema fits h k = absurd (absurd_none schema h)
-  node_meets FilterKind tables op (None ∷ inputs) outcomes schema fits h k = absurd (absurd_none schema h)
-  node_meets FilterKind tables op (Some under ∷ []) [] schema fits h k = absurd k
-  node_meets FilterKind tables op (Some under ∷ []) (outcome ∷ []) schema fits h k =
-      let kinds = filter_kinds (signatures registry op.expressions under) in
-      let columns = under_one (signatures registry op.expressions under) under in
-      filter_meets op.expressions under schema outcome k.0 (unbroken_kinds kinds columns schema h) (unbroken_schema kinds columns schema h)
-  node_meets FilterKind tables op (Some under ∷ []) (outcome ∷ other ∷ outcomes) schema fits h k = absurd k.1
-  node_meets FilterKind tables op (Some under ∷ other ∷ inputs) outcomes schema fits h k =
-      absurd (none_never (filter_kinds (signatures registry op.expressions under)) schema h)
+  -- a scan of columns that break no rule
+  scan_meets : (tables : List Frame) (table : Option ℕ) (own schema : Columns) → HasTables tables (own_scans {E = Expression} (ScanKind table own)) → scan_kinds own ≡ [] → own ≡ schema → Meets (IsFrameOf schema) (scanned tables table own)
+  scan_meets tables (Some number) own schema fits none same = found_meets own schema (slice_get tables number) same fits.0
+  scan_meets tables None own schema fits none same = empty_meets own schema same (scan_distinct own none)
+
+  node_meets : (kind : PlanKind Expression) (tables : List Frame) (recorded : Option Columns) (inputs : List (Option Columns)) (outcomes : List (Outcome Frame)) (schema : Columns) → HasTables tables (own_scans kind) → broken_kinds registry (record { kind = kind; recorded = recorded }) inputs ≡ [] → schema_by registry kind inputs ≡ Some schema → AllMeet inputs outcomes → Meets (IsFrameOf schema) (frame_by kind tables (by_meaning registry) outcomes)
+  node_meets (ScanKind table own) tables recorded [] outcomes schema fits none is k =
+      subst (λ os. Meets (IsFrameOf schema) (frame_by (ScanKind table own) tables (by_meaning registry) os)) (sym (no_outcome outcomes k)) (scan_meets tables table own schema fits none (some_same _ _ is))
+  node_meets (SelectKind outputs) tables recorded (Some under ∷ []) outcomes schema fits none is k =
+      let only = only_outcome (Some under) outcomes k in
+      subst (λ os. Meets (IsFrameOf schema) (frame_by (SelectKind outputs) tables (by_meaning registry) os)) (sym only.1) (select_meets outputs recorded under schema only.0 only.2 none is)
+  node_meets (FilterKind predicate) tables recorded (Some under ∷ []) outcomes schema fits none is k =
+      let only = only_outcome (Some under) outcomes k in
+      subst (λ os. Meets (IsFrameOf schema) (frame_by (FilterKind predicate) tables (by_meaning registry) os)) (sym only.1) (filter_meets predicate under schema only.0 only.2 none (some_same _ _ is))
+  node_meets kind tables recorded inputs outcomes schema fits none is k = absurd (absurd_none schema is)
 
   -- a node that has a schema gives a frame of it, unless there is a fault
-  pub kernel_meets : (tables : List Frame) (op : PlanOp Expression) (inputs : List (Option Columns)) (outcomes : List (Outcome Frame)) (schema : Columns) → FitsNode tables op.kind op.schema → plan_rule registry op inputs ≡ Some schema → AllMeet inputs outcomes → Meets (IsFrameOf schema) (plan_kernel tables (by_meaning registry) op outcomes)
-  kernel_meets tables op = node_meets op.kind tables op
+  pub kernel_meets : (tables : List Frame) (op : PlanOp Expression) (inputs : List (Option Columns)) (outcomes : List (Outcome Frame)) (schema : Columns) → HasTables tables (own_scans op.kind) → plan_rule registry op inputs ≡ Some schema → AllMeet inputs outcomes → Meets (IsFrameOf schema) (plan_kernel tables (by_meaning registry) op outcomes)
+  kernel_meets tables op inputs outcomes schema fits h k =
+      let kinds = broken_kinds registry op inputs in
+      let found = schema_by registry op.kind inputs in
+      node_meets op.kind tables op.recorded inputs outcomes schema fits (unbroken_kinds kinds found schema h) (unbroken_schema kinds found schema h) k
 
   mutual
     plan_meets : (tables : List Frame) (plan : Plan) (schema : Columns) → FitsPlan tables plan → IsWellFormed registry plan → schema_of registry plan ≡ Some schema → Meets (IsFrameOf schema) (source_meaning registry tables plan)
     plan_meets tables (node op inputs) schema fits well e =
-        kernel_meets tables op (schemas_of registry inputs) (fold_all (plan_kernel tables (by_meaning registry)) inputs) schema fits.0 e (inputs_meet tables inputs fits.1 well.1)
+        let scans = own_scans op.kind in
+        let below = scans_below inputs in
+        kernel_meets tables op (schemas_of registry inputs) (fold_all (plan_kernel tables (by_meaning registry)) inputs) schema (front_tables tables scans below fits) e (inputs_meet tables inputs (back_tables tables scans below fits) well.1)
 
-    inputs_meet : (tables : List Frame) (inputs : Trees (PlanOp Expression)) → AllFitPlans tables inputs → AllWellFormed registry inputs → AllMeet (schemas_of registry inputs) (fold_all (plan_kernel tables (by_meaning registry)) inputs)
+    inputs_meet : (tables : List Frame) (inputs : Trees (PlanOp Expression)) → HasTables tables (scans_below inputs) → AllWellFormed registry inputs → AllMeet (schemas_of registry inputs) (fold_all (plan_kernel tables (by_meaning registry)) inputs)
     inputs_meet tables no_more fits well = tt
     inputs_meet tables (more plan rest) fits well =
         let found = well_formed_schema registry plan well.0 in
-        (subst (λ o. MeetsWhere o (source_meaning registry tables plan)) (sym found.1) (plan_meets tables plan found.0 fits.0 well.0 found.1), inputs_meet tables rest fits.1 well.1)
+        (subst (λ o. MeetsWhere o (source_meaning registry tables plan)) (sym found.1) (plan_meets tables plan found.0 (front_tables tables (scans_in plan) (scans_below rest) fits) well.0 found.1), inputs_meet tables rest (back_tables tables (scans_in plan) (scans_below rest) fits) well.1)
 
 -- a well-formed plan is not stuck on fitting tables, and its frame has its schema
 pub meaning_has_schema : MeaningHasSchema

@@ -15,6 +15,9 @@ on_frame : (e f : Evaluation) (xs ys : List (Named Expression)) (schema : Column
 on_frame e f xs ys schema frame is agree =
     subst (λ s. map (e (record { schema = s; rows = frame.rows })) xs ≡ map (f (record { schema = s; rows = frame.rows })) ys) (sym is) (agree frame.rows)
 
+first_is : {A : Type 0} (x y : A) (xs ys : List A) → (x ∷ xs) ≡ (y ∷ ys) → x ≡ y
+first_is x y xs ys e = cc
+
 -- then a select gives the same
 pub selected_agrees : (e f : Evaluation) (xs ys : List (Named Expression)) (schema : Columns) (input : Outcome Frame) → AgreeOn schema e f xs ys → Meets (IsFrameOf schema) input → selected e xs input ≡ selected f ys input
 selected_agrees e f [] [] schema input agree meets = refl
@@ -26,7 +29,9 @@ selected_agrees e f [] (y ∷ ys) schema input agree meets = let none = agree []
 selected_agrees e f (x ∷ xs) [] schema input agree meets = let none = agree [] in cc
 
 -- and so does a filter
-pub filtered_agrees : (e f : Evaluation) (xs ys : List (Named Expression)) (schema : Columns) (input : Outcome Frame) → AgreeOn schema e f xs ys → Meets (IsFrameOf schema) input → filtered e xs input ≡ filtered f ys input
-filtered_agrees e f xs ys schema (Done frame) agree meets = ap (λ es. filtered_on es frame) (on_frame e f xs ys schema frame meets.schema_is agree)
-filtered_agrees e f xs ys schema Fault agree meets = refl
-filtered_agrees e f xs ys schema Stuck agree meets = refl
+pub filtered_agrees : (e f : Evaluation) (x y : Named Expression) (schema : Columns) (input : Outcome Frame) → AgreeOn schema e f (x ∷ []) (y ∷ []) → Meets (IsFrameOf schema) input → filtered e x input ≡ filtered f y input
+filtered_agrees e f x y schema (Done frame) agree meets =
+    let same : e frame x ≡ f frame y = first_is _ _ [] [] (on_frame e f (x ∷ []) (y ∷ []) schema frame meets.schema_is agree) in
+    ap (λ v. filtered_on v frame) same
+filtered_agrees e f x y schema Fault agree meets = refl
+filtered_agrees e f x y schema Stuck agree meets = refl

@@ -6,17 +6,16 @@ use Rattle.std.proofs.lemmas.List.Elements.{Contains-append_left, Contains-appen
 use Rattle.plan_types.specs.Schemas.{Name, Columns, type_at, repeats, names_of, HasDistinctNames, all_known}
 use Rattle.plan_types.specs.Types.{Truth, same_type}
 use Rattle.plan_types.specs.declared.error.ErrorKind.{ErrorKind}
-use Rattle.plan_types.specs.declared.error.ErrorKind.TheVariants.{Duplicate, InvalidOperation}
+use Rattle.plan_types.specs.declared.error.ErrorKind.TheVariants.{Duplicate, SchemaMismatch, InvalidOperation}
 use Rattle.plan_types.proofs.SchemaLemmas.{repeated_test, test_from_distinct, distinct_from_test}
-use Rattle.plan_types.proofs.ListLemmas.{map-map}
 use Rattle.plan_dsl.specs.Registry.{Registry}
 use Rattle.plan_dsl.specs.Trees.{Trees, node, no_more, more, child_at, child_of, tree_at}
 use Rattle.plan_dsl.specs.Ops.{Op, Expression}
-use Rattle.plan_dsl.specs.Names.{name_of}
-use Rattle.plan_dsl.specs.Plans.{PlanOp, Plan, Named, named, scan_op, select_op, filter_op}
+use Rattle.plan_dsl.specs.Plans.{Named, PlanKind, ScanKind, SelectKind, FilterKind, PlanOp, Plan, scan_op, select_op, filter_op}
 use Rattle.plan_dsl.specs.Literals.{settled}
 use Rattle.plan_dsl.specs.Typing.{Typed, typing, typing_all, typing_rule, then_typed, typed_before, kind_of, own_kind, kinds_in, kinds_in_all}
-use Rattle.plan_dsl.specs.PlanRules.{Signature, signature, signatures, all_kinds, kind_where, select_kinds, scan_kinds, column_before, columns_of, as_schema, where_unbroken, plan_rule, schema_of, IsWellFormed, AllWellFormed, top_kinds, Breaks, predicate_kinds, filter_kinds}
+use Rattle.plan_dsl.specs.PlanRules.{all_kinds, kind_where, name_kinds, scan_kinds, predicate_kinds, broken_kinds, column_before, columns_of, where_unbroken, plan_rule, schema_of, IsWellFormed, AllWellFormed, top_kinds, Breaks}
+use Rattle.plan_dsl.specs.Laws.{NoSchemaIsBroken}
 
 same_kind : {A : Type 0} (r : Result A ErrorKind) (k kind : ErrorKind) → r ≡ Err k → r ≡ Err kind → k ≡ kind
 same_kind r k kind e f = cc
@@ -49,59 +48,60 @@ module _ (registry : Registry) (schema : Columns) where
         let later = kinds_in_all registry schema rest in
         elim (typing registry schema child) as (λ r. typing registry schema child ≡ r → typed_before r (typing_all registry schema rest) ≡ Err kind → Contains (first ++ later) kind) [ Ok t ↦ λ e h. elim (typing_all registry schema rest) as (λ r. typing_all registry schema rest ≡ r → typed_before (Ok t) r ≡ Err kind → Contains (first ++ later) kind) [ Ok ts ↦ λ es h. cc | Err k ↦ λ es h. Contains-append_right first later kind (one_is_broken rest kind (es ∙ h)) ] refl h | Err k ↦ λ e h. Contains-append_left first later kind (refusal_is_broken child kind (e ∙ ap Err (same_kind (Err k) k kind refl h))) ] refl h
 
-  abbrev selected : List Expression → List Signature
-  selected trees = signatures registry (map named trees) schema
+  kinds_of_one : (front : List (Named Expression)) (o : Named Expression) (back : List (Named Expression)) (kind : ErrorKind) → Contains (kinds_in registry schema (settled o.expression)) kind → Contains (all_kinds registry schema (front ++ o ∷ back)) kind
+  kinds_of_one [] o back kind h = Contains-append_left (kinds_in registry schema (settled o.expression)) (all_kinds registry schema back) kind h
+  kinds_of_one (x ∷ front) o back kind h =
+      Contains-append_right (kinds_in registry schema (settled x.expression)) (all_kinds registry schema (front ++ o ∷ back)) kind (kinds_of_one front o back kind h)
 
-  kinds_of_one : (front : List Expression) (tree : Expression) (back : List Expression) (kind : ErrorKind) → Contains (kinds_in registry schema (settled tree)) kind → Contains (all_kinds (selected (front ++ tree ∷ back))) kind
-  kinds_of_one [] tree back kind h = Contains-append_left (kinds_in registry schema (settled tree)) (all_kinds (selected back)) kind h
-  kinds_of_one (t ∷ front) tree back kind h =
-      Contains-append_right (kinds_in registry schema (settled t)) (all_kinds (selected (front ++ tree ∷ back))) kind (kinds_of_one front tree back kind h)
+  -- expressions break the kind for which one of them is refused
+  pub refused_among : (front : List (Named Expression)) (o : Named Expression) (back : List (Named Expression)) (kind : ErrorKind) → typing registry schema (settled o.expression) ≡ Err kind → Contains (all_kinds registry schema (front ++ o ∷ back)) kind
+  refused_among front o back kind h = kinds_of_one front o back kind (refusal_is_broken (settled o.expression) kind h)
+
+  -- and so does the only expressions' node
+  of_expressions : (outputs : List (Named Expression)) (own : List ErrorKind) (kind : ErrorKind) → Contains (all_kinds registry schema outputs) kind → Contains ((all_kinds registry schema outputs ++ []) ++ own) kind
+  of_expressions outputs own kind h = Contains-append_left (all_kinds registry schema outputs ++ []) own kind (Contains-append_left (all_kinds registry schema outputs) [] kind h)
 
   -- a select breaks the kind for which one of its expressions is refused
-  pub select_refused_kind : (front : List Expression) (tree : Expression) (back : List Expression) (kind : ErrorKind) → typing registry schema (settled tree) ≡ Err kind → Contains (select_kinds (selected (front ++ tree ∷ back))) kind
-  select_refused_kind front tree back kind h =
-      Contains-append_left _ (kind_where (repeats (map (λ s. s.name) (selected (front ++ tree ∷ back)))) Duplicate) kind (kinds_of_one front tree back kind (refusal_is_broken (settled tree) kind h))
+  pub select_refused_kind : (recorded : Option Columns) (front : List (Named Expression)) (o : Named Expression) (back : List (Named Expression)) (kind : ErrorKind) → typing registry schema (settled o.expression) ≡ Err kind → Contains (broken_kinds registry (select_op (front ++ o ∷ back) recorded) (Some schema ∷ [])) kind
+  select_refused_kind recorded front o back kind h = of_expressions (front ++ o ∷ back) _ kind (refused_among front o back kind h)
 
-  selected_names : (trees : List Expression) → map (λ s. s.name) (selected trees) ≡ map name_of trees
-  selected_names [] = refl
-  selected_names (tree ∷ trees) = ap (λ l. name_of tree ∷ l) (selected_names trees)
+  abbrev output_names : List (Named Expression) → List Name
+  output_names outputs = map (λ o. o.name) outputs
 
   -- a select whose names repeat breaks the rule of distinct names
-  pub select_repeated_kind : (trees : List Expression) → repeats (map name_of trees) ≡ true → Contains (select_kinds (selected trees)) Duplicate
-  select_repeated_kind trees h =
-      let test = ap repeats (selected_names trees) ∙ h in
-      Contains-append_right (all_kinds (selected trees)) _ Duplicate (subst (λ b. Contains (kind_where b Duplicate) Duplicate) (sym test) (Contains-push [] Duplicate))
+  pub select_repeated_kind : (recorded : Option Columns) (outputs : List (Named Expression)) → repeats (output_names outputs) ≡ true → Contains (broken_kinds registry (select_op outputs recorded) (Some schema ∷ [])) Duplicate
+  select_repeated_kind recorded outputs h =
+      Contains-append_right (all_kinds registry schema outputs ++ []) (name_kinds outputs) Duplicate (subst (λ b. Contains (kind_where b Duplicate) Duplicate) (sym h) (Contains-push [] Duplicate))
 
   -- an expression whose name stands among those before it
-  pub select_repeated_name : (before : Columns) (front : List Expression) (tree : Expression) (back : List Expression) → names_of before ≡ map name_of front → is_some (type_at before (name_of tree)) ≡ true → Contains (select_kinds (selected (front ++ tree ∷ back))) Duplicate
-  select_repeated_name before front tree back names found =
-      let whole = map-append name_of front (tree ∷ back) ∙ ap (λ l. l ++ name_of tree ∷ map name_of back) (sym names) in
-      select_repeated_kind (front ++ tree ∷ back) (ap repeats whole ∙ repeated_test before (name_of tree) (map name_of back) found)
+  pub select_repeated_name : (recorded : Option Columns) (before : Columns) (front : List (Named Expression)) (o : Named Expression) (back : List (Named Expression)) → names_of before ≡ output_names front → is_some (type_at before o.name) ≡ true → Contains (broken_kinds registry (select_op (front ++ o ∷ back) recorded) (Some schema ∷ [])) Duplicate
+  select_repeated_name recorded before front o back names found =
+      let whole = map-append (λ (x : Named Expression). x.name) front (o ∷ back) ∙ ap (λ l. l ++ o.name ∷ output_names back) (sym names) in
+      select_repeated_kind recorded (front ++ o ∷ back) (ap repeats whole ∙ repeated_test before o.name (output_names back) found)
 
   -- a filter breaks the kind for which its predicate is refused
-  pub filter_refused_kind : (predicate : Named Expression) (kind : ErrorKind) → typing registry schema (settled predicate.expression) ≡ Err kind → Contains (filter_kinds (signatures registry (predicate ∷ []) schema)) kind
-  filter_refused_kind predicate kind h =
-      Contains-append_left (kinds_in registry schema (settled predicate.expression)) _ kind (refusal_is_broken (settled predicate.expression) kind h)
+  pub filter_refused_kind : (predicate : Named Expression) (kind : ErrorKind) → typing registry schema (settled predicate.expression) ≡ Err kind → Contains (broken_kinds registry (filter_op predicate) (Some schema ∷ [])) kind
+  filter_refused_kind predicate kind h = of_expressions (predicate ∷ []) _ kind (refused_among [] predicate [] kind h)
 
   -- one whose predicate has another type than that of truth values breaks the rule of its type
-  pub filter_other_type : (predicate : Named Expression) (typed : Typed) → typing registry schema (settled predicate.expression) ≡ Ok typed → same_type typed.type Truth ≡ false → Contains (filter_kinds (signatures registry (predicate ∷ []) schema)) InvalidOperation
+  pub filter_other_type : (predicate : Named Expression) (typed : Typed) → typing registry schema (settled predicate.expression) ≡ Ok typed → same_type typed.type Truth ≡ false → Contains (broken_kinds registry (filter_op predicate) (Some schema ∷ [])) InvalidOperation
   filter_other_type predicate typed h other =
       let broken = subst (λ b. Contains (kind_where (not b) InvalidOperation) InvalidOperation) (sym other) (Contains-push [] InvalidOperation) in
-      Contains-append_right (kinds_in registry schema (settled predicate.expression)) _ InvalidOperation (subst (λ r. Contains (predicate_kinds r) InvalidOperation) (sym h) broken)
+      Contains-append_right (all_kinds registry schema (predicate ∷ []) ++ []) _ InvalidOperation (subst (λ r. Contains (predicate_kinds r) InvalidOperation) (sym h) broken)
 
   not_contained : (kinds : List ErrorKind) (kind : ErrorKind) → kinds ≡ [] → Contains kinds kind → ⊥
   not_contained [] kind e h = omega (arith, h.1)
   not_contained (k ∷ ks) kind e h = cc
 
   -- the predicate of a filter that breaks no rule has a type
-  pub predicate_typed : (predicate : Named Expression) → filter_kinds (signatures registry (predicate ∷ []) schema) ≡ [] → (typed : Typed) × (typing registry schema (settled predicate.expression) ≡ Ok typed)
+  pub predicate_typed : (predicate : Named Expression) → broken_kinds registry (filter_op predicate) (Some schema ∷ []) ≡ [] → (typed : Typed) × (typing registry schema (settled predicate.expression) ≡ Ok typed)
   predicate_typed predicate none =
       elim (typing registry schema (settled predicate.expression)) as (λ r. typing registry schema (settled predicate.expression) ≡ r → (typed : Typed) × (typing registry schema (settled predicate.expression) ≡ Ok typed)) [ Ok typed ↦ λ e. (typed, e) | Err kind ↦ λ e. absurd (not_contained _ kind none (filter_refused_kind predicate kind e)) ] refl
 
   -- a filter by a typed predicate of truth values has the schema of its input
   pub filter_schema : (predicate : Named Expression) (typed : Typed) → typing registry schema (settled predicate.expression) ≡ Ok typed → typed.type ≡ Truth → plan_rule registry (filter_op predicate) (Some schema ∷ []) ≡ Some schema
   filter_schema predicate typed h truth =
-      let unbroken = ap (λ k. k ++ predicate_kinds (typing registry schema (settled predicate.expression))) (typed_breaks_nothing (settled predicate.expression) typed h) ∙ ap predicate_kinds h ∙ ap (λ t. kind_where (not (same_type t Truth)) InvalidOperation) truth in
+      let unbroken = ap (λ k. ((k ++ []) ++ []) ++ predicate_kinds (typing registry schema (settled predicate.expression))) (typed_breaks_nothing (settled predicate.expression) typed h) ∙ ap predicate_kinds h ∙ ap (λ t. kind_where (not (same_type t Truth)) InvalidOperation) truth in
       ap (λ kinds. where_unbroken kinds (Some schema)) unbroken
 
   -- expressions that are typed, each with its name, tree and type
@@ -110,52 +110,39 @@ module _ (registry : Registry) (schema : Columns) where
     output a = record { name = name a; expression = tree a }
 
     -- they have these columns
-    pub columns_from_typed : (outputs : List A) → AllByRecursion (λ a. typing registry schema (settled (tree a)) ≡ Ok (typed a)) outputs → columns_of (map (λ a. signature registry schema (output a)) outputs) ≡ Some (map (λ a. (name a, (typed a).type)) outputs)
+    pub columns_from_typed : (outputs : List A) → AllByRecursion (λ a. typing registry schema (settled (tree a)) ≡ Ok (typed a)) outputs → columns_of registry schema (map output outputs) ≡ Some (map (λ a. (name a, (typed a).type)) outputs)
     columns_from_typed [] h = refl
     columns_from_typed (a ∷ rest) h =
-        ap (λ r. column_before (name a) r (columns_of (map (λ a. signature registry schema (output a)) rest))) h.0
+        ap (λ r. column_before (name a) r (columns_of registry schema (map output rest))) h.0
         ∙ ap (column_before (name a) (Ok (typed a))) (columns_from_typed rest h.1)
 
     -- and break no rule
-    pub no_kinds_from_typed : (outputs : List A) → AllByRecursion (λ a. typing registry schema (settled (tree a)) ≡ Ok (typed a)) outputs → all_kinds (map (λ a. signature registry schema (output a)) outputs) ≡ []
+    pub no_kinds_from_typed : (outputs : List A) → AllByRecursion (λ a. typing registry schema (settled (tree a)) ≡ Ok (typed a)) outputs → all_kinds registry schema (map output outputs) ≡ []
     no_kinds_from_typed [] h = refl
     no_kinds_from_typed (a ∷ rest) h =
-        ap (λ k. k ++ all_kinds (map (λ a. signature registry schema (output a)) rest)) (typed_breaks_nothing (settled (tree a)) (typed a) h.0) ∙ no_kinds_from_typed rest h.1
+        ap (λ k. k ++ all_kinds registry schema (map output rest)) (typed_breaks_nothing (settled (tree a)) (typed a) h.0) ∙ no_kinds_from_typed rest h.1
 
-    signatures_are : (outputs : List A) → signatures registry (map output outputs) schema ≡ map (λ a. signature registry schema (output a)) outputs
-    signatures_are outputs = map-map (signature registry schema) output outputs
-
-    -- the same of a node's list of named expressions
-    pub named_columns_from_typed : (outputs : List A) → AllByRecursion (λ a. typing registry schema (settled (tree a)) ≡ Ok (typed a)) outputs → columns_of (signatures registry (map output outputs) schema) ≡ Some (map (λ a. (name a, (typed a).type)) outputs)
-    named_columns_from_typed outputs h = ap columns_of (signatures_are outputs) ∙ columns_from_typed outputs h
-
-    pub named_no_kinds_from_typed : (outputs : List A) → AllByRecursion (λ a. typing registry schema (settled (tree a)) ≡ Ok (typed a)) outputs → all_kinds (signatures registry (map output outputs) schema) ≡ []
-    named_no_kinds_from_typed outputs h = ap all_kinds (signatures_are outputs) ∙ no_kinds_from_typed outputs h
-
-    names_are : (outputs : List A) → map (λ s. s.name) (signatures registry (map output outputs) schema) ≡ names_of (map (λ a. (name a, (typed a).type)) outputs)
+    names_are : (outputs : List A) → output_names (map output outputs) ≡ names_of (map (λ a. (name a, (typed a).type)) outputs)
     names_are [] = refl
     names_are (a ∷ rest) = ap (λ l. name a ∷ l) (names_are rest)
 
-    -- with distinct names a select of them breaks no rule
-    pub select_unbroken : (outputs : List A) → AllByRecursion (λ a. typing registry schema (settled (tree a)) ≡ Ok (typed a)) outputs → HasDistinctNames (map (λ a. (name a, (typed a).type)) outputs) → select_kinds (signatures registry (map output outputs) schema) ≡ []
-    select_unbroken outputs h distinct =
+    -- with distinct names a select of them breaks no rule, and has their columns
+    pub select_schema : (recorded : Option Columns) (outputs : List A) → AllByRecursion (λ a. typing registry schema (settled (tree a)) ≡ Ok (typed a)) outputs → HasDistinctNames (map (λ a. (name a, (typed a).type)) outputs) → plan_rule registry (select_op (map output outputs) recorded) (Some schema ∷ []) ≡ Some (map (λ a. (name a, (typed a).type)) outputs)
+    select_schema recorded outputs h distinct =
         let test = ap repeats (names_are outputs) ∙ test_from_distinct _ distinct in
-        ap (λ k. k ++ kind_where (repeats (map (λ s. s.name) (signatures registry (map output outputs) schema))) Duplicate) (named_no_kinds_from_typed outputs h)
-        ∙ ap (λ b. kind_where b Duplicate) test
-
-    -- and has their columns
-    pub select_schema : (own : Columns) (outputs : List A) → AllByRecursion (λ a. typing registry schema (settled (tree a)) ≡ Ok (typed a)) outputs → HasDistinctNames (map (λ a. (name a, (typed a).type)) outputs) → plan_rule registry (select_op (map output outputs) own) (Some schema ∷ []) ≡ Some (map (λ a. (name a, (typed a).type)) outputs)
-    select_schema own outputs h distinct =
-        ap (λ kinds. where_unbroken kinds (columns_of (signatures registry (map output outputs) schema))) (select_unbroken outputs h distinct) ∙ named_columns_from_typed outputs h
+        let unbroken = ap (λ k. (k ++ []) ++ name_kinds (map output outputs)) (no_kinds_from_typed outputs h) ∙ ap (λ b. kind_where b Duplicate) test in
+        ap (λ kinds. where_unbroken kinds (columns_of registry schema (map output outputs))) unbroken ∙ columns_from_typed outputs h
 
 -- a scan of columns with types has its table's schema
 pub scan_schema : (registry : Registry) (table : Option ℕ) (own : Columns) → HasDistinctNames own → all_known own ≡ true → plan_rule registry (scan_op table own) [] ≡ Some own
 scan_schema registry table own distinct known =
-    ap (λ b. where_unbroken (kind_where (not b) InvalidOperation) (as_schema own)) known ∙ ap (λ b. cond b None (Some own)) (test_from_distinct own distinct)
+    ap (λ b. where_unbroken (kind_where (not b) InvalidOperation ++ kind_where (repeats (names_of own)) Duplicate) (Some own)) known
+    ∙ ap (λ b. where_unbroken (kind_where b Duplicate) (Some own)) (test_from_distinct own distinct)
 
 -- a scan of a column whose type isn't known breaks that rule
 pub scan_unknown_kind : (own : Columns) → all_known own ≡ false → Contains (scan_kinds own) InvalidOperation
-scan_unknown_kind own h = subst (λ b. Contains (kind_where (not b) InvalidOperation) InvalidOperation) (sym h) (Contains-push [] InvalidOperation)
+scan_unknown_kind own h =
+    Contains-append_left (kind_where (not (all_known own)) InvalidOperation) _ InvalidOperation (subst (λ b. Contains (kind_where (not b) InvalidOperation) InvalidOperation) (sym h) (Contains-push [] InvalidOperation))
 
 -- a node that breaks a kind of rule has no schema
 broken_has_none : (kinds : List ErrorKind) (kind : ErrorKind) (found : Option Columns) → Contains kinds kind → is_some (where_unbroken kinds found) ≡ false
@@ -174,17 +161,6 @@ pub unbroken_schema : (kinds : List ErrorKind) (found : Option Columns) (schema 
 unbroken_schema [] found schema h = h
 unbroken_schema (k ∷ ks) found schema h = cc
 
--- columns that are a schema have distinct names
-pub as_schema_is : (own schema : Columns) → as_schema own ≡ Some schema → (own ≡ schema) × HasDistinctNames own
-as_schema_is own schema h =
-    elim (repeats (names_of own)) as (λ b. repeats (names_of own) ≡ b → cond b None (Some own) ≡ Some schema → (own ≡ schema) × HasDistinctNames own) [ true ↦ λ e h. cc | false ↦ λ e h. (cc, distinct_from_test own e) ] refl h
-
--- the names of expressions are those of their columns
-pub column_names : (ss : List Signature) (schema : Columns) → columns_of ss ≡ Some schema → map (λ s. s.name) ss ≡ names_of schema
-column_names [] schema h = let e : [] ≡ schema = cc in ap names_of e
-column_names (s ∷ ss) schema h =
-    elim (s.typing) as (λ t. column_before s.name t (columns_of ss) ≡ Some schema → s.name ∷ map (λ s. s.name) ss ≡ names_of schema) [ Ok typed ↦ λ h. elim (columns_of ss) as (λ o. columns_of ss ≡ o → column_before s.name (Ok typed) o ≡ Some schema → s.name ∷ map (λ s. s.name) ss ≡ names_of schema) [ Some columns ↦ λ e h. let same : (s.name, typed.type) ∷ columns ≡ schema = cc in ap (λ l. s.name ∷ l) (column_names ss columns e) ∙ ap names_of same | None ↦ λ e h. cc ] refl h | Err kind ↦ λ h. cc ] h
-
 no_tail : (kinds tail : List ErrorKind) → kinds ++ tail ≡ [] → tail ≡ []
 no_tail [] tail h = h
 no_tail (k ∷ ks) tail h = cc
@@ -193,11 +169,55 @@ not_repeated : (b : Bool) → kind_where b Duplicate ≡ [] → b ≡ false
 not_repeated true h = cc
 not_repeated false h = refl
 
+-- the columns of a scan that breaks no rule have distinct names
+pub scan_distinct : (own : Columns) → scan_kinds own ≡ [] → HasDistinctNames own
+scan_distinct own none = distinct_from_test own (not_repeated (repeats (names_of own)) (no_tail (kind_where (not (all_known own)) InvalidOperation) _ none))
+
+-- the names of expressions are those of their columns
+pub column_names : (registry : Registry) (under : Columns) (os : List (Named Expression)) (schema : Columns) → columns_of registry under os ≡ Some schema → map (λ o. o.name) os ≡ names_of schema
+column_names registry under [] schema h = let e : [] ≡ schema = cc in ap names_of e
+column_names registry under (o ∷ os) schema h =
+    let rest = columns_of registry under os in
+    elim (typing registry under (settled o.expression)) as (λ t. column_before o.name t rest ≡ Some schema → o.name ∷ map (λ (x : Named Expression). x.name) os ≡ names_of schema) [ Ok typed ↦ λ h. elim rest as (λ r. rest ≡ r → column_before o.name (Ok typed) r ≡ Some schema → o.name ∷ map (λ (x : Named Expression). x.name) os ≡ names_of schema) [ Some columns ↦ λ e h. let same : (o.name, typed.type) ∷ columns ≡ schema = cc in ap (λ l. o.name ∷ l) (column_names registry under os columns e) ∙ ap names_of same | None ↦ λ e h. cc ] refl h | Err kind ↦ λ h. cc ] h
+
 -- a select that breaks no rule has columns of distinct names
-pub selected_distinct : (ss : List Signature) (schema : Columns) → select_kinds ss ≡ [] → columns_of ss ≡ Some schema → HasDistinctNames schema
-selected_distinct ss schema none columns =
-    let test = not_repeated (repeats (map (λ s. s.name) ss)) (no_tail (all_kinds ss) _ none) in
-    distinct_from_test schema (ap repeats (sym (column_names ss schema columns)) ∙ test)
+pub selected_distinct : (registry : Registry) (under : Columns) (os : List (Named Expression)) (recorded : Option Columns) (schema : Columns) → broken_kinds registry (select_op os recorded) (Some under ∷ []) ≡ [] → columns_of registry under os ≡ Some schema → HasDistinctNames schema
+selected_distinct registry under os recorded schema none columns =
+    let test = not_repeated (repeats (map (λ (o : Named Expression). o.name) os)) (no_tail (all_kinds registry under os ++ []) _ none) in
+    distinct_from_test schema (ap repeats (sym (column_names registry under os schema columns)) ∙ test)
+
+-- expressions of which one has no column break a kind
+no_column_breaks : (registry : Registry) (under : Columns) (os : List (Named Expression)) → columns_of registry under os ≡ None → (kind : ErrorKind) × Contains (all_kinds registry under os) kind
+no_column_breaks registry under [] h = absurd cc
+no_column_breaks registry under (o ∷ os) h =
+    let rest = columns_of registry under os in
+    let own = kinds_in registry under (settled o.expression) in
+    elim (typing registry under (settled o.expression)) as (λ t. typing registry under (settled o.expression) ≡ t → column_before o.name t rest ≡ None → (kind : ErrorKind) × Contains (own ++ all_kinds registry under os) kind) [ Ok typed ↦ λ e h. elim rest as (λ r. rest ≡ r → column_before o.name (Ok typed) r ≡ None → (kind : ErrorKind) × Contains (own ++ all_kinds registry under os) kind) [ Some columns ↦ λ e h. absurd cc | None ↦ λ e h. let later = no_column_breaks registry under os e in (later.0, Contains-append_right own (all_kinds registry under os) later.0 later.1) ] refl h | Err kind ↦ λ e h. (kind, Contains-append_left own (all_kinds registry under os) kind (refusal_is_broken registry under (settled o.expression) kind e)) ] refl h
+
+-- where there would be a schema, a node that has none breaks a kind
+some_kind : (kinds : List ErrorKind) (schema : Columns) → where_unbroken kinds (Some schema) ≡ None → (kind : ErrorKind) × Contains kinds kind
+some_kind [] schema h = absurd cc
+some_kind (kind ∷ kinds) schema h = (kind, Contains-append_left (kind ∷ []) kinds kind (Contains-push [] kind))
+
+some_last : (kinds : List ErrorKind) (last : ErrorKind) → (kind : ErrorKind) × Contains (kinds ++ last ∷ []) kind
+some_last kinds last = (last, Contains-append_right kinds (last ∷ []) last (Contains-push [] last))
+
+-- a node of the kind without a schema, whose inputs have one, breaks a rule
+kind_breaks : (registry : Registry) (kind : PlanKind Expression) (inputs : List Columns) → plan_rule registry (record { kind = kind; recorded = None }) (map Some inputs) ≡ None → (k : ErrorKind) × Contains (broken_kinds registry (record { kind = kind; recorded = None }) (map Some inputs)) k
+kind_breaks registry (ScanKind table schema) [] h = some_kind (scan_kinds schema) schema h
+kind_breaks registry (ScanKind table schema) (under ∷ inputs) h = some_last [] SchemaMismatch
+kind_breaks registry (SelectKind outputs) [] h = some_last [] SchemaMismatch
+kind_breaks registry (SelectKind outputs) (under ∷ []) h =
+    let kinds = (all_kinds registry under outputs ++ []) ++ name_kinds outputs in
+    elim (columns_of registry under outputs) as (λ c. columns_of registry under outputs ≡ c → where_unbroken kinds c ≡ None → (k : ErrorKind) × Contains kinds k) [ Some schema ↦ λ e h. some_kind kinds schema h | None ↦ λ e h. let found = no_column_breaks registry under outputs e in (found.0, of_expressions registry under outputs (name_kinds outputs) found.0 found.1) ] refl h
+kind_breaks registry (SelectKind outputs) (under ∷ other ∷ inputs) h = some_last (all_kinds registry under outputs ++ []) SchemaMismatch
+kind_breaks registry (FilterKind predicate) [] h = some_last [] SchemaMismatch
+kind_breaks registry (FilterKind predicate) (under ∷ []) h =
+    some_kind ((all_kinds registry under (predicate ∷ []) ++ []) ++ predicate_kinds (typing registry under (settled predicate.expression))) under h
+kind_breaks registry (FilterKind predicate) (under ∷ other ∷ inputs) h = some_last (all_kinds registry under (predicate ∷ []) ++ []) SchemaMismatch
+
+pub no_schema_is_broken : NoSchemaIsBroken
+no_schema_is_broken registry op inputs h = kind_breaks registry op.kind inputs h
 
 module _ (registry : Registry) where
   -- there is no plan, or it is well formed

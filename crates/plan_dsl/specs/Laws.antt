@@ -1,5 +1,5 @@
 -- Laws of the definitions, for all expressions and plans.
-use Rattle.std.specs.Prelude.{◌≡◌, ℕ, ℤ, List, [], ◌∷◌, length, Some, Ok, Err, IsTrue, true, false}
+use Rattle.std.specs.Prelude.{◌≡◌, ℕ, ℤ, List, [], ◌∷◌, length, map, Some, None, Ok, Err, IsTrue, true, false}
 use Rattle.std.specs.List.{Contains}
 use Rattle.plan_types.specs.Types.{Ty, Untyped, is_known}
 use Rattle.plan_types.specs.Schemas.{Columns}
@@ -10,7 +10,7 @@ use Rattle.plan_types.specs.declared.error.ErrorKind.{ErrorKind}
 use Rattle.plan_dsl.specs.Registry.{Registry}
 use Rattle.plan_dsl.specs.Ops.{Op, LiteralOp, BinaryOp, Expression}
 use Rattle.plan_dsl.specs.Trees.{Trees, node, no_more, more}
-use Rattle.plan_dsl.specs.Plans.{Plan}
+use Rattle.plan_dsl.specs.Plans.{PlanOp, Plan}
 use Rattle.plan_dsl.specs.Typing.{Typed, Ruling, rule, types_of, typed_to, typing, typing_all, kinds_in}
 use Rattle.plan_dsl.specs.declared.operator.Operator.{Operator}
 use Rattle.plan_dsl.specs.Operators.{operator_value, swapped}
@@ -19,7 +19,7 @@ use Rattle.plan_dsl.specs.Kernels.{operator_values}
 use Rattle.plan_dsl.specs.Meaning.{meaning}
 use Rattle.plan_dsl.specs.Strictness.{IsStrict, IsSame, IsStrictOver, as_operands}
 use Rattle.plan_dsl.specs.StrictRun.{strict_run}
-use Rattle.plan_dsl.specs.PlanRules.{schema_of, IsWellFormed, Breaks}
+use Rattle.plan_dsl.specs.PlanRules.{broken_kinds, plan_rule, schema_of, IsWellFormed, Breaks}
 use Rattle.plan_dsl.specs.PlanMeaning.{source_meaning, FitsPlan}
 
 -- operands that were taken to their types are taken as they are
@@ -71,6 +71,10 @@ TypedBreaksNothing = (registry : Registry) (schema : Columns) (tree : Expression
 -- the kind for which an expression is refused is one that it breaks
 abbrev pub RefusalIsBroken : Type 0
 RefusalIsBroken = (registry : Registry) (schema : Columns) (tree : Expression) (kind : ErrorKind) → typing registry schema tree ≡ Err kind → Contains (kinds_in registry schema tree) kind
+
+-- a node without a schema, whose inputs have one, breaks a rule
+abbrev pub NoSchemaIsBroken : Type 0
+NoSchemaIsBroken = (registry : Registry) (op : PlanOp Expression) (inputs : List Columns) → plan_rule registry op (map Some inputs) ≡ None → (kind : ErrorKind) × Contains (broken_kinds registry op (map Some inputs)) kind
 
 -- a plan in which a rule is broken at some place is not well formed
 abbrev pub BrokenIsIllFormed : Type 0

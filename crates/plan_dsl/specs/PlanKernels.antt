@@ -99,14 +99,12 @@ abbrev pub kept_rows : Frame → List Val → Outcome Frame
 kept_rows frame values =
     then_do (for_rows (length frame.rows) values) (λ each. Done (record { schema = frame.schema; rows = rows_where_true each frame.rows }))
 
--- the rows of a frame for which its one expression is true
-abbrev pub filtered_on : List Evaluated → Frame → Outcome Frame
-filtered_on [] frame = Stuck
-filtered_on (e ∷ []) frame = then_do (e.gives (row_numbers frame)) (kept_rows frame)
-filtered_on (e ∷ other ∷ es) frame = Stuck
+-- the rows of a frame for which an expression is true
+abbrev pub filtered_on : Evaluated → Frame → Outcome Frame
+filtered_on e frame = then_do (e.gives (row_numbers frame)) (kept_rows frame)
 
-abbrev pub filtered : Evaluation → List (Named Expression) → Outcome Frame → Outcome Frame
-filtered evaluate outputs input = then_do input (λ frame. filtered_on (map (evaluate frame) outputs) frame)
+abbrev pub filtered : Evaluation → Named Expression → Outcome Frame → Outcome Frame
+filtered evaluate predicate input = then_do input (λ frame. filtered_on (evaluate frame predicate) frame)
 
 abbrev pub table_frame : Option Frame → Outcome Frame
 table_frame None = Stuck
@@ -117,16 +115,13 @@ abbrev pub scanned : List Frame → Option ℕ → Columns → Outcome Frame
 scanned tables (Some number) schema = table_frame (slice_get tables number)
 scanned tables None schema = Done (record { schema = schema; rows = [] })
 
-abbrev pub frame_by : PlanKind → List Frame → Evaluation → PlanOp Expression → List (Outcome Frame) → Outcome Frame
-frame_by (ScanKind table) tables evaluate op [] = scanned tables table op.schema
-frame_by (ScanKind table) tables evaluate op (input ∷ inputs) = Stuck
-frame_by SelectKind tables evaluate op [] = Stuck
-frame_by SelectKind tables evaluate op (input ∷ []) = selected evaluate op.expressions input
-frame_by SelectKind tables evaluate op (input ∷ other ∷ inputs) = Stuck
-frame_by FilterKind tables evaluate op [] = Stuck
-frame_by FilterKind tables evaluate op (input ∷ []) = filtered evaluate op.expressions input
-frame_by FilterKind tables evaluate op (input ∷ other ∷ inputs) = Stuck
+-- what a node of the kind gives. With another number of inputs than its own, which no plan has, it is stuck
+abbrev pub frame_by : PlanKind Expression → List Frame → Evaluation → List (Outcome Frame) → Outcome Frame
+frame_by (ScanKind table schema) tables evaluate [] = scanned tables table schema
+frame_by (SelectKind outputs) tables evaluate (input ∷ []) = selected evaluate outputs input
+frame_by (FilterKind predicate) tables evaluate (input ∷ []) = filtered evaluate predicate input
+frame_by kind tables evaluate inputs = Stuck
 
 -- what a node gives, from what its inputs give
 abbrev pub plan_kernel : List Frame → Evaluation → PlanOp Expression → List (Outcome Frame) → Outcome Frame
-plan_kernel tables evaluate op inputs = frame_by op.kind tables evaluate op inputs
+plan_kernel tables evaluate op inputs = frame_by op.kind tables evaluate inputs

@@ -1,14 +1,13 @@
 -- What a query's plan means on tables.
 -- Its expressions are evaluated by their meaning. Tables fit a plan where each scan's number names a frame
 -- of exactly the scan's schema.
-use Rattle.std.specs.Prelude.{List, slice_get, Option, Some, None}
+use Rattle.std.specs.Prelude.{List, [], ◌∷◌, slice_get, Option, Some, None}
 use Rattle.plan_types.specs.Schemas.{Columns}
-use Rattle.plan_types.specs.Outcomes.{Outcome}
+use Rattle.plan_types.specs.Outcomes.{Outcome, Meets}
 use Rattle.plan_types.specs.Frames.{Frame, IsFrameOf}
 use Rattle.plan_dsl.specs.Registry.{Registry}
-use Rattle.plan_dsl.specs.Trees.{Trees, node, no_more, more, fold}
-use Rattle.plan_dsl.specs.Ops.{Expression}
-use Rattle.plan_dsl.specs.Plans.{PlanKind, ScanKind, SelectKind, PlanOp, Plan, FilterKind}
+use Rattle.plan_dsl.specs.Trees.{fold}
+use Rattle.plan_dsl.specs.Plans.{Plan, Scan, scans_in}
 use Rattle.plan_dsl.specs.Literals.{settled}
 use Rattle.plan_dsl.specs.Typing.{typing}
 use Rattle.plan_dsl.specs.Meaning.{meaning}
@@ -28,17 +27,16 @@ abbrev pub HasTable : Columns → Option Frame → Type 0
 HasTable schema None = ⊥
 HasTable schema (Some frame) = IsFrameOf schema frame
 
--- the tables have what a node asks of them
-abbrev pub FitsNode : List Frame → PlanKind → Columns → Type 0
-FitsNode tables (ScanKind (Some number)) schema = HasTable schema (slice_get tables number)
-FitsNode tables (ScanKind None) schema = Unit {0}
-FitsNode tables SelectKind schema = Unit {0}
-FitsNode tables FilterKind schema = Unit {0}
+-- the tables have each table that is scanned
+abbrev pub HasTables : List Frame → List Scan → Type 0
+HasTables tables [] = Unit {0}
+HasTables tables (scan ∷ scans) = HasTable scan.schema (slice_get tables scan.table) × HasTables tables scans
 
-abbrev mutual
-  pub FitsPlan : List Frame → Plan → Type 0
-  FitsPlan tables (node op inputs) = FitsNode tables op.kind op.schema × AllFitPlans tables inputs
+-- the tables have those that a plan scans
+abbrev pub FitsPlan : List Frame → Plan → Type 0
+FitsPlan tables plan = HasTables tables (scans_in plan)
 
-  pub AllFitPlans : List Frame → Trees (PlanOp Expression) → Type 0
-  AllFitPlans tables no_more = Unit {0}
-  AllFitPlans tables (more plan rest) = FitsPlan tables plan × AllFitPlans tables rest
+-- there is a schema, and what is given is a frame of it or a data fault
+abbrev pub MeetsWhere : Option Columns → Outcome Frame → Type 0
+MeetsWhere None outcome = ⊥
+MeetsWhere (Some schema) outcome = Meets (IsFrameOf schema) outcome

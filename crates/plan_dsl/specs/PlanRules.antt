@@ -1,71 +1,72 @@
 -- The rules of plans.
 -- A node breaks some kinds of rule, where what they read is there, over inputs that have a schema or none.
 -- Where it breaks none it has a schema. A plan is well formed where each of its nodes has one.
-use Rattle.std.specs.Prelude.{ℕ, List, [], ◌∷◌, ◌++◌, map, Option, Some, None, Bool, not, is_some, IsTrue, Result, Ok, Err, if◌then◌else◌}
+use Rattle.std.specs.Prelude.{ℕ, zero, suc, List, [], ◌∷◌, ◌++◌, map, Option, Some, None, Bool, not, is_some, IsTrue, Result, Ok, Err, if◌then◌else◌}
 use Rattle.std.specs.List.{Contains}
 use Rattle.plan_types.specs.Schemas.{Name, Columns, repeats, names_of, all_known}
 use Rattle.plan_types.specs.Types.{Truth, same_type}
 use Rattle.plan_types.specs.declared.error.ErrorKind.{ErrorKind}
-use Rattle.plan_types.specs.declared.error.ErrorKind.TheVariants.{Duplicate, InvalidOperation}
+use Rattle.plan_types.specs.declared.error.ErrorKind.TheVariants.{Duplicate, SchemaMismatch, InvalidOperation}
 use Rattle.plan_dsl.specs.Registry.{Registry}
 use Rattle.plan_dsl.specs.Trees.{Trees, node, no_more, more, fold, fold_all, tree_at}
 use Rattle.plan_dsl.specs.Ops.{Expression}
-use Rattle.plan_dsl.specs.Plans.{PlanKind, ScanKind, SelectKind, PlanOp, Plan, Named, FilterKind}
+use Rattle.plan_dsl.specs.Plans.{Named, PlanKind, ScanKind, SelectKind, FilterKind, PlanOp, OverInput, Plan, expressions_of}
 use Rattle.plan_dsl.specs.Literals.{settled}
 use Rattle.plan_dsl.specs.Typing.{Typed, typing, kinds_in}
-
--- an expression as the rules see it: its name, its typing, and the kinds that it breaks
-pub record Signature : Type 0 where
-  pub name : Name
-  pub typing : Result Typed ErrorKind
-  pub kinds : List ErrorKind
-
-abbrev pub signature : Registry → Columns → Named Expression → Signature
-signature registry schema output =
-    record { name = output.name; typing = typing registry schema (settled output.expression); kinds = kinds_in registry schema (settled output.expression) }
-
-abbrev pub signatures : Registry → List (Named Expression) → Columns → List Signature
-signatures registry outputs schema = map (signature registry schema) outputs
-
-abbrev pub all_kinds : List Signature → List ErrorKind
-all_kinds [] = []
-all_kinds (s ∷ ss) = s.kinds ++ all_kinds ss
 
 -- the kind where the test says so
 abbrev pub kind_where : Bool → ErrorKind → List ErrorKind
 kind_where test kind = if test then kind ∷ [] else []
 
--- a select breaks what its expressions break, and its names are distinct
-abbrev pub select_kinds : List Signature → List ErrorKind
-select_kinds outputs = all_kinds outputs ++ kind_where (repeats (map (λ s. s.name) outputs)) Duplicate
+-- the kinds that expressions break over a schema
+abbrev pub all_kinds : Registry → Columns → List (Named Expression) → List ErrorKind
+all_kinds registry schema [] = []
+all_kinds registry schema (output ∷ outputs) =
+    kinds_in registry schema (settled output.expression) ++ all_kinds registry schema outputs
 
--- a scan's columns have types of columns
+-- over an input without schema they break none
+abbrev pub kinds_over : Registry → Option Columns → List (Named Expression) → List ErrorKind
+kinds_over registry None outputs = []
+kinds_over registry (Some schema) outputs = all_kinds registry schema outputs
+
+-- the schema of the input of that number
+abbrev pub input_schema : List (Option Columns) → ℕ → Option Columns
+input_schema [] number = None
+input_schema (schema ∷ schemas) zero = schema
+input_schema (schema ∷ schemas) (suc number) = input_schema schemas number
+
+-- the kinds that a node's expressions break
+abbrev pub expression_kinds : Registry → List (Option Columns) → List (OverInput Expression) → List ErrorKind
+expression_kinds registry inputs [] = []
+expression_kinds registry inputs (e ∷ es) =
+    kinds_over registry (input_schema inputs e.input) e.outputs ++ expression_kinds registry inputs es
+
+-- a scan's columns have types of columns, and distinct names
 abbrev pub scan_kinds : Columns → List ErrorKind
-scan_kinds own = kind_where (not (all_known own)) InvalidOperation
+scan_kinds own = kind_where (not (all_known own)) InvalidOperation ++ kind_where (repeats (names_of own)) Duplicate
+
+-- a select's names are distinct
+abbrev pub name_kinds : List (Named Expression) → List ErrorKind
+name_kinds outputs = kind_where (repeats (map (λ output. output.name) outputs)) Duplicate
 
 -- a typed predicate is of the type of truth values: what one that isn't typed breaks, its expression says
 abbrev pub predicate_kinds : Result Typed ErrorKind → List ErrorKind
 predicate_kinds (Err kind) = []
 predicate_kinds (Ok typed) = kind_where (not (same_type typed.type Truth)) InvalidOperation
 
--- a filter breaks what its one expression breaks, as an expression and as a predicate
-abbrev pub filter_kinds : List Signature → List ErrorKind
-filter_kinds [] = []
-filter_kinds (s ∷ []) = s.kinds ++ predicate_kinds s.typing
-filter_kinds (s ∷ other ∷ ss) = []
+-- The kinds that a node breaks besides those of its expressions, by the schemas of its inputs. Another number of
+-- inputs than its own, which no query has, breaks a rule too.
+abbrev pub own_kinds : Registry → PlanKind Expression → List (Option Columns) → List ErrorKind
+own_kinds registry (ScanKind table schema) [] = scan_kinds schema
+own_kinds registry (SelectKind outputs) (None ∷ []) = []
+own_kinds registry (SelectKind outputs) (Some schema ∷ []) = name_kinds outputs
+own_kinds registry (FilterKind predicate) (None ∷ []) = []
+own_kinds registry (FilterKind predicate) (Some schema ∷ []) = predicate_kinds (typing registry schema (settled predicate.expression))
+own_kinds registry kind inputs = SchemaMismatch ∷ []
 
--- the kinds that a node breaks, by its schema, its expressions over a schema and the schemas of its inputs
-abbrev pub kinds_by : PlanKind → Columns → (Columns → List Signature) → List (Option Columns) → List ErrorKind
-kinds_by (ScanKind table) own outputs inputs = scan_kinds own
-kinds_by SelectKind own outputs [] = []
-kinds_by SelectKind own outputs (None ∷ inputs) = []
-kinds_by SelectKind own outputs (Some schema ∷ inputs) = select_kinds (outputs schema)
-kinds_by FilterKind own outputs [] = []
-kinds_by FilterKind own outputs (None ∷ inputs) = []
-kinds_by FilterKind own outputs (Some schema ∷ inputs) = filter_kinds (outputs schema)
-
+-- the kinds that a node breaks, by the schemas of its inputs
 abbrev pub broken_kinds : Registry → PlanOp Expression → List (Option Columns) → List ErrorKind
-broken_kinds registry op inputs = kinds_by op.kind op.schema (signatures registry op.expressions) inputs
+broken_kinds registry op inputs = expression_kinds registry inputs (expressions_of op.kind) ++ own_kinds registry op.kind inputs
 
 abbrev pub column_before : Name → Result Typed ErrorKind → Option Columns → Option Columns
 column_before name (Err kind) rest = None
@@ -73,32 +74,17 @@ column_before name (Ok typed) None = None
 column_before name (Ok typed) (Some columns) = Some ((name, typed.type) ∷ columns)
 
 -- the names and types of expressions, where each has a type
-abbrev pub columns_of : List Signature → Option Columns
-columns_of [] = Some []
-columns_of (s ∷ ss) = column_before s.name s.typing (columns_of ss)
-
--- columns are a schema where their names are distinct
-abbrev pub as_schema : Columns → Option Columns
-as_schema columns = if repeats (names_of columns) then None else Some columns
-
--- the schema under one expression
-abbrev pub under_one : List Signature → Columns → Option Columns
-under_one [] schema = None
-under_one (s ∷ []) schema = Some schema
-under_one (s ∷ other ∷ ss) schema = None
+abbrev pub columns_of : Registry → Columns → List (Named Expression) → Option Columns
+columns_of registry schema [] = Some []
+columns_of registry schema (output ∷ outputs) =
+    column_before output.name (typing registry schema (settled output.expression)) (columns_of registry schema outputs)
 
 -- the schema of a node that breaks no rule
-abbrev pub schema_by : PlanKind → Columns → (Columns → List Signature) → List (Option Columns) → Option Columns
-schema_by (ScanKind table) own outputs [] = as_schema own
-schema_by (ScanKind table) own outputs (input ∷ inputs) = None
-schema_by SelectKind own outputs [] = None
-schema_by SelectKind own outputs (None ∷ inputs) = None
-schema_by SelectKind own outputs (Some schema ∷ []) = columns_of (outputs schema)
-schema_by SelectKind own outputs (Some schema ∷ other ∷ inputs) = None
-schema_by FilterKind own outputs [] = None
-schema_by FilterKind own outputs (None ∷ inputs) = None
-schema_by FilterKind own outputs (Some schema ∷ []) = under_one (outputs schema) schema
-schema_by FilterKind own outputs (Some schema ∷ other ∷ inputs) = None
+abbrev pub schema_by : Registry → PlanKind Expression → List (Option Columns) → Option Columns
+schema_by registry (ScanKind table schema) [] = Some schema
+schema_by registry (SelectKind outputs) (Some schema ∷ []) = columns_of registry schema outputs
+schema_by registry (FilterKind predicate) (Some schema ∷ []) = Some schema
+schema_by registry kind inputs = None
 
 abbrev pub where_unbroken : List ErrorKind → Option Columns → Option Columns
 where_unbroken [] schema = schema
@@ -106,8 +92,7 @@ where_unbroken (kind ∷ kinds) schema = None
 
 -- a node's schema, from those of its inputs
 abbrev pub plan_rule : Registry → PlanOp Expression → List (Option Columns) → Option Columns
-plan_rule registry op inputs =
-    where_unbroken (broken_kinds registry op inputs) (schema_by op.kind op.schema (signatures registry op.expressions) inputs)
+plan_rule registry op inputs = where_unbroken (broken_kinds registry op inputs) (schema_by registry op.kind inputs)
 
 -- a plan's schema, and those of plans side by side
 abbrev pub schema_of : Registry → Plan → Option Columns

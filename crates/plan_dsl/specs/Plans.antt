@@ -1,33 +1,46 @@
 -- The tree of a plan.
-use Rattle.std.specs.Prelude.{ℕ, List, [], ◌∷◌, map, Option, None}
+use Rattle.std.specs.Prelude.{ℕ, List, [], ◌∷◌, ◌++◌, map, Option, Some, None}
 use Rattle.plan_types.specs.Schemas.{Columns, Name, columns}
 use Rattle.plan_dsl.specs.declared.plan.DslPlan.{DslPlan}
 use Rattle.plan_dsl.specs.declared.plan.DslPlan.TheVariants.{DataFrameScan, Filter', Select'}
 use Rattle.plan_dsl.specs.declared.plan.Exprs.{Exprs}
 use Rattle.plan_dsl.specs.declared.plan.ProjectionOptions.{ProjectionOptions}
-use Rattle.plan_dsl.specs.Trees.{Tree, node, no_more, more}
+use Rattle.plan_dsl.specs.Trees.{Tree, node, no_more, more, fold}
 use Rattle.plan_dsl.specs.Ops.{Expression}
 use Rattle.plan_dsl.specs.Expressions.{tree_of}
 use Rattle.plan_dsl.specs.Names.{name_of}
 
--- the kind of a plan's node
-pub data PlanKind : Type 0 where
-  ScanKind : (table : Option ℕ) → PlanKind
-  SelectKind : PlanKind
-  FilterKind : PlanKind
-
--- a node's output: an expression and its name
+-- an expression of a node, with its name
 pub record Named (E : Type 0) : Type 0 where
   pub name : Name
   pub expression : E
 
--- What a node of a plan does, over what an expression is: a tree in the model, a node in the arena.
--- A scan's schema is its table's. A select of a lowered plan records its frame's schema, and one of a
--- query records none. A filter, whose frame has the schema of its input, records none.
+-- the kind of a plan's node, with its expressions and flags, over what an expression is: a tree in the model, a
+-- node in the arena
+pub data PlanKind (E : Type 0) : Type 0 where
+  ScanKind : (table : Option ℕ) (schema : Columns) → PlanKind E
+  SelectKind : (outputs : List (Named E)) → PlanKind E
+  FilterKind : (predicate : Named E) → PlanKind E
+
+-- What a node of a plan does: its kind, and the schema of its frame where the node records it. A scan does, and a
+-- select of a lowered plan. A select of a query, and a filter, record none.
 pub record PlanOp (E : Type 0) : Type 0 where
-  pub kind : PlanKind
-  pub expressions : List (Named E)
-  pub schema : Columns
+  pub kind : PlanKind E
+  pub recorded : Option Columns
+
+-- expressions side by side, and the number of the input over which they are typed
+pub record OverInput (E : Type 0) : Type 0 where
+  pub input : ℕ
+  pub outputs : List (Named E)
+
+abbrev pub over_input : {E : Type 0} → ℕ → List (Named E) → OverInput E
+over_input number outputs = record { input = number; outputs = outputs }
+
+-- the expressions of a node, in order
+abbrev pub expressions_of : {E : Type 0} → PlanKind E → List (OverInput E)
+expressions_of (ScanKind table schema) = []
+expressions_of (SelectKind outputs) = over_input 0 outputs ∷ []
+expressions_of (FilterKind predicate) = over_input 0 (predicate ∷ []) ∷ []
 
 abbrev pub Plan : Type 0
 Plan = Tree (PlanOp Expression)
@@ -41,18 +54,36 @@ abbrev pub trees_of : Exprs → List Expression
 trees_of exprs = map tree_of exprs.items.items
 
 abbrev pub scan_op : {E : Type 0} → Option ℕ → Columns → PlanOp E
-scan_op table schema = record { kind = ScanKind table; expressions = []; schema = schema }
+scan_op table schema = record { kind = ScanKind table schema; recorded = Some schema }
 
-abbrev pub select_op : {E : Type 0} → List (Named E) → Columns → PlanOp E
-select_op expressions schema = record { kind = SelectKind; expressions = expressions; schema = schema }
+abbrev pub select_op : {E : Type 0} → List (Named E) → Option Columns → PlanOp E
+select_op outputs recorded = record { kind = SelectKind outputs; recorded = recorded }
 
 abbrev pub filter_op : {E : Type 0} → Named E → PlanOp E
-filter_op predicate = record { kind = FilterKind; expressions = predicate ∷ []; schema = [] }
+filter_op predicate = record { kind = FilterKind predicate; recorded = None }
 
 abbrev pub plan_tree : DslPlan → Plan
 plan_tree (DataFrameScan table schema) = node (scan_op table (columns schema)) no_more
-plan_tree (Select' expr p input options) = node (select_op (map named (trees_of expr)) []) (more (plan_tree input) no_more)
+plan_tree (Select' expr p input options) = node (select_op (map named (trees_of expr)) None) (more (plan_tree input) no_more)
 plan_tree (Filter' p input predicate) = node (filter_op (named (tree_of predicate))) (more (plan_tree input) no_more)
+
+-- a scan of a table: the table's number, and the schema that it is to have
+pub record Scan : Type 0 where
+  pub table : ℕ
+  pub schema : Columns
+
+-- the tables that a node scans
+abbrev pub own_scans : {E : Type 0} → PlanKind E → List Scan
+own_scans (ScanKind (Some number) schema) = record { table = number; schema = schema } ∷ []
+own_scans kind = []
+
+abbrev pub joined : {A : Type 0} → List (List A) → List A
+joined [] = []
+joined (list ∷ lists) = list ++ joined lists
+
+-- the tables that a plan scans, from the top down
+abbrev pub scans_in : {E : Type 0} → Tree (PlanOp E) → List Scan
+scans_in plan = fold (λ op below. own_scans op.kind ++ joined below) plan
 
 -- the options of a plan's selects, from the top down: its tree has none of them, since they mean nothing
 abbrev pub options_in : DslPlan → List ProjectionOptions

@@ -27,7 +27,6 @@ use Rattle.plan_dsl.specs.Meaning.{meaning}
 use Rattle.plan_dsl.specs.Strictness.{as_operand}
 use Rattle.plan_dsl.specs.StrictRun.{strict_run}
 use Rattle.plan_dsl.specs.Plans.{Plan, named, scan_op, select_op, filter_op}
-use Rattle.plan_dsl.specs.PlanRules.{Signature}
 use Rattle.plan_dsl.specs.PlanKernels.{Series}
 
 -- ---- tables of cases
@@ -399,7 +398,7 @@ abbrev pub empty_scan : Columns → Plan
 empty_scan schema = node (scan_op None schema) no_more
 
 abbrev pub select : List Expression → Plan → Plan
-select outputs input = node (select_op (map named outputs) []) (more input no_more)
+select outputs input = node (select_op (map named outputs) None) (more input no_more)
 
 abbrev pub keep : Expression → Plan → Plan
 keep predicate input = node (filter_op (named predicate)) (more input no_more)
@@ -443,10 +442,3 @@ scan_of place schema = node (scan_op (Some place) schema) no_more
 
 abbrev pub series : String → Ty → List Val → Series
 series name type values = record { name = codes name; type = type; values = values }
-
--- an expression that has a typing and breaks nothing, and one that breaks kinds of rule
-abbrev pub signed : String → Result Typed ErrorKind → Signature
-signed name typing = record { name = codes name; typing = typing; kinds = [] }
-
-abbrev pub refused : String → List ErrorKind → Signature
-refused name kinds = record { name = codes name; typing = Err SchemaMismatch; kinds = kinds }

@@ -307,7 +307,7 @@ abbrev pub empty_plan : Columns → Plan
 empty_plan columns = node (scan_op None columns) no_more
 
 abbrev pub select_plan : Plan × List Expression → Plan
-select_plan parts = node (select_op (map named parts.1) []) (more parts.0 no_more)
+select_plan parts = node (select_op (map named parts.1) None) (more parts.0 no_more)
 
 abbrev pub filter_plan : Plan × Expression → Plan
 filter_plan parts = node (filter_op (named parts.1)) (more parts.0 no_more)

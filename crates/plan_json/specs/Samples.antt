@@ -1,6 +1,6 @@
 -- What the worked examples share: tables of cases, and values and trees in short.
 use Prim.Native.String.{String as Literal}
-use Rattle.std.specs.Prelude.{◌≡◌, ◌+◌, ℕ, ℤ, negsuc, List, [], ◌∷◌, map, codes, ⊤, true, Option, String, string_bytes}
+use Rattle.std.specs.Prelude.{◌≡◌, ◌+◌, ℕ, ℤ, negsuc, List, [], ◌∷◌, map, codes, ⊤, true, Option, None, String, string_bytes}
 use Rattle.std.specs.Global.{Global}
 use Rattle.serde_json.specs.Data.{Data, Items, array, no_items, item, no_members, member, negative, number, object, string, unsigned}
 use Rattle.plan_types.specs.Schemas.{Columns}
@@ -129,7 +129,7 @@ abbrev pub scan : Option ℕ → Columns → Plan
 scan table columns = node (scan_op table columns) no_more
 
 abbrev pub select : List Expression → Plan → Plan
-select outputs input = node (select_op (map named outputs) []) (more input no_more)
+select outputs input = node (select_op (map named outputs) None) (more input no_more)
 
 abbrev pub filter : Expression → Plan → Plan
 filter predicate input = node (filter_op (named predicate)) (more input no_more)

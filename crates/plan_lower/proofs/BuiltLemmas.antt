@@ -1,6 +1,7 @@
 -- What is built from scans, filters and selects, and why a filter or a select isn't.
-use Rattle.std.proofs.Common.{◌≡◌, ◌⊎◌, ℕ, List, [], ◌∷◌, ◌++◌, map, true, false, is_some, Option, Some, Ok, refl, sym, ap, ◌∙◌, subst, ⊎_elim}
+use Rattle.std.proofs.Common.{◌≡◌, ◌⊎◌, ℕ, List, [], ◌∷◌, ◌++◌, map, true, false, is_some, Option, Some, None, Ok, refl, sym, ap, ◌∙◌, subst, ⊎_elim}
 use Rattle.std.specs.List.{AllByRecursion, Contains}
+use Rattle.std.proofs.lemmas.List.{map-append}
 use Rattle.plan_types.specs.Types.{Truth}
 use Rattle.plan_types.specs.Schemas.{Name, Columns, HasDistinctNames, names_of, all_known}
 use Rattle.plan_types.specs.Outcomes.{Meets}
@@ -18,15 +19,16 @@ use Rattle.plan_dsl.specs.Plans.{PlanOp, Plan, Named, named, scan_op, select_op,
 use Rattle.plan_dsl.specs.Literals.{settled}
 use Rattle.plan_dsl.specs.Typing.{Typed, typing}
 use Rattle.plan_dsl.specs.Strictness.{IsStrict}
-use Rattle.plan_dsl.specs.PlanRules.{signatures, select_kinds, filter_kinds, plan_rule, schema_of, broken_kinds, Breaks}
+use Rattle.plan_dsl.specs.PlanRules.{plan_rule, schema_of, broken_kinds, Breaks}
 use Rattle.plan_dsl.specs.PlanKernels.{selected, filtered}
-use Rattle.plan_dsl.specs.PlanMeaning.{by_meaning, FitsPlan}
+use Rattle.plan_dsl.specs.PlanMeaning.{by_meaning, FitsPlan, MeetsWhere}
+use Rattle.plan_dsl.proofs.FrameLemmas.{fits_input, fits_over}
 use Rattle.plan_dsl.proofs.KernelLemmas.{AgreeOn, selected_agrees, filtered_agrees}
 use Rattle.plan_dsl.proofs.LiteralLemmas.{strict_settled}
 use Rattle.plan_dsl.proofs.RunLemmas.{strict_is_meaning}
 use Rattle.plan_dsl.proofs.RuleLemmas.{scan_schema, scan_unknown_kind, select_schema, select_refused_kind, select_repeated_name, filter_schema, filter_refused_kind, filter_other_type, broken_is_ill_formed}
-use Rattle.plan_arena.specs.Runs.{top_schema, by_running, plan_run, IsAccepted, RunsSoundly}
-use Rattle.plan_arena.proofs.RunLemmas.{runs_soundly}
+use Rattle.plan_arena.specs.Runs.{AreStrictOver, by_running, plan_run}
+use Rattle.plan_arena.proofs.RunLemmas.{runs_soundly, sound_top}
 use Rattle.plan_lower.specs.Outputs.{Lowered, IsLowered, lowered_named, lowered_column, lowered_select, SelectsTo}
 use Rattle.plan_lower.specs.Projection.{IsOutputRefusal, no_room, untyped, repeated, IsProjectionRefusal, out_of_memory as no_space, refused}
 use Rattle.plan_lower.specs.Predicates.{FiltersBy, IsPredicateRefusal, without_room, without_type, of_other_type, lowered_filter}
@@ -40,11 +42,12 @@ output_typed o = o.typed
 
 module _ (registry : Registry) where
   -- a scan is built from itself
-  pub scan_built : (table : Option ℕ) (schema : Columns) → HasDistinctNames schema → all_known schema ≡ true → IsBuilt registry (node (scan_op table schema) no_more) (node (scan_op table schema) no_more)
+  pub scan_built : (table : Option ℕ) (schema : Columns) → HasDistinctNames schema → all_known schema ≡ true → IsBuilt registry (node (scan_op table schema) no_more) (node (scan_op table schema) no_more) schema
   scan_built table schema distinct known =
       let there : schema_of registry (node (scan_op table schema) no_more) ≡ Some schema = scan_schema registry table schema distinct known in
       record {
         well_formed = (ap is_some there, tt);
+        source_schema = there;
         schema = there;
         accepted = (there, tt);
         strict = (tt, tt);
@@ -67,6 +70,9 @@ module _ (registry : Registry) where
   each_strict schema [] each = tt
   each_strict schema (o ∷ os) each = (each.0.strict, each_strict schema os each.1)
 
+  strict_over : (schema : Columns) (under : Option Columns) (outputs : List (Named Expression)) → under ≡ Some schema → AllByRecursion (λ (o : Named Expression). IsStrict registry schema o.expression) outputs → AreStrictOver registry under outputs
+  strict_over schema under outputs is strict = subst (λ u. AreStrictOver registry u outputs) (sym is) strict
+
   -- what stands for an expression gives what the expression means
   agree : (schema : Columns) (outputs : List Lowered) → AllByRecursion (IsLowered registry schema) outputs → AgreeOn schema (by_running registry) (by_meaning registry) (map lowered_named outputs) (map (λ (o : Lowered). named o.tree) outputs)
   agree schema [] each rows = refl
@@ -77,92 +83,87 @@ module _ (registry : Registry) where
       let rest = agree schema os each.1 rows in
       λ i. record { name = name_of o.tree; typing = typed i; gives = gives i } ∷ rest i
 
-  accepted_schema : (plan : Plan) → IsAccepted registry plan → schema_of registry plan ≡ Some (top_schema plan)
-  accepted_schema (node op inputs) accepted = accepted.0
-
-  sound_top : (tables : List Frame) (plan : Plan) → RunsSoundly registry tables plan → Meets (IsFrameOf (top_schema plan)) (plan_run registry tables plan)
-  sound_top tables (node op inputs) sound = sound.0
-
   -- what was built gives on fitting tables a frame of its schema
-  built_meets : (source lowered : Plan) (tables : List Frame) → IsBuilt registry source lowered → FitsPlan tables source → Meets (IsFrameOf (top_schema lowered)) (plan_run registry tables lowered)
-  built_meets source lowered tables built fits =
-      sound_top tables lowered (runs_soundly registry tables lowered built.accepted built.strict (built.fits tables fits))
+  built_meets : (source lowered : Plan) (schema : Columns) (tables : List Frame) → IsBuilt registry source lowered schema → FitsPlan tables source → Meets (IsFrameOf schema) (plan_run registry tables lowered)
+  built_meets source lowered schema tables built fits =
+      subst (λ s. MeetsWhere s (plan_run registry tables lowered)) built.schema (sound_top registry tables lowered (runs_soundly registry tables lowered built.accepted built.strict (built.fits tables fits)))
 
   abbrev source_outputs : List Lowered → List (Named Expression)
   source_outputs outputs = map (λ (o : Lowered). named o.tree) outputs
 
   abbrev source_plan : List Lowered → Plan → Plan
-  source_plan outputs source = node (select_op (source_outputs outputs) []) (more source no_more)
+  source_plan outputs source = node (select_op (source_outputs outputs) None) (more source no_more)
 
-  source_schema : (source lowered : Plan) → IsBuilt registry source lowered → (outputs : List Lowered) → AllByRecursion (IsLowered registry (top_schema lowered)) outputs → HasDistinctNames (map lowered_column outputs) → schema_of registry (source_plan outputs source) ≡ Some (map lowered_column outputs)
-  source_schema source lowered built outputs each distinct =
-      ap (λ s. plan_rule registry (select_op (source_outputs outputs) []) (s ∷ [])) built.schema
-      ∙ select_schema registry (top_schema lowered) output_name (λ (o : Lowered). o.tree) output_typed [] outputs (each_typed (top_schema lowered) outputs each) distinct
+  over_schema : (op : PlanOp Expression) (input : Plan) (schema own : Columns) → schema_of registry input ≡ Some schema → plan_rule registry op (Some schema ∷ []) ≡ Some own → schema_of registry (node op (more input no_more)) ≡ Some own
+  over_schema op input schema own there rule = ap (λ s. plan_rule registry op (s ∷ [])) there ∙ rule
+
+  select_columns : (schema : Columns) (recorded : Option Columns) (outputs : List Lowered) → AllByRecursion (IsLowered registry schema) outputs → HasDistinctNames (map lowered_column outputs) → plan_rule registry (select_op (source_outputs outputs) recorded) (Some schema ∷ []) ≡ Some (map lowered_column outputs)
+  select_columns schema recorded outputs each distinct =
+      select_schema registry schema output_name (λ (o : Lowered). o.tree) output_typed recorded outputs (each_typed schema outputs each) distinct
 
   -- a select over what was built from its input
-  built_over : (source lowered : Plan) → IsBuilt registry source lowered → (outputs : List Lowered) → AllByRecursion (IsLowered registry (top_schema lowered)) outputs → HasDistinctNames (map lowered_column outputs) → IsBuilt registry (source_plan outputs source) (lowered_select outputs lowered)
-  built_over source lowered built [] each distinct =
-      let there = source_schema source lowered built [] each distinct in
+  built_over : (source lowered : Plan) (schema : Columns) → IsBuilt registry source lowered schema → (outputs : List Lowered) → AllByRecursion (IsLowered registry schema) outputs → HasDistinctNames (map lowered_column outputs) → IsBuilt registry (source_plan outputs source) (lowered_select outputs lowered) (map lowered_column outputs)
+  built_over source lowered schema built [] each distinct =
+      let there = over_schema (select_op [] None) source schema [] built.source_schema (select_columns schema None [] each distinct) in
       record {
         well_formed = (ap is_some there, (built.well_formed, tt));
-        schema = there;
+        source_schema = there;
+        schema = refl;
         accepted = (refl, ((refl, tt), tt));
-        strict = (tt, ((tt, tt), tt));
-        fits = λ tables f. (tt, ((tt, tt), tt));
+        strict = ((tt, tt), ((tt, tt), tt));
+        fits = λ tables f. tt;
         same = λ tables f. refl;
       }
-  built_over source lowered built (o ∷ os) each distinct =
+  built_over source lowered schema built (o ∷ os) each distinct =
       let outputs = o ∷ os in
-      let schema = top_schema lowered in
-      let there = source_schema source lowered built outputs each distinct in
-      let here = ap (λ s. plan_rule registry (select_op (map lowered_named outputs) (map lowered_column outputs)) (s ∷ [])) (accepted_schema lowered built.accepted)
-      ∙ select_schema registry schema output_name (λ (o : Lowered). o.after) output_typed (map lowered_column outputs) outputs (each_after_typed schema outputs each) distinct in
+      let own = map lowered_column outputs in
+      let there = over_schema (select_op (source_outputs outputs) None) source schema own built.source_schema (select_columns schema None outputs each distinct) in
+      let op = select_op (map lowered_named outputs) (Some own) in
+      let here = over_schema op lowered schema own built.schema (select_schema registry schema output_name (λ (o : Lowered). o.after) output_typed (Some own) outputs (each_after_typed schema outputs each) distinct) in
       record {
         well_formed = (ap is_some there, (built.well_formed, tt));
-        schema = there;
+        source_schema = there;
+        schema = here;
         accepted = (here, (built.accepted, tt));
-        strict = (each_strict schema outputs each, (built.strict, tt));
-        fits = λ tables f. (tt, (built.fits tables f.1.0, tt));
+        strict = ((strict_over schema _ (map lowered_named outputs) built.schema (each_strict schema outputs each), tt), (built.strict, tt));
+        fits = λ tables f. fits_over tables op lowered refl (built.fits tables (fits_input tables (select_op (source_outputs outputs) None) source f));
         same = λ tables f.
-            selected_agrees (by_running registry) (by_meaning registry) (map lowered_named outputs) (source_outputs outputs) schema (plan_run registry tables lowered) (agree schema outputs each) (built_meets source lowered tables built f.1.0)
-            ∙ ap (λ input. selected (by_meaning registry) (source_outputs outputs) input) (built.same tables f.1.0);
+            let under = fits_input tables (select_op (source_outputs outputs) None) source f in
+            selected_agrees (by_running registry) (by_meaning registry) (map lowered_named outputs) (source_outputs outputs) schema (plan_run registry tables lowered) (agree schema outputs each) (built_meets source lowered schema tables built under)
+            ∙ ap (λ input. selected (by_meaning registry) (source_outputs outputs) input) (built.same tables under);
       }
 
   -- the same of a select of expressions that become the outputs
-  pub select_built : (source lowered : Plan) (trees : List Expression) (outputs : List Lowered) → IsBuilt registry source lowered → SelectsTo registry (top_schema lowered) trees outputs → IsBuilt registry (source_select trees source) (lowered_select outputs lowered)
-  select_built source lowered trees outputs built selects =
+  pub select_built : (source lowered : Plan) (schema : Columns) (trees : List Expression) (outputs : List Lowered) → IsBuilt registry source lowered schema → SelectsTo registry schema trees outputs → IsBuilt registry (source_select trees source) (lowered_select outputs lowered) (map lowered_column outputs)
+  select_built source lowered schema trees outputs built selects =
       let same_outputs = map-map named (λ (o : Lowered). o.tree) outputs in
       let expressions = sym same_outputs ∙ ap (map named) selects.trees_are in
-      subst (λ es. IsBuilt registry (node (select_op es []) (more source no_more)) (lowered_select outputs lowered)) expressions (built_over source lowered built outputs selects.each selects.distinct)
+      subst (λ es. IsBuilt registry (node (select_op es None) (more source no_more)) (lowered_select outputs lowered) (map lowered_column outputs)) expressions (built_over source lowered schema built outputs selects.each selects.distinct)
 
   -- a filter by one output over what was built from its input
-  filter_over : (source lowered : Plan) → IsBuilt registry source lowered → (o : Lowered) → IsLowered registry (top_schema lowered) o → o.typed.type ≡ Truth → IsBuilt registry (source_filter o.tree source) (lowered_filter o lowered)
-  filter_over source lowered built o is truth =
-      let schema = top_schema lowered in
-      let there : schema_of registry (source_filter o.tree source) ≡ Some schema =
-      ap (λ s. plan_rule registry (filter_op (named o.tree)) (s ∷ [])) built.schema ∙ filter_schema registry schema (named o.tree) o.typed is.typed truth in
-      let here : schema_of registry (lowered_filter o lowered) ≡ Some schema =
-      ap (λ s. plan_rule registry (filter_op (lowered_named o)) (s ∷ [])) (accepted_schema lowered built.accepted)
-      ∙ filter_schema registry schema (lowered_named o) o.typed (after_typed schema o is) truth in
+  filter_over : (source lowered : Plan) (schema : Columns) → IsBuilt registry source lowered schema → (o : Lowered) → IsLowered registry schema o → o.typed.type ≡ Truth → IsBuilt registry (source_filter o.tree source) (lowered_filter o lowered) schema
+  filter_over source lowered schema built o is truth =
+      let before = filter_op (named o.tree) in
+      let op = filter_op (lowered_named o) in
+      let there = over_schema before source schema schema built.source_schema (filter_schema registry schema (named o.tree) o.typed is.typed truth) in
+      let here = over_schema op lowered schema schema built.schema (filter_schema registry schema (lowered_named o) o.typed (after_typed schema o is) truth) in
       record {
         well_formed = (ap is_some there, (built.well_formed, tt));
-        schema = there;
-        accepted = (here, (built.accepted, tt));
-        strict = ((is.strict, tt), (built.strict, tt));
-        fits = λ tables f. (tt, (built.fits tables f.1.0, tt));
+        source_schema = there;
+        schema = here;
+        accepted = (ap is_some here, (built.accepted, tt));
+        strict = ((strict_over schema _ (lowered_named o ∷ []) built.schema (is.strict, tt), tt), (built.strict, tt));
+        fits = λ tables f. fits_over tables op lowered refl (built.fits tables (fits_input tables before source f));
         same = λ tables f.
-            filtered_agrees (by_running registry) (by_meaning registry) (lowered_named o ∷ []) (named o.tree ∷ []) schema (plan_run registry tables lowered) (agree schema (o ∷ []) (is, tt)) (built_meets source lowered tables built f.1.0)
-            ∙ ap (λ input. filtered (by_meaning registry) (named o.tree ∷ []) input) (built.same tables f.1.0);
+            let under = fits_input tables before source f in
+            filtered_agrees (by_running registry) (by_meaning registry) (lowered_named o) (named o.tree) schema (plan_run registry tables lowered) (agree schema (o ∷ []) (is, tt)) (built_meets source lowered schema tables built under)
+            ∙ ap (λ input. filtered (by_meaning registry) (named o.tree) input) (built.same tables under);
       }
 
   -- the same of a filter by an expression that becomes the output
-  pub filter_built : (source lowered : Plan) (tree : Expression) (output : Lowered) → IsBuilt registry source lowered → FiltersBy registry (top_schema lowered) tree output → IsBuilt registry (source_filter tree source) (lowered_filter output lowered)
-  filter_built source lowered tree output built filters =
-      subst (λ t. IsBuilt registry (source_filter t source) (lowered_filter output lowered)) filters.tree_is (filter_over source lowered built output filters.is filters.truth)
-
-  kind_here : (source lowered : Plan) (trees : List Expression) (kind : ErrorKind) → IsBuilt registry source lowered → Contains (select_kinds (signatures registry (map named trees) (top_schema lowered))) kind → Breaks registry kind [] (source_select trees source)
-  kind_here source lowered trees kind built h =
-      subst (λ s. Contains (broken_kinds registry (select_op (map named trees) []) (s ∷ [])) kind) (sym built.schema) h
+  pub filter_built : (source lowered : Plan) (schema : Columns) (tree : Expression) (output : Lowered) → IsBuilt registry source lowered schema → FiltersBy registry schema tree output → IsBuilt registry (source_filter tree source) (lowered_filter output lowered) schema
+  filter_built source lowered schema tree output built filters =
+      subst (λ t. IsBuilt registry (source_filter t source) (lowered_filter output lowered) schema) filters.tree_is (filter_over source lowered schema built output filters.is filters.truth)
 
   -- a refusal that names a kind that is broken at the top
   refused_top : (plan : Plan) (kind : ErrorKind) (error : PlanError) → error ≡ at_top kind → Breaks registry kind [] plan → IsPlanRefusal registry plan error
@@ -170,35 +171,37 @@ module _ (registry : Registry) where
       let breaks' = subst (λ (x : PlanError). Breaks registry x.kind x.place plan) (sym e) breaks in
       broken breaks' (broken_is_ill_formed registry error.kind error.place plan breaks')
 
+  -- one of a kind that a node over an input of the schema breaks
+  refused_over : (op : PlanOp Expression) (source : Plan) (schema : Columns) (kind : ErrorKind) (error : PlanError) → schema_of registry source ≡ Some schema → error ≡ at_top kind → Contains (broken_kinds registry op (Some schema ∷ [])) kind → IsPlanRefusal registry (node op (more source no_more)) error
+  refused_over op source schema kind error there e h =
+      refused_top (node op (more source no_more)) kind error e (subst (λ s. Contains (broken_kinds registry op (s ∷ [])) kind) (sym there) h)
+
   -- a scan of a column whose type isn't known is refused
   pub scan_refused_at : (table : Option ℕ) (schema : Columns) (error : PlanError) → IsMemoryOr InvalidOperation (all_known schema ≡ false) error → IsPlanRefusal registry (node (scan_op table schema) no_more) error
   scan_refused_at table schema error h =
       ⊎_elim (λ e. out_of_memory e) (λ p. refused_top (node (scan_op table schema) no_more) InvalidOperation error p.0 (scan_unknown_kind schema p.1)) h
 
   -- one of a select's expressions is refused
-  output_refused : (source lowered : Plan) (front back : List Expression) (tree : Expression) (before : Columns) (error : PlanError) → IsBuilt registry source lowered → names_of before ≡ map name_of front → IsOutputRefusal registry (top_schema lowered) tree before error → IsPlanRefusal registry (source_select (front ++ tree ∷ back) source) error
-  output_refused source lowered front back tree before error built names (no_room e) = out_of_memory e
-  output_refused source lowered front back tree before error built names (untyped kind e typing) =
-      refused_top (source_select (front ++ tree ∷ back) source) kind error e (kind_here source lowered (front ++ tree ∷ back) kind built (select_refused_kind registry (top_schema lowered) front tree back kind typing))
-  output_refused source lowered front back tree before error built names (repeated e found) =
-      refused_top (source_select (front ++ tree ∷ back) source) Duplicate error e (kind_here source lowered (front ++ tree ∷ back) Duplicate built (select_repeated_name registry (top_schema lowered) before front tree back names found))
+  output_refused : (source : Plan) (schema : Columns) (front back : List Expression) (tree : Expression) (before : Columns) (error : PlanError) → schema_of registry source ≡ Some schema → names_of before ≡ map name_of front → IsOutputRefusal registry schema tree before error → IsPlanRefusal registry (node (select_op (map named front ++ named tree ∷ map named back) None) (more source no_more)) error
+  output_refused source schema front back tree before error there names (no_room e) = out_of_memory e
+  output_refused source schema front back tree before error there names (untyped kind e typing) =
+      refused_over (select_op (map named front ++ named tree ∷ map named back) None) source schema kind error there e (select_refused_kind registry schema None (map named front) (named tree) (map named back) kind typing)
+  output_refused source schema front back tree before error there names (repeated e found) =
+      refused_over (select_op (map named front ++ named tree ∷ map named back) None) source schema Duplicate error there e (select_repeated_name registry schema None before (map named front) (named tree) (map named back) (names ∙ sym (map-map (λ (o : Named Expression). o.name) named front)) found)
 
-  pub select_refused_at : (source lowered : Plan) (trees : List Expression) (error : PlanError) → IsBuilt registry source lowered → IsProjectionRefusal registry (top_schema lowered) trees error → IsPlanRefusal registry (source_select trees source) error
-  select_refused_at source lowered trees error built (no_space e) = out_of_memory e
-  select_refused_at source lowered trees error built (refused r) =
-      subst (λ ts. IsPlanRefusal registry (source_select ts source) error) (sym r.split) (output_refused source lowered r.front r.back r.tree r.before error built r.names r.refusal)
-
-  filter_kind_here : (source lowered : Plan) (tree : Expression) (kind : ErrorKind) → IsBuilt registry source lowered → Contains (filter_kinds (signatures registry (named tree ∷ []) (top_schema lowered))) kind → Breaks registry kind [] (source_filter tree source)
-  filter_kind_here source lowered tree kind built h =
-      subst (λ s. Contains (broken_kinds registry (filter_op (named tree)) (s ∷ [])) kind) (sym built.schema) h
+  pub select_refused_at : (source : Plan) (schema : Columns) (trees : List Expression) (error : PlanError) → schema_of registry source ≡ Some schema → IsProjectionRefusal registry schema trees error → IsPlanRefusal registry (source_select trees source) error
+  select_refused_at source schema trees error there (no_space e) = out_of_memory e
+  select_refused_at source schema trees error there (refused r) =
+      let outputs = sym (map-append named r.front (r.tree ∷ r.back)) ∙ ap (map named) (sym r.split) in
+      subst (λ os. IsPlanRefusal registry (node (select_op os None) (more source no_more)) error) outputs (output_refused source schema r.front r.back r.tree r.before error there r.names r.refusal)
 
   -- a filter's predicate is refused
-  pub filter_refused_at : (source lowered : Plan) (tree : Expression) (error : PlanError) → IsBuilt registry source lowered → IsPredicateRefusal registry (top_schema lowered) tree error → IsPlanRefusal registry (source_filter tree source) error
-  filter_refused_at source lowered tree error built (without_room e) = out_of_memory e
-  filter_refused_at source lowered tree error built (without_type kind e typing) =
-      refused_top (source_filter tree source) kind error e (filter_kind_here source lowered tree kind built (filter_refused_kind registry (top_schema lowered) (named tree) kind typing))
-  filter_refused_at source lowered tree error built (of_other_type typed e typing other) =
-      refused_top (source_filter tree source) InvalidOperation error e (filter_kind_here source lowered tree InvalidOperation built (filter_other_type registry (top_schema lowered) (named tree) typed typing other))
+  pub filter_refused_at : (source : Plan) (schema : Columns) (tree : Expression) (error : PlanError) → schema_of registry source ≡ Some schema → IsPredicateRefusal registry schema tree error → IsPlanRefusal registry (source_filter tree source) error
+  filter_refused_at source schema tree error there (without_room e) = out_of_memory e
+  filter_refused_at source schema tree error there (without_type kind e typing) =
+      refused_over (filter_op (named tree)) source schema kind error there e (filter_refused_kind registry schema (named tree) kind typing)
+  filter_refused_at source schema tree error there (of_other_type typed e typing other) =
+      refused_over (filter_op (named tree)) source schema InvalidOperation error there e (filter_other_type registry schema (named tree) typed typing other)
 
   inner_refused : (source : Plan) (op : PlanOp Expression) (inner error : PlanError) → IsPlanRefusal registry source inner → ¬ (inner.kind ≡ NoMemory) → error ≡ record { kind = inner.kind; place = 0 ∷ inner.place } → IsPlanRefusal registry (node op (more source no_more)) error
   inner_refused source op inner error (out_of_memory e) other is = absurd (other (ap (λ (x : PlanError). x.kind) e))

@@ -3,7 +3,7 @@ use Rattle.std.proofs.Common.{◌≡◌, ℕ, List, [], ◌∷◌, map, codes, O
 use Rattle.plan_types.specs.Schemas.{Columns}
 use Rattle.plan_types.specs.Frames.{Frame}
 use Rattle.plan_dsl.specs.Trees.{node, no_more}
-use Rattle.plan_dsl.specs.Plans.{PlanOp, Plan, scan_op, select_op}
+use Rattle.plan_dsl.specs.Plans.{PlanOp, Plan, named, scan_op, select_op}
 use Rattle.plan_dsl.specs.PlanMeaning.{source_meaning, FitsPlan}
 use Rattle.plan_arena.specs.declared.aexpr.AExpr.{AExpr}
 use Rattle.plan_arena.specs.declared.ir.IR.{IR}
@@ -28,15 +28,15 @@ item_at plans layers n l is got = ap (λ ls. slice_get ls n) is ∙ got
 
 pub scan_denotes : (expressions : List AExpr) (plans : List IR) (n : ℕ) (table : Option ℕ) (schema : Columns) → slice_get (map plan_layer plans) n ≡ Some (layer (scan_op table schema) []) → Denotes (HoldsPlan expressions plans) n (node (scan_op table schema) no_more)
 scan_denotes expressions plans n table schema item =
-    ([], record { flat = scan_op table schema; item = item; denotes = record { same_kind = refl; same_schema = refl; named = tt } }, tt)
+    ([], record { flat = scan_op table schema; item = item; denotes = record { same_recorded = refl; kind = refl } }, tt)
 
 pub lowered_denotes : (plans : List IR) → map plan_layer plans ≡ sum_layers → Denotes (HoldsPlan strict_items plans) 1 lowered_query
 lowered_denotes plans is = (
   0 ∷ [],
   record {
-    flat = select_op (node_named (codes "a") 2 ∷ []) (one_column int32);
+    flat = select_op (node_named (codes "a") 2 ∷ []) (Some (one_column int32));
     item = item_at plans sum_layers 1 _ is refl;
-    denotes = record { same_kind = refl; same_schema = refl; named = (refl, (3 ∷ 1 ∷ [], refl, ((0 ∷ [], refl, (([], refl, tt), tt)), (([], refl, tt), tt))), tt) };
+    denotes = record { same_recorded = refl; kind = (named strict_sum ∷ [], refl, (refl, (3 ∷ 1 ∷ [], refl, ((0 ∷ [], refl, (([], refl, tt), tt)), (([], refl, tt), tt))), tt)) };
   },
   (scan_denotes strict_items plans 0 (Some 0) two_columns (item_at plans sum_layers 0 _ is refl), tt),
 )
@@ -47,15 +47,16 @@ same_on schema is frame rest own =
     subst (λ s. plan_run [] (record { schema = s; rows = frame.rows } ∷ rest) lowered_query ≡ source_meaning [] (record { schema = s; rows = frame.rows } ∷ rest) query) (sym (own ∙ is)) refl
 
 same_frame : (tables : List Frame) → FitsPlan tables query → plan_run [] tables lowered_query ≡ source_meaning [] tables query
-same_frame [] fits = absurd fits.1.0.0
-same_frame (frame ∷ rest) fits = same_on two_columns refl frame rest fits.1.0.0.schema_is
+same_frame [] fits = absurd fits.0
+same_frame (frame ∷ rest) fits = same_on two_columns refl frame rest fits.0.schema_is
 
-pub built : IsBuilt [] query lowered_query
+pub built : IsBuilt [] query lowered_query (one_column int32)
 built = record {
   well_formed = (refl, ((refl, tt), tt));
+  source_schema = refl;
   schema = refl;
   accepted = (refl, ((refl, tt), tt));
-  strict = ((refl, tt), ((tt, tt), tt));
-  fits = λ tables fits. (tt, ((fits.1.0.0, tt), tt));
+  strict = (((refl, tt), tt), ((tt, tt), tt));
+  fits = λ tables fits. fits;
   same = same_frame;
 }

@@ -1,14 +1,15 @@
 -- Lowered plans.
 -- A lowered plan is built from a query's plan where it is accepted and strict, has the schema that the
 -- query's plan has, and gives on all fitting tables what the query means. A refusal names a broken rule.
-use Rattle.std.specs.Prelude.{◌≡◌, ℕ, List, [], map, Some, None, slice_get, Result, Ok, Err}
+use Rattle.std.specs.Prelude.{◌≡◌, ◌<◌, ℕ, List, [], ◌∷◌, length, map, Some, None, slice_get, Result, Ok, Err}
+use Rattle.plan_types.specs.Schemas.{Columns}
 use Rattle.plan_types.specs.Frames.{Frame}
 use Rattle.plan_types.specs.Errors.{no_memory}
 use Rattle.plan_types.specs.declared.error.PlanError.{PlanError}
 use Rattle.plan_dsl.specs.Registry.{Registry}
 use Rattle.plan_dsl.specs.Trees.{node, no_more, more}
 use Rattle.plan_dsl.specs.Ops.{Expression}
-use Rattle.plan_dsl.specs.Plans.{Plan, named, scan_op, select_op, filter_op}
+use Rattle.plan_dsl.specs.Plans.{Named, Plan, named, scan_op, select_op, filter_op}
 use Rattle.plan_dsl.specs.PlanRules.{schema_of, IsWellFormed, Breaks}
 use Rattle.plan_dsl.specs.PlanMeaning.{source_meaning, FitsPlan}
 use Rattle.plan_arena.specs.declared.aexpr.AExpr.{AExpr}
@@ -17,31 +18,25 @@ use Rattle.plan_arena.specs.declared.plan.IRPlan.{IRPlan}
 use Rattle.plan_arena.specs.Denotation.{Denotes}
 use Rattle.plan_arena.specs.Layers.{layer}
 use Rattle.plan_arena.specs.Items.{HoldsPlan, DenotesPlan, plan_layer}
-use Rattle.plan_arena.specs.Runs.{top_schema, IsAccepted, IsStrictPlan, plan_run, RunsSoundly}
-use Rattle.plan_lower.specs.Outputs.{Lowered, SelectsTo, lowered_select}
-use Rattle.plan_lower.specs.Predicates.{FiltersBy, lowered_filter}
+use Rattle.plan_arena.specs.Runs.{IsAccepted, IsStrictPlan, plan_run, RunsSoundly}
+use Rattle.plan_lower.specs.Outputs.{HasOutputs}
+use Rattle.plan_lower.specs.Predicates.{HasPredicate}
 
--- what is built from a well-formed plan
-pub record IsBuilt (registry : Registry) (source lowered : Plan) : Type 0 where
+-- what is built from a well-formed plan, and the schema of both
+pub record IsBuilt (registry : Registry) (source lowered : Plan) (schema : Columns) : Type 0 where
   pub well_formed : IsWellFormed registry source
-  pub schema : schema_of registry source ≡ Some (top_schema lowered)
+  pub source_schema : schema_of registry source ≡ Some schema
+  pub schema : schema_of registry lowered ≡ Some schema
   pub accepted : IsAccepted registry lowered
   pub strict : IsStrictPlan registry lowered
   pub fits : (tables : List Frame) → FitsPlan tables source → FitsPlan tables lowered
   pub same : (tables : List Frame) → FitsPlan tables source → plan_run registry tables lowered ≡ source_meaning registry tables source
 
--- the node denotes the plan, and the keeper, at which the schema is kept, one of the same schema
-pub record StandsAt (expressions : List AExpr) (plans : List IR) (n keeper : ℕ) (plan : Plan) : Type 0 where
-  pub denotes : Denotes (HoldsPlan expressions plans) n plan
-  pub kept : Plan
-  pub kept_denotes : Denotes (HoldsPlan expressions plans) keeper kept
-  pub same_schema : top_schema kept ≡ top_schema plan
-
--- the node denotes what was built from the plan, and the keeper has its schema
-pub record StandsFor (registry : Registry) (expressions : List AExpr) (plans : List IR) (n keeper : ℕ) (plan : Plan) : Type 0 where
+-- the node denotes what was built from the plan, and both have the schema
+pub record StandsFor (registry : Registry) (expressions : List AExpr) (plans : List IR) (n : ℕ) (schema : Columns) (plan : Plan) : Type 0 where
   pub lowered : Plan
-  pub stands : StandsAt expressions plans n keeper lowered
-  pub built : IsBuilt registry plan lowered
+  pub denotes : Denotes (HoldsPlan expressions plans) n lowered
+  pub built : IsBuilt registry plan lowered schema
 
 -- why a plan isn't lowered: memory ran out, or a rule of that kind is broken at that place, and so the plan
 -- is not well formed
@@ -60,7 +55,7 @@ pub record IsTyped (registry : Registry) (plan : Plan) (lowering : IRPlan) : Typ
   pub denotes : DenotesPlan lowering tree
   pub accepted : IsAccepted registry tree
   pub strict : IsStrictPlan registry tree
-  pub schema : schema_of registry plan ≡ Some (top_schema tree)
+  pub schema : schema_of registry plan ≡ schema_of registry tree
 
 -- on tables that fit the query's plan no node is stuck, and the frame of each has the node's own schema
 abbrev pub IsSound : Registry → Plan → IRPlan → Type 0
@@ -78,30 +73,34 @@ pub record IsLoweringOf (registry : Registry) (plan : Plan) (lowering : IRPlan) 
   pub denotes : DenotesPlan lowering tree
   pub accepted : IsAccepted registry tree
   pub strict : IsStrictPlan registry tree
-  pub schema : schema_of registry plan ≡ Some (top_schema tree)
+  pub schema : schema_of registry plan ≡ schema_of registry tree
   pub sound : (tables : List Frame) → FitsPlan tables plan → RunsSoundly registry tables tree
   pub same_frame : (tables : List Frame) → FitsPlan tables plan → plan_run registry tables tree ≡ source_meaning registry tables plan
 
 -- the tree of a select in a query
 abbrev pub source_select : List Expression → Plan → Plan
-source_select trees input = node (select_op (map named trees) []) (more input no_more)
-
--- the node stands for a select of the expressions over the plan
-pub record IsSelect (registry : Registry) (expressions : List AExpr) (plans : List IR) (n : ℕ) (trees : List Expression) (input : Plan) : Type 0 where
-  pub outputs : List Lowered
-  pub selects : SelectsTo registry (top_schema input) trees outputs
-  pub denotes : Denotes (HoldsPlan expressions plans) n (lowered_select outputs input)
+source_select trees input = node (select_op (map named trees) None) (more input no_more)
 
 -- the tree of a filter in a query
 abbrev pub source_filter : Expression → Plan → Plan
 source_filter tree input = node (filter_op (named tree)) (more input no_more)
 
--- the node, with the keeper, stands for a filter of the plan by the expression
-pub record IsFilter (registry : Registry) (expressions : List AExpr) (plans : List IR) (n keeper : ℕ) (tree : Expression) (input : Plan) : Type 0 where
-  pub output : Lowered
-  pub filters : FiltersBy registry (top_schema input) tree output
-  pub stands : StandsAt expressions plans n keeper (lowered_filter output input)
-
 -- the node is the empty table
 abbrev pub IsEmptyTableAt : List IR → ℕ → Type 0
 IsEmptyTableAt plans n = slice_get (map plan_layer plans) n ≡ Some (layer (scan_op None []) [])
+
+-- the node is a select of what stands for the expressions, over an input of the schema, or where nothing is
+-- selected over the empty table. Its frame has the columns
+pub record IsSelectAt (registry : Registry) (schema : Columns) (expressions : List AExpr) (plans : List IR) (n input : ℕ) (trees : List Expression) (columns : Columns) : Type 0 where
+  pub nodes : List (Named ℕ)
+  pub has : HasOutputs registry schema expressions trees nodes columns
+  pub below : ℕ
+  pub nothing : length nodes ≡ 0 → IsEmptyTableAt plans below
+  pub something : 0 < length nodes → below ≡ input
+  pub item : slice_get (map plan_layer plans) n ≡ Some (layer (select_op nodes (Some columns)) (below ∷ []))
+
+-- the node is a filter by what stands for the expression, over an input of the schema
+pub record IsFilterAt (registry : Registry) (schema : Columns) (expressions : List AExpr) (plans : List IR) (n input : ℕ) (tree : Expression) : Type 0 where
+  pub predicate : Named ℕ
+  pub has : HasPredicate registry schema expressions tree predicate
+  pub item : slice_get (map plan_layer plans) n ≡ Some (layer (filter_op predicate) (input ∷ []))

@@ -1,5 +1,5 @@
 -- A select's outputs: expressions with what lowering makes of them.
-use Rattle.std.specs.Prelude.{◌≡◌, ℕ, List, [], ◌∷◌, map, Ok}
+use Rattle.std.specs.Prelude.{◌≡◌, ℕ, List, [], ◌∷◌, map, Some, Ok}
 use Rattle.std.specs.List.{AllByRecursion}
 use Rattle.plan_types.specs.Types.{Ty}
 use Rattle.plan_types.specs.Schemas.{Name, Columns, HasDistinctNames}
@@ -52,4 +52,4 @@ over (output ∷ outputs) input = input
 
 -- a select of the outputs over a lowered plan
 abbrev pub lowered_select : List Lowered → Plan → Plan
-lowered_select outputs input = node (select_op (map lowered_named outputs) (map lowered_column outputs)) (more (over outputs input) no_more)
+lowered_select outputs input = node (select_op (map lowered_named outputs) (Some (map lowered_column outputs))) (more (over outputs input) no_more)

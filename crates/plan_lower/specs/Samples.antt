@@ -47,8 +47,9 @@ as_it_is tree type = lowered_to tree type tree
 abbrev pub scan_of : Columns → Plan
 scan_of columns = node (scan_op (Some 0) columns) no_more
 
+-- a select of one expression, which records the columns
 abbrev pub select_over : Plan → Expression → Columns → Plan
-select_over input tree columns = node (select_op (named tree ∷ []) columns) (more input no_more)
+select_over input tree columns = node (select_op (named tree ∷ []) (Some columns)) (more input no_more)
 
 abbrev pub filter_over : Plan → Expression → Plan
 filter_over input tree = node (filter_op (named tree)) (more input no_more)
@@ -63,7 +64,7 @@ abbrev pub scan_layer : Option ℕ → Columns → Layer (PlanOp ℕ)
 scan_layer table columns = layer (scan_op table columns) []
 
 abbrev pub select_layer : ℕ → Columns → Layer (PlanOp ℕ)
-select_layer n columns = layer (select_op (node_named (codes "a") n ∷ []) columns) (0 ∷ [])
+select_layer n columns = layer (select_op (node_named (codes "a") n ∷ []) (Some columns)) (0 ∷ [])
 
 -- a scan of the two columns, and a select of the expression at node 2 over it
 abbrev pub sum_layers : List (Layer (PlanOp ℕ))

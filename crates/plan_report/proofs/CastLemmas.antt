@@ -1,21 +1,22 @@
 -- Counts of casts.
-use Rattle.std.proofs.Common.{◌≡◌, ℕ, zero, suc, ◌+◌, ◌<◌, ◌≤◌, List, [], ◌∷◌, length, map, take, get_or, sum, Some, slice_get, refl, sym, ap, ◌∙◌, subst, arith}
+use Rattle.std.proofs.Common.{◌≡◌, ℕ, zero, suc, ◌+◌, ◌<◌, ◌≤◌, List, [], ◌∷◌, length, map, take, get_or, sum, Option, Some, slice_get, refl, sym, ap, ◌∙◌, subst, arith}
 use Rattle.std.specs.Option.{option_map}
 use Rattle.std.proofs.lemmas.List.{take_all}
 use Rattle.std.proofs.lemmas.List.Sums.{sum_by_more}
 use Rattle.std.proofs.lemmas.Option.{slice_get-map, slice_get-get_or, slice_get_within, get_or_from_slice_get}
 use Rattle.plan_dsl.specs.Trees.{Tree, Trees, node, no_more, more, fold, fold_all}
 use Rattle.plan_dsl.specs.Ops.{Op, Expression}
-use Rattle.plan_dsl.specs.Plans.{PlanOp, Plan, Named}
+use Rattle.plan_dsl.specs.Plans.{Named, PlanKind, ScanKind, SelectKind, FilterKind, PlanOp, Plan}
+use Rattle.plan_types.specs.Schemas.{Columns}
 use Rattle.plan_arena.specs.Denotation.{Denotes, DenoteAll, DenotesTree}
 use Rattle.plan_arena.specs.Layers.{layer}
-use Rattle.plan_arena.specs.Items.{named_node, expression_layer, plan_layer, HoldsExpression, DenoteNamed, HoldsPlan}
+use Rattle.plan_arena.specs.Items.{named_node, expression_layer, plan_layer, HoldsExpression, DenoteNamed, DenotesKind, HoldsPlan}
 use Rattle.plan_arena.specs.declared.aexpr.AExpr.{AExpr}
 use Rattle.plan_arena.specs.declared.expr_ir.ExprIR.{ExprIR}
 use Rattle.plan_arena.specs.declared.ir.IR.{IR}
 use Rattle.plan_arena.proofs.DenotationLemmas.{some_same}
 use Rattle.plan_arena.proofs.ItemLemmas.{layer_op, layer_inputs, expression_got}
-use Rattle.plan_dsl.specs.Counts.{op_casts, expression_casts, outputs_casts, plan_op_casts, cast_count}
+use Rattle.plan_dsl.specs.Counts.{op_casts, expression_casts, outputs_casts, kind_casts, plan_op_casts, cast_count}
 use Rattle.plan_report.proofs.NodeLemmas.{held_op, held_children}
 
 -- a count for each node, of the tree that it denotes
@@ -47,12 +48,12 @@ expression_counted items n item got op inputs cs is each (node op' ts) d =
     λ i. op_casts (ops i) (counts i)
 
 -- the count of a plan, from its expressions' and its inputs'
-pub plan_counted : (expressions : List AExpr) (plans : List IR) (n : ℕ) (item : IR) → slice_get plans n ≡ Some item → (flat : PlanOp ℕ) (inputs : List ℕ) (here : ℕ) (cs : List ℕ) → plan_layer item ≡ layer flat inputs → ((outputs : List (Named Expression)) → DenoteNamed expressions flat.expressions outputs → here ≡ outputs_casts outputs) → CountAll (HoldsPlan expressions plans) cast_count inputs cs → (t : Plan) → Denotes (HoldsPlan expressions plans) n t → here + sum cs ≡ cast_count t
+pub plan_counted : (expressions : List AExpr) (plans : List IR) (n : ℕ) (item : IR) → slice_get plans n ≡ Some item → (flat : PlanOp ℕ) (inputs : List ℕ) (here : ℕ) (cs : List ℕ) → plan_layer item ≡ layer flat inputs → ((kind : PlanKind Expression) → DenotesKind expressions flat.kind kind → here ≡ kind_casts kind) → CountAll (HoldsPlan expressions plans) cast_count inputs cs → (t : Plan) → Denotes (HoldsPlan expressions plans) n t → here + sum cs ≡ cast_count t
 plan_counted expressions plans n item got flat inputs here cs is outputs each (node op ts) d =
     let flats = held_op expressions plans n item got flat inputs is op d.0 d.1 in
-    let named = subst (λ f. DenoteNamed expressions f.expressions op.expressions) flats d.1.denotes.named in
+    let kind = subst (λ (f : PlanOp ℕ). DenotesKind expressions f.kind op.kind) flats d.1.denotes.kind in
     let children = held_children expressions plans n item got flat inputs is op d.0 d.1 ts d.2 in
-    let own = outputs op.expressions named in
+    let own = outputs op.kind kind in
     let counts = counts_of (HoldsPlan expressions plans) plan_op_casts inputs cs ts each children in
     λ i. own i + sum (counts i)
 
@@ -90,23 +91,24 @@ outputs_more items ns i count casts new n at so_far one added es d =
 pub named_tree : (items : List AExpr) (ns : List (Named ℕ)) (es : List (Named Expression)) → DenoteNamed items ns es → (i : ℕ) (n : Named ℕ) → slice_get ns i ≡ Some n → DenotesTree (HoldsExpression items) n.expression
 named_tree items ns es d i n at = let found = named_at items ns es d i n at in record { tree = found.0.expression; denotes = found.2 }
 
--- no node, no cast
-pub no_outputs : (items : List AExpr) (es : List (Named Expression)) → DenoteNamed items [] es → 0 ≡ outputs_casts es
-no_outputs items [] d = refl
-no_outputs items (e ∷ es) d = absurd d
+-- a scan has no casts, and a select those of its outputs
+pub scan_casts : (items : List AExpr) (table : Option ℕ) (schema : Columns) (kind : PlanKind Expression) → DenotesKind items (ScanKind table schema) kind → 0 ≡ kind_casts kind
+scan_casts items table schema kind d = sym (ap kind_casts d)
+
+pub select_casts : (items : List AExpr) (nodes : List (Named ℕ)) (count : ℕ) → ((es : List (Named Expression)) → DenoteNamed items nodes es → count ≡ outputs_casts es) → (kind : PlanKind Expression) → DenotesKind items (SelectKind nodes) kind → count ≡ kind_casts kind
+select_casts items nodes count all kind d = let here = all d.0 d.2 in let whole : kind_casts kind ≡ outputs_casts d.0 + 0 = ap kind_casts d.1 in omega (arith, here, whole)
 
 -- the only named node denotes an expression
 pub only_named : (items : List AExpr) (n : Named ℕ) (es : List (Named Expression)) → DenoteNamed items (n ∷ []) es → DenotesTree (HoldsExpression items) n.expression
 only_named items n [] d = absurd d
 only_named items n (e ∷ es) d = record { tree = e.expression; denotes = d.1 }
 
--- the casts of the only output are those of its expression
-pub only_output : (items : List AExpr) (n : Named ℕ) (at count : ℕ) → at ≡ n.expression → ((t : Expression) → Denotes (HoldsExpression items) at t → count ≡ expression_casts t) → (es : List (Named Expression)) → DenoteNamed items (n ∷ []) es → count ≡ outputs_casts es
-only_output items n at count same one [] d = absurd d
-only_output items n at count same one (e ∷ []) d =
-    let here = one e.expression (subst (λ k. Denotes (HoldsExpression items) k e.expression) (sym same) d.1) in
-    omega (arith, here)
-only_output items n at count same one (e ∷ f ∷ es) d = absurd d.2
+-- a filter has those of its predicate
+pub filter_casts : (items : List AExpr) (n : Named ℕ) (at count : ℕ) → at ≡ n.expression → ((t : Expression) → Denotes (HoldsExpression items) at t → count ≡ expression_casts t) → (kind : PlanKind Expression) → DenotesKind items (FilterKind n) kind → count ≡ kind_casts kind
+filter_casts items n at count same one kind d =
+    let here = one d.0.expression (subst (λ k. Denotes (HoldsExpression items) k d.0.expression) (sym same) d.2.1) in
+    let whole : kind_casts kind ≡ (expression_casts d.0.expression + 0) + 0 = ap kind_casts d.1 in
+    omega (arith, here, whole)
 
 -- an output that the list has is there, with its name
 pub named_there : (items : List ExprIR) (i : ℕ) (item : ExprIR) → i < length items → item ≡ get_or items i item → slice_get (map named_node items) i ≡ Some (named_node item)

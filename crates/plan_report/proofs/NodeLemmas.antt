@@ -1,21 +1,32 @@
 -- What the nodes of the two arenas lead to.
-use Rattle.std.proofs.Common.{◌≡◌, ℕ, ◌<◌, List, [], ◌∷◌, ◌++◌, map, Some, slice_get, sym, ap, ◌∙◌, subst, append_assoc}
+use Rattle.std.proofs.Common.{◌≡◌, ℕ, ◌<◌, List, [], ◌∷◌, ◌++◌, map, Some, slice_get, refl, sym, ap, ◌∙◌, subst, append_assoc}
 use Rattle.std.specs.List.{AllByRecursion}
 use Rattle.std.proofs.lemmas.List.{append-nil}
 use Rattle.plan_types.specs.Schemas.{Columns}
 use Rattle.plan_dsl.specs.Trees.{Trees, node, no_more, more}
 use Rattle.plan_dsl.specs.Ops.{Op, Expression}
-use Rattle.plan_dsl.specs.Plans.{PlanOp, Plan, FilterKind}
+use Rattle.plan_dsl.specs.Plans.{Named, PlanKind, ScanKind, SelectKind, FilterKind, PlanOp, Plan, filter_op}
+use Rattle.plan_dsl.specs.PlanRules.{schema_of}
+use Rattle.plan_dsl.specs.Registry.{Registry}
 use Rattle.plan_arena.specs.Denotation.{Denotes, DenoteAll, DenotesTree, depth_at}
 use Rattle.plan_arena.specs.Layers.{Layer, layer, op_of, shape_of}
-use Rattle.plan_arena.specs.Items.{expression_layer, plan_layer, kind_text, node_name, HoldsExpression, HoldsPlan, DenotesItem}
-use Rattle.plan_arena.specs.Runs.{own_schema, top_schema, first_schema}
+use Rattle.plan_arena.specs.Items.{expression_layer, plan_layer, kind_text, node_name, HoldsExpression, DenotesKind, HoldsPlan, DenotesItem}
+use Rattle.plan_arena.specs.Runs.{IsAccepted, AllAccepted}
 use Rattle.plan_arena.specs.declared.aexpr.AExpr.{AExpr}
 use Rattle.plan_arena.specs.declared.ir.IR.{IR}
-use Rattle.plan_arena.proofs.DenotationLemmas.{some_same, inputs_denote}
-use Rattle.plan_arena.proofs.ItemLemmas.{layer_op, layer_inputs, expression_laws, plan_laws, plan_got, expression_got, item_denotes}
+use Rattle.plan_arena.proofs.DenotationLemmas.{some_same, inputs_denote, denotes_one}
+use Rattle.plan_arena.proofs.ItemLemmas.{layer_op, layer_inputs, expression_laws, plan_laws, plan_got, expression_got, item_denotes, filter_item}
 use Rattle.plan_report.specs.Casts.{DenoteOutputs}
-use Rattle.plan_report.specs.Report.{line_text, node_line, plan_lines, IsSchemaAt}
+use Rattle.plan_report.specs.Report.{line_text, shown, node_line, plan_lines}
+
+-- a kind over nodes denotes some kind
+pub record DenotesSome (expressions : List AExpr) (flat : PlanKind ℕ) : Type 0 where
+  pub kind : PlanKind Expression
+  pub denotes : DenotesKind expressions flat kind
+
+-- the children of a plan
+abbrev pub children_of : Plan → Trees (PlanOp Expression)
+children_of (node op ts) = ts
 
 -- each input denotes a tree, and leads less far down than the node
 abbrev pub LeadsDown : {Op : Type 0} → (ℕ → Op → List ℕ → Type 0) → List (List ℕ) → ℕ → List ℕ → Type 0
@@ -46,62 +57,79 @@ module _ (expressions : List AExpr) (plans : List IR) (n : ℕ) (item : IR) (got
   pub plan_inputs : DenotesTree (HoldsPlan expressions plans) n → LeadsDown (HoldsPlan expressions plans) (shape_of (map plan_layer plans)) n inputs
   plan_inputs d = plan_leads d.tree d.denotes
 
-  outputs_of : (t : Plan) → Denotes (HoldsPlan expressions plans) n t → DenoteOutputs expressions flat.expressions
-  outputs_of (node op ts) d =
-      subst (λ f. DenoteOutputs expressions f.expressions) (held_op op d.0 d.1) (record { outputs = op.expressions; denote = d.1.denotes.named })
+  kind_of_node : (t : Plan) → Denotes (HoldsPlan expressions plans) n t → DenotesSome expressions flat.kind
+  kind_of_node (node op ts) d =
+      record { kind = op.kind; denotes = subst (λ (f : PlanOp ℕ). DenotesKind expressions f.kind op.kind) (held_op op d.0 d.1) d.1.denotes.kind }
 
-  -- a plan's expressions denote expressions
-  pub plan_outputs : DenotesTree (HoldsPlan expressions plans) n → DenoteOutputs expressions flat.expressions
-  plan_outputs d = outputs_of d.tree d.denotes
+  -- a plan's kind denotes one over expressions
+  pub node_kind : DenotesTree (HoldsPlan expressions plans) n → DenotesSome expressions flat.kind
+  node_kind d = kind_of_node d.tree d.denotes
+
+-- the expressions of a select, and of a filter, denote expressions
+pub select_outputs : (expressions : List AExpr) (nodes : List (Named ℕ)) → DenotesSome expressions (SelectKind nodes) → DenoteOutputs expressions nodes
+select_outputs expressions nodes d = record { outputs = d.denotes.0; denote = d.denotes.2 }
+
+pub filter_outputs : (expressions : List AExpr) (n : Named ℕ) → DenotesSome expressions (FilterKind n) → DenoteOutputs expressions (n ∷ [])
+filter_outputs expressions n d = record { outputs = d.denotes.0 ∷ []; denote = d.denotes.2 }
+
+-- a kind over nodes is called as the one over expressions
+same_text : (expressions : List AExpr) (flat : PlanKind ℕ) (kind : PlanKind Expression) → DenotesKind expressions flat kind → kind_text flat ≡ kind_text kind
+same_text expressions (ScanKind table schema) kind d = sym (ap kind_text d)
+same_text expressions (SelectKind nodes) kind d = sym (ap kind_text d.1)
+same_text expressions (FilterKind n) kind d = sym (ap kind_text d.1)
 
 -- an item's name is its op's
 item_name : (item : IR) (flat : PlanOp ℕ) (inputs : List ℕ) → plan_layer item ≡ layer flat inputs → node_name item ≡ kind_text flat.kind
 item_name item flat inputs e = ap (λ (l : Layer (PlanOp ℕ)). kind_text (op_of l).kind) e
 
 -- the schema that an item lends is that of the plans that its node denotes
-pub lent_schema : (expressions : List AExpr) (plans : List IR) (n : ℕ) (item : IR) (cols : Columns) → slice_get plans n ≡ Some item → ((es : List AExpr) (t : Plan) → DenotesItem es plans item t → cols ≡ top_schema t) → IsSchemaAt expressions plans n cols
-lent_schema expressions plans n item cols got lent t d = lent expressions t (item_denotes expressions plans n item got t d)
+pub lent_schema : (expressions : List AExpr) (plans : List IR) (n : ℕ) (item : IR) (cols : Columns) → slice_get plans n ≡ Some item → ((es : List AExpr) (registry : Registry) (t : Plan) → DenotesItem es plans item t → IsAccepted registry t → schema_of registry t ≡ Some cols) → (registry : Registry) (t : Plan) → Denotes (HoldsPlan expressions plans) n t → IsAccepted registry t → schema_of registry t ≡ Some cols
+lent_schema expressions plans n item cols got lent registry t d accepted = lent expressions registry t (item_denotes expressions plans n item got t d) accepted
 
-module _ (expressions : List AExpr) (plans : List IR) (n : ℕ) (item : IR) (got : slice_get plans n ≡ Some item) (cols : Columns) (schema : IsSchemaAt expressions plans n cols) where
-  below_filter : (flat : PlanOp ℕ) (m : ℕ) → plan_layer item ≡ layer flat (m ∷ []) → flat.kind ≡ FilterKind → (t : Plan) → Denotes (HoldsPlan expressions plans) n t → IsSchemaAt expressions plans m cols
-  below_filter flat m is filter (node op ts) d u e =
-      let kind = sym d.1.denotes.same_kind ∙ ap (λ f. f.kind) (held_op expressions plans n item got flat (m ∷ []) is op d.0 d.1) ∙ filter in
-      let inputs = layer_inputs _ _ _ _ (held expressions plans n item got flat (m ∷ []) is op d.0 d.1) in
-      let holds = subst (λ ns. HoldsPlan expressions plans n op ns) inputs d.1 in
-      schema (node op (more u no_more)) (m ∷ [], holds, (e, tt)) ∙ ap (λ k. own_schema k op.schema (top_schema u)) kind
-
-  -- a filter's input has the filter's schema
-  pub filter_schema : (flat : PlanOp ℕ) (m : ℕ) → plan_layer item ≡ layer flat (m ∷ []) → flat.kind ≡ FilterKind → DenotesTree (HoldsPlan expressions plans) n → IsSchemaAt expressions plans m cols
-  filter_schema flat m is filter d = below_filter flat m is filter d.tree d.denotes
-
+module _ (expressions : List AExpr) (plans : List IR) (n : ℕ) (item : IR) (got : slice_get plans n ≡ Some item) (cols : Columns) (registry : Registry) where
   module _ (path before : List ℕ) where
-    held_line : (op : PlanOp Expression) (ms : List ℕ) → HoldsPlan expressions plans n op ms → (ts : Trees (PlanOp Expression)) → cols ≡ top_schema (node op ts) → line_text path (node_name item) cols ≡ node_line path op (first_schema ts)
+    held_line : (op : PlanOp Expression) (ms : List ℕ) → HoldsPlan expressions plans n op ms → (ts : Trees (PlanOp Expression)) → schema_of registry (node op ts) ≡ Some cols → line_text path (node_name item) cols ≡ node_line path op (schema_of registry (node op ts))
     held_line op ms h ts same =
-        let name = item_name item h.flat ms (some_same _ _ _ (plan_got plans n item got) h.item) ∙ ap kind_text h.denotes.same_kind in
-        λ i. line_text path (name i) (same i)
+        let name = item_name item h.flat ms (some_same _ _ _ (plan_got plans n item got) h.item) ∙ same_text expressions h.flat.kind op.kind h.denotes.kind in
+        (λ i. line_text path (name i) cols) ∙ ap (λ s. line_text path (kind_text op.kind) (shown s)) (sym same)
 
-    leaf_children : (op : PlanOp Expression) (lined : List ℕ) (ts : Trees (PlanOp Expression)) → DenoteAll (HoldsPlan expressions plans) [] ts → lined ≡ before ++ node_line path op (first_schema ts) → lined ≡ before ++ plan_lines path (node op ts)
-    leaf_children op lined no_more d line = line ∙ ap (λ t. before ++ t) (sym (append-nil (node_line path op [])))
+    leaf_children : (op : PlanOp Expression) (lined : List ℕ) (ts : Trees (PlanOp Expression)) → DenoteAll (HoldsPlan expressions plans) [] ts → lined ≡ before ++ node_line path op (schema_of registry (node op ts)) → lined ≡ before ++ plan_lines registry path (node op ts)
+    leaf_children op lined no_more d line = line ∙ ap (λ t. before ++ t) (sym (append-nil (node_line path op (schema_of registry (node op no_more)))))
     leaf_children op lined (more u us) d line = absurd d
 
     -- the lines of a node without children
-    pub leaf_lines : (flat : PlanOp ℕ) → plan_layer item ≡ layer flat [] → (lined : List ℕ) → lined ≡ before ++ line_text path (node_name item) cols → (t : Plan) → Denotes (HoldsPlan expressions plans) n t → lined ≡ before ++ plan_lines path t
-    leaf_lines flat is lined line (node op ts) d =
-        leaf_children op lined ts (held_children expressions plans n item got flat [] is op d.0 d.1 ts d.2) (line ∙ ap (λ t. before ++ t) (held_line op d.0 d.1 ts (schema (node op ts) d)))
+    pub leaf_lines : (flat : PlanOp ℕ) → plan_layer item ≡ layer flat [] → (lined : List ℕ) → lined ≡ before ++ line_text path (node_name item) cols → (t : Plan) → Denotes (HoldsPlan expressions plans) n t → schema_of registry t ≡ Some cols → lined ≡ before ++ plan_lines registry path t
+    leaf_lines flat is lined line (node op ts) d schema =
+        leaf_children op lined ts (held_children expressions plans n item got flat [] is op d.0 d.1 ts d.2) (line ∙ ap (λ t. before ++ t) (held_line op d.0 d.1 ts schema))
 
-    one_child : (op : PlanOp Expression) (m : ℕ) (lined text : List ℕ) (ts : Trees (PlanOp Expression)) → DenoteAll (HoldsPlan expressions plans) (m ∷ []) ts → lined ≡ before ++ node_line path op (first_schema ts) → ((u : Plan) → Denotes (HoldsPlan expressions plans) m u → text ≡ lined ++ plan_lines (path ++ 0 ∷ []) u) → text ≡ before ++ plan_lines path (node op ts)
+    one_child : (op : PlanOp Expression) (m : ℕ) (lined text : List ℕ) (ts : Trees (PlanOp Expression)) → DenoteAll (HoldsPlan expressions plans) (m ∷ []) ts → lined ≡ before ++ node_line path op (schema_of registry (node op ts)) → ((u : Plan) → Denotes (HoldsPlan expressions plans) m u → ts ≡ more u no_more → text ≡ lined ++ plan_lines registry (path ++ 0 ∷ []) u) → text ≡ before ++ plan_lines registry path (node op ts)
     one_child op m lined text no_more d line below = absurd d
     one_child op m lined text (more u no_more) d line below =
-        let own = node_line path op (top_schema u) in
-        let child = plan_lines (path ++ 0 ∷ []) u in
-        below u d.0
+        let own = node_line path op (schema_of registry (node op (more u no_more))) in
+        let child = plan_lines registry (path ++ 0 ∷ []) u in
+        below u d.0 refl
         ∙ ap (λ t. t ++ child) line
         ∙ append_assoc before own child
         ∙ ap (λ t. before ++ (own ++ t)) (sym (append-nil child))
     one_child op m lined text (more u (more v vs)) d line below = absurd d.1
 
-    -- the lines of a node with one child
-    pub one_lines : (flat : PlanOp ℕ) (m : ℕ) → plan_layer item ≡ layer flat (m ∷ []) → (lined text deeper : List ℕ) → lined ≡ before ++ line_text path (node_name item) cols → deeper ≡ path ++ 0 ∷ [] → ((u : Plan) → Denotes (HoldsPlan expressions plans) m u → text ≡ lined ++ plan_lines deeper u) → (t : Plan) → Denotes (HoldsPlan expressions plans) n t → text ≡ before ++ plan_lines path t
-    one_lines flat m is lined text deeper line step below (node op ts) d =
-        one_child op m lined text ts (held_children expressions plans n item got flat (m ∷ []) is op d.0 d.1 ts d.2) (line ∙ ap (λ t. before ++ t) (held_line op d.0 d.1 ts (schema (node op ts) d)))
-        (λ u e. below u e ∙ ap (λ p. lined ++ plan_lines p u) step)
+    -- the lines of a node with one child, where that child's are known
+    pub one_lines : (flat : PlanOp ℕ) (m : ℕ) → plan_layer item ≡ layer flat (m ∷ []) → (lined text deeper : List ℕ) → lined ≡ before ++ line_text path (node_name item) cols → deeper ≡ path ++ 0 ∷ [] → (t : Plan) → Denotes (HoldsPlan expressions plans) n t → ((u : Plan) → Denotes (HoldsPlan expressions plans) m u → children_of t ≡ more u no_more → text ≡ lined ++ plan_lines registry deeper u) → schema_of registry t ≡ Some cols → text ≡ before ++ plan_lines registry path t
+    one_lines flat m is lined text deeper line step (node op ts) d below schema =
+        one_child op m lined text ts (held_children expressions plans n item got flat (m ∷ []) is op d.0 d.1 ts d.2) (line ∙ ap (λ t. before ++ t) (held_line op d.0 d.1 ts schema))
+        (λ u e only. below u e only ∙ ap (λ p. lined ++ plan_lines registry p u) step)
+
+    child_accepted : (t u : Plan) → IsAccepted registry t → children_of t ≡ more u no_more → IsAccepted registry u
+    child_accepted (node op ts) u accepted only = (subst (AllAccepted registry) only accepted.1).0
+
+    -- the lines of a select, whose child lends its own schema
+    pub select_lines : (flat : PlanOp ℕ) (m : ℕ) → plan_layer item ≡ layer flat (m ∷ []) → (lined text deeper : List ℕ) (lent : Columns) → lined ≡ before ++ line_text path (node_name item) cols → deeper ≡ path ++ 0 ∷ [] → ((u : Plan) → Denotes (HoldsPlan expressions plans) m u → IsAccepted registry u → schema_of registry u ≡ Some lent) → ((u : Plan) → Denotes (HoldsPlan expressions plans) m u → IsAccepted registry u → schema_of registry u ≡ Some lent → text ≡ lined ++ plan_lines registry deeper u) → (t : Plan) → Denotes (HoldsPlan expressions plans) n t → IsAccepted registry t → schema_of registry t ≡ Some cols → text ≡ before ++ plan_lines registry path t
+    select_lines flat m is lined text deeper lent line step own below t d accepted schema =
+        one_lines flat m is lined text deeper line step t d (λ u e only. let there = child_accepted t u accepted only in below u e there (own u e there)) schema
+
+    -- the lines of a filter, whose child has its schema
+    pub filter_lines : (predicate : Named ℕ) (m : ℕ) → plan_layer item ≡ layer (filter_op predicate) (m ∷ []) → (lined text deeper : List ℕ) → lined ≡ before ++ line_text path (node_name item) cols → deeper ≡ path ++ 0 ∷ [] → ((u : Plan) → Denotes (HoldsPlan expressions plans) m u → IsAccepted registry u → schema_of registry u ≡ Some cols → text ≡ lined ++ plan_lines registry deeper u) → (t : Plan) → Denotes (HoldsPlan expressions plans) n t → IsAccepted registry t → schema_of registry t ≡ Some cols → text ≡ before ++ plan_lines registry path t
+    filter_lines predicate m is lined text deeper line step below t d accepted schema =
+        let child = filter_item expressions plans item predicate m is registry t (item_denotes expressions plans n item got t d) accepted in
+        let laws = plan_laws expressions plans in
+        one_lines (filter_op predicate) m is lined text deeper line step t d (λ u e only. let same = denotes_one _ (HoldsPlan expressions plans) laws m u child.0 e child.1 in below u e (child_accepted t u accepted only) (ap (schema_of registry) same ∙ sym child.3 ∙ schema)) schema

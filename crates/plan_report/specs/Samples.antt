@@ -57,7 +57,7 @@ abbrev pub filter_over : Plan → Expression → Plan
 filter_over input tree = node (filter_op (named tree)) (more input no_more)
 
 abbrev pub select_over : Plan → List Expression → Columns → Plan
-select_over input trees columns = node (select_op (map named trees) columns) (more input no_more)
+select_over input trees columns = node (select_op (map named trees) (Some columns)) (more input no_more)
 
 abbrev pub two_column_scan : Plan
 two_column_scan = scan_of (Some 0) two_columns

@@ -1,20 +1,18 @@
 //! Worked examples of the definitions. The functions do nothing: their clauses are the examples.
 #![tactic(auto, unfolding(crate::proofs::OnLiterals::texts_on_literals))]
 
-ghost use Rattle.std.specs.Prelude.{◌≡◌, List, [], ◌∷◌, ◌++◌, map, codes, true, false, Some, None};
-ghost use Rattle.plan_types.specs.Schemas.{Columns, columns};
+ghost use Rattle.std.specs.Prelude.{◌≡◌, ℕ, List, [], ◌∷◌, ◌++◌, map, codes, true, false, Some, None};
+ghost use Rattle.plan_types.specs.Schemas.{Columns};
 ghost use Rattle.plan_types.specs.Types.{NullType, Truth, Integer, TextType, DateType, TimeType, DatetimeType, DurationType, ListType, StructType, no_field, fields_from};
 ghost use Rattle.plan_types.specs.declared.dtype.TimeUnit.TheVariants.{Nanoseconds, Microseconds, Milliseconds};
 ghost use Rattle.plan_types.specs.declared.error.ErrorKind.TheVariants.{ColumnNotFound, Duplicate, SchemaMismatch, InvalidOperation, NoMemory};
-ghost use Rattle.plan_types.specs.declared.schema.Schema.{Schema};
 ghost use Rattle.plan_dsl.specs.declared.operator.Operator.TheVariants.{Lt, Plus};
 ghost use Rattle.plan_dsl.specs.Plans.{ScanKind, SelectKind, FilterKind, empty_table};
 ghost use Rattle.plan_arena.specs.declared.aexpr.AExpr.{AExpr};
 ghost use Rattle.plan_arena.specs.declared.aexpr.AExpr.TheVariants.{Column};
-ghost use Rattle.plan_arena.specs.declared.ir.IR.TheVariants.{DataFrameScan};
 ghost use Rattle.plan_arena.specs.Items.{kind_text};
 ghost use Rattle.plan_report.specs.Casts.{DenoteOutputs};
-ghost use Rattle.plan_report.specs.Report.{IsSchemaAt, casts_line, line_text, report_text, refusal_text};
+ghost use Rattle.plan_report.specs.Report.{shown, casts_line, line_text, report_text, refusal_text};
 ghost use Rattle.plan_report.specs.Samples.{int8, int32, int64, one_column, two_columns, struct_of, struct_of_two, a, b, five, binary, cast_to, truth_of, scan_of, filter_over, select_over, one_column_scan, two_column_scan, node_named};
 ghost use Rattle.plan_report.specs.Texts.{name_text, type_text, schema_text, separator, path_text};
 
@@ -70,28 +68,29 @@ pub fn refusal_examples()
 pub fn line_examples()
     ensures top { line_text [] (codes "df") [] ≡ codes ". df ()\n" }
     ensures deep { line_text (0 ∷ 3 ∷ []) (codes "selection") (one_column Truth) ≡ codes ".0.3 selection (\"a\" Boolean)\n" }
-    ensures names { map kind_text (ScanKind (Some 7) ∷ SelectKind ∷ FilterKind ∷ []) ≡ map codes ("df" ∷ "projection" ∷ "selection" ∷ []) }
+    ensures names { map (kind_text {E = ℕ}) (ScanKind (Some 7) [] ∷ SelectKind [] ∷ FilterKind (node_named (codes "a") 0) ∷ []) ≡ map codes ("df" ∷ "projection" ∷ "selection" ∷ []) }
+    ensures schemas { map shown (None ∷ Some (one_column Truth) ∷ []) ≡ [] ∷ one_column Truth ∷ [] }
     ensures separators { map separator (0 ∷ 1 ∷ 11 ∷ []) ≡ map codes ("" ∷ ", " ∷ ", " ∷ []) }
     ensures casts { map casts_line (0 ∷ 4096 ∷ []) ≡ map codes ("casts 0\n" ∷ "casts 4096\n" ∷ []) }
 {}
 
 /// A report has a line for each node, and one for the casts.
 pub fn report_examples()
-    ensures empty { report_text empty_table ≡ codes ". df ()\ncasts 0\n" }
-    ensures sum { report_text (select_over two_column_scan (binary Plus (cast_to int32 a) b ∷ []) (one_column int32))
+    ensures empty { report_text [] empty_table ≡ codes ". df ()\ncasts 0\n" }
+    ensures sum { report_text [] (select_over two_column_scan (binary Plus (cast_to int32 a) b ∷ []) (one_column int32))
         ≡ codes ". projection (\"a\" Int32)\n.0 df (\"a\" Int8, \"b\" Int32)\ncasts 1\n" }
-    ensures comparison { report_text (select_over two_column_scan (binary Lt (cast_to int64 a) (cast_to int64 b) ∷ []) (one_column Truth))
+    ensures comparison { report_text [] (select_over two_column_scan (binary Lt (cast_to int64 a) (cast_to int64 b) ∷ []) (one_column Truth))
         ≡ codes ". projection (\"a\" Boolean)\n.0 df (\"a\" Int8, \"b\" Int32)\ncasts 2\n" }
-    ensures filter { report_text (select_over (filter_over two_column_scan (binary Lt (cast_to int32 a) b)) (a ∷ []) (one_column int8))
+    ensures filter { report_text [] (select_over (filter_over two_column_scan (binary Lt (cast_to int32 a) b)) (a ∷ []) (one_column int8))
         ≡ codes ". projection (\"a\" Int8)\n.0 selection (\"a\" Int8, \"b\" Int32)\n.0.0 df (\"a\" Int8, \"b\" Int32)\ncasts 1\n" }
-    ensures filters { report_text (filter_over (filter_over (scan_of None (one_column Truth)) a) a)
+    ensures filters { report_text [] (filter_over (filter_over (scan_of None (one_column Truth)) a) a)
         ≡ codes ". selection (\"a\" Boolean)\n.0 selection (\"a\" Boolean)\n.0.0 df (\"a\" Boolean)\ncasts 0\n" }
-    ensures levels { report_text (select_over (select_over empty_table [] []) [] []) ≡ codes ". projection ()\n.0 projection ()\n.0.0 df ()\ncasts 0\n" }
-    ensures filter_of_a_select { report_text (filter_over (select_over one_column_scan (truth_of a ∷ []) (one_column Truth)) a)
+    ensures levels { report_text [] (select_over (select_over empty_table [] []) [] []) ≡ codes ". projection ()\n.0 projection ()\n.0.0 df ()\ncasts 0\n" }
+    ensures filter_of_a_select { report_text [] (filter_over (select_over one_column_scan (truth_of a ∷ []) (one_column Truth)) a)
         ≡ codes ". selection (\"a\" Boolean)\n.0 projection (\"a\" Boolean)\n.0.0 df (\"a\" Int8)\ncasts 1\n" }
-    ensures casts_at_each_level { report_text (select_over (filter_over one_column_scan (truth_of a)) (cast_to int8 (truth_of a) ∷ truth_of a ∷ []) ((codes "a", int8) ∷ (codes "b", Truth) ∷ []))
-        ≡ codes ". projection (\"a\" Int8, \"b\" Boolean)\n.0 selection (\"a\" Int8)\n.0.0 df (\"a\" Int8)\ncasts 4\n" }
-    ensures literals_are_no_casts { report_text (select_over one_column_scan (five ∷ binary Plus (cast_to int32 a) five ∷ []) ((codes "literal", int32) ∷ (codes "a", int32) ∷ []))
+    ensures casts_at_each_level { report_text [] (select_over (filter_over two_column_scan (truth_of a)) (cast_to int8 (truth_of a) ∷ truth_of b ∷ []) ((codes "a", int8) ∷ (codes "b", Truth) ∷ []))
+        ≡ codes ". projection (\"a\" Int8, \"b\" Boolean)\n.0 selection (\"a\" Int8, \"b\" Int32)\n.0.0 df (\"a\" Int8, \"b\" Int32)\ncasts 4\n" }
+    ensures literals_are_no_casts { report_text [] (select_over one_column_scan (five ∷ binary Plus (cast_to int32 a) five ∷ []) ((codes "literal", int32) ∷ (codes "a", int32) ∷ []))
         ≡ codes ". projection (\"literal\" Int32, \"a\" Int32)\n.0 df (\"a\" Int8)\ncasts 1\n" }
 {}
 
@@ -100,11 +99,4 @@ pub fn outputs_that_denote()
     ensures none { (expressions : List AExpr) → DenoteOutputs expressions [] }
     ensures columns { DenoteOutputs (Column (codes "b") ∷ Column (codes "a") ∷ []) (node_named (codes "a") 1 ∷ node_named (codes "x") 0 ∷ []) }
     ensures past_the_arena { ¬ (DenoteOutputs (Column (codes "a") ∷ []) (node_named (codes "a") 1 ∷ [])) }
-{}
-
-/// A scan's schema is that of every plan that its node denotes.
-pub fn schemas_at_nodes()
-    ensures scan { (schema : Schema) → IsSchemaAt [] (DataFrameScan None schema ∷ []) 0 (columns schema) }
-    ensures other_schema { (schema : Schema) → columns schema ≡ [] → ¬ (IsSchemaAt [] (DataFrameScan None schema ∷ []) 0 (one_column Truth)) }
-    ensures no_node { IsSchemaAt [] [] 0 (one_column Truth) }
 {}

@@ -1,10 +1,13 @@
 //! The report of a lowered plan, and of a refusal.
-ghost use Rattle.std.specs.Prelude.{◌≡◌, ◌++◌, string_bytes, IfOk, OnOk};
+ghost use Rattle.std.specs.Prelude.{◌≡◌, ◌++◌, string_bytes, IfOk, OnOk, Some};
 ghost use Rattle.plan_types.specs.Schemas.{columns};
 ghost use Rattle.plan_dsl.specs.Plans.{Plan};
 ghost use Rattle.plan_arena.specs.Denotation.{Denotes, DenotesTree};
+ghost use Rattle.plan_dsl.specs.PlanRules.{schema_of};
+ghost use Rattle.plan_dsl.specs.Registry.{Registry};
 ghost use Rattle.plan_arena.specs.Items.{HoldsPlan};
-ghost use Rattle.plan_report.specs.Report.{line_text, plan_lines, casts_line, report_text, refusal_text, IsSchemaAt};
+ghost use Rattle.plan_arena.specs.Runs.{IsAccepted};
+ghost use Rattle.plan_report.specs.Report.{line_text, plan_lines, casts_line, report_text, refusal_text};
 
 use crate::casts::plan_casts;
 use crate::texts::{kind_name, push_number, push_path, push_schema};
@@ -18,12 +21,12 @@ use std::alloc::{AllocError, Global};
 // The number of an only input among the inputs of its node.
 const ONLY_INPUT: u64 = 0;
 
-/// The report of a lowered plan.
+/// The report of a lowered plan. Of one that is accepted it shows the schemas that the rules give.
 pub fn report(alloc: Global, plan: &IRPlan) -> Result<String, AllocError>
     requires { DenotesTree (HoldsPlan plan.now.expr_arena plan.now.lp_arena) plan.now.lp_top.0 }
-    ensures { IfOk result (λ text. (tree : Plan)
+    ensures { IfOk result (λ text. (registry : Registry) (tree : Plan)
         → Denotes (HoldsPlan plan.now.expr_arena plan.now.lp_arena) plan.now.lp_top.0 tree
-        → string_bytes text ≡ report_text tree) }
+        → IsAccepted registry tree → string_bytes text ≡ report_text registry tree) }
 {
     let mut text = String::new(alloc);
     let mut path = Vec::new(alloc);
@@ -67,11 +70,11 @@ fn push_lines(
     node: Node,
     schema: &Schema,
 ) -> Result<(), AllocError>
-    requires tree { DenotesTree (HoldsPlan plan.now.expr_arena plan.now.lp_arena) node.0 }
-    requires schema { IsSchemaAt plan.now.expr_arena plan.now.lp_arena node.0 (columns schema.now) }
-    ensures lines { OnOk result ((tree : Plan)
+    requires { DenotesTree (HoldsPlan plan.now.expr_arena plan.now.lp_arena) node.0 }
+    ensures lines { OnOk result ((registry : Registry) (tree : Plan)
         → Denotes (HoldsPlan plan.now.expr_arena plan.now.lp_arena) node.0 tree
-        → string_bytes text.new ≡ string_bytes text.old ++ plan_lines path.old.items tree) }
+        → IsAccepted registry tree → schema_of registry tree ≡ Some (columns schema.now)
+        → string_bytes text.new ≡ string_bytes text.old ++ plan_lines registry path.old.items tree) }
     ensures path { OnOk result (path.new.items ≡ path.old.items) }
 {
     let item = plan.lp_arena.get(node);

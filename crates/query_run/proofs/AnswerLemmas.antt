@@ -14,6 +14,7 @@ use Rattle.plan_arena.specs.Items.{DenotesPlan}
 use Rattle.plan_arena.specs.declared.plan.IRPlan.{IRPlan}
 use Rattle.plan_lower.specs.Lowering.{IsTyped, IsSound, GivesSameFrame, IsLoweringOf}
 use Rattle.plan_dsl.specs.PlanRules.{IsWellFormed}
+use Rattle.plan_arena.specs.Runs.{IsAccepted}
 use Rattle.plan_report.specs.Report.{report_text}
 use Rattle.query_run.specs.Answers.{IsAnswer, IsQueryAnswer, IsPlanAnswer, lowered, refused, planned, bad, usage, read, too_long, read_fault, no_memory, right_words, without_plan}
 use Rattle.query_run.specs.declared.answer.Answer.{Answer}
@@ -27,7 +28,7 @@ of_answer P answer ending text bytes made told p =
     subst (λ a. P a.done (string_bytes a.text)) (sym made) (subst (λ b. P (without_plan ending) b) (sym told) p)
 
 -- a report of what was lowered
-pub reported : (registry : Registry) (plan : Plan) (lowering : IRPlan) (text : List ℕ) → IsWellFormed registry plan → (t : IsTyped registry plan lowering) → IsSound registry plan lowering → GivesSameFrame registry plan lowering → ((tree : Plan) → DenotesPlan lowering tree → text ≡ report_text tree) → IsPlanAnswer registry plan (record { status = status.Lowered; plan = Some lowering }) text
+pub reported : (registry : Registry) (plan : Plan) (lowering : IRPlan) (text : List ℕ) → IsWellFormed registry plan → (t : IsTyped registry plan lowering) → IsSound registry plan lowering → GivesSameFrame registry plan lowering → ((r : Registry) (tree : Plan) → DenotesPlan lowering tree → IsAccepted r tree → text ≡ report_text r tree) → IsPlanAnswer registry plan (record { status = status.Lowered; plan = Some lowering }) text
 reported registry plan lowering text well_formed t sound same_frame tells =
     let is : IsLoweringOf registry plan lowering t.tree = record {
       well_formed = well_formed;
@@ -38,7 +39,7 @@ reported registry plan lowering text well_formed t sound same_frame tells =
       sound = sound t.tree t.denotes;
       same_frame = same_frame t.tree t.denotes;
     } in
-    subst (λ b. IsPlanAnswer registry plan (record { status = status.Lowered; plan = Some lowering }) b) (sym (tells t.tree t.denotes)) (lowered lowering t.tree is)
+    subst (λ b. IsPlanAnswer registry plan (record { status = status.Lowered; plan = Some lowering }) b) (sym (tells registry t.tree t.denotes t.accepted)) (lowered lowering t.tree is)
 
 -- the only word of some words
 one_word : (words : List Name) (word : Name) → length words ≡ 1 → word ≡ get_or words 0 word → words ≡ word ∷ []

@@ -53,7 +53,7 @@ without_plan ending = record { status = ending; plan = None }
 
 -- the answer to a plan: the report of a plan that is its lowering, or a refusal
 pub data IsPlanAnswer (registry : Registry) (plan : Plan) : Done → List ℕ → Type 0 where
-  lowered : (lowering : IRPlan) (tree : Plan) → IsLoweringOf registry plan lowering tree → IsPlanAnswer registry plan (record { status = status.Lowered; plan = Some lowering }) (report_text tree)
+  lowered : (lowering : IRPlan) (tree : Plan) → IsLoweringOf registry plan lowering tree → IsPlanAnswer registry plan (record { status = status.Lowered; plan = Some lowering }) (report_text registry tree)
   refused : (error : PlanError) → IsPlanRefusal registry plan error → ¬ (error.kind ≡ kinds.NoMemory) → IsPlanAnswer registry plan (without_plan (status.Refused error)) (refusal_text error.kind error.place)
 
 -- the answer to the bytes of an input: that to the plan of the query that they write, or why they write none

@@ -39,7 +39,7 @@ pub record SaysLowered (registry : Registry) (words : List Name) (input before a
   pub handed_out : plan ≡ Some lowering
   pub tree : Plan
   pub lowered : IsLoweringOf registry query.plan lowering tree
-  pub written : Appends before after (report_text tree)
+  pub written : Appends before after (report_text registry tree)
 
 -- the input is a query, in whose plan a rule of that kind is broken at that place
 pub record SaysRefused (registry : Registry) (words : List Name) (input before after : Option (List ℕ)) (error : PlanError) : Type 0 where

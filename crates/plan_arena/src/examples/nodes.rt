@@ -43,7 +43,7 @@ pub fn layers_of_items()
         ∷ (DataFrameScan None schema, layer (scan_op None (columns schema)) []) ∷ (Filter (node_at 5) (a_at 3), layer (filter_op (named_at "a" 3)) (5 ∷ [])) ∷ []) }
     ensures select { (exprs : ExprIRs) (schema : Schema) (options : ProjectionOptions) →
         let literal_at : ExprIR = record { node = node_at 4; output_name = LiteralLhs (codes "literal") } in exprs.items.items ≡ a_at 3 ∷ literal_at ∷ [] →
-        plan_layer (Select exprs (node_at 5) schema options) ≡ layer (select_op (named_at "a" 3 ∷ named_at "literal" 4 ∷ []) (columns schema)) (5 ∷ []) }
+        plan_layer (Select exprs (node_at 5) schema options) ≡ layer (select_op (named_at "a" 3 ∷ named_at "literal" 4 ∷ []) (Some (columns schema))) (5 ∷ []) }
     ensures names { (schema : Schema) (input : Node) (predicate : ExprIR) (exprs : ExprIRs) (options : ProjectionOptions) → Gives node_name
         ((DataFrameScan (Some 0) schema, codes "df") ∷ (DataFrameScan None schema, codes "df") ∷ (Filter input predicate, codes "selection")
         ∷ (Select exprs input schema options, codes "projection") ∷ []) }

@@ -10,9 +10,9 @@ ghost use Rattle.plan_types.specs.declared.dtype.CastOptions.TheVariants.{Strict
 ghost use Rattle.plan_types.specs.declared.error.ErrorKind.TheVariants.{ColumnNotFound, InvalidOperation, SchemaMismatch};
 ghost use Rattle.plan_dsl.specs.declared.operator.Operator.TheVariants.{Gt, And};
 ghost use Rattle.plan_dsl.specs.Trees.{node, no_more};
-ghost use Rattle.plan_dsl.specs.Ops.{Expression, LiteralOp};
-ghost use Rattle.plan_dsl.specs.Plans.{PlanOp, FilterKind, named, filter_op};
-ghost use Rattle.plan_dsl.specs.PlanRules.{plan_rule, schema_of, schema_at, broken_kinds, IsWellFormed, Breaks};
+ghost use Rattle.plan_dsl.specs.Ops.{LiteralOp};
+ghost use Rattle.plan_dsl.specs.Plans.{empty_table, named, filter_op};
+ghost use Rattle.plan_dsl.specs.PlanRules.{schema_of, schema_at, broken_kinds, IsWellFormed, Breaks};
 ghost use Rattle.plan_dsl.specs.PlanKernels.{for_rows, kept_rows, plan_kernel};
 ghost use Rattle.plan_dsl.specs.PlanMeaning.{by_meaning, source_meaning, FitsPlan};
 ghost use Rattle.plan_dsl.specs.Counts.{cast_count, node_count};
@@ -36,8 +36,7 @@ pub fn frames_of_filters()
         (keep a (select (narrow ∷ []) (scan schema_ab)), Fault) ∷
         (keep narrow (keep (less b (cast_as Strict int32 a)) (scan schema_ab)), Done (frame_with schema_ab [])) ∷ []) }
     ensures over_what_is_stuck { plan_kernel [] (by_meaning []) (filter_op (named a)) (Stuck ∷ []) ≡ Stuck }
-    ensures without_a_predicate { let op : PlanOp Expression = record { kind = FilterKind; expressions = []; schema = [] } in
-        plan_kernel [] (by_meaning []) op (Done empty_frame ∷ []) ≡ Stuck }
+    ensures wrong_numbers_of_inputs { GivesAll (plan_kernel [] (by_meaning []) (filter_op (named a))) Stuck ([] ∷ (Done empty_frame ∷ Done empty_frame ∷ []) ∷ []) }
 {}
 
 /// A predicate has a value for each row, or a single one that is repeated. Any other number of values is a fault.
@@ -68,8 +67,6 @@ pub fn schemas_of_filters()
         keep a (empty_scan schema_ab) ∷
         keep c (scan schema_ab) ∷
         keep (column "keep") (select (a ∷ []) (scan schema_flagged)) ∷ []) }
-    ensures two_predicates { let op : PlanOp Expression = record { kind = FilterKind; expressions = named (column "keep") ∷ named (column "keep") ∷ []; schema = [] } in
-        plan_rule [] op (Some schema_flagged ∷ []) ≡ None }
 {}
 
 /// A filter breaks what its predicate breaks as an expression. A typed predicate breaks a rule where its type isn't that of truth values.
@@ -107,6 +104,7 @@ pub fn filters_counted_and_fitted()
     ensures nodes { node_count (keep (less a b) (keep (less a b) (scan schema_ab))) ≡ 3 }
     ensures fitting { FitsPlan (mixed ∷ []) (keep (less a b) (scan schema_ab)) }
     ensures no_such_table { ¬ (FitsPlan [] (keep (less a b) (scan schema_ab))) }
+    ensures without_tables { FitsPlan [] (keep (column "keep") (keep a empty_table)) }
 {}
 
 /// A filter by a text that is read as a number: a text that is none is a data fault where the cast is strict, also beside a false value, and else it is null.

@@ -160,7 +160,7 @@ pub fn schemas_of_plans_of_literals()
 
 /// The kinds that plans of literals break, and where.
 pub fn rules_that_literals_break()
-    ensures selects { Gives (λ outputs. broken_kinds [] (select_op (map named outputs) []) (Some [] ∷ [])) (
+    ensures selects { Gives (λ outputs. broken_kinds [] (select_op (map named outputs) None) (Some [] ∷ [])) (
         (five ∷ [], []) ∷ (huge ∷ [], InvalidOperation ∷ []) ∷ (one ∷ two ∷ [], Duplicate ∷ []) ∷ []) }
     ensures filter_by_a_literal { broken_kinds [] (filter_op (named five)) (Some [] ∷ []) ≡ InvalidOperation ∷ [] }
     ensures untyped_column { broken_kinds [] (scan_op (Some 0) ((codes "a", int8) ∷ (codes "n", Untyped (pos 1)) ∷ [])) [] ≡ InvalidOperation ∷ [] }

@@ -14,14 +14,14 @@ ghost use Rattle.plan_dsl.specs.declared.plan.DslPlan.TheVariants.{DataFrameScan
 ghost use Rattle.plan_dsl.specs.declared.plan.Exprs.{Exprs};
 ghost use Rattle.plan_dsl.specs.declared.plan.ProjectionOptions.{ProjectionOptions};
 ghost use Rattle.plan_dsl.specs.Trees.{node, no_more, more};
-ghost use Rattle.plan_dsl.specs.Ops.{LiteralOp, BinaryOp};
+ghost use Rattle.plan_dsl.specs.Ops.{LiteralOp, BinaryOp, Expression};
 ghost use Rattle.plan_dsl.specs.Typing.{Typed, own_kind};
 ghost use Rattle.plan_dsl.specs.Kernels.{Meaning};
 ghost use Rattle.plan_dsl.specs.Laws.{operator_node};
-ghost use Rattle.plan_dsl.specs.Plans.{ScanKind, SelectKind, FilterKind, named, scan_op, filter_op, plan_tree, options_in};
-ghost use Rattle.plan_dsl.specs.PlanRules.{select_kinds, scan_kinds, predicate_kinds, filter_kinds, columns_of, as_schema, under_one, schema_by, top_kinds};
+ghost use Rattle.plan_dsl.specs.Plans.{ScanKind, SelectKind, FilterKind, named, over_input, expressions_of, scans_in, scan_op, select_op, filter_op, plan_tree, options_in};
+ghost use Rattle.plan_dsl.specs.PlanRules.{scan_kinds, predicate_kinds, own_kinds, input_schema, expression_kinds, broken_kinds, columns_of, schema_by, plan_rule, top_kinds};
 ghost use Rattle.plan_dsl.specs.PlanKernels.{Evaluated, series_on, shared_length, in_front, rows_of, rows_where_true, kept_rows};
-ghost use Rattle.plan_dsl.specs.Samples.{Gives, GivesOfTwo, int8, null, yes, no, number, column, a, b, c, many_values, of_one, of_many, frame_with, scan, select, keep, series, signed, refused};
+ghost use Rattle.plan_dsl.specs.Samples.{Gives, GivesOfTwo, int8, null, yes, no, number, column, a, b, c, u, many_values, of_one, of_many, sum, equal, frame_with, schema_au, uint64, scan, scan_of, empty_scan, select, keep, series};
 
 /// A plan's tree has the parts of the plan, and a node's expressions are under their own names. Its selects keep their options beside it.
 pub fn trees_of_plans()
@@ -36,30 +36,47 @@ pub fn trees_of_plans()
     ensures operator { operator_node Minus a b ≡ node (BinaryOp Minus) (more a (more b no_more)) }
 {}
 
-/// What a scan, a select and a filter break, from the signatures of their expressions.
-pub fn kinds_by_signatures()
+/// What a scan, a select and a filter break.
+pub fn kinds_of_nodes()
     ensures scans { Gives scan_kinds (
         ([], []) ∷
         ((codes "a", int8) ∷ (codes "b", ListType TextType) ∷ [], []) ∷
         ((codes "a", int8) ∷ (codes "n", Untyped (pos 1)) ∷ [], InvalidOperation ∷ []) ∷
-        ((codes "n", ListType (Untyped (pos 1))) ∷ [], InvalidOperation ∷ []) ∷ []) }
-    ensures selects { let first = signed "a" (of_many int8) in
-        let second = signed "b" (of_many int8) in
-        let other = refused "a" (ColumnNotFound ∷ SchemaMismatch ∷ []) in
-        Gives select_kinds (
+        ((codes "n", ListType (Untyped (pos 1))) ∷ [], InvalidOperation ∷ []) ∷
+        ((codes "a", int8) ∷ (codes "b", int8) ∷ (codes "a", TextType) ∷ [], Duplicate ∷ []) ∷ []) }
+    ensures selects { Gives (λ outputs. broken_kinds [] (select_op (map named outputs) None) (Some schema_au ∷ [])) (
         ([], []) ∷
-        (first ∷ second ∷ [], []) ∷
-        (first ∷ second ∷ first ∷ [], Duplicate ∷ []) ∷
-        (second ∷ other ∷ [], ColumnNotFound ∷ SchemaMismatch ∷ []) ∷
-        (other ∷ first ∷ [], ColumnNotFound ∷ SchemaMismatch ∷ Duplicate ∷ []) ∷ []) }
+        (a ∷ u ∷ [], []) ∷
+        (a ∷ u ∷ a ∷ [], Duplicate ∷ []) ∷
+        (u ∷ sum c (equal u a) ∷ [], ColumnNotFound ∷ SchemaMismatch ∷ []) ∷
+        (c ∷ a ∷ c ∷ [], ColumnNotFound ∷ ColumnNotFound ∷ Duplicate ∷ []) ∷ []) }
     ensures predicates { Gives predicate_kinds (
         (of_many Truth, []) ∷ (of_one Truth, []) ∷ (Err ColumnNotFound, []) ∷ (of_many NullType, InvalidOperation ∷ []) ∷
         (of_many int8, InvalidOperation ∷ []) ∷ (of_many (ListType Truth), InvalidOperation ∷ []) ∷ []) }
-    ensures filters { let nulls = signed "n" (of_many NullType) in
-        let other = refused "a" (SchemaMismatch ∷ []) in
-        Gives filter_kinds (
-        (signed "keep" (of_many Truth) ∷ [], []) ∷ (nulls ∷ [], InvalidOperation ∷ []) ∷ (other ∷ [], SchemaMismatch ∷ []) ∷
-        ([], []) ∷ (nulls ∷ other ∷ [], []) ∷ []) }
+    ensures filters { Gives (λ predicate. broken_kinds [] (filter_op (named predicate)) (Some schema_au ∷ [])) (
+        (equal a a, []) ∷ (a, InvalidOperation ∷ []) ∷ (equal u a, SchemaMismatch ∷ []) ∷ []) }
+    ensures wrong_numbers_of_inputs { GivesOfTwo (own_kinds []) (
+        (ScanKind None [], Some [] ∷ [], SchemaMismatch ∷ []) ∷
+        (SelectKind [], [], SchemaMismatch ∷ []) ∷
+        (FilterKind (named a), None ∷ None ∷ [], SchemaMismatch ∷ []) ∷ []) }
+{}
+
+/// The expressions of a node, with the number of the input over which they are typed, and the tables that a plan scans.
+pub fn expressions_and_scans()
+    ensures expressions { Gives (expressions_of {E = Expression}) (
+        (ScanKind (Some 3) schema_au, []) ∷
+        (SelectKind (named a ∷ named b ∷ []), record { input = 0; outputs = named a ∷ named b ∷ [] } ∷ []) ∷
+        (FilterKind (named c), record { input = 0; outputs = named c ∷ [] } ∷ []) ∷ []) }
+    ensures inputs { Gives (input_schema (None ∷ Some schema_au ∷ [])) ((0, None) ∷ (1, Some schema_au) ∷ (2, None) ∷ []) }
+    ensures over_inputs { Gives (expression_kinds [] (None ∷ Some schema_au ∷ [])) (
+        (over_input 0 (named c ∷ []) ∷ [], []) ∷
+        (over_input 1 (named c ∷ []) ∷ [], ColumnNotFound ∷ []) ∷
+        (over_input 1 (named (equal u a) ∷ []) ∷ over_input 1 (named a ∷ named c ∷ []) ∷ [], SchemaMismatch ∷ ColumnNotFound ∷ []) ∷ []) }
+    ensures scans { Gives (scans_in {E = Expression}) (
+        (keep c (select (a ∷ []) (scan schema_au)), record { table = 0; schema = schema_au } ∷ []) ∷
+        (keep c (select (a ∷ []) (empty_scan schema_au)), []) ∷ []) }
+    ensures of_two_inputs { let both = node (select_op (named a ∷ []) None) (more (scan_of 4 schema_au) (more (scan []) no_more)) in
+        scans_in both ≡ record { table = 4; schema = schema_au } ∷ record { table = 0; schema = [] } ∷ [] }
 {}
 
 /// An expression's own kind is told where its children are typed, and a plan's top tells those of its node alone.
@@ -78,27 +95,18 @@ pub fn kinds_at_the_top()
 {}
 
 /// The schema that a node of each kind gives.
-pub fn schemas_by_signatures()
-    ensures names { let distinct = (codes "a", Truth) ∷ (codes "A", Truth) ∷ (codes "", Truth) ∷ [] in
-        Gives as_schema (
-        (distinct, Some distinct) ∷
-        ((codes "a", Truth) ∷ (codes "b", Truth) ∷ (codes "a", TextType) ∷ [], None) ∷
-        ([], Some []) ∷ []) }
-    ensures columns { let truth = signed "b" (of_one Truth) in
-        let other = refused "a" (SchemaMismatch ∷ []) in
-        Gives columns_of (
-        (truth ∷ signed "a" (of_many int8) ∷ [], Some ((codes "b", Truth) ∷ (codes "a", int8) ∷ [])) ∷
-        ([], Some []) ∷ (other ∷ truth ∷ [], None) ∷ (truth ∷ other ∷ [], None) ∷ []) }
-    ensures predicates { let truth = signed "b" (of_one Truth) in
-        Gives (λ outputs. under_one outputs ((codes "a", TextType) ∷ [])) (
-        ([], None) ∷ (truth ∷ [], Some ((codes "a", TextType) ∷ [])) ∷ (truth ∷ truth ∷ [], None) ∷ []) }
-    ensures scan { Gives (schema_by (ScanKind None) ((codes "a", Truth) ∷ []) (λ schema. [])) (
+pub fn schemas_of_nodes()
+    ensures columns { Gives (columns_of [] schema_au) (
+        (map named (equal a a ∷ u ∷ []), Some ((codes "a", Truth) ∷ (codes "u", uint64) ∷ [])) ∷
+        ([], Some []) ∷ (map named (c ∷ a ∷ []), None) ∷ (map named (a ∷ c ∷ []), None) ∷ []) }
+    ensures scan { Gives (schema_by [] (ScanKind None ((codes "a", Truth) ∷ []))) (
         ([], Some ((codes "a", Truth) ∷ [])) ∷ (Some [] ∷ [], None) ∷ (None ∷ [], None) ∷ []) }
-    ensures select { Gives (schema_by SelectKind [] (λ schema. signed "b" (of_one Truth) ∷ [])) (
-        ([], None) ∷ (None ∷ [], None) ∷ (Some [] ∷ [], Some ((codes "b", Truth) ∷ [])) ∷ (Some [] ∷ Some [] ∷ [], None) ∷ []) }
+    ensures select { Gives (schema_by [] (SelectKind (named (equal a a) ∷ []))) (
+        ([], None) ∷ (None ∷ [], None) ∷ (Some [] ∷ [], None) ∷ (Some schema_au ∷ [], Some ((codes "a", Truth) ∷ [])) ∷ (Some schema_au ∷ Some [] ∷ [], None) ∷ []) }
     ensures filter { let texts = (codes "a", TextType) ∷ [] in
-        Gives (schema_by FilterKind [] (λ schema. signed "b" (of_one Truth) ∷ [])) (
+        Gives (schema_by [] (FilterKind (named a))) (
         ([], None) ∷ (None ∷ [], None) ∷ (Some texts ∷ [], Some texts) ∷ (Some [] ∷ Some [] ∷ [], None) ∷ []) }
+    ensures repeated_names { plan_rule [] (scan_op None ((codes "a", Truth) ∷ (codes "b", Truth) ∷ (codes "a", TextType) ∷ [])) [] ≡ None }
 {}
 
 /// The columns of a frame to be, and the length to which they are brought.

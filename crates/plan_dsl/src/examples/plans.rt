@@ -40,7 +40,7 @@ pub fn frames_of_selects()
         Gives (source_meaning [] (table ∷ [])) ((faulty, Fault) ∷ (select (a ∷ []) faulty, Fault) ∷ []) }
     ensures nothing { let faulty = select (a ∷ cast_as Strict int8 b ∷ []) (scan schema_ab) in
         GivesAll (source_meaning [] (table ∷ [])) (Done empty_frame) (select [] (scan schema_ab) ∷ select [] faulty ∷ []) }
-    ensures nothing_over_what_is_stuck { plan_kernel [] (by_meaning []) (select_op [] []) (Stuck ∷ []) ≡ Done empty_frame }
+    ensures nothing_over_what_is_stuck { plan_kernel [] (by_meaning []) (select_op [] None) (Stuck ∷ []) ≡ Done empty_frame }
 {}
 
 /// Columns side by side are a frame of their common length.
@@ -77,7 +77,7 @@ pub fn schemas_of_plans()
 
 /// A select breaks what its expressions break, and one of two equal names breaks a rule too.
 pub fn kinds_that_selects_break()
-    ensures over_an_input { Gives (λ outputs. broken_kinds [] (select_op (map named outputs) []) (Some schema_au ∷ [])) (
+    ensures over_an_input { Gives (λ outputs. broken_kinds [] (select_op (map named outputs) None) (Some schema_au ∷ [])) (
         (a ∷ u ∷ [], []) ∷
         (a ∷ c ∷ [], ColumnNotFound ∷ []) ∷
         (a ∷ u ∷ a ∷ [], Duplicate ∷ []) ∷
@@ -85,7 +85,7 @@ pub fn kinds_that_selects_break()
         (sum u a ∷ [], SchemaMismatch ∷ []) ∷ (equal u a ∷ [], SchemaMismatch ∷ []) ∷
         (sum u a ∷ a ∷ c ∷ [], SchemaMismatch ∷ ColumnNotFound ∷ []) ∷
         ([], []) ∷ []) }
-    ensures over_an_input_without_schema { broken_kinds [] (select_op (named c ∷ named c ∷ []) []) (None ∷ []) ≡ [] }
+    ensures over_an_input_without_schema { broken_kinds [] (select_op (named c ∷ named c ∷ []) None) (None ∷ []) ≡ [] }
 {}
 
 /// The schema of the node at a place, by the child numbers from the top.

@@ -6,11 +6,9 @@ ghost use Rattle.plan_dsl.specs.Expressions.{tree_of};
 ghost use Rattle.plan_dsl.specs.Ops.{Op};
 ghost use Rattle.plan_dsl.specs.Plans.{Plan, plan_tree, trees_of, scan_op};
 ghost use Rattle.plan_dsl.specs.Registry.{registry};
-ghost use Rattle.plan_arena.specs.Denotation.{DenotesTree};
-ghost use Rattle.plan_arena.specs.Items.{HoldsExpression, HoldsPlan, Grows, plan_layer};
+ghost use Rattle.plan_arena.specs.Items.{HoldsExpression, Grows, plan_layer};
 ghost use Rattle.plan_arena.specs.Layers.{layer};
-ghost use Rattle.plan_arena.specs.Runs.{top_schema};
-ghost use Rattle.plan_lower.specs.Lowering.{IsFilter, IsSelect, StandsAt, StandsFor, IsPlanRefusal, IsEmptyTableAt, Answers, IsTyped, IsSound, GivesSameFrame};
+ghost use Rattle.plan_lower.specs.Lowering.{IsFilterAt, IsSelectAt, StandsFor, IsPlanRefusal, IsEmptyTableAt, Answers, IsTyped, IsSound, GivesSameFrame};
 ghost use Rattle.plan_lower.specs.Predicates.{IsPredicateRefusal};
 ghost use Rattle.plan_lower.specs.Projection.{IsProjectionRefusal};
 
@@ -53,12 +51,11 @@ impl PlanLowering for DslPlan {
     }
 }
 
-// A node, and the node at which the schema of its frame is kept: itself, or of a filter the first below it
-// that is none.
-#[derive(Clone, Copy)]
+// A node, and the schema of its frame.
+#[derive(Drop)]
 struct LoweredNode {
     node: Node,
-    schema: Node,
+    schema: Schema,
 }
 
 // Adds a plan's nodes, its input first.
@@ -68,20 +65,22 @@ fn lower(
     lp_arena: &mut Arena<IR>,
     udfs: &Udfs,
 ) -> Result<LoweredNode, PlanError>
-    ensures ok { IfOk result (λ lowered. StandsFor (registry udfs.now) expr_arena.new lp_arena.new lowered.node.0 lowered.schema.0 (plan_tree plan)) }
+    ensures ok { IfOk result (λ lowered. StandsFor (registry udfs.now) expr_arena.new lp_arena.new lowered.node.0 (columns lowered.schema) (plan_tree plan)) }
     ensures err { IfErr result (IsPlanRefusal (registry udfs.now) (plan_tree plan)) }
+    ensures kept { (n : ℕ) (op : Op) (inputs : List ℕ) →
+        HoldsExpression expr_arena.old n op inputs → HoldsExpression expr_arena.new n op inputs }
+    ensures grows { Grows lp_arena.old lp_arena.new }
 {
     match plan {
         DslPlan::DataFrameScan { table, schema } => {
-            let node = lower_scan(table, schema, lp_arena)?;
-            Ok(LoweredNode { node, schema: node })
+            let lowered = lower_scan(table, schema, lp_arena)?;
+            Ok(lowered)
         }
         DslPlan::Filter { input, predicate } => {
             match lower(Box::into_inner(input), expr_arena, lp_arena, udfs) {
                 Ok(input) => {
-                    let node = lower_filter(input, predicate, expr_arena, lp_arena, udfs)?;
-                    let schema = input.schema;
-                    Ok(LoweredNode { node, schema })
+                    let lowered = lower_filter(input, predicate, expr_arena, lp_arena, udfs)?;
+                    Ok(lowered)
                 }
                 Err(error) => Err(below(lp_arena.allocator(), error)),
             }
@@ -92,8 +91,8 @@ fn lower(
             options,
         } => match lower(Box::into_inner(input), expr_arena, lp_arena, udfs) {
             Ok(input) => {
-                let node = lower_select(expr, input, options, expr_arena, lp_arena, udfs)?;
-                Ok(LoweredNode { node, schema: node })
+                let lowered = lower_select(expr, &input, options, expr_arena, lp_arena, udfs)?;
+                Ok(lowered)
             }
             Err(error) => Err(below(lp_arena.allocator(), error)),
         },
@@ -105,16 +104,19 @@ fn lower_scan(
     table: Option<u32>,
     schema: Schema,
     lp_arena: &mut Arena<IR>,
-) -> Result<Node, PlanError>
+) -> Result<LoweredNode, PlanError>
     ensures known { OnOk result (all_known (columns schema) ≡ true) }
-    ensures ok { IfOk result (λ node. slice_get (map plan_layer lp_arena.new) node.0 ≡ Some (layer (scan_op table (columns schema)) [])) }
+    ensures ok { IfOk result (λ lowered. slice_get (map plan_layer lp_arena.new) lowered.node.0 ≡ Some (layer (scan_op table (columns schema)) [])) }
+    ensures schema { IfOk result (λ lowered. columns lowered.schema ≡ columns schema) }
     ensures err { IfErr result (IsMemoryOr ErrorKind.InvalidOperation (all_known (columns schema) ≡ false)) }
+    ensures grows { Grows lp_arena.old lp_arena.new }
 {
     if !schema.is_known() {
         return Err(PlanError::at_top(ErrorKind::InvalidOperation));
     }
+    let own = schema.try_clone(lp_arena.allocator())?;
     let node = lp_arena.add(IR::DataFrameScan { table, schema })?;
-    Ok(node)
+    Ok(LoweredNode { node, schema: own })
 }
 
 // The refusal of a node's only input, as the node sees it.
@@ -131,44 +133,46 @@ fn below(alloc: Global, error: PlanError) -> PlanError
     }
 }
 
-// Adds a filter over a lowered input.
+// Adds a filter over a lowered input, whose schema it has.
 fn lower_filter(
     input: LoweredNode,
     predicate: Expr,
     expr_arena: &mut Arena<AExpr>,
     lp_arena: &mut Arena<IR>,
     udfs: &Udfs,
-) -> Result<Node, PlanError>
-    requires { DenotesTree (HoldsPlan expr_arena.old lp_arena.old) input.schema.0 }
-    ensures ok { IfOk result (λ node. (t : Plan) → StandsAt expr_arena.old lp_arena.old input.node.0 input.schema.0 t →
-        IsFilter (registry udfs.now) expr_arena.new lp_arena.new node.0 input.schema.0 (tree_of predicate) t) }
-    ensures err { IfErr result (λ error. (t : Plan) → StandsAt expr_arena.old lp_arena.old input.node.0 input.schema.0 t →
-        IsPredicateRefusal (registry udfs.now) (top_schema t) (tree_of predicate) error) }
+) -> Result<LoweredNode, PlanError>
+    ensures ok { IfOk result (λ lowered. IsFilterAt (registry udfs.now) (columns input.schema) expr_arena.new lp_arena.new
+        lowered.node.0 input.node.0 (tree_of predicate)) }
+    ensures schema { IfOk result (λ lowered. columns lowered.schema ≡ columns input.schema) }
+    ensures err { IfErr result (IsPredicateRefusal (registry udfs.now) (columns input.schema) (tree_of predicate)) }
+    ensures kept { (n : ℕ) (op : Op) (inputs : List ℕ) →
+        HoldsExpression expr_arena.old n op inputs → HoldsExpression expr_arena.new n op inputs }
+    ensures grows { Grows lp_arena.old lp_arena.new }
 {
-    let schema = lp_arena.get(input.schema).schema_ref(lp_arena);
-    let predicate = lower_predicate(predicate, schema, expr_arena, udfs)?;
-    let input = input.node;
+    let LoweredNode { node: input, schema } = input;
+    let predicate = lower_predicate(predicate, &schema, expr_arena, udfs)?;
     let node = lp_arena.add(IR::Filter { input, predicate })?;
-    Ok(node)
+    Ok(LoweredNode { node, schema })
 }
 
 // Adds a select over a lowered input.
 fn lower_select(
     expr: Exprs,
-    input: LoweredNode,
+    input: &LoweredNode,
     options: ProjectionOptions,
     expr_arena: &mut Arena<AExpr>,
     lp_arena: &mut Arena<IR>,
     udfs: &Udfs,
-) -> Result<Node, PlanError>
-    requires { DenotesTree (HoldsPlan expr_arena.old lp_arena.old) input.schema.0 }
-    ensures ok { IfOk result (λ node. (t : Plan) → StandsAt expr_arena.old lp_arena.old input.node.0 input.schema.0 t →
-        IsSelect (registry udfs.now) expr_arena.new lp_arena.new node.0 (trees_of expr) t) }
-    ensures err { IfErr result (λ error. (t : Plan) → StandsAt expr_arena.old lp_arena.old input.node.0 input.schema.0 t →
-        IsProjectionRefusal (registry udfs.now) (top_schema t) (trees_of expr) error) }
+) -> Result<LoweredNode, PlanError>
+    ensures ok { IfOk result (λ lowered. IsSelectAt (registry udfs.now) (columns input.now.schema) expr_arena.new lp_arena.new
+        lowered.node.0 input.now.node.0 (trees_of expr) (columns lowered.schema)) }
+    ensures err { IfErr result (IsProjectionRefusal (registry udfs.now) (columns input.now.schema) (trees_of expr)) }
+    ensures kept { (n : ℕ) (op : Op) (inputs : List ℕ) →
+        HoldsExpression expr_arena.old n op inputs → HoldsExpression expr_arena.new n op inputs }
+    ensures grows { Grows lp_arena.old lp_arena.new }
 {
-    let schema = lp_arena.get(input.schema).schema_ref(lp_arena);
-    let projection = project_strictly(expr, schema, expr_arena, udfs)?;
+    let projection = project_strictly(expr, &input.schema, expr_arena, udfs)?;
+    let own = projection.schema.try_clone(lp_arena.allocator())?;
     let input = input_of(&projection.expr, input.node, lp_arena)?;
     let node = lp_arena.add(IR::Select {
         expr: projection.expr,
@@ -176,7 +180,7 @@ fn lower_select(
         schema: projection.schema,
         options,
     })?;
-    Ok(node)
+    Ok(LoweredNode { node, schema: own })
 }
 
 // The input of a select: the empty table where nothing is selected.

@@ -1,6 +1,6 @@
 //! Outputs of selects, and predicates, with what lowering makes of them.
 
-ghost use Rattle.std.specs.Prelude.{◌≡◌, [], ◌∷◌, pos, codes};
+ghost use Rattle.std.specs.Prelude.{◌≡◌, [], ◌∷◌, pos, codes, Some};
 ghost use Rattle.plan_types.specs.Types.{Truth};
 ghost use Rattle.plan_types.specs.Errors.{no_memory, at_top};
 ghost use Rattle.plan_types.specs.declared.error.ErrorKind.TheVariants.{ColumnNotFound, Duplicate, InvalidOperation};
@@ -68,7 +68,7 @@ pub fn lowered_selects()
     ensures nodes { HasOutputs [] (one_column int8) a_items (a ∷ []) (node_named (codes "a") 0 ∷ []) (one_column int8) }
     ensures no_nodes { ¬ (HasOutputs [] (one_column int8) a_items (a ∷ []) [] (one_column int8)) }
     ensures over_an_input { lowered_select (as_it_is a int8 ∷ []) (scan_of (one_column int8)) ≡ select_over (scan_of (one_column int8)) a (one_column int8) }
-    ensures of_nothing { lowered_select [] (scan_of (one_column int8)) ≡ node (select_op [] []) (more empty_table no_more) }
+    ensures of_nothing { lowered_select [] (scan_of (one_column int8)) ≡ node (select_op [] (Some [])) (more empty_table no_more) }
     ensures over_nothing { over [] (scan_of (one_column int8)) ≡ empty_table }
 {}
 

@@ -4,21 +4,21 @@ ghost use Rattle.std.specs.Prelude.{◌≡◌, List, [], ◌∷◌, codes, Some,
 ghost use Rattle.plan_types.specs.Types.{Truth};
 ghost use Rattle.plan_types.specs.Errors.{no_memory};
 ghost use Rattle.plan_types.specs.declared.error.ErrorKind.TheVariants.{ColumnNotFound, Duplicate};
-ghost use Rattle.plan_dsl.specs.Trees.{node, no_more};
-ghost use Rattle.plan_dsl.specs.Plans.{empty_table, scan_op, filter_op};
+ghost use Rattle.plan_dsl.specs.Trees.{node, no_more, more};
+ghost use Rattle.plan_dsl.specs.Plans.{empty_table, named, scan_op, select_op, filter_op};
 ghost use Rattle.plan_arena.specs.declared.aexpr.AExpr.TheVariants.{Column};
 ghost use Rattle.plan_arena.specs.declared.ir.IR.{IR};
 ghost use Rattle.plan_arena.specs.declared.plan.IRPlan.{IRPlan};
 ghost use Rattle.plan_arena.specs.Layers.{layer};
-ghost use Rattle.plan_lower.specs.Lowering.{IsBuilt, StandsAt, StandsFor, IsPlanRefusal, Answers, IsTyped, IsSound, GivesSameFrame, IsLoweringOf, source_select, source_filter, IsSelect, IsFilter, IsEmptyTableAt};
+ghost use Rattle.plan_lower.specs.Lowering.{IsBuilt, StandsFor, IsPlanRefusal, Answers, IsTyped, IsSound, GivesSameFrame, IsLoweringOf, source_select, source_filter, IsSelectAt, IsFilterAt, IsEmptyTableAt};
 ghost use Rattle.plan_infer.specs.Samples.{int8, int32, one_column, two_columns, a, c, sum, a_items, refused};
 ghost use Rattle.plan_lower.specs.Samples.{truths, keep, keep_items, node_named, scan_of, select_over, filter_over, query, lowered_query, scan_layer, select_layer, ForPlans, ForScan, ForSum};
 
 /// A plan is refused by a kind of rule that is broken at a place, or for want of memory.
 pub fn refusals_of_plans()
     ensures memory { IsPlanRefusal [] (scan_of (one_column int8)) no_memory }
-    ensures below { IsPlanRefusal [] (filter_over (select_over (scan_of (one_column int8)) c []) c) (refused ColumnNotFound (0 ∷ [])) }
-    ensures other_place { ¬ (IsPlanRefusal [] (filter_over (select_over (scan_of (one_column int8)) c []) c) (refused ColumnNotFound [])) }
+    ensures below { IsPlanRefusal [] (filter_over (source_select (c ∷ []) (scan_of (one_column int8))) c) (refused ColumnNotFound (0 ∷ [])) }
+    ensures other_place { ¬ (IsPlanRefusal [] (filter_over (source_select (c ∷ []) (scan_of (one_column int8))) c) (refused ColumnNotFound [])) }
     ensures other_kind { ¬ (IsPlanRefusal [] (filter_over (scan_of (one_column int8)) c) (refused Duplicate [])) }
     ensures well_formed { ¬ (IsPlanRefusal [] (scan_of (one_column int8)) (refused Duplicate [])) }
     ensures answer { (lowering : IRPlan) → Answers [] (scan_of (one_column int8)) (Ok lowering) }
@@ -37,7 +37,7 @@ pub fn lowering_of_a_sum()
 
 /// A select and a filter of a query: of expressions under their own names.
 pub fn trees_of_queries()
-    ensures select { source_select (a ∷ []) (scan_of (one_column Truth)) ≡ select_over (scan_of (one_column Truth)) a [] }
+    ensures select { source_select (a ∷ []) (scan_of (one_column Truth)) ≡ node (select_op (named a ∷ []) None) (more (scan_of (one_column Truth)) no_more) }
     ensures filter { source_filter a (scan_of (one_column Truth)) ≡ filter_over (scan_of (one_column Truth)) a }
 {}
 
@@ -51,14 +51,14 @@ pub fn no_lowerings()
 
 /// Nodes that stand for plans.
 pub fn nodes_that_stand_for_plans()
-    ensures built { IsBuilt [] query lowered_query }
-    ensures not_built { ¬ (IsBuilt [] query (select_over (scan_of two_columns) sum (one_column int32))) }
+    ensures built { IsBuilt [] query lowered_query (one_column int32) }
+    ensures not_built { ¬ (IsBuilt [] query (select_over (scan_of two_columns) sum (one_column int32)) (one_column int32)) }
     ensures filter { ForPlans (scan_layer (Some 0) truths ∷ layer (filter_op (node_named (codes "keep") 0)) (0 ∷ []) ∷ []) (λ plans.
-        IsFilter [] keep_items plans 1 0 keep (scan_of truths)) }
+        IsFilterAt [] truths keep_items plans 1 0 keep) }
     ensures select { ForPlans (scan_layer (Some 0) (one_column Truth) ∷ select_layer 0 (one_column Truth) ∷ []) (λ plans.
-        IsSelect [] a_items plans 1 (a ∷ []) (scan_of (one_column Truth))) }
-    ensures scan { ForPlans (scan_layer None [] ∷ []) (λ plans. StandsFor [] [] plans 0 0 empty_table) }
-    ensures other_keeper { ForPlans (scan_layer None [] ∷ scan_layer None (one_column Truth) ∷ []) (λ plans. ¬ (StandsAt [] plans 0 1 empty_table)) }
+        IsSelectAt [] (one_column Truth) a_items plans 1 0 (a ∷ []) (one_column Truth)) }
+    ensures scan { ForPlans (scan_layer None [] ∷ []) (λ plans. StandsFor [] [] plans 0 [] empty_table) }
+    ensures other_schema { ForPlans (scan_layer None [] ∷ []) (λ plans. ¬ (StandsFor [] [] plans 0 (one_column Truth) empty_table)) }
     ensures empty_table { ForPlans (scan_layer None [] ∷ []) (λ plans. IsEmptyTableAt plans 0) }
     ensures no_empty_table { ForPlans (scan_layer (Some 0) [] ∷ []) (λ plans. ¬ (IsEmptyTableAt plans 0)) }
 {}
@@ -66,7 +66,7 @@ pub fn nodes_that_stand_for_plans()
 /// What no node stands for, whatever the arenas hold.
 pub fn no_nodes_for_plans()
     ensures not_strict { (lowering : IRPlan) → ¬ (IsLoweringOf [] query lowering (select_over (scan_of two_columns) sum (one_column int32))) }
-    ensures ill_formed { (plans : List IR) → ¬ (StandsFor [] [] plans 0 0 (source_select (c ∷ []) (scan_of (one_column Truth)))) }
-    ensures filter_by_a_number { (plans : List IR) → ¬ (IsFilter [] a_items plans 1 0 a (scan_of (one_column int8))) }
-    ensures select_of_no_column { (plans : List IR) → ¬ (IsSelect [] (Column (codes "c") ∷ []) plans 1 (c ∷ []) (scan_of (one_column Truth))) }
+    ensures ill_formed { (plans : List IR) → ¬ (StandsFor [] [] plans 0 (one_column Truth) (source_select (c ∷ []) (scan_of (one_column Truth)))) }
+    ensures filter_by_a_number { (plans : List IR) → ¬ (IsFilterAt [] (one_column int8) a_items plans 1 0 a) }
+    ensures select_of_no_column { (plans : List IR) → ¬ (IsSelectAt [] (one_column Truth) (Column (codes "c") ∷ []) plans 1 0 (c ∷ []) (one_column Truth)) }
 {}

@@ -1,8 +1,8 @@
 use Rattle.std.proofs.Common.{[], ◌∷◌, ap, arith}
 use Rattle.plan_arena.specs.Items.{named_node, plan_layer}
 use Rattle.plan_arena.proofs.ItemLemmas.{plan_within}
-use Rattle.plan_report.proofs.NodeLemmas.{plan_inputs, plan_outputs}
-use Rattle.plan_report.proofs.CastLemmas.{no_outputs, only_named, only_output, plan_counted}
+use Rattle.plan_report.proofs.NodeLemmas.{plan_inputs, node_kind, select_outputs, filter_outputs}
+use Rattle.plan_report.proofs.CastLemmas.{only_named, scan_casts, select_casts, filter_casts, plan_counted}
 use Rattle.plan_report.proofs.casts.+plan_casts.Goals as goal
 
 pub get-item-requires : goal.get-item-requires
@@ -10,11 +10,11 @@ get-item-requires t c = plan_within c.args.plan.now.expr_arena c.args.plan.now.l
 
 pub outputs_casts-requires : goal.outputs_casts-requires
 outputs_casts-requires t c =
-    plan_outputs c.args.plan.now.expr_arena c.args.plan.now.lp_arena c.args.node.0 c.get-item.result.now c.get-item.ensures _ _ (ap plan_layer c.in-Select.is) c.requires
+    select_outputs c.args.plan.now.expr_arena _ (node_kind c.args.plan.now.expr_arena c.args.plan.now.lp_arena c.args.node.0 c.get-item.result.now c.get-item.ensures _ _ (ap plan_layer c.in-Select.is) c.requires)
 
 pub expression_casts-requires : goal.expression_casts-requires
 expression_casts-requires t c =
-    let outputs = plan_outputs c.args.plan.now.expr_arena c.args.plan.now.lp_arena c.args.node.0 c.get-item.result.now c.get-item.ensures _ _ (ap plan_layer c.in-Filter.is) c.requires in
+    let outputs = filter_outputs c.args.plan.now.expr_arena (named_node c.in-Filter.predicate) (node_kind c.args.plan.now.expr_arena c.args.plan.now.lp_arena c.args.node.0 c.get-item.result.now c.get-item.ensures _ _ (ap plan_layer c.in-Filter.is) c.requires) in
     rw c.node.ensures (only_named c.args.plan.now.expr_arena (named_node c.in-Filter.predicate) outputs.outputs outputs.denote)
 
 pub plan_casts-requires : goal.plan_casts-requires
@@ -29,15 +29,15 @@ plan_casts-requires-in-Select t c =
 
 pub returns-in-DataFrameScan : goal.returns-in-DataFrameScan
 returns-in-DataFrameScan t c tree d =
-    plan_counted c.args.plan.now.expr_arena c.args.plan.now.lp_arena c.args.node.0 c.get-item.result.now c.get-item.ensures _ _ 0 [] (ap plan_layer c.in-DataFrameScan.is) (no_outputs c.args.plan.now.expr_arena) tt tree d
+    plan_counted c.args.plan.now.expr_arena c.args.plan.now.lp_arena c.args.node.0 c.get-item.result.now c.get-item.ensures _ _ 0 [] (ap plan_layer c.in-DataFrameScan.is) (scan_casts c.args.plan.now.expr_arena _ _) tt tree d
 
 pub returns-in_ok-count-in-Filter : goal.returns-in_ok-count-in-Filter
 returns-in_ok-count-in-Filter t c tree d =
-    let here = only_output c.args.plan.now.expr_arena (named_node c.in-Filter.predicate) c.node.result.0 c.in_ok-here-in-Filter.here c.node.ensures c.in_ok-here-in-Filter.ensures in
+    let here = filter_casts c.args.plan.now.expr_arena (named_node c.in-Filter.predicate) c.node.result.0 c.in_ok-here-in-Filter.here c.node.ensures c.in_ok-here-in-Filter.ensures in
     let counted = plan_counted c.args.plan.now.expr_arena c.args.plan.now.lp_arena c.args.node.0 c.get-item.result.now c.get-item.ensures _ _ c.in_ok-here-in-Filter.here (c.in_ok-below-in-Filter.below ∷ []) (ap plan_layer c.in-Filter.is) here (c.in_ok-below-in-Filter.ensures, tt) tree d in
     omega (arith, c.in_ok-count-in-Filter.ensures)
 
 pub returns-in_ok-count-in-Select : goal.returns-in_ok-count-in-Select
 returns-in_ok-count-in-Select t c tree d =
-    let counted = plan_counted c.args.plan.now.expr_arena c.args.plan.now.lp_arena c.args.node.0 c.get-item.result.now c.get-item.ensures _ _ c.in_ok-here-in-Select.here (c.in_ok-below-in-Select.below ∷ []) (ap plan_layer c.in-Select.is) c.in_ok-here-in-Select.ensures (c.in_ok-below-in-Select.ensures, tt) tree d in
+    let counted = plan_counted c.args.plan.now.expr_arena c.args.plan.now.lp_arena c.args.node.0 c.get-item.result.now c.get-item.ensures _ _ c.in_ok-here-in-Select.here (c.in_ok-below-in-Select.below ∷ []) (ap plan_layer c.in-Select.is) (select_casts c.args.plan.now.expr_arena _ c.in_ok-here-in-Select.here c.in_ok-here-in-Select.ensures) (c.in_ok-below-in-Select.ensures, tt) tree d in
     omega (arith, c.in_ok-count-in-Select.ensures)

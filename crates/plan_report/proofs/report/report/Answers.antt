@@ -9,7 +9,3 @@ root-requires c = plan_within c.args.plan.now.expr_arena c.args.plan.now.lp_aren
 pub schema_ref-schema-requires : goal.schema_ref-schema-requires
 schema_ref-schema-requires c =
     item_inputs c.args.plan.now.expr_arena c.args.plan.now.lp_arena c.args.plan.now.lp_top.0 c.root.result.now c.root.ensures c.requires
-
-pub push_lines-requires-clause-schema : goal.push_lines-requires-clause-schema
-push_lines-requires-clause-schema c =
-    lent_schema c.args.plan.now.expr_arena c.args.plan.now.lp_arena c.args.plan.now.lp_top.0 c.root.result.now (columns c.schema_ref-schema.result.now) c.root.ensures c.schema_ref-schema.ensures

@@ -15,7 +15,7 @@ returns-clause-filter c = λ schema predicate. record {
   each = (
     record {
       tree = node (scan_op (Some 0) (columns schema)) no_more;
-      denotes = ([], record { flat = scan_op (Some 0) (columns schema); item = refl; denotes = record { same_kind = refl; same_schema = refl; named = tt } }, tt);
+      denotes = ([], record { flat = scan_op (Some 0) (columns schema); item = refl; denotes = record { same_recorded = refl; kind = refl } }, tt);
     },
     tt,
   );

@@ -1,6 +1,7 @@
-use Rattle.std.proofs.Common.{ap, sym, ◌∙◌, arith}
-use Rattle.plan_arena.specs.Items.{plan_layer}
-use Rattle.plan_arena.proofs.ItemLemmas.{plan_within, item_denotes, item_inputs, item_schema, first_of_one, only_input, only_input_less_deep}
+use Rattle.std.proofs.Common.{Some, refl, ap, ◌∙◌, arith}
+use Rattle.plan_types.specs.Schemas.{columns}
+use Rattle.plan_arena.specs.Items.{named_node, plan_layer}
+use Rattle.plan_arena.proofs.ItemLemmas.{plan_within, item_denotes, item_inputs, item_recorded, filter_item, only_input, only_input_less_deep}
 use Rattle.plan_arena.proofs.ir.IR.+schema_ref.Goals as goal
 
 pub get-requires : goal.get-requires
@@ -15,10 +16,16 @@ schema_ref-requires t c =
     let less = only_input_less_deep c.args.arena.now c.args.self.now _ c.in-Filter.input.0 is c.requires c.get.result.now c.get.ensures in
     (omega (arith, c.decreases, less), item_inputs c.requires.expressions c.args.arena.now c.in-Filter.input.0 c.get.result.now c.get.ensures input)
 
-pub returns-in-Filter : goal.returns-in-Filter
-returns-in-Filter t c expressions plan d =
-    let found = item_schema expressions c.args.arena.now c.args.self.now _ _ (ap plan_layer c.in-Filter.is) plan d in
-    let below = first_of_one expressions c.args.arena.now c.in-Filter.input.0 found.0 found.2 in
-    c.schema_ref.ensures expressions below.0 (item_denotes expressions c.args.arena.now c.in-Filter.input.0 c.get.result.now c.get.ensures below.0 below.2)
-    ∙ sym below.1
-    ∙ found.1
+pub returns-in-DataFrameScan-clause-rule : goal.returns-in-DataFrameScan-clause-rule
+returns-in-DataFrameScan-clause-rule t c expressions registry plan d accepted =
+    item_recorded expressions c.args.arena.now c.args.self.now _ _ (ap plan_layer c.in-DataFrameScan.is) registry (columns c.in-DataFrameScan.schema.now) refl plan d accepted
+
+pub returns-in-Select-clause-rule : goal.returns-in-Select-clause-rule
+returns-in-Select-clause-rule t c expressions registry plan d accepted =
+    item_recorded expressions c.args.arena.now c.args.self.now _ _ (ap plan_layer c.in-Select.is) registry (columns c.in-Select.schema.now) refl plan d accepted
+
+pub returns-in-Filter-clause-rule : goal.returns-in-Filter-clause-rule
+returns-in-Filter-clause-rule t c expressions registry plan d accepted =
+    let below = filter_item expressions c.args.arena.now c.args.self.now _ c.in-Filter.input.0 (ap plan_layer c.in-Filter.is) registry plan d accepted in
+    below.3
+    ∙ c.schema_ref.ensures.rule expressions registry below.0 (item_denotes expressions c.args.arena.now c.in-Filter.input.0 c.get.result.now c.get.ensures below.0 below.1) below.2

@@ -1,50 +1,22 @@
-use Rattle.std.proofs.Common.{[], map, sym, ap, ◌∙◌}
+use Rattle.std.proofs.Common.{map, None, sym, ap, ◌∙◌}
 use Rattle.plan_types.specs.Schemas.{columns}
 use Rattle.plan_types.proofs.ResultLemmas.{passed_on}
 use Rattle.plan_types.proofs.SchemaLemmas.{schema_has_distinct_names}
 use Rattle.plan_dsl.specs.Expressions.{tree_of}
 use Rattle.plan_dsl.specs.Plans.{plan_tree, trees_of, named, filter_op, select_op}
 use Rattle.plan_dsl.specs.Registry.{registry}
+use Rattle.plan_arena.proofs.ItemLemmas.{grows_then}
 use Rattle.plan_lower.specs.Lowering.{source_filter, source_select}
 use Rattle.plan_lower.proofs.PlanLemmas.{scan_stands, scan_refused, filter_stands, filter_refused, select_stands, select_refused, refused_below}
 use Rattle.plan_lower.proofs.conversion.dsl_to_ir.+lower.Goals as goal
 
-pub returns-in_err-node-in-DataFrameScan-clause-err :
-    goal.returns-in_err-node-in-DataFrameScan-clause-err
-returns-in_err-node-in-DataFrameScan-clause-err t c =
-    passed_on c.from_residual.result c.in_err-node-in-DataFrameScan.field-0.0 _ c.from_residual.ensures.1 (scan_refused (registry c.args.udfs.now) c.in-DataFrameScan.table (columns c.in-DataFrameScan.schema) (plan_tree c.args.plan) _ c.in_err-node-in-DataFrameScan.ensures.err (ap plan_tree c.in-DataFrameScan.is))
+pub returns-in_err-lowered-in-DataFrameScan-clause-err :
+    goal.returns-in_err-lowered-in-DataFrameScan-clause-err
+returns-in_err-lowered-in-DataFrameScan-clause-err t c =
+    passed_on c.from_residual.result c.in_err-lowered-in-DataFrameScan.field-0.0 _ c.from_residual.ensures.1 (scan_refused (registry c.args.udfs.now) c.in-DataFrameScan.table (columns c.in-DataFrameScan.schema) (plan_tree c.args.plan) _ c.in_err-lowered-in-DataFrameScan.ensures.err (ap plan_tree c.in-DataFrameScan.is))
 
-pub returns-in_ok-node-in-DataFrameScan-clause-ok :
-    goal.returns-in_ok-node-in-DataFrameScan-clause-ok
-returns-in_ok-node-in-DataFrameScan-clause-ok t c =
-    scan_stands (registry c.args.udfs.now) c.args.expr_arena.now c.lower_scan.new.lp_arena c.in_ok-node-in-DataFrameScan.node.0 c.in-DataFrameScan.table (columns c.in-DataFrameScan.schema) (plan_tree c.args.plan) c.in_ok-node-in-DataFrameScan.ensures.ok (schema_has_distinct_names c.in-DataFrameScan.schema) c.in_ok-node-in-DataFrameScan.ensures.known (ap plan_tree c.in-DataFrameScan.is)
-
-pub returns-in_err-node-in-Ok-clause-err : goal.returns-in_err-node-in-Ok-clause-err
-returns-in_err-node-in-Ok-clause-err t c =
-    let same = ap plan_tree c.in-Filter.is ∙ ap (λ p. source_filter (tree_of c.in-Filter.predicate) (plan_tree p)) (sym c.into_inner.ensures) in
-    passed_on c.from_residual-in_err-node-in-Ok.result c.in_err-node-in-Ok.field-0.0 _ c.from_residual-in_err-node-in-Ok.ensures.1 (filter_refused (registry c.args.udfs.now) c.lower.new.expr_arena c.lower.new.lp_arena c.in-Ok.input.node.0 c.in-Ok.input.schema.0 (tree_of c.in-Filter.predicate) (plan_tree c.into_inner.result) (plan_tree c.args.plan) _ c.in-Ok.ensures.ok c.in_err-node-in-Ok.ensures.err same)
-
-pub returns-in_ok-node-in-Ok-clause-ok : goal.returns-in_ok-node-in-Ok-clause-ok
-returns-in_ok-node-in-Ok-clause-ok t c =
-    let same = ap plan_tree c.in-Filter.is ∙ ap (λ p. source_filter (tree_of c.in-Filter.predicate) (plan_tree p)) (sym c.into_inner.ensures) in
-    filter_stands (registry c.args.udfs.now) c.lower.new.expr_arena c.lower_filter.new.expr_arena c.lower.new.lp_arena c.lower_filter.new.lp_arena c.in-Ok.input.node.0 c.in-Ok.input.schema.0 c.in_ok-node-in-Ok.node.0 (tree_of c.in-Filter.predicate) (plan_tree c.into_inner.result) (plan_tree c.args.plan) c.in-Ok.ensures.ok c.in_ok-node-in-Ok.ensures.ok same
-
-pub returns-in-Err-clause-err : goal.returns-in-Err-clause-err
-returns-in-Err-clause-err t c =
-    let same = ap plan_tree c.in-Filter.is ∙ ap (λ p. source_filter (tree_of c.in-Filter.predicate) (plan_tree p)) (sym c.into_inner.ensures) in
-    refused_below (registry c.args.udfs.now) (filter_op (named (tree_of c.in-Filter.predicate))) (plan_tree c.into_inner.result) (plan_tree c.args.plan) c.in-Err.error c.below.result c.in-Err.ensures.err c.below.ensures same
-
-pub returns-in_err-node-in-Ok-lower-clause-err : goal.returns-in_err-node-in-Ok-lower-clause-err
-returns-in_err-node-in-Ok-lower-clause-err t c =
-    let same = ap plan_tree c.in-Select.is ∙ ap (λ p. source_select (trees_of c.in-Select.expr) (plan_tree p)) (sym c.into_inner-in-Select.ensures) in
-    passed_on c.from_residual-in_err-node-in-Ok-lower.result c.in_err-node-in-Ok-lower.field-0.0 _ c.from_residual-in_err-node-in-Ok-lower.ensures.1 (select_refused (registry c.args.udfs.now) c.lower-in-Select.new.expr_arena c.lower-in-Select.new.lp_arena c.in-Ok-lower.input.node.0 c.in-Ok-lower.input.schema.0 (trees_of c.in-Select.expr) (plan_tree c.into_inner-in-Select.result) (plan_tree c.args.plan) _ c.in-Ok-lower.ensures.ok c.in_err-node-in-Ok-lower.ensures.err same)
-
-pub returns-in_ok-node-in-Ok-lower-clause-ok : goal.returns-in_ok-node-in-Ok-lower-clause-ok
-returns-in_ok-node-in-Ok-lower-clause-ok t c =
-    let same = ap plan_tree c.in-Select.is ∙ ap (λ p. source_select (trees_of c.in-Select.expr) (plan_tree p)) (sym c.into_inner-in-Select.ensures) in
-    select_stands (registry c.args.udfs.now) c.lower-in-Select.new.expr_arena c.lower_select.new.expr_arena c.lower-in-Select.new.lp_arena c.lower_select.new.lp_arena c.in-Ok-lower.input.node.0 c.in-Ok-lower.input.schema.0 c.in_ok-node-in-Ok-lower.node.0 (trees_of c.in-Select.expr) (plan_tree c.into_inner-in-Select.result) (plan_tree c.args.plan) c.in-Ok-lower.ensures.ok c.in_ok-node-in-Ok-lower.ensures.ok same
-
-pub returns-in-Err-lower-clause-err : goal.returns-in-Err-lower-clause-err
-returns-in-Err-lower-clause-err t c =
-    let same = ap plan_tree c.in-Select.is ∙ ap (λ p. source_select (trees_of c.in-Select.expr) (plan_tree p)) (sym c.into_inner-in-Select.ensures) in
-    refused_below (registry c.args.udfs.now) (select_op (map named (trees_of c.in-Select.expr)) []) (plan_tree c.into_inner-in-Select.result) (plan_tree c.args.plan) c.in-Err-lower.error c.below-in-Err-lower.result c.in-Err-lower.ensures.err c.below-in-Err-lower.ensures same
+pub returns-in_ok-lowered-in-DataFrameScan-clause-ok :
+    goal.returns-in_ok-lowered-in-DataFrameScan-clause-ok
+returns-in_ok-lowered-in-DataFrameScan-clause-ok t c =
+    let lowered = c.in_ok-lowered-in-DataFrameScan.lowered in
+    scan_stands (registry c.args.udfs.now) c.args.expr_arena.now c.lower_scan.new.lp_arena lowered.node.0 c.in-DataFrameScan.table (columns c.in-DataFrameScan.schema) (columns lowered.schema) (plan_tree c.args.plan) c.in_ok-lowered-in-DataFrameScan.ensures.ok c.in_ok-lowered-in-DataFrameScan.ensures.schema (schema_has_distinct_names c.in-DataFrameScan.schema) c.in_ok-lowered-in-DataFrameScan.ensures.known (ap plan_tree c.in-DataFrameScan.is)

@@ -9,7 +9,6 @@ use Rattle.plan_arena.specs.declared.plan.IRPlan.{IRPlan}
 use Rattle.plan_arena.specs.Denotation.{Denotes}
 use Rattle.plan_arena.specs.Layers.{layer}
 use Rattle.plan_arena.specs.Items.{HoldsPlan, DenotesPlan, plan_layer}
-use Rattle.plan_arena.specs.Runs.{top_schema}
 use Rattle.plan_lower.specs.Lowering.{source_select}
 use Rattle.plan_infer.specs.Samples.{two_columns, a}
 use Rattle.plan_lower.proofs.ExamplePlanLemmas.{one_plan, item_at, scan_denotes}
@@ -33,13 +32,13 @@ pub returns-clause-other_schema : goal.returns-clause-other_schema
 returns-clause-other_schema c = λ lowering top plans typed.
     let scan = node (scan_op (Some 0) two_columns) no_more in
     let same = one_plan lowering.expr_arena lowering.lp_arena lowering.lp_top.0 typed.tree scan typed.denotes (denotes lowering (Some 0) two_columns top plans) in
-    one_is_not_two _ _ _ (some_is _ _ (subst (λ t. schema_of [] (source_select (a ∷ []) scan) ≡ Some (top_schema t)) same typed.schema))
+    one_is_not_two _ _ _ (some_is _ _ (subst (λ t. schema_of [] (source_select (a ∷ []) scan) ≡ schema_of [] t) same typed.schema))
 
 pub returns-clause-other_frame : goal.returns-clause-other_frame
 returns-clause-other_frame c = λ lowering top plans same.
     let scan = node (scan_op None two_columns) no_more in
-    one_is_not_two _ _ _ (sym (done_schema _ _ (same scan (denotes lowering None two_columns top plans) [] (tt, ((tt, tt), tt)))))
+    one_is_not_two _ _ _ (sym (done_schema _ _ (same scan (denotes lowering None two_columns top plans) [] tt)))
 
 pub returns-clause-stuck : goal.returns-clause-stuck
 returns-clause-stuck c = λ lowering top plans sound.
-    (sound (node (scan_op (Some 0) []) no_more) (denotes lowering (Some 0) [] top plans) [] (tt, tt)).0
+    (sound (node (scan_op (Some 0) []) no_more) (denotes lowering (Some 0) [] top plans) [] tt).0
