@@ -7,7 +7,7 @@ use Rattle.std.proofs.lemmas.List.{map-append, map-set, length-map}
 use Rattle.plan_types.proofs.ListLemmas.{slice_get-append, slice_get-seam, slice_get-set_other, slice_get-set_same}
 use Rattle.plan_dsl.specs.Ops.{Op, Expression}
 use Rattle.plan_dsl.specs.Plans.{Named, PlanKind, ScanKind, SelectKind, FilterKind, PlanOp, Plan, filter_op}
-use Rattle.plan_dsl.specs.PlanRules.{where_unbroken, plan_rule, schema_of}
+use Rattle.plan_dsl.specs.PlanRules.{broken_kinds, where_unbroken, plan_rule, schema_of}
 use Rattle.plan_dsl.specs.Registry.{Registry}
 use Rattle.plan_types.specs.Schemas.{Columns}
 use Rattle.plan_types.specs.declared.error.ErrorKind.{ErrorKind}
@@ -87,8 +87,8 @@ list_one x y e = cc
 kind_one : (items : List AExpr) (flat : PlanKind ℕ) (a b : PlanKind Expression) → DenotesKind items flat a → DenotesKind items flat b → a ≡ b
 kind_one items (ScanKind table schema) a b d e = d ∙ sym e
 kind_one items (SelectKind nodes) a b d e = d.1 ∙ ap SelectKind (named_one items nodes d.0 e.0 d.2 e.2) ∙ sym e.1
-kind_one items (FilterKind node) a b d e =
-    d.1 ∙ ap FilterKind (list_one d.0 e.0 (named_one items (node ∷ []) (d.0 ∷ []) (e.0 ∷ []) d.2 e.2)) ∙ sym e.1
+kind_one items (FilterKind n) a b d e =
+    d.1 ∙ ap FilterKind (list_one d.0 e.0 (named_one items (n ∷ []) (d.0 ∷ []) (e.0 ∷ []) d.2 e.2)) ∙ sym e.1
 
 op_one : (items : List AExpr) (flat : PlanOp ℕ) (a b : PlanOp Expression) → DenotesOp items flat a → DenotesOp items flat b → a ≡ b
 op_one items flat a b d e =
@@ -118,7 +118,7 @@ named_kept items items' keeps (n ∷ ns) [] d = absurd d
 kind_kept : (items items' : List AExpr) → ((n : ℕ) (op : Op) (inputs : List ℕ) → HoldsExpression items n op inputs → HoldsExpression items' n op inputs) → (flat : PlanKind ℕ) (kind : PlanKind Expression) → DenotesKind items flat kind → DenotesKind items' flat kind
 kind_kept items items' keeps (ScanKind table schema) kind d = d
 kind_kept items items' keeps (SelectKind nodes) kind d = (d.0, d.1, named_kept items items' keeps nodes d.0 d.2)
-kind_kept items items' keeps (FilterKind node) kind d = (d.0, d.1, named_kept items items' keeps (node ∷ []) (d.0 ∷ []) d.2)
+kind_kept items items' keeps (FilterKind n) kind d = (d.0, d.1, named_kept items items' keeps (n ∷ []) (d.0 ∷ []) d.2)
 
 -- a new plan item is there
 pub plan_added : (plans : List IR) (item : IR) → slice_get (map plan_layer (plans ++ item ∷ [])) (length plans) ≡ Some (plan_layer item)
@@ -167,14 +167,18 @@ unbroken_is : (kinds : List ErrorKind) (schema : Option Columns) → IsTrue (is_
 unbroken_is [] schema h = refl
 unbroken_is (kind ∷ kinds) schema h = absurd cc
 
-filtered_schema : (registry : Registry) (predicate : Named Expression) (recorded : Option Columns) (schema : Option Columns) → IsTrue (is_some (plan_rule registry (record { kind = FilterKind predicate; recorded = recorded }) (schema ∷ []))) → plan_rule registry (record { kind = FilterKind predicate; recorded = recorded }) (schema ∷ []) ≡ schema
-filtered_schema registry predicate recorded None h = unbroken_is _ None h
-filtered_schema registry predicate recorded (Some schema) h = unbroken_is _ (Some schema) h
+abbrev filter_by : Named Expression → Option Columns → PlanOp Expression
+filter_by predicate recorded = record { kind = FilterKind predicate; recorded = recorded }
+
+filtered_schema : (registry : Registry) (predicate : Named Expression) (recorded : Option Columns) (schema : Option Columns) → IsTrue (is_some (plan_rule registry (filter_by predicate recorded) (schema ∷ []))) → plan_rule registry (filter_by predicate recorded) (schema ∷ []) ≡ schema
+filtered_schema registry predicate recorded None h = unbroken_is (broken_kinds registry (filter_by predicate recorded) (None ∷ [])) None h
+filtered_schema registry predicate recorded (Some schema) h =
+    unbroken_is (broken_kinds registry (filter_by predicate recorded) (Some schema ∷ [])) (Some schema) h
 
 -- a filter that has a schema has that of its input
 filter_keeps : (registry : Registry) (op : PlanOp Expression) (predicate : Named Expression) → op.kind ≡ FilterKind predicate → (schema : Option Columns) → IsTrue (is_some (plan_rule registry op (schema ∷ []))) → plan_rule registry op (schema ∷ []) ≡ schema
 filter_keeps registry op predicate kind schema h =
-    let rule : plan_rule registry op (schema ∷ []) ≡ plan_rule registry (record { kind = FilterKind predicate; recorded = op.recorded }) (schema ∷ []) =
+    let rule : plan_rule registry op (schema ∷ []) ≡ plan_rule registry (filter_by predicate op.recorded) (schema ∷ []) =
     ap (λ (k : PlanKind Expression). plan_rule registry (record { kind = k; recorded = op.recorded }) (schema ∷ [])) kind in
     rule ∙ filtered_schema registry predicate op.recorded schema (subst (λ o. IsTrue (is_some o)) rule h)
 

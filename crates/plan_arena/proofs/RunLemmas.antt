@@ -19,7 +19,7 @@ use Rattle.plan_dsl.proofs.FrameLemmas.{AllMeet, front_tables, back_tables, scan
 use Rattle.plan_dsl.proofs.KernelLemmas.{AgreeOn, selected_agrees, filtered_agrees}
 use Rattle.plan_dsl.proofs.LiteralLemmas.{strict_settled}
 use Rattle.plan_dsl.proofs.RunLemmas.{strict_is_meaning}
-use Rattle.plan_arena.specs.Runs.{HasRecorded, IsAccepted, AllAccepted, AreStrictOver, AreStrict, IsStrictPlan, AllStrictPlans, by_running, plan_run, RunsSoundly, AllRunSoundly}
+use Rattle.plan_arena.specs.Runs.{own_schema, HasRecorded, IsAccepted, AllAccepted, AreStrictOver, AreStrict, IsStrictPlan, AllStrictPlans, by_running, plan_run, RunsSoundly, AllRunSoundly}
 
 abbrev evaluated_as : Registry → Columns → Named Expression → Meaning → Evaluated
 evaluated_as registry schema output gives = record { name = output.name; typing = typing registry schema output.expression; gives = gives }
@@ -70,9 +70,14 @@ module _ (registry : Registry) where
   pub accepted_schema : (plan : Plan) → IsAccepted registry plan → (schema : Columns) × (schema_of registry plan ≡ Some schema)
   accepted_schema (node op inputs) accepted = recorded_there op.recorded _ accepted.0
 
+  own_is : (recorded found : Option Columns) → HasRecorded recorded found → own_schema recorded found ≡ found
+  own_is None found h = refl
+  own_is (Some recorded) found h = sym h
+
   -- the top of what runs soundly
-  pub sound_top : (tables : List Frame) (plan : Plan) → RunsSoundly registry tables plan → MeetsWhere (schema_of registry plan) (plan_run registry tables plan)
-  sound_top tables (node op inputs) sound = sound.0
+  pub sound_top : (tables : List Frame) (plan : Plan) → IsAccepted registry plan → RunsSoundly registry tables plan → MeetsWhere (schema_of registry plan) (plan_run registry tables plan)
+  sound_top tables (node op inputs) accepted sound =
+      subst (λ s. MeetsWhere s (plan_run registry tables (node op inputs))) (own_is op.recorded _ accepted.0) sound.0
 
   mutual
     pub runs_soundly : (tables : List Frame) (plan : Plan) → IsAccepted registry plan → IsStrictPlan registry plan → FitsPlan tables plan → RunsSoundly registry tables plan
@@ -83,11 +88,11 @@ module _ (registry : Registry) where
         let own = accepted_schema (node op inputs) accepted in
         let meets = kernel_meets registry tables op schemas runs own.0 (front_tables tables (own_scans op.kind) (scans_below inputs) fits) own.1 below.1 in
         let run = subst (Meets (IsFrameOf own.0)) (sym (strict_node tables op.kind schemas runs strict.0 below.1)) meets in
-        (subst (λ s. MeetsWhere s (plan_run registry tables (node op inputs))) (sym own.1) run, below.0)
+        (subst (λ s. MeetsWhere s (plan_run registry tables (node op inputs))) (sym (own_is op.recorded _ accepted.0 ∙ own.1)) run, below.0)
 
     all_run_soundly : (tables : List Frame) (inputs : Trees (PlanOp Expression)) → AllAccepted registry inputs → AllStrictPlans registry inputs → HasTables tables (scans_below inputs) → AllRunSoundly registry tables inputs × AllMeet (schemas_of registry inputs) (fold_all (plan_kernel tables (by_running registry)) inputs)
     all_run_soundly tables no_more accepted strict fits = (tt, tt)
     all_run_soundly tables (more plan rest) accepted strict fits =
         let head = runs_soundly tables plan accepted.0 strict.0 (front_tables tables (scans_in plan) (scans_below rest) fits) in
         let tail = all_run_soundly tables rest accepted.1 strict.1 (back_tables tables (scans_in plan) (scans_below rest) fits) in
-        ((head, tail.0), (sound_top tables plan head, tail.1))
+        ((head, tail.0), (sound_top tables plan accepted.0 head, tail.1))

@@ -74,8 +74,8 @@ abbrev pub DenotesKind : List AExpr → PlanKind ℕ → PlanKind Expression →
 DenotesKind expressions (ScanKind table schema) kind = kind ≡ ScanKind table schema
 DenotesKind expressions (SelectKind nodes) kind =
     (outputs : List (Named Expression)) × (kind ≡ SelectKind outputs) × DenoteNamed expressions nodes outputs
-DenotesKind expressions (FilterKind node) kind =
-    (predicate : Named Expression) × (kind ≡ FilterKind predicate) × DenoteNamed expressions (node ∷ []) (predicate ∷ [])
+DenotesKind expressions (FilterKind flat) kind =
+    (predicate : Named Expression) × (kind ≡ FilterKind predicate) × DenoteNamed expressions (flat ∷ []) (predicate ∷ [])
 
 -- an op over nodes is an op over expressions
 pub record DenotesOp (expressions : List AExpr) (flat : PlanOp ℕ) (op : PlanOp Expression) : Type 0 where

@@ -18,6 +18,11 @@ use Rattle.plan_dsl.specs.Strictness.{IsStrict}
 use Rattle.plan_dsl.specs.StrictRun.{strict_run}
 use Rattle.plan_dsl.specs.Typing.{typing}
 
+-- a node's own schema: the one that it records, or else the one that it has by the rules
+abbrev pub own_schema : Option Columns → Option Columns → Option Columns
+own_schema None found = found
+own_schema (Some recorded) found = Some recorded
+
 -- a node has a schema by the rules: the one that it records, where it records one
 abbrev pub HasRecorded : Option Columns → Option Columns → Type 0
 HasRecorded None found = IsTrue (is_some found)
@@ -61,10 +66,10 @@ abbrev pub plan_run : Registry → List Frame → Plan → Outcome Frame
 plan_run registry tables plan = fold (plan_kernel tables (by_running registry)) plan
 
 abbrev mutual
-  -- no node is stuck, and the frame of each has exactly the schema that the rules give the node, with fitting values
+  -- no node is stuck, and the frame of each has exactly the node's own schema, with fitting values
   pub RunsSoundly : Registry → List Frame → Plan → Type 0
   RunsSoundly registry tables (node op inputs) =
-      MeetsWhere (schema_of registry (node op inputs)) (plan_run registry tables (node op inputs)) × AllRunSoundly registry tables inputs
+      MeetsWhere (own_schema op.recorded (schema_of registry (node op inputs))) (plan_run registry tables (node op inputs)) × AllRunSoundly registry tables inputs
 
   pub AllRunSoundly : Registry → List Frame → Trees (PlanOp Expression) → Type 0
   AllRunSoundly registry tables no_more = Unit {0}

@@ -86,7 +86,7 @@ module _ (registry : Registry) where
   -- what was built gives on fitting tables a frame of its schema
   built_meets : (source lowered : Plan) (schema : Columns) (tables : List Frame) → IsBuilt registry source lowered schema → FitsPlan tables source → Meets (IsFrameOf schema) (plan_run registry tables lowered)
   built_meets source lowered schema tables built fits =
-      subst (λ s. MeetsWhere s (plan_run registry tables lowered)) built.schema (sound_top registry tables lowered (runs_soundly registry tables lowered built.accepted built.strict (built.fits tables fits)))
+      subst (λ s. MeetsWhere s (plan_run registry tables lowered)) built.schema (sound_top registry tables lowered built.accepted (runs_soundly registry tables lowered built.accepted built.strict (built.fits tables fits)))
 
   abbrev source_outputs : List Lowered → List (Named Expression)
   source_outputs outputs = map (λ (o : Lowered). named o.tree) outputs

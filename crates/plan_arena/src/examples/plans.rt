@@ -1,15 +1,16 @@
 //! Worked examples on lowered plans: which are accepted and strict, what they give, and which run soundly.
 
-ghost use Rattle.std.specs.Prelude.{◌≡◌, [], ◌∷◌, pos, true, Some, None};
+ghost use Rattle.std.specs.Prelude.{◌≡◌, [], ◌∷◌, pos, true, Option, Some, None};
 ghost use Rattle.std.specs.List.{AllByRecursion};
+ghost use Rattle.plan_types.specs.Schemas.{Columns};
 ghost use Rattle.plan_types.specs.Types.{Truth};
 ghost use Rattle.plan_types.specs.Outcomes.{Done, Fault, Stuck};
 ghost use Rattle.plan_types.specs.Frames.{empty_frame};
 ghost use Rattle.plan_types.specs.declared.dtype.CastOptions.TheVariants.{Strict};
 ghost use Rattle.plan_dsl.specs.Plans.{empty_table};
 ghost use Rattle.plan_dsl.specs.PlanMeaning.{source_meaning};
-ghost use Rattle.plan_dsl.specs.Samples.{Gives, int8, int16, int32, int64, number, null, yes, a, b, cast_as, column, empty_scan, frame_with, keep, less, literal, scan, scan_of, schema_ab, schema_flagged, select, sum, table, typed_literal};
-ghost use Rattle.plan_arena.specs.Runs.{HasRecorded, IsAccepted, IsStrictPlan, plan_run, RunsSoundly};
+ghost use Rattle.plan_dsl.specs.Samples.{Gives, GivesOfTwo, int8, int16, int32, int64, number, null, yes, a, b, cast_as, column, empty_scan, frame_with, keep, less, literal, scan, scan_of, schema_ab, schema_flagged, select, sum, table, typed_literal};
+ghost use Rattle.plan_arena.specs.Runs.{own_schema, HasRecorded, IsAccepted, IsStrictPlan, plan_run, RunsSoundly};
 ghost use Rattle.plan_arena.specs.Samples.{lowered_number, lowered_select, lowered_sum, narrowed, schema_of_one, sums, three_flagged, three_numbers};
 
 /// A lowered plan runs by its written casts alone, and gives what the query means.
@@ -38,8 +39,9 @@ pub fn filters_run_as_written()
 
 /// A plan is accepted where each node has a schema by the rules, and a schema that is recorded is that one: a filter has that of its input.
 pub fn plans_that_are_accepted()
-    ensures recorded { AllByRecursion (λ c. HasRecorded c.0 c.1) ((None, Some []) ∷ (Some schema_ab, Some schema_ab) ∷ []) }
-    ensures not_recorded { AllByRecursion (λ c. ¬ (HasRecorded c.0 c.1)) ((None, None) ∷ (Some [], None) ∷ (Some schema_ab, Some schema_flagged) ∷ []) }
+    ensures recorded { AllByRecursion {X = Option Columns × Option Columns} (λ c. HasRecorded c.0 c.1) ((None, Some []) ∷ (Some schema_ab, Some schema_ab) ∷ []) }
+    ensures own { GivesOfTwo own_schema ((None, Some [], Some []) ∷ (None, None, None) ∷ (Some schema_ab, None, Some schema_ab) ∷ (Some schema_ab, Some [], Some schema_ab) ∷ []) }
+    ensures not_recorded { AllByRecursion {X = Option Columns × Option Columns} (λ c. ¬ (HasRecorded c.0 c.1)) ((None, None) ∷ (Some [], None) ∷ (Some schema_ab, Some schema_flagged) ∷ []) }
     ensures accepted { AllByRecursion (IsAccepted []) (lowered_sum (schema_of_one "a" int32) ∷ keep (column "keep") (scan schema_flagged)
         ∷ lowered_select (schema_of_one "a" int8) (a ∷ []) (keep (column "keep") (scan schema_flagged)) ∷ lowered_number int32 (typed_literal int32 (pos 5))
         ∷ lowered_number int32 (literal (pos 5)) ∷ select (sum a b ∷ []) (scan schema_ab) ∷ []) }

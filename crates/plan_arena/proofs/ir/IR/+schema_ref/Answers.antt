@@ -18,11 +18,11 @@ schema_ref-requires t c =
 
 pub returns-in-DataFrameScan-clause-rule : goal.returns-in-DataFrameScan-clause-rule
 returns-in-DataFrameScan-clause-rule t c expressions registry plan d accepted =
-    item_recorded expressions c.args.arena.now c.args.self.now _ _ (ap plan_layer c.in-DataFrameScan.is) registry (columns c.in-DataFrameScan.schema.now) refl plan d accepted
+    item_recorded expressions c.args.arena.now c.args.self.now _ _ (ap plan_layer c.in-DataFrameScan.is) registry (columns c.in-DataFrameScan.schema) refl plan d accepted
 
 pub returns-in-Select-clause-rule : goal.returns-in-Select-clause-rule
 returns-in-Select-clause-rule t c expressions registry plan d accepted =
-    item_recorded expressions c.args.arena.now c.args.self.now _ _ (ap plan_layer c.in-Select.is) registry (columns c.in-Select.schema.now) refl plan d accepted
+    item_recorded expressions c.args.arena.now c.args.self.now _ _ (ap plan_layer c.in-Select.is) registry (columns c.in-Select.schema) refl plan d accepted
 
 pub returns-in-Filter-clause-rule : goal.returns-in-Filter-clause-rule
 returns-in-Filter-clause-rule t c expressions registry plan d accepted =
