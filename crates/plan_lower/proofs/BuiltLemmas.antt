@@ -48,7 +48,7 @@ module _ (registry : Registry) where
       record {
         well_formed = (ap is_some there, tt);
         source_schema = there;
-        schema = there;
+        lowered_schema = there;
         accepted = (there, tt);
         strict = (tt, tt);
         fits = λ tables f. f;
@@ -86,7 +86,7 @@ module _ (registry : Registry) where
   -- what was built gives on fitting tables a frame of its schema
   built_meets : (source lowered : Plan) (schema : Columns) (tables : List Frame) → IsBuilt registry source lowered schema → FitsPlan tables source → Meets (IsFrameOf schema) (plan_run registry tables lowered)
   built_meets source lowered schema tables built fits =
-      subst (λ s. MeetsWhere s (plan_run registry tables lowered)) built.schema (sound_top registry tables lowered built.accepted (runs_soundly registry tables lowered built.accepted built.strict (built.fits tables fits)))
+      subst (λ s. MeetsWhere s (plan_run registry tables lowered)) built.lowered_schema (sound_top registry tables lowered built.accepted (runs_soundly registry tables lowered built.accepted built.strict (built.fits tables fits)))
 
   abbrev source_outputs : List Lowered → List (Named Expression)
   source_outputs outputs = map (λ (o : Lowered). named o.tree) outputs
@@ -108,7 +108,7 @@ module _ (registry : Registry) where
       record {
         well_formed = (ap is_some there, (built.well_formed, tt));
         source_schema = there;
-        schema = refl;
+        lowered_schema = refl;
         accepted = (refl, ((refl, tt), tt));
         strict = ((tt, tt), ((tt, tt), tt));
         fits = λ tables f. tt;
@@ -119,13 +119,13 @@ module _ (registry : Registry) where
       let own = map lowered_column outputs in
       let there = over_schema (select_op (source_outputs outputs) None) source schema own built.source_schema (select_columns schema None outputs each distinct) in
       let op = select_op (map lowered_named outputs) (Some own) in
-      let here = over_schema op lowered schema own built.schema (select_schema registry schema output_name (λ (o : Lowered). o.after) output_typed (Some own) outputs (each_after_typed schema outputs each) distinct) in
+      let here = over_schema op lowered schema own built.lowered_schema (select_schema registry schema output_name (λ (o : Lowered). o.after) output_typed (Some own) outputs (each_after_typed schema outputs each) distinct) in
       record {
         well_formed = (ap is_some there, (built.well_formed, tt));
         source_schema = there;
-        schema = here;
+        lowered_schema = here;
         accepted = (here, (built.accepted, tt));
-        strict = ((strict_over schema _ (map lowered_named outputs) built.schema (each_strict schema outputs each), tt), (built.strict, tt));
+        strict = ((strict_over schema _ (map lowered_named outputs) built.lowered_schema (each_strict schema outputs each), tt), (built.strict, tt));
         fits = λ tables f. fits_over tables op lowered refl (built.fits tables (fits_input tables (select_op (source_outputs outputs) None) source f));
         same = λ tables f.
             let under = fits_input tables (select_op (source_outputs outputs) None) source f in
@@ -146,13 +146,13 @@ module _ (registry : Registry) where
       let before = filter_op (named o.tree) in
       let op = filter_op (lowered_named o) in
       let there = over_schema before source schema schema built.source_schema (filter_schema registry schema (named o.tree) o.typed is.typed truth) in
-      let here = over_schema op lowered schema schema built.schema (filter_schema registry schema (lowered_named o) o.typed (after_typed schema o is) truth) in
+      let here = over_schema op lowered schema schema built.lowered_schema (filter_schema registry schema (lowered_named o) o.typed (after_typed schema o is) truth) in
       record {
         well_formed = (ap is_some there, (built.well_formed, tt));
         source_schema = there;
-        schema = here;
+        lowered_schema = here;
         accepted = (ap is_some here, (built.accepted, tt));
-        strict = ((strict_over schema _ (lowered_named o ∷ []) built.schema (is.strict, tt), tt), (built.strict, tt));
+        strict = ((strict_over schema _ (lowered_named o ∷ []) built.lowered_schema (is.strict, tt), tt), (built.strict, tt));
         fits = λ tables f. fits_over tables op lowered refl (built.fits tables (fits_input tables before source f));
         same = λ tables f.
             let under = fits_input tables before source f in

@@ -54,7 +54,7 @@ pub built : IsBuilt [] query lowered_query (one_column int32)
 built = record {
   well_formed = (refl, ((refl, tt), tt));
   source_schema = refl;
-  schema = refl;
+  lowered_schema = refl;
   accepted = (refl, ((refl, tt), tt));
   strict = (((refl, tt), tt), ((tt, tt), tt));
   fits = λ tables fits. fits;

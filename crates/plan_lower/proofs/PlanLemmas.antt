@@ -123,7 +123,7 @@ module _ (registry : Registry) where
 
   pub stands_typed : (lowering : IRPlan) (schema : Columns) (plan : Plan) → StandsFor registry lowering.expr_arena lowering.lp_arena lowering.lp_top.0 schema plan → IsTyped registry plan lowering
   stands_typed lowering schema plan s =
-      record { tree = s.lowered; denotes = s.denotes; accepted = s.built.accepted; strict = s.built.strict; schema = s.built.source_schema ∙ sym s.built.schema }
+      record { tree = s.lowered; denotes = s.denotes; accepted = s.built.accepted; strict = s.built.strict; schema = s.built.source_schema ∙ sym s.built.lowered_schema }
 
   pub stands_sound : (lowering : IRPlan) (schema : Columns) (plan : Plan) → StandsFor registry lowering.expr_arena lowering.lp_arena lowering.lp_top.0 schema plan → IsSound registry plan lowering
   stands_sound lowering schema plan s tree d tables fits =

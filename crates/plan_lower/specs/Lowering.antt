@@ -26,7 +26,7 @@ use Rattle.plan_lower.specs.Predicates.{HasPredicate}
 pub record IsBuilt (registry : Registry) (source lowered : Plan) (schema : Columns) : Type 0 where
   pub well_formed : IsWellFormed registry source
   pub source_schema : schema_of registry source ≡ Some schema
-  pub schema : schema_of registry lowered ≡ Some schema
+  pub lowered_schema : schema_of registry lowered ≡ Some schema
   pub accepted : IsAccepted registry lowered
   pub strict : IsStrictPlan registry lowered
   pub fits : (tables : List Frame) → FitsPlan tables source → FitsPlan tables lowered

@@ -20,3 +20,38 @@ pub returns-in_ok-lowered-in-DataFrameScan-clause-ok :
 returns-in_ok-lowered-in-DataFrameScan-clause-ok t c =
     let lowered = c.in_ok-lowered-in-DataFrameScan.lowered in
     scan_stands (registry c.args.udfs.now) c.args.expr_arena.now c.lower_scan.new.lp_arena lowered.node.0 c.in-DataFrameScan.table (columns c.in-DataFrameScan.schema) (columns lowered.schema) (plan_tree c.args.plan) c.in_ok-lowered-in-DataFrameScan.ensures.ok c.in_ok-lowered-in-DataFrameScan.ensures.schema (schema_has_distinct_names c.in-DataFrameScan.schema) c.in_ok-lowered-in-DataFrameScan.ensures.known (ap plan_tree c.in-DataFrameScan.is)
+
+pub returns-in_err-lowered-in-Ok-clause-err : goal.returns-in_err-lowered-in-Ok-clause-err
+returns-in_err-lowered-in-Ok-clause-err t c =
+    let same = ap plan_tree c.in-Filter.is ∙ ap (λ p. source_filter (tree_of c.in-Filter.predicate) (plan_tree p)) (sym c.into_inner.ensures) in
+    passed_on c.from_residual-in_err-lowered-in-Ok.result c.in_err-lowered-in-Ok.field-0.0 _ c.from_residual-in_err-lowered-in-Ok.ensures.1 (filter_refused (registry c.args.udfs.now) c.lower.new.expr_arena c.lower.new.lp_arena c.in-Ok.input.node.0 (columns c.in-Ok.input.schema) (tree_of c.in-Filter.predicate) (plan_tree c.into_inner.result) (plan_tree c.args.plan) _ c.in-Ok.ensures.ok c.in_err-lowered-in-Ok.ensures.err same)
+
+pub returns-in_ok-lowered-in-Ok-clause-ok : goal.returns-in_ok-lowered-in-Ok-clause-ok
+returns-in_ok-lowered-in-Ok-clause-ok t c =
+    let same = ap plan_tree c.in-Filter.is ∙ ap (λ p. source_filter (tree_of c.in-Filter.predicate) (plan_tree p)) (sym c.into_inner.ensures) in
+    let lowered = c.in_ok-lowered-in-Ok.lowered in
+    filter_stands (registry c.args.udfs.now) c.lower.new.expr_arena c.lower_filter.new.expr_arena c.lower.new.lp_arena c.lower_filter.new.lp_arena c.in-Ok.input.node.0 lowered.node.0 (columns c.in-Ok.input.schema) (columns lowered.schema) (tree_of c.in-Filter.predicate) (plan_tree c.into_inner.result) (plan_tree c.args.plan) c.in_ok-lowered-in-Ok.ensures.kept c.in_ok-lowered-in-Ok.ensures.grows c.in-Ok.ensures.ok c.in_ok-lowered-in-Ok.ensures.ok c.in_ok-lowered-in-Ok.ensures.schema same
+
+pub returns-in_ok-lowered-in-Ok-clause-kept : goal.returns-in_ok-lowered-in-Ok-clause-kept
+returns-in_ok-lowered-in-Ok-clause-kept t c = λ n op inputs h. c.in_ok-lowered-in-Ok.ensures.kept n op inputs (c.in-Ok.ensures.kept n op inputs h)
+
+pub returns-in-Err-clause-err : goal.returns-in-Err-clause-err
+returns-in-Err-clause-err t c =
+    let same = ap plan_tree c.in-Filter.is ∙ ap (λ p. source_filter (tree_of c.in-Filter.predicate) (plan_tree p)) (sym c.into_inner.ensures) in
+    refused_below (registry c.args.udfs.now) (filter_op (named (tree_of c.in-Filter.predicate))) (plan_tree c.into_inner.result) (plan_tree c.args.plan) c.in-Err.error c.below.result c.in-Err.ensures.err c.below.ensures same
+
+pub returns-in_err-lowered-in-Ok-lower-clause-err : goal.returns-in_err-lowered-in-Ok-lower-clause-err
+returns-in_err-lowered-in-Ok-lower-clause-err t c =
+    let same = ap plan_tree c.in-Select.is ∙ ap (λ p. source_select (trees_of c.in-Select.expr) (plan_tree p)) (sym c.into_inner-in-Select.ensures) in
+    passed_on c.from_residual-in_err-lowered-in-Ok-lower.result c.in_err-lowered-in-Ok-lower.field-0.0 _ c.from_residual-in_err-lowered-in-Ok-lower.ensures.1 (select_refused (registry c.args.udfs.now) c.lower-in-Select.new.expr_arena c.lower-in-Select.new.lp_arena c.in-Ok-lower.input.node.0 (columns c.in-Ok-lower.input.schema) (trees_of c.in-Select.expr) (plan_tree c.into_inner-in-Select.result) (plan_tree c.args.plan) _ c.in-Ok-lower.ensures.ok c.in_err-lowered-in-Ok-lower.ensures.err same)
+
+pub returns-in_ok-lowered-in-Ok-lower-clause-ok : goal.returns-in_ok-lowered-in-Ok-lower-clause-ok
+returns-in_ok-lowered-in-Ok-lower-clause-ok t c =
+    let same = ap plan_tree c.in-Select.is ∙ ap (λ p. source_select (trees_of c.in-Select.expr) (plan_tree p)) (sym c.into_inner-in-Select.ensures) in
+    let lowered = c.in_ok-lowered-in-Ok-lower.lowered in
+    select_stands (registry c.args.udfs.now) c.lower-in-Select.new.expr_arena c.lower_select.new.expr_arena c.lower-in-Select.new.lp_arena c.lower_select.new.lp_arena c.in-Ok-lower.input.node.0 lowered.node.0 (columns c.in-Ok-lower.input.schema) (columns lowered.schema) (trees_of c.in-Select.expr) (plan_tree c.into_inner-in-Select.result) (plan_tree c.args.plan) c.in_ok-lowered-in-Ok-lower.ensures.kept c.in_ok-lowered-in-Ok-lower.ensures.grows c.in-Ok-lower.ensures.ok c.in_ok-lowered-in-Ok-lower.ensures.ok same
+
+pub returns-in-Err-lower-clause-err : goal.returns-in-Err-lower-clause-err
+returns-in-Err-lower-clause-err t c =
+    let same = ap plan_tree c.in-Select.is ∙ ap (λ p. source_select (trees_of c.in-Select.expr) (plan_tree p)) (sym c.into_inner-in-Select.ensures) in
+    refused_below (registry c.args.udfs.now) (select_op (map named (trees_of c.in-Select.expr)) None) (plan_tree c.into_inner-in-Select.result) (plan_tree c.args.plan) c.in-Err-lower.error c.below-in-Err-lower.result c.in-Err-lower.ensures.err c.below-in-Err-lower.ensures same

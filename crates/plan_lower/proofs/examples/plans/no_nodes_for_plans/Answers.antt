@@ -18,4 +18,4 @@ no_outputs (output ∷ outputs) trees each =
     cc
 
 pub returns-clause-select_of_no_column : goal.returns-clause-select_of_no_column
-returns-clause-select_of_no_column k = λ plans is. no_outputs is.outputs is.selects.trees_are is.selects.each
+returns-clause-select_of_no_column k = λ plans is. no_outputs is.has.outputs is.has.selects.trees_are is.has.selects.each

@@ -51,5 +51,5 @@ pub returns-clause-scan : goal.returns-clause-scan
 returns-clause-scan c = λ plans is. record {
   lowered = node (scan_op None []) no_more;
   denotes = scan_denotes [] plans 0 None [] (item_at plans _ 0 _ is refl);
-  built = record { well_formed = (refl, tt); source_schema = refl; schema = refl; accepted = (refl, tt); strict = (tt, tt); fits = λ tables fits. fits; same = λ tables fits. refl };
+  built = record { well_formed = (refl, tt); source_schema = refl; lowered_schema = refl; accepted = (refl, tt); strict = (tt, tt); fits = λ tables fits. fits; same = λ tables fits. refl };
 }
