@@ -96,7 +96,7 @@ pub scan_casts : (items : List AExpr) (table : Option ℕ) (schema : Columns) (k
 scan_casts items table schema kind d = sym (ap kind_casts d)
 
 pub select_casts : (items : List AExpr) (nodes : List (Named ℕ)) (count : ℕ) → ((es : List (Named Expression)) → DenoteNamed items nodes es → count ≡ outputs_casts es) → (kind : PlanKind Expression) → DenotesKind items (SelectKind nodes) kind → count ≡ kind_casts kind
-select_casts items nodes count all kind d = let here = all d.0 d.2 in let whole : kind_casts kind ≡ outputs_casts d.0 + 0 = ap kind_casts d.1 in omega (arith, here, whole)
+select_casts items nodes count all kind d = let here = all d.0 d.2 in let whole : kind_casts kind ≡ 0 + outputs_casts d.0 = ap kind_casts d.1 in omega (arith, here, whole)
 
 -- the only named node denotes an expression
 pub only_named : (items : List AExpr) (n : Named ℕ) (es : List (Named Expression)) → DenoteNamed items (n ∷ []) es → DenotesTree (HoldsExpression items) n.expression
@@ -107,7 +107,7 @@ only_named items n (e ∷ es) d = record { tree = e.expression; denotes = d.1 }
 pub filter_casts : (items : List AExpr) (n : Named ℕ) (at count : ℕ) → at ≡ n.expression → ((t : Expression) → Denotes (HoldsExpression items) at t → count ≡ expression_casts t) → (kind : PlanKind Expression) → DenotesKind items (FilterKind n) kind → count ≡ kind_casts kind
 filter_casts items n at count same one kind d =
     let here = one d.0.expression (subst (λ k. Denotes (HoldsExpression items) k d.0.expression) (sym same) d.2.1) in
-    let whole : kind_casts kind ≡ (expression_casts d.0.expression + 0) + 0 = ap kind_casts d.1 in
+    let whole : kind_casts kind ≡ 0 + (0 + expression_casts d.0.expression) = ap kind_casts d.1 in
     omega (arith, here, whole)
 
 -- an output that the list has is there, with its name

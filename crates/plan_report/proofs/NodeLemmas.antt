@@ -17,7 +17,8 @@ use Rattle.plan_arena.specs.declared.ir.IR.{IR}
 use Rattle.plan_arena.proofs.DenotationLemmas.{some_same, inputs_denote, denotes_one}
 use Rattle.plan_arena.proofs.ItemLemmas.{layer_op, layer_inputs, expression_laws, plan_laws, plan_got, expression_got, item_denotes, filter_item}
 use Rattle.plan_report.specs.Casts.{DenoteOutputs}
-use Rattle.plan_report.specs.Report.{line_text, shown, node_line, plan_lines}
+use Rattle.plan_report.specs.Report.{line_text, shown, node_line, plan_lines, casts_line, report_text}
+use Rattle.plan_dsl.specs.Counts.{cast_count}
 
 -- a kind over nodes denotes some kind
 pub record DenotesSome (expressions : List AExpr) (flat : PlanKind ℕ) : Type 0 where
@@ -133,3 +134,8 @@ module _ (expressions : List AExpr) (plans : List IR) (n : ℕ) (item : IR) (got
         let child = filter_item expressions plans item predicate m is registry t (item_denotes expressions plans n item got t d) accepted in
         let laws = plan_laws expressions plans in
         one_lines (filter_op predicate) m is lined text deeper line step t d (λ u e only. let same = denotes_one _ (HoldsPlan expressions plans) laws m u child.0 e child.1 in below u e (child_accepted t u accepted only) (ap (schema_of registry) same ∙ sym child.3 ∙ schema)) schema
+
+-- the lines and the number of casts are the report
+pub whole_report : (registry : Registry) (tree : Plan) (start path lined text : List ℕ) (count : ℕ) → start ≡ [] → path ≡ [] → lined ≡ start ++ plan_lines registry path tree → count ≡ cast_count tree → text ≡ lined ++ casts_line count → text ≡ report_text registry tree
+whole_report registry tree start path lined text count none top lines casts last =
+    last ∙ (λ i. (lines ∙ (λ j. none j ++ plan_lines registry (top j) tree)) i ++ casts_line (casts i))
