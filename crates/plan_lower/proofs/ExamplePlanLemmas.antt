@@ -15,7 +15,7 @@ use Rattle.plan_arena.proofs.DenotationLemmas.{denotes_one}
 use Rattle.plan_arena.proofs.ItemLemmas.{plan_laws}
 use Rattle.plan_lower.specs.Lowering.{IsBuilt}
 use Rattle.plan_infer.specs.Samples.{int32, one_column, two_columns}
-use Rattle.plan_coerce.specs.Samples.{strict_items}
+use Rattle.plan_coerce.specs.Samples.{strict_sum, strict_items}
 use Rattle.plan_lower.specs.Samples.{node_named, query, lowered_query, sum_layers}
 
 -- a node denotes one plan
