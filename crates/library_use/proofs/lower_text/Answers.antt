@@ -19,4 +19,4 @@ returns-clause-ok c = record {
 pub returns-in_err-plan-clause-err : goal.returns-in_err-plan-clause-err
 returns-in_err-plan-clause-err c =
     passed_on c.from_residual-in_err-plan.result (BrokenPlan c.in_err-plan.field-0.0) (RefusesText (registry c.args.udfs.now) c.args.text.now) c.from_residual-in_err-plan.ensures.1
-      (record { query = query_model c.in_ok-query.query; writes = c.in_ok-query.ensures.ok; refusal = c.in_err-plan.ensures.answers })
+    (record { query = query_model c.in_ok-query.query; writes = c.in_ok-query.ensures.ok; refusal = c.in_err-plan.ensures.answers })

@@ -149,7 +149,10 @@ fn lower_filter(
         HoldsExpression expr_arena.old n op inputs → HoldsExpression expr_arena.new n op inputs }
     ensures grows { Grows lp_arena.old lp_arena.new }
 {
-    let LoweredNode { node: input, schema } = input;
+    let LoweredNode {
+        node: input,
+        schema,
+    } = input;
     let predicate = lower_predicate(predicate, &schema, expr_arena, udfs)?;
     let node = lp_arena.add(IR::Filter { input, predicate })?;
     Ok(LoweredNode { node, schema })
