@@ -16,7 +16,7 @@ use Rattle.serde_json.specs.View.{view, items_view}
 use Rattle.serde_json.specs.declared.value.Value.{Value}
 use Rattle.plan_json.specs.Faults.{FaultKind, column_list, own_fault, shape_fault, unless}
 use Rattle.plan_json.specs.Looking.{both, two_items, all_of, some_of}
-use Rattle.plan_json.specs.Queries.{text_of, type_of, struct_of, fields_from, field_before, column_of, column_name, columns_of, columns_from}
+use Rattle.plan_json.specs.Leaves.{text_of, type_of, struct_of, fields_from, field_before, column_of, column_name, columns_of, columns_from}
 use Rattle.plan_json.proofs.ItemLemmas.{some_of-append, some_of-names}
 use Rattle.plan_json.proofs.LookingLemmas.{array-from_as_array}
 

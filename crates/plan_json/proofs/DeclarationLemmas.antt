@@ -13,7 +13,7 @@ use Rattle.serde_json.specs.declared.value.Value.{Value}
 use Rattle.serde_json.proofs.Views.{items_len-items_view}
 use Rattle.plan_json.specs.Faults.{table_list, own_fault, shape_fault, unless, declared_names}
 use Rattle.plan_json.specs.Looking.{both, two_members, all_of, some_of}
-use Rattle.plan_json.specs.Queries.{text_of, table_of, table_name, tables_of, tables_from, table_limit, columns_of}
+use Rattle.plan_json.specs.Leaves.{text_of, table_of, table_name, tables_of, tables_from, table_limit, columns_of}
 use Rattle.plan_json.specs.Tables.{Declared}
 use Rattle.plan_json.proofs.ItemLemmas.{some_of-names}
 

@@ -5,7 +5,7 @@ use Rattle.serde_json.specs.Data.{Data}
 use Rattle.plan_json.specs.Errors.{IsErrorOf, IsBadAtPointer, IsBelow, IsErrBelow, IsOwn, step_text}
 use Rattle.plan_json.specs.Faults.{FaultKind, BadShape, BadFloat, BadName, Form, a_text, Part, part, own_fault, parts_of, shape_fault, unless, name_fault, key, one_part, only_part}
 use Rattle.plan_types.specs.Schemas.{Name as Name'}
-use Rattle.plan_json.specs.Queries.{text_of}
+use Rattle.plan_json.specs.Leaves.{text_of}
 use Rattle.plan_json.specs.Looking.{only_member}
 use Rattle.plan_json.specs.declared.error.JsonError.{JsonError}
 use Rattle.plan_json.specs.declared.error.JsonError.TheVariants.{NotJson, Shape, Float, Name, NoMemory}

@@ -4,9 +4,9 @@ use Rattle.std.specs.Option.{option_map_or}
 use Rattle.serde_json.specs.Data.{Data, Num, unsigned, negative, float, number}
 use Rattle.serde_json.specs.Find.{as_i64, as_u64}
 use Rattle.plan_types.specs.Schemas.{Name}
-use Rattle.plan_json.specs.Faults.{FaultKind, BadShape, BadFloat, BadName, Form, a_query, table_list, column_list, field_list, a_column, a_type, a_unit, a_text, a_table, a_new_name, a_plan, a_scan, a_filter, a_selection, expression_list, an_expression, a_literal, a_number_text, a_typed_literal, a_counted_type, a_number_of, operands, an_operator, a_cast, a_mode, own_fault, shape_fault, unless}
+use Rattle.plan_json.specs.Faults.{FaultKind, BadShape, BadFloat, BadName, Form, a_query, table_list, column_list, field_list, a_column, a_type, a_unit, a_text, a_table, a_new_name, a_scan, a_literal, a_number_text, a_typed_literal, a_counted_type, a_number_of, an_operator, a_mode, keyed_form, list_of, items_of, own_fault, shape_fault, unless}
 use Rattle.plan_json.specs.Looking.{is_float}
-use Rattle.plan_json.specs.Queries.{text_of}
+use Rattle.plan_json.specs.Leaves.{text_of}
 
 pub no_integer : (n : Num) → is_float (number n) ≡ true → (as_i64 n ≡ None) × (as_u64 n ≡ None)
 no_integer (unsigned n) e = cc
@@ -50,21 +50,17 @@ own_named a_unit d kind e = of_test d _ kind e
 own_named a_text d kind e = of_test d _ kind e
 own_named (a_table before) d kind e = of_test d _ kind e
 own_named (a_new_name before) d kind e = of_name d _ (text_of d) kind e
-own_named (a_plan tables) d kind e = of_test d _ kind e
 own_named (a_scan tables) d kind e = of_name d _ (text_of d) kind e
-own_named (a_filter tables) d kind e = of_test d _ kind e
-own_named (a_selection tables) d kind e = of_test d _ kind e
-own_named expression_list d kind e = of_test d _ kind e
-own_named an_expression d kind e = of_test d _ kind e
 own_named a_literal d kind e = of_test d _ kind e
 own_named a_number_text d kind e = of_test d _ kind e
 own_named a_typed_literal d kind e = of_test d _ kind e
 own_named a_counted_type d kind e = of_test d _ kind e
 own_named (a_number_of type) d kind e = of_test d _ kind e
-own_named operands d kind e = of_test d _ kind e
 own_named an_operator d kind e = of_test d _ kind e
-own_named a_cast d kind e = of_test d _ kind e
 own_named a_mode d kind e = of_test d _ kind e
+own_named (keyed_form names which) d kind e = of_test d _ kind e
+own_named (list_of names a) d kind e = of_test d _ kind e
+own_named (items_of names ps) d kind e = of_test d _ kind e
 
 pub float_fault : (form : Form) (d : Data) → own_fault form d ≡ Some BadFloat → is_float d ≡ true
 float_fault form d e = go (own_named form d BadFloat e)

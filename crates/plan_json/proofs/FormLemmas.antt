@@ -1,56 +1,30 @@
--- The form that an only key names.
-use Rattle.std.proofs.Common.{◌≡◌, ℕ, List, Bool, true, false, cond, Some, None, codes, option_map, bytes_eq, refl, ap, ◌∙◌}
+-- What is read by the table of forms.
+use Rattle.std.proofs.Common.{◌≡◌, ℕ, suc, ◌+◌, ◌<◌, List, [], ◌∷◌, ◌++◌, length, get_or, take, map, Bool, true, false, cond, ◌&&◌, Option, Some, None, option_map, option_and_then, bytes_eq, refl, sym, ap, subst, ◌∙◌, arith}
+use Rattle.std.proofs.lemmas.List.{take_more}
 use Rattle.std.proofs.lemmas.Slice.Eq.{bytes_eq-Decides}
-use Rattle.serde_json.specs.Data.{Data, object, member, no_members}
 use Rattle.plan_dsl.specs.Ops.{Expression}
-use Rattle.plan_dsl.specs.Plans.{Plan}
-use Rattle.plan_dsl.specs.declared.operator.Operator.{Operator}
-use Rattle.plan_types.specs.Schemas.{Name}
-use Rattle.plan_json.specs.Faults.{expression_form, plan_form}
-use Rattle.plan_json.specs.Looking.{both, only_member, two_items, three_items}
-use Rattle.plan_json.specs.Queries.{expression_of, literal_of, literal_expression, number_text_of, typed_of, operator_of, binary_of, binary_expression, cast_of, columns_of, plan_of, filter_of, select_of, expressions_of, empty_plan, filter_plan, select_plan}
+use Rattle.serde_json.specs.Data.{Data, Items, array, object, no_items, item, member, no_members}
+use Rattle.serde_json.specs.View.{view, items_view}
+use Rattle.serde_json.specs.declared.value.Value.{Value}
+use Rattle.plan_json.specs.Errors.{escaped}
+use Rattle.plan_json.specs.Forms.{Asked, a_form, leaf, many, Places, single, listed, Read, name_read, literal_read, operator_read, type_read, mode_read, table_read, columns_read, expression_read, plan_read, many_read, reads_of, expressions_in, expression_rows, plan_rows, row_named, key_named, asks, says, expression_says, plan_says, fits, all_fit, asked_in, each_fits, Fits, AllFit}
+use Rattle.plan_json.specs.Leaves.{text_of, literal_of, number_text_of, typed_of, operator_of, type_of, mode_of, table_at, columns_of}
+use Rattle.plan_json.specs.Looking.{both, only_member, all_of}
+use Rattle.plan_json.specs.Queries.{leaf_of, front, read_as, each_as, these_as, list_as, places_as}
 use Rattle.plan_json.specs.Tables.{Declared}
-use Rattle.plan_json.proofs.LookingLemmas.{object-from_only_member, array-from_two_items, array-from_three_items}
+use Rattle.plan_json.specs.declared.forms.Kind.{Kind}
+use Rattle.plan_json.specs.declared.forms.Kind.TheVariants as kinds
+use Rattle.plan_json.specs.declared.forms.Key.{Key}
+use Rattle.plan_json.specs.declared.forms.Key.TheVariants as keys
+use Rattle.plan_json.specs.declared.forms.ExpressionKey.{ExpressionKey}
+use Rattle.plan_json.specs.declared.forms.PlanKey.{PlanKey}
+use Rattle.plan_json.specs.declared.forms.Leaf.{Leaf}
+use Rattle.plan_json.specs.declared.forms.Leaf.TheVariants as leaves
+use Rattle.plan_json.proofs.LookingLemmas.{object-from_only_member}
 
 -- what a value of one key reads to
 pub at_word : {A : Type 0} (read : Data → A) (d : Data) (word literal : List ℕ) (value : Data) → Some (word, value) ≡ only_member d → word ≡ literal → read d ≡ read (object (member literal value no_members))
 at_word read d word literal value is same = ap read (object-from_only_member d word value is) ∙ ap (λ w. read (object (member w value no_members))) same
-
-pub expression_of-lit : (d : Data) (word : List ℕ) (value : Data) → Some (word, value) ≡ only_member d → word ≡ codes "lit" → expression_of d ≡ option_map literal_expression (literal_of value)
-expression_of-lit d word value is same = at_word expression_of d word (codes "lit") value is same
-
-pub expression_of-int : (d : Data) (word : List ℕ) (value : Data) → Some (word, value) ≡ only_member d → word ≡ codes "int" → expression_of d ≡ option_map literal_expression (number_text_of value)
-expression_of-int d word value is same = at_word expression_of d word (codes "int") value is same
-
-pub expression_of-typed : (d : Data) (word : List ℕ) (value : Data) → Some (word, value) ≡ only_member d → word ≡ codes "typed" → expression_of d ≡ option_map literal_expression (typed_of value)
-expression_of-typed d word value is same = at_word expression_of d word (codes "typed") value is same
-
-pub expression_of-bin : (d : Data) (word : List ℕ) (value : Data) → Some (word, value) ≡ only_member d → word ≡ codes "bin" → expression_of d ≡ binary_of value
-expression_of-bin d word value is same = at_word expression_of d word (codes "bin") value is same
-
-pub expression_of-cast : (d : Data) (word : List ℕ) (value : Data) → Some (word, value) ≡ only_member d → word ≡ codes "cast" → expression_of d ≡ cast_of value
-expression_of-cast d word value is same = at_word expression_of d word (codes "cast") value is same
-
-pub binary_of-parts : (d operator left right : Data) (op : Operator) (first second : Expression) → Some (operator, left, right) ≡ three_items d → operator_of operator ≡ Some op → expression_of left ≡ Some first → expression_of right ≡ Some second → binary_of d ≡ binary_expression (Some op) (Some first) (Some second)
-binary_of-parts d operator left right op first second is named told_first told_second =
-    ap binary_of (array-from_three_items d operator left right is) ∙ ap (λ o. binary_expression o (expression_of left) (expression_of right)) named ∙ ap (λ o. binary_expression (Some op) o (expression_of right)) told_first ∙ ap (binary_expression (Some op) (Some first)) told_second
-
-pub plan_of-empty : (tables : Declared) (d : Data) (word : List ℕ) (value : Data) → Some (word, value) ≡ only_member d → word ≡ codes "empty" → plan_of tables d ≡ option_map empty_plan (columns_of value)
-plan_of-empty tables d word value is same = at_word (plan_of tables) d word (codes "empty") value is same
-
-pub plan_of-filter : (tables : Declared) (d : Data) (word : List ℕ) (value : Data) → Some (word, value) ≡ only_member d → word ≡ codes "filter" → plan_of tables d ≡ filter_of tables value
-plan_of-filter tables d word value is same = at_word (plan_of tables) d word (codes "filter") value is same
-
-pub plan_of-select : (tables : Declared) (d : Data) (word : List ℕ) (value : Data) → Some (word, value) ≡ only_member d → word ≡ codes "select" → plan_of tables d ≡ select_of tables value
-plan_of-select tables d word value is same = at_word (plan_of tables) d word (codes "select") value is same
-
-pub filter_of-parts : (tables : Declared) (d input predicate : Data) (plan : Plan) (tree : Expression) → Some (input, predicate) ≡ two_items d → plan_of tables input ≡ Some plan → expression_of predicate ≡ Some tree → filter_of tables d ≡ Some (filter_plan (plan, tree))
-filter_of-parts tables d input predicate plan tree is below told =
-    ap (filter_of tables) (array-from_two_items d input predicate is) ∙ ap (λ o. option_map filter_plan (both o (expression_of predicate))) below ∙ ap (λ o. option_map filter_plan (both (Some plan) o)) told
-
-pub select_of-parts : (tables : Declared) (d input expressions : Data) (plan : Plan) (trees : List Expression) → Some (input, expressions) ≡ two_items d → plan_of tables input ≡ Some plan → expressions_of expressions ≡ Some trees → select_of tables d ≡ Some (select_plan (plan, trees))
-select_of-parts tables d input expressions plan trees is below listed =
-    ap (select_of tables) (array-from_two_items d input expressions is) ∙ ap (λ o. option_map select_plan (both o (expressions_of expressions))) below ∙ ap (λ o. option_map select_plan (both (Some plan) o)) listed
 
 -- ---- a key that names no form
 
@@ -61,10 +35,164 @@ other_word word literal x y other = go (bytes_eq word literal) (bytes_eq-Decides
     go true same = absurd (other (same refl))
     go false same = refl
 
-pub expression_form-none : (word : List ℕ) → (word ≡ codes "col" → ⊥) → (word ≡ codes "lit" → ⊥) → (word ≡ codes "int" → ⊥) → (word ≡ codes "typed" → ⊥) → (word ≡ codes "bin" → ⊥) → (word ≡ codes "cast" → ⊥) → expression_form word ≡ None
-expression_form-none word col lit int typed bin cast =
-    other_word word (codes "col") _ _ col ∙ other_word word (codes "lit") _ _ lit ∙ other_word word (codes "int") _ _ int ∙ other_word word (codes "typed") _ _ typed ∙ other_word word (codes "bin") _ _ bin ∙ other_word word (codes "cast") _ _ cast
+-- ---- keys need no escape in a pointer
 
-pub plan_form-none : (tables : List Name) (word : List ℕ) → (word ≡ codes "scan" → ⊥) → (word ≡ codes "empty" → ⊥) → (word ≡ codes "filter" → ⊥) → (word ≡ codes "select" → ⊥) → plan_form tables word ≡ None
-plan_form-none tables word scan empty filter select =
-    other_word word (codes "scan") _ _ scan ∙ other_word word (codes "empty") _ _ empty ∙ other_word word (codes "filter") _ _ filter ∙ other_word word (codes "select") _ _ select
+abbrev all_plain : {K : Type 0} → List (List ℕ × K) → Bool
+all_plain [] = true
+all_plain (row ∷ rows) = bytes_eq (escaped row.0) row.0 && all_plain rows
+
+named_plain : {K : Type 0} (rows : List (List ℕ × K)) (word : List ℕ) (row : List ℕ × K) → all_plain rows ≡ true → Some row ≡ row_named rows word → escaped row.0 ≡ row.0
+named_plain [] word row plain is = cc
+named_plain {K} (first ∷ rows) word row plain is =
+    go (bytes_eq (escaped first.0) first.0) (bytes_eq-Decides (escaped first.0) first.0).0 (bytes_eq first.0 word) (λ p e. named_plain rows word row p e) plain is
+  where
+    go : (b : Bool) → (b ≡ true → escaped first.0 ≡ first.0) → (here : Bool) → (all_plain rows ≡ true → Some row ≡ row_named rows word → escaped row.0 ≡ row.0)
+        → (b && all_plain rows) ≡ true → Some row ≡ cond here (Some first) (row_named rows word) → escaped row.0 ≡ row.0
+    go false same here later p e = cc
+    go true same true later p e =
+        let is_first : ◌≡◌ {A = List ℕ × K} first row = cc in
+        subst (λ (x : List ℕ × K). escaped x.0 ≡ x.0) is_first (same refl)
+    go true same false later p e = later p e
+
+pub expression_plain : (word : List ℕ) (row : List ℕ × ExpressionKey) → Some row ≡ row_named expression_rows word → escaped row.0 ≡ row.0
+expression_plain word row is = named_plain expression_rows word row refl is
+
+pub plan_plain : (word : List ℕ) (row : List ℕ × PlanKey) → Some row ≡ row_named plan_rows word → escaped row.0 ≡ row.0
+plan_plain word row is = named_plain plan_rows word row refl is
+
+-- ---- what is read of an item fits what is asked
+
+image : {A B : Type 0} (f : A → B) (o : Option A) (y : B) → option_map f o ≡ Some y → (x : A) × (o ≡ Some x) × (f x ≡ y)
+image f None y e = cc
+image f (Some x) y e = (x, refl, cc)
+
+image_then : {A B : Type 0} (f : A → Option B) (o : Option A) (y : B) → option_and_then f o ≡ Some y → (x : A) × (o ≡ Some x) × (f x ≡ Some y)
+image_then f None y e = cc
+image_then f (Some x) y e = (x, refl, e)
+
+pair_of : {A B : Type 0} (a : Option A) (b : Option B) (p : A × B) → both a b ≡ Some p → (x : A) × (y : B) × (a ≡ Some x) × (b ≡ Some y) × (◌≡◌ {A = A × B} (x, y) p)
+pair_of None b p e = cc
+pair_of (Some x) None p e = cc
+pair_of (Some x) (Some y) p e = (x, y, refl, refl, cc)
+
+-- the first of a list that is read, and the others
+opened : (first : Option Read) (rest : Option (List Read)) (rs : List Read) → front first rest ≡ Some rs → (x : Read) × (xs : List Read) × (first ≡ Some x) × (rest ≡ Some xs) × (x ∷ xs ≡ rs)
+opened None rest rs e = cc
+opened (Some x) None rs e = cc
+opened (Some x) (Some xs) rs e = (x, xs, refl, refl, cc)
+
+leaf_fits : (tables : Declared) (which : Leaf) (d : Data) (r : Read) → leaf_of tables which d ≡ Some r → fits (leaf which) r ≡ true
+leaf_fits tables leaves.Name d r e = let x = image name_read (text_of d) r e in ap (fits (leaf leaves.Name)) (sym x.2)
+leaf_fits tables leaves.Value d r e = let x = image literal_read (literal_of d) r e in ap (fits (leaf leaves.Value)) (sym x.2)
+leaf_fits tables leaves.Digits d r e = let x = image literal_read (number_text_of d) r e in ap (fits (leaf leaves.Digits)) (sym x.2)
+leaf_fits tables leaves.Typed d r e = let x = image literal_read (typed_of d) r e in ap (fits (leaf leaves.Typed)) (sym x.2)
+leaf_fits tables leaves.Operator d r e = let x = image operator_read (operator_of d) r e in ap (fits (leaf leaves.Operator)) (sym x.2)
+leaf_fits tables leaves.Dtype d r e = let x = image type_read (type_of d) r e in ap (fits (leaf leaves.Dtype)) (sym x.2)
+leaf_fits tables leaves.Mode d r e = let x = image mode_read (mode_of d) r e in ap (fits (leaf leaves.Mode)) (sym x.2)
+leaf_fits tables leaves.Table d r e = let x = image (λ table. table_read table.0 table.1) (option_and_then (table_at tables) (text_of d)) r e in ap (fits (leaf leaves.Table)) (sym x.2)
+leaf_fits tables leaves.Columns d r e = let x = image columns_read (columns_of d) r e in ap (fits (leaf leaves.Columns)) (sym x.2)
+
+-- what a key of a kind says is of that kind
+says_fits : (kind : Kind) (word : List ℕ) (row : List ℕ × Key) (args : List Read) (r : Read) → key_named kind word ≡ Some row → says row.1 args ≡ Some r → fits (a_form kind) r ≡ true
+says_fits kinds.Expression word row args r named said =
+    let found = image (λ (x : List ℕ × ExpressionKey). (x.0, keys.Expression x.1)) (row_named expression_rows word) row named in
+    let tree = image expression_read (expression_says found.0.1 args) r (ap (λ (x : List ℕ × Key). says x.1 args) found.2 ∙ said) in
+    ap (fits (a_form kinds.Expression)) (sym tree.2)
+says_fits kinds.Plan word row args r named said =
+    let found = image (λ (x : List ℕ × PlanKey). (x.0, keys.Plan x.1)) (row_named plan_rows word) row named in
+    let tree = image plan_read (plan_says found.0.1 args) r (ap (λ (x : List ℕ × Key). says x.1 args) found.2 ∙ said) in
+    ap (fits (a_form kinds.Plan)) (sym tree.2)
+
+and_both : (a b : Bool) → a ≡ true → b ≡ true → (a && b) ≡ true
+and_both a b first second = cc
+
+mutual
+  read_fits : (tables : Declared) (a : Asked) (d : Data) (r : Read) → read_as tables a d ≡ Some r → fits a r ≡ true
+  read_fits tables (a_form kind) (object (member word value no_members)) r e =
+      let row = image_then (λ row. option_and_then (says row.1) (places_as tables (asks row.1) value)) (key_named kind word) r e in
+      let args = image_then (says row.0.1) (places_as tables (asks row.0.1) value) r row.2 in
+      says_fits kind word row.0 args.0 r row.1 args.2
+  read_fits tables (leaf which) d r e = leaf_fits tables which d r e
+  read_fits tables (many a) (array ds) r e =
+      let rs = image (λ xs. many_read (reads_of xs)) (each_as tables a ds) r e in
+      subst (λ x. fits (many a) x ≡ true) rs.2 (each_read_fits tables a ds rs.0 rs.1)
+  read_fits tables _ _ r e = cc
+
+  each_read_fits : (tables : Declared) (a : Asked) (ds : Items) (rs : List Read) → each_as tables a ds ≡ Some rs → all_fit a (reads_of rs) ≡ true
+  each_read_fits tables a no_items rs e = let none : [] ≡ rs = cc in ap (λ l. all_fit a (reads_of l)) (sym none)
+  each_read_fits tables a (item d ds) rs e =
+      let parts = opened (read_as tables a d) (each_as tables a ds) rs e in
+      subst (λ l. all_fit a (reads_of l) ≡ true) parts.4 (and_both _ _ (read_fits tables a d parts.0 parts.2) (each_read_fits tables a ds parts.1 parts.3))
+
+pub these_fit : (tables : Declared) (ps : List Asked) (ds : Items) (rs : List Read) → these_as tables ps ds ≡ Some rs → AllFit ps rs
+these_fit tables [] no_items rs e = let none : [] ≡ rs = cc in subst (AllFit []) none (record { count = refl; each = refl })
+these_fit tables (a ∷ ps) (item d ds) rs e =
+    let parts = opened (read_as tables a d) (these_as tables ps ds) rs e in
+    let rest = these_fit tables ps ds parts.1 parts.3 in
+    subst (AllFit (a ∷ ps)) parts.4 (record { count = ap suc rest.count; each = and_both _ _ (read_fits tables a d parts.0 parts.2) rest.each })
+these_fit tables _ _ rs e = cc
+
+list_fit : (tables : Declared) (ps : List Asked) (d : Data) (rs : List Read) → list_as tables ps d ≡ Some rs → AllFit ps rs
+list_fit tables ps (array ds) rs e = these_fit tables ps ds rs e
+list_fit tables ps _ rs e = cc
+
+pub places_fit : (tables : Declared) (ps : Places) (d : Data) (rs : List Read) → places_as tables ps d ≡ Some rs → AllFit (asked_in ps) rs
+places_fit tables (single a) d rs e =
+    let r = image (λ r. r ∷ []) (read_as tables a d) rs e in
+    subst (AllFit (a ∷ [])) r.2 (record { count = refl; each = and_both _ _ (read_fits tables a d r.0 r.1) refl })
+places_fit tables (listed ps) d rs e = list_fit tables ps d rs e
+
+pub plan_fits : (tables : Declared) (kind : Kind) (d : Data) (r : Read) → read_as tables (a_form kind) d ≡ Some r → Fits (a_form kind) r
+plan_fits tables kind d r e = record { fit = read_fits tables (a_form kind) d r e }
+
+-- the first of some that fit, and the others
+pub first_fits : (a : Asked) (ps : List Asked) (r : Read) (rs : List Read) → AllFit (a ∷ ps) (r ∷ rs) → Fits a r
+first_fits a ps r rs h = record { fit = go (fits a r) h.each }
+  where
+    go : (b : Bool) → (b && each_fits ps rs) ≡ true → b ≡ true
+    go true e = refl
+    go false e = cc
+
+pub others_fit : (a : Asked) (ps : List Asked) (r : Read) (rs : List Read) → AllFit (a ∷ ps) (r ∷ rs) → AllFit ps rs
+others_fit a ps r rs h = record { count = omega (arith, h.count); each = go (fits a r) h.each }
+  where
+    go : (b : Bool) → (b && each_fits ps rs) ≡ true → each_fits ps rs ≡ true
+    go true e = e
+    go false e = cc
+
+-- ---- a form, by its key
+
+pub form_read : (tables : Declared) (kind : Kind) (d : Data) (word : List ℕ) (value : Data) (row : List ℕ × Key) (args : List Read) (r : Read) → Some (word, value) ≡ only_member d → Some row ≡ key_named kind word → places_as tables (asks row.1) value ≡ Some args → says row.1 args ≡ Some r → read_as tables (a_form kind) d ≡ Some r
+form_read tables kind d word value row args r is named read said =
+    ap (read_as tables (a_form kind)) (object-from_only_member d word value is)
+    ∙ ap (option_and_then (λ x. option_and_then (says x.1) (places_as tables (asks x.1) value))) (sym named)
+    ∙ ap (option_and_then (says row.1)) read ∙ said
+
+-- ---- lists
+
+pub each_as-all_of : (tables : Declared) (a : Asked) (ds : Items) → each_as tables a ds ≡ all_of (read_as tables a) ds
+each_as-all_of tables a no_items = refl
+each_as-all_of tables a (item d ds) = ap (front (read_as tables a d)) (each_as-all_of tables a ds)
+
+these_push : (tables : Declared) (ps : List Asked) (a : Asked) (vs : List Value) (v : Value) (xs : List Read) (x : Read) → these_as tables ps (items_view vs) ≡ Some xs → read_as tables a (view v) ≡ Some x → these_as tables (ps ++ a ∷ []) (items_view (vs ++ v ∷ [])) ≡ Some (xs ++ x ∷ [])
+these_push tables [] a [] v xs x before now =
+    let none : [] ≡ xs = cc in
+    rw now (ap (λ l. Some (l ++ x ∷ [])) none)
+these_push tables [] a (w ∷ ws) v xs x before now = cc
+these_push tables (b ∷ ps) a [] v xs x before now = cc
+these_push tables (b ∷ ps) a (w ∷ ws) v xs x before now =
+    let parts = opened (read_as tables b (view w)) (these_as tables ps (items_view ws)) xs before in
+    let later = these_push tables ps a ws v parts.1 x parts.3 now in
+    ap (λ o. front o (these_as tables (ps ++ a ∷ []) (items_view (ws ++ v ∷ [])))) parts.2 ∙ ap (front (Some parts.0)) later ∙ ap (λ l. Some (l ++ x ∷ [])) parts.4
+
+-- one more item of a list is read
+pub these_more : (tables : Declared) (ps : List Asked) (a : Asked) (vs : List Value) (i : ℕ) (v : Value) (xs : List Read) (x : Read) → i < length vs → v ≡ get_or vs i v → i < length ps → a ≡ get_or ps i a → these_as tables (take i ps) (items_view (take i vs)) ≡ Some xs → read_as tables a (view v) ≡ Some x → these_as tables (take (i + 1) ps) (items_view (take (i + 1) vs)) ≡ Some (xs ++ x ∷ [])
+these_more tables ps a vs i v xs x within is inside at before now =
+    ap (λ l. these_as tables (take (i + 1) ps) (items_view l)) (take_more vs i v within ∙ ap (λ w. take i vs ++ w ∷ []) (sym is))
+    ∙ ap (λ l. these_as tables l (items_view (take i vs ++ v ∷ []))) (take_more ps i a inside ∙ ap (λ w. take i ps ++ w ∷ []) (sym at))
+    ∙ these_push tables (take i ps) a (take i vs) v xs x before now
+
+-- the expressions that were read
+pub expressions_read : (trees : List Expression) → expressions_in (reads_of (map expression_read trees)) ≡ trees
+expressions_read [] = refl
+expressions_read (tree ∷ trees) = ap (λ l. tree ∷ l) (expressions_read trees)

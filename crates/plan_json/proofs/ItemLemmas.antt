@@ -9,7 +9,7 @@ use Rattle.serde_json.specs.View.{view, items_view}
 use Rattle.serde_json.specs.declared.value.Value.{Value}
 use Rattle.plan_json.specs.Faults.{Form, a_table, part, number, each, each_table}
 use Rattle.plan_json.specs.Looking.{both, all_of, some_of}
-use Rattle.plan_json.specs.Queries.{table_name}
+use Rattle.plan_json.specs.Leaves.{table_name}
 
 -- ---- what all items read to
 

@@ -8,6 +8,7 @@ pub mod LiteralLemmas
 pub mod LookingLemmas
 pub mod NoFaults
 pub mod OnLiterals
+pub mod PlaceLemmas
 pub mod PlaceTests
 pub mod QueryLaws
 pub mod TableLemmas

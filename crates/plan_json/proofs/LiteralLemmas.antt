@@ -13,7 +13,7 @@ use Rattle.plan_dsl.specs.Ops.{LiteralOp}
 use Rattle.serde_json.specs.Data.{Data}
 use Rattle.plan_json.specs.Errors.{IsBadAtPointer, IsErrorOf}
 use Rattle.plan_json.specs.Faults.{FaultKind, BadShape, BadFloat, BadName, a_counted_type, a_number_of, a_type, has_type_shape, may_be_counted, number, number_part, own_fault, part, typed_parts, shape_fault, unless}
-use Rattle.plan_json.specs.Queries.{counted, counted_of, narrow, number_of, number_written, type_of, typed_op}
+use Rattle.plan_json.specs.Leaves.{counted, counted_of, narrow, number_of, number_written, type_of, typed_op}
 use Rattle.plan_json.specs.Looking.{whole_number}
 use Rattle.plan_json.specs.declared.error.JsonError.{JsonError}
 use Rattle.plan_json.specs.declared.error.JsonError.TheVariants.{NotJson, Shape, Float, Name, NoMemory}

@@ -6,7 +6,7 @@ use Rattle.serde_json.specs.Find.{get, get_member, as_str, as_array, as_object}
 use Rattle.serde_json.specs.View.{view, items_view, members_view}
 use Rattle.serde_json.specs.declared.value.Value.{Value}
 use Rattle.serde_json.proofs.Views.{members_len-members_view}
-use Rattle.plan_json.specs.Looking.{both, only_member, two_members, two_items, three_items}
+use Rattle.plan_json.specs.Looking.{both, only_member, two_members, two_items}
 
 abbrev pub Entry : Type 0
 Entry = String Global × Value
@@ -93,16 +93,6 @@ two_others (a ∷ b ∷ c ∷ vs) other = refl
 pub two_items-other : (d : Data) (vs : List Value) → Some (items_view vs) ≡ as_array d → (length vs ≡ 2 → ⊥) → None ≡ two_items d
 two_items-other d vs is other = two_others vs other ∙ ap two_items (sym (array-from_as_array d _ is))
 
-three_others : (vs : List Value) → (length vs ≡ 3 → ⊥) → None ≡ three_items (array (items_view vs))
-three_others [] other = refl
-three_others (a ∷ []) other = refl
-three_others (a ∷ b ∷ []) other = refl
-three_others (a ∷ b ∷ c ∷ []) other = absurd (other refl)
-three_others (a ∷ b ∷ c ∷ d ∷ vs) other = refl
-
-pub three_items-other : (d : Data) (vs : List Value) → Some (items_view vs) ≡ as_array d → (length vs ≡ 3 → ⊥) → None ≡ three_items d
-three_items-other d vs is other = three_others vs other ∙ ap three_items (sym (array-from_as_array d _ is))
-
 -- ---- parts are less deep
 
 pub object-from_only_member : (d : Data) (word : List ℕ) (value : Data) → Some (word, value) ≡ only_member d → d ≡ object (member word value no_members)
@@ -130,20 +120,6 @@ array-from_two_items (array (item x (item y no_items))) a b e =
     ap (λ q. array (item q.0 (item q.1 no_items))) (sym p)
 array-from_two_items (array (item x (item y (item z ds)))) a b e = cc
 
-pub array-from_three_items : (d a b c : Data) → Some (a, b, c) ≡ three_items d → d ≡ array (item a (item b (item c no_items)))
-array-from_three_items null a b c e = cc
-array-from_three_items (boolean x) a b c e = cc
-array-from_three_items (number n) a b c e = cc
-array-from_three_items (string s) a b c e = cc
-array-from_three_items (object ms) a b c e = cc
-array-from_three_items (array no_items) a b c e = cc
-array-from_three_items (array (item x no_items)) a b c e = cc
-array-from_three_items (array (item x (item y no_items))) a b c e = cc
-array-from_three_items (array (item x (item y (item z no_items)))) a b c e =
-    let p : ◌≡◌ {A = Data × Data × Data} (a, b, c) (x, y, z) = cc in
-    ap (λ q. array (item q.0 (item q.1 (item q.2 no_items)))) (sym p)
-array-from_three_items (array (item x (item y (item z (item w ds))))) a b c e = cc
-
 below_second : (n m : ℕ) → n < suc (max m (max n 0))
 below_second n m = omega arith
 
@@ -166,13 +142,3 @@ depth-item d vs i v is within at =
 
 pub depth-two_items : (d a b : Data) → Some (a, b) ≡ two_items d → depth a < depth d
 depth-two_items d a b e = subst (λ x. depth a < depth x) (sym (array-from_two_items d a b e)) (below_max (depth a) _ (depth a) (omega arith))
-
-below_third : (n m k : ℕ) → n < suc (max m (max k (max n 0)))
-below_third n m k = omega arith
-
-below_middle : (n m k : ℕ) → n < suc (max m (max n k))
-below_middle n m k = omega arith
-
-pub depth-three_items : (d a b c : Data) → Some (a, b, c) ≡ three_items d → (depth a < depth d) × (depth b < depth d) × (depth c < depth d)
-depth-three_items d a b c e =
-    subst (λ x. (depth a < depth x) × (depth b < depth x) × (depth c < depth x)) (sym (array-from_three_items d a b c e)) (below_max (depth a) _ (depth a) (omega arith), below_middle (depth b) (depth a) _, below_third (depth c) (depth a) (depth b))

@@ -1,21 +1,25 @@
 -- A value that is a query has no fault, along any path.
-use Rattle.std.proofs.Common.{◌≡◌, ℕ, zero, suc, ◌+◌, ◌<◌, List, [], ◌∷◌, ◌++◌, length, get_or, Contains, Option, Some, None, option_map, option_and_then, Bool, true, false, cond, not, ◌&&◌, ◌||◌, is_some, codes, nat_lt, bytes_eq, refl, sym, ap, subst, ◌∙◌, arith, append_assoc}
+use Rattle.std.proofs.Common.{◌≡◌, ℕ, zero, suc, ◌+◌, ◌<◌, ◌==◌, List, [], ◌∷◌, ◌++◌, length, get_or, Contains, Option, Some, None, option_map, option_and_then, Bool, true, false, cond, not, ◌&&◌, ◌||◌, is_some, codes, nat_lt, bytes_eq, refl, sym, ap, subst, ◌∙◌, arith, append_assoc}
+use Rattle.std.proofs.lemmas.Bool.{eq-eqb}
 use Rattle.std.specs.Option.{option_map_or}
 use Rattle.plan_types.specs.Schemas.{Name, Columns, names_of, is_among, repeats}
 use Rattle.plan_types.proofs.NameLemmas.{repeats-apart}
 use Rattle.plan_types.specs.Types.{Ty, is_counted, fields_from as fields_of_columns}
-use Rattle.plan_types.specs.declared.dtype.CastOptions.{CastOptions}
-use Rattle.plan_dsl.specs.Ops.{Expression}
-use Rattle.plan_dsl.specs.declared.operator.Operator.{Operator}
 use Rattle.serde_json.specs.Data.{Data, Items, string, array, object, no_items, item, member, no_members}
 use Rattle.serde_json.specs.Events.{items_len}
 use Rattle.serde_json.specs.Find.{as_array}
 use Rattle.plan_json.specs.Errors.{IsErrorOf}
 use Rattle.plan_json.specs.declared.error.JsonError.{JsonError}
 use Rattle.plan_json.specs.declared.error.JsonError.TheVariants.{NotJson, Shape, Float, Name as Name', NoMemory}
-use Rattle.plan_json.specs.Faults.{FaultKind, BadShape, BadFloat, BadName, key, number, Path, Form, a_query, table_list, column_list, field_list, a_column, a_type, a_unit, a_text, a_table, a_new_name, a_plan, a_scan, a_filter, a_selection, expression_list, an_expression, a_literal, a_number_text, a_typed_literal, a_counted_type, a_number_of, operands, an_operator, a_cast, a_mode, Part, part, own_fault, parts_of, has_type_shape, may_be_counted, shape_fault, unless, each, each_table, query_parts, table_parts, column_parts, number_part, typed_parts, one_part, declared_names, IsBadAt}
-use Rattle.plan_json.specs.Looking.{both, two_members, two_items, three_items, all_of, some_of}
-use Rattle.plan_json.specs.Queries.{QueryModel, text_of, type_named, type_of, datetime_type, duration_type, list_type, struct_type, struct_of, fields_from, unit_of, literal_of, literal_expression, number_text_of, counted, counted_of, number_of, typed_from, typed_of, operator_of, mode_of, column_of, column_name, columns_of, columns_from, table_of, table_name, table_limit, tables_of, tables_from, expression_of, binary_of, binary_expression, cast_of, cast_expression, expressions_of, column_expression, table_at, scan_plan, scan_of, empty_plan, filter_plan, select_plan, plan_of, filter_of, select_of, query_of, query_from, IsQueryOf}
+use Rattle.plan_json.specs.Faults.{FaultKind, BadShape, BadFloat, BadName, key, number, Path, Form, a_query, table_list, column_list, field_list, a_column, a_type, a_unit, a_text, a_table, a_new_name, a_plan, a_scan, a_literal, a_number_text, a_typed_literal, a_counted_type, a_number_of, an_operator, a_mode, keyed_form, list_of, items_of, asked_form, places_form, Part, part, own_fault, parts_of, has_type_shape, may_be_counted, shape_fault, list_fault, unless, each, each_in_turn, each_table, query_parts, table_parts, column_parts, number_part, typed_parts, one_part, declared_names, IsBadAt}
+use Rattle.plan_json.specs.Forms.{Asked, plan as plan_asked, a_form, leaf, many, Places, single, listed, Read, name_read, literal_read, operator_read, type_read, mode_read, table_read, columns_read, many_read, reads_of, asks, says, key_named}
+use Rattle.plan_json.specs.declared.forms.Kind.{Kind}
+use Rattle.plan_json.specs.declared.forms.Key.{Key}
+use Rattle.plan_json.specs.declared.forms.Leaf.TheVariants as leaves
+use Rattle.plan_json.specs.Looking.{both, two_members, two_items, all_of, some_of}
+use Rattle.plan_json.proofs.FormLemmas.{each_as-all_of}
+use Rattle.plan_json.specs.Leaves.{text_of, type_named, type_of, datetime_type, duration_type, list_type, struct_type, struct_of, fields_from, unit_of, literal_of, number_text_of, counted, counted_of, number_of, typed_from, typed_of, operator_of, mode_of, column_of, column_name, columns_of, columns_from, table_of, table_name, table_limit, tables_of, tables_from, table_at}
+use Rattle.plan_json.specs.Queries.{QueryModel, read_as, each_as, these_as, list_as, places_as, plan_in, plan_of, query_of, query_from, IsQueryOf}
 use Rattle.plan_json.specs.Tables.{Declared}
 use Rattle.plan_json.proofs.DeclarationLemmas.{table_name-read, declared_names-read}
 use Rattle.plan_json.proofs.ColumnLemmas.{column_of-parts, fields_as_columns}
@@ -39,18 +43,6 @@ paired None b p e = cc
 paired (Some x) None p e = cc
 paired (Some x) (Some y) p e = ((x, refl), (y, refl))
 
-tripled : (a : Option Operator) (b c : Option Expression) (tree : Expression) → binary_expression a b c ≡ Some tree → Given a × Given b × Given c
-tripled None b c tree e = cc
-tripled (Some x) None c tree e = cc
-tripled (Some x) (Some y) None tree e = cc
-tripled (Some x) (Some y) (Some z) tree e = ((x, refl), (y, refl), (z, refl))
-
-cast_given : (a : Option Expression) (b : Option Ty) (c : Option CastOptions) (tree : Expression) → cast_expression a b c ≡ Some tree → Given a × Given b × Given c
-cast_given None b c tree e = cc
-cast_given (Some x) None c tree e = cc
-cast_given (Some x) (Some y) None tree e = cc
-cast_given (Some x) (Some y) (Some z) tree e = ((x, refl), (y, refl), (z, refl))
-
 -- ---- a value that reads to something for its place
 
 abbrev IsWell : Form → Data → Type 0
@@ -64,21 +56,35 @@ IsWell a_unit d = Given (unit_of d)
 IsWell a_text d = Given (text_of d)
 IsWell (a_table before) d = (t : Name × Columns) × (table_of d ≡ Some t) × (is_among t.0 before ≡ false)
 IsWell (a_new_name before) d = (name : Name) × (text_of d ≡ Some name) × (is_among name before ≡ false)
-IsWell (a_plan names) d = (tables : Declared) × (names_of tables ≡ names) × Given (plan_of tables d)
-IsWell (a_scan names) d = (tables : Declared) × (names_of tables ≡ names) × Given (scan_of tables d)
-IsWell (a_filter names) d = (tables : Declared) × (names_of tables ≡ names) × Given (filter_of tables d)
-IsWell (a_selection names) d = (tables : Declared) × (names_of tables ≡ names) × Given (select_of tables d)
-IsWell expression_list d = Given (expressions_of d)
-IsWell an_expression d = Given (expression_of d)
+IsWell (a_scan names) d = (tables : Declared) × (names_of tables ≡ names) × Given (option_and_then (table_at tables) (text_of d))
 IsWell a_literal d = Given (literal_of d)
 IsWell a_number_text d = Given (number_text_of d)
 IsWell a_typed_literal d = Given (typed_of d)
 IsWell a_counted_type d = Given (counted_of d)
 IsWell (a_number_of type) d = Given (number_of type d)
-IsWell operands d = Given (binary_of d)
 IsWell an_operator d = Given (operator_of d)
-IsWell a_cast d = Given (cast_of d)
 IsWell a_mode d = Given (mode_of d)
+IsWell (keyed_form names kind) d = (tables : Declared) × (names_of tables ≡ names) × Given (read_as tables (a_form kind) d)
+IsWell (list_of names a) d = (tables : Declared) × (names_of tables ≡ names) × Given (read_as tables (many a) d)
+IsWell (items_of names ps) d = (tables : Declared) × (names_of tables ≡ names) × Given (list_as tables ps d)
+
+-- what is read at a place is well there
+asked_well : (names : List Name) (tables : Declared) → names_of tables ≡ names → (a : Asked) (d : Data) → Given (read_as tables a d) → IsWell (asked_form names a) d
+asked_well names tables same (a_form kind) d well = (tables, same, well)
+asked_well names tables same (leaf leaves.Name) d (r, e) = mapped name_read (text_of d) r e
+asked_well names tables same (leaf leaves.Value) d (r, e) = mapped literal_read (literal_of d) r e
+asked_well names tables same (leaf leaves.Digits) d (r, e) = mapped literal_read (number_text_of d) r e
+asked_well names tables same (leaf leaves.Typed) d (r, e) = mapped literal_read (typed_of d) r e
+asked_well names tables same (leaf leaves.Operator) d (r, e) = mapped operator_read (operator_of d) r e
+asked_well names tables same (leaf leaves.Dtype) d (r, e) = mapped type_read (type_of d) r e
+asked_well names tables same (leaf leaves.Mode) d (r, e) = mapped mode_read (mode_of d) r e
+asked_well names tables same (leaf leaves.Table) d (r, e) = (tables, same, mapped (λ table. table_read table.0 table.1) (option_and_then (table_at tables) (text_of d)) r e)
+asked_well names tables same (leaf leaves.Columns) d (r, e) = mapped columns_read (columns_of d) r e
+asked_well names tables same (many a) d well = (tables, same, well)
+
+places_well : (names : List Name) (tables : Declared) → names_of tables ≡ names → (ps : Places) (d : Data) → Given (places_as tables ps d) → IsWell (places_form names ps) d
+places_well names tables same (single a) d (rs, e) = asked_well names tables same a d (mapped (λ r. r ∷ []) (read_as tables a d) rs e)
+places_well names tables same (listed ps) d well = (tables, same, well)
 
 -- ---- such a value has no fault of its own
 
@@ -114,10 +120,9 @@ own_name : (fault : FaultKind) (test : Name → Bool) (o : Option Name) (name : 
 own_name fault test o name kind is passed bad =
     let none : None ≡ Some kind = ap (unless BadName) (sym passed) ∙ ap (λ x. option_map_or (λ n. unless BadName (test n)) x (Some fault)) (sym is) ∙ bad in cc
 
-known_name : (tables : Declared) (names : List Name) (d : Data) → names_of tables ≡ names → Given (scan_of tables d) → (name : Name) × (text_of d ≡ Some name) × (is_among name names ≡ true)
-known_name tables names d same (plan, e) =
-    let found = mapped scan_plan (option_and_then (table_at tables) (text_of d)) plan e in
-    let at = chained (table_at tables) (text_of d) found.0 found.1 in
+known_name : (tables : Declared) (names : List Name) (d : Data) → names_of tables ≡ names → Given (option_and_then (table_at tables) (text_of d)) → (name : Name) × (text_of d ≡ Some name) × (is_among name names ≡ true)
+known_name tables names d same (table, e) =
+    let at = chained (table_at tables) (text_of d) table e in
     (at.0, at.1, ap (is_among at.0) (sym same) ∙ sym (is_some-table_at tables at.0) ∙ ap is_some at.2)
 
 abbrev bad_member : (word : List ℕ) (value : Data) → Option Form → Option FaultKind
@@ -140,20 +145,6 @@ own_type (object (member word value no_members)) kind well bad =
     go false false false false (x, e) bad = cc
 own_type _ kind (x, e) bad = cc
 
-own_expression : (d : Data) (kind : FaultKind) → Given (expression_of d) → own_fault an_expression d ≡ Some kind → ⊥
-own_expression (object (member word value no_members)) kind well bad =
-    go (bytes_eq word (codes "col")) (bytes_eq word (codes "lit")) (bytes_eq word (codes "int")) (bytes_eq word (codes "typed")) (bytes_eq word (codes "bin")) (bytes_eq word (codes "cast")) well bad
-  where
-    go : (a l i t b c : Bool) → Given (cond a (option_map column_expression (text_of value)) (cond l (option_map literal_expression (literal_of value)) (cond i (option_map literal_expression (number_text_of value)) (cond t (option_map literal_expression (typed_of value)) (cond b (binary_of value) (cond c (cast_of value) None)))))) → bad_member word value (cond a (Some a_text) (cond l (Some a_literal) (cond i (Some a_number_text) (cond t (Some a_typed_literal) (cond b (Some operands) (cond c (Some a_cast) None)))))) ≡ Some kind → ⊥
-    go true l i t b c h bad = cc
-    go false true i t b c h bad = cc
-    go false false true t b c h bad = cc
-    go false false false true b c h bad = cc
-    go false false false false true c h bad = cc
-    go false false false false false true h bad = cc
-    go false false false false false false (x, e) bad = cc
-own_expression _ kind (x, e) bad = cc
-
 -- a type of integers or of time has no fault of its own
 own_counted : (d : Data) (kind : FaultKind) → Given (counted_of d) → own_fault a_counted_type d ≡ Some kind → ⊥
 own_counted d kind (t, e) bad =
@@ -171,67 +162,61 @@ own_counted d kind (t, e) bad =
     unsplit true b h = sym h
     unsplit false b h = refl
 
-own_plan : (names : List Name) (tables : Declared) (d : Data) (kind : FaultKind) → Given (plan_of tables d) → own_fault (a_plan names) d ≡ Some kind → ⊥
-own_plan names tables (object (member word value no_members)) kind well bad =
-    go (bytes_eq word (codes "scan")) (bytes_eq word (codes "empty")) (bytes_eq word (codes "filter")) (bytes_eq word (codes "select")) well bad
+own_keyed : (names : List Name) (tables : Declared) (which : Kind) (d : Data) (kind : FaultKind) → Given (read_as tables (a_form which) d) → own_fault (keyed_form names which) d ≡ Some kind → ⊥
+own_keyed names tables which (object (member word value no_members)) kind well bad = go (key_named which word) well bad
   where
-    go : (a b f c : Bool) → Given (cond a (scan_of tables value) (cond b (option_map empty_plan (columns_of value)) (cond f (filter_of tables value) (cond c (select_of tables value) None)))) → bad_member word value (cond a (Some (a_scan names)) (cond b (Some column_list) (cond f (Some (a_filter names)) (cond c (Some (a_selection names)) None)))) ≡ Some kind → ⊥
-    go true b f c h bad = cc
-    go false true f c h bad = cc
-    go false false true c h bad = cc
-    go false false false true h bad = cc
-    go false false false false (x, e) bad = cc
-own_plan names tables _ kind (x, e) bad = cc
+    go : (row : Option (List ℕ × Key)) → Given (option_and_then (λ r. option_and_then (says r.1) (places_as tables (asks r.1) value)) row) → bad_member word value (option_map (λ r. places_form names (asks r.1)) row) ≡ Some kind → ⊥
+    go None (x, e) bad = cc
+    go (Some row) given bad = cc
+own_keyed names tables which _ kind (x, e) bad = cc
 
-own_operands : (d : Data) (kind : FaultKind) → Given (binary_of d) → unless (shape_fault d) (is_some (three_items d)) ≡ Some kind → ⊥
-own_operands (array (item x (item y (item z no_items)))) kind well bad = cc
-own_operands _ kind (x, e) bad = cc
+own_many : (tables : Declared) (a : Asked) (d : Data) (kind : FaultKind) → Given (read_as tables (many a) d) → list_fault (λ items. true) d ≡ Some kind → ⊥
+own_many tables a (array ds) kind well bad = cc
+own_many tables a _ kind (x, e) bad = cc
 
-own_cast : (d : Data) (kind : FaultKind) → Given (cast_of d) → unless (shape_fault d) (is_some (three_items d)) ≡ Some kind → ⊥
-own_cast (array (item x (item y (item z no_items)))) kind well bad = cc
-own_cast _ kind (x, e) bad = cc
+these_count : (tables : Declared) (ps : List Asked) (ds : Items) (rs : List Read) → these_as tables ps ds ≡ Some rs → items_len ds ≡ length ps
+these_count tables [] no_items rs e = refl
+these_count tables (a ∷ ps) (item d ds) rs e =
+    let pair = mapped (λ (q : Read × List Read). q.0 ∷ q.1) (both (read_as tables a d) (these_as tables ps ds)) rs e in
+    let rest = (paired (read_as tables a d) (these_as tables ps ds) pair.0 pair.1).1 in
+    ap suc (these_count tables ps ds rest.0 rest.1)
+these_count tables _ _ rs e = cc
 
-own_filter : (tables : Declared) (d : Data) (kind : FaultKind) → Given (filter_of tables d) → unless (shape_fault d) (is_some (two_items d)) ≡ Some kind → ⊥
-own_filter tables (array (item x (item y no_items))) kind well bad = cc
-own_filter tables _ kind (x, e) bad = cc
-
-own_selection : (tables : Declared) (d : Data) (kind : FaultKind) → Given (select_of tables d) → unless (shape_fault d) (is_some (two_items d)) ≡ Some kind → ⊥
-own_selection tables (array (item x (item y no_items))) kind well bad = cc
-own_selection tables _ kind (x, e) bad = cc
+own_items : (tables : Declared) (ps : List Asked) (d : Data) (kind : FaultKind) → Given (list_as tables ps d) → list_fault (λ items. items_len items == length ps) d ≡ Some kind → ⊥
+own_items tables ps (array ds) kind (rs, e) bad =
+    let same = eq-eqb _ _ (these_count tables ps ds rs e) in
+    let none : None ≡ Some kind = ap (unless BadShape) (sym same) ∙ bad in cc
+own_items tables ps _ kind (x, e) bad = cc
 
 -- a list of fields is a list
-listed : (d : Data) → Given (struct_of d) → Given (option_and_then fields_from (as_array d))
-listed (array items) well = well
-listed _ (x, e) = cc
+fields_listed : (d : Data) → Given (struct_of d) → Given (option_and_then fields_from (as_array d))
+fields_listed (array items) well = well
+fields_listed _ (x, e) = cc
 
 own_none : (form : Form) (d : Data) (kind : FaultKind) → IsWell form d → own_fault form d ≡ Some kind → ⊥
 own_none a_query d kind well bad = there_first (shape_fault d) query_from (two_members (codes "tables") (codes "plan") d) kind well bad
 own_none table_list d kind well bad = own_list (shape_fault d) (λ items. nat_lt (items_len items) table_limit) tables_from few_enough (as_array d) kind well bad
 own_none column_list d kind well bad = own_list (shape_fault d) (λ items. not (repeats (some_of column_name items))) columns_from no_repeat (as_array d) kind well bad
-own_none field_list d kind well bad = own_list (shape_fault d) (λ items. true) fields_from (λ items h. refl) (as_array d) kind (listed d well) bad
+own_none field_list d kind well bad = own_list (shape_fault d) (λ items. true) fields_from (λ items h. refl) (as_array d) kind (fields_listed d well) bad
 own_none a_column d kind (c, e) bad = there_first (shape_fault d) _ (two_items d) kind (c, sym (column_of-parts d) ∙ e) bad
 own_none a_type d kind well bad = own_type d kind well bad
 own_none a_unit d kind well bad = there (shape_fault d) (unit_of d) kind well bad
 own_none a_text d kind well bad = there (shape_fault d) (text_of d) kind well bad
 own_none (a_table before) d kind (t, e, new) bad = there_first (shape_fault d) _ (two_members (codes "name") (codes "columns") d) kind (t, e) bad
 own_none (a_new_name before) d kind (name, e, new) bad = own_name (shape_fault d) (λ n. not (is_among n before)) (text_of d) name kind e (ap not new) bad
-own_none (a_plan names) d kind (tables, same, well) bad = own_plan names tables d kind well bad
 own_none (a_scan names) d kind (tables, same, well) bad =
     let known = known_name tables names d same well in
     own_name (shape_fault d) (λ n. is_among n names) (text_of d) known.0 kind known.1 known.2 bad
-own_none (a_filter names) d kind (tables, same, well) bad = own_filter tables d kind well bad
-own_none (a_selection names) d kind (tables, same, well) bad = own_selection tables d kind well bad
-own_none expression_list d kind well bad = own_list (shape_fault d) (λ items. true) (all_of expression_of) (λ items h. refl) (as_array d) kind well bad
-own_none an_expression d kind well bad = own_expression d kind well bad
 own_none a_literal d kind well bad = there (shape_fault d) (literal_of d) kind well bad
 own_none a_number_text d kind well bad = there (shape_fault d) (number_text_of d) kind well bad
 own_none a_typed_literal d kind well bad = there_first (shape_fault d) typed_from (two_items d) kind well bad
 own_none a_counted_type d kind well bad = own_counted d kind well bad
 own_none (a_number_of type) d kind well bad = there (shape_fault d) (number_of type d) kind well bad
-own_none operands d kind well bad = own_operands d kind well bad
 own_none an_operator d kind well bad = there (shape_fault d) (operator_of d) kind well bad
-own_none a_cast d kind well bad = own_cast d kind well bad
 own_none a_mode d kind well bad = there (shape_fault d) (mode_of d) kind well bad
+own_none (keyed_form names which) d kind (tables, same, well) bad = own_keyed names tables which d kind well bad
+own_none (list_of names a) d kind (tables, same, well) bad = own_many tables a d kind well bad
+own_none (items_of names ps) d kind (tables, same, well) bad = own_items tables ps d kind well bad
 
 -- ---- and each of its parts reads to something for its own place
 
@@ -248,10 +233,6 @@ one_of a p well (suc k, within, is) = absurd (omega arith)
 two_of : (a b p : Part) → WellPart a → WellPart b → Contains (a ∷ b ∷ []) p → WellPart p
 two_of a b p first second (zero, within, is) = subst WellPart is first
 two_of a b p first second (suc k, within, is) = one_of b p second (k, omega arith, is)
-
-three_of : (a b c p : Part) → WellPart a → WellPart b → WellPart c → Contains (a ∷ b ∷ c ∷ []) p → WellPart p
-three_of a b c p first second third (zero, within, is) = subst WellPart is first
-three_of a b c p first second third (suc k, within, is) = two_of b c p second third (k, omega arith, is)
 
 -- each item that reads to something is well
 each_of : {A : Type 0} (form : Form) (read : Data → Option A) (well : (d : Data) → Given (read d) → IsWell form d) (n : ℕ) (ds : Items) (xs : List A) (p : Part) → all_of read ds ≡ Some xs → Contains (each form n ds) p → WellPart p
@@ -312,9 +293,10 @@ parts_query : (d : Data) (p : Part) → Given (query_of d) → Contains (parts_o
 parts_query d p (q, e) here =
     let pair = chained query_from (two_members (codes "tables") (codes "plan") d) q e in
     let tables = chained (λ ts. option_map (λ tree. record { tables = ts; plan = tree }) (plan_of ts pair.0.1)) (tables_of pair.0.0) q pair.2 in
-    let plan = mapped (λ tree. record { tables = tables.0; plan = tree }) (plan_of tables.0 pair.0.1) q tables.2 in
+    let tree = mapped (λ tree. record { tables = tables.0; plan = tree }) (plan_of tables.0 pair.0.1) q tables.2 in
+    let plan = chained plan_in (read_as tables.0 plan_asked pair.0.1) tree.0 tree.1 in
     two_of (part (key (codes "tables")) table_list pair.0.0) (part (key (codes "plan")) (a_plan (declared_names pair.0.0)) pair.0.1) p
-    (tables.0, tables.1) (tables.0, sym (declared_names-read pair.0.0 tables.0 tables.1), plan)
+    (tables.0, tables.1) (tables.0, sym (declared_names-read pair.0.0 tables.0 tables.1), (plan.0, plan.1))
     (held query_parts _ pair.0 p pair.1 here)
 
 parts_tables : (d : Data) (p : Part) → Given (tables_of d) → Contains (parts_of table_list d) p → WellPart p
@@ -348,11 +330,6 @@ parts_fields (array items) p (fields, e) here =
     each_of a_column column_of (λ x h. h) 0 items columns.0 p columns.1 here
 parts_fields _ p (x, e) here = cc
 
-parts_expressions : (d : Data) (p : Part) → Given (expressions_of d) → Contains (parts_of expression_list d) p → WellPart p
-parts_expressions d p (es, e) here =
-    let items = chained (all_of expression_of) (as_array d) es e in
-    each_of an_expression expression_of (λ x h. h) 0 items.0 es p items.2 (held (each an_expression 0) _ items.0 p items.1 here)
-
 abbrev only : (word : List ℕ) (value : Data) → Option Form → List Part
 only word value form = one_part (option_map (λ f. part (key word) f value) form)
 
@@ -369,20 +346,6 @@ parts_type (object (member word value no_members)) p well here =
     go false false false false given h = none_of p h
 parts_type _ p (x, e) here = cc
 
-parts_expression : (d : Data) (p : Part) → Given (expression_of d) → Contains (parts_of an_expression d) p → WellPart p
-parts_expression (object (member word value no_members)) p well here =
-    go (bytes_eq word (codes "col")) (bytes_eq word (codes "lit")) (bytes_eq word (codes "int")) (bytes_eq word (codes "typed")) (bytes_eq word (codes "bin")) (bytes_eq word (codes "cast")) well here
-  where
-    go : (a l i t b c : Bool) → Given (cond a (option_map column_expression (text_of value)) (cond l (option_map literal_expression (literal_of value)) (cond i (option_map literal_expression (number_text_of value)) (cond t (option_map literal_expression (typed_of value)) (cond b (binary_of value) (cond c (cast_of value) None)))))) → Contains (only word value (cond a (Some a_text) (cond l (Some a_literal) (cond i (Some a_number_text) (cond t (Some a_typed_literal) (cond b (Some operands) (cond c (Some a_cast) None))))))) p → WellPart p
-    go true l i t b c (tree, e) h = one_of (part (key word) a_text value) p (mapped column_expression (text_of value) tree e) h
-    go false true i t b c (tree, e) h = one_of (part (key word) a_literal value) p (mapped literal_expression (literal_of value) tree e) h
-    go false false true t b c (tree, e) h = one_of (part (key word) a_number_text value) p (mapped literal_expression (number_text_of value) tree e) h
-    go false false false true b c (tree, e) h = one_of (part (key word) a_typed_literal value) p (mapped literal_expression (typed_of value) tree e) h
-    go false false false false true c given h = one_of (part (key word) operands value) p given h
-    go false false false false false true given h = one_of (part (key word) a_cast value) p given h
-    go false false false false false false given h = none_of p h
-parts_expression _ p (x, e) here = cc
-
 parts_typed : (d : Data) (p : Part) → Given (typed_of d) → Contains (parts_of a_typed_literal d) p → WellPart p
 parts_typed d p (op, e) here =
     let pair = chained typed_from (two_items d) op e in
@@ -394,43 +357,42 @@ parts_counted : (d : Data) (p : Part) → Given (counted_of d) → Contains (par
 parts_counted d p (t, e) here =
     let found = chained counted (type_of d) t e in parts_type d p (found.0, found.1) here
 
-parts_operands : (d : Data) (p : Part) → Given (binary_of d) → Contains (parts_of operands d) p → WellPart p
-parts_operands (array (item x (item y (item z no_items)))) p (tree, e) here =
-    let are = tripled (operator_of x) (expression_of y) (expression_of z) tree e in
-    three_of (part (number 0) an_operator x) (part (number 1) an_expression y) (part (number 2) an_expression z) p are.0 are.1 are.2 here
-parts_operands _ p (x, e) here = cc
-
-parts_cast : (d : Data) (p : Part) → Given (cast_of d) → Contains (parts_of a_cast d) p → WellPart p
-parts_cast (array (item x (item y (item z no_items)))) p (tree, e) here =
-    let are = cast_given (expression_of x) (type_of y) (mode_of z) tree e in
-    three_of (part (number 0) an_expression x) (part (number 1) a_type y) (part (number 2) a_mode z) p are.0 are.1 are.2 here
-parts_cast _ p (x, e) here = cc
-
-parts_plan : (names : List Name) (tables : Declared) (same : names_of tables ≡ names) (d : Data) (p : Part) → Given (plan_of tables d) → Contains (parts_of (a_plan names) d) p → WellPart p
-parts_plan names tables same (object (member word value no_members)) p well here =
-    go (bytes_eq word (codes "scan")) (bytes_eq word (codes "empty")) (bytes_eq word (codes "filter")) (bytes_eq word (codes "select")) well here
+parts_keyed : (names : List Name) (tables : Declared) (same : names_of tables ≡ names) (which : Kind) (d : Data) (p : Part) → Given (read_as tables (a_form which) d) → Contains (parts_of (keyed_form names which) d) p → WellPart p
+parts_keyed names tables same which (object (member word value no_members)) p well here = go (key_named which word) well here
   where
-    go : (a b f c : Bool) → Given (cond a (scan_of tables value) (cond b (option_map empty_plan (columns_of value)) (cond f (filter_of tables value) (cond c (select_of tables value) None)))) → Contains (only word value (cond a (Some (a_scan names)) (cond b (Some column_list) (cond f (Some (a_filter names)) (cond c (Some (a_selection names)) None))))) p → WellPart p
-    go true b f c given h = one_of (part (key word) (a_scan names) value) p (tables, same, given) h
-    go false true f c (plan, e) h = one_of (part (key word) column_list value) p (mapped empty_plan (columns_of value) plan e) h
-    go false false true c given h = one_of (part (key word) (a_filter names) value) p (tables, same, given) h
-    go false false false true given h = one_of (part (key word) (a_selection names) value) p (tables, same, given) h
-    go false false false false given h = none_of p h
-parts_plan names tables same _ p (x, e) here = cc
+    go : (row : Option (List ℕ × Key)) → Given (option_and_then (λ r. option_and_then (says r.1) (places_as tables (asks r.1) value)) row) → Contains (only word value (option_map (λ r. places_form names (asks r.1)) row)) p → WellPart p
+    go None given h = none_of p h
+    go (Some row) (r, e) h =
+        let args = chained (says row.1) (places_as tables (asks row.1) value) r e in
+        one_of (part (key word) (places_form names (asks row.1)) value) p (places_well names tables same (asks row.1) value (args.0, args.1)) h
+parts_keyed names tables same which _ p (x, e) here = cc
 
-parts_filter : (names : List Name) (tables : Declared) (same : names_of tables ≡ names) (d : Data) (p : Part) → Given (filter_of tables d) → Contains (parts_of (a_filter names) d) p → WellPart p
-parts_filter names tables same (array (item x (item y no_items))) p (plan, e) here =
-    let pair = mapped filter_plan (both (plan_of tables x) (expression_of y)) plan e in
-    let are = paired (plan_of tables x) (expression_of y) pair.0 pair.1 in
-    two_of (part (number 0) (a_plan names) x) (part (number 1) an_expression y) p (tables, same, are.0) are.1 here
-parts_filter names tables same _ p (x, e) here = cc
+parts_list : (names : List Name) (tables : Declared) (same : names_of tables ≡ names) (a : Asked) (d : Data) (p : Part) → Given (read_as tables (many a) d) → Contains (parts_of (list_of names a) d) p → WellPart p
+parts_list names tables same a (array ds) p (r, e) here =
+    let read = mapped (λ xs. many_read (reads_of xs)) (each_as tables a ds) r e in
+    each_of (asked_form names a) (read_as tables a) (asked_well names tables same a) 0 ds read.0 p (sym (each_as-all_of tables a ds) ∙ read.1) here
+parts_list names tables same a _ p (x, e) here = cc
 
-parts_selection : (names : List Name) (tables : Declared) (same : names_of tables ≡ names) (d : Data) (p : Part) → Given (select_of tables d) → Contains (parts_of (a_selection names) d) p → WellPart p
-parts_selection names tables same (array (item x (item y no_items))) p (plan, e) here =
-    let pair = mapped select_plan (both (plan_of tables x) (expressions_of y)) plan e in
-    let are = paired (plan_of tables x) (expressions_of y) pair.0 pair.1 in
-    two_of (part (number 0) (a_plan names) x) (part (number 1) expression_list y) p (tables, same, are.0) are.1 here
-parts_selection names tables same _ p (x, e) here = cc
+in_turn : (names : List Name) (tables : Declared) (same : names_of tables ≡ names) (n : ℕ) (ps : List Asked) (ds : Items) (rs : List Read) (p : Part) → these_as tables ps ds ≡ Some rs → Contains (each_in_turn names n ps ds) p → WellPart p
+in_turn names tables same n (a ∷ ps) (item d ds) rs p e (k, within, is) =
+    let pair = mapped (λ (q : Read × List Read). q.0 ∷ q.1) (both (read_as tables a d) (these_as tables ps ds)) rs e in
+    let parts = paired (read_as tables a d) (these_as tables ps ds) pair.0 pair.1 in
+    at k (asked_well names tables same a d parts.0) within is (λ j less there. in_turn names tables same (n + 1) ps ds parts.1.0 p parts.1.1 (j, less, there))
+  where
+    at : (k : ℕ) → IsWell (asked_form names a) d → k < length (each_in_turn names n (a ∷ ps) (item d ds)) → get_or (each_in_turn names n (a ∷ ps) (item d ds)) k p ≡ p
+        → ((j : ℕ) → j < length (each_in_turn names (n + 1) ps ds) → get_or (each_in_turn names (n + 1) ps ds) j p ≡ p → WellPart p) → WellPart p
+    at zero well within is later = subst WellPart is well
+    at (suc j) well within is later = later j (omega arith) is
+in_turn names tables same n _ _ rs p e here = none_of p here
+
+parts_items : (names : List Name) (tables : Declared) (same : names_of tables ≡ names) (ps : List Asked) (d : Data) (p : Part) → Given (list_as tables ps d) → Contains (parts_of (items_of names ps) d) p → WellPart p
+parts_items names tables same ps (array ds) p (rs, e) here =
+    go (items_len ds == length ps) here
+  where
+    go : (b : Bool) → Contains (cond b (each_in_turn names 0 ps ds) []) p → WellPart p
+    go true h = in_turn names tables same 0 ps ds rs p e h
+    go false h = none_of p h
+parts_items names tables same ps _ p (x, e) here = cc
 
 parts_well : (form : Form) (d : Data) (p : Part) → IsWell form d → Contains (parts_of form d) p → WellPart p
 parts_well a_query d p well here = parts_query d p well here
@@ -443,21 +405,17 @@ parts_well a_unit d p well here = none_of p here
 parts_well a_text d p well here = none_of p here
 parts_well (a_table before) d p well here = parts_table before d p well here
 parts_well (a_new_name before) d p well here = none_of p here
-parts_well (a_plan names) d p (tables, same, well) here = parts_plan names tables same d p well here
 parts_well (a_scan names) d p well here = none_of p here
-parts_well (a_filter names) d p (tables, same, well) here = parts_filter names tables same d p well here
-parts_well (a_selection names) d p (tables, same, well) here = parts_selection names tables same d p well here
-parts_well expression_list d p well here = parts_expressions d p well here
-parts_well an_expression d p well here = parts_expression d p well here
 parts_well a_literal d p well here = none_of p here
 parts_well a_number_text d p well here = none_of p here
 parts_well a_typed_literal d p well here = parts_typed d p well here
 parts_well a_counted_type d p well here = parts_counted d p well here
 parts_well (a_number_of type) d p well here = none_of p here
-parts_well operands d p well here = parts_operands d p well here
 parts_well an_operator d p well here = none_of p here
-parts_well a_cast d p well here = parts_cast d p well here
 parts_well a_mode d p well here = none_of p here
+parts_well (keyed_form names which) d p (tables, same, well) here = parts_keyed names tables same which d p well here
+parts_well (list_of names a) d p (tables, same, well) here = parts_list names tables same a d p well here
+parts_well (items_of names ps) d p (tables, same, well) here = parts_items names tables same ps d p well here
 
 -- ---- so it has no fault along any path
 

@@ -8,7 +8,7 @@ use Rattle.indexmap.proofs.MapLemmas.{some_index}
 use Rattle.plan_types.specs.Schemas.{Name, columns, same_name, names_of, is_among}
 use Rattle.plan_types.specs.declared.schema.Schema.{Schema}
 use Rattle.plan_json.specs.Looking.{both}
-use Rattle.plan_json.specs.Queries.{table_at}
+use Rattle.plan_json.specs.Leaves.{table_at}
 use Rattle.plan_json.specs.Tables.{Declared, table_entry}
 use Rattle.plan_json.proofs.LookingLemmas.{both-some, both-none_first}
 

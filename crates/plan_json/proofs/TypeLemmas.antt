@@ -4,7 +4,7 @@ use Rattle.serde_json.specs.Data.{Data, string}
 use Rattle.serde_json.specs.Find.{as_str}
 use Rattle.plan_json.specs.Faults.{a_type, own_fault, only_part, shape_fault, type_form, unless}
 use Rattle.plan_json.specs.Looking.{only_member}
-use Rattle.plan_json.specs.Queries.{datetime_type, duration_type, struct_type, struct_of, type_named, type_of, unit_of}
+use Rattle.plan_json.specs.Leaves.{datetime_type, duration_type, struct_type, struct_of, type_named, type_of, unit_of}
 use Rattle.plan_json.proofs.FaultLemmas.{only_part-none, only_part-no_member}
 use Rattle.plan_json.proofs.FormLemmas.{at_word, other_word}
 use Rattle.plan_json.proofs.LookingLemmas.{string-from_as_str}

@@ -1,7 +1,7 @@
 -- Faults of a value that is to be a query.
 -- A place in the value asks for a form. A value can break the form itself, and it asks for forms of
 -- its parts. So a fault stands at the end of a path of such parts.
-use Rattle.std.specs.Prelude.{◌≡◌, ℕ, ◌+◌, List, [], ◌∷◌, ◌++◌, Bool, true, false, not, ◌&&◌, ◌||◌, Option, Some, None, option_map, option_and_then, is_some, codes, nat_lt, Contains, if◌then◌else◌}
+use Rattle.std.specs.Prelude.{◌≡◌, ℕ, ◌+◌, List, [], ◌∷◌, ◌++◌, ◌==◌, length, Bool, true, false, not, ◌&&◌, ◌||◌, Option, Some, None, option_map, option_and_then, is_some, codes, nat_lt, Contains, if◌then◌else◌}
 use Rattle.std.specs.Option.{option_map_or}
 use Rattle.std.specs.Str.{bytes_eq}
 use Rattle.serde_json.specs.Data.{Data, Items, no_items, item}
@@ -9,8 +9,13 @@ use Rattle.serde_json.specs.Events.{items_len}
 use Rattle.serde_json.specs.Find.{as_str, as_array}
 use Rattle.plan_types.specs.Schemas.{Name, is_among, repeats}
 use Rattle.plan_types.specs.Types.{Ty, is_counted}
-use Rattle.plan_json.specs.Looking.{is_float, only_member, two_members, two_items, three_items, some_of}
-use Rattle.plan_json.specs.Queries.{text_of, type_named, type_of, unit_of, literal_of, number_text_of, counted_of, number_of, operator_of, mode_of, column_name, table_name, table_limit}
+use Rattle.plan_json.specs.Forms.{Asked, a_form, leaf, many, Places, single, listed, asks, key_named}
+use Rattle.plan_json.specs.Leaves.{text_of, type_named, type_of, unit_of, literal_of, number_text_of, counted_of, number_of, operator_of, mode_of, column_name, table_name, table_limit}
+use Rattle.plan_json.specs.Looking.{is_float, only_member, two_members, two_items, some_of}
+use Rattle.plan_json.specs.declared.forms.Kind.{Kind}
+use Rattle.plan_json.specs.declared.forms.Kind.TheVariants as kinds
+use Rattle.plan_json.specs.declared.forms.Leaf.{Leaf}
+use Rattle.plan_json.specs.declared.forms.Leaf.TheVariants as leaves
 
 pub data FaultKind : Type 0 where
   -- the value breaks the form
@@ -30,13 +35,19 @@ pub data Step : Type 0 where
 abbrev pub Path : Type 0
 Path = List Step
 
--- What a place asks for. A table and its name come with the names of the tables before it, a plan
--- with those of all tables, and a number with the type that is written beside it.
+-- What a place asks for. A table and its name come with the names of the tables before it, plans and what
+-- stands under a key with those of all tables, and a number with the type that is written beside it.
 pub data Form : Type 0 where
   a_query table_list column_list field_list a_column a_type a_unit a_text : Form
-  a_table a_new_name a_plan a_scan a_filter a_selection : List Name → Form
-  expression_list an_expression a_literal a_number_text a_typed_literal a_counted_type operands an_operator a_cast a_mode : Form
+  a_table a_new_name a_scan : List Name → Form
+  a_literal a_number_text a_typed_literal a_counted_type an_operator a_mode : Form
   a_number_of : Ty → Form
+  -- an object of one key, which names a form of the kind
+  keyed_form : List Name → Kind → Form
+  -- a list of any number of these
+  list_of : List Name → Asked → Form
+  -- a list of exactly these
+  items_of : List Name → List Asked → Form
 
 -- a part of a value: the step to it, what its place asks for, and the part itself
 pub record Part : Type 0 where
@@ -57,23 +68,36 @@ type_form word =
     if bytes_eq word (codes "List") then Some a_type else (
     if bytes_eq word (codes "Struct") then Some field_list else None)))
 
--- what an expression's only key asks of its value
-abbrev pub expression_form : List ℕ → Option Form
-expression_form word =
-    if bytes_eq word (codes "col") then Some a_text else (
-    if bytes_eq word (codes "lit") then Some a_literal else (
-    if bytes_eq word (codes "int") then Some a_number_text else (
-    if bytes_eq word (codes "typed") then Some a_typed_literal else (
-    if bytes_eq word (codes "bin") then Some operands else (
-    if bytes_eq word (codes "cast") then Some a_cast else None)))))
+-- what has no forms
+abbrev pub leaf_form : List Name → Leaf → Form
+leaf_form names leaves.Name = a_text
+leaf_form names leaves.Value = a_literal
+leaf_form names leaves.Digits = a_number_text
+leaf_form names leaves.Typed = a_typed_literal
+leaf_form names leaves.Operator = an_operator
+leaf_form names leaves.Dtype = a_type
+leaf_form names leaves.Mode = a_mode
+leaf_form names leaves.Table = a_scan names
+leaf_form names leaves.Columns = column_list
 
--- what a plan's only key asks of its value
-abbrev pub plan_form : List Name → List ℕ → Option Form
-plan_form tables word =
-    if bytes_eq word (codes "scan") then Some (a_scan tables) else (
-    if bytes_eq word (codes "empty") then Some column_list else (
-    if bytes_eq word (codes "filter") then Some (a_filter tables) else (
-    if bytes_eq word (codes "select") then Some (a_selection tables) else None)))
+abbrev pub asked_form : List Name → Asked → Form
+asked_form names (a_form kind) = keyed_form names kind
+asked_form names (leaf which) = leaf_form names which
+asked_form names (many a) = list_of names a
+
+abbrev pub places_form : List Name → Places → Form
+places_form names (single a) = asked_form names a
+places_form names (listed ps) = items_of names ps
+
+abbrev pub an_expression : Form
+an_expression = keyed_form [] kinds.Expression
+
+abbrev pub a_plan : List Name → Form
+a_plan names = keyed_form names kinds.Plan
+
+-- what the only key of a form of that kind asks of its value
+abbrev pub key_form : List Name → Kind → List ℕ → Option Form
+key_form names kind word = option_map (λ row. places_form names (asks row.1)) (key_named kind word)
 
 -- the part of an object of one key whose form that key names
 abbrev pub only_part : (List ℕ → Option Form) → Data → Option Part
@@ -121,21 +145,17 @@ own_fault a_unit d = unless (shape_fault d) (is_some (unit_of d))
 own_fault a_text d = unless (shape_fault d) (is_some (text_of d))
 own_fault (a_table before) d = unless (shape_fault d) (is_some (two_members (codes "name") (codes "columns") d))
 own_fault (a_new_name before) d = name_fault (λ name. not (is_among name before)) d
-own_fault (a_plan tables) d = unless (shape_fault d) (is_some (only_part (plan_form tables) d))
 own_fault (a_scan tables) d = name_fault (λ name. is_among name tables) d
-own_fault (a_filter tables) d = unless (shape_fault d) (is_some (two_items d))
-own_fault (a_selection tables) d = unless (shape_fault d) (is_some (two_items d))
-own_fault expression_list d = list_fault (λ items. true) d
-own_fault an_expression d = unless (shape_fault d) (is_some (only_part expression_form d))
 own_fault a_literal d = unless (shape_fault d) (is_some (literal_of d))
 own_fault a_number_text d = unless (shape_fault d) (is_some (number_text_of d))
 own_fault a_typed_literal d = unless (shape_fault d) (is_some (two_items d))
 own_fault a_counted_type d = unless (shape_fault d) (has_type_shape d && may_be_counted d)
 own_fault (a_number_of type) d = unless (shape_fault d) (is_some (number_of type d))
-own_fault operands d = unless (shape_fault d) (is_some (three_items d))
 own_fault an_operator d = unless (shape_fault d) (is_some (operator_of d))
-own_fault a_cast d = unless (shape_fault d) (is_some (three_items d))
 own_fault a_mode d = unless (shape_fault d) (is_some (mode_of d))
+own_fault (keyed_form names kind) d = unless (shape_fault d) (is_some (only_part (key_form names kind) d))
+own_fault (list_of names a) d = list_fault (λ items. true) d
+own_fault (items_of names ps) d = list_fault (λ items. items_len items == length ps) d
 
 -- ---- parts of a value
 
@@ -143,6 +163,15 @@ own_fault a_mode d = unless (shape_fault d) (is_some (mode_of d))
 abbrev pub each : Form → ℕ → Items → List Part
 each form n no_items = []
 each form n (item d ds) = part (number n) form d ∷ each form (n + 1) ds
+
+-- the items from that number on, of the forms in turn
+abbrev pub each_in_turn : List Name → ℕ → List Asked → Items → List Part
+each_in_turn names n (a ∷ ps) (item d ds) = part (number n) (asked_form names a) d ∷ each_in_turn names (n + 1) ps ds
+each_in_turn names n _ _ = []
+
+-- the items of a list of exactly these
+abbrev pub item_parts : List Name → List Asked → Items → List Part
+item_parts names ps items = if items_len items == length ps then each_in_turn names 0 ps items else []
 
 -- the names that the tables of a list give themselves
 abbrev pub declared_names : Data → List Name
@@ -163,26 +192,12 @@ table_parts before pair = part (key (codes "name")) (a_new_name before) pair.0 �
 abbrev pub column_parts : Data × Data → List Part
 column_parts pair = part (number 0) a_text pair.0 ∷ part (number 1) a_type pair.1 ∷ []
 
-abbrev pub filter_parts : List Name → Data × Data → List Part
-filter_parts tables pair = part (number 0) (a_plan tables) pair.0 ∷ part (number 1) an_expression pair.1 ∷ []
-
-abbrev pub selection_parts : List Name → Data × Data → List Part
-selection_parts tables pair = part (number 0) (a_plan tables) pair.0 ∷ part (number 1) expression_list pair.1 ∷ []
-
 -- the number has a place only beside a type that it may be of
 abbrev pub number_part : Data → Ty → List Part
 number_part d type = part (number 1) (a_number_of type) d ∷ []
 
 abbrev pub typed_parts : Data × Data → List Part
 typed_parts pair = part (number 0) a_counted_type pair.0 ∷ option_map_or (number_part pair.1) (counted_of pair.0) []
-
-abbrev pub operand_parts : Data × Data × Data → List Part
-operand_parts triple =
-    part (number 0) an_operator triple.0 ∷ part (number 1) an_expression triple.1 ∷ part (number 2) an_expression triple.2 ∷ []
-
-abbrev pub cast_parts : Data × Data × Data → List Part
-cast_parts triple =
-    part (number 0) an_expression triple.0 ∷ part (number 1) a_type triple.1 ∷ part (number 2) a_mode triple.2 ∷ []
 
 abbrev pub one_part : Option Part → List Part
 one_part None = []
@@ -200,21 +215,17 @@ parts_of a_unit d = []
 parts_of a_text d = []
 parts_of (a_table before) d = option_map_or (table_parts before) (two_members (codes "name") (codes "columns") d) []
 parts_of (a_new_name before) d = []
-parts_of (a_plan tables) d = one_part (only_part (plan_form tables) d)
 parts_of (a_scan tables) d = []
-parts_of (a_filter tables) d = option_map_or (filter_parts tables) (two_items d) []
-parts_of (a_selection tables) d = option_map_or (selection_parts tables) (two_items d) []
-parts_of expression_list d = option_map_or (each an_expression 0) (as_array d) []
-parts_of an_expression d = one_part (only_part expression_form d)
 parts_of a_literal d = []
 parts_of a_number_text d = []
 parts_of a_typed_literal d = option_map_or typed_parts (two_items d) []
 parts_of a_counted_type d = one_part (only_part type_form d)
 parts_of (a_number_of type) d = []
-parts_of operands d = option_map_or operand_parts (three_items d) []
 parts_of an_operator d = []
-parts_of a_cast d = option_map_or cast_parts (three_items d) []
 parts_of a_mode d = []
+parts_of (keyed_form names kind) d = one_part (only_part (key_form names kind) d)
+parts_of (list_of names a) d = option_map_or (each (asked_form names a) 0) (as_array d) []
+parts_of (items_of names ps) d = option_map_or (item_parts names ps) (as_array d) []
 
 -- ---- faults along a path
 

@@ -1,30 +1,15 @@
 -- The query that a value is.
--- There is one function for each form. Each gives what a value of that form means, and nothing
--- where the value hasn't the form.
-use Rattle.std.specs.Prelude.{◌≡◌, ℕ, ℤ, ◌^◌, ◌==◌, ◌&&◌, ◌||◌, Bool, List, [], map, not, Option, Some, None, option_map, option_and_then, codes, nat_lt, position, slice_index, if◌then◌else◌, true, false}
-use Rattle.std.specs.Map.{lookup}
-use Rattle.std.specs.Option.{option_or}
-use Rattle.std.specs.Str.{chars, bytes_eq}
-use Rattle.serde_json.specs.Data.{Data, null, boolean, number as numeral, string, array, object, Items, no_items, item, no_members, member}
-use Rattle.serde_json.specs.Events.{items_len}
-use Rattle.serde_json.specs.Find.{get, as_str, as_array}
-use Rattle.plan_types.specs.Schemas.{Name, Columns, same_name, names_of, repeats}
-use Rattle.plan_types.specs.Casts.{number_in}
-use Rattle.plan_types.specs.Types.{Ty, NullType, Truth, Integer, TextType, DateType, TimeType, DatetimeType, DurationType, ListType, StructType, Untyped, Fields, no_field, with_field, is_counted}
-use Rattle.plan_types.specs.Values.{NullValue, TruthValue, IntValue, TextValue, in_range}
-use Rattle.plan_types.specs.declared.dtype.CastOptions.{CastOptions}
-use Rattle.plan_types.specs.declared.dtype.CastOptions.TheVariants.{Strict, NonStrict, Overflowing}
-use Rattle.plan_types.specs.declared.dtype.TimeUnit.{TimeUnit}
-use Rattle.plan_types.specs.declared.dtype.TimeUnit.TheVariants.{Nanoseconds, Microseconds, Milliseconds}
-use Rattle.plan_dsl.specs.Ops.{Op, ColumnOp, LiteralOp, BinaryOp, CastOp, Expression}
-use Rattle.plan_dsl.specs.Plans.{Plan, named, scan_op, select_op, filter_op, plan_tree}
-use Rattle.plan_dsl.specs.Trees.{node, no_more, more}
+use Rattle.std.specs.Prelude.{◌≡◌, List, [], ◌∷◌, Option, Some, None, Bool, false, ◌||◌, option_map, option_and_then, codes}
+use Rattle.serde_json.specs.Data.{Data, array, object, Items, no_items, item, no_members, member}
+use Rattle.plan_dsl.specs.Plans.{Plan, plan_tree}
 use Rattle.plan_dsl.specs.declared.plan.DslPlan.{DslPlan}
 use Rattle.plan_dsl.specs.declared.plan.DslPlan.TheVariants.{DataFrameScan, Filter', Select'}
-use Rattle.plan_dsl.specs.declared.operator.Operator.{Operator}
-use Rattle.plan_dsl.specs.declared.operator.Operator.TheVariants.{Eq, EqValidity, NotEq, NotEqValidity, Lt, LtEq, Gt, GtEq, Plus, Minus, Multiply, Divide, FloorDivide, Modulus, And, Or, Xor, LogicalAnd, LogicalOr}
-use Rattle.plan_json.specs.Looking.{both, whole_number, two_members, two_items, all_of, some_of}
+use Rattle.plan_json.specs.Forms.{Asked, a_form, leaf, many, Places, single, listed, plan, Read, name_read, literal_read, operator_read, type_read, mode_read, table_read, columns_read, plan_read, many_read, reads_of, key_named, asks, says}
+use Rattle.plan_json.specs.Leaves.{text_of, literal_of, number_text_of, typed_of, operator_of, type_of, mode_of, table_at, columns_of, tables_of}
+use Rattle.plan_json.specs.Looking.{both, two_members}
 use Rattle.plan_json.specs.Tables.{Declared, declared}
+use Rattle.plan_json.specs.declared.forms.Leaf.{Leaf}
+use Rattle.plan_json.specs.declared.forms.Leaf.TheVariants as leaves
 use Rattle.plan_json.specs.declared.read.Query.{Query}
 
 -- a query: its tables, and its plan over them
@@ -35,310 +20,62 @@ pub record QueryModel : Type 0 where
 abbrev pub query_model : Query → QueryModel
 query_model query = record { tables = declared query.tables; plan = plan_tree query.plan }
 
--- ---- names and types
+-- ---- what a value reads to, where a place asks for this
 
--- the characters of a text
-abbrev pub text_of : Data → Option Name
-text_of d = option_map chars (as_str d)
+abbrev pub leaf_of : Declared → Leaf → Data → Option Read
+leaf_of tables leaves.Name d = option_map name_read (text_of d)
+leaf_of tables leaves.Value d = option_map literal_read (literal_of d)
+leaf_of tables leaves.Digits d = option_map literal_read (number_text_of d)
+leaf_of tables leaves.Typed d = option_map literal_read (typed_of d)
+leaf_of tables leaves.Operator d = option_map operator_read (operator_of d)
+leaf_of tables leaves.Dtype d = option_map type_read (type_of d)
+leaf_of tables leaves.Mode d = option_map mode_read (mode_of d)
+leaf_of tables leaves.Table d = option_map (λ table. table_read table.0 table.1) (option_and_then (table_at tables) (text_of d))
+leaf_of tables leaves.Columns d = option_map columns_read (columns_of d)
 
-abbrev pub integer_named : List ℕ → Option Ty
-integer_named name =
-    if bytes_eq name (codes "Int8") then Some (Integer true 8) else (
-    if bytes_eq name (codes "Int16") then Some (Integer true 16) else (
-    if bytes_eq name (codes "Int32") then Some (Integer true 32) else (
-    if bytes_eq name (codes "Int64") then Some (Integer true 64) else (
-    if bytes_eq name (codes "UInt8") then Some (Integer false 8) else (
-    if bytes_eq name (codes "UInt16") then Some (Integer false 16) else (
-    if bytes_eq name (codes "UInt32") then Some (Integer false 32) else (
-    if bytes_eq name (codes "UInt64") then Some (Integer false 64) else None)))))))
+-- the first of these, and the others
+abbrev pub front : Option Read → Option (List Read) → Option (List Read)
+front first rest = option_map (λ pair. pair.0 ∷ pair.1) (both first rest)
 
--- the type of that name, of those without parts that are no integers
-abbrev pub plain_named : List ℕ → Option Ty
-plain_named name =
-    if bytes_eq name (codes "Null") then Some NullType else (
-    if bytes_eq name (codes "Boolean") then Some Truth else (
-    if bytes_eq name (codes "String") then Some TextType else (
-    if bytes_eq name (codes "Date") then Some DateType else (
-    if bytes_eq name (codes "Time") then Some TimeType else None))))
-
--- the type of that name, of those without parts
-abbrev pub type_named : List ℕ → Option Ty
-type_named name = option_or (integer_named name) (plain_named name)
-
-abbrev pub unit_named : List ℕ → Option TimeUnit
-unit_named name =
-    if bytes_eq name (codes "ns") then Some Nanoseconds else (
-    if bytes_eq name (codes "us") then Some Microseconds else (
-    if bytes_eq name (codes "ms") then Some Milliseconds else None))
-
-abbrev pub unit_of : Data → Option TimeUnit
-unit_of d = option_and_then unit_named (as_str d)
-
-abbrev pub datetime_type : TimeUnit → Ty
-datetime_type unit = DatetimeType unit
-
-abbrev pub duration_type : TimeUnit → Ty
-duration_type unit = DurationType unit
-
-abbrev pub list_type : Ty → Ty
-list_type items = ListType items
-
-abbrev pub struct_type : Fields → Ty
-struct_type fields = StructType fields
-
--- the field, and those after it
-abbrev pub field_before : (Name × Ty) × Fields → Fields
-field_before parts = with_field parts.0.0 parts.0.1 parts.1
+-- what is read of a key's value, by what is read of it as one place and as a list
+abbrev pub given : Places → (Asked → Option Read) → (List Asked → Option (List Read)) → Option (List Read)
+given (single a) by_place by_list = option_map (λ r. r ∷ []) (by_place a)
+given (listed ps) by_place by_list = by_list ps
 
 abbrev mutual
-  -- a name, or an object of one key, which names its form
-  pub type_of : Data → Option Ty
-  type_of (string name) = type_named name
-  type_of (object (member key value no_members)) =
-      if bytes_eq key (codes "Datetime") then option_map datetime_type (unit_of value) else (
-      if bytes_eq key (codes "Duration") then option_map duration_type (unit_of value) else (
-      if bytes_eq key (codes "List") then option_map list_type (type_of value) else (
-      if bytes_eq key (codes "Struct") then option_map struct_type (struct_of value) else None)))
-  type_of _ = None
+  pub read_as : Declared → Asked → Data → Option Read
+  read_as tables (a_form kind) (object (member word value no_members)) =
+      option_and_then (λ row. option_and_then (says row.1) (given (asks row.1) (λ a. read_as tables a value) (λ ps. list_as tables ps value))) (key_named kind word)
+  read_as tables (leaf which) d = leaf_of tables which d
+  read_as tables (many a) (array ds) = option_map (λ rs. many_read (reads_of rs)) (each_as tables a ds)
+  read_as tables _ _ = None
 
-  -- a list of fields, whose names may repeat
-  pub struct_of : Data → Option Fields
-  struct_of (array items) = fields_from items
-  struct_of _ = None
+  -- a list of exactly these
+  pub list_as : Declared → List Asked → Data → Option (List Read)
+  list_as tables ps (array ds) = these_as tables ps ds
+  list_as tables ps _ = None
 
-  pub fields_from : Items → Option Fields
-  fields_from no_items = Some no_field
-  fields_from (item first rest) = option_map field_before (both (column_of first) (fields_from rest))
+  pub each_as : Declared → Asked → Items → Option (List Read)
+  each_as tables a no_items = Some []
+  each_as tables a (item d ds) = front (read_as tables a d) (each_as tables a ds)
 
-  -- a column or a field: `[name, type]`
-  pub column_of : Data → Option (Name × Ty)
-  column_of (array (item name (item type no_items))) = both (text_of name) (type_of type)
-  column_of _ = None
+  pub these_as : Declared → List Asked → Items → Option (List Read)
+  these_as tables [] no_items = Some []
+  these_as tables (a ∷ ps) (item d ds) = front (read_as tables a d) (these_as tables ps ds)
+  these_as tables _ _ = None
 
-abbrev pub comparison_named : List ℕ → Option Operator
-comparison_named name =
-    if bytes_eq name (codes "Eq") then Some Eq else (
-    if bytes_eq name (codes "EqValidity") then Some EqValidity else (
-    if bytes_eq name (codes "NotEq") then Some NotEq else (
-    if bytes_eq name (codes "NotEqValidity") then Some NotEqValidity else (
-    if bytes_eq name (codes "Lt") then Some Lt else (
-    if bytes_eq name (codes "LtEq") then Some LtEq else (
-    if bytes_eq name (codes "Gt") then Some Gt else (
-    if bytes_eq name (codes "GtEq") then Some GtEq else None)))))))
-
-abbrev pub arithmetic_named : List ℕ → Option Operator
-arithmetic_named name =
-    if bytes_eq name (codes "Plus") then Some Plus else (
-    if bytes_eq name (codes "Minus") then Some Minus else (
-    if bytes_eq name (codes "Multiply") then Some Multiply else (
-    if bytes_eq name (codes "Divide") then Some Divide else (
-    if bytes_eq name (codes "FloorDivide") then Some FloorDivide else (
-    if bytes_eq name (codes "Modulus") then Some Modulus else None)))))
-
-abbrev pub logic_named : List ℕ → Option Operator
-logic_named name =
-    if bytes_eq name (codes "And") then Some And else (
-    if bytes_eq name (codes "Or") then Some Or else (
-    if bytes_eq name (codes "Xor") then Some Xor else (
-    if bytes_eq name (codes "LogicalAnd") then Some LogicalAnd else (
-    if bytes_eq name (codes "LogicalOr") then Some LogicalOr else None))))
-
-abbrev pub operator_named : List ℕ → Option Operator
-operator_named name = option_or (option_or (comparison_named name) (arithmetic_named name)) (logic_named name)
-
-abbrev pub operator_of : Data → Option Operator
-operator_of d = option_and_then operator_named (as_str d)
-
--- what a cast does with a value that has no place in its target
-abbrev pub mode_named : List ℕ → Option CastOptions
-mode_named name =
-    if bytes_eq name (codes "Strict") then Some Strict else (
-    if bytes_eq name (codes "NonStrict") then Some NonStrict else (
-    if bytes_eq name (codes "Overflowing") then Some Overflowing else None))
-
-abbrev pub mode_of : Data → Option CastOptions
-mode_of d = option_and_then mode_named (as_str d)
-
--- ---- columns
-
--- the name that a column gives itself, whatever its type
-abbrev pub column_name : Data → Option Name
-column_name d = option_and_then (λ pair. text_of pair.0) (two_items d)
-
-abbrev pub columns_from : Items → Option Columns
-columns_from items = if repeats (some_of column_name items) then None else all_of column_of items
-
--- a list of columns, no two of one name
-abbrev pub columns_of : Data → Option Columns
-columns_of d = option_and_then columns_from (as_array d)
-
--- ---- tables
-
--- `{"name": name, "columns": columns}`
-abbrev pub table_of : Data → Option (Name × Columns)
-table_of d = option_and_then (λ pair. both (text_of pair.0) (columns_of pair.1)) (two_members (codes "name") (codes "columns") d)
-
--- the name that a table gives itself, whatever its columns
-abbrev pub table_name : Data → Option Name
-table_name d = option_and_then text_of (get (codes "name") d)
-
--- the number of a table is below this
-abbrev pub table_limit : ℕ
-table_limit = 2 ^ 32
-
-abbrev pub tables_from : Items → Option Declared
-tables_from items =
-    if nat_lt (items_len items) table_limit && not (repeats (some_of table_name items)) then all_of table_of items else None
-
--- a list of fewer than 2^32 tables, no two of one name
-abbrev pub tables_of : Data → Option Declared
-tables_of d = option_and_then tables_from (as_array d)
-
--- ---- expressions
-
-abbrev pub column_expression : Name → Expression
-column_expression name = node (ColumnOp name) no_more
-
--- null, a truth value and a text have types of their own
-abbrev pub null_op : Op
-null_op = LiteralOp NullType NullValue
-
-abbrev pub truth_op : Bool → Op
-truth_op truth = LiteralOp Truth (TruthValue truth)
-
-abbrev pub text_op : Name → Op
-text_op text = LiteralOp TextType (TextValue text)
-
--- a number without a type
-abbrev pub number_op : ℤ → Op
-number_op number = LiteralOp (Untyped number) (IntValue number)
-
--- null, a truth value, a text, or a whole number without a type
-abbrev pub literal_of : Data → Option Op
-literal_of null = Some null_op
-literal_of (boolean truth) = Some (truth_op truth)
-literal_of (string text) = Some (text_op (chars text))
-literal_of (numeral n) = option_map number_op (whole_number (numeral n))
-literal_of (array ds) = None
-literal_of (object ms) = None
-
--- a number that 128 bits with a sign hold
-abbrev pub narrow : ℤ → Option ℤ
-narrow number = if in_range (Integer true 128) number then Some number else None
-
--- the number that bytes write: digits, behind an optional `-`
-abbrev pub number_written : List ℕ → Option ℤ
-number_written bytes = if slice_index bytes 0 == 43 then None else option_and_then narrow (number_in bytes)
-
--- a text that writes a number without a type
-abbrev pub number_text_of : Data → Option Op
-number_text_of d = option_map number_op (option_and_then number_written (as_str d))
-
--- a type of integers or of time
-abbrev pub counted : Ty → Option Ty
-counted type = if is_counted type then Some type else None
-
-abbrev pub counted_of : Data → Option Ty
-counted_of d = option_and_then counted (type_of d)
-
--- a number of such a type, whose range has it
-abbrev pub typed_op : Ty → ℤ → Option Op
-typed_op type number = if is_counted type && in_range type number then Some (LiteralOp type (IntValue number)) else None
-
-abbrev pub number_of : Ty → Data → Option Op
-number_of type d = option_and_then (typed_op type) (whole_number d)
-
-abbrev pub typed_from : Data × Data → Option Op
-typed_from pair = option_and_then (λ type. number_of type pair.1) (counted_of pair.0)
-
--- `[type, number]`
-abbrev pub typed_of : Data → Option Op
-typed_of d = option_and_then typed_from (two_items d)
-
-abbrev pub literal_expression : Op → Expression
-literal_expression op = node op no_more
-
-abbrev pub binary_expression : Option Operator → Option Expression → Option Expression → Option Expression
-binary_expression (Some operator) (Some left) (Some right) = Some (node (BinaryOp operator) (more left (more right no_more)))
-binary_expression _ _ _ = None
-
-abbrev pub cast_expression : Option Expression → Option Ty → Option CastOptions → Option Expression
-cast_expression (Some operand) (Some target) (Some mode) = Some (node (CastOp target mode) (more operand no_more))
-cast_expression _ _ _ = None
-
-abbrev mutual
-  -- an object of one key, which names its form
-  pub expression_of : Data → Option Expression
-  expression_of (object (member key value no_members)) =
-      if bytes_eq key (codes "col") then option_map column_expression (text_of value) else (
-      if bytes_eq key (codes "lit") then option_map literal_expression (literal_of value) else (
-      if bytes_eq key (codes "int") then option_map literal_expression (number_text_of value) else (
-      if bytes_eq key (codes "typed") then option_map literal_expression (typed_of value) else (
-      if bytes_eq key (codes "bin") then binary_of value else (
-      if bytes_eq key (codes "cast") then cast_of value else None)))))
-  expression_of _ = None
-
-  -- `[operator, expression, expression]`
-  pub binary_of : Data → Option Expression
-  binary_of (array (item operator (item left (item right no_items)))) =
-      binary_expression (operator_of operator) (expression_of left) (expression_of right)
-  binary_of _ = None
-
-  -- `[expression, type, mode]`
-  pub cast_of : Data → Option Expression
-  cast_of (array (item operand (item target (item mode no_items)))) =
-      cast_expression (expression_of operand) (type_of target) (mode_of mode)
-  cast_of _ = None
-
--- a list of expressions
-abbrev pub expressions_of : Data → Option (List Expression)
-expressions_of d = option_and_then (all_of expression_of) (as_array d)
-
--- ---- plans
-
--- the number and the columns of the table of that name
-abbrev pub table_at : Declared → Name → Option (ℕ × Columns)
-table_at tables name = both (position (same_name name) (names_of tables)) (lookup (same_name name) tables)
-
-abbrev pub scan_plan : ℕ × Columns → Plan
-scan_plan table = node (scan_op (Some table.0) table.1) no_more
-
-abbrev pub empty_plan : Columns → Plan
-empty_plan columns = node (scan_op None columns) no_more
-
-abbrev pub select_plan : Plan × List Expression → Plan
-select_plan parts = node (select_op (map named parts.1) None) (more parts.0 no_more)
-
-abbrev pub filter_plan : Plan × Expression → Plan
-filter_plan parts = node (filter_op (named parts.1)) (more parts.0 no_more)
-
--- the name of a table
-abbrev pub scan_of : Declared → Data → Option Plan
-scan_of tables d = option_map scan_plan (option_and_then (table_at tables) (text_of d))
-
-abbrev mutual
-  -- an object of one key, which names its form
-  pub plan_of : Declared → Data → Option Plan
-  plan_of tables (object (member key value no_members)) =
-      if bytes_eq key (codes "scan") then scan_of tables value else (
-      if bytes_eq key (codes "empty") then option_map empty_plan (columns_of value) else (
-      if bytes_eq key (codes "filter") then filter_of tables value else (
-      if bytes_eq key (codes "select") then select_of tables value else None)))
-  plan_of tables _ = None
-
-  -- `[plan, expression]`
-  pub filter_of : Declared → Data → Option Plan
-  filter_of tables (array (item input (item predicate no_items))) =
-      option_map filter_plan (both (plan_of tables input) (expression_of predicate))
-  filter_of tables _ = None
-
-  -- `[plan, expressions]`
-  pub select_of : Declared → Data → Option Plan
-  select_of tables (array (item input (item expressions no_items))) =
-      option_map select_plan (both (plan_of tables input) (expressions_of expressions))
-  select_of tables _ = None
+-- what is read of a key's value
+abbrev pub places_as : Declared → Places → Data → Option (List Read)
+places_as tables places d = given places (λ a. read_as tables a d) (λ ps. list_as tables ps d)
 
 -- ---- queries
+
+abbrev pub plan_in : Read → Option Plan
+plan_in (plan_read tree) = Some tree
+plan_in _ = None
+
+abbrev pub plan_of : Declared → Data → Option Plan
+plan_of tables d = option_and_then plan_in (read_as tables plan d)
 
 abbrev pub query_from : Data × Data → Option QueryModel
 query_from parts =

@@ -1,9 +1,9 @@
 -- What the worked examples share: tables of cases, and values and trees in short.
 use Prim.Native.String.{String as Literal}
-use Rattle.std.specs.Prelude.{◌≡◌, ◌+◌, ℕ, ℤ, negsuc, List, [], ◌∷◌, map, codes, ⊤, true, Option, None, String, string_bytes}
+use Rattle.std.specs.Prelude.{◌≡◌, ◌+◌, ℕ, ℤ, negsuc, List, [], ◌∷◌, map, codes, ⊤, true, Option, Some, None, option_and_then, String, string_bytes}
 use Rattle.std.specs.Global.{Global}
 use Rattle.serde_json.specs.Data.{Data, Items, array, no_items, item, no_members, member, negative, number, object, string, unsigned}
-use Rattle.plan_types.specs.Schemas.{Columns}
+use Rattle.plan_types.specs.Schemas.{Columns, Name as Text}
 use Rattle.plan_types.specs.Types.{Ty, Integer, Untyped}
 use Rattle.plan_types.specs.Values.{IntValue}
 use Rattle.plan_types.specs.declared.dtype.CastOptions.{CastOptions}
@@ -12,8 +12,13 @@ use Rattle.plan_dsl.specs.Ops.{ColumnOp, LiteralOp, BinaryOp, CastOp, Expression
 use Rattle.plan_dsl.specs.Plans.{Plan, named, scan_op, select_op, filter_op}
 use Rattle.plan_dsl.specs.Trees.{node, no_more, more}
 use Rattle.plan_json.specs.Bytes.{IsRefusalOf, WritesQuery}
-use Rattle.plan_json.specs.Faults.{FaultKind, BadShape, BadFloat, BadName, Form, IsBadAt, Part, Path, key, number as at_number, own_fault, part, parts_of}
-use Rattle.plan_json.specs.Queries.{QueryModel}
+use Rattle.plan_json.specs.Faults.{FaultKind, BadShape, BadFloat, BadName, Form, IsBadAt, Part, Path, key, number as at_number, own_fault, part, parts_of, keyed_form, list_of, places_form}
+use Rattle.plan_json.specs.Forms.{Read, expression, expression_read, asks}
+use Rattle.plan_json.specs.Queries.{QueryModel, read_as}
+use Rattle.plan_json.specs.declared.forms.Kind.TheVariants as kinds
+use Rattle.plan_json.specs.declared.forms.Key.TheVariants as keys
+use Rattle.plan_json.specs.declared.forms.ExpressionKey.TheVariants as of
+use Rattle.plan_json.specs.declared.forms.PlanKey.TheVariants as by
 use Rattle.plan_json.specs.Tables.{Declared}
 use Rattle.plan_json.specs.declared.error.JsonError.{JsonError}
 use Rattle.plan_json.specs.declared.error.JsonError.TheVariants.{NotJson, Shape, Float, Name}
@@ -182,3 +187,31 @@ Refused case = (path : String Global) → string_bytes path ≡ codes case.2 →
 
 abbrev pub NoJson : Literal → Type 0
 NoJson text = IsRefusalOf (codes text) NotJson
+
+-- ---- forms
+
+abbrev pub expression_in : Read → Option Expression
+expression_in (expression_read tree) = Some tree
+expression_in _ = None
+
+-- the expression that a value is
+abbrev pub expression_of : Data → Option Expression
+expression_of d = option_and_then expression_in (read_as [] expression d)
+
+abbrev pub expression_over : List Text → Form
+expression_over names = keyed_form names kinds.Expression
+
+abbrev pub expression_list : List Text → Form
+expression_list names = list_of names expression
+
+abbrev pub operands : Form
+operands = places_form [] (asks (keys.Expression of.Bin))
+
+abbrev pub a_cast : Form
+a_cast = places_form [] (asks (keys.Expression of.Cast))
+
+abbrev pub a_filter : List Text → Form
+a_filter names = places_form names (asks (keys.Plan by.Filter))
+
+abbrev pub a_selection : List Text → Form
+a_selection names = places_form names (asks (keys.Plan by.Select))

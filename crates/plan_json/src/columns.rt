@@ -4,7 +4,7 @@ ghost use Rattle.serde_json.specs.View.{view};
 ghost use Rattle.plan_types.specs.Schemas.{columns};
 ghost use Rattle.plan_json.specs.Errors.{IsErrorOf};
 ghost use Rattle.plan_json.specs.Faults.{column_list};
-ghost use Rattle.plan_json.specs.Queries.{columns_of};
+ghost use Rattle.plan_json.specs.Leaves.{columns_of};
 
 use super::dtype::read_column;
 use super::error::{JsonError, Step, at};

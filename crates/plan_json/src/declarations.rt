@@ -4,7 +4,7 @@ ghost use Rattle.serde_json.specs.View.{view};
 ghost use Rattle.plan_types.specs.Schemas.{columns, names_of, is_among};
 ghost use Rattle.plan_json.specs.Errors.{IsErrorOf};
 ghost use Rattle.plan_json.specs.Faults.{table_list, a_table, a_new_name};
-ghost use Rattle.plan_json.specs.Queries.{text_of, table_of, tables_of};
+ghost use Rattle.plan_json.specs.Leaves.{text_of, table_of, tables_of};
 ghost use Rattle.plan_json.specs.Tables.{declared};
 
 use super::columns::read_columns;

@@ -5,7 +5,7 @@ ghost use Rattle.serde_json.specs.View.{view};
 ghost use Rattle.plan_types.specs.Types.{fields_of, ty};
 ghost use Rattle.plan_json.specs.Errors.{IsErrorOf};
 ghost use Rattle.plan_json.specs.Faults.{a_column, a_text, a_type, a_unit, field_list};
-ghost use Rattle.plan_json.specs.Queries.{column_of, integer_named, plain_named, struct_of, text_of, type_named, type_of, unit_named, unit_of};
+ghost use Rattle.plan_json.specs.Leaves.{column_of, integer_named, plain_named, struct_of, text_of, type_named, type_of, unit_named, unit_of};
 
 use super::error::{JsonError, Step, at};
 use super::value::{only_member, two_items};

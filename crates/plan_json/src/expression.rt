@@ -1,212 +1,81 @@
-//! Expressions.
-ghost use Rattle.std.specs.Prelude.{◌≡◌, Some, IfOk, IfErr};
-ghost use Rattle.serde_json.specs.View.{view};
+//! Expressions, from what was read of a key's value: one function for each key.
+ghost use Rattle.std.specs.Prelude.{◌≡◌, [], ◌∷◌, Some, IfOk, IfErr};
 ghost use Rattle.plan_dsl.specs.Expressions.{tree_of};
-ghost use Rattle.plan_dsl.specs.Plans.{trees_of};
-ghost use Rattle.plan_json.specs.Errors.{IsErrorOf};
-ghost use Rattle.plan_json.specs.Faults.{an_expression, operands, an_operator, a_cast, a_mode, expression_list};
-ghost use Rattle.plan_json.specs.Queries.{expression_of, binary_of, arithmetic_named, comparison_named, logic_named, operator_named, operator_of, cast_of, mode_named, mode_of, expressions_of};
+ghost use Rattle.plan_json.specs.Arguments.{args_view};
+ghost use Rattle.plan_json.specs.Forms.{AllFit, asked_in, expression_asks, expression_says};
+ghost use Rattle.plan_json.specs.declared.forms.ExpressionKey.TheVariants as of;
 
-use super::dtype::{read_text, read_type};
-use super::error::{JsonError, Step, at};
-use super::literal::{read_literal, read_number_text, read_typed};
-use super::value::{only_member, three_items};
+use super::arguments::{
+    Args, digits, dtype, expression, mode, name, one, operator, three, typed, value,
+};
+use super::error::JsonError;
+use super::forms::ExpressionKey;
 use plan_dsl::expr::Expr;
-use plan_dsl::operator::Operator;
-use plan_dsl::plan::Exprs;
-use plan_types::dtype::CastOptions;
-use serde_json::Value;
-use std::alloc::Global;
 
-// An expression: an object of one key, which names its form.
-#[cycle(expression)]
-pub(crate) fn read_expression(alloc: Global, value: &Value) -> Result<Expr, JsonError>
-    ensures ok { IfOk result (λ expr. expression_of (view value.now) ≡ Some (tree_of expr)) }
-    ensures err { IfErr result (IsErrorOf an_expression (view value.now)) }
+// The expression of that key.
+pub(crate) fn assemble_expression(key: ExpressionKey, args: Args) -> Result<Expr, JsonError>
+    requires { AllFit (asked_in (expression_asks key)) (args_view args) }
+    ensures ok { IfOk result (λ expr. expression_says key (args_view args) ≡ Some (tree_of expr)) }
+    ensures err { IfErr result (λ error. error ≡ JsonError.NoMemory) }
 {
-    match only_member(value) {
-        None => Err(JsonError::shape(alloc, value)),
-        Some((key, inner)) => match key {
-            "col" => {
-                let name = at(alloc, Step::Key("col"), read_text(alloc, inner))?;
-                Ok(Expr::Column(name))
-            }
-            "lit" => {
-                let literal = at(alloc, Step::Key("lit"), read_literal(alloc, inner))?;
-                Ok(Expr::Literal(literal))
-            }
-            "int" => {
-                let literal = at(alloc, Step::Key("int"), read_number_text(alloc, inner))?;
-                Ok(Expr::Literal(literal))
-            }
-            "typed" => {
-                let literal = at(alloc, Step::Key("typed"), read_typed(alloc, inner))?;
-                Ok(Expr::Literal(literal))
-            }
-            "bin" => {
-                let expr = at(alloc, Step::Key("bin"), read_binary(alloc, inner))?;
-                Ok(expr)
-            }
-            "cast" => {
-                let expr = at(alloc, Step::Key("cast"), read_cast(alloc, inner))?;
-                Ok(expr)
-            }
-            _ => Err(JsonError::shape(alloc, value)),
-        },
+    match key {
+        ExpressionKey::Col => Ok(col(args)),
+        ExpressionKey::Lit => Ok(lit(args)),
+        ExpressionKey::Int => Ok(int(args)),
+        ExpressionKey::Typed => Ok(typed_number(args)),
+        ExpressionKey::Bin => Ok(bin(args)),
+        ExpressionKey::Cast => Ok(cast(args)),
     }
 }
 
-// An operator and its operands: `[operator, expression, expression]`.
-#[cycle(expression)]
-fn read_binary(alloc: Global, value: &Value) -> Result<Expr, JsonError>
-    ensures ok { IfOk result (λ expr. binary_of (view value.now) ≡ Some (tree_of expr)) }
-    ensures err { IfErr result (IsErrorOf operands (view value.now)) }
+fn col(args: Args) -> Expr
+    requires { AllFit (asked_in (expression_asks of.Col)) (args_view args) }
+    ensures { expression_says of.Col (args_view args) ≡ Some (tree_of result) }
 {
-    match three_items(value) {
-        None => Err(JsonError::shape(alloc, value)),
-        Some((operator, left, right)) => {
-            let op = at(alloc, Step::Item(0), read_operator(alloc, operator))?;
-            let left = at(alloc, Step::Item(1), read_expression(alloc, left))?;
-            let right = at(alloc, Step::Item(2), read_expression(alloc, right))?;
-            let left = Box::new(alloc, left)?;
-            let right = Box::new(alloc, right)?;
-            Ok(Expr::BinaryExpr { left, op, right })
-        }
+    Expr::Column(name(one(args)))
+}
+
+fn lit(args: Args) -> Expr
+    requires { AllFit (asked_in (expression_asks of.Lit)) (args_view args) }
+    ensures { expression_says of.Lit (args_view args) ≡ Some (tree_of result) }
+{
+    Expr::Literal(value(one(args)))
+}
+
+fn int(args: Args) -> Expr
+    requires { AllFit (asked_in (expression_asks of.Int)) (args_view args) }
+    ensures { expression_says of.Int (args_view args) ≡ Some (tree_of result) }
+{
+    Expr::Literal(digits(one(args)))
+}
+
+fn typed_number(args: Args) -> Expr
+    requires { AllFit (asked_in (expression_asks of.Typed)) (args_view args) }
+    ensures { expression_says of.Typed (args_view args) ≡ Some (tree_of result) }
+{
+    Expr::Literal(typed(one(args)))
+}
+
+fn bin(args: Args) -> Expr
+    requires { AllFit (asked_in (expression_asks of.Bin)) (args_view args) }
+    ensures { expression_says of.Bin (args_view args) ≡ Some (tree_of result) }
+{
+    let (op, left, right) = three(args);
+    Expr::BinaryExpr {
+        left: expression(left),
+        op: operator(op),
+        right: expression(right),
     }
 }
 
-// An operator, by its name.
-fn read_operator(alloc: Global, value: &Value) -> Result<Operator, JsonError>
-    ensures ok { IfOk result (λ operator. operator_of (view value.now) ≡ Some operator) }
-    ensures err { IfErr result (IsErrorOf an_operator (view value.now)) }
+fn cast(args: Args) -> Expr
+    requires { AllFit (asked_in (expression_asks of.Cast)) (args_view args) }
+    ensures { expression_says of.Cast (args_view args) ≡ Some (tree_of result) }
 {
-    match value.as_str() {
-        None => Err(JsonError::shape(alloc, value)),
-        Some(name) => match operator_named(name) {
-            None => Err(JsonError::shape(alloc, value)),
-            Some(operator) => Ok(operator),
-        },
-    }
-}
-
-// The operator of that name. Few names are looked at in one function, since its proof compares each with each.
-fn operator_named(name: &str) -> Option<Operator>
-    ensures { result ≡ operator_named name.now }
-{
-    comparison_named(name)
-        .or(arithmetic_named(name))
-        .or(logic_named(name))
-}
-
-// The comparison of that name.
-fn comparison_named(name: &str) -> Option<Operator>
-    ensures { result ≡ comparison_named name.now }
-{
-    match name {
-        "Eq" => Some(Operator::Eq),
-        "EqValidity" => Some(Operator::EqValidity),
-        "NotEq" => Some(Operator::NotEq),
-        "NotEqValidity" => Some(Operator::NotEqValidity),
-        "Lt" => Some(Operator::Lt),
-        "LtEq" => Some(Operator::LtEq),
-        "Gt" => Some(Operator::Gt),
-        "GtEq" => Some(Operator::GtEq),
-        _ => None,
-    }
-}
-
-// The arithmetic operator of that name.
-fn arithmetic_named(name: &str) -> Option<Operator>
-    ensures { result ≡ arithmetic_named name.now }
-{
-    match name {
-        "Plus" => Some(Operator::Plus),
-        "Minus" => Some(Operator::Minus),
-        "Multiply" => Some(Operator::Multiply),
-        "Divide" => Some(Operator::Divide),
-        "FloorDivide" => Some(Operator::FloorDivide),
-        "Modulus" => Some(Operator::Modulus),
-        _ => None,
-    }
-}
-
-// The operator of that name, of those that combine bits and truth values.
-fn logic_named(name: &str) -> Option<Operator>
-    ensures { result ≡ logic_named name.now }
-{
-    match name {
-        "And" => Some(Operator::And),
-        "Or" => Some(Operator::Or),
-        "Xor" => Some(Operator::Xor),
-        "LogicalAnd" => Some(Operator::LogicalAnd),
-        "LogicalOr" => Some(Operator::LogicalOr),
-        _ => None,
-    }
-}
-
-// A cast: `[expression, type, mode]`.
-#[cycle(expression)]
-fn read_cast(alloc: Global, value: &Value) -> Result<Expr, JsonError>
-    ensures ok { IfOk result (λ expr. cast_of (view value.now) ≡ Some (tree_of expr)) }
-    ensures err { IfErr result (IsErrorOf a_cast (view value.now)) }
-{
-    match three_items(value) {
-        None => Err(JsonError::shape(alloc, value)),
-        Some((operand, target, mode)) => {
-            let expr = at(alloc, Step::Item(0), read_expression(alloc, operand))?;
-            let dtype = at(alloc, Step::Item(1), read_type(alloc, target))?;
-            let options = at(alloc, Step::Item(2), read_mode(alloc, mode))?;
-            let expr = Box::new(alloc, expr)?;
-            Ok(Expr::Cast {
-                expr,
-                dtype,
-                options,
-            })
-        }
-    }
-}
-
-// What a cast does with a value that has no place in its target, by its name.
-fn read_mode(alloc: Global, value: &Value) -> Result<CastOptions, JsonError>
-    ensures ok { IfOk result (λ mode. mode_of (view value.now) ≡ Some mode) }
-    ensures err { IfErr result (IsErrorOf a_mode (view value.now)) }
-{
-    match value.as_str() {
-        None => Err(JsonError::shape(alloc, value)),
-        Some(name) => match mode_named(name) {
-            None => Err(JsonError::shape(alloc, value)),
-            Some(mode) => Ok(mode),
-        },
-    }
-}
-
-// The mode of that name.
-fn mode_named(name: &str) -> Option<CastOptions>
-    ensures { result ≡ mode_named name.now }
-{
-    match name {
-        "Strict" => Some(CastOptions::Strict),
-        "NonStrict" => Some(CastOptions::NonStrict),
-        "Overflowing" => Some(CastOptions::Overflowing),
-        _ => None,
-    }
-}
-
-// A list of expressions.
-pub(crate) fn read_expressions(alloc: Global, value: &Value) -> Result<Exprs, JsonError>
-    ensures ok { IfOk result (λ exprs. expressions_of (view value.now) ≡ Some (trees_of exprs)) }
-    ensures err { IfErr result (IsErrorOf expression_list (view value.now)) }
-{
-    match value.as_array() {
-        None => Err(JsonError::shape(alloc, value)),
-        Some(values) => {
-            let values = values.as_slice();
-            let mut items = Vec::new(alloc);
-            for (number, value) in values.iter().enumerate() {
-                let expr = at(alloc, Step::Item(number), read_expression(alloc, value))?;
-                items.push(expr)?;
-            }
-            Ok(Exprs { items })
-        }
+    let (operand, target, options) = three(args);
+    Expr::Cast {
+        expr: expression(operand),
+        dtype: dtype(target),
+        options: mode(options),
     }
 }

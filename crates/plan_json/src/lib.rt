@@ -4,14 +4,18 @@
 //! the value as `serde_json` reads it: what it reads to, or where it is at fault.
 #![tactic(auto)]
 
+mod arguments;
 mod columns;
 mod declarations;
 mod dtype;
 pub mod error;
 mod examples;
 mod expression;
+mod forms;
 pub mod laws;
 mod literal;
+mod operator;
+mod places;
 mod plan;
 pub mod read;
 pub mod tables;

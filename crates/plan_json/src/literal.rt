@@ -5,7 +5,7 @@ ghost use Rattle.plan_dsl.specs.Literals.{literal_op};
 ghost use Rattle.plan_types.specs.Types.{ty};
 ghost use Rattle.plan_json.specs.Errors.{IsErrorOf};
 ghost use Rattle.plan_json.specs.Faults.{a_counted_type, a_literal, a_number_of, a_number_text, a_typed_literal};
-ghost use Rattle.plan_json.specs.Queries.{counted_of, literal_of, number_of, number_text_of, number_written, typed_of};
+ghost use Rattle.plan_json.specs.Leaves.{counted_of, literal_of, number_of, number_text_of, number_written, typed_of};
 
 use super::dtype::read_type;
 use super::error::{JsonError, Step, at};

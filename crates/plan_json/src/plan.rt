@@ -1,126 +1,82 @@
-//! Plans.
-ghost use Rattle.std.specs.Prelude.{◌≡◌, Some, false, IfOk, IfErr};
-ghost use Rattle.serde_json.specs.View.{view};
-ghost use Rattle.plan_dsl.specs.Plans.{plan_tree};
-ghost use Rattle.plan_types.specs.Schemas.{names_of};
-ghost use Rattle.plan_json.specs.Errors.{IsErrorOf};
-ghost use Rattle.plan_json.specs.Faults.{a_plan, a_scan, a_filter, a_selection};
-ghost use Rattle.plan_json.specs.Queries.{has_flags, plan_of, scan_of, filter_of, select_of};
-ghost use Rattle.plan_json.specs.Tables.{declared};
+//! Plans, from what was read of a key's value: one function for each key.
+#![tactic(auto, using(crate::proofs::FormLemmas::expressions_read))]
 
-use super::columns::read_columns;
-use super::dtype::read_text;
-use super::error::{JsonError, Step, at};
-use super::expression::{read_expression, read_expressions};
-use super::tables::Tables;
-use super::value::{only_member, two_items};
+ghost use Rattle.std.specs.Prelude.{◌≡◌, [], ◌∷◌, Some, false, IfOk, IfErr};
+ghost use Rattle.plan_dsl.specs.Plans.{plan_tree};
+ghost use Rattle.plan_json.specs.Arguments.{args_view};
+ghost use Rattle.plan_json.specs.Forms.{AllFit, asked_in, plan_asks, plan_says};
+ghost use Rattle.plan_json.specs.Queries.{has_flags};
+ghost use Rattle.plan_json.specs.declared.forms.PlanKey.TheVariants as by;
+
+use super::arguments::{Args, columns, expression, expressions, one, plan, table, two};
+use super::error::JsonError;
+use super::forms::PlanKey;
 use plan_dsl::plan::{DslPlan, ProjectionOptions};
-use serde_json::Value;
 use std::alloc::Global;
 
-// A plan over the tables: an object of one key, which names its form.
-#[cycle(plan)]
-pub(crate) fn read_plan(alloc: Global, tables: &Tables, value: &Value) -> Result<DslPlan, JsonError>
-    ensures ok { IfOk result (λ plan. plan_of (declared tables.now) (view value.now)
-        ≡ Some (plan_tree plan)) }
+// The plan of that key.
+pub(crate) fn assemble_plan(alloc: Global, key: PlanKey, args: Args) -> Result<DslPlan, JsonError>
+    requires { AllFit (asked_in (plan_asks key)) (args_view args) }
+    ensures ok { IfOk result (λ plan. plan_says key (args_view args) ≡ Some (plan_tree plan)) }
     ensures flags { IfOk result (λ plan. has_flags plan ≡ false) }
-    ensures err { IfErr result (IsErrorOf (a_plan (names_of (declared tables.now))) (view value.now)) }
+    ensures err { IfErr result (λ error. error ≡ JsonError.NoMemory) }
 {
-    match only_member(value) {
-        None => Err(JsonError::shape(alloc, value)),
-        Some((key, inner)) => match key {
-            "scan" => {
-                let plan = at(alloc, Step::Key("scan"), read_scan(alloc, tables, inner))?;
-                Ok(plan)
-            }
-            "empty" => {
-                let schema = at(alloc, Step::Key("empty"), read_columns(alloc, inner))?;
-                Ok(DslPlan::DataFrameScan {
-                    table: None,
-                    schema,
-                })
-            }
-            "filter" => {
-                let plan = at(
-                    alloc,
-                    Step::Key("filter"),
-                    read_filter(alloc, tables, inner),
-                )?;
-                Ok(plan)
-            }
-            "select" => {
-                let plan = at(
-                    alloc,
-                    Step::Key("select"),
-                    read_select(alloc, tables, inner),
-                )?;
-                Ok(plan)
-            }
-            _ => Err(JsonError::shape(alloc, value)),
+    match key {
+        PlanKey::Scan => Ok(scan(args)),
+        PlanKey::Empty => Ok(empty(args)),
+        PlanKey::Filter => Ok(filter(args)),
+        PlanKey::Select => select(alloc, args),
+    }
+}
+
+fn scan(args: Args) -> DslPlan
+    requires { AllFit (asked_in (plan_asks by.Scan)) (args_view args) }
+    ensures says { plan_says by.Scan (args_view args) ≡ Some (plan_tree result) }
+    ensures flags { has_flags result ≡ false }
+{
+    let (number, schema) = table(one(args));
+    DslPlan::DataFrameScan {
+        table: Some(number),
+        schema,
+    }
+}
+
+fn empty(args: Args) -> DslPlan
+    requires { AllFit (asked_in (plan_asks by.Empty)) (args_view args) }
+    ensures says { plan_says by.Empty (args_view args) ≡ Some (plan_tree result) }
+    ensures flags { has_flags result ≡ false }
+{
+    DslPlan::DataFrameScan {
+        table: None,
+        schema: columns(one(args)),
+    }
+}
+
+fn filter(args: Args) -> DslPlan
+    requires { AllFit (asked_in (plan_asks by.Filter)) (args_view args) }
+    ensures says { plan_says by.Filter (args_view args) ≡ Some (plan_tree result) }
+    ensures flags { has_flags result ≡ false }
+{
+    let (input, predicate) = two(args);
+    DslPlan::Filter {
+        input: plan(input),
+        predicate: Box::into_inner(expression(predicate)),
+    }
+}
+
+fn select(alloc: Global, args: Args) -> Result<DslPlan, JsonError>
+    requires { AllFit (asked_in (plan_asks by.Select)) (args_view args) }
+    ensures says { IfOk result (λ made. plan_says by.Select (args_view args) ≡ Some (plan_tree made)) }
+    ensures flags { IfOk result (λ made. has_flags made ≡ false) }
+    ensures err { IfErr result (λ error. error ≡ JsonError.NoMemory) }
+{
+    let (input, outputs) = two(args);
+    let expr = expressions(alloc, outputs)?;
+    Ok(DslPlan::Select {
+        expr,
+        input: plan(input),
+        options: ProjectionOptions {
+            duplicate_check: false,
         },
-    }
-}
-
-// A scan of a table by its name.
-fn read_scan(alloc: Global, tables: &Tables, value: &Value) -> Result<DslPlan, JsonError>
-    ensures ok { IfOk result (λ plan. scan_of (declared tables.now) (view value.now)
-        ≡ Some (plan_tree plan)) }
-    ensures flags { IfOk result (λ plan. has_flags plan ≡ false) }
-    ensures err { IfErr result (IsErrorOf (a_scan (names_of (declared tables.now))) (view value.now)) }
-{
-    let name = read_text(alloc, value)?;
-    match tables.find(&name) {
-        None => Err(JsonError::name(alloc)),
-        Some((number, schema)) => match schema.try_clone(alloc) {
-            Ok(schema) => Ok(DslPlan::DataFrameScan {
-                table: Some(number),
-                schema,
-            }),
-            Err(error) => Err(JsonError::out_of_memory(error)),
-        },
-    }
-}
-
-// The rows for which an expression is true: `[plan, expression]`.
-#[cycle(plan)]
-fn read_filter(alloc: Global, tables: &Tables, value: &Value) -> Result<DslPlan, JsonError>
-    ensures ok { IfOk result (λ plan. filter_of (declared tables.now) (view value.now)
-        ≡ Some (plan_tree plan)) }
-    ensures flags { IfOk result (λ plan. has_flags plan ≡ false) }
-    ensures err { IfErr result (IsErrorOf (a_filter (names_of (declared tables.now))) (view value.now)) }
-{
-    match two_items(value) {
-        None => Err(JsonError::shape(alloc, value)),
-        Some((input, predicate)) => {
-            let input = at(alloc, Step::Item(0), read_plan(alloc, tables, input))?;
-            let predicate = at(alloc, Step::Item(1), read_expression(alloc, predicate))?;
-            let input = Box::new(alloc, input)?;
-            Ok(DslPlan::Filter { input, predicate })
-        }
-    }
-}
-
-// A frame of a column for each expression: `[plan, expressions]`.
-#[cycle(plan)]
-fn read_select(alloc: Global, tables: &Tables, value: &Value) -> Result<DslPlan, JsonError>
-    ensures ok { IfOk result (λ plan. select_of (declared tables.now) (view value.now)
-        ≡ Some (plan_tree plan)) }
-    ensures flags { IfOk result (λ plan. has_flags plan ≡ false) }
-    ensures err { IfErr result (IsErrorOf (a_selection (names_of (declared tables.now))) (view value.now)) }
-{
-    match two_items(value) {
-        None => Err(JsonError::shape(alloc, value)),
-        Some((input, expressions)) => {
-            let input = at(alloc, Step::Item(0), read_plan(alloc, tables, input))?;
-            let expr = at(alloc, Step::Item(1), read_expressions(alloc, expressions))?;
-            let input = Box::new(alloc, input)?;
-            Ok(DslPlan::Select {
-                expr,
-                input,
-                options: ProjectionOptions {
-                    duplicate_check: false,
-                },
-            })
-        }
-    }
+    })
 }

@@ -4,12 +4,17 @@ ghost use Rattle.serde_json.specs.Data.{Data};
 ghost use Rattle.serde_json.specs.View.{view};
 ghost use Rattle.plan_json.specs.Bytes.{IsTextOf, IsRefusalOf, WritesQuery};
 ghost use Rattle.plan_json.specs.Errors.{IsErrorOf};
-ghost use Rattle.plan_json.specs.Faults.{a_query};
-ghost use Rattle.plan_json.specs.Queries.{QueryModel, IsQueryOf, has_flags, query_model};
+ghost use Rattle.plan_dsl.specs.Plans.{plan_tree};
+ghost use Rattle.plan_types.specs.Schemas.{names_of};
+ghost use Rattle.plan_json.specs.Faults.{a_plan, a_query};
+ghost use Rattle.plan_json.specs.Queries.{QueryModel, IsQueryOf, has_flags, plan_of, query_model};
+ghost use Rattle.plan_json.specs.Tables.{declared};
 
+use super::arguments::{Arg, plan};
 use super::declarations::read_tables;
 use super::error::{JsonError, Step, at};
-use super::plan::read_plan;
+use super::forms::Kind;
+use super::places::read_form;
 use super::tables::Tables;
 use super::value::two_members;
 use plan_dsl::plan::DslPlan;
@@ -61,5 +66,17 @@ fn read_value(alloc: Global, value: &Value) -> Result<Query, JsonError>
             let plan = at(alloc, Step::Key("plan"), read_plan(alloc, &tables, plan))?;
             Ok(Query { tables, plan })
         }
+    }
+}
+
+// A plan over the tables.
+fn read_plan(alloc: Global, tables: &Tables, value: &Value) -> Result<DslPlan, JsonError>
+    ensures ok { IfOk result (λ plan. plan_of (declared tables.now) (view value.now) ≡ Some (plan_tree plan)) }
+    ensures flags { IfOk result (λ plan. has_flags plan ≡ false) }
+    ensures err { IfErr result (IsErrorOf (a_plan (names_of (declared tables.now))) (view value.now)) }
+{
+    match read_form(alloc, tables, Kind::Plan, value) {
+        Ok(part) => Ok(Box::into_inner(plan(Arg::One(part)))),
+        Err(error) => Err(error),
     }
 }

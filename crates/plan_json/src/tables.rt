@@ -25,7 +25,7 @@ impl Tables {
     ghost use Rattle.std.specs.Prelude.{◌≡◌, ◌+◌, ◌↔◌, [], ◌∷◌, ◌++◌, false, slice_get, IsTrue, OnOk, OnErr, IfErr};
     ghost use Rattle.std.specs.Option.{option_map};
     ghost use Rattle.plan_types.specs.Schemas.{columns, names_of, is_among};
-    ghost use Rattle.plan_json.specs.Queries.{table_at};
+    ghost use Rattle.plan_json.specs.Leaves.{table_at};
     ghost use Rattle.plan_json.specs.Tables.{declared};
 
     /// No tables.

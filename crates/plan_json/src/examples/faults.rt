@@ -7,8 +7,8 @@ ghost use Rattle.plan_types.specs.Schemas.{Name};
 ghost use Rattle.serde_json.specs.Data.{Data, Items, array, float, member, no_members, null, number, object};
 ghost use Rattle.serde_json.specs.Events.{items_len};
 ghost use Rattle.plan_json.specs.Faults.{BadFloat, BadName, BadShape, FaultKind, Path, key, own_fault, part};
-ghost use Rattle.plan_json.specs.Samples.{BadAt, NotBadAt, Each, GivesAll, below_zero, bin, cast_value, col, column_value, fault_in, int8, keyed, keyed_twice, list, moments, query_value, scan_value, select_value, table_value, to, whole, word, Gives, in_turn, parts_in, under};
-ghost use Rattle.plan_json.specs.Queries.{table_limit};
+ghost use Rattle.plan_json.specs.Samples.{a_cast, a_filter, a_selection, expression_list, expression_over, operands, BadAt, NotBadAt, Each, GivesAll, below_zero, bin, cast_value, col, column_value, fault_in, int8, keyed, keyed_twice, list, moments, query_value, scan_value, select_value, table_value, to, whole, word, Gives, in_turn, parts_in, under};
+ghost use Rattle.plan_json.specs.Leaves.{table_limit};
 ghost use Rattle.plan_json.specs.Faults as fault;
 
 /// A value that breaks its form itself, and one that doesn't, whatever its parts are. A number that is held as a float is one in place of anything else.
@@ -18,8 +18,8 @@ pub fn fault_examples()
         (fault.a_type, word "UInt64") ∷ (fault.a_type, keyed "Duration" null) ∷ (fault.a_type, keyed "List" null) ∷ (fault.a_type, keyed "Struct" null) ∷
         (fault.a_unit, word "ns") ∷ (fault.field_list, list (a ∷ a ∷ [])) ∷ (fault.column_list, list (a ∷ big_a ∷ [])) ∷
         (fault.a_new_name (codes "s" ∷ []), word "t") ∷ (fault.a_scan (codes "s" ∷ codes "t" ∷ []), word "t") ∷ (fault.a_plan [], keyed "scan" null) ∷
-        (fault.an_expression, keyed "bin" null) ∷ (fault.an_operator, word "NotEq") ∷ (fault.a_cast, list (null ∷ null ∷ null ∷ [])) ∷
-        (fault.a_mode, word "Overflowing") ∷ (fault.expression_list, list []) ∷ (fault.a_filter [], list (null ∷ null ∷ [])) ∷ []) }
+        (fault.an_expression, keyed "bin" null) ∷ (fault.an_operator, word "NotEq") ∷ (a_cast, list (null ∷ null ∷ null ∷ [])) ∷
+        (fault.a_mode, word "Overflowing") ∷ (expression_list [], list []) ∷ (a_filter [], list (null ∷ null ∷ [])) ∷ []) }
     ensures shape { let a = list (word "a" ∷ null ∷ []) in
         GivesAll fault_in (Some BadShape) ((fault.a_query, object (member (codes "plan") null (member (codes "tables") null (member (codes "x") null no_members)))) ∷
         (fault.a_text, whole 1) ∷ (fault.a_type, word "int8") ∷ (fault.a_type, word "Datetime") ∷ (fault.a_type, keyed "duration" null) ∷
@@ -27,17 +27,17 @@ pub fn fault_examples()
         (fault.a_unit, word "s") ∷ (fault.field_list, object no_members) ∷ (fault.a_column, list (null ∷ null ∷ null ∷ [])) ∷
         (fault.a_column, list (null ∷ [])) ∷ (fault.column_list, list (a ∷ null ∷ a ∷ [])) ∷ (fault.a_new_name (codes "s" ∷ []), null) ∷
         (fault.a_plan [], keyed "drop" null) ∷ (fault.a_plan [], keyed_twice "empty" null "scan" null) ∷ (fault.an_expression, keyed "neg" (whole 1)) ∷
-        (fault.an_operator, word "Power") ∷ (fault.an_operator, below_zero 0) ∷ (fault.a_cast, list (null ∷ word "Int8" ∷ [])) ∷ (fault.a_mode, word "strict") ∷
-        (fault.operands, list (word "Plus" ∷ null ∷ [])) ∷ (fault.a_filter [], list (null ∷ [])) ∷ (fault.a_filter [], list (null ∷ null ∷ null ∷ [])) ∷
+        (fault.an_operator, word "Power") ∷ (fault.an_operator, below_zero 0) ∷ (a_cast, list (null ∷ word "Int8" ∷ [])) ∷ (fault.a_mode, word "strict") ∷
+        (operands, list (word "Plus" ∷ null ∷ [])) ∷ (a_filter [], list (null ∷ [])) ∷ (a_filter [], list (null ∷ null ∷ null ∷ [])) ∷
         (fault.table_list, object no_members) ∷ []) }
     ensures name { GivesAll fault_in (Some BadName) ((fault.a_new_name (codes "s" ∷ codes "t" ∷ []), word "t") ∷ (fault.a_scan (codes "s" ∷ []), word "t") ∷ []) }
     ensures none_of_forms { (names : List Name) (d e f : Data) → GivesAll fault_in None (
         (fault.a_table names, keyed_twice "columns" null "name" null) ∷ (fault.a_column, list (d ∷ e ∷ [])) ∷
-        (fault.a_selection names, list (d ∷ e ∷ [])) ∷ (fault.operands, list (d ∷ e ∷ f ∷ [])) ∷ []) }
+        (a_selection names, list (d ∷ e ∷ [])) ∷ (operands, list (d ∷ e ∷ f ∷ [])) ∷ []) }
     ensures shape_of_forms { (names : List Name) (d e f g : Data) → GivesAll fault_in (Some BadShape) (
         (fault.a_table names, keyed "name" null) ∷ (fault.a_table names, keyed_twice "cols" null "name" null) ∷ (fault.a_scan names, whole 0) ∷
-        (fault.a_selection names, list (d ∷ [])) ∷ (fault.a_selection names, list (d ∷ e ∷ f ∷ [])) ∷ (fault.expression_list, object no_members) ∷
-        (fault.operands, list (d ∷ e ∷ f ∷ g ∷ [])) ∷ (fault.a_cast, list (d ∷ e ∷ f ∷ g ∷ [])) ∷ (fault.a_typed_literal, list (d ∷ e ∷ f ∷ [])) ∷ []) }
+        (a_selection names, list (d ∷ [])) ∷ (a_selection names, list (d ∷ e ∷ f ∷ [])) ∷ (expression_list [], object no_members) ∷
+        (operands, list (d ∷ e ∷ f ∷ g ∷ [])) ∷ (a_cast, list (d ∷ e ∷ f ∷ g ∷ [])) ∷ (fault.a_typed_literal, list (d ∷ e ∷ f ∷ [])) ∷ []) }
     ensures too_many_tables { (tables : Items) → nat_lt (items_len tables) table_limit ≡ false → own_fault fault.table_list (array tables) ≡ Some BadShape }
     ensures few_tables { (tables : Items) → nat_lt (items_len tables) table_limit ≡ true → own_fault fault.table_list (array tables) ≡ None }
     ensures none_of_literals { GivesAll fault_in None (
@@ -49,8 +49,8 @@ pub fn fault_examples()
         (fault.a_number_of int8, whole 128) ∷ (fault.a_number_of TimeType, word "1") ∷ []) }
     ensures float { (names : List Name) (x : Float) → GivesAll (λ form. own_fault form (number (float x))) (Some BadFloat) (
         fault.a_query ∷ fault.table_list ∷ fault.a_table names ∷ fault.a_new_name [] ∷ fault.column_list ∷ fault.a_column ∷ fault.a_text ∷ fault.a_type ∷
-        fault.field_list ∷ fault.a_unit ∷ fault.a_plan [] ∷ fault.a_scan (codes "t" ∷ []) ∷ fault.a_filter [] ∷ fault.a_selection names ∷
-        fault.expression_list ∷ fault.an_expression ∷ fault.operands ∷ fault.an_operator ∷ fault.a_cast ∷ fault.a_mode ∷ fault.a_literal ∷
+        fault.field_list ∷ fault.a_unit ∷ fault.a_plan [] ∷ fault.a_scan (codes "t" ∷ []) ∷ a_filter [] ∷ a_selection names ∷
+        expression_list [] ∷ fault.an_expression ∷ operands ∷ fault.an_operator ∷ a_cast ∷ fault.a_mode ∷ fault.a_literal ∷
         fault.a_number_text ∷ fault.a_typed_literal ∷ fault.a_counted_type ∷ fault.a_number_of int8 ∷ []) }
     ensures list_of_float { (x : Float) → GivesAll fault_in (Some BadShape) ((fault.a_column, list (number (float x) ∷ [])) ∷ (fault.a_literal, list (number (float x) ∷ [])) ∷ []) }
 {}
@@ -72,17 +72,17 @@ pub fn part_examples()
     ensures no_types { (d : Data) → GivesAll parts_in [] ((fault.a_type, word "Int8") ∷ (fault.a_type, keyed "Date" d) ∷ []) }
     ensures plans { (names : List Name) (d e : Data) → Gives parts_in (
         ((fault.a_plan names, keyed "scan" d), under "scan" (fault.a_scan names) d) ∷ ((fault.a_plan names, keyed "empty" d), under "empty" fault.column_list d) ∷
-        ((fault.a_plan names, keyed "filter" d), under "filter" (fault.a_filter names) d) ∷ ((fault.a_plan names, keyed "select" d), under "select" (fault.a_selection names) d) ∷
-        ((fault.a_filter names, list (d ∷ e ∷ [])), in_turn ((fault.a_plan names, d) ∷ (fault.an_expression, e) ∷ [])) ∷
-        ((fault.a_selection names, list (d ∷ e ∷ [])), in_turn ((fault.a_plan names, d) ∷ (fault.expression_list, e) ∷ [])) ∷
-        ((fault.expression_list, list (d ∷ e ∷ [])), in_turn ((fault.an_expression, d) ∷ (fault.an_expression, e) ∷ [])) ∷ []) }
+        ((fault.a_plan names, keyed "filter" d), under "filter" (a_filter names) d) ∷ ((fault.a_plan names, keyed "select" d), under "select" (a_selection names) d) ∷
+        ((a_filter names, list (d ∷ e ∷ [])), in_turn ((fault.a_plan names, d) ∷ (expression_over names, e) ∷ [])) ∷
+        ((a_selection names, list (d ∷ e ∷ [])), in_turn ((fault.a_plan names, d) ∷ (expression_list names, e) ∷ [])) ∷
+        ((expression_list [], list (d ∷ e ∷ [])), in_turn ((fault.an_expression, d) ∷ (fault.an_expression, e) ∷ [])) ∷ []) }
     ensures no_plans { (names : List Name) (d e : Data) → GivesAll parts_in [] ((fault.a_plan names, keyed "drop" d) ∷ (fault.a_plan names, keyed_twice "empty" d "scan" e) ∷ []) }
     ensures expressions { (d e f : Data) → Gives parts_in (
         ((fault.an_expression, keyed "col" d), under "col" fault.a_text d) ∷ ((fault.an_expression, keyed "lit" d), under "lit" fault.a_literal d) ∷
         ((fault.an_expression, keyed "int" d), under "int" fault.a_number_text d) ∷ ((fault.an_expression, keyed "typed" d), under "typed" fault.a_typed_literal d) ∷
-        ((fault.an_expression, keyed "bin" d), under "bin" fault.operands d) ∷ ((fault.an_expression, keyed "cast" d), under "cast" fault.a_cast d) ∷
-        ((fault.operands, list (d ∷ e ∷ f ∷ [])), in_turn ((fault.an_operator, d) ∷ (fault.an_expression, e) ∷ (fault.an_expression, f) ∷ [])) ∷
-        ((fault.a_cast, list (d ∷ e ∷ f ∷ [])), in_turn ((fault.an_expression, d) ∷ (fault.a_type, e) ∷ (fault.a_mode, f) ∷ [])) ∷ []) }
+        ((fault.an_expression, keyed "bin" d), under "bin" operands d) ∷ ((fault.an_expression, keyed "cast" d), under "cast" a_cast d) ∷
+        ((operands, list (d ∷ e ∷ f ∷ [])), in_turn ((fault.an_operator, d) ∷ (fault.an_expression, e) ∷ (fault.an_expression, f) ∷ [])) ∷
+        ((a_cast, list (d ∷ e ∷ f ∷ [])), in_turn ((fault.an_expression, d) ∷ (fault.a_type, e) ∷ (fault.a_mode, f) ∷ [])) ∷ []) }
     ensures no_expressions { (d : Data) → GivesAll parts_in [] ((fault.an_expression, keyed "neg" d) ∷ (fault.a_literal, list (d ∷ [])) ∷ []) }
     ensures typed_literals { (d : Data) → Gives parts_in (
         ((fault.a_typed_literal, list (word "Date" ∷ d ∷ [])), in_turn ((fault.a_counted_type, word "Date") ∷ (fault.a_number_of DateType, d) ∷ [])) ∷

@@ -4,7 +4,7 @@ use Rattle.plan_types.proofs.SchemaLemmas.{is_some-option_map}
 use Rattle.serde_json.specs.View.{view, items_view}
 use Rattle.plan_types.specs.Schemas.{columns, names_of, repeats}
 use Rattle.plan_types.specs.Types.{ty}
-use Rattle.plan_json.specs.Queries.{column_of}
+use Rattle.plan_json.specs.Leaves.{column_of}
 use Rattle.plan_json.specs.Faults.{a_column, column_list, part, number, each}
 use Rattle.plan_json.proofs.ColumnLemmas.{columns_more, columns_all, column_repeated}
 use Rattle.plan_json.proofs.FaultLemmas.{IfErr-below, IsErrorOf-own, in_parts}

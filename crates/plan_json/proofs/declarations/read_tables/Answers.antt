@@ -3,7 +3,7 @@ use Rattle.std.proofs.lemmas.Result.{IfOk-at_ok}
 use Rattle.serde_json.specs.View.{view, items_view}
 use Rattle.plan_types.specs.Schemas.{names_of, repeats}
 use Rattle.plan_json.specs.Faults.{a_table, table_list, part, number, each_table}
-use Rattle.plan_json.specs.Queries.{table_of}
+use Rattle.plan_json.specs.Leaves.{table_of}
 use Rattle.plan_json.specs.Tables.{declared}
 use Rattle.plan_json.proofs.DeclarationLemmas.{tables_all, tables_more, tables_too_many, table_names-read, length-tables}
 use Rattle.plan_json.proofs.FaultLemmas.{IfErr-below, IsErrorOf-own, in_parts}

@@ -2,7 +2,7 @@ use Rattle.std.proofs.Common.{◌≡◌, Some, false, take}
 use Rattle.serde_json.specs.View.{items_view}
 use Rattle.plan_types.specs.Schemas.{names_of, repeats}
 use Rattle.plan_json.specs.Looking.{all_of}
-use Rattle.plan_json.specs.Queries.{table_of}
+use Rattle.plan_json.specs.Leaves.{table_of}
 use Rattle.plan_json.specs.Tables.{declared}
 use Rattle.plan_json.proofs.declarations.read_tables.Given as goal
 

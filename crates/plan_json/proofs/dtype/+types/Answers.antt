@@ -4,7 +4,7 @@ use Rattle.std.proofs.lemmas.Result.{IfOk-at_ok}
 use Rattle.serde_json.specs.View.{view, items_view}
 use Rattle.plan_types.specs.Types.{field_of}
 use Rattle.plan_json.specs.Faults.{a_column, a_text, a_type, a_unit, field_list, part, key, number, type_form, column_parts, each}
-use Rattle.plan_json.specs.Queries.{column_of, datetime_type, duration_type, struct_type}
+use Rattle.plan_json.specs.Leaves.{column_of, datetime_type, duration_type, struct_type}
 use Rattle.plan_json.proofs.ColumnLemmas.{struct_all}
 use Rattle.plan_json.proofs.FaultLemmas.{IfErr-below, IsErrorOf-own, in_parts, only_member-part}
 use Rattle.plan_json.proofs.ItemLemmas.{all_of-more, each-at}

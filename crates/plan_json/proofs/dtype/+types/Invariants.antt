@@ -3,7 +3,7 @@ use Rattle.serde_json.specs.Data.{depth}
 use Rattle.serde_json.specs.View.{view, items_view}
 use Rattle.plan_types.specs.Types.{field_of}
 use Rattle.plan_json.specs.Looking.{all_of}
-use Rattle.plan_json.specs.Queries.{column_of}
+use Rattle.plan_json.specs.Leaves.{column_of}
 use Rattle.plan_json.proofs.dtype.+types.Given as goal
 
 abbrev pub decreases-read_type : goal.decreases-read_type

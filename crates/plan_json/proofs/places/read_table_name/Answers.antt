@@ -4,7 +4,7 @@ use Rattle.plan_json.specs.Faults.{BadName, a_scan}
 use Rattle.plan_json.specs.Tables.{declared}
 use Rattle.plan_json.proofs.FaultLemmas.{IfErr-handed, IsErrorOf-own, IsErrorOf-text, name_fault-none, name_fault-failed}
 use Rattle.plan_json.proofs.TableLemmas.{is_some-table_at}
-use Rattle.plan_json.proofs.plan.read_scan.Goals as goal
+use Rattle.plan_json.proofs.places.read_table_name.Goals as goal
 
 pub returns-in_err-name-clause-err : goal.returns-in_err-name-clause-err
 returns-in_err-name-clause-err c =

@@ -1,0 +1,41 @@
+-- What the code holds of what it has read.
+use Rattle.std.specs.Prelude.{List, [], ◌∷◌, map, if◌then◌else◌}
+use Rattle.plan_types.specs.Schemas.{columns}
+use Rattle.plan_types.specs.Types.{ty}
+use Rattle.plan_dsl.specs.Expressions.{tree_of}
+use Rattle.plan_dsl.specs.Literals.{literal_op}
+use Rattle.plan_dsl.specs.Plans.{plan_tree}
+use Rattle.plan_dsl.specs.declared.plan.DslPlan.{DslPlan}
+use Rattle.plan_json.specs.Forms.{Read, name_read, literal_read, operator_read, type_read, mode_read, table_read, columns_read, expression_read, plan_read, many_read, reads_of, other_read}
+use Rattle.plan_json.specs.Queries.{has_flags}
+use Rattle.plan_json.specs.declared.arguments.Part.{Part}
+use Rattle.plan_json.specs.declared.arguments.Part.TheVariants.{Name, Literal, Operator, Dtype, Mode, Table, Columns, Expression, Plan}
+use Rattle.plan_json.specs.declared.arguments.Arg.{Arg}
+use Rattle.plan_json.specs.declared.arguments.Arg.TheVariants.{One, Many}
+use Rattle.plan_json.specs.declared.arguments.Args.{Args}
+use Rattle.plan_json.specs.declared.arguments.Args.TheVariants as args
+
+abbrev pub plan_seen : DslPlan → Read
+plan_seen plan = if has_flags plan then other_read else plan_read (plan_tree plan)
+
+abbrev pub part_view : Part → Read
+part_view (Name name) = name_read name
+part_view (Literal literal) = literal_read (literal_op literal)
+part_view (Operator operator) = operator_read operator
+part_view (Dtype dtype) = type_read (ty dtype)
+part_view (Mode mode) = mode_read mode
+part_view (Table number schema) = table_read number (columns schema)
+part_view (Columns schema) = columns_read (columns schema)
+part_view (Expression expr) = expression_read (tree_of expr.value)
+part_view (Plan plan) = plan_seen plan.value
+
+abbrev pub arg_view : Arg → Read
+arg_view (One part) = part_view part
+arg_view (Many parts) = many_read (reads_of (map part_view parts.items))
+
+abbrev pub args_view : Args → List Read
+args_view args.Zero = []
+args_view (args.One a) = arg_view a ∷ []
+args_view (args.Two a b) = arg_view a ∷ arg_view b ∷ []
+args_view (args.Three a b c) = arg_view a ∷ arg_view b ∷ arg_view c ∷ []
+args_view (args.Four a b c d) = arg_view a ∷ arg_view b ∷ arg_view c ∷ arg_view d ∷ []

@@ -1,0 +1,214 @@
+-- The table of forms: the keys of an object of one key, what each asks of its value, and what it says.
+use Rattle.std.specs.Prelude.{◌≡◌, ℕ, List, [], ◌∷◌, map, Option, Some, None, Bool, ◌&&◌, true, false, option_map, codes, length, if◌then◌else◌}
+use Rattle.std.specs.Str.{bytes_eq}
+use Rattle.plan_types.specs.Schemas.{Name, Columns}
+use Rattle.plan_types.specs.Types.{Ty}
+use Rattle.plan_types.specs.declared.dtype.CastOptions.{CastOptions}
+use Rattle.plan_dsl.specs.Ops.{Op, ColumnOp, BinaryOp, CastOp, Expression}
+use Rattle.plan_dsl.specs.Plans.{Plan, named, scan_op, select_op, filter_op}
+use Rattle.plan_dsl.specs.Trees.{node, no_more, more}
+use Rattle.plan_dsl.specs.declared.operator.Operator.{Operator}
+use Rattle.plan_json.specs.declared.forms.Kind.{Kind}
+use Rattle.plan_json.specs.declared.forms.Kind.TheVariants as kinds
+use Rattle.plan_json.specs.declared.forms.Leaf.{Leaf}
+use Rattle.plan_json.specs.declared.forms.Leaf.TheVariants as leaves
+use Rattle.plan_json.specs.declared.forms.Item.{Item}
+use Rattle.plan_json.specs.declared.forms.Item.TheVariants as items
+use Rattle.plan_json.specs.declared.forms.Place.{Place}
+use Rattle.plan_json.specs.declared.forms.Place.TheVariants as places
+use Rattle.plan_json.specs.declared.forms.Places.{Places as CodePlaces}
+use Rattle.plan_json.specs.declared.forms.Places.TheVariants as counts
+use Rattle.plan_json.specs.declared.forms.Key.{Key}
+use Rattle.plan_json.specs.declared.forms.Key.TheVariants as keys
+use Rattle.plan_json.specs.declared.forms.ExpressionKey.{ExpressionKey}
+use Rattle.plan_json.specs.declared.forms.ExpressionKey.TheVariants as of
+use Rattle.plan_json.specs.declared.forms.PlanKey.{PlanKey}
+use Rattle.plan_json.specs.declared.forms.PlanKey.TheVariants as by
+use Rattle.plan_json.specs.declared.forms.Row.{Row}
+
+-- ---- what a place asks for
+
+pub data Asked : Type 0 where
+  -- an object of one key, which names a form of the kind
+  a_form : Kind → Asked
+  -- what has no forms
+  leaf : Leaf → Asked
+  -- a list of any number of these
+  many : Asked → Asked
+
+-- what a key asks of its value
+pub data Places : Type 0 where
+  single : Asked → Places
+  -- a list of exactly these
+  listed : List Asked → Places
+
+abbrev pub expression : Asked
+expression = a_form kinds.Expression
+
+abbrev pub plan : Asked
+plan = a_form kinds.Plan
+
+-- ---- expressions
+
+-- the keys of expressions
+abbrev pub expression_rows : List (List ℕ × ExpressionKey)
+expression_rows =
+    (codes "col", of.Col) ∷
+    (codes "lit", of.Lit) ∷
+    (codes "int", of.Int) ∷
+    (codes "typed", of.Typed) ∷
+    (codes "bin", of.Bin) ∷
+    (codes "cast", of.Cast) ∷ []
+
+-- what each asks of its value
+abbrev pub expression_asks : ExpressionKey → Places
+expression_asks of.Col = single (leaf leaves.Name)
+expression_asks of.Lit = single (leaf leaves.Value)
+expression_asks of.Int = single (leaf leaves.Digits)
+expression_asks of.Typed = single (leaf leaves.Typed)
+expression_asks of.Bin = listed (leaf leaves.Operator ∷ expression ∷ expression ∷ [])
+expression_asks of.Cast = listed (expression ∷ leaf leaves.Dtype ∷ leaf leaves.Mode ∷ [])
+
+-- ---- plans
+
+-- the keys of plans
+abbrev pub plan_rows : List (List ℕ × PlanKey)
+plan_rows =
+    (codes "scan", by.Scan) ∷
+    (codes "empty", by.Empty) ∷
+    (codes "filter", by.Filter) ∷
+    (codes "select", by.Select) ∷ []
+
+-- what each asks of its value
+abbrev pub plan_asks : PlanKey → Places
+plan_asks by.Scan = single (leaf leaves.Table)
+plan_asks by.Empty = single (leaf leaves.Columns)
+plan_asks by.Filter = listed (plan ∷ expression ∷ [])
+plan_asks by.Select = listed (plan ∷ many expression ∷ [])
+
+-- ---- what a value says
+
+-- what is read of an item, and of a list of them
+mutual
+  pub data Read : Type 0 where
+    name_read : Name → Read
+    literal_read : Op → Read
+    operator_read : Operator → Read
+    type_read : Ty → Read
+    mode_read : CastOptions → Read
+    table_read : ℕ → Columns → Read
+    columns_read : Columns → Read
+    expression_read : Expression → Read
+    plan_read : Plan → Read
+    many_read : Reads → Read
+    -- a plan that no query can write
+    other_read : Read
+
+  pub data Reads : Type 0 where
+    no_read : Reads
+    more_read : Read → Reads → Reads
+
+abbrev pub reads_of : List Read → Reads
+reads_of [] = no_read
+reads_of (r ∷ rs) = more_read r (reads_of rs)
+
+-- the expressions among them
+abbrev pub expressions_in : Reads → List Expression
+expressions_in no_read = []
+expressions_in (more_read (expression_read tree) rs) = tree ∷ expressions_in rs
+expressions_in (more_read _ rs) = expressions_in rs
+
+abbrev pub expression_says : ExpressionKey → List Read → Option Expression
+expression_says of.Col (name_read name ∷ []) = Some (node (ColumnOp name) no_more)
+expression_says of.Lit (literal_read op ∷ []) = Some (node op no_more)
+expression_says of.Int (literal_read op ∷ []) = Some (node op no_more)
+expression_says of.Typed (literal_read op ∷ []) = Some (node op no_more)
+expression_says of.Bin (operator_read op ∷ expression_read left ∷ expression_read right ∷ []) =
+    Some (node (BinaryOp op) (more left (more right no_more)))
+expression_says of.Cast (expression_read operand ∷ type_read type ∷ mode_read mode ∷ []) =
+    Some (node (CastOp type mode) (more operand no_more))
+expression_says _ _ = None
+
+abbrev pub plan_says : PlanKey → List Read → Option Plan
+plan_says by.Scan (table_read number columns ∷ []) = Some (node (scan_op (Some number) columns) no_more)
+plan_says by.Empty (columns_read columns ∷ []) = Some (node (scan_op None columns) no_more)
+plan_says by.Filter (plan_read input ∷ expression_read predicate ∷ []) =
+    Some (node (filter_op (named predicate)) (more input no_more))
+plan_says by.Select (plan_read input ∷ many_read outputs ∷ []) =
+    Some (node (select_op (map named (expressions_in outputs)) None) (more input no_more))
+plan_says _ _ = None
+
+-- ---- keys of any kind
+
+abbrev pub row_named : {K : Type 0} → List (List ℕ × K) → List ℕ → Option (List ℕ × K)
+row_named [] word = None
+row_named (row ∷ rows) word = if bytes_eq row.0 word then Some row else row_named rows word
+
+abbrev pub key_named : Kind → List ℕ → Option (List ℕ × Key)
+key_named kinds.Expression word = option_map (λ row. (row.0, keys.Expression row.1)) (row_named expression_rows word)
+key_named kinds.Plan word = option_map (λ row. (row.0, keys.Plan row.1)) (row_named plan_rows word)
+
+abbrev pub asks : Key → Places
+asks (keys.Expression key) = expression_asks key
+asks (keys.Plan key) = plan_asks key
+
+abbrev pub says : Key → List Read → Option Read
+says (keys.Expression key) found = option_map expression_read (expression_says key found)
+says (keys.Plan key) found = option_map plan_read (plan_says key found)
+
+-- ---- what is read is what was asked for
+
+abbrev mutual
+  pub fits : Asked → Read → Bool
+  fits (a_form kinds.Expression) (expression_read tree) = true
+  fits (a_form kinds.Plan) (plan_read tree) = true
+  fits (leaf leaves.Name) (name_read name) = true
+  fits (leaf leaves.Value) (literal_read op) = true
+  fits (leaf leaves.Digits) (literal_read op) = true
+  fits (leaf leaves.Typed) (literal_read op) = true
+  fits (leaf leaves.Operator) (operator_read op) = true
+  fits (leaf leaves.Dtype) (type_read type) = true
+  fits (leaf leaves.Mode) (mode_read mode) = true
+  fits (leaf leaves.Table) (table_read number columns) = true
+  fits (leaf leaves.Columns) (columns_read columns) = true
+  fits (many a) (many_read rs) = all_fit a rs
+  fits _ _ = false
+
+  pub all_fit : Asked → Reads → Bool
+  all_fit a no_read = true
+  all_fit a (more_read r rs) = fits a r && all_fit a rs
+
+-- the places that a key has
+abbrev pub asked_in : Places → List Asked
+asked_in (single a) = a ∷ []
+asked_in (listed ps) = ps
+
+abbrev pub each_fits : List Asked → List Read → Bool
+each_fits [] [] = true
+each_fits (a ∷ ps) (r ∷ rs) = fits a r && each_fits ps rs
+each_fits _ _ = false
+
+pub record Fits (asked : Asked) (found : Read) : Type 0 where
+  pub fit : fits asked found ≡ true
+
+-- as many are read as are asked for, each what is asked
+pub record AllFit (asked : List Asked) (found : List Read) : Type 0 where
+  pub count : length found ≡ length asked
+  pub each : each_fits asked found ≡ true
+
+-- ---- the code's table
+
+abbrev pub row_view : {K : Type 0} → Row K → List ℕ × K
+row_view row = (row.word.now, row.key)
+
+abbrev pub item_view : Item → Asked
+item_view (items.Form kind) = a_form kind
+item_view (items.Leaf which) = leaf which
+
+abbrev pub place_view : Place → Asked
+place_view (places.One item) = item_view item
+place_view (places.Many item) = many (item_view item)
+
+abbrev pub places_view : CodePlaces → Places
+places_view (counts.Single place) = single (place_view place)
+places_view (counts.Listed ps) = listed (map place_view ps.now)

@@ -1,0 +1,243 @@
+-- What a part of a value is that stands in no row of the table of forms.
+-- Each definition gives what a value of its shape means, and nothing where the value hasn't the shape.
+use Rattle.std.specs.Prelude.{ℕ, ℤ, ◌^◌, ◌==◌, ◌&&◌, Bool, List, not, Option, Some, None, option_map, option_and_then, codes, nat_lt, position, slice_index, if◌then◌else◌, true, false}
+use Rattle.std.specs.Map.{lookup}
+use Rattle.std.specs.Option.{option_or}
+use Rattle.std.specs.Str.{chars, bytes_eq}
+use Rattle.serde_json.specs.Data.{Data, null, boolean, number as numeral, string, array, object, Items, no_items, item, no_members, member}
+use Rattle.serde_json.specs.Events.{items_len}
+use Rattle.serde_json.specs.Find.{get, as_str, as_array}
+use Rattle.plan_types.specs.Schemas.{Name, Columns, same_name, names_of, repeats}
+use Rattle.plan_types.specs.Casts.{number_in}
+use Rattle.plan_types.specs.Types.{Ty, NullType, Truth, Integer, TextType, DateType, TimeType, DatetimeType, DurationType, ListType, StructType, Untyped, Fields, no_field, with_field, is_counted}
+use Rattle.plan_types.specs.Values.{NullValue, TruthValue, IntValue, TextValue, in_range}
+use Rattle.plan_types.specs.declared.dtype.CastOptions.{CastOptions}
+use Rattle.plan_types.specs.declared.dtype.CastOptions.TheVariants.{Strict, NonStrict, Overflowing}
+use Rattle.plan_types.specs.declared.dtype.TimeUnit.{TimeUnit}
+use Rattle.plan_types.specs.declared.dtype.TimeUnit.TheVariants.{Nanoseconds, Microseconds, Milliseconds}
+use Rattle.plan_dsl.specs.Ops.{Op, LiteralOp}
+use Rattle.plan_dsl.specs.declared.operator.Operator.{Operator}
+use Rattle.plan_dsl.specs.declared.operator.Operator.TheVariants.{Eq, EqValidity, NotEq, NotEqValidity, Lt, LtEq, Gt, GtEq, Plus, Minus, Multiply, Divide, FloorDivide, Modulus, And, Or, Xor, LogicalAnd, LogicalOr}
+use Rattle.plan_json.specs.Looking.{both, whole_number, two_members, two_items, all_of, some_of}
+use Rattle.plan_json.specs.Tables.{Declared}
+
+-- ---- names and types
+
+-- the characters of a text
+abbrev pub text_of : Data → Option Name
+text_of d = option_map chars (as_str d)
+
+abbrev pub integer_named : List ℕ → Option Ty
+integer_named name =
+    if bytes_eq name (codes "Int8") then Some (Integer true 8) else (
+    if bytes_eq name (codes "Int16") then Some (Integer true 16) else (
+    if bytes_eq name (codes "Int32") then Some (Integer true 32) else (
+    if bytes_eq name (codes "Int64") then Some (Integer true 64) else (
+    if bytes_eq name (codes "UInt8") then Some (Integer false 8) else (
+    if bytes_eq name (codes "UInt16") then Some (Integer false 16) else (
+    if bytes_eq name (codes "UInt32") then Some (Integer false 32) else (
+    if bytes_eq name (codes "UInt64") then Some (Integer false 64) else None)))))))
+
+-- the type of that name, of those without parts that are no integers
+abbrev pub plain_named : List ℕ → Option Ty
+plain_named name =
+    if bytes_eq name (codes "Null") then Some NullType else (
+    if bytes_eq name (codes "Boolean") then Some Truth else (
+    if bytes_eq name (codes "String") then Some TextType else (
+    if bytes_eq name (codes "Date") then Some DateType else (
+    if bytes_eq name (codes "Time") then Some TimeType else None))))
+
+-- the type of that name, of those without parts
+abbrev pub type_named : List ℕ → Option Ty
+type_named name = option_or (integer_named name) (plain_named name)
+
+abbrev pub unit_named : List ℕ → Option TimeUnit
+unit_named name =
+    if bytes_eq name (codes "ns") then Some Nanoseconds else (
+    if bytes_eq name (codes "us") then Some Microseconds else (
+    if bytes_eq name (codes "ms") then Some Milliseconds else None))
+
+abbrev pub unit_of : Data → Option TimeUnit
+unit_of d = option_and_then unit_named (as_str d)
+
+abbrev pub datetime_type : TimeUnit → Ty
+datetime_type unit = DatetimeType unit
+
+abbrev pub duration_type : TimeUnit → Ty
+duration_type unit = DurationType unit
+
+abbrev pub list_type : Ty → Ty
+list_type items = ListType items
+
+abbrev pub struct_type : Fields → Ty
+struct_type fields = StructType fields
+
+-- the field, and those after it
+abbrev pub field_before : (Name × Ty) × Fields → Fields
+field_before parts = with_field parts.0.0 parts.0.1 parts.1
+
+abbrev mutual
+  -- a name, or an object of one key, which names its form
+  pub type_of : Data → Option Ty
+  type_of (string name) = type_named name
+  type_of (object (member key value no_members)) =
+      if bytes_eq key (codes "Datetime") then option_map datetime_type (unit_of value) else (
+      if bytes_eq key (codes "Duration") then option_map duration_type (unit_of value) else (
+      if bytes_eq key (codes "List") then option_map list_type (type_of value) else (
+      if bytes_eq key (codes "Struct") then option_map struct_type (struct_of value) else None)))
+  type_of _ = None
+
+  -- a list of fields, whose names may repeat
+  pub struct_of : Data → Option Fields
+  struct_of (array items) = fields_from items
+  struct_of _ = None
+
+  pub fields_from : Items → Option Fields
+  fields_from no_items = Some no_field
+  fields_from (item first rest) = option_map field_before (both (column_of first) (fields_from rest))
+
+  -- a column or a field: `[name, type]`
+  pub column_of : Data → Option (Name × Ty)
+  column_of (array (item name (item type no_items))) = both (text_of name) (type_of type)
+  column_of _ = None
+
+abbrev pub comparison_named : List ℕ → Option Operator
+comparison_named name =
+    if bytes_eq name (codes "Eq") then Some Eq else (
+    if bytes_eq name (codes "EqValidity") then Some EqValidity else (
+    if bytes_eq name (codes "NotEq") then Some NotEq else (
+    if bytes_eq name (codes "NotEqValidity") then Some NotEqValidity else (
+    if bytes_eq name (codes "Lt") then Some Lt else (
+    if bytes_eq name (codes "LtEq") then Some LtEq else (
+    if bytes_eq name (codes "Gt") then Some Gt else (
+    if bytes_eq name (codes "GtEq") then Some GtEq else None)))))))
+
+abbrev pub arithmetic_named : List ℕ → Option Operator
+arithmetic_named name =
+    if bytes_eq name (codes "Plus") then Some Plus else (
+    if bytes_eq name (codes "Minus") then Some Minus else (
+    if bytes_eq name (codes "Multiply") then Some Multiply else (
+    if bytes_eq name (codes "Divide") then Some Divide else (
+    if bytes_eq name (codes "FloorDivide") then Some FloorDivide else (
+    if bytes_eq name (codes "Modulus") then Some Modulus else None)))))
+
+abbrev pub logic_named : List ℕ → Option Operator
+logic_named name =
+    if bytes_eq name (codes "And") then Some And else (
+    if bytes_eq name (codes "Or") then Some Or else (
+    if bytes_eq name (codes "Xor") then Some Xor else (
+    if bytes_eq name (codes "LogicalAnd") then Some LogicalAnd else (
+    if bytes_eq name (codes "LogicalOr") then Some LogicalOr else None))))
+
+abbrev pub operator_named : List ℕ → Option Operator
+operator_named name = option_or (option_or (comparison_named name) (arithmetic_named name)) (logic_named name)
+
+abbrev pub operator_of : Data → Option Operator
+operator_of d = option_and_then operator_named (as_str d)
+
+-- what a cast does with a value that has no place in its target
+abbrev pub mode_named : List ℕ → Option CastOptions
+mode_named name =
+    if bytes_eq name (codes "Strict") then Some Strict else (
+    if bytes_eq name (codes "NonStrict") then Some NonStrict else (
+    if bytes_eq name (codes "Overflowing") then Some Overflowing else None))
+
+abbrev pub mode_of : Data → Option CastOptions
+mode_of d = option_and_then mode_named (as_str d)
+
+-- ---- columns
+
+-- the name that a column gives itself, whatever its type
+abbrev pub column_name : Data → Option Name
+column_name d = option_and_then (λ pair. text_of pair.0) (two_items d)
+
+abbrev pub columns_from : Items → Option Columns
+columns_from items = if repeats (some_of column_name items) then None else all_of column_of items
+
+-- a list of columns, no two of one name
+abbrev pub columns_of : Data → Option Columns
+columns_of d = option_and_then columns_from (as_array d)
+
+-- ---- tables
+
+-- `{"name": name, "columns": columns}`
+abbrev pub table_of : Data → Option (Name × Columns)
+table_of d = option_and_then (λ pair. both (text_of pair.0) (columns_of pair.1)) (two_members (codes "name") (codes "columns") d)
+
+-- the name that a table gives itself, whatever its columns
+abbrev pub table_name : Data → Option Name
+table_name d = option_and_then text_of (get (codes "name") d)
+
+-- the number of a table is below this
+abbrev pub table_limit : ℕ
+table_limit = 2 ^ 32
+
+abbrev pub tables_from : Items → Option Declared
+tables_from items =
+    if nat_lt (items_len items) table_limit && not (repeats (some_of table_name items)) then all_of table_of items else None
+
+-- a list of fewer than 2^32 tables, no two of one name
+abbrev pub tables_of : Data → Option Declared
+tables_of d = option_and_then tables_from (as_array d)
+
+-- the number and the columns of the table of that name
+abbrev pub table_at : Declared → Name → Option (ℕ × Columns)
+table_at tables name = both (position (same_name name) (names_of tables)) (lookup (same_name name) tables)
+
+-- ---- literals
+
+-- null, a truth value and a text have types of their own
+abbrev pub null_op : Op
+null_op = LiteralOp NullType NullValue
+
+abbrev pub truth_op : Bool → Op
+truth_op truth = LiteralOp Truth (TruthValue truth)
+
+abbrev pub text_op : Name → Op
+text_op text = LiteralOp TextType (TextValue text)
+
+-- a number without a type
+abbrev pub number_op : ℤ → Op
+number_op number = LiteralOp (Untyped number) (IntValue number)
+
+-- null, a truth value, a text, or a whole number without a type
+abbrev pub literal_of : Data → Option Op
+literal_of null = Some null_op
+literal_of (boolean truth) = Some (truth_op truth)
+literal_of (string text) = Some (text_op (chars text))
+literal_of (numeral n) = option_map number_op (whole_number (numeral n))
+literal_of (array ds) = None
+literal_of (object ms) = None
+
+-- a number that 128 bits with a sign hold
+abbrev pub narrow : ℤ → Option ℤ
+narrow number = if in_range (Integer true 128) number then Some number else None
+
+-- the number that bytes write: digits, behind an optional `-`
+abbrev pub number_written : List ℕ → Option ℤ
+number_written bytes = if slice_index bytes 0 == 43 then None else option_and_then narrow (number_in bytes)
+
+-- a text that writes a number without a type
+abbrev pub number_text_of : Data → Option Op
+number_text_of d = option_map number_op (option_and_then number_written (as_str d))
+
+-- a type of integers or of time
+abbrev pub counted : Ty → Option Ty
+counted type = if is_counted type then Some type else None
+
+abbrev pub counted_of : Data → Option Ty
+counted_of d = option_and_then counted (type_of d)
+
+-- a number of such a type, whose range has it
+abbrev pub typed_op : Ty → ℤ → Option Op
+typed_op type number = if is_counted type && in_range type number then Some (LiteralOp type (IntValue number)) else None
+
+abbrev pub number_of : Ty → Data → Option Op
+number_of type d = option_and_then (typed_op type) (whole_number d)
+
+abbrev pub typed_from : Data × Data → Option Op
+typed_from pair = option_and_then (λ type. number_of type pair.1) (counted_of pair.0)
+
+-- `[type, number]`
+abbrev pub typed_of : Data → Option Op
+typed_of d = option_and_then typed_from (two_items d)

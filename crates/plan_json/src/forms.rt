@@ -1,0 +1,238 @@
+//! The table of forms: the keys of an object of one key, and what each asks of its value.
+ghost use Rattle.std.specs.Prelude.{◌≡◌, ◌≤◌, IfSome, length, map};
+ghost use Rattle.std.specs.Option.{option_map};
+ghost use Rattle.plan_json.specs.Errors.{escaped};
+ghost use Rattle.plan_json.specs.Forms.{asked_in, asks, expression_asks, expression_rows, key_named, places_view, plan_asks, plan_rows, row_named, row_view};
+
+// What an object of one key can be.
+#[derive(Clone, Copy)]
+pub(crate) enum Kind {
+    Expression,
+    Plan,
+}
+
+// What has no forms.
+#[derive(Clone, Copy)]
+pub(crate) enum Leaf {
+    // A text.
+    Name,
+    // A literal that is written as it is.
+    Value,
+    // A text that writes a number.
+    Digits,
+    // A number with its type.
+    Typed,
+    Operator,
+    // A type.
+    Dtype,
+    // What a cast does with a value that has no place in its target.
+    Mode,
+    // The name of a declared table.
+    Table,
+    // A list of columns.
+    Columns,
+}
+
+#[derive(Clone, Copy)]
+pub(crate) enum Item {
+    Form(Kind),
+    Leaf(Leaf),
+}
+
+#[derive(Clone, Copy)]
+pub(crate) enum Place {
+    One(Item),
+    // A list of any number of these.
+    Many(Item),
+}
+
+// What a key asks of its value.
+#[derive(Clone, Copy)]
+pub(crate) enum Places {
+    Single(Place),
+    // A list of exactly these.
+    Listed(&'static [Place]),
+}
+
+#[derive(Clone, Copy)]
+pub(crate) enum ExpressionKey {
+    Col,
+    Lit,
+    Int,
+    Typed,
+    Bin,
+    Cast,
+}
+
+#[derive(Clone, Copy)]
+pub(crate) enum PlanKey {
+    Scan,
+    Empty,
+    Filter,
+    Select,
+}
+
+#[derive(Clone, Copy)]
+pub(crate) enum Key {
+    Expression(ExpressionKey),
+    Plan(PlanKey),
+}
+
+// A key's word, and what it names.
+pub(crate) struct Row<K> {
+    pub(crate) word: &'static str,
+    pub(crate) key: K,
+}
+
+const EXPRESSION: Place = Place::One(Item::Form(Kind::Expression));
+
+const EXPRESSIONS: Place = Place::Many(Item::Form(Kind::Expression));
+
+const PLAN: Place = Place::One(Item::Form(Kind::Plan));
+
+const NAME: Place = Place::One(Item::Leaf(Leaf::Name));
+
+const VALUE: Place = Place::One(Item::Leaf(Leaf::Value));
+
+const DIGITS: Place = Place::One(Item::Leaf(Leaf::Digits));
+
+const TYPED: Place = Place::One(Item::Leaf(Leaf::Typed));
+
+const OPERATOR: Place = Place::One(Item::Leaf(Leaf::Operator));
+
+const DTYPE: Place = Place::One(Item::Leaf(Leaf::Dtype));
+
+const MODE: Place = Place::One(Item::Leaf(Leaf::Mode));
+
+const TABLE: Place = Place::One(Item::Leaf(Leaf::Table));
+
+const COLUMNS: Place = Place::One(Item::Leaf(Leaf::Columns));
+
+const EXPRESSION_ROWS: [Row<ExpressionKey>; 6] = [
+    Row {
+        word: "col",
+        key: ExpressionKey::Col,
+    },
+    Row {
+        word: "lit",
+        key: ExpressionKey::Lit,
+    },
+    Row {
+        word: "int",
+        key: ExpressionKey::Int,
+    },
+    Row {
+        word: "typed",
+        key: ExpressionKey::Typed,
+    },
+    Row {
+        word: "bin",
+        key: ExpressionKey::Bin,
+    },
+    Row {
+        word: "cast",
+        key: ExpressionKey::Cast,
+    },
+];
+
+const PLAN_ROWS: [Row<PlanKey>; 4] = [
+    Row {
+        word: "scan",
+        key: PlanKey::Scan,
+    },
+    Row {
+        word: "empty",
+        key: PlanKey::Empty,
+    },
+    Row {
+        word: "filter",
+        key: PlanKey::Filter,
+    },
+    Row {
+        word: "select",
+        key: PlanKey::Select,
+    },
+];
+
+// The keys of expressions.
+fn expression_table() -> &'static [Row<ExpressionKey>]
+    ensures { map row_view result.now ≡ expression_rows }
+{
+    &EXPRESSION_ROWS
+}
+
+// The keys of plans.
+fn plan_table() -> &'static [Row<PlanKey>]
+    ensures { map row_view result.now ≡ plan_rows }
+{
+    &PLAN_ROWS
+}
+
+// The first row of that word.
+pub(crate) fn find<K: Copy>(rows: &[Row<K>], word: &str) -> Option<(&'static str, K)>
+    ensures row { option_map (λ row. (row.0.now, row.1)) result ≡ row_named (map row_view rows.now) word.now }
+    ensures word { IfSome result (λ row. row.0.now ≡ word.now) }
+{
+    for row in rows {
+        if row.word == word {
+            return Some((row.word, row.key));
+        }
+    }
+    None
+}
+
+// The key of that kind and word.
+pub(crate) fn find_key(kind: Kind, word: &str) -> Option<(&'static str, Key)>
+    ensures row { option_map (λ row. (row.0.now, row.1)) result ≡ key_named kind word.now }
+    ensures word { IfSome result (λ row. row.0.now ≡ word.now) }
+    // It needs no escape in a pointer.
+    ensures plain { IfSome result (λ row. escaped row.0.now ≡ row.0.now) }
+{
+    match kind {
+        Kind::Expression => match find(expression_table(), word) {
+            None => None,
+            Some((word, key)) => Some((word, Key::Expression(key))),
+        },
+        Kind::Plan => match find(plan_table(), word) {
+            None => None,
+            Some((word, key)) => Some((word, Key::Plan(key))),
+        },
+    }
+}
+
+// What the key asks of its value.
+pub(crate) fn places_of(key: Key) -> Places
+    ensures asks { places_view result ≡ asks key }
+    ensures few { length (asked_in (places_view result)) ≤ 4 }
+{
+    match key {
+        Key::Expression(key) => expression_places(key),
+        Key::Plan(key) => plan_places(key),
+    }
+}
+
+fn expression_places(key: ExpressionKey) -> Places
+    ensures asks { places_view result ≡ expression_asks key }
+    ensures few { length (asked_in (places_view result)) ≤ 4 }
+{
+    match key {
+        ExpressionKey::Col => Places::Single(NAME),
+        ExpressionKey::Lit => Places::Single(VALUE),
+        ExpressionKey::Int => Places::Single(DIGITS),
+        ExpressionKey::Typed => Places::Single(TYPED),
+        ExpressionKey::Bin => Places::Listed(&[OPERATOR, EXPRESSION, EXPRESSION]),
+        ExpressionKey::Cast => Places::Listed(&[EXPRESSION, DTYPE, MODE]),
+    }
+}
+
+fn plan_places(key: PlanKey) -> Places
+    ensures asks { places_view result ≡ plan_asks key }
+    ensures few { length (asked_in (places_view result)) ≤ 4 }
+{
+    match key {
+        PlanKey::Scan => Places::Single(TABLE),
+        PlanKey::Empty => Places::Single(COLUMNS),
+        PlanKey::Filter => Places::Listed(&[PLAN, EXPRESSION]),
+        PlanKey::Select => Places::Listed(&[PLAN, EXPRESSIONS]),
+    }
+}

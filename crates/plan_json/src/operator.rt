@@ -1,0 +1,107 @@
+//! Operators and modes of casts, by their names.
+ghost use Rattle.std.specs.Prelude.{◌≡◌, Some, IfOk, IfErr};
+ghost use Rattle.serde_json.specs.View.{view};
+ghost use Rattle.plan_json.specs.Errors.{IsErrorOf};
+ghost use Rattle.plan_json.specs.Faults.{an_operator, a_mode};
+ghost use Rattle.plan_json.specs.Leaves.{arithmetic_named, comparison_named, logic_named, operator_named, operator_of, mode_named, mode_of};
+
+use super::error::JsonError;
+use plan_dsl::operator::Operator;
+use plan_types::dtype::CastOptions;
+use serde_json::Value;
+use std::alloc::Global;
+
+// An operator, by its name.
+pub(crate) fn read_operator(alloc: Global, value: &Value) -> Result<Operator, JsonError>
+    ensures ok { IfOk result (λ operator. operator_of (view value.now) ≡ Some operator) }
+    ensures err { IfErr result (IsErrorOf an_operator (view value.now)) }
+{
+    match value.as_str() {
+        None => Err(JsonError::shape(alloc, value)),
+        Some(name) => match operator_named(name) {
+            None => Err(JsonError::shape(alloc, value)),
+            Some(operator) => Ok(operator),
+        },
+    }
+}
+
+// The operator of that name. Few names are looked at in one function, since its proof compares each with each.
+fn operator_named(name: &str) -> Option<Operator>
+    ensures { result ≡ operator_named name.now }
+{
+    comparison_named(name)
+        .or(arithmetic_named(name))
+        .or(logic_named(name))
+}
+
+// The comparison of that name.
+fn comparison_named(name: &str) -> Option<Operator>
+    ensures { result ≡ comparison_named name.now }
+{
+    match name {
+        "Eq" => Some(Operator::Eq),
+        "EqValidity" => Some(Operator::EqValidity),
+        "NotEq" => Some(Operator::NotEq),
+        "NotEqValidity" => Some(Operator::NotEqValidity),
+        "Lt" => Some(Operator::Lt),
+        "LtEq" => Some(Operator::LtEq),
+        "Gt" => Some(Operator::Gt),
+        "GtEq" => Some(Operator::GtEq),
+        _ => None,
+    }
+}
+
+// The arithmetic operator of that name.
+fn arithmetic_named(name: &str) -> Option<Operator>
+    ensures { result ≡ arithmetic_named name.now }
+{
+    match name {
+        "Plus" => Some(Operator::Plus),
+        "Minus" => Some(Operator::Minus),
+        "Multiply" => Some(Operator::Multiply),
+        "Divide" => Some(Operator::Divide),
+        "FloorDivide" => Some(Operator::FloorDivide),
+        "Modulus" => Some(Operator::Modulus),
+        _ => None,
+    }
+}
+
+// The operator of that name, of those that combine bits and truth values.
+fn logic_named(name: &str) -> Option<Operator>
+    ensures { result ≡ logic_named name.now }
+{
+    match name {
+        "And" => Some(Operator::And),
+        "Or" => Some(Operator::Or),
+        "Xor" => Some(Operator::Xor),
+        "LogicalAnd" => Some(Operator::LogicalAnd),
+        "LogicalOr" => Some(Operator::LogicalOr),
+        _ => None,
+    }
+}
+
+// What a cast does with a value that has no place in its target, by its name.
+pub(crate) fn read_mode(alloc: Global, value: &Value) -> Result<CastOptions, JsonError>
+    ensures ok { IfOk result (λ mode. mode_of (view value.now) ≡ Some mode) }
+    ensures err { IfErr result (IsErrorOf a_mode (view value.now)) }
+{
+    match value.as_str() {
+        None => Err(JsonError::shape(alloc, value)),
+        Some(name) => match mode_named(name) {
+            None => Err(JsonError::shape(alloc, value)),
+            Some(mode) => Ok(mode),
+        },
+    }
+}
+
+// The mode of that name.
+fn mode_named(name: &str) -> Option<CastOptions>
+    ensures { result ≡ mode_named name.now }
+{
+    match name {
+        "Strict" => Some(CastOptions::Strict),
+        "NonStrict" => Some(CastOptions::NonStrict),
+        "Overflowing" => Some(CastOptions::Overflowing),
+        _ => None,
+    }
+}

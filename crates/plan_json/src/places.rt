@@ -1,0 +1,288 @@
+//! Reading what a place asks for, by the table of forms.
+ghost use Rattle.std.specs.Prelude.{◌≡◌, ◌<◌, ◌≤◌, Some, length, map, slice_get, option_and_then, IfOk, IfErr};
+ghost use Rattle.serde_json.specs.View.{view};
+ghost use Rattle.plan_types.specs.Schemas.{columns, names_of};
+ghost use Rattle.plan_json.specs.Arguments.{arg_view, args_view, part_view};
+ghost use Rattle.plan_json.specs.Errors.{IsErrorOf};
+ghost use Rattle.plan_json.specs.Faults.{asked_form, a_scan, items_of, keyed_form, leaf_form, places_form};
+ghost use Rattle.plan_json.specs.Forms.{AllFit, a_form, asked_in, asks, item_view, many, many_read, place_view, places_view, reads_of, says};
+ghost use Rattle.plan_json.specs.Leaves.{table_at, text_of};
+ghost use Rattle.plan_json.specs.Queries.{leaf_of, list_as, places_as, read_as};
+ghost use Rattle.plan_json.specs.Tables.{declared};
+
+use super::arguments::{Arg, Args, Part, discard, push};
+use super::columns::read_columns;
+use super::dtype::{read_text, read_type};
+use super::error::{JsonError, Step, at};
+use super::expression::assemble_expression;
+use super::forms::{Item, Key, Kind, Leaf, Place, Places, find_key, places_of};
+use super::literal::{read_literal, read_number_text, read_typed};
+use super::operator::{read_mode, read_operator};
+use super::plan::assemble_plan;
+use super::tables::Tables;
+use super::value::only_member;
+use plan_types::schema::Schema;
+use serde_json::Value;
+use std::alloc::Global;
+
+// An object of one key, which names a form of the kind.
+#[cycle(forms)]
+pub(crate) fn read_form(
+    alloc: Global,
+    tables: &Tables,
+    kind: Kind,
+    value: &Value,
+) -> Result<Part, JsonError>
+    ensures ok { IfOk result (λ part. read_as (declared tables.now) (a_form kind) (view value.now)
+        ≡ Some (part_view part)) }
+    ensures err { IfErr result (IsErrorOf (keyed_form (names_of (declared tables.now)) kind) (view value.now)) }
+{
+    match only_member(value) {
+        None => Err(JsonError::shape(alloc, value)),
+        Some((word, inner)) => match find_key(kind, word) {
+            None => Err(JsonError::shape(alloc, value)),
+            Some((word, key)) => {
+                let places = places_of(key);
+                let args = at(
+                    alloc,
+                    Step::Key(word),
+                    read_places(alloc, tables, places, inner),
+                )?;
+                let part = assemble(alloc, key, args)?;
+                Ok(part)
+            }
+        },
+    }
+}
+
+// The value of a key.
+#[cycle(forms)]
+fn read_places(
+    alloc: Global,
+    tables: &Tables,
+    places: Places,
+    value: &Value,
+) -> Result<Args, JsonError>
+    requires { length (asked_in (places_view places)) ≤ 4 }
+    ensures ok { IfOk result (λ args. places_as (declared tables.now) (places_view places) (view value.now)
+        ≡ Some (args_view args)) }
+    ensures err { IfErr result (IsErrorOf (places_form (names_of (declared tables.now)) (places_view places))
+        (view value.now)) }
+{
+    match places {
+        Places::Single(place) => match read_place(alloc, tables, place, value) {
+            Ok(arg) => Ok(Args::One(arg)),
+            Err(error) => Err(error),
+        },
+        Places::Listed(places) => match read_list(alloc, tables, places, value) {
+            Ok(args) => Ok(args),
+            Err(error) => Err(error),
+        },
+    }
+}
+
+// A list of exactly these.
+#[cycle(forms)]
+fn read_list(
+    alloc: Global,
+    tables: &Tables,
+    places: &[Place],
+    value: &Value,
+) -> Result<Args, JsonError>
+    requires { length (map place_view places.now) ≤ 4 }
+    ensures ok { IfOk result (λ args. list_as (declared tables.now) (map place_view places.now) (view value.now)
+        ≡ Some (args_view args)) }
+    ensures err { IfErr result (IsErrorOf (items_of (names_of (declared tables.now)) (map place_view places.now))
+        (view value.now)) }
+{
+    match value.as_array() {
+        None => Err(JsonError::shape(alloc, value)),
+        Some(values) => {
+            let values = values.as_slice();
+            if values.len() != places.len() {
+                return Err(JsonError::shape(alloc, value));
+            }
+            let mut args = Args::Zero;
+            for (number, value) in values.iter().enumerate() {
+                let place = place_at(places, number);
+                let read = read_place(alloc, tables, place, value);
+                match at(alloc, Step::Item(number), read) {
+                    Ok(arg) => {
+                        args = push(args, arg);
+                    }
+                    Err(error) => {
+                        discard(args);
+                        return Err(error);
+                    }
+                }
+            }
+            Ok(args)
+        }
+    }
+}
+
+fn place_at(places: &[Place], number: usize) -> Place
+    requires { number < length places.now }
+    ensures { slice_get places.now number ≡ Some result }
+{
+    match places.get(number) {
+        Some(place) => *place,
+        None => unreachable!(),
+    }
+}
+
+// What is at one place.
+#[cycle(forms)]
+fn read_place(alloc: Global, tables: &Tables, place: Place, value: &Value) -> Result<Arg, JsonError>
+    ensures ok { IfOk result (λ arg. read_as (declared tables.now) (place_view place) (view value.now)
+        ≡ Some (arg_view arg)) }
+    ensures err { IfErr result (IsErrorOf (asked_form (names_of (declared tables.now)) (place_view place))
+        (view value.now)) }
+{
+    match place {
+        Place::One(item) => match read_item(alloc, tables, item, value) {
+            Ok(part) => Ok(Arg::One(part)),
+            Err(error) => Err(error),
+        },
+        Place::Many(item) => match read_many(alloc, tables, item, value) {
+            Ok(parts) => Ok(Arg::Many(parts)),
+            Err(error) => Err(error),
+        },
+    }
+}
+
+// A list of any number of these.
+#[cycle(forms)]
+fn read_many(
+    alloc: Global,
+    tables: &Tables,
+    item: Item,
+    value: &Value,
+) -> Result<Vec<Part>, JsonError>
+    ensures ok { IfOk result (λ parts. read_as (declared tables.now) (many (item_view item)) (view value.now)
+        ≡ Some (many_read (reads_of (map part_view parts.items)))) }
+    ensures err { IfErr result (IsErrorOf (asked_form (names_of (declared tables.now)) (many (item_view item)))
+        (view value.now)) }
+{
+    match value.as_array() {
+        None => Err(JsonError::shape(alloc, value)),
+        Some(values) => {
+            let values = values.as_slice();
+            let mut parts = Vec::new(alloc);
+            for (number, value) in values.iter().enumerate() {
+                let part = at(
+                    alloc,
+                    Step::Item(number),
+                    read_item(alloc, tables, item, value),
+                )?;
+                parts.push(part)?;
+            }
+            Ok(parts)
+        }
+    }
+}
+
+// One item.
+#[cycle(forms)]
+fn read_item(alloc: Global, tables: &Tables, item: Item, value: &Value) -> Result<Part, JsonError>
+    ensures ok { IfOk result (λ part. read_as (declared tables.now) (item_view item) (view value.now)
+        ≡ Some (part_view part)) }
+    ensures err { IfErr result (IsErrorOf (asked_form (names_of (declared tables.now)) (item_view item))
+        (view value.now)) }
+{
+    match item {
+        Item::Form(kind) => match read_form(alloc, tables, kind, value) {
+            Ok(part) => Ok(part),
+            Err(error) => Err(error),
+        },
+        Item::Leaf(leaf) => match read_leaf(alloc, tables, leaf, value) {
+            Ok(part) => Ok(part),
+            Err(error) => Err(error),
+        },
+    }
+}
+
+// What has no forms.
+fn read_leaf(alloc: Global, tables: &Tables, leaf: Leaf, value: &Value) -> Result<Part, JsonError>
+    ensures ok { IfOk result (λ part. leaf_of (declared tables.now) leaf (view value.now) ≡ Some (part_view part)) }
+    ensures err { IfErr result (IsErrorOf (leaf_form (names_of (declared tables.now)) leaf) (view value.now)) }
+{
+    match leaf {
+        Leaf::Name => match read_text(alloc, value) {
+            Ok(name) => Ok(Part::Name(name)),
+            Err(error) => Err(error),
+        },
+        Leaf::Value => match read_literal(alloc, value) {
+            Ok(literal) => Ok(Part::Literal(literal)),
+            Err(error) => Err(error),
+        },
+        Leaf::Digits => match read_number_text(alloc, value) {
+            Ok(literal) => Ok(Part::Literal(literal)),
+            Err(error) => Err(error),
+        },
+        Leaf::Typed => match read_typed(alloc, value) {
+            Ok(literal) => Ok(Part::Literal(literal)),
+            Err(error) => Err(error),
+        },
+        Leaf::Operator => match read_operator(alloc, value) {
+            Ok(operator) => Ok(Part::Operator(operator)),
+            Err(error) => Err(error),
+        },
+        Leaf::Dtype => match read_type(alloc, value) {
+            Ok(dtype) => Ok(Part::Dtype(dtype)),
+            Err(error) => Err(error),
+        },
+        Leaf::Mode => match read_mode(alloc, value) {
+            Ok(mode) => Ok(Part::Mode(mode)),
+            Err(error) => Err(error),
+        },
+        Leaf::Table => match read_table_name(alloc, tables, value) {
+            Ok((number, schema)) => Ok(Part::Table(number, schema)),
+            Err(error) => Err(error),
+        },
+        Leaf::Columns => match read_columns(alloc, value) {
+            Ok(schema) => Ok(Part::Columns(schema)),
+            Err(error) => Err(error),
+        },
+    }
+}
+
+// The number and the columns of the table of that name.
+fn read_table_name(
+    alloc: Global,
+    tables: &Tables,
+    value: &Value,
+) -> Result<(u32, Schema), JsonError>
+    ensures ok { IfOk result (λ table. option_and_then (table_at (declared tables.now)) (text_of (view value.now))
+        ≡ Some (table.0, columns table.1)) }
+    ensures err { IfErr result (IsErrorOf (a_scan (names_of (declared tables.now))) (view value.now)) }
+{
+    let name = read_text(alloc, value)?;
+    match tables.find(&name) {
+        None => Err(JsonError::name(alloc)),
+        Some((number, schema)) => match schema.try_clone(alloc) {
+            Ok(schema) => Ok((number, schema)),
+            Err(error) => Err(JsonError::out_of_memory(error)),
+        },
+    }
+}
+
+// What a key says of what was read of its value.
+fn assemble(alloc: Global, key: Key, args: Args) -> Result<Part, JsonError>
+    requires { AllFit (asked_in (asks key)) (args_view args) }
+    ensures ok { IfOk result (λ part. says key (args_view args) ≡ Some (part_view part)) }
+    ensures err { IfErr result (λ error. error ≡ JsonError.NoMemory) }
+{
+    match key {
+        Key::Expression(key) => {
+            let expr = assemble_expression(key, args)?;
+            let expr = Box::new(alloc, expr)?;
+            Ok(Part::Expression(expr))
+        }
+        Key::Plan(key) => {
+            let plan = assemble_plan(alloc, key, args)?;
+            let plan = Box::new(alloc, plan)?;
+            Ok(Part::Plan(plan))
+        }
+    }
+}
