@@ -28,7 +28,8 @@ use Rattle.plan_arena.specs.Items.{HoldsExpression, HoldsFrom, Grows, expression
 use Rattle.plan_arena.proofs.DenotationLemmas.{kept_below, all_kept_below, some_same}
 use Rattle.plan_arena.proofs.ItemLemmas.{tree_grown, added_denotes, length-grown, any_node, from_laws, from_top, expression_elsewhere, expression_written, grown_held, within, expression_got}
 use Rattle.plan_infer.specs.Typed.{HasKnownType}
-use Rattle.plan_coerce.specs.Coercion.{Visits, Operand, IsChanged, AreChanged, IsReady, AllReady, DenotesSame}
+use Rattle.plan_coerce.proofs.CoercedLemmas.{node_alike_over}
+use Rattle.plan_coerce.specs.Coercion.{IsAlike, Visits, Operand, IsChanged, AreChanged, IsReady, AllReady, DenotesSame}
 use Rattle.plan_infer.specs.declared.type_table.TypeTable.{TypeTable}
 use Rattle.plan_types.proofs.CastLemmas.{source_known}
 use Rattle.plan_types.proofs.ListLemmas.{mapped_more}
@@ -255,7 +256,7 @@ pub record Rewritten (registry : Registry) (schema : Columns) (first : ℕ) (ite
   pub children : Trees Op
   pub held : HoldsFrom first items at op inputs
   pub denotes : DenoteAll (HoldsFrom first items) inputs children
-  pub same : IsSame registry schema before (node op children)
+  pub same : IsAlike registry schema before (node op children)
   pub strict : is_known typed.type ≡ true → IsStrictOver registry schema op children
 
 pub rewritten_same : (registry : Registry) (schema : Columns) (first : ℕ) (items : List AExpr) (at : ℕ) (before : Expression) (typed : Typed) → Rewritten registry schema first items at before typed → DenotesSame registry schema first items at before
@@ -309,7 +310,7 @@ module _ (registry : Registry) (schema : Columns) (old new : List AExpr) (table 
         children = as_operands (types_of p.below) p.ruling.operands top.0;
         held = (top.3, expression_written new at item there ∙ ap Some is);
         denotes = subst (DenoteAll (HoldsFrom first (set new at item)) (map (λ (o : Operand). o.changed) os)) (sym as_they_are) kept;
-        same = subst (λ u. IsSame registry schema u (node op (as_operands (types_of p.below) p.ruling.operands top.0))) (sym top.1) (operands_same registry schema op top.0 p.below p.children_typed p.ruling p.rules);
+        same = subst (λ u. IsAlike registry schema u (node op (as_operands (types_of p.below) p.ruling.operands top.0))) (sym top.1) (node_alike_over registry schema op top.0 p.below p.children_typed p.ruling p.rules);
         strict = λ k. operands_strict registry schema op top.0 p.below p.children_typed p.ruling p.rules (known k);
       }
 

@@ -22,7 +22,7 @@ VisitedAs registry schema before (node op children) = IsSame registry schema bef
 
 pub visited : (registry : Registry) (schema : Columns) (first : ℕ) (items : List AExpr) (at : ℕ) (before tree : Expression) → Visits registry schema first items at before → Denotes (HoldsFrom first items) at tree → VisitedAs registry schema before tree
 visited registry schema first items at before tree v d =
-    subst (VisitedAs registry schema before) (one_tree first items at (node v.op v.children) tree (v.inputs, v.held, v.denotes) d) (v.same, v.strict)
+    subst (VisitedAs registry schema before) (one_tree first items at (node v.op v.children) tree (v.inputs, v.held, v.denotes) d) (v.same.same, v.strict)
 
 -- an expression of a type of columns has the type that its typing says
 pub known_one : (answer : Result Typed ErrorKind) (typed : Typed) → HasKnownType answer → answer ≡ Ok typed → is_known typed.type ≡ true
@@ -38,4 +38,4 @@ strict_root registry schema first items n tree root d = subst (IsStrict registry
 
 -- what a node denotes says the same
 pub same_tree : (registry : Registry) (schema : Columns) (first : ℕ) (items : List AExpr) (n : ℕ) (before tree : Expression) → DenotesSame registry schema first items n before → Denotes (HoldsFrom first items) n tree → IsSame registry schema before tree
-same_tree registry schema first items n before tree found d = subst (IsSame registry schema before) (one_tree first items n found.tree tree found.denotes d) found.same
+same_tree registry schema first items n before tree found d = subst (IsSame registry schema before) (one_tree first items n found.tree tree found.denotes d) found.same.same

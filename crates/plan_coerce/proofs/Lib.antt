@@ -1,3 +1,4 @@
+pub mod CoercedLemmas
 pub mod CoercionLemmas
 pub mod ExampleLemmas
 pub mod RightLemmas

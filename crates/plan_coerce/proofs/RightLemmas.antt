@@ -50,12 +50,12 @@ right_written registry schema old new table at op inputs before d same elsewhere
       (λ here. record {
         tree = r.0;
         denotes = there;
-        typed = record { many = e.typed.many; is = r.2.typing ∙ e.typed.is };
+        typed = record { many = e.typed.many; is = r.2.same.typing ∙ e.typed.is };
         inputs = λ op' inputs' h.
             let there = subst (λ m. HoldsExpression new m op' inputs') here h in
             subst (AllByRecursion (IsKept table)) (held_inputs new at op op' inputs inputs' held there) known;
       })
-      (λ differs. node_stays registry schema old new table table n (ty dtype) e r.0 there r.2.typing (λ op inputs h. elsewhere n op inputs differs h) (λ m k. k))
+      (λ differs. node_stays registry schema old new table table n (ty dtype) e r.0 there r.2.same.typing (λ op inputs h. elsewhere n op inputs differs h) (λ m k. k))
       (same_or_other n at);
 }
 

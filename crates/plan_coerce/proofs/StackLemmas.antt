@@ -23,7 +23,8 @@ use Rattle.plan_arena.proofs.DenotationLemmas.{some_same, denotes_one, replaced,
 use Rattle.plan_arena.proofs.ItemLemmas.{from_laws, expression_got, grown_held, tree_grown}
 use Rattle.plan_infer.specs.Typed.{HasKnownType}
 use Rattle.plan_infer.specs.Typed.{DenotesKnown}
-use Rattle.plan_coerce.specs.Coercion.{DenotesSame, KeepsBelow, StaysSame, Visits, IsCoerced}
+use Rattle.plan_coerce.proofs.CoercedLemmas.{alike_itself, alike_then, all_same, node_alike, strict_coerced}
+use Rattle.plan_coerce.specs.Coercion.{IsAlike, coerced, DenotesSame, KeepsBelow, StaysSame, Visits, IsCoerced}
 use Rattle.std.proofs.Common.{reverse}
 use Rattle.std.proofs.lemmas.Grind.{reverse_onto}
 use Rattle.plan_arena.proofs.NumberLemmas.{all_reversed, all_front, all_joined, all_weaker, all_last}
@@ -111,10 +112,10 @@ waiting_settled : (registry : Registry) (schema : Columns) (first : ℕ) (items 
 waiting_settled registry schema first items stack n (node op ts) w d = inl (w, d)
 
 -- every tree becomes one that says the same, where one node's does and no other item changes
-pub becomes : (registry : Registry) (schema : Columns) (first : ℕ) (items items' : List AExpr) (at : ℕ) (before : Expression) → Denotes (HoldsFrom first items) at before → DenotesSame registry schema first items' at before → ((n : ℕ) (op : Op) (inputs : List ℕ) → n ≢ at → HoldsExpression items n op inputs → HoldsExpression items' n op inputs) → (n : ℕ) (u : Expression) → Denotes (HoldsFrom first items) n u → (w : Expression) × Denotes (HoldsFrom first items') n w × IsSame registry schema u w
+pub becomes : (registry : Registry) (schema : Columns) (first : ℕ) (items items' : List AExpr) (at : ℕ) (before : Expression) → Denotes (HoldsFrom first items) at before → DenotesSame registry schema first items' at before → ((n : ℕ) (op : Op) (inputs : List ℕ) → n ≢ at → HoldsExpression items n op inputs → HoldsExpression items' n op inputs) → (n : ℕ) (u : Expression) → Denotes (HoldsFrom first items) n u → (w : Expression) × Denotes (HoldsFrom first items') n w × IsAlike registry schema u w
 becomes registry schema first items items' at before d same elsewhere n u e =
     let keeps : (m : ℕ) (op : Op) (inputs : List ℕ) → m ≢ at → HoldsFrom first items m op inputs → HoldsFrom first items' m op inputs = λ m op inputs other h. (h.0, elsewhere m op inputs other h.1) in
-    replaced (shape_of (map expression_layer items)) (HoldsFrom first items) (HoldsFrom first items') (from_laws first items) at keeps before d (IsSame registry schema) (node_same registry schema) same.tree same.denotes same.same n u e
+    replaced (shape_of (map expression_layer items)) (HoldsFrom first items) (HoldsFrom first items') (from_laws first items) at keeps before d (IsAlike registry schema) (node_alike registry schema) same.tree same.denotes same.same n u e
 
 -- the visit of the last node that waits
 module _ (registry : Registry) (schema : Columns) (first : ℕ) (items items' : List AExpr) (at : ℕ) (rest : List ℕ) (before : Expression) (d : Denotes (HoldsFrom first items) at before) (v : Visits registry schema first items' at before) (elsewhere : (n : ℕ) (op : Op) (inputs : List ℕ) → n ≢ at → HoldsExpression items n op inputs → HoldsExpression items' n op inputs) where
@@ -131,25 +132,25 @@ module _ (registry : Registry) (schema : Columns) (first : ℕ) (items items' : 
   visited_same = record { tree = node v.op v.children; denotes = denotes_after; same = v.same }
 
   -- every tree becomes one that says the same
-  pub all_become : (n : ℕ) (u : Expression) → Denotes (HoldsFrom first items) n u → (w : Expression) × Denotes (HoldsFrom first items') n w × IsSame registry schema u w
+  pub all_become : (n : ℕ) (u : Expression) → Denotes (HoldsFrom first items) n u → (w : Expression) × Denotes (HoldsFrom first items') n w × IsAlike registry schema u w
   all_become n u e = becomes registry schema first items items' at before d visited_same elsewhere n u e
 
   visited : SettledBut registry schema first items' (rest ++ reverse v.inputs) at (node v.op v.children)
   visited = inr (v.inputs, v.held, v.strict, all_waiting registry schema first items' (rest ++ reverse v.inputs) v.inputs v.children (λ n w. waits_back rest (reverse v.inputs) n (waits_reversed v.inputs n w)) v.denotes)
 
-  visited_here : (n : ℕ) (u : Expression) → n ≡ at → Denotes (HoldsFrom first items) n u → (w : Expression) × SettledBut registry schema first items' (rest ++ reverse v.inputs) n w × IsSame registry schema u w
+  visited_here : (n : ℕ) (u : Expression) → n ≡ at → Denotes (HoldsFrom first items) n u → (w : Expression) × SettledBut registry schema first items' (rest ++ reverse v.inputs) n w × IsAlike registry schema u w
   visited_here n u e du =
       let one = denotes_one (shape_of (map expression_layer items)) (HoldsFrom first items) (from_laws first items) at before u d (subst (λ k. Denotes (HoldsFrom first items) k u) e du) in
-      (node v.op v.children, subst (λ k. SettledBut registry schema first items' (rest ++ reverse v.inputs) k (node v.op v.children)) (sym e) visited, subst (λ w. IsSame registry schema w (node v.op v.children)) one v.same)
+      (node v.op v.children, subst (λ k. SettledBut registry schema first items' (rest ++ reverse v.inputs) k (node v.op v.children)) (sym e) visited, subst (λ w. IsAlike registry schema w (node v.op v.children)) one v.same)
 
-  still_waits : (n : ℕ) (u : Expression) → n ≢ at → Waits (rest ++ at ∷ []) n → Denotes (HoldsFrom first items) n u → (w : Expression) × SettledBut registry schema first items' (rest ++ reverse v.inputs) n w × IsSame registry schema u w
+  still_waits : (n : ℕ) (u : Expression) → n ≢ at → Waits (rest ++ at ∷ []) n → Denotes (HoldsFrom first items) n u → (w : Expression) × SettledBut registry schema first items' (rest ++ reverse v.inputs) n w × IsAlike registry schema u w
   still_waits n u other w du =
       let r = all_become n u du in
       let waits = ⊎_elim (λ h. h) (λ e. absurd (other e)) (waits_but_last rest at n w) in
       (r.0, waiting_settled registry schema first items' (rest ++ reverse v.inputs) n r.0 (waits_front rest (reverse v.inputs) n waits) r.1, r.2)
 
   mutual
-    step : (n : ℕ) (u : Expression) → SettledBut registry schema first items (rest ++ at ∷ []) n u → (w : Expression) × SettledBut registry schema first items' (rest ++ reverse v.inputs) n w × IsSame registry schema u w
+    step : (n : ℕ) (u : Expression) → SettledBut registry schema first items (rest ++ at ∷ []) n u → (w : Expression) × SettledBut registry schema first items' (rest ++ reverse v.inputs) n w × IsAlike registry schema u w
     step n (node op us) s =
         ⊎_elim
         (λ e. visited_here n (node op us) e (settled_denotes registry schema first items (rest ++ at ∷ []) n (node op us) s))
@@ -157,12 +158,12 @@ module _ (registry : Registry) (schema : Columns) (first : ℕ) (items items' : 
         (λ w. still_waits n (node op us) other w.0 w.1)
         (λ h.
         let kids = step_all h.0 us h.3 in
-        let strict : IsStrictOver registry schema op kids.0 = ap (is_strict_over registry schema op) (typings_same registry schema us kids.0 kids.2) ∙ h.2 in
-        (node op kids.0, inr (h.0, keeps n op h.0 other h.1, strict, kids.1), node_same registry schema op us kids.0 kids.2))
+        let strict : IsStrictOver registry schema op kids.0 = ap (is_strict_over registry schema op) (typings_same registry schema us kids.0 (all_same registry schema us kids.0 kids.2)) ∙ h.2 in
+        (node op kids.0, inr (h.0, keeps n op h.0 other h.1, strict, kids.1), node_alike registry schema op us kids.0 kids.2))
         s)
         (same_or_other n at)
 
-    step_all : (ns : List ℕ) (us : Trees Op) → AllSettledBut registry schema first items (rest ++ at ∷ []) ns us → (ws : Trees Op) × AllSettledBut registry schema first items' (rest ++ reverse v.inputs) ns ws × AllRelated (IsSame registry schema) us ws
+    step_all : (ns : List ℕ) (us : Trees Op) → AllSettledBut registry schema first items (rest ++ at ∷ []) ns us → (ws : Trees Op) × AllSettledBut registry schema first items' (rest ++ reverse v.inputs) ns ws × AllRelated (IsAlike registry schema) us ws
     step_all [] no_more s = (no_more, tt, tt)
     step_all (n ∷ ns) (more u us) s =
         let head = step n u s.0 in
@@ -178,7 +179,7 @@ module _ (registry : Registry) (schema : Columns) (first : ℕ) (items items' : 
   pub typed_step : (n : ℕ) → DenotesKnown registry schema first items n → DenotesKnown registry schema first items' n
   typed_step n t =
       let r = all_become n t.tree t.denotes in
-      record { tree = r.0; denotes = r.1; has = record { typed = t.has.typed; is = r.2.typing ∙ t.has.is; known = t.has.known } }
+      record { tree = r.0; denotes = r.1; has = record { typed = t.has.typed; is = r.2.same.typing ∙ t.has.is; known = t.has.known } }
 
 -- the inputs of a node that are typed, with types of columns
 children_typed : (registry : Registry) (schema : Columns) (first : ℕ) (items : List AExpr) (ns : List ℕ) (ts : Trees Op) (typed : List Typed) → DenoteAll (HoldsFrom first items) ns ts → typing_all registry schema ts ≡ Ok typed → AllByRecursion (λ type. is_known type ≡ true) (types_of typed) → AllByRecursion (DenotesKnown registry schema first items) ns
@@ -205,7 +206,7 @@ start_settled registry schema first items stack (n ∷ ns) w all =
 pub pending_start : (registry : Registry) (schema : Columns) (first : ℕ) (items : List AExpr) (roots : List ℕ) → AllByRecursion (DenotesKnown registry schema first items) roots → Pending registry schema first items items roots roots
 pending_start registry schema first items roots all = record {
   below = λ n op inputs lower h. h;
-  trees = λ n t d. record { tree = t; denotes = d; same = same_itself registry schema t };
+  trees = λ n t d. record { tree = t; denotes = d; same = alike_itself registry schema t };
   waiting = all;
   settled = start_settled registry schema first items roots roots (λ n w. w) all;
 }
@@ -242,7 +243,7 @@ stays_visited registry schema first old items items' at rest roots p elsewhere v
       trees = λ n t d.
           let one = p.trees n t d in
           let two = all_become registry schema first items items' at rest here.tree here.denotes v elsewhere n one.tree one.denotes in
-          record { tree = two.0; denotes = two.1; same = same_then registry schema t one.tree two.0 one.same two.2 };
+          record { tree = two.0; denotes = two.1; same = alike_then registry schema t one.tree two.0 one.same two.2 };
     }
 
 pub pending_step : (registry : Registry) (schema : Columns) (first : ℕ) (old items items' : List AExpr) (at : ℕ) (rest stack roots : List ℕ) → Pending registry schema first old items (rest ++ at ∷ []) roots → ((n : ℕ) (op : Op) (inputs : List ℕ) → n ≢ at → HoldsExpression items n op inputs → HoldsExpression items' n op inputs) → ((t : Expression) → Denotes (HoldsFrom first items) at t → HasKnownType (typing registry schema t) → Visits registry schema first items' at t) → ((op : Op) (inputs : List ℕ) → HoldsExpression items' at op inputs → stack ≡ rest ++ reverse inputs) → Pending registry schema first old items' stack roots
@@ -266,9 +267,21 @@ end_strict registry schema first items [] all = tt
 end_strict registry schema first items (n ∷ ns) all =
     ((all.0.0, settled_denotes registry schema first items [] n all.0.0 all.0.1, settled_strict registry schema first items n all.0.0 all.0.1), end_strict registry schema first items ns all.1)
 
+-- a root's tree is what it was, with every cast
+end_casts : (registry : Registry) (schema : Columns) (first : ℕ) (old new : List AExpr) (ns : List ℕ) → ((n : ℕ) (t : Expression) → Denotes (HoldsFrom first old) n t → DenotesSame registry schema first new n t) → AllByRecursion (λ n. (t : Expression) × Denotes (HoldsFrom first new) n t × IsStrict registry schema t) ns → AllByRecursion (λ n. (t : Expression) → Denotes (HoldsFrom first old) n t → Denotes (HoldsFrom first new) n (coerced registry schema t)) ns
+end_casts registry schema first old new [] trees all = tt
+end_casts registry schema first old new (n ∷ ns) trees all = (
+  λ t d.
+      let now = trees n t d in
+      let one = denotes_one (shape_of (map expression_layer new)) (HoldsFrom first new) (from_laws first new) n all.0.0 now.tree all.0.1 now.denotes in
+      subst (Denotes (HoldsFrom first new) n) (sym (strict_coerced registry schema all.0.0 all.0.2) ∙ ap (coerced registry schema) one ∙ now.same.casts) all.0.1,
+  end_casts registry schema first old new ns trees all.1,
+)
+
 pub pending_end : (registry : Registry) (schema : Columns) (first : ℕ) (old new : List AExpr) (roots : List ℕ) → Pending registry schema first old new [] roots → IsCoerced registry schema first old new roots
 pending_end registry schema first old new roots p =
-    record { below = p.below; trees = p.trees; strict = end_strict registry schema first new roots p.settled }
+    let strict = end_strict registry schema first new roots p.settled in
+    record { below = p.below; trees = p.trees; strict = strict; casts = end_casts registry schema first old new roots p.trees strict }
 
 -- a list that has no item
 pub no_numbers : (nodes : List Node) → (0 < length nodes → false ≡ true) → numbers nodes ≡ []

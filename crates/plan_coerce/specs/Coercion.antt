@@ -1,29 +1,54 @@
 -- What coercion leaves.
 -- A node that was visited is strict over its inputs, and says the same as before. Other items stay.
-use Rattle.std.specs.Prelude.{◌≡◌, ◌≤◌, ℕ, true, false, List, [], ◌∷◌, length, map}
+use Rattle.std.specs.Prelude.{◌≡◌, ◌≤◌, ℕ, true, false, List, [], ◌∷◌, length, map, Result, Ok, Err}
+use Rattle.plan_types.specs.declared.error.ErrorKind.{ErrorKind}
+use Rattle.plan_dsl.specs.Typing.{Typed, Ruling, rule, types_of, typing_all}
 use Rattle.std.specs.List.{AllByRecursion}
 use Rattle.plan_types.specs.Types.{Ty, ty, same_type}
 use Rattle.plan_types.specs.Schemas.{Columns}
 use Rattle.plan_types.specs.declared.dtype.DataType.{DataType}
 use Rattle.plan_dsl.specs.Registry.{Registry}
-use Rattle.plan_dsl.specs.Trees.{Trees, node}
+use Rattle.plan_dsl.specs.Trees.{Trees, node, no_more, more}
 use Rattle.plan_dsl.specs.Ops.{Op, Expression}
-use Rattle.plan_dsl.specs.Strictness.{CanBecome, IsSame, IsStrict, IsStrictOver, as_operand}
+use Rattle.plan_dsl.specs.Strictness.{CanBecome, IsSame, IsStrict, IsStrictOver, as_operand, as_operands}
 use Rattle.plan_arena.specs.declared.aexpr.AExpr.{AExpr}
 use Rattle.plan_arena.specs.Denotation.{Denotes, DenoteAll}
 use Rattle.plan_arena.specs.Items.{HoldsExpression, HoldsFrom}
 use Rattle.plan_infer.specs.declared.type_table.TypeTable.{TypeTable}
 use Rattle.plan_infer.specs.KeptTypes.{Keeps, KeepsType}
 
+-- operands that a node over typed children takes, made of their types where it has a rule
+abbrev pub fitted_by : Result Ruling ErrorKind → List Ty → Trees Op → Trees Op
+fitted_by (Err kind) types operands = operands
+fitted_by (Ok ruling) types operands = as_operands types ruling.operands operands
+
+abbrev pub fitted : Registry → Columns → Op → Result (List Typed) ErrorKind → Trees Op → Trees Op
+fitted registry schema op (Err kind) operands = operands
+fitted registry schema op (Ok typed) operands = fitted_by (rule registry schema op typed) (types_of typed) operands
+
+-- an expression with every implicit cast written out: a cast stands round an operand only where its type is another
+abbrev mutual
+  pub coerced : Registry → Columns → Expression → Expression
+  coerced registry schema (node op children) = node op (fitted registry schema op (typing_all registry schema children) (coerced_all registry schema children))
+
+  pub coerced_all : Registry → Columns → Trees Op → Trees Op
+  coerced_all registry schema no_more = no_more
+  coerced_all registry schema (more child rest) = more (coerced registry schema child) (coerced_all registry schema rest)
+
 -- items below the number stay
 abbrev pub KeepsBelow : ℕ → List AExpr → List AExpr → Type 0
 KeepsBelow first old new = (n : ℕ) (op : Op) (inputs : List ℕ) → ¬ (first ≤ n) → HoldsExpression old n op inputs → HoldsExpression new n op inputs
 
--- the node denotes a tree that says the same as this one
+-- the one expression says the same as the other, and both are one with every cast written out
+pub record IsAlike (registry : Registry) (schema : Columns) (before after : Expression) : Type 0 where
+  pub same : IsSame registry schema before after
+  pub casts : coerced registry schema after ≡ coerced registry schema before
+
+-- the node denotes a tree that is so
 pub record DenotesSame (registry : Registry) (schema : Columns) (first : ℕ) (items : List AExpr) (n : ℕ) (before : Expression) : Type 0 where
   pub tree : Expression
   pub denotes : Denotes (HoldsFrom first items) n tree
-  pub same : IsSame registry schema before tree
+  pub same : IsAlike registry schema before tree
 
 -- the visit of a node that denoted the tree
 pub record Visits (registry : Registry) (schema : Columns) (first : ℕ) (items : List AExpr) (at : ℕ) (before : Expression) : Type 0 where
@@ -32,7 +57,7 @@ pub record Visits (registry : Registry) (schema : Columns) (first : ℕ) (items 
   pub children : Trees Op
   pub held : HoldsFrom first items at op inputs
   pub denotes : DenoteAll (HoldsFrom first items) inputs children
-  pub same : IsSame registry schema before (node op children)
+  pub same : IsAlike registry schema before (node op children)
   pub strict : IsStrictOver registry schema op children
 
 -- the operand at a node can be made of the type
@@ -77,8 +102,9 @@ pub record StaysSame (registry : Registry) (schema : Columns) (first : ℕ) (old
   pub trees : (n : ℕ) (t : Expression) → Denotes (HoldsFrom first old) n t → DenotesSame registry schema first new n t
 
 -- What coercion of these roots leaves: items below the number stay, each tree becomes one that says the
--- same, and each root's is strict.
+-- same, and each root's is strict: what it was, with every cast written out.
 pub record IsCoerced (registry : Registry) (schema : Columns) (first : ℕ) (old new : List AExpr) (roots : List ℕ) : Type 0 where
   pub below : KeepsBelow first old new
   pub trees : (n : ℕ) (t : Expression) → Denotes (HoldsFrom first old) n t → DenotesSame registry schema first new n t
   pub strict : AllByRecursion (λ n. (t : Expression) × Denotes (HoldsFrom first new) n t × IsStrict registry schema t) roots
+  pub casts : AllByRecursion (λ n. (t : Expression) → Denotes (HoldsFrom first old) n t → Denotes (HoldsFrom first new) n (coerced registry schema t)) roots

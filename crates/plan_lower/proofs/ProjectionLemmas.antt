@@ -161,7 +161,7 @@ lowered_as registry schema first old new become o is strict =
     let same = become o.node (settled o.tree) is.denotes in
     let one = denotes_one _ (HoldsFrom first new) (from_laws first new) o.node strict.0 same.tree strict.1 same.denotes in (
       same.tree,
-      record { typed = is.typed; same = same.same; strict = subst (IsStrict registry schema) one strict.2 },
+      record { typed = is.typed; same = same.same.same; strict = subst (IsStrict registry schema) one strict.2 },
       any_node first new o.node same.tree same.denotes,
     )
 

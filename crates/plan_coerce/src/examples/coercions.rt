@@ -1,18 +1,28 @@
 //! Coercion: what makes an operand one of the type to which it is taken, and what becomes of an arena.
 
-ghost use Rattle.std.specs.Prelude.{◌≡◌, [], ◌∷◌, map, pos, neg_ℤ, codes, true, false, Some};
-ghost use Rattle.plan_types.specs.Types.{NullType, Truth, Integer, TextType, DateType, DatetimeType, DurationType, ListType, Untyped, ty};
+ghost use Rattle.std.specs.Prelude.{◌≡◌, [], ◌∷◌, pos, codes};
+ghost use Rattle.plan_types.specs.Types.{NullType, Truth, TextType, DateType, DatetimeType, DurationType, ListType, ty};
 ghost use Rattle.plan_types.specs.declared.dtype.DataType.{DataType};
 ghost use Rattle.plan_types.specs.declared.dtype.DataType.TheVariants as dtype;
 ghost use Rattle.plan_types.specs.declared.dtype.TimeUnit.TheVariants.{Nanoseconds, Microseconds, Milliseconds};
-ghost use Rattle.plan_types.specs.declared.dtype.UnknownKind.TheVariants as unknown;
-ghost use Rattle.plan_dsl.specs.declared.literal.LiteralValue.TheVariants.{Int, Int8, Int16, UInt16};
+ghost use Rattle.plan_dsl.specs.declared.literal.LiteralValue.TheVariants.{Int, Int8};
 ghost use Rattle.plan_dsl.specs.declared.operator.Operator.TheVariants.{Eq, Plus};
 ghost use Rattle.plan_arena.specs.declared.aexpr.AExpr.TheVariants.{Column, Literal};
 ghost use Rattle.plan_infer.specs.Typed.{DenotesTyped, DenotesKnown};
-ghost use Rattle.plan_coerce.specs.Coercion.{KeepsBelow, DenotesSame, Visits, IsCoerced, StaysSame};
-ghost use Rattle.plan_infer.specs.Samples.{int8, int16, int32, int64, one_column, columns_of, two_columns, struct_of, a, b, literal, number, five, binary, cast_to, sum, at, pair, columns_and, sum_items, a_items, ForTable};
-ghost use Rattle.plan_coerce.specs.Samples.{cast_of, strict_items};
+ghost use Rattle.plan_coerce.specs.Coercion.{KeepsBelow, DenotesSame, Visits, IsCoerced, StaysSame, coerced};
+ghost use Rattle.plan_infer.specs.Samples.{int8, int32, int64, one_column, columns_of, two_columns, struct_of, a, b, literal, number, five, binary, cast_to, sum, pair, columns_and, sum_items, a_items};
+ghost use Rattle.plan_coerce.specs.Samples.{cast_of, strict_items, strict_sum};
+
+/// With every cast written out an operand of another type stands under one, a number without a type has become a
+/// literal, and nothing else has changed: what is strict stays, and so does what has no type.
+pub fn casts_written_out()
+    ensures cast { coerced [] two_columns sum ≡ strict_sum }
+    ensures strict { coerced [] two_columns strict_sum ≡ strict_sum }
+    ensures literal { coerced [] (one_column int8) (binary Plus a five) ≡ binary Plus a (literal int8 (pos 5)) }
+    ensures below { coerced [] two_columns (cast_to int8 sum) ≡ cast_to int8 strict_sum }
+    ensures written_cast { coerced [] (one_column int8) (cast_to int8 a) ≡ cast_to int8 a }
+    ensures without_type { coerced [] [] sum ≡ sum }
+{}
 
 /// A node denotes a typed expression of nodes from a number on, or one whose type is of columns.
 pub fn nodes_of_typed_expressions()

@@ -15,7 +15,7 @@ use Rattle.plan_arena.specs.Denotation.{Denotes}
 use Rattle.plan_arena.specs.Layers.{layer}
 use Rattle.plan_arena.specs.Items.{HoldsExpression, HoldsFrom}
 use Rattle.plan_arena.proofs.ItemLemmas.{got_held}
-use Rattle.plan_coerce.specs.Coercion.{DenotesSame}
+use Rattle.plan_coerce.specs.Coercion.{DenotesSame, coerced}
 use Rattle.plan_infer.specs.Samples.{int8, int32, int64, columns_of, two_columns, of_type, a, b, binary, cast_to, sum, pair, columns_and, sum_items}
 use Rattle.plan_coerce.specs.Samples.{strict_sum, cast_of, strict_items}
 use Rattle.plan_infer.proofs.ExampleLemmas.{one_tree}
@@ -52,11 +52,11 @@ no_node n (node op ts) d = no_item n _ d.1.1
 -- the columns stay, and the sum becomes one that says the same
 kept : (n : ℕ) (t : Expression) → Denotes (HoldsFrom 0 sum_items) n t → DenotesSame [] two_columns 0 strict_items n t
 kept zero t d = subst (DenotesSame [] two_columns 0 strict_items 0) (sym (one_tree 0 sum_items 0 t a d (column_denotes sum_items 0 (codes "a") refl)))
-    (record { tree = a; denotes = column_denotes strict_items 0 (codes "a") refl; same = record { typing = refl; name = refl; meaning = λ rows. refl } })
+    (record { tree = a; denotes = column_denotes strict_items 0 (codes "a") refl; same = record { same = record { typing = refl; name = refl; meaning = λ rows. refl }; casts = refl } })
 kept (suc zero) t d = subst (DenotesSame [] two_columns 0 strict_items 1) (sym (one_tree 0 sum_items 1 t b d (column_denotes sum_items 1 (codes "b") refl)))
-    (record { tree = b; denotes = column_denotes strict_items 1 (codes "b") refl; same = record { typing = refl; name = refl; meaning = λ rows. refl } })
+    (record { tree = b; denotes = column_denotes strict_items 1 (codes "b") refl; same = record { same = record { typing = refl; name = refl; meaning = λ rows. refl }; casts = refl } })
 kept (suc (suc zero)) t d = subst (DenotesSame [] two_columns 0 strict_items 2) (sym (one_tree 0 sum_items 2 t sum d before_denotes))
-    (record { tree = strict_sum; denotes = after_denotes; same = record { typing = refl; name = refl; meaning = λ rows. refl } })
+    (record { tree = strict_sum; denotes = after_denotes; same = record { same = record { typing = refl; name = refl; meaning = λ rows. refl }; casts = refl } })
 kept (suc (suc (suc n))) t d = absurd (no_node n t d)
 
 pub returns-clause-cast : goal.returns-clause-cast
@@ -64,6 +64,7 @@ returns-clause-cast c = record {
   below = λ n op inputs absent h. absurd (absent (omega arith));
   trees = kept;
   strict = ((strict_sum, after_denotes, refl), tt);
+  casts = ((λ t d. subst (λ u. Denotes (HoldsFrom 0 strict_items) 2 (coerced [] two_columns u)) (sym (one_tree 0 sum_items 2 t sum d before_denotes)) after_denotes), tt);
 }
 
 pub returns-clause-unchanged : goal.returns-clause-unchanged
@@ -103,7 +104,7 @@ returns-clause-item_below c = λ coerced.
 pub returns-clause-nothing_done : goal.returns-clause-nothing_done
 returns-clause-nothing_done c = record {
   below = λ n op inputs lower h. h;
-  trees = λ n t d. record { tree = t; denotes = d; same = record { typing = refl; name = refl; meaning = λ rows. refl } };
+  trees = λ n t d. record { tree = t; denotes = d; same = record { same = record { typing = refl; name = refl; meaning = λ rows. refl }; casts = refl } };
 }
 
 pub returns-clause-other_item_below : goal.returns-clause-other_item_below
@@ -122,7 +123,7 @@ pub returns-clause-items_below : goal.returns-clause-items_below
 returns-clause-items_below c = kept_first
 
 pub returns-clause-same : goal.returns-clause-same
-returns-clause-same c = record { tree = a; denotes = ([], (omega arith, refl), tt); same = record { typing = refl; name = refl; meaning = λ rows. refl } }
+returns-clause-same c = record { tree = a; denotes = ([], (omega arith, refl), tt); same = record { same = record { typing = refl; name = refl; meaning = λ rows. refl }; casts = refl } }
 
 pub returns-clause-not_same : goal.returns-clause-not_same
 returns-clause-not_same c = λ found.

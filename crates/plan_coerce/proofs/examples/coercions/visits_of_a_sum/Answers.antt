@@ -18,7 +18,7 @@ returns-clause-cast c = let type = int32 in record {
   children = more wide (more b no_more);
   held = (omega arith, refl);
   denotes = ((0 ∷ [], (omega arith, refl), (([], (omega arith, refl), tt), tt)), (([], (omega arith, refl), tt), tt));
-  same = record { typing = refl; name = refl; meaning = λ rows. refl };
+  same = record { same = record { typing = refl; name = refl; meaning = λ rows. refl }; casts = refl };
   strict = refl;
 }
 
@@ -29,7 +29,7 @@ returns-clause-literal c = let type = int8 in record {
   children = more a (more (literal int8 (pos 5)) no_more);
   held = (omega arith, refl);
   denotes = (([], (omega arith, refl), tt), (([], (omega arith, refl), tt), tt));
-  same = record { typing = refl; name = refl; meaning = λ rows. refl };
+  same = record { same = record { typing = refl; name = refl; meaning = λ rows. refl }; casts = refl };
   strict = refl;
 }
 

@@ -17,7 +17,7 @@ returns-clause-span_in_another_unit c = let moment = DatetimeType Microseconds i
   children = more a (more (cast_to span b) no_more);
   held = (omega arith, refl);
   denotes = (([], (omega arith, refl), tt), ((1 ∷ [], (omega arith, refl), (([], (omega arith, refl), tt), tt)), tt));
-  same = record { typing = refl; name = refl; meaning = λ rows. refl };
+  same = record { same = record { typing = refl; name = refl; meaning = λ rows. refl }; casts = refl };
   strict = refl;
 }
 
@@ -38,7 +38,7 @@ returns-clause-date_beside_a_moment c = let moment = DatetimeType Milliseconds i
   children = more (cast_to moment a) (more b no_more);
   held = (omega arith, refl);
   denotes = ((0 ∷ [], (omega arith, refl), (([], (omega arith, refl), tt), tt)), (([], (omega arith, refl), tt), tt));
-  same = record { typing = refl; name = refl; meaning = λ rows. refl };
+  same = record { same = record { typing = refl; name = refl; meaning = λ rows. refl }; casts = refl };
   strict = refl;
 }
 
@@ -49,7 +49,7 @@ returns-clause-truth_value_beside_a_text c = record {
   children = more a (more (cast_to TextType b) no_more);
   held = (omega arith, refl);
   denotes = (([], (omega arith, refl), tt), ((1 ∷ [], (omega arith, refl), (([], (omega arith, refl), tt), tt)), tt));
-  same = record { typing = refl; name = refl; meaning = λ rows. refl };
+  same = record { same = record { typing = refl; name = refl; meaning = λ rows. refl }; casts = refl };
   strict = refl;
 }
 
@@ -60,6 +60,6 @@ returns-clause-null_beside_a_number c = let type = int8 in record {
   children = more (cast_to type a) (more b no_more);
   held = (omega arith, refl);
   denotes = ((0 ∷ [], (omega arith, refl), (([], (omega arith, refl), tt), tt)), (([], (omega arith, refl), tt), tt));
-  same = record { typing = refl; name = refl; meaning = λ rows. refl };
+  same = record { same = record { typing = refl; name = refl; meaning = λ rows. refl }; casts = refl };
   strict = refl;
 }

@@ -16,7 +16,7 @@ returns-clause-lists c = λ target is. let type = ListType int64 in record {
   children = more (cast_to type a) (more b no_more);
   held = (omega arith, refl);
   denotes = ((0 ∷ [], (omega arith, ap (λ t. Some (layer (CastOp t NonStrict) (0 ∷ []))) is), (([], (omega arith, refl), tt), tt)), (([], (omega arith, refl), tt), tt));
-  same = record { typing = refl; name = refl; meaning = λ rows. refl };
+  same = record { same = record { typing = refl; name = refl; meaning = λ rows. refl }; casts = refl };
   strict = refl;
 }
 
@@ -27,7 +27,7 @@ returns-clause-structs c = λ target is. let type = struct_of (codes "x") TextTy
   children = more a (more (cast_to type b) no_more);
   held = (omega arith, refl);
   denotes = (([], (omega arith, refl), tt), ((1 ∷ [], (omega arith, ap (λ t. Some (layer (CastOp t NonStrict) (1 ∷ []))) is), (([], (omega arith, refl), tt), tt)), tt));
-  same = record { typing = refl; name = refl; meaning = λ rows. refl };
+  same = record { same = record { typing = refl; name = refl; meaning = λ rows. refl }; casts = refl };
   strict = refl;
 }
 
