@@ -59,7 +59,7 @@ right_written registry schema old new table at op inputs before d same elsewhere
       (same_or_other n at);
 }
 
-node_within : (items : List AExpr) (n : ℕ) (op : Op) (inputs : List ℕ) → HoldsExpression items n op inputs → n < length items
+pub node_within : (items : List AExpr) (n : ℕ) (op : Op) (inputs : List ℕ) → HoldsExpression items n op inputs → n < length items
 node_within items n op inputs h =
     let short : length (shape_of (map expression_layer items)) ≡ length items = length-map (map expression_layer items) inputs_of ∙ length-map items expression_layer in
     omega (arith, (expression_laws items).below n op inputs h, short)

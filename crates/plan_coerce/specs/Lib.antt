@@ -1,3 +1,4 @@
 -- What the contracts of this crate cite.
 pub mod Coercion
+pub mod Reaching
 pub mod Samples

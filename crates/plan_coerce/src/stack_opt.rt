@@ -3,10 +3,12 @@ ghost use Rattle.std.specs.Prelude.{◌≡◌, ℕ, ◌<◌, ◌≤◌, List, []
 ghost use Rattle.std.specs.List.{AllByRecursion};
 ghost use Rattle.plan_types.specs.Errors.{no_memory};
 ghost use Rattle.plan_types.specs.Schemas.{Columns};
+ghost use Rattle.plan_dsl.specs.Ops.{Op};
 ghost use Rattle.plan_dsl.specs.Registry.{Registry};
-ghost use Rattle.plan_arena.specs.Items.{numbers};
+ghost use Rattle.plan_arena.specs.Items.{HoldsExpression, numbers};
 ghost use Rattle.plan_infer.specs.Typed.{DenotesKnown};
 ghost use Rattle.plan_coerce.specs.Coercion.{IsCoerced, StaysSame};
+ghost use Rattle.plan_coerce.specs.Reaching.{IsReached};
 ghost use Rattle.plan_infer.specs.KeptTypes.{HasRightTypes, IsKept, IsRight};
 
 use crate::type_coercion::coerce_node;
@@ -31,6 +33,8 @@ pub fn coerce_types(
         first ≤ length arena.old → AllByRecursion (DenotesKnown registry schema first arena.old) (numbers stack.old.items) →
         StaysSame registry schema first arena.old arena.new) }
     ensures empty { stack.new.items ≡ [] }
+    ensures elsewhere { (n : ℕ) (op : Op) (inputs : List ℕ) → ¬ (IsReached arena.old (numbers stack.old.items) n) →
+        HoldsExpression arena.old n op inputs → HoldsExpression arena.new n op inputs }
     ensures longer { length arena.old ≤ length arena.new }
     ensures err { IfErr result (λ error. error ≡ no_memory) }
 {
@@ -53,6 +57,8 @@ fn coerce_stacked(
     ensures stays { OnErr result ((registry : Registry) (schema : Columns) (first : ℕ) → IsRight registry schema arena.old types.old →
         first ≤ length arena.old → AllByRecursion (DenotesKnown registry schema first arena.old) (numbers stack.old.items) →
         StaysSame registry schema first arena.old arena.new) }
+    ensures elsewhere { (n : ℕ) (op : Op) (inputs : List ℕ) → ¬ (IsReached arena.old (numbers stack.old.items) n) →
+        HoldsExpression arena.old n op inputs → HoldsExpression arena.new n op inputs }
     ensures longer { length arena.old ≤ length arena.new }
     ensures err { IfErr result (λ error. error ≡ no_memory) }
 {

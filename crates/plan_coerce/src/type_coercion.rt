@@ -12,11 +12,13 @@ ghost use Rattle.plan_dsl.specs.Ops.{CastOp, Expression, Op};
 ghost use Rattle.plan_dsl.specs.Registry.{Registry};
 ghost use Rattle.plan_dsl.specs.Trees.{node, no_more, more};
 ghost use Rattle.plan_dsl.specs.Typing.{typing};
+ghost use Rattle.plan_arena.specs.declared.aexpr.AExpr.{AExpr};
 ghost use Rattle.plan_arena.specs.Denotation.{Denotes};
 ghost use Rattle.plan_arena.specs.Items.{Grows, HoldsExpression, HoldsFrom, numbers};
 ghost use Rattle.plan_infer.specs.KeptTypes.{Extends, HasRightTypes, IsKept, IsRight, Keeps, first_node};
 ghost use Rattle.plan_infer.specs.Typed.{HasKnownType};
 ghost use Rattle.plan_coerce.specs.Coercion.{AllReady, AreChanged, IsChanged, IsReady, Visits};
+ghost use Rattle.plan_coerce.specs.Reaching.{IsClosed, Near};
 
 use plan_arena::aexpr::{AExpr, Nodes};
 use plan_arena::arena::{Arena, Node};
@@ -43,6 +45,8 @@ pub(crate) fn coerce_node(
     ensures extends { OnOk result (Extends types.old types.new) }
     ensures elsewhere { (n : ℕ) (op : Op) (inputs : List ℕ) → n ≢ node.0 →
         HoldsExpression arena.old n op inputs → HoldsExpression arena.new n op inputs }
+    ensures closed { OnOk result ((start : List AExpr) (roots : List ℕ) → length start ≤ length arena.old → Near start roots node.0 →
+        IsClosed start roots arena.old → IsClosed start roots arena.new) }
     ensures longer { length arena.old ≤ length arena.new }
     ensures grows { OnErr result (Grows arena.old arena.new) }
     ensures err { IfErr result (λ error. error ≡ no_memory) }
@@ -68,6 +72,8 @@ fn operands_to(
     ensures kept { IfOk result (λ operands. AllByRecursion (IsKept types.new) (numbers operands.items)) }
     ensures right { OnOk result ((registry : Registry) (schema : Columns) →
         IsRight registry schema arena.old types.old → IsRight registry schema arena.new types.new) }
+    ensures closed { OnOk result ((start : List AExpr) (roots : List ℕ) → AllByRecursion (Near start roots) (numbers inputs.now) →
+        IsClosed start roots arena.old → IsClosed start roots arena.new) }
     ensures extends { OnOk result (Extends types.old types.new) }
     ensures grows { Grows arena.old arena.new }
     ensures err { IfErr result (λ error. error ≡ no_memory) }
@@ -95,6 +101,8 @@ fn operand_to(
     ensures right { OnOk result ((registry : Registry) (schema : Columns) →
         IsRight registry schema arena.old types.old → IsRight registry schema arena.new types.new) }
     ensures same { OnOk result ((n : ℕ) (dtype : DataType) → Keeps types.old n dtype → Keeps types.new n dtype) }
+    ensures closed { OnOk result ((start : List AExpr) (roots : List ℕ) → Near start roots node.0 →
+        IsClosed start roots arena.old → IsClosed start roots arena.new) }
     ensures extends { OnOk result (Extends types.old types.new) }
     ensures grows { Grows arena.old arena.new }
     ensures err { IfErr result (λ error. error ≡ no_memory) }
@@ -134,6 +142,8 @@ fn add_cast(
         IsRight registry schema arena.old types.old → IsRight registry schema arena.new types.new) }
     ensures kept { IfOk result (λ cast. IsKept types.new cast.0) }
     ensures same { OnOk result ((n : ℕ) (dtype : DataType) → n < length arena.old → Keeps types.old n dtype → Keeps types.new n dtype) }
+    ensures closed { OnOk result ((start : List AExpr) (roots : List ℕ) → Near start roots input.0 →
+        IsClosed start roots arena.old → IsClosed start roots arena.new) }
     ensures extends { OnOk result (Extends types.old types.new) }
     ensures grows { Grows arena.old arena.new }
     ensures err { IfErr result (λ error. error ≡ no_memory) }
@@ -165,6 +175,8 @@ fn add_literal(
         IsRight registry schema arena.old types.old → IsRight registry schema arena.new types.new) }
     ensures kept { IfOk result (λ literal. IsKept types.new literal.0) }
     ensures same { OnOk result ((n : ℕ) (dtype : DataType) → n < length arena.old → Keeps types.old n dtype → Keeps types.new n dtype) }
+    ensures closed { OnOk result ((start : List AExpr) (roots : List ℕ) →
+        IsClosed start roots arena.old → IsClosed start roots arena.new) }
     ensures extends { OnOk result (Extends types.old types.new) }
     ensures grows { Grows arena.old arena.new }
     ensures err { IfErr result (λ error. error ≡ no_memory) }

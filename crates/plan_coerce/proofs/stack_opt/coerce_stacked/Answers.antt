@@ -4,15 +4,22 @@ use Rattle.plan_arena.proofs.ItemLemmas.{tree_within}
 use Rattle.plan_arena.specs.Items.{numbers}
 use Rattle.plan_infer.specs.KeptTypes.{IsKept}
 use Rattle.plan_infer.proofs.TableLemmas.{plain_tree}
-use Rattle.plan_arena.proofs.NumberLemmas.{all_last}
+use Rattle.plan_arena.proofs.NumberLemmas.{all_front, all_last}
 use Rattle.plan_coerce.proofs.StackLemmas.{Pending, pending_start, pending_step, pending_end, pushed, pushed_one, no_numbers, on_refusal, stays_now, stays_grown, stays_visited}
 use Rattle.plan_infer.proofs.TableLemmas.{known_typed}
 use Rattle.plan_coerce.proofs.RightLemmas.{waiting_known}
+use Rattle.std.proofs.Common.{[], ◌∷◌}
+use Rattle.plan_coerce.specs.Reaching.{Near}
+use Rattle.plan_coerce.proofs.ReachLemmas.{closed_start, not_near, roots_near, stack_near}
 use Rattle.plan_coerce.proofs.stack_opt.coerce_stacked.Goals as goal
 
 pub loop-turn-init : goal.loop-turn-init
 loop-turn-init c =
+    let roots = numbers c.args.stack.now.items in
     record {
+      near = roots_near c.args.arena.now roots;
+      closed = closed_start c.args.arena.now roots;
+      elsewhere = λ n op inputs apart h. h;
       longer = omega arith;
       kept = c.requires.kept;
       right = λ registry schema right. right;
@@ -52,7 +59,14 @@ loop-turn-preserved c =
     let visited = c.in_ok-coerce_node.ensures in
     let is = c.requires.right in
     let right = visited.right is.registry is.schema (c.loop-turn.invariant.right is.registry is.schema is.right) in
+    let roots = numbers c.args.stack.now.items in
+    let waits = subst (AllByRecursion (Near c.args.arena.now roots)) popped c.loop-turn.invariant.near in
+    let here = all_last (Near c.args.arena.now roots) (numbers c.pop.new.self.items) c.in-Some.node.0 waits in
+    let closed = visited.closed c.args.arena.now roots c.loop-turn.invariant.longer here c.loop-turn.invariant.closed in
     record {
+      near = stack_near c.args.arena.now roots c.coerce_node.new.arena c.in-Some.node.0 c.get.result.now (numbers c.pop.new.self.items) (numbers c.inputs_rev.new.nodes.items) c.get.ensures closed here (all_front (Near c.args.arena.now roots) (numbers c.pop.new.self.items) (c.in-Some.node.0 ∷ []) waits) c.in_ok-inputs_rev.ensures.ok;
+      closed = closed;
+      elsewhere = λ n op inputs apart h. visited.elsewhere n op inputs (not_near c.args.arena.now roots c.in-Some.node.0 n op inputs here apart h) (c.loop-turn.invariant.elsewhere n op inputs apart h);
       longer = omega (arith, c.loop-turn.invariant.longer, visited.longer);
       kept = waiting_known c.coerce_node.new.arena c.loop-turn.types c.coerce_node.new.types c.in-Some.node.0 (numbers c.pop.new.self.items) (numbers c.inputs_rev.new.nodes.items) known visited.extends.kept (record { registry = is.registry; schema = is.schema; right = right }) (pushed c.coerce_node.new.arena c.in-Some.node.0 c.get.result.now (numbers c.pop.new.self.items) (numbers c.inputs_rev.new.nodes.items) c.get.ensures c.in_ok-inputs_rev.ensures.ok);
       right = λ registry schema before. visited.right registry schema (c.loop-turn.invariant.right registry schema before);
@@ -76,3 +90,19 @@ returns-in_err-inputs_rev-clause-stays c = on_refusal c.from_residual-in_err-inp
 pub returns-clause-stays : goal.returns-clause-stays
 returns-clause-stays c = λ registry schema first right le all.
     stays_now registry schema first c.args.arena.now c.loop-turn.arena (numbers c.loop-turn.stack.items) (numbers c.args.stack.now.items) (c.loop-turn.invariant.pending registry schema first right le all)
+
+pub returns-in_err-coerce_node-clause-elsewhere : goal.returns-in_err-coerce_node-clause-elsewhere
+returns-in_err-coerce_node-clause-elsewhere c = λ n op inputs apart h.
+    let roots = numbers c.args.stack.now.items in
+    let popped = pushed_one c.pop.new.self.items c.loop-turn.stack.items c.in-Some.node c.in-Some.ensures.items in
+    let waits = subst (AllByRecursion (Near c.args.arena.now roots)) popped c.loop-turn.invariant.near in
+    let here = all_last (Near c.args.arena.now roots) (numbers c.pop.new.self.items) c.in-Some.node.0 waits in
+    c.in_err-coerce_node.ensures.elsewhere n op inputs (not_near c.args.arena.now roots c.in-Some.node.0 n op inputs here apart h) (c.loop-turn.invariant.elsewhere n op inputs apart h)
+
+pub returns-in_err-inputs_rev-clause-elsewhere : goal.returns-in_err-inputs_rev-clause-elsewhere
+returns-in_err-inputs_rev-clause-elsewhere c = λ n op inputs apart h.
+    let roots = numbers c.args.stack.now.items in
+    let popped = pushed_one c.pop.new.self.items c.loop-turn.stack.items c.in-Some.node c.in-Some.ensures.items in
+    let waits = subst (AllByRecursion (Near c.args.arena.now roots)) popped c.loop-turn.invariant.near in
+    let here = all_last (Near c.args.arena.now roots) (numbers c.pop.new.self.items) c.in-Some.node.0 waits in
+    c.in_ok-coerce_node.ensures.elsewhere n op inputs (not_near c.args.arena.now roots c.in-Some.node.0 n op inputs here apart h) (c.loop-turn.invariant.elsewhere n op inputs apart h)

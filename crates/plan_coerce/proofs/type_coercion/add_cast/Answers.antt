@@ -9,6 +9,9 @@ use Rattle.plan_arena.specs.Items.{HoldsFrom}
 use Rattle.plan_infer.proofs.TableLemmas.{extends_more}
 use Rattle.plan_coerce.proofs.CoercionLemmas.{cast_denotes}
 use Rattle.plan_coerce.proofs.RightLemmas.{right_cast}
+use Rattle.std.proofs.Common.{[], ◌∷◌, refl}
+use Rattle.plan_arena.specs.declared.aexpr.AExpr.TheVariants.{Cast}
+use Rattle.plan_coerce.proofs.ReachLemmas.{closed_added}
 use Rattle.plan_coerce.proofs.type_coercion.add_cast.Goals as goal
 
 pub returns-clause-denotes : goal.returns-clause-denotes
@@ -29,3 +32,8 @@ returns-clause-extends c =
 pub returns-clause-same : goal.returns-clause-same
 returns-clause-same c = λ n dtype lt k.
     (c.in_ok-keep.ensures.others n dtype (λ e. absurd (omega (arith, lt, e, c.in_ok-cast.ensures.node)))).0 k
+
+pub returns-clause-closed : goal.returns-clause-closed
+returns-clause-closed c = λ start roots near closed.
+    let item = Cast c.args.input c.in_ok-dtype.dtype NonStrict in
+    closed_added start roots c.args.arena.now c.add.new.self item _ (c.args.input.0 ∷ []) c.in_ok-cast.ensures.ok refl (near, tt) closed

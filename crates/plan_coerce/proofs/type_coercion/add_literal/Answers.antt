@@ -1,6 +1,9 @@
 use Rattle.std.proofs.Common.{◌∙◌, arith}
 use Rattle.plan_infer.proofs.TableLemmas.{extends_more}
 use Rattle.plan_coerce.proofs.RightLemmas.{right_literal}
+use Rattle.std.proofs.Common.{[], refl}
+use Rattle.plan_arena.specs.declared.aexpr.AExpr.TheVariants.{Literal}
+use Rattle.plan_coerce.proofs.ReachLemmas.{closed_added}
 use Rattle.plan_coerce.proofs.type_coercion.add_literal.Goals as goal
 
 pub returns-clause-right : goal.returns-clause-right
@@ -15,3 +18,7 @@ returns-clause-extends c =
 pub returns-clause-same : goal.returns-clause-same
 returns-clause-same c = λ n dtype lt k.
     (c.in_ok-keep.ensures.others n dtype (λ e. absurd (omega (arith, lt, e, c.in_ok-literal.ensures.node)))).0 k
+
+pub returns-clause-closed : goal.returns-clause-closed
+returns-clause-closed c = λ start roots closed.
+    closed_added start roots c.args.arena.now c.add.new.self (Literal c.args.value) _ [] c.in_ok-literal.ensures.ok refl tt closed

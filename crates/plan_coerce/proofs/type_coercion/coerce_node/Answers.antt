@@ -1,5 +1,7 @@
 use Rattle.std.proofs.Common.{map, sym, ap, ◌∙◌, subst, arith, length}
 use Rattle.plan_types.specs.Types.{ty}
+use Rattle.std.specs.List.{AllByRecursion}
+use Rattle.plan_coerce.specs.Reaching.{Near}
 use Rattle.plan_arena.specs.Layers.{inputs_of}
 use Rattle.plan_arena.specs.Items.{expression_layer, numbers, Rewired}
 use Rattle.std.proofs.lemmas.List.{length-map}
@@ -9,6 +11,7 @@ use Rattle.plan_infer.proofs.TableLemmas.{typed_item}
 use Rattle.plan_coerce.specs.Coercion.{AreChanged, AllReady}
 use Rattle.plan_coerce.proofs.CoercionLemmas.{changed_count, same_inputs, takes_ready, rewritten, rewritten_visits}
 use Rattle.plan_coerce.proofs.RightLemmas.{kept_within, elsewhere_kept, right_rewritten}
+use Rattle.plan_coerce.proofs.ReachLemmas.{changed_near, closed_written, inputs_near}
 use Rattle.plan_coerce.proofs.type_coercion.coerce_node.Goals as goal
 
 pub get-requires : goal.get-requires
@@ -71,3 +74,12 @@ pub returns-clause-elsewhere : goal.returns-clause-elsewhere
 returns-clause-elsewhere c = λ n op inputs other h.
     let rew = subst (λ ms. Rewired c.operands_to.new.arena c.replace_inputs.new.self c.args.node.0 (numbers ms)) c.as_slice-3.ensures c.replace_inputs.ensures in
     elsewhere_kept c.operands_to.new.arena c.replace_inputs.new.self c.args.node.0 _ rew n op inputs other (grown_held _ _ c.in_ok-operands.ensures.grows n op inputs h)
+
+pub returns-clause-closed : goal.returns-clause-closed
+returns-clause-closed c = λ start roots le near closed.
+    let item = c.get.result.now in
+    let inputs = ap numbers c.as_slice.ensures ∙ c.in_ok-inputs.ensures.ok ∙ ap (λ i. inputs_of (expression_layer i)) (some_same _ c.get-2.result.now item c.get-2.ensures c.get.ensures) in
+    let below = subst (AllByRecursion (Near start roots)) (sym inputs) (inputs_near start roots c.args.arena.now c.args.node.0 item c.get.ensures closed near) in
+    let after = changed_near start roots c.args.arena.now c.operands_to.new.arena c.args.types.now _ _ _ le c.in_ok-operands.ensures.changed below in
+    let rew = subst (λ ms. Rewired c.operands_to.new.arena c.replace_inputs.new.self c.args.node.0 (numbers ms)) c.as_slice-3.ensures c.replace_inputs.ensures in
+    closed_written start roots c.operands_to.new.arena c.replace_inputs.new.self c.args.node.0 _ rew after (c.in_ok-operands.ensures.closed start roots below closed)

@@ -1,0 +1,111 @@
+-- Nodes that roots reach, as nodes are added and one is written.
+use Rattle.std.proofs.Common.{◌≡◌, ◌≢◌, ◌⊎◌, ℕ, zero, suc, ◌<◌, ◌≤◌, true, false, List, [], ◌∷◌, ◌++◌, length, map, get_or, set, reverse, Some, slice_get, refl, sym, ap, ◌∙◌, subst, arith, inl, inr, ⊎_elim, length-append}
+use Rattle.std.specs.List.{AllByRecursion}
+use Rattle.std.proofs.lemmas.Option.{slice_get_within, slice_get-get_or}
+use Rattle.std.proofs.lemmas.Bool.{cases_lt}
+use Rattle.std.proofs.lemmas.List.{length-map, map-append, map-set}
+use Rattle.std.proofs.Math.ListN.{length-set}
+use Rattle.plan_types.proofs.ListLemmas.{slice_get-append, slice_get-set_other}
+use Rattle.plan_types.specs.Types.{Ty, same_type}
+use Rattle.plan_dsl.specs.Ops.{Op}
+use Rattle.plan_arena.specs.declared.arena.Node.{Node}
+use Rattle.plan_arena.specs.declared.aexpr.AExpr.{AExpr}
+use Rattle.plan_arena.specs.Layers.{Layer, layer, op_of, inputs_of}
+use Rattle.plan_arena.specs.Items.{HoldsExpression, Rewired, expression_layer, numbers}
+use Rattle.plan_arena.proofs.DenotationLemmas.{some_same, same_or_other}
+use Rattle.plan_arena.proofs.ItemLemmas.{layer_inputs, expression_added, expression_written}
+use Rattle.plan_arena.proofs.NumberLemmas.{all_joined, all_reversed}
+use Rattle.plan_infer.specs.declared.type_table.TypeTable.{TypeTable}
+use Rattle.plan_infer.proofs.TableLemmas.{layer_held}
+use Rattle.plan_coerce.specs.Coercion.{Operand, IsChanged, AreChanged}
+use Rattle.plan_coerce.specs.Reaching.{Among, IsReached, Near, IsClosed}
+use Rattle.plan_coerce.proofs.RightLemmas.{node_within}
+
+all_among : (P : ℕ → Type 0) (ns : List ℕ) → ((n : ℕ) → Among ns n → P n) → AllByRecursion P ns
+all_among P [] h = tt
+all_among P (n ∷ ns) h = (h n (inl refl), all_among P ns (λ m a. h m (inr a)))
+
+-- roots, and what they lead to, at the start
+pub roots_near : (items : List AExpr) (roots : List ℕ) → AllByRecursion (Near items roots) roots
+roots_near items roots = all_among (Near items roots) roots (λ n a. inr (record { steps = zero; path = a }))
+
+pub closed_start : (items : List AExpr) (roots : List ℕ) → IsClosed items roots items
+closed_start items roots n op inputs near held =
+    ⊎_elim
+    (λ le. absurd (omega (arith, le, node_within items n op inputs held)))
+    (λ r. all_among (Near items roots) inputs (λ m a. inr (record { steps = suc r.steps; path = (n, op, inputs, r.path, held, a) })))
+    near
+
+-- an item of a list was there before others were added, and before another was written
+held_before : (old : List AExpr) (item : AExpr) (n : ℕ) (op : Op) (inputs : List ℕ) → n < length old → HoldsExpression (old ++ item ∷ []) n op inputs → HoldsExpression old n op inputs
+held_before old item n op inputs lt h =
+    let layers = map expression_layer old in
+    let got = slice_get-get_or layers n (layer op inputs) (omega (arith, lt, length-map old expression_layer)) in
+    let there = ap (λ l. slice_get l n) (map-append expression_layer old (item ∷ [])) ∙ slice_get-append layers (map expression_layer (item ∷ [])) n _ got in
+    got ∙ ap Some (some_same (slice_get (map expression_layer (old ++ item ∷ [])) n) _ _ there h)
+
+held_unwritten : (old : List AExpr) (at : ℕ) (item : AExpr) (n : ℕ) (op : Op) (inputs : List ℕ) → n ≢ at → HoldsExpression (set old at item) n op inputs → HoldsExpression old n op inputs
+held_unwritten old at item n op inputs other h =
+    let layers = map expression_layer old in
+    let within = node_within (set old at item) n op inputs h in
+    let got = slice_get-get_or layers n (layer op inputs) (omega (arith, within, length-set old at item, length-map old expression_layer)) in
+    let there = ap (λ l. slice_get l n) (map-set expression_layer old at item) ∙ slice_get-set_other layers at (expression_layer item) n _ other got in
+    got ∙ ap Some (some_same (slice_get (map expression_layer (set old at item)) n) _ _ there h)
+
+-- with a node that was added over such nodes
+pub closed_added : (start : List AExpr) (roots : List ℕ) (old new : List AExpr) (item : AExpr) (op : Op) (ins : List ℕ) → new ≡ old ++ item ∷ [] → expression_layer item ≡ layer op ins → AllByRecursion (Near start roots) ins → IsClosed start roots old → IsClosed start roots new
+closed_added start roots old new item op ins grown is near closed n o inputs here held =
+    let now = subst (λ l. HoldsExpression l n o inputs) grown held in
+    ⊎_elim
+    (λ lt. closed n o inputs here (held_before old item n o inputs lt now))
+    (λ le.
+    let within = node_within (old ++ item ∷ []) n o inputs now in
+    let last : n ≡ length old = omega (arith, le, within, length-append old (item ∷ [])) in
+    let there = expression_added old item ∙ ap Some is in
+    let one = some_same (slice_get (map expression_layer (old ++ item ∷ [])) (length old)) (layer op ins) (layer o inputs) there (subst (λ k. HoldsExpression (old ++ item ∷ []) k o inputs) last now) in
+    subst (AllByRecursion (Near start roots)) (layer_inputs op o ins inputs one) near)
+    (cases_lt n (length old))
+
+-- with a node that was written over such nodes
+pub closed_written : (start : List AExpr) (roots : List ℕ) (old new : List AExpr) (at : ℕ) (ms : List ℕ) → Rewired old new at ms → AllByRecursion (Near start roots) ms → IsClosed start roots old → IsClosed start roots new
+closed_written start roots old new at ms rew near closed n o inputs here held =
+    let now = subst (λ l. HoldsExpression l n o inputs) rew.items held in
+    ⊎_elim
+    (λ same.
+    let there = expression_written old at rew.after (slice_get_within old at rew.before rew.got) ∙ ap Some rew.rewired in
+    let op = op_of (expression_layer rew.before) in
+    let one = some_same (slice_get (map expression_layer (set old at rew.after)) at) (layer op ms) (layer o inputs) there (subst (λ k. HoldsExpression (set old at rew.after) k o inputs) same now) in
+    subst (AllByRecursion (Near start roots)) (layer_inputs op o ms inputs one) near)
+    (λ other. closed n o inputs here (held_unwritten old at rew.after n o inputs other now))
+    (same_or_other n at)
+
+-- operands that were changed
+operands_near : (start : List AExpr) (roots : List ℕ) (old new : List AExpr) (table : TypeTable) (os : List Operand) → length start ≤ length old → AllByRecursion (Near start roots) (map (λ o. o.input) os) → AllByRecursion (IsChanged old new table) os → AllByRecursion (Near start roots) (map (λ o. o.changed) os)
+operands_near start roots old new table [] le near all = tt
+operands_near start roots old new table (o ∷ os) le near all =
+    let one = elim (same_type o.from o.target) as (λ b. same_type o.from o.target ≡ b → Near start roots o.changed) [ true ↦ λ e. subst (Near start roots) (sym (all.0.stays e)) near.0 | false ↦ λ e. inl (omega (arith, le, all.0.fresh e)) ] refl in
+    (one, operands_near start roots old new table os le near.1 all.1)
+
+pub changed_near : (start : List AExpr) (roots : List ℕ) (old new : List AExpr) (table : TypeTable) (ns ms : List ℕ) (targets : List Ty) → length start ≤ length old → AreChanged old new table ns ms targets → AllByRecursion (Near start roots) ns → AllByRecursion (Near start roots) ms
+changed_near start roots old new table ns ms targets le c near =
+    subst (AllByRecursion (Near start roots)) c.changed_are (operands_near start roots old new table c.operands le (subst (AllByRecursion (Near start roots)) (sym c.inputs_are) near) c.each)
+
+pub near_at : (P : ℕ → Type 0) (ns : List Node) (i : ℕ) (d : Node) → AllByRecursion P (numbers ns) → i < length ns → P (get_or ns i d).0
+near_at P [] i d all lt = absurd (omega (arith, lt))
+near_at P (n ∷ ns) zero d all lt = all.0
+near_at P (n ∷ ns) (suc i) d all lt = near_at P ns i d all.1 (omega (arith, lt))
+
+-- the inputs of a node
+pub inputs_near : (start : List AExpr) (roots : List ℕ) (items : List AExpr) (n : ℕ) (item : AExpr) → slice_get items n ≡ Some item → IsClosed start roots items → Near start roots n → AllByRecursion (Near start roots) (inputs_of (expression_layer item))
+inputs_near start roots items n item got closed near = closed n (op_of (expression_layer item)) (inputs_of (expression_layer item)) near (layer_held items n item got)
+
+-- what waits, when the last was visited and its inputs took its place
+pub stack_near : (start : List AExpr) (roots : List ℕ) (items : List AExpr) (n : ℕ) (item : AExpr) (rest stack : List ℕ) → slice_get items n ≡ Some item → IsClosed start roots items → Near start roots n → AllByRecursion (Near start roots) rest → stack ≡ rest ++ reverse (inputs_of (expression_layer item)) → AllByRecursion (Near start roots) stack
+stack_near start roots items n item rest stack got closed near waits is =
+    let inputs = inputs_of (expression_layer item) in
+    subst (AllByRecursion (Near start roots)) (sym is) (all_joined (Near start roots) rest (reverse inputs) waits (all_reversed (Near start roots) inputs (inputs_near start roots items n item got closed near)))
+
+-- an item that is not reached is another than one that is near
+pub not_near : (start : List AExpr) (roots : List ℕ) (at n : ℕ) (op : Op) (inputs : List ℕ) → Near start roots at → ¬ (IsReached start roots n) → HoldsExpression start n op inputs → n ≢ at
+not_near start roots at n op inputs near apart held e =
+    ⊎_elim (λ le. absurd (omega (arith, le, e, node_within start n op inputs held))) (λ r. apart (subst (IsReached start roots) (sym e) r)) near
