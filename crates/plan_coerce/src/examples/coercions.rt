@@ -10,6 +10,7 @@ ghost use Rattle.plan_dsl.specs.declared.operator.Operator.TheVariants.{Eq, Plus
 ghost use Rattle.plan_arena.specs.declared.aexpr.AExpr.TheVariants.{Column, Literal};
 ghost use Rattle.plan_infer.specs.Typed.{DenotesTyped, DenotesKnown};
 ghost use Rattle.plan_coerce.specs.Coercion.{KeepsBelow, DenotesSame, Visits, IsCoerced, StaysSame, coerced};
+ghost use Rattle.plan_coerce.specs.Reaching.{IsReached, Near};
 ghost use Rattle.plan_infer.specs.Samples.{int8, int32, int64, one_column, columns_of, two_columns, struct_of, a, b, literal, number, five, binary, cast_to, sum, pair, columns_and, sum_items, a_items};
 ghost use Rattle.plan_coerce.specs.Samples.{cast_of, strict_items, strict_sum};
 
@@ -82,4 +83,13 @@ pub fn coerced_sums()
     ensures items_below { KeepsBelow 1 (columns_and []) (Column (codes "a") ∷ Column (codes "c") ∷ []) }
     ensures same { DenotesSame [] (one_column int8) 0 a_items 0 a }
     ensures not_same { ¬ (DenotesSame [] (columns_of int8 int8) 0 (Column (codes "b") ∷ []) 0 a) }
+{}
+
+/// A root reaches itself and what its inputs lead to. Nodes that are added are near.
+pub fn reached_nodes()
+    ensures root { IsReached sum_items (2 ∷ []) 2 }
+    ensures input { IsReached sum_items (2 ∷ []) 1 }
+    ensures other { ¬ (IsReached sum_items (0 ∷ []) 1) }
+    ensures added { Near sum_items (0 ∷ []) 3 }
+    ensures not_near { ¬ (Near sum_items (0 ∷ []) 1) }
 {}
