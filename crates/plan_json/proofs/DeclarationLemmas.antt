@@ -5,7 +5,7 @@ use Rattle.std.proofs.lemmas.Bool.{ltb-true, lt-ltb}
 use Rattle.std.specs.Option.{option_map_or}
 use Rattle.plan_types.specs.Schemas.{Name, Columns, names_of, is_among, repeats}
 use Rattle.plan_types.proofs.NameLemmas.{repeats-push}
-use Rattle.serde_json.specs.Data.{Data, Items, null, boolean, number, string, array, object}
+use Rattle.serde_json.specs.Data.{Data, Items, object}
 use Rattle.serde_json.specs.Events.{items_len, members_len}
 use Rattle.serde_json.specs.Find.{as_array, get, get_member}
 use Rattle.serde_json.specs.View.{view, items_view}
@@ -25,16 +25,12 @@ first_of_both {A = A} {B = B} (Some a) (Some b) p e =
 
 -- the first of two members is found at its key
 get-two_members : (first second : List ℕ) (d : Data) (p : Data × Data) → two_members first second d ≡ Some p → get first d ≡ Some p.0
-get-two_members first second null p e = cc
-get-two_members first second (boolean b) p e = cc
-get-two_members first second (number n) p e = cc
-get-two_members first second (string s) p e = cc
-get-two_members first second (array ds) p e = cc
 get-two_members first second (object ms) p e = go (members_len ms == 2) e
   where
     go : (b : Bool) → cond b (both (get_member first ms) (get_member second ms)) None ≡ Some p → get_member first ms ≡ Some p.0
     go true h = first_of_both _ _ p h
     go false h = cc
+get-two_members first second _ p e = cc
 
 -- a table that is read gives itself the name that is read
 pub table_name-read : (d : Data) (t : Name × Columns) → table_of d ≡ Some t → table_name d ≡ Some t.0

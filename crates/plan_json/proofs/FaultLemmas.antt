@@ -15,26 +15,11 @@ further form d below kind path longer here (steps, is, bad) told = (below.step �
 
 below_part : (form : Form) (d : Data) (below : Part) (inner error : JsonError) → Contains (parts_of form d) below → IsErrorOf below.form below.value inner → IsBelow below.step inner error → IsErrorOf form d error
 below_part form d below NotJson error here bad told = absurd bad
-below_part form d below (Shape path) NotJson here bad told = absurd told
 below_part form d below (Shape path) (Shape longer) here bad told = further form d below BadShape _ _ here bad told
-below_part form d below (Shape path) (Float longer) here bad told = absurd told
-below_part form d below (Shape path) (Name longer) here bad told = absurd told
-below_part form d below (Shape path) NoMemory here bad told = tt
-below_part form d below (Float path) NotJson here bad told = absurd told
-below_part form d below (Float path) (Shape longer) here bad told = absurd told
 below_part form d below (Float path) (Float longer) here bad told = further form d below BadFloat _ _ here bad told
-below_part form d below (Float path) (Name longer) here bad told = absurd told
-below_part form d below (Float path) NoMemory here bad told = tt
-below_part form d below (Name path) NotJson here bad told = absurd told
-below_part form d below (Name path) (Shape longer) here bad told = absurd told
-below_part form d below (Name path) (Float longer) here bad told = absurd told
 below_part form d below (Name path) (Name longer) here bad told = further form d below BadName _ _ here bad told
-below_part form d below (Name path) NoMemory here bad told = tt
-below_part form d below NoMemory NotJson here bad told = absurd told
-below_part form d below NoMemory (Shape longer) here bad told = absurd told
-below_part form d below NoMemory (Float longer) here bad told = absurd told
-below_part form d below NoMemory (Name longer) here bad told = absurd told
-below_part form d below NoMemory NoMemory here bad told = tt
+below_part form d below inner NoMemory here bad told = tt
+below_part form d below inner error here bad told = absurd told
 
 -- an error of a part, as it comes through `at`
 pub IsErrorOf-below : {T : Type 0} (form : Form) (d : Data) (below : Part) (read : Result T JsonError) (error : JsonError) → Contains (parts_of form d) below → IfErr read (IsErrorOf below.form below.value) → IsErrBelow below.step read error → IsErrorOf form d error
@@ -43,21 +28,10 @@ IsErrorOf-below form d below (Err inner) error here bad told = below_part form d
 
 -- an error of the value itself
 pub IsErrorOf-own : (form : Form) (d : Data) (kind : FaultKind) (error : JsonError) → IsOwn kind error → own_fault form d ≡ Some kind → IsErrorOf form d error
-IsErrorOf-own form d BadShape NotJson told broken = absurd told
 IsErrorOf-own form d BadShape (Shape path) told broken = ([], told, broken)
-IsErrorOf-own form d BadShape (Float path) told broken = absurd told
-IsErrorOf-own form d BadShape (Name path) told broken = absurd told
-IsErrorOf-own form d BadShape NoMemory told broken = absurd told
-IsErrorOf-own form d BadFloat NotJson told broken = absurd told
-IsErrorOf-own form d BadFloat (Shape path) told broken = absurd told
 IsErrorOf-own form d BadFloat (Float path) told broken = ([], told, broken)
-IsErrorOf-own form d BadFloat (Name path) told broken = absurd told
-IsErrorOf-own form d BadFloat NoMemory told broken = absurd told
-IsErrorOf-own form d BadName NotJson told broken = absurd told
-IsErrorOf-own form d BadName (Shape path) told broken = absurd told
-IsErrorOf-own form d BadName (Float path) told broken = absurd told
 IsErrorOf-own form d BadName (Name path) told broken = ([], told, broken)
-IsErrorOf-own form d BadName NoMemory told broken = absurd told
+IsErrorOf-own form d kind error told broken = absurd told
 
 -- an error of a value that must be a text is one of a value that must be such a name
 pub IsErrorOf-text : (form : Form) (d : Data) (error : JsonError) → (text_of d ≡ None → own_fault form d ≡ Some (shape_fault d)) → IsErrorOf a_text d error → IsErrorOf form d error

@@ -4,7 +4,7 @@ use Rattle.std.specs.Option.{option_map_or}
 use Rattle.serde_json.specs.Data.{Data, Num, unsigned, negative, float, number}
 use Rattle.serde_json.specs.Find.{as_i64, as_u64}
 use Rattle.plan_types.specs.Schemas.{Name}
-use Rattle.plan_json.specs.Faults.{FaultKind, BadShape, BadFloat, BadName, Form, a_query, table_list, column_list, field_list, a_column, a_type, a_unit, a_text, a_table, a_new_name, a_scan, a_literal, a_number_text, a_typed_literal, a_counted_type, a_number_of, an_operator, a_mode, keyed_form, list_of, items_of, own_fault, shape_fault, unless}
+use Rattle.plan_json.specs.Faults.{FaultKind, BadShape, BadFloat, BadName, Form, a_new_name, a_scan, own_fault, shape_fault, unless}
 use Rattle.plan_json.specs.Looking.{is_float}
 use Rattle.plan_json.specs.Leaves.{text_of}
 
@@ -40,27 +40,9 @@ of_name d test (Some name) kind e = go (test name) kind e
     go false BadName e = by_name
 
 own_named : (form : Form) (d : Data) (kind : FaultKind) → own_fault form d ≡ Some kind → IsNamed d kind
-own_named a_query d kind e = of_test d _ kind e
-own_named table_list d kind e = of_test d _ kind e
-own_named column_list d kind e = of_test d _ kind e
-own_named field_list d kind e = of_test d _ kind e
-own_named a_column d kind e = of_test d _ kind e
-own_named a_type d kind e = of_test d _ kind e
-own_named a_unit d kind e = of_test d _ kind e
-own_named a_text d kind e = of_test d _ kind e
-own_named (a_table before) d kind e = of_test d _ kind e
 own_named (a_new_name before) d kind e = of_name d _ (text_of d) kind e
 own_named (a_scan tables) d kind e = of_name d _ (text_of d) kind e
-own_named a_literal d kind e = of_test d _ kind e
-own_named a_number_text d kind e = of_test d _ kind e
-own_named a_typed_literal d kind e = of_test d _ kind e
-own_named a_counted_type d kind e = of_test d _ kind e
-own_named (a_number_of type) d kind e = of_test d _ kind e
-own_named an_operator d kind e = of_test d _ kind e
-own_named a_mode d kind e = of_test d _ kind e
-own_named (keyed_form names which) d kind e = of_test d _ kind e
-own_named (list_of names a) d kind e = of_test d _ kind e
-own_named (items_of names ps) d kind e = of_test d _ kind e
+own_named _ d kind e = of_test d _ kind e
 
 pub float_fault : (form : Form) (d : Data) → own_fault form d ≡ Some BadFloat → is_float d ≡ true
 float_fault form d e = go (own_named form d BadFloat e)

@@ -9,7 +9,7 @@ use Rattle.serde_json.specs.declared.value.Value.{Value}
 use Rattle.plan_json.specs.Errors.{escaped}
 use Rattle.plan_json.specs.Forms.{Asked, a_form, leaf, many, Places, single, listed, Read, name_read, literal_read, operator_read, type_read, mode_read, table_read, columns_read, expression_read, plan_read, many_read, reads_of, expressions_in, expression_rows, plan_rows, row_named, key_named, asks, says, expression_says, plan_says, fits, all_fit, asked_in, each_fits, Fits, AllFit}
 use Rattle.plan_json.specs.Leaves.{text_of, literal_of, number_text_of, typed_of, operator_of, type_of, mode_of, table_at, columns_of}
-use Rattle.plan_json.specs.Looking.{both, only_member, all_of}
+use Rattle.plan_json.specs.Looking.{only_member, all_of}
 use Rattle.plan_json.specs.Queries.{leaf_of, front, read_as, each_as, these_as, list_as, places_as}
 use Rattle.plan_json.specs.Tables.{Declared}
 use Rattle.plan_json.specs.declared.forms.Kind.{Kind}
@@ -69,11 +69,6 @@ image f (Some x) y e = (x, refl, cc)
 image_then : {A B : Type 0} (f : A → Option B) (o : Option A) (y : B) → option_and_then f o ≡ Some y → (x : A) × (o ≡ Some x) × (f x ≡ Some y)
 image_then f None y e = cc
 image_then f (Some x) y e = (x, refl, e)
-
-pair_of : {A B : Type 0} (a : Option A) (b : Option B) (p : A × B) → both a b ≡ Some p → (x : A) × (y : B) × (a ≡ Some x) × (b ≡ Some y) × (◌≡◌ {A = A × B} (x, y) p)
-pair_of None b p e = cc
-pair_of (Some x) None p e = cc
-pair_of (Some x) (Some y) p e = (x, y, refl, refl, cc)
 
 -- the first of a list that is read, and the others
 opened : (first : Option Read) (rest : Option (List Read)) (rs : List Read) → front first rest ≡ Some rs → (x : Read) × (xs : List Read) × (first ≡ Some x) × (rest ≡ Some xs) × (x ∷ xs ≡ rs)

@@ -1,10 +1,9 @@
 -- Lists that are read item by item.
-use Rattle.std.proofs.Common.{◌≡◌, ℕ, zero, suc, ◌+◌, ◌<◌, List, [], ◌∷◌, ◌++◌, length, get_or, take, Contains, Option, Some, None, option_map, option_and_then, refl, sym, ap, ◌∙◌, arith, append_assoc, append-nil}
-use Rattle.std.proofs.lemmas.List.{take_more, take_all}
+use Rattle.std.proofs.Common.{◌≡◌, ℕ, zero, suc, ◌+◌, ◌<◌, List, [], ◌∷◌, ◌++◌, length, get_or, take, Contains, Option, Some, None, option_map, refl, sym, ap, ◌∙◌, arith, append_assoc, append-nil}
+use Rattle.std.proofs.lemmas.List.{take_more}
 use Rattle.std.specs.Option.{option_map_or}
 use Rattle.plan_types.specs.Schemas.{Name, names_of}
 use Rattle.serde_json.specs.Data.{Data, Items, no_items, item}
-use Rattle.serde_json.specs.Find.{as_array}
 use Rattle.serde_json.specs.View.{view, items_view}
 use Rattle.serde_json.specs.declared.value.Value.{Value}
 use Rattle.plan_json.specs.Faults.{Form, a_table, part, number, each, each_table}
@@ -88,9 +87,3 @@ each_table-at before n (w ∷ ws) (suc i) v k names within is at all =
     grown : (name : Option Name) → before ++ option_map_or (λ x. x ∷ some_of table_name (items_view (take i ws))) name (some_of table_name (items_view (take i ws))) ≡ option_map_or (λ x. before ++ x ∷ []) name before ++ some_of table_name (items_view (take i ws))
     grown None = refl
     grown (Some x) = sym (append_assoc before (x ∷ []) _)
-
--- ---- a whole list
-
-pub all_of-list : {A : Type 0} (read : Data → Option A) (d : Data) (vs : List Value) (n : ℕ) (xs : List A) → Some (items_view vs) ≡ as_array d → length vs ≡ n → all_of read (items_view (take n vs)) ≡ Some xs → option_and_then (all_of read) (as_array d) ≡ Some xs
-all_of-list read d vs n xs is all done =
-    ap (option_and_then (all_of read)) (sym is) ∙ ap (λ l. all_of read (items_view l)) (sym (take_all n vs (omega arith))) ∙ done

@@ -1,6 +1,6 @@
 -- Looking into a value, beside what the value's type holds.
 use Rattle.std.proofs.Common.{◌≡◌, ℕ, zero, suc, get_or, ◌<◌, ◌≤◌, ◌==◌, List, [], ◌∷◌, length, slice_get, Option, Some, None, option_map, String, Global, string_bytes, cond, refl, sym, ap, ◌∙◌, subst, arith, ne_eqb, max}
-use Rattle.serde_json.specs.Data.{Data, null, boolean, number, string, array, object, Items, no_items, item, Members, no_members, member, depth, items_depth}
+use Rattle.serde_json.specs.Data.{Data, string, array, object, Items, Members, no_members, member, depth, items_depth}
 use Rattle.serde_json.specs.Events.{members_len}
 use Rattle.serde_json.specs.Find.{get, get_member, as_str, as_array, as_object}
 use Rattle.serde_json.specs.View.{view, items_view, members_view}
@@ -14,28 +14,16 @@ Entry = String Global × Value
 -- ---- a value is what it is seen as
 
 pub object-from_as_object : (d : Data) (ms : Members) → Some ms ≡ as_object d → d ≡ object ms
-object-from_as_object null ms e = cc
-object-from_as_object (boolean b) ms e = cc
-object-from_as_object (number n) ms e = cc
-object-from_as_object (string s) ms e = cc
-object-from_as_object (array ds) ms e = cc
 object-from_as_object (object es) ms e = cc
+object-from_as_object _ ms e = cc
 
 pub array-from_as_array : (d : Data) (ds : Items) → Some ds ≡ as_array d → d ≡ array ds
-array-from_as_array null ds e = cc
-array-from_as_array (boolean b) ds e = cc
-array-from_as_array (number n) ds e = cc
-array-from_as_array (string s) ds e = cc
 array-from_as_array (array es) ds e = cc
-array-from_as_array (object ms) ds e = cc
+array-from_as_array _ ds e = cc
 
 pub string-from_as_str : (d : Data) (text : List ℕ) → Some text ≡ as_str d → d ≡ string text
-string-from_as_str null text e = cc
-string-from_as_str (boolean b) text e = cc
-string-from_as_str (number n) text e = cc
 string-from_as_str (string s) text e = cc
-string-from_as_str (array ds) text e = cc
-string-from_as_str (object ms) text e = cc
+string-from_as_str _ text e = cc
 
 -- ---- objects
 
@@ -96,32 +84,10 @@ two_items-other d vs is other = two_others vs other ∙ ap two_items (sym (array
 -- ---- parts are less deep
 
 pub object-from_only_member : (d : Data) (word : List ℕ) (value : Data) → Some (word, value) ≡ only_member d → d ≡ object (member word value no_members)
-object-from_only_member null word value e = cc
-object-from_only_member (boolean b) word value e = cc
-object-from_only_member (number n) word value e = cc
-object-from_only_member (string s) word value e = cc
-object-from_only_member (array ds) word value e = cc
-object-from_only_member (object no_members) word value e = cc
 object-from_only_member (object (member k v no_members)) word value e =
     let p : ◌≡◌ {A = List ℕ × Data} (word, value) (k, v) = cc in
     ap (λ q. object (member q.0 q.1 no_members)) (sym p)
-object-from_only_member (object (member k v (member l w ms))) word value e = cc
-
-pub array-from_two_items : (d a b : Data) → Some (a, b) ≡ two_items d → d ≡ array (item a (item b no_items))
-array-from_two_items null a b e = cc
-array-from_two_items (boolean x) a b e = cc
-array-from_two_items (number n) a b e = cc
-array-from_two_items (string s) a b e = cc
-array-from_two_items (object ms) a b e = cc
-array-from_two_items (array no_items) a b e = cc
-array-from_two_items (array (item x no_items)) a b e = cc
-array-from_two_items (array (item x (item y no_items))) a b e =
-    let p : ◌≡◌ {A = Data × Data} (a, b) (x, y) = cc in
-    ap (λ q. array (item q.0 (item q.1 no_items))) (sym p)
-array-from_two_items (array (item x (item y (item z ds)))) a b e = cc
-
-below_second : (n m : ℕ) → n < suc (max m (max n 0))
-below_second n m = omega arith
+object-from_only_member _ word value e = cc
 
 below_max : (n m k : ℕ) → n ≤ k → n < suc (max k m)
 below_max n m k h = omega arith
@@ -140,5 +106,3 @@ depth-item d vs i v is within at =
     let below = item_depth vs i v within at in
     subst (λ x. depth (view v) < depth x) (sym (array-from_as_array d _ is)) (omega (arith, below))
 
-pub depth-two_items : (d a b : Data) → Some (a, b) ≡ two_items d → depth a < depth d
-depth-two_items d a b e = subst (λ x. depth a < depth x) (sym (array-from_two_items d a b e)) (below_max (depth a) _ (depth a) (omega arith))

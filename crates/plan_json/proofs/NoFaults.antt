@@ -401,21 +401,13 @@ parts_well column_list d p well here = parts_columns d p well here
 parts_well field_list d p well here = parts_fields d p well here
 parts_well a_column d p well here = parts_column d p well here
 parts_well a_type d p well here = parts_type d p well here
-parts_well a_unit d p well here = none_of p here
-parts_well a_text d p well here = none_of p here
 parts_well (a_table before) d p well here = parts_table before d p well here
-parts_well (a_new_name before) d p well here = none_of p here
-parts_well (a_scan names) d p well here = none_of p here
-parts_well a_literal d p well here = none_of p here
-parts_well a_number_text d p well here = none_of p here
 parts_well a_typed_literal d p well here = parts_typed d p well here
 parts_well a_counted_type d p well here = parts_counted d p well here
-parts_well (a_number_of type) d p well here = none_of p here
-parts_well an_operator d p well here = none_of p here
-parts_well a_mode d p well here = none_of p here
 parts_well (keyed_form names which) d p (tables, same, well) here = parts_keyed names tables same which d p well here
 parts_well (list_of names a) d p (tables, same, well) here = parts_list names tables same a d p well here
 parts_well (items_of names ps) d p (tables, same, well) here = parts_items names tables same ps d p well here
+parts_well _ d p well here = none_of p here
 
 -- ---- so it has no fault along any path
 

@@ -1,5 +1,5 @@
 -- Reading by the table of forms, as far as the code has come.
-use Rattle.std.proofs.Common.{◌≡◌, ℕ, zero, suc, ◌+◌, ◌<◌, ◌≤◌, ◌==◌, List, [], ◌∷◌, ◌++◌, length, get_or, slice_get, take, map, false, cond, Contains, Some, None, option_map, refl, sym, ap, subst, ◌∙◌, arith, ne_eqb}
+use Rattle.std.proofs.Common.{◌≡◌, ℕ, zero, suc, ◌+◌, ◌<◌, ◌≤◌, ◌==◌, List, [], ◌∷◌, ◌++◌, length, get_or, slice_get, take, map, false, cond, Contains, Some, option_map, refl, sym, ap, subst, ◌∙◌, arith, ne_eqb}
 use Rattle.std.proofs.lemmas.Bool.{eq-eqb}
 use Rattle.std.proofs.lemmas.List.{take_all, length-take-le}
 use Rattle.std.specs.Option.{option_map_or}
@@ -17,7 +17,7 @@ use Rattle.plan_json.specs.Queries.{read_as, each_as, these_as, list_as}
 use Rattle.plan_json.specs.Tables.{Declared}
 use Rattle.plan_json.specs.declared.forms.Kind.{Kind}
 use Rattle.plan_json.specs.declared.forms.Key.{Key}
-use Rattle.plan_json.proofs.FaultLemmas.{only_member-part, only_part-none}
+use Rattle.plan_json.proofs.FaultLemmas.{only_member-part}
 use Rattle.plan_json.proofs.FormLemmas.{these_fit, each_as-all_of}
 use Rattle.plan_json.proofs.ItemLemmas.{Contains-later, all_of-more}
 use Rattle.plan_json.proofs.LookingLemmas.{array-from_as_array}
@@ -31,11 +31,6 @@ key_part names kind d word value row places is named same asked =
     subst (λ w. Contains (parts_of (keyed_form names kind) d) (part (key w) (places_form names places) value)) (sym same)
     (only_member-part (key_form names kind) d word word value (places_form names places) is refl
     (ap (option_map (λ r. places_form names (asks r.1))) (sym named) ∙ ap (λ p. Some (places_form names p)) (sym asked)))
-
--- a key that names no form
-pub no_key : (names : List Name) (kind : Kind) (d : Data) (word : List ℕ) (value : Data) → Some (word, value) ≡ only_member d → None ≡ key_named kind word → own_fault (keyed_form names kind) d ≡ Some (shape_fault d)
-no_key names kind d word value is none =
-    only_part-none (key_form names kind) d word value (shape_fault d) is (ap (option_map (λ r. places_form names (asks r.1))) (sym none))
 
 -- ---- a list of exactly these
 

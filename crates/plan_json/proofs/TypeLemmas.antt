@@ -1,22 +1,12 @@
 -- Types: a name, or an object of one key.
-use Rattle.std.proofs.Common.{◌≡◌, ℕ, List, Some, None, ◌||◌, is_some, option_map, option_and_then, codes, sym, ap, subst, ◌∙◌}
-use Rattle.serde_json.specs.Data.{Data, string}
+use Rattle.std.proofs.Common.{◌≡◌, ℕ, List, Some, None, ◌||◌, is_some, option_map, option_and_then, codes, sym, ap, ◌∙◌}
+use Rattle.serde_json.specs.Data.{Data}
 use Rattle.serde_json.specs.Find.{as_str}
 use Rattle.plan_json.specs.Faults.{a_type, own_fault, only_part, shape_fault, type_form, unless}
 use Rattle.plan_json.specs.Looking.{only_member}
 use Rattle.plan_json.specs.Leaves.{datetime_type, duration_type, struct_type, struct_of, type_named, type_of, unit_of}
-use Rattle.plan_json.proofs.FaultLemmas.{only_part-none, only_part-no_member}
+use Rattle.plan_json.proofs.FaultLemmas.{only_part-none}
 use Rattle.plan_json.proofs.FormLemmas.{at_word, other_word}
-use Rattle.plan_json.proofs.LookingLemmas.{string-from_as_str}
-
--- ---- names
-
-pub type_of-text : (d : Data) (name : List ℕ) → Some name ≡ as_str d → type_of d ≡ type_named name
-type_of-text d name is = ap type_of (string-from_as_str d name is)
-
-pub type_fault-text : (d : Data) (name : List ℕ) → Some name ≡ as_str d → type_named name ≡ None → own_fault a_type d ≡ Some (shape_fault d)
-type_fault-text d name is none =
-    subst (λ x. own_fault a_type x ≡ Some (shape_fault x)) (sym (string-from_as_str d name is)) (ap (λ o. unless (shape_fault (string name)) (is_some o || is_some (only_part type_form (string name)))) none)
 
 -- ---- objects
 
@@ -33,9 +23,6 @@ type_of-struct d word value is same = at_word type_of d word (codes "Struct") va
 no_text : (d : Data) → None ≡ as_str d → unless (shape_fault d) (is_some (only_part type_form d)) ≡ Some (shape_fault d) → own_fault a_type d ≡ Some (shape_fault d)
 no_text d none broken =
     ap (λ o. unless (shape_fault d) (is_some (option_and_then type_named o) || is_some (only_part type_form d))) (sym none) ∙ broken
-
-pub type_fault-no_member : (d : Data) → None ≡ as_str d → None ≡ only_member d → own_fault a_type d ≡ Some (shape_fault d)
-type_fault-no_member d none no_member = no_text d none (only_part-no_member type_form d (shape_fault d) no_member)
 
 pub type_fault-word : (d : Data) (word : List ℕ) (value : Data) → None ≡ as_str d → Some (word, value) ≡ only_member d → (word ≡ codes "Datetime" → ⊥) → (word ≡ codes "Duration" → ⊥) → (word ≡ codes "List" → ⊥) → (word ≡ codes "Struct" → ⊥) → own_fault a_type d ≡ Some (shape_fault d)
 type_fault-word d word value none is datetime duration list struct =
