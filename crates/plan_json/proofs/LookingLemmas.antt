@@ -105,4 +105,3 @@ pub depth-item : (d : Data) (vs : List Value) (i : ℕ) (v : Value) → Some (it
 depth-item d vs i v is within at =
     let below = item_depth vs i v within at in
     subst (λ x. depth (view v) < depth x) (sym (array-from_as_array d _ is)) (omega (arith, below))
-
