@@ -35,6 +35,8 @@ pub enum AExpr {
         dtype: DataType,
         options: CastOptions,
     },
+    /// How many rows there are.
+    Len,
 }
 
 impl AExpr {
@@ -45,7 +47,7 @@ impl AExpr {
         ensures err { IfErr result (λ error. error ≡ no_memory) }
     {
         match self {
-            AExpr::Column(_) | AExpr::Literal(_) => Ok(()),
+            AExpr::Column(_) | AExpr::Literal(_) | AExpr::Len => Ok(()),
             AExpr::BinaryExpr { left, right, .. } => {
                 nodes.reserve(2)?;
                 nodes.push_reserved(*right);
@@ -91,7 +93,7 @@ impl AExpr {
         ensures same { numbers inputs.now ≡ inputs_of (expression_layer self.old) → self.new ≡ self.old }
     {
         match self {
-            AExpr::Column(_) | AExpr::Literal(_) => {}
+            AExpr::Column(_) | AExpr::Literal(_) | AExpr::Len => {}
             AExpr::BinaryExpr { left, right, .. } => {
                 *left = inputs[0];
                 *right = inputs[1];

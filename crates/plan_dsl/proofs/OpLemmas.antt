@@ -1,7 +1,7 @@
 -- What the rule of each op keeps: operands can become of the types to which they are taken, what was taken stays, the own
 -- type is one of columns or a number's, and over fitting columns the kernel gives values of the own type. All else that
 -- is said of ops follows.
-use Rattle.std.proofs.Common.{◌≡◌, ℕ, true, false, ◌||◌, cond, List, [], ◌∷◌, Option, Some, None, is_some, Ok, Err, refl, sym, ap, ◌∙◌, subst}
+use Rattle.std.proofs.Common.{◌≡◌, ℕ, pos, length, true, false, ◌||◌, cond, List, [], ◌∷◌, Option, Some, None, is_some, Ok, Err, refl, sym, ap, ◌∙◌, subst}
 use Rattle.std.specs.Prelude.{ℤ}
 use Rattle.std.proofs.lemmas.Bool.{and_parts, and_from, or_parts}
 use Rattle.plan_types.specs.Types.{Ty, NullType, ListType, StructType, Untyped, Fields, no_field, with_field, are_known, is_integer, is_known}
@@ -15,17 +15,17 @@ use Rattle.plan_types.specs.declared.error.ErrorKind.TheVariants.{InvalidOperati
 use Rattle.plan_types.specs.declared.dtype.CastOptions.{CastOptions}
 use Rattle.plan_types.proofs.CommonLemmas.{alone_known, alone_itself, alone_same, literal_has}
 use Rattle.plan_types.proofs.CastLemmas.{cast_own as own_cast}
-use Rattle.plan_types.proofs.ValueLemmas.{int_eq_exact, cast_fits, column_fits}
+use Rattle.plan_types.proofs.ValueLemmas.{int_eq_exact, cast_fits, column_fits, wrapped_in_range}
 use Rattle.plan_dsl.specs.declared.operator.Operator.{Operator}
 use Rattle.plan_dsl.specs.Registry.{Registry}
-use Rattle.plan_dsl.specs.Ops.{Op, ColumnOp, LiteralOp, BinaryOp, CastOp}
+use Rattle.plan_dsl.specs.Ops.{Op, ColumnOp, LiteralOp, BinaryOp, CastOp, LenOp}
 use Rattle.plan_dsl.specs.Literals.{is_literal, is_literal_of}
 use Rattle.plan_dsl.specs.OperatorTypes.{Taken, operator_types}
-use Rattle.plan_dsl.specs.Typing.{Typed, Ruling, column_type, literal_taken, cast_taken, types_of, typed_to, ruled_as, rule}
+use Rattle.plan_dsl.specs.Typing.{Typed, Ruling, count_type, column_type, literal_taken, cast_taken, types_of, typed_to, ruled_as, rule}
 use Rattle.plan_dsl.specs.Kernels.{kernel}
 use Rattle.plan_dsl.specs.Strictness.{CanBecome}
 use Rattle.plan_dsl.specs.Laws.{AreOf}
-use Rattle.plan_dsl.proofs.TypingLemmas.{ok_where, ruling_of, ruled_is}
+use Rattle.plan_dsl.proofs.TypingLemmas.{ok_same, ok_where, ruling_of, ruled_is}
 use Rattle.plan_dsl.proofs.ColumnLemmas.{AreAllOf, of_none, of_one, of_two, cast_column_fits, operator_values_fit, literal_fits}
 use Rattle.plan_dsl.proofs.OperatorLemmas.{TakesOperands, operands_taken, pair_becomes, pair_stays}
 
@@ -156,6 +156,16 @@ cast_keeps registry schema target options from (Some own) taken alone h =
           cast_column_fits own target options from.many column (λ value fit. cast_fits value own target options fit p.0) fit);
     })
 
+-- ---- counts of rows
+
+len_keeps : (registry : Registry) (schema : Columns) → KeepsRule registry schema LenOp [] (record { operands = []; own = record { type = count_type; many = false } })
+len_keeps registry schema = record {
+  becomes = tt;
+  stays = refl;
+  own = of_columns refl;
+  gives = λ frame same of rows. of_none (λ columns. Meets (AreOf (record { type = count_type; many = false })) (kernel registry frame rows LenOp [] count_type columns)) (record { fitting = and_from _ true (wrapped_in_range false 32 (pos (length rows))) refl; single = λ one. refl });
+}
+
 -- ---- by op
 
 pub keeps_rule : (registry : Registry) (schema : Columns) (op : Op) (typed : List Typed) (ruling : Ruling) → rule registry schema op typed ≡ Ok ruling → KeepsRule registry schema op typed ruling
@@ -167,4 +177,5 @@ keeps_rule registry schema (BinaryOp operator) (left ∷ right ∷ []) ruling h 
     ruled_is (KeepsRule registry schema (BinaryOp operator) (left ∷ right ∷ [])) (operator_types operator (left.type ∷ right.type ∷ [])) (left.many || (right.many || false)) ruling h (λ taken found. binary_keeps registry schema operator left right taken (operands_taken operator left.type right.type taken found))
 keeps_rule registry schema (CastOp target options) (from ∷ []) ruling h =
     ruled_is (KeepsRule registry schema (CastOp target options) (from ∷ [])) (cast_taken target (type_alone from.type)) from.many ruling h (λ taken found. cast_keeps registry schema target options from (type_alone from.type) taken refl found)
+keeps_rule registry schema LenOp [] ruling h = subst (KeepsRule registry schema LenOp []) (ok_same (rule registry schema LenOp []) _ ruling refl h) (len_keeps registry schema)
 keeps_rule _ _ _ _ _ h = cc

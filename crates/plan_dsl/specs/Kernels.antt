@@ -1,18 +1,18 @@
 -- What a node does with the columns of its operands.
 -- A column is a list of values. Two columns are brought to a common length: one of one value is
 -- repeated, and other unequal lengths are a data fault.
-use Rattle.std.specs.Prelude.{ℕ, List, [], ◌∷◌, map, length, replicate, Option, Some, None, ◌==◌, if◌then◌else◌}
+use Rattle.std.specs.Prelude.{ℕ, pos, List, [], ◌∷◌, map, length, replicate, Option, Some, None, ◌==◌, if◌then◌else◌}
 use Rattle.plan_types.specs.Types.{Ty, same_type}
 use Rattle.plan_types.specs.Schemas.{Name}
-use Rattle.plan_types.specs.Values.{Val}
+use Rattle.plan_types.specs.Values.{Val, IntValue}
 use Rattle.plan_types.specs.Outcomes.{Outcome, Done, Fault, Stuck, then_do}
-use Rattle.plan_types.specs.Casts.{Converted, Gives, Fails, cast}
+use Rattle.plan_types.specs.Casts.{Converted, Gives, Fails, cast, wrapped}
 use Rattle.plan_types.specs.Frames.{Frame, value_in, row_at}
 use Rattle.plan_types.specs.declared.dtype.CastOptions.{CastOptions}
 use Rattle.plan_dsl.specs.declared.operator.Operator.{Operator}
 use Rattle.plan_dsl.specs.Operators.{operator_value}
 use Rattle.plan_dsl.specs.Registry.{Registry}
-use Rattle.plan_dsl.specs.Ops.{Op, ColumnOp, LiteralOp, BinaryOp, CastOp}
+use Rattle.plan_dsl.specs.Ops.{Op, ColumnOp, LiteralOp, BinaryOp, CastOp, LenOp}
 
 -- what an expression gives on the rows of these numbers
 abbrev pub Meaning : Type 0
@@ -81,4 +81,5 @@ kernel registry frame rows (ColumnOp name) [] type [] = Done (column_values fram
 kernel registry frame rows (LiteralOp own value) [] type [] = Done (value ∷ [])
 kernel registry frame rows (BinaryOp operator) (from ∷ types) type (left ∷ right ∷ []) = operator_values operator from type left right
 kernel registry frame rows (CastOp target options) (from ∷ []) type (column ∷ []) = cast_column from target options column
+kernel registry frame rows LenOp [] type [] = Done (IntValue (wrapped type (pos (length rows))) ∷ [])
 kernel registry frame rows op types type columns = Stuck

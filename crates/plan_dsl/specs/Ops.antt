@@ -11,6 +11,7 @@ pub data Op : Type 0 where
   LiteralOp : (type : Ty) (value : Val) → Op
   BinaryOp : (operator : Operator) → Op
   CastOp : (target : Ty) (options : CastOptions) → Op
+  LenOp : Op
 
 abbrev pub Expression : Type 0
 Expression = Tree Op

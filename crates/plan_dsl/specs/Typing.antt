@@ -1,7 +1,7 @@
 -- Types of expressions.
 -- Typing goes from the leaves up by one rule for a node. The first child that is refused is the answer.
 use Rattle.std.specs.Prelude.{Bool, true, false, ◌||◌, List, [], ◌∷◌, ◌++◌, map, Option, Some, None, Result, Ok, Err, if◌then◌else◌}
-use Rattle.plan_types.specs.Types.{Ty, is_known}
+use Rattle.plan_types.specs.Types.{Ty, Integer, is_known}
 use Rattle.plan_types.specs.Values.{Val}
 use Rattle.plan_types.specs.Schemas.{Columns, type_at}
 use Rattle.plan_types.specs.Casts.{can_cast}
@@ -12,7 +12,7 @@ use Rattle.plan_dsl.specs.OperatorTypes.{Taken, operator_types}
 use Rattle.plan_dsl.specs.Literals.{is_literal}
 use Rattle.plan_dsl.specs.Registry.{Registry}
 use Rattle.plan_dsl.specs.Trees.{Trees, node, no_more, more}
-use Rattle.plan_dsl.specs.Ops.{Op, ColumnOp, LiteralOp, BinaryOp, CastOp, Expression}
+use Rattle.plan_dsl.specs.Ops.{Op, ColumnOp, LiteralOp, BinaryOp, CastOp, LenOp, Expression}
 
 -- an expression's type, and whether its column may have another length than one
 pub record Typed : Type 0 where
@@ -52,6 +52,10 @@ abbrev pub ruled_as : Result Taken ErrorKind → Bool → Result Ruling ErrorKin
 ruled_as (Err kind) many = Err kind
 ruled_as (Ok taken) many = Ok (record { operands = taken.operands; own = record { type = taken.type; many = many } })
 
+-- the type of a count of rows
+abbrev pub count_type : Ty
+count_type = Integer false 32
+
 -- The types to which a node takes operands that are typed so, and its own typing. A node with another number of
 -- operands than its own, which no expression has, has none.
 abbrev pub rule : Registry → Columns → Op → List Typed → Result Ruling ErrorKind
@@ -59,6 +63,7 @@ rule registry schema (ColumnOp name) [] = ruled_as (column_type (type_at schema 
 rule registry schema (LiteralOp type value) [] = ruled_as (literal_taken type value) false
 rule registry schema (BinaryOp operator) typed = ruled_as (operator_types operator (types_of typed)) (some_many typed)
 rule registry schema (CastOp target options) (from ∷ []) = ruled_as (cast_taken target (type_alone from.type)) from.many
+rule registry schema LenOp [] = Ok (record { operands = []; own = record { type = count_type; many = false } })
 rule registry schema op typed = Err SchemaMismatch
 
 abbrev pub own_typed : Result Ruling ErrorKind → Result Typed ErrorKind

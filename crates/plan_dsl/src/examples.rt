@@ -2,6 +2,7 @@
 
 pub mod arithmetic;
 pub mod bits;
+pub mod counts;
 pub mod expressions;
 pub mod filters;
 pub mod lists_and_structs;

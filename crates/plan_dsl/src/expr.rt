@@ -32,6 +32,8 @@ pub enum Expr {
         dtype: DataType,
         options: CastOptions,
     },
+    /// How many rows there are.
+    Len,
 }
 
 impl Expr {
@@ -73,6 +75,7 @@ impl Expr {
                     options: *options,
                 })
             }
+            Expr::Len => Ok(Expr::Len),
         }
     }
 
@@ -103,6 +106,7 @@ impl Expr {
                     options: own_options,
                 },
             ) => dtype.is_same(own_dtype) && *options == *own_options && expr.is_same(own_expr),
+            (Expr::Len, Expr::Len) => true,
             _ => false,
         }
     }
@@ -136,6 +140,7 @@ impl Expr {
                 state.write_u8(options_rank(*options));
                 expr.feed(state);
             }
+            Expr::Len => state.write_u8(4),
         }
     }
 }

@@ -15,9 +15,9 @@ use Rattle.plan_types.specs.declared.dtype.CastOptions.{CastOptions}
 use Rattle.plan_dsl.specs.declared.operator.Operator.{Operator}
 use Rattle.plan_dsl.specs.Registry.{Registry}
 use Rattle.plan_dsl.specs.Trees.{node, no_more, more}
-use Rattle.plan_dsl.specs.Ops.{ColumnOp, LiteralOp, BinaryOp, CastOp, Expression}
+use Rattle.plan_dsl.specs.Ops.{ColumnOp, LiteralOp, BinaryOp, CastOp, LenOp, Expression}
 use Rattle.plan_dsl.specs.Literals.{is_literal}
-use Rattle.plan_dsl.specs.Typing.{Typed, column_type, literal_taken, cast_taken, typing_rule, then_typed, typed_before, typing, some_many, typing_all, Ruling, rule}
+use Rattle.plan_dsl.specs.Typing.{Typed, count_type, column_type, literal_taken, cast_taken, typing_rule, then_typed, typed_before, typing, some_many, typing_all, Ruling, rule}
 use Rattle.plan_dsl.specs.OperatorTypes.{Taken, operator_types}
 use Rattle.plan_dsl.proofs.TypingLemmas.{typed_as, ok_same, ok_where, ruled_is}
 use Rattle.plan_arena.specs.declared.aexpr.AExpr.{AExpr}
@@ -119,6 +119,12 @@ module _ (items : List AExpr) (registry : Registry) (schema : Columns) (n : ℕ)
   pub literal_refused : (type : Ty) (value : Val) (error : PlanError) → HoldsExpression items n (LiteralOp type value) [] → IsRefusal (literal_taken type value) error → AllRefused items registry schema n error
   literal_refused type value error h refused t d =
       refused_so _ _ error (λ kind e. literal_top type value h t d ∙ ap (λ o. typed_as o false) e) refused
+
+  -- a count of rows
+  pub len_typed : HoldsExpression items n LenOp [] → AllHaveType items registry schema n count_type
+  len_typed h t d =
+      let top = held_top items n LenOp [] h t d in
+      record { many = false; is = ap (typing registry schema) (top.1 ∙ ap (node LenOp) (no_children (HoldsExpression items) top.0 top.2)) }
 
   module _ (operator : Operator) (l r : ℕ) (h : HoldsExpression items n (BinaryOp operator) (l ∷ r ∷ [])) where
     binary_top : (t : Expression) → Denotes (HoldsExpression items) n t → (x y : Expression) × (typing registry schema t ≡ binary_typing items registry schema operator (typing registry schema x) (typing registry schema y)) × Denotes (HoldsExpression items) l x × Denotes (HoldsExpression items) r y

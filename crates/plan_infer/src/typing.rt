@@ -59,6 +59,10 @@ pub fn type_nodes(
             types.keep(node, dtype)?;
             Ok(())
         }
+        AExpr::Len => {
+            types.keep(node, DataType::UInt32)?;
+            Ok(())
+        }
         AExpr::BinaryExpr { left, op, right } => {
             type_nodes(*left, arena, schema, udfs, types)?;
             type_nodes(*right, arena, schema, udfs, types)?;
@@ -129,6 +133,7 @@ pub fn operand_types_of(
     match item {
         AExpr::Column(_) => Ok(targets),
         AExpr::Literal(_) => Ok(targets),
+        AExpr::Len => Ok(targets),
         AExpr::BinaryExpr { left, op, right } => {
             let taken = operand_types(alloc, types.get(*left), *op, types.get(*right))?;
             targets.push(taken.left)?;

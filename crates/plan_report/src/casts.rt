@@ -31,6 +31,7 @@ pub(crate) fn expression_casts(arena: &Arena<AExpr>, node: Node) -> Result<u64, 
     match item {
         AExpr::Column(_) => Ok(0),
         AExpr::Literal(_) => Ok(0),
+        AExpr::Len => Ok(0),
         AExpr::BinaryExpr { left, right, .. } => {
             let left = expression_casts(arena, *left)?;
             let right = expression_casts(arena, *right)?;

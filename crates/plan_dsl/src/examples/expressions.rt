@@ -8,14 +8,14 @@ ghost use Rattle.plan_dsl.specs.Trees.{node, no_more, fold, tree_at, tree_depth}
 ghost use Rattle.plan_dsl.specs.Ops.{ColumnOp, BinaryOp, CastOp};
 ghost use Rattle.plan_dsl.specs.Names.{name_of};
 ghost use Rattle.plan_dsl.specs.Typing.{typing, typing_rule, kinds_in};
-ghost use Rattle.plan_dsl.specs.Samples.{Gives, GivesOfTwo, int8, int16, int32, int64, uint8, uint16, a, b, c, d, u, sum, cast_as, one_value, many_values, of_many, of_one, schema_abu};
+ghost use Rattle.plan_dsl.specs.Samples.{Gives, GivesOfTwo, int8, int16, int32, int64, uint8, uint16, a, b, c, d, u, count, sum, cast_as, one_value, many_values, of_many, of_one, schema_abu};
 
 /// A column has its own name, and any other node that of its first child.
 pub fn names_of_expressions()
     ensures names { Gives name_of (
         (a, codes "a") ∷ (sum a b, codes "a") ∷ (sum b a, codes "b") ∷
         (cast_as Strict int32 a, codes "a") ∷ (cast_as Strict int64 (sum b a), codes "b") ∷
-        (sum (sum c a) b, codes "c") ∷ (node (BinaryOp Plus) no_more, codes "literal") ∷ []) }
+        (sum (sum c a) b, codes "c") ∷ (node (BinaryOp Plus) no_more, codes "literal") ∷ (count, codes "len") ∷ (sum count a, codes "len") ∷ []) }
 {}
 
 /// A column has its schema's type, a sum the common type of its operands, and a cast its target.

@@ -48,7 +48,7 @@ pub(crate) fn settle(expr: Expr) -> Expr
     }
 }
 
-// The name, which is that of the leftmost column or literal.
+// The name, which is that of the leftmost column, literal or count of rows.
 fn output_name(expr: &Expr, alloc: Global) -> Result<OutputName, PlanError>
     ensures ok { IfOk result (λ name. output_text name ≡ name_of (tree_of expr.now)) }
     ensures output { IfOk result (λ name. name ≡ output_of (tree_of expr.now)) }
@@ -61,6 +61,10 @@ fn output_name(expr: &Expr, alloc: Global) -> Result<OutputName, PlanError>
         }
         Expr::Literal(_) => {
             let name = PlSmallStr::new(alloc, "literal")?;
+            Ok(OutputName::LiteralLhs(name))
+        }
+        Expr::Len => {
+            let name = PlSmallStr::new(alloc, "len")?;
             Ok(OutputName::LiteralLhs(name))
         }
         Expr::BinaryExpr { left, .. } => {
@@ -87,6 +91,10 @@ fn add_nodes(expr: Expr, arena: &mut Arena<AExpr>) -> Result<Node, PlanError>
         }
         Expr::Literal(value) => {
             let node = arena.add(AExpr::Literal(value))?;
+            Ok(node)
+        }
+        Expr::Len => {
+            let node = arena.add(AExpr::Len)?;
             Ok(node)
         }
         Expr::BinaryExpr { left, op, right } => {

@@ -1,6 +1,7 @@
 use Rattle.std.proofs.Common.{[], inr, sym, ap, ◌∙◌, subst, arith}
 use Rattle.plan_types.specs.Schemas.{columns}
 use Rattle.plan_types.specs.Types.{ty}
+use Rattle.plan_types.specs.declared.dtype.DataType.TheVariants.{UInt32}
 use Rattle.plan_types.specs.Errors.{IsRefusal}
 use Rattle.plan_dsl.specs.Typing.{typing}
 use Rattle.plan_types.proofs.ResultLemmas.{passed_on}
@@ -10,7 +11,7 @@ use Rattle.plan_arena.specs.Items.{HoldsFrom, expression_layer}
 use Rattle.plan_arena.proofs.ItemLemmas.{tree_within, got_held}
 use Rattle.plan_infer.specs.KeptTypes.{first_node}
 use Rattle.plan_infer.proofs.TableLemmas.{found_kept, tree_from, any_tree, inputs_from, kept_type, right_same, right_more, extends_same, extends_more, extends_then}
-use Rattle.plan_infer.proofs.TypingLemmas.{AllHaveType, cast_typed, column_typed, column_refused, binary_typed, binary_refused, left_refused, right_refused, cast_refused, column_unknown, literal_typed, literal_refused, cast_missing}
+use Rattle.plan_infer.proofs.TypingLemmas.{AllHaveType, len_typed, cast_typed, column_typed, column_refused, binary_typed, binary_refused, left_refused, right_refused, cast_refused, column_unknown, literal_typed, literal_refused, cast_missing}
 use Rattle.plan_infer.proofs.typing.+type_nodes.Goals as goal
 
 pub returns-then-is_some-clause-kept : goal.returns-then-is_some-clause-kept
@@ -207,3 +208,29 @@ returns-in_ok-keep-in-Cast-clause-right t c =
 pub returns-in_ok-keep-in-Cast-clause-extends : goal.returns-in_ok-keep-in-Cast-clause-extends
 returns-in_ok-keep-in-Cast-clause-extends t c =
     extends_then c.args.types.now c.type_nodes-in-Cast.new.types c.keep-in-Cast.new.self c.in_ok-type_nodes-in-Cast.ensures.extends (extends_more c.type_nodes-in-Cast.new.types c.keep-in-Cast.new.self c.args.node.0 c.in_ok-dtype-in-Cast.dtype c.in_ok-keep-in-Cast.ensures.first c.in_ok-keep-in-Cast.ensures.kept c.in_ok-keep-in-Cast.ensures.others)
+
+pub keep-requires-in-Len : goal.keep-requires-in-Len
+keep-requires-in-Len t c =
+    tree_from (first_node c.args.types.now) c.args.arena.now c.args.node.0 c.requires.tree
+
+pub returns-in_err-keep-in-Len-clause-right : goal.returns-in_err-keep-in-Len-clause-right
+returns-in_err-keep-in-Len-clause-right t c =
+    right_same (registry c.args.udfs.now) (columns c.args.schema.now) c.args.arena.now c.args.types.now c.keep-in-Len.new.self c.in_err-keep-in-Len.ensures.unchanged c.requires.right
+
+pub returns-in_err-keep-in-Len-clause-extends : goal.returns-in_err-keep-in-Len-clause-extends
+returns-in_err-keep-in-Len-clause-extends t c =
+    extends_same c.args.types.now c.keep-in-Len.new.self c.in_err-keep-in-Len.ensures.first c.in_err-keep-in-Len.ensures.unchanged
+
+pub returns-in_ok-keep-in-Len-clause-kept : goal.returns-in_ok-keep-in-Len-clause-kept
+returns-in_ok-keep-in-Len-clause-kept t c = record { dtype = UInt32; keeps = c.in_ok-keep-in-Len.ensures.kept }
+
+pub returns-in_ok-keep-in-Len-clause-right : goal.returns-in_ok-keep-in-Len-clause-right
+returns-in_ok-keep-in-Len-clause-right t c =
+    let held = got_held c.args.arena.now c.args.node.0 c.get.result.now _ _ c.get.ensures (ap expression_layer c.in-Len.is) in
+    let tree = any_tree (first_node c.args.types.now) c.args.arena.now c.args.node.0 c.requires.tree in
+    let typed = len_typed c.args.arena.now (registry c.args.udfs.now) (columns c.args.schema.now) c.args.node.0 held in
+    right_more (registry c.args.udfs.now) (columns c.args.schema.now) c.args.arena.now c.args.types.now c.keep-in-Len.new.self c.args.node.0 UInt32 _ [] held tree typed tt c.in_ok-keep-in-Len.ensures.kept c.in_ok-keep-in-Len.ensures.others c.requires.right
+
+pub returns-in_ok-keep-in-Len-clause-extends : goal.returns-in_ok-keep-in-Len-clause-extends
+returns-in_ok-keep-in-Len-clause-extends t c =
+    extends_more c.args.types.now c.keep-in-Len.new.self c.args.node.0 UInt32 c.in_ok-keep-in-Len.ensures.first c.in_ok-keep-in-Len.ensures.kept c.in_ok-keep-in-Len.ensures.others

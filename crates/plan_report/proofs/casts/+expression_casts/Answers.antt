@@ -31,6 +31,10 @@ pub returns-in-Literal : goal.returns-in-Literal
 returns-in-Literal t c tree d =
     expression_counted c.args.arena.now c.args.node.0 c.get-item.result.now c.get-item.ensures _ [] [] (ap expression_layer c.in-Literal.is) tt tree d
 
+pub returns-in-Len : goal.returns-in-Len
+returns-in-Len t c tree d =
+    expression_counted c.args.arena.now c.args.node.0 c.get-item.result.now c.get-item.ensures _ [] [] (ap expression_layer c.in-Len.is) tt tree d
+
 pub returns-in_ok-count-in-BinaryExpr : goal.returns-in_ok-count-in-BinaryExpr
 returns-in_ok-count-in-BinaryExpr t c tree d =
     let counted = expression_counted c.args.arena.now c.args.node.0 c.get-item.result.now c.get-item.ensures _ _ (c.in_ok-left-in-BinaryExpr.left ∷ c.in_ok-right-in-BinaryExpr.right ∷ []) (ap expression_layer c.in-BinaryExpr.is) (c.in_ok-left-in-BinaryExpr.ensures, (c.in_ok-right-in-BinaryExpr.ensures, tt)) tree d in

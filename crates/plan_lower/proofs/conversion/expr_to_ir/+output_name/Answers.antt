@@ -15,3 +15,13 @@ pub returns-in_ok-name-in-Literal-clause-output : goal.returns-in_ok-name-in-Lit
 unfolding chars
 returns-in_ok-name-in-Literal-clause-output t c =
     ap LiteralLhs c.in_ok-name-in-Literal.ensures.ok ∙ sym (ap (λ e. output_of (tree_of e)) c.in-Literal.is)
+
+pub returns-in_ok-name-in-Len-clause-ok : goal.returns-in_ok-name-in-Len-clause-ok
+unfolding chars
+returns-in_ok-name-in-Len-clause-ok t c =
+    c.in_ok-name-in-Len.ensures.ok ∙ sym (ap (λ e. name_of (tree_of e)) c.in-Len.is)
+
+pub returns-in_ok-name-in-Len-clause-output : goal.returns-in_ok-name-in-Len-clause-output
+unfolding chars
+returns-in_ok-name-in-Len-clause-output t c =
+    ap LiteralLhs c.in_ok-name-in-Len.ensures.ok ∙ sym (ap (λ e. output_of (tree_of e)) c.in-Len.is)
