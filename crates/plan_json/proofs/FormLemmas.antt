@@ -1,16 +1,17 @@
 -- What is read by the table of forms.
-use Rattle.std.proofs.Common.{◌≡◌, ℕ, suc, ◌+◌, ◌<◌, List, [], ◌∷◌, ◌++◌, length, get_or, take, map, Bool, true, false, cond, ◌&&◌, Option, Some, None, option_map, option_and_then, bytes_eq, refl, sym, ap, subst, ◌∙◌, arith}
+use Rattle.std.proofs.Common.{◌≡◌, ℕ, suc, ◌+◌, ◌<◌, List, [], ◌∷◌, ◌++◌, length, get_or, take, map, Bool, true, false, cond, ◌&&◌, Option, Some, None, is_some, option_map, option_and_then, bytes_eq, refl, sym, ap, subst, ◌∙◌, arith}
+use Rattle.serde_json.specs.Find.{as_null}
 use Rattle.std.proofs.lemmas.List.{take_more}
 use Rattle.std.proofs.lemmas.Slice.Eq.{bytes_eq-Decides}
 use Rattle.plan_dsl.specs.Ops.{Expression}
-use Rattle.serde_json.specs.Data.{Data, Items, array, object, no_items, item, member, no_members}
+use Rattle.serde_json.specs.Data.{Data, null, Items, array, object, no_items, item, member, no_members}
 use Rattle.serde_json.specs.View.{view, items_view}
 use Rattle.serde_json.specs.declared.value.Value.{Value}
 use Rattle.plan_json.specs.Errors.{escaped}
-use Rattle.plan_json.specs.Forms.{Asked, a_form, leaf, many, Places, single, listed, Read, name_read, literal_read, operator_read, type_read, mode_read, table_read, columns_read, expression_read, plan_read, many_read, reads_of, expressions_in, expression_rows, plan_rows, row_named, key_named, asks, says, expression_says, plan_says, fits, all_fit, asked_in, each_fits, Fits, AllFit}
+use Rattle.plan_json.specs.Forms.{Asked, a_form, leaf, many, Places, single, listed, Read, name_read, literal_read, operator_read, type_read, mode_read, table_read, columns_read, expression_read, plan_read, many_read, reads_of, expressions_in, expression_rows, plan_rows, row_named, key_named, asks, says, expression_says, plan_says, fits, all_fit, asked_in, each_fits, Fits, AllFit, nothing_read}
 use Rattle.plan_json.specs.Leaves.{text_of, literal_of, number_text_of, typed_of, operator_of, type_of, mode_of, table_at, columns_of}
 use Rattle.plan_json.specs.Looking.{only_member, all_of}
-use Rattle.plan_json.specs.Queries.{leaf_of, front, read_as, each_as, these_as, list_as, places_as}
+use Rattle.plan_json.specs.Queries.{nothing_of, leaf_of, front, read_as, each_as, these_as, list_as, places_as}
 use Rattle.plan_json.specs.Tables.{Declared}
 use Rattle.plan_json.specs.declared.forms.Kind.{Kind}
 use Rattle.plan_json.specs.declared.forms.Kind.TheVariants as kinds
@@ -86,6 +87,7 @@ leaf_fits tables leaves.Dtype d r e = let x = image type_read (type_of d) r e in
 leaf_fits tables leaves.Mode d r e = let x = image mode_read (mode_of d) r e in ap (fits (leaf leaves.Mode)) (sym x.2)
 leaf_fits tables leaves.Table d r e = let x = image (λ table. table_read table.0 table.1) (option_and_then (table_at tables) (text_of d)) r e in ap (fits (leaf leaves.Table)) (sym x.2)
 leaf_fits tables leaves.Columns d r e = let x = image columns_read (columns_of d) r e in ap (fits (leaf leaves.Columns)) (sym x.2)
+leaf_fits tables leaves.Nothing d r e = let x = image (λ none. nothing_read) (as_null d) r e in ap (fits (leaf leaves.Nothing)) (sym x.2)
 
 -- what a key of a kind says is of that kind
 says_fits : (kind : Kind) (word : List ℕ) (row : List ℕ × Key) (args : List Read) (r : Read) → key_named kind word ≡ Some row → says row.1 args ≡ Some r → fits (a_form kind) r ≡ true
@@ -191,3 +193,8 @@ these_more tables ps a vs i v xs x within is inside at before now =
 pub expressions_read : (trees : List Expression) → expressions_in (reads_of (map expression_read trees)) ≡ trees
 expressions_read [] = refl
 expressions_read (tree ∷ trees) = ap (λ l. tree ∷ l) (expressions_read trees)
+
+-- null says nothing
+pub null_said : (d : Data) → is_some (as_null d) ≡ true → nothing_of d ≡ Some nothing_read
+null_said null h = refl
+null_said _ h = cc

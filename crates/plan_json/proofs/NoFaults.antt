@@ -7,12 +7,12 @@ use Rattle.plan_types.proofs.NameLemmas.{repeats-apart}
 use Rattle.plan_types.specs.Types.{Ty, is_counted, fields_from as fields_of_columns}
 use Rattle.serde_json.specs.Data.{Data, Items, string, array, object, no_items, item, member, no_members}
 use Rattle.serde_json.specs.Events.{items_len}
-use Rattle.serde_json.specs.Find.{as_array}
+use Rattle.serde_json.specs.Find.{as_array, as_null}
 use Rattle.plan_json.specs.Errors.{IsErrorOf}
 use Rattle.plan_json.specs.declared.error.JsonError.{JsonError}
 use Rattle.plan_json.specs.declared.error.JsonError.TheVariants.{NotJson, Shape, Float, Name as Name', NoMemory}
-use Rattle.plan_json.specs.Faults.{FaultKind, BadShape, BadFloat, BadName, key, number, Path, Form, a_query, table_list, column_list, field_list, a_column, a_type, a_unit, a_text, a_table, a_new_name, a_plan, a_scan, a_literal, a_number_text, a_typed_literal, a_counted_type, a_number_of, an_operator, a_mode, keyed_form, list_of, items_of, asked_form, places_form, Part, part, own_fault, parts_of, has_type_shape, may_be_counted, shape_fault, list_fault, unless, each, each_in_turn, each_table, query_parts, table_parts, column_parts, number_part, typed_parts, one_part, declared_names, IsBadAt}
-use Rattle.plan_json.specs.Forms.{Asked, plan as plan_asked, a_form, leaf, many, Places, single, listed, Read, name_read, literal_read, operator_read, type_read, mode_read, table_read, columns_read, many_read, reads_of, asks, says, key_named}
+use Rattle.plan_json.specs.Faults.{FaultKind, BadShape, BadFloat, BadName, key, number, Path, Form, a_query, table_list, column_list, field_list, a_column, a_type, a_unit, a_text, a_table, a_new_name, a_plan, a_scan, a_literal, a_number_text, a_typed_literal, a_counted_type, a_number_of, an_operator, a_mode, keyed_form, list_of, items_of, asked_form, places_form, Part, part, own_fault, parts_of, has_type_shape, may_be_counted, shape_fault, list_fault, unless, each, each_in_turn, each_table, query_parts, table_parts, column_parts, number_part, typed_parts, one_part, declared_names, IsBadAt, nothing_form}
+use Rattle.plan_json.specs.Forms.{Asked, plan as plan_asked, a_form, leaf, many, Places, single, listed, Read, name_read, literal_read, operator_read, type_read, mode_read, table_read, columns_read, many_read, reads_of, asks, says, key_named, nothing_read}
 use Rattle.plan_json.specs.declared.forms.Kind.{Kind}
 use Rattle.plan_json.specs.declared.forms.Key.{Key}
 use Rattle.plan_json.specs.declared.forms.Leaf.TheVariants as leaves
@@ -64,6 +64,7 @@ IsWell a_counted_type d = Given (counted_of d)
 IsWell (a_number_of type) d = Given (number_of type d)
 IsWell an_operator d = Given (operator_of d)
 IsWell a_mode d = Given (mode_of d)
+IsWell nothing_form d = Given (as_null d)
 IsWell (keyed_form names kind) d = (tables : Declared) × (names_of tables ≡ names) × Given (read_as tables (a_form kind) d)
 IsWell (list_of names a) d = (tables : Declared) × (names_of tables ≡ names) × Given (read_as tables (many a) d)
 IsWell (items_of names ps) d = (tables : Declared) × (names_of tables ≡ names) × Given (list_as tables ps d)
@@ -80,6 +81,7 @@ asked_well names tables same (leaf leaves.Dtype) d (r, e) = mapped type_read (ty
 asked_well names tables same (leaf leaves.Mode) d (r, e) = mapped mode_read (mode_of d) r e
 asked_well names tables same (leaf leaves.Table) d (r, e) = (tables, same, mapped (λ table. table_read table.0 table.1) (option_and_then (table_at tables) (text_of d)) r e)
 asked_well names tables same (leaf leaves.Columns) d (r, e) = mapped columns_read (columns_of d) r e
+asked_well names tables same (leaf leaves.Nothing) d (r, e) = mapped (λ none. nothing_read) (as_null d) r e
 asked_well names tables same (many a) d well = (tables, same, well)
 
 places_well : (names : List Name) (tables : Declared) → names_of tables ≡ names → (ps : Places) (d : Data) → Given (places_as tables ps d) → IsWell (places_form names ps) d
@@ -214,6 +216,7 @@ own_none a_counted_type d kind well bad = own_counted d kind well bad
 own_none (a_number_of type) d kind well bad = there (shape_fault d) (number_of type d) kind well bad
 own_none an_operator d kind well bad = there (shape_fault d) (operator_of d) kind well bad
 own_none a_mode d kind well bad = there (shape_fault d) (mode_of d) kind well bad
+own_none nothing_form d kind well bad = there (shape_fault d) (as_null d) kind well bad
 own_none (keyed_form names which) d kind (tables, same, well) bad = own_keyed names tables which d kind well bad
 own_none (list_of names a) d kind (tables, same, well) bad = own_many tables a d kind well bad
 own_none (items_of names ps) d kind (tables, same, well) bad = own_items tables ps d kind well bad

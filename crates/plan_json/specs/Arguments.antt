@@ -6,10 +6,10 @@ use Rattle.plan_dsl.specs.Expressions.{tree_of}
 use Rattle.plan_dsl.specs.Literals.{literal_op}
 use Rattle.plan_dsl.specs.Plans.{plan_tree}
 use Rattle.plan_dsl.specs.declared.plan.DslPlan.{DslPlan}
-use Rattle.plan_json.specs.Forms.{Read, name_read, literal_read, operator_read, type_read, mode_read, table_read, columns_read, expression_read, plan_read, many_read, reads_of, other_read}
+use Rattle.plan_json.specs.Forms.{Read, name_read, literal_read, operator_read, type_read, mode_read, table_read, columns_read, expression_read, plan_read, many_read, reads_of, other_read, nothing_read}
 use Rattle.plan_json.specs.Queries.{has_flags}
 use Rattle.plan_json.specs.declared.arguments.Part.{Part}
-use Rattle.plan_json.specs.declared.arguments.Part.TheVariants.{Name, Literal, Operator, Dtype, Mode, Table, Columns, Expression, Plan}
+use Rattle.plan_json.specs.declared.arguments.Part.TheVariants.{Name, Literal, Operator, Dtype, Mode, Table, Columns, Expression, Plan, Nothing}
 use Rattle.plan_json.specs.declared.arguments.Arg.{Arg}
 use Rattle.plan_json.specs.declared.arguments.Arg.TheVariants.{One, Many}
 use Rattle.plan_json.specs.declared.arguments.Args.{Args}
@@ -28,6 +28,7 @@ part_view (Table number schema) = table_read number (columns schema)
 part_view (Columns schema) = columns_read (columns schema)
 part_view (Expression expr) = expression_read (tree_of expr.value)
 part_view (Plan plan) = plan_seen plan.value
+part_view Nothing = nothing_read
 
 abbrev pub arg_view : Arg → Read
 arg_view (One part) = part_view part

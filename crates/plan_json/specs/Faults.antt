@@ -6,7 +6,7 @@ use Rattle.std.specs.Option.{option_map_or}
 use Rattle.std.specs.Str.{bytes_eq}
 use Rattle.serde_json.specs.Data.{Data, Items, no_items, item}
 use Rattle.serde_json.specs.Events.{items_len}
-use Rattle.serde_json.specs.Find.{as_str, as_array}
+use Rattle.serde_json.specs.Find.{as_str, as_array, as_null}
 use Rattle.plan_types.specs.Schemas.{Name, is_among, repeats}
 use Rattle.plan_types.specs.Types.{Ty, is_counted}
 use Rattle.plan_json.specs.Forms.{Asked, a_form, leaf, many, Places, single, listed, asks, key_named}
@@ -40,7 +40,7 @@ Path = List Step
 pub data Form : Type 0 where
   a_query table_list column_list field_list a_column a_type a_unit a_text : Form
   a_table a_new_name a_scan : List Name → Form
-  a_literal a_number_text a_typed_literal a_counted_type an_operator a_mode : Form
+  a_literal a_number_text a_typed_literal a_counted_type an_operator a_mode nothing_form : Form
   a_number_of : Ty → Form
   -- an object of one key, which names a form of the kind
   keyed_form : List Name → Kind → Form
@@ -79,6 +79,7 @@ leaf_form names leaves.Dtype = a_type
 leaf_form names leaves.Mode = a_mode
 leaf_form names leaves.Table = a_scan names
 leaf_form names leaves.Columns = column_list
+leaf_form names leaves.Nothing = nothing_form
 
 abbrev pub asked_form : List Name → Asked → Form
 asked_form names (a_form kind) = keyed_form names kind
@@ -153,6 +154,7 @@ own_fault a_counted_type d = unless (shape_fault d) (has_type_shape d && may_be_
 own_fault (a_number_of type) d = unless (shape_fault d) (is_some (number_of type d))
 own_fault an_operator d = unless (shape_fault d) (is_some (operator_of d))
 own_fault a_mode d = unless (shape_fault d) (is_some (mode_of d))
+own_fault nothing_form d = unless (shape_fault d) (is_some (as_null d))
 own_fault (keyed_form names kind) d = unless (shape_fault d) (is_some (only_part (key_form names kind) d))
 own_fault (list_of names a) d = list_fault (λ items. true) d
 own_fault (items_of names ps) d = list_fault (λ items. items_len items == length ps) d
@@ -223,6 +225,7 @@ parts_of a_counted_type d = one_part (only_part type_form d)
 parts_of (a_number_of type) d = []
 parts_of an_operator d = []
 parts_of a_mode d = []
+parts_of nothing_form d = []
 parts_of (keyed_form names kind) d = one_part (only_part (key_form names kind) d)
 parts_of (list_of names a) d = option_map_or (each (asked_form names a) 0) (as_array d) []
 parts_of (items_of names ps) d = option_map_or (item_parts names ps) (as_array d) []

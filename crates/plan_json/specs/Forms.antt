@@ -4,7 +4,7 @@ use Rattle.std.specs.Str.{bytes_eq}
 use Rattle.plan_types.specs.Schemas.{Name, Columns}
 use Rattle.plan_types.specs.Types.{Ty}
 use Rattle.plan_types.specs.declared.dtype.CastOptions.{CastOptions}
-use Rattle.plan_dsl.specs.Ops.{Op, ColumnOp, BinaryOp, CastOp, Expression}
+use Rattle.plan_dsl.specs.Ops.{Op, ColumnOp, BinaryOp, CastOp, LenOp, Expression}
 use Rattle.plan_dsl.specs.Plans.{Plan, named, scan_op, select_op, filter_op}
 use Rattle.plan_dsl.specs.Trees.{node, no_more, more}
 use Rattle.plan_dsl.specs.declared.operator.Operator.{Operator}
@@ -58,7 +58,8 @@ expression_rows =
     (codes "int", of.Int) ∷
     (codes "typed", of.Typed) ∷
     (codes "bin", of.Bin) ∷
-    (codes "cast", of.Cast) ∷ []
+    (codes "cast", of.Cast) ∷
+    (codes "len", of.Len) ∷ []
 
 -- what each asks of its value
 abbrev pub expression_asks : ExpressionKey → Places
@@ -68,6 +69,7 @@ expression_asks of.Int = single (leaf leaves.Digits)
 expression_asks of.Typed = single (leaf leaves.Typed)
 expression_asks of.Bin = listed (leaf leaves.Operator ∷ expression ∷ expression ∷ [])
 expression_asks of.Cast = listed (expression ∷ leaf leaves.Dtype ∷ leaf leaves.Mode ∷ [])
+expression_asks of.Len = single (leaf leaves.Nothing)
 
 -- ---- plans
 
@@ -98,6 +100,7 @@ mutual
     mode_read : CastOptions → Read
     table_read : ℕ → Columns → Read
     columns_read : Columns → Read
+    nothing_read : Read
     expression_read : Expression → Read
     plan_read : Plan → Read
     many_read : Reads → Read
@@ -127,6 +130,7 @@ expression_says of.Bin (operator_read op ∷ expression_read left ∷ expression
     Some (node (BinaryOp op) (more left (more right no_more)))
 expression_says of.Cast (expression_read operand ∷ type_read type ∷ mode_read mode ∷ []) =
     Some (node (CastOp type mode) (more operand no_more))
+expression_says of.Len (nothing_read ∷ []) = Some (node LenOp no_more)
 expression_says _ _ = None
 
 abbrev pub plan_says : PlanKey → List Read → Option Plan
@@ -171,6 +175,7 @@ abbrev mutual
   fits (leaf leaves.Mode) (mode_read mode) = true
   fits (leaf leaves.Table) (table_read number columns) = true
   fits (leaf leaves.Columns) (columns_read columns) = true
+  fits (leaf leaves.Nothing) nothing_read = true
   fits (many a) (many_read rs) = all_fit a rs
   fits _ _ = false
 

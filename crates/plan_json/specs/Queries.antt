@@ -1,10 +1,11 @@
 -- The query that a value is.
 use Rattle.std.specs.Prelude.{◌≡◌, List, [], ◌∷◌, Option, Some, None, Bool, false, ◌||◌, option_map, option_and_then, codes}
+use Rattle.serde_json.specs.Find.{as_null}
 use Rattle.serde_json.specs.Data.{Data, array, object, Items, no_items, item, no_members, member}
 use Rattle.plan_dsl.specs.Plans.{Plan, plan_tree}
 use Rattle.plan_dsl.specs.declared.plan.DslPlan.{DslPlan}
 use Rattle.plan_dsl.specs.declared.plan.DslPlan.TheVariants.{DataFrameScan, Filter', Select'}
-use Rattle.plan_json.specs.Forms.{Asked, a_form, leaf, many, Places, single, listed, plan, Read, name_read, literal_read, operator_read, type_read, mode_read, table_read, columns_read, plan_read, many_read, reads_of, key_named, asks, says}
+use Rattle.plan_json.specs.Forms.{Asked, a_form, leaf, many, Places, single, listed, plan, Read, name_read, literal_read, operator_read, type_read, mode_read, table_read, columns_read, plan_read, many_read, reads_of, key_named, asks, says, nothing_read}
 use Rattle.plan_json.specs.Leaves.{text_of, literal_of, number_text_of, typed_of, operator_of, type_of, mode_of, table_at, columns_of, tables_of}
 use Rattle.plan_json.specs.Looking.{both, two_members}
 use Rattle.plan_json.specs.Tables.{Declared, declared}
@@ -22,6 +23,10 @@ query_model query = record { tables = declared query.tables; plan = plan_tree qu
 
 -- ---- what a value reads to, where a place asks for this
 
+-- null says nothing
+abbrev pub nothing_of : Data → Option Read
+nothing_of d = option_map (λ none. nothing_read) (as_null d)
+
 abbrev pub leaf_of : Declared → Leaf → Data → Option Read
 leaf_of tables leaves.Name d = option_map name_read (text_of d)
 leaf_of tables leaves.Value d = option_map literal_read (literal_of d)
@@ -32,6 +37,7 @@ leaf_of tables leaves.Dtype d = option_map type_read (type_of d)
 leaf_of tables leaves.Mode d = option_map mode_read (mode_of d)
 leaf_of tables leaves.Table d = option_map (λ table. table_read table.0 table.1) (option_and_then (table_at tables) (text_of d))
 leaf_of tables leaves.Columns d = option_map columns_read (columns_of d)
+leaf_of tables leaves.Nothing d = nothing_of d
 
 -- the first of these, and the others
 abbrev pub front : Option Read → Option (List Read) → Option (List Read)

@@ -6,7 +6,7 @@ ghost use Rattle.plan_json.specs.Forms.{AllFit, asked_in, expression_asks, expre
 ghost use Rattle.plan_json.specs.declared.forms.ExpressionKey.TheVariants as of;
 
 use super::arguments::{
-    Args, digits, dtype, expression, mode, name, one, operator, three, typed, value,
+    Args, digits, dtype, expression, mode, name, nothing, one, operator, three, typed, value,
 };
 use super::error::JsonError;
 use super::forms::ExpressionKey;
@@ -25,6 +25,7 @@ pub(crate) fn assemble_expression(key: ExpressionKey, args: Args) -> Result<Expr
         ExpressionKey::Typed => Ok(typed_number(args)),
         ExpressionKey::Bin => Ok(bin(args)),
         ExpressionKey::Cast => Ok(cast(args)),
+        ExpressionKey::Len => Ok(count(args)),
     }
 }
 
@@ -78,4 +79,12 @@ fn cast(args: Args) -> Expr
         dtype: dtype(target),
         options: mode(options),
     }
+}
+
+fn count(args: Args) -> Expr
+    requires { AllFit (asked_in (expression_asks of.Len)) (args_view args) }
+    ensures { expression_says of.Len (args_view args) ≡ Some (tree_of result) }
+{
+    nothing(one(args));
+    Expr::Len
 }

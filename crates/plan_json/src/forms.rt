@@ -31,6 +31,8 @@ pub(crate) enum Leaf {
     Table,
     // A list of columns.
     Columns,
+    // Null, where a key has nothing to say.
+    Nothing,
 }
 
 #[derive(Clone, Copy)]
@@ -62,6 +64,7 @@ pub(crate) enum ExpressionKey {
     Typed,
     Bin,
     Cast,
+    Len,
 }
 
 #[derive(Clone, Copy)]
@@ -108,7 +111,9 @@ const TABLE: Place = Place::One(Item::Leaf(Leaf::Table));
 
 const COLUMNS: Place = Place::One(Item::Leaf(Leaf::Columns));
 
-const EXPRESSION_ROWS: [Row<ExpressionKey>; 6] = [
+const NOTHING: Place = Place::One(Item::Leaf(Leaf::Nothing));
+
+const EXPRESSION_ROWS: [Row<ExpressionKey>; 7] = [
     Row {
         word: "col",
         key: ExpressionKey::Col,
@@ -132,6 +137,10 @@ const EXPRESSION_ROWS: [Row<ExpressionKey>; 6] = [
     Row {
         word: "cast",
         key: ExpressionKey::Cast,
+    },
+    Row {
+        word: "len",
+        key: ExpressionKey::Len,
     },
 ];
 
@@ -222,6 +231,7 @@ fn expression_places(key: ExpressionKey) -> Places
         ExpressionKey::Typed => Places::Single(TYPED),
         ExpressionKey::Bin => Places::Listed(&[OPERATOR, EXPRESSION, EXPRESSION]),
         ExpressionKey::Cast => Places::Listed(&[EXPRESSION, DTYPE, MODE]),
+        ExpressionKey::Len => Places::Single(NOTHING),
     }
 }
 

@@ -4,10 +4,10 @@ ghost use Rattle.serde_json.specs.View.{view};
 ghost use Rattle.plan_types.specs.Schemas.{columns, names_of};
 ghost use Rattle.plan_json.specs.Arguments.{arg_view, args_view, part_view};
 ghost use Rattle.plan_json.specs.Errors.{IsErrorOf};
-ghost use Rattle.plan_json.specs.Faults.{asked_form, a_scan, items_of, keyed_form, leaf_form, places_form};
+ghost use Rattle.plan_json.specs.Faults.{asked_form, a_scan, items_of, keyed_form, leaf_form, places_form, nothing_form};
 ghost use Rattle.plan_json.specs.Forms.{AllFit, a_form, asked_in, asks, item_view, many, many_read, place_view, places_view, reads_of, says};
 ghost use Rattle.plan_json.specs.Leaves.{table_at, text_of};
-ghost use Rattle.plan_json.specs.Queries.{leaf_of, list_as, places_as, read_as};
+ghost use Rattle.plan_json.specs.Queries.{leaf_of, list_as, places_as, read_as, nothing_of};
 ghost use Rattle.plan_json.specs.Tables.{declared};
 
 use super::arguments::{Arg, Args, Part, discard, push};
@@ -244,7 +244,22 @@ fn read_leaf(alloc: Global, tables: &Tables, leaf: Leaf, value: &Value) -> Resul
             Ok(schema) => Ok(Part::Columns(schema)),
             Err(error) => Err(error),
         },
+        Leaf::Nothing => match read_nothing(alloc, value) {
+            Ok(part) => Ok(part),
+            Err(error) => Err(error),
+        },
     }
+}
+
+// Null.
+fn read_nothing(alloc: Global, value: &Value) -> Result<Part, JsonError>
+    ensures ok { IfOk result (λ part. nothing_of (view value.now) ≡ Some (part_view part)) }
+    ensures err { IfErr result (IsErrorOf nothing_form (view value.now)) }
+{
+    if !value.is_null() {
+        return Err(JsonError::shape(alloc, value));
+    }
+    Ok(Part::Nothing)
 }
 
 // The number and the columns of the table of that name.
