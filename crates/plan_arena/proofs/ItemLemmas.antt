@@ -6,7 +6,7 @@ use Rattle.std.proofs.lemmas.Option.{slice_get-map, slice_get_within}
 use Rattle.std.proofs.lemmas.List.{map-append, map-set, length-map}
 use Rattle.plan_types.proofs.ListLemmas.{slice_get-append, slice_get-seam, slice_get-set_other, slice_get-set_same}
 use Rattle.plan_dsl.specs.Ops.{Op, Expression}
-use Rattle.plan_dsl.specs.Plans.{Named, PlanKind, ScanKind, SelectKind, FilterKind, PlanOp, Plan, filter_op}
+use Rattle.plan_dsl.specs.Plans.{Named, PlanKind, ScanKind, SelectKind, FilterKind, RefusedKind, PlanOp, Plan, filter_op}
 use Rattle.plan_dsl.specs.PlanRules.{broken_kinds, where_unbroken, plan_rule, schema_of}
 use Rattle.plan_dsl.specs.Registry.{Registry}
 use Rattle.plan_types.specs.Schemas.{Columns}
@@ -89,6 +89,7 @@ kind_one items (ScanKind table schema) a b d e = d ∙ sym e
 kind_one items (SelectKind nodes) a b d e = d.1 ∙ ap SelectKind (named_one items nodes d.0 e.0 d.2 e.2) ∙ sym e.1
 kind_one items (FilterKind n) a b d e =
     d.1 ∙ ap FilterKind (list_one d.0 e.0 (named_one items (n ∷ []) (d.0 ∷ []) (e.0 ∷ []) d.2 e.2)) ∙ sym e.1
+kind_one items (RefusedKind kinds) a b d e = absurd d
 
 op_one : (items : List AExpr) (flat : PlanOp ℕ) (a b : PlanOp Expression) → DenotesOp items flat a → DenotesOp items flat b → a ≡ b
 op_one items flat a b d e =
@@ -119,6 +120,7 @@ kind_kept : (items items' : List AExpr) → ((n : ℕ) (op : Op) (inputs : List 
 kind_kept items items' keeps (ScanKind table schema) kind d = d
 kind_kept items items' keeps (SelectKind nodes) kind d = (d.0, d.1, named_kept items items' keeps nodes d.0 d.2)
 kind_kept items items' keeps (FilterKind n) kind d = (d.0, d.1, named_kept items items' keeps (n ∷ []) (d.0 ∷ []) d.2)
+kind_kept items items' keeps (RefusedKind kinds) kind d = absurd d
 
 -- a new plan item is there
 pub plan_added : (plans : List IR) (item : IR) → slice_get (map plan_layer (plans ++ item ∷ [])) (length plans) ≡ Some (plan_layer item)

@@ -6,7 +6,7 @@ use Rattle.plan_types.specs.Types.{ty}
 use Rattle.plan_types.specs.Schemas.{Name, columns}
 use Rattle.plan_dsl.specs.Ops.{Op, ColumnOp, BinaryOp, CastOp, LenOp, Expression}
 use Rattle.plan_dsl.specs.Literals.{literal_op}
-use Rattle.plan_dsl.specs.Plans.{PlanKind, ScanKind, SelectKind, FilterKind, PlanOp, Plan, Named, scan_op, select_op, filter_op}
+use Rattle.plan_dsl.specs.Plans.{PlanKind, ScanKind, SelectKind, FilterKind, RefusedKind, PlanOp, Plan, Named, scan_op, select_op, filter_op}
 use Rattle.plan_arena.specs.Denotation.{Denotes, DenoteAll, DenotesTree}
 use Rattle.plan_arena.specs.Layers.{Layer, layer, op_of, inputs_of}
 use Rattle.plan_dsl.specs.Trees.{node}
@@ -51,6 +51,7 @@ abbrev pub kind_text : {E : Type 0} → PlanKind E → List ℕ
 kind_text (ScanKind table schema) = codes "df"
 kind_text (SelectKind outputs) = codes "projection"
 kind_text (FilterKind predicate) = codes "selection"
+kind_text (RefusedKind kinds) = codes "refused"
 
 abbrev pub node_name : IR → List ℕ
 node_name item = kind_text (op_of (plan_layer item)).kind
@@ -70,13 +71,14 @@ DenoteNamed expressions (n ∷ ns) (e ∷ es) = (n.name ≡ e.name) × Denotes (
 DenoteNamed expressions [] (e ∷ es) = ⊥
 DenoteNamed expressions (n ∷ ns) [] = ⊥
 
--- a kind over nodes is a kind over expressions
+-- a kind over nodes is a kind over expressions. No item of the arena is refused
 abbrev pub DenotesKind : List AExpr → PlanKind ℕ → PlanKind Expression → Type 0
 DenotesKind expressions (ScanKind table schema) kind = kind ≡ ScanKind table schema
 DenotesKind expressions (SelectKind nodes) kind =
     (outputs : List (Named Expression)) × (kind ≡ SelectKind outputs) × DenoteNamed expressions nodes outputs
 DenotesKind expressions (FilterKind flat) kind =
     (predicate : Named Expression) × (kind ≡ FilterKind predicate) × DenoteNamed expressions (flat ∷ []) (predicate ∷ [])
+DenotesKind expressions (RefusedKind kinds) kind = ⊥
 
 -- an op over nodes is an op over expressions
 pub record DenotesOp (expressions : List AExpr) (flat : PlanOp ℕ) (op : PlanOp Expression) : Type 0 where

@@ -10,6 +10,7 @@ pub mod LiteralLemmas
 pub mod OpLemmas
 pub mod OperandLemmas
 pub mod OperatorLemmas
+pub mod ResolvingLemmas
 pub mod RuleLemmas
 pub mod RunLemmas
 pub mod SameLemmas

@@ -11,7 +11,7 @@ use Rattle.plan_types.proofs.SchemaLemmas.{repeated_test, test_from_distinct, di
 use Rattle.plan_dsl.specs.Registry.{Registry}
 use Rattle.plan_dsl.specs.Trees.{Trees, node, no_more, more, child_at, child_of, tree_at}
 use Rattle.plan_dsl.specs.Ops.{Op, Expression}
-use Rattle.plan_dsl.specs.Plans.{Named, PlanKind, ScanKind, SelectKind, FilterKind, PlanOp, Plan, scan_op, select_op, filter_op}
+use Rattle.plan_dsl.specs.Plans.{Named, PlanKind, ScanKind, SelectKind, FilterKind, RefusedKind, PlanOp, Plan, scan_op, select_op, filter_op}
 use Rattle.plan_dsl.specs.Literals.{settled}
 use Rattle.plan_dsl.specs.Typing.{Typed, typing, typing_all, typing_rule, then_typed, typed_before, kind_of, own_kind, kinds_in, kinds_in_all}
 use Rattle.plan_dsl.specs.PlanRules.{all_kinds, kind_where, name_kinds, scan_kinds, predicate_kinds, broken_kinds, column_before, columns_of, where_unbroken, plan_rule, schema_of, IsWellFormed, AllWellFormed, top_kinds, Breaks}
@@ -203,21 +203,23 @@ some_last : (kinds : List ErrorKind) (last : ErrorKind) → (kind : ErrorKind) �
 some_last kinds last = (last, Contains-append_right kinds (last ∷ []) last (Contains-push [] last))
 
 -- a node of the kind without a schema, whose inputs have one, breaks a rule
-kind_breaks : (registry : Registry) (kind : PlanKind Expression) (inputs : List Columns) → plan_rule registry (record { kind = kind; recorded = None }) (map Some inputs) ≡ None → (k : ErrorKind) × Contains (broken_kinds registry (record { kind = kind; recorded = None }) (map Some inputs)) k
-kind_breaks registry (ScanKind table schema) [] h = some_kind (scan_kinds schema) schema h
-kind_breaks registry (ScanKind table schema) (under ∷ inputs) h = some_last [] SchemaMismatch
-kind_breaks registry (SelectKind outputs) [] h = some_last [] SchemaMismatch
-kind_breaks registry (SelectKind outputs) (under ∷ []) h =
+kind_breaks : (registry : Registry) (kind : PlanKind Expression) (inputs : List Columns) → ¬ (kind ≡ RefusedKind []) → plan_rule registry (record { kind = kind; recorded = None }) (map Some inputs) ≡ None → (k : ErrorKind) × Contains (broken_kinds registry (record { kind = kind; recorded = None }) (map Some inputs)) k
+kind_breaks registry (ScanKind table schema) [] known h = some_kind (scan_kinds schema) schema h
+kind_breaks registry (ScanKind table schema) (under ∷ inputs) known h = some_last [] SchemaMismatch
+kind_breaks registry (SelectKind outputs) [] known h = some_last [] SchemaMismatch
+kind_breaks registry (SelectKind outputs) (under ∷ []) known h =
     let kinds = (all_kinds registry under outputs ++ []) ++ name_kinds outputs in
     elim (columns_of registry under outputs) as (λ c. columns_of registry under outputs ≡ c → where_unbroken kinds c ≡ None → (k : ErrorKind) × Contains kinds k) [ Some schema ↦ λ e h. some_kind kinds schema h | None ↦ λ e h. let found = no_column_breaks registry under outputs e in (found.0, of_expressions registry under outputs (name_kinds outputs) found.0 found.1) ] refl h
-kind_breaks registry (SelectKind outputs) (under ∷ other ∷ inputs) h = some_last (all_kinds registry under outputs ++ []) SchemaMismatch
-kind_breaks registry (FilterKind predicate) [] h = some_last [] SchemaMismatch
-kind_breaks registry (FilterKind predicate) (under ∷ []) h =
+kind_breaks registry (SelectKind outputs) (under ∷ other ∷ inputs) known h = some_last (all_kinds registry under outputs ++ []) SchemaMismatch
+kind_breaks registry (FilterKind predicate) [] known h = some_last [] SchemaMismatch
+kind_breaks registry (FilterKind predicate) (under ∷ []) known h =
     some_kind ((all_kinds registry under (predicate ∷ []) ++ []) ++ predicate_kinds (typing registry under (settled predicate.expression))) under h
-kind_breaks registry (FilterKind predicate) (under ∷ other ∷ inputs) h = some_last (all_kinds registry under (predicate ∷ []) ++ []) SchemaMismatch
+kind_breaks registry (FilterKind predicate) (under ∷ other ∷ inputs) known h = some_last (all_kinds registry under (predicate ∷ []) ++ []) SchemaMismatch
+kind_breaks registry (RefusedKind []) inputs known h = absurd (known refl)
+kind_breaks registry (RefusedKind (kind ∷ kinds)) inputs known h = (kind, Contains-append_left (kind ∷ []) kinds kind (Contains-push [] kind))
 
 pub no_schema_is_broken : NoSchemaIsBroken
-no_schema_is_broken registry op inputs h = kind_breaks registry op.kind inputs h
+no_schema_is_broken registry op inputs known h = kind_breaks registry op.kind inputs known h
 
 module _ (registry : Registry) where
   -- there is no plan, or it is well formed

@@ -1,6 +1,6 @@
 -- Laws of the definitions, for all expressions and plans.
-use Rattle.std.specs.Prelude.{◌≡◌, ℕ, ℤ, List, [], ◌∷◌, length, map, Some, None, Ok, Err, IsTrue, true, false}
-use Rattle.std.specs.List.{Contains}
+use Rattle.std.specs.Prelude.{◌≡◌, ℕ, ℤ, List, [], ◌∷◌, length, map, Option, Some, None, is_some, option_map, Ok, Err, IsTrue, true, false}
+use Rattle.std.specs.List.{Contains, list_all}
 use Rattle.plan_types.specs.Types.{Ty, Untyped, is_known}
 use Rattle.plan_types.specs.Schemas.{Columns}
 use Rattle.plan_types.specs.Values.{Val, IntValue, all_fit}
@@ -9,8 +9,9 @@ use Rattle.plan_types.specs.Frames.{Frame, IsFrame, IsFrameOf}
 use Rattle.plan_types.specs.declared.error.ErrorKind.{ErrorKind}
 use Rattle.plan_dsl.specs.Registry.{Registry}
 use Rattle.plan_dsl.specs.Ops.{Op, LiteralOp, BinaryOp, Expression}
-use Rattle.plan_dsl.specs.Trees.{Trees, node, no_more, more}
-use Rattle.plan_dsl.specs.Plans.{PlanOp, Plan}
+use Rattle.plan_dsl.specs.Trees.{Trees, node, no_more, more, tree_at}
+use Rattle.plan_dsl.specs.Plans.{PlanKind, RefusedKind, PlanOp, Plan, Source, SourcePlan, scans_in}
+use Rattle.plan_dsl.specs.Resolving.{resolution, resolved_op, resolved}
 use Rattle.plan_dsl.specs.Typing.{Typed, Ruling, rule, types_of, typed_to, typing, typing_all, kinds_in}
 use Rattle.plan_dsl.specs.declared.operator.Operator.{Operator}
 use Rattle.plan_dsl.specs.Operators.{operator_value, swapped}
@@ -20,7 +21,7 @@ use Rattle.plan_dsl.specs.Meaning.{meaning}
 use Rattle.plan_dsl.specs.Strictness.{IsStrict, IsSame, IsStrictOver, as_operands}
 use Rattle.plan_dsl.specs.StrictRun.{strict_run}
 use Rattle.plan_dsl.specs.PlanRules.{broken_kinds, plan_rule, schema_of, IsWellFormed, Breaks}
-use Rattle.plan_dsl.specs.PlanMeaning.{source_meaning, FitsPlan}
+use Rattle.plan_dsl.specs.PlanMeaning.{source_meaning, HasTables, FitsPlan}
 
 -- operands that were taken to their types are taken as they are
 abbrev pub TakenTypesStay : Type 0
@@ -72,9 +73,10 @@ TypedBreaksNothing = (registry : Registry) (schema : Columns) (tree : Expression
 abbrev pub RefusalIsBroken : Type 0
 RefusalIsBroken = (registry : Registry) (schema : Columns) (tree : Expression) (kind : ErrorKind) → typing registry schema tree ≡ Err kind → Contains (kinds_in registry schema tree) kind
 
--- a node without a schema, whose inputs have one, breaks a rule
+-- a node without a schema, whose inputs have one, breaks a rule: but for one that is refused by no kind, to which no
+-- node over such inputs is resolved
 abbrev pub NoSchemaIsBroken : Type 0
-NoSchemaIsBroken = (registry : Registry) (op : PlanOp Expression) (inputs : List Columns) → plan_rule registry op (map Some inputs) ≡ None → (kind : ErrorKind) × Contains (broken_kinds registry op (map Some inputs)) kind
+NoSchemaIsBroken = (registry : Registry) (op : PlanOp Expression) (inputs : List Columns) → ¬ (op.kind ≡ RefusedKind []) → plan_rule registry op (map Some inputs) ≡ None → (kind : ErrorKind) × Contains (broken_kinds registry op (map Some inputs)) kind
 
 -- a plan in which a rule is broken at some place is not well formed
 abbrev pub BrokenIsIllFormed : Type 0
@@ -83,3 +85,23 @@ BrokenIsIllFormed = (registry : Registry) (kind : ErrorKind) (place : List ℕ) 
 -- a well-formed plan is not stuck on fitting tables, and its frame has its schema
 abbrev pub MeaningHasSchema : Type 0
 MeaningHasSchema = (registry : Registry) (tables : List Frame) (plan : Plan) (schema : Columns) → FitsPlan tables plan → IsWellFormed registry plan → schema_of registry plan ≡ Some schema → Meets (IsFrameOf schema) (source_meaning registry tables plan)
+
+-- the node at a place of a query's plan stands, resolved, at that place
+abbrev pub PlacesStay : Type 0
+PlacesStay = (registry : Registry) (plan : SourcePlan) (place : List ℕ) → tree_at (Some (resolved registry plan)) place ≡ option_map (resolved registry) (tree_at (Some plan) place)
+
+-- a query's node that has a schema could be resolved, and breaks no rule
+abbrev pub ResolvedBreaksNothing : Type 0
+ResolvedBreaksNothing = (registry : Registry) (op : PlanOp Source) (inputs : List (Option Columns)) (schema : Columns) → plan_rule registry (resolved_op op inputs) inputs ≡ Some schema → (kind : PlanKind Expression) × (resolution op.kind inputs ≡ Ok kind) × (broken_kinds registry (resolved_op op inputs) inputs ≡ [])
+
+-- a query's node over an input without schema has none, and breaks no rule
+abbrev pub NothingIsToldAboveARefusal : Type 0
+NothingIsToldAboveARefusal = (registry : Registry) (op : PlanOp Source) (inputs : List (Option Columns)) → list_all is_some inputs ≡ false → (plan_rule registry (resolved_op op inputs) inputs ≡ None) × (broken_kinds registry (resolved_op op inputs) inputs ≡ [])
+
+-- a well-formed query scans, resolved, the tables that it scans as it is written
+abbrev pub ScansStay : Type 0
+ScansStay = (registry : Registry) (plan : SourcePlan) → IsWellFormed registry (resolved registry plan) → scans_in (resolved registry plan) ≡ scans_in plan
+
+-- on those tables a well-formed query means a frame of its schema, or a data fault
+abbrev pub QueryHasSchema : Type 0
+QueryHasSchema = (registry : Registry) (tables : List Frame) (plan : SourcePlan) (schema : Columns) → HasTables tables (scans_in plan) → IsWellFormed registry (resolved registry plan) → schema_of registry (resolved registry plan) ≡ Some schema → Meets (IsFrameOf schema) (source_meaning registry tables (resolved registry plan))

@@ -15,6 +15,7 @@ pub mod PlanMeaning
 pub mod PlanRules
 pub mod Plans
 pub mod Registry
+pub mod Resolving
 pub mod SameExpressions
 pub mod Samples
 pub mod StrictRun

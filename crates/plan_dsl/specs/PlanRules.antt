@@ -10,7 +10,7 @@ use Rattle.plan_types.specs.declared.error.ErrorKind.TheVariants.{Duplicate, Sch
 use Rattle.plan_dsl.specs.Registry.{Registry}
 use Rattle.plan_dsl.specs.Trees.{Trees, node, no_more, more, fold, fold_all, tree_at}
 use Rattle.plan_dsl.specs.Ops.{Expression}
-use Rattle.plan_dsl.specs.Plans.{Named, PlanKind, ScanKind, SelectKind, FilterKind, PlanOp, OverInput, Plan, expressions_of}
+use Rattle.plan_dsl.specs.Plans.{Named, PlanKind, ScanKind, SelectKind, FilterKind, RefusedKind, PlanOp, OverInput, Plan, expressions_of}
 use Rattle.plan_dsl.specs.Literals.{settled}
 use Rattle.plan_dsl.specs.Typing.{Typed, typing, kinds_in}
 
@@ -62,6 +62,7 @@ own_kinds registry (SelectKind outputs) (None ∷ []) = []
 own_kinds registry (SelectKind outputs) (Some schema ∷ []) = name_kinds outputs
 own_kinds registry (FilterKind predicate) (None ∷ []) = []
 own_kinds registry (FilterKind predicate) (Some schema ∷ []) = predicate_kinds (typing registry schema (settled predicate.expression))
+own_kinds registry (RefusedKind kinds) inputs = kinds
 own_kinds registry kind inputs = SchemaMismatch ∷ []
 
 -- the kinds that a node breaks, by the schemas of its inputs

@@ -1,6 +1,7 @@
 -- The tree of a plan.
 use Rattle.std.specs.Prelude.{ℕ, List, [], ◌∷◌, ◌++◌, map, Option, Some, None}
 use Rattle.plan_types.specs.Schemas.{Columns, Name, columns}
+use Rattle.plan_types.specs.declared.error.ErrorKind.{ErrorKind}
 use Rattle.plan_dsl.specs.declared.plan.DslPlan.{DslPlan}
 use Rattle.plan_dsl.specs.declared.plan.DslPlan.TheVariants.{DataFrameScan, Filter', Select'}
 use Rattle.plan_dsl.specs.declared.plan.Exprs.{Exprs}
@@ -15,12 +16,14 @@ pub record Named (E : Type 0) : Type 0 where
   pub name : Name
   pub expression : E
 
--- the kind of a plan's node, with its expressions and flags, over what an expression is: a tree in the model, a
--- node in the arena
+-- The kind of a plan's node, with its expressions and flags, over what an expression is: a tree in the model, a
+-- node in the arena. A node of a query that can't be resolved is refused, by the kinds of rule that it breaks: no
+-- query writes such a node, and no arena holds one.
 pub data PlanKind (E : Type 0) : Type 0 where
   ScanKind : (table : Option ℕ) (schema : Columns) → PlanKind E
   SelectKind : (outputs : List (Named E)) → PlanKind E
   FilterKind : (predicate : Named E) → PlanKind E
+  RefusedKind : (kinds : List ErrorKind) → PlanKind E
 
 -- What a node of a plan does: its kind, and the schema of its frame where the node records it. A scan does, and a
 -- select of a lowered plan. A select of a query, and a filter, record none.
@@ -41,9 +44,18 @@ abbrev pub expressions_of : {E : Type 0} → PlanKind E → List (OverInput E)
 expressions_of (ScanKind table schema) = []
 expressions_of (SelectKind outputs) = over_input 0 outputs ∷ []
 expressions_of (FilterKind predicate) = over_input 0 (predicate ∷ []) ∷ []
+expressions_of (RefusedKind kinds) = []
 
 abbrev pub Plan : Type 0
 Plan = Tree (PlanOp Expression)
+
+-- an expression as a query writes it: nothing in it is left to expand yet
+abbrev pub Source : Type 0
+Source = Expression
+
+-- a plan as a query writes it
+abbrev pub SourcePlan : Type 0
+SourcePlan = Tree (PlanOp Source)
 
 -- an expression under its own name
 abbrev pub named : Expression → Named Expression
@@ -62,7 +74,8 @@ select_op outputs recorded = record { kind = SelectKind outputs; recorded = reco
 abbrev pub filter_op : {E : Type 0} → Named E → PlanOp E
 filter_op predicate = record { kind = FilterKind predicate; recorded = None }
 
-abbrev pub plan_tree : DslPlan → Plan
+-- the tree of a plan, as it is written
+abbrev pub plan_tree : DslPlan → SourcePlan
 plan_tree (DataFrameScan table schema) = node (scan_op table (columns schema)) no_more
 plan_tree (Select' expr p input options) = node (select_op (map named (trees_of expr)) None) (more (plan_tree input) no_more)
 plan_tree (Filter' p input predicate) = node (filter_op (named (tree_of predicate))) (more (plan_tree input) no_more)

@@ -13,6 +13,7 @@ pub mod operators;
 pub mod parts_of_expressions;
 pub mod parts_of_plans;
 pub mod plans;
+pub mod resolved;
 pub mod same_expressions;
 pub mod strictness;
 pub mod texts_and_times;

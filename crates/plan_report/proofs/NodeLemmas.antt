@@ -5,7 +5,7 @@ use Rattle.std.proofs.lemmas.List.{append-nil}
 use Rattle.plan_types.specs.Schemas.{Columns}
 use Rattle.plan_dsl.specs.Trees.{Trees, node, no_more, more}
 use Rattle.plan_dsl.specs.Ops.{Op, Expression}
-use Rattle.plan_dsl.specs.Plans.{Named, PlanKind, ScanKind, SelectKind, FilterKind, PlanOp, Plan, filter_op}
+use Rattle.plan_dsl.specs.Plans.{Named, PlanKind, ScanKind, SelectKind, FilterKind, RefusedKind, PlanOp, Plan, filter_op}
 use Rattle.plan_dsl.specs.PlanRules.{schema_of}
 use Rattle.plan_dsl.specs.Registry.{Registry}
 use Rattle.plan_arena.specs.Denotation.{Denotes, DenoteAll, DenotesTree, depth_at}
@@ -78,6 +78,7 @@ same_text : (expressions : List AExpr) (flat : PlanKind ℕ) (kind : PlanKind Ex
 same_text expressions (ScanKind table schema) kind d = sym (ap kind_text d)
 same_text expressions (SelectKind nodes) kind d = sym (ap kind_text d.1)
 same_text expressions (FilterKind n) kind d = sym (ap kind_text d.1)
+same_text expressions (RefusedKind kinds) kind d = absurd d
 
 -- an item's name is its op's
 item_name : (item : IR) (flat : PlanOp ℕ) (inputs : List ℕ) → plan_layer item ≡ layer flat inputs → node_name item ≡ kind_text flat.kind

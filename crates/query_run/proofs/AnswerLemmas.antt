@@ -10,6 +10,7 @@ use Rattle.plan_types.specs.Schemas.{Name}
 use Rattle.plan_types.proofs.TextLemmas.{eq_by_chars}
 use Rattle.plan_dsl.specs.Plans.{Plan}
 use Rattle.plan_dsl.specs.Registry.{Registry}
+use Rattle.plan_dsl.specs.Resolving.{resolved}
 use Rattle.plan_arena.specs.Items.{DenotesPlan}
 use Rattle.plan_arena.specs.declared.plan.IRPlan.{IRPlan}
 use Rattle.plan_lower.specs.Lowering.{IsTyped, IsSound, GivesSameFrame, IsLoweringOf}
@@ -90,7 +91,7 @@ plan_writes registry plan done text (refused error refuses other) = tt
 
 query_writes : (registry : Registry) (bytes : List ℕ) (done : Done) (text : List ℕ) → IsQueryAnswer registry bytes done text → NoWriteFault done.status
 unfolding NoWriteFault
-query_writes registry bytes done text (planned query ending told writes answers) = plan_writes registry query.plan ending told answers
+query_writes registry bytes done text (planned query ending told writes answers) = plan_writes registry (resolved registry query.plan) ending told answers
 query_writes registry bytes done text (bad error told refuses tells) = tt
 
 answer_writes : (registry : Registry) (words : List Name) (input : Option (List ℕ)) (done : Done) (text : List ℕ) → IsAnswer registry words input done text → NoWriteFault done.status

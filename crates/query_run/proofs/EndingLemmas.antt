@@ -9,6 +9,7 @@ use Rattle.plan_types.specs.declared.error.PlanError.{PlanError}
 use Rattle.plan_dsl.specs.Plans.{Plan}
 use Rattle.plan_dsl.specs.PlanRules.{IsWellFormed}
 use Rattle.plan_dsl.specs.Registry.{Registry}
+use Rattle.plan_dsl.specs.Resolving.{resolved}
 use Rattle.plan_report.specs.Report.{refusal_text}
 use Rattle.plan_arena.specs.declared.plan.IRPlan.{IRPlan}
 use Rattle.plan_lower.specs.Lowering.{IsPlanRefusal, out_of_memory, broken}
@@ -35,12 +36,12 @@ module _ (registry : Registry) (words : List Name) (input before after : Option 
   Says plan status.NoMemory = Appends before after [] × (plan ≡ None)
   Says plan status.TooLong = SaysTooLong words input before after × (plan ≡ None)
 
-  refusal_says : (bytes : List ℕ) (query : QueryModel) (error : PlanError) → IsInput words input bytes → WritesQuery bytes query → IsPlanRefusal registry query.plan error → ¬ (error.kind ≡ kinds.NoMemory) → Appends before after (refusal_text error.kind error.place) → SaysRefused registry words input before after error
+  refusal_says : (bytes : List ℕ) (query : QueryModel) (error : PlanError) → IsInput words input bytes → WritesQuery bytes query → IsPlanRefusal registry (resolved registry query.plan) error → ¬ (error.kind ≡ kinds.NoMemory) → Appends before after (refusal_text error.kind error.place) → SaysRefused registry words input before after error
   refusal_says bytes query error r writes (out_of_memory e) other w = absurd (other (ap (λ (x : PlanError). x.kind) e))
   refusal_says bytes query error r writes (broken breaks ill) other w =
       record { bytes = bytes; read = r; query = query; writes = writes; broken = breaks; ill_formed = ill; other = other; written = w }
 
-  plan_says : (bytes : List ℕ) (query : QueryModel) (done : Done) (text : List ℕ) → IsInput words input bytes → WritesQuery bytes query → IsPlanAnswer registry query.plan done text → Appends before after text → Says done.plan done.status
+  plan_says : (bytes : List ℕ) (query : QueryModel) (done : Done) (text : List ℕ) → IsInput words input bytes → WritesQuery bytes query → IsPlanAnswer registry (resolved registry query.plan) done text → Appends before after text → Says done.plan done.status
   plan_says bytes query done text r writes (lowered lowering tree is) w =
       record { bytes = bytes; read = r; query = query; writes = writes; lowering = lowering; handed_out = refl; tree = tree; lowered = is; written = w }
   plan_says bytes query done text r writes (refused error refusal other) w = (refusal_says bytes query error r writes refusal other w, refl)
@@ -95,7 +96,7 @@ plan_no_fault registry plan done text (lowered lowering tree is) f = f
 plan_no_fault registry plan done text (refused error refusal other) f = f
 
 query_no_fault : (registry : Registry) (bytes : List ℕ) (done : Done) (text : List ℕ) → IsQueryAnswer registry bytes done text → ¬ (IsFault done.status)
-query_no_fault registry bytes done text (planned query done' text' writes answers) f = plan_no_fault registry query.plan done' text' answers f
+query_no_fault registry bytes done text (planned query done' text' writes answers) f = plan_no_fault registry (resolved registry query.plan) done' text' answers f
 query_no_fault registry bytes done text (bad error text' refusal told) f = f
 
 pub fault_is_silent : (registry : Registry) (words : List Name) (input : Option (List ℕ)) (done : Done) (text : List ℕ) (count : ℕ) → IsAnswer registry words input done text → count < length text → ¬ (IsFault done.status)
@@ -111,7 +112,7 @@ plan_of_input registry plan done text (lowered lowering tree is) = tt
 plan_of_input registry plan done text (refused error refusal other) = tt
 
 query_of_input : (registry : Registry) (bytes : List ℕ) (done : Done) (text : List ℕ) → IsQueryAnswer registry bytes done text → IsOfInput done.status
-query_of_input registry bytes done text (planned query done' text' writes answers) = plan_of_input registry query.plan done' text' answers
+query_of_input registry bytes done text (planned query done' text' writes answers) = plan_of_input registry (resolved registry query.plan) done' text' answers
 query_of_input registry bytes done text (bad error text' refusal told) = tt
 
 pub query_not_too_long : (registry : Registry) (bytes : List ℕ) (done : Done) (text : List ℕ) → IsQueryAnswer registry bytes done text → ¬ (done.status ≡ status.TooLong)
@@ -166,10 +167,10 @@ module _ (registry : Registry) (words : List Name) (input : Option (List ℕ)) w
       called IsBadQuery all right told short (bad_query_answer all none) done text answers
 
   -- the answer to the bytes of a query is one to its plan
-  module _ (P : Status → Type 0) (all : List ℕ) (query : QueryModel) (writes : WritesQuery all query) (plan : (done : Done) (text : List ℕ) → IsPlanAnswer registry query.plan done text → Ends P done.status) where
+  module _ (P : Status → Type 0) (all : List ℕ) (query : QueryModel) (writes : WritesQuery all query) (plan : (done : Done) (text : List ℕ) → IsPlanAnswer registry (resolved registry query.plan) done text → Ends P done.status) where
     query_answer : (done : Done) (text : List ℕ) → IsQueryAnswer registry all done text → Ends P done.status
     query_answer done text (planned other done' text' written answers) =
-        plan done' text' (subst (λ (q : QueryModel). IsPlanAnswer registry q.plan done' text') (writes_one_query all other query written writes) answers)
+        plan done' text' (subst (λ (q : QueryModel). IsPlanAnswer registry (resolved registry q.plan) done' text') (writes_one_query all other query written writes) answers)
     query_answer done text (bad error text' refusal told) =
         absurd (told_reason error text' told (refused_query_is_memory all query error writes refusal))
 
@@ -179,7 +180,7 @@ module _ (registry : Registry) (words : List Name) (input : Option (List ℕ)) w
 
   pub refused_called : (done : Done) (text : List ℕ) → IsAnswer registry words input done text → RefusalCalledFor registry words input done.status
   refused_called done text answers all query right told short writes ill =
-      called IsRefused all right told short (query_answer IsRefused all query writes (refused_answer query.plan ill)) done text answers
+      called IsRefused all right told short (query_answer IsRefused all query writes (refused_answer (resolved registry query.plan) ill)) done text answers
 
   no_refusal : (plan : Plan) (error : PlanError) → IsWellFormed registry plan → ¬ (error.kind ≡ kinds.NoMemory) → IsPlanRefusal registry plan error → ⊥
   no_refusal plan error well other (out_of_memory e) = other (ap (λ (x : PlanError). x.kind) e)
@@ -191,7 +192,7 @@ module _ (registry : Registry) (words : List Name) (input : Option (List ℕ)) w
 
   pub lowered_called : (done : Done) (text : List ℕ) → IsAnswer registry words input done text → LoweringCalledFor registry words input done.status
   lowered_called done text answers all query right told short writes well =
-      called (λ e. e ≡ status.Lowered) all right told short (query_answer (λ e. e ≡ status.Lowered) all query writes (lowered_answer query.plan well)) done text answers
+      called (λ e. e ≡ status.Lowered) all right told short (query_answer (λ e. e ≡ status.Lowered) all query writes (lowered_answer (resolved registry query.plan) well)) done text answers
 
 -- where no fault comes, only memory can lack
 excused_memory : (ending : Status) → IsExcused ending → ¬ (ending ≡ status.ReadFault) → ¬ (ending ≡ status.WriteFault) → ending ≡ status.NoMemory

@@ -7,6 +7,7 @@ use Rattle.plan_types.specs.declared.error.ErrorKind.TheVariants as kinds
 use Rattle.plan_types.specs.declared.error.PlanError.{PlanError}
 use Rattle.plan_dsl.specs.Plans.{Plan}
 use Rattle.plan_dsl.specs.Registry.{Registry}
+use Rattle.plan_dsl.specs.Resolving.{resolved}
 use Rattle.plan_arena.specs.declared.plan.IRPlan.{IRPlan}
 use Rattle.plan_lower.specs.Lowering.{IsLoweringOf, IsPlanRefusal}
 use Rattle.plan_json.specs.Bytes.{WritesQuery, IsRefusalOf}
@@ -58,7 +59,7 @@ pub data IsPlanAnswer (registry : Registry) (plan : Plan) : Done → List ℕ �
 
 -- the answer to the bytes of an input: that to the plan of the query that they write, or why they write none
 pub data IsQueryAnswer (registry : Registry) (bytes : List ℕ) : Done → List ℕ → Type 0 where
-  planned : (query : QueryModel) (done : Done) (text : List ℕ) → WritesQuery bytes query → IsPlanAnswer registry query.plan done text → IsQueryAnswer registry bytes done text
+  planned : (query : QueryModel) (done : Done) (text : List ℕ) → WritesQuery bytes query → IsPlanAnswer registry (resolved registry query.plan) done text → IsQueryAnswer registry bytes done text
   bad : (error : JsonError) (text : List ℕ) → IsRefusalOf bytes error → bad_query_text error ≡ Some text → IsQueryAnswer registry bytes (without_plan (status.BadQuery error)) text
 
 -- the answer to words, and to an input where it is known

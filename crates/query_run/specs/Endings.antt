@@ -10,6 +10,7 @@ use Rattle.plan_types.specs.declared.error.PlanError.{PlanError}
 use Rattle.plan_dsl.specs.Plans.{Plan}
 use Rattle.plan_dsl.specs.PlanRules.{IsWellFormed, Breaks}
 use Rattle.plan_dsl.specs.Registry.{Registry}
+use Rattle.plan_dsl.specs.Resolving.{resolved}
 use Rattle.plan_arena.specs.declared.plan.IRPlan.{IRPlan}
 use Rattle.plan_lower.specs.Lowering.{IsLoweringOf}
 use Rattle.plan_json.specs.Bytes.{WritesQuery, IsRefusalOf}
@@ -38,7 +39,7 @@ pub record SaysLowered (registry : Registry) (words : List Name) (input before a
   pub lowering : IRPlan
   pub handed_out : plan ≡ Some lowering
   pub tree : Plan
-  pub lowered : IsLoweringOf registry query.plan lowering tree
+  pub lowered : IsLoweringOf registry (resolved registry query.plan) lowering tree
   pub written : Appends before after (report_text registry tree)
 
 -- the input is a query, in whose plan a rule of that kind is broken at that place
@@ -47,8 +48,8 @@ pub record SaysRefused (registry : Registry) (words : List Name) (input before a
   pub read : IsInput words input bytes
   pub query : QueryModel
   pub writes : WritesQuery bytes query
-  pub broken : Breaks registry error.kind error.place query.plan
-  pub ill_formed : ¬ (IsWellFormed registry query.plan)
+  pub broken : Breaks registry error.kind error.place (resolved registry query.plan)
+  pub ill_formed : ¬ (IsWellFormed registry (resolved registry query.plan))
   pub other : ¬ (error.kind ≡ kinds.NoMemory)
   pub written : Appends before after (refusal_text error.kind error.place)
 
@@ -150,14 +151,14 @@ BadQueryCalledFor words input ending =
 -- a query that isn't well formed calls for a refusal
 abbrev pub RefusalCalledFor : Registry → List Name → Option (List ℕ) → Status → Type 0
 RefusalCalledFor registry words input ending =
-    (bytes : List ℕ) (query : QueryModel) → words ≡ right_words → input ≡ Some bytes → length bytes ≤ INPUT_LIMIT → WritesQuery bytes query → ¬ (IsWellFormed registry query.plan) → Ends IsRefused ending
+    (bytes : List ℕ) (query : QueryModel) → words ≡ right_words → input ≡ Some bytes → length bytes ≤ INPUT_LIMIT → WritesQuery bytes query → ¬ (IsWellFormed registry (resolved registry query.plan)) → Ends IsRefused ending
 
 -- a well-formed query calls for its lowering
 abbrev pub LoweringCalledFor : Registry → List Name → Option (List ℕ) → Status → Type 0
 LoweringCalledFor registry words input ending =
-    (bytes : List ℕ) (query : QueryModel) → words ≡ right_words → input ≡ Some bytes → length bytes ≤ INPUT_LIMIT → WritesQuery bytes query → IsWellFormed registry query.plan → Ends (λ e. e ≡ status.Lowered) ending
+    (bytes : List ℕ) (query : QueryModel) → words ≡ right_words → input ≡ Some bytes → length bytes ≤ INPUT_LIMIT → WritesQuery bytes query → IsWellFormed registry (resolved registry query.plan) → Ends (λ e. e ≡ status.Lowered) ending
 
 -- a well-formed query is lowered, unless memory runs out
 abbrev pub IsComplete : Registry → List Name → Option (List ℕ) → Status → Type 0
 IsComplete registry words input ending =
-    (bytes : List ℕ) (query : QueryModel) → words ≡ right_words → input ≡ Some bytes → length bytes ≤ INPUT_LIMIT → WritesQuery bytes query → IsWellFormed registry query.plan → (ending ≡ status.Lowered) ⊎ (ending ≡ status.NoMemory)
+    (bytes : List ℕ) (query : QueryModel) → words ≡ right_words → input ≡ Some bytes → length bytes ≤ INPUT_LIMIT → WritesQuery bytes query → IsWellFormed registry (resolved registry query.plan) → (ending ≡ status.Lowered) ⊎ (ending ≡ status.NoMemory)

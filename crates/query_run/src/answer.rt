@@ -2,6 +2,7 @@
 ghost use Rattle.std.specs.Prelude.{◌≡◌, ◌↔◌, ℕ, ◌≤◌, ◌∷◌, [], List, Some, IsTrue, IfOk, codes, string_bytes};
 ghost use Rattle.plan_dsl.specs.Plans.{plan_tree};
 ghost use Rattle.plan_dsl.specs.Registry.{registry};
+ghost use Rattle.plan_dsl.specs.Resolving.{resolved};
 ghost use Rattle.byte_streams.specs.Streams.{Rose};
 ghost use Rattle.std.specs.Io.KnownBytes.{IsAtEnd};
 ghost use Rattle.query_run.specs.Answers.{IsAnswer, IsPlanAnswer, IsQueryAnswer, bad_query_text, right_words};
@@ -126,7 +127,7 @@ fn bad_query(alloc: Global, error: &JsonError) -> Result<String, AllocError>
 
 // The answer to a query's plan.
 fn answer_plan(alloc: Global, plan: DslPlan, udfs: &Udfs) -> Result<Answer, AllocError>
-    ensures { IfOk result (λ answer. IsPlanAnswer (registry udfs.now) (plan_tree plan) answer.done (string_bytes answer.text)) }
+    ensures { IfOk result (λ answer. IsPlanAnswer (registry udfs.now) (resolved (registry udfs.now) (plan_tree plan)) answer.done (string_bytes answer.text)) }
 {
     match plan.to_alp(alloc, udfs) {
         Ok(plan) => {

@@ -4,8 +4,9 @@ ghost use Rattle.plan_types.specs.Errors.{no_memory, IsMemoryOr};
 ghost use Rattle.plan_types.specs.Schemas.{columns, all_known};
 ghost use Rattle.plan_dsl.specs.Expressions.{tree_of};
 ghost use Rattle.plan_dsl.specs.Ops.{Op};
-ghost use Rattle.plan_dsl.specs.Plans.{Plan, plan_tree, trees_of, scan_op};
+ghost use Rattle.plan_dsl.specs.Plans.{SourcePlan, plan_tree, trees_of, scan_op};
 ghost use Rattle.plan_dsl.specs.Registry.{registry};
+ghost use Rattle.plan_dsl.specs.Resolving.{resolved};
 ghost use Rattle.plan_arena.specs.Items.{HoldsExpression, Grows, plan_layer};
 ghost use Rattle.plan_arena.specs.Layers.{layer};
 ghost use Rattle.plan_lower.specs.Lowering.{IsFilterAt, IsSelectAt, StandsFor, IsPlanRefusal, IsEmptyTableAt, Answers, IsTyped, IsSound, GivesSameFrame};
@@ -28,16 +29,16 @@ use std::alloc::Global;
 
 /// Lowering of a query's plan.
 pub trait PlanLowering {
-    // The plan that is lowered.
-    ghost tree: { Self → Plan };
+    // The plan that is lowered, as it is written.
+    ghost tree: { Self → SourcePlan };
 
     /// The typed plan in two arenas of its own: a plan for each query that is well formed, else the kind and
     /// the place of a rule that it breaks.
     fn to_alp(self, alloc: Global, udfs: &Udfs) -> Result<IRPlan, PlanError>
-        ensures answers { Answers (registry udfs.now) (tree self) result }
-        ensures typed { IfOk result (IsTyped (registry udfs.now) (tree self)) }
-        ensures sound { IfOk result (IsSound (registry udfs.now) (tree self)) }
-        ensures same_frame { IfOk result (GivesSameFrame (registry udfs.now) (tree self)) };
+        ensures answers { Answers (registry udfs.now) (resolved (registry udfs.now) (tree self)) result }
+        ensures typed { IfOk result (IsTyped (registry udfs.now) (resolved (registry udfs.now) (tree self))) }
+        ensures sound { IfOk result (IsSound (registry udfs.now) (resolved (registry udfs.now) (tree self))) }
+        ensures same_frame { IfOk result (GivesSameFrame (registry udfs.now) (resolved (registry udfs.now) (tree self))) };
 }
 
 impl PlanLowering for DslPlan {
@@ -65,8 +66,8 @@ fn lower(
     lp_arena: &mut Arena<IR>,
     udfs: &Udfs,
 ) -> Result<LoweredNode, PlanError>
-    ensures ok { IfOk result (λ lowered. StandsFor (registry udfs.now) expr_arena.new lp_arena.new lowered.node.0 (columns lowered.schema) (plan_tree plan)) }
-    ensures err { IfErr result (IsPlanRefusal (registry udfs.now) (plan_tree plan)) }
+    ensures ok { IfOk result (λ lowered. StandsFor (registry udfs.now) expr_arena.new lp_arena.new lowered.node.0 (columns lowered.schema) (resolved (registry udfs.now) (plan_tree plan))) }
+    ensures err { IfErr result (IsPlanRefusal (registry udfs.now) (resolved (registry udfs.now) (plan_tree plan))) }
     ensures kept { (n : ℕ) (op : Op) (inputs : List ℕ) →
         HoldsExpression expr_arena.old n op inputs → HoldsExpression expr_arena.new n op inputs }
     ensures grows { Grows lp_arena.old lp_arena.new }

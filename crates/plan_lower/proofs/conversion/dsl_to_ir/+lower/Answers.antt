@@ -1,10 +1,13 @@
-use Rattle.std.proofs.Common.{map, None, sym, ap, ◌∙◌}
+use Rattle.std.proofs.Common.{[], ◌∷◌, map, None, sym, ap, ◌∙◌}
 use Rattle.plan_types.specs.Schemas.{columns}
 use Rattle.plan_types.proofs.ResultLemmas.{passed_on}
 use Rattle.plan_types.proofs.SchemaLemmas.{schema_has_distinct_names}
 use Rattle.plan_dsl.specs.Expressions.{tree_of}
 use Rattle.plan_dsl.specs.Plans.{plan_tree, trees_of, named, filter_op, select_op}
+use Rattle.plan_dsl.specs.PlanRules.{schema_of}
 use Rattle.plan_dsl.specs.Registry.{registry}
+use Rattle.plan_dsl.specs.Resolving.{resolved_op, resolved}
+use Rattle.plan_dsl.proofs.ResolvingLemmas.{resolved_over}
 use Rattle.plan_arena.proofs.ItemLemmas.{grows_then}
 use Rattle.plan_lower.specs.Lowering.{source_filter, source_select}
 use Rattle.plan_lower.proofs.PlanLemmas.{scan_stands, scan_refused, filter_stands, filter_refused, select_stands, select_refused, refused_below}
@@ -13,45 +16,65 @@ use Rattle.plan_lower.proofs.conversion.dsl_to_ir.+lower.Goals as goal
 pub returns-in_err-lowered-in-DataFrameScan-clause-err :
     goal.returns-in_err-lowered-in-DataFrameScan-clause-err
 returns-in_err-lowered-in-DataFrameScan-clause-err t c =
-    passed_on c.from_residual.result c.in_err-lowered-in-DataFrameScan.field-0.0 _ c.from_residual.ensures.1 (scan_refused (registry c.args.udfs.now) c.in-DataFrameScan.table (columns c.in-DataFrameScan.schema) (plan_tree c.args.plan) _ c.in_err-lowered-in-DataFrameScan.ensures.err (ap plan_tree c.in-DataFrameScan.is))
+    let r = registry c.args.udfs.now in
+    passed_on c.from_residual.result c.in_err-lowered-in-DataFrameScan.field-0.0 _ c.from_residual.ensures.1 (scan_refused r c.in-DataFrameScan.table (columns c.in-DataFrameScan.schema) (resolved r (plan_tree c.args.plan)) _ c.in_err-lowered-in-DataFrameScan.ensures.err (ap (λ p. resolved r (plan_tree p)) c.in-DataFrameScan.is))
 
 pub returns-in_ok-lowered-in-DataFrameScan-clause-ok :
     goal.returns-in_ok-lowered-in-DataFrameScan-clause-ok
 returns-in_ok-lowered-in-DataFrameScan-clause-ok t c =
+    let r = registry c.args.udfs.now in
     let lowered = c.in_ok-lowered-in-DataFrameScan.lowered in
-    scan_stands (registry c.args.udfs.now) c.args.expr_arena.now c.lower_scan.new.lp_arena lowered.node.0 c.in-DataFrameScan.table (columns c.in-DataFrameScan.schema) (columns lowered.schema) (plan_tree c.args.plan) c.in_ok-lowered-in-DataFrameScan.ensures.ok c.in_ok-lowered-in-DataFrameScan.ensures.schema (schema_has_distinct_names c.in-DataFrameScan.schema) c.in_ok-lowered-in-DataFrameScan.ensures.known (ap plan_tree c.in-DataFrameScan.is)
+    scan_stands r c.args.expr_arena.now c.lower_scan.new.lp_arena lowered.node.0 c.in-DataFrameScan.table (columns c.in-DataFrameScan.schema) (columns lowered.schema) (resolved r (plan_tree c.args.plan)) c.in_ok-lowered-in-DataFrameScan.ensures.ok c.in_ok-lowered-in-DataFrameScan.ensures.schema (schema_has_distinct_names c.in-DataFrameScan.schema) c.in_ok-lowered-in-DataFrameScan.ensures.known (ap (λ p. resolved r (plan_tree p)) c.in-DataFrameScan.is)
 
 pub returns-in_err-lowered-in-Ok-clause-err : goal.returns-in_err-lowered-in-Ok-clause-err
 returns-in_err-lowered-in-Ok-clause-err t c =
-    let same = ap plan_tree c.in-Filter.is ∙ ap (λ p. source_filter (tree_of c.in-Filter.predicate) (plan_tree p)) (sym c.into_inner.ensures) in
-    passed_on c.from_residual-in_err-lowered-in-Ok.result c.in_err-lowered-in-Ok.field-0.0 _ c.from_residual-in_err-lowered-in-Ok.ensures.1 (filter_refused (registry c.args.udfs.now) c.lower.new.expr_arena c.lower.new.lp_arena c.in-Ok.input.node.0 (columns c.in-Ok.input.schema) (tree_of c.in-Filter.predicate) (plan_tree c.into_inner.result) (plan_tree c.args.plan) _ c.in-Ok.ensures.ok c.in_err-lowered-in-Ok.ensures.err same)
+    let r = registry c.args.udfs.now in
+    let written = ap plan_tree c.in-Filter.is ∙ ap (λ p. source_filter (tree_of c.in-Filter.predicate) (plan_tree p)) (sym c.into_inner.ensures) in
+    let source = resolved r (plan_tree c.into_inner.result) in
+    let same = ap (resolved r) written ∙ resolved_over r (filter_op (named (tree_of c.in-Filter.predicate))) (plan_tree c.into_inner.result) _ c.in-Ok.ensures.ok.built.source_schema in
+    passed_on c.from_residual-in_err-lowered-in-Ok.result c.in_err-lowered-in-Ok.field-0.0 _ c.from_residual-in_err-lowered-in-Ok.ensures.1 (filter_refused r c.lower.new.expr_arena c.lower.new.lp_arena c.in-Ok.input.node.0 (columns c.in-Ok.input.schema) (tree_of c.in-Filter.predicate) source (resolved r (plan_tree c.args.plan)) _ c.in-Ok.ensures.ok c.in_err-lowered-in-Ok.ensures.err same)
 
 pub returns-in_ok-lowered-in-Ok-clause-ok : goal.returns-in_ok-lowered-in-Ok-clause-ok
 returns-in_ok-lowered-in-Ok-clause-ok t c =
-    let same = ap plan_tree c.in-Filter.is ∙ ap (λ p. source_filter (tree_of c.in-Filter.predicate) (plan_tree p)) (sym c.into_inner.ensures) in
+    let r = registry c.args.udfs.now in
+    let written = ap plan_tree c.in-Filter.is ∙ ap (λ p. source_filter (tree_of c.in-Filter.predicate) (plan_tree p)) (sym c.into_inner.ensures) in
+    let source = resolved r (plan_tree c.into_inner.result) in
+    let same = ap (resolved r) written ∙ resolved_over r (filter_op (named (tree_of c.in-Filter.predicate))) (plan_tree c.into_inner.result) _ c.in-Ok.ensures.ok.built.source_schema in
     let lowered = c.in_ok-lowered-in-Ok.lowered in
-    filter_stands (registry c.args.udfs.now) c.lower.new.expr_arena c.lower_filter.new.expr_arena c.lower.new.lp_arena c.lower_filter.new.lp_arena c.in-Ok.input.node.0 lowered.node.0 (columns c.in-Ok.input.schema) (columns lowered.schema) (tree_of c.in-Filter.predicate) (plan_tree c.into_inner.result) (plan_tree c.args.plan) c.in_ok-lowered-in-Ok.ensures.kept c.in_ok-lowered-in-Ok.ensures.grows c.in-Ok.ensures.ok c.in_ok-lowered-in-Ok.ensures.ok c.in_ok-lowered-in-Ok.ensures.schema same
+    filter_stands r c.lower.new.expr_arena c.lower_filter.new.expr_arena c.lower.new.lp_arena c.lower_filter.new.lp_arena c.in-Ok.input.node.0 lowered.node.0 (columns c.in-Ok.input.schema) (columns lowered.schema) (tree_of c.in-Filter.predicate) source (resolved r (plan_tree c.args.plan)) c.in_ok-lowered-in-Ok.ensures.kept c.in_ok-lowered-in-Ok.ensures.grows c.in-Ok.ensures.ok c.in_ok-lowered-in-Ok.ensures.ok c.in_ok-lowered-in-Ok.ensures.schema same
 
 pub returns-in_ok-lowered-in-Ok-clause-kept : goal.returns-in_ok-lowered-in-Ok-clause-kept
 returns-in_ok-lowered-in-Ok-clause-kept t c = λ n op inputs h. c.in_ok-lowered-in-Ok.ensures.kept n op inputs (c.in-Ok.ensures.kept n op inputs h)
 
 pub returns-in-Err-clause-err : goal.returns-in-Err-clause-err
 returns-in-Err-clause-err t c =
-    let same = ap plan_tree c.in-Filter.is ∙ ap (λ p. source_filter (tree_of c.in-Filter.predicate) (plan_tree p)) (sym c.into_inner.ensures) in
-    refused_below (registry c.args.udfs.now) (filter_op (named (tree_of c.in-Filter.predicate))) (plan_tree c.into_inner.result) (plan_tree c.args.plan) c.in-Err.error c.below.result c.in-Err.ensures.err c.below.ensures same
+    let r = registry c.args.udfs.now in
+    let written = ap plan_tree c.in-Filter.is ∙ ap (λ p. source_filter (tree_of c.in-Filter.predicate) (plan_tree p)) (sym c.into_inner.ensures) in
+    let source = resolved r (plan_tree c.into_inner.result) in
+    let same = ap (resolved r) written in
+    refused_below r (resolved_op (filter_op (named (tree_of c.in-Filter.predicate))) (schema_of r source ∷ [])) source (resolved r (plan_tree c.args.plan)) c.in-Err.error c.below.result c.in-Err.ensures.err c.below.ensures same
 
 pub returns-in_err-lowered-in-Ok-lower-clause-err : goal.returns-in_err-lowered-in-Ok-lower-clause-err
 returns-in_err-lowered-in-Ok-lower-clause-err t c =
-    let same = ap plan_tree c.in-Select.is ∙ ap (λ p. source_select (trees_of c.in-Select.expr) (plan_tree p)) (sym c.into_inner-in-Select.ensures) in
-    passed_on c.from_residual-in_err-lowered-in-Ok-lower.result c.in_err-lowered-in-Ok-lower.field-0.0 _ c.from_residual-in_err-lowered-in-Ok-lower.ensures.1 (select_refused (registry c.args.udfs.now) c.lower-in-Select.new.expr_arena c.lower-in-Select.new.lp_arena c.in-Ok-lower.input.node.0 (columns c.in-Ok-lower.input.schema) (trees_of c.in-Select.expr) (plan_tree c.into_inner-in-Select.result) (plan_tree c.args.plan) _ c.in-Ok-lower.ensures.ok c.in_err-lowered-in-Ok-lower.ensures.err same)
+    let r = registry c.args.udfs.now in
+    let written = ap plan_tree c.in-Select.is ∙ ap (λ p. source_select (trees_of c.in-Select.expr) (plan_tree p)) (sym c.into_inner-in-Select.ensures) in
+    let source = resolved r (plan_tree c.into_inner-in-Select.result) in
+    let same = ap (resolved r) written ∙ resolved_over r (select_op (map named (trees_of c.in-Select.expr)) None) (plan_tree c.into_inner-in-Select.result) _ c.in-Ok-lower.ensures.ok.built.source_schema in
+    passed_on c.from_residual-in_err-lowered-in-Ok-lower.result c.in_err-lowered-in-Ok-lower.field-0.0 _ c.from_residual-in_err-lowered-in-Ok-lower.ensures.1 (select_refused r c.lower-in-Select.new.expr_arena c.lower-in-Select.new.lp_arena c.in-Ok-lower.input.node.0 (columns c.in-Ok-lower.input.schema) (trees_of c.in-Select.expr) source (resolved r (plan_tree c.args.plan)) _ c.in-Ok-lower.ensures.ok c.in_err-lowered-in-Ok-lower.ensures.err same)
 
 pub returns-in_ok-lowered-in-Ok-lower-clause-ok : goal.returns-in_ok-lowered-in-Ok-lower-clause-ok
 returns-in_ok-lowered-in-Ok-lower-clause-ok t c =
-    let same = ap plan_tree c.in-Select.is ∙ ap (λ p. source_select (trees_of c.in-Select.expr) (plan_tree p)) (sym c.into_inner-in-Select.ensures) in
+    let r = registry c.args.udfs.now in
+    let written = ap plan_tree c.in-Select.is ∙ ap (λ p. source_select (trees_of c.in-Select.expr) (plan_tree p)) (sym c.into_inner-in-Select.ensures) in
+    let source = resolved r (plan_tree c.into_inner-in-Select.result) in
+    let same = ap (resolved r) written ∙ resolved_over r (select_op (map named (trees_of c.in-Select.expr)) None) (plan_tree c.into_inner-in-Select.result) _ c.in-Ok-lower.ensures.ok.built.source_schema in
     let lowered = c.in_ok-lowered-in-Ok-lower.lowered in
-    select_stands (registry c.args.udfs.now) c.lower-in-Select.new.expr_arena c.lower_select.new.expr_arena c.lower-in-Select.new.lp_arena c.lower_select.new.lp_arena c.in-Ok-lower.input.node.0 lowered.node.0 (columns c.in-Ok-lower.input.schema) (columns lowered.schema) (trees_of c.in-Select.expr) (plan_tree c.into_inner-in-Select.result) (plan_tree c.args.plan) c.in_ok-lowered-in-Ok-lower.ensures.kept c.in_ok-lowered-in-Ok-lower.ensures.grows c.in-Ok-lower.ensures.ok c.in_ok-lowered-in-Ok-lower.ensures.ok same
+    select_stands r c.lower-in-Select.new.expr_arena c.lower_select.new.expr_arena c.lower-in-Select.new.lp_arena c.lower_select.new.lp_arena c.in-Ok-lower.input.node.0 lowered.node.0 (columns c.in-Ok-lower.input.schema) (columns lowered.schema) (trees_of c.in-Select.expr) source (resolved r (plan_tree c.args.plan)) c.in_ok-lowered-in-Ok-lower.ensures.kept c.in_ok-lowered-in-Ok-lower.ensures.grows c.in-Ok-lower.ensures.ok c.in_ok-lowered-in-Ok-lower.ensures.ok same
 
 pub returns-in-Err-lower-clause-err : goal.returns-in-Err-lower-clause-err
 returns-in-Err-lower-clause-err t c =
-    let same = ap plan_tree c.in-Select.is ∙ ap (λ p. source_select (trees_of c.in-Select.expr) (plan_tree p)) (sym c.into_inner-in-Select.ensures) in
-    refused_below (registry c.args.udfs.now) (select_op (map named (trees_of c.in-Select.expr)) None) (plan_tree c.into_inner-in-Select.result) (plan_tree c.args.plan) c.in-Err-lower.error c.below-in-Err-lower.result c.in-Err-lower.ensures.err c.below-in-Err-lower.ensures same
+    let r = registry c.args.udfs.now in
+    let written = ap plan_tree c.in-Select.is ∙ ap (λ p. source_select (trees_of c.in-Select.expr) (plan_tree p)) (sym c.into_inner-in-Select.ensures) in
+    let source = resolved r (plan_tree c.into_inner-in-Select.result) in
+    let same = ap (resolved r) written in
+    refused_below r (resolved_op (select_op (map named (trees_of c.in-Select.expr)) None) (schema_of r source ∷ [])) source (resolved r (plan_tree c.args.plan)) c.in-Err-lower.error c.below-in-Err-lower.result c.in-Err-lower.ensures.err c.below-in-Err-lower.ensures same

@@ -2,6 +2,7 @@ use Rattle.std.proofs.Common.{subst, sym}
 use Rattle.plan_types.specs.Schemas.{columns}
 use Rattle.plan_dsl.specs.Plans.{plan_tree}
 use Rattle.plan_dsl.specs.Registry.{registry}
+use Rattle.plan_dsl.specs.Resolving.{resolved}
 use Rattle.plan_arena.specs.declared.plan.IRPlan.{IRPlan}
 use Rattle.plan_lower.specs.Lowering.{IsSound, GivesSameFrame}
 use Rattle.plan_lower.proofs.PlanLemmas.{stands_sound, stands_same}
@@ -9,14 +10,14 @@ use Rattle.plan_lower.proofs.conversion.dsl_to_ir.DslPlanPlanLowering.to_alp.Goa
 
 pub returns-clause-sound : goal.returns-clause-sound
 returns-clause-sound c =
-    let plan = plan_tree c.args.self in
     let r = registry c.args.udfs.now in
+    let plan = resolved r (plan_tree c.args.self) in
     let lowering : IRPlan = record { lp_top = c.in_ok-top.top.node; lp_arena = c.lower.new.lp_arena; expr_arena = c.lower.new.expr_arena } in
     subst (IsSound r plan) (sym c.new.ensures) (stands_sound r lowering (columns c.in_ok-top.top.schema) plan c.in_ok-top.ensures.ok)
 
 pub returns-clause-same_frame : goal.returns-clause-same_frame
 returns-clause-same_frame c =
-    let plan = plan_tree c.args.self in
     let r = registry c.args.udfs.now in
+    let plan = resolved r (plan_tree c.args.self) in
     let lowering : IRPlan = record { lp_top = c.in_ok-top.top.node; lp_arena = c.lower.new.lp_arena; expr_arena = c.lower.new.expr_arena } in
     subst (GivesSameFrame r plan) (sym c.new.ensures) (stands_same r lowering (columns c.in_ok-top.top.schema) plan c.in_ok-top.ensures.ok)
