@@ -13,11 +13,11 @@ ghost use Rattle.plan_dsl.specs.declared.literal.LiteralValue.TheVariants.{Int, 
 ghost use Rattle.plan_dsl.specs.declared.operator.Operator.TheVariants.{Plus};
 ghost use Rattle.plan_dsl.specs.declared.plan.ProjectionOptions.{ProjectionOptions};
 ghost use Rattle.plan_dsl.specs.Trees.{node, no_more, more};
-ghost use Rattle.plan_dsl.specs.Ops.{ColumnOp, LiteralOp, BinaryOp, CastOp, Expression};
+ghost use Rattle.plan_dsl.specs.Ops.{ColumnOp, LiteralOp, BinaryOp, CastOp, LenOp, Expression};
 ghost use Rattle.plan_dsl.specs.Plans.{Named, named, scan_op, select_op, filter_op};
-ghost use Rattle.plan_dsl.specs.Samples.{Gives, GivesOfTwo, int8, int32, a, b, cast_as, column, keep, literal, sum, typed_literal};
+ghost use Rattle.plan_dsl.specs.Samples.{Gives, GivesOfTwo, int8, int32, a, b, cast_as, column, count, keep, literal, sum, typed_literal};
 ghost use Rattle.plan_arena.specs.declared.aexpr.AExpr.{AExpr};
-ghost use Rattle.plan_arena.specs.declared.aexpr.AExpr.TheVariants.{Column, Literal, BinaryExpr, Cast};
+ghost use Rattle.plan_arena.specs.declared.aexpr.AExpr.TheVariants.{Column, Literal, BinaryExpr, Cast, Len};
 ghost use Rattle.plan_arena.specs.declared.arena.Node.{Node};
 ghost use Rattle.plan_arena.specs.declared.expr_ir.ExprIR.{ExprIR};
 ghost use Rattle.plan_arena.specs.declared.expr_ir.ExprIRs.{ExprIRs};
@@ -38,7 +38,7 @@ pub fn layers_of_items()
         ∷ (BinaryExpr (node_at 4) Plus (node_at 2), layer (BinaryOp Plus) (4 ∷ 2 ∷ []))
         ∷ (Literal (Int (neg_ℤ (pos 5))), layer (LiteralOp (Untyped (neg_ℤ (pos 5))) (IntValue (neg_ℤ (pos 5)))) [])
         ∷ (Literal (Int8 (neg_ℤ (pos 128))), layer (LiteralOp int8 (IntValue (neg_ℤ (pos 128)))) [])
-        ∷ (Literal (UInt64 18446744073709551615), layer (LiteralOp (Integer false 64) (IntValue (pos 18446744073709551615))) []) ∷ []) }
+        ∷ (Literal (UInt64 18446744073709551615), layer (LiteralOp (Integer false 64) (IntValue (pos 18446744073709551615))) []) ∷ (Len, layer LenOp []) ∷ []) }
     ensures plans { (schema : Schema) → Gives plan_layer ((DataFrameScan (Some 2) schema, layer (scan_op (Some 2) (columns schema)) [])
         ∷ (DataFrameScan None schema, layer (scan_op None (columns schema)) []) ∷ (Filter (node_at 5) (a_at 3), layer (filter_op (named_at "a" 3)) (5 ∷ [])) ∷ []) }
     ensures select { (exprs : ExprIRs) (schema : Schema) (options : ProjectionOptions) →
@@ -52,7 +52,7 @@ pub fn layers_of_items()
 /// The name of an expression's column comes from its leftmost column, or from a literal there.
 pub fn names_of_outputs()
     ensures origins { Gives output_of ((a, ColumnLhs (codes "a")) ∷ (typed_literal int8 (pos 1), LiteralLhs (codes "literal")) ∷ (sum b a, ColumnLhs (codes "b"))
-        ∷ (sum (typed_literal int8 (pos 1)) a, LiteralLhs (codes "literal")) ∷ (cast_as NonStrict int32 a, ColumnLhs (codes "a")) ∷ (column "literal", ColumnLhs (codes "literal")) ∷ []) }
+        ∷ (sum (typed_literal int8 (pos 1)) a, LiteralLhs (codes "literal")) ∷ (cast_as NonStrict int32 a, ColumnLhs (codes "a")) ∷ (column "literal", ColumnLhs (codes "literal")) ∷ (sum count a, LiteralLhs (codes "len")) ∷ []) }
     ensures kept { let expr : ExprIR = record { node = node_at 3; output_name = LiteralLhs (codes "literal") } in kept_output expr ≡ LiteralLhs (codes "literal") }
     ensures texts { Gives output_text ((LiteralLhs (codes "literal"), codes "literal") ∷ (ColumnLhs (codes "a"), codes "a") ∷ []) }
     ensures named { named_node (a_at 3) ≡ named_at "a" 3 }
