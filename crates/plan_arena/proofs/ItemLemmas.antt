@@ -71,10 +71,10 @@ expression_got items n item h = slice_get-map expression_layer items n ∙ ap (o
 named_one : (items : List AExpr) (ns : List (Named ℕ)) (es fs : List (Named Expression)) → DenoteNamed items ns es → DenoteNamed items ns fs → es ≡ fs
 named_one items [] [] [] d e = refl
 named_one items (n ∷ ns) (x ∷ xs) (y ∷ ys) d e =
-    let name = sym d.0 ∙ e.0 in
+    let label = sym d.0 ∙ e.0 in
     let tree = denotes_one _ (HoldsExpression items) (expression_laws items) n.expression x.expression y.expression d.1 e.1 in
     let rest = named_one items ns xs ys d.2 e.2 in
-    λ i. record { name = name i; expression = tree i } ∷ rest i
+    λ i. record { label = label i; expression = tree i } ∷ rest i
 named_one items [] (x ∷ xs) fs d e = absurd d
 named_one items [] [] (y ∷ ys) d e = absurd e
 named_one items (n ∷ ns) [] fs d e = absurd d
@@ -84,14 +84,14 @@ list_one : {A : Type 0} (x y : A) → x ∷ [] ≡ y ∷ [] → x ≡ y
 list_one x y e = cc
 
 -- a kind over nodes is that of one kind over expressions
-kind_one : (items : List AExpr) (flat : PlanKind ℕ) (a b : PlanKind Expression) → DenotesKind items flat a → DenotesKind items flat b → a ≡ b
+kind_one : (items : List AExpr) (flat : PlanKind (Named ℕ)) (a b : PlanKind (Named Expression)) → DenotesKind items flat a → DenotesKind items flat b → a ≡ b
 kind_one items (ScanKind table schema) a b d e = d ∙ sym e
 kind_one items (SelectKind nodes) a b d e = d.1 ∙ ap SelectKind (named_one items nodes d.0 e.0 d.2 e.2) ∙ sym e.1
 kind_one items (FilterKind n) a b d e =
     d.1 ∙ ap FilterKind (list_one d.0 e.0 (named_one items (n ∷ []) (d.0 ∷ []) (e.0 ∷ []) d.2 e.2)) ∙ sym e.1
 kind_one items (RefusedKind kinds) a b d e = absurd d
 
-op_one : (items : List AExpr) (flat : PlanOp ℕ) (a b : PlanOp Expression) → DenotesOp items flat a → DenotesOp items flat b → a ≡ b
+op_one : (items : List AExpr) (flat : PlanOp (Named ℕ)) (a b : PlanOp (Named Expression)) → DenotesOp items flat a → DenotesOp items flat b → a ≡ b
 op_one items flat a b d e =
     let kind = kind_one items flat.kind a.kind b.kind d.kind e.kind in
     let recorded = sym d.same_recorded ∙ e.same_recorded in
@@ -116,7 +116,7 @@ named_kept items items' keeps [] (e ∷ es) d = absurd d
 named_kept items items' keeps (n ∷ ns) [] d = absurd d
 
 -- and so does a kind over nodes
-kind_kept : (items items' : List AExpr) → ((n : ℕ) (op : Op) (inputs : List ℕ) → HoldsExpression items n op inputs → HoldsExpression items' n op inputs) → (flat : PlanKind ℕ) (kind : PlanKind Expression) → DenotesKind items flat kind → DenotesKind items' flat kind
+kind_kept : (items items' : List AExpr) → ((n : ℕ) (op : Op) (inputs : List ℕ) → HoldsExpression items n op inputs → HoldsExpression items' n op inputs) → (flat : PlanKind (Named ℕ)) (kind : PlanKind (Named Expression)) → DenotesKind items flat kind → DenotesKind items' flat kind
 kind_kept items items' keeps (ScanKind table schema) kind d = d
 kind_kept items items' keeps (SelectKind nodes) kind d = (d.0, d.1, named_kept items items' keeps nodes d.0 d.2)
 kind_kept items items' keeps (FilterKind n) kind d = (d.0, d.1, named_kept items items' keeps (n ∷ []) (d.0 ∷ []) d.2)
@@ -132,14 +132,14 @@ pub plan_got : (plans : List IR) (n : ℕ) (item : IR) → slice_get plans n ≡
 plan_got plans n item h = slice_get-map plan_layer plans n ∙ ap (option_map plan_layer) h
 
 -- a plan item stays where the arena grows
-pub plan_stays : (plans grown : List IR) → Grows plans grown → (n : ℕ) (l : Layer (PlanOp ℕ)) → slice_get (map plan_layer plans) n ≡ Some l → slice_get (map plan_layer grown) n ≡ Some l
+pub plan_stays : (plans grown : List IR) → Grows plans grown → (n : ℕ) (l : Layer (PlanOp (Named ℕ))) → slice_get (map plan_layer plans) n ≡ Some l → slice_get (map plan_layer grown) n ≡ Some l
 plan_stays plans grown g n l h =
     ap (λ (xs : List IR). slice_get (map plan_layer xs) n) g.longer
-    ∙ ap (λ (ls : List (Layer (PlanOp ℕ))). slice_get ls n) (map-append plan_layer plans g.added)
+    ∙ ap (λ (ls : List (Layer (PlanOp (Named ℕ)))). slice_get ls n) (map-append plan_layer plans g.added)
     ∙ slice_get-append (map plan_layer plans) (map plan_layer g.added) n l h
 
 -- what the plans' arena holds it holds where its items and those of the expressions stay
-pub plan_kept : (items items' : List AExpr) (plans grown : List IR) → ((n : ℕ) (op : Op) (inputs : List ℕ) → HoldsExpression items n op inputs → HoldsExpression items' n op inputs) → Grows plans grown → (n : ℕ) (op : PlanOp Expression) (inputs : List ℕ) → HoldsPlan items plans n op inputs → HoldsPlan items' grown n op inputs
+pub plan_kept : (items items' : List AExpr) (plans grown : List IR) → ((n : ℕ) (op : Op) (inputs : List ℕ) → HoldsExpression items n op inputs → HoldsExpression items' n op inputs) → Grows plans grown → (n : ℕ) (op : PlanOp (Named Expression)) (inputs : List ℕ) → HoldsPlan items plans n op inputs → HoldsPlan items' grown n op inputs
 plan_kept items items' plans grown keeps g n op inputs h = record {
   flat = h.flat;
   item = plan_stays plans grown g n (layer h.flat inputs) h.item;
@@ -169,7 +169,7 @@ unbroken_is : (kinds : List ErrorKind) (schema : Option Columns) → IsTrue (is_
 unbroken_is [] schema h = refl
 unbroken_is (kind ∷ kinds) schema h = absurd cc
 
-abbrev filter_by : Named Expression → Option Columns → PlanOp Expression
+abbrev filter_by : Named Expression → Option Columns → PlanOp (Named Expression)
 filter_by predicate recorded = record { kind = FilterKind predicate; recorded = recorded }
 
 filtered_schema : (registry : Registry) (predicate : Named Expression) (recorded : Option Columns) (schema : Option Columns) → IsTrue (is_some (plan_rule registry (filter_by predicate recorded) (schema ∷ []))) → plan_rule registry (filter_by predicate recorded) (schema ∷ []) ≡ schema
@@ -178,23 +178,23 @@ filtered_schema registry predicate recorded (Some schema) h =
     unbroken_is (broken_kinds registry (filter_by predicate recorded) (Some schema ∷ [])) (Some schema) h
 
 -- a filter that has a schema has that of its input
-filter_keeps : (registry : Registry) (op : PlanOp Expression) (predicate : Named Expression) → op.kind ≡ FilterKind predicate → (schema : Option Columns) → IsTrue (is_some (plan_rule registry op (schema ∷ []))) → plan_rule registry op (schema ∷ []) ≡ schema
+filter_keeps : (registry : Registry) (op : PlanOp (Named Expression)) (predicate : Named Expression) → op.kind ≡ FilterKind predicate → (schema : Option Columns) → IsTrue (is_some (plan_rule registry op (schema ∷ []))) → plan_rule registry op (schema ∷ []) ≡ schema
 filter_keeps registry op predicate kind schema h =
     let rule : plan_rule registry op (schema ∷ []) ≡ plan_rule registry (filter_by predicate op.recorded) (schema ∷ []) =
-    ap (λ (k : PlanKind Expression). plan_rule registry (record { kind = k; recorded = op.recorded }) (schema ∷ [])) kind in
+    ap (λ (k : PlanKind (Named Expression)). plan_rule registry (record { kind = k; recorded = op.recorded }) (schema ∷ [])) kind in
     rule ∙ filtered_schema registry predicate op.recorded schema (subst (λ o. IsTrue (is_some o)) rule h)
 
 module _ (expressions : List AExpr) (plans : List IR) where
   -- a node that denotes a plan, with the item that `get` answers
   module _ (n : ℕ) (item : IR) (got : slice_get plans n ≡ Some item) where
-    item_is : (op : PlanOp Expression) (inputs : List ℕ) (h : HoldsPlan expressions plans n op inputs) → plan_layer item ≡ layer h.flat inputs
+    item_is : (op : PlanOp (Named Expression)) (inputs : List ℕ) (h : HoldsPlan expressions plans n op inputs) → plan_layer item ≡ layer h.flat inputs
     item_is op inputs h = some_same (slice_get (map plan_layer plans) n) _ _ (plan_got plans n item got) h.item
 
     -- the item denotes what the node denotes
     pub item_denotes : (t : Plan) → Denotes (HoldsPlan expressions plans) n t → DenotesItem expressions plans item t
     item_denotes (node op ts) d = (d.0, record { flat = d.1.flat; is = item_is op d.0 d.1; denotes = d.1.denotes }, d.2)
 
-    each_denotes : (ns : List ℕ) (ts : Trees (PlanOp Expression)) → DenoteAll (HoldsPlan expressions plans) ns ts → AllByRecursion (DenotesTree (HoldsPlan expressions plans)) ns
+    each_denotes : (ns : List ℕ) (ts : Trees (PlanOp (Named Expression))) → DenoteAll (HoldsPlan expressions plans) ns ts → AllByRecursion (DenotesTree (HoldsPlan expressions plans)) ns
     each_denotes [] ts d = tt
     each_denotes (m ∷ ms) (more t ts) d = (record { tree = t; denotes = d.0 }, each_denotes ms ts d.1)
     each_denotes (m ∷ ms) no_more d = absurd d
@@ -219,19 +219,19 @@ module _ (expressions : List AExpr) (plans : List IR) where
     depth_of_item d = depth_of_plan d.tree d.denotes
 
   -- an item that denotes a plan, by what it does
-  module _ (item : IR) (flat : PlanOp ℕ) (inputs : List ℕ) (is : plan_layer item ≡ layer flat inputs) where
-    op_of_item : (op : PlanOp Expression) (ts : Trees (PlanOp Expression)) (d : DenotesItem expressions plans item (node op ts)) → d.1.flat ≡ flat
+  module _ (item : IR) (flat : PlanOp (Named ℕ)) (inputs : List ℕ) (is : plan_layer item ≡ layer flat inputs) where
+    op_of_item : (op : PlanOp (Named Expression)) (ts : Trees (PlanOp (Named Expression))) (d : DenotesItem expressions plans item (node op ts)) → d.1.flat ≡ flat
     op_of_item op ts d = layer_op d.1.flat flat d.0 inputs (sym d.1.is ∙ is)
 
     -- the schema that an item records is its plan's by the rules
     pub item_recorded : (registry : Registry) (schema : Columns) → flat.recorded ≡ Some schema → (t : Plan) → DenotesItem expressions plans item t → IsAccepted registry t → schema_of registry t ≡ Some schema
     item_recorded registry schema recorded (node op ts) d accepted =
-        let same = sym d.1.denotes.same_recorded ∙ ap (λ (f : PlanOp ℕ). f.recorded) (op_of_item op ts d) ∙ recorded in
+        let same = sym d.1.denotes.same_recorded ∙ ap (λ (f : PlanOp (Named ℕ)). f.recorded) (op_of_item op ts d) ∙ recorded in
         subst (λ r. HasRecorded r (schema_of registry (node op ts))) same accepted.0
 
   -- a filter's item, whose input is known
   module _ (item : IR) (predicate : Named ℕ) (n : ℕ) (is : plan_layer item ≡ layer (filter_op predicate) (n ∷ [])) where
-    filter_children : (registry : Registry) (op : PlanOp Expression) (e : Named Expression) → op.kind ≡ FilterKind e → (ts : Trees (PlanOp Expression)) → DenoteAll (HoldsPlan expressions plans) (n ∷ []) ts → IsTrue (is_some (schema_of registry (node op ts))) → AllAccepted registry ts → (t : Plan) × Denotes (HoldsPlan expressions plans) n t × IsAccepted registry t × (schema_of registry (node op ts) ≡ schema_of registry t)
+    filter_children : (registry : Registry) (op : PlanOp (Named Expression)) (e : Named Expression) → op.kind ≡ FilterKind e → (ts : Trees (PlanOp (Named Expression))) → DenoteAll (HoldsPlan expressions plans) (n ∷ []) ts → IsTrue (is_some (schema_of registry (node op ts))) → AllAccepted registry ts → (t : Plan) × Denotes (HoldsPlan expressions plans) n t × IsAccepted registry t × (schema_of registry (node op ts) ≡ schema_of registry t)
     filter_children registry op e kind (more t no_more) d there accepted = (t, d.0, accepted.0, filter_keeps registry op e kind (schema_of registry t) there)
     filter_children registry op e kind no_more d there accepted = absurd d
     filter_children registry op e kind (more t (more u ts)) d there accepted = absurd d.1
@@ -241,13 +241,13 @@ module _ (expressions : List AExpr) (plans : List IR) where
     filter_item registry (node op ts) d accepted =
         let flats = op_of_item item (filter_op predicate) (n ∷ []) is op ts d in
         let inputs = layer_inputs d.1.flat (filter_op predicate) d.0 (n ∷ []) (sym d.1.is ∙ is) in
-        let kind = subst (λ (f : PlanOp ℕ). DenotesKind expressions f.kind op.kind) flats d.1.denotes.kind in
-        let none = sym d.1.denotes.same_recorded ∙ ap (λ (f : PlanOp ℕ). f.recorded) flats in
+        let kind = subst (λ (f : PlanOp (Named ℕ)). DenotesKind expressions f.kind op.kind) flats d.1.denotes.kind in
+        let none = sym d.1.denotes.same_recorded ∙ ap (λ (f : PlanOp (Named ℕ)). f.recorded) flats in
         let there = subst (λ r. HasRecorded r (schema_of registry (node op ts))) none accepted.0 in
         filter_children registry op kind.0 kind.1 ts (subst (λ ns. DenoteAll (HoldsPlan expressions plans) ns ts) inputs d.2) there accepted.1
 
 -- what an item with one input stands over, and how much further down the item leads
-module _ (plans : List IR) (item : IR) (flat : PlanOp ℕ) (n : ℕ) (is : plan_layer item ≡ layer flat (n ∷ [])) (h : HasInputs plans item) where
+module _ (plans : List IR) (item : IR) (flat : PlanOp (Named ℕ)) (n : ℕ) (is : plan_layer item ≡ layer flat (n ∷ [])) (h : HasInputs plans item) where
   pub only_input : DenotesTree (HoldsPlan h.expressions plans) n
   only_input = (subst (AllByRecursion (DenotesTree (HoldsPlan h.expressions plans))) (ap inputs_of is) h.each).0
 

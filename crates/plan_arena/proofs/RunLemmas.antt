@@ -22,7 +22,7 @@ use Rattle.plan_dsl.proofs.RunLemmas.{strict_is_meaning}
 use Rattle.plan_arena.specs.Runs.{own_schema, HasRecorded, IsAccepted, AllAccepted, AreStrictOver, AreStrict, IsStrictPlan, AllStrictPlans, by_running, plan_run, RunsSoundly, AllRunSoundly}
 
 abbrev evaluated_as : Registry → Columns → Named Expression → Meaning → Evaluated
-evaluated_as registry schema output gives = record { name = output.name; typing = typing registry schema output.expression; gives = gives }
+evaluated_as registry schema output gives = record { name = output.label.name; typing = typing registry schema output.expression; gives = gives }
 
 module _ (registry : Registry) where
   -- strict expressions give what they mean
@@ -31,7 +31,7 @@ module _ (registry : Registry) where
   strict_agree schema (output ∷ outputs) strict rows =
       let frame : Frame = record { schema = schema; rows = rows } in
       ap (λ gives. evaluated_as registry schema output gives ∷ map (by_running registry frame) outputs) (strict_is_meaning registry frame output.expression strict.0)
-      ∙ ap (λ tree. record { name = output.name; typing = typing registry schema tree; gives = meaning registry frame tree } ∷ map (by_running registry frame) outputs) (sym (strict_settled registry schema output.expression strict.0))
+      ∙ ap (λ tree. record { name = output.label.name; typing = typing registry schema tree; gives = meaning registry frame tree } ∷ map (by_running registry frame) outputs) (sym (strict_settled registry schema output.expression strict.0))
       ∙ ap (λ rest. by_meaning registry frame output ∷ rest) (strict_agree schema outputs strict.1 rows)
 
   -- the only outcome is that of an input with a schema
@@ -51,7 +51,7 @@ module _ (registry : Registry) where
       filtered_agrees (by_running registry) (by_meaning registry) predicate predicate schema o (strict_agree schema (predicate ∷ []) strict) meets
 
   -- a strict node gives what it means
-  strict_node : (tables : List Frame) (kind : PlanKind Expression) (schemas : List (Option Columns)) (outcomes : List (Outcome Frame)) → AreStrict registry schemas (expressions_of kind) → AllMeet schemas outcomes → frame_by kind tables (by_running registry) outcomes ≡ frame_by kind tables (by_meaning registry) outcomes
+  strict_node : (tables : List Frame) (kind : PlanKind (Named Expression)) (schemas : List (Option Columns)) (outcomes : List (Outcome Frame)) → AreStrict registry schemas (expressions_of kind) → AllMeet schemas outcomes → frame_by kind tables (by_running registry) outcomes ≡ frame_by kind tables (by_meaning registry) outcomes
   strict_node tables (ScanKind table schema) schemas [] strict meet = refl
   strict_node tables (SelectKind outputs) schemas (o ∷ []) strict meet =
       let under = only_input schemas o meet in
@@ -90,7 +90,7 @@ module _ (registry : Registry) where
         let run = subst (Meets (IsFrameOf own.0)) (sym (strict_node tables op.kind schemas runs strict.0 below.1)) meets in
         (subst (λ s. MeetsWhere s (plan_run registry tables (node op inputs))) (sym (own_is op.recorded _ accepted.0 ∙ own.1)) run, below.0)
 
-    all_run_soundly : (tables : List Frame) (inputs : Trees (PlanOp Expression)) → AllAccepted registry inputs → AllStrictPlans registry inputs → HasTables tables (scans_below inputs) → AllRunSoundly registry tables inputs × AllMeet (schemas_of registry inputs) (fold_all (plan_kernel tables (by_running registry)) inputs)
+    all_run_soundly : (tables : List Frame) (inputs : Trees (PlanOp (Named Expression))) → AllAccepted registry inputs → AllStrictPlans registry inputs → HasTables tables (scans_below inputs) → AllRunSoundly registry tables inputs × AllMeet (schemas_of registry inputs) (fold_all (plan_kernel tables (by_running registry)) inputs)
     all_run_soundly tables no_more accepted strict fits = (tt, tt)
     all_run_soundly tables (more plan rest) accepted strict fits =
         let head = runs_soundly tables plan accepted.0 strict.0 (front_tables tables (scans_in plan) (scans_below rest) fits) in

@@ -3,16 +3,17 @@
 use Rattle.std.specs.Prelude.{◌≡◌, ◌≤◌, ℕ, List, [], ◌∷◌, ◌++◌, map, set, Some, slice_get, codes}
 use Rattle.std.specs.List.{AllByRecursion}
 use Rattle.plan_types.specs.Types.{ty}
-use Rattle.plan_types.specs.Schemas.{Name, columns}
-use Rattle.plan_dsl.specs.Ops.{Op, ColumnOp, BinaryOp, CastOp, LenOp, Expression}
+use Rattle.plan_types.specs.Schemas.{columns}
+use Rattle.plan_dsl.specs.Ops.{Op, ColumnOp, BinaryOp, CastOp, LenOp, SliceOp, Expression}
 use Rattle.plan_dsl.specs.Literals.{literal_op}
+use Rattle.plan_dsl.specs.Names.{Label, column_label, literal_label}
 use Rattle.plan_dsl.specs.Plans.{PlanKind, ScanKind, SelectKind, FilterKind, RefusedKind, PlanOp, Plan, Named, scan_op, select_op, filter_op}
 use Rattle.plan_arena.specs.Denotation.{Denotes, DenoteAll, DenotesTree}
 use Rattle.plan_arena.specs.Layers.{Layer, layer, op_of, inputs_of}
 use Rattle.plan_dsl.specs.Trees.{node}
 use Rattle.plan_arena.specs.declared.arena.Node.{Node}
 use Rattle.plan_arena.specs.declared.aexpr.AExpr.{AExpr}
-use Rattle.plan_arena.specs.declared.aexpr.AExpr.TheVariants.{Column, Literal, BinaryExpr, Cast, Len}
+use Rattle.plan_arena.specs.declared.aexpr.AExpr.TheVariants.{Column, Literal, BinaryExpr, Cast, Len, Slice}
 use Rattle.plan_arena.specs.declared.expr_ir.OutputName.{OutputName}
 use Rattle.plan_arena.specs.declared.expr_ir.OutputName.TheVariants.{ColumnLhs, LiteralLhs}
 use Rattle.plan_arena.specs.declared.expr_ir.ExprIR.{ExprIR}
@@ -27,21 +28,23 @@ expression_layer (Literal value) = layer (literal_op value) []
 expression_layer (BinaryExpr left operator right) = layer (BinaryOp operator) (left.0 ∷ right.0 ∷ [])
 expression_layer (Cast expr dtype options) = layer (CastOp (ty dtype) options) (expr.0 ∷ [])
 expression_layer Len = layer LenOp []
+expression_layer (Slice input offset length) = layer SliceOp (input.0 ∷ offset.0 ∷ length.0 ∷ [])
 
-abbrev pub output_text : OutputName → Name
-output_text (ColumnLhs name) = name
-output_text (LiteralLhs name) = name
+-- the name of an output, with what it comes from
+abbrev pub output_label : OutputName → Label
+output_label (ColumnLhs name) = column_label name
+output_label (LiteralLhs name) = literal_label name
 
 -- the numbers of nodes
 abbrev pub numbers : List Node → List ℕ
 numbers nodes = map (λ n. n.0) nodes
 
--- a node with the name of its column
+-- a node with the name of its column, and what that comes from
 abbrev pub named_node : ExprIR → Named ℕ
-named_node expr = record { name = output_text expr.output_name; expression = expr.node.0 }
+named_node expr = record { label = output_label expr.output_name; expression = expr.node.0 }
 
 -- a plan's item
-abbrev pub plan_layer : IR → Layer (PlanOp ℕ)
+abbrev pub plan_layer : IR → Layer (PlanOp (Named ℕ))
 plan_layer (DataFrameScan table schema) = layer (scan_op table (columns schema)) []
 plan_layer (Select expr input schema options) = layer (select_op (map named_node expr.items.items) (Some (columns schema))) (input.0 ∷ [])
 plan_layer (Filter input predicate) = layer (filter_op (named_node predicate)) (input.0 ∷ [])
@@ -64,15 +67,15 @@ HoldsExpression expressions n op inputs = slice_get (map expression_layer expres
 abbrev pub HoldsFrom : ℕ → List AExpr → ℕ → Op → List ℕ → Type 0
 HoldsFrom first expressions n op inputs = (first ≤ n) × HoldsExpression expressions n op inputs
 
--- the nodes have the names, and denote the expressions
+-- the nodes have the names, from the same, and denote the expressions
 abbrev pub DenoteNamed : List AExpr → List (Named ℕ) → List (Named Expression) → Type 0
 DenoteNamed expressions [] [] = Unit {0}
-DenoteNamed expressions (n ∷ ns) (e ∷ es) = (n.name ≡ e.name) × Denotes (HoldsExpression expressions) n.expression e.expression × DenoteNamed expressions ns es
+DenoteNamed expressions (n ∷ ns) (e ∷ es) = (n.label ≡ e.label) × Denotes (HoldsExpression expressions) n.expression e.expression × DenoteNamed expressions ns es
 DenoteNamed expressions [] (e ∷ es) = ⊥
 DenoteNamed expressions (n ∷ ns) [] = ⊥
 
 -- a kind over nodes is a kind over expressions. No item of the arena is refused
-abbrev pub DenotesKind : List AExpr → PlanKind ℕ → PlanKind Expression → Type 0
+abbrev pub DenotesKind : List AExpr → PlanKind (Named ℕ) → PlanKind (Named Expression) → Type 0
 DenotesKind expressions (ScanKind table schema) kind = kind ≡ ScanKind table schema
 DenotesKind expressions (SelectKind nodes) kind =
     (outputs : List (Named Expression)) × (kind ≡ SelectKind outputs) × DenoteNamed expressions nodes outputs
@@ -81,19 +84,19 @@ DenotesKind expressions (FilterKind flat) kind =
 DenotesKind expressions (RefusedKind kinds) kind = ⊥
 
 -- an op over nodes is an op over expressions
-pub record DenotesOp (expressions : List AExpr) (flat : PlanOp ℕ) (op : PlanOp Expression) : Type 0 where
+pub record DenotesOp (expressions : List AExpr) (flat : PlanOp (Named ℕ)) (op : PlanOp (Named Expression)) : Type 0 where
   pub same_recorded : flat.recorded ≡ op.recorded
   pub kind : DenotesKind expressions flat.kind op.kind
 
 -- the plan's item at the node does this, over these inputs
-pub record HoldsPlan (expressions : List AExpr) (plans : List IR) (n : ℕ) (op : PlanOp Expression) (inputs : List ℕ) : Type 0 where
-  pub flat : PlanOp ℕ
+pub record HoldsPlan (expressions : List AExpr) (plans : List IR) (n : ℕ) (op : PlanOp (Named Expression)) (inputs : List ℕ) : Type 0 where
+  pub flat : PlanOp (Named ℕ)
   pub item : slice_get (map plan_layer plans) n ≡ Some (layer flat inputs)
   pub denotes : DenotesOp expressions flat op
 
 -- an item does this, over these inputs
-pub record IsPlanItem (expressions : List AExpr) (item : IR) (op : PlanOp Expression) (inputs : List ℕ) : Type 0 where
-  pub flat : PlanOp ℕ
+pub record IsPlanItem (expressions : List AExpr) (item : IR) (op : PlanOp (Named Expression)) (inputs : List ℕ) : Type 0 where
+  pub flat : PlanOp (Named ℕ)
   pub is : plan_layer item ≡ layer flat inputs
   pub denotes : DenotesOp expressions flat op
 

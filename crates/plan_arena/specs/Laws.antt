@@ -2,7 +2,6 @@
 use Rattle.std.specs.Prelude.{◌≡◌, ℕ, List}
 use Rattle.plan_types.specs.Frames.{Frame}
 use Rattle.plan_dsl.specs.Registry.{Registry}
-use Rattle.plan_dsl.specs.Names.{name_of}
 use Rattle.plan_dsl.specs.Ops.{Expression}
 use Rattle.plan_dsl.specs.Plans.{Plan}
 use Rattle.plan_dsl.specs.PlanMeaning.{FitsPlan}
@@ -10,8 +9,7 @@ use Rattle.plan_arena.specs.declared.aexpr.AExpr.{AExpr}
 use Rattle.plan_arena.specs.declared.ir.IR.{IR}
 use Rattle.plan_arena.specs.declared.plan.IRPlan.{IRPlan}
 use Rattle.plan_arena.specs.Denotation.{Denotes}
-use Rattle.plan_arena.specs.Items.{HoldsExpression, HoldsPlan, Grows, DenotesPlan, output_text}
-use Rattle.plan_arena.specs.OutputNames.{output_of}
+use Rattle.plan_arena.specs.Items.{HoldsExpression, HoldsPlan, Grows, DenotesPlan}
 use Rattle.plan_arena.specs.Runs.{IsAccepted, IsStrictPlan, RunsSoundly}
 
 -- an accepted and strict plan is nowhere stuck on fitting tables, and each frame has its node's own schema
@@ -29,7 +27,3 @@ ExpressionsStay = (old new : List AExpr) → Grows old new → (n : ℕ) (tree :
 -- arenas that grow keep the plan of each node
 abbrev pub PlansStay : Type 0
 PlansStay = (old new : List AExpr) (before after : List IR) → Grows old new → Grows before after → (n : ℕ) (plan : Plan) → Denotes (HoldsPlan old before) n plan → Denotes (HoldsPlan new after) n plan
-
--- the name that comes from the leftmost column or literal is the expression's
-abbrev pub OutputsAreNames : Type 0
-OutputsAreNames = (tree : Expression) → output_text (output_of tree) ≡ name_of tree

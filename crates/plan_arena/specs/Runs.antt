@@ -1,6 +1,6 @@
--- Lowered plans: which are accepted and strict, and how they run on tables.
+-- Lowered plans: which are accepted, strict and named, and how they run on tables.
 -- A plan is accepted where each of its nodes has a schema by the rules, which is the one that it records where
--- it records one, and strict where each of its expressions is. It runs by what its expressions give as they are
+-- it records one, strict where each of its expressions is, and named where each has its own name. It runs by what its expressions give as they are
 -- written.
 use Rattle.std.specs.Prelude.{◌≡◌, List, Option, Some, None, is_some, IsTrue}
 use Rattle.std.specs.List.{AllByRecursion}
@@ -10,6 +10,7 @@ use Rattle.plan_types.specs.Frames.{Frame}
 use Rattle.plan_dsl.specs.Registry.{Registry}
 use Rattle.plan_dsl.specs.Trees.{Trees, node, no_more, more, fold}
 use Rattle.plan_dsl.specs.Ops.{Expression}
+use Rattle.plan_dsl.specs.Names.{label_of}
 use Rattle.plan_dsl.specs.Plans.{Named, OverInput, PlanOp, Plan, expressions_of}
 use Rattle.plan_dsl.specs.PlanRules.{input_schema, schema_of, schemas_of}
 use Rattle.plan_dsl.specs.PlanMeaning.{MeetsWhere}
@@ -33,7 +34,7 @@ abbrev mutual
   pub IsAccepted : Registry → Plan → Type 0
   IsAccepted registry (node op inputs) = HasRecorded op.recorded (schema_of registry (node op inputs)) × AllAccepted registry inputs
 
-  pub AllAccepted : Registry → Trees (PlanOp Expression) → Type 0
+  pub AllAccepted : Registry → Trees (PlanOp (Named Expression)) → Type 0
   AllAccepted registry no_more = Unit {0}
   AllAccepted registry (more plan rest) = IsAccepted registry plan × AllAccepted registry rest
 
@@ -43,7 +44,7 @@ AreStrictOver registry None outputs = ⊥
 AreStrictOver registry (Some schema) outputs = AllByRecursion (λ output. IsStrict registry schema output.expression) outputs
 
 -- the expressions of a node are strict, by the schemas of its inputs
-abbrev pub AreStrict : Registry → List (Option Columns) → List (OverInput Expression) → Type 0
+abbrev pub AreStrict : Registry → List (Option Columns) → List (OverInput (Named Expression)) → Type 0
 AreStrict registry inputs es = AllByRecursion (λ e. AreStrictOver registry (input_schema inputs e.input) e.outputs) es
 
 abbrev mutual
@@ -52,14 +53,31 @@ abbrev mutual
   IsStrictPlan registry (node op inputs) =
       AreStrict registry (schemas_of registry inputs) (expressions_of op.kind) × AllStrictPlans registry inputs
 
-  pub AllStrictPlans : Registry → Trees (PlanOp Expression) → Type 0
+  pub AllStrictPlans : Registry → Trees (PlanOp (Named Expression)) → Type 0
   AllStrictPlans registry no_more = Unit {0}
   AllStrictPlans registry (more plan rest) = IsStrictPlan registry plan × AllStrictPlans registry rest
+
+-- an expression is under the name that the rules give it, from what they say
+abbrev pub HasOwnName : Named Expression → Type 0
+HasOwnName output = output.label ≡ label_of output.expression
+
+-- the expressions of a node are
+abbrev pub HaveOwnNames : List (OverInput (Named Expression)) → Type 0
+HaveOwnNames es = AllByRecursion (λ e. AllByRecursion HasOwnName e.outputs) es
+
+abbrev mutual
+  -- each node's expressions are
+  pub IsNamedPlan : Plan → Type 0
+  IsNamedPlan (node op inputs) = HaveOwnNames (expressions_of op.kind) × AllNamedPlans inputs
+
+  pub AllNamedPlans : Trees (PlanOp (Named Expression)) → Type 0
+  AllNamedPlans no_more = Unit {0}
+  AllNamedPlans (more plan rest) = IsNamedPlan plan × AllNamedPlans rest
 
 -- evaluation of expressions as they are written
 abbrev pub by_running : Registry → Evaluation
 by_running registry frame output =
-    record { name = output.name; typing = typing registry frame.schema output.expression; gives = strict_run registry frame output.expression }
+    record { name = output.label.name; typing = typing registry frame.schema output.expression; gives = strict_run registry frame output.expression }
 
 -- what a plan gives on tables: a frame, a data fault, or it is stuck
 abbrev pub plan_run : Registry → List Frame → Plan → Outcome Frame
@@ -71,6 +89,6 @@ abbrev mutual
   RunsSoundly registry tables (node op inputs) =
       MeetsWhere (own_schema op.recorded (schema_of registry (node op inputs))) (plan_run registry tables (node op inputs)) × AllRunSoundly registry tables inputs
 
-  pub AllRunSoundly : Registry → List Frame → Trees (PlanOp Expression) → Type 0
+  pub AllRunSoundly : Registry → List Frame → Trees (PlanOp (Named Expression)) → Type 0
   AllRunSoundly registry tables no_more = Unit {0}
   AllRunSoundly registry tables (more plan rest) = RunsSoundly registry tables plan × AllRunSoundly registry tables rest

@@ -8,6 +8,7 @@ use Rattle.plan_types.specs.declared.dtype.CastOptions.TheVariants.{Strict, NonS
 use Rattle.plan_types.specs.declared.dtype.DataType.TheVariants.{Int32}
 use Rattle.plan_dsl.specs.declared.operator.Operator.TheVariants.{Plus}
 use Rattle.plan_dsl.specs.Trees.{node, no_more, more}
+use Rattle.plan_dsl.specs.Names.{column_label, literal_label}
 use Rattle.plan_dsl.specs.Ops.{Expression}
 use Rattle.plan_dsl.specs.Plans.{Named, Plan, named, select_op}
 use Rattle.plan_dsl.specs.Samples.{int8, int32, number, null, yes, no, a, b, sum, cast_as, frame_with, scan, empty_scan, schema_ab, schema_flagged}
@@ -20,12 +21,15 @@ use Rattle.plan_arena.specs.declared.expr_ir.OutputName.TheVariants.{ColumnLhs}
 abbrev pub node_at : ℕ → Node
 node_at number = record { 0 = number }
 
--- a node with the name of its column, as the code keeps it and in a plan's op
+-- a node with the name of its column, as the code keeps it and in a plan's op, and one with that of a literal
 abbrev pub a_at : ℕ → ExprIR
 a_at number = record { node = node_at number; output_name = ColumnLhs (codes "a") }
 
 abbrev pub named_at : String → ℕ → Named ℕ
-named_at name number = record { name = codes name; expression = number }
+named_at name number = record { label = column_label (codes name); expression = number }
+
+abbrev pub literal_at : ℕ → Named ℕ
+literal_at number = record { label = literal_label (codes "literal"); expression = number }
 
 -- a in the type of b, and their sum with that cast: in an arena they are nodes 2 and 3
 abbrev pub wide_a : Expression

@@ -37,6 +37,12 @@ pub enum AExpr {
     },
     /// How many rows there are.
     Len,
+    /// So many values of a node from a place on.
+    Slice {
+        input: Node,
+        offset: Node,
+        length: Node,
+    },
 }
 
 impl AExpr {
@@ -48,16 +54,13 @@ impl AExpr {
     {
         match self {
             AExpr::Column(_) | AExpr::Literal(_) | AExpr::Len => Ok(()),
-            AExpr::BinaryExpr { left, right, .. } => {
-                nodes.reserve(2)?;
-                nodes.push_reserved(*right);
-                nodes.push_reserved(*left);
-                Ok(())
-            }
-            AExpr::Cast { expr, .. } => {
-                nodes.push(*expr)?;
-                Ok(())
-            }
+            AExpr::BinaryExpr { left, right, .. } => push_reversed(nodes, &[*left, *right]),
+            AExpr::Cast { expr, .. } => push_reversed(nodes, &[*expr]),
+            AExpr::Slice {
+                input,
+                offset,
+                length,
+            } => push_reversed(nodes, &[*input, *offset, *length]),
         }
     }
 
@@ -66,12 +69,9 @@ impl AExpr {
         ensures ok { IfOk result (λ nodes. numbers nodes.items ≡ inputs_of (expression_layer self.now)) }
         ensures err { IfErr result (λ error. error ≡ no_memory) }
     {
-        let mut reversed = SmallVec::new(alloc);
-        self.inputs_rev(&mut reversed)?;
-        let mut nodes = SmallVec::new(alloc);
-        while let Some(node) = reversed.pop() {
-            nodes.push(node)?;
-        }
+        let mut nodes: Nodes = SmallVec::new(alloc);
+        self.inputs_rev(&mut nodes)?;
+        nodes.as_mut_slice().reverse();
         Ok(nodes)
     }
 
@@ -101,6 +101,28 @@ impl AExpr {
             AExpr::Cast { expr, .. } => {
                 *expr = inputs[0];
             }
+            AExpr::Slice {
+                input,
+                offset,
+                length,
+            } => {
+                *input = inputs[0];
+                *offset = inputs[1];
+                *length = inputs[2];
+            }
         }
     }
+}
+
+// Appends a node's inputs in reverse, all or none.
+fn push_reversed(nodes: &mut Nodes, inputs: &[Node]) -> Result<(), PlanError>
+    ensures ok { OnOk result (numbers nodes.new.items ≡ numbers nodes.old.items ++ reverse (numbers inputs.now)) }
+    ensures unchanged { OnErr result (nodes.new.items ≡ nodes.old.items) }
+    ensures err { IfErr result (λ error. error ≡ no_memory) }
+{
+    nodes.reserve(inputs.len())?;
+    for node in inputs.iter().rev() {
+        nodes.push_reserved(*node);
+    }
+    Ok(())
 }

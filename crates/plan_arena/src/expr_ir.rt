@@ -1,7 +1,6 @@
 //! Expressions of a lowered plan: a node, and the name of its column.
 ghost use Rattle.std.specs.Prelude.{◌≡◌, IfOk, IfErr};
-ghost use Rattle.plan_arena.specs.Items.{named_node, output_text};
-ghost use Rattle.plan_arena.specs.OutputNames.{kept_output};
+ghost use Rattle.plan_arena.specs.Items.{named_node, output_label};
 ghost use Rattle.plan_types.specs.Errors.{no_memory};
 
 use crate::arena::Node;
@@ -21,7 +20,7 @@ pub enum OutputName {
 impl OutputName {
     /// The name.
     pub fn get(&self) -> &PlSmallStr
-        ensures { result.now ≡ output_text self.now }
+        ensures { result.now ≡ (output_label self.now).name }
     {
         match self {
             OutputName::ColumnLhs(name) | OutputName::LiteralLhs(name) => name,
@@ -38,8 +37,7 @@ pub struct ExprIR {
 
 impl ExprIR {
     pub fn new(node: Node, output_name: OutputName) -> ExprIR
-        ensures named { named_node result ≡ record { name = output_text output_name; expression = node.0 } }
-        ensures output { kept_output result ≡ output_name }
+        ensures { named_node result ≡ record { label = output_label output_name; expression = node.0 } }
     {
         ExprIR { node, output_name }
     }
@@ -51,7 +49,7 @@ impl ExprIR {
     }
 
     pub fn output_name(&self) -> &PlSmallStr
-        ensures { result.now ≡ (named_node self.now).name }
+        ensures { result.now ≡ (named_node self.now).label.name }
     {
         self.output_name.get()
     }

@@ -1,5 +1,5 @@
 //! Laws of lowered plans. The functions do nothing: their clauses are the laws.
-ghost use Rattle.plan_arena.specs.Laws.{AcceptedRunsSoundly, DenotesOnePlan, ExpressionsStay, OutputsAreNames, PlansStay};
+ghost use Rattle.plan_arena.specs.Laws.{AcceptedRunsSoundly, DenotesOnePlan, ExpressionsStay, PlansStay};
 
 /// What is accepted and strict runs soundly, and a lowered plan is one plan.
 pub fn plan_laws()
@@ -11,9 +11,4 @@ pub fn plan_laws()
 pub fn growth_laws()
     ensures expressions { ExpressionsStay }
     ensures plans { PlansStay }
-{}
-
-/// The name that an expression's column has is the expression's.
-pub fn name_laws()
-    ensures { OutputsAreNames }
 {}

@@ -1,5 +1,6 @@
 -- Columns that kernels make of fitting columns.
-use Rattle.std.proofs.Common.{◌≡◌, ◌∙◌, ℕ, zero, suc, Bool, true, false, cond, List, [], ◌∷◌, length, replicate, Some, None, IsTrue, refl, subst, arith, ap}
+use Rattle.std.proofs.Common.{◌≡◌, ◌∙◌, ℕ, zero, suc, Bool, true, false, cond, List, [], ◌∷◌, length, replicate, take, drop, Some, None, IsTrue, refl, subst, arith, ap}
+use Rattle.std.specs.Prelude.{ℤ, ◌+ℤ◌}
 use Rattle.std.proofs.lemmas.Bool.{and_parts, and_from}
 use Rattle.plan_types.specs.Types.{Ty, Untyped, same_type}
 use Rattle.plan_types.specs.TypeLaws.{same_type_exact}
@@ -12,6 +13,7 @@ use Rattle.plan_types.proofs.ValueLemmas.{meets_then, meets_as, ConvertedFits, c
 use Rattle.plan_dsl.specs.declared.operator.Operator.{Operator}
 use Rattle.plan_dsl.specs.Operators.{operator_value}
 use Rattle.plan_dsl.specs.Literals.{is_literal_of}
+use Rattle.plan_dsl.specs.Slices.{slice_start, in_front_of, offset_of, sliced, slice_values}
 use Rattle.plan_dsl.specs.Typing.{Typed}
 use Rattle.plan_dsl.specs.Kernels.{cast_values, cast_column, common_length, stretched, at_each, at_length, operator_values, value_before}
 use Rattle.plan_dsl.specs.Strictness.{CanBecome}
@@ -36,6 +38,19 @@ of_one t P h (c ∷ cs) of = of_none (λ cs. P (c ∷ cs)) (h c of.0) cs of.1
 pub of_two : (t u : Typed) (P : List (List Val) → Type 0) → ((c d : List Val) → AreOf t c → AreOf u d → P (c ∷ d ∷ [])) → (columns : List (List Val)) → AreAllOf (t ∷ u ∷ []) columns → P columns
 of_two t u P h [] of = absurd of
 of_two t u P h (c ∷ cs) of = of_one u (λ cs. P (c ∷ cs)) (λ d fit. h c d of.0 fit) cs of.1
+
+pub of_three : (t u v : Typed) (P : List (List Val) → Type 0) → ((c d e : List Val) → AreOf t c → AreOf u d → AreOf v e → P (c ∷ d ∷ e ∷ [])) → (columns : List (List Val)) → AreAllOf (t ∷ u ∷ v ∷ []) columns → P columns
+of_three t u v P h [] of = absurd of
+of_three t u v P h (c ∷ cs) of = of_two u v (λ cs. P (c ∷ cs)) (λ d e fit. h c d e of.0 fit) cs of.1
+
+-- and what holds of one value holds of a column that has no more
+one_value : (P : List Val → Type 0) → ((value : Val) → P (value ∷ [])) → (values : List Val) → length values ≡ 1 → P values
+one_value P h [] one = absurd (omega arith)
+one_value P h (value ∷ []) one = h value
+one_value P h (value ∷ second ∷ rest) one = absurd (omega arith)
+
+pub of_one_value : (t : Typed) (P : List Val → Type 0) → t.many ≡ false → ((value : Val) → P (value ∷ [])) → (values : List Val) → AreOf t values → P values
+of_one_value t P single h values of = one_value P h values (of.single single)
 
 -- ---- casts
 
@@ -114,6 +129,33 @@ operator_values_fit operator l r type many left right each h k single =
         single = λ one. single_each f left right count e (single one).0 (single one).1;
       }
     ] refl
+
+-- ---- slices
+
+-- what is left of values that fit
+taken_fit : (count : ℕ) (values : List Val) (type : Ty) → IsTrue (all_fit values type) → IsTrue (all_fit (take count values) type)
+taken_fit zero values type h = refl
+taken_fit (suc count) [] type h = refl
+taken_fit (suc count) (value ∷ values) type h =
+    let parts = and_parts (fits value type) (all_fit values type) h in
+    and_from (fits value type) (all_fit (take count values) type) parts.0 (taken_fit count values type parts.1)
+
+dropped_fit : (count : ℕ) (values : List Val) (type : Ty) → IsTrue (all_fit values type) → IsTrue (all_fit (drop count values) type)
+dropped_fit zero values type h = h
+dropped_fit (suc count) [] type h = refl
+dropped_fit (suc count) (value ∷ values) type h = dropped_fit count values type (and_parts (fits value type) (all_fit values type) h).1
+
+sliced_fits : (start : ℤ) (count : Val) (values : List Val) (type : Ty) → IsTrue (all_fit values type) → IsTrue (all_fit (sliced start count values) type)
+sliced_fits start (IntValue count) values type h =
+    dropped_fit (in_front_of start) (take (in_front_of (start +ℤ count)) values) type (taken_fit (in_front_of (start +ℤ count)) values type h)
+sliced_fits start _ values type h = dropped_fit (in_front_of start) values type h
+
+-- a slice by one offset and one length is there
+pub slice_values_fit : (type : Ty) (many : Bool) (counted : Ty) (starts sizes : Bool) → starts ≡ false → sizes ≡ false → (values offsets counts : List Val) → AreOf (record { type = type; many = many }) values → AreOf (record { type = counted; many = starts }) offsets → AreOf (record { type = counted; many = sizes }) counts → Meets (AreOf (record { type = type; many = true })) (slice_values values offsets counts)
+slice_values_fit type many counted starts sizes one_start one_size values offsets counts fit start size =
+    of_one_value (record { type = counted; many = starts }) (λ offsets. Meets (AreOf (record { type = type; many = true })) (slice_values values offsets counts)) one_start (λ offset.
+    of_one_value (record { type = counted; many = sizes }) (λ counts. Meets (AreOf (record { type = type; many = true })) (slice_values values (offset ∷ []) counts)) one_size (λ count.
+    record { fitting = sliced_fits (slice_start (offset_of offset) (length values)) count values type fit.fitting; single = λ one. cc }) counts size) offsets start
 
 -- ---- literals
 

@@ -1,6 +1,6 @@
 -- A plan's node over frames of the schemas of its inputs gives a frame of its own schema.
 use Rattle.std.proofs.Common.{◌≡◌, ℕ, zero, suc, List, [], ◌∷◌, ◌++◌, map, replicate, slice_get, Option, Some, None, Bool, true, false, ◌&&◌, ◌||◌, ◌==◌, length, cond, IsTrue, Result, Ok, Err, refl, sym, ap, ◌∙◌, subst}
-use Rattle.std.specs.List.{AllByRecursion}
+use Rattle.std.specs.List.{AllByRecursion, flat_map}
 use Rattle.plan_types.specs.Types.{Ty}
 use Rattle.plan_types.specs.Schemas.{Name, Columns, HasDistinctNames}
 use Rattle.plan_types.specs.Values.{Val, fits, all_fit}
@@ -11,7 +11,7 @@ use Rattle.plan_types.proofs.ValueLemmas.{meets_then}
 use Rattle.plan_dsl.specs.Registry.{Registry}
 use Rattle.plan_dsl.specs.Trees.{Trees, node, no_more, more, fold_all}
 use Rattle.plan_dsl.specs.Ops.{Expression}
-use Rattle.plan_dsl.specs.Plans.{Named, PlanKind, ScanKind, SelectKind, FilterKind, PlanOp, Plan, Scan, select_op, filter_op, own_scans, joined, scans_in}
+use Rattle.plan_dsl.specs.Plans.{Named, PlanKind, ScanKind, SelectKind, FilterKind, PlanOp, Plan, Scan, select_op, filter_op, own_scans, scans_in}
 use Rattle.plan_dsl.specs.Literals.{settled}
 use Rattle.plan_dsl.specs.Typing.{Typed, typing}
 use Rattle.plan_dsl.specs.Meaning.{meaning}
@@ -54,14 +54,14 @@ all_tables tables [] ys h k = k
 all_tables tables (x ∷ xs) ys h k = (h.0, all_tables tables xs ys h.1 k)
 
 -- the tables that plans side by side scan
-abbrev pub scans_below : Trees (PlanOp Expression) → List Scan
-scans_below inputs = joined (fold_all (λ op below. own_scans op.kind ++ joined below) inputs)
+abbrev pub scans_below : Trees (PlanOp (Named Expression)) → List Scan
+scans_below inputs = flat_map (λ scans. scans) (fold_all (λ op below. own_scans op.kind ++ flat_map (λ scans. scans) below) inputs)
 
 -- what a node over one input asks for that scans no table itself
-pub fits_input : (tables : List Frame) (op : PlanOp Expression) (input : Plan) → FitsPlan tables (node op (more input no_more)) → FitsPlan tables input
+pub fits_input : (tables : List Frame) (op : PlanOp (Named Expression)) (input : Plan) → FitsPlan tables (node op (more input no_more)) → FitsPlan tables input
 fits_input tables op input h = front_tables tables (scans_in input) [] (back_tables tables (own_scans op.kind) (scans_in input ++ []) h)
 
-pub fits_over : (tables : List Frame) (op : PlanOp Expression) (input : Plan) → own_scans op.kind ≡ [] → FitsPlan tables input → FitsPlan tables (node op (more input no_more))
+pub fits_over : (tables : List Frame) (op : PlanOp (Named Expression)) (input : Plan) → own_scans op.kind ≡ [] → FitsPlan tables input → FitsPlan tables (node op (more input no_more))
 fits_over tables op input none h = subst (λ scans. HasTables tables (scans ++ (scans_in input ++ []))) (sym none) (all_tables tables (scans_in input) [] h tt)
 
 both : (a b : Bool) → IsTrue a → IsTrue b → IsTrue (a && b)
@@ -212,7 +212,7 @@ module _ (registry : Registry) (frame : Frame) (is_frame : IsFrame frame) (rows 
       let later = columns_of registry frame.schema os in
       let gives = meaning registry frame (settled o.expression) rows in
       let rest = all_series rows (map (by_meaning registry frame) os) in
-      elim (typing registry frame.schema (settled o.expression)) as (λ t. typing registry frame.schema (settled o.expression) ≡ t → column_before o.name t later ≡ Some schema → Meets (AreSeriesOf schema) (then_do (series_typed o.name t gives) (λ s. then_do rest (λ ss. Done (s ∷ ss))))) [ Err kind ↦ λ e h. absurd (absurd_none schema h) | Ok typed ↦ λ e h. elim later as (λ l. later ≡ l → column_before o.name (Ok typed) l ≡ Some schema → Meets (AreSeriesOf schema) (then_do (series_typed o.name (Ok typed) gives) (λ s. then_do rest (λ ss. Done (s ∷ ss))))) [ None ↦ λ el h. absurd (absurd_none schema h) | Some columns ↦ λ el h. one_meets o.name typed columns schema gives rest (some_same _ _ h) (meaning_has_type registry frame is_frame (settled o.expression) typed e rows) (series_meet os columns el) ] refl h ] refl h
+      elim (typing registry frame.schema (settled o.expression)) as (λ t. typing registry frame.schema (settled o.expression) ≡ t → column_before o.label.name t later ≡ Some schema → Meets (AreSeriesOf schema) (then_do (series_typed o.label.name t gives) (λ s. then_do rest (λ ss. Done (s ∷ ss))))) [ Err kind ↦ λ e h. absurd (absurd_none schema h) | Ok typed ↦ λ e h. elim later as (λ l. later ≡ l → column_before o.label.name (Ok typed) l ≡ Some schema → Meets (AreSeriesOf schema) (then_do (series_typed o.label.name (Ok typed) gives) (λ s. then_do rest (λ ss. Done (s ∷ ss))))) [ None ↦ λ el h. absurd (absurd_none schema h) | Some columns ↦ λ el h. one_meets o.label.name typed columns schema gives rest (some_same _ _ h) (meaning_has_type registry frame is_frame (settled o.expression) typed e rows) (series_meet os columns el) ] refl h ] refl h
 
 module _ (registry : Registry) where
   -- a select of expressions that break no rule
@@ -220,7 +220,7 @@ module _ (registry : Registry) where
   outputs_meet output outputs recorded under schema frame h none columns =
       let there = subst (λ c. columns_of registry c (output ∷ outputs) ≡ Some schema) (sym h.schema_is) columns in
       let distinct = selected_distinct registry under (output ∷ outputs) recorded schema none columns in
-      let some = has_column output.name (typing registry under (settled output.expression)) (columns_of registry under outputs) schema columns in
+      let some = has_column output.label.name (typing registry under (settled output.expression)) (columns_of registry under outputs) schema columns in
       meets_then (AreSeriesOf schema) (IsFrameOf schema) _ framed (series_meet registry frame h.frame_is (row_numbers frame) (output ∷ outputs) schema there) (λ ss. framed_meets schema ss distinct some)
 
   select_meets : (outputs : List (Named Expression)) (recorded : Option Columns) (under schema : Columns) (input : Outcome Frame) → Meets (IsFrameOf under) input → broken_kinds registry (select_op outputs recorded) (Some under ∷ []) ≡ [] → columns_of registry under outputs ≡ Some schema → Meets (IsFrameOf schema) (selected (by_meaning registry) outputs input)
@@ -244,7 +244,7 @@ module _ (registry : Registry) where
   scan_meets tables (Some number) own schema fits none same = found_meets own schema (slice_get tables number) same fits.0
   scan_meets tables None own schema fits none same = empty_meets own schema same (scan_distinct own none)
 
-  node_meets : (kind : PlanKind Expression) (tables : List Frame) (recorded : Option Columns) (inputs : List (Option Columns)) (outcomes : List (Outcome Frame)) (schema : Columns) → HasTables tables (own_scans kind) → broken_kinds registry (record { kind = kind; recorded = recorded }) inputs ≡ [] → schema_by registry kind inputs ≡ Some schema → AllMeet inputs outcomes → Meets (IsFrameOf schema) (frame_by kind tables (by_meaning registry) outcomes)
+  node_meets : (kind : PlanKind (Named Expression)) (tables : List Frame) (recorded : Option Columns) (inputs : List (Option Columns)) (outcomes : List (Outcome Frame)) (schema : Columns) → HasTables tables (own_scans kind) → broken_kinds registry (record { kind = kind; recorded = recorded }) inputs ≡ [] → schema_by registry kind inputs ≡ Some schema → AllMeet inputs outcomes → Meets (IsFrameOf schema) (frame_by kind tables (by_meaning registry) outcomes)
   node_meets (ScanKind table own) tables recorded [] outcomes schema fits none is k =
       subst (λ os. Meets (IsFrameOf schema) (frame_by (ScanKind table own) tables (by_meaning registry) os)) (sym (no_outcome outcomes k)) (scan_meets tables table own schema fits none (some_same _ _ is))
   node_meets (SelectKind outputs) tables recorded (Some under ∷ []) outcomes schema fits none is k =
@@ -256,7 +256,7 @@ module _ (registry : Registry) where
   node_meets kind tables recorded inputs outcomes schema fits none is k = absurd (absurd_none schema is)
 
   -- a node that has a schema gives a frame of it, unless there is a fault
-  pub kernel_meets : (tables : List Frame) (op : PlanOp Expression) (inputs : List (Option Columns)) (outcomes : List (Outcome Frame)) (schema : Columns) → HasTables tables (own_scans op.kind) → plan_rule registry op inputs ≡ Some schema → AllMeet inputs outcomes → Meets (IsFrameOf schema) (plan_kernel tables (by_meaning registry) op outcomes)
+  pub kernel_meets : (tables : List Frame) (op : PlanOp (Named Expression)) (inputs : List (Option Columns)) (outcomes : List (Outcome Frame)) (schema : Columns) → HasTables tables (own_scans op.kind) → plan_rule registry op inputs ≡ Some schema → AllMeet inputs outcomes → Meets (IsFrameOf schema) (plan_kernel tables (by_meaning registry) op outcomes)
   kernel_meets tables op inputs outcomes schema fits h k =
       let kinds = broken_kinds registry op inputs in
       let found = schema_by registry op.kind inputs in
@@ -269,7 +269,7 @@ module _ (registry : Registry) where
         let below = scans_below inputs in
         kernel_meets tables op (schemas_of registry inputs) (fold_all (plan_kernel tables (by_meaning registry)) inputs) schema (front_tables tables scans below fits) e (inputs_meet tables inputs (back_tables tables scans below fits) well.1)
 
-    inputs_meet : (tables : List Frame) (inputs : Trees (PlanOp Expression)) → HasTables tables (scans_below inputs) → AllWellFormed registry inputs → AllMeet (schemas_of registry inputs) (fold_all (plan_kernel tables (by_meaning registry)) inputs)
+    inputs_meet : (tables : List Frame) (inputs : Trees (PlanOp (Named Expression))) → HasTables tables (scans_below inputs) → AllWellFormed registry inputs → AllMeet (schemas_of registry inputs) (fold_all (plan_kernel tables (by_meaning registry)) inputs)
     inputs_meet tables no_more fits well = tt
     inputs_meet tables (more plan rest) fits well =
         let found = well_formed_schema registry plan well.0 in

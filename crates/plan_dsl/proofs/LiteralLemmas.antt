@@ -2,10 +2,10 @@
 use Rattle.std.proofs.Common.{◌≡◌, ◌≢◌, ◌∙◌, Bool, true, false, cond, List, [], ◌∷◌, Some, None, is_some, Ok, Err, refl, sym, ap, subst}
 use Rattle.std.specs.Prelude.{ℤ, unwrap_or}
 use Rattle.std.proofs.lemmas.Bool.{and_parts, and_from}
-use Rattle.plan_types.specs.Types.{Ty, Truth, Integer, TextType, Untyped, is_known}
+use Rattle.plan_types.specs.Types.{Ty, Truth, Integer, TextType, Untyped, is_integer, is_known, same_type}
 use Rattle.plan_types.specs.Schemas.{Columns}
 use Rattle.plan_types.specs.Values.{Val, IntValue, in_range}
-use Rattle.plan_types.specs.Outcomes.{Done}
+use Rattle.plan_types.specs.Outcomes.{Done, then_do}
 use Rattle.plan_types.specs.Casts.{Gives, no_place, out_of_range}
 use Rattle.plan_types.specs.CommonTypes.{type_alone}
 use Rattle.plan_types.specs.Frames.{Frame}
@@ -16,11 +16,11 @@ use Rattle.plan_types.proofs.CommonLemmas.{alone_known, alone_itself}
 use Rattle.plan_dsl.specs.Registry.{Registry}
 use Rattle.plan_dsl.specs.Trees.{Trees, node, no_more, more}
 use Rattle.plan_dsl.specs.Ops.{Op, LiteralOp, Expression}
-use Rattle.plan_dsl.specs.Names.{name_of}
+use Rattle.plan_dsl.specs.Names.{label_of}
 use Rattle.plan_dsl.specs.Literals.{is_literal, is_literal_of, settled, settled_op, settled_type}
 use Rattle.plan_dsl.specs.Typing.{Typed, Ruling, literal_taken, own_typed, rule, ruled_as, typed_before, typing, typing_all}
 use Rattle.plan_dsl.specs.OperatorTypes.{Taken}
-use Rattle.plan_dsl.specs.Kernels.{cast_meaning, value_before}
+use Rattle.plan_dsl.specs.Kernels.{cast_meaning, cast_values, value_before}
 use Rattle.plan_dsl.specs.Meaning.{meaning, ruled_meaning}
 use Rattle.plan_dsl.specs.Strictness.{IsStrict, is_strict_over, are_strict}
 use Rattle.plan_dsl.proofs.TypingLemmas.{TypedParts, ok_where, ruled_is, typed_parts}
@@ -88,10 +88,18 @@ number_cast number (Untyped other) known has = cc
 number_cast number _ known has =
     ap (λ b. λ rows. value_before (cond b (Gives (IntValue number)) (no_place NonStrict)) (Done [])) has
 
+-- a number that is cast from the type that it has alone, to one of columns that is another
+pub own_number_cast : (number : ℤ) (own target : Ty) → is_integer own ≡ true → same_type own target ≡ false → is_known target ≡ true → cast_meaning own target NonStrict (λ rows. Done (IntValue number ∷ [])) ≡ cast_meaning (Untyped number) target NonStrict (λ rows. Done (IntValue number ∷ []))
+own_number_cast number (Integer signed bits) (Untyped other) integer apart known = cc
+own_number_cast number (Integer signed bits) (Integer other width) integer apart known =
+    ap (λ b. cond b (λ rows. Done (IntValue number ∷ [])) (λ rows. then_do (Done (IntValue number ∷ [])) (cast_values (Integer signed bits) (Integer other width) NonStrict))) apart
+own_number_cast number (Integer signed bits) _ integer apart known = refl
+own_number_cast number _ target integer apart known = cc
+
 -- the number that has no type gets one at the top, and nothing else changes
-pub settled_name : (tree : Expression) → name_of (settled tree) ≡ name_of tree
-settled_name (node (LiteralOp type value) children) = refl
-settled_name (node _ children) = refl
+pub settled_label : (tree : Expression) → label_of (settled tree) ≡ label_of tree
+settled_label (node (LiteralOp type value) children) = refl
+settled_label (node _ children) = refl
 
 -- a literal has its own type
 literal_type_is : (registry : Registry) (schema : Columns) (type : Ty) (value : Val) (typed : List Typed) (ruling : Ruling) → rule registry schema (LiteralOp type value) typed ≡ Ok ruling → type ≡ ruling.own.type

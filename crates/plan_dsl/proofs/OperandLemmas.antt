@@ -9,14 +9,14 @@ use Rattle.plan_types.specs.declared.dtype.CastOptions.TheVariants.{NonStrict}
 use Rattle.plan_dsl.specs.Registry.{Registry}
 use Rattle.plan_dsl.specs.Trees.{Trees, node, no_more, more, fold_all}
 use Rattle.plan_dsl.specs.Ops.{Op}
-use Rattle.plan_dsl.specs.Names.{name_of, op_name}
+use Rattle.plan_dsl.specs.Names.{label_of, op_label}
 use Rattle.plan_dsl.specs.Typing.{Typed, Ruling, rule, own_typed, types_of, typed_to, typing, typing_all, typing_rule, then_typed, typed_before}
 use Rattle.plan_dsl.specs.Kernels.{Meaning, cast_meaning}
 use Rattle.plan_dsl.specs.Meaning.{applied, meaning, meaning_all, node_meaning, ruled_meaning, taken_to}
 use Rattle.plan_dsl.specs.Strictness.{IsSame, IsStrictOver, as_operands}
 use Rattle.plan_dsl.proofs.TypingLemmas.{by_children, by_no_children}
 use Rattle.plan_dsl.proofs.StrictLemmas.{StrictParts, strict_from}
-use Rattle.plan_dsl.proofs.CastLemmas.{cast_own, as_operand_typing, as_operand_name, as_operand_meaning}
+use Rattle.plan_dsl.proofs.CastLemmas.{cast_own, operand_made}
 use Rattle.plan_dsl.proofs.OpLemmas.{AllBecome, KeepsRule, keeps_rule}
 
 -- ---- operands one by one
@@ -44,18 +44,18 @@ module _ (registry : Registry) (schema : Columns) where
       by_children (λ ts. AllBecome (types_of ts) [] → typing_all registry schema (as_operands (types_of ts) [] (more tree trees)) ≡ Ok (typed_to ts [])) _ _ typed h (λ t ts first rest none. absurd none) b
   operands_typed (more tree trees) typed (target ∷ targets) h b =
       by_children (λ ts. AllBecome (types_of ts) (target ∷ targets) → typing_all registry schema (as_operands (types_of ts) (target ∷ targets) (more tree trees)) ≡ Ok (typed_to ts (target ∷ targets))) _ _ typed h (λ t ts first rest c.
-      ap (λ r. typed_before r (typing_all registry schema (as_operands (types_of ts) targets trees))) (as_operand_typing registry schema t.type target tree t.many first c.0)
+      ap (λ r. typed_before r (typing_all registry schema (as_operands (types_of ts) targets trees))) (operand_made registry schema target tree t.many t.type first c.0).typing
       ∙ ap (typed_before (Ok (record { type = target; many = t.many }))) (operands_typed trees ts targets rest c.1)) b
 
-  operands_named : (trees : Trees Op) (typed : List Typed) (targets : List Ty) → typing_all registry schema trees ≡ Ok typed → AllBecome (types_of typed) targets → fold_all op_name (as_operands (types_of typed) targets trees) ≡ fold_all op_name trees
+  operands_named : (trees : Trees Op) (typed : List Typed) (targets : List Ty) → typing_all registry schema trees ≡ Ok typed → AllBecome (types_of typed) targets → fold_all op_label (as_operands (types_of typed) targets trees) ≡ fold_all op_label trees
   operands_named no_more typed targets h b =
-      by_no_children (λ ts. AllBecome (types_of ts) targets → fold_all op_name (as_operands (types_of ts) targets no_more) ≡ []) typed h (λ none. refl) b
+      by_no_children (λ ts. AllBecome (types_of ts) targets → fold_all op_label (as_operands (types_of ts) targets no_more) ≡ []) typed h (λ none. refl) b
   operands_named (more tree trees) typed [] h b =
-      by_children (λ ts. AllBecome (types_of ts) [] → fold_all op_name (as_operands (types_of ts) [] (more tree trees)) ≡ fold_all op_name (more tree trees)) _ _ typed h (λ t ts first rest none. absurd none) b
+      by_children (λ ts. AllBecome (types_of ts) [] → fold_all op_label (as_operands (types_of ts) [] (more tree trees)) ≡ fold_all op_label (more tree trees)) _ _ typed h (λ t ts first rest none. absurd none) b
   operands_named (more tree trees) typed (target ∷ targets) h b =
-      by_children (λ ts. AllBecome (types_of ts) (target ∷ targets) → fold_all op_name (as_operands (types_of ts) (target ∷ targets) (more tree trees)) ≡ fold_all op_name (more tree trees)) _ _ typed h (λ t ts first rest c.
-      ap (λ n. n ∷ fold_all op_name (as_operands (types_of ts) targets trees)) (as_operand_name registry schema t.type target tree t.many first c.0)
-      ∙ ap (λ l. name_of tree ∷ l) (operands_named trees ts targets rest c.1)) b
+      by_children (λ ts. AllBecome (types_of ts) (target ∷ targets) → fold_all op_label (as_operands (types_of ts) (target ∷ targets) (more tree trees)) ≡ fold_all op_label (more tree trees)) _ _ typed h (λ t ts first rest c.
+      ap (λ n. n ∷ fold_all op_label (as_operands (types_of ts) targets trees)) (operand_made registry schema target tree t.many t.type first c.0).name
+      ∙ ap (λ l. label_of tree ∷ l) (operands_named trees ts targets rest c.1)) b
 
   operands_mean : (rows : List Row) (trees : Trees Op) (typed : List Typed) (targets : List Ty) → typing_all registry schema trees ≡ Ok typed → AllBecome (types_of typed) targets → meaning_all registry (record { schema = schema; rows = rows }) (as_operands (types_of typed) targets trees) ≡ taken_to (types_of typed) targets (meaning_all registry (record { schema = schema; rows = rows }) trees)
   operands_mean rows no_more typed targets h b =
@@ -67,7 +67,7 @@ module _ (registry : Registry) (schema : Columns) where
   operands_mean rows (more tree trees) typed (target ∷ targets) h b =
       let frame : Frame = record { schema = schema; rows = rows } in
       by_children (λ ts. AllBecome (types_of ts) (target ∷ targets) → meaning_all registry frame (as_operands (types_of ts) (target ∷ targets) (more tree trees)) ≡ taken_to (types_of ts) (target ∷ targets) (meaning_all registry frame (more tree trees))) _ _ typed h (λ t ts first rest c.
-      ap (λ m. m ∷ meaning_all registry frame (as_operands (types_of ts) targets trees)) (as_operand_meaning registry schema t.type target tree t.many first c.0 rows)
+      ap (λ m. m ∷ meaning_all registry frame (as_operands (types_of ts) targets trees)) ((operand_made registry schema target tree t.many t.type first c.0).meaning frame refl)
       ∙ ap (λ l. cast_meaning t.type target NonStrict (meaning registry frame tree) ∷ l) (operands_mean rows trees ts targets rest c.1)) b
 
   -- ---- the node over them
@@ -111,7 +111,7 @@ module _ (registry : Registry) (schema : Columns) where
     pub operands_same : IsSame registry schema (node op trees) (node op operands)
     operands_same = record {
       typing = same_typing;
-      name = ap (op_name op) (operands_named trees typed ruling.operands h keeps.becomes);
+      name = ap (op_label op) (operands_named trees typed ruling.operands h keeps.becomes);
       meaning = same_meaning;
     }
 

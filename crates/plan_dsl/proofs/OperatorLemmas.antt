@@ -85,7 +85,7 @@ own_becomes : (operand other own target : Ty) → type_beside operand other ≡ 
 own_becomes operand other own target is becomes = record {
   known = becomes.known;
   casts = λ apart. subst (λ t. can_cast t target ≡ true) (beside_same operand other own is apart) becomes.casts;
-  has = λ number e. let has = own_has number other own (ap (λ t. type_beside t other) (sym e) ∙ is) in becomes.has number has.2 has.0;
+  has = λ number e lacks. let has = own_has number other own (ap (λ t. type_beside t other) (sym e) ∙ is) in let there = becomes.has number has.2 has.0 in cc;
 }
 
 pub pair_becomes : (operator : Operator) (left right : Ty) (taken : Taken) (t : TakesOperands operator left right taken) → CanBecome left t.pair.left × CanBecome right t.pair.right

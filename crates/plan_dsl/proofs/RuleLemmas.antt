@@ -1,5 +1,5 @@
 -- Rules and what breaks them: of expressions, of a select's expressions, of a predicate, and of plans.
-use Rattle.std.proofs.Common.{◌≡◌, ℕ, zero, suc, List, [], ◌∷◌, ◌++◌, map, Option, Some, None, Bool, true, false, not, cond, is_some, Result, Ok, Err, refl, sym, ap, ◌∙◌, subst, arith}
+use Rattle.std.proofs.Common.{◌≡◌, ℕ, zero, suc, List, [], ◌∷◌, ◌++◌, map, Option, Some, None, Bool, true, false, not, is_some, Result, Ok, Err, refl, sym, ap, ◌∙◌, subst, arith}
 use Rattle.std.specs.List.{Contains, AllByRecursion}
 use Rattle.std.proofs.lemmas.List.{map-append}
 use Rattle.std.proofs.lemmas.List.Elements.{Contains-append_left, Contains-append_right, Contains-push}
@@ -13,6 +13,7 @@ use Rattle.plan_dsl.specs.Trees.{Trees, node, no_more, more, child_at, child_of,
 use Rattle.plan_dsl.specs.Ops.{Op, Expression}
 use Rattle.plan_dsl.specs.Plans.{Named, PlanKind, ScanKind, SelectKind, FilterKind, RefusedKind, PlanOp, Plan, scan_op, select_op, filter_op}
 use Rattle.plan_dsl.specs.Literals.{settled}
+use Rattle.plan_dsl.specs.Names.{Label}
 use Rattle.plan_dsl.specs.Typing.{Typed, typing, typing_all, typing_rule, then_typed, typed_before, kind_of, own_kind, kinds_in, kinds_in_all}
 use Rattle.plan_dsl.specs.PlanRules.{all_kinds, kind_where, name_kinds, scan_kinds, predicate_kinds, broken_kinds, column_before, columns_of, where_unbroken, plan_rule, schema_of, IsWellFormed, AllWellFormed, top_kinds, Breaks}
 use Rattle.plan_dsl.specs.Laws.{NoSchemaIsBroken}
@@ -66,7 +67,7 @@ module _ (registry : Registry) (schema : Columns) where
   select_refused_kind recorded front o back kind h = of_expressions (front ++ o ∷ back) _ kind (refused_among front o back kind h)
 
   abbrev output_names : List (Named Expression) → List Name
-  output_names outputs = map (λ o. o.name) outputs
+  output_names outputs = map (λ o. o.label.name) outputs
 
   -- a select whose names repeat breaks the rule of distinct names
   pub select_repeated_kind : (recorded : Option Columns) (outputs : List (Named Expression)) → repeats (output_names outputs) ≡ true → Contains (broken_kinds registry (select_op outputs recorded) (Some schema ∷ [])) Duplicate
@@ -74,10 +75,10 @@ module _ (registry : Registry) (schema : Columns) where
       Contains-append_right (all_kinds registry schema outputs ++ []) (name_kinds outputs) Duplicate (subst (λ b. Contains (kind_where b Duplicate) Duplicate) (sym h) (Contains-push [] Duplicate))
 
   -- an expression whose name stands among those before it
-  pub select_repeated_name : (recorded : Option Columns) (before : Columns) (front : List (Named Expression)) (o : Named Expression) (back : List (Named Expression)) → names_of before ≡ output_names front → is_some (type_at before o.name) ≡ true → Contains (broken_kinds registry (select_op (front ++ o ∷ back) recorded) (Some schema ∷ [])) Duplicate
+  pub select_repeated_name : (recorded : Option Columns) (before : Columns) (front : List (Named Expression)) (o : Named Expression) (back : List (Named Expression)) → names_of before ≡ output_names front → is_some (type_at before o.label.name) ≡ true → Contains (broken_kinds registry (select_op (front ++ o ∷ back) recorded) (Some schema ∷ [])) Duplicate
   select_repeated_name recorded before front o back names found =
-      let whole = map-append (λ (x : Named Expression). x.name) front (o ∷ back) ∙ ap (λ l. l ++ o.name ∷ output_names back) (sym names) in
-      select_repeated_kind recorded (front ++ o ∷ back) (ap repeats whole ∙ repeated_test before o.name (output_names back) found)
+      let whole = map-append (λ (x : Named Expression). x.label.name) front (o ∷ back) ∙ ap (λ l. l ++ o.label.name ∷ output_names back) (sym names) in
+      select_repeated_kind recorded (front ++ o ∷ back) (ap repeats whole ∙ repeated_test before o.label.name (output_names back) found)
 
   -- a filter breaks the kind for which its predicate is refused
   pub filter_refused_kind : (predicate : Named Expression) (kind : ErrorKind) → typing registry schema (settled predicate.expression) ≡ Err kind → Contains (broken_kinds registry (filter_op predicate) (Some schema ∷ [])) kind
@@ -105,16 +106,16 @@ module _ (registry : Registry) (schema : Columns) where
       ap (λ kinds. where_unbroken kinds (Some schema)) unbroken
 
   -- expressions that are typed, each with its name, tree and type
-  module _ {A : Type 0} (name : A → Name) (tree : A → Expression) (typed : A → Typed) where
+  module _ {A : Type 0} (label : A → Label) (tree : A → Expression) (typed : A → Typed) where
     abbrev output : A → Named Expression
-    output a = record { name = name a; expression = tree a }
+    output a = record { label = label a; expression = tree a }
 
     -- they have these columns
-    pub columns_from_typed : (outputs : List A) → AllByRecursion (λ a. typing registry schema (settled (tree a)) ≡ Ok (typed a)) outputs → columns_of registry schema (map output outputs) ≡ Some (map (λ a. (name a, (typed a).type)) outputs)
+    pub columns_from_typed : (outputs : List A) → AllByRecursion (λ a. typing registry schema (settled (tree a)) ≡ Ok (typed a)) outputs → columns_of registry schema (map output outputs) ≡ Some (map (λ a. ((label a).name, (typed a).type)) outputs)
     columns_from_typed [] h = refl
     columns_from_typed (a ∷ rest) h =
-        ap (λ r. column_before (name a) r (columns_of registry schema (map output rest))) h.0
-        ∙ ap (column_before (name a) (Ok (typed a))) (columns_from_typed rest h.1)
+        ap (λ r. column_before (label a).name r (columns_of registry schema (map output rest))) h.0
+        ∙ ap (column_before (label a).name (Ok (typed a))) (columns_from_typed rest h.1)
 
     -- and break no rule
     pub no_kinds_from_typed : (outputs : List A) → AllByRecursion (λ a. typing registry schema (settled (tree a)) ≡ Ok (typed a)) outputs → all_kinds registry schema (map output outputs) ≡ []
@@ -122,12 +123,12 @@ module _ (registry : Registry) (schema : Columns) where
     no_kinds_from_typed (a ∷ rest) h =
         ap (λ k. k ++ all_kinds registry schema (map output rest)) (typed_breaks_nothing (settled (tree a)) (typed a) h.0) ∙ no_kinds_from_typed rest h.1
 
-    names_are : (outputs : List A) → output_names (map output outputs) ≡ names_of (map (λ a. (name a, (typed a).type)) outputs)
+    names_are : (outputs : List A) → output_names (map output outputs) ≡ names_of (map (λ a. ((label a).name, (typed a).type)) outputs)
     names_are [] = refl
-    names_are (a ∷ rest) = ap (λ l. name a ∷ l) (names_are rest)
+    names_are (a ∷ rest) = ap (λ l. (label a).name ∷ l) (names_are rest)
 
     -- with distinct names a select of them breaks no rule, and has their columns
-    pub select_schema : (recorded : Option Columns) (outputs : List A) → AllByRecursion (λ a. typing registry schema (settled (tree a)) ≡ Ok (typed a)) outputs → HasDistinctNames (map (λ a. (name a, (typed a).type)) outputs) → plan_rule registry (select_op (map output outputs) recorded) (Some schema ∷ []) ≡ Some (map (λ a. (name a, (typed a).type)) outputs)
+    pub select_schema : (recorded : Option Columns) (outputs : List A) → AllByRecursion (λ a. typing registry schema (settled (tree a)) ≡ Ok (typed a)) outputs → HasDistinctNames (map (λ a. ((label a).name, (typed a).type)) outputs) → plan_rule registry (select_op (map output outputs) recorded) (Some schema ∷ []) ≡ Some (map (λ a. ((label a).name, (typed a).type)) outputs)
     select_schema recorded outputs h distinct =
         let test = ap repeats (names_are outputs) ∙ test_from_distinct _ distinct in
         let unbroken = ap (λ k. (k ++ []) ++ name_kinds (map output outputs)) (no_kinds_from_typed outputs h) ∙ ap (λ b. kind_where b Duplicate) test in
@@ -174,16 +175,16 @@ pub scan_distinct : (own : Columns) → scan_kinds own ≡ [] → HasDistinctNam
 scan_distinct own none = distinct_from_test own (not_repeated (repeats (names_of own)) (no_tail (kind_where (not (all_known own)) InvalidOperation) _ none))
 
 -- the names of expressions are those of their columns
-pub column_names : (registry : Registry) (under : Columns) (os : List (Named Expression)) (schema : Columns) → columns_of registry under os ≡ Some schema → map (λ o. o.name) os ≡ names_of schema
+pub column_names : (registry : Registry) (under : Columns) (os : List (Named Expression)) (schema : Columns) → columns_of registry under os ≡ Some schema → map (λ o. o.label.name) os ≡ names_of schema
 column_names registry under [] schema h = let e : [] ≡ schema = cc in ap names_of e
 column_names registry under (o ∷ os) schema h =
     let rest = columns_of registry under os in
-    elim (typing registry under (settled o.expression)) as (λ t. column_before o.name t rest ≡ Some schema → o.name ∷ map (λ (x : Named Expression). x.name) os ≡ names_of schema) [ Ok typed ↦ λ h. elim rest as (λ r. rest ≡ r → column_before o.name (Ok typed) r ≡ Some schema → o.name ∷ map (λ (x : Named Expression). x.name) os ≡ names_of schema) [ Some columns ↦ λ e h. let same : (o.name, typed.type) ∷ columns ≡ schema = cc in ap (λ l. o.name ∷ l) (column_names registry under os columns e) ∙ ap names_of same | None ↦ λ e h. cc ] refl h | Err kind ↦ λ h. cc ] h
+    elim (typing registry under (settled o.expression)) as (λ t. column_before o.label.name t rest ≡ Some schema → o.label.name ∷ map (λ (x : Named Expression). x.label.name) os ≡ names_of schema) [ Ok typed ↦ λ h. elim rest as (λ r. rest ≡ r → column_before o.label.name (Ok typed) r ≡ Some schema → o.label.name ∷ map (λ (x : Named Expression). x.label.name) os ≡ names_of schema) [ Some columns ↦ λ e h. let same : (o.label.name, typed.type) ∷ columns ≡ schema = cc in ap (λ l. o.label.name ∷ l) (column_names registry under os columns e) ∙ ap names_of same | None ↦ λ e h. cc ] refl h | Err kind ↦ λ h. cc ] h
 
 -- a select that breaks no rule has columns of distinct names
 pub selected_distinct : (registry : Registry) (under : Columns) (os : List (Named Expression)) (recorded : Option Columns) (schema : Columns) → broken_kinds registry (select_op os recorded) (Some under ∷ []) ≡ [] → columns_of registry under os ≡ Some schema → HasDistinctNames schema
 selected_distinct registry under os recorded schema none columns =
-    let test = not_repeated (repeats (map (λ (o : Named Expression). o.name) os)) (no_tail (all_kinds registry under os ++ []) _ none) in
+    let test = not_repeated (repeats (map (λ (o : Named Expression). o.label.name) os)) (no_tail (all_kinds registry under os ++ []) _ none) in
     distinct_from_test schema (ap repeats (sym (column_names registry under os schema columns)) ∙ test)
 
 -- expressions of which one has no column break a kind
@@ -192,7 +193,7 @@ no_column_breaks registry under [] h = absurd cc
 no_column_breaks registry under (o ∷ os) h =
     let rest = columns_of registry under os in
     let own = kinds_in registry under (settled o.expression) in
-    elim (typing registry under (settled o.expression)) as (λ t. typing registry under (settled o.expression) ≡ t → column_before o.name t rest ≡ None → (kind : ErrorKind) × Contains (own ++ all_kinds registry under os) kind) [ Ok typed ↦ λ e h. elim rest as (λ r. rest ≡ r → column_before o.name (Ok typed) r ≡ None → (kind : ErrorKind) × Contains (own ++ all_kinds registry under os) kind) [ Some columns ↦ λ e h. absurd cc | None ↦ λ e h. let later = no_column_breaks registry under os e in (later.0, Contains-append_right own (all_kinds registry under os) later.0 later.1) ] refl h | Err kind ↦ λ e h. (kind, Contains-append_left own (all_kinds registry under os) kind (refusal_is_broken registry under (settled o.expression) kind e)) ] refl h
+    elim (typing registry under (settled o.expression)) as (λ t. typing registry under (settled o.expression) ≡ t → column_before o.label.name t rest ≡ None → (kind : ErrorKind) × Contains (own ++ all_kinds registry under os) kind) [ Ok typed ↦ λ e h. elim rest as (λ r. rest ≡ r → column_before o.label.name (Ok typed) r ≡ None → (kind : ErrorKind) × Contains (own ++ all_kinds registry under os) kind) [ Some columns ↦ λ e h. absurd cc | None ↦ λ e h. let later = no_column_breaks registry under os e in (later.0, Contains-append_right own (all_kinds registry under os) later.0 later.1) ] refl h | Err kind ↦ λ e h. (kind, Contains-append_left own (all_kinds registry under os) kind (refusal_is_broken registry under (settled o.expression) kind e)) ] refl h
 
 -- where there would be a schema, a node that has none breaks a kind
 some_kind : (kinds : List ErrorKind) (schema : Columns) → where_unbroken kinds (Some schema) ≡ None → (kind : ErrorKind) × Contains kinds kind
@@ -203,7 +204,7 @@ some_last : (kinds : List ErrorKind) (last : ErrorKind) → (kind : ErrorKind) �
 some_last kinds last = (last, Contains-append_right kinds (last ∷ []) last (Contains-push [] last))
 
 -- a node of the kind without a schema, whose inputs have one, breaks a rule
-kind_breaks : (registry : Registry) (kind : PlanKind Expression) (inputs : List Columns) → ¬ (kind ≡ RefusedKind []) → plan_rule registry (record { kind = kind; recorded = None }) (map Some inputs) ≡ None → (k : ErrorKind) × Contains (broken_kinds registry (record { kind = kind; recorded = None }) (map Some inputs)) k
+kind_breaks : (registry : Registry) (kind : PlanKind (Named Expression)) (inputs : List Columns) → ¬ (kind ≡ RefusedKind []) → plan_rule registry (record { kind = kind; recorded = None }) (map Some inputs) ≡ None → (k : ErrorKind) × Contains (broken_kinds registry (record { kind = kind; recorded = None }) (map Some inputs)) k
 kind_breaks registry (ScanKind table schema) [] known h = some_kind (scan_kinds schema) schema h
 kind_breaks registry (ScanKind table schema) (under ∷ inputs) known h = some_last [] SchemaMismatch
 kind_breaks registry (SelectKind outputs) [] known h = some_last [] SchemaMismatch
@@ -227,7 +228,7 @@ module _ (registry : Registry) where
   IsWellFormedWhere None = Unit {0}
   IsWellFormedWhere (Some plan) = IsWellFormed registry plan
 
-  child_well_formed : (inputs : Trees (PlanOp Expression)) (number : ℕ) → AllWellFormed registry inputs → IsWellFormedWhere (child_at inputs number)
+  child_well_formed : (inputs : Trees (PlanOp (Named Expression))) (number : ℕ) → AllWellFormed registry inputs → IsWellFormedWhere (child_at inputs number)
   child_well_formed no_more number h = tt
   child_well_formed (more plan rest) zero h = h.0
   child_well_formed (more plan rest) (suc number) h = child_well_formed rest number h.1
@@ -239,10 +240,6 @@ module _ (registry : Registry) where
   place_well_formed : (plan : Option Plan) (place : List ℕ) → IsWellFormedWhere plan → IsWellFormedWhere (tree_at plan place)
   place_well_formed plan [] h = h
   place_well_formed plan (number ∷ place) h = place_well_formed (child_of plan number) place (step_well_formed plan number h)
-
-  -- what stands at a place of a well-formed plan is well formed
-  pub well_formed_below : (plan : Plan) (place : List ℕ) (below : Plan) → IsWellFormed registry plan → tree_at (Some plan) place ≡ Some below → IsWellFormed registry below
-  well_formed_below plan place below h e = subst IsWellFormedWhere e (place_well_formed (Some plan) place h)
 
   is_there : (found : Option Columns) → is_some found ≡ true → (schema : Columns) × (found ≡ Some schema)
   is_there None h = cc

@@ -5,7 +5,7 @@ use Rattle.plan_types.specs.Frames.{Frame, Row}
 use Rattle.plan_dsl.specs.Registry.{Registry}
 use Rattle.plan_dsl.specs.Trees.{Trees, node, no_more, more, fold_all, AllRelated}
 use Rattle.plan_dsl.specs.Ops.{Op, Expression}
-use Rattle.plan_dsl.specs.Names.{name_of, op_name}
+use Rattle.plan_dsl.specs.Names.{label_of, op_label}
 use Rattle.plan_dsl.specs.Typing.{typing, typing_all, typing_rule, then_typed, typed_before}
 use Rattle.plan_dsl.specs.Meaning.{meaning, meaning_all, node_meaning}
 use Rattle.plan_dsl.specs.Strictness.{IsSame}
@@ -29,10 +29,10 @@ module _ (registry : Registry) (schema : Columns) where
   typings_same no_more (more u us) a = absurd a
   typings_same (more t ts) no_more a = absurd a
 
-  names_same : (ts us : Trees Op) → AllRelated (IsSame registry schema) ts us → fold_all op_name us ≡ fold_all op_name ts
+  names_same : (ts us : Trees Op) → AllRelated (IsSame registry schema) ts us → fold_all op_label us ≡ fold_all op_label ts
   names_same no_more no_more a = refl
   names_same (more t ts) (more u us) a =
-      ap (λ x. x ∷ fold_all op_name us) a.0.name ∙ ap (λ l. name_of t ∷ l) (names_same ts us a.1)
+      ap (λ x. x ∷ fold_all op_label us) a.0.name ∙ ap (λ l. label_of t ∷ l) (names_same ts us a.1)
   names_same no_more (more u us) a = absurd a
   names_same (more t ts) no_more a = absurd a
 
@@ -48,7 +48,7 @@ module _ (registry : Registry) (schema : Columns) where
   pub node_same : (op : Op) (ts us : Trees Op) → AllRelated (IsSame registry schema) ts us → IsSame registry schema (node op ts) (node op us)
   node_same op ts us a = record {
     typing = ap (λ r. then_typed r (typing_rule registry schema op)) (typings_same ts us a);
-    name = ap (op_name op) (names_same ts us a);
+    name = ap (op_label op) (names_same ts us a);
     meaning = λ rows. let frame : Frame = record { schema = schema; rows = rows } in
         ap (λ r. node_meaning registry frame op r (meaning_all registry frame us)) (typings_same ts us a)
         ∙ ap (node_meaning registry frame op (typing_all registry schema ts)) (meanings_same rows ts us a);

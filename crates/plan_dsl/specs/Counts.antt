@@ -16,11 +16,11 @@ abbrev pub outputs_casts : List (Named Expression) → ℕ
 outputs_casts outputs = sum_by (λ output. expression_casts output.expression) outputs
 
 -- the casts of the expressions of a node
-abbrev pub kind_casts : PlanKind Expression → ℕ
+abbrev pub kind_casts : PlanKind (Named Expression) → ℕ
 kind_casts kind = sum_by (λ e. outputs_casts e.outputs) (expressions_of kind)
 
 -- the casts at and below a plan's node, from those below each child
-abbrev pub plan_op_casts : PlanOp Expression → List ℕ → ℕ
+abbrev pub plan_op_casts : PlanOp (Named Expression) → List ℕ → ℕ
 plan_op_casts op below = kind_casts op.kind + sum below
 
 -- how many casts the expressions of a plan have

@@ -11,8 +11,9 @@ use Rattle.plan_types.specs.Frames.{Frame, value_in, row_at}
 use Rattle.plan_types.specs.declared.dtype.CastOptions.{CastOptions}
 use Rattle.plan_dsl.specs.declared.operator.Operator.{Operator}
 use Rattle.plan_dsl.specs.Operators.{operator_value}
+use Rattle.plan_dsl.specs.Slices.{slice_values}
 use Rattle.plan_dsl.specs.Registry.{Registry}
-use Rattle.plan_dsl.specs.Ops.{Op, ColumnOp, LiteralOp, BinaryOp, CastOp, LenOp}
+use Rattle.plan_dsl.specs.Ops.{Op, ColumnOp, LiteralOp, BinaryOp, CastOp, LenOp, SliceOp}
 
 -- what an expression gives on the rows of these numbers
 abbrev pub Meaning : Type 0
@@ -82,4 +83,5 @@ kernel registry frame rows (LiteralOp own value) [] type [] = Done (value ∷ []
 kernel registry frame rows (BinaryOp operator) (from ∷ types) type (left ∷ right ∷ []) = operator_values operator from type left right
 kernel registry frame rows (CastOp target options) (from ∷ []) type (column ∷ []) = cast_column from target options column
 kernel registry frame rows LenOp [] type [] = Done (IntValue (wrapped type (pos (length rows))) ∷ [])
+kernel registry frame rows SliceOp types type (values ∷ offset ∷ count ∷ []) = slice_values values offset count
 kernel registry frame rows op types type columns = Stuck

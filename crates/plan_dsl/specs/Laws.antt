@@ -10,7 +10,8 @@ use Rattle.plan_types.specs.declared.error.ErrorKind.{ErrorKind}
 use Rattle.plan_dsl.specs.Registry.{Registry}
 use Rattle.plan_dsl.specs.Ops.{Op, LiteralOp, BinaryOp, Expression}
 use Rattle.plan_dsl.specs.Trees.{Trees, node, no_more, more, tree_at}
-use Rattle.plan_dsl.specs.Plans.{PlanKind, RefusedKind, PlanOp, Plan, Source, SourcePlan, scans_in}
+use Rattle.plan_dsl.specs.Plans.{Named, PlanKind, RefusedKind, PlanOp, Plan, SourcePlan, scans_in}
+use Rattle.plan_dsl.specs.Sources.{Source, written, expanded}
 use Rattle.plan_dsl.specs.Resolving.{resolution, resolved_op, resolved}
 use Rattle.plan_dsl.specs.Typing.{Typed, Ruling, rule, types_of, typed_to, typing, typing_all, kinds_in}
 use Rattle.plan_dsl.specs.declared.operator.Operator.{Operator}
@@ -76,7 +77,7 @@ RefusalIsBroken = (registry : Registry) (schema : Columns) (tree : Expression) (
 -- a node without a schema, whose inputs have one, breaks a rule: but for one that is refused by no kind, to which no
 -- node over such inputs is resolved
 abbrev pub NoSchemaIsBroken : Type 0
-NoSchemaIsBroken = (registry : Registry) (op : PlanOp Expression) (inputs : List Columns) → ¬ (op.kind ≡ RefusedKind []) → plan_rule registry op (map Some inputs) ≡ None → (kind : ErrorKind) × Contains (broken_kinds registry op (map Some inputs)) kind
+NoSchemaIsBroken = (registry : Registry) (op : PlanOp (Named Expression)) (inputs : List Columns) → ¬ (op.kind ≡ RefusedKind []) → plan_rule registry op (map Some inputs) ≡ None → (kind : ErrorKind) × Contains (broken_kinds registry op (map Some inputs)) kind
 
 -- a plan in which a rule is broken at some place is not well formed
 abbrev pub BrokenIsIllFormed : Type 0
@@ -86,13 +87,17 @@ BrokenIsIllFormed = (registry : Registry) (kind : ErrorKind) (place : List ℕ) 
 abbrev pub MeaningHasSchema : Type 0
 MeaningHasSchema = (registry : Registry) (tables : List Frame) (plan : Plan) (schema : Columns) → FitsPlan tables plan → IsWellFormed registry plan → schema_of registry plan ≡ Some schema → Meets (IsFrameOf schema) (source_meaning registry tables plan)
 
+-- an expression that a query writes with plans' ops alone is its own expansion
+abbrev pub WrittenIsExpanded : Type 0
+WrittenIsExpanded = (tree : Expression) → expanded (written tree) ≡ tree
+
 -- the node at a place of a query's plan stands, resolved, at that place
 abbrev pub PlacesStay : Type 0
 PlacesStay = (registry : Registry) (plan : SourcePlan) (place : List ℕ) → tree_at (Some (resolved registry plan)) place ≡ option_map (resolved registry) (tree_at (Some plan) place)
 
 -- a query's node that has a schema could be resolved, and breaks no rule
 abbrev pub ResolvedBreaksNothing : Type 0
-ResolvedBreaksNothing = (registry : Registry) (op : PlanOp Source) (inputs : List (Option Columns)) (schema : Columns) → plan_rule registry (resolved_op op inputs) inputs ≡ Some schema → (kind : PlanKind Expression) × (resolution op.kind inputs ≡ Ok kind) × (broken_kinds registry (resolved_op op inputs) inputs ≡ [])
+ResolvedBreaksNothing = (registry : Registry) (op : PlanOp Source) (inputs : List (Option Columns)) (schema : Columns) → plan_rule registry (resolved_op op inputs) inputs ≡ Some schema → (kind : PlanKind (Named Expression)) × (resolution op.kind inputs ≡ Ok kind) × (broken_kinds registry (resolved_op op inputs) inputs ≡ [])
 
 -- a query's node over an input without schema has none, and breaks no rule
 abbrev pub NothingIsToldAboveARefusal : Type 0

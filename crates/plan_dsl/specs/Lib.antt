@@ -18,6 +18,8 @@ pub mod Registry
 pub mod Resolving
 pub mod SameExpressions
 pub mod Samples
+pub mod Slices
+pub mod Sources
 pub mod StrictRun
 pub mod Strictness
 pub mod Trees

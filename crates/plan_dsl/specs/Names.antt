@@ -1,20 +1,40 @@
 -- Names of expressions.
 -- A column has its own name, a literal is named `literal`, a count of rows `len`, and any other node has the name of its first child.
+-- What a name comes from is told with it: a column may be called `literal` too.
 use Rattle.std.specs.Prelude.{List, [], ◌∷◌, codes}
 use Rattle.plan_types.specs.Schemas.{Name}
 use Rattle.plan_dsl.specs.Trees.{fold}
 use Rattle.plan_dsl.specs.Ops.{Op, ColumnOp, LiteralOp, LenOp, Expression}
 
-abbrev pub first_name : List Name → Name
-first_name [] = codes "literal"
-first_name (name ∷ names) = name
+-- what a name comes from: a column, or a literal or a count of rows
+pub data Origin : Type 0 where
+  FromColumn : Origin
+  FromLiteral : Origin
 
--- the name of a node, from its children's
-abbrev pub op_name : Op → List Name → Name
-op_name (ColumnOp name) names = name
-op_name (LiteralOp type value) names = codes "literal"
-op_name LenOp names = codes "len"
-op_name op names = first_name names
+-- a name, with what it comes from
+pub record Label : Type 0 where
+  pub name : Name
+  pub origin : Origin
+
+abbrev pub column_label : Name → Label
+column_label name = record { name = name; origin = FromColumn }
+
+abbrev pub literal_label : Name → Label
+literal_label name = record { name = name; origin = FromLiteral }
+
+abbrev pub first_label : List Label → Label
+first_label [] = literal_label (codes "literal")
+first_label (label ∷ labels) = label
+
+-- the label of a node, from its children's
+abbrev pub op_label : Op → List Label → Label
+op_label (ColumnOp name) labels = column_label name
+op_label (LiteralOp type value) labels = literal_label (codes "literal")
+op_label LenOp labels = literal_label (codes "len")
+op_label op labels = first_label labels
+
+abbrev pub label_of : Expression → Label
+label_of tree = fold op_label tree
 
 abbrev pub name_of : Expression → Name
-name_of tree = fold op_name tree
+name_of tree = (label_of tree).name

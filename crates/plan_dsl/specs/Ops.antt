@@ -12,6 +12,7 @@ pub data Op : Type 0 where
   BinaryOp : (operator : Operator) → Op
   CastOp : (target : Ty) (options : CastOptions) → Op
   LenOp : Op
+  SliceOp : Op
 
 abbrev pub Expression : Type 0
 Expression = Tree Op

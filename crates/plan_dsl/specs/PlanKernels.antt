@@ -116,12 +116,12 @@ scanned tables (Some number) schema = table_frame (slice_get tables number)
 scanned tables None schema = Done (record { schema = schema; rows = [] })
 
 -- what a node of the kind gives. With another number of inputs than its own, which no plan has, it is stuck
-abbrev pub frame_by : PlanKind Expression → List Frame → Evaluation → List (Outcome Frame) → Outcome Frame
+abbrev pub frame_by : PlanKind (Named Expression) → List Frame → Evaluation → List (Outcome Frame) → Outcome Frame
 frame_by (ScanKind table schema) tables evaluate [] = scanned tables table schema
 frame_by (SelectKind outputs) tables evaluate (input ∷ []) = selected evaluate outputs input
 frame_by (FilterKind predicate) tables evaluate (input ∷ []) = filtered evaluate predicate input
 frame_by kind tables evaluate inputs = Stuck
 
 -- what a node gives, from what its inputs give
-abbrev pub plan_kernel : List Frame → Evaluation → PlanOp Expression → List (Outcome Frame) → Outcome Frame
+abbrev pub plan_kernel : List Frame → Evaluation → PlanOp (Named Expression) → List (Outcome Frame) → Outcome Frame
 plan_kernel tables evaluate op inputs = frame_by op.kind tables evaluate inputs

@@ -1,7 +1,8 @@
 -- What a query's plan means on tables.
 -- Its expressions are evaluated by their meaning. Tables fit a plan where each scan's number names a frame
 -- of exactly the scan's schema.
-use Rattle.std.specs.Prelude.{List, [], ◌∷◌, slice_get, Option, Some, None}
+use Rattle.std.specs.Prelude.{List, slice_get, Option, Some, None}
+use Rattle.std.specs.List.{AllByRecursion}
 use Rattle.plan_types.specs.Schemas.{Columns}
 use Rattle.plan_types.specs.Outcomes.{Outcome, Meets}
 use Rattle.plan_types.specs.Frames.{Frame, IsFrameOf}
@@ -16,7 +17,7 @@ use Rattle.plan_dsl.specs.PlanKernels.{Evaluation, plan_kernel}
 -- evaluation by meaning
 abbrev pub by_meaning : Registry → Evaluation
 by_meaning registry frame output =
-    record { name = output.name; typing = typing registry frame.schema (settled output.expression); gives = meaning registry frame (settled output.expression) }
+    record { name = output.label.name; typing = typing registry frame.schema (settled output.expression); gives = meaning registry frame (settled output.expression) }
 
 -- what a plan means: a frame or a data fault
 abbrev pub source_meaning : Registry → List Frame → Plan → Outcome Frame
@@ -29,8 +30,7 @@ HasTable schema (Some frame) = IsFrameOf schema frame
 
 -- the tables have each table that is scanned
 abbrev pub HasTables : List Frame → List Scan → Type 0
-HasTables tables [] = Unit {0}
-HasTables tables (scan ∷ scans) = HasTable scan.schema (slice_get tables scan.table) × HasTables tables scans
+HasTables tables scans = AllByRecursion (λ scan. HasTable scan.schema (slice_get tables scan.table)) scans
 
 -- the tables have those that a plan scans
 abbrev pub FitsPlan : List Frame → Plan → Type 0

@@ -2,7 +2,7 @@
 -- A node breaks some kinds of rule, where what they read is there, over inputs that have a schema or none.
 -- Where it breaks none it has a schema. A plan is well formed where each of its nodes has one.
 use Rattle.std.specs.Prelude.{ℕ, zero, suc, List, [], ◌∷◌, ◌++◌, map, Option, Some, None, Bool, not, is_some, IsTrue, Result, Ok, Err, if◌then◌else◌}
-use Rattle.std.specs.List.{Contains}
+use Rattle.std.specs.List.{Contains, flat_map}
 use Rattle.plan_types.specs.Schemas.{Name, Columns, repeats, names_of, all_known}
 use Rattle.plan_types.specs.Types.{Truth, same_type}
 use Rattle.plan_types.specs.declared.error.ErrorKind.{ErrorKind}
@@ -20,9 +20,7 @@ kind_where test kind = if test then kind ∷ [] else []
 
 -- the kinds that expressions break over a schema
 abbrev pub all_kinds : Registry → Columns → List (Named Expression) → List ErrorKind
-all_kinds registry schema [] = []
-all_kinds registry schema (output ∷ outputs) =
-    kinds_in registry schema (settled output.expression) ++ all_kinds registry schema outputs
+all_kinds registry schema outputs = flat_map (λ output. kinds_in registry schema (settled output.expression)) outputs
 
 -- over an input without schema they break none
 abbrev pub kinds_over : Registry → Option Columns → List (Named Expression) → List ErrorKind
@@ -36,10 +34,8 @@ input_schema (schema ∷ schemas) zero = schema
 input_schema (schema ∷ schemas) (suc number) = input_schema schemas number
 
 -- the kinds that a node's expressions break
-abbrev pub expression_kinds : Registry → List (Option Columns) → List (OverInput Expression) → List ErrorKind
-expression_kinds registry inputs [] = []
-expression_kinds registry inputs (e ∷ es) =
-    kinds_over registry (input_schema inputs e.input) e.outputs ++ expression_kinds registry inputs es
+abbrev pub expression_kinds : Registry → List (Option Columns) → List (OverInput (Named Expression)) → List ErrorKind
+expression_kinds registry inputs expressions = flat_map (λ e. kinds_over registry (input_schema inputs e.input) e.outputs) expressions
 
 -- a scan's columns have types of columns, and distinct names
 abbrev pub scan_kinds : Columns → List ErrorKind
@@ -47,7 +43,7 @@ scan_kinds own = kind_where (not (all_known own)) InvalidOperation ++ kind_where
 
 -- a select's names are distinct
 abbrev pub name_kinds : List (Named Expression) → List ErrorKind
-name_kinds outputs = kind_where (repeats (map (λ output. output.name) outputs)) Duplicate
+name_kinds outputs = kind_where (repeats (map (λ output. output.label.name) outputs)) Duplicate
 
 -- a typed predicate is of the type of truth values: what one that isn't typed breaks, its expression says
 abbrev pub predicate_kinds : Result Typed ErrorKind → List ErrorKind
@@ -56,7 +52,7 @@ predicate_kinds (Ok typed) = kind_where (not (same_type typed.type Truth)) Inval
 
 -- The kinds that a node breaks besides those of its expressions, by the schemas of its inputs. Another number of
 -- inputs than its own, which no query has, breaks a rule too.
-abbrev pub own_kinds : Registry → PlanKind Expression → List (Option Columns) → List ErrorKind
+abbrev pub own_kinds : Registry → PlanKind (Named Expression) → List (Option Columns) → List ErrorKind
 own_kinds registry (ScanKind table schema) [] = scan_kinds schema
 own_kinds registry (SelectKind outputs) (None ∷ []) = []
 own_kinds registry (SelectKind outputs) (Some schema ∷ []) = name_kinds outputs
@@ -66,7 +62,7 @@ own_kinds registry (RefusedKind kinds) inputs = kinds
 own_kinds registry kind inputs = SchemaMismatch ∷ []
 
 -- the kinds that a node breaks, by the schemas of its inputs
-abbrev pub broken_kinds : Registry → PlanOp Expression → List (Option Columns) → List ErrorKind
+abbrev pub broken_kinds : Registry → PlanOp (Named Expression) → List (Option Columns) → List ErrorKind
 broken_kinds registry op inputs = expression_kinds registry inputs (expressions_of op.kind) ++ own_kinds registry op.kind inputs
 
 abbrev pub column_before : Name → Result Typed ErrorKind → Option Columns → Option Columns
@@ -78,10 +74,10 @@ column_before name (Ok typed) (Some columns) = Some ((name, typed.type) ∷ colu
 abbrev pub columns_of : Registry → Columns → List (Named Expression) → Option Columns
 columns_of registry schema [] = Some []
 columns_of registry schema (output ∷ outputs) =
-    column_before output.name (typing registry schema (settled output.expression)) (columns_of registry schema outputs)
+    column_before output.label.name (typing registry schema (settled output.expression)) (columns_of registry schema outputs)
 
 -- the schema of a node that breaks no rule
-abbrev pub schema_by : Registry → PlanKind Expression → List (Option Columns) → Option Columns
+abbrev pub schema_by : Registry → PlanKind (Named Expression) → List (Option Columns) → Option Columns
 schema_by registry (ScanKind table schema) [] = Some schema
 schema_by registry (SelectKind outputs) (Some schema ∷ []) = columns_of registry schema outputs
 schema_by registry (FilterKind predicate) (Some schema ∷ []) = Some schema
@@ -92,14 +88,14 @@ where_unbroken [] schema = schema
 where_unbroken (kind ∷ kinds) schema = None
 
 -- a node's schema, from those of its inputs
-abbrev pub plan_rule : Registry → PlanOp Expression → List (Option Columns) → Option Columns
+abbrev pub plan_rule : Registry → PlanOp (Named Expression) → List (Option Columns) → Option Columns
 plan_rule registry op inputs = where_unbroken (broken_kinds registry op inputs) (schema_by registry op.kind inputs)
 
 -- a plan's schema, and those of plans side by side
 abbrev pub schema_of : Registry → Plan → Option Columns
 schema_of registry plan = fold (plan_rule registry) plan
 
-abbrev pub schemas_of : Registry → Trees (PlanOp Expression) → List (Option Columns)
+abbrev pub schemas_of : Registry → Trees (PlanOp (Named Expression)) → List (Option Columns)
 schemas_of registry plans = fold_all (plan_rule registry) plans
 
 abbrev pub schema_where : Registry → Option Plan → Option Columns
@@ -115,7 +111,7 @@ abbrev mutual
   pub IsWellFormed : Registry → Plan → Type 0
   IsWellFormed registry (node op inputs) = IsTrue (is_some (schema_of registry (node op inputs))) × AllWellFormed registry inputs
 
-  pub AllWellFormed : Registry → Trees (PlanOp Expression) → Type 0
+  pub AllWellFormed : Registry → Trees (PlanOp (Named Expression)) → Type 0
   AllWellFormed registry no_more = Unit {0}
   AllWellFormed registry (more plan rest) = IsWellFormed registry plan × AllWellFormed registry rest
 

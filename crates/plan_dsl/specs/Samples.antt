@@ -11,13 +11,12 @@ use Rattle.plan_types.specs.declared.dtype.CastOptions.{CastOptions}
 use Rattle.plan_types.specs.declared.dtype.CastOptions.TheVariants.{Strict, NonStrict, Overflowing}
 use Rattle.plan_types.specs.declared.dtype.TimeUnit.TheVariants.{Microseconds}
 use Rattle.plan_types.specs.declared.error.ErrorKind.{ErrorKind}
-use Rattle.plan_types.specs.declared.error.ErrorKind.TheVariants.{SchemaMismatch}
 use Rattle.plan_dsl.specs.declared.expr.Expr.TheVariants.{Literal}
 use Rattle.plan_dsl.specs.declared.literal.LiteralValue.{LiteralValue}
 use Rattle.plan_dsl.specs.declared.operator.Operator.{Operator}
 use Rattle.plan_dsl.specs.declared.operator.Operator.TheVariants.{Eq, EqValidity, NotEq, NotEqValidity, Lt, LtEq, Gt, GtEq, Plus, Minus, Multiply, Divide, FloorDivide, Modulus, And, Or, Xor, LogicalAnd, LogicalOr}
-use Rattle.plan_dsl.specs.Trees.{node, no_more, more}
-use Rattle.plan_dsl.specs.Ops.{ColumnOp, LiteralOp, BinaryOp, CastOp, Expression, LenOp}
+use Rattle.plan_dsl.specs.Trees.{Tree, node, no_more, more}
+use Rattle.plan_dsl.specs.Ops.{ColumnOp, LiteralOp, BinaryOp, CastOp, Expression, LenOp, SliceOp}
 use Rattle.plan_dsl.specs.Expressions.{tree_of}
 use Rattle.plan_dsl.specs.Literals.{is_literal}
 use Rattle.plan_dsl.specs.Typing.{Typed, typing}
@@ -26,7 +25,7 @@ use Rattle.plan_dsl.specs.OperatorTypes.{Taken, pair_to, operator_types}
 use Rattle.plan_dsl.specs.Meaning.{meaning}
 use Rattle.plan_dsl.specs.Strictness.{as_operand}
 use Rattle.plan_dsl.specs.StrictRun.{strict_run}
-use Rattle.plan_dsl.specs.Plans.{Plan, named, scan_op, select_op, filter_op}
+use Rattle.plan_dsl.specs.Plans.{Plan, PlanOp, named, scan_op, select_op, filter_op}
 use Rattle.plan_dsl.specs.PlanKernels.{Series}
 
 -- ---- tables of cases
@@ -269,6 +268,14 @@ equal left right = binary Eq left right
 abbrev pub cast_as : CastOptions → Ty → Expression → Expression
 cast_as options target operand = node (CastOp target options) (more operand no_more)
 
+-- a slice of an expression, by an offset and a length
+abbrev pub slice : Expression → Expression → Expression → Expression
+slice input offset count = node SliceOp (more input (more offset (more count no_more)))
+
+-- null, which has no type but its own
+abbrev pub nothing : Expression
+nothing = node (LiteralOp NullType NullValue) no_more
+
 -- of each type the first values are those of literals, and the others aren't
 abbrev pub HasLiterals : List (Ty × List Val × List Val) → Type 0
 HasLiterals table =
@@ -324,6 +331,10 @@ Mean operator left right table = means (beside left right (map (λ row. (row.0, 
 -- the same, as it runs where it is written
 abbrev pub Run : Operator → Ty → Ty → List (Val × Val × Val) → Type 0
 Run operator left right table = runs (beside left right (map (λ row. (row.0, row.1)) table)) (binary operator a b) ≡ Done (map (λ row. row.2) table)
+
+-- the numbers from 1 to 5
+abbrev pub one_to_five : Frame
+one_to_five = alone int8 (number 1 ∷ number 2 ∷ number 3 ∷ number 4 ∷ number 5 ∷ [])
 
 -- three rows, with a null
 abbrev pub table : Frame
@@ -395,7 +406,7 @@ texts_and_truths =
 -- ---- plans
 
 -- the first table, and the empty one of a schema
-abbrev pub scan : Columns → Plan
+abbrev pub scan : {E : Type 0} → Columns → Tree (PlanOp E)
 scan schema = node (scan_op (Some 0) schema) no_more
 
 abbrev pub empty_scan : Columns → Plan

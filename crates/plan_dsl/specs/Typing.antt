@@ -1,7 +1,7 @@
 -- Types of expressions.
 -- Typing goes from the leaves up by one rule for a node. The first child that is refused is the answer.
-use Rattle.std.specs.Prelude.{Bool, true, false, ◌||◌, List, [], ◌∷◌, ◌++◌, map, Option, Some, None, Result, Ok, Err, if◌then◌else◌}
-use Rattle.plan_types.specs.Types.{Ty, Integer, is_known}
+use Rattle.std.specs.Prelude.{Bool, true, false, not, ◌&&◌, ◌||◌, List, [], ◌∷◌, ◌++◌, map, Option, Some, None, Result, Ok, Err, if◌then◌else◌}
+use Rattle.plan_types.specs.Types.{Ty, Integer, is_integer, is_known, is_null}
 use Rattle.plan_types.specs.Values.{Val}
 use Rattle.plan_types.specs.Schemas.{Columns, type_at}
 use Rattle.plan_types.specs.Casts.{can_cast}
@@ -12,7 +12,7 @@ use Rattle.plan_dsl.specs.OperatorTypes.{Taken, operator_types}
 use Rattle.plan_dsl.specs.Literals.{is_literal}
 use Rattle.plan_dsl.specs.Registry.{Registry}
 use Rattle.plan_dsl.specs.Trees.{Trees, node, no_more, more}
-use Rattle.plan_dsl.specs.Ops.{Op, ColumnOp, LiteralOp, BinaryOp, CastOp, LenOp, Expression}
+use Rattle.plan_dsl.specs.Ops.{Op, ColumnOp, LiteralOp, BinaryOp, CastOp, LenOp, SliceOp, Expression}
 
 -- an expression's type, and whether its column may have another length than one
 pub record Typed : Type 0 where
@@ -56,6 +56,35 @@ ruled_as (Ok taken) many = Ok (record { operands = taken.operands; own = record 
 abbrev pub count_type : Ty
 count_type = Integer false 32
 
+-- goes on with the type that an operand has alone
+abbrev pub over_type : Option Ty → (Ty → Result Ruling ErrorKind) → Result Ruling ErrorKind
+over_type None ruled = Err InvalidOperation
+over_type (Some type) ruled = ruled type
+
+-- a ruling, where a test lets it through
+abbrev pub ruled_where : Bool → Ruling → Result Ruling ErrorKind
+ruled_where test ruling = if test then Ok ruling else Err InvalidOperation
+
+-- whether a test holds of the type, if there is one
+abbrev pub holds_of : (Ty → Bool) → Option Ty → Bool
+holds_of test None = false
+holds_of test (Some type) = test type
+
+-- whether an operand has one value, of such a type alone
+abbrev pub is_one : (Ty → Bool) → Typed → Bool
+is_one test operand = not operand.many && holds_of test (type_alone operand.type)
+
+-- the type in which places and lengths are counted, and whether a length may be of a type
+abbrev pub place_type : Ty
+place_type = Integer true 64
+
+abbrev pub is_length : Ty → Bool
+is_length type = is_integer type || is_null type
+
+-- a slice of an input of the type
+abbrev pub slice_ruling : Ty → Ruling
+slice_ruling type = record { operands = type ∷ place_type ∷ place_type ∷ []; own = record { type = type; many = true } }
+
 -- The types to which a node takes operands that are typed so, and its own typing. A node with another number of
 -- operands than its own, which no expression has, has none.
 abbrev pub rule : Registry → Columns → Op → List Typed → Result Ruling ErrorKind
@@ -64,6 +93,8 @@ rule registry schema (LiteralOp type value) [] = ruled_as (literal_taken type va
 rule registry schema (BinaryOp operator) typed = ruled_as (operator_types operator (types_of typed)) (some_many typed)
 rule registry schema (CastOp target options) (from ∷ []) = ruled_as (cast_taken target (type_alone from.type)) from.many
 rule registry schema LenOp [] = Ok (record { operands = []; own = record { type = count_type; many = false } })
+rule registry schema SliceOp (input ∷ offset ∷ count ∷ []) =
+    over_type (type_alone input.type) (λ type. ruled_where (is_one is_integer offset && is_one is_length count) (slice_ruling type))
 rule registry schema op typed = Err SchemaMismatch
 
 abbrev pub own_typed : Result Ruling ErrorKind → Result Typed ErrorKind

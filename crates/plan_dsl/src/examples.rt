@@ -2,9 +2,9 @@
 
 pub mod arithmetic;
 pub mod bits;
-pub mod counts;
 pub mod expressions;
 pub mod filters;
+pub mod kinds;
 pub mod lists_and_structs;
 pub mod literal_kinds;
 pub mod literals;

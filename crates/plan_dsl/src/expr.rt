@@ -34,6 +34,13 @@ pub enum Expr {
     },
     /// How many rows there are.
     Len,
+    /// So many values from a place on.
+    Slice {
+        input: Box<Expr>,
+        /// A number below 0 counts from the end.
+        offset: Box<Expr>,
+        length: Box<Expr>,
+    },
 }
 
 impl Expr {
@@ -76,10 +83,24 @@ impl Expr {
                 })
             }
             Expr::Len => Ok(Expr::Len),
+            Expr::Slice {
+                input,
+                offset,
+                length,
+            } => {
+                let input = Box::new(alloc, input.try_clone(alloc)?)?;
+                let offset = Box::new(alloc, offset.try_clone(alloc)?)?;
+                let length = Box::new(alloc, length.try_clone(alloc)?)?;
+                Ok(Expr::Slice {
+                    input,
+                    offset,
+                    length,
+                })
+            }
         }
     }
 
-    // Whether both are one tree: the same columns, literals, operators and casts, in the same places.
+    // Whether both are one tree: the same nodes in the same places.
     pub(crate) fn is_same(&self, other: &Expr) -> bool
         ensures { result ≡ same_tree same_op (tree_of self.now) (tree_of other.now) }
     {
@@ -107,6 +128,20 @@ impl Expr {
                 },
             ) => dtype.is_same(own_dtype) && *options == *own_options && expr.is_same(own_expr),
             (Expr::Len, Expr::Len) => true,
+            (
+                Expr::Slice {
+                    input,
+                    offset,
+                    length,
+                },
+                Expr::Slice {
+                    input: own_input,
+                    offset: own_offset,
+                    length: own_length,
+                },
+            ) => {
+                input.is_same(own_input) && offset.is_same(own_offset) && length.is_same(own_length)
+            }
             _ => false,
         }
     }
@@ -141,6 +176,16 @@ impl Expr {
                 expr.feed(state);
             }
             Expr::Len => state.write_u8(4),
+            Expr::Slice {
+                input,
+                offset,
+                length,
+            } => {
+                state.write_u8(5);
+                input.feed(state);
+                offset.feed(state);
+                length.feed(state);
+            }
         }
     }
 }

@@ -1,5 +1,5 @@
 //! Laws of plans. The functions do nothing: their clauses are the laws.
-ghost use Rattle.plan_dsl.specs.Laws.{TypedBreaksNothing, RefusalIsBroken, BrokenIsIllFormed, NoSchemaIsBroken, MeaningHasSchema, PlacesStay, ResolvedBreaksNothing, NothingIsToldAboveARefusal, ScansStay, QueryHasSchema};
+ghost use Rattle.plan_dsl.specs.Laws.{TypedBreaksNothing, RefusalIsBroken, BrokenIsIllFormed, NoSchemaIsBroken, MeaningHasSchema, WrittenIsExpanded, PlacesStay, ResolvedBreaksNothing, NothingIsToldAboveARefusal, ScansStay, QueryHasSchema};
 
 /// What is typed breaks no rule, what is refused breaks the rule that the refusal names, and a plan in
 /// which a rule is broken at some place is not well formed. A node without a schema, whose inputs have one,
@@ -16,10 +16,11 @@ pub fn frame_laws()
     ensures schema { MeaningHasSchema }
 {}
 
-/// A query's plan keeps its places when it is resolved. A node of it that has a schema breaks no rule, and one over
+/// An expression with nothing to expand is its own expansion. A query's plan keeps its places when it is resolved. A node of it that has a schema breaks no rule, and one over
 /// an input without schema has none and breaks none. A well-formed query scans the same tables, and means on them a
 /// frame of its schema, or a data fault.
 pub fn query_laws()
+    ensures written { WrittenIsExpanded }
     ensures places { PlacesStay }
     ensures resolved { ResolvedBreaksNothing }
     ensures above { NothingIsToldAboveARefusal }

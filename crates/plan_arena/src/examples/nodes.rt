@@ -13,11 +13,12 @@ ghost use Rattle.plan_dsl.specs.declared.literal.LiteralValue.TheVariants.{Int, 
 ghost use Rattle.plan_dsl.specs.declared.operator.Operator.TheVariants.{Plus};
 ghost use Rattle.plan_dsl.specs.declared.plan.ProjectionOptions.{ProjectionOptions};
 ghost use Rattle.plan_dsl.specs.Trees.{node, no_more, more};
-ghost use Rattle.plan_dsl.specs.Ops.{ColumnOp, LiteralOp, BinaryOp, CastOp, LenOp, Expression};
+ghost use Rattle.plan_dsl.specs.Names.{column_label, literal_label};
+ghost use Rattle.plan_dsl.specs.Ops.{ColumnOp, LiteralOp, BinaryOp, CastOp, LenOp, SliceOp, Expression};
 ghost use Rattle.plan_dsl.specs.Plans.{Named, named, scan_op, select_op, filter_op};
-ghost use Rattle.plan_dsl.specs.Samples.{Gives, GivesOfTwo, int8, int32, a, b, cast_as, column, count, keep, literal, sum, typed_literal};
+ghost use Rattle.plan_dsl.specs.Samples.{Gives, GivesOfTwo, int8, int32, a, b, cast_as, column, count, keep, literal, slice, sum, typed_literal};
 ghost use Rattle.plan_arena.specs.declared.aexpr.AExpr.{AExpr};
-ghost use Rattle.plan_arena.specs.declared.aexpr.AExpr.TheVariants.{Column, Literal, BinaryExpr, Cast, Len};
+ghost use Rattle.plan_arena.specs.declared.aexpr.AExpr.TheVariants.{Column, Literal, BinaryExpr, Cast, Len, Slice};
 ghost use Rattle.plan_arena.specs.declared.arena.Node.{Node};
 ghost use Rattle.plan_arena.specs.declared.expr_ir.ExprIR.{ExprIR};
 ghost use Rattle.plan_arena.specs.declared.expr_ir.ExprIRs.{ExprIRs};
@@ -27,9 +28,8 @@ ghost use Rattle.plan_arena.specs.declared.ir.IR.TheVariants.{DataFrameScan, Fil
 ghost use Rattle.plan_arena.specs.declared.plan.IRPlan.{IRPlan};
 ghost use Rattle.plan_arena.specs.Layers.{layer};
 ghost use Rattle.plan_arena.specs.Denotation.{Denotes, DenotesTree, depth_at};
-ghost use Rattle.plan_arena.specs.Items.{expression_layer, output_text, named_node, node_name, plan_layer, DenoteNamed, DenotesItem, DenotesPlan, Grows, HasInputs, HoldsExpression, HoldsFrom, HoldsPlan};
-ghost use Rattle.plan_arena.specs.OutputNames.{kept_output, output_of};
-ghost use Rattle.plan_arena.specs.Samples.{a_at, circle, named_at, node_at, strict_sum, sum_items, wide_a};
+ghost use Rattle.plan_arena.specs.Items.{expression_layer, output_label, named_node, node_name, plan_layer, DenoteNamed, DenotesItem, DenotesPlan, Grows, HasInputs, HoldsExpression, HoldsFrom, HoldsPlan};
+ghost use Rattle.plan_arena.specs.Samples.{a_at, circle, literal_at, named_at, node_at, strict_sum, sum_items, wide_a};
 
 /// The layer of an item is what it does, with its expressions' names and its schema, and the numbers of its inputs.
 pub fn layers_of_items()
@@ -38,23 +38,21 @@ pub fn layers_of_items()
         ∷ (BinaryExpr (node_at 4) Plus (node_at 2), layer (BinaryOp Plus) (4 ∷ 2 ∷ []))
         ∷ (Literal (Int (neg_ℤ (pos 5))), layer (LiteralOp (Untyped (neg_ℤ (pos 5))) (IntValue (neg_ℤ (pos 5)))) [])
         ∷ (Literal (Int8 (neg_ℤ (pos 128))), layer (LiteralOp int8 (IntValue (neg_ℤ (pos 128)))) [])
-        ∷ (Literal (UInt64 18446744073709551615), layer (LiteralOp (Integer false 64) (IntValue (pos 18446744073709551615))) []) ∷ (Len, layer LenOp []) ∷ []) }
+        ∷ (Literal (UInt64 18446744073709551615), layer (LiteralOp (Integer false 64) (IntValue (pos 18446744073709551615))) []) ∷ (Len, layer LenOp [])
+        ∷ (Slice (node_at 4) (node_at 2) (node_at 7), layer SliceOp (4 ∷ 2 ∷ 7 ∷ [])) ∷ []) }
     ensures plans { (schema : Schema) → Gives plan_layer ((DataFrameScan (Some 2) schema, layer (scan_op (Some 2) (columns schema)) [])
         ∷ (DataFrameScan None schema, layer (scan_op None (columns schema)) []) ∷ (Filter (node_at 5) (a_at 3), layer (filter_op (named_at "a" 3)) (5 ∷ [])) ∷ []) }
     ensures select { (exprs : ExprIRs) (schema : Schema) (options : ProjectionOptions) →
-        let literal_at : ExprIR = record { node = node_at 4; output_name = LiteralLhs (codes "literal") } in exprs.items.items ≡ a_at 3 ∷ literal_at ∷ [] →
-        plan_layer (Select exprs (node_at 5) schema options) ≡ layer (select_op (named_at "a" 3 ∷ named_at "literal" 4 ∷ []) (Some (columns schema))) (5 ∷ []) }
+        let number : ExprIR = record { node = node_at 4; output_name = LiteralLhs (codes "literal") } in exprs.items.items ≡ a_at 3 ∷ number ∷ [] →
+        plan_layer (Select exprs (node_at 5) schema options) ≡ layer (select_op (named_at "a" 3 ∷ literal_at 4 ∷ []) (Some (columns schema))) (5 ∷ []) }
     ensures names { (schema : Schema) (input : Node) (predicate : ExprIR) (exprs : ExprIRs) (options : ProjectionOptions) → Gives node_name
         ((DataFrameScan (Some 0) schema, codes "df") ∷ (DataFrameScan None schema, codes "df") ∷ (Filter input predicate, codes "selection")
         ∷ (Select exprs input schema options, codes "projection") ∷ []) }
 {}
 
-/// The name of an expression's column comes from its leftmost column, or from a literal there.
+/// The name that an item keeps, with what it comes from.
 pub fn names_of_outputs()
-    ensures origins { Gives output_of ((a, ColumnLhs (codes "a")) ∷ (typed_literal int8 (pos 1), LiteralLhs (codes "literal")) ∷ (sum b a, ColumnLhs (codes "b"))
-        ∷ (sum (typed_literal int8 (pos 1)) a, LiteralLhs (codes "literal")) ∷ (cast_as NonStrict int32 a, ColumnLhs (codes "a")) ∷ (column "literal", ColumnLhs (codes "literal")) ∷ (sum count a, LiteralLhs (codes "len")) ∷ []) }
-    ensures kept { let expr : ExprIR = record { node = node_at 3; output_name = LiteralLhs (codes "literal") } in kept_output expr ≡ LiteralLhs (codes "literal") }
-    ensures texts { Gives output_text ((LiteralLhs (codes "literal"), codes "literal") ∷ (ColumnLhs (codes "a"), codes "a") ∷ []) }
+    ensures labels { Gives output_label ((LiteralLhs (codes "literal"), literal_label (codes "literal")) ∷ (LiteralLhs (codes "len"), literal_label (codes "len")) ∷ (ColumnLhs (codes "literal"), column_label (codes "literal")) ∷ []) }
     ensures named { named_node (a_at 3) ≡ named_at "a" 3 }
 {}
 
@@ -63,6 +61,8 @@ pub fn expressions_of_nodes()
     ensures column { Denotes (HoldsExpression sum_items) 0 a }
     ensures cast { Denotes (HoldsExpression sum_items) 2 wide_a }
     ensures sum { Denotes (HoldsExpression sum_items) 3 strict_sum }
+    ensures slice { let items = Column (codes "a") ∷ Literal (Int (pos 1)) ∷ Slice (node_at 0) (node_at 1) (node_at 1) ∷ [] in
+        Denotes (HoldsExpression items) 2 (slice a (literal (pos 1)) (literal (pos 1))) }
     ensures others { AllByRecursion {X = ℕ × Expression} (λ c. ¬ (Denotes (HoldsExpression sum_items) c.0 c.1)) ((1, a) ∷ (3, sum a b) ∷ (3, sum b wide_a) ∷ (4, a) ∷ []) }
     ensures circle { ¬ (DenotesTree (HoldsExpression circle) 0) }
 {}
@@ -83,7 +83,8 @@ pub fn literals_of_nodes()
 pub fn outputs_of_nodes()
     ensures none { DenoteNamed [] [] [] }
     ensures sum { DenoteNamed sum_items (named_at "a" 3 ∷ []) (named strict_sum ∷ []) }
-    ensures literal { DenoteNamed (Literal (Int8 (pos 1)) ∷ []) (named_at "literal" 0 ∷ []) (named (typed_literal int8 (pos 1)) ∷ []) }
+    ensures literal { DenoteNamed (Literal (Int8 (pos 1)) ∷ []) (literal_at 0 ∷ []) (named (typed_literal int8 (pos 1)) ∷ []) }
+    ensures column_of_that_name { ¬ (DenoteNamed (Literal (Int8 (pos 1)) ∷ []) (named_at "literal" 0 ∷ []) (named (typed_literal int8 (pos 1)) ∷ [])) }
     ensures other_literal { ¬ (DenoteNamed (Literal (Int8 (pos 1)) ∷ []) (named_at "a" 0 ∷ []) (named (typed_literal int8 (pos 1)) ∷ [])) }
     ensures others { AllByRecursion {X = List (Named ℕ) × List (Named Expression)} (λ c. ¬ (DenoteNamed sum_items c.0 c.1))
         ((named_at "b" 3 ∷ [], named strict_sum ∷ []) ∷ (named_at "a" 0 ∷ [], named strict_sum ∷ []) ∷ ([], named a ∷ []) ∷ (named_at "a" 0 ∷ named_at "a" 0 ∷ [], named a ∷ []) ∷ []) }
@@ -94,7 +95,7 @@ pub fn plans_of_items()
     ensures held_scan { (schema : Schema) → HoldsPlan [] (DataFrameScan (Some 0) schema ∷ []) 0 (scan_op (Some 0) (columns schema)) [] }
     ensures other_table { (schema : Schema) → ¬ (HoldsPlan [] (DataFrameScan (Some 0) schema ∷ []) 0 (scan_op (Some 1) (columns schema)) []) }
     ensures held_filter { (name : OutputName) → let predicate : ExprIR = record { node = node_at 0; output_name = name } in
-        let named_a : Named Expression = record { name = output_text name; expression = a } in
+        let named_a : Named Expression = record { label = output_label name; expression = a } in
         HoldsPlan (Column (codes "a") ∷ []) (Filter (node_at 0) predicate ∷ []) 0 (filter_op named_a) (0 ∷ []) }
     ensures scan { (schema : Schema) → DenotesItem [] [] (DataFrameScan (Some 0) schema) (node (scan_op (Some 0) (columns schema)) no_more) }
     ensures other_scan { (schema : Schema) → ¬ (DenotesItem [] [] (DataFrameScan (Some 0) schema) (node (scan_op None (columns schema)) no_more)) }

@@ -1,16 +1,19 @@
 //! Worked examples on lowered plans: which are accepted and strict, what they give, and which run soundly.
 
-ghost use Rattle.std.specs.Prelude.{◌≡◌, [], ◌∷◌, pos, true, Option, Some, None};
+ghost use Rattle.std.specs.Prelude.{◌≡◌, [], ◌∷◌, pos, codes, true, Option, Some, None};
 ghost use Rattle.std.specs.List.{AllByRecursion};
 ghost use Rattle.plan_types.specs.Schemas.{Columns};
 ghost use Rattle.plan_types.specs.Types.{Truth};
 ghost use Rattle.plan_types.specs.Outcomes.{Done, Fault, Stuck};
 ghost use Rattle.plan_types.specs.Frames.{empty_frame};
 ghost use Rattle.plan_types.specs.declared.dtype.CastOptions.TheVariants.{Strict};
-ghost use Rattle.plan_dsl.specs.Plans.{empty_table};
+ghost use Rattle.plan_dsl.specs.Trees.{node, no_more, more};
+ghost use Rattle.plan_dsl.specs.Ops.{Expression};
+ghost use Rattle.plan_dsl.specs.Names.{Label, column_label, literal_label};
+ghost use Rattle.plan_dsl.specs.Plans.{empty_table, select_op, filter_op};
 ghost use Rattle.plan_dsl.specs.PlanMeaning.{source_meaning};
 ghost use Rattle.plan_dsl.specs.Samples.{Gives, GivesOfTwo, int8, int16, int32, int64, number, null, yes, a, b, cast_as, column, empty_scan, frame_with, keep, less, literal, scan, scan_of, schema_ab, schema_flagged, select, sum, table, typed_literal};
-ghost use Rattle.plan_arena.specs.Runs.{own_schema, HasRecorded, IsAccepted, IsStrictPlan, plan_run, RunsSoundly};
+ghost use Rattle.plan_arena.specs.Runs.{own_schema, HasRecorded, IsAccepted, IsStrictPlan, IsNamedPlan, plan_run, RunsSoundly};
 ghost use Rattle.plan_arena.specs.Samples.{lowered_number, lowered_select, lowered_sum, narrowed, schema_of_one, sums, three_flagged, three_numbers};
 
 /// A lowered plan runs by its written casts alone, and gives what the query means.
@@ -57,6 +60,14 @@ pub fn plans_that_are_strict()
     ensures sum_of_two_types { ¬ (IsStrictPlan [] (select (sum a b ∷ []) (scan schema_ab))) }
     ensures filter_of_two_types { ¬ (IsStrictPlan [] (keep (sum a (column "keep")) (scan schema_flagged))) }
     ensures untyped { ¬ (IsStrictPlan [] (lowered_number int32 (literal (pos 5)))) }
+{}
+
+/// A plan is named where each expression has the name that the rules give it, from what they say.
+pub fn named_plans()
+    ensures named { AllByRecursion IsNamedPlan (lowered_sum (schema_of_one "a" int32) ∷ keep (column "keep") (scan schema_flagged) ∷ lowered_number int32 (typed_literal int32 (pos 5)) ∷ []) }
+    ensures others { AllByRecursion {X = Label × Expression} (λ c. ¬ (IsNamedPlan (node (select_op (record { label = c.0; expression = c.1 } ∷ []) None) (more (scan schema_ab) no_more))))
+        ((literal_label (codes "a"), a) ∷ (column_label (codes "b"), a) ∷ (column_label (codes "literal"), typed_literal int32 (pos 5)) ∷ []) }
+    ensures filter_by_another_name { ¬ (IsNamedPlan (node (filter_op (record { label = column_label (codes "a"); expression = column "keep" })) (more (scan schema_flagged) no_more))) }
 {}
 
 /// A plan runs soundly where no node is stuck, and each node's frame has exactly the node's own schema.

@@ -1,21 +1,25 @@
 //! Trees of expressions, their names and their types.
 
-ghost use Rattle.std.specs.Prelude.{◌≡◌, ℕ, ◌+◌, [], ◌∷◌, sum as total, codes, Some, None, Err};
+ghost use Rattle.std.specs.Prelude.{◌≡◌, ℕ, ◌+◌, [], ◌∷◌, sum as total, pos, codes, Some, None, Err};
 ghost use Rattle.plan_types.specs.declared.dtype.CastOptions.TheVariants.{Strict, NonStrict};
 ghost use Rattle.plan_types.specs.declared.error.ErrorKind.TheVariants.{ColumnNotFound, SchemaMismatch};
 ghost use Rattle.plan_dsl.specs.declared.operator.Operator.TheVariants.{Plus};
 ghost use Rattle.plan_dsl.specs.Trees.{node, no_more, fold, tree_at, tree_depth};
 ghost use Rattle.plan_dsl.specs.Ops.{ColumnOp, BinaryOp, CastOp};
-ghost use Rattle.plan_dsl.specs.Names.{name_of};
+ghost use Rattle.plan_dsl.specs.Names.{column_label, literal_label, label_of, name_of};
 ghost use Rattle.plan_dsl.specs.Typing.{typing, typing_rule, kinds_in};
-ghost use Rattle.plan_dsl.specs.Samples.{Gives, GivesOfTwo, int8, int16, int32, int64, uint8, uint16, a, b, c, d, u, count, sum, cast_as, one_value, many_values, of_many, of_one, schema_abu};
+ghost use Rattle.plan_dsl.specs.Samples.{Gives, GivesOfTwo, column, typed_literal, int8, int16, int32, int64, uint8, uint16, a, b, c, d, u, count, sum, cast_as, one_value, many_values, of_many, of_one, schema_abu};
 
-/// A column has its own name, and any other node that of its first child.
+/// A column has its own name, and any other node that of its first child, with what that comes from.
 pub fn names_of_expressions()
     ensures names { Gives name_of (
         (a, codes "a") ∷ (sum a b, codes "a") ∷ (sum b a, codes "b") ∷
         (cast_as Strict int32 a, codes "a") ∷ (cast_as Strict int64 (sum b a), codes "b") ∷
         (sum (sum c a) b, codes "c") ∷ (node (BinaryOp Plus) no_more, codes "literal") ∷ (count, codes "len") ∷ (sum count a, codes "len") ∷ []) }
+    ensures labels { Gives label_of (
+        (a, column_label (codes "a")) ∷ (typed_literal int8 (pos 1), literal_label (codes "literal")) ∷ (sum b a, column_label (codes "b")) ∷
+        (sum (typed_literal int8 (pos 1)) a, literal_label (codes "literal")) ∷ (cast_as NonStrict int32 a, column_label (codes "a")) ∷
+        (column "literal", column_label (codes "literal")) ∷ (sum count a, literal_label (codes "len")) ∷ []) }
 {}
 
 /// A column has its schema's type, a sum the common type of its operands, and a cast its target.

@@ -1,7 +1,7 @@
 //! Literals: names, types, what they give, and plans that have them.
 
 ghost use Rattle.std.specs.Prelude.{◌≡◌, [], ◌∷◌, map, pos, neg_ℤ, codes, true, false, Some, None, Err};
-ghost use Rattle.plan_types.specs.Types.{Truth, Untyped};
+ghost use Rattle.plan_types.specs.Types.{Truth, TextType, DateType, Untyped};
 ghost use Rattle.plan_types.specs.Outcomes.{Done, Fault, Stuck};
 ghost use Rattle.plan_types.specs.declared.dtype.CastOptions.TheVariants.{Strict, NonStrict, Overflowing};
 ghost use Rattle.plan_types.specs.declared.error.ErrorKind.TheVariants.{ColumnNotFound, Duplicate, SchemaMismatch, InvalidOperation};
@@ -12,7 +12,7 @@ ghost use Rattle.plan_dsl.specs.Names.{name_of};
 ghost use Rattle.plan_dsl.specs.Literals.{literal_op, settled};
 ghost use Rattle.plan_dsl.specs.Typing.{typing, kinds_in};
 ghost use Rattle.plan_dsl.specs.Meaning.{meaning};
-ghost use Rattle.plan_dsl.specs.Strictness.{CanBecome, is_strict};
+ghost use Rattle.plan_dsl.specs.Strictness.{CanBecome, is_strict, as_operand};
 ghost use Rattle.plan_dsl.specs.StrictRun.{strict_run};
 ghost use Rattle.plan_dsl.specs.Plans.{named, scan_op, select_op, filter_op};
 ghost use Rattle.plan_dsl.specs.PlanRules.{schema_of, broken_kinds, IsWellFormed, Breaks};
@@ -135,8 +135,23 @@ pub fn literals_as_operands()
         (int8, int16, typed_literal int8 (pos 1), cast_as NonStrict int16 (typed_literal int8 (pos 1))) ∷
         (int8, int8, typed_literal int8 (pos 1), typed_literal int8 (pos 1)) ∷ []) }
     ensures in_range { CanBecome (Untyped (pos 300)) int16 }
-    ensures out_of_range { ¬ (CanBecome (Untyped (pos 300)) int8) }
     ensures unknown { ¬ (CanBecome (Untyped (pos 300)) (Untyped (pos 300))) }
+{}
+
+/// A number that the type lacks is cast from a literal of the type that it has alone, and so is null where it has no place.
+pub fn numbers_that_a_type_lacks()
+    ensures operands { AreOperands (
+        (Untyped (pos 300), int8, wide, cast_as NonStrict int8 (typed_literal int32 (pos 300))) ∷
+        (Untyped (pos 9223372036854775807), int64, literal (pos 9223372036854775807), typed_literal int64 (pos 9223372036854775807)) ∷
+        (Untyped (pos 9223372036854775808), int64, literal (pos 9223372036854775808), cast_as NonStrict int64 (typed_literal uint64 (pos 9223372036854775808))) ∷
+        (Untyped (pos 5), TextType, five, cast_as NonStrict TextType (typed_literal int32 (pos 5))) ∷ []) }
+    ensures meanings { Gives (means signs_and_truths) (
+        (as_operand (Untyped (pos 300)) int8 wide, Done (null ∷ [])) ∷
+        (as_operand (Untyped (pos 9223372036854775808)) int64 (literal (pos 9223372036854775808)), Done (null ∷ [])) ∷
+        (as_operand (Untyped (pos 5)) Truth five, Done (yes ∷ [])) ∷ []) }
+    ensures lacking { CanBecome (Untyped (pos 300)) int8 × CanBecome (Untyped (pos 9223372036854775808)) int64 }
+    ensures past_every_type { ¬ (CanBecome (Untyped (pos 18446744073709551616)) int64) }
+    ensures no_cast { ¬ (CanBecome (Untyped (pos 300)) DateType) }
 {}
 
 /// A literal of a type is strict, and so is an operator between it and an expression of that type. A number without a type is not.

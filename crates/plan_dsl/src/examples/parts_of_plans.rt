@@ -14,22 +14,25 @@ ghost use Rattle.plan_dsl.specs.declared.plan.DslPlan.TheVariants.{DataFrameScan
 ghost use Rattle.plan_dsl.specs.declared.plan.Exprs.{Exprs};
 ghost use Rattle.plan_dsl.specs.declared.plan.ProjectionOptions.{ProjectionOptions};
 ghost use Rattle.plan_dsl.specs.Trees.{node, no_more, more};
-ghost use Rattle.plan_dsl.specs.Ops.{LiteralOp, BinaryOp, Expression};
+ghost use Rattle.plan_dsl.specs.Ops.{ColumnOp, LiteralOp, BinaryOp, Expression};
+ghost use Rattle.plan_dsl.specs.Names.{column_label, literal_label};
 ghost use Rattle.plan_dsl.specs.Typing.{Typed, own_kind};
 ghost use Rattle.plan_dsl.specs.Kernels.{Meaning};
 ghost use Rattle.plan_dsl.specs.Laws.{operator_node};
-ghost use Rattle.plan_dsl.specs.Plans.{ScanKind, SelectKind, FilterKind, named, over_input, expressions_of, scans_in, scan_op, select_op, filter_op, plan_tree, options_in};
+ghost use Rattle.plan_dsl.specs.Sources.{Plain};
+ghost use Rattle.plan_dsl.specs.Plans.{ScanKind, SelectKind, FilterKind, Named, named, over_input, expressions_of, scans_in, scan_op, select_op, filter_op, plan_tree, options_in};
 ghost use Rattle.plan_dsl.specs.PlanRules.{scan_kinds, predicate_kinds, own_kinds, input_schema, expression_kinds, broken_kinds, columns_of, schema_by, plan_rule, top_kinds};
 ghost use Rattle.plan_dsl.specs.PlanKernels.{Evaluated, series_on, shared_length, in_front, rows_of, rows_where_true, kept_rows};
 ghost use Rattle.plan_dsl.specs.Samples.{Gives, GivesOfTwo, int8, null, yes, no, number, column, a, b, c, u, many_values, of_one, of_many, sum, equal, frame_with, schema_au, uint64, scan, scan_of, empty_scan, select, keep, series};
 
-/// A plan's tree has the parts of the plan, and a node's expressions are under their own names. Its selects keep their options beside it.
+/// A plan's tree has the parts of the plan, and an expression is named by its own name. Its selects keep their options beside it.
 pub fn trees_of_plans()
     ensures scan { (schema : Schema) → plan_tree (DataFrameScan (Some 3) schema) ≡ node (scan_op (Some 3) (columns schema)) no_more }
     ensures empty { (schema : Schema) → plan_tree (DataFrameScan None schema) ≡ node (scan_op None (columns schema)) no_more }
     ensures filter { (p : _) (schema : Schema) → plan_tree (Filter' p (DataFrameScan (Some 0) schema) (Column (codes "keep")))
-        ≡ node (filter_op (record { name = codes "keep"; expression = column "keep" })) (more (scan (columns schema)) no_more) }
-    ensures null { named (node (LiteralOp NullType NullValue) no_more) ≡ record { name = codes "literal"; expression = node (LiteralOp NullType NullValue) no_more } }
+        ≡ node (filter_op (node (Plain (ColumnOp (codes "keep"))) no_more)) (more (scan (columns schema)) no_more) }
+    ensures named { named (column "keep") ≡ record { label = column_label (codes "keep"); expression = column "keep" } }
+    ensures null { named (node (LiteralOp NullType NullValue) no_more) ≡ record { label = literal_label (codes "literal"); expression = node (LiteralOp NullType NullValue) no_more } }
     ensures options { (p q r : _) (expr inner : Exprs) (schema : Schema) → let checked : ProjectionOptions = record { duplicate_check = true } in
         let unchecked : ProjectionOptions = record { duplicate_check = false } in
         options_in (Select' expr p (Filter' q (Select' inner r (DataFrameScan None schema) checked) (Column (codes "keep"))) unchecked) ≡ unchecked ∷ checked ∷ [] }
@@ -63,7 +66,7 @@ pub fn kinds_of_nodes()
 
 /// The expressions of a node, with the number of the input over which they are typed, and the tables that a plan scans.
 pub fn expressions_and_scans()
-    ensures expressions { Gives (expressions_of {E = Expression}) (
+    ensures expressions { Gives (expressions_of {E = Named Expression}) (
         (ScanKind (Some 3) schema_au, []) ∷
         (SelectKind (named a ∷ named b ∷ []), record { input = 0; outputs = named a ∷ named b ∷ [] } ∷ []) ∷
         (FilterKind (named c), record { input = 0; outputs = named c ∷ [] } ∷ []) ∷ []) }
@@ -72,7 +75,7 @@ pub fn expressions_and_scans()
         (over_input 0 (named c ∷ []) ∷ [], []) ∷
         (over_input 1 (named c ∷ []) ∷ [], ColumnNotFound ∷ []) ∷
         (over_input 1 (named (equal u a) ∷ []) ∷ over_input 1 (named a ∷ named c ∷ []) ∷ [], SchemaMismatch ∷ ColumnNotFound ∷ []) ∷ []) }
-    ensures scans { Gives (scans_in {E = Expression}) (
+    ensures scans { Gives (scans_in {E = Named Expression}) (
         (keep c (select (a ∷ []) (scan schema_au)), record { table = 0; schema = schema_au } ∷ []) ∷
         (keep c (select (a ∷ []) (empty_scan schema_au)), []) ∷ []) }
     ensures of_two_inputs { let both = node (select_op (named a ∷ []) None) (more (scan_of 4 schema_au) (more (scan []) no_more)) in

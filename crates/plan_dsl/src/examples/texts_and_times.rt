@@ -180,16 +180,17 @@ pub fn literals_of_texts_and_times()
     ensures meaning_of_a_text { meaning [] empty_frame (node (LiteralOp TextType (text "a")) no_more) [] ≡ Done (text "a" ∷ []) }
 {}
 
-/// A cast stands round an operand of another type. Only a type of integers takes a number without a type.
+/// A cast stands round an operand of another type. A number without a type becomes a literal of a type of integers alone.
 pub fn operands_of_texts_and_times()
     ensures operands { AreOperands (
         (DateType, moment, d, cast_as NonStrict moment d) ∷
         (DurationType Nanoseconds, DurationType Milliseconds, s, cast_as NonStrict (DurationType Milliseconds) s) ∷
         (DurationType Nanoseconds, DurationType Nanoseconds, s, s) ∷
         (NullType, TextType, n, cast_as NonStrict TextType n) ∷
-        (Untyped (pos 5), int32, literal (pos 5), typed_literal int32 (pos 5)) ∷ []) }
+        (Untyped (pos 5), int32, literal (pos 5), typed_literal int32 (pos 5)) ∷
+        (Untyped (pos 2147483648), DateType, literal (pos 2147483648), cast_as NonStrict DateType (typed_literal int64 (pos 2147483648))) ∷ []) }
     ensures other_types { CanBecome DateType moment × CanBecome NullType TextType × CanBecome Truth TextType }
-    ensures no_types { ¬ (CanBecome TextType Truth) × ¬ (CanBecome moment span) × ¬ (CanBecome (Untyped (pos 5)) DateType) × ¬ (CanBecome (Untyped (pos 5)) TextType) }
+    ensures no_types { ¬ (CanBecome TextType Truth) × ¬ (CanBecome moment span) × ¬ (CanBecome (Untyped (pos 5)) DateType) }
 {}
 
 /// A sum of a moment and a span is strict where they have one unit.

@@ -15,6 +15,9 @@ returns-clause-cast c = cast_denotes
 pub returns-clause-sum : goal.returns-clause-sum
 returns-clause-sum c = (2 ∷ 1 ∷ [], refl, (cast_denotes, (([], refl, tt), tt)))
 
+pub returns-clause-slice : goal.returns-clause-slice
+returns-clause-slice c = (0 ∷ 1 ∷ 1 ∷ [], refl, (([], refl, tt), (([], refl, tt), (([], refl, tt), tt))))
+
 -- a node that is its own input denotes no tree, since the child would be the whole
 its_input : (op : Op) (inputs : List ℕ) → HoldsExpression circle 0 op inputs → inputs ≡ 0 ∷ []
 its_input op inputs h = cc

@@ -1,9 +1,10 @@
 use Rattle.std.proofs.Common.{[], ◌∷◌, Option, ℕ, List, Some, codes, refl}
 use Rattle.plan_types.specs.Schemas.{Columns, columns}
 use Rattle.plan_dsl.specs.Plans.{Named, scan_op, filter_op}
+use Rattle.plan_dsl.specs.Names.{column_label}
 use Rattle.plan_dsl.specs.Ops.{Expression}
 use Rattle.plan_arena.specs.declared.aexpr.AExpr.{AExpr}
-use Rattle.plan_arena.specs.Items.{DenoteNamed, DenotesOp, output_text}
+use Rattle.plan_arena.specs.Items.{DenoteNamed, DenotesOp, output_label}
 use Rattle.plan_arena.proofs.examples.nodes.plans_of_items.Goals as goal
 
 scan_denotes : (items : List AExpr) (table : Option ℕ) (schema : Columns) → DenotesOp items (scan_op table schema) (scan_op table schema)
@@ -17,7 +18,7 @@ filter_denotes items n e d = record { same_recorded = refl; kind = (e, refl, d) 
 
 pub returns-clause-held_filter : goal.returns-clause-held_filter
 returns-clause-held_filter c = λ name. record {
-  flat = filter_op (record { name = output_text name; expression = 0 });
+  flat = filter_op (record { label = output_label name; expression = 0 });
   item = refl;
   denotes = filter_denotes _ _ _ (refl, ([], refl, tt), tt);
 }
@@ -30,7 +31,7 @@ pub returns-clause-filter : goal.returns-clause-filter
 returns-clause-filter c = λ schema. (
   0 ∷ [],
   record {
-    flat = filter_op (record { name = codes "a"; expression = 0 });
+    flat = filter_op (record { label = column_label (codes "a"); expression = 0 });
     is = refl;
     denotes = filter_denotes _ _ _ (refl, ([], refl, tt), tt);
   },

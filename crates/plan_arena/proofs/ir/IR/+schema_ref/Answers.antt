@@ -1,6 +1,6 @@
-use Rattle.std.proofs.Common.{Some, refl, ap, ◌∙◌, arith}
+use Rattle.std.proofs.Common.{refl, ap, ◌∙◌, arith}
 use Rattle.plan_types.specs.Schemas.{columns}
-use Rattle.plan_arena.specs.Items.{named_node, plan_layer}
+use Rattle.plan_arena.specs.Items.{plan_layer}
 use Rattle.plan_arena.proofs.ItemLemmas.{plan_within, item_denotes, item_inputs, item_recorded, filter_item, only_input, only_input_less_deep}
 use Rattle.plan_arena.proofs.ir.IR.+schema_ref.Goals as goal
 
