@@ -1,6 +1,6 @@
 -- Expressions with every cast written out.
 use Rattle.std.proofs.Common.{◌≡◌, Bool, true, false, cond, List, [], ◌∷◌, Some, Result, Ok, Err, refl, sym, ap, ◌∙◌, subst}
-use Rattle.std.specs.Prelude.{ℤ}
+use Rattle.std.specs.Prelude.{ℤ, unwrap_or}
 use Rattle.plan_types.specs.Types.{Ty, Untyped, is_known, same_type}
 use Rattle.plan_types.specs.TypeLaws.{same_type_own}
 use Rattle.plan_types.specs.Schemas.{Columns}
@@ -9,15 +9,18 @@ use Rattle.plan_types.specs.Casts.{can_cast}
 use Rattle.plan_types.specs.declared.error.ErrorKind.{ErrorKind}
 use Rattle.plan_types.specs.declared.error.ErrorKind.TheVariants.{InvalidOperation}
 use Rattle.plan_types.specs.declared.dtype.CastOptions.TheVariants.{NonStrict}
-use Rattle.plan_types.proofs.CommonLemmas.{alone_itself}
+use Rattle.plan_types.specs.CommonTypes.{type_alone}
+use Rattle.plan_types.proofs.CommonLemmas.{alone_itself, literal_has}
 use Rattle.plan_types.proofs.CastLemmas.{source_known}
 use Rattle.plan_dsl.specs.Registry.{Registry}
 use Rattle.plan_dsl.specs.Trees.{Trees, node, no_more, more, AllRelated}
 use Rattle.plan_dsl.specs.Ops.{Op, LiteralOp, CastOp, Expression}
 use Rattle.plan_dsl.specs.Typing.{Typed, Ruling, rule, ruled_as, cast_taken, types_of, typed_to, typed_before, typing, typing_all}
-use Rattle.plan_dsl.specs.Strictness.{CanBecome, IsSame, IsStrict, AllStrict, is_strict, are_strict, is_strict_over, changed, as_operand, as_operands}
+use Rattle.plan_dsl.specs.Strictness.{CanBecome, IsSame, IsStrict, AllStrict, is_strict, are_strict, is_strict_over, cast_to, changed, integer_has, number_as, number_literal, as_operand, as_operands}
+use Rattle.plan_dsl.specs.Literals.{settled_type}
+use Rattle.plan_dsl.proofs.LiteralLemmas.{becomes_literal, literal_typing}
 use Rattle.plan_dsl.proofs.TypingLemmas.{by_children, by_no_children}
-use Rattle.plan_dsl.proofs.CastLemmas.{if_true, if_false}
+use Rattle.plan_dsl.proofs.CastLemmas.{if_true}
 use Rattle.plan_dsl.proofs.OpLemmas.{AllBecome, keeps_rule}
 use Rattle.plan_dsl.proofs.OperandLemmas.{after_typed, operands_same}
 use Rattle.plan_dsl.proofs.SameLemmas.{node_same, typings_same, same_itself, same_then}
@@ -87,9 +90,27 @@ module _ (registry : Registry) (schema : Columns) where
       ∙ ap (λ r. node (CastOp target NonStrict) (fitted_by r (from ∷ []) child)) rules
       ∙ ap (node (CastOp target NonStrict)) (own_operands (from ∷ []) child tt)
 
+  -- so does a literal
+  literal_coerced : (type : Ty) (number : ℤ) → coerced registry schema (number_literal type number) ≡ number_literal type number
+  literal_coerced type number = ap (node (LiteralOp type (IntValue number))) (bare_by (rule registry schema (LiteralOp type (IntValue number)) []) [])
+
+  own_coerced : (own target : Ty) (number : ℤ) → type_alone (Untyped number) ≡ Some own → can_cast own target ≡ true → coerced registry schema (cast_to target (number_literal own number)) ≡ cast_to target (number_literal own number)
+  own_coerced own target number alone casts =
+      let has = literal_has number own alone in
+      let typed = literal_typing registry schema own (IntValue number) (becomes_literal own number has.1 has.0) in
+      cast_coerced own target (number_literal own number) false typed has.1 casts ∙ ap (cast_to target) (literal_coerced own number)
+
+  number_coerced : (number : ℤ) (target : Ty) → CanBecome (Untyped number) target → coerced registry schema (number_as number target) ≡ number_as number target
+  number_coerced number target can =
+      elim (integer_has target number) as (λ b. integer_has target number ≡ b → coerced registry schema (cond b (number_literal target number) (cast_to target (number_literal (settled_type (Untyped number)) number))) ≡ cond b (number_literal target number) (cast_to target (number_literal (settled_type (Untyped number)) number))) [
+        | true ↦ λ e. literal_coerced target number
+        | false ↦ λ e.
+            let own = can.has number refl e in
+            subst (λ type. coerced registry schema (cast_to target (number_literal type number)) ≡ cast_to target (number_literal type number)) (sym (ap (λ found. unwrap_or found (Untyped number)) own.1)) (own_coerced own.0 target number own.1 own.2)
+      ] refl
+
   changed_coerced : (from target : Ty) (tree : Expression) (many : Bool) → typing registry schema tree ≡ Ok (record { type = from; many = many }) → CanBecome from target → coerced registry schema (changed from target tree) ≡ changed from target (coerced registry schema tree)
-  changed_coerced (Untyped number) target tree many is can =
-      ap (node (LiteralOp target (IntValue number))) (bare_by (rule registry schema (LiteralOp target (IntValue number)) []) [])
+  changed_coerced (Untyped number) target tree many is can = number_coerced number target can
   changed_coerced from target tree many is can =
       let casts = can.casts (λ number e. cc) in cast_coerced from target tree many is (source_known from target casts) casts
 

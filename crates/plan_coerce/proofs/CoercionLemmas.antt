@@ -1,8 +1,9 @@
 -- What the visit of a node leaves.
-use Rattle.std.proofs.Common.{◌≡◌, ◌≢◌, ℕ, ◌<◌, ◌≤◌, true, false, cond, List, [], ◌∷◌, ◌++◌, length, set, Some, Ok, refl, sym, ap, ◌∙◌, subst, arith, map, zero, suc, ◌+◌, take, get_or, slice_get}
-use Rattle.std.specs.Prelude.{ℤ}
+use Rattle.std.proofs.Common.{◌≡◌, ◌≢◌, ℕ, ◌<◌, ◌≤◌, true, false, cond, List, [], ◌∷◌, ◌++◌, length, set, Some, Ok, refl, sym, ap, ◌∙◌, subst, arith, map, zero, suc, ◌+◌, take, get_or, slice_get, ⊎_elim}
+use Rattle.std.specs.Prelude.{ℤ, ◌&&◌, unwrap_or}
 use Rattle.std.proofs.lemmas.Bool.{false≢true, and_parts}
-use Rattle.plan_types.specs.Types.{Ty, Untyped, ty, is_integer, is_known, same_type}
+use Rattle.plan_types.specs.Types.{Ty, Integer, Untyped, ty, is_counted, is_integer, is_known, same_type}
+use Rattle.plan_types.specs.CommonTypes.{type_alone}
 use Rattle.plan_types.specs.Schemas.{Columns}
 use Rattle.plan_types.specs.Values.{Val, IntValue, in_range}
 use Rattle.plan_types.specs.Casts.{can_cast}
@@ -12,13 +13,14 @@ use Rattle.plan_dsl.specs.declared.literal.LiteralValue.{LiteralValue}
 use Rattle.plan_dsl.specs.Registry.{Registry}
 use Rattle.plan_dsl.specs.Trees.{Trees, node, no_more, more, tree_depth, trees_depth}
 use Rattle.plan_dsl.specs.Ops.{Op, LiteralOp, CastOp, Expression}
-use Rattle.plan_dsl.specs.Literals.{is_literal, literal_op, literal_type, literal_value}
+use Rattle.plan_dsl.specs.Literals.{is_literal, literal_op, literal_type, literal_value, settled_type}
 use Rattle.plan_dsl.proofs.LiteralLemmas.{becomes_literal}
-use Rattle.plan_dsl.specs.Typing.{Typed, typing, typing_all, types_of, Ruling, rule}
-use Rattle.plan_dsl.specs.Strictness.{CanBecome, IsSame, changed, as_operand, as_operands, IsStrictOver}
+use Rattle.plan_dsl.specs.Typing.{Typed, own_typed, then_typed, typing, typing_all, typing_rule, types_of, Ruling, rule}
+use Rattle.plan_dsl.proofs.StrictLemmas.{strict_from}
+use Rattle.plan_dsl.specs.Strictness.{CanBecome, IsSame, cast_to, changed, integer_has, number_as, number_literal, as_operand, as_operands, IsStrictOver}
 use Rattle.plan_dsl.proofs.TypingLemmas.{ok_same, typed_parts, by_children, by_no_children}
 use Rattle.plan_dsl.proofs.CastLemmas.{if_true, if_false}
-use Rattle.plan_dsl.proofs.OperandLemmas.{operands_same, operands_strict}
+use Rattle.plan_dsl.proofs.OperandLemmas.{operands_strict}
 use Rattle.plan_arena.specs.declared.arena.Node.{Node}
 use Rattle.plan_arena.specs.declared.aexpr.AExpr.{AExpr}
 use Rattle.plan_arena.specs.declared.aexpr.AExpr.TheVariants.{Literal, Cast}
@@ -26,9 +28,9 @@ use Rattle.plan_arena.specs.Denotation.{Denotes, DenoteAll}
 use Rattle.plan_arena.specs.Layers.{layer, shape_of, op_of, inputs_of}
 use Rattle.plan_arena.specs.Items.{HoldsExpression, HoldsFrom, Grows, expression_layer, Rewired, numbers}
 use Rattle.plan_arena.proofs.DenotationLemmas.{kept_below, all_kept_below, some_same}
-use Rattle.plan_arena.proofs.ItemLemmas.{tree_grown, added_denotes, length-grown, any_node, from_laws, from_top, expression_elsewhere, expression_written, grown_held, within, expression_got}
+use Rattle.plan_arena.proofs.ItemLemmas.{held_top, tree_grown, added_denotes, length-grown, any_node, from_laws, from_top, expression_elsewhere, expression_written, grown_held, within, expression_got}
 use Rattle.plan_infer.specs.Typed.{HasKnownType}
-use Rattle.plan_coerce.proofs.CoercedLemmas.{node_alike_over}
+use Rattle.plan_coerce.proofs.CoercedLemmas.{alike_itself, node_alike_over}
 use Rattle.plan_coerce.specs.Coercion.{IsAlike, Visits, Operand, IsChanged, AreChanged, IsReady, AllReady, DenotesSame}
 use Rattle.plan_infer.specs.declared.type_table.TypeTable.{TypeTable}
 use Rattle.plan_types.proofs.CastLemmas.{source_known}
@@ -37,9 +39,10 @@ use Rattle.std.proofs.lemmas.List.{map-append, length-map}
 use Rattle.std.proofs.lemmas.Option.{slice_get-get_or, get_or_from_slice_get}
 use Rattle.std.proofs.Math.Seq.{take-length}
 use Rattle.std.specs.List.{AllByRecursion}
-use Rattle.plan_infer.specs.KeptTypes.{Keeps, IsKept, Extends, AllKept, IsRight, IsTypedItem, TakesTo}
+use Rattle.plan_infer.specs.declared.type_table.Inferred.{Inferred}
+use Rattle.plan_infer.specs.KeptTypes.{Keeps, KeepsEntry, IsKept, Extends, AllKept, AreOperands, IsRight, TakesTo, typed_of}
 use Rattle.plan_arena.proofs.NumberLemmas.{all_joined, all_weaker}
-use Rattle.plan_infer.proofs.TableLemmas.{keeps_one, kept_type, layer_held}
+use Rattle.plan_infer.proofs.TableLemmas.{children_kept, kept_type, kept_typing, layer_held, listed_operands, ruled_inputs, still_keeps, still_kept, kept_of, type_of, type_one}
 use Rattle.plan_dsl.proofs.OpLemmas.{AllBecome, keeps_rule}
 
 -- what an arena holds it holds when it has grown and another item was written
@@ -67,9 +70,9 @@ op_value a b v w e = cc
 value_type : (target : Ty) (number : ℤ) (value : LiteralValue) → literal_op value ≡ LiteralOp target (IntValue number) → literal_type value ≡ target
 value_type target number value is = op_type (literal_type value) target (literal_value value) (IntValue number) is
 
-bare_kept : (first : ℕ) (items items' : List AExpr) (ns : List ℕ) → DenoteAll (HoldsFrom first items) ns no_more → DenoteAll (HoldsFrom first items') ns no_more
-bare_kept first items items' [] d = tt
-bare_kept first items items' (n ∷ ns) d = absurd d
+-- a tree has a node
+deeper : (x : Expression) (depth : ℕ) → tree_depth x < depth → 1 < depth
+deeper (node op ts) depth lt = omega (arith, lt)
 
 change_cast : (from target : Ty) (t : Expression) → is_known from ≡ true → node (CastOp target NonStrict) (more t no_more) ≡ changed from target t
 change_cast (Untyped number) target t known = cc
@@ -92,8 +95,21 @@ module _ (first : ℕ) (items : List AExpr) (at : ℕ) (item : AExpr) (t : Expre
   cast_kept m target x lt other dx =
       (dx.0, keeps m _ dx.0 other dx.1, all_kept_below (shape_of (map expression_layer items)) (HoldsFrom first items) (HoldsFrom first (set items at item)) (from_laws first items) at keeps t d dx.0 (more x no_more) dx.2 (omega arith))
 
+  -- any literal is smaller than the node
+  literal_kept : (m : ℕ) (type : Ty) (number : ℤ) → 1 < tree_depth t → Denotes (HoldsFrom first items) m (number_literal type number) → Denotes (HoldsFrom first (set items at item)) m (number_literal type number)
+  literal_kept m type number lt dx = small_kept m (number_literal type number) lt dx
+
+  number_kept : (m : ℕ) (number : ℤ) (target : Ty) → 1 < tree_depth t → m ≢ at → Denotes (HoldsFrom first items) m (number_as number target) → Denotes (HoldsFrom first (set items at item)) m (number_as number target)
+  number_kept m number target lt other dm =
+      let literal = number_literal target number in
+      let own = number_literal (settled_type (Untyped number)) number in
+      elim (integer_has target number) as (λ b. Denotes (HoldsFrom first items) m (cond b literal (cast_to target own)) → Denotes (HoldsFrom first (set items at item)) m (cond b literal (cast_to target own))) [
+        | true ↦ λ dx. literal_kept m target number lt dx
+        | false ↦ λ dx. cast_kept m target own lt other dx
+      ] dm
+
   changed_kept : (from : Ty) (m : ℕ) (target : Ty) (x : Expression) → tree_depth x < tree_depth t → m ≢ at → Denotes (HoldsFrom first items) m (changed from target x) → Denotes (HoldsFrom first (set items at item)) m (changed from target x)
-  changed_kept (Untyped number) m target x lt other dx = (dx.0, keeps m _ dx.0 other dx.1, bare_kept first items (set items at item) dx.0 dx.2)
+  changed_kept (Untyped number) m target x lt other dx = number_kept m number target (deeper x (tree_depth t) lt) other dx
   changed_kept _ m target x lt other dx = cast_kept m target x lt other dx
 
   -- keeps an operand that was taken from below the node
@@ -121,32 +137,54 @@ cast_round old new table n m from target k other known at denotes = record {
   fresh = λ e. omega (arith, at);
 }
 
-literal_in_place : (target : Ty) (value : LiteralValue) (number : ℤ) (from : Ty) (t : Expression) → from ≡ Untyped number → literal_op value ≡ LiteralOp target (IntValue number) → node (literal_op value) no_more ≡ changed from target t
-literal_in_place target value number from t e is = ap (λ op. node op no_more) is ∙ sym (ap (λ f. changed f target t) e)
-
--- a literal in place of a number without a type
-pub literal_for : (old new : List AExpr) (table : TypeTable) (n m : ℕ) (from : DataType) (target : Ty) (value : LiteralValue) (number : ℤ) → Keeps table n from → same_type (ty from) target ≡ false → ty from ≡ Untyped number → literal_op value ≡ LiteralOp target (IntValue number) → m ≡ length old → ((first : ℕ) → first ≤ length old → Denotes (HoldsFrom first new) m (node (literal_op value) no_more)) → IsChanged old new table (record { input = n; changed = m; from = ty from; target = target })
-literal_for old new table n m from target value number k other untyped is at denotes = record {
+-- what stands for a number without a type
+pub number_for : (old new : List AExpr) (table : TypeTable) (n m : ℕ) (from : DataType) (target : Ty) (number : ℤ) → Keeps table n from → same_type (ty from) target ≡ false → ty from ≡ Untyped number → length old ≤ m → ((first : ℕ) → first ≤ length old → Denotes (HoldsFrom first new) m (number_as number target)) → IsChanged old new table (record { input = n; changed = m; from = ty from; target = target })
+number_for old new table n m from target number k other untyped fresh denotes = record {
   keeps = record { dtype = from; keeps = k; is = refl };
-  denotes = λ first t le d. subst (Denotes (HoldsFrom first new) m) (literal_in_place target value number (ty from) t untyped is ∙ sym (if_false (same_type (ty from) target) t _ other)) (denotes first le);
+  denotes = λ first t le d.
+      let is = ap (λ f. changed f target t) untyped in
+      subst (Denotes (HoldsFrom first new) m) (sym is ∙ sym (if_false (same_type (ty from) target) t _ other)) (denotes first le);
   stays = λ e. absurd (false≢true (sym other ∙ e));
-  fresh = λ e. omega (arith, at);
+  fresh = λ e. fresh;
 }
 
 -- such a literal has its value
-pub literal_is : (target : Ty) (value : LiteralValue) (number : ℤ) (from : Ty) → from ≡ Untyped number → CanBecome from target → literal_op value ≡ LiteralOp target (IntValue number) → (target ≡ literal_type value) × (is_literal (literal_type value) (literal_value value) ≡ true)
-literal_is target value number from untyped can is =
+pub literal_is : (target : Ty) (value : LiteralValue) (number : ℤ) → is_known target ≡ true → in_range target number ≡ true → literal_op value ≡ LiteralOp target (IntValue number) → (target ≡ literal_type value) × (is_literal (literal_type value) (literal_value value) ≡ true)
+literal_is target value number known has is =
     let type = value_type target number value is in
-    let has = and_parts (is_integer target) (in_range target number) (can.has number untyped) in
-    (sym type, ap (λ t. is_literal t (literal_value value)) type ∙ ap (is_literal target) (op_value (literal_type value) target (literal_value value) (IntValue number) is) ∙ becomes_literal target number can.known has.1)
+    (sym type, ap (λ t. is_literal t (literal_value value)) type ∙ ap (is_literal target) (op_value (literal_type value) target (literal_value value) (IntValue number) is) ∙ becomes_literal target number known has)
+
+-- a literal where the type has the number
+pub literal_as : (first : ℕ) (items : List AExpr) (m : ℕ) (target : Ty) (value : LiteralValue) (number : ℤ) → integer_has target number ≡ true → literal_op value ≡ LiteralOp target (IntValue number) → Denotes (HoldsFrom first items) m (node (literal_op value) no_more) → Denotes (HoldsFrom first items) m (number_as number target)
+literal_as first items m target value number has is d =
+    subst (Denotes (HoldsFrom first items) m) (ap (λ op. node op no_more) is ∙ sym (if_true (integer_has target number) _ _ has)) d
+
+-- and a cast where it lacks it
+pub cast_as : (first : ℕ) (items : List AExpr) (m : ℕ) (target : Ty) (number : ℤ) → integer_has target number ≡ false → Denotes (HoldsFrom first items) m (cast_to target (number_literal (settled_type (Untyped number)) number)) → Denotes (HoldsFrom first items) m (number_as number target)
+cast_as first items m target number lacks d =
+    subst (Denotes (HoldsFrom first items) m) (sym (if_false (integer_has target number) _ _ lacks)) d
+
+-- a number's own literal, as the one that was added
+pub own_literal : (first : ℕ) (items : List AExpr) (m : ℕ) (own : Ty) (value : LiteralValue) (number : ℤ) → type_alone (Untyped number) ≡ Some own → literal_op value ≡ LiteralOp own (IntValue number) → Denotes (HoldsFrom first items) m (node (literal_op value) no_more) → Denotes (HoldsFrom first items) m (number_literal (settled_type (Untyped number)) number)
+own_literal first items m own value number alone is d =
+    let type : settled_type (Untyped number) ≡ own = ap (λ o. unwrap_or o (Untyped number)) alone in
+    subst (Denotes (HoldsFrom first items) m) (ap (λ op. node op no_more) (is ∙ ap (λ t. LiteralOp t (IntValue number)) (sym type))) d
+
+-- an integer type that has the number
+pub counted_integer : (type : Ty) (number : ℤ) → is_integer type ≡ true → (is_counted type && in_range type number) ≡ integer_has type number
+counted_integer (Integer signed bits) number h = refl
+counted_integer type number h = cc
+
+pub lacks_number : (type : Ty) (number : ℤ) → is_integer type ≡ false → false ≡ integer_has type number
+lacks_number type number h = ap (λ b. b && in_range type number) (sym h)
 
 -- whatever type is kept for it
 pub changed_from : (old new : List AExpr) (table : TypeTable) (n m : ℕ) (from other : DataType) (target : Ty) → Keeps table n from → Keeps table n other → IsChanged old new table (record { input = n; changed = m; from = ty from; target = target }) → IsChanged old new table (record { input = n; changed = m; from = ty other; target = target })
 changed_from old new table n m from other target k l is =
-    subst (λ (d : DataType). IsChanged old new table (record { input = n; changed = m; from = ty d; target = target })) (keeps_one table n from other k l) is
+    subst (λ (d : DataType). IsChanged old new table (record { input = n; changed = m; from = ty d; target = target })) (type_one table n from other k l) is
 
 pub becomes_of : (table : TypeTable) (n : ℕ) (from : DataType) (target : Ty) → Keeps table n from → IsReady table n target → CanBecome (ty from) target
-becomes_of table n from target k ready = subst (λ (d : DataType). CanBecome (ty d) target) (keeps_one table n ready.dtype from ready.keeps k) ready.becomes
+becomes_of table n from target k ready = subst (λ (d : DataType). CanBecome (ty d) target) (type_one table n ready.dtype from ready.keeps k) ready.becomes
 
 -- ---- operands one by one
 
@@ -155,22 +193,74 @@ pub same_place : {A : Type 0} (xs : List A) (i : ℕ) (x d : A) → i < length x
 same_place xs i x d within is = is ∙ sym (get_or_from_slice_get xs i (get_or xs i d) x (slice_get-get_or xs i d within))
 
 -- operands that can become of their types are ready for them
-pub all_ready : (table : TypeTable) (ns : List ℕ) (types targets : List Ty) → AllKept table ns types → AllBecome types targets → AllReady table ns targets
+pub all_ready : (table : TypeTable) (ns : List ℕ) (typed : List Typed) (targets : List Ty) → AllKept table ns typed → AllBecome (types_of typed) targets → AllReady table ns targets
 all_ready table [] [] [] k b = tt
-all_ready table (n ∷ ns) (type ∷ types) (target ∷ targets) k b =
-    (record { dtype = k.0.dtype; keeps = k.0.keeps; becomes = subst (λ t. CanBecome t target) (sym k.0.is) b.0 }, all_ready table ns types targets k.1 b.1)
+all_ready table (n ∷ ns) (t ∷ ts) (target ∷ targets) k b =
+    let is = ap (λ (x : Typed). x.type) k.0.is in
+    (record { dtype = k.0.own.dtype; keeps = type_of table n k.0.own k.0.keeps; becomes = subst (λ t. CanBecome t target) (sym is) b.0 }, all_ready table ns ts targets k.1 b.1)
 all_ready table [] [] (target ∷ targets) k b = absurd b
-all_ready table [] (type ∷ types) targets k b = absurd k
+all_ready table [] (t ∷ ts) targets k b = absurd k
 all_ready table (n ∷ ns) [] targets k b = absurd k
-all_ready table (n ∷ ns) (type ∷ types) [] k b = absurd b
+all_ready table (n ∷ ns) (t ∷ ts) [] k b = absurd b
 
--- so is what an item takes
-pub takes_ready : (table : TypeTable) (item : AExpr) (targets : List Ty) → (e : IsTypedItem table item) → TakesTo e.registry e.schema table item targets → AllReady table (inputs_of (expression_layer item)) targets
-takes_ready table item targets e takes =
-    let op = op_of (expression_layer item) in
-    let same = takes e.typed e.ruling e.kept e.rules in
-    let becomes = (keeps_rule e.registry e.schema op e.typed e.ruling e.rules).becomes in
-    subst (AllReady table (inputs_of (expression_layer item))) same (all_ready table (inputs_of (expression_layer item)) (types_of e.typed) e.ruling.operands e.kept becomes)
+no_more_become : (types : List Ty) → AllBecome types [] → types ≡ []
+no_more_become [] b = refl
+no_more_become (type ∷ types) b = absurd b
+
+no_items : (xs : List DataType) → map ty xs ≡ [] → xs ≡ []
+no_items [] e = refl
+no_items (x ∷ xs) e = cc
+
+same_children : (op : Op) (ts us : Trees Op) → node op ts ≡ node op us → ts ≡ us
+same_children op ts us e = cc
+
+-- operands of which no types are kept are taken as they are
+as_they_are : (listed own targets : List Ty) → listed ≡ [] → AreOperands listed own targets → AllBecome own targets → own ≡ targets
+as_they_are listed own targets none are become = ⊎_elim
+    (λ e. let bare = sym e ∙ none in no_more_become own (subst (AllBecome own) bare become) ∙ sym bare)
+    (λ p. p.1)
+    are
+
+module _ (registry : Registry) (schema : Columns) (items : List AExpr) (table : TypeTable) (right : IsRight registry schema items table) (n : ℕ) (item : AExpr) (own : Inferred) (got : slice_get items n ≡ Some item) (keeps : KeepsEntry table n own) where
+  -- a node takes operands to the types that are kept with it, where there are some
+  pub takes_listed : own.operands.items ≢ [] → TakesTo registry schema table item (map ty own.operands.items)
+  takes_listed some typed ruling all rules = ⊎_elim
+      (λ e. sym e)
+      (λ p. absurd (some (no_items own.operands.items p.0)))
+      (listed_operands registry schema items table right n item own got keeps typed ruling all rules)
+
+  -- its operands are ready for them
+  pub takes_ready : own.operands.items ≢ [] → AllReady table (inputs_of (expression_layer item)) (map ty own.operands.items)
+  takes_ready some =
+      let e = ruled_inputs registry schema items table right n item own got keeps in
+      let same = takes_listed some e.typed e.ruling e.kept e.rules in
+      let becomes = (keeps_rule registry schema (op_of (expression_layer item)) e.typed e.ruling e.rules).becomes in
+      subst (AllReady table (inputs_of (expression_layer item))) same (all_ready table (inputs_of (expression_layer item)) e.typed e.ruling.operands e.kept becomes)
+
+  -- and where there are none the node is strict as it is
+  pub strict_visits : own.operands.items ≡ [] → (first : ℕ) (t : Expression) → Denotes (HoldsFrom first items) n t → HasKnownType (typing registry schema t) → Visits registry schema first items n t
+  strict_visits none first t d has =
+      let op = op_of (expression_layer item) in
+      let inputs = inputs_of (expression_layer item) in
+      let held = layer_held items n item got in
+      let top = from_top first items n op inputs held t d in
+      let plain = held_top items n op inputs held t (any_node first items n t d) in
+      let one = same_children op plain.0 top.0 (sym plain.1 ∙ top.1) in
+      let e = ruled_inputs registry schema items table right n item own got keeps in
+      let typed = subst (λ ts. typing_all registry schema ts ≡ Ok e.typed) one (children_kept registry schema items table right inputs plain.0 e.typed plain.2 e.kept) in
+      let becomes = (keeps_rule registry schema op e.typed e.ruling e.rules).becomes in
+      let same = as_they_are (map ty own.operands.items) (types_of e.typed) e.ruling.operands (ap (map ty) none) (listed_operands registry schema items table right n item own got keeps e.typed e.ruling e.kept e.rules) becomes in
+      let whole = ap (λ r. then_typed r (typing_rule registry schema op)) typed ∙ ap own_typed e.rules in
+      let is = ok_same (typing registry schema t) e.ruling.own has.typed (ap (typing registry schema) top.1 ∙ whole) has.is in
+      record {
+        op = op;
+        inputs = inputs;
+        children = top.0;
+        held = (top.3, held);
+        denotes = top.2;
+        same = subst (λ u. IsAlike registry schema u (node op top.0)) (sym top.1) (alike_itself registry schema (node op top.0));
+        strict = strict_from registry schema op top.0 e.typed e.ruling typed e.rules same (ap (λ (x : Typed). is_known x.type) is ∙ has.known);
+      }
 
 pub ready_length : (table : TypeTable) (ns : List Node) (ts : List DataType) → AllReady table (numbers ns) (map ty ts) → length ns ≡ length ts
 ready_length table [] [] all = refl
@@ -187,13 +277,13 @@ ready_there table (m ∷ ns) (u ∷ ts) zero n t all lt = all.0
 ready_there table (m ∷ ns) (u ∷ ts) (suc i) n t all lt = ready_there table ns ts i n t all.1 (omega (arith, lt))
 ready_there table (m ∷ ns) [] i n t all lt = absurd all
 
--- one operand can be made of its type
-pub ready_at : (old new : TypeTable) (ns : List Node) (ts : List DataType) (i : ℕ) (n : Node) (t : DataType) → AllReady old (numbers ns) (map ty ts) → i < length ns → n ≡ get_or ns i n → t ≡ get_or ts i t → ((m : ℕ) (dtype : DataType) → Keeps old m dtype → Keeps new m dtype) → IsReady new n.0 (ty t)
-ready_at old new ns ts i n t all lt is_n is_t same =
+-- one operand can be made of its type, of which there is a copy
+pub ready_at : (old new : TypeTable) (ns : List Node) (ts : List DataType) (i : ℕ) (n : Node) (t copy : DataType) → AllReady old (numbers ns) (map ty ts) → i < length ns → n ≡ get_or ns i n → t ≡ get_or ts i t → ty copy ≡ ty t → Extends old new → IsReady new n.0 (ty copy)
+ready_at old new ns ts i n t copy all lt is_n is_t same extends =
     let here = ready_there old ns ts i n t all lt in
     let one = subst (λ (m : Node). IsReady old m.0 (ty (get_or ts i t))) (sym is_n) here in
     let two = subst (λ (u : DataType). IsReady old n.0 (ty u)) (sym is_t) one in
-    record { dtype = two.dtype; keeps = same n.0 two.dtype two.keeps; becomes = two.becomes }
+    record { dtype = two.dtype; keeps = still_keeps old new extends n.0 two.dtype two.keeps; becomes = subst (CanBecome (ty two.dtype)) (sym same) two.becomes }
 
 grown_changed : (old mid new : List AExpr) (table : TypeTable) (os : List Operand) → Grows mid new → AllByRecursion (IsChanged old mid table) os → AllByRecursion (IsChanged old new table) os
 grown_changed old mid new table [] g all = tt
@@ -215,10 +305,10 @@ all_more : {A : Type 0} (P : A → Type 0) (xs : List A) (x : A) → AllByRecurs
 all_more P [] x all p = (p, tt)
 all_more P (y ∷ xs) x all p = (all.0, all_more P xs x all.1 p)
 
-module _ (old mid new : List AExpr) (table table' : TypeTable) (inputs done grown : List Node) (targets : List DataType) (i : ℕ) (n m : Node) (target : DataType) where
-  pub changed_more : AreChanged old mid table (numbers (take i inputs)) (numbers done) (map ty (take i targets)) → i < length inputs → i < length targets → n ≡ get_or inputs i n → target ≡ get_or targets i target → grown ≡ done ++ m ∷ [] → Grows old mid → Grows mid new → (from : DataType) → Keeps table n.0 from → IsChanged mid new table' (record { input = n.0; changed = m.0; from = ty from; target = ty target }) → AreChanged old new table (numbers (take (i + 1) inputs)) (numbers grown) (map ty (take (i + 1) targets))
-  changed_more before within also is_n is_t longer g h from keeps one =
-      let o : Operand = record { input = n.0; changed = m.0; from = ty from; target = ty target } in
+module _ (old mid new : List AExpr) (table table' : TypeTable) (inputs done grown : List Node) (targets : List DataType) (i : ℕ) (n m : Node) (target copy : DataType) where
+  pub changed_more : AreChanged old mid table (numbers (take i inputs)) (numbers done) (map ty (take i targets)) → i < length inputs → i < length targets → n ≡ get_or inputs i n → target ≡ get_or targets i target → ty copy ≡ ty target → grown ≡ done ++ m ∷ [] → Grows old mid → Grows mid new → (from : DataType) → Keeps table n.0 from → IsChanged mid new table' (record { input = n.0; changed = m.0; from = ty from; target = ty copy }) → AreChanged old new table (numbers (take (i + 1) inputs)) (numbers grown) (map ty (take (i + 1) targets))
+  changed_more before within also is_n is_t same longer g h from keeps one =
+      let o : Operand = record { input = n.0; changed = m.0; from = ty from; target = ty copy } in
       let here : IsChanged old new table o = record {
         keeps = record { dtype = from; keeps = keeps; is = refl };
         denotes = λ first t le d. one.denotes first t (omega (arith, le, length-grown old mid g)) (tree_grown first first old mid (omega arith) g n.0 t d);
@@ -229,7 +319,7 @@ module _ (old mid new : List AExpr) (table table' : TypeTable) (inputs done grow
         operands = before.operands ++ o ∷ [];
         inputs_are = mapped_more (λ (o : Operand). o.input) (λ (n : Node). n.0) before.operands _ o inputs i n within before.inputs_are refl refl is_n;
         changed_are = map-append (λ (o : Operand). o.changed) before.operands (o ∷ []) ∙ ap (λ l. l ++ m.0 ∷ []) before.changed_are ∙ sym (map-append (λ (n : Node). n.0) done (m ∷ [])) ∙ ap numbers (sym longer);
-        targets_are = mapped_more (λ (o : Operand). o.target) ty before.operands _ o targets i target also before.targets_are refl refl is_t;
+        targets_are = mapped_more (λ (o : Operand). o.target) ty before.operands _ o targets i target also before.targets_are refl same is_t;
         each = all_more (IsChanged old new table) before.operands o (grown_changed old mid new table before.operands h before.each) here;
       }
 
@@ -237,7 +327,7 @@ module _ (old mid new : List AExpr) (table table' : TypeTable) (inputs done grow
 pub kept_more : (old new : TypeTable) (done grown : List Node) (m : Node) → Extends old new → AllByRecursion (IsKept old) (numbers done) → IsKept new m.0 → grown ≡ done ++ m ∷ [] → AllByRecursion (IsKept new) (numbers grown)
 kept_more old new done grown m extends all k longer =
     let one = ap numbers longer ∙ map-append (λ (n : Node). n.0) done (m ∷ []) in
-    subst (AllByRecursion (IsKept new)) (sym one) (all_joined (IsKept new) (numbers done) (m.0 ∷ []) (all_weaker (IsKept old) (IsKept new) extends.kept (numbers done) all) (k, tt))
+    subst (AllByRecursion (IsKept new)) (sym one) (all_joined (IsKept new) (numbers done) (m.0 ∷ []) (all_weaker (IsKept old) (IsKept new) (still_kept old new extends) (numbers done) all) (k, tt))
 
 -- all of them
 pub all_changed : (old new : List AExpr) (table : TypeTable) (inputs outputs : List Node) (targets : List DataType) (i j : ℕ) → i ≡ length inputs → length inputs ≡ length targets → AreChanged old new table (numbers (take i inputs)) (numbers outputs) (map ty (take i targets)) → AreChanged old new table (numbers inputs) (numbers outputs) (map ty targets)
@@ -277,9 +367,19 @@ module _ (registry : Registry) (schema : Columns) (old new : List AExpr) (table 
   children_from first [] (more t ts) typed d h all = absurd d
   children_from first (o ∷ os) no_more typed d h all = absurd d
 
-  kept_from : (os : List Operand) → AllByRecursion (IsChanged old new table) os → AllKept table (map (λ o. o.input) os) (map (λ o. o.from) os)
-  kept_from [] all = tt
-  kept_from (o ∷ os) all = (all.0.keeps, kept_from os all.1)
+  -- the typings that are kept of a node's inputs are those of its children
+  inputs_known : (os : List Operand) → AllByRecursion (IsChanged old new table) os → AllByRecursion (IsKept table) (map (λ o. o.input) os)
+  inputs_known [] all = tt
+  inputs_known (o ∷ os) all = (kept_of table o.input all.0.keeps.dtype all.0.keeps.keeps, inputs_known os all.1)
+
+  typings_of : (first : ℕ) (ns : List ℕ) (ts : Trees Op) (typed : List Typed) → AllByRecursion (IsKept table) ns → DenoteAll (HoldsFrom first old) ns ts → typing_all registry schema ts ≡ Ok typed → AllKept table ns typed
+  typings_of first [] no_more typed all d h = by_no_children (λ xs. AllKept table [] xs) typed h tt
+  typings_of first (n ∷ ns) (more t ts) typed all d h =
+      by_children (λ xs. AllKept table (n ∷ ns) xs) _ _ typed h (λ x xs is rest.
+      let here = kept_typing registry schema old table right n all.0.own all.0.keeps t (any_node first old n t d.0) in
+      (record { own = all.0.own; keeps = all.0.keeps; is = ok_same _ (typed_of all.0.own) x here is }, typings_of first ns ts xs all.1 d.1 rest))
+  typings_of first [] (more t ts) typed all d h = absurd d
+  typings_of first (n ∷ ns) no_more typed all d h = absurd d
 
   operands_kept : (item : AExpr) (at first : ℕ) (t : Expression) → first ≤ length old → at < length old → Denotes (HoldsFrom first new) at t → (os : List Operand) (ts : Trees Op) → trees_depth ts < tree_depth t → DenoteAll (HoldsFrom first old) (map (λ o. o.input) os) ts → AllByRecursion (IsChanged old new table) os → DenoteAll (HoldsFrom first (set new at item)) (map (λ o. o.changed) os) (as_operands (map (λ o. o.from) os) (map (λ o. o.target) os) ts)
   operands_kept item at first t le here d [] no_more lt dts all = tt
@@ -291,7 +391,7 @@ module _ (registry : Registry) (schema : Columns) (old new : List AExpr) (table 
   operands_kept item at first t le here d (o ∷ os) no_more lt dts all = absurd dts
 
   -- over the operands as a list
-  over_operands : (at : ℕ) (op : Op) (os : List Operand) (item : AExpr) → expression_layer item ≡ layer op (map (λ o. o.changed) os) → HoldsExpression old at op (map (λ o. o.input) os) → Grows old new → AllByRecursion (IsChanged old new table) os → ((typed : List Typed) (ruling : Ruling) → AllKept table (map (λ o. o.input) os) (types_of typed) → rule registry schema op typed ≡ Ok ruling → ruling.operands ≡ map (λ o. o.target) os) → (first : ℕ) (t : Expression) (typed : Typed) → first ≤ length old → Denotes (HoldsFrom first old) at t → typing registry schema t ≡ Ok typed → Rewritten registry schema first (set new at item) at t typed
+  over_operands : (at : ℕ) (op : Op) (os : List Operand) (item : AExpr) → expression_layer item ≡ layer op (map (λ o. o.changed) os) → HoldsExpression old at op (map (λ o. o.input) os) → Grows old new → AllByRecursion (IsChanged old new table) os → ((typed : List Typed) (ruling : Ruling) → AllKept table (map (λ o. o.input) os) typed → rule registry schema op typed ≡ Ok ruling → ruling.operands ≡ map (λ o. o.target) os) → (first : ℕ) (t : Expression) (typed : Typed) → first ≤ length old → Denotes (HoldsFrom first old) at t → typing registry schema t ≡ Ok typed → Rewritten registry schema first (set new at item) at t typed
   over_operands at op os item is held g all takes first t typed le dt has =
       let top = from_top first old at op (map (λ (o : Operand). o.input) os) held t dt in
       let here = within old at t (any_node first old at t dt) in
@@ -299,7 +399,7 @@ module _ (registry : Registry) (schema : Columns) (old new : List AExpr) (table 
       let depth = ap tree_depth top.1 in
       let p = typed_parts registry schema op top.0 typed (ap (typing registry schema) (sym top.1) ∙ has) in
       let froms = children_from first os top.0 p.below top.2 p.children_typed all in
-      let targets = takes p.below p.ruling (subst (AllKept table (map (λ (o : Operand). o.input) os)) (sym froms) (kept_from os all)) p.rules in
+      let targets = takes p.below p.ruling (typings_of first (map (λ (o : Operand). o.input) os) top.0 p.below (inputs_known os all) top.2 p.children_typed) p.rules in
       let later = tree_grown first first old new (omega arith) g at t dt in
       let kept = operands_kept item at first t le here later os top.0 (omega arith) top.2 all in
       let as_they_are = ap (λ l. as_operands l p.ruling.operands top.0) froms ∙ ap (λ l. as_operands (map (λ (o : Operand). o.from) os) l top.0) targets in
@@ -326,7 +426,7 @@ rewritten registry schema old new final table at item ms targets right got g c t
     let op = op_of (expression_layer item) in
     let held : HoldsExpression old at op (inputs_of (expression_layer item)) = layer_held old at item got in
     let is = item_is old new final at op (inputs_of (expression_layer item)) ms held g rew in
-    let made = over_operands registry schema old new table right at op c.operands rew.after (is ∙ ap (layer op) (sym c.changed_are)) (subst (HoldsExpression old at op) (sym c.inputs_are) held) g c.each (λ typed ruling k h. takes typed ruling (subst (λ ns. AllKept table ns (types_of typed)) c.inputs_are k) h ∙ sym c.targets_are) first t typed le dt has in
+    let made = over_operands registry schema old new table right at op c.operands rew.after (is ∙ ap (layer op) (sym c.changed_are)) (subst (HoldsExpression old at op) (sym c.inputs_are) held) g c.each (λ typed ruling k h. takes typed ruling (subst (λ ns. AllKept table ns typed) c.inputs_are k) h ∙ sym c.targets_are) first t typed le dt has in
     subst (λ items. Rewritten registry schema first items at t typed) (sym rew.items) made
 
 -- as many nodes as inputs stand for them

@@ -3,6 +3,7 @@ use Rattle.std.proofs.Common.{◌≡◌, ℕ, List, codes, true, false, Result, 
 use Rattle.plan_types.specs.Schemas.{Columns, same_name}
 use Rattle.plan_types.specs.Types.{is_known}
 use Rattle.plan_types.specs.declared.error.ErrorKind.{ErrorKind}
+use Rattle.plan_dsl.specs.Names.{Label, column_label}
 use Rattle.plan_dsl.specs.Registry.{Registry}
 use Rattle.plan_dsl.specs.Trees.{node}
 use Rattle.plan_dsl.specs.Ops.{Expression}
@@ -31,6 +32,9 @@ known_one answer typed has is = subst (λ t. is_known t.type ≡ true) (ok_same 
 -- two names that the examples use differ
 pub other_name : codes "b" ≡ codes "a" → ⊥
 other_name e = let differs : false ≡ true = ap (same_name (codes "a")) e in cc
+
+pub other_label : column_label (codes "b") ≡ column_label (codes "a") → ⊥
+other_label e = other_name (ap (λ (label : Label). label.name) e)
 
 -- a root's tree is strict
 pub strict_root : (registry : Registry) (schema : Columns) (first : ℕ) (items : List AExpr) (n : ℕ) (tree : Expression) → ((t : Expression) × Denotes (HoldsFrom first items) n t × IsStrict registry schema t) → Denotes (HoldsFrom first items) n tree → IsStrict registry schema tree

@@ -1,5 +1,5 @@
 -- Nodes that roots reach, as nodes are added and one is written.
-use Rattle.std.proofs.Common.{◌≡◌, ◌≢◌, ◌⊎◌, ℕ, zero, suc, ◌<◌, ◌≤◌, true, false, List, [], ◌∷◌, ◌++◌, length, map, get_or, set, reverse, Some, slice_get, refl, sym, ap, ◌∙◌, subst, arith, inl, inr, ⊎_elim, length-append}
+use Rattle.std.proofs.Common.{◌≡◌, ◌≢◌, ℕ, zero, suc, ◌<◌, ◌≤◌, true, false, List, [], ◌∷◌, ◌++◌, length, map, get_or, set, reverse, Some, slice_get, refl, sym, ap, ◌∙◌, subst, arith, inl, inr, ⊎_elim, length-append}
 use Rattle.std.specs.List.{AllByRecursion}
 use Rattle.std.proofs.lemmas.Option.{slice_get_within, slice_get-get_or}
 use Rattle.std.proofs.lemmas.Bool.{cases_lt}
@@ -10,7 +10,7 @@ use Rattle.plan_types.specs.Types.{Ty, same_type}
 use Rattle.plan_dsl.specs.Ops.{Op}
 use Rattle.plan_arena.specs.declared.arena.Node.{Node}
 use Rattle.plan_arena.specs.declared.aexpr.AExpr.{AExpr}
-use Rattle.plan_arena.specs.Layers.{Layer, layer, op_of, inputs_of}
+use Rattle.plan_arena.specs.Layers.{layer, op_of, inputs_of}
 use Rattle.plan_arena.specs.Items.{HoldsExpression, Rewired, expression_layer, numbers}
 use Rattle.plan_arena.proofs.DenotationLemmas.{some_same, same_or_other}
 use Rattle.plan_arena.proofs.ItemLemmas.{layer_inputs, expression_added, expression_written}

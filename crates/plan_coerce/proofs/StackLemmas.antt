@@ -1,5 +1,5 @@
 -- Coercion over a work stack: what is reached is strict, but for what waits.
-use Rattle.std.proofs.Common.{◌≡◌, ◌≢◌, ◌⊎◌, ℕ, ◌<◌, ◌≤◌, List, [], ◌∷◌, ◌++◌, length, map, Some, Result, Ok, Err, OnErr, slice_get, refl, sym, ap, ◌∙◌, subst, arith, true, false, inl, inr, ⊎_elim, append_assoc}
+use Rattle.std.proofs.Common.{◌≡◌, ◌≢◌, ◌⊎◌, ℕ, ◌<◌, ◌≤◌, List, [], ◌∷◌, ◌++◌, length, map, Some, Result, Ok, Err, OnErr, slice_get, refl, sym, ap, ◌∙◌, subst, arith, true, false, inl, inr, ⊎_elim}
 use Rattle.std.specs.List.{AllByRecursion}
 use Rattle.std.proofs.lemmas.List.{map-append}
 use Rattle.std.proofs.lemmas.Bool.{false≢true, and_from}
@@ -12,8 +12,8 @@ use Rattle.plan_dsl.specs.Typing.{Typed, typing, typing_all, types_of}
 use Rattle.plan_dsl.proofs.TypingLemmas.{by_children}
 use Rattle.plan_dsl.proofs.OperandLemmas.{operands_known}
 use Rattle.plan_dsl.proofs.StrictLemmas.{strict_parts}
-use Rattle.plan_dsl.specs.Strictness.{IsSame, IsStrict, AllStrict, IsStrictOver, are_strict, is_strict, is_strict_over}
-use Rattle.plan_dsl.proofs.SameLemmas.{same_itself, same_then, node_same, typings_same}
+use Rattle.plan_dsl.specs.Strictness.{IsStrict, AllStrict, IsStrictOver, are_strict, is_strict, is_strict_over}
+use Rattle.plan_dsl.proofs.SameLemmas.{typings_same}
 use Rattle.plan_arena.specs.declared.arena.Node.{Node}
 use Rattle.plan_arena.specs.declared.aexpr.AExpr.{AExpr}
 use Rattle.plan_arena.specs.Denotation.{Denotes, DenoteAll}

@@ -1,21 +1,25 @@
 //! Operands are made of the types to which their node takes them: by casts, or as literals.
-ghost use Rattle.std.specs.Prelude.{◌≡◌, ◌≢◌, ℕ, ◌<◌, ◌≤◌, List, [], ◌∷◌, length, map, true, IfOk, IfErr, OnErr, OnOk};
+ghost use Rattle.std.specs.Prelude.{◌≡◌, ◌≢◌, ℕ, ◌≤◌, List, Some, length, map, true, is_some, IfOk, IfErr, IfSome, OnErr, OnOk};
 ghost use Rattle.std.specs.List.{AllByRecursion};
 ghost use Rattle.plan_types.specs.Errors.{no_memory};
 ghost use Rattle.plan_types.specs.Schemas.{Columns};
-ghost use Rattle.plan_types.specs.Types.{is_known, ty};
+ghost use Rattle.plan_types.specs.CommonTypes.{type_alone};
+ghost use Rattle.plan_types.specs.Types.{Ty, Untyped, is_known, ty};
+ghost use Rattle.plan_types.specs.Values.{IntValue};
 ghost use Rattle.plan_types.specs.Casts.{can_cast};
 ghost use Rattle.plan_types.specs.declared.dtype.CastOptions.TheVariants.{NonStrict};
 ghost use Rattle.plan_types.specs.declared.dtype.DataType.{DataType};
-ghost use Rattle.plan_dsl.specs.Literals.{is_literal, literal_op, literal_type, literal_value};
-ghost use Rattle.plan_dsl.specs.Ops.{CastOp, Expression, Op};
+ghost use Rattle.plan_dsl.specs.Literals.{is_literal, literal_op, literal_type, literal_value, settled_type};
+ghost use Rattle.plan_dsl.specs.Ops.{CastOp, Expression, LiteralOp, Op};
+ghost use Rattle.plan_dsl.specs.Strictness.{CanBecome, cast_to, integer_has, number_as, number_literal};
 ghost use Rattle.plan_dsl.specs.Registry.{Registry};
 ghost use Rattle.plan_dsl.specs.Trees.{node, no_more, more};
 ghost use Rattle.plan_dsl.specs.Typing.{typing};
 ghost use Rattle.plan_arena.specs.declared.aexpr.AExpr.{AExpr};
 ghost use Rattle.plan_arena.specs.Denotation.{Denotes};
 ghost use Rattle.plan_arena.specs.Items.{Grows, HoldsExpression, HoldsFrom, numbers};
-ghost use Rattle.plan_infer.specs.KeptTypes.{Extends, HasRightTypes, IsKept, IsRight, Keeps, first_node};
+ghost use Rattle.plan_infer.specs.declared.type_table.Inferred.{Inferred};
+ghost use Rattle.plan_infer.specs.KeptTypes.{Extends, HasRightTypes, IsKept, IsRight, Keeps, KeepsEntry};
 ghost use Rattle.plan_infer.specs.Typed.{HasKnownType};
 ghost use Rattle.plan_coerce.specs.Coercion.{AllReady, AreChanged, IsChanged, IsReady, Visits};
 ghost use Rattle.plan_coerce.specs.Reaching.{IsClosed, Near};
@@ -23,8 +27,8 @@ ghost use Rattle.plan_coerce.specs.Reaching.{IsClosed, Near};
 use plan_arena::aexpr::{AExpr, Nodes};
 use plan_arena::arena::{Arena, Node};
 use plan_dsl::literal::LiteralValue;
-use plan_infer::type_table::TypeTable;
-use plan_infer::typing::operand_types_of;
+use plan_infer::type_table::{Inferred, TypeTable};
+use plan_types::common_type::materialize_dyn_int;
 use plan_types::dtype::{CastOptions, DataType};
 use plan_types::error::PlanError;
 use smallvec::SmallVec;
@@ -51,36 +55,41 @@ pub(crate) fn coerce_node(
     ensures grows { OnErr result (Grows arena.old arena.new) }
     ensures err { IfErr result (λ error. error ≡ no_memory) }
 {
-    let alloc = arena.allocator();
-    let targets = operand_types_of(alloc, arena.get(node), types)?;
-    let inputs = arena.get(node).inputs(alloc)?;
-    let operands = operands_to(inputs.as_slice(), targets.as_slice(), arena, types)?;
+    let item = arena.get(node);
+    if types.get(node).is_strict() {
+        return Ok(());
+    }
+    let inputs = item.inputs(arena.allocator())?;
+    let operands = operands_to(node, inputs.as_slice(), arena, types)?;
     arena.replace_inputs(node, operands.as_slice());
     Ok(())
 }
 
-// The nodes that stand for the operands, made of the types.
+// The nodes that stand for the operands of a node, made of the types to which it takes them.
 fn operands_to(
+    node: Node,
     inputs: &[Node],
-    targets: &[DataType],
     arena: &mut Arena<AExpr>,
     types: &mut TypeTable,
 ) -> Result<Nodes, PlanError>
     requires right { HasRightTypes arena.old types.old }
-    requires ready { AllReady types.old (numbers inputs.now) (map ty targets.now) }
-    ensures changed { IfOk result (λ operands. AreChanged arena.old arena.new types.old (numbers inputs.now) (numbers operands.items) (map ty targets.now)) }
+    requires kept { IsKept types.old node.0 }
+    requires ready { (own : Inferred) → KeepsEntry types.old node.0 own → AllReady types.old (numbers inputs.now) (map ty own.operands.items) }
+    ensures changed { IfOk result (λ operands. (own : Inferred) → KeepsEntry types.old node.0 own →
+        AreChanged arena.old arena.new types.old (numbers inputs.now) (numbers operands.items) (map ty own.operands.items)) }
     ensures kept { IfOk result (λ operands. AllByRecursion (IsKept types.new) (numbers operands.items)) }
     ensures right { OnOk result ((registry : Registry) (schema : Columns) →
         IsRight registry schema arena.old types.old → IsRight registry schema arena.new types.new) }
-    ensures closed { OnOk result ((start : List AExpr) (roots : List ℕ) → AllByRecursion (Near start roots) (numbers inputs.now) →
-        IsClosed start roots arena.old → IsClosed start roots arena.new) }
+    ensures closed { OnOk result ((start : List AExpr) (roots : List ℕ) → length start ≤ length arena.old →
+        AllByRecursion (Near start roots) (numbers inputs.now) → IsClosed start roots arena.old → IsClosed start roots arena.new) }
     ensures extends { OnOk result (Extends types.old types.new) }
     ensures grows { Grows arena.old arena.new }
     ensures err { IfErr result (λ error. error ≡ no_memory) }
 {
     let mut operands = SmallVec::new(arena.allocator());
     for index in 0..inputs.len() {
-        let changed = operand_to(inputs[index], &targets[index], arena, types)?;
+        let target = types.get(node).operand(index).try_clone(arena.allocator())?;
+        let changed = operand_to(inputs[index], target, arena, types)?;
         operands.push(changed)?;
     }
     Ok(operands)
@@ -89,59 +98,128 @@ fn operands_to(
 // The node that stands for the operand, made of the type.
 fn operand_to(
     node: Node,
-    target: &DataType,
+    target: DataType,
     arena: &mut Arena<AExpr>,
     types: &mut TypeTable,
 ) -> Result<Node, PlanError>
     requires right { HasRightTypes arena.old types.old }
-    requires ready { IsReady types.old node.0 (ty target.now) }
+    requires ready { IsReady types.old node.0 (ty target) }
     ensures changed { IfOk result (λ changed. (from : DataType) → Keeps types.old node.0 from → IsChanged arena.old arena.new types.old
-        (record { input = node.0; changed = changed.0; from = ty from; target = ty target.now })) }
+        (record { input = node.0; changed = changed.0; from = ty from; target = ty target })) }
     ensures kept { IfOk result (λ changed. IsKept types.new changed.0) }
     ensures right { OnOk result ((registry : Registry) (schema : Columns) →
         IsRight registry schema arena.old types.old → IsRight registry schema arena.new types.new) }
-    ensures same { OnOk result ((n : ℕ) (dtype : DataType) → Keeps types.old n dtype → Keeps types.new n dtype) }
-    ensures closed { OnOk result ((start : List AExpr) (roots : List ℕ) → Near start roots node.0 →
+    ensures closed { OnOk result ((start : List AExpr) (roots : List ℕ) → length start ≤ length arena.old → Near start roots node.0 →
         IsClosed start roots arena.old → IsClosed start roots arena.new) }
     ensures extends { OnOk result (Extends types.old types.new) }
     ensures grows { Grows arena.old arena.new }
     ensures err { IfErr result (λ error. error ≡ no_memory) }
 {
     let from = types.get(node);
-    if *from == *target {
+    if from.dtype == target {
         return Ok(node);
     }
-    match from.untyped_number() {
+    match from.dtype.untyped_number() {
         None => {
             let cast = add_cast(node, target, arena, types)?;
             Ok(cast)
         }
-        Some(number) => match LiteralValue::of_number(target, number) {
-            Some(value) => {
-                let literal = add_literal(value, target, arena, types)?;
-                Ok(literal)
-            }
-            None => unreachable!(),
-        },
+        Some(number) => {
+            let made = number_to(number, target, arena, types)?;
+            Ok(made)
+        }
     }
+}
+
+// Adds a number without a type, made of the type.
+fn number_to(
+    number: i128,
+    target: DataType,
+    arena: &mut Arena<AExpr>,
+    types: &mut TypeTable,
+) -> Result<Node, PlanError>
+    requires becomes { CanBecome (Untyped number) (ty target) }
+    ensures denotes { IfOk result (λ made. (first : ℕ) → first ≤ length arena.old →
+        Denotes (HoldsFrom first arena.new) made.0 (number_as number (ty target))) }
+    ensures fresh { IfOk result (λ made. length arena.old ≤ made.0) }
+    ensures right { OnOk result ((registry : Registry) (schema : Columns) →
+        IsRight registry schema arena.old types.old → IsRight registry schema arena.new types.new) }
+    ensures kept { IfOk result (λ made. IsKept types.new made.0) }
+    ensures closed { OnOk result ((start : List AExpr) (roots : List ℕ) → length start ≤ length arena.old →
+        IsClosed start roots arena.old → IsClosed start roots arena.new) }
+    ensures extends { OnOk result (Extends types.old types.new) }
+    ensures grows { Grows arena.old arena.new }
+    ensures err { IfErr result (λ error. error ≡ no_memory) }
+{
+    match literal_of(number, &target) {
+        Some(value) => {
+            let literal = add_literal(value, target, arena, types)?;
+            Ok(literal)
+        }
+        None => {
+            let cast = add_number_cast(number, target, arena, types)?;
+            Ok(cast)
+        }
+    }
+}
+
+// The literal of an integer type that has the number.
+fn literal_of(number: i128, dtype: &DataType) -> Option<LiteralValue>
+    ensures has { is_some result ≡ integer_has (ty dtype.now) number }
+    ensures literal { IfSome result (λ value. literal_op value ≡ LiteralOp (ty dtype.now) (IntValue number)) }
+{
+    if !dtype.is_integer() {
+        return None;
+    }
+    LiteralValue::of_number(dtype, number)
+}
+
+// Adds a cast of a number without a type from the type that it has alone.
+fn add_number_cast(
+    number: i128,
+    target: DataType,
+    arena: &mut Arena<AExpr>,
+    types: &mut TypeTable,
+) -> Result<Node, PlanError>
+    requires alone { (own : Ty) × (type_alone (Untyped number) ≡ Some own) × (can_cast own (ty target) ≡ true) }
+    ensures denotes { IfOk result (λ cast. (first : ℕ) → first ≤ length arena.old →
+        Denotes (HoldsFrom first arena.new) cast.0 (cast_to (ty target) (number_literal (settled_type (Untyped number)) number))) }
+    ensures fresh { IfOk result (λ cast. length arena.old ≤ cast.0) }
+    ensures right { OnOk result ((registry : Registry) (schema : Columns) →
+        IsRight registry schema arena.old types.old → IsRight registry schema arena.new types.new) }
+    ensures kept { IfOk result (λ cast. IsKept types.new cast.0) }
+    ensures closed { OnOk result ((start : List AExpr) (roots : List ℕ) → length start ≤ length arena.old →
+        IsClosed start roots arena.old → IsClosed start roots arena.new) }
+    ensures extends { OnOk result (Extends types.old types.new) }
+    ensures grows { Grows arena.old arena.new }
+    ensures err { IfErr result (λ error. error ≡ no_memory) }
+{
+    let Some(own) = materialize_dyn_int(number) else {
+        unreachable!()
+    };
+    let Some(value) = LiteralValue::of_number(&own, number) else {
+        unreachable!()
+    };
+    let literal = add_literal(value, own, arena, types)?;
+    let cast = add_cast(literal, target, arena, types)?;
+    Ok(cast)
 }
 
 // Adds a cast round a node. Its type is kept.
 fn add_cast(
     input: Node,
-    target: &DataType,
+    target: DataType,
     arena: &mut Arena<AExpr>,
     types: &mut TypeTable,
 ) -> Result<Node, PlanError>
-    requires { first_node types.old ≤ length arena.old }
+    requires { IsKept types.old input.0 }
     ensures denotes { IfOk result (λ cast. (first : ℕ) (t : Expression) → first ≤ length arena.old → Denotes (HoldsFrom first arena.old) input.0 t →
-        Denotes (HoldsFrom first arena.new) cast.0 (node (CastOp (ty target.now) NonStrict) (more t no_more))) }
+        Denotes (HoldsFrom first arena.new) cast.0 (node (CastOp (ty target) NonStrict) (more t no_more))) }
     ensures fresh { IfOk result (λ cast. cast.0 ≡ length arena.old) }
     ensures right { OnOk result ((registry : Registry) (schema : Columns) (from : DataType) → Keeps types.old input.0 from →
-        is_known (ty from) ≡ true → can_cast (ty from) (ty target.now) ≡ true →
+        is_known (ty from) ≡ true → can_cast (ty from) (ty target) ≡ true →
         IsRight registry schema arena.old types.old → IsRight registry schema arena.new types.new) }
     ensures kept { IfOk result (λ cast. IsKept types.new cast.0) }
-    ensures same { OnOk result ((n : ℕ) (dtype : DataType) → n < length arena.old → Keeps types.old n dtype → Keeps types.new n dtype) }
     ensures closed { OnOk result ((start : List AExpr) (roots : List ℕ) → Near start roots input.0 →
         IsClosed start roots arena.old → IsClosed start roots arena.new) }
     ensures extends { OnOk result (Extends types.old types.new) }
@@ -149,40 +227,49 @@ fn add_cast(
     ensures err { IfErr result (λ error. error ≡ no_memory) }
 {
     let dtype = target.try_clone(arena.allocator())?;
-    let kept = target.try_clone(arena.allocator())?;
+    let from = types.get(input);
+    let own = Inferred {
+        name: from.name,
+        dtype,
+        many: from.many,
+        operands: Vec::new(arena.allocator()),
+    };
     let cast = arena.add(AExpr::Cast {
         expr: input,
-        dtype,
+        dtype: target,
         options: CastOptions::NonStrict,
     })?;
-    types.keep(cast, kept)?;
+    types.keep(cast, own)?;
     Ok(cast)
 }
 
 // Adds a literal. Its type is kept.
 fn add_literal(
     value: LiteralValue,
-    target: &DataType,
+    target: DataType,
     arena: &mut Arena<AExpr>,
     types: &mut TypeTable,
 ) -> Result<Node, PlanError>
-    requires { first_node types.old ≤ length arena.old }
     ensures denotes { IfOk result (λ literal. (first : ℕ) → first ≤ length arena.old →
         Denotes (HoldsFrom first arena.new) literal.0 (node (literal_op value) no_more)) }
     ensures fresh { IfOk result (λ literal. literal.0 ≡ length arena.old) }
-    ensures right { OnOk result ((registry : Registry) (schema : Columns) → ty target.now ≡ literal_type value →
+    ensures right { OnOk result ((registry : Registry) (schema : Columns) → ty target ≡ literal_type value →
         is_literal (literal_type value) (literal_value value) ≡ true →
         IsRight registry schema arena.old types.old → IsRight registry schema arena.new types.new) }
     ensures kept { IfOk result (λ literal. IsKept types.new literal.0) }
-    ensures same { OnOk result ((n : ℕ) (dtype : DataType) → n < length arena.old → Keeps types.old n dtype → Keeps types.new n dtype) }
     ensures closed { OnOk result ((start : List AExpr) (roots : List ℕ) →
         IsClosed start roots arena.old → IsClosed start roots arena.new) }
     ensures extends { OnOk result (Extends types.old types.new) }
     ensures grows { Grows arena.old arena.new }
     ensures err { IfErr result (λ error. error ≡ no_memory) }
 {
-    let kept = target.try_clone(arena.allocator())?;
     let literal = arena.add(AExpr::Literal(value))?;
-    types.keep(literal, kept)?;
+    let own = Inferred {
+        name: literal,
+        dtype: target,
+        many: false,
+        operands: Vec::new(arena.allocator()),
+    };
+    types.keep(literal, own)?;
     Ok(literal)
 }

@@ -1,5 +1,5 @@
 -- What the examples share.
-use Rattle.std.proofs.Common.{◌≡◌, ℕ, ◌-◌, List, Option, Some, Result, Ok, slice_get, subst, ap, arith}
+use Rattle.std.proofs.Common.{◌≡◌, ℕ, List, Result, Ok, ap}
 use Rattle.plan_types.specs.Types.{Ty}
 use Rattle.plan_types.specs.declared.error.ErrorKind.{ErrorKind}
 use Rattle.plan_dsl.specs.Ops.{Expression}
@@ -10,9 +10,6 @@ use Rattle.plan_arena.specs.Denotation.{Denotes}
 use Rattle.plan_arena.specs.Items.{HoldsFrom, HoldsExpression}
 use Rattle.plan_arena.proofs.DenotationLemmas.{denotes_one}
 use Rattle.plan_arena.proofs.ItemLemmas.{from_laws, expression_laws}
-use Rattle.plan_infer.specs.declared.type_table.TypeTable.{TypeTable}
-use Rattle.plan_infer.specs.KeptTypes.{Keeps}
-use Rattle.plan_types.specs.declared.dtype.DataType.{DataType}
 use Rattle.plan_infer.specs.Typed.{HasType}
 
 -- a node denotes one tree
@@ -21,12 +18,6 @@ one_tree first items n t u d e = denotes_one _ (HoldsFrom first items) (from_law
 
 pub one_expression : (items : List AExpr) (n : ℕ) (t u : Expression) → Denotes (HoldsExpression items) n t → Denotes (HoldsExpression items) n u → t ≡ u
 one_expression items n t u d e = denotes_one _ (HoldsExpression items) (expression_laws items) n t u d e
-
--- what a table from node 0 on keeps is an item of its list
-pub kept_at : (table : TypeTable) (items : List (Option DataType)) (n : ℕ) (dtype : DataType) → table.first ≡ 0 → table.types.items ≡ items → Keeps table n dtype → slice_get items n ≡ Some (Some dtype)
-kept_at table items n dtype first types keeps =
-    let place : n - table.first ≡ n = omega (arith, first) in
-    subst (λ m. slice_get items m ≡ Some (Some dtype)) place (subst (λ xs. slice_get xs (n - table.first) ≡ Some (Some dtype)) types keeps.1)
 
 -- an expression has the type that its typing says
 pub has_one : (answer : Result Typed ErrorKind) (typed : Typed) (type : Ty) → HasType answer type → answer ≡ Ok typed → typed.type ≡ type

@@ -1,4 +1,5 @@
 pub mod ExampleLemmas
+pub mod FieldLemmas
 pub mod OperandTypeLemmas
 pub mod TableLemmas
 pub mod TimeTypeLemmas

@@ -1,59 +1,47 @@
--- Types that are kept by node: what is known of a node, and what stays as the table, the arena or one item changes.
-use Rattle.std.proofs.Common.{Ok, ◌≡◌, ◌≢◌, ◌↔◌, ℕ, ◌<◌, ◌≤◌, ◌-◌, List, [], ◌∷◌, ◌++◌, length, map, get_or, set, true, is_some, MatchOption, Option, Some, None, slice_get, refl, sym, ap, ◌∙◌, subst, arith, ⊎_elim, length-append, append-nil}
+-- What is kept by node: what is known of a node, and what stays as the table, the arena or one item changes.
+use Rattle.std.proofs.Common.{Ok, ◌≡◌, ◌≢◌, ◌↔◌, ◌⊎◌, ℕ, zero, suc, ◌+◌, ◌<◌, ◌≤◌, ◌-◌, List, [], ◌∷◌, ◌++◌, length, map, take, get_or, set, true, false, cond, is_some, MatchOption, Option, Some, None, Result, Err, slice_get, refl, sym, ap, ◌∙◌, subst, arith, inl, inr, ⊎_elim, length-append}
 use Rattle.std.specs.List.{AllByRecursion}
 use Rattle.std.proofs.lemmas.Option.{slice_get_within, slice_get-get_or}
 use Rattle.std.proofs.lemmas.Bool.{cases_lt}
 use Rattle.std.proofs.Math.ListN.{length-set}
+use Rattle.std.proofs.Math.Seq.{take-length}
 use Rattle.plan_types.proofs.ListLemmas.{slice_get-append, slice_get-seam, slice_get-set_other, slice_get-set_same}
-use Rattle.std.specs.Prelude.{ℤ}
-use Rattle.plan_types.specs.Types.{Ty, Untyped, ty, is_known}
-use Rattle.plan_types.specs.Casts.{can_cast}
-use Rattle.plan_types.specs.CommonTypes.{type_alone}
-use Rattle.plan_types.specs.declared.error.ErrorKind.TheVariants.{InvalidOperation}
+use Rattle.plan_types.specs.Types.{ty}
+use Rattle.plan_types.specs.Errors.{IsRefusal}
+use Rattle.plan_types.specs.declared.error.ErrorKind.{ErrorKind}
+use Rattle.plan_types.specs.declared.error.PlanError.{PlanError}
 use Rattle.plan_types.specs.Schemas.{Columns}
 use Rattle.plan_types.specs.declared.dtype.DataType.{DataType}
-use Rattle.plan_types.specs.declared.dtype.CastOptions.{CastOptions}
 use Rattle.plan_dsl.specs.Registry.{Registry}
-use Rattle.plan_dsl.specs.Trees.{node, more, Trees, no_more}
-use Rattle.plan_dsl.specs.Ops.{Op, CastOp, Expression, BinaryOp}
-use Rattle.plan_dsl.specs.Typing.{cast_taken, rule, typing, typing_all, Typed, types_of, Ruling, some_many}
-use Rattle.plan_dsl.proofs.TypingLemmas.{ok_where, ruled_is, typed_parts, ok_same, by_children, by_no_children}
-use Rattle.plan_dsl.proofs.LiteralLemmas.{typed_alone, typed_known}
+use Rattle.plan_dsl.specs.Names.{Label, first_label, label_of, op_label}
+use Rattle.plan_dsl.specs.Trees.{node, more, Trees, no_more, fold_all}
+use Rattle.plan_dsl.specs.Ops.{Op, Expression}
+use Rattle.plan_dsl.specs.Typing.{rule, own_typed, then_typed, typed_before, typing, typing_all, typing_rule, Typed, types_of, Ruling}
+use Rattle.plan_dsl.proofs.TypingLemmas.{ok_same}
+use Rattle.plan_arena.specs.declared.arena.Node.{Node}
 use Rattle.plan_arena.specs.declared.aexpr.AExpr.{AExpr}
-use Rattle.plan_arena.specs.Denotation.{Denotes, DenotesTree, depth_at, DenoteAll}
-use Rattle.plan_arena.specs.Layers.{shape_of, Layer, layer, op_of, inputs_of}
-use Rattle.plan_arena.specs.Items.{HoldsExpression, HoldsFrom, Grows, expression_layer}
-use Rattle.plan_arena.proofs.DenotationLemmas.{some_same, denotes_one, kept, same_or_other, inputs_denote}
-use Rattle.plan_arena.proofs.ItemLemmas.{layer_op, layer_inputs, held_top, one_child, expression_laws, from_laws, any_node, from_zero, tree_grown, within, grown_held, expression_got}
-use Rattle.plan_infer.specs.declared.type_table.TypeTable.{TypeTable}
-use Rattle.plan_infer.specs.Typed.{DenotesTyped, HasType}
-use Rattle.plan_infer.specs.KeptTypes.{Keeps, IsKept, Extends, IsTypedNode, IsRight, first_node, AllKept, IsTypedItem}
-use Rattle.plan_infer.proofs.TypingLemmas.{one_typed, AllHaveType, never_refused, no_cast_of_none, cast_operands}
+use Rattle.plan_arena.specs.Denotation.{Denotes, DenotesTree, DenoteAll}
+use Rattle.plan_arena.specs.Layers.{Layer, layer, op_of, inputs_of}
+use Rattle.plan_arena.specs.Items.{HoldsExpression, Grows, expression_layer, numbers}
+use Rattle.plan_arena.proofs.DenotationLemmas.{some_same, denotes_one, kept, same_or_other}
+use Rattle.plan_arena.proofs.ItemLemmas.{layer_op, layer_inputs, held_top, expression_laws, any_node, from_zero, grown_held, expression_got}
 use Rattle.plan_arena.proofs.NumberLemmas.{all_weaker}
-use Rattle.plan_dsl.specs.OperatorTypes.{Taken, operator_types}
-use Rattle.plan_dsl.specs.declared.operator.Operator.{Operator}
-use Rattle.plan_types.specs.Errors.{IsRefusal, IsMemoryOr, no_memory}
-use Rattle.plan_types.specs.declared.error.PlanError.{PlanError}
+use Rattle.plan_infer.specs.declared.type_table.Inferred.{Inferred}
+use Rattle.plan_infer.specs.declared.type_table.TypeTable.{TypeTable}
+use Rattle.plan_infer.specs.Typed.{DenotesTyped}
+use Rattle.plan_infer.specs.KeptTypes.{AllKept, AreOperands, Extends, GivesName, IsKept, IsNamedBy, IsRight, IsRuled, IsTypedNode, Keeps, KeepsEntry, by_first, by_itself, node_depth, some_count, typed_of}
+use Rattle.plan_infer.proofs.TypingLemmas.{AllHaveType, AllRefused, AllTyped, refused_so}
 
 -- a node holds one op over one list of inputs
-held_op : (items : List AExpr) (n : ℕ) (a b : Op) (ms ns : List ℕ) → HoldsExpression items n a ms → HoldsExpression items n b ns → a ≡ b
+pub held_op : (items : List AExpr) (n : ℕ) (a b : Op) (ms ns : List ℕ) → HoldsExpression items n a ms → HoldsExpression items n b ns → a ≡ b
 held_op items n a b ms ns h k = layer_op a b ms ns (some_same (slice_get (map expression_layer items) n) _ _ h k)
 
 pub held_inputs : (items : List AExpr) (n : ℕ) (a b : Op) (ms ns : List ℕ) → HoldsExpression items n a ms → HoldsExpression items n b ns → ms ≡ ns
 held_inputs items n a b ms ns h k = layer_inputs a b ms ns (some_same (slice_get (map expression_layer items) n) _ _ h k)
 
 -- a table keeps one type for a node
-pub keeps_one : (table : TypeTable) (n : ℕ) (a b : DataType) → Keeps table n a → Keeps table n b → a ≡ b
-keeps_one table n a b k l = let e = some_same (slice_get table.types.items (n - table.first)) (Some a) (Some b) k.1 l.1 in cc
-
-kept_same : (old new : TypeTable) → ((n : ℕ) (dtype : DataType) → Keeps old n dtype ↔ Keeps new n dtype) → (n : ℕ) → IsKept old n → IsKept new n
-kept_same old new same n k = record { dtype = k.dtype; keeps = (same n k.dtype).0 k.keeps }
-
-kept_more : (old new : TypeTable) (at : ℕ) (dtype : DataType) → Keeps new at dtype → ((n : ℕ) (other : DataType) → n ≢ at → Keeps old n other ↔ Keeps new n other) → (n : ℕ) → IsKept old n → IsKept new n
-kept_more old new at dtype keeps others n k = ⊎_elim
-    (λ e. record { dtype = dtype; keeps = subst (λ m. Keeps new m dtype) (sym e) keeps })
-    (λ differs. record { dtype = k.dtype; keeps = (others n k.dtype differs).0 k.keeps })
-    (same_or_other n at)
+pub keeps_one : (table : TypeTable) (n : ℕ) (a b : Inferred) → KeepsEntry table n a → KeepsEntry table n b → a ≡ b
+keeps_one table n a b k l = let e = some_same (slice_get table.entries.items (n - table.first)) (Some a) (Some b) k.1 l.1 in cc
 
 -- a list with an empty place behind it has no other items
 item_before : {A : Type 0} (xs : List (Option A)) (i : ℕ) (a : A) → slice_get (xs ++ None ∷ []) i ≡ Some (Some a) → slice_get xs i ≡ Some (Some a)
@@ -79,47 +67,141 @@ item_unwritten xs at y i x other h =
     got ∙ ap Some (some_same (slice_get (set xs at y) i) (get_or xs i x) x (slice_get-set_other xs at y i (get_or xs i x) other got) h)
 
 -- one more empty place
-pub place_added : (old new : TypeTable) → first_node new ≡ first_node old → new.types.items ≡ old.types.items ++ None ∷ [] → (n : ℕ) (dtype : DataType) → Keeps old n dtype ↔ Keeps new n dtype
-place_added old new first grown n dtype =
+pub place_added : (old new : TypeTable) → new.first ≡ old.first → new.entries.items ≡ old.entries.items ++ None ∷ [] → (n : ℕ) (own : Inferred) → KeepsEntry old n own ↔ KeepsEntry new n own
+place_added old new first grown n own =
     let place = ap (λ m. n - m) first in (
-      λ k. (omega (arith, first), ap (λ l. slice_get l (n - new.first)) grown ∙ ap (slice_get (old.types.items ++ None ∷ [])) place ∙ slice_get-append old.types.items (None ∷ []) (n - old.first) _ k.1),
-      λ k. (omega (arith, first), item_before old.types.items (n - old.first) dtype (ap (slice_get (old.types.items ++ None ∷ [])) (sym place) ∙ ap (λ l. slice_get l (n - new.first)) (sym grown) ∙ k.1)),
+      λ k. (omega (arith, first), ap (λ l. slice_get l (n - new.first)) grown ∙ ap (slice_get (old.entries.items ++ None ∷ [])) place ∙ slice_get-append old.entries.items (None ∷ []) (n - old.first) _ k.1),
+      λ k. (omega (arith, first), item_before old.entries.items (n - old.first) own (ap (slice_get (old.entries.items ++ None ∷ [])) (sym place) ∙ ap (λ l. slice_get l (n - new.first)) (sym grown) ∙ k.1)),
     )
 
 -- the same places
-pub places_same : (old new : TypeTable) → first_node new ≡ first_node old → new.types.items ≡ old.types.items → (n : ℕ) (dtype : DataType) → Keeps old n dtype ↔ Keeps new n dtype
-places_same old new first same n dtype =
+pub places_same : (old new : TypeTable) → new.first ≡ old.first → new.entries.items ≡ old.entries.items → (n : ℕ) (own : Inferred) → KeepsEntry old n own ↔ KeepsEntry new n own
+places_same old new first same n own =
     let place = ap (λ m. n - m) first in
-    let one = ap (λ l. slice_get l (n - new.first)) same ∙ ap (slice_get old.types.items) place in
+    let one = ap (λ l. slice_get l (n - new.first)) same ∙ ap (slice_get old.entries.items) place in
     (λ k. (omega (arith, first), one ∙ k.1), λ k. (omega (arith, first), sym one ∙ k.1))
 
-pub keeps_then : (a b c : TypeTable) → ((n : ℕ) (dtype : DataType) → Keeps a n dtype ↔ Keeps b n dtype) → ((n : ℕ) (dtype : DataType) → Keeps b n dtype ↔ Keeps c n dtype) → (n : ℕ) (dtype : DataType) → Keeps a n dtype ↔ Keeps c n dtype
-keeps_then a b c p q n dtype = (λ k. (q n dtype).0 ((p n dtype).0 k), λ k. (p n dtype).1 ((q n dtype).1 k))
+pub keeps_then : (a b c : TypeTable) → ((n : ℕ) (own : Inferred) → KeepsEntry a n own ↔ KeepsEntry b n own) → ((n : ℕ) (own : Inferred) → KeepsEntry b n own ↔ KeepsEntry c n own) → (n : ℕ) (own : Inferred) → KeepsEntry a n own ↔ KeepsEntry c n own
+keeps_then a b c p q n own = (λ k. (q n own).0 ((p n own).0 k), λ k. (p n own).1 ((q n own).1 k))
 
 -- a type that was written at its place
-module _ (old new : TypeTable) (at index : ℕ) (dtype : DataType) (le : first_node old ≤ at) (place : index ≡ at - first_node old) (first : first_node new ≡ first_node old) (written : new.types.items ≡ set old.types.items index (Some dtype)) where
-  pub type_written : index < length old.types.items → Keeps new at dtype
+module _ (old new : TypeTable) (at index : ℕ) (own : Inferred) (le : old.first ≤ at) (place : index ≡ at - old.first) (first : new.first ≡ old.first) (written : new.entries.items ≡ set old.entries.items index (Some own)) where
+  pub type_written : index < length old.entries.items → KeepsEntry new at own
   type_written within =
       let here = ap (λ m. at - m) first ∙ sym place in
-      (omega (arith, first), ap (λ l. slice_get l (at - new.first)) written ∙ ap (slice_get (set old.types.items index (Some dtype))) here ∙ slice_get-set_same old.types.items index (Some dtype) within)
+      (omega (arith, first), ap (λ l. slice_get l (at - new.first)) written ∙ ap (slice_get (set old.entries.items index (Some own))) here ∙ slice_get-set_same old.entries.items index (Some own) within)
 
-  pub others_unwritten : (n : ℕ) (other : DataType) → n ≢ at → Keeps old n other ↔ Keeps new n other
+  pub others_unwritten : (n : ℕ) (other : Inferred) → n ≢ at → KeepsEntry old n other ↔ KeepsEntry new n other
   others_unwritten n other differs =
       let same = ap (λ m. n - m) first in
-      let places = set old.types.items index (Some dtype) in (
+      let places = set old.entries.items index (Some own) in (
         λ k.
             let elsewhere : (n - old.first) ≢ index = λ e. differs (omega (arith, e, k.0)) in
-            (omega (arith, first), ap (λ l. slice_get l (n - new.first)) written ∙ ap (slice_get places) same ∙ slice_get-set_other old.types.items index (Some dtype) (n - old.first) (Some other) elsewhere k.1),
+            (omega (arith, first), ap (λ l. slice_get l (n - new.first)) written ∙ ap (slice_get places) same ∙ slice_get-set_other old.entries.items index (Some own) (n - old.first) (Some other) elsewhere k.1),
         λ k.
             let from : old.first ≤ n = omega (arith, first) in
             let elsewhere : (n - old.first) ≢ index = λ e. differs (omega (arith, e, from)) in
-            (from, item_unwritten old.types.items index (Some dtype) (n - old.first) (Some other) elsewhere (ap (slice_get places) (sym same) ∙ ap (λ l. slice_get l (n - new.first)) (sym written) ∙ k.1)),
+            (from, item_unwritten old.entries.items index (Some own) (n - old.first) (Some other) elsewhere (ap (slice_get places) (sym same) ∙ ap (λ l. slice_get l (n - new.first)) (sym written) ∙ k.1)),
       )
 
--- a type that was found is kept
-pub found_kept : {A : Type 0} (table : TypeTable) (n : ℕ) (value : A → DataType) (found : Option A) → MatchOption found (¬ (IsKept table n)) (λ x. Keeps table n (value x)) → is_some found ≡ true → IsKept table n
+-- ---- how many are kept
+
+pub none_behind : {A : Type 0} (xs : List (Option A)) → some_count (xs ++ None ∷ []) ≡ some_count xs
+none_behind [] = refl
+none_behind (None ∷ xs) = none_behind xs
+none_behind (Some x ∷ xs) = ap suc (none_behind xs)
+
+some_none : {A : Type 0} (x : A) → Some x ≡ None → ⊥
+some_none x e = cc
+
+pub none_in_front : {A : Type 0} (front xs : List (Option A)) → AllByRecursion (λ o. o ≡ None) front → some_count (front ++ xs) ≡ some_count xs
+none_in_front [] xs none = refl
+none_in_front (None ∷ front) xs none = none_in_front front xs none.1
+none_in_front (Some x ∷ front) xs none = absurd (some_none x none.0)
+
+pub some_written : {A : Type 0} (xs : List (Option A)) (i : ℕ) (x : A) → slice_get xs i ≡ Some None → some_count (set xs i (Some x)) ≡ some_count xs + 1
+some_written [] i x h = cc
+some_written (None ∷ xs) zero x h = omega arith
+some_written (Some y ∷ xs) zero x h = cc
+some_written (None ∷ xs) (suc i) x h = some_written xs i x h
+some_written (Some y ∷ xs) (suc i) x h = let e = some_written xs i x h in omega (arith, e)
+
+-- what one place counts
+abbrev pub one_of : {A : Type 0} → Option A → ℕ
+one_of None = 0
+one_of (Some x) = 1
+
+pub one_least : {A : Type 0} (o : Option A) → one_of o ≤ 1
+one_least None = omega arith
+one_least (Some x) = omega arith
+
+pub one_where : {A : Type 0} (o : Option A) → one_of o ≡ cond (is_some o) 1 0
+one_where None = refl
+one_where (Some x) = refl
+
+pub counted_more : {A : Type 0} (xs : List (Option A)) (i k : ℕ) (o : Option A) → k ≡ suc i → i < length xs → o ≡ get_or xs i o → some_count (take k xs) ≡ some_count (take i xs) + one_of o
+counted_more [] i k o e lt got = absurd (omega (arith, lt))
+counted_more (None ∷ xs) zero k o e lt got = let one = ap one_of got in ap (λ j. some_count (take j (None ∷ xs))) e ∙ omega (arith, one)
+counted_more (Some x ∷ xs) zero k o e lt got = let one = ap one_of got in ap (λ j. some_count (take j (Some x ∷ xs))) e ∙ omega (arith, one)
+counted_more (None ∷ xs) (suc i) k o e lt got = ap (λ j. some_count (take j (None ∷ xs))) e ∙ counted_more xs i (suc i) o refl (omega (arith, lt)) got
+counted_more (Some x ∷ xs) (suc i) k o e lt got =
+    let rest = counted_more xs i (suc i) o refl (omega (arith, lt)) got in
+    ap (λ j. some_count (take j (Some x ∷ xs))) e ∙ omega (arith, rest)
+
+-- a place of a node of which nothing is kept
+pub empty_there : (table : TypeTable) (at index : ℕ) → ¬ (IsKept table at) → table.first ≤ at → index ≡ at - table.first → index < length table.entries.items → slice_get table.entries.items index ≡ Some None
+empty_there table at index none le place within =
+    let got = slice_get-get_or table.entries.items index None within in
+    elim (get_or table.entries.items index None) as (λ o. slice_get table.entries.items index ≡ Some o → slice_get table.entries.items index ≡ Some None) [
+      | None ↦ λ h. h
+      | Some own ↦ λ h. absurd (none (record { own = own; keeps = (le, ap (slice_get table.entries.items) (sym place) ∙ h) }))
+    ] got
+
+-- ---- what is kept
+
+pub extends_itself : (table : TypeTable) → Extends table table
+extends_itself table = record { entries = λ n own k. k }
+
+pub extends_then : (a b c : TypeTable) → Extends a b → Extends b c → Extends a c
+extends_then a b c x y = record { entries = λ n own k. y.entries n own (x.entries n own k) }
+
+pub still_kept : (old new : TypeTable) → Extends old new → (n : ℕ) → IsKept old n → IsKept new n
+still_kept old new x n k = record { own = k.own; keeps = x.entries n k.own k.keeps }
+
+pub still_keeps : (old new : TypeTable) → Extends old new → (n : ℕ) (dtype : DataType) → Keeps old n dtype → Keeps new n dtype
+still_keeps old new x n dtype k = record { own = k.own; keeps = x.entries n k.own k.keeps; is = k.is }
+
+pub kept_of : (table : TypeTable) (n : ℕ) (dtype : DataType) → Keeps table n dtype → IsKept table n
+kept_of table n dtype k = record { own = k.own; keeps = k.keeps }
+
+pub type_of : (table : TypeTable) (n : ℕ) (own : Inferred) → KeepsEntry table n own → Keeps table n own.dtype
+type_of table n own k = record { own = own; keeps = k; is = refl }
+
+pub type_one : (table : TypeTable) (n : ℕ) (a b : DataType) → Keeps table n a → Keeps table n b → a ≡ b
+type_one table n a b k l = sym k.is ∙ ap (λ (x : Inferred). x.dtype) (keeps_one table n k.own l.own k.keeps l.keeps) ∙ l.is
+
+-- an entry that was found is kept
+pub found_kept : {A : Type 0} (table : TypeTable) (n : ℕ) (value : A → Inferred) (found : Option A) → MatchOption found (¬ (IsKept table n)) (λ x. KeepsEntry table n (value x)) → is_some found ≡ true → IsKept table n
 found_kept table n value None m e = cc
-found_kept table n value (Some x) m e = record { dtype = value x; keeps = m }
+found_kept table n value (Some x) m e = record { own = value x; keeps = m }
+
+pub none_found : {A : Type 0} (table : TypeTable) (n : ℕ) (value : A → Inferred) (found : Option A) → MatchOption found (¬ (IsKept table n)) (λ x. KeepsEntry table n (value x)) → is_some found ≡ false → ¬ (IsKept table n)
+none_found table n value None m e = m
+none_found table n value (Some x) m e = cc
+
+-- an entry that was written where there was none
+module _ (old mid new : TypeTable) (at : ℕ) (own : Inferred) (none : ¬ (IsKept old at)) (same : (n : ℕ) (other : Inferred) → KeepsEntry old n other ↔ KeepsEntry mid n other) (others : (n : ℕ) (other : Inferred) → n ≢ at → KeepsEntry mid n other ↔ KeepsEntry new n other) where
+  pub written_stays : (n : ℕ) (other : Inferred) → KeepsEntry old n other → KeepsEntry new n other
+  written_stays n other k = ⊎_elim
+      (λ e. absurd (none (record { own = other; keeps = subst (λ m. KeepsEntry old m other) e k })))
+      (λ differs. (others n other differs).0 ((same n other).0 k))
+      (same_or_other n at)
+
+  pub written_only : KeepsEntry new at own → (n : ℕ) (other : Inferred) → KeepsEntry new n other → KeepsEntry old n other ⊎ ((n ≡ at) × (other ≡ own))
+  written_only here n other k = ⊎_elim
+      (λ e. inr (e, keeps_one new at other own (subst (λ m. KeepsEntry new m other) e k) here))
+      (λ differs. inl ((same n other).1 ((others n other differs).1 k)))
+      (same_or_other n at)
 
 -- an item holds its own layer
 layer_parts : (l : Layer Op) → l ≡ layer (op_of l) (inputs_of l)
@@ -132,206 +214,272 @@ layer_held items n item got = expression_got items n item got ∙ ap Some (layer
 pub top_held : (items : List AExpr) (n : ℕ) (t : Expression) → Denotes (HoldsExpression items) n t → (op : Op) × (inputs : List ℕ) × HoldsExpression items n op inputs
 top_held items n (node op ts) d = (op, d.0, d.1)
 
+-- what is kept of nodes is one list of typings
+pub kept_one : (table : TypeTable) (ns : List ℕ) (typed others : List Typed) → AllKept table ns typed → AllKept table ns others → typed ≡ others
+kept_one table [] [] [] k l = refl
+kept_one table (n ∷ ns) (x ∷ xs) (y ∷ ys) k l =
+    let one = sym k.0.is ∙ ap typed_of (keeps_one table n k.0.own l.0.own k.0.keeps l.0.keeps) ∙ l.0.is in
+    ap (λ t. t ∷ xs) one ∙ ap (λ ts. y ∷ ts) (kept_one table ns xs ys k.1 l.1)
+kept_one table [] (x ∷ xs) others k l = absurd k
+kept_one table [] [] (y ∷ ys) k l = absurd l
+kept_one table (n ∷ ns) [] others k l = absurd k
+kept_one table (n ∷ ns) (x ∷ xs) [] k l = absurd l
+
+-- what is kept in a table that keeps more
+pub all_still : (old new : TypeTable) → Extends old new → (ns : List ℕ) (typed : List Typed) → AllKept old ns typed → AllKept new ns typed
+all_still old new x [] [] k = tt
+all_still old new x (n ∷ ns) (t ∷ ts) k = (record { own = k.0.own; keeps = x.entries n k.0.own k.0.keeps; is = k.0.is }, all_still old new x ns ts k.1)
+all_still old new x [] (t ∷ ts) k = absurd k
+all_still old new x (n ∷ ns) [] k = absurd k
+
+-- the typings that are kept for nodes
+pub typings_kept : (table : TypeTable) (ns : List ℕ) → AllByRecursion (IsKept table) ns → (typed : List Typed) × AllKept table ns typed
+typings_kept table [] all = ([], tt)
+typings_kept table (n ∷ ns) all =
+    let rest = typings_kept table ns all.1 in
+    (typed_of all.0.own ∷ rest.0, (record { own = all.0.own; keeps = all.0.keeps; is = refl }, rest.1))
+
+-- what holds of an item over the typings that are kept for its inputs holds over any that are
+pub over_inputs : (P : Op → List Typed → Type 0) (table : TypeTable) (l : Layer Op) (op : Op) (ns : List ℕ) (typed : List Typed) → l ≡ layer op ns → AllKept table ns typed → P op typed → (others : List Typed) → AllKept table (inputs_of l) others → P (op_of l) others
+over_inputs P table l op ns typed is kept p others k =
+    let here = subst (λ (x : Layer Op). AllKept table (inputs_of x) others) is k in
+    subst (P (op_of l)) (kept_one table ns typed others kept here) (subst (λ o. P o typed) (sym (ap op_of is)) p)
+
+-- an item is named by its first input
+pub named_first : (table : TypeTable) (l : Layer Op) (op : Op) (n m : ℕ) (rest : List ℕ) (name : ℕ) (first : Inferred) → l ≡ layer op (m ∷ rest) → KeepsEntry table m first → name ≡ first.name.0 → ((names : List Label) → op_label op names ≡ first_label names) → IsNamedBy table (op_of l) n (inputs_of l) name
+named_first table l op n m rest name first is keeps at same =
+    by_first m rest first (ap inputs_of is) keeps at (λ names. ap (λ o. op_label o names) (ap op_of is) ∙ same names)
+
+-- what was kept before is the same now
+pub typings_before : (old new : TypeTable) → Extends old new → (ns : List ℕ) (typed : List Typed) → AllByRecursion (IsKept old) ns → AllKept new ns typed → AllKept old ns typed
+typings_before old new x ns typed all k =
+    let before = typings_kept old ns all in
+    subst (AllKept old ns) (kept_one new ns before.0 typed (all_still old new x ns before.0 before.1) k) before.1
+
 module _ (registry : Registry) (schema : Columns) (items : List AExpr) (table : TypeTable) (right : IsRight registry schema items table) where
-  -- a node whose type is kept denotes a typed expression
+  -- a node of which something is kept denotes a typed expression
   pub known_typed : (n : ℕ) → IsKept table n → DenotesTyped registry schema 0 items n
   known_typed n k =
-      let e = right.each n k.dtype k.keeps in
-      record { tree = e.tree; denotes = from_zero items n e.tree e.denotes; typed = record { type = ty k.dtype; many = e.typed.many }; is = e.typed.is }
+      let e = right.each n k.own k.keeps in
+      record { tree = e.tree; denotes = from_zero items n e.tree e.denotes; typed = typed_of k.own; is = e.typed }
 
-  -- the types of its inputs are kept
+  -- and there is something for its inputs
   pub known_inputs : (n : ℕ) (op : Op) (inputs : List ℕ) → IsKept table n → HoldsExpression items n op inputs → AllByRecursion (IsKept table) inputs
-  known_inputs n op inputs k held = (right.each n k.dtype k.keeps).inputs op inputs held
+  known_inputs n op inputs k held = (right.each n k.own k.keeps).inputs op inputs held
 
-  -- each expression at the node has that type
+  -- each expression at the node has that typing
+  pub kept_typing : (n : ℕ) (own : Inferred) → KeepsEntry table n own → AllTyped items registry schema n (typed_of own)
+  kept_typing n own k t d =
+      let e = right.each n own k in
+      subst (λ u. typing registry schema u ≡ Ok (typed_of own)) (denotes_one _ (HoldsExpression items) (expression_laws items) n e.tree t e.denotes d) e.typed
+
+  -- and that type
   pub kept_type : (n : ℕ) (dtype : DataType) → Keeps table n dtype → AllHaveType items registry schema n (ty dtype)
   kept_type n dtype k t d =
-      let e = right.each n dtype k in
-      subst (λ u. HasType (typing registry schema u) (ty dtype)) (denotes_one _ (HoldsExpression items) (expression_laws items) n e.tree t e.denotes d) e.typed
+      record { many = k.own.many; is = kept_typing n k.own k.keeps t d ∙ ap (λ (x : DataType). Ok (record { type = ty x; many = k.own.many })) k.is }
 
-  -- there is the cast that a node is, from the type that its operand has alone
-  pub cast_there : (n input : ℕ) (target : Ty) (options : CastOptions) (from : DataType) (own : Ty) → IsKept table n → HoldsExpression items n (CastOp target options) (input ∷ []) → Keeps table input from → type_alone (ty from) ≡ Some own → can_cast own target ≡ true
-  cast_there n input target options from own k held keeps alone =
-      let e = known_typed n k in
-      let top = held_top items n (CastOp target options) (input ∷ []) held e.tree (any_node 0 items n e.tree e.denotes) in
-      let one = one_child (HoldsExpression items) input top.0 top.2 in
-      let has = kept_type input from keeps one.0 one.2 in
-      let p = typed_parts registry schema (CastOp target options) top.0 e.typed (ap (typing registry schema) (sym top.1) ∙ e.is) in
-      let below = one_typed registry schema one.0 (record { type = ty from; many = has.many }) p.below has.is (sym (ap (typing_all registry schema) one.1) ∙ p.children_typed) in
-      let rules = ap (rule registry schema (CastOp target options)) below ∙ p.rules in
-      ruled_is (λ r. can_cast own target ≡ true) (cast_taken target (type_alone (ty from))) has.many p.ruling rules (λ taken found. (ok_where (can_cast own target) _ taken InvalidOperation (sym (ap (cast_taken target) alone) ∙ found)).0)
+  -- the typings of a node's children are those that are kept
+  pub children_kept : (ns : List ℕ) (ts : Trees Op) (typed : List Typed) → DenoteAll (HoldsExpression items) ns ts → AllKept table ns typed → typing_all registry schema ts ≡ Ok typed
+  children_kept [] no_more [] d k = refl
+  children_kept (n ∷ ns) (more t ts) (x ∷ xs) d k =
+      let one = kept_typing n k.0.own k.0.keeps t d.0 ∙ ap Ok k.0.is in
+      ap (λ r. typed_before r (typing_all registry schema ts)) one ∙ ap (typed_before (Ok x)) (children_kept ns ts xs d.1 k.1)
+  children_kept [] no_more (x ∷ xs) d k = absurd k
+  children_kept (n ∷ ns) (more t ts) [] d k = absurd k
+  children_kept [] (more t ts) typed d k = absurd d
+  children_kept (n ∷ ns) no_more typed d k = absurd d
 
-  -- what is typed has a type alone
-  pub alone_there : (n : ℕ) (dtype : DataType) → Keeps table n dtype → (own : Ty) × (type_alone (ty dtype) ≡ Some own)
-  alone_there n dtype k =
-      let e = right.each n dtype k in
-      typed_alone registry schema e.tree (ty dtype) e.typed.many e.typed.is
+  -- so a node over them is typed by its rule
+  pub node_typing : (n : ℕ) (op : Op) (ns : List ℕ) (typed : List Typed) → HoldsExpression items n op ns → AllKept table ns typed → (t : Expression) → Denotes (HoldsExpression items) n t → typing registry schema t ≡ typing_rule registry schema op typed
+  node_typing n op ns typed held k t d =
+      let top = held_top items n op ns held t d in
+      ap (typing registry schema) top.1 ∙ ap (λ r. then_typed r (typing_rule registry schema op)) (children_kept ns top.0 typed top.2 k)
 
-  -- and that is one of columns, where it isn't a number's own
-  pub known_there : (n : ℕ) (dtype : DataType) → Keeps table n dtype → ((number : ℤ) → ty dtype ≢ Untyped number) → is_known (ty dtype) ≡ true
-  known_there n dtype k own =
-      let e = right.each n dtype k in
-      typed_known registry schema e.tree (ty dtype) e.typed.many e.typed.is own
+  -- the first input gives its name
+  first_names : (op : Op) (m : ℕ) (rest : List ℕ) (ts : Trees Op) (first : Inferred) (name : ℕ) → DenoteAll (HoldsExpression items) (m ∷ rest) ts → KeepsEntry table m first → name ≡ first.name.0 → ((names : List Label) → op_label op names ≡ first_label names) → (t : Expression) → t ≡ node op ts → GivesName items name t
+  first_names op m rest (more x xs) first name d keeps at same t is =
+      let e = right.each m first keeps in
+      let one = denotes_one _ (HoldsExpression items) (expression_laws items) m e.tree x e.denotes d.0 in
+      let own : label_of t ≡ label_of e.tree = ap label_of is ∙ same (fold_all op_label (more x xs)) ∙ ap label_of (sym one) in
+      record { op = e.name.op; inputs = e.name.inputs; held = subst (λ k. HoldsExpression items k e.name.op e.name.inputs) (sym at) e.name.held; gives = λ names. e.name.gives names ∙ sym own }
+  first_names op m rest no_more first name d keeps at same t is = absurd d
 
--- trees of nodes from a number on
-from_number : (first : ℕ) (items : List AExpr) (n : ℕ) (t : Expression) → Denotes (HoldsFrom first items) n t → first ≤ n
-from_number first items n (node op ts) d = d.1.0
+  -- the name of an expression is given by the node that names it
+  pub named_there : (n : ℕ) (op : Op) (ns : List ℕ) (name : ℕ) → HoldsExpression items n op ns → IsNamedBy table op n ns name → (t : Expression) → Denotes (HoldsExpression items) n t → GivesName items name t
+  named_there n op ns name held (by_itself at same) t d =
+      let top = held_top items n op ns held t d in
+      let own : label_of t ≡ op_label op [] = ap label_of top.1 ∙ same (fold_all op_label top.0) in
+      record { op = op; inputs = ns; held = subst (λ m. HoldsExpression items m op ns) (sym at) held; gives = λ names. same names ∙ sym own }
+  named_there n op ns name held (by_first m rest first inputs keeps at same) t d =
+      let top = held_top items n op (m ∷ rest) (subst (HoldsExpression items n op) inputs held) t d in
+      first_names op m rest top.0 first name top.2 keeps at same t top.1
 
-pub tree_from : (first : ℕ) (items : List AExpr) (n : ℕ) → DenotesTree (HoldsFrom first items) n → first ≤ n
-tree_from first items n d = from_number first items n d.tree d.denotes
+  -- the operand types of a node by its item
+  pub listed_operands : (n : ℕ) (item : AExpr) (own : Inferred) → slice_get items n ≡ Some item → KeepsEntry table n own → (typed : List Typed) (ruling : Ruling) → AllKept table (inputs_of (expression_layer item)) typed → rule registry schema (op_of (expression_layer item)) typed ≡ Ok ruling → AreOperands (map ty own.operands.items) (types_of typed) ruling.operands
+  listed_operands n item own got k typed ruling all rules =
+      (right.each n own k).operands (op_of (expression_layer item)) (inputs_of (expression_layer item)) typed ruling (layer_held items n item got) all rules
 
-pub any_tree : (first : ℕ) (items : List AExpr) (n : ℕ) → DenotesTree (HoldsFrom first items) n → DenotesTree (HoldsExpression items) n
-any_tree first items n d = record { tree = d.tree; denotes = any_node first items n d.tree d.denotes }
+-- the typings of a node's inputs, and what its rule says of them
+pub record RuledInputs (registry : Registry) (schema : Columns) (table : TypeTable) (op : Op) (inputs : List ℕ) (own : Typed) : Type 0 where
+  pub typed : List Typed
+  pub kept : AllKept table inputs typed
+  pub ruling : Ruling
+  pub rules : rule registry schema op typed ≡ Ok ruling
+  pub is : ruling.own ≡ own
 
--- the tree that was added from there on
-pub tree_added : (first at : ℕ) (items : List AExpr) (asked n : ℕ) (t : Expression) → first ≤ at → asked ≡ n → Denotes (HoldsFrom at items) n t → DenotesTree (HoldsFrom first items) asked
-tree_added first at items asked n t le same d =
-    let nothing : Grows items items = record { added = []; longer = sym (append-nil items) } in
-    record { tree = t; denotes = subst (λ m. Denotes (HoldsFrom first items) m t) (sym same) (tree_grown at first items items le nothing n t d) }
+ruled_so : (found : Result Ruling ErrorKind) (typed : Typed) → own_typed found ≡ Ok typed → (ruling : Ruling) × (found ≡ Ok ruling) × (ruling.own ≡ typed)
+ruled_so (Err kind) typed h = cc
+ruled_so (Ok ruling) typed h = (ruling, refl, ok_same (own_typed (Ok ruling)) ruling.own typed refl h)
 
--- their inputs are trees of such nodes, and lead less far down
-pub inputs_from : (first : ℕ) (items : List AExpr) (n : ℕ) (op : Op) (inputs : List ℕ) → HoldsExpression items n op inputs → DenotesTree (HoldsFrom first items) n → AllByRecursion (λ m. DenotesTree (HoldsFrom first items) m × (depth_at (shape_of (map expression_layer items)) m < depth_at (shape_of (map expression_layer items)) n)) inputs
-inputs_from first items n op inputs held d =
-    inputs_denote _ (HoldsFrom first items) (from_laws first items) n op inputs (tree_from first items n d, held) d
+pub ruled_inputs : (registry : Registry) (schema : Columns) (items : List AExpr) (table : TypeTable) (right : IsRight registry schema items table) (n : ℕ) (item : AExpr) (own : Inferred) → slice_get items n ≡ Some item → KeepsEntry table n own → RuledInputs registry schema table (op_of (expression_layer item)) (inputs_of (expression_layer item)) (typed_of own)
+ruled_inputs registry schema items table right n item own got k =
+    let op = op_of (expression_layer item) in
+    let ns = inputs_of (expression_layer item) in
+    let e = right.each n own k in
+    let held = layer_held items n item got in
+    let typings = typings_kept table ns (e.inputs op ns held) in
+    let is = sym (node_typing registry schema items table right n op ns typings.0 held typings.1 e.tree e.denotes) ∙ e.typed in
+    let found = ruled_so (rule registry schema op typings.0) (typed_of own) is in
+    record { typed = typings.0; kept = typings.1; ruling = found.0; rules = found.1; is = found.2 }
 
--- a typed node stays one where its tree becomes one that is typed alike, its item stays, and so does what is known
-pub node_stays : (registry : Registry) (schema : Columns) (items items' : List AExpr) (table table' : TypeTable) (n : ℕ) (type : Ty) (e : IsTypedNode registry schema items table n type) (w : Expression) → Denotes (HoldsExpression items') n w → typing registry schema w ≡ typing registry schema e.tree → ((op : Op) (inputs : List ℕ) → HoldsExpression items n op inputs → HoldsExpression items' n op inputs) → ((m : ℕ) → IsKept table m → IsKept table' m) → IsTypedNode registry schema items' table' n type
-node_stays registry schema items items' table table' n type e w d same stays knows =
+-- ---- what stays right
+
+-- a node stays typed where its tree becomes one of the same typing and name, its item stays, and what is kept is kept
+pub node_stays : (registry : Registry) (schema : Columns) (items items' : List AExpr) (table table' : TypeTable) (n : ℕ) (own : Inferred) (e : IsTypedNode registry schema items table n own) (w : Expression) → Denotes (HoldsExpression items') n w → typing registry schema w ≡ typing registry schema e.tree → GivesName items' own.name.0 w → ((op : Op) (inputs : List ℕ) → HoldsExpression items n op inputs → HoldsExpression items' n op inputs) → Extends table table' → IsTypedNode registry schema items' table' n own
+node_stays registry schema items items' table table' n own e w d same name stays extends =
     let top = top_held items n e.tree e.denotes in
+    let there = stays top.0 top.1 top.2 in
+    let known = e.inputs top.0 top.1 top.2 in
     record {
       tree = w;
       denotes = d;
-      typed = record { many = e.typed.many; is = same ∙ e.typed.is };
+      typed = same ∙ e.typed;
+      name = name;
       inputs = λ op inputs h.
-          let one = held_inputs items' n top.0 op top.1 inputs (stays top.0 top.1 top.2) h in
-          subst (AllByRecursion (IsKept table')) one (all_weaker (IsKept table) (IsKept table') knows top.1 (e.inputs top.0 top.1 top.2));
+          subst (AllByRecursion (IsKept table')) (held_inputs items' n top.0 op top.1 inputs there h) (all_weaker (IsKept table) (IsKept table') (still_kept table table' extends) top.1 known);
+      operands = λ op inputs typed ruling h kept rules.
+          let is = held_op items' n op top.0 inputs top.1 h there in
+          let ins = held_inputs items' n op top.0 inputs top.1 h there in
+          let before = typings_before table table' extends top.1 typed known (subst (λ ns. AllKept table' ns typed) ins kept) in
+          e.operands top.0 top.1 typed ruling top.2 before (ap (λ o. rule registry schema o typed) (sym is) ∙ rules);
     }
+
+-- a name stays where items do
+pub name_stays : (items items' : List AExpr) (n : ℕ) (t w : Expression) → GivesName items n t → label_of w ≡ label_of t → ((n : ℕ) (op : Op) (inputs : List ℕ) → HoldsExpression items n op inputs → HoldsExpression items' n op inputs) → GivesName items' n w
+name_stays items items' n t w name same stays = record { op = name.op; inputs = name.inputs; held = stays n name.op name.inputs name.held; gives = λ names. name.gives names ∙ sym same }
 
 -- a table that keeps nothing is right
 pub right_start : (registry : Registry) (schema : Columns) (items : List AExpr) (table : TypeTable) → ((n : ℕ) → ¬ (IsKept table n)) → IsRight registry schema items table
-right_start registry schema items table empty = record { each = λ n dtype k. absurd (empty n (record { dtype = dtype; keeps = k })) }
+right_start registry schema items table empty = record { each = λ n own k. absurd (empty n (record { own = own; keeps = k })) }
 
--- kept types stay right as the arena grows
+-- what is kept stays right as the arena grows
 pub right_grown : (registry : Registry) (schema : Columns) (old new : List AExpr) (table : TypeTable) → Grows old new → IsRight registry schema old table → IsRight registry schema new table
 right_grown registry schema old new table g right = record {
-  each = λ n dtype k.
-      let e = right.each n dtype k in
+  each = λ n own k.
+      let e = right.each n own k in
       let stays = grown_held old new g in
-      node_stays registry schema old new table table n (ty dtype) e e.tree (kept (HoldsExpression old) (HoldsExpression new) stays n e.tree e.denotes) refl (stays n) (λ m k. k);
+      node_stays registry schema old new table table n own e e.tree (kept (HoldsExpression old) (HoldsExpression new) stays n e.tree e.denotes) refl (name_stays old new own.name.0 e.tree e.tree e.name refl stays) (stays n) (extends_itself table);
 }
 
--- and where the table keeps the same
-pub right_same : (registry : Registry) (schema : Columns) (items : List AExpr) (old new : TypeTable) → ((n : ℕ) (dtype : DataType) → Keeps old n dtype ↔ Keeps new n dtype) → IsRight registry schema items old → IsRight registry schema items new
-right_same registry schema items old new same right = record {
-  each = λ n dtype k.
-      let e = right.each n dtype ((same n dtype).1 k) in
-      node_stays registry schema items items old new n (ty dtype) e e.tree e.denotes refl (λ op inputs h. h) (kept_same old new same);
+-- and where one more entry may be kept, which is right
+pub right_more : (registry : Registry) (schema : Columns) (items : List AExpr) (old new : TypeTable) (at : ℕ) (own : Inferred) → Extends old new → ((n : ℕ) (other : Inferred) → KeepsEntry new n other → KeepsEntry old n other ⊎ ((n ≡ at) × (other ≡ own))) → IsTypedNode registry schema items new at own → IsRight registry schema items old → IsRight registry schema items new
+right_more registry schema items old new at own extends only here right = record {
+  each = λ n other k. ⊎_elim
+      (λ before.
+      let e = right.each n other before in
+      node_stays registry schema items items old new n other e e.tree e.denotes refl e.name (λ op inputs h. h) extends)
+      (λ is. subst (λ m. IsTypedNode registry schema items new m other) (sym is.0) (subst (IsTypedNode registry schema items new at) (sym is.1) here))
+      (only n other k);
 }
 
--- and where it keeps the type of one more node
-pub right_more : (registry : Registry) (schema : Columns) (items : List AExpr) (old new : TypeTable) (at : ℕ) (dtype : DataType) (op : Op) (inputs : List ℕ) → HoldsExpression items at op inputs → DenotesTree (HoldsExpression items) at → AllHaveType items registry schema at (ty dtype) → AllByRecursion (IsKept old) inputs → Keeps new at dtype → ((n : ℕ) (other : DataType) → n ≢ at → Keeps old n other ↔ Keeps new n other) → IsRight registry schema items old → IsRight registry schema items new
-right_more registry schema items old new at dtype op inputs held d typed known keeps others right =
-    let stays = kept_more old new at dtype keeps others in
-    let here : IsTypedNode registry schema items new at (ty dtype) = record {
+-- the node whose rule was asked
+pub ruled_node : (registry : Registry) (schema : Columns) (items : List AExpr) (old new : TypeTable) (n : ℕ) (op : Op) (ns : List ℕ) (own : Inferred) → HoldsExpression items n op ns → DenotesTree (HoldsExpression items) n → AllByRecursion (IsKept old) ns → Extends old new → ((typed : List Typed) → AllKept old ns typed → IsRuled registry schema op typed own) → IsNamedBy old op n ns own.name.0 → IsRight registry schema items old → IsTypedNode registry schema items new n own
+ruled_node registry schema items old new n op ns own held d known extends ruled named right =
+    let typings = typings_kept old ns known in
+    let r = ruled typings.0 typings.1 in
+    record {
       tree = d.tree;
       denotes = d.denotes;
-      typed = typed d.tree d.denotes;
-      inputs = λ op' inputs' h. subst (AllByRecursion (IsKept new)) (held_inputs items at op op' inputs inputs' held h) (all_weaker (IsKept old) (IsKept new) stays inputs known);
-    } in
-    record {
-      each = λ n other k. ⊎_elim
-          (λ e.
-          let one : ty dtype ≡ ty other = ap ty (keeps_one new at dtype other keeps (subst (λ m. Keeps new m other) e k)) in
-          subst (λ m. IsTypedNode registry schema items new m (ty other)) (sym e) (subst (IsTypedNode registry schema items new at) one here))
-          (λ differs.
-          let e = right.each n other ((others n other differs).1 k) in
-          node_stays registry schema items items old new n (ty other) e e.tree e.denotes refl (λ op inputs h. h) stays)
-          (same_or_other n at);
+      typed = node_typing registry schema items old right n op ns typings.0 held typings.1 d.tree d.denotes ∙ ap own_typed r.rules ∙ ap Ok r.is;
+      name = named_there registry schema items old right n op ns own.name.0 held named d.tree d.denotes;
+      inputs = λ op' inputs h. subst (AllByRecursion (IsKept new)) (held_inputs items n op op' ns inputs held h) (all_weaker (IsKept old) (IsKept new) (still_kept old new extends) ns known);
+      operands = λ op' inputs typed ruling h kept rules.
+          let is = held_op items n op' op inputs ns h held in
+          let ins = held_inputs items n op' op inputs ns h held in
+          let before = typings_before old new extends ns typed known (subst (λ ns. AllKept new ns typed) ins kept) in
+          let own' = ruled typed before in
+          let one = ok_same (rule registry schema op typed) own'.ruling ruling own'.rules (ap (λ o. rule registry schema o typed) (sym is) ∙ rules) in
+          subst (λ (x : Ruling). AreOperands (map ty own.operands.items) (types_of typed) x.operands) one own'.operands;
     }
 
-pub extends_itself : (table : TypeTable) → Extends table table
-extends_itself table = record { first = refl; kept = λ n k. k }
+-- so what is kept stays right as it is kept
+pub right_kept : (registry : Registry) (schema : Columns) (items : List AExpr) (old new : TypeTable) (n : ℕ) (op : Op) (ns : List ℕ) (own : Inferred) → HoldsExpression items n op ns → DenotesTree (HoldsExpression items) n → AllByRecursion (IsKept old) ns → ((typed : List Typed) → AllKept old ns typed → IsRuled registry schema op typed own) → IsNamedBy old op n ns own.name.0 → ((n : ℕ) (other : Inferred) → KeepsEntry old n other → KeepsEntry new n other) → ((m : ℕ) (other : Inferred) → KeepsEntry new m other → KeepsEntry old m other ⊎ ((m ≡ n) × (other ≡ own))) → IsRight registry schema items old → IsRight registry schema items new
+right_kept registry schema items old new n op ns own held d known ruled named stays only right =
+    let extends : Extends old new = record { entries = stays } in
+    right_more registry schema items old new n own extends only (ruled_node registry schema items old new n op ns own held d known extends ruled named right) right
 
--- a table that keeps more
-pub extends_then : (a b c : TypeTable) → Extends a b → Extends b c → Extends a c
-extends_then a b c x y = record { first = y.first ∙ x.first; kept = λ n k. y.kept n (x.kept n k) }
-
-pub extends_same : (old new : TypeTable) → first_node new ≡ first_node old → ((n : ℕ) (dtype : DataType) → Keeps old n dtype ↔ Keeps new n dtype) → Extends old new
-extends_same old new first same = record { first = first; kept = kept_same old new same }
-
-pub extends_more : (old new : TypeTable) (at : ℕ) (dtype : DataType) → first_node new ≡ first_node old → Keeps new at dtype → ((n : ℕ) (other : DataType) → n ≢ at → Keeps old n other ↔ Keeps new n other) → Extends old new
-extends_more old new at dtype first keeps others = record { first = first; kept = kept_more old new at dtype keeps others }
+-- ---- walks
 
 -- a typed expression is a tree
 pub plain_tree : {registry : Registry} {schema : Columns} {items : List AExpr} {n : ℕ} → DenotesTyped registry schema 0 items n → DenotesTree (HoldsExpression items) n
 plain_tree {items = items} {n = n} d = record { tree = d.tree; denotes = any_node 0 items n d.tree d.denotes }
 
--- the types of a node's inputs are kept, one by one
-module _ (registry : Registry) (schema : Columns) (items : List AExpr) (table : TypeTable) (right : IsRight registry schema items table) where
-  kept_children : (ns : List ℕ) (ts : Trees Op) (typed : List Typed) → DenoteAll (HoldsExpression items) ns ts → typing_all registry schema ts ≡ Ok typed → AllByRecursion (IsKept table) ns → AllKept table ns (types_of typed)
-  kept_children [] no_more typed d h all = by_no_children (λ xs. AllKept table [] (types_of xs)) typed h tt
-  kept_children (n ∷ ns) (more t ts) typed d h all =
-      by_children (λ xs. AllKept table (n ∷ ns) (types_of xs)) _ _ typed h (λ x xs is rest.
-      let has = kept_type registry schema items table right n all.0.dtype all.0.keeps t d.0 in
-      (record { dtype = all.0.dtype; keeps = all.0.keeps; is = ap (λ (y : Typed). y.type) (ok_same _ _ x has.is is) }, kept_children ns ts xs d.1 rest all.1))
-  kept_children [] (more t ts) typed d h all = absurd d
-  kept_children (n ∷ ns) no_more typed d h all = absurd d
+-- what all numbers of a list have, at a place
+pub all_at : (P : ℕ → Type 0) (ns : List Node) (i : ℕ) (n : Node) → AllByRecursion P (numbers ns) → i < length ns → P (get_or ns i n).0
+all_at P [] i n all lt = absurd (omega (arith, lt))
+all_at P (m ∷ ns) zero n all lt = all.0
+all_at P (m ∷ ns) (suc i) n all lt = all_at P ns i n all.1 (omega (arith, lt))
 
-  -- an item whose type is kept takes its inputs
-  pub typed_item : (n : ℕ) (item : AExpr) → slice_get items n ≡ Some item → IsKept table n → IsTypedItem table item
-  typed_item n item got k =
-      let op = op_of (expression_layer item) in
-      let inputs = inputs_of (expression_layer item) in
-      let held = layer_held items n item got in
-      let e = known_typed registry schema items table right n k in
-      let top = held_top items n op inputs held e.tree (any_node 0 items n e.tree e.denotes) in
-      let p = typed_parts registry schema op top.0 e.typed (ap (typing registry schema) (sym top.1) ∙ e.is) in
-      record {
-        registry = registry;
-        schema = schema;
-        typed = p.below;
-        kept = kept_children inputs top.0 p.below top.2 p.children_typed (known_inputs registry schema items table right n op inputs k held);
-        ruling = p.ruling;
-        rules = p.rules;
-      }
+-- and one more of them
+pub all_taken : (P : ℕ → Type 0) (ns : List Node) (i k : ℕ) (n : Node) → k ≡ suc i → AllByRecursion P (numbers (take i ns)) → i < length ns → P (get_or ns i n).0 → AllByRecursion P (numbers (take k ns))
+all_taken P [] i k n e all lt p = absurd (omega (arith, lt))
+all_taken P (m ∷ ns) zero k n e all lt p = subst (λ k. AllByRecursion P (numbers (take k (m ∷ ns)))) (sym e) (p, tt)
+all_taken P (m ∷ ns) (suc i) k n e all lt p = subst (λ k. AllByRecursion P (numbers (take k (m ∷ ns)))) (sym e) (all.0, all_taken P ns i (suc i) n refl all.1 (omega (arith, lt)) p)
 
--- what is kept for inputs is one list of types
-pub kept_one : (table : TypeTable) (ns : List ℕ) (types others : List Ty) → AllKept table ns types → AllKept table ns others → types ≡ others
-kept_one table [] [] [] k l = refl
-kept_one table (n ∷ ns) (type ∷ types) (other ∷ others) k l =
-    let one = sym k.0.is ∙ ap ty (keeps_one table n k.0.dtype l.0.dtype k.0.keeps l.0.keeps) ∙ l.0.is in
-    ap (λ t. t ∷ types) one ∙ ap (λ ts. other ∷ ts) (kept_one table ns types others k.1 l.1)
-kept_one table [] (type ∷ types) others k l = absurd k
-kept_one table [] [] (other ∷ others) k l = absurd l
-kept_one table (n ∷ ns) [] others k l = absurd k
-kept_one table (n ∷ ns) (type ∷ types) [] k l = absurd l
+pub all_whole : (P : ℕ → Type 0) (ns : List Node) (i : ℕ) → i ≡ length ns → AllByRecursion P (numbers (take i ns)) → AllByRecursion P (numbers ns)
+all_whole P ns i whole all = subst (λ (l : List Node). AllByRecursion P (numbers l)) (ap (λ k. take k ns) whole ∙ take-length ns) all
 
--- an operator takes its operands as their kept types say, and a cast takes its operand to the type that it has alone
-pub binary_takes : (table : TypeTable) (operator : Operator) (l r : ℕ) (left right : DataType) (taken : Taken) → Keeps table l left → Keeps table r right → operator_types operator (ty left ∷ ty right ∷ []) ≡ Ok taken → (registry : Registry) (schema : Columns) (typed : List Typed) (ruling : Ruling) → AllKept table (l ∷ r ∷ []) (types_of typed) → rule registry schema (BinaryOp operator) typed ≡ Ok ruling → ruling.operands ≡ taken.operands
-binary_takes table operator l r left right taken kl kr is registry schema typed ruling kept h =
-    let same = kept_one table (l ∷ r ∷ []) (types_of typed) (ty left ∷ ty right ∷ []) kept (record { dtype = left; keeps = kl; is = refl }, (record { dtype = right; keeps = kr; is = refl }, tt)) in
-    ruled_is (λ r. r.operands ≡ taken.operands) (operator_types operator (types_of typed)) (some_many typed) ruling h (λ found e.
-    ap (λ (x : Taken). x.operands) (ok_same _ found taken (ap (operator_types operator) (sym same) ∙ e) is))
+-- the first child that is refused refuses the node
+module _ (registry : Registry) (schema : Columns) (items : List AExpr) (table : TypeTable) (right : IsRight registry schema items table) (error : PlanError) where
+  child_refused : (ns : List Node) (i : ℕ) (n : Node) → AllByRecursion (IsKept table) (numbers (take i ns)) → i < length ns → AllRefused items registry schema (get_or ns i n).0 error → (ts : Trees Op) → DenoteAll (HoldsExpression items) (numbers ns) ts → IsRefusal (typing_all registry schema ts) error
+  child_refused [] i n all lt refused ts d = absurd (omega (arith, lt))
+  child_refused (m ∷ ns) i n all lt refused no_more d = absurd d
+  child_refused (m ∷ ns) zero n all lt refused (more t ts) d =
+      refused_so _ _ error (λ kind e. ap (λ r. typed_before r (typing_all registry schema ts)) e) (refused t d.0)
+  child_refused (m ∷ ns) (suc i) n all lt refused (more t ts) d =
+      let here = kept_typing registry schema items table right m.0 all.0.own all.0.keeps t d.0 in
+      let rest = child_refused ns i n all.1 (omega (arith, lt)) refused ts d.1 in
+      refused_so _ _ error (λ kind e. ap (λ r. typed_before r (typing_all registry schema ts)) here ∙ ap (typed_before (Ok (typed_of all.0.own))) e) rest
 
-pub cast_takes : (table : TypeTable) (target : Ty) (options : CastOptions) (input : ℕ) (from : DataType) (own : Ty) → Keeps table input from → type_alone (ty from) ≡ Some own → (registry : Registry) (schema : Columns) (typed : List Typed) (ruling : Ruling) → AllKept table (input ∷ []) (types_of typed) → rule registry schema (CastOp target options) typed ≡ Ok ruling → ruling.operands ≡ own ∷ []
-cast_takes table target options input from own k alone registry schema [] ruling kept h = cc
-cast_takes table target options input from own k alone registry schema (t ∷ []) ruling kept h =
-    let same : t.type ≡ ty from = sym kept.0.is ∙ ap ty (keeps_one table input kept.0.dtype from kept.0.keeps k) in
-    ruled_is (λ r. r.operands ≡ own ∷ []) (cast_taken target (type_alone t.type)) t.many ruling h (λ found e.
-    cast_operands target own found (sym (ap (cast_taken target) (ap type_alone same ∙ alone)) ∙ e))
-cast_takes table target options input from own k alone registry schema (t ∷ u ∷ ts) ruling kept h = cc
+  pub input_refused : (at : ℕ) (op : Op) (inputs : List ℕ) (ns : List Node) (i : ℕ) (n : Node) → HoldsExpression items at op inputs → numbers ns ≡ inputs → AllByRecursion (IsKept table) (numbers (take i ns)) → i < length ns → AllRefused items registry schema (get_or ns i n).0 error → AllRefused items registry schema at error
+  input_refused at op inputs ns i n held listed all lt refused t d =
+      let top = held_top items at op inputs held t d in
+      let below = child_refused ns i n all lt refused top.0 (subst (λ ms. DenoteAll (HoldsExpression items) ms top.0) (sym listed) top.2) in
+      refused_so _ _ error (λ kind e. ap (typing registry schema) top.1 ∙ ap (λ r. then_typed r (typing_rule registry schema op)) e) below
 
--- what is typed is refused for want of memory alone
-pub binary_refused_never : (table : TypeTable) (operator : Operator) (l r : ℕ) (left right : DataType) (error : PlanError) → Keeps table l left → Keeps table r right → IsRefusal (operator_types operator (ty left ∷ ty right ∷ [])) error → (registry : Registry) (schema : Columns) (typed : List Typed) (ruling : Ruling) → AllKept table (l ∷ r ∷ []) (types_of typed) → rule registry schema (BinaryOp operator) typed ≡ Ok ruling → error ≡ no_memory
-binary_refused_never table operator l r left right error kl kr refused registry schema typed ruling kept h =
-    let same = kept_one table (l ∷ r ∷ []) (types_of typed) (ty left ∷ ty right ∷ []) kept (record { dtype = left; keeps = kl; is = refl }, (record { dtype = right; keeps = kr; is = refl }, tt)) in
-    ruled_is (λ r. error ≡ no_memory) (operator_types operator (types_of typed)) (some_many typed) ruling h (λ found e.
-    never_refused (operator_types operator (ty left ∷ ty right ∷ [])) found error (ap (operator_types operator) (sym same) ∙ e) refused)
+  -- and so does its own rule
+  pub own_refused : (at : ℕ) (op : Op) (ns : List ℕ) → HoldsExpression items at op ns → AllByRecursion (IsKept table) ns → ((typed : List Typed) → AllKept table ns typed → IsRefusal (typing_rule registry schema op typed) error) → AllRefused items registry schema at error
+  own_refused at op ns held known refused t d =
+      let typings = typings_kept table ns known in
+      refused_so _ _ error (λ kind e. node_typing registry schema items table right at op ns typings.0 held typings.1 t d ∙ e) (refused typings.0 typings.1)
 
-pub cast_refused_never : (table : TypeTable) (target : Ty) (options : CastOptions) (input : ℕ) (from : DataType) (error : PlanError) → Keeps table input from → IsMemoryOr InvalidOperation (type_alone (ty from) ≡ None) error → (registry : Registry) (schema : Columns) (typed : List Typed) (ruling : Ruling) → AllKept table (input ∷ []) (types_of typed) → rule registry schema (CastOp target options) typed ≡ Ok ruling → error ≡ no_memory
-cast_refused_never table target options input from error k refused registry schema [] ruling kept h = cc
-cast_refused_never table target options input from error k refused registry schema (t ∷ []) ruling kept h =
-    let same : t.type ≡ ty from = sym kept.0.is ∙ ap ty (keeps_one table input kept.0.dtype from kept.0.keeps k) in
-    ruled_is (λ r. error ≡ no_memory) (cast_taken target (type_alone t.type)) t.many ruling h (λ found e.
-    ⊎_elim (λ memory. memory) (λ none. absurd (no_cast_of_none target found (sym (ap (cast_taken target) (ap type_alone same ∙ none.1)) ∙ e))) refused)
-cast_refused_never table target options input from error k refused registry schema (t ∷ u ∷ ts) ruling kept h = cc
+pub no_deeper : (items : List AExpr) (start : TypeTable) (at n : ℕ) → IsKept start n ⊎ (node_depth items n < node_depth items at) → IsKept start n ⊎ (node_depth items n ≤ node_depth items at)
+no_deeper items start at n here = ⊎_elim (λ k. inl k) (λ less. inr (omega (arith, less))) here
+
+-- what a walk adds is no deeper than where it began
+module _ (items : List AExpr) (start mid new : TypeTable) (at : ℕ) (before : (n : ℕ) → IsKept mid n → IsKept start n ⊎ (node_depth items n < node_depth items at)) where
+  pub below_more : (input : ℕ) → node_depth items input < node_depth items at → ((n : ℕ) → IsKept new n → IsKept mid n ⊎ (node_depth items n ≤ node_depth items input)) → (n : ℕ) → IsKept new n → IsKept start n ⊎ (node_depth items n < node_depth items at)
+  below_more input less after n k = ⊎_elim
+      (λ m. before n m)
+      (λ le. inr (omega (arith, le, less)))
+      (after n k)
+
+  -- so nothing is kept yet of the node itself
+  pub not_yet : ¬ (IsKept start at) → ¬ (IsKept mid at)
+  not_yet none k = ⊎_elim (λ s. none s) (λ less. absurd (omega (arith, less))) (before at k)
+
+  pub below_kept : (own : Inferred) → ((n : ℕ) (other : Inferred) → KeepsEntry new n other → KeepsEntry mid n other ⊎ ((n ≡ at) × (other ≡ own))) → (n : ℕ) → IsKept new n → IsKept start n ⊎ (node_depth items n ≤ node_depth items at)
+  below_kept own only n k = ⊎_elim
+      (λ m. no_deeper items start at n (before n (record { own = k.own; keeps = m })))
+      (λ is. inr (subst (λ m. node_depth items m ≤ node_depth items at) (sym is.0) (omega arith)))
+      (only n k.own k.keeps)

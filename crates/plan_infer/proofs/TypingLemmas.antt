@@ -1,33 +1,33 @@
 -- The type of a node, from those of its inputs.
-use Rattle.std.proofs.Common.{◌≡◌, ◌≢◌, ℕ, Bool, true, false, cond, List, [], ◌∷◌, Option, Some, None, Result, Ok, Err, is_ok, refl, sym, ap, ◌∙◌, ⊎_elim}
+use Rattle.std.proofs.Common.{◌≡◌, ◌≢◌, ℕ, Bool, true, false, ◌||◌, ◌&&◌, cond, List, [], ◌∷◌, map, Option, Some, None, Result, Ok, Err, is_ok, refl, sym, ap, ◌∙◌, inl, ⊎_elim}
 use Rattle.std.specs.Prelude.{ℤ}
-use Rattle.plan_types.specs.Types.{Ty, Untyped, is_known}
+use Rattle.plan_types.specs.Types.{Ty, Untyped, ty, is_integer, is_known}
 use Rattle.plan_types.specs.Values.{Val}
 use Rattle.plan_types.specs.Schemas.{Columns, Name, type_at}
 use Rattle.plan_types.specs.CommonTypes.{known_type, type_alone}
 use Rattle.plan_types.specs.Casts.{can_cast}
 use Rattle.plan_types.proofs.CastLemmas.{source_known}
-use Rattle.plan_types.specs.Errors.{at_top, IsMemoryOr, IsRefusal, no_room, broken, no_memory}
+use Rattle.plan_types.specs.Errors.{at_top, IsMemoryOr, IsRefusal, no_room, broken}
 use Rattle.plan_types.specs.declared.error.ErrorKind.{ErrorKind}
 use Rattle.plan_types.specs.declared.error.ErrorKind.TheVariants.{ColumnNotFound, InvalidOperation}
 use Rattle.plan_types.specs.declared.error.PlanError.{PlanError}
 use Rattle.plan_types.specs.declared.dtype.CastOptions.{CastOptions}
 use Rattle.plan_dsl.specs.declared.operator.Operator.{Operator}
 use Rattle.plan_dsl.specs.Registry.{Registry}
-use Rattle.plan_dsl.specs.Trees.{node, no_more, more}
-use Rattle.plan_dsl.specs.Ops.{ColumnOp, LiteralOp, BinaryOp, CastOp, LenOp, Expression}
+use Rattle.plan_dsl.specs.Ops.{Op, ColumnOp, LiteralOp, BinaryOp, CastOp, LenOp, SliceOp, Expression}
 use Rattle.plan_dsl.specs.Literals.{is_literal}
-use Rattle.plan_dsl.specs.Typing.{Typed, count_type, column_type, literal_taken, cast_taken, typing_rule, then_typed, typed_before, typing, some_many, typing_all, Ruling, rule}
+use Rattle.plan_dsl.specs.Typing.{Typed, count_type, column_type, is_length, is_one, literal_taken, cast_taken, over_type, own_typed, place_type, ruled_where, slice_ruling, ruled_as, typing_rule, types_of, typing, rule}
 use Rattle.plan_dsl.specs.OperatorTypes.{Taken, operator_types}
-use Rattle.plan_dsl.proofs.TypingLemmas.{typed_as, ok_same, ok_where, ruled_is}
+use Rattle.plan_dsl.proofs.TypingLemmas.{ok_where, ruling_of}
 use Rattle.plan_arena.specs.declared.aexpr.AExpr.{AExpr}
 use Rattle.plan_arena.specs.Denotation.{Denotes}
 use Rattle.plan_arena.specs.Items.{HoldsExpression}
-use Rattle.plan_arena.proofs.ItemLemmas.{held_top, one_child, two_children, no_children}
+use Rattle.plan_infer.specs.declared.type_table.Inferred.{Inferred}
+use Rattle.plan_infer.specs.KeptTypes.{AreOperands, IsRuled}
 use Rattle.plan_infer.specs.Typed.{HasType}
 
 -- a refusal below is one here, where the kinds are the same
-refused_so : {A B : Type 0} (from : Result A ErrorKind) (to : Result B ErrorKind) (error : PlanError) → ((kind : ErrorKind) → from ≡ Err kind → to ≡ Err kind) → IsRefusal from error → IsRefusal to error
+pub refused_so : {A B : Type 0} (from : Result A ErrorKind) (to : Result B ErrorKind) (error : PlanError) → ((kind : ErrorKind) → from ≡ Err kind → to ≡ Err kind) → IsRefusal from error → IsRefusal to error
 refused_so from to error same (no_room e) = no_room e
 refused_so from to error same (broken kind e b) = broken kind e (same kind b)
 
@@ -73,7 +73,11 @@ takes_no_cast target (Some own) h =
     ap (λ b. cond b (Ok (record { operands = own ∷ []; type = target })) (Err InvalidOperation)) casts
 
 module _ (items : List AExpr) (registry : Registry) (schema : Columns) where
-  -- the expressions at a node have this type
+  -- the expressions at a node have this typing
+  abbrev pub AllTyped : ℕ → Typed → Type 0
+  AllTyped n typed = (t : Expression) → Denotes (HoldsExpression items) n t → typing registry schema t ≡ Ok typed
+
+  -- and this type
   abbrev pub AllHaveType : ℕ → Ty → Type 0
   AllHaveType n type = (t : Expression) → Denotes (HoldsExpression items) n t → HasType (typing registry schema t) type
 
@@ -81,147 +85,99 @@ module _ (items : List AExpr) (registry : Registry) (schema : Columns) where
   abbrev pub AllRefused : ℕ → PlanError → Type 0
   AllRefused n error = (t : Expression) → Denotes (HoldsExpression items) n t → IsRefusal (typing registry schema t) error
 
-  -- the typing of an operator and of a cast, from those of the operands
-  abbrev binary_typing : Operator → Result Typed ErrorKind → Result Typed ErrorKind → Result Typed ErrorKind
-  binary_typing operator left right = then_typed (typed_before left (typed_before right (Ok []))) (typing_rule registry schema (BinaryOp operator))
+-- what a table of types says of a node is what its rule says
+module _ (registry : Registry) (schema : Columns) (op : Op) (typed : List Typed) (found : Result Taken ErrorKind) (many : Bool) (is : rule registry schema op typed ≡ ruled_as found many) where
+  pub ruled_taken : (taken : Taken) (own : Inferred) → found ≡ Ok taken → taken.type ≡ ty own.dtype → many ≡ own.many → AreOperands (map ty own.operands.items) (types_of typed) taken.operands → IsRuled registry schema op typed own
+  ruled_taken taken own e type same operands = record {
+    ruling = ruling_of taken many;
+    rules = is ∙ ap (λ f. ruled_as f many) e;
+    is = λ i. record { type = type i; many = same i };
+    operands = operands;
+  }
 
-  abbrev cast_typing : Ty → CastOptions → Result Typed ErrorKind → Result Typed ErrorKind
-  cast_typing target options input = then_typed (typed_before input (Ok [])) (typing_rule registry schema (CastOp target options))
+  pub rule_refused : (error : PlanError) → IsRefusal found error → IsRefusal (typing_rule registry schema op typed) error
+  rule_refused error refused = refused_so _ _ error (λ kind e. ap own_typed (is ∙ ap (λ f. ruled_as f many) e)) refused
 
-module _ (items : List AExpr) (registry : Registry) (schema : Columns) (n : ℕ) where
-  column_top : (name : Name) → HoldsExpression items n (ColumnOp name) [] → (t : Expression) → Denotes (HoldsExpression items) n t → typing registry schema t ≡ typed_as (column_type (type_at schema name)) true
-  column_top name h t d =
-      let top = held_top items n (ColumnOp name) [] h t d in
-      ap (typing registry schema) (top.1 ∙ ap (node (ColumnOp name)) (no_children (HoldsExpression items) top.0 top.2))
+-- a column has the type that the schema gives it
+pub column_ruled : (registry : Registry) (schema : Columns) (name : Name) (type : Ty) (own : Inferred) → type_at schema name ≡ Some type → is_known type ≡ true → ty own.dtype ≡ type → own.many ≡ true → own.operands.items ≡ [] → IsRuled registry schema (ColumnOp name) [] own
+column_ruled registry schema name type own at known same many none =
+    let found = ap column_type at ∙ ap (λ b. cond b (Ok (record { operands = []; type = type })) (Err InvalidOperation)) known in
+    ruled_taken registry schema (ColumnOp name) [] (column_type (type_at schema name)) true refl (record { operands = []; type = type }) own found (sym same) (sym many) (inl (ap (map ty) none))
 
-  pub column_typed : (name : Name) (type : Ty) → HoldsExpression items n (ColumnOp name) [] → type_at schema name ≡ Some type → is_known type ≡ true → AllHaveType items registry schema n type
-  column_typed name type h e known t d =
-      record { many = true; is = column_top name h t d ∙ ap (λ o. typed_as (column_type o) true) e ∙ ap (λ b. typed_as (cond b (Ok (record { operands = []; type = type })) (Err InvalidOperation)) true) known }
+pub column_missing : (registry : Registry) (schema : Columns) (name : Name) (error : PlanError) → IsMemoryOr ColumnNotFound (type_at schema name ≡ None) error → IsRefusal (typing_rule registry schema (ColumnOp name) []) error
+column_missing registry schema name error b =
+    rule_refused registry schema (ColumnOp name) [] (column_type (type_at schema name)) true refl error (⊎_elim (λ e. no_room e) (λ p. broken ColumnNotFound p.0 (ap column_type p.1)) b)
 
-  pub column_refused : (name : Name) (error : PlanError) → HoldsExpression items n (ColumnOp name) [] → IsMemoryOr ColumnNotFound (type_at schema name ≡ None) error → AllRefused items registry schema n error
-  column_refused name error h b t d =
-      ⊎_elim (λ e. no_room e) (λ p. broken ColumnNotFound p.0 (column_top name h t d ∙ ap (λ o. typed_as (column_type o) true) p.1)) b
+pub column_unknown : (registry : Registry) (schema : Columns) (name : Name) (type : Ty) (error : PlanError) → error ≡ at_top InvalidOperation → type_at schema name ≡ Some type → is_known type ≡ false → IsRefusal (typing_rule registry schema (ColumnOp name) []) error
+column_unknown registry schema name type error e at unknown =
+    let found = ap column_type at ∙ ap (λ b. cond b (Ok (record { operands = []; type = type })) (Err InvalidOperation)) unknown in
+    rule_refused registry schema (ColumnOp name) [] (column_type (type_at schema name)) true refl error (broken InvalidOperation e found)
 
-  -- a column whose type isn't known is refused
-  pub column_unknown : (name : Name) (type : Ty) → HoldsExpression items n (ColumnOp name) [] → type_at schema name ≡ Some type → is_known type ≡ false → AllRefused items registry schema n (at_top InvalidOperation)
-  column_unknown name type h e unknown t d =
-      broken InvalidOperation refl (column_top name h t d ∙ ap (λ o. typed_as (column_type o) true) e ∙ ap (λ b. typed_as (cond b (Ok (record { operands = []; type = type })) (Err InvalidOperation)) true) unknown)
+-- a literal has its own type
+pub literal_ruled : (registry : Registry) (schema : Columns) (type : Ty) (value : Val) (own : Inferred) → literal_taken type value ≡ Ok (record { operands = []; type = ty own.dtype }) → own.many ≡ false → own.operands.items ≡ [] → IsRuled registry schema (LiteralOp type value) [] own
+literal_ruled registry schema type value own found many none =
+    ruled_taken registry schema (LiteralOp type value) [] (literal_taken type value) false refl (record { operands = []; type = ty own.dtype }) own found refl (sym many) (inl (ap (map ty) none))
 
-  literal_top : (type : Ty) (value : Val) → HoldsExpression items n (LiteralOp type value) [] → (t : Expression) → Denotes (HoldsExpression items) n t → typing registry schema t ≡ typed_as (literal_taken type value) false
-  literal_top type value h t d =
-      let top = held_top items n (LiteralOp type value) [] h t d in
-      ap (typing registry schema) (top.1 ∙ ap (node (LiteralOp type value)) (no_children (HoldsExpression items) top.0 top.2))
+pub literal_refused : (registry : Registry) (schema : Columns) (type : Ty) (value : Val) (error : PlanError) → IsRefusal (literal_taken type value) error → IsRefusal (typing_rule registry schema (LiteralOp type value) []) error
+literal_refused registry schema type value error refused =
+    rule_refused registry schema (LiteralOp type value) [] (literal_taken type value) false refl error refused
 
-  pub literal_typed : (type : Ty) (value : Val) (found : Ty) → HoldsExpression items n (LiteralOp type value) [] → literal_taken type value ≡ Ok (record { operands = []; type = found }) → AllHaveType items registry schema n found
-  literal_typed type value found h taken t d =
-      record { many = false; is = literal_top type value h t d ∙ ap (λ o. typed_as o false) taken }
+-- a count of rows
+pub len_ruled : (registry : Registry) (schema : Columns) (own : Inferred) → ty own.dtype ≡ count_type → own.many ≡ false → own.operands.items ≡ [] → IsRuled registry schema LenOp [] own
+len_ruled registry schema own type many none = record {
+  ruling = record { operands = []; own = record { type = count_type; many = false } };
+  rules = refl;
+  is = λ i. record { type = sym type i; many = sym many i };
+  operands = inl (ap (map ty) none);
+}
 
-  pub literal_refused : (type : Ty) (value : Val) (error : PlanError) → HoldsExpression items n (LiteralOp type value) [] → IsRefusal (literal_taken type value) error → AllRefused items registry schema n error
-  literal_refused type value error h refused t d =
-      refused_so _ _ error (λ kind e. literal_top type value h t d ∙ ap (λ o. typed_as o false) e) refused
+-- an operator over two operands
+pub last_many : (a b : Bool) → (a || (b || false)) ≡ (a || b)
+last_many true b = refl
+last_many false true = refl
+last_many false false = refl
 
-  -- a count of rows
-  pub len_typed : HoldsExpression items n LenOp [] → AllHaveType items registry schema n count_type
-  len_typed h t d =
-      let top = held_top items n LenOp [] h t d in
-      record { many = false; is = ap (typing registry schema) (top.1 ∙ ap (node LenOp) (no_children (HoldsExpression items) top.0 top.2)) }
+pub binary_ruled : (registry : Registry) (schema : Columns) (operator : Operator) (left right : Typed) (taken : Taken) (own : Inferred) → operator_types operator (left.type ∷ right.type ∷ []) ≡ Ok taken → taken.type ≡ ty own.dtype → own.many ≡ (left.many || right.many) → AreOperands (map ty own.operands.items) (left.type ∷ right.type ∷ []) taken.operands → IsRuled registry schema (BinaryOp operator) (left ∷ right ∷ []) own
+binary_ruled registry schema operator left right taken own found type many operands =
+    ruled_taken registry schema (BinaryOp operator) (left ∷ right ∷ []) (operator_types operator (left.type ∷ right.type ∷ [])) (left.many || (right.many || false)) refl taken own found type (last_many left.many right.many ∙ sym many) operands
 
-  module _ (operator : Operator) (l r : ℕ) (h : HoldsExpression items n (BinaryOp operator) (l ∷ r ∷ [])) where
-    binary_top : (t : Expression) → Denotes (HoldsExpression items) n t → (x y : Expression) × (typing registry schema t ≡ binary_typing items registry schema operator (typing registry schema x) (typing registry schema y)) × Denotes (HoldsExpression items) l x × Denotes (HoldsExpression items) r y
-    binary_top t d =
-        let top = held_top items n (BinaryOp operator) (l ∷ r ∷ []) h t d in
-        let two = two_children (HoldsExpression items) l r top.0 top.2 in
-        (two.0, two.1, ap (typing registry schema) (top.1 ∙ ap (node (BinaryOp operator)) two.2), two.3, two.4)
+pub binary_refused : (registry : Registry) (schema : Columns) (operator : Operator) (left right : Typed) (error : PlanError) → IsRefusal (operator_types operator (left.type ∷ right.type ∷ [])) error → IsRefusal (typing_rule registry schema (BinaryOp operator) (left ∷ right ∷ [])) error
+binary_refused registry schema operator left right error refused =
+    rule_refused registry schema (BinaryOp operator) (left ∷ right ∷ []) (operator_types operator (left.type ∷ right.type ∷ [])) (left.many || (right.many || false)) refl error refused
 
-    -- with both operands typed, what the operator says of them decides
-    decided : (left right : Ty) (t : Expression) → Denotes (HoldsExpression items) n t → AllHaveType items registry schema l left → AllHaveType items registry schema r right → (many : Bool) × (typing registry schema t ≡ typed_as (operator_types operator (left ∷ right ∷ [])) many)
-    decided left right t d hl hr =
-        let top = binary_top t d in
-        let tl = hl top.0 top.3 in
-        let tr = hr top.1 top.4 in
-        let typed_left : Typed = record { type = left; many = tl.many } in (
-          some_many (typed_left ∷ record { type = right; many = tr.many } ∷ []),
-          top.2 ∙ ap (λ x. binary_typing items registry schema operator x (typing registry schema top.1)) tl.is ∙ ap (binary_typing items registry schema operator (Ok typed_left)) tr.is,
-        )
+-- a cast of an operand
+pub cast_ruled : (registry : Registry) (schema : Columns) (target : Ty) (options : CastOptions) (from : Typed) (taken : Taken) (own : Inferred) → cast_taken target (type_alone from.type) ≡ Ok taken → taken.type ≡ ty own.dtype → own.many ≡ from.many → AreOperands (map ty own.operands.items) (from.type ∷ []) taken.operands → IsRuled registry schema (CastOp target options) (from ∷ []) own
+cast_ruled registry schema target options from taken own found type many operands =
+    ruled_taken registry schema (CastOp target options) (from ∷ []) (cast_taken target (type_alone from.type)) from.many refl taken own found type (sym many) operands
 
-    pub binary_typed : (left right : Ty) (taken : Taken) → AllHaveType items registry schema l left → AllHaveType items registry schema r right → operator_types operator (left ∷ right ∷ []) ≡ Ok taken → AllHaveType items registry schema n taken.type
-    binary_typed left right taken hl hr e t d =
-        let b = decided left right t d hl hr in
-        record { many = b.0; is = b.1 ∙ ap (λ o. typed_as o b.0) e }
+pub cast_refused : (registry : Registry) (schema : Columns) (target : Ty) (options : CastOptions) (from : Typed) (error : PlanError) → IsRefusal (cast_taken target (type_alone from.type)) error → IsRefusal (typing_rule registry schema (CastOp target options) (from ∷ [])) error
+cast_refused registry schema target options from error refused =
+    rule_refused registry schema (CastOp target options) (from ∷ []) (cast_taken target (type_alone from.type)) from.many refl error refused
 
-    pub binary_refused : (left right : Ty) (error : PlanError) → AllHaveType items registry schema l left → AllHaveType items registry schema r right → IsRefusal (operator_types operator (left ∷ right ∷ [])) error → AllRefused items registry schema n error
-    binary_refused left right error hl hr refused t d =
-        let b = decided left right t d hl hr in
-        refused_so _ _ error (λ kind e. b.1 ∙ ap (λ o. typed_as o b.0) e) refused
+first_operand : (from own target type : Ty) → (let taken : Taken = record { operands = from ∷ []; type = target } in taken ≡ record { operands = own ∷ []; type = type }) → from ≡ own
+first_operand from own target type e = let l = ap (λ (x : Taken). x.operands) e in cc
 
-    pub left_refused : (error : PlanError) → AllRefused items registry schema l error → AllRefused items registry schema n error
-    left_refused error refused t d =
-        let top = binary_top t d in
-        refused_so _ _ error (λ kind e. top.2 ∙ ap (λ x. binary_typing items registry schema operator x (typing registry schema top.1)) e) (refused top.0 top.3)
+-- where there is a cast, the operand has a type alone
+pub cast_alone : (target : Ty) (alone : Option Ty) (own type : Ty) → cast_taken target alone ≡ Ok (record { operands = own ∷ []; type = type }) → alone ≡ Some own
+cast_alone target None own type h = cc
+cast_alone target (Some from) own type h =
+    let e = (ok_where (can_cast from target) _ _ InvalidOperation h).1 in
+    ap Some (first_operand from own target type e)
 
-    pub right_refused : (left : Ty) (error : PlanError) → AllHaveType items registry schema l left → AllRefused items registry schema r error → AllRefused items registry schema n error
-    right_refused left error hl refused t d =
-        let top = binary_top t d in
-        let tl = hl top.0 top.3 in
-        let typed_left : Typed = record { type = left; many = tl.many } in
-        refused_so _ _ error (λ kind e. top.2 ∙ ap (λ x. binary_typing items registry schema operator x (typing registry schema top.1)) tl.is ∙ ap (binary_typing items registry schema operator (Ok typed_left)) e) (refused top.1 top.4)
+-- a slice of an input, as it is alone
+pub slice_ruled : (registry : Registry) (schema : Columns) (input offset count : Typed) (type : Ty) (own : Inferred) → type_alone input.type ≡ Some type → (is_one is_integer offset && is_one is_length count) ≡ true → type ≡ ty own.dtype → own.many ≡ true → AreOperands (map ty own.operands.items) (input.type ∷ offset.type ∷ count.type ∷ []) (type ∷ place_type ∷ place_type ∷ []) → IsRuled registry schema SliceOp (input ∷ offset ∷ count ∷ []) own
+slice_ruled registry schema input offset count type own alone places same many operands = record {
+  ruling = slice_ruling type;
+  rules = ap (λ o. over_type o (λ type. ruled_where (is_one is_integer offset && is_one is_length count) (slice_ruling type))) alone ∙ ap (λ b. ruled_where b (slice_ruling type)) places;
+  is = λ i. record { type = same i; many = sym many i };
+  operands = operands;
+}
 
-  module _ (target : Ty) (options : CastOptions) (input : ℕ) (h : HoldsExpression items n (CastOp target options) (input ∷ [])) where
-    cast_top : (t : Expression) → Denotes (HoldsExpression items) n t → (x : Expression) × (typing registry schema t ≡ cast_typing items registry schema target options (typing registry schema x)) × Denotes (HoldsExpression items) input x
-    cast_top t d =
-        let top = held_top items n (CastOp target options) (input ∷ []) h t d in
-        let one = one_child (HoldsExpression items) input top.0 top.2 in
-        (one.0, ap (typing registry schema) (top.1 ∙ ap (node (CastOp target options)) one.1), one.2)
+-- one that has none alone, or other places, is refused
+pub slice_alone : (registry : Registry) (schema : Columns) (input offset count : Typed) (error : PlanError) → IsMemoryOr InvalidOperation (type_alone input.type ≡ None) error → IsRefusal (typing_rule registry schema SliceOp (input ∷ offset ∷ count ∷ [])) error
+slice_alone registry schema input offset count error b =
+    ⊎_elim (λ e. no_room e) (λ p. broken InvalidOperation p.0 (ap (λ o. own_typed (over_type o (λ type. ruled_where (is_one is_integer offset && is_one is_length count) (slice_ruling type)))) p.1)) b
 
-    -- with the operand typed, what the cast says of it decides
-    cast_decided : (from : Ty) (t : Expression) → Denotes (HoldsExpression items) n t → AllHaveType items registry schema input from → (many : Bool) × (typing registry schema t ≡ typed_as (cast_taken target (type_alone from)) many)
-    cast_decided from t d hi =
-        let top = cast_top t d in
-        let ti = hi top.0 top.2 in
-        (ti.many, top.1 ∙ ap (cast_typing items registry schema target options) ti.is)
-
-    pub cast_typed : (from : Ty) (taken : Taken) → AllHaveType items registry schema input from → cast_taken target (type_alone from) ≡ Ok taken → AllHaveType items registry schema n taken.type
-    cast_typed from taken hi e t d =
-        let b = cast_decided from t d hi in
-        record { many = b.0; is = b.1 ∙ ap (λ o. typed_as o b.0) e }
-
-    -- an operand of which there is no such cast is refused
-    pub cast_missing : (from : Ty) (error : PlanError) → AllHaveType items registry schema input from → IsRefusal (cast_taken target (type_alone from)) error → AllRefused items registry schema n error
-    cast_missing from error hi refused t d =
-        let b = cast_decided from t d hi in
-        refused_so _ _ error (λ kind e. b.1 ∙ ap (λ o. typed_as o b.0) e) refused
-
-    pub cast_refused : (error : PlanError) → AllRefused items registry schema input error → AllRefused items registry schema n error
-    cast_refused error refused t d =
-        let top = cast_top t d in
-        refused_so _ _ error (λ kind e. top.1 ∙ ap (cast_typing items registry schema target options) e) (refused top.0 top.2)
-
--- the typings of one operand
-pub one_typed : (registry : Registry) (schema : Columns) (x : Expression) (typed : Typed) (below : List Typed) → typing registry schema x ≡ Ok typed → typing_all registry schema (more x no_more) ≡ Ok below → typed ∷ [] ≡ below
-one_typed registry schema x typed below h all = ok_same (typed_before (Ok typed) (Ok [])) (typed ∷ []) below refl (sym (ap (λ r. typed_before r (Ok [])) h) ∙ all)
-
--- a node without operands takes none
-column_bare : (o : Option Ty) (taken : Taken) → column_type o ≡ Ok taken → taken.operands ≡ []
-column_bare None taken h = cc
-column_bare (Some type) taken h = sym (ap (λ (x : Taken). x.operands) (ok_where (is_known type) _ taken InvalidOperation h).1)
-
-pub column_takes : (registry : Registry) (schema : Columns) (name : Name) (typed : List Typed) (ruling : Ruling) → rule registry schema (ColumnOp name) typed ≡ Ok ruling → ruling.operands ≡ []
-column_takes registry schema name [] ruling h = ruled_is (λ r. r.operands ≡ []) (column_type (type_at schema name)) true ruling h (λ taken e. column_bare (type_at schema name) taken e)
-column_takes registry schema name (t ∷ ts) ruling h = cc
-
-pub literal_takes : (registry : Registry) (schema : Columns) (type : Ty) (value : Val) (typed : List Typed) (ruling : Ruling) → rule registry schema (LiteralOp type value) typed ≡ Ok ruling → ruling.operands ≡ []
-literal_takes registry schema type value [] ruling h =
-    ruled_is (λ r. r.operands ≡ []) (literal_taken type value) false ruling h (λ taken e. sym (ap (λ (x : Taken). x.operands) (ok_where (is_literal type value) _ taken InvalidOperation e).1))
-literal_takes registry schema type value (t ∷ ts) ruling h = cc
-
--- a cast takes its operand to the type that it has alone
-pub cast_operands : (target own : Ty) (taken : Taken) → cast_taken target (Some own) ≡ Ok taken → taken.operands ≡ own ∷ []
-cast_operands target own taken h = sym (ap (λ (x : Taken). x.operands) (ok_where (can_cast own target) _ taken InvalidOperation h).1)
-
-pub no_cast_of_none : (target : Ty) (taken : Taken) → cast_taken target None ≡ Ok taken → ⊥
-no_cast_of_none target taken h = cc
-
--- what is there is refused for want of memory alone
-pub never_refused : {A : Type 0} (found : Result A ErrorKind) (x : A) (error : PlanError) → found ≡ Ok x → IsRefusal found error → error ≡ no_memory
-never_refused found x error is (no_room e) = e
-never_refused found x error is (broken kind e b) = cc
+pub slice_places : (registry : Registry) (schema : Columns) (input offset count : Typed) (type : Ty) (error : PlanError) → error ≡ at_top InvalidOperation → type_alone input.type ≡ Some type → (is_one is_integer offset && is_one is_length count) ≡ false → IsRefusal (typing_rule registry schema SliceOp (input ∷ offset ∷ count ∷ [])) error
+slice_places registry schema input offset count type error e alone places =
+    broken InvalidOperation e (ap (λ o. own_typed (over_type o (λ type. ruled_where (is_one is_integer offset && is_one is_length count) (slice_ruling type)))) alone ∙ ap (λ b. own_typed (ruled_where b (slice_ruling type))) places)

@@ -1,54 +1,52 @@
--- Types that are kept by node.
--- A table keeps types of nodes from its first number on.
-use Rattle.std.specs.Prelude.{◌≡◌, ◌≤◌, ◌-◌, ℕ, List, [], ◌∷◌, Some, Ok, slice_get}
+-- What is inferred of nodes, kept by node.
+-- A table keeps entries of nodes from its first number on.
+use Rattle.std.specs.Prelude.{◌≡◌, ◌≤◌, ◌-◌, ◌⊎◌, ℕ, suc, List, [], ◌∷◌, map, Option, Some, None, Ok, slice_get}
 use Rattle.std.specs.List.{AllByRecursion}
 use Rattle.plan_types.specs.Types.{Ty, ty}
 use Rattle.plan_types.specs.Schemas.{Columns}
 use Rattle.plan_types.specs.declared.dtype.DataType.{DataType}
 use Rattle.plan_dsl.specs.Registry.{Registry}
+use Rattle.plan_dsl.specs.Names.{Label, first_label, label_of, op_label}
 use Rattle.plan_dsl.specs.Ops.{Op, Expression}
 use Rattle.plan_dsl.specs.Typing.{Typed, Ruling, rule, types_of, typing}
 use Rattle.plan_arena.specs.declared.aexpr.AExpr.{AExpr}
-use Rattle.plan_arena.specs.Denotation.{Denotes}
-use Rattle.plan_arena.specs.Layers.{op_of, inputs_of}
+use Rattle.plan_arena.specs.Denotation.{Denotes, depth_at}
+use Rattle.plan_arena.specs.Layers.{op_of, inputs_of, shape_of}
 use Rattle.plan_arena.specs.Items.{HoldsExpression, expression_layer}
+use Rattle.plan_infer.specs.declared.type_table.Inferred.{Inferred}
 use Rattle.plan_infer.specs.declared.type_table.TypeTable.{TypeTable}
-use Rattle.plan_infer.specs.Typed.{HasType}
 
--- the number from which on a table keeps types
-abbrev pub first_node : TypeTable → ℕ
-first_node table = table.first
+-- the typing that an entry says
+abbrev pub typed_of : Inferred → Typed
+typed_of own = record { type = ty own.dtype; many = own.many }
+
+-- the table keeps this entry for the node
+abbrev pub KeepsEntry : TypeTable → ℕ → Inferred → Type 0
+KeepsEntry table n own = (table.first ≤ n) × (slice_get table.entries.items (n - table.first) ≡ Some (Some own))
+
+-- the table keeps an entry for the node
+pub record IsKept (table : TypeTable) (n : ℕ) : Type 0 where
+  pub own : Inferred
+  pub keeps : KeepsEntry table n own
+
+-- of how many nodes the table keeps an entry
+abbrev pub some_count : {A : Type 0} → List (Option A) → ℕ
+some_count [] = 0
+some_count (None ∷ rest) = some_count rest
+some_count (Some x ∷ rest) = suc (some_count rest)
+
+abbrev pub kept_count : TypeTable → ℕ
+kept_count table = some_count table.entries.items
 
 -- the table keeps this type for the node
-abbrev pub Keeps : TypeTable → ℕ → DataType → Type 0
-Keeps table n dtype = (table.first ≤ n) × (slice_get table.types.items (n - table.first) ≡ Some (Some dtype))
+pub record Keeps (table : TypeTable) (n : ℕ) (dtype : DataType) : Type 0 where
+  pub own : Inferred
+  pub keeps : KeepsEntry table n own
+  pub is : own.dtype ≡ dtype
 
--- the table keeps a type for the node
-pub record IsKept (table : TypeTable) (n : ℕ) : Type 0 where
-  pub dtype : DataType
-  pub keeps : Keeps table n dtype
-
--- the table keeps types for the nodes for which it did, and may keep more
+-- the table keeps what it did, and may keep more
 pub record Extends (old new : TypeTable) : Type 0 where
-  pub first : first_node new ≡ first_node old
-  pub kept : (n : ℕ) → IsKept old n → IsKept new n
-
--- the node denotes an expression of that type, and the types of its inputs are kept
-pub record IsTypedNode (registry : Registry) (schema : Columns) (items : List AExpr) (table : TypeTable) (n : ℕ) (type : Ty) : Type 0 where
-  pub tree : Expression
-  pub denotes : Denotes (HoldsExpression items) n tree
-  pub typed : HasType (typing registry schema tree) type
-  pub inputs : (op : Op) (inputs : List ℕ) → HoldsExpression items n op inputs → AllByRecursion (IsKept table) inputs
-
--- each type that the table keeps is the node's
-pub record IsRight (registry : Registry) (schema : Columns) (items : List AExpr) (table : TypeTable) : Type 0 where
-  pub each : (n : ℕ) (dtype : DataType) → Keeps table n dtype → IsTypedNode registry schema items table n (ty dtype)
-
--- the same, over the frames of some schema
-pub record HasRightTypes (items : List AExpr) (table : TypeTable) : Type 0 where
-  pub registry : Registry
-  pub schema : Columns
-  pub right : IsRight registry schema items table
+  pub entries : (n : ℕ) (own : Inferred) → KeepsEntry old n own → KeepsEntry new n own
 
 -- the table keeps a type for the node, which is this
 pub record KeepsType (table : TypeTable) (n : ℕ) (type : Ty) : Type 0 where
@@ -56,23 +54,68 @@ pub record KeepsType (table : TypeTable) (n : ℕ) (type : Ty) : Type 0 where
   pub keeps : Keeps table n dtype
   pub is : ty dtype ≡ type
 
--- the types of the nodes, one by one
-abbrev pub AllKept : TypeTable → List ℕ → List Ty → Type 0
+-- the table keeps an entry for the node, which says this typing
+pub record KeepsTyped (table : TypeTable) (n : ℕ) (typed : Typed) : Type 0 where
+  pub own : Inferred
+  pub keeps : KeepsEntry table n own
+  pub is : typed_of own ≡ typed
+
+-- the typings of the nodes, one by one
+abbrev pub AllKept : TypeTable → List ℕ → List Typed → Type 0
 AllKept table [] [] = Unit {0}
-AllKept table (n ∷ ns) (type ∷ types) = KeepsType table n type × AllKept table ns types
-AllKept table [] (type ∷ types) = ⊥
+AllKept table (n ∷ ns) (typed ∷ rest) = KeepsTyped table n typed × AllKept table ns rest
+AllKept table [] (typed ∷ rest) = ⊥
 AllKept table (n ∷ ns) [] = ⊥
 
--- the types to which an item takes its inputs, by the types that are kept for them
-abbrev pub TakesTo : Registry → Columns → TypeTable → AExpr → List Ty → Type 0
-TakesTo registry schema table item targets =
-    (typed : List Typed) (ruling : Ruling) → AllKept table (inputs_of (expression_layer item)) (types_of typed) → rule registry schema (op_of (expression_layer item)) typed ≡ Ok ruling → ruling.operands ≡ targets
+-- the operand types that are kept of a node: those to which it takes operands of these types, or none where it takes
+-- them as they are
+abbrev pub AreOperands : List Ty → List Ty → List Ty → Type 0
+AreOperands listed own targets = (listed ≡ targets) ⊎ ((listed ≡ []) × (own ≡ targets))
 
--- an item takes inputs of the types that are kept for them
-pub record IsTypedItem (table : TypeTable) (item : AExpr) : Type 0 where
+-- what is inferred of a node over inputs of these typings is what its rule says
+pub record IsRuled (registry : Registry) (schema : Columns) (op : Op) (typed : List Typed) (own : Inferred) : Type 0 where
+  pub ruling : Ruling
+  pub rules : rule registry schema op typed ≡ Ok ruling
+  pub is : ruling.own ≡ typed_of own
+  pub operands : AreOperands (map ty own.operands.items) (types_of typed) ruling.operands
+
+-- the node that names an expression: the node itself, or the one that names its first input
+pub data IsNamedBy (table : TypeTable) (op : Op) (n : ℕ) (inputs : List ℕ) (name : ℕ) : Type 0 where
+  by_itself : name ≡ n → ((names : List Label) → op_label op names ≡ op_label op []) → IsNamedBy table op n inputs name
+  by_first : (m : ℕ) (rest : List ℕ) (first : Inferred) → inputs ≡ m ∷ rest → KeepsEntry table m first → name ≡ first.name.0 → ((names : List Label) → op_label op names ≡ first_label names) → IsNamedBy table op n inputs name
+
+-- the item at the number gives the expression its name, whatever its inputs are called
+pub record GivesName (items : List AExpr) (n : ℕ) (tree : Expression) : Type 0 where
+  pub op : Op
+  pub inputs : List ℕ
+  pub held : HoldsExpression items n op inputs
+  pub gives : (names : List Label) → op_label op names ≡ label_of tree
+
+-- The node denotes an expression of that name and typing, there are entries for its inputs, and the operand types are
+-- those of its rule.
+pub record IsTypedNode (registry : Registry) (schema : Columns) (items : List AExpr) (table : TypeTable) (n : ℕ) (own : Inferred) : Type 0 where
+  pub tree : Expression
+  pub denotes : Denotes (HoldsExpression items) n tree
+  pub typed : typing registry schema tree ≡ Ok (typed_of own)
+  pub name : GivesName items own.name.0 tree
+  pub inputs : (op : Op) (inputs : List ℕ) → HoldsExpression items n op inputs → AllByRecursion (IsKept table) inputs
+  pub operands : (op : Op) (inputs : List ℕ) (typed : List Typed) (ruling : Ruling) → HoldsExpression items n op inputs → AllKept table inputs typed → rule registry schema op typed ≡ Ok ruling → AreOperands (map ty own.operands.items) (types_of typed) ruling.operands
+
+-- each entry that the table keeps is right of its node
+pub record IsRight (registry : Registry) (schema : Columns) (items : List AExpr) (table : TypeTable) : Type 0 where
+  pub each : (n : ℕ) (own : Inferred) → KeepsEntry table n own → IsTypedNode registry schema items table n own
+
+-- the same, over the frames of some schema
+pub record HasRightTypes (items : List AExpr) (table : TypeTable) : Type 0 where
   pub registry : Registry
   pub schema : Columns
-  pub typed : List Typed
-  pub kept : AllKept table (inputs_of (expression_layer item)) (types_of typed)
-  pub ruling : Ruling
-  pub rules : rule registry schema (op_of (expression_layer item)) typed ≡ Ok ruling
+  pub right : IsRight registry schema items table
+
+-- how far down a node leads
+abbrev pub node_depth : List AExpr → ℕ → ℕ
+node_depth items n = depth_at (shape_of (map expression_layer items)) n
+
+-- the types to which an item takes its inputs, by what is kept for them
+abbrev pub TakesTo : Registry → Columns → TypeTable → AExpr → List Ty → Type 0
+TakesTo registry schema table item targets =
+    (typed : List Typed) (ruling : Ruling) → AllKept table (inputs_of (expression_layer item)) typed → rule registry schema (op_of (expression_layer item)) typed ≡ Ok ruling → ruling.operands ≡ targets

@@ -1,4 +1,5 @@
 -- What the contracts of this crate cite.
+pub mod Fields
 pub mod KeptTypes
 pub mod Samples
 pub mod Typed

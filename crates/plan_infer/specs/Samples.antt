@@ -1,5 +1,5 @@
 -- What the worked examples share: columns a and b, their sum, what arenas hold of them, and tables of types.
-use Rattle.std.specs.Prelude.{◌≡◌, ℕ, ℤ, List, [], ◌∷◌, pos, codes, true, false, Option}
+use Rattle.std.specs.Prelude.{◌≡◌, ℕ, ℤ, Bool, List, [], ◌∷◌, pos, codes, true, false, Option}
 use Rattle.std.specs.List.{AllByRecursion}
 use Rattle.plan_types.specs.Types.{Ty, Integer, StructType, Untyped, no_field, with_field}
 use Rattle.plan_types.specs.Values.{IntValue}
@@ -17,6 +17,7 @@ use Rattle.plan_dsl.specs.Typing.{Typed, typing}
 use Rattle.plan_arena.specs.declared.arena.Node.{Node}
 use Rattle.plan_arena.specs.declared.aexpr.AExpr.{AExpr}
 use Rattle.plan_arena.specs.declared.aexpr.AExpr.TheVariants.{Column, BinaryExpr}
+use Rattle.plan_infer.specs.declared.type_table.Inferred.{Inferred}
 use Rattle.plan_infer.specs.declared.type_table.TypeTable.{TypeTable}
 use Rattle.plan_infer.specs.Typed.{HasType}
 
@@ -108,9 +109,14 @@ a_items = Column (codes "a") ∷ []
 abbrev pub refused : ErrorKind → List ℕ → PlanError
 refused kind place = record { kind = kind; place = place }
 
--- a property of each table of types that keeps these from that node on
-abbrev pub ForTable : ℕ → List (Option DataType) → (TypeTable → Type 0) → Type 0
-ForTable first types Has = (table : TypeTable) → table.first ≡ first → table.types.items ≡ types → Has table
+-- a property of each entry that says this: the node that gives the name, the type, whether there are many, and the types
+-- to which operands are taken
+abbrev pub ForEntry : ℕ → DataType → Bool → List DataType → (Inferred → Type 0) → Type 0
+ForEntry name dtype many operands Has = (own : Inferred) → own.name.0 ≡ name → own.dtype ≡ dtype → own.many ≡ many → own.operands.items ≡ operands → Has own
+
+-- a property of each table that keeps these entries from that node on
+abbrev pub ForTable : ℕ → List (Option Inferred) → (TypeTable → Type 0) → Type 0
+ForTable first entries Has = (table : TypeTable) → table.first ≡ first → table.entries.items ≡ entries → Has table
 
 -- expressions over columns, which have these types
 abbrev pub HaveTypes : List (Columns × Expression × Ty) → Type 0

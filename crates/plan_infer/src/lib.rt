@@ -2,6 +2,8 @@
 #![tactic(auto)]
 
 mod examples;
+pub mod field;
 pub mod operator_types;
+pub mod steps;
 pub mod type_table;
 pub mod typing;

@@ -1,19 +1,21 @@
 //! Types and refusals of expressions, and tables that keep types by node.
 
-ghost use Rattle.std.specs.Prelude.{◌≡◌, [], ◌∷◌, pos, codes, Some, None};
+ghost use Rattle.std.specs.Prelude.{◌≡◌, [], ◌∷◌, true, false, pos, codes, Some, None};
 ghost use Rattle.plan_types.specs.Types.{NullType, Truth, TextType, DateType, TimeType, DatetimeType, DurationType, ListType, StructType, Untyped, no_field, with_field};
 ghost use Rattle.plan_types.specs.Errors.{IsRefusal, no_memory, at_top};
 ghost use Rattle.plan_types.specs.declared.dtype.DataType.TheVariants.{Int8, Int16, Int32};
 ghost use Rattle.plan_types.specs.declared.dtype.TimeUnit.TheVariants.{Nanoseconds, Microseconds};
 ghost use Rattle.plan_types.specs.declared.error.ErrorKind.TheVariants.{ColumnNotFound, SchemaMismatch, InvalidOperation};
-ghost use Rattle.plan_dsl.specs.declared.literal.LiteralValue.TheVariants as value;
 ghost use Rattle.plan_dsl.specs.declared.operator.Operator.TheVariants.{Eq, Lt, GtEq, Plus};
 ghost use Rattle.plan_dsl.specs.Typing.{typing};
-ghost use Rattle.plan_arena.specs.declared.aexpr.AExpr.TheVariants.{Literal};
+ghost use Rattle.plan_dsl.specs.Ops.{BinaryOp, ColumnOp};
 ghost use Rattle.plan_infer.specs.declared.type_table.TypeTable.{TypeTable};
-ghost use Rattle.plan_infer.specs.KeptTypes.{first_node, Keeps, IsKept, Extends, IsTypedNode, IsRight, HasRightTypes};
+ghost use Rattle.plan_infer.specs.KeptTypes.{AreOperands, GivesName, IsKept, IsNamedBy, IsRight, IsTypedNode, Keeps, KeepsEntry, kept_count};
+ghost use Rattle.plan_infer.specs.Fields.{IsFieldOf, type_in};
+ghost use Rattle.plan_infer.specs.declared.field.Context.TheVariants.{Default, Aggregation};
+ghost use Rattle.plan_types.specs.declared.field.Field.{Field};
 ghost use Rattle.plan_infer.specs.Typed.{HasType, HasKnownType};
-ghost use Rattle.plan_infer.specs.Samples.{int8, int16, int32, int64, one_column, two_columns, columns_of, struct_of, a, b, c, number, five, binary, cast_to, strictly_cast_to, sum_items, a_items, refused, ForTable, HaveTypes, AreRefused};
+ghost use Rattle.plan_infer.specs.Samples.{int8, int16, int32, int64, one_column, two_columns, columns_of, struct_of, a, b, c, number, five, binary, cast_to, strictly_cast_to, sum_items, a_items, of_one, of_type, refused, sum, ForEntry, ForTable, HaveTypes, AreRefused};
 
 /// What typing an expression says: its type, and whether that is one of columns. Casts have their target's type.
 pub fn types_of_expressions()
@@ -53,31 +55,66 @@ pub fn refusals_of_expressions()
         (columns_of (struct_of (codes "x") Truth) (struct_of (codes "y") Truth), binary Eq a b) ∷ []) }
 {}
 
-/// A table keeps types from its first node on.
-pub fn types_that_tables_keep()
-    ensures kept { ForTable 2 (Some Int8 ∷ None ∷ []) (λ table. Keeps table 2 Int8) }
-    ensures first { (table : TypeTable) → table.first ≡ 2 → first_node table ≡ 2 }
-    ensures other_type { ForTable 2 (Some Int8 ∷ None ∷ []) (λ table. ¬ (Keeps table 2 Int16)) }
-    ensures empty_place { ForTable 2 (Some Int8 ∷ None ∷ []) (λ table. ¬ (IsKept table 3)) }
-    ensures past_the_end { ForTable 2 (Some Int8 ∷ None ∷ []) (λ table. ¬ (IsKept table 4)) }
-    ensures before_the_first { ForTable 2 (Some Int8 ∷ None ∷ []) (λ table. ¬ (IsKept table 1)) }
-    ensures some { ForTable 2 (Some Int8 ∷ None ∷ []) (λ table. IsKept table 2) }
+/// A table keeps what is inferred of nodes from its first number on.
+pub fn entries_that_tables_keep()
+    ensures kept { ForEntry 2 Int8 true [] (λ own. ForTable 2 (Some own ∷ None ∷ []) (λ table. KeepsEntry table 2 own)) }
+    ensures its_type { ForEntry 2 Int8 true [] (λ own. ForTable 2 (Some own ∷ None ∷ []) (λ table. Keeps table 2 Int8)) }
+    ensures other_type { ForEntry 2 Int8 true [] (λ own. ForTable 2 (Some own ∷ None ∷ []) (λ table. ¬ (Keeps table 2 Int16))) }
+    ensures empty_place { ForEntry 2 Int8 true [] (λ own. ForTable 2 (Some own ∷ None ∷ []) (λ table. ¬ (IsKept table 3))) }
+    ensures past_the_end { ForEntry 2 Int8 true [] (λ own. ForTable 2 (Some own ∷ None ∷ []) (λ table. ¬ (IsKept table 4))) }
+    ensures before_the_first { ForEntry 2 Int8 true [] (λ own. ForTable 2 (Some own ∷ None ∷ []) (λ table. ¬ (IsKept table 1))) }
 {}
 
-/// A table that grows keeps types for the nodes for which it did.
-pub fn tables_that_grow()
-    ensures more { ForTable 0 (Some Int8 ∷ []) (λ old. ForTable 0 (Some Int8 ∷ Some Int32 ∷ []) (λ new. Extends old new)) }
-    ensures less { ForTable 0 (Some Int8 ∷ Some Int32 ∷ []) (λ old. ForTable 0 (Some Int8 ∷ []) (λ new. ¬ (Extends old new))) }
-    ensures other_first { ForTable 0 [] (λ old. (new : TypeTable) → new.first ≡ 1 → ¬ (Extends old new)) }
+/// Operand types are kept where the operands are taken to others.
+pub fn operand_types_that_are_kept()
+    ensures to_others { AreOperands (int32 ∷ int32 ∷ []) (int8 ∷ int32 ∷ []) (int32 ∷ int32 ∷ []) }
+    ensures as_they_are { AreOperands [] (int8 ∷ int8 ∷ []) (int8 ∷ int8 ∷ []) }
+    ensures missing { ¬ (AreOperands [] (int8 ∷ int32 ∷ []) (int32 ∷ int32 ∷ [])) }
+    ensures wrong { ¬ (AreOperands (int8 ∷ int32 ∷ []) (int8 ∷ int32 ∷ []) (int32 ∷ int32 ∷ [])) }
 {}
 
-/// A table is right where each type that it keeps is the node's, and those of the node's inputs are kept.
+/// A name comes from the leftmost leaf.
+pub fn nodes_that_give_names()
+    ensures column { GivesName a_items 0 a }
+    ensures left_operand { GivesName sum_items 0 sum }
+    ensures right_operand { ¬ (GivesName sum_items 1 sum) }
+    ensures operator { ¬ (GivesName sum_items 2 sum) }
+{}
+
+/// A node is named as its first input is, or gives the name itself.
+pub fn nodes_that_are_named()
+    ensures column { ForTable 0 [] (λ table. IsNamedBy table (ColumnOp (codes "a")) 0 [] 0) }
+    ensures sum { ForEntry 0 Int8 true [] (λ left. ForTable 0 (Some left ∷ []) (λ table. IsNamedBy table (BinaryOp Plus) 2 (0 ∷ 1 ∷ []) 0)) }
+    ensures by_its_second { ForEntry 0 Int8 true [] (λ left. ForTable 0 (Some left ∷ []) (λ table. ¬ (IsNamedBy table (BinaryOp Plus) 2 (0 ∷ 1 ∷ []) 1))) }
+{}
+
+/// A table is right where what it keeps of a node is its name, typing and operand types, and something is kept of its
+/// inputs.
 pub fn tables_that_are_right()
-    ensures node_of_a_sum { ForTable 0 (Some Int8 ∷ Some Int32 ∷ []) (λ table. IsTypedNode [] two_columns sum_items table 2 int32) }
-    ensures node_over_an_input_without { ForTable 0 (Some Int8 ∷ None ∷ []) (λ table. ¬ (IsTypedNode [] two_columns sum_items table 2 int32)) }
-    ensures right { ForTable 0 (Some Int8 ∷ []) (λ table. IsRight [] (one_column int8) a_items table) }
-    ensures other_type { ForTable 0 (Some Int16 ∷ []) (λ table. ¬ (IsRight [] (one_column int8) a_items table)) }
+    ensures node_of_a_sum { ForEntry 0 Int8 true [] (λ left. ForEntry 1 Int32 true [] (λ right. ForEntry 0 Int32 true (Int32 ∷ Int32 ∷ []) (λ own.
+        ForTable 0 (Some left ∷ Some right ∷ []) (λ table. IsTypedNode [] two_columns sum_items table 2 own)))) }
+    ensures without_operand_types { ForEntry 0 Int8 true [] (λ left. ForEntry 1 Int32 true [] (λ right. ForEntry 0 Int32 true [] (λ own.
+        ForTable 0 (Some left ∷ Some right ∷ []) (λ table. ¬ (IsTypedNode [] two_columns sum_items table 2 own))))) }
+    ensures over_an_input_without { ForEntry 0 Int8 true [] (λ left. ForEntry 0 Int32 true (Int32 ∷ Int32 ∷ []) (λ own.
+        ForTable 0 (Some left ∷ None ∷ []) (λ table. ¬ (IsTypedNode [] two_columns sum_items table 2 own)))) }
+    ensures other_name { ForEntry 1 Int32 true (Int32 ∷ Int32 ∷ []) (λ own. (table : TypeTable) → ¬ (IsTypedNode [] two_columns sum_items table 2 own)) }
+    ensures column { ForEntry 0 Int8 true [] (λ own. (table : TypeTable) → IsTypedNode [] (one_column int8) a_items table 0 own) }
+    ensures other_type { ForEntry 0 Int16 true [] (λ own. (table : TypeTable) → ¬ (IsTypedNode [] (one_column int8) a_items table 0 own)) }
+    ensures one_alone { ForEntry 0 Int8 false [] (λ own. (table : TypeTable) → ¬ (IsTypedNode [] (one_column int8) a_items table 0 own)) }
     ensures nothing { ForTable 0 [] (λ table. IsRight [] [] a_items table) }
-    ensures over_some_schema { ForTable 0 (Some Int16 ∷ []) (λ table. HasRightTypes a_items table) }
-    ensures over_no_schema { ForTable 0 (Some Int16 ∷ []) (λ table. ¬ (HasRightTypes (Literal (value.Int8 (pos 1)) ∷ []) table)) }
+{}
+
+/// A table counts the nodes of which it keeps something.
+pub fn entries_that_are_counted()
+    ensures two { ForEntry 0 Int8 true [] (λ own. ForTable 0 (Some own ∷ None ∷ Some own ∷ []) (λ table. kept_count table ≡ 2)) }
+    ensures none { ForTable 0 [] (λ table. kept_count table ≡ 0) }
+{}
+
+/// In an aggregation a column that may have another length than one is a list.
+pub fn types_in_contexts()
+    ensures alone { type_in Default (of_type int8) ≡ int8 }
+    ensures in_an_aggregation { type_in Aggregation (of_type int8) ≡ ListType int8 }
+    ensures one_value { type_in Aggregation (of_one int8) ≡ int8 }
+    ensures name { (field : Field) → IsFieldOf [] (one_column int8) Default a field → field.name ≡ codes "a" }
+    ensures no_column { (field : Field) → ¬ (IsFieldOf [] (one_column int8) Default c field) }
 {}

@@ -68,7 +68,7 @@ loop-turn-preserved c =
       closed = closed;
       elsewhere = λ n op inputs apart h. visited.elsewhere n op inputs (not_near c.args.arena.now roots c.in-Some.node.0 n op inputs here apart h) (c.loop-turn.invariant.elsewhere n op inputs apart h);
       longer = omega (arith, c.loop-turn.invariant.longer, visited.longer);
-      kept = waiting_known c.coerce_node.new.arena c.loop-turn.types c.coerce_node.new.types c.in-Some.node.0 (numbers c.pop.new.self.items) (numbers c.inputs_rev.new.nodes.items) known visited.extends.kept (record { registry = is.registry; schema = is.schema; right = right }) (pushed c.coerce_node.new.arena c.in-Some.node.0 c.get.result.now (numbers c.pop.new.self.items) (numbers c.inputs_rev.new.nodes.items) c.get.ensures c.in_ok-inputs_rev.ensures.ok);
+      kept = waiting_known c.coerce_node.new.arena c.loop-turn.types c.coerce_node.new.types c.in-Some.node.0 (numbers c.pop.new.self.items) (numbers c.inputs_rev.new.nodes.items) known visited.extends (record { registry = is.registry; schema = is.schema; right = right }) (pushed c.coerce_node.new.arena c.in-Some.node.0 c.get.result.now (numbers c.pop.new.self.items) (numbers c.inputs_rev.new.nodes.items) c.get.ensures c.in_ok-inputs_rev.ensures.ok);
       right = λ registry schema before. visited.right registry schema (c.loop-turn.invariant.right registry schema before);
       pending = λ registry schema first before le all.
           let p = subst (λ s. Pending registry schema first c.args.arena.now c.loop-turn.arena s (numbers c.args.stack.now.items)) popped (c.loop-turn.invariant.pending registry schema first before le all) in

@@ -1,11 +1,11 @@
-use Rattle.std.proofs.Common.{ℕ, List, map, take}
+use Rattle.std.proofs.Common.{ℕ, ◌≤◌, List, length, map, take}
 use Rattle.std.specs.List.{AllByRecursion}
 use Rattle.plan_types.specs.Schemas.{Columns}
 use Rattle.plan_types.specs.Types.{ty}
-use Rattle.plan_types.specs.declared.dtype.DataType.{DataType}
+use Rattle.plan_infer.specs.declared.type_table.Inferred.{Inferred}
 use Rattle.plan_dsl.specs.Registry.{Registry}
 use Rattle.plan_arena.specs.Items.{Grows, numbers}
-use Rattle.plan_infer.specs.KeptTypes.{Extends, IsKept, IsRight, Keeps}
+use Rattle.plan_infer.specs.KeptTypes.{Extends, IsKept, IsRight, KeepsEntry}
 use Rattle.plan_arena.specs.declared.aexpr.AExpr.{AExpr}
 use Rattle.plan_coerce.specs.Coercion.{AreChanged}
 use Rattle.plan_coerce.specs.Reaching.{IsClosed, Near}
@@ -16,9 +16,8 @@ invariant-loop-index l =
     record {
       grows : Grows l.initial.arena l.arena;
       extends : Extends l.initial.types l.types;
-      same : (n : ℕ) (dtype : DataType) → Keeps l.initial.types n dtype → Keeps l.types n dtype;
       right : (registry : Registry) (schema : Columns) → IsRight registry schema l.initial.arena l.initial.types → IsRight registry schema l.arena l.types;
-      closed : (start : List AExpr) (roots : List ℕ) → AllByRecursion (Near start roots) (numbers l.inputs) → IsClosed start roots l.initial.arena → IsClosed start roots l.arena;
+      closed : (start : List AExpr) (roots : List ℕ) → length start ≤ length l.initial.arena → AllByRecursion (Near start roots) (numbers l.inputs) → IsClosed start roots l.initial.arena → IsClosed start roots l.arena;
       kept : AllByRecursion (IsKept l.types) (numbers l.operands.items);
-      changed : AreChanged l.initial.arena l.arena l.initial.types (numbers (take l.index l.inputs)) (numbers l.operands.items) (map ty (take l.index l.targets));
+      changed : (own : Inferred) → KeepsEntry l.initial.types l.node.0 own → AreChanged l.initial.arena l.arena l.initial.types (numbers (take l.index l.inputs)) (numbers l.operands.items) (map ty (take l.index own.operands.items));
     }

@@ -19,7 +19,7 @@ use Rattle.plan_coerce.specs.Coercion.{DenotesSame, coerced}
 use Rattle.plan_infer.specs.Samples.{int8, int32, int64, columns_of, two_columns, of_type, a, b, binary, cast_to, sum, pair, columns_and, sum_items}
 use Rattle.plan_coerce.specs.Samples.{strict_sum, cast_of, strict_items}
 use Rattle.plan_infer.proofs.ExampleLemmas.{one_tree}
-use Rattle.plan_coerce.proofs.ExampleLemmas.{strict_root, same_tree, other_name}
+use Rattle.plan_coerce.proofs.ExampleLemmas.{strict_root, same_tree, other_name, other_label}
 use Rattle.plan_coerce.proofs.examples.coercions.coerced_sums.Goals as goal
 
 abbrev wide : List AExpr
@@ -85,7 +85,7 @@ returns-clause-both_to_another_type c = λ coerced.
 -- the sum has the name of the other column
 pub returns-clause-turned_round : goal.returns-clause-turned_round
 returns-clause-turned_round c = λ coerced.
-    other_name (same_tree [] two_columns 0 turned 2 sum (binary Plus b (cast_to int32 a)) (coerced.trees 2 sum before_denotes) turned_denotes).name
+    other_label (same_tree [] two_columns 0 turned 2 sum (binary Plus b (cast_to int32 a)) (coerced.trees 2 sum before_denotes) turned_denotes).name
 
 pub returns-clause-number_left : goal.returns-clause-number_left
 returns-clause-number_left c = λ coerced.
@@ -113,7 +113,7 @@ returns-clause-other_item_below c = λ stays.
 
 pub returns-clause-other_tree : goal.returns-clause-other_tree
 returns-clause-other_tree c = λ stays.
-    other_name (same_tree [] (columns_of int8 int8) 0 (Column (codes "b") ∷ []) 0 a b (stays.trees 0 a ([], (omega arith, refl), tt)) ([], (omega arith, refl), tt)).name
+    other_label (same_tree [] (columns_of int8 int8) 0 (Column (codes "b") ∷ []) 0 a b (stays.trees 0 a ([], (omega arith, refl), tt)) ([], (omega arith, refl), tt)).name
 
 kept_first : (n : ℕ) (op : Op) (inputs : List ℕ) → ¬ (1 ≤ n) → HoldsExpression (columns_and []) n op inputs → HoldsExpression (Column (codes "a") ∷ Column (codes "c") ∷ []) n op inputs
 kept_first zero op inputs below h = h
@@ -127,4 +127,4 @@ returns-clause-same c = record { tree = a; denotes = ([], (omega arith, refl), t
 
 pub returns-clause-not_same : goal.returns-clause-not_same
 returns-clause-not_same c = λ found.
-    other_name (same_tree [] (columns_of int8 int8) 0 (Column (codes "b") ∷ []) 0 a b found ([], (omega arith, refl), tt)).name
+    other_label (same_tree [] (columns_of int8 int8) 0 (Column (codes "b") ∷ []) 0 a b found ([], (omega arith, refl), tt)).name

@@ -1,7 +1,6 @@
-use Rattle.std.proofs.Common.{◌≡◌, ℕ, zero, suc, List, [], ◌∷◌, codes, Some, slice_get, map, refl, sym, subst, arith, inl, inr, ⊎_elim}
+use Rattle.std.proofs.Common.{◌≡◌, ℕ, zero, suc, [], ◌∷◌, codes, slice_get, map, refl, sym, subst, arith, inl, inr, ⊎_elim}
 use Rattle.plan_dsl.specs.declared.operator.Operator.TheVariants.{Plus}
-use Rattle.plan_dsl.specs.Ops.{Op, ColumnOp, BinaryOp}
-use Rattle.plan_arena.specs.Layers.{layer}
+use Rattle.plan_dsl.specs.Ops.{ColumnOp, BinaryOp}
 use Rattle.plan_arena.specs.Items.{HoldsExpression, expression_layer}
 use Rattle.plan_arena.proofs.DenotationLemmas.{some_same}
 use Rattle.plan_arena.proofs.ItemLemmas.{layer_inputs}

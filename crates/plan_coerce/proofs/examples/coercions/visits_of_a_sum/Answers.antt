@@ -8,7 +8,7 @@ use Rattle.plan_arena.specs.declared.aexpr.AExpr.{AExpr}
 use Rattle.plan_arena.specs.declared.aexpr.AExpr.TheVariants.{Column, Literal}
 use Rattle.plan_infer.specs.Samples.{int8, int16, int32, one_column, two_columns, a, b, five, literal, binary, sum, cast_to, pair, columns_and, sum_items}
 use Rattle.plan_coerce.specs.Samples.{wide, cast_of}
-use Rattle.plan_coerce.proofs.ExampleLemmas.{visited, other_name}
+use Rattle.plan_coerce.proofs.ExampleLemmas.{visited, other_name, other_label}
 use Rattle.plan_coerce.proofs.examples.coercions.visits_of_a_sum.Goals as goal
 
 pub returns-clause-cast : goal.returns-clause-cast
@@ -52,7 +52,7 @@ returns-clause-cast_to_another_type c = λ v.
 pub returns-clause-turned_round : goal.returns-clause-turned_round
 returns-clause-turned_round c = λ v.
     let says = visited [] two_columns 0 (columns_and (pair 1 Plus 3 ∷ cast_of 0 dtype.Int32 ∷ [])) 2 sum (binary Plus b wide) v (1 ∷ 3 ∷ [], (omega arith, refl), (([], (omega arith, refl), tt), ((0 ∷ [], (omega arith, refl), (([], (omega arith, refl), tt), tt)), tt))) in
-    other_name says.0.name
+    other_label says.0.name
 
 pub returns-clause-number_left : goal.returns-clause-number_left
 returns-clause-number_left c = λ v.

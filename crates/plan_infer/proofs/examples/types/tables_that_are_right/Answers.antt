@@ -1,82 +1,123 @@
-use Rattle.std.proofs.Common.{◌≡◌, ℕ, zero, suc, List, [], ◌∷◌, pos, true, false, Some, None, Ok, slice_get, refl, sym, ap, subst, arith}
+use Rattle.std.proofs.Common.{◌≡◌, ℕ, Bool, true, false, List, [], ◌∷◌, codes, map, Some, None, Ok, inl, refl, sym, ap, ◌∙◌, subst, arith, ⊎_elim}
 use Rattle.std.specs.List.{AllByRecursion}
 use Rattle.plan_types.specs.Types.{ty, same_type}
+use Rattle.plan_types.specs.Schemas.{same_name}
 use Rattle.plan_types.specs.declared.dtype.DataType.{DataType}
 use Rattle.plan_types.specs.declared.dtype.DataType.TheVariants as dtype
-use Rattle.plan_dsl.specs.declared.literal.LiteralValue.TheVariants.{Int8}
 use Rattle.plan_dsl.specs.declared.operator.Operator.TheVariants.{Plus}
-use Rattle.plan_dsl.specs.Ops.{Op, BinaryOp}
-use Rattle.plan_dsl.specs.Typing.{typing}
-use Rattle.plan_arena.specs.declared.aexpr.AExpr.TheVariants.{Literal}
+use Rattle.plan_dsl.specs.Names.{Label, op_label}
+use Rattle.plan_dsl.specs.Ops.{Op, BinaryOp, ColumnOp}
+use Rattle.plan_dsl.specs.Strictness.{same_types}
+use Rattle.plan_dsl.specs.Typing.{Ruling, Typed, rule, typing}
+use Rattle.plan_dsl.proofs.TypingLemmas.{ok_same}
 use Rattle.plan_arena.specs.Items.{HoldsExpression}
+use Rattle.plan_infer.specs.declared.type_table.Inferred.{Inferred}
 use Rattle.plan_infer.specs.declared.type_table.TypeTable.{TypeTable}
-use Rattle.plan_infer.specs.Typed.{HasType}
-use Rattle.plan_infer.specs.KeptTypes.{IsKept, IsTypedNode, IsRight}
-use Rattle.plan_infer.specs.Samples.{int8, int16, one_column, of_type, of_one, literal, a, sum, sum_items, a_items}
-use Rattle.plan_infer.proofs.ExampleLemmas.{one_expression, kept_at, has_one}
+use Rattle.plan_infer.specs.KeptTypes.{AllKept, AreOperands, GivesName, IsKept, KeepsEntry, typed_of}
+use Rattle.plan_infer.specs.Samples.{int8, int32, one_column, two_columns, of_type, a, sum, sum_items, a_items}
+use Rattle.plan_infer.proofs.ExampleLemmas.{one_expression}
+use Rattle.plan_infer.proofs.TableLemmas.{kept_one}
 use Rattle.plan_infer.proofs.examples.types.tables_that_are_right.Goals as goal
+
+-- an entry of this type says this typing
+says : (own : Inferred) (d : DataType) (many : Bool) → own.dtype ≡ d → own.many ≡ many → record { type = ty d; many = many } ≡ typed_of own
+says own d many is same = λ i. record { type = ty (sym is i); many = sym same i }
+
+sum_op : (op : Op) (inputs : List ℕ) → HoldsExpression sum_items 2 op inputs → op ≡ BinaryOp Plus
+sum_op op inputs h = cc
 
 sum_inputs : (op : Op) (inputs : List ℕ) → HoldsExpression sum_items 2 op inputs → inputs ≡ 0 ∷ 1 ∷ []
 sum_inputs op inputs h = cc
 
-pub returns-clause-node_of_a_sum : goal.returns-clause-node_of_a_sum
-returns-clause-node_of_a_sum c = λ table first types.
-    let left : IsKept table 0 = record { dtype = dtype.Int8; keeps = rw (first, types) (omega arith, refl) } in
-    let right : IsKept table 1 = record { dtype = dtype.Int32; keeps = rw (first, types) (omega arith, refl) } in
-    record {
-      tree = sum;
-      denotes = (0 ∷ 1 ∷ [], refl, (([], refl, tt), (([], refl, tt), tt)));
-      typed = record { many = true; is = refl };
-      inputs = λ op inputs h. subst (AllByRecursion (IsKept table)) (sym (sum_inputs op inputs h)) (left, (right, tt));
-    }
-
-pub returns-clause-node_over_an_input_without : goal.returns-clause-node_over_an_input_without
-returns-clause-node_over_an_input_without c = λ table first types found.
-    let right = (found.inputs (BinaryOp Plus) (0 ∷ 1 ∷ []) refl).1.0 in
-    let item : Some None ≡ Some (Some right.dtype) = kept_at table (Some dtype.Int8 ∷ None ∷ []) 1 right.dtype first types right.keeps in
-    cc
+column_op : (op : Op) (inputs : List ℕ) → HoldsExpression a_items 0 op inputs → op ≡ ColumnOp (codes "a")
+column_op op inputs h = cc
 
 column_inputs : (op : Op) (inputs : List ℕ) → HoldsExpression a_items 0 op inputs → inputs ≡ []
 column_inputs op inputs h = cc
 
-first_item : (d other : DataType) → Some (Some d) ≡ Some (Some other) → d ≡ other
-first_item d other e = cc
-
-no_item : {A : Type 0} (n : ℕ) (x : A) → slice_get [] n ≡ Some x → ⊥
-no_item n x e = cc
-
-module _ (table : TypeTable) (d : DataType) (first : table.first ≡ 0) (types : table.types.items ≡ Some d ∷ [])
-    (is : typing [] (one_column (ty d)) a ≡ Ok (of_type (ty d))) where
-  column_typed : (n : ℕ) (other : DataType) → slice_get (Some d ∷ []) n ≡ Some (Some other) → IsTypedNode [] (one_column (ty d)) a_items table n (ty other)
-  column_typed zero other e = subst (λ t. IsTypedNode [] (one_column (ty d)) a_items table 0 (ty t)) (first_item d other e) (record {
-    tree = a;
-    denotes = ([], refl, tt);
-    typed = record { many = true; is = is };
-    inputs = λ op inputs h. subst (AllByRecursion (IsKept table)) (sym (column_inputs op inputs h)) tt;
-  })
-  column_typed (suc n) other e = absurd (no_item n (Some other) e)
-
-  column_right : IsRight [] (one_column (ty d)) a_items table
-  column_right = record { each = λ n other keeps. column_typed n other (kept_at table (Some d ∷ []) n other first types keeps) }
-
-pub returns-clause-right : goal.returns-clause-right
-returns-clause-right c = λ table first types. column_right table dtype.Int8 first types refl
+pub returns-clause-column : goal.returns-clause-column
+returns-clause-column c = λ own n d m o table. record {
+  tree = a;
+  denotes = ([], refl, tt);
+  typed = ap Ok (says own dtype.Int8 true d m);
+  name = record { op = ColumnOp (codes "a"); inputs = []; held = subst (λ k. HoldsExpression a_items k (ColumnOp (codes "a")) []) (sym n) refl; gives = λ names. refl };
+  inputs = λ op inputs h. subst (AllByRecursion (IsKept table)) (sym (column_inputs op inputs h)) tt;
+  operands = λ op inputs typed ruling h kept rules.
+      let none = kept_one table [] typed [] (subst (λ ns. AllKept table ns typed) (column_inputs op inputs h) kept) tt in
+      let is = ap (λ ts. rule [] (one_column int8) (ColumnOp (codes "a")) ts) (sym none) ∙ ap (λ o. rule [] (one_column int8) o typed) (sym (column_op op inputs h)) ∙ rules in
+      let one : ruling ≡ record { operands = []; own = of_type int8 } = ok_same _ ruling (record { operands = []; own = of_type int8 }) is refl in
+      inl (ap (map ty) o ∙ sym (ap (λ (r : Ruling). r.operands) one));
+}
 
 pub returns-clause-other_type : goal.returns-clause-other_type
-returns-clause-other_type c = λ table first types right.
-    let found = right.each 0 dtype.Int16 (rw (first, types) (omega arith, refl)) in
+returns-clause-other_type c = λ own n d m o table found.
     let same = one_expression a_items 0 found.tree a found.denotes ([], refl, tt) in
-    let one = has_one _ (of_type int8) int16 (subst (λ t. HasType (typing [] (one_column int8) t) int16) same found.typed) refl in
-    let differs : true ≡ false = ap (same_type int8) one in
+    let typed = subst (λ t. typing [] (one_column int8) t ≡ Ok (typed_of own)) same found.typed in
+    let one = ap (λ (t : Typed). t.type) (ok_same _ (typed_of own) (of_type int8) typed refl) in
+    let differs : false ≡ true = ap (same_type int8) (sym (ap ty d) ∙ one) in
     cc
 
-pub returns-clause-over_some_schema : goal.returns-clause-over_some_schema
-returns-clause-over_some_schema c = λ table first types. record { registry = []; schema = one_column int16; right = column_right table dtype.Int16 first types refl }
-
-pub returns-clause-over_no_schema : goal.returns-clause-over_no_schema
-returns-clause-over_no_schema c = λ table first types has.
-    let found = has.right.each 0 dtype.Int16 (rw (first, types) (omega arith, refl)) in
-    let same = one_expression (Literal (Int8 (pos 1)) ∷ []) 0 found.tree (literal int8 (pos 1)) found.denotes ([], refl, tt) in
-    let one = has_one _ (of_one int8) int16 (subst (λ t. HasType (typing has.registry has.schema t) int16) same found.typed) refl in
-    let differs : true ≡ false = ap (same_type int8) one in
+pub returns-clause-one_alone : goal.returns-clause-one_alone
+returns-clause-one_alone c = λ own n d m o table found.
+    let same = one_expression a_items 0 found.tree a found.denotes ([], refl, tt) in
+    let typed = subst (λ t. typing [] (one_column int8) t ≡ Ok (typed_of own)) same found.typed in
+    let one = ap (λ (t : Typed). t.many) (ok_same _ (typed_of own) (of_type int8) typed refl) in
+    let differs : false ≡ true = sym m ∙ one in
     cc
+
+second_op : (op : Op) (inputs : List ℕ) → HoldsExpression sum_items 1 op inputs → ColumnOp (codes "b") ≡ op
+second_op op inputs h = cc
+
+pub returns-clause-other_name : goal.returns-clause-other_name
+returns-clause-other_name c = λ own n d m o table found.
+    let same = one_expression sum_items 2 found.tree sum found.denotes (0 ∷ 1 ∷ [], refl, (([], refl, tt), (([], refl, tt), tt))) in
+    let name = subst (λ t. GivesName sum_items own.name.0 t) same found.name in
+    let held = subst (λ k. HoldsExpression sum_items k name.op name.inputs) n name.held in
+    let e = ap (λ o. op_label o []) (second_op name.op name.inputs held) ∙ name.gives [] in
+    let differs : false ≡ true = ap (λ (l : Label). same_name (codes "a") l.name) e in
+    cc
+
+pub returns-clause-node_of_a_sum : goal.returns-clause-node_of_a_sum
+returns-clause-node_of_a_sum c = λ left ln ld lm lo right rn rd rm ro own n d m o table first entries.
+    let keeps_left : KeepsEntry table 0 left = rw (first, entries) (omega arith, refl) in
+    let keeps_right : KeepsEntry table 1 right = rw (first, entries) (omega arith, refl) in
+    let known : AllByRecursion (IsKept table) (0 ∷ 1 ∷ []) = (record { own = left; keeps = keeps_left }, (record { own = right; keeps = keeps_right }, tt)) in
+    let are : AllKept table (0 ∷ 1 ∷ []) (of_type int8 ∷ of_type int32 ∷ []) = (record { own = left; keeps = keeps_left; is = sym (says left dtype.Int8 true ld lm) }, (record { own = right; keeps = keeps_right; is = sym (says right dtype.Int32 true rd rm) }, tt)) in
+    record {
+      tree = sum;
+      denotes = (0 ∷ 1 ∷ [], refl, (([], refl, tt), (([], refl, tt), tt)));
+      typed = ap Ok (says own dtype.Int32 true d m);
+      name = record { op = ColumnOp (codes "a"); inputs = []; held = subst (λ k. HoldsExpression sum_items k (ColumnOp (codes "a")) []) (sym n) refl; gives = λ names. refl };
+      inputs = λ op inputs h. subst (AllByRecursion (IsKept table)) (sym (sum_inputs op inputs h)) known;
+      operands = λ op inputs typed ruling h kept rules.
+          let typings = kept_one table (0 ∷ 1 ∷ []) (of_type int8 ∷ of_type int32 ∷ []) typed are (subst (λ ns. AllKept table ns typed) (sum_inputs op inputs h) kept) in
+          let is = ap (rule [] two_columns (BinaryOp Plus)) typings ∙ ap (λ o. rule [] two_columns o typed) (sym (sum_op op inputs h)) ∙ rules in
+          let one : ruling ≡ record { operands = int32 ∷ int32 ∷ []; own = of_type int32 } = ok_same _ ruling (record { operands = int32 ∷ int32 ∷ []; own = of_type int32 }) is refl in
+          inl (ap (map ty) o ∙ sym (ap (λ (r : Ruling). r.operands) one));
+    }
+
+no_types : [] ≡ int32 ∷ int32 ∷ [] → ⊥
+no_types e = cc
+
+none_or_apart : (own : Inferred) → own.operands.items ≡ [] → AreOperands (map ty own.operands.items) (int8 ∷ int32 ∷ []) (int32 ∷ int32 ∷ []) → ⊥
+none_or_apart own none are = ⊎_elim
+    (λ e. no_types (sym (ap (map ty) none) ∙ e))
+    (λ p. let differs : true ≡ false = ap (same_types (int8 ∷ int32 ∷ [])) p.1 in cc)
+    are
+
+pub returns-clause-without_operand_types : goal.returns-clause-without_operand_types
+returns-clause-without_operand_types c = λ left ln ld lm lo right rn rd rm ro own n d m o table first entries found.
+    let keeps_left : KeepsEntry table 0 left = rw (first, entries) (omega arith, refl) in
+    let keeps_right : KeepsEntry table 1 right = rw (first, entries) (omega arith, refl) in
+    let are : AllKept table (0 ∷ 1 ∷ []) (of_type int8 ∷ of_type int32 ∷ []) = (record { own = left; keeps = keeps_left; is = sym (says left dtype.Int8 true ld lm) }, (record { own = right; keeps = keeps_right; is = sym (says right dtype.Int32 true rd rm) }, tt)) in
+    none_or_apart own o (found.operands (BinaryOp Plus) (0 ∷ 1 ∷ []) (of_type int8 ∷ of_type int32 ∷ []) (record { operands = int32 ∷ int32 ∷ []; own = of_type int32 }) refl are refl)
+
+empty_place : (table : TypeTable) (left own : Inferred) → table.first ≡ 0 → table.entries.items ≡ Some left ∷ None ∷ [] → KeepsEntry table 1 own → ⊥
+empty_place table left own first entries keeps =
+    let item = keeps.1 in
+    cc
+
+pub returns-clause-over_an_input_without : goal.returns-clause-over_an_input_without
+returns-clause-over_an_input_without c = λ left ln ld lm lo own n d m o table first entries found.
+    let right = (found.inputs (BinaryOp Plus) (0 ∷ 1 ∷ []) refl).1.0 in
+    empty_place table left right.own first entries right.keeps

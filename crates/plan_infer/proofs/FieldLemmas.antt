@@ -1,0 +1,35 @@
+-- The name of a node, from the item that gives it.
+use Rattle.std.proofs.Common.{◌≡◌, ℕ, ◌<◌, List, [], ◌∷◌, length, map, Some, slice_get, refl, sym, ap, ◌∙◌, arith}
+use Rattle.std.proofs.lemmas.List.{length-map}
+use Rattle.plan_types.specs.declared.text.PlSmallStr.{PlSmallStr}
+use Rattle.plan_dsl.specs.declared.literal.LiteralValue.{LiteralValue}
+use Rattle.plan_dsl.specs.Names.{Label, column_label, label_of, op_label}
+use Rattle.plan_dsl.specs.Ops.{Expression}
+use Rattle.plan_arena.specs.declared.aexpr.AExpr.{AExpr}
+use Rattle.plan_arena.specs.declared.aexpr.AExpr.TheVariants.{Column, Literal, Len}
+use Rattle.plan_arena.specs.Layers.{inputs_of, layer, op_of, shape_of}
+use Rattle.plan_arena.specs.Items.{expression_layer}
+use Rattle.plan_arena.proofs.DenotationLemmas.{some_same}
+use Rattle.plan_arena.proofs.ItemLemmas.{expression_got, expression_laws}
+use Rattle.plan_infer.specs.KeptTypes.{GivesName}
+
+two_labels : (label : Label) → column_label [] ≡ label → column_label (0 ∷ []) ≡ label → ⊥
+two_labels label e f = let none : List ℕ = [] in let g : none ≡ 0 ∷ [] = ap (λ (l : Label). l.name) (e ∙ sym f) in cc
+
+-- any other item has the name of its first input
+pub gives_none : (item : AExpr) → ((name : PlSmallStr) → item ≡ Column name → ⊥) → ((value : LiteralValue) → item ≡ Literal value → ⊥) → (item ≡ Len → ⊥) → (label : Label) → ((labels : List Label) → op_label (op_of (expression_layer item)) labels ≡ label) → ⊥
+gives_none (Column text) column literal len name own = column text refl
+gives_none (Literal value) column literal len name own = literal value refl
+gives_none Len column literal len name own = len refl
+gives_none _ column literal len name own = two_labels name (own (column_label [] ∷ [])) (own (column_label (0 ∷ []) ∷ []))
+
+-- the item that gives a name
+pub item_gives : (items : List AExpr) (n : ℕ) (item : AExpr) (t : Expression) → GivesName items n t → slice_get items n ≡ Some item → (names : List Label) → op_label (op_of (expression_layer item)) names ≡ label_of t
+item_gives items n item t name got names =
+    let is = some_same _ (expression_layer item) (layer name.op name.inputs) (expression_got items n item got) name.held in
+    ap (λ o. op_label o names) (ap op_of is) ∙ name.gives names
+
+pub gives_within : (items : List AExpr) (n : ℕ) (t : Expression) → GivesName items n t → n < length items
+gives_within items n t name =
+    let short : length (shape_of (map expression_layer items)) ≡ length items = length-map (map expression_layer items) inputs_of ∙ length-map items expression_layer in
+    omega (arith, (expression_laws items).below n name.op name.inputs name.held, short)
