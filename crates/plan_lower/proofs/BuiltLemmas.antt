@@ -14,7 +14,7 @@ use Rattle.plan_types.proofs.ListLemmas.{map-map}
 use Rattle.plan_dsl.specs.Registry.{Registry}
 use Rattle.plan_dsl.specs.Trees.{node, no_more, more}
 use Rattle.plan_dsl.specs.Ops.{Expression}
-use Rattle.plan_dsl.specs.Names.{name_of}
+use Rattle.plan_dsl.specs.Names.{Label, label_of, name_of}
 use Rattle.plan_dsl.specs.Plans.{PlanOp, Plan, Named, named, scan_op, select_op, filter_op}
 use Rattle.plan_dsl.specs.Literals.{settled}
 use Rattle.plan_dsl.specs.Typing.{Typed, typing}
@@ -24,18 +24,18 @@ use Rattle.plan_dsl.specs.PlanKernels.{selected, filtered}
 use Rattle.plan_dsl.specs.PlanMeaning.{by_meaning, FitsPlan, MeetsWhere}
 use Rattle.plan_dsl.proofs.FrameLemmas.{fits_input, fits_over}
 use Rattle.plan_dsl.proofs.KernelLemmas.{AgreeOn, selected_agrees, filtered_agrees}
-use Rattle.plan_dsl.proofs.LiteralLemmas.{strict_settled}
+use Rattle.plan_dsl.proofs.LiteralLemmas.{strict_settled, settled_label}
 use Rattle.plan_dsl.proofs.RunLemmas.{strict_is_meaning}
 use Rattle.plan_dsl.proofs.RuleLemmas.{scan_schema, scan_unknown_kind, select_schema, select_refused_kind, select_repeated_name, filter_schema, filter_refused_kind, filter_other_type, broken_is_ill_formed}
-use Rattle.plan_arena.specs.Runs.{AreStrictOver, by_running, plan_run}
+use Rattle.plan_arena.specs.Runs.{AreStrictOver, HasOwnName, by_running, plan_run}
 use Rattle.plan_arena.proofs.RunLemmas.{runs_soundly, sound_top}
 use Rattle.plan_lower.specs.Outputs.{Lowered, IsLowered, lowered_named, lowered_column, lowered_select, SelectsTo}
 use Rattle.plan_lower.specs.Projection.{IsOutputRefusal, no_room, untyped, repeated, IsProjectionRefusal, out_of_memory as no_space, refused}
 use Rattle.plan_lower.specs.Predicates.{FiltersBy, IsPredicateRefusal, without_room, without_type, of_other_type, lowered_filter}
 use Rattle.plan_lower.specs.Lowering.{IsBuilt, IsPlanRefusal, out_of_memory, broken, source_select, source_filter}
 
-abbrev output_name : Lowered → Name
-output_name o = name_of o.tree
+abbrev output_label : Lowered → Label
+output_label o = label_of o.tree
 
 abbrev output_typed : Lowered → Typed
 output_typed o = o.typed
@@ -51,6 +51,7 @@ module _ (registry : Registry) where
         lowered_schema = there;
         accepted = (there, tt);
         strict = (tt, tt);
+        names = (tt, tt);
         fits = λ tables f. f;
         same = λ tables f. refl;
       }
@@ -69,6 +70,11 @@ module _ (registry : Registry) where
   each_strict : (schema : Columns) (outputs : List Lowered) → AllByRecursion (IsLowered registry schema) outputs → AllByRecursion (λ (o : Named Expression). IsStrict registry schema o.expression) (map lowered_named outputs)
   each_strict schema [] each = tt
   each_strict schema (o ∷ os) each = (each.0.strict, each_strict schema os each.1)
+
+  -- what stands for an expression has its name, from the same
+  each_named : (schema : Columns) (outputs : List Lowered) → AllByRecursion (IsLowered registry schema) outputs → AllByRecursion HasOwnName (map lowered_named outputs)
+  each_named schema [] each = tt
+  each_named schema (o ∷ os) each = (sym (each.0.same.name ∙ settled_label o.tree), each_named schema os each.1)
 
   strict_over : (schema : Columns) (under : Option Columns) (outputs : List (Named Expression)) → under ≡ Some schema → AllByRecursion (λ (o : Named Expression). IsStrict registry schema o.expression) outputs → AreStrictOver registry under outputs
   strict_over schema under outputs is strict = subst (λ u. AreStrictOver registry u outputs) (sym is) strict
@@ -94,12 +100,12 @@ module _ (registry : Registry) where
   abbrev source_plan : List Lowered → Plan → Plan
   source_plan outputs source = node (select_op (source_outputs outputs) None) (more source no_more)
 
-  over_schema : (op : PlanOp Expression) (input : Plan) (schema own : Columns) → schema_of registry input ≡ Some schema → plan_rule registry op (Some schema ∷ []) ≡ Some own → schema_of registry (node op (more input no_more)) ≡ Some own
+  over_schema : (op : PlanOp (Named Expression)) (input : Plan) (schema own : Columns) → schema_of registry input ≡ Some schema → plan_rule registry op (Some schema ∷ []) ≡ Some own → schema_of registry (node op (more input no_more)) ≡ Some own
   over_schema op input schema own there rule = ap (λ s. plan_rule registry op (s ∷ [])) there ∙ rule
 
   select_columns : (schema : Columns) (recorded : Option Columns) (outputs : List Lowered) → AllByRecursion (IsLowered registry schema) outputs → HasDistinctNames (map lowered_column outputs) → plan_rule registry (select_op (source_outputs outputs) recorded) (Some schema ∷ []) ≡ Some (map lowered_column outputs)
   select_columns schema recorded outputs each distinct =
-      select_schema registry schema output_name (λ (o : Lowered). o.tree) output_typed recorded outputs (each_typed schema outputs each) distinct
+      select_schema registry schema output_label (λ (o : Lowered). o.tree) output_typed recorded outputs (each_typed schema outputs each) distinct
 
   -- a select over what was built from its input
   built_over : (source lowered : Plan) (schema : Columns) → IsBuilt registry source lowered schema → (outputs : List Lowered) → AllByRecursion (IsLowered registry schema) outputs → HasDistinctNames (map lowered_column outputs) → IsBuilt registry (source_plan outputs source) (lowered_select outputs lowered) (map lowered_column outputs)
@@ -111,6 +117,7 @@ module _ (registry : Registry) where
         lowered_schema = refl;
         accepted = (refl, ((refl, tt), tt));
         strict = ((tt, tt), ((tt, tt), tt));
+        names = ((tt, tt), ((tt, tt), tt));
         fits = λ tables f. tt;
         same = λ tables f. refl;
       }
@@ -119,13 +126,14 @@ module _ (registry : Registry) where
       let own = map lowered_column outputs in
       let there = over_schema (select_op (source_outputs outputs) None) source schema own built.source_schema (select_columns schema None outputs each distinct) in
       let op = select_op (map lowered_named outputs) (Some own) in
-      let here = over_schema op lowered schema own built.lowered_schema (select_schema registry schema output_name (λ (o : Lowered). o.after) output_typed (Some own) outputs (each_after_typed schema outputs each) distinct) in
+      let here = over_schema op lowered schema own built.lowered_schema (select_schema registry schema output_label (λ (o : Lowered). o.after) output_typed (Some own) outputs (each_after_typed schema outputs each) distinct) in
       record {
         well_formed = (ap is_some there, (built.well_formed, tt));
         source_schema = there;
         lowered_schema = here;
         accepted = (here, (built.accepted, tt));
         strict = ((strict_over schema _ (map lowered_named outputs) built.lowered_schema (each_strict schema outputs each), tt), (built.strict, tt));
+        names = ((each_named schema outputs each, tt), (built.names, tt));
         fits = λ tables f. fits_over tables op lowered refl (built.fits tables (fits_input tables (select_op (source_outputs outputs) None) source f));
         same = λ tables f.
             let under = fits_input tables (select_op (source_outputs outputs) None) source f in
@@ -153,6 +161,7 @@ module _ (registry : Registry) where
         lowered_schema = here;
         accepted = (ap is_some here, (built.accepted, tt));
         strict = ((strict_over schema _ (lowered_named o ∷ []) built.lowered_schema (is.strict, tt), tt), (built.strict, tt));
+        names = ((each_named schema (o ∷ []) (is, tt), tt), (built.names, tt));
         fits = λ tables f. fits_over tables op lowered refl (built.fits tables (fits_input tables before source f));
         same = λ tables f.
             let under = fits_input tables before source f in
@@ -172,7 +181,7 @@ module _ (registry : Registry) where
       broken breaks' (broken_is_ill_formed registry error.kind error.place plan breaks')
 
   -- one of a kind that a node over an input of the schema breaks
-  refused_over : (op : PlanOp Expression) (source : Plan) (schema : Columns) (kind : ErrorKind) (error : PlanError) → schema_of registry source ≡ Some schema → error ≡ at_top kind → Contains (broken_kinds registry op (Some schema ∷ [])) kind → IsPlanRefusal registry (node op (more source no_more)) error
+  refused_over : (op : PlanOp (Named Expression)) (source : Plan) (schema : Columns) (kind : ErrorKind) (error : PlanError) → schema_of registry source ≡ Some schema → error ≡ at_top kind → Contains (broken_kinds registry op (Some schema ∷ [])) kind → IsPlanRefusal registry (node op (more source no_more)) error
   refused_over op source schema kind error there e h =
       refused_top (node op (more source no_more)) kind error e (subst (λ s. Contains (broken_kinds registry op (s ∷ [])) kind) (sym there) h)
 
@@ -187,7 +196,7 @@ module _ (registry : Registry) where
   output_refused source schema front back tree before error there names (untyped kind e typing) =
       refused_over (select_op (map named front ++ named tree ∷ map named back) None) source schema kind error there e (select_refused_kind registry schema None (map named front) (named tree) (map named back) kind typing)
   output_refused source schema front back tree before error there names (repeated e found) =
-      refused_over (select_op (map named front ++ named tree ∷ map named back) None) source schema Duplicate error there e (select_repeated_name registry schema None before (map named front) (named tree) (map named back) (names ∙ sym (map-map (λ (o : Named Expression). o.name) named front)) found)
+      refused_over (select_op (map named front ++ named tree ∷ map named back) None) source schema Duplicate error there e (select_repeated_name registry schema None before (map named front) (named tree) (map named back) (names ∙ sym (map-map (λ (o : Named Expression). o.label.name) named front)) found)
 
   pub select_refused_at : (source : Plan) (schema : Columns) (trees : List Expression) (error : PlanError) → schema_of registry source ≡ Some schema → IsProjectionRefusal registry schema trees error → IsPlanRefusal registry (source_select trees source) error
   select_refused_at source schema trees error there (no_space e) = out_of_memory e
@@ -203,7 +212,7 @@ module _ (registry : Registry) where
   filter_refused_at source schema tree error there (of_other_type typed e typing other) =
       refused_over (filter_op (named tree)) source schema InvalidOperation error there e (filter_other_type registry schema (named tree) typed typing other)
 
-  inner_refused : (source : Plan) (op : PlanOp Expression) (inner error : PlanError) → IsPlanRefusal registry source inner → ¬ (inner.kind ≡ NoMemory) → error ≡ record { kind = inner.kind; place = 0 ∷ inner.place } → IsPlanRefusal registry (node op (more source no_more)) error
+  inner_refused : (source : Plan) (op : PlanOp (Named Expression)) (inner error : PlanError) → IsPlanRefusal registry source inner → ¬ (inner.kind ≡ NoMemory) → error ≡ record { kind = inner.kind; place = 0 ∷ inner.place } → IsPlanRefusal registry (node op (more source no_more)) error
   inner_refused source op inner error (out_of_memory e) other is = absurd (other (ap (λ (x : PlanError). x.kind) e))
   inner_refused source op inner error (broken breaks ill) other is =
       let plan = node op (more source no_more) in
@@ -211,6 +220,6 @@ module _ (registry : Registry) where
       broken breaks' (broken_is_ill_formed registry error.kind error.place plan breaks')
 
   -- the only input of a node is refused
-  pub refused_in_input : (source : Plan) (op : PlanOp Expression) (inner error : PlanError) → IsPlanRefusal registry source inner → (error ≡ no_memory) ⊎ (¬ (inner.kind ≡ NoMemory) × (error ≡ record { kind = inner.kind; place = 0 ∷ inner.place })) → IsPlanRefusal registry (node op (more source no_more)) error
+  pub refused_in_input : (source : Plan) (op : PlanOp (Named Expression)) (inner error : PlanError) → IsPlanRefusal registry source inner → (error ≡ no_memory) ⊎ (¬ (inner.kind ≡ NoMemory) × (error ≡ record { kind = inner.kind; place = 0 ∷ inner.place })) → IsPlanRefusal registry (node op (more source no_more)) error
   refused_in_input source op inner error r below =
       ⊎_elim (λ e. out_of_memory e) (λ e. inner_refused source op inner error r e.0 e.1) below

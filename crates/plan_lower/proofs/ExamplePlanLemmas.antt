@@ -3,7 +3,7 @@ use Rattle.std.proofs.Common.{◌≡◌, ℕ, List, [], ◌∷◌, map, codes, O
 use Rattle.plan_types.specs.Schemas.{Columns}
 use Rattle.plan_types.specs.Frames.{Frame}
 use Rattle.plan_dsl.specs.Trees.{node, no_more}
-use Rattle.plan_dsl.specs.Plans.{PlanOp, Plan, named, scan_op, select_op}
+use Rattle.plan_dsl.specs.Plans.{Named, PlanOp, Plan, named, scan_op, select_op}
 use Rattle.plan_dsl.specs.PlanMeaning.{source_meaning, FitsPlan}
 use Rattle.plan_arena.specs.declared.aexpr.AExpr.{AExpr}
 use Rattle.plan_arena.specs.declared.ir.IR.{IR}
@@ -23,7 +23,7 @@ pub one_plan : (expressions : List AExpr) (plans : List IR) (n : ℕ) (t u : Pla
 one_plan expressions plans n t u d e = denotes_one _ (HoldsPlan expressions plans) (plan_laws expressions plans) n t u d e
 
 -- an item of a known list of layers
-pub item_at : (plans : List IR) (layers : List (Layer (PlanOp ℕ))) (n : ℕ) (l : Layer (PlanOp ℕ)) → map plan_layer plans ≡ layers → slice_get layers n ≡ Some l → slice_get (map plan_layer plans) n ≡ Some l
+pub item_at : (plans : List IR) (layers : List (Layer (PlanOp (Named ℕ)))) (n : ℕ) (l : Layer (PlanOp (Named ℕ))) → map plan_layer plans ≡ layers → slice_get layers n ≡ Some l → slice_get (map plan_layer plans) n ≡ Some l
 item_at plans layers n l is got = ap (λ ls. slice_get ls n) is ∙ got
 
 pub scan_denotes : (expressions : List AExpr) (plans : List IR) (n : ℕ) (table : Option ℕ) (schema : Columns) → slice_get (map plan_layer plans) n ≡ Some (layer (scan_op table schema) []) → Denotes (HoldsPlan expressions plans) n (node (scan_op table schema) no_more)
@@ -57,6 +57,7 @@ built = record {
   lowered_schema = refl;
   accepted = (refl, ((refl, tt), tt));
   strict = (((refl, tt), tt), ((tt, tt), tt));
+  names = (((refl, tt), tt), ((tt, tt), tt));
   fits = λ tables fits. fits;
   same = same_frame;
 }

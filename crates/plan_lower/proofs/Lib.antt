@@ -1,5 +1,7 @@
 pub mod BuiltLemmas
 pub mod ExamplePlanLemmas
+pub mod LabelLemmas
 pub mod NodeLemmas
 pub mod PlanLemmas
 pub mod ProjectionLemmas
+pub mod RecordedLemmas

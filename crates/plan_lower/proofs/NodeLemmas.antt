@@ -1,33 +1,49 @@
 -- Nodes that lowering adds.
-use Rattle.std.proofs.Common.{◌≡◌, List, [], ◌∷◌, ◌++◌, length, refl, arith}
-use Rattle.plan_types.specs.Types.{ty}
-use Rattle.plan_types.specs.declared.dtype.DataType.{DataType}
-use Rattle.plan_types.specs.declared.dtype.CastOptions.{CastOptions}
-use Rattle.plan_dsl.specs.declared.operator.Operator.{Operator}
-use Rattle.plan_dsl.specs.Trees.{node, no_more, more}
-use Rattle.plan_dsl.specs.Ops.{BinaryOp, CastOp, Expression}
-use Rattle.plan_arena.specs.declared.arena.Node.{Node}
+use Rattle.std.proofs.Common.{◌≡◌, ℕ, ◌≤◌, List, [], ◌∷◌, ◌++◌, length, refl, sym, subst, arith, append-nil}
+use Rattle.plan_dsl.specs.Trees.{Trees, node, no_more, more}
+use Rattle.plan_dsl.specs.Ops.{Op}
 use Rattle.plan_arena.specs.declared.aexpr.AExpr.{AExpr}
-use Rattle.plan_arena.specs.declared.aexpr.AExpr.TheVariants.{BinaryExpr, Cast}
-use Rattle.plan_arena.specs.Denotation.{Denotes}
-use Rattle.plan_arena.specs.Items.{HoldsFrom, Grows}
-use Rattle.plan_arena.proofs.ItemLemmas.{tree_grown, added_denotes, length-grown}
+use Rattle.plan_arena.specs.Denotation.{Denotes, DenoteAll}
+use Rattle.plan_arena.specs.Layers.{Layer, layer, op_of, inputs_of}
+use Rattle.plan_arena.specs.Items.{HoldsFrom, Grows, expression_layer}
+use Rattle.plan_arena.proofs.ItemLemmas.{tree_grown, added_denotes, length-grown, grows_then}
 
--- an operator over two trees that were added one after the other
-pub added_binary : (old first second new : List AExpr) (l r n : Node) (operator : Operator) (left right : Expression) → Denotes (HoldsFrom (length old) first) l.0 left → Grows old first → Denotes (HoldsFrom (length first) second) r.0 right → Grows first second → new ≡ second ++ BinaryExpr l operator r ∷ [] → n.0 ≡ length second → Denotes (HoldsFrom (length old) new) n.0 (node (BinaryOp operator) (more left (more right no_more)))
-added_binary old first second new l r n operator left right dl gl dr gr grown at =
-    let last : Grows second new = record { added = BinaryExpr l operator r ∷ []; longer = grown } in
-    let le1 = length-grown old first gl in
-    let le2 = length-grown first second gr in
-    let dl2 = tree_grown (length old) (length old) first second (omega arith) gr l.0 left dl in
-    let dl3 = tree_grown (length old) (length old) second new (omega arith) last l.0 left dl2 in
-    let dr3 = tree_grown (length first) (length old) second new (omega arith) last r.0 right dr in
-    added_denotes (length old) second new (BinaryExpr l operator r) n.0 (BinaryOp operator) (l.0 ∷ r.0 ∷ []) (more left (more right no_more)) (omega arith) grown at refl (dl3, (dr3, tt))
+-- trees that were added one after the other, from the one arena to the other: after each there is an arena that has it
+abbrev pub AreAdded : List AExpr → List AExpr → List ℕ → Trees Op → Type 0
+AreAdded old last [] no_more = old ≡ last
+AreAdded old last (n ∷ ns) (more t ts) =
+    (mid : List AExpr) × Denotes (HoldsFrom (length old) mid) n t × Grows old mid × AreAdded mid last ns ts
+AreAdded old last [] (more t ts) = ⊥
+AreAdded old last (n ∷ ns) no_more = ⊥
 
--- a cast of a tree that was added
-pub added_cast : (old first new : List AExpr) (e n : Node) (target : DataType) (options : CastOptions) (tree : Expression) → Denotes (HoldsFrom (length old) first) e.0 tree → Grows old first → new ≡ first ++ Cast e target options ∷ [] → n.0 ≡ length first → Denotes (HoldsFrom (length old) new) n.0 (node (CastOp (ty target) options) (more tree no_more))
-added_cast old first new e n target options tree d g grown at =
-    let last : Grows first new = record { added = Cast e target options ∷ []; longer = grown } in
-    let le = length-grown old first g in
-    let d2 = tree_grown (length old) (length old) first new (omega arith) last e.0 tree d in
-    added_denotes (length old) first new (Cast e target options) n.0 (CastOp (ty target) options) (e.0 ∷ []) (more tree no_more) (omega arith) grown at refl (d2, tt)
+nothing_added : (items : List AExpr) → Grows items items
+nothing_added items = record { added = []; longer = sym (append-nil items) }
+
+all_grow : (old last : List AExpr) (ns : List ℕ) (ts : Trees Op) → AreAdded old last ns ts → Grows old last
+all_grow old last [] no_more added = subst (Grows old) added (nothing_added old)
+all_grow old last (n ∷ ns) (more t ts) added = grows_then old added.0 last added.2 (all_grow added.0 last ns ts added.3)
+all_grow old last [] (more t ts) added = absurd added
+all_grow old last (n ∷ ns) no_more added = absurd added
+
+-- in an arena that has grown since they are all there
+all_denote : (first : ℕ) (old last new : List AExpr) (ns : List ℕ) (ts : Trees Op) → first ≤ length old → Grows last new → AreAdded old last ns ts → DenoteAll (HoldsFrom first new) ns ts
+all_denote first old last new [] no_more le grows added = tt
+all_denote first old last new (n ∷ ns) (more t ts) le grows added =
+    let rest = all_grow added.0 last ns ts added.3 in
+    let later = length-grown old added.0 added.2 in (
+      tree_grown (length old) first added.0 new le (grows_then added.0 last new rest grows) n t added.1,
+      all_denote first added.0 last new ns ts (omega (arith, le, later)) grows added.3,
+    )
+all_denote first old last new [] (more t ts) le grows added = absurd added
+all_denote first old last new (n ∷ ns) no_more le grows added = absurd added
+
+layer_parts : (l : Layer Op) → l ≡ layer (op_of l) (inputs_of l)
+layer_parts (layer op inputs) = refl
+
+-- an item over trees that were added denotes the tree over them
+pub added_over : (old last new : List AExpr) (item : AExpr) (n : ℕ) (ts : Trees Op) → AreAdded old last (inputs_of (expression_layer item)) ts → new ≡ last ++ item ∷ [] → n ≡ length last → Denotes (HoldsFrom (length old) new) n (node (op_of (expression_layer item)) ts)
+added_over old last new item n ts added grown at =
+    let layer_of = expression_layer item in
+    let grows = all_grow old last (inputs_of layer_of) ts added in
+    let last_item : Grows last new = record { added = item ∷ []; longer = grown } in
+    added_denotes (length old) last new item n (op_of layer_of) (inputs_of layer_of) ts (length-grown old last grows) grown at (layer_parts layer_of) (all_denote (length old) old last new (inputs_of layer_of) ts (omega arith) last_item added)

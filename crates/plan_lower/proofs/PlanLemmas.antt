@@ -112,7 +112,7 @@ module _ (registry : Registry) where
       subst (λ p. IsPlanRefusal registry p error) (sym same) (filter_refused_at registry source schema tree error s.built.source_schema r)
 
   -- a refusal of a node's only input
-  pub refused_below : (op : PlanOp Expression) (source plan : Plan) (inner error : PlanError) → IsPlanRefusal registry source inner → (error ≡ no_memory) ⊎ (¬ (inner.kind ≡ NoMemory) × (error ≡ record { kind = inner.kind; place = 0 ∷ inner.place })) → plan ≡ node op (more source no_more) → IsPlanRefusal registry plan error
+  pub refused_below : (op : PlanOp (Named Expression)) (source plan : Plan) (inner error : PlanError) → IsPlanRefusal registry source inner → (error ≡ no_memory) ⊎ (¬ (inner.kind ≡ NoMemory) × (error ≡ record { kind = inner.kind; place = 0 ∷ inner.place })) → plan ≡ node op (more source no_more) → IsPlanRefusal registry plan error
   refused_below op source plan inner error r below same =
       subst (λ p. IsPlanRefusal registry p error) (sym same) (refused_in_input registry source op inner error r below)
 
@@ -123,7 +123,7 @@ module _ (registry : Registry) where
 
   pub stands_typed : (lowering : IRPlan) (schema : Columns) (plan : Plan) → StandsFor registry lowering.expr_arena lowering.lp_arena lowering.lp_top.0 schema plan → IsTyped registry plan lowering
   stands_typed lowering schema plan s =
-      record { tree = s.lowered; denotes = s.denotes; accepted = s.built.accepted; strict = s.built.strict; schema = s.built.source_schema ∙ sym s.built.lowered_schema }
+      record { tree = s.lowered; denotes = s.denotes; accepted = s.built.accepted; strict = s.built.strict; names = s.built.names; schema = s.built.source_schema ∙ sym s.built.lowered_schema }
 
   pub stands_sound : (lowering : IRPlan) (schema : Columns) (plan : Plan) → StandsFor registry lowering.expr_arena lowering.lp_arena lowering.lp_top.0 schema plan → IsSound registry plan lowering
   stands_sound lowering schema plan s tree d tables fits =

@@ -12,7 +12,7 @@ use Rattle.plan_types.proofs.SchemaLemmas.{with_column-new, HasDistinctNames-pus
 use Rattle.plan_dsl.specs.Registry.{Registry}
 use Rattle.plan_dsl.specs.Ops.{Op, Expression}
 use Rattle.plan_dsl.specs.Strictness.{IsStrict}
-use Rattle.plan_dsl.specs.Names.{name_of}
+use Rattle.plan_dsl.specs.Names.{Label, label_of, name_of}
 use Rattle.plan_dsl.specs.Plans.{Named}
 use Rattle.plan_dsl.specs.Literals.{settled}
 use Rattle.plan_dsl.proofs.LiteralLemmas.{settled_known}
@@ -26,10 +26,12 @@ use Rattle.plan_arena.proofs.DenotationLemmas.{denotes_one}
 use Rattle.plan_arena.proofs.ItemLemmas.{any_node, tree_grown, from_laws, expression_laws, grown_held}
 use Rattle.plan_infer.specs.Typed.{DenotesKnown}
 use Rattle.plan_coerce.specs.Coercion.{DenotesSame, KeepsBelow, IsCoerced}
+use Rattle.plan_infer.proofs.TableLemmas.{still_kept}
 use Rattle.plan_infer.specs.KeptTypes.{IsKept, Extends}
 use Rattle.plan_lower.specs.Outputs.{Lowered, lowered_named, lowered_column, IsLowered, HasOutputs}
 use Rattle.plan_infer.specs.declared.type_table.TypeTable.{TypeTable}
 use Rattle.plan_arena.proofs.NumberLemmas.{all_weaker, all_joined}
+use Rattle.plan_coerce.proofs.CoercedLemmas.{strict_coerced}
 use Rattle.plan_types.specs.Errors.{IsRefusal, no_room as short, broken}
 use Rattle.plan_infer.specs.Typed.{HasType}
 use Rattle.plan_lower.specs.Predicates.{HasPredicate, IsPredicateRefusal, without_room, without_type, of_other_type}
@@ -48,18 +50,19 @@ column_added old new seen copy name type absent s c e =
     let new_name = no_type (type_at old name) (ap (λ n. is_some (type_at old n)) (sym s) ∙ absent) in
     e ∙ ap (λ n. with_column old n type) c ∙ with_column-new old name type new_name
 
-abbrev record_of : Name → ℕ → Named ℕ
-record_of name expression = record { name = name; expression = expression }
+abbrev record_of : Label → ℕ → Named ℕ
+record_of label expression = record { label = label; expression = expression }
 
 -- a node of an expression that has a type, and a column of its name
-pub adds_output : (registry : Registry) (schema : Columns) (first : ℕ) (items : List AExpr) (tree : Expression) (node : Named ℕ) (asked : ℕ) (old new : Columns) (seen copy : Name) (type : Ty) → node.name ≡ name_of tree → Denotes (HoldsFrom first items) node.expression (settled tree) → asked ≡ node.expression → ((t : Expression) → Denotes (HoldsExpression items) asked t → HasType (typing registry schema t) type) → is_some (type_at old seen) ≡ false → seen ≡ node.name → copy ≡ node.name → new ≡ with_column old copy type → AddsOutput registry schema first items tree node old new
-adds_output registry schema first items tree node asked old new seen copy type name d at typed absent s c e =
+pub adds_output : (registry : Registry) (schema : Columns) (first : ℕ) (items : List AExpr) (tree : Expression) (node : Named ℕ) (asked : ℕ) (old new : Columns) (seen copy : Name) (type : Ty) → node.label ≡ label_of tree → Denotes (HoldsFrom first items) node.expression (settled tree) → asked ≡ node.expression → ((t : Expression) → Denotes (HoldsExpression items) asked t → HasType (typing registry schema t) type) → is_some (type_at old seen) ≡ false → seen ≡ node.label.name → copy ≡ node.label.name → new ≡ with_column old copy type → AddsOutput registry schema first items tree node old new
+adds_output registry schema first items tree node asked old new seen copy type label d at typed absent s c e =
+    let name = ap (λ (l : Label). l.name) label in
     let has = typed (settled tree) (subst (λ k. Denotes (HoldsExpression items) k (settled tree)) (sym at) (any_node first items node.expression (settled tree) d)) in
     record {
       output = record { tree = tree; node = node.expression; typed = record { type = type; many = has.many } };
       is = record { denotes = d; typed = has.is };
       tree_is = refl;
-      node_is = ap (λ n. record_of n node.expression) (sym name);
+      node_is = ap (λ n. record_of n node.expression) (sym label);
       new_name = no_type (type_at old (name_of tree)) (ap (λ n. is_some (type_at old n)) (sym (s ∙ name)) ∙ absent);
       column_is = column_added old new seen copy (name_of tree) type absent (s ∙ name) (c ∙ name) e;
     }
@@ -131,7 +134,7 @@ pushed_node old new e grown = ap (map named_node) grown ∙ map-append named_nod
 -- one more root whose type is kept
 pub roots_kept : (table table' : TypeTable) (exprs exprs' : List ExprIR) (e : ExprIR) → Extends table table' → exprs' ≡ exprs ++ e ∷ [] → AllByRecursion (IsKept table) (map (λ (x : ExprIR). (named_node x).expression) exprs) → IsKept table' (named_node e).expression → AllByRecursion (IsKept table') (map (λ (x : ExprIR). (named_node x).expression) exprs')
 roots_kept table table' exprs exprs' e x pushed kept here =
-    let before = all_weaker (IsKept table) (IsKept table') x.kept (map (λ (x : ExprIR). (named_node x).expression) exprs) kept in
+    let before = all_weaker (IsKept table) (IsKept table') (still_kept table table' x) (map (λ (x : ExprIR). (named_node x).expression) exprs) kept in
     let roots = ap (map (λ (x : ExprIR). (named_node x).expression)) pushed ∙ map-append (λ (x : ExprIR). (named_node x).expression) exprs (e ∷ []) in
     subst (AllByRecursion (IsKept table')) (sym roots) (all_joined (IsKept table') (map (λ (x : ExprIR). (named_node x).expression) exprs) ((named_node e).expression ∷ []) before (here, tt))
 
@@ -159,9 +162,10 @@ record HasLowered (registry : Registry) (schema : Columns) (items : List AExpr) 
 lowered_as : (registry : Registry) (schema : Columns) (first : ℕ) (old new : List AExpr) → ((n : ℕ) (t : Expression) → Denotes (HoldsFrom first old) n t → DenotesSame registry schema first new n t) → (o : Output) → IsOutput registry schema first old o → ((t : Expression) × Denotes (HoldsFrom first new) o.node t × IsStrict registry schema t) → (after : Expression) × IsLowered registry schema (record { tree = o.tree; typed = o.typed; after = after }) × Denotes (HoldsExpression new) o.node after
 lowered_as registry schema first old new become o is strict =
     let same = become o.node (settled o.tree) is.denotes in
-    let one = denotes_one _ (HoldsFrom first new) (from_laws first new) o.node strict.0 same.tree strict.1 same.denotes in (
+    let one = denotes_one _ (HoldsFrom first new) (from_laws first new) o.node strict.0 same.tree strict.1 same.denotes in
+    let own = subst (IsStrict registry schema) one strict.2 in (
       same.tree,
-      record { typed = is.typed; same = same.same.same; strict = subst (IsStrict registry schema) one strict.2 },
+      record { typed = is.typed; same = same.same.same; strict = own; casts = sym (strict_coerced registry schema same.tree own) ∙ same.same.casts },
       any_node first new o.node same.tree same.denotes,
     )
 
@@ -198,7 +202,7 @@ one_output registry schema first items tree n asked type d at typed =
     (has.many, record { denotes = d; typed = has.is })
 
 -- a predicate of the type of truth values that was coerced
-pub has_predicate : (registry : Registry) (schema : Columns) (first : ℕ) (old new : List AExpr) (o : Output) (node : Named ℕ) → IsOutput registry schema first old o → o.typed.type ≡ Truth → node.name ≡ name_of o.tree → node.expression ≡ o.node → IsCoerced registry schema first old new (o.node ∷ []) → HasPredicate registry schema new o.tree node
+pub has_predicate : (registry : Registry) (schema : Columns) (first : ℕ) (old new : List AExpr) (o : Output) (node : Named ℕ) → IsOutput registry schema first old o → o.typed.type ≡ Truth → node.label ≡ label_of o.tree → node.expression ≡ o.node → IsCoerced registry schema first old new (o.node ∷ []) → HasPredicate registry schema new o.tree node
 has_predicate registry schema first old new o node is truth name at coerced =
     let here = lowered_as registry schema first old new coerced.trees o is coerced.strict.0 in
     record {

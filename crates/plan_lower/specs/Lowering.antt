@@ -1,7 +1,7 @@
 -- Lowered plans.
--- A lowered plan is built from a query's plan where it is accepted and strict, has the schema that the
+-- A lowered plan is built from a query's plan where it is accepted, strict and named, has the schema that the
 -- query's plan has, and gives on all fitting tables what the query means. A refusal names a broken rule.
-use Rattle.std.specs.Prelude.{◌≡◌, ◌<◌, ℕ, List, [], ◌∷◌, length, map, Some, None, slice_get, Result, Ok, Err}
+use Rattle.std.specs.Prelude.{◌≡◌, ◌<◌, ℕ, List, [], ◌∷◌, length, map, Option, Some, None, is_some, unwrap_or, slice_get, IsTrue, Result, Ok, Err}
 use Rattle.plan_types.specs.Schemas.{Columns}
 use Rattle.plan_types.specs.Frames.{Frame}
 use Rattle.plan_types.specs.Errors.{no_memory}
@@ -9,16 +9,16 @@ use Rattle.plan_types.specs.declared.error.PlanError.{PlanError}
 use Rattle.plan_dsl.specs.Registry.{Registry}
 use Rattle.plan_dsl.specs.Trees.{node, no_more, more}
 use Rattle.plan_dsl.specs.Ops.{Expression}
-use Rattle.plan_dsl.specs.Plans.{Named, Plan, named, scan_op, select_op, filter_op}
+use Rattle.plan_dsl.specs.Plans.{Named, PlanOp, Plan, named, scan_op, select_op, filter_op}
 use Rattle.plan_dsl.specs.PlanRules.{schema_of, IsWellFormed, Breaks}
 use Rattle.plan_dsl.specs.PlanMeaning.{source_meaning, FitsPlan}
 use Rattle.plan_arena.specs.declared.aexpr.AExpr.{AExpr}
 use Rattle.plan_arena.specs.declared.ir.IR.{IR}
 use Rattle.plan_arena.specs.declared.plan.IRPlan.{IRPlan}
 use Rattle.plan_arena.specs.Denotation.{Denotes}
-use Rattle.plan_arena.specs.Layers.{layer}
+use Rattle.plan_arena.specs.Layers.{Layer, layer, op_of}
 use Rattle.plan_arena.specs.Items.{HoldsPlan, DenotesPlan, plan_layer}
-use Rattle.plan_arena.specs.Runs.{IsAccepted, IsStrictPlan, plan_run, RunsSoundly}
+use Rattle.plan_arena.specs.Runs.{IsAccepted, IsStrictPlan, IsNamedPlan, plan_run, RunsSoundly}
 use Rattle.plan_lower.specs.Outputs.{HasOutputs}
 use Rattle.plan_lower.specs.Predicates.{HasPredicate}
 
@@ -29,6 +29,7 @@ pub record IsBuilt (registry : Registry) (source lowered : Plan) (schema : Colum
   pub lowered_schema : schema_of registry lowered ≡ Some schema
   pub accepted : IsAccepted registry lowered
   pub strict : IsStrictPlan registry lowered
+  pub names : IsNamedPlan lowered
   pub fits : (tables : List Frame) → FitsPlan tables source → FitsPlan tables lowered
   pub same : (tables : List Frame) → FitsPlan tables source → plan_run registry tables lowered ≡ source_meaning registry tables source
 
@@ -49,12 +50,13 @@ abbrev pub Answers : Registry → Plan → Result IRPlan PlanError → Type 0
 Answers registry plan (Ok lowering) = IsWellFormed registry plan
 Answers registry plan (Err error) = IsPlanRefusal registry plan error
 
--- the top denotes a plan that is accepted and strict, with the schema of the query's plan
+-- the top denotes a plan that is accepted, strict and named, with the schema of the query's plan
 pub record IsTyped (registry : Registry) (plan : Plan) (lowering : IRPlan) : Type 0 where
   pub tree : Plan
   pub denotes : DenotesPlan lowering tree
   pub accepted : IsAccepted registry tree
   pub strict : IsStrictPlan registry tree
+  pub names : IsNamedPlan tree
   pub schema : schema_of registry plan ≡ schema_of registry tree
 
 -- on tables that fit the query's plan no node is stuck, and the frame of each has the node's own schema
@@ -73,6 +75,7 @@ pub record IsLoweringOf (registry : Registry) (plan : Plan) (lowering : IRPlan) 
   pub denotes : DenotesPlan lowering tree
   pub accepted : IsAccepted registry tree
   pub strict : IsStrictPlan registry tree
+  pub names : IsNamedPlan tree
   pub schema : schema_of registry plan ≡ schema_of registry tree
   pub sound : (tables : List Frame) → FitsPlan tables plan → RunsSoundly registry tables tree
   pub same_frame : (tables : List Frame) → FitsPlan tables plan → plan_run registry tables tree ≡ source_meaning registry tables plan
@@ -88,6 +91,22 @@ source_filter tree input = node (filter_op (named tree)) (more input no_more)
 -- the node is the empty table
 abbrev pub IsEmptyTableAt : List IR → ℕ → Type 0
 IsEmptyTableAt plans n = slice_get (map plan_layer plans) n ≡ Some (layer (scan_op None []) [])
+
+abbrev pub recorded_in : Option (Layer (PlanOp (Named ℕ))) → Option Columns
+recorded_in None = None
+recorded_in (Some item) = (op_of item).recorded
+
+-- the schema that the item at the node records
+abbrev pub recorded_at : List IR → ℕ → Option Columns
+recorded_at plans n = recorded_in (slice_get (map plan_layer plans) n)
+
+-- it records one
+abbrev pub Records : List IR → ℕ → Type 0
+Records plans n = IsTrue (is_some (recorded_at plans n))
+
+-- the columns of the one that it records
+abbrev pub columns_at : List IR → ℕ → Columns
+columns_at plans n = unwrap_or (recorded_at plans n) []
 
 -- the node is a select of what stands for the expressions, over an input of the schema, or where nothing is
 -- selected over the empty table. Its frame has the columns

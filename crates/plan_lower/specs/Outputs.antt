@@ -6,13 +6,14 @@ use Rattle.plan_types.specs.Schemas.{Name, Columns, HasDistinctNames}
 use Rattle.plan_dsl.specs.Registry.{Registry}
 use Rattle.plan_dsl.specs.Trees.{node, no_more, more}
 use Rattle.plan_dsl.specs.Ops.{Expression}
-use Rattle.plan_dsl.specs.Names.{name_of}
+use Rattle.plan_dsl.specs.Names.{label_of, name_of}
 use Rattle.plan_dsl.specs.Plans.{Named, Plan, select_op, empty_table}
 use Rattle.plan_dsl.specs.Literals.{settled}
 use Rattle.plan_dsl.specs.Typing.{Typed, typing}
 use Rattle.plan_dsl.specs.Strictness.{IsSame, IsStrict}
 use Rattle.plan_arena.specs.declared.aexpr.AExpr.{AExpr}
 use Rattle.plan_arena.specs.Items.{DenoteNamed}
+use Rattle.plan_coerce.specs.Coercion.{coerced}
 
 -- an expression of the query, its type, and what stands for it in the lowered plan
 pub record Lowered : Type 0 where
@@ -21,16 +22,18 @@ pub record Lowered : Type 0 where
   pub after : Expression
 
 abbrev pub lowered_named : Lowered → Named Expression
-lowered_named output = record { name = name_of output.tree; expression = output.after }
+lowered_named output = record { label = label_of output.tree; expression = output.after }
 
 abbrev pub lowered_column : Lowered → Name × Ty
 lowered_column output = (name_of output.tree, output.typed.type)
 
--- the expression, as a plan takes it, is typed, and what stands for it says the same and is strict
+-- the expression, as a plan takes it, is typed, and what stands for it says the same and is strict: it is that expression
+-- with every implicit cast written out
 pub record IsLowered (registry : Registry) (schema : Columns) (output : Lowered) : Type 0 where
   pub typed : typing registry schema (settled output.tree) ≡ Ok output.typed
   pub same : IsSame registry schema (settled output.tree) output.after
   pub strict : IsStrict registry schema output.after
+  pub casts : output.after ≡ coerced registry schema (settled output.tree)
 
 -- the outputs are those of the expressions, under distinct names
 pub record SelectsTo (registry : Registry) (schema : Columns) (trees : List Expression) (outputs : List Lowered) : Type 0 where

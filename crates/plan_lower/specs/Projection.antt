@@ -9,7 +9,7 @@ use Rattle.plan_types.specs.declared.error.ErrorKind.TheVariants.{Duplicate}
 use Rattle.plan_types.specs.declared.error.PlanError.{PlanError}
 use Rattle.plan_dsl.specs.Registry.{Registry}
 use Rattle.plan_dsl.specs.Ops.{Expression}
-use Rattle.plan_dsl.specs.Names.{name_of}
+use Rattle.plan_dsl.specs.Names.{label_of, name_of}
 use Rattle.plan_dsl.specs.Plans.{Named}
 use Rattle.plan_dsl.specs.Literals.{settled}
 use Rattle.plan_dsl.specs.Typing.{Typed, typing}
@@ -24,7 +24,7 @@ pub record Output : Type 0 where
   pub typed : Typed
 
 abbrev pub output_node : Output → Named ℕ
-output_node output = record { name = name_of output.tree; expression = output.node }
+output_node output = record { label = label_of output.tree; expression = output.node }
 
 abbrev pub output_column : Output → Name × Ty
 output_column output = (name_of output.tree, output.typed.type)

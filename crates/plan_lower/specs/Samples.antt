@@ -3,6 +3,7 @@ use Rattle.std.specs.Prelude.{◌≡◌, ℕ, List, [], ◌∷◌, map, codes, O
 use Rattle.plan_types.specs.Types.{Ty, Truth}
 use Rattle.plan_types.specs.Schemas.{Name, Columns}
 use Rattle.plan_dsl.specs.Trees.{node, no_more, more}
+use Rattle.plan_dsl.specs.Names.{column_label}
 use Rattle.plan_dsl.specs.Ops.{Expression}
 use Rattle.plan_dsl.specs.Plans.{PlanOp, Plan, Named, named, scan_op, select_op, filter_op}
 use Rattle.plan_dsl.specs.Typing.{Typed}
@@ -29,7 +30,7 @@ abbrev pub keep_items : List AExpr
 keep_items = Column (codes "keep") ∷ []
 
 abbrev pub node_named : Name → ℕ → Named ℕ
-node_named name n = record { name = name; expression = n }
+node_named name n = record { label = column_label name; expression = n }
 
 -- an expression with its node and its typing
 abbrev pub output : Expression → ℕ → Typed → Output
@@ -60,18 +61,18 @@ query = source_select (sum ∷ []) (scan_of two_columns)
 abbrev pub lowered_query : Plan
 lowered_query = select_over (scan_of two_columns) strict_sum (one_column int32)
 
-abbrev pub scan_layer : Option ℕ → Columns → Layer (PlanOp ℕ)
+abbrev pub scan_layer : Option ℕ → Columns → Layer (PlanOp (Named ℕ))
 scan_layer table columns = layer (scan_op table columns) []
 
-abbrev pub select_layer : ℕ → Columns → Layer (PlanOp ℕ)
+abbrev pub select_layer : ℕ → Columns → Layer (PlanOp (Named ℕ))
 select_layer n columns = layer (select_op (node_named (codes "a") n ∷ []) (Some columns)) (0 ∷ [])
 
 -- a scan of the two columns, and a select of the expression at node 2 over it
-abbrev pub sum_layers : List (Layer (PlanOp ℕ))
+abbrev pub sum_layers : List (Layer (PlanOp (Named ℕ)))
 sum_layers = scan_layer (Some 0) two_columns ∷ select_layer 2 (one_column int32) ∷ []
 
 -- a property of all items of plans that are these
-abbrev pub ForPlans : List (Layer (PlanOp ℕ)) → (List IR → Type 0) → Type 0
+abbrev pub ForPlans : List (Layer (PlanOp (Named ℕ))) → (List IR → Type 0) → Type 0
 ForPlans layers Has = (plans : List IR) → map plan_layer plans ≡ layers → Has plans
 
 -- a property of each lowered plan that is one scan

@@ -1,5 +1,6 @@
 -- Counts of casts.
-use Rattle.std.proofs.Common.{◌≡◌, ℕ, zero, suc, ◌+◌, ◌<◌, ◌≤◌, List, [], ◌∷◌, length, map, take, get_or, sum, Option, Some, slice_get, refl, sym, ap, ◌∙◌, subst, arith}
+use Rattle.std.proofs.Common.{◌≡◌, ℕ, zero, suc, ◌+◌, ◌<◌, ◌≤◌, List, [], ◌∷◌, length, map, take, get_or, slice_index_or, sum, Option, Some, slice_get, refl, sym, ap, ◌∙◌, subst, arith}
+use Rattle.std.specs.List.{AllByRecursion}
 use Rattle.std.specs.Option.{option_map}
 use Rattle.std.proofs.lemmas.List.{take_all}
 use Rattle.std.proofs.lemmas.List.Sums.{sum_by_more}
@@ -8,16 +9,17 @@ use Rattle.plan_dsl.specs.Trees.{Tree, Trees, node, no_more, more, fold, fold_al
 use Rattle.plan_dsl.specs.Ops.{Op, Expression}
 use Rattle.plan_dsl.specs.Plans.{Named, PlanKind, ScanKind, SelectKind, FilterKind, PlanOp, Plan}
 use Rattle.plan_types.specs.Schemas.{Columns}
-use Rattle.plan_arena.specs.Denotation.{Denotes, DenoteAll, DenotesTree}
-use Rattle.plan_arena.specs.Layers.{layer}
-use Rattle.plan_arena.specs.Items.{named_node, expression_layer, plan_layer, HoldsExpression, DenoteNamed, DenotesKind, HoldsPlan}
+use Rattle.plan_arena.specs.Denotation.{Denotes, DenoteAll, DenotesTree, depth_at}
+use Rattle.plan_arena.specs.Layers.{Layer, layer, op_of, inputs_of, shape_of}
+use Rattle.plan_arena.specs.declared.arena.Node.{Node}
+use Rattle.plan_arena.specs.Items.{named_node, numbers, expression_layer, plan_layer, HoldsExpression, DenoteNamed, DenotesKind, HoldsPlan}
 use Rattle.plan_arena.specs.declared.aexpr.AExpr.{AExpr}
 use Rattle.plan_arena.specs.declared.expr_ir.ExprIR.{ExprIR}
 use Rattle.plan_arena.specs.declared.ir.IR.{IR}
 use Rattle.plan_arena.proofs.DenotationLemmas.{some_same}
 use Rattle.plan_arena.proofs.ItemLemmas.{layer_op, layer_inputs, expression_got}
 use Rattle.plan_dsl.specs.Counts.{op_casts, expression_casts, outputs_casts, kind_casts, plan_op_casts, cast_count}
-use Rattle.plan_report.proofs.NodeLemmas.{held_op, held_children}
+use Rattle.plan_report.proofs.NodeLemmas.{held_op, held_children, LeadsDown, expression_inputs}
 
 -- a count for each node, of the tree that it denotes
 abbrev pub CountAll : {Op : Type 0} → (ℕ → Op → List ℕ → Type 0) → (Tree Op → ℕ) → List ℕ → List ℕ → Type 0
@@ -37,21 +39,79 @@ counts_of holds step [] (c ∷ cs) ts each d = absurd each
 counts_of holds step (n ∷ ns) [] ts each d = absurd each
 counts_of holds step (n ∷ ns) (c ∷ cs) no_more each d = absurd d
 
--- the count of an expression, from its inputs'
-pub expression_counted : (items : List AExpr) (n : ℕ) (item : AExpr) → slice_get items n ≡ Some item → (op : Op) (inputs cs : List ℕ) → expression_layer item ≡ layer op inputs → CountAll (HoldsExpression items) expression_casts inputs cs → (t : Expression) → Denotes (HoldsExpression items) n t → op_casts op cs ≡ expression_casts t
-expression_counted items n item got op inputs cs is each (node op' ts) d =
-    let at = expression_got items n item got ∙ ap Some is in
-    let same = some_same (slice_get (map expression_layer items) n) (layer op inputs) (layer op' d.0) at d.1 in
-    let ops = layer_op op op' inputs d.0 same in
-    let children = subst (λ ms. DenoteAll (HoldsExpression items) ms ts) (sym (layer_inputs op op' inputs d.0 same)) d.2 in
-    let counts = counts_of (HoldsExpression items) op_casts inputs cs ts each children in
-    λ i. op_casts (ops i) (counts i)
+-- the tree of the input at a place, with its count among those of all
+input_at : (items : List AExpr) (ns : List ℕ) (ts : Trees Op) → DenoteAll (HoldsExpression items) ns ts → (i n : ℕ) → slice_get ns i ≡ Some n → (t : Expression) × Denotes (HoldsExpression items) n t × (slice_get (fold_all op_casts ts) i ≡ Some (expression_casts t))
+input_at items [] no_more d i n at = cc
+input_at items (m ∷ ns) (more t ts) d zero n at =
+    let same : m ≡ n = cc in (t, subst (λ k. Denotes (HoldsExpression items) k t) same d.0, refl)
+input_at items (m ∷ ns) (more t ts) d (suc i) n at = input_at items ns ts d.1 i n at
+input_at items [] (more t ts) d i n at = absurd d
+input_at items (m ∷ ns) no_more d i n at = absurd d
+
+-- as many counts as inputs
+length-counts : (items : List AExpr) (ns : List ℕ) (ts : Trees Op) → DenoteAll (HoldsExpression items) ns ts → length (fold_all op_casts ts) ≡ length ns
+length-counts items [] no_more d = refl
+length-counts items (n ∷ ns) (more t ts) d = ap suc (length-counts items ns ts d.1)
+length-counts items [] (more t ts) d = absurd d
+length-counts items (n ∷ ns) no_more d = absurd d
+
+-- a count with those of the inputs up to a place, whatever trees they denote
+abbrev pub CountsUpTo : List AExpr → List ℕ → ℕ → ℕ → ℕ → Type 0
+CountsUpTo items ns i own count =
+    (ts : Trees Op) → DenoteAll (HoldsExpression items) ns ts → count ≡ own + sum (take i (fold_all op_casts ts))
+
+-- one more input is counted
+pub input_counted : (items : List AExpr) (ns : List ℕ) (i own count casts new n : ℕ) → slice_get ns i ≡ Some n → CountsUpTo items ns i own count → ((t : Expression) → Denotes (HoldsExpression items) n t → casts ≡ expression_casts t) → new ≡ count + casts → CountsUpTo items ns (i + 1) own new
+input_counted items ns i own count casts new n at so_far one added ts d =
+    let found = input_at items ns ts d i n at in
+    let counts = fold_all op_casts ts in
+    let casts_of = expression_casts found.0 in
+    let before = so_far ts d in
+    let here = one found.0 found.1 in
+    let same = get_or_from_slice_get counts i casts_of casts_of found.2 in
+    let more_sum = sum_by_more (λ (x : ℕ). x) counts i casts_of (slice_get_within counts i casts_of found.2) in
+    omega (arith, added, before, here, same, more_sum)
+
+-- the count of an expression, when all its inputs are counted
+pub expression_counted : (items : List AExpr) (n : ℕ) (item : AExpr) → slice_get items n ≡ Some item → (ns : List ℕ) → ns ≡ inputs_of (expression_layer item) → (i own count : ℕ) → length ns ≤ i → ((below : List ℕ) → op_casts (op_of (expression_layer item)) below ≡ own + sum below) → CountsUpTo items ns i own count → (t : Expression) → Denotes (HoldsExpression items) n t → count ≡ expression_casts t
+expression_counted items n item got ns are i own count past by_own all (node op ts) d =
+    let same = some_same (slice_get (map expression_layer items) n) (expression_layer item) (layer op d.0) (expression_got items n item got) d.1 in
+    let children = subst (λ ms. DenoteAll (HoldsExpression items) ms ts) (sym (are ∙ ap inputs_of same)) d.2 in
+    let counts = fold_all op_casts ts in
+    let whole = ap sum (take_all i counts (omega (arith, past, length-counts items ns ts children))) in
+    let whole_count = all ts children in
+    let by_op = sym (by_own counts) ∙ ap (λ l. op_casts (op_of l) counts) same in
+    whole_count ∙ ap (λ k. own + k) whole ∙ by_op
+
+layer_parts : (l : Layer Op) → l ≡ layer (op_of l) (inputs_of l)
+layer_parts (layer op inputs) = refl
+
+-- the inputs of an expression denote expressions, and lead less far down
+inputs_lead : (items : List AExpr) (n : ℕ) (item : AExpr) → slice_get items n ≡ Some item → (t : Expression) → Denotes (HoldsExpression items) n t → LeadsDown (HoldsExpression items) (shape_of (map expression_layer items)) n (inputs_of (expression_layer item))
+inputs_lead items n item got (node op ts) d =
+    expression_inputs items n item got (op_of (expression_layer item)) (inputs_of (expression_layer item)) (layer_parts (expression_layer item)) (record { tree = node op ts; denotes = d })
+
+number_leads : (P : ℕ → Type 0) (ns : List ℕ) → AllByRecursion P ns → (i n : ℕ) → slice_get ns i ≡ Some n → P n
+number_leads P [] all i n at = cc
+number_leads P (m ∷ ns) all zero n at = let same : m ≡ n = cc in subst P same all.0
+number_leads P (m ∷ ns) all (suc i) n at = number_leads P ns all.1 i n at
+
+-- so does the input at a place
+pub input_leads : (items : List AExpr) (n : ℕ) (item : AExpr) → slice_get items n ≡ Some item → DenotesTree (HoldsExpression items) n → (ns : List ℕ) → ns ≡ inputs_of (expression_layer item) → (i m : ℕ) → slice_get ns i ≡ Some m → DenotesTree (HoldsExpression items) m × (depth_at (shape_of (map expression_layer items)) m < depth_at (shape_of (map expression_layer items)) n)
+input_leads items n item got d ns are i m at =
+    let leads : ℕ → Type 0 = λ k. DenotesTree (HoldsExpression items) k × (depth_at (shape_of (map expression_layer items)) k < depth_at (shape_of (map expression_layer items)) n) in
+    number_leads leads ns (subst (AllByRecursion leads) (sym are) (inputs_lead items n item got d.tree d.denotes)) i m at
+
+-- the number of a node at a place
+pub number_there : (nodes : List Node) (i : ℕ) (other : Node) → i < length nodes → slice_get (numbers nodes) i ≡ Some (slice_index_or nodes i other).0
+number_there nodes i other within =
+    slice_get-map (λ (n : Node). n.0) nodes i ∙ ap (option_map (λ (n : Node). n.0)) (slice_get-get_or nodes i other within)
 
 -- the count of a plan, from its expressions' and its inputs'
-pub plan_counted : (expressions : List AExpr) (plans : List IR) (n : ℕ) (item : IR) → slice_get plans n ≡ Some item → (flat : PlanOp ℕ) (inputs : List ℕ) (here : ℕ) (cs : List ℕ) → plan_layer item ≡ layer flat inputs → ((kind : PlanKind Expression) → DenotesKind expressions flat.kind kind → here ≡ kind_casts kind) → CountAll (HoldsPlan expressions plans) cast_count inputs cs → (t : Plan) → Denotes (HoldsPlan expressions plans) n t → here + sum cs ≡ cast_count t
+pub plan_counted : (expressions : List AExpr) (plans : List IR) (n : ℕ) (item : IR) → slice_get plans n ≡ Some item → (flat : PlanOp (Named ℕ)) (inputs : List ℕ) (here : ℕ) (cs : List ℕ) → plan_layer item ≡ layer flat inputs → ((kind : PlanKind (Named Expression)) → DenotesKind expressions flat.kind kind → here ≡ kind_casts kind) → CountAll (HoldsPlan expressions plans) cast_count inputs cs → (t : Plan) → Denotes (HoldsPlan expressions plans) n t → here + sum cs ≡ cast_count t
 plan_counted expressions plans n item got flat inputs here cs is outputs each (node op ts) d =
     let flats = held_op expressions plans n item got flat inputs is op d.0 d.1 in
-    let kind = subst (λ (f : PlanOp ℕ). DenotesKind expressions f.kind op.kind) flats d.1.denotes.kind in
+    let kind = subst (λ (f : PlanOp (Named ℕ)). DenotesKind expressions f.kind op.kind) flats d.1.denotes.kind in
     let children = held_children expressions plans n item got flat inputs is op d.0 d.1 ts d.2 in
     let own = outputs op.kind kind in
     let counts = counts_of (HoldsPlan expressions plans) plan_op_casts inputs cs ts each children in
@@ -92,10 +152,10 @@ pub named_tree : (items : List AExpr) (ns : List (Named ℕ)) (es : List (Named 
 named_tree items ns es d i n at = let found = named_at items ns es d i n at in record { tree = found.0.expression; denotes = found.2 }
 
 -- a scan has no casts, and a select those of its outputs
-pub scan_casts : (items : List AExpr) (table : Option ℕ) (schema : Columns) (kind : PlanKind Expression) → DenotesKind items (ScanKind table schema) kind → 0 ≡ kind_casts kind
+pub scan_casts : (items : List AExpr) (table : Option ℕ) (schema : Columns) (kind : PlanKind (Named Expression)) → DenotesKind items (ScanKind table schema) kind → 0 ≡ kind_casts kind
 scan_casts items table schema kind d = sym (ap kind_casts d)
 
-pub select_casts : (items : List AExpr) (nodes : List (Named ℕ)) (count : ℕ) → ((es : List (Named Expression)) → DenoteNamed items nodes es → count ≡ outputs_casts es) → (kind : PlanKind Expression) → DenotesKind items (SelectKind nodes) kind → count ≡ kind_casts kind
+pub select_casts : (items : List AExpr) (nodes : List (Named ℕ)) (count : ℕ) → ((es : List (Named Expression)) → DenoteNamed items nodes es → count ≡ outputs_casts es) → (kind : PlanKind (Named Expression)) → DenotesKind items (SelectKind nodes) kind → count ≡ kind_casts kind
 select_casts items nodes count all kind d = let here = all d.0 d.2 in let whole : kind_casts kind ≡ 0 + outputs_casts d.0 = ap kind_casts d.1 in omega (arith, here, whole)
 
 -- the only named node denotes an expression
@@ -104,7 +164,7 @@ only_named items n [] d = absurd d
 only_named items n (e ∷ es) d = record { tree = e.expression; denotes = d.1 }
 
 -- a filter has those of its predicate
-pub filter_casts : (items : List AExpr) (n : Named ℕ) (at count : ℕ) → at ≡ n.expression → ((t : Expression) → Denotes (HoldsExpression items) at t → count ≡ expression_casts t) → (kind : PlanKind Expression) → DenotesKind items (FilterKind n) kind → count ≡ kind_casts kind
+pub filter_casts : (items : List AExpr) (n : Named ℕ) (at count : ℕ) → at ≡ n.expression → ((t : Expression) → Denotes (HoldsExpression items) at t → count ≡ expression_casts t) → (kind : PlanKind (Named Expression)) → DenotesKind items (FilterKind n) kind → count ≡ kind_casts kind
 filter_casts items n at count same one kind d =
     let here = one d.0.expression (subst (λ k. Denotes (HoldsExpression items) k d.0.expression) (sym same) d.2.1) in
     let whole : kind_casts kind ≡ 0 + (0 + expression_casts d.0.expression) = ap kind_casts d.1 in

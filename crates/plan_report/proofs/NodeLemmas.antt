@@ -21,12 +21,12 @@ use Rattle.plan_report.specs.Report.{line_text, shown, node_line, plan_lines, ca
 use Rattle.plan_dsl.specs.Counts.{cast_count}
 
 -- a kind over nodes denotes some kind
-pub record DenotesSome (expressions : List AExpr) (flat : PlanKind ℕ) : Type 0 where
-  pub kind : PlanKind Expression
+pub record DenotesSome (expressions : List AExpr) (flat : PlanKind (Named ℕ)) : Type 0 where
+  pub kind : PlanKind (Named Expression)
   pub denotes : DenotesKind expressions flat kind
 
 -- the children of a plan
-abbrev pub children_of : Plan → Trees (PlanOp Expression)
+abbrev pub children_of : Plan → Trees (PlanOp (Named Expression))
 children_of (node op ts) = ts
 
 -- each input denotes a tree, and leads less far down than the node
@@ -38,15 +38,15 @@ pub expression_inputs : (items : List AExpr) (n : ℕ) (item : AExpr) → slice_
 expression_inputs items n item got op inputs is d =
     inputs_denote (shape_of (map expression_layer items)) (HoldsExpression items) (expression_laws items) n op inputs (expression_got items n item got ∙ ap Some is) d
 
-module _ (expressions : List AExpr) (plans : List IR) (n : ℕ) (item : IR) (got : slice_get plans n ≡ Some item) (flat : PlanOp ℕ) (inputs : List ℕ) (is : plan_layer item ≡ layer flat inputs) where
-  held : (op : PlanOp Expression) (ms : List ℕ) (h : HoldsPlan expressions plans n op ms) → layer h.flat ms ≡ layer flat inputs
+module _ (expressions : List AExpr) (plans : List IR) (n : ℕ) (item : IR) (got : slice_get plans n ≡ Some item) (flat : PlanOp (Named ℕ)) (inputs : List ℕ) (is : plan_layer item ≡ layer flat inputs) where
+  held : (op : PlanOp (Named Expression)) (ms : List ℕ) (h : HoldsPlan expressions plans n op ms) → layer h.flat ms ≡ layer flat inputs
   held op ms h = some_same _ _ _ h.item (plan_got plans n item got) ∙ is
 
   -- what a node holds is what its item says
-  pub held_op : (op : PlanOp Expression) (ms : List ℕ) (h : HoldsPlan expressions plans n op ms) → h.flat ≡ flat
+  pub held_op : (op : PlanOp (Named Expression)) (ms : List ℕ) (h : HoldsPlan expressions plans n op ms) → h.flat ≡ flat
   held_op op ms h = layer_op _ _ _ _ (held op ms h)
 
-  pub held_children : (op : PlanOp Expression) (ms : List ℕ) → HoldsPlan expressions plans n op ms → (ts : Trees (PlanOp Expression)) → DenoteAll (HoldsPlan expressions plans) ms ts → DenoteAll (HoldsPlan expressions plans) inputs ts
+  pub held_children : (op : PlanOp (Named Expression)) (ms : List ℕ) → HoldsPlan expressions plans n op ms → (ts : Trees (PlanOp (Named Expression))) → DenoteAll (HoldsPlan expressions plans) ms ts → DenoteAll (HoldsPlan expressions plans) inputs ts
   held_children op ms h ts d = subst (λ ns. DenoteAll (HoldsPlan expressions plans) ns ts) (layer_inputs _ _ _ _ (held op ms h)) d
 
   plan_leads : (t : Plan) → Denotes (HoldsPlan expressions plans) n t → LeadsDown (HoldsPlan expressions plans) (shape_of (map plan_layer plans)) n inputs
@@ -60,7 +60,7 @@ module _ (expressions : List AExpr) (plans : List IR) (n : ℕ) (item : IR) (got
 
   kind_of_node : (t : Plan) → Denotes (HoldsPlan expressions plans) n t → DenotesSome expressions flat.kind
   kind_of_node (node op ts) d =
-      record { kind = op.kind; denotes = subst (λ (f : PlanOp ℕ). DenotesKind expressions f.kind op.kind) (held_op op d.0 d.1) d.1.denotes.kind }
+      record { kind = op.kind; denotes = subst (λ (f : PlanOp (Named ℕ)). DenotesKind expressions f.kind op.kind) (held_op op d.0 d.1) d.1.denotes.kind }
 
   -- a plan's kind denotes one over expressions
   pub node_kind : DenotesTree (HoldsPlan expressions plans) n → DenotesSome expressions flat.kind
@@ -74,15 +74,15 @@ pub filter_outputs : (expressions : List AExpr) (n : Named ℕ) → DenotesSome 
 filter_outputs expressions n d = record { outputs = d.denotes.0 ∷ []; denote = d.denotes.2 }
 
 -- a kind over nodes is called as the one over expressions
-same_text : (expressions : List AExpr) (flat : PlanKind ℕ) (kind : PlanKind Expression) → DenotesKind expressions flat kind → kind_text flat ≡ kind_text kind
+same_text : (expressions : List AExpr) (flat : PlanKind (Named ℕ)) (kind : PlanKind (Named Expression)) → DenotesKind expressions flat kind → kind_text flat ≡ kind_text kind
 same_text expressions (ScanKind table schema) kind d = sym (ap kind_text d)
 same_text expressions (SelectKind nodes) kind d = sym (ap kind_text d.1)
 same_text expressions (FilterKind n) kind d = sym (ap kind_text d.1)
 same_text expressions (RefusedKind kinds) kind d = absurd d
 
 -- an item's name is its op's
-item_name : (item : IR) (flat : PlanOp ℕ) (inputs : List ℕ) → plan_layer item ≡ layer flat inputs → node_name item ≡ kind_text flat.kind
-item_name item flat inputs e = ap (λ (l : Layer (PlanOp ℕ)). kind_text (op_of l).kind) e
+item_name : (item : IR) (flat : PlanOp (Named ℕ)) (inputs : List ℕ) → plan_layer item ≡ layer flat inputs → node_name item ≡ kind_text flat.kind
+item_name item flat inputs e = ap (λ (l : Layer (PlanOp (Named ℕ))). kind_text (op_of l).kind) e
 
 -- the schema that an item lends is that of the plans that its node denotes
 pub lent_schema : (expressions : List AExpr) (plans : List IR) (n : ℕ) (item : IR) (cols : Columns) → slice_get plans n ≡ Some item → ((es : List AExpr) (registry : Registry) (t : Plan) → DenotesItem es plans item t → IsAccepted registry t → schema_of registry t ≡ Some cols) → (registry : Registry) (t : Plan) → Denotes (HoldsPlan expressions plans) n t → IsAccepted registry t → schema_of registry t ≡ Some cols
@@ -90,21 +90,21 @@ lent_schema expressions plans n item cols got lent registry t d accepted = lent 
 
 module _ (expressions : List AExpr) (plans : List IR) (n : ℕ) (item : IR) (got : slice_get plans n ≡ Some item) (cols : Columns) (registry : Registry) where
   module _ (path before : List ℕ) where
-    held_line : (op : PlanOp Expression) (ms : List ℕ) → HoldsPlan expressions plans n op ms → (ts : Trees (PlanOp Expression)) → schema_of registry (node op ts) ≡ Some cols → line_text path (node_name item) cols ≡ node_line path op (schema_of registry (node op ts))
+    held_line : (op : PlanOp (Named Expression)) (ms : List ℕ) → HoldsPlan expressions plans n op ms → (ts : Trees (PlanOp (Named Expression))) → schema_of registry (node op ts) ≡ Some cols → line_text path (node_name item) cols ≡ node_line path op (schema_of registry (node op ts))
     held_line op ms h ts same =
         let name = item_name item h.flat ms (some_same _ _ _ (plan_got plans n item got) h.item) ∙ same_text expressions h.flat.kind op.kind h.denotes.kind in
         (λ i. line_text path (name i) cols) ∙ ap (λ s. line_text path (kind_text op.kind) (shown s)) (sym same)
 
-    leaf_children : (op : PlanOp Expression) (lined : List ℕ) (ts : Trees (PlanOp Expression)) → DenoteAll (HoldsPlan expressions plans) [] ts → lined ≡ before ++ node_line path op (schema_of registry (node op ts)) → lined ≡ before ++ plan_lines registry path (node op ts)
+    leaf_children : (op : PlanOp (Named Expression)) (lined : List ℕ) (ts : Trees (PlanOp (Named Expression))) → DenoteAll (HoldsPlan expressions plans) [] ts → lined ≡ before ++ node_line path op (schema_of registry (node op ts)) → lined ≡ before ++ plan_lines registry path (node op ts)
     leaf_children op lined no_more d line = line ∙ ap (λ t. before ++ t) (sym (append-nil (node_line path op (schema_of registry (node op no_more)))))
     leaf_children op lined (more u us) d line = absurd d
 
     -- the lines of a node without children
-    pub leaf_lines : (flat : PlanOp ℕ) → plan_layer item ≡ layer flat [] → (lined : List ℕ) → lined ≡ before ++ line_text path (node_name item) cols → (t : Plan) → Denotes (HoldsPlan expressions plans) n t → schema_of registry t ≡ Some cols → lined ≡ before ++ plan_lines registry path t
+    pub leaf_lines : (flat : PlanOp (Named ℕ)) → plan_layer item ≡ layer flat [] → (lined : List ℕ) → lined ≡ before ++ line_text path (node_name item) cols → (t : Plan) → Denotes (HoldsPlan expressions plans) n t → schema_of registry t ≡ Some cols → lined ≡ before ++ plan_lines registry path t
     leaf_lines flat is lined line (node op ts) d schema =
         leaf_children op lined ts (held_children expressions plans n item got flat [] is op d.0 d.1 ts d.2) (line ∙ ap (λ t. before ++ t) (held_line op d.0 d.1 ts schema))
 
-    one_child : (op : PlanOp Expression) (m : ℕ) (lined text : List ℕ) (ts : Trees (PlanOp Expression)) → DenoteAll (HoldsPlan expressions plans) (m ∷ []) ts → lined ≡ before ++ node_line path op (schema_of registry (node op ts)) → ((u : Plan) → Denotes (HoldsPlan expressions plans) m u → ts ≡ more u no_more → text ≡ lined ++ plan_lines registry (path ++ 0 ∷ []) u) → text ≡ before ++ plan_lines registry path (node op ts)
+    one_child : (op : PlanOp (Named Expression)) (m : ℕ) (lined text : List ℕ) (ts : Trees (PlanOp (Named Expression))) → DenoteAll (HoldsPlan expressions plans) (m ∷ []) ts → lined ≡ before ++ node_line path op (schema_of registry (node op ts)) → ((u : Plan) → Denotes (HoldsPlan expressions plans) m u → ts ≡ more u no_more → text ≡ lined ++ plan_lines registry (path ++ 0 ∷ []) u) → text ≡ before ++ plan_lines registry path (node op ts)
     one_child op m lined text no_more d line below = absurd d
     one_child op m lined text (more u no_more) d line below =
         let own = node_line path op (schema_of registry (node op (more u no_more))) in
@@ -116,7 +116,7 @@ module _ (expressions : List AExpr) (plans : List IR) (n : ℕ) (item : IR) (got
     one_child op m lined text (more u (more v vs)) d line below = absurd d.1
 
     -- the lines of a node with one child, where that child's are known
-    pub one_lines : (flat : PlanOp ℕ) (m : ℕ) → plan_layer item ≡ layer flat (m ∷ []) → (lined text deeper : List ℕ) → lined ≡ before ++ line_text path (node_name item) cols → deeper ≡ path ++ 0 ∷ [] → (t : Plan) → Denotes (HoldsPlan expressions plans) n t → ((u : Plan) → Denotes (HoldsPlan expressions plans) m u → children_of t ≡ more u no_more → text ≡ lined ++ plan_lines registry deeper u) → schema_of registry t ≡ Some cols → text ≡ before ++ plan_lines registry path t
+    pub one_lines : (flat : PlanOp (Named ℕ)) (m : ℕ) → plan_layer item ≡ layer flat (m ∷ []) → (lined text deeper : List ℕ) → lined ≡ before ++ line_text path (node_name item) cols → deeper ≡ path ++ 0 ∷ [] → (t : Plan) → Denotes (HoldsPlan expressions plans) n t → ((u : Plan) → Denotes (HoldsPlan expressions plans) m u → children_of t ≡ more u no_more → text ≡ lined ++ plan_lines registry deeper u) → schema_of registry t ≡ Some cols → text ≡ before ++ plan_lines registry path t
     one_lines flat m is lined text deeper line step (node op ts) d below schema =
         one_child op m lined text ts (held_children expressions plans n item got flat (m ∷ []) is op d.0 d.1 ts d.2) (line ∙ ap (λ t. before ++ t) (held_line op d.0 d.1 ts schema))
         (λ u e only. below u e only ∙ ap (λ p. lined ++ plan_lines registry p u) step)
@@ -125,7 +125,7 @@ module _ (expressions : List AExpr) (plans : List IR) (n : ℕ) (item : IR) (got
     child_accepted (node op ts) u accepted only = (subst (AllAccepted registry) only accepted.1).0
 
     -- the lines of a select, whose child lends its own schema
-    pub select_lines : (flat : PlanOp ℕ) (m : ℕ) → plan_layer item ≡ layer flat (m ∷ []) → (lined text deeper : List ℕ) (lent : Columns) → lined ≡ before ++ line_text path (node_name item) cols → deeper ≡ path ++ 0 ∷ [] → ((u : Plan) → Denotes (HoldsPlan expressions plans) m u → IsAccepted registry u → schema_of registry u ≡ Some lent) → ((u : Plan) → Denotes (HoldsPlan expressions plans) m u → IsAccepted registry u → schema_of registry u ≡ Some lent → text ≡ lined ++ plan_lines registry deeper u) → (t : Plan) → Denotes (HoldsPlan expressions plans) n t → IsAccepted registry t → schema_of registry t ≡ Some cols → text ≡ before ++ plan_lines registry path t
+    pub select_lines : (flat : PlanOp (Named ℕ)) (m : ℕ) → plan_layer item ≡ layer flat (m ∷ []) → (lined text deeper : List ℕ) (lent : Columns) → lined ≡ before ++ line_text path (node_name item) cols → deeper ≡ path ++ 0 ∷ [] → ((u : Plan) → Denotes (HoldsPlan expressions plans) m u → IsAccepted registry u → schema_of registry u ≡ Some lent) → ((u : Plan) → Denotes (HoldsPlan expressions plans) m u → IsAccepted registry u → schema_of registry u ≡ Some lent → text ≡ lined ++ plan_lines registry deeper u) → (t : Plan) → Denotes (HoldsPlan expressions plans) n t → IsAccepted registry t → schema_of registry t ≡ Some cols → text ≡ before ++ plan_lines registry path t
     select_lines flat m is lined text deeper lent line step own below t d accepted schema =
         one_lines flat m is lined text deeper line step t d (λ u e only. let there = child_accepted t u accepted only in below u e there (own u e there)) schema
 

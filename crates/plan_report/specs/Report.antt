@@ -5,7 +5,7 @@ use Rattle.plan_types.specs.Schemas.{Columns}
 use Rattle.plan_types.specs.declared.error.ErrorKind.{ErrorKind}
 use Rattle.plan_dsl.specs.Trees.{Trees, node, no_more, more}
 use Rattle.plan_dsl.specs.Ops.{Expression}
-use Rattle.plan_dsl.specs.Plans.{PlanOp, Plan}
+use Rattle.plan_dsl.specs.Plans.{Named, PlanOp, Plan}
 use Rattle.plan_dsl.specs.Counts.{cast_count}
 use Rattle.plan_dsl.specs.PlanRules.{schema_of}
 use Rattle.plan_dsl.specs.Registry.{Registry}
@@ -22,7 +22,7 @@ shown None = []
 shown (Some schema) = schema
 
 -- a node's line, with the schema that the rules give it
-abbrev pub node_line : List ℕ → PlanOp Expression → Option Columns → List ℕ
+abbrev pub node_line : List ℕ → PlanOp (Named Expression) → Option Columns → List ℕ
 node_line path op schema = line_text path (kind_text op.kind) (shown schema)
 
 abbrev mutual
@@ -32,7 +32,7 @@ abbrev mutual
       node_line path op (schema_of registry (node op children)) ++ children_lines registry path 0 children
 
   -- the lines of the children from that number on
-  pub children_lines : Registry → List ℕ → ℕ → Trees (PlanOp Expression) → List ℕ
+  pub children_lines : Registry → List ℕ → ℕ → Trees (PlanOp (Named Expression)) → List ℕ
   children_lines registry path number no_more = []
   children_lines registry path number (more child rest) =
       plan_lines registry (path ++ number ∷ []) child ++ children_lines registry path (number + 1) rest

@@ -6,6 +6,7 @@ use Rattle.plan_types.specs.Schemas.{Name, Columns}
 use Rattle.plan_types.specs.declared.dtype.CastOptions.TheVariants.{Strict, NonStrict}
 use Rattle.plan_dsl.specs.declared.operator.Operator.{Operator}
 use Rattle.plan_dsl.specs.Trees.{node, no_more, more}
+use Rattle.plan_dsl.specs.Names.{column_label}
 use Rattle.plan_dsl.specs.Ops.{ColumnOp, LiteralOp, BinaryOp, CastOp, Expression}
 use Rattle.plan_dsl.specs.Plans.{Plan, Named, named, scan_op, select_op, filter_op}
 
@@ -66,4 +67,4 @@ abbrev pub one_column_scan : Plan
 one_column_scan = scan_of (Some 0) (one_column int8)
 
 abbrev pub node_named : Name → ℕ → Named ℕ
-node_named name n = record { name = name; expression = n }
+node_named name n = record { label = column_label name; expression = n }

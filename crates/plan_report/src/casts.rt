@@ -1,24 +1,54 @@
 //! How many casts the expressions of a lowered plan have.
-ghost use Rattle.std.specs.Prelude.{◌≡◌, ◌+◌, List, map, IfOk};
+ghost use Rattle.std.specs.Prelude.{◌≡◌, ◌+◌, ℕ, List, map, sum, IfOk};
+ghost use Rattle.plan_types.specs.Errors.{no_memory};
 ghost use Rattle.plan_dsl.specs.Ops.{Expression};
 ghost use Rattle.plan_dsl.specs.Plans.{Plan, Named};
 ghost use Rattle.plan_arena.specs.Denotation.{Denotes, DenotesTree};
-ghost use Rattle.plan_arena.specs.Items.{named_node, HoldsExpression, DenoteNamed, HoldsPlan};
-ghost use Rattle.plan_dsl.specs.Counts.{expression_casts, outputs_casts, cast_count};
+ghost use Rattle.plan_arena.specs.Items.{named_node, numbers, expression_layer, HoldsExpression, DenoteNamed, HoldsPlan};
+ghost use Rattle.plan_dsl.specs.Counts.{op_casts, expression_casts, outputs_casts, cast_count};
+ghost use Rattle.plan_arena.specs.Layers.{inputs_of, op_of};
 ghost use Rattle.plan_report.specs.Casts.{DenoteOutputs};
 
-use plan_arena::aexpr::AExpr;
+use plan_arena::aexpr::{AExpr, Nodes};
 use plan_arena::arena::{Arena, Node};
 use plan_arena::expr_ir::ExprIRs;
 use plan_arena::ir::IR;
 use plan_arena::plan::IRPlan;
-use std::alloc::AllocError;
+use plan_types::error::PlanError;
+use std::alloc::{AllocError, Global};
 
 // The sum. A count past the counter's range is answered as want of memory.
 fn add(left: u64, right: u64) -> Result<u64, AllocError>
     ensures { IfOk result (λ sum. sum ≡ left + right) }
 {
     left.checked_add(right).ok_or(AllocError)
+}
+
+// Want of memory, where nothing else can come.
+fn out_of_memory(_error: PlanError) -> AllocError
+    requires { _error ≡ no_memory }
+{
+    AllocError
+}
+
+// The inputs of a node.
+fn inputs_of(item: &AExpr, alloc: Global) -> Result<Nodes, AllocError>
+    ensures { IfOk result (λ nodes. numbers nodes.items ≡ inputs_of (expression_layer item.now)) }
+{
+    match item.inputs(alloc) {
+        Ok(inputs) => Ok(inputs),
+        Err(error) => Err(out_of_memory(error)),
+    }
+}
+
+// One for a cast, and none for any other node.
+fn own_casts(item: &AExpr) -> u64
+    ensures { (below : List ℕ) → op_casts (op_of (expression_layer item.now)) below ≡ result + sum below }
+{
+    match item {
+        AExpr::Cast { .. } => 1,
+        _ => 0,
+    }
 }
 
 /// How many casts the expression at the node has.
@@ -28,22 +58,13 @@ pub(crate) fn expression_casts(arena: &Arena<AExpr>, node: Node) -> Result<u64, 
         → count ≡ expression_casts tree) }
 {
     let item = arena.get(node);
-    match item {
-        AExpr::Column(_) => Ok(0),
-        AExpr::Literal(_) => Ok(0),
-        AExpr::Len => Ok(0),
-        AExpr::BinaryExpr { left, right, .. } => {
-            let left = expression_casts(arena, *left)?;
-            let right = expression_casts(arena, *right)?;
-            let count = add(left, right)?;
-            Ok(count)
-        }
-        AExpr::Cast { expr, .. } => {
-            let below = expression_casts(arena, *expr)?;
-            let count = add(below, 1)?;
-            Ok(count)
-        }
+    let inputs = inputs_of(item, arena.allocator())?;
+    let mut count = own_casts(item);
+    for input in inputs.as_slice() {
+        let casts = expression_casts(arena, *input)?;
+        count = add(count, casts)?;
     }
+    Ok(count)
 }
 
 /// How many casts the expressions of a node have.

@@ -9,7 +9,7 @@ ghost use Rattle.plan_dsl.specs.Registry.{registry};
 ghost use Rattle.plan_dsl.specs.Resolving.{resolved};
 ghost use Rattle.plan_arena.specs.Items.{HoldsExpression, Grows, plan_layer};
 ghost use Rattle.plan_arena.specs.Layers.{layer};
-ghost use Rattle.plan_lower.specs.Lowering.{IsFilterAt, IsSelectAt, StandsFor, IsPlanRefusal, IsEmptyTableAt, Answers, IsTyped, IsSound, GivesSameFrame};
+ghost use Rattle.plan_lower.specs.Lowering.{IsFilterAt, IsSelectAt, StandsFor, IsPlanRefusal, IsEmptyTableAt, Records, recorded_at, columns_at, Answers, IsTyped, IsSound, GivesSameFrame};
 ghost use Rattle.plan_lower.specs.Predicates.{IsPredicateRefusal};
 ghost use Rattle.plan_lower.specs.Projection.{IsProjectionRefusal};
 
@@ -52,11 +52,23 @@ impl PlanLowering for DslPlan {
     }
 }
 
-// A node, and the schema of its frame.
-#[derive(Drop)]
+// A node, and the one that records the schema of its frame: itself, or one below.
+#[derive(Clone, Copy)]
 struct LoweredNode {
     node: Node,
-    schema: Schema,
+    schema_node: Node,
+}
+
+// The schema that a node records.
+fn recorded_schema(lp_arena: &Arena<IR>, node: Node) -> &Schema
+    requires { Records lp_arena.now node.0 }
+    ensures { columns result.now ≡ columns_at lp_arena.now node.0 }
+{
+    match lp_arena.get(node) {
+        IR::DataFrameScan { schema, .. } => schema,
+        IR::Filter { .. } => unreachable!(),
+        IR::Select { schema, .. } => schema,
+    }
 }
 
 // Adds a plan's nodes, its input first.
@@ -66,7 +78,8 @@ fn lower(
     lp_arena: &mut Arena<IR>,
     udfs: &Udfs,
 ) -> Result<LoweredNode, PlanError>
-    ensures ok { IfOk result (λ lowered. StandsFor (registry udfs.now) expr_arena.new lp_arena.new lowered.node.0 (columns lowered.schema) (resolved (registry udfs.now) (plan_tree plan))) }
+    ensures ok { IfOk result (λ lowered. StandsFor (registry udfs.now) expr_arena.new lp_arena.new lowered.node.0 (columns_at lp_arena.new lowered.schema_node.0) (resolved (registry udfs.now) (plan_tree plan))) }
+    ensures recorded { IfOk result (λ lowered. Records lp_arena.new lowered.schema_node.0) }
     ensures err { IfErr result (IsPlanRefusal (registry udfs.now) (resolved (registry udfs.now) (plan_tree plan))) }
     ensures kept { (n : ℕ) (op : Op) (inputs : List ℕ) →
         HoldsExpression expr_arena.old n op inputs → HoldsExpression expr_arena.new n op inputs }
@@ -92,7 +105,7 @@ fn lower(
             options,
         } => match lower(Box::into_inner(input), expr_arena, lp_arena, udfs) {
             Ok(input) => {
-                let lowered = lower_select(expr, &input, options, expr_arena, lp_arena, udfs)?;
+                let lowered = lower_select(expr, input, options, expr_arena, lp_arena, udfs)?;
                 Ok(lowered)
             }
             Err(error) => Err(below(lp_arena.allocator(), error)),
@@ -108,16 +121,18 @@ fn lower_scan(
 ) -> Result<LoweredNode, PlanError>
     ensures known { OnOk result (all_known (columns schema) ≡ true) }
     ensures ok { IfOk result (λ lowered. slice_get (map plan_layer lp_arena.new) lowered.node.0 ≡ Some (layer (scan_op table (columns schema)) [])) }
-    ensures schema { IfOk result (λ lowered. columns lowered.schema ≡ columns schema) }
+    ensures schema { IfOk result (λ lowered. recorded_at lp_arena.new lowered.schema_node.0 ≡ Some (columns schema)) }
     ensures err { IfErr result (IsMemoryOr ErrorKind.InvalidOperation (all_known (columns schema) ≡ false)) }
     ensures grows { Grows lp_arena.old lp_arena.new }
 {
     if !schema.is_known() {
         return Err(PlanError::at_top(ErrorKind::InvalidOperation));
     }
-    let own = schema.try_clone(lp_arena.allocator())?;
     let node = lp_arena.add(IR::DataFrameScan { table, schema })?;
-    Ok(LoweredNode { node, schema: own })
+    Ok(LoweredNode {
+        node,
+        schema_node: node,
+    })
 }
 
 // The refusal of a node's only input, as the node sees it.
@@ -142,41 +157,47 @@ fn lower_filter(
     lp_arena: &mut Arena<IR>,
     udfs: &Udfs,
 ) -> Result<LoweredNode, PlanError>
-    ensures ok { IfOk result (λ lowered. IsFilterAt (registry udfs.now) (columns input.schema) expr_arena.new lp_arena.new
+    requires { Records lp_arena.old input.schema_node.0 }
+    ensures ok { IfOk result (λ lowered. IsFilterAt (registry udfs.now) (columns_at lp_arena.old input.schema_node.0) expr_arena.new lp_arena.new
         lowered.node.0 input.node.0 (tree_of predicate)) }
-    ensures schema { IfOk result (λ lowered. columns lowered.schema ≡ columns input.schema) }
-    ensures err { IfErr result (IsPredicateRefusal (registry udfs.now) (columns input.schema) (tree_of predicate)) }
+    ensures schema { IfOk result (λ lowered. lowered.schema_node ≡ input.schema_node) }
+    ensures err { IfErr result (IsPredicateRefusal (registry udfs.now) (columns_at lp_arena.old input.schema_node.0) (tree_of predicate)) }
     ensures kept { (n : ℕ) (op : Op) (inputs : List ℕ) →
         HoldsExpression expr_arena.old n op inputs → HoldsExpression expr_arena.new n op inputs }
     ensures grows { Grows lp_arena.old lp_arena.new }
 {
-    let LoweredNode {
-        node: input,
-        schema,
-    } = input;
-    let predicate = lower_predicate(predicate, &schema, expr_arena, udfs)?;
-    let node = lp_arena.add(IR::Filter { input, predicate })?;
-    Ok(LoweredNode { node, schema })
+    let schema = recorded_schema(lp_arena, input.schema_node);
+    let predicate = lower_predicate(predicate, schema, expr_arena, udfs)?;
+    let node = lp_arena.add(IR::Filter {
+        input: input.node,
+        predicate,
+    })?;
+    Ok(LoweredNode {
+        node,
+        schema_node: input.schema_node,
+    })
 }
 
 // Adds a select over a lowered input.
 fn lower_select(
     expr: Exprs,
-    input: &LoweredNode,
+    input: LoweredNode,
     options: ProjectionOptions,
     expr_arena: &mut Arena<AExpr>,
     lp_arena: &mut Arena<IR>,
     udfs: &Udfs,
 ) -> Result<LoweredNode, PlanError>
-    ensures ok { IfOk result (λ lowered. IsSelectAt (registry udfs.now) (columns input.now.schema) expr_arena.new lp_arena.new
-        lowered.node.0 input.now.node.0 (trees_of expr) (columns lowered.schema)) }
-    ensures err { IfErr result (IsProjectionRefusal (registry udfs.now) (columns input.now.schema) (trees_of expr)) }
+    requires { Records lp_arena.old input.schema_node.0 }
+    ensures ok { IfOk result (λ lowered. IsSelectAt (registry udfs.now) (columns_at lp_arena.old input.schema_node.0) expr_arena.new lp_arena.new
+        lowered.node.0 input.node.0 (trees_of expr) (columns_at lp_arena.new lowered.schema_node.0)) }
+    ensures recorded { IfOk result (λ lowered. Records lp_arena.new lowered.schema_node.0) }
+    ensures err { IfErr result (IsProjectionRefusal (registry udfs.now) (columns_at lp_arena.old input.schema_node.0) (trees_of expr)) }
     ensures kept { (n : ℕ) (op : Op) (inputs : List ℕ) →
         HoldsExpression expr_arena.old n op inputs → HoldsExpression expr_arena.new n op inputs }
     ensures grows { Grows lp_arena.old lp_arena.new }
 {
-    let projection = project_strictly(expr, &input.schema, expr_arena, udfs)?;
-    let own = projection.schema.try_clone(lp_arena.allocator())?;
+    let schema = recorded_schema(lp_arena, input.schema_node);
+    let projection = project_strictly(expr, schema, expr_arena, udfs)?;
     let input = input_of(&projection.expr, input.node, lp_arena)?;
     let node = lp_arena.add(IR::Select {
         expr: projection.expr,
@@ -184,7 +205,10 @@ fn lower_select(
         schema: projection.schema,
         options,
     })?;
-    Ok(LoweredNode { node, schema: own })
+    Ok(LoweredNode {
+        node,
+        schema_node: node,
+    })
 }
 
 // The input of a select: the empty table where nothing is selected.

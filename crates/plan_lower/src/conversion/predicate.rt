@@ -34,9 +34,9 @@ pub(crate) fn lower_predicate(
         HoldsExpression arena.old n op inputs → HoldsExpression arena.new n op inputs }
     ensures err { IfErr result (IsPredicateRefusal (registry udfs.now) (columns schema.now) (tree_of predicate)) }
 {
-    let mut types = TypeTable::new(arena.allocator(), arena.len());
+    let mut types = TypeTable::new(arena.allocator());
     let expr_ir = add_typed(predicate, schema, arena, udfs, &mut types)?;
-    if *types.get(expr_ir.node()) != DataType::Boolean {
+    if types.get(expr_ir.node()).dtype != DataType::Boolean {
         return Err(PlanError::at_top(ErrorKind::InvalidOperation));
     }
     let mut stack = SmallVec::new(arena.allocator());

@@ -5,14 +5,14 @@ ghost use Rattle.plan_types.specs.Errors.{no_memory, IsRefusal};
 ghost use Rattle.plan_types.specs.Schemas.{columns};
 ghost use Rattle.plan_dsl.specs.Expressions.{tree_of};
 ghost use Rattle.plan_dsl.specs.Literals.{settled};
-ghost use Rattle.plan_dsl.specs.Names.{name_of};
+ghost use Rattle.plan_dsl.specs.Names.{label_of};
 ghost use Rattle.plan_dsl.specs.Ops.{Op};
 ghost use Rattle.plan_dsl.specs.Plans.{trees_of};
 ghost use Rattle.plan_dsl.specs.Registry.{registry};
 ghost use Rattle.plan_dsl.specs.Typing.{typing};
 ghost use Rattle.plan_arena.specs.Denotation.{Denotes};
 ghost use Rattle.plan_arena.specs.Items.{named_node, numbers, Grows, HoldsExpression, HoldsFrom};
-ghost use Rattle.plan_infer.specs.KeptTypes.{Extends, IsKept, IsRight, first_node};
+ghost use Rattle.plan_infer.specs.KeptTypes.{Extends, IsKept, IsRight};
 ghost use Rattle.plan_lower.specs.Outputs.{HasOutputs};
 ghost use Rattle.plan_lower.specs.Projection.{Projects, AddsOutput, IsOutputRefusal, IsProjectionRefusal};
 
@@ -25,7 +25,6 @@ use plan_dsl::expr::Expr;
 use plan_dsl::plan::Exprs;
 use plan_dsl::udfs::Udfs;
 use plan_infer::type_table::TypeTable;
-use plan_infer::typing::type_nodes;
 use plan_types::error::{ErrorKind, PlanError};
 use plan_types::schema::Schema;
 use smallvec::SmallVec;
@@ -51,7 +50,7 @@ pub(crate) fn project_strictly(
         HoldsExpression arena.old n op inputs → HoldsExpression arena.new n op inputs }
     ensures err { IfErr result (IsProjectionRefusal (registry udfs.now) (columns schema.now) (trees_of exprs)) }
 {
-    let mut types = TypeTable::new(arena.allocator(), arena.len());
+    let mut types = TypeTable::new(arena.allocator());
     let projection = project(exprs, schema, arena, udfs, &mut types)?;
     let mut stack = roots_of(&projection.expr, arena.allocator())?;
     coerce_types(&mut stack, arena, &mut types)?;
@@ -78,7 +77,6 @@ pub(crate) fn project(
     udfs: &Udfs,
     types: &mut TypeTable,
 ) -> Result<Projection, PlanError>
-    requires from { first_node types.old ≤ length arena.old }
     requires right { IsRight (registry udfs.now) (columns schema.now) arena.old types.old }
     ensures ok { IfOk result (λ projection. Projects (registry udfs.now) (columns schema.now) (length arena.old) arena.new
         (trees_of exprs) (map named_node projection.expr.items.items) (columns projection.schema)) }
@@ -110,7 +108,6 @@ fn project_one(
     types: &mut TypeTable,
     output: &mut Schema,
 ) -> Result<ExprIR, PlanError>
-    requires from { first_node types.old ≤ length arena.old }
     requires right { IsRight (registry udfs.now) (columns schema.now) arena.old types.old }
     ensures ok { IfOk result (λ expr_ir. AddsOutput (registry udfs.now) (columns schema.now) (length arena.old) arena.new
         (tree_of expr) (named_node expr_ir) (columns output.old) (columns output.new)) }
@@ -125,7 +122,10 @@ fn project_one(
         return Err(PlanError::at_top(ErrorKind::Duplicate));
     }
     let name = expr_ir.output_name().try_clone(arena.allocator())?;
-    let dtype = types.get(expr_ir.node()).try_clone(arena.allocator())?;
+    let dtype = types
+        .get(expr_ir.node())
+        .dtype
+        .try_clone(arena.allocator())?;
     output.with_column(name, dtype)?;
     Ok(expr_ir)
 }
@@ -139,9 +139,8 @@ pub(crate) fn add_typed(
     udfs: &Udfs,
     types: &mut TypeTable,
 ) -> Result<ExprIR, PlanError>
-    requires from { first_node types.old ≤ length arena.old }
     requires right { IsRight (registry udfs.now) (columns schema.now) arena.old types.old }
-    ensures name { IfOk result (λ expr_ir. (named_node expr_ir).name ≡ name_of (tree_of expr)) }
+    ensures name { IfOk result (λ expr_ir. (named_node expr_ir).label ≡ label_of (tree_of expr)) }
     ensures denotes { IfOk result (λ expr_ir. Denotes (HoldsFrom (length arena.old) arena.new) (named_node expr_ir).expression (settled (tree_of expr))) }
     ensures grows { Grows arena.old arena.new }
     ensures kept { IfOk result (λ expr_ir. IsKept types.new (named_node expr_ir).expression) }
@@ -150,6 +149,6 @@ pub(crate) fn add_typed(
     ensures err { IfErr result (IsRefusal (typing (registry udfs.now) (columns schema.now) (settled (tree_of expr)))) }
 {
     let expr_ir = to_expr_ir(settle(expr), arena)?;
-    type_nodes(expr_ir.node(), arena, schema, udfs, types)?;
+    types.infer(expr_ir.node(), schema, arena, udfs)?;
     Ok(expr_ir)
 }

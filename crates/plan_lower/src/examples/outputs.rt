@@ -3,8 +3,11 @@
 ghost use Rattle.std.specs.Prelude.{◌≡◌, [], ◌∷◌, pos, codes, Some};
 ghost use Rattle.plan_types.specs.Types.{Truth};
 ghost use Rattle.plan_types.specs.Errors.{no_memory, at_top};
+ghost use Rattle.plan_types.specs.declared.dtype.CastOptions.TheVariants.{NonStrict};
 ghost use Rattle.plan_types.specs.declared.error.ErrorKind.TheVariants.{ColumnNotFound, Duplicate, InvalidOperation};
 ghost use Rattle.plan_dsl.specs.declared.literal.LiteralValue.TheVariants.{Int, Int32};
+ghost use Rattle.plan_dsl.specs.Names.{column_label};
+ghost use Rattle.plan_dsl.specs.Ops.{CastOp};
 ghost use Rattle.plan_dsl.specs.Trees.{node, no_more, more};
 ghost use Rattle.plan_dsl.specs.Plans.{empty_table, select_op};
 ghost use Rattle.plan_arena.specs.declared.aexpr.AExpr.TheVariants.{Literal};
@@ -51,12 +54,13 @@ pub fn refusals_of_projections()
     ensures projection_of_nothing { ¬ (IsProjectionRefusal [] [] [] (at_top Duplicate)) }
 {}
 
-/// What stands for an expression says the same and is strict.
+/// What stands for an expression says the same and is strict, with casts only where they change the type.
 pub fn lowered_expressions()
     ensures sum { IsLowered [] two_columns (lowered_to sum int32 strict_sum) }
     ensures not_strict { ¬ (IsLowered [] two_columns (as_it_is sum int32)) }
+    ensures idle_cast { ¬ (IsLowered [] (one_column int8) (lowered_to a int8 (node (CastOp int8 NonStrict) (more a no_more)))) }
     ensures other_expression { ¬ (IsLowered [] (columns_of int8 int8) (lowered_to a int8 b)) }
-    ensures name { lowered_named (lowered_to a int8 wide) ≡ record { name = codes "a"; expression = wide } }
+    ensures name { lowered_named (lowered_to a int8 wide) ≡ record { label = column_label (codes "a"); expression = wide } }
     ensures column { lowered_column (as_it_is a int8) ≡ (codes "a", int8) }
 {}
 

@@ -1,6 +1,6 @@
 //! Plans that are refused, and plans with what lowering makes of them.
 
-ghost use Rattle.std.specs.Prelude.{◌≡◌, List, [], ◌∷◌, codes, Some, None, Ok, Err};
+ghost use Rattle.std.specs.Prelude.{◌≡◌, List, [], ◌∷◌, map, codes, Some, None, Ok, Err};
 ghost use Rattle.plan_types.specs.Types.{Truth};
 ghost use Rattle.plan_types.specs.Errors.{no_memory};
 ghost use Rattle.plan_types.specs.declared.error.ErrorKind.TheVariants.{ColumnNotFound, Duplicate};
@@ -10,7 +10,7 @@ ghost use Rattle.plan_arena.specs.declared.aexpr.AExpr.TheVariants.{Column};
 ghost use Rattle.plan_arena.specs.declared.ir.IR.{IR};
 ghost use Rattle.plan_arena.specs.declared.plan.IRPlan.{IRPlan};
 ghost use Rattle.plan_arena.specs.Layers.{layer};
-ghost use Rattle.plan_lower.specs.Lowering.{IsBuilt, StandsFor, IsPlanRefusal, Answers, IsTyped, IsSound, GivesSameFrame, IsLoweringOf, source_select, source_filter, IsSelectAt, IsFilterAt, IsEmptyTableAt};
+ghost use Rattle.plan_lower.specs.Lowering.{IsBuilt, StandsFor, IsPlanRefusal, Answers, IsTyped, IsSound, GivesSameFrame, IsLoweringOf, source_select, source_filter, IsSelectAt, IsFilterAt, IsEmptyTableAt, recorded_at, columns_at, Records};
 ghost use Rattle.plan_infer.specs.Samples.{int8, int32, one_column, two_columns, a, c, sum, a_items, refused};
 ghost use Rattle.plan_lower.specs.Samples.{truths, keep, keep_items, node_named, scan_of, select_over, filter_over, query, lowered_query, scan_layer, select_layer, ForPlans, ForScan, ForSum};
 
@@ -61,6 +61,16 @@ pub fn nodes_that_stand_for_plans()
     ensures other_schema { ForPlans (scan_layer None [] ∷ []) (λ plans. ¬ (StandsFor [] [] plans 0 (one_column Truth) empty_table)) }
     ensures empty_table { ForPlans (scan_layer None [] ∷ []) (λ plans. IsEmptyTableAt plans 0) }
     ensures no_empty_table { ForPlans (scan_layer (Some 0) [] ∷ []) (λ plans. ¬ (IsEmptyTableAt plans 0)) }
+{}
+
+/// A scan and a select record a schema, and a filter and no node at all none.
+pub fn recorded_schemas()
+    ensures recorded { ForPlans (scan_layer (Some 0) truths ∷ layer (filter_op (node_named (codes "keep") 0)) (0 ∷ []) ∷ select_layer 0 (one_column Truth) ∷ []) (λ plans.
+        map (recorded_at plans) (0 ∷ 1 ∷ 2 ∷ 3 ∷ []) ≡ Some truths ∷ None ∷ Some (one_column Truth) ∷ None ∷ []) }
+    ensures columns { ForPlans (scan_layer (Some 0) truths ∷ layer (filter_op (node_named (codes "keep") 0)) (0 ∷ []) ∷ []) (λ plans.
+        map (columns_at plans) (0 ∷ 1 ∷ []) ≡ truths ∷ [] ∷ []) }
+    ensures of_no_columns { ForPlans (scan_layer None [] ∷ []) (λ plans. Records plans 0) }
+    ensures none { ForPlans (layer (filter_op (node_named (codes "keep") 0)) (0 ∷ []) ∷ []) (λ plans. ¬ (Records plans 0)) }
 {}
 
 /// What no node stands for, whatever the arenas hold.

@@ -1,8 +1,8 @@
-use Rattle.std.proofs.Common.{[], ◌∷◌, ap, arith}
-use Rattle.plan_arena.specs.Items.{expression_layer}
+use Rattle.std.proofs.Common.{slice_index_or, ap, ◌∙◌, arith}
+use Rattle.std.proofs.lemmas.List.{length-map}
+use Rattle.plan_arena.specs.Items.{numbers}
 use Rattle.plan_arena.proofs.ItemLemmas.{tree_within}
-use Rattle.plan_report.proofs.NodeLemmas.{expression_inputs}
-use Rattle.plan_report.proofs.CastLemmas.{expression_counted}
+use Rattle.plan_report.proofs.CastLemmas.{expression_counted, input_counted, input_leads, number_there}
 use Rattle.plan_report.proofs.casts.+expression_casts.Goals as goal
 
 pub get-item-requires : goal.get-item-requires
@@ -10,37 +10,18 @@ get-item-requires t c = tree_within c.args.arena.now c.args.node.0 c.requires
 
 pub expression_casts-requires : goal.expression_casts-requires
 expression_casts-requires t c =
-    let inputs = expression_inputs c.args.arena.now c.args.node.0 c.get-item.result.now c.get-item.ensures _ _ (ap expression_layer c.in-BinaryExpr.is) c.requires in
-    (omega (arith, c.decreases, inputs.0.1), inputs.0.0)
+    let nodes = c.as_slice-input-items.result.now in
+    let i = c.loop-input.input-index in
+    let leads = input_leads c.args.arena.now c.args.node.0 c.get-item.result.now c.get-item.ensures c.requires (numbers nodes) (ap numbers c.as_slice-input-items.ensures ∙ c.in_ok-inputs.ensures) i _ (number_there nodes i (record { 0 = 0 }) c.loop-input-test.true) in
+    (omega (arith, c.decreases, leads.1), leads.0)
 
-pub expression_casts-requires-in-BinaryExpr : goal.expression_casts-requires-in-BinaryExpr
-expression_casts-requires-in-BinaryExpr t c =
-    let inputs = expression_inputs c.args.arena.now c.args.node.0 c.get-item.result.now c.get-item.ensures _ _ (ap expression_layer c.in-BinaryExpr.is) c.requires in
-    (omega (arith, c.decreases, inputs.1.0.1), inputs.1.0.0)
+pub loop-input-preserved : goal.loop-input-preserved
+loop-input-preserved t c =
+    let nodes = c.as_slice-input-items.result.now in
+    let i = c.loop-input.input-index in
+    input_counted c.args.arena.now (numbers nodes) i c.own_casts-count.result c.loop-input.count c.in_ok-casts.casts _ _ (number_there nodes i (record { 0 = 0 }) c.loop-input-test.true) c.loop-input.invariant c.in_ok-casts.ensures c.in_ok-count.ensures
 
-pub expression_casts-requires-in-Cast : goal.expression_casts-requires-in-Cast
-expression_casts-requires-in-Cast t c =
-    let inputs = expression_inputs c.args.arena.now c.args.node.0 c.get-item.result.now c.get-item.ensures _ _ (ap expression_layer c.in-Cast.is) c.requires in
-    (omega (arith, c.decreases, inputs.0.1), inputs.0.0)
-
-pub returns-in-Column : goal.returns-in-Column
-returns-in-Column t c tree d =
-    expression_counted c.args.arena.now c.args.node.0 c.get-item.result.now c.get-item.ensures _ [] [] (ap expression_layer c.in-Column.is) tt tree d
-
-pub returns-in-Literal : goal.returns-in-Literal
-returns-in-Literal t c tree d =
-    expression_counted c.args.arena.now c.args.node.0 c.get-item.result.now c.get-item.ensures _ [] [] (ap expression_layer c.in-Literal.is) tt tree d
-
-pub returns-in-Len : goal.returns-in-Len
-returns-in-Len t c tree d =
-    expression_counted c.args.arena.now c.args.node.0 c.get-item.result.now c.get-item.ensures _ [] [] (ap expression_layer c.in-Len.is) tt tree d
-
-pub returns-in_ok-count-in-BinaryExpr : goal.returns-in_ok-count-in-BinaryExpr
-returns-in_ok-count-in-BinaryExpr t c tree d =
-    let counted = expression_counted c.args.arena.now c.args.node.0 c.get-item.result.now c.get-item.ensures _ _ (c.in_ok-left-in-BinaryExpr.left ∷ c.in_ok-right-in-BinaryExpr.right ∷ []) (ap expression_layer c.in-BinaryExpr.is) (c.in_ok-left-in-BinaryExpr.ensures, (c.in_ok-right-in-BinaryExpr.ensures, tt)) tree d in
-    omega (arith, c.in_ok-count-in-BinaryExpr.ensures)
-
-pub returns-in_ok-count-in-Cast : goal.returns-in_ok-count-in-Cast
-returns-in_ok-count-in-Cast t c tree d =
-    let counted = expression_counted c.args.arena.now c.args.node.0 c.get-item.result.now c.get-item.ensures _ _ (c.in_ok-below-in-Cast.below ∷ []) (ap expression_layer c.in-Cast.is) (c.in_ok-below-in-Cast.ensures, tt) tree d in
-    omega (arith, c.in_ok-count-in-Cast.ensures)
+pub returns : goal.returns
+returns t c =
+    let nodes = c.as_slice-input-items.result.now in
+    expression_counted c.args.arena.now c.args.node.0 c.get-item.result.now c.get-item.ensures (numbers nodes) (ap numbers c.as_slice-input-items.ensures ∙ c.in_ok-inputs.ensures) c.loop-input.input-index c.own_casts-count.result c.loop-input.count (omega (arith, length-map nodes (λ n. n.0), c.loop-input-test.false)) c.own_casts-count.ensures c.loop-input.invariant

@@ -1,4 +1,5 @@
 use Rattle.std.proofs.Common.{ℕ, List, [], ◌∷◌, codes, refl}
+use Rattle.plan_dsl.specs.Names.{column_label}
 use Rattle.plan_dsl.specs.Ops.{ColumnOp, Expression}
 use Rattle.plan_dsl.specs.Plans.{Named}
 use Rattle.plan_dsl.specs.Trees.{node, no_more}
@@ -12,12 +13,12 @@ returns-clause-none c expressions = record { outputs = []; denote = tt }
 
 pub returns-clause-columns : goal.returns-clause-columns
 returns-clause-columns c =
-    let first : Named Expression = record { name = codes "a"; expression = node (ColumnOp (codes "a")) no_more } in
-    let second : Named Expression = record { name = codes "x"; expression = node (ColumnOp (codes "b")) no_more } in
+    let first : Named Expression = record { label = column_label (codes "a"); expression = node (ColumnOp (codes "a")) no_more } in
+    let second : Named Expression = record { label = column_label (codes "x"); expression = node (ColumnOp (codes "b")) no_more } in
     record { outputs = first ∷ second ∷ []; denote = (refl, ([], refl, tt), (refl, ([], refl, tt), tt)) }
 
 abbrev past : Named ℕ
-past = record { name = codes "a"; expression = 1 }
+past = record { label = column_label (codes "a"); expression = 1 }
 
 no_expression : (t : Expression) → ¬ (Denotes (HoldsExpression (Column (codes "a") ∷ [])) 1 t)
 no_expression (node op ts) (inputs, held, below) = cc

@@ -1,18 +1,34 @@
+use Rattle.std.proofs.Common.{refl}
+use Rattle.plan_dsl.specs.Trees.{no_more, more}
 use Rattle.plan_dsl.specs.Expressions.{tree_of}
-use Rattle.plan_lower.proofs.NodeLemmas.{added_binary, added_cast}
+use Rattle.plan_lower.proofs.NodeLemmas.{added_over}
 use Rattle.plan_lower.proofs.conversion.expr_to_ir.+add_nodes.Goals as goal
 
 pub returns-in_ok-node-in-BinaryExpr-clause-denotes :
     goal.returns-in_ok-node-in-BinaryExpr-clause-denotes
 returns-in_ok-node-in-BinaryExpr-clause-denotes t c =
-    let left = c.in_ok-left-in-BinaryExpr in
-    let right = c.in_ok-right-in-BinaryExpr in
-    let made = added_binary c.args.arena.now c.add_nodes.new.arena c.add_nodes-in-BinaryExpr.new.arena c.add-in-BinaryExpr.new.self left.left right.right c.in_ok-node-in-BinaryExpr.node c.in-BinaryExpr.op (tree_of c.into_inner.result) (tree_of c.into_inner-in-BinaryExpr.result) left.ensures.denotes left.ensures.grows right.ensures.denotes right.ensures.grows c.in_ok-node-in-BinaryExpr.ensures.ok c.in_ok-node-in-BinaryExpr.ensures.node in
-    rw (c.in-BinaryExpr.is, ← c.into_inner.ensures, ← c.into_inner-in-BinaryExpr.ensures) made
+    let left = c.in_ok-left-in-BinaryExpr.ensures in
+    let right = c.in_ok-right-in-BinaryExpr.ensures in
+    let node = c.in_ok-node-in-BinaryExpr in
+    let trees = more (tree_of c.into_inner.result) (more (tree_of c.into_inner-in-BinaryExpr.result) no_more) in
+    let added = added_over c.args.arena.now c.add_nodes-in-BinaryExpr.new.arena c.add-in-BinaryExpr.new.self _ node.node.0 trees (_, left.denotes, left.grows, (_, right.denotes, right.grows, refl)) node.ensures.ok node.ensures.node in
+    rw (c.in-BinaryExpr.is, ← c.into_inner.ensures, ← c.into_inner-in-BinaryExpr.ensures) added
 
 pub returns-in_ok-node-in-Cast-clause-denotes :
     goal.returns-in_ok-node-in-Cast-clause-denotes
 returns-in_ok-node-in-Cast-clause-denotes t c =
-    let inner = c.in_ok-expr-in-Cast in
-    let made = added_cast c.args.arena.now c.add_nodes-in-Cast.new.arena c.add-in-Cast.new.self inner.expr c.in_ok-node-in-Cast.node c.in-Cast.dtype c.in-Cast.options (tree_of c.into_inner-in-Cast.result) inner.ensures.denotes inner.ensures.grows c.in_ok-node-in-Cast.ensures.ok c.in_ok-node-in-Cast.ensures.node in
-    rw (c.in-Cast.is, ← c.into_inner-in-Cast.ensures) made
+    let expr = c.in_ok-expr-in-Cast.ensures in
+    let node = c.in_ok-node-in-Cast in
+    let added = added_over c.args.arena.now c.add_nodes-in-Cast.new.arena c.add-in-Cast.new.self _ node.node.0 (more (tree_of c.into_inner-in-Cast.result) no_more) (_, expr.denotes, expr.grows, refl) node.ensures.ok node.ensures.node in
+    rw (c.in-Cast.is, ← c.into_inner-in-Cast.ensures) added
+
+pub returns-in_ok-node-in-Slice-clause-denotes :
+    goal.returns-in_ok-node-in-Slice-clause-denotes
+returns-in_ok-node-in-Slice-clause-denotes t c =
+    let input = c.in_ok-input-in-Slice.ensures in
+    let offset = c.in_ok-offset-in-Slice.ensures in
+    let length = c.in_ok-length-in-Slice.ensures in
+    let node = c.in_ok-node-in-Slice in
+    let trees = more (tree_of c.into_inner-in-Slice.result) (more (tree_of c.into_inner-in-Slice-2.result) (more (tree_of c.into_inner-in-Slice-3.result) no_more)) in
+    let added = added_over c.args.arena.now c.add_nodes-in-Slice-3.new.arena c.add-in-Slice.new.self _ node.node.0 trees (_, input.denotes, input.grows, (_, offset.denotes, offset.grows, (_, length.denotes, length.grows, refl))) node.ensures.ok node.ensures.node in
+    rw (c.in-Slice.is, ← c.into_inner-in-Slice.ensures, ← c.into_inner-in-Slice-2.ensures, ← c.into_inner-in-Slice-3.ensures) added

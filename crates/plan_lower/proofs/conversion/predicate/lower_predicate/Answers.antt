@@ -11,12 +11,12 @@ use Rattle.plan_coerce.specs.Coercion.{IsCoerced}
 use Rattle.plan_arena.specs.Items.{numbers}
 use Rattle.plan_lower.proofs.ProjectionLemmas.{one_output, root_typed, has_predicate, refused_predicate, other_type_refused, not_true, not_false, earlier_kept}
 use Rattle.plan_infer.proofs.TableLemmas.{right_start}
-use Rattle.plan_infer.proofs.TableLemmas.{kept_type}
+use Rattle.plan_infer.proofs.TableLemmas.{kept_type, type_of}
 use Rattle.plan_lower.proofs.conversion.predicate.lower_predicate.Goals as goal
 
-pub add_typed-requires-clause-right : goal.add_typed-requires-clause-right
-add_typed-requires-clause-right c =
-    right_start (registry c.args.udfs.now) (columns c.args.schema.now) c.args.arena.now c.new-types.result c.new-types.ensures.empty
+pub add_typed-requires : goal.add_typed-requires
+add_typed-requires c =
+    record { right = right_start (registry c.args.udfs.now) (columns c.args.schema.now) c.args.arena.now c.new-types.result c.new-types.ensures }
 
 pub returns-in_err-expr_ir-clause-err : goal.returns-in_err-expr_ir-clause-err
 returns-in_err-expr_ir-clause-err c =
@@ -28,7 +28,7 @@ returns-then-ne-clause-err c =
     let schema = columns c.args.schema.now in
     let tree = tree_of c.args.predicate in
     let n = (named_node c.in_ok-expr_ir.expr_ir).expression in
-    let is = one_output r schema (length c.args.arena.now) c.add_typed.new.arena tree n c.node.result.0 (ty c.get.result.now) c.in_ok-expr_ir.ensures.denotes c.node.ensures (kept_type r schema c.add_typed.new.arena c.add_typed.new.types c.in_ok-expr_ir.ensures.right c.node.result.0 _ c.get.ensures) in
+    let is = one_output r schema (length c.args.arena.now) c.add_typed.new.arena tree n c.node.result.0 (ty c.get.result.now.dtype) c.in_ok-expr_ir.ensures.denotes c.node.ensures (kept_type r schema c.add_typed.new.arena c.add_typed.new.types c.in_ok-expr_ir.ensures.right c.node.result.0 _ (type_of c.add_typed.new.types c.node.result.0 c.get.result.now c.get.ensures)) in
     other_type_refused r schema (length c.args.arena.now) c.add_typed.new.arena _ c.at_top.result is.1 (not_true _ (sym c.ne.ensures ∙ c.if-ne.true)) c.at_top.ensures
 
 pub returns-clause-ok : goal.returns-clause-ok
@@ -37,8 +37,8 @@ returns-clause-ok c =
     let schema = columns c.args.schema.now in
     let first = length c.args.arena.now in
     let n = (named_node c.in_ok-expr_ir.expr_ir).expression in
-    let is = one_output r schema first c.add_typed.new.arena (tree_of c.args.predicate) n c.node.result.0 (ty c.get.result.now) c.in_ok-expr_ir.ensures.denotes c.node.ensures (kept_type r schema c.add_typed.new.arena c.add_typed.new.types c.in_ok-expr_ir.ensures.right c.node.result.0 _ c.get.ensures) in
-    let truth = same_type_exact (ty c.get.result.now) Truth (not_false _ (sym c.ne.ensures ∙ c.if-ne.false)) in
+    let is = one_output r schema first c.add_typed.new.arena (tree_of c.args.predicate) n c.node.result.0 (ty c.get.result.now.dtype) c.in_ok-expr_ir.ensures.denotes c.node.ensures (kept_type r schema c.add_typed.new.arena c.add_typed.new.types c.in_ok-expr_ir.ensures.right c.node.result.0 _ (type_of c.add_typed.new.types c.node.result.0 c.get.result.now c.get.ensures)) in
+    let truth = same_type_exact (ty c.get.result.now.dtype) Truth (not_false _ (sym c.ne.ensures ∙ c.if-ne.false)) in
     let stacked = c.in_ok-push.ensures.ok ∙ ap (λ l. l ++ c.node-2.result ∷ []) c.new-stack.ensures.items in
     let roots = ap numbers stacked ∙ ap (λ k. k ∷ []) c.node-2.ensures in
     let coerced = c.in_ok-coerce_types.ensures.ok r schema first c.in_ok-expr_ir.ensures.right (length-grown _ _ c.in_ok-expr_ir.ensures.grows) (root_typed r schema first c.add_typed.new.arena _ _ is.1 roots) in
@@ -50,7 +50,7 @@ returns-clause-kept c =
     let schema = columns c.args.schema.now in
     let first = length c.args.arena.now in
     let n = (named_node c.in_ok-expr_ir.expr_ir).expression in
-    let is = one_output r schema first c.add_typed.new.arena (tree_of c.args.predicate) n c.node.result.0 (ty c.get.result.now) c.in_ok-expr_ir.ensures.denotes c.node.ensures (kept_type r schema c.add_typed.new.arena c.add_typed.new.types c.in_ok-expr_ir.ensures.right c.node.result.0 _ c.get.ensures) in
+    let is = one_output r schema first c.add_typed.new.arena (tree_of c.args.predicate) n c.node.result.0 (ty c.get.result.now.dtype) c.in_ok-expr_ir.ensures.denotes c.node.ensures (kept_type r schema c.add_typed.new.arena c.add_typed.new.types c.in_ok-expr_ir.ensures.right c.node.result.0 _ (type_of c.add_typed.new.types c.node.result.0 c.get.result.now c.get.ensures)) in
     let stacked = c.in_ok-push.ensures.ok ∙ ap (λ l. l ++ c.node-2.result ∷ []) c.new-stack.ensures.items in
     let roots = ap numbers stacked ∙ ap (λ k. k ∷ []) c.node-2.ensures in
     let coerced = c.in_ok-coerce_types.ensures.ok r schema first c.in_ok-expr_ir.ensures.right (length-grown _ _ c.in_ok-expr_ir.ensures.grows) (root_typed r schema first c.add_typed.new.arena _ _ is.1 roots) in
@@ -68,7 +68,7 @@ returns-in_err-coerce_types-clause-kept c =
     let schema = columns c.args.schema.now in
     let first = length c.args.arena.now in
     let n = (named_node c.in_ok-expr_ir.expr_ir).expression in
-    let is = one_output r schema first c.add_typed.new.arena (tree_of c.args.predicate) n c.node.result.0 (ty c.get.result.now) c.in_ok-expr_ir.ensures.denotes c.node.ensures (kept_type r schema c.add_typed.new.arena c.add_typed.new.types c.in_ok-expr_ir.ensures.right c.node.result.0 _ c.get.ensures) in
+    let is = one_output r schema first c.add_typed.new.arena (tree_of c.args.predicate) n c.node.result.0 (ty c.get.result.now.dtype) c.in_ok-expr_ir.ensures.denotes c.node.ensures (kept_type r schema c.add_typed.new.arena c.add_typed.new.types c.in_ok-expr_ir.ensures.right c.node.result.0 _ (type_of c.add_typed.new.types c.node.result.0 c.get.result.now c.get.ensures)) in
     let stacked = c.in_ok-push.ensures.ok ∙ ap (λ l. l ++ c.node-2.result ∷ []) c.new-stack.ensures.items in
     let roots = ap numbers stacked ∙ ap (λ k. k ∷ []) c.node-2.ensures in
     let stays = c.in_err-coerce_types.ensures.stays r schema first c.in_ok-expr_ir.ensures.right (length-grown _ _ c.in_ok-expr_ir.ensures.grows) (root_typed r schema first c.add_typed.new.arena _ _ is.1 roots) in

@@ -12,8 +12,7 @@ use Rattle.plan_lower.proofs.conversion.projection.project_strictly.Goals as goa
 
 pub project-requires : goal.project-requires
 project-requires c = record {
-  from = omega (arith, c.new-types.ensures.first, c.len.ensures);
-  right = right_start (registry c.args.udfs.now) (columns c.args.schema.now) c.args.arena.now c.new-types.result c.new-types.ensures.empty;
+  right = right_start (registry c.args.udfs.now) (columns c.args.schema.now) c.args.arena.now c.new-types.result c.new-types.ensures;
 }
 
 pub coerce_types-requires : goal.coerce_types-requires

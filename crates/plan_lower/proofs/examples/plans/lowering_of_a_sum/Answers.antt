@@ -21,7 +21,7 @@ sound tables fits = runs_soundly [] tables lowered_query built.accepted built.st
 
 pub returns-clause-typed : goal.returns-clause-typed
 returns-clause-typed c = λ lowering top expressions plans.
-    record { tree = lowered_query; denotes = denotes lowering top expressions plans; accepted = built.accepted; strict = built.strict; schema = refl }
+    record { tree = lowered_query; denotes = denotes lowering top expressions plans; accepted = built.accepted; strict = built.strict; names = built.names; schema = refl }
 
 pub returns-clause-sound : goal.returns-clause-sound
 returns-clause-sound c = λ lowering top expressions plans tree d tables fits.
@@ -37,6 +37,7 @@ returns-clause-all c = λ lowering top expressions plans. record {
   denotes = denotes lowering top expressions plans;
   accepted = built.accepted;
   strict = built.strict;
+  names = built.names;
   schema = refl;
   sound = sound;
   same_frame = built.same;

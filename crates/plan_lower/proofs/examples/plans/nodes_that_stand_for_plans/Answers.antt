@@ -20,10 +20,10 @@ abbrev output : Name → Lowered
 output name = let column : Expression = node (ColumnOp name) no_more in record { tree = column; typed = record { type = Truth; many = true }; after = column }
 
 keep_lowered : IsLowered [] (truths (codes "keep")) (output (codes "keep"))
-keep_lowered = record { typed = refl; same = record { typing = refl; name = refl; meaning = λ rows. refl }; strict = refl }
+keep_lowered = record { typed = refl; same = record { typing = refl; name = refl; meaning = λ rows. refl }; strict = refl; casts = refl }
 
 a_lowered : IsLowered [] (truths (codes "a")) (output (codes "a"))
-a_lowered = record { typed = refl; same = record { typing = refl; name = refl; meaning = λ rows. refl }; strict = refl }
+a_lowered = record { typed = refl; same = record { typing = refl; name = refl; meaning = λ rows. refl }; strict = refl; casts = refl }
 
 pub returns-clause-filter : goal.returns-clause-filter
 returns-clause-filter c = λ plans is. record {
@@ -51,5 +51,5 @@ pub returns-clause-scan : goal.returns-clause-scan
 returns-clause-scan c = λ plans is. record {
   lowered = node (scan_op None []) no_more;
   denotes = scan_denotes [] plans 0 None [] (item_at plans _ 0 _ is refl);
-  built = record { well_formed = (refl, tt); source_schema = refl; lowered_schema = refl; accepted = (refl, tt); strict = (tt, tt); fits = λ tables fits. fits; same = λ tables fits. refl };
+  built = record { well_formed = (refl, tt); source_schema = refl; lowered_schema = refl; accepted = (refl, tt); strict = (tt, tt); names = (tt, tt); fits = λ tables fits. fits; same = λ tables fits. refl };
 }

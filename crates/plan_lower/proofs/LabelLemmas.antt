@@ -1,0 +1,76 @@
+-- Names of nodes, with what they come from.
+use Rattle.std.proofs.Common.{◌≡◌, ℕ, ◌<◌, List, [], ◌∷◌, map, Option, Some, None, slice_get, codes, refl, sym, ap, ◌∙◌, subst}
+use Rattle.std.specs.Option.{option_map}
+use Rattle.std.proofs.lemmas.Option.{slice_get-map}
+use Rattle.plan_dsl.specs.Trees.{Trees, node, no_more, more, fold_all}
+use Rattle.plan_dsl.specs.Names.{Label, first_label, label_of, literal_label, op_label}
+use Rattle.plan_dsl.specs.Ops.{Op, Expression}
+use Rattle.plan_arena.specs.declared.aexpr.AExpr.{AExpr}
+use Rattle.plan_arena.specs.declared.arena.Node.{Node}
+use Rattle.plan_arena.specs.Denotation.{Denotes, DenoteAll, DenotesTree, depth_at}
+use Rattle.plan_arena.specs.Layers.{layer, op_of, inputs_of, shape_of}
+use Rattle.plan_arena.specs.Items.{expression_layer, numbers, HoldsExpression}
+use Rattle.plan_arena.proofs.DenotationLemmas.{some_same}
+use Rattle.plan_arena.proofs.ItemLemmas.{expression_got, expression_inputs}
+
+first_there : (inputs : List ℕ) (first : ℕ) → slice_get inputs 0 ≡ Some first → (rest : List ℕ) × (inputs ≡ first ∷ rest)
+first_there [] first there = cc
+first_there (n ∷ ns) first there = let same : n ≡ first = cc in (ns, ap (λ k. k ∷ ns) same)
+
+none_there : (inputs : List ℕ) → slice_get inputs 0 ≡ None → inputs ≡ []
+none_there [] there = refl
+none_there (n ∷ ns) there = cc
+
+-- the first of the nodes, as a number
+pub first_number : (nodes : List Node) (inputs : List ℕ) (first : Option Node) → numbers nodes ≡ inputs → first ≡ slice_get nodes 0 → slice_get inputs 0 ≡ option_map (λ (n : Node). n.0) first
+first_number nodes inputs first are is =
+    ap (λ ns. slice_get ns 0) (sym are) ∙ slice_get-map (λ (n : Node). n.0) nodes 0 ∙ ap (option_map (λ (n : Node). n.0)) (sym is)
+
+module _ (items : List AExpr) (n : ℕ) (item : AExpr) (got : slice_get items n ≡ Some item) where
+  held : (op : Op) (inputs : List ℕ) → HoldsExpression items n op inputs → expression_layer item ≡ layer op inputs
+  held op inputs h = some_same (slice_get (map expression_layer items) n) (expression_layer item) (layer op inputs) (expression_got items n item got) h
+
+  op_held : (op : Op) (inputs : List ℕ) → HoldsExpression items n op inputs → op_of (expression_layer item) ≡ op
+  op_held op inputs h = ap op_of (held op inputs h)
+
+  -- a node with a name of its own
+  pub own_label : (label : Label) → ((labels : List Label) → op_label (op_of (expression_layer item)) labels ≡ label) → (t : Expression) → Denotes (HoldsExpression items) n t → label ≡ label_of t
+  own_label label own (node op ts) d =
+      sym (own (fold_all op_label ts)) ∙ ap (λ o. op_label o (fold_all op_label ts)) (op_held op d.0 d.1)
+
+  -- a node with that of its first input
+  module _ (inner : (labels : List Label) → op_label (op_of (expression_layer item)) labels ≡ first_label labels) where
+    by_first : (op : Op) (ts : Trees Op) → op_of (expression_layer item) ≡ op → label_of (node op ts) ≡ first_label (fold_all op_label ts)
+    by_first op ts is = ap (λ o. op_label o (fold_all op_label ts)) (sym is) ∙ inner (fold_all op_label ts)
+
+    first_child : (first : ℕ) (rest : List ℕ) (ts : Trees Op) (label : Label) → DenoteAll (HoldsExpression items) (first ∷ rest) ts → ((t : Expression) → Denotes (HoldsExpression items) first t → label ≡ label_of t) → label ≡ first_label (fold_all op_label ts)
+    first_child first rest (more t ts) label d named = named t d.0
+    first_child first rest no_more label d named = absurd d
+
+    no_child : (ts : Trees Op) → DenoteAll (HoldsExpression items) [] ts → first_label (fold_all op_label ts) ≡ literal_label (codes "literal")
+    no_child no_more d = refl
+    no_child (more t ts) d = absurd d
+
+    pub named_by_first : (first : ℕ) → slice_get (inputs_of (expression_layer item)) 0 ≡ Some first → (label : Label) → ((t : Expression) → Denotes (HoldsExpression items) first t → label ≡ label_of t) → (t : Expression) → Denotes (HoldsExpression items) n t → label ≡ label_of t
+    named_by_first first there label named (node op ts) d =
+        let split = first_there (inputs_of (expression_layer item)) first there in
+        let inputs = sym (ap inputs_of (held op d.0 d.1)) ∙ split.1 in
+        first_child first split.0 ts label (subst (λ ns. DenoteAll (HoldsExpression items) ns ts) inputs d.2) named
+        ∙ sym (by_first op ts (op_held op d.0 d.1))
+
+    -- one without inputs is named as a literal
+    pub named_without_inputs : slice_get (inputs_of (expression_layer item)) 0 ≡ None → (label : Label) → label ≡ literal_label (codes "literal") → (t : Expression) → Denotes (HoldsExpression items) n t → label ≡ label_of t
+    named_without_inputs there label is (node op ts) d =
+        let inputs = sym (ap inputs_of (held op d.0 d.1)) ∙ none_there (inputs_of (expression_layer item)) there in
+        is ∙ sym (no_child ts (subst (λ ns. DenoteAll (HoldsExpression items) ns ts) inputs d.2))
+        ∙ sym (by_first op ts (op_held op d.0 d.1))
+
+  first_denotes : (first : ℕ) (t : Expression) → slice_get (inputs_of (expression_layer item)) 0 ≡ Some first → Denotes (HoldsExpression items) n t → DenotesTree (HoldsExpression items) first × (depth_at (shape_of (map expression_layer items)) first < depth_at (shape_of (map expression_layer items)) n)
+  first_denotes first (node op ts) there d =
+      let split = first_there (inputs_of (expression_layer item)) first there in
+      let inputs = sym (ap inputs_of (held op d.0 d.1)) ∙ split.1 in
+      (expression_inputs items n op (first ∷ split.0) (subst (λ ns. HoldsExpression items n op ns) inputs d.1) (record { tree = node op ts; denotes = d })).0
+
+  -- the first input denotes a tree, and leads less far down
+  pub first_leads_down : (first : ℕ) → slice_get (inputs_of (expression_layer item)) 0 ≡ Some first → DenotesTree (HoldsExpression items) n → DenotesTree (HoldsExpression items) first × (depth_at (shape_of (map expression_layer items)) first < depth_at (shape_of (map expression_layer items)) n)
+  first_leads_down first there d = first_denotes first d.tree there d.denotes

@@ -1,0 +1,58 @@
+-- Schemas that items of plans record.
+use Rattle.std.proofs.Common.{◌≡◌, ◌<◌, ℕ, List, [], ◌∷◌, ◌++◌, length, map, Option, Some, None, is_some, unwrap_or, IsTrue, slice_get, refl, sym, ap, ◌∙◌, subst, arith}
+use Rattle.std.proofs.lemmas.Option.{slice_get_within}
+use Rattle.std.proofs.lemmas.List.{length-map}
+use Rattle.plan_types.specs.Schemas.{Columns}
+use Rattle.plan_dsl.specs.Plans.{Named, PlanOp}
+use Rattle.plan_arena.specs.declared.arena.Node.{Node}
+use Rattle.plan_arena.specs.declared.ir.IR.{IR}
+use Rattle.plan_arena.specs.Layers.{Layer, op_of}
+use Rattle.plan_arena.specs.Items.{Grows, plan_layer}
+use Rattle.plan_arena.proofs.ItemLemmas.{plan_added, plan_got, plan_stays}
+use Rattle.plan_lower.specs.Lowering.{recorded_in, recorded_at, Records, columns_at}
+
+held_there : (held : Option (Layer (PlanOp (Named ℕ)))) → IsTrue (is_some (recorded_in held)) → (item : Layer (PlanOp (Named ℕ))) × (held ≡ Some item)
+held_there None records = absurd cc
+held_there (Some item) records = (item, refl)
+
+-- a node that records a schema is in the arena
+pub records_within : (plans : List IR) (n : ℕ) → Records plans n → n < length plans
+records_within plans n records =
+    let held = held_there (slice_get (map plan_layer plans) n) records in
+    omega (arith, slice_get_within (map plan_layer plans) n held.0 held.1, length-map plans plan_layer)
+
+-- what the item that `get` answers records
+pub recorded_got : (plans : List IR) (n : ℕ) (item : IR) (recorded : Option Columns) → slice_get plans n ≡ Some item → (op_of (plan_layer item)).recorded ≡ recorded → recorded_at plans n ≡ recorded
+recorded_got plans n item recorded got is = ap recorded_in (plan_got plans n item got) ∙ is
+
+-- the columns of what is recorded
+pub columns_of_recorded : (plans : List IR) (n : ℕ) (schema : Columns) → recorded_at plans n ≡ Some schema → columns_at plans n ≡ schema
+columns_of_recorded plans n schema is = ap (λ recorded. unwrap_or recorded []) is
+
+none_recorded : (recorded : Option Columns) → IsTrue (is_some recorded) → recorded ≡ None → ⊥
+none_recorded None records is = absurd cc
+none_recorded (Some schema) records is = cc
+
+-- an item without a schema isn't at a node that records one
+pub without_schema : (plans : List IR) (n : ℕ) (item : IR) → Records plans n → slice_get plans n ≡ Some item → (op_of (plan_layer item)).recorded ≡ None → ⊥
+without_schema plans n item records got is = none_recorded (recorded_at plans n) records (recorded_got plans n item None got is)
+
+-- a new item records its schema
+pub recorded_added : (plans new : List IR) (item : IR) (n : ℕ) (schema : Columns) → new ≡ plans ++ item ∷ [] → n ≡ length plans → (op_of (plan_layer item)).recorded ≡ Some schema → recorded_at new n ≡ Some schema
+recorded_added plans new item n schema grown at is =
+    let held = ap recorded_in (plan_added plans item) ∙ is in
+    rw (grown, at) held
+
+-- what is recorded stays as the arena grows
+pub recorded_stays : (plans grown : List IR) (n : ℕ) → Grows plans grown → Records plans n → recorded_at grown n ≡ recorded_at plans n
+recorded_stays plans grown n g records =
+    let held = held_there (slice_get (map plan_layer plans) n) records in
+    ap recorded_in (plan_stays plans grown g n held.0 held.1 ∙ sym held.1)
+
+pub records_stay : (plans grown : List IR) (old new : Node) → Grows plans grown → new ≡ old → Records plans old.0 → Records grown new.0
+records_stay plans grown old new g same records =
+    subst (λ (n : Node). Records grown n.0) (sym same) (subst (λ recorded. IsTrue (is_some recorded)) (sym (recorded_stays plans grown old.0 g records)) records)
+
+pub columns_stay : (plans grown : List IR) (old new : Node) → Grows plans grown → new ≡ old → Records plans old.0 → columns_at grown new.0 ≡ columns_at plans old.0
+columns_stay plans grown old new g same records =
+    ap (λ (n : Node). columns_at grown n.0) same ∙ ap (λ recorded. unwrap_or recorded []) (recorded_stays plans grown old.0 g records)

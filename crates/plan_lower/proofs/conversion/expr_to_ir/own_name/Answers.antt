@@ -1,0 +1,11 @@
+use Rattle.std.proofs.Common.{sym, ap, ◌∙◌}
+use Rattle.std.specs.Str.{chars}
+use Rattle.plan_dsl.specs.Names.{column_label, literal_label, op_label}
+use Rattle.plan_arena.specs.Layers.{op_of}
+use Rattle.plan_arena.specs.Items.{expression_layer}
+use Rattle.plan_lower.proofs.conversion.expr_to_ir.own_name.Goals as goal
+
+pub returns-in_ok-name-in-Len-clause-ok : goal.returns-in_ok-name-in-Len-clause-ok
+unfolding chars
+returns-in_ok-name-in-Len-clause-ok c = λ labels.
+    ap (λ item. op_label (op_of (expression_layer item)) labels) c.in-Len.is ∙ sym (ap literal_label c.in_ok-name-in-Len.ensures.ok)
