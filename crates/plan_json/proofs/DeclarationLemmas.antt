@@ -1,44 +1,144 @@
--- Tables that are read one by one.
-use Rattle.std.proofs.Common.{◌≡◌, ℕ, suc, ◌<◌, ◌≤◌, ◌==◌, List, [], ◌∷◌, ◌++◌, length, take, Option, Some, None, option_map, option_and_then, Bool, true, false, cond, not, ◌&&◌, codes, nat_lt, refl, sym, ap, ◌∙◌, arith}
+-- Types, columns and tables that are read one by one, and the tables' map.
+use Rattle.std.proofs.Common.{◌≡◌, ℕ, List, [], ◌∷◌, ◌++◌, map, position, Bool, true, false, ◌||◌, cond, Option, Some, None, is_some, refl, sym, ap, ◌∙◌, Vec, Global, ◌<◌, length, get_or, take, option_and_then, not, option_map, arith, suc, ◌≤◌, ◌==◌, ◌&&◌, codes, nat_lt}
+use Rattle.std.specs.Map.{lookup}
+use Rattle.std.specs.Option.{option_map, option_map_or}
+use Rattle.std.proofs.lemmas.Bool.{or_parts, ltb-true, lt-ltb}
+use Rattle.indexmap.specs.IndexMap.{insert_entry}
+use Rattle.indexmap.proofs.MapLemmas.{some_index}
+use Rattle.plan_types.specs.Schemas.{Name, columns, same_name, names_of, is_among, Columns, type_at, with_column, repeats}
+use Rattle.plan_types.specs.declared.schema.Schema.{Schema}
+use Rattle.plan_json.specs.Looking.{both, only_member, all_of, some_of, two_members}
+use Rattle.plan_json.specs.Leaves.{table_at, text_of, type_of, struct_of, each_column, column_of, column_name, columns_of, columns_from, keyed_type, table_of, table_name, tables_of, tables_from, table_limit}
+use Rattle.plan_json.specs.Tables.{Declared, table_entry}
+use Rattle.plan_json.proofs.LookingLemmas.{both-some, both-none_first, array-from_as_array, object-from_only_member}
 use Rattle.std.proofs.lemmas.List.{take_all, map-append, length-take-le}
-use Rattle.std.proofs.lemmas.Bool.{ltb-true, lt-ltb}
-use Rattle.std.specs.Option.{option_map_or}
-use Rattle.plan_types.specs.Schemas.{Name, Columns, names_of, is_among, repeats}
-use Rattle.plan_types.proofs.NameLemmas.{repeats-push}
-use Rattle.serde_json.specs.Data.{Data, Items, object}
-use Rattle.serde_json.specs.Events.{items_len, members_len}
-use Rattle.serde_json.specs.Find.{as_array, get, get_member}
+use Rattle.plan_types.specs.Types.{Ty, fields_of as row_of, fields_from, field_of}
+use Rattle.plan_types.specs.declared.dtype.Fields.{roll-Fields}
+use Rattle.plan_types.specs.declared.field.Field.{Field}
+use Rattle.plan_types.proofs.FieldLemmas.{rolled_fields}
+use Rattle.plan_types.proofs.NameLemmas.{repeats-push, repeats-again}
+use Rattle.plan_types.proofs.SchemaLemmas.{with_column-new, is_among-type_at, IsNewName-test}
+use Rattle.serde_json.specs.Data.{Data, Items, array, no_items, item, object}
+use Rattle.serde_json.specs.Find.{as_array, get, get_item, get_member}
 use Rattle.serde_json.specs.View.{view, items_view}
 use Rattle.serde_json.specs.declared.value.Value.{Value}
+use Rattle.plan_json.specs.Faults.{FaultKind, column_list, own_fault, shape_fault, unless, table_list, a_table, number, part, part_of, table_item, declared_names}
+use Rattle.plan_json.specs.Forms.{row_named, type_rows}
+use Rattle.plan_json.specs.declared.forms.TypeKey.{TypeKey}
+use Rattle.plan_json.proofs.ItemLemmas.{some_of-names, names_split, item_at, first_items-take, both_are, chained, opened}
+use Rattle.serde_json.specs.Events.{items_len, members_len}
 use Rattle.serde_json.proofs.Views.{items_len-items_view}
-use Rattle.plan_json.specs.Faults.{table_list, own_fault, shape_fault, unless, declared_names}
-use Rattle.plan_json.specs.Looking.{both, two_members, all_of, some_of}
-use Rattle.plan_json.specs.Leaves.{text_of, table_of, table_name, tables_of, tables_from, table_limit, columns_of}
-use Rattle.plan_json.specs.Tables.{Declared}
-use Rattle.plan_json.proofs.ItemLemmas.{some_of-names}
 
-first_of_both : {A B : Type 0} (x : Option A) (y : Option B) (p : A × B) → both x y ≡ Some p → x ≡ Some p.0
-first_of_both None y p e = cc
-first_of_both (Some a) None p e = cc
-first_of_both {A = A} {B = B} (Some a) (Some b) p e =
-    let all : ◌≡◌ {A = A × B} (a, b) p = cc in ap (λ q. Some q.0) all
+abbrev Entries : Type 0
+Entries = List (Name × Schema)
+
+pub names_of-entries : (es : Entries) → names_of (map table_entry es) ≡ names_of es
+names_of-entries [] = refl
+names_of-entries (e ∷ es) = ap (λ l. e.0 ∷ l) (names_of-entries es)
+
+lookup-entries : (test : Name → Bool) (es : Entries) → lookup test (map table_entry es) ≡ option_map columns (lookup test es)
+lookup-entries test [] = refl
+lookup-entries test (e ∷ es) =
+    elim (test e.0) as (λ b. cond b (Some (columns e.1)) (lookup test (map table_entry es)) ≡ option_map columns (cond b (Some e.1) (lookup test es))) [ true ↦ refl | false ↦ lookup-entries test es ]
+
+is_among-lookup : {A : Type 0} (es : List (Name × A)) (name : Name) → is_some (lookup (same_name name) es) ≡ is_among name (names_of es)
+is_among-lookup [] name = refl
+is_among-lookup (e ∷ es) name =
+    elim (same_name name e.0) as (λ b. is_some (cond b (Some e.1) (lookup (same_name name) es)) ≡ (b || is_among name (names_of es))) [ true ↦ refl | false ↦ is_among-lookup es name ]
+
+-- whether a table is found is whether its name is among them
+pub is_among-entries : (es : Entries) (name : Name) → is_some (lookup (same_name name) es) ≡ is_among name (names_of (map table_entry es))
+is_among-entries es name = is_among-lookup es name ∙ ap (is_among name) (sym (names_of-entries es))
+
+pub table_at-some : (es : Entries) (name : Name) (n : ℕ) (schema : Schema) → Some n ≡ position (same_name name) (names_of es) → Some schema ≡ lookup (same_name name) es → Some (n, columns schema) ≡ table_at (map table_entry es) name
+table_at-some es name n schema at found =
+    both-some _ _ n (columns schema) (at ∙ ap (position (same_name name)) (sym (names_of-entries es))) (ap (option_map columns) found ∙ sym (lookup-entries (same_name name) es))
+
+pub table_at-none : (es : Entries) (name : Name) → None ≡ position (same_name name) (names_of es) → None ≡ table_at (map table_entry es) name
+table_at-none es name none = both-none_first _ _ (none ∙ ap (position (same_name name)) (sym (names_of-entries es)))
+
+is_some-both : {A B : Type 0} (x : Option A) (y : Option B) → is_some x ≡ is_some y → is_some (both x y) ≡ is_some x
+is_some-both None y e = refl
+is_some-both (Some x) None e = sym e
+is_some-both (Some x) (Some y) e = refl
+
+-- a table is at a name if and only if the name is among them
+pub is_some-table_at : (tables : Declared) (name : Name) → is_some (table_at tables name) ≡ is_among name (names_of tables)
+is_some-table_at tables name =
+    let e = some_index (same_name name) tables in
+    is_some-both (position (same_name name) (names_of tables)) (lookup (same_name name) tables) e ∙ e ∙ is_among-lookup tables name
+
+-- a new table goes last
+pub declared-insert : (es : Entries) (name : Name) (schema : Schema) → is_among name (names_of (map table_entry es)) ≡ false → map table_entry (insert_entry same_name es name schema) ≡ map table_entry es ++ (name, columns schema) ∷ []
+declared-insert [] name schema new = refl
+declared-insert (e ∷ es) name schema new =
+    let parts = or_parts (same_name name e.0) _ new in
+    ap (λ b. map table_entry (cond b ((e.0, schema) ∷ es) (e ∷ insert_entry same_name es name schema))) parts.0 ∙ ap (λ l. table_entry e ∷ l) (declared-insert es name schema parts.1)
+
+-- a type by its key
+pub type_by_key : (d : Data) (word : List ℕ) (value : Data) (row : List ℕ × TypeKey) (t : Ty) → Some (word, value) ≡ only_member d → Some row ≡ row_named type_rows word → keyed_type row.1 value ≡ Some t → type_of d ≡ Some t
+type_by_key d word value row t is named said =
+    ap type_of (object-from_only_member d word value is) ∙ ap (option_and_then (λ (r : List ℕ × TypeKey). keyed_type r.1 value)) (sym named) ∙ said
+
+pub each_column-all_of : (ds : Items) → each_column ds ≡ all_of column_of ds
+each_column-all_of no_items = refl
+each_column-all_of (item d ds) = ap (λ o. option_map (λ p. p.0 ∷ p.1) (both (column_of d) o)) (each_column-all_of ds)
+
+-- all fields are read
+pub struct_all : (d : Data) (vs : List Value) (n : ℕ) (made : Vec Field Global) → Some (items_view vs) ≡ as_array d → length vs ≡ n → all_of column_of (items_view (take n vs)) ≡ Some (map field_of made.items) → struct_of d ≡ Some (row_of (roll-Fields (record { items = made })))
+struct_all d vs n made is all read =
+    ap struct_of (array-from_as_array d _ is)
+    ∙ ap (λ l. option_map fields_from (each_column (items_view l))) (sym (take_all n vs (omega arith)))
+    ∙ ap (option_map fields_from) (each_column-all_of (items_view (take n vs)) ∙ read)
+    ∙ ap Some (sym (rolled_fields made))
+
+-- a column that is read gives itself the name that is read
+pub column_name-read : (d : Data) (c : Name × Ty) → column_of d ≡ Some c → column_name d ≡ Some c.0
+column_name-read (array (item name (item type no_items))) c e = (both_are (text_of name) (type_of type) c e).0
+column_name-read _ c e = cc
+
+-- all columns are read, and no name repeats
+pub columns_all : (d : Data) (vs : List Value) (n : ℕ) (cs : Columns) → Some (items_view vs) ≡ as_array d → length vs ≡ n → all_of column_of (items_view (take n vs)) ≡ Some cs → repeats (names_of cs) ≡ false → columns_of d ≡ Some cs
+columns_all d vs n cs is all read distinct =
+    let here = ap (λ l. all_of column_of (items_view l)) (sym (take_all n vs (omega arith))) ∙ read in
+    let names = some_of-names column_of column_name column_name-read (items_view vs) cs here in
+    ap (option_and_then columns_from) (sym is)
+    ∙ ap (λ b. cond b None (each_column (items_view vs))) (ap repeats names ∙ distinct)
+    ∙ each_column-all_of (items_view vs) ∙ here
+
+-- a name that earlier columns have repeats among all
+pub column_repeated : (d : Data) (vs : List Value) (i : ℕ) (v : Value) (cs : Columns) (c : Name × Ty) → Some (items_view vs) ≡ as_array d → i < length vs → v ≡ get_or vs i v → all_of column_of (items_view (take i vs)) ≡ Some cs → column_of (view v) ≡ Some c → is_some (type_at cs c.0) ≡ true → own_fault column_list d ≡ Some (shape_fault d)
+column_repeated d vs i v cs c found within is read now there =
+    let split = names_split column_name (items_view vs) i (view v) c.0 (item_at vs i v within is) (column_name-read (view v) c now) in
+    let before = ap (some_of column_name) (first_items-take vs i) ∙ some_of-names column_of column_name column_name-read (items_view (take i vs)) cs read in
+    let again = ap repeats (split.1 ∙ ap (λ l. l ++ c.0 ∷ split.0) before) ∙ repeats-again (names_of cs) c.0 _ (is_among-type_at cs c.0 ∙ there) in
+    ap (list_fault_of (λ items. not (repeats (some_of column_name items)))) (sym found) ∙ ap (λ b. unless (shape_fault d) (not b)) again
+  where
+    list_fault_of : (Items → Bool) → Option Items → Option FaultKind
+    list_fault_of test o = unless (shape_fault d) (option_map_or test o false)
+
+-- one more column is read
+pub columns_more : (cs : Columns) (name : Name) (type : Ty) → is_some (type_at cs name) ≡ false → repeats (names_of cs) ≡ false → (with_column cs name type ≡ cs ++ (name, type) ∷ []) × (repeats (names_of (cs ++ (name, type) ∷ [])) ≡ false)
+columns_more cs name type new distinct =
+    let apart = is_among-type_at cs name ∙ new in (
+      with_column-new cs name type (IsNewName-test cs name apart),
+      ap repeats (map-append (λ (c : Name × Ty). c.0) cs ((name, type) ∷ [])) ∙ repeats-push (names_of cs) name distinct apart,
+    )
 
 -- the first of two members is found at its key
 get-two_members : (first second : List ℕ) (d : Data) (p : Data × Data) → two_members first second d ≡ Some p → get first d ≡ Some p.0
 get-two_members first second (object ms) p e = go (members_len ms == 2) e
   where
     go : (b : Bool) → cond b (both (get_member first ms) (get_member second ms)) None ≡ Some p → get_member first ms ≡ Some p.0
-    go true h = first_of_both _ _ p h
+    go true h = (both_are _ _ p h).0
     go false h = cc
 get-two_members first second _ p e = cc
 
 -- a table that is read gives itself the name that is read
 pub table_name-read : (d : Data) (t : Name × Columns) → table_of d ≡ Some t → table_name d ≡ Some t.0
-table_name-read d t e = go (two_members (codes "name") (codes "columns") d) refl e
-  where
-    go : (pair : Option (Data × Data)) → two_members (codes "name") (codes "columns") d ≡ pair → option_and_then (λ p. both (text_of p.0) (columns_of p.1)) pair ≡ Some t → table_name d ≡ Some t.0
-    go None is h = cc
-    go (Some p) is h = ap (option_and_then text_of) (get-two_members (codes "name") (codes "columns") d p is) ∙ first_of_both (text_of p.0) (columns_of p.1) t h
+table_name-read d t e =
+    let pair = chained (λ p. both (text_of p.0) (columns_of p.1)) (two_members (codes "name") (codes "columns") d) t e in
+    ap (option_and_then text_of) (get-two_members (codes "name") (codes "columns") d pair.0 pair.1) ∙ (both_are (text_of pair.0.0) (columns_of pair.0.1) t pair.2).0
 
 pub table_names-read : (ds : Items) (ts : Declared) → all_of table_of ds ≡ Some ts → some_of table_name ds ≡ names_of ts
 table_names-read ds ts read = some_of-names table_of table_name table_name-read ds ts read
@@ -46,14 +146,8 @@ table_names-read ds ts read = some_of-names table_of table_name table_name-read 
 -- one table for each item
 length-all_of : {A : Type 0} (read : Data → Option A) (vs : List Value) (xs : List A) → all_of read (items_view vs) ≡ Some xs → length xs ≡ length vs
 length-all_of read [] xs e = let none : [] ≡ xs = cc in ap length (sym none)
-length-all_of {A} read (v ∷ vs) xs e = go (λ ys is. length-all_of read vs ys is) (read (view v)) (all_of read (items_view vs)) refl e
-  where
-    go : ((ys : List A) → all_of read (items_view vs) ≡ Some ys → length ys ≡ length vs) → (first : Option A) (rest : Option (List A)) → all_of read (items_view vs) ≡ rest → option_map (λ p. p.0 ∷ p.1) (both first rest) ≡ Some xs → length xs ≡ suc (length vs)
-    go later None rest is h = cc
-    go later (Some y) None is h = cc
-    go later (Some y) (Some ys) is h =
-        let all : y ∷ ys ≡ xs = cc in
-        ap length (sym all) ∙ ap suc (later ys is)
+length-all_of read (v ∷ vs) xs e =
+    let parts = opened (read (view v)) (all_of read (items_view vs)) xs e in ap length (sym parts.4) ∙ ap suc (length-all_of read vs parts.1 parts.3)
 
 pub length-tables : (vs : List Value) (i : ℕ) (ts : Declared) → i < length vs → all_of table_of (items_view (take i vs)) ≡ Some ts → length ts ≡ i
 length-tables vs i ts within read = length-all_of table_of (take i vs) ts read ∙ length-take-le i vs (omega arith)
@@ -98,3 +192,11 @@ declared_names-read d ts e = go (as_array d) e
     go : (o : Option Items) → option_and_then tables_from o ≡ Some ts → option_map_or (some_of table_name) o [] ≡ names_of ts
     go None h = cc
     go (Some items) h = tested items (nat_lt (items_len items) table_limit && not (repeats (some_of table_name items))) h
+
+-- the next table, behind those that were read
+pub table_next : (d : Data) (vs : List Value) (i : ℕ) (v : Value) (ts : Declared) → Some (items_view vs) ≡ as_array d → i < length vs → v ≡ get_or vs i v → all_of table_of (items_view (take i vs)) ≡ Some ts → part_of table_list (number i) d ≡ Some (part (a_table (names_of ts)) (view v))
+table_next d vs i v ts is within at read =
+    ap (option_and_then (table_item i)) (sym is)
+    ∙ ap (λ ds. option_map (part (a_table (some_of table_name ds))) (get_item i (items_view vs))) (first_items-take vs i)
+    ∙ ap (λ l. option_map (part (a_table l)) (get_item i (items_view vs))) (table_names-read (items_view (take i vs)) ts read)
+    ∙ ap (option_map (part (a_table (names_of ts)))) (item_at vs i v within at)

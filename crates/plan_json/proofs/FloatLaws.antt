@@ -20,46 +20,34 @@ neither (float x) i u = refl
 
 -- ---- what a value's own fault is
 
--- a fault is one of a name, or what a fault of the value's shape is called
-data IsNamed (d : Data) : FaultKind → Type 0 where
-  by_name : IsNamed d BadName
-  by_shape : (kind : FaultKind) → shape_fault d ≡ kind → IsNamed d kind
+-- a fault of a float is one of a float, and one of shape is none
+abbrev Tells : Data → FaultKind → Type 0
+Tells d BadFloat = is_float d ≡ true
+Tells d BadShape = is_float d ≡ false
+Tells d BadName = Unit {0}
 
-of_test : (d : Data) (b : Bool) (kind : FaultKind) → unless (shape_fault d) b ≡ Some kind → IsNamed d kind
+by_shape : (d : Data) (b : Bool) (kind : FaultKind) → is_float d ≡ b → Some (cond b BadFloat BadShape) ≡ Some kind → Tells d kind
+by_shape d true BadFloat is e = is
+by_shape d false BadShape is e = is
+by_shape d b BadName is e = tt
+by_shape d true BadShape is e = cc
+by_shape d false BadFloat is e = cc
+
+of_test : (d : Data) (b : Bool) (kind : FaultKind) → unless (shape_fault d) b ≡ Some kind → Tells d kind
 of_test d true kind e = cc
-of_test d false kind e = by_shape kind cc
+of_test d false kind e = by_shape d (is_float d) kind refl e
 
-of_name : (d : Data) (test : Name → Bool) (o : Option Name) (kind : FaultKind) → option_map_or (λ name. unless BadName (test name)) o (Some (shape_fault d)) ≡ Some kind → IsNamed d kind
-of_name d test None kind e = by_shape kind cc
+of_name : (d : Data) (test : Name → Bool) (o : Option Name) (kind : FaultKind) → option_map_or (λ name. unless BadName (test name)) o (Some (shape_fault d)) ≡ Some kind → Tells d kind
+of_name d test None kind e = by_shape d (is_float d) kind refl e
 of_name d test (Some name) kind e = go (test name) kind e
   where
-    go : (b : Bool) (kind : FaultKind) → unless BadName b ≡ Some kind → IsNamed d kind
+    go : (b : Bool) (kind : FaultKind) → unless BadName b ≡ Some kind → Tells d kind
     go true kind e = cc
+    go false BadName e = tt
     go false BadShape e = cc
     go false BadFloat e = cc
-    go false BadName e = by_name
 
-own_named : (form : Form) (d : Data) (kind : FaultKind) → own_fault form d ≡ Some kind → IsNamed d kind
-own_named (a_new_name before) d kind e = of_name d _ (text_of d) kind e
-own_named (a_scan tables) d kind e = of_name d _ (text_of d) kind e
-own_named _ d kind e = of_test d _ kind e
-
-pub float_fault : (form : Form) (d : Data) → own_fault form d ≡ Some BadFloat → is_float d ≡ true
-float_fault form d e = go (own_named form d BadFloat e)
-  where
-    test : (b : Bool) → cond b BadFloat BadShape ≡ BadFloat → b ≡ true
-    test true h = refl
-    test false h = cc
-
-    go : IsNamed d BadFloat → is_float d ≡ true
-    go (by_shape kind h) = test (is_float d) h
-
-pub shape_fault_no_float : (form : Form) (d : Data) → own_fault form d ≡ Some BadShape → is_float d ≡ false
-shape_fault_no_float form d e = go (own_named form d BadShape e)
-  where
-    test : (b : Bool) → cond b BadFloat BadShape ≡ BadShape → b ≡ false
-    test true h = cc
-    test false h = refl
-
-    go : IsNamed d BadShape → is_float d ≡ false
-    go (by_shape kind h) = test (is_float d) h
+pub own_tells : (form : Form) (d : Data) (kind : FaultKind) → own_fault form d ≡ Some kind → Tells d kind
+own_tells (a_new_name before) d kind e = of_name d _ (text_of d) kind e
+own_tells (a_scan tables) d kind e = of_name d _ (text_of d) kind e
+own_tells _ d kind e = of_test d _ kind e

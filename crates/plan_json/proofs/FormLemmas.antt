@@ -1,7 +1,6 @@
 -- What is read by the table of forms.
-use Rattle.std.proofs.Common.{◌≡◌, ℕ, suc, ◌+◌, ◌<◌, List, [], ◌∷◌, ◌++◌, length, get_or, take, map, Bool, true, false, cond, ◌&&◌, Option, Some, None, is_some, option_map, option_and_then, bytes_eq, refl, sym, ap, subst, ◌∙◌, arith}
-use Rattle.serde_json.specs.Find.{as_null}
-use Rattle.std.proofs.lemmas.List.{take_more}
+use Rattle.std.proofs.Common.{◌≡◌, ℕ, zero, suc, ◌+◌, ◌<◌, List, [], ◌∷◌, ◌++◌, length, get_or, slice_get, take, map, Bool, true, false, cond, ◌&&◌, Option, Some, None, is_some, option_map, option_and_then, bytes_eq, refl, sym, ap, subst, ◌∙◌, arith, ne_eqb}
+use Rattle.serde_json.specs.Find.{as_null, as_array}
 use Rattle.std.proofs.lemmas.Slice.Eq.{bytes_eq-Decides}
 use Rattle.plan_dsl.specs.Ops.{Expression}
 use Rattle.serde_json.specs.Data.{Data, null, Items, array, object, no_items, item, member, no_members}
@@ -10,7 +9,7 @@ use Rattle.serde_json.specs.declared.value.Value.{Value}
 use Rattle.plan_json.specs.Errors.{escaped}
 use Rattle.plan_json.specs.Forms.{Asked, a_form, leaf, many, Places, single, listed, Read, name_read, literal_read, operator_read, type_read, mode_read, table_read, columns_read, expression_read, plan_read, many_read, reads_of, expressions_in, expression_rows, plan_rows, row_named, key_named, asks, says, expression_says, plan_says, fits, all_fit, asked_in, each_fits, Fits, AllFit, nothing_read}
 use Rattle.plan_json.specs.Leaves.{text_of, literal_of, number_text_of, typed_of, operator_of, type_of, mode_of, table_at, columns_of}
-use Rattle.plan_json.specs.Looking.{only_member, all_of}
+use Rattle.plan_json.specs.Looking.{only_member, all_of, two_items, three_items}
 use Rattle.plan_json.specs.Queries.{nothing_of, leaf_of, front, read_as, each_as, these_as, list_as, places_as}
 use Rattle.plan_json.specs.Tables.{Declared}
 use Rattle.plan_json.specs.declared.forms.Kind.{Kind}
@@ -21,20 +20,13 @@ use Rattle.plan_json.specs.declared.forms.ExpressionKey.{ExpressionKey}
 use Rattle.plan_json.specs.declared.forms.PlanKey.{PlanKey}
 use Rattle.plan_json.specs.declared.forms.Leaf.{Leaf}
 use Rattle.plan_json.specs.declared.forms.Leaf.TheVariants as leaves
-use Rattle.plan_json.proofs.LookingLemmas.{object-from_only_member}
-
--- what a value of one key reads to
-pub at_word : {A : Type 0} (read : Data → A) (d : Data) (word literal : List ℕ) (value : Data) → Some (word, value) ≡ only_member d → word ≡ literal → read d ≡ read (object (member literal value no_members))
-at_word read d word literal value is same = ap read (object-from_only_member d word value is) ∙ ap (λ w. read (object (member w value no_members))) same
-
--- ---- a key that names no form
-
-pub other_word : {A : Type 0} (word literal : List ℕ) (x y : A) → (word ≡ literal → ⊥) → cond (bytes_eq word literal) x y ≡ y
-other_word word literal x y other = go (bytes_eq word literal) (bytes_eq-Decides word literal).0
-  where
-    go : (b : Bool) → (b ≡ true → word ≡ literal) → cond b x y ≡ y
-    go true same = absurd (other (same refl))
-    go false same = refl
+use Rattle.plan_json.proofs.LookingLemmas.{object-from_only_member, array-from_as_array, array-from_two_items, array-from_three_items}
+use Rattle.plan_json.proofs.ItemLemmas.{mapped, chained, opened, all_of-more}
+use Rattle.std.proofs.lemmas.List.{take_all}
+use Rattle.plan_types.specs.Schemas.{Name}
+use Rattle.serde_json.specs.Events.{items_len}
+use Rattle.plan_json.specs.Faults.{part, key, number, keyed_form, items_of, asked_form, places_form, key_form, own_fault, shape_fault, part_of, unless, BadShape}
+use Rattle.plan_json.proofs.FaultLemmas.{key_in}
 
 -- ---- keys need no escape in a pointer
 
@@ -42,7 +34,7 @@ abbrev all_plain : {K : Type 0} → List (List ℕ × K) → Bool
 all_plain [] = true
 all_plain (row ∷ rows) = bytes_eq (escaped row.0) row.0 && all_plain rows
 
-named_plain : {K : Type 0} (rows : List (List ℕ × K)) (word : List ℕ) (row : List ℕ × K) → all_plain rows ≡ true → Some row ≡ row_named rows word → escaped row.0 ≡ row.0
+pub named_plain : {K : Type 0} (rows : List (List ℕ × K)) (word : List ℕ) (row : List ℕ × K) → all_plain rows ≡ true → Some row ≡ row_named rows word → escaped row.0 ≡ row.0
 named_plain [] word row plain is = cc
 named_plain {K} (first ∷ rows) word row plain is =
     go (bytes_eq (escaped first.0) first.0) (bytes_eq-Decides (escaped first.0) first.0).0 (bytes_eq first.0 word) (λ p e. named_plain rows word row p e) plain is
@@ -55,49 +47,29 @@ named_plain {K} (first ∷ rows) word row plain is =
         subst (λ (x : List ℕ × K). escaped x.0 ≡ x.0) is_first (same refl)
     go true same false later p e = later p e
 
-pub expression_plain : (word : List ℕ) (row : List ℕ × ExpressionKey) → Some row ≡ row_named expression_rows word → escaped row.0 ≡ row.0
-expression_plain word row is = named_plain expression_rows word row refl is
-
-pub plan_plain : (word : List ℕ) (row : List ℕ × PlanKey) → Some row ≡ row_named plan_rows word → escaped row.0 ≡ row.0
-plan_plain word row is = named_plain plan_rows word row refl is
-
 -- ---- what is read of an item fits what is asked
 
-image : {A B : Type 0} (f : A → B) (o : Option A) (y : B) → option_map f o ≡ Some y → (x : A) × (o ≡ Some x) × (f x ≡ y)
-image f None y e = cc
-image f (Some x) y e = (x, refl, cc)
-
-image_then : {A B : Type 0} (f : A → Option B) (o : Option A) (y : B) → option_and_then f o ≡ Some y → (x : A) × (o ≡ Some x) × (f x ≡ Some y)
-image_then f None y e = cc
-image_then f (Some x) y e = (x, refl, e)
-
--- the first of a list that is read, and the others
-opened : (first : Option Read) (rest : Option (List Read)) (rs : List Read) → front first rest ≡ Some rs → (x : Read) × (xs : List Read) × (first ≡ Some x) × (rest ≡ Some xs) × (x ∷ xs ≡ rs)
-opened None rest rs e = cc
-opened (Some x) None rs e = cc
-opened (Some x) (Some xs) rs e = (x, xs, refl, refl, cc)
-
 leaf_fits : (tables : Declared) (which : Leaf) (d : Data) (r : Read) → leaf_of tables which d ≡ Some r → fits (leaf which) r ≡ true
-leaf_fits tables leaves.Name d r e = let x = image name_read (text_of d) r e in ap (fits (leaf leaves.Name)) (sym x.2)
-leaf_fits tables leaves.Value d r e = let x = image literal_read (literal_of d) r e in ap (fits (leaf leaves.Value)) (sym x.2)
-leaf_fits tables leaves.Digits d r e = let x = image literal_read (number_text_of d) r e in ap (fits (leaf leaves.Digits)) (sym x.2)
-leaf_fits tables leaves.Typed d r e = let x = image literal_read (typed_of d) r e in ap (fits (leaf leaves.Typed)) (sym x.2)
-leaf_fits tables leaves.Operator d r e = let x = image operator_read (operator_of d) r e in ap (fits (leaf leaves.Operator)) (sym x.2)
-leaf_fits tables leaves.Dtype d r e = let x = image type_read (type_of d) r e in ap (fits (leaf leaves.Dtype)) (sym x.2)
-leaf_fits tables leaves.Mode d r e = let x = image mode_read (mode_of d) r e in ap (fits (leaf leaves.Mode)) (sym x.2)
-leaf_fits tables leaves.Table d r e = let x = image (λ table. table_read table.0 table.1) (option_and_then (table_at tables) (text_of d)) r e in ap (fits (leaf leaves.Table)) (sym x.2)
-leaf_fits tables leaves.Columns d r e = let x = image columns_read (columns_of d) r e in ap (fits (leaf leaves.Columns)) (sym x.2)
-leaf_fits tables leaves.Nothing d r e = let x = image (λ none. nothing_read) (as_null d) r e in ap (fits (leaf leaves.Nothing)) (sym x.2)
+leaf_fits tables leaves.Name d r e = let x = mapped name_read (text_of d) r e in ap (fits (leaf leaves.Name)) (sym x.2)
+leaf_fits tables leaves.Value d r e = let x = mapped literal_read (literal_of d) r e in ap (fits (leaf leaves.Value)) (sym x.2)
+leaf_fits tables leaves.Digits d r e = let x = mapped literal_read (number_text_of d) r e in ap (fits (leaf leaves.Digits)) (sym x.2)
+leaf_fits tables leaves.Typed d r e = let x = mapped literal_read (typed_of d) r e in ap (fits (leaf leaves.Typed)) (sym x.2)
+leaf_fits tables leaves.Operator d r e = let x = mapped operator_read (operator_of d) r e in ap (fits (leaf leaves.Operator)) (sym x.2)
+leaf_fits tables leaves.Dtype d r e = let x = mapped type_read (type_of d) r e in ap (fits (leaf leaves.Dtype)) (sym x.2)
+leaf_fits tables leaves.Mode d r e = let x = mapped mode_read (mode_of d) r e in ap (fits (leaf leaves.Mode)) (sym x.2)
+leaf_fits tables leaves.Table d r e = let x = mapped (λ table. table_read table.0 table.1) (option_and_then (table_at tables) (text_of d)) r e in ap (fits (leaf leaves.Table)) (sym x.2)
+leaf_fits tables leaves.Columns d r e = let x = mapped columns_read (columns_of d) r e in ap (fits (leaf leaves.Columns)) (sym x.2)
+leaf_fits tables leaves.Nothing d r e = let x = mapped (λ none. nothing_read) (as_null d) r e in ap (fits (leaf leaves.Nothing)) (sym x.2)
 
 -- what a key of a kind says is of that kind
 says_fits : (kind : Kind) (word : List ℕ) (row : List ℕ × Key) (args : List Read) (r : Read) → key_named kind word ≡ Some row → says row.1 args ≡ Some r → fits (a_form kind) r ≡ true
 says_fits kinds.Expression word row args r named said =
-    let found = image (λ (x : List ℕ × ExpressionKey). (x.0, keys.Expression x.1)) (row_named expression_rows word) row named in
-    let tree = image expression_read (expression_says found.0.1 args) r (ap (λ (x : List ℕ × Key). says x.1 args) found.2 ∙ said) in
+    let found = mapped (λ (x : List ℕ × ExpressionKey). (x.0, keys.Expression x.1)) (row_named expression_rows word) row named in
+    let tree = mapped expression_read (expression_says found.0.1 args) r (ap (λ (x : List ℕ × Key). says x.1 args) found.2 ∙ said) in
     ap (fits (a_form kinds.Expression)) (sym tree.2)
 says_fits kinds.Plan word row args r named said =
-    let found = image (λ (x : List ℕ × PlanKey). (x.0, keys.Plan x.1)) (row_named plan_rows word) row named in
-    let tree = image plan_read (plan_says found.0.1 args) r (ap (λ (x : List ℕ × Key). says x.1 args) found.2 ∙ said) in
+    let found = mapped (λ (x : List ℕ × PlanKey). (x.0, keys.Plan x.1)) (row_named plan_rows word) row named in
+    let tree = mapped plan_read (plan_says found.0.1 args) r (ap (λ (x : List ℕ × Key). says x.1 args) found.2 ∙ said) in
     ap (fits (a_form kinds.Plan)) (sym tree.2)
 
 and_both : (a b : Bool) → a ≡ true → b ≡ true → (a && b) ≡ true
@@ -106,12 +78,12 @@ and_both a b first second = cc
 mutual
   read_fits : (tables : Declared) (a : Asked) (d : Data) (r : Read) → read_as tables a d ≡ Some r → fits a r ≡ true
   read_fits tables (a_form kind) (object (member word value no_members)) r e =
-      let row = image_then (λ row. option_and_then (says row.1) (places_as tables (asks row.1) value)) (key_named kind word) r e in
-      let args = image_then (says row.0.1) (places_as tables (asks row.0.1) value) r row.2 in
+      let row = chained (λ row. option_and_then (says row.1) (places_as tables (asks row.1) value)) (key_named kind word) r e in
+      let args = chained (says row.0.1) (places_as tables (asks row.0.1) value) r row.2 in
       says_fits kind word row.0 args.0 r row.1 args.2
   read_fits tables (leaf which) d r e = leaf_fits tables which d r e
   read_fits tables (many a) (array ds) r e =
-      let rs = image (λ xs. many_read (reads_of xs)) (each_as tables a ds) r e in
+      let rs = mapped (λ xs. many_read (reads_of xs)) (each_as tables a ds) r e in
       subst (λ x. fits (many a) x ≡ true) rs.2 (each_read_fits tables a ds rs.0 rs.1)
   read_fits tables _ _ r e = cc
 
@@ -135,7 +107,7 @@ list_fit tables ps _ rs e = cc
 
 pub places_fit : (tables : Declared) (ps : Places) (d : Data) (rs : List Read) → places_as tables ps d ≡ Some rs → AllFit (asked_in ps) rs
 places_fit tables (single a) d rs e =
-    let r = image (λ r. r ∷ []) (read_as tables a d) rs e in
+    let r = mapped (λ r. r ∷ []) (read_as tables a d) rs e in
     subst (AllFit (a ∷ [])) r.2 (record { count = refl; each = and_both _ _ (read_fits tables a d r.0 r.1) refl })
 places_fit tables (listed ps) d rs e = list_fit tables ps d rs e
 
@@ -171,24 +143,6 @@ pub each_as-all_of : (tables : Declared) (a : Asked) (ds : Items) → each_as ta
 each_as-all_of tables a no_items = refl
 each_as-all_of tables a (item d ds) = ap (front (read_as tables a d)) (each_as-all_of tables a ds)
 
-these_push : (tables : Declared) (ps : List Asked) (a : Asked) (vs : List Value) (v : Value) (xs : List Read) (x : Read) → these_as tables ps (items_view vs) ≡ Some xs → read_as tables a (view v) ≡ Some x → these_as tables (ps ++ a ∷ []) (items_view (vs ++ v ∷ [])) ≡ Some (xs ++ x ∷ [])
-these_push tables [] a [] v xs x before now =
-    let none : [] ≡ xs = cc in
-    rw now (ap (λ l. Some (l ++ x ∷ [])) none)
-these_push tables [] a (w ∷ ws) v xs x before now = cc
-these_push tables (b ∷ ps) a [] v xs x before now = cc
-these_push tables (b ∷ ps) a (w ∷ ws) v xs x before now =
-    let parts = opened (read_as tables b (view w)) (these_as tables ps (items_view ws)) xs before in
-    let later = these_push tables ps a ws v parts.1 x parts.3 now in
-    ap (λ o. front o (these_as tables (ps ++ a ∷ []) (items_view (ws ++ v ∷ [])))) parts.2 ∙ ap (front (Some parts.0)) later ∙ ap (λ l. Some (l ++ x ∷ [])) parts.4
-
--- one more item of a list is read
-pub these_more : (tables : Declared) (ps : List Asked) (a : Asked) (vs : List Value) (i : ℕ) (v : Value) (xs : List Read) (x : Read) → i < length vs → v ≡ get_or vs i v → i < length ps → a ≡ get_or ps i a → these_as tables (take i ps) (items_view (take i vs)) ≡ Some xs → read_as tables a (view v) ≡ Some x → these_as tables (take (i + 1) ps) (items_view (take (i + 1) vs)) ≡ Some (xs ++ x ∷ [])
-these_more tables ps a vs i v xs x within is inside at before now =
-    ap (λ l. these_as tables (take (i + 1) ps) (items_view l)) (take_more vs i v within ∙ ap (λ w. take i vs ++ w ∷ []) (sym is))
-    ∙ ap (λ l. these_as tables l (items_view (take i vs ++ v ∷ []))) (take_more ps i a inside ∙ ap (λ w. take i ps ++ w ∷ []) (sym at))
-    ∙ these_push tables (take i ps) a (take i vs) v xs x before now
-
 -- the expressions that were read
 pub expressions_read : (trees : List Expression) → expressions_in (reads_of (map expression_read trees)) ≡ trees
 expressions_read [] = refl
@@ -198,3 +152,51 @@ expressions_read (tree ∷ trees) = ap (λ l. tree ∷ l) (expressions_read tree
 pub null_said : (d : Data) → is_some (as_null d) ≡ true → nothing_of d ≡ Some nothing_read
 null_said null h = refl
 null_said _ h = cc
+
+-- ---- a form by its key
+
+-- the value of a key is a part of a value that has it
+pub key_part : (names : List Name) (kind : Kind) (d : Data) (word : List ℕ) (value : Data) (row : List ℕ × Key) (places : Places) → Some (word, value) ≡ only_member d → Some row ≡ key_named kind word → row.0 ≡ word → places ≡ asks row.1
+    → part_of (keyed_form names kind) (key row.0) d ≡ Some (part (places_form names places) value)
+key_part names kind d word value row places is named same asked =
+    key_in (key_form names kind) d word row.0 value (places_form names places) is same
+    (ap (option_map (λ r. places_form names (asks r.1))) (sym named) ∙ ap (λ p. Some (places_form names p)) (sym asked))
+
+-- ---- a list of exactly these
+
+pub two_read : (tables : Declared) (p q : Asked) (d a b : Data) (x y : Read) → Some (a, b) ≡ two_items d → read_as tables p a ≡ Some x → read_as tables q b ≡ Some y → list_as tables (p ∷ q ∷ []) d ≡ Some (x ∷ y ∷ [])
+two_read tables p q d a b x y is first second =
+    ap (list_as tables (p ∷ q ∷ [])) (array-from_two_items d a b is) ∙ ap (λ o. front o (front (read_as tables q b) (Some []))) first ∙ ap (λ o. front (Some x) (front o (Some []))) second
+
+pub three_read : (tables : Declared) (p q r : Asked) (d a b c : Data) (x y z : Read) → Some (a, b, c) ≡ three_items d → read_as tables p a ≡ Some x → read_as tables q b ≡ Some y → read_as tables r c ≡ Some z → list_as tables (p ∷ q ∷ r ∷ []) d ≡ Some (x ∷ y ∷ z ∷ [])
+three_read tables p q r d a b c x y z is first second third =
+    ap (list_as tables (p ∷ q ∷ r ∷ [])) (array-from_three_items d a b c is) ∙ ap (λ o. front o (front (read_as tables q b) (front (read_as tables r c) (Some [])))) first
+    ∙ ap (λ o. front (Some x) (front o (front (read_as tables r c) (Some [])))) second ∙ ap (λ o. front (Some x) (front (Some y) (front o (Some [])))) third
+
+pub other_than_two : (names : List Name) (p q : Asked) (d : Data) → None ≡ two_items d → own_fault (items_of names (p ∷ q ∷ [])) d ≡ Some (shape_fault d)
+other_than_two names p q (array no_items) e = refl
+other_than_two names p q (array (item a no_items)) e = refl
+other_than_two names p q (array (item a (item b no_items))) e = cc
+other_than_two names p q (array (item a (item b (item c ds)))) e = ap (unless BadShape) (ne_eqb (suc (suc (suc (items_len ds)))) 2 (λ same. omega (arith, same)))
+other_than_two names p q _ e = refl
+
+pub other_than_three : (names : List Name) (p q r : Asked) (d : Data) → None ≡ three_items d → own_fault (items_of names (p ∷ q ∷ r ∷ [])) d ≡ Some (shape_fault d)
+other_than_three names p q r (array no_items) e = refl
+other_than_three names p q r (array (item a no_items)) e = refl
+other_than_three names p q r (array (item a (item b no_items))) e = refl
+other_than_three names p q r (array (item a (item b (item c no_items)))) e = cc
+other_than_three names p q r (array (item a (item b (item c (item f ds))))) e = ap (unless BadShape) (ne_eqb (suc (suc (suc (suc (items_len ds))))) 3 (λ same. omega (arith, same)))
+other_than_three names p q r _ e = refl
+
+-- ---- a list of any number
+
+pub each_more : (tables : Declared) (a : Asked) (vs : List Value) (i : ℕ) (v : Value) (rs : List Read) (r : Read) → i < length vs → v ≡ get_or vs i v → each_as tables a (items_view (take i vs)) ≡ Some rs → read_as tables a (view v) ≡ Some r → each_as tables a (items_view (take (i + 1) vs)) ≡ Some (rs ++ r ∷ [])
+each_more tables a vs i v rs r within is before now =
+    each_as-all_of tables a (items_view (take (i + 1) vs))
+    ∙ all_of-more (read_as tables a) vs i v rs r within is (sym (each_as-all_of tables a (items_view (take i vs))) ∙ before) now
+
+pub each_read : (tables : Declared) (a : Asked) (d : Data) (vs : List Value) (n : ℕ) (rs : List Read) → Some (items_view vs) ≡ as_array d → length vs ≡ n → each_as tables a (items_view (take n vs)) ≡ Some rs → read_as tables (many a) d ≡ Some (many_read (reads_of rs))
+each_read tables a d vs n rs is all read =
+    ap (read_as tables (many a)) (array-from_as_array d _ is)
+    ∙ ap (λ l. option_map (λ xs. many_read (reads_of xs)) (each_as tables a (items_view l))) (sym (take_all n vs (omega arith)))
+    ∙ ap (option_map (λ xs. many_read (reads_of xs))) read

@@ -1,46 +1,60 @@
--- Lists that are read item by item.
-use Rattle.std.proofs.Common.{◌≡◌, ℕ, zero, suc, ◌+◌, ◌<◌, List, [], ◌∷◌, ◌++◌, length, get_or, take, Contains, Option, Some, None, option_map, refl, sym, ap, ◌∙◌, arith, append_assoc, append-nil}
+-- What an answer was made of, and lists that are read item by item.
+use Rattle.std.proofs.Common.{◌≡◌, List, ◌∷◌, Option, Some, None, option_map, option_and_then, refl, ap, ℕ, zero, suc, ◌+◌, ◌<◌, [], ◌++◌, length, get_or, take, sym, ◌∙◌}
+use Rattle.plan_json.specs.Looking.{both, all_of, some_of, first_items}
 use Rattle.std.proofs.lemmas.List.{take_more}
 use Rattle.std.specs.Option.{option_map_or}
 use Rattle.plan_types.specs.Schemas.{Name, names_of}
 use Rattle.serde_json.specs.Data.{Data, Items, no_items, item}
+use Rattle.serde_json.specs.Find.{get_item}
 use Rattle.serde_json.specs.View.{view, items_view}
 use Rattle.serde_json.specs.declared.value.Value.{Value}
-use Rattle.plan_json.specs.Faults.{Form, a_table, part, number, each, each_table}
-use Rattle.plan_json.specs.Looking.{both, all_of, some_of}
-use Rattle.plan_json.specs.Leaves.{table_name}
+use Rattle.serde_json.proofs.Views.{get_item_within}
+
+pub mapped : {A B : Type 0} (f : A → B) (o : Option A) (y : B) → option_map f o ≡ Some y → (x : A) × (o ≡ Some x) × (f x ≡ y)
+mapped f None y e = cc
+mapped f (Some x) y e = (x, refl, cc)
+
+pub chained : {A B : Type 0} (f : A → Option B) (o : Option A) (y : B) → option_and_then f o ≡ Some y → (x : A) × (o ≡ Some x) × (f x ≡ Some y)
+chained f None y e = cc
+chained f (Some x) y e = (x, refl, e)
+
+pub both_are : {A B : Type 0} (a : Option A) (b : Option B) (p : A × B) → both a b ≡ Some p → (a ≡ Some p.0) × (b ≡ Some p.1)
+both_are None b p e = cc
+both_are (Some x) None p e = cc
+both_are {A = A} {B = B} (Some x) (Some y) p e =
+    let all : ◌≡◌ {A = A × B} (x, y) p = cc in (ap (λ q. Some q.0) all, ap (λ q. Some q.1) all)
+
+-- the first of a list that is read, and the others
+pub opened : {A : Type 0} (first : Option A) (rest : Option (List A)) (l : List A) → option_map (λ p. p.0 ∷ p.1) (both first rest) ≡ Some l → (x : A) × (xs : List A) × (first ≡ Some x) × (rest ≡ Some xs) × (x ∷ xs ≡ l)
+opened None rest l e = cc
+opened (Some x) None l e = cc
+opened (Some x) (Some xs) l e = (x, xs, refl, refl, cc)
 
 -- ---- what all items read to
 
-pub all_of-push : {A : Type 0} (read : Data → Option A) (vs : List Value) (v : Value) (xs : List A) (x : A) → all_of read (items_view vs) ≡ Some xs → read (view v) ≡ Some x → all_of read (items_view (vs ++ v ∷ [])) ≡ Some (xs ++ x ∷ [])
+all_of-push : {A : Type 0} (read : Data → Option A) (vs : List Value) (v : Value) (xs : List A) (x : A) → all_of read (items_view vs) ≡ Some xs → read (view v) ≡ Some x → all_of read (items_view (vs ++ v ∷ [])) ≡ Some (xs ++ x ∷ [])
 all_of-push read [] v xs x before now =
     let none : [] ≡ xs = cc in
     rw now (ap (λ l. Some (l ++ x ∷ [])) none)
-all_of-push {A} read (w ∷ ws) v xs x before now = go (λ ys is. all_of-push read ws v ys x is now) (read (view w)) (all_of read (items_view ws)) refl xs before
-  where
-    go : ((ys : List A) → all_of read (items_view ws) ≡ Some ys → all_of read (items_view (ws ++ v ∷ [])) ≡ Some (ys ++ x ∷ [])) → (first : Option A) (rest : Option (List A)) → all_of read (items_view ws) ≡ rest → (xs : List A) → option_map (λ p. p.0 ∷ p.1) (both first rest) ≡ Some xs → option_map (λ p. p.0 ∷ p.1) (both first (all_of read (items_view (ws ++ v ∷ [])))) ≡ Some (xs ++ x ∷ [])
-    go later None rest is xs e = cc
-    go later (Some y) None is xs e = cc
-    go later (Some y) (Some ys) is xs e =
-        let grown = later ys is in
-        let all : y ∷ ys ≡ xs = cc in
-        ap (λ o. option_map (λ p. p.0 ∷ p.1) (both (Some y) o)) grown ∙ ap (λ l. Some (l ++ x ∷ [])) all
+all_of-push read (w ∷ ws) v xs x before now =
+    let parts = opened (read (view w)) (all_of read (items_view ws)) xs before in
+    ap (λ o. option_map (λ p. p.0 ∷ p.1) (both o (all_of read (items_view (ws ++ v ∷ []))))) parts.2 ∙ ap (λ o. option_map (λ p. p.0 ∷ p.1) (both (Some parts.0) o)) (all_of-push read ws v parts.1 x parts.3 now) ∙ ap (λ l. Some (l ++ x ∷ [])) parts.4
 
 -- one more item of a list is read
 pub all_of-more : {A : Type 0} (read : Data → Option A) (vs : List Value) (i : ℕ) (v : Value) (xs : List A) (x : A) → i < length vs → v ≡ get_or vs i v → all_of read (items_view (take i vs)) ≡ Some xs → read (view v) ≡ Some x → all_of read (items_view (take (i + 1) vs)) ≡ Some (xs ++ x ∷ [])
 all_of-more read vs i v xs x within is before now =
     ap (λ l. all_of read (items_view l)) (take_more vs i v within ∙ ap (λ w. take i vs ++ w ∷ []) (sym is)) ∙ all_of-push read (take i vs) v xs x before now
 
--- ---- names that items give themselves
+-- each item that stands in such a list is read
+pub all_of-item : {A : Type 0} (read : Data → Option A) (ds : Items) (xs : List A) (n : ℕ) (v : Data) → all_of read ds ≡ Some xs → get_item n ds ≡ Some v → (x : A) × (read v ≡ Some x)
+all_of-item read no_items xs n v e here = cc
+all_of-item read (item d ds) xs zero v e here =
+    let parts = opened (read d) (all_of read ds) xs e in
+    let same : d ≡ v = cc in (parts.0, ap read (sym same) ∙ parts.2)
+all_of-item read (item d ds) xs (suc n) v e here =
+    let parts = opened (read d) (all_of read ds) xs e in all_of-item read ds parts.1 n v parts.3 here
 
-pub some_of-append : {A : Type 0} (read : Data → Option A) (vs ws : List Value) → some_of read (items_view (vs ++ ws)) ≡ some_of read (items_view vs) ++ some_of read (items_view ws)
-some_of-append read [] ws = refl
-some_of-append {A} read (v ∷ vs) ws = go (read (view v)) (some_of-append read vs ws)
-  where
-    go : (first : Option A) → some_of read (items_view (vs ++ ws)) ≡ some_of read (items_view vs) ++ some_of read (items_view ws)
-        → option_map_or (λ x. x ∷ some_of read (items_view (vs ++ ws))) first (some_of read (items_view (vs ++ ws))) ≡ option_map_or (λ x. x ∷ some_of read (items_view vs)) first (some_of read (items_view vs)) ++ some_of read (items_view ws)
-    go None e = e
-    go (Some x) e = ap (λ l. x ∷ l) e
+-- ---- names that items give themselves
 
 module _ {A : Type 0} (read : Data → Option (Name × A)) (name : Data → Option Name) (named : (d : Data) (x : Name × A) → read d ≡ Some x → name d ≡ Some x.0) where
   -- items that are read give themselves the names that are read
@@ -48,42 +62,28 @@ module _ {A : Type 0} (read : Data → Option (Name × A)) (name : Data → Opti
   some_of-names no_items xs e =
       let none : [] ≡ xs = cc in
       ap names_of none
-  some_of-names (item d ds) xs e = go (λ ys is. some_of-names ds ys is) (read d) refl (all_of read ds) refl e
-    where
-      go : ((ys : List (Name × A)) → all_of read ds ≡ Some ys → some_of name ds ≡ names_of ys) → (first : Option (Name × A)) → read d ≡ first → (rest : Option (List (Name × A))) → all_of read ds ≡ rest → option_map (λ p. p.0 ∷ p.1) (both first rest) ≡ Some xs → some_of name (item d ds) ≡ names_of xs
-      go later None here rest is h = cc
-      go later (Some y) here None is h = cc
-      go later (Some y) here (Some ys) is h =
-          let all : y ∷ ys ≡ xs = cc in
-          rw (named d y here) (ap (λ l. y.0 ∷ l) (later ys is) ∙ ap names_of all)
+  some_of-names (item d ds) xs e =
+      let parts = opened (read d) (all_of read ds) xs e in
+      rw (named d parts.0 parts.2) (ap (λ l. parts.0.0 ∷ l) (some_of-names ds parts.1 parts.3) ∙ ap names_of parts.4)
 
--- ---- parts of a list
-
-pub Contains-later : {A : Type 0} (x y : A) (xs : List A) → Contains xs y → Contains (x ∷ xs) y
-Contains-later x y xs (k, within, is) = (suc k, omega arith, is)
-
-first_of : {A : Type 0} (x y : A) (xs : List A) → x ≡ y → Contains (x ∷ xs) y
-first_of x y xs e = (0, omega arith, e)
-
-pub each-at : (form : Form) (n : ℕ) (vs : List Value) (i : ℕ) (v : Value) (k : ℕ) → i < length vs → v ≡ get_or vs i v → k ≡ n + i → Contains (each form n (items_view vs)) (part (number k) form (view v))
-each-at form n [] i v k within is at = absurd (omega arith)
-each-at form n (w ∷ ws) zero v k within is at =
-    let here : n ≡ k = omega arith in
-    first_of _ _ _ (ap (λ m. part (number m) form (view w)) here ∙ ap (λ u. part (number k) form (view u)) (sym is))
-each-at form n (w ∷ ws) (suc i) v k within is at =
-    let there : k ≡ (n + 1) + i = omega arith in
-    Contains-later _ _ _ (each-at form (n + 1) ws i v k (omega arith) is there)
-
-pub each_table-at : (before : List Name) (n : ℕ) (vs : List Value) (i : ℕ) (v : Value) (k : ℕ) (names : List Name) → i < length vs → v ≡ get_or vs i v → k ≡ n + i → names ≡ before ++ some_of table_name (items_view (take i vs)) → Contains (each_table before n (items_view vs)) (part (number k) (a_table names) (view v))
-each_table-at before n [] i v k names within is at all = absurd (omega arith)
-each_table-at before n (w ∷ ws) zero v k names within is at all =
-    let here : n ≡ k = omega arith in
-    let none : before ≡ names = sym (append-nil before) ∙ sym all in
-    first_of _ _ _ (ap (λ m. part (number m) (a_table before) (view w)) here ∙ ap (λ l. part (number k) (a_table l) (view w)) none ∙ ap (λ u. part (number k) (a_table names) (view u)) (sym is))
-each_table-at before n (w ∷ ws) (suc i) v k names within is at all =
-    let there : k ≡ (n + 1) + i = omega arith in
-    Contains-later _ _ _ (each_table-at (option_map_or (λ name. before ++ name ∷ []) (table_name (view w)) before) (n + 1) ws i v k names (omega arith) is there (all ∙ grown (table_name (view w))))
+-- the name of an item stands behind those before it
+pub names_split : {A : Type 0} (read : Data → Option A) (ds : Items) (n : ℕ) (v : Data) (x : A) → get_item n ds ≡ Some v → read v ≡ Some x → (rest : List A) × (some_of read ds ≡ some_of read (first_items n ds) ++ x ∷ rest)
+names_split read no_items n v x here is = cc
+names_split read (item d ds) zero v x here is =
+    let same : d ≡ v = cc in (some_of read ds, ap (λ o. option_map_or (λ y. y ∷ some_of read ds) o (some_of read ds)) (ap read same ∙ is))
+names_split {A} read (item d ds) (suc n) v x here is = go (read d) (names_split read ds n v x here is)
   where
-    grown : (name : Option Name) → before ++ option_map_or (λ x. x ∷ some_of table_name (items_view (take i ws))) name (some_of table_name (items_view (take i ws))) ≡ option_map_or (λ x. before ++ x ∷ []) name before ++ some_of table_name (items_view (take i ws))
-    grown None = refl
-    grown (Some x) = sym (append_assoc before (x ∷ []) _)
+    go : (o : Option A) → (rest : List A) × (some_of read ds ≡ some_of read (first_items n ds) ++ x ∷ rest) → (rest : List A) × (option_map_or (λ y. y ∷ some_of read ds) o (some_of read ds) ≡ option_map_or (λ y. y ∷ some_of read (first_items n ds)) o (some_of read (first_items n ds)) ++ x ∷ rest)
+    go None later = later
+    go (Some y) (rest, e) = (rest, ap (λ l. y ∷ l) e)
+
+-- ---- an item by its number
+
+pub item_at : (vs : List Value) (i : ℕ) (v : Value) → i < length vs → v ≡ get_or vs i v → get_item i (items_view vs) ≡ Some (view v)
+item_at vs i v within is = sym (ap (λ w. Some (view w)) is ∙ get_item_within vs i v within)
+
+pub first_items-take : (vs : List Value) (i : ℕ) → first_items i (items_view vs) ≡ items_view (take i vs)
+first_items-take [] zero = refl
+first_items-take [] (suc i) = refl
+first_items-take (v ∷ vs) zero = refl
+first_items-take (v ∷ vs) (suc i) = ap (item (view v)) (first_items-take vs i)

@@ -1,4 +1,3 @@
-pub mod ColumnLemmas
 pub mod DeclarationLemmas
 pub mod FaultLemmas
 pub mod FloatLaws
@@ -8,8 +7,5 @@ pub mod LiteralLemmas
 pub mod LookingLemmas
 pub mod NoFaults
 pub mod OnLiterals
-pub mod PlaceLemmas
-pub mod PlaceTests
 pub mod QueryLaws
-pub mod TableLemmas
-pub mod TypeLemmas
+pub mod TextTests

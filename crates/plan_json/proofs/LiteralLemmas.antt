@@ -1,5 +1,5 @@
 -- Literals: numbers that texts write, and types of numbers.
-use Rattle.std.proofs.Common.{◌≡◌, ℕ, ◌^◌, ◌<◌, List, [], ◌∷◌, Contains, Option, Some, None, Result, Ok, Err, Bool, true, false, cond, ◌&&◌, ◌==◌, ℤ, slice_index, option_and_then, refl, sym, ap, subst, ◌∙◌, arith, FitsSigned}
+use Rattle.std.proofs.Common.{◌≡◌, ℕ, ◌^◌, ◌<◌, List, [], ◌∷◌, Option, Some, None, Result, Ok, Err, Bool, true, false, cond, ◌&&◌, ◌==◌, ℤ, slice_index, option_map, option_and_then, refl, sym, ap, subst, ◌∙◌, arith, FitsSigned}
 use Rattle.std.specs.Prelude.{pos, negsuc}
 use Rattle.std.specs.Int.{w128}
 use Rattle.std.specs.Option.{option_map_or}
@@ -11,12 +11,12 @@ use Rattle.plan_types.specs.Values.{IntValue, in_range}
 use Rattle.plan_types.proofs.DigitLemmas.{read_number, read_fits, no_number_read}
 use Rattle.plan_dsl.specs.Ops.{LiteralOp}
 use Rattle.serde_json.specs.Data.{Data}
-use Rattle.plan_json.specs.Errors.{IsBadAtPointer, IsErrorOf}
-use Rattle.plan_json.specs.Faults.{FaultKind, BadShape, BadFloat, BadName, a_counted_type, a_number_of, a_type, has_type_shape, may_be_counted, number, number_part, own_fault, part, typed_parts, shape_fault, unless}
+use Rattle.plan_json.specs.Errors.{IsErrorOf}
+use Rattle.plan_json.specs.Faults.{FaultKind, Step, key, number, a_counted_type, a_number_of, a_type, a_typed_literal, has_type_shape, may_be_counted, own_fault, part, part_of, typed_part, shape_fault, unless}
 use Rattle.plan_json.specs.Leaves.{counted, counted_of, narrow, number_of, number_written, type_of, typed_op}
-use Rattle.plan_json.specs.Looking.{whole_number}
+use Rattle.plan_json.specs.Looking.{two_items, whole_number}
 use Rattle.plan_json.specs.declared.error.JsonError.{JsonError}
-use Rattle.plan_json.specs.declared.error.JsonError.TheVariants.{NotJson, Shape, Float, Name, NoMemory}
+use Rattle.plan_json.proofs.FaultLemmas.{stricter_error}
 
 -- ---- 128 bits with a sign
 
@@ -64,22 +64,15 @@ unwritten bytes r error parses is plain =
 
 -- an error of a value that must be a type is one of a value that must be such a type
 pub counted_error : (d : Data) (error : JsonError) → IsErrorOf a_type d error → IsErrorOf a_counted_type d error
-counted_error d error bad = go error bad
+counted_error d error bad = stricter_error a_type a_counted_type d (λ kind h. own (shape_fault d) kind (has_type_shape d) (may_be_counted d) h) parts error bad
   where
-    more : (fault kind : FaultKind) (a b : Bool) → unless fault a ≡ Some kind → unless fault (a && b) ≡ Some kind
-    more fault kind true b h = cc
-    more fault kind false b h = h
+    own : (fault kind : FaultKind) (a b : Bool) → unless fault a ≡ Some kind → unless fault (a && b) ≡ Some kind
+    own fault kind true b h = cc
+    own fault kind false b h = h
 
-    along : (kind : FaultKind) (text : List ℕ) → IsBadAtPointer a_type d kind text → IsBadAtPointer a_counted_type d kind text
-    along kind text ([], is, h) = ([], is, more (shape_fault d) kind (has_type_shape d) (may_be_counted d) h)
-    along kind text (step ∷ steps, is, below) = (step ∷ steps, is, below)
-
-    go : (error : JsonError) → IsErrorOf a_type d error → IsErrorOf a_counted_type d error
-    go NotJson h = absurd h
-    go (Shape path) h = along BadShape _ h
-    go (Float path) h = along BadFloat _ h
-    go (Name path) h = along BadName _ h
-    go NoMemory h = tt
+    parts : (step : Step) → part_of a_type step d ≡ part_of a_counted_type step d
+    parts (key word) = refl
+    parts (number n) = refl
 
 -- a type of another kind is at fault itself
 pub other_kind : (d : Data) (type : Ty) → type_of d ≡ Some type → is_counted type ≡ false → own_fault a_counted_type d ≡ Some (shape_fault d)
@@ -98,6 +91,5 @@ pub number_had : (type : Ty) (d : Data) (z : ℤ) → Some z ≡ whole_number d 
 number_had type d z is has = ap (option_and_then (typed_op type)) (sym is) ∙ ap (λ b. cond b (Some (LiteralOp type (IntValue z))) None) has
 
 -- the number stands behind the type
-pub number_place : (first second : Data) (type : Ty) → counted_of first ≡ Some type → Contains (typed_parts (first, second)) (part (number 1) (a_number_of type) second)
-number_place first second type is =
-    subst (λ o. Contains (part (number 0) a_counted_type first ∷ option_map_or (number_part second) o []) (part (number 1) (a_number_of type) second)) (sym is) (1, omega arith, refl)
+pub number_place : (d : Data) (pair : Data × Data) (type : Ty) → Some pair ≡ two_items d → counted_of pair.0 ≡ Some type → part_of a_typed_literal (number 1) d ≡ Some (part (a_number_of type) pair.1)
+number_place d pair type is counts = ap (option_and_then (typed_part 1)) (sym is) ∙ ap (option_map (λ t. part (a_number_of t) pair.1)) counts

@@ -1,12 +1,12 @@
 -- Looking into a value, beside what the value's type holds.
 use Rattle.std.proofs.Common.{◌≡◌, ℕ, zero, suc, get_or, ◌<◌, ◌≤◌, ◌==◌, List, [], ◌∷◌, length, slice_get, Option, Some, None, option_map, String, Global, string_bytes, cond, refl, sym, ap, ◌∙◌, subst, arith, ne_eqb, max}
-use Rattle.serde_json.specs.Data.{Data, string, array, object, Items, Members, no_members, member, depth, items_depth}
+use Rattle.serde_json.specs.Data.{Data, string, array, object, Items, no_items, item, Members, no_members, member, depth, items_depth}
 use Rattle.serde_json.specs.Events.{members_len}
 use Rattle.serde_json.specs.Find.{get, get_member, as_str, as_array, as_object}
 use Rattle.serde_json.specs.View.{view, items_view, members_view}
 use Rattle.serde_json.specs.declared.value.Value.{Value}
 use Rattle.serde_json.proofs.Views.{members_len-members_view}
-use Rattle.plan_json.specs.Looking.{both, only_member, two_members, two_items}
+use Rattle.plan_json.specs.Looking.{both, only_member, two_members, two_items, three_items}
 
 abbrev pub Entry : Type 0
 Entry = String Global × Value
@@ -81,6 +81,26 @@ two_others (a ∷ b ∷ c ∷ vs) other = refl
 pub two_items-other : (d : Data) (vs : List Value) → Some (items_view vs) ≡ as_array d → (length vs ≡ 2 → ⊥) → None ≡ two_items d
 two_items-other d vs is other = two_others vs other ∙ ap two_items (sym (array-from_as_array d _ is))
 
+three_others : (vs : List Value) → (length vs ≡ 3 → ⊥) → None ≡ three_items (array (items_view vs))
+three_others [] other = refl
+three_others (a ∷ []) other = refl
+three_others (a ∷ b ∷ []) other = refl
+three_others (a ∷ b ∷ c ∷ []) other = absurd (other refl)
+three_others (a ∷ b ∷ c ∷ e ∷ vs) other = refl
+
+pub three_items-other : (d : Data) (vs : List Value) → Some (items_view vs) ≡ as_array d → (length vs ≡ 3 → ⊥) → None ≡ three_items d
+three_items-other d vs is other = three_others vs other ∙ ap three_items (sym (array-from_as_array d _ is))
+
+pub array-from_two_items : (d a b : Data) → Some (a, b) ≡ two_items d → d ≡ array (item a (item b no_items))
+array-from_two_items (array (item x (item y no_items))) a b e =
+    let p : ◌≡◌ {A = Data × Data} (a, b) (x, y) = cc in ap (λ q. array (item q.0 (item q.1 no_items))) (sym p)
+array-from_two_items _ a b e = cc
+
+pub array-from_three_items : (d a b c : Data) → Some (a, b, c) ≡ three_items d → d ≡ array (item a (item b (item c no_items)))
+array-from_three_items (array (item x (item y (item z no_items)))) a b c e =
+    let p : ◌≡◌ {A = Data × Data × Data} (a, b, c) (x, y, z) = cc in ap (λ q. array (item q.0 (item q.1 (item q.2 no_items)))) (sym p)
+array-from_three_items _ a b c e = cc
+
 -- ---- parts are less deep
 
 pub object-from_only_member : (d : Data) (word : List ℕ) (value : Data) → Some (word, value) ≡ only_member d → d ≡ object (member word value no_members)
@@ -105,3 +125,9 @@ pub depth-item : (d : Data) (vs : List Value) (i : ℕ) (v : Value) → Some (it
 depth-item d vs i v is within at =
     let below = item_depth vs i v within at in
     subst (λ x. depth (view v) < depth x) (sym (array-from_as_array d _ is)) (omega (arith, below))
+
+pub depth-two_items : (d a b : Data) → Some (a, b) ≡ two_items d → (depth a < depth d) × (depth b < depth d)
+depth-two_items d a b e = subst (λ x. (depth a < depth x) × (depth b < depth x)) (sym (array-from_two_items d a b e)) (omega arith, omega arith)
+
+pub depth-three_items : (d a b c : Data) → Some (a, b, c) ≡ three_items d → (depth a < depth d) × (depth b < depth d) × (depth c < depth d)
+depth-three_items d a b c e = subst (λ x. (depth a < depth x) × (depth b < depth x) × (depth c < depth x)) (sym (array-from_three_items d a b c e)) (omega arith, omega arith, omega arith)

@@ -1,5 +1,5 @@
 -- Errors, and the faults that they tell.
-use Rattle.std.specs.Prelude.{◌≡◌, ℕ, ◌==◌, List, [], ◌∷◌, ◌++◌, Result, Ok, Err, decimal, string_bytes, if◌then◌else◌}
+use Rattle.std.specs.Prelude.{◌≡◌, ℕ, ◌==◌, List, [], ◌∷◌, ◌++◌, decimal, string_bytes, if◌then◌else◌}
 use Rattle.serde_json.specs.Data.{Data}
 use Rattle.plan_json.specs.Faults.{FaultKind, BadShape, BadFloat, BadName, Step, key, number, Path, Form, IsBadAt}
 use Rattle.plan_json.specs.declared.error.JsonError.{JsonError}
@@ -62,8 +62,3 @@ IsBelow step (Float path) (Float longer) = string_bytes longer ≡ step_text ste
 IsBelow step (Name path) (Name longer) = string_bytes longer ≡ step_text step ++ string_bytes path
 IsBelow step inner NoMemory = Unit {0}
 IsBelow step _ _ = ⊥
-
--- what was read of a part is the error, told with the step to the part, or want of memory
-abbrev pub IsErrBelow : {T : Type 0} → Step → Result T JsonError → JsonError → Type 0
-IsErrBelow step (Ok x) error = ⊥
-IsErrBelow step (Err inner) error = IsBelow step inner error

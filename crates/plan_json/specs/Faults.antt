@@ -1,21 +1,23 @@
 -- Faults of a value that is to be a query.
 -- A place in the value asks for a form. A value can break the form itself, and it asks for forms of
 -- its parts. So a fault stands at the end of a path of such parts.
-use Rattle.std.specs.Prelude.{◌≡◌, ℕ, ◌+◌, List, [], ◌∷◌, ◌++◌, ◌==◌, length, Bool, true, false, not, ◌&&◌, ◌||◌, Option, Some, None, option_map, option_and_then, is_some, codes, nat_lt, Contains, if◌then◌else◌}
+use Rattle.std.specs.Prelude.{◌≡◌, ℕ, List, [], ◌∷◌, ◌==◌, length, slice_get, Bool, true, false, not, ◌&&◌, ◌||◌, Option, Some, None, option_map, option_and_then, is_some, codes, nat_lt, if◌then◌else◌}
 use Rattle.std.specs.Option.{option_map_or}
 use Rattle.std.specs.Str.{bytes_eq}
-use Rattle.serde_json.specs.Data.{Data, Items, no_items, item}
+use Rattle.serde_json.specs.Data.{Data, Items}
 use Rattle.serde_json.specs.Events.{items_len}
-use Rattle.serde_json.specs.Find.{as_str, as_array, as_null}
+use Rattle.serde_json.specs.Find.{as_str, as_array, as_null, at, get_item}
 use Rattle.plan_types.specs.Schemas.{Name, is_among, repeats}
 use Rattle.plan_types.specs.Types.{Ty, is_counted}
-use Rattle.plan_json.specs.Forms.{Asked, a_form, leaf, many, Places, single, listed, asks, key_named}
+use Rattle.plan_json.specs.Forms.{Asked, a_form, leaf, many, Places, single, listed, asks, key_named, row_named, type_rows}
 use Rattle.plan_json.specs.Leaves.{text_of, type_named, type_of, unit_of, literal_of, number_text_of, counted_of, number_of, operator_of, mode_of, column_name, table_name, table_limit}
-use Rattle.plan_json.specs.Looking.{is_float, only_member, two_members, two_items, some_of}
+use Rattle.plan_json.specs.Looking.{both, is_float, only_member, two_members, two_items, some_of, first_items}
 use Rattle.plan_json.specs.declared.forms.Kind.{Kind}
 use Rattle.plan_json.specs.declared.forms.Kind.TheVariants as kinds
 use Rattle.plan_json.specs.declared.forms.Leaf.{Leaf}
 use Rattle.plan_json.specs.declared.forms.Leaf.TheVariants as leaves
+use Rattle.plan_json.specs.declared.forms.TypeKey.{TypeKey}
+use Rattle.plan_json.specs.declared.forms.TypeKey.TheVariants as types
 
 pub data FaultKind : Type 0 where
   -- the value breaks the form
@@ -49,24 +51,25 @@ pub data Form : Type 0 where
   -- a list of exactly these
   items_of : List Name → List Asked → Form
 
--- a part of a value: the step to it, what its place asks for, and the part itself
+-- a part of a value: what its place asks for, and the part itself
 pub record Part : Type 0 where
-  pub step : Step
   pub form : Form
   pub value : Data
 
-abbrev pub part : Step → Form → Data → Part
-part step form value = record { step = step; form = form; value = value }
+abbrev pub part : Form → Data → Part
+part form value = record { form = form; value = value }
 
 -- ---- forms that are named by a key
 
--- what a type's only key asks of its value
-abbrev pub type_form : List ℕ → Option Form
-type_form word =
-    if bytes_eq word (codes "Datetime") then Some a_unit else (
-    if bytes_eq word (codes "Duration") then Some a_unit else (
-    if bytes_eq word (codes "List") then Some a_type else (
-    if bytes_eq word (codes "Struct") then Some field_list else None)))
+-- what a type's key asks of its value
+abbrev pub type_form : TypeKey → Form
+type_form types.Datetime = a_unit
+type_form types.Duration = a_unit
+type_form types.List = a_type
+type_form types.Struct = field_list
+
+abbrev pub type_key_form : List ℕ → Option Form
+type_key_form word = option_map (λ row. type_form row.1) (row_named type_rows word)
 
 -- what has no forms
 abbrev pub leaf_form : List Name → Leaf → Form
@@ -100,9 +103,9 @@ a_plan names = keyed_form names kinds.Plan
 abbrev pub key_form : List Name → Kind → List ℕ → Option Form
 key_form names kind word = option_map (λ row. places_form names (asks row.1)) (key_named kind word)
 
--- the part of an object of one key whose form that key names
-abbrev pub only_part : (List ℕ → Option Form) → Data → Option Part
-only_part form_of d = option_and_then (λ m. option_map (λ form. part (key m.0) form m.1) (form_of m.0)) (only_member d)
+-- the word of an object of one key that names a form, and the value of that key as this form
+abbrev pub keyed_part : (List ℕ → Option Form) → Data → Option (List ℕ × Part)
+keyed_part form_of d = option_and_then (λ m. option_map (λ form. (m.0, part form m.1)) (form_of m.0)) (only_member d)
 
 -- ---- faults of the value itself
 
@@ -128,7 +131,7 @@ is_type_name d = is_some (option_and_then type_named (as_str d))
 
 -- whether it has the shape of a type, whatever its parts are
 abbrev pub has_type_shape : Data → Bool
-has_type_shape d = is_type_name d || is_some (only_part type_form d)
+has_type_shape d = is_type_name d || is_some (keyed_part type_key_form d)
 
 -- whether it is no type of another kind than those of integers and of time
 abbrev pub may_be_counted : Data → Bool
@@ -155,85 +158,73 @@ own_fault (a_number_of type) d = unless (shape_fault d) (is_some (number_of type
 own_fault an_operator d = unless (shape_fault d) (is_some (operator_of d))
 own_fault a_mode d = unless (shape_fault d) (is_some (mode_of d))
 own_fault nothing_form d = unless (shape_fault d) (is_some (as_null d))
-own_fault (keyed_form names kind) d = unless (shape_fault d) (is_some (only_part (key_form names kind) d))
+own_fault (keyed_form names kind) d = unless (shape_fault d) (is_some (keyed_part (key_form names kind) d))
 own_fault (list_of names a) d = list_fault (λ items. true) d
 own_fault (items_of names ps) d = list_fault (λ items. items_len items == length ps) d
 
 -- ---- parts of a value
 
--- the items from that number on, each of the form
-abbrev pub each : Form → ℕ → Items → List Part
-each form n no_items = []
-each form n (item d ds) = part (number n) form d ∷ each form (n + 1) ds
-
--- the items from that number on, of the forms in turn
-abbrev pub each_in_turn : List Name → ℕ → List Asked → Items → List Part
-each_in_turn names n (a ∷ ps) (item d ds) = part (number n) (asked_form names a) d ∷ each_in_turn names (n + 1) ps ds
-each_in_turn names n _ _ = []
-
--- the items of a list of exactly these
-abbrev pub item_parts : List Name → List Asked → Items → List Part
-item_parts names ps items = if items_len items == length ps then each_in_turn names 0 ps items else []
-
 -- the names that the tables of a list give themselves
 abbrev pub declared_names : Data → List Name
 declared_names d = option_map_or (some_of table_name) (as_array d) []
 
--- the tables from that number on, behind tables of these names
-abbrev pub each_table : List Name → ℕ → Items → List Part
-each_table before n no_items = []
-each_table before n (item d ds) =
-    part (number n) (a_table before) d ∷ each_table (option_map_or (λ name. before ++ name ∷ []) (table_name d) before) (n + 1) ds
+-- a part that stands at one of two steps
+abbrev pub either_part : Bool → Bool → Part → Part → Option Part
+either_part is_first is_second first second = if is_first then Some first else (if is_second then Some second else None)
 
-abbrev pub query_parts : Data × Data → List Part
-query_parts pair = part (key (codes "tables")) table_list pair.0 ∷ part (key (codes "plan")) (a_plan (declared_names pair.0)) pair.1 ∷ []
+abbrev pub query_part : List ℕ → Data × Data → Option Part
+query_part word pair =
+    either_part (bytes_eq word (codes "tables")) (bytes_eq word (codes "plan")) (part table_list pair.0) (part (a_plan (declared_names pair.0)) pair.1)
 
-abbrev pub table_parts : List Name → Data × Data → List Part
-table_parts before pair = part (key (codes "name")) (a_new_name before) pair.0 ∷ part (key (codes "columns")) column_list pair.1 ∷ []
+abbrev pub table_part : List Name → List ℕ → Data × Data → Option Part
+table_part before word pair =
+    either_part (bytes_eq word (codes "name")) (bytes_eq word (codes "columns")) (part (a_new_name before) pair.0) (part column_list pair.1)
 
-abbrev pub column_parts : Data × Data → List Part
-column_parts pair = part (number 0) a_text pair.0 ∷ part (number 1) a_type pair.1 ∷ []
+abbrev pub column_part : ℕ → Data × Data → Option Part
+column_part n pair = either_part (n == 0) (n == 1) (part a_text pair.0) (part a_type pair.1)
 
 -- the number has a place only beside a type that it may be of
-abbrev pub number_part : Data → Ty → List Part
-number_part d type = part (number 1) (a_number_of type) d ∷ []
+abbrev pub typed_part : ℕ → Data × Data → Option Part
+typed_part n pair =
+    if n == 0 then Some (part a_counted_type pair.0) else (
+    if n == 1 then option_map (λ type. part (a_number_of type) pair.1) (counted_of pair.0) else None)
 
-abbrev pub typed_parts : Data × Data → List Part
-typed_parts pair = part (number 0) a_counted_type pair.0 ∷ option_map_or (number_part pair.1) (counted_of pair.0) []
+-- a table behind those before it
+abbrev pub table_item : ℕ → Items → Option Part
+table_item n items = option_map (part (a_table (some_of table_name (first_items n items)))) (get_item n items)
 
-abbrev pub one_part : Option Part → List Part
-one_part None = []
-one_part (Some x) = x ∷ []
+-- an item of a list of exactly these
+abbrev pub item_part : List Name → List Asked → ℕ → Items → Option Part
+item_part names ps n items =
+    if items_len items == length ps then option_map (λ p. part (asked_form names p.0) p.1) (both (slice_get ps n) (get_item n items)) else None
 
--- the parts of a value that are of some form, as far as it has them
-abbrev pub parts_of : Form → Data → List Part
-parts_of a_query d = option_map_or query_parts (two_members (codes "tables") (codes "plan") d) []
-parts_of table_list d = option_map_or (each_table [] 0) (as_array d) []
-parts_of column_list d = option_map_or (each a_column 0) (as_array d) []
-parts_of field_list d = option_map_or (each a_column 0) (as_array d) []
-parts_of a_column d = option_map_or column_parts (two_items d) []
-parts_of a_type d = one_part (only_part type_form d)
-parts_of a_unit d = []
-parts_of a_text d = []
-parts_of (a_table before) d = option_map_or (table_parts before) (two_members (codes "name") (codes "columns") d) []
-parts_of (a_new_name before) d = []
-parts_of (a_scan tables) d = []
-parts_of a_literal d = []
-parts_of a_number_text d = []
-parts_of a_typed_literal d = option_map_or typed_parts (two_items d) []
-parts_of a_counted_type d = one_part (only_part type_form d)
-parts_of (a_number_of type) d = []
-parts_of an_operator d = []
-parts_of a_mode d = []
-parts_of nothing_form d = []
-parts_of (keyed_form names kind) d = one_part (only_part (key_form names kind) d)
-parts_of (list_of names a) d = option_map_or (each (asked_form names a) 0) (as_array d) []
-parts_of (items_of names ps) d = option_map_or (item_parts names ps) (as_array d) []
+-- the part at the key
+abbrev pub part_if : List ℕ → List ℕ × Part → Option Part
+part_if word found = if bytes_eq word found.0 then Some found.1 else None
+
+-- the part at a step from a value that is to be of some form, as far as it has one there
+abbrev pub part_of : Form → Step → Data → Option Part
+part_of a_query (key word) d = option_and_then (query_part word) (two_members (codes "tables") (codes "plan") d)
+part_of table_list (number n) d = option_and_then (table_item n) (as_array d)
+part_of column_list (number n) d = option_map (part a_column) (at n d)
+part_of field_list (number n) d = option_map (part a_column) (at n d)
+part_of a_column (number n) d = option_and_then (column_part n) (two_items d)
+part_of a_type (key word) d = option_and_then (part_if word) (keyed_part type_key_form d)
+part_of (a_table before) (key word) d = option_and_then (table_part before word) (two_members (codes "name") (codes "columns") d)
+part_of a_typed_literal (number n) d = option_and_then (typed_part n) (two_items d)
+part_of a_counted_type (key word) d = option_and_then (part_if word) (keyed_part type_key_form d)
+part_of (keyed_form names kind) (key word) d = option_and_then (part_if word) (keyed_part (key_form names kind) d)
+part_of (list_of names a) (number n) d = option_map (part (asked_form names a)) (at n d)
+part_of (items_of names ps) (number n) d = option_and_then (item_part names ps n) (as_array d)
+part_of _ _ d = None
 
 -- ---- faults along a path
 
--- the part at the path's end breaks its form in this way
+-- how the part at the path's end breaks its form
+abbrev pub fault_at : Form → Data → Path → Option FaultKind
+fault_at form d [] = own_fault form d
+fault_at form d (step ∷ path) = option_and_then (λ below. fault_at below.form below.value path) (part_of form step d)
+
+-- it breaks it in this way
 abbrev pub IsBadAt : Form → Data → FaultKind → Path → Type 0
-IsBadAt form d kind [] = own_fault form d ≡ Some kind
-IsBadAt form d kind (step ∷ path) =
-    (below : Part) × Contains (parts_of form d) below × (below.step ≡ step) × IsBadAt below.form below.value kind path
+IsBadAt form d kind path = fault_at form d path ≡ Some kind

@@ -4,8 +4,8 @@ use Rattle.std.specs.Str.{bytes_eq}
 use Rattle.plan_types.specs.Schemas.{Name, Columns}
 use Rattle.plan_types.specs.Types.{Ty}
 use Rattle.plan_types.specs.declared.dtype.CastOptions.{CastOptions}
-use Rattle.plan_dsl.specs.Ops.{Op, ColumnOp, BinaryOp, CastOp, LenOp, Expression}
-use Rattle.plan_dsl.specs.Plans.{Plan, named, scan_op, select_op, filter_op}
+use Rattle.plan_dsl.specs.Ops.{Op, ColumnOp, BinaryOp, CastOp, LenOp, SliceOp, Expression}
+use Rattle.plan_dsl.specs.Plans.{SourcePlan, scan_op, written_select, written_filter}
 use Rattle.plan_dsl.specs.Trees.{node, no_more, more}
 use Rattle.plan_dsl.specs.declared.operator.Operator.{Operator}
 use Rattle.plan_json.specs.declared.forms.Kind.{Kind}
@@ -24,6 +24,8 @@ use Rattle.plan_json.specs.declared.forms.ExpressionKey.{ExpressionKey}
 use Rattle.plan_json.specs.declared.forms.ExpressionKey.TheVariants as of
 use Rattle.plan_json.specs.declared.forms.PlanKey.{PlanKey}
 use Rattle.plan_json.specs.declared.forms.PlanKey.TheVariants as by
+use Rattle.plan_json.specs.declared.forms.TypeKey.{TypeKey}
+use Rattle.plan_json.specs.declared.forms.TypeKey.TheVariants as types
 use Rattle.plan_json.specs.declared.forms.Row.{Row}
 
 -- ---- what a place asks for
@@ -59,7 +61,8 @@ expression_rows =
     (codes "typed", of.Typed) ∷
     (codes "bin", of.Bin) ∷
     (codes "cast", of.Cast) ∷
-    (codes "len", of.Len) ∷ []
+    (codes "len", of.Len) ∷
+    (codes "slice", of.Slice) ∷ []
 
 -- what each asks of its value
 abbrev pub expression_asks : ExpressionKey → Places
@@ -70,6 +73,7 @@ expression_asks of.Typed = single (leaf leaves.Typed)
 expression_asks of.Bin = listed (leaf leaves.Operator ∷ expression ∷ expression ∷ [])
 expression_asks of.Cast = listed (expression ∷ leaf leaves.Dtype ∷ leaf leaves.Mode ∷ [])
 expression_asks of.Len = single (leaf leaves.Nothing)
+expression_asks of.Slice = listed (expression ∷ expression ∷ expression ∷ [])
 
 -- ---- plans
 
@@ -88,6 +92,16 @@ plan_asks by.Empty = single (leaf leaves.Columns)
 plan_asks by.Filter = listed (plan ∷ expression ∷ [])
 plan_asks by.Select = listed (plan ∷ many expression ∷ [])
 
+-- ---- types
+
+-- the keys of types that have parts
+abbrev pub type_rows : List (List ℕ × TypeKey)
+type_rows =
+    (codes "Datetime", types.Datetime) ∷
+    (codes "Duration", types.Duration) ∷
+    (codes "List", types.List) ∷
+    (codes "Struct", types.Struct) ∷ []
+
 -- ---- what a value says
 
 -- what is read of an item, and of a list of them
@@ -102,7 +116,7 @@ mutual
     columns_read : Columns → Read
     nothing_read : Read
     expression_read : Expression → Read
-    plan_read : Plan → Read
+    plan_read : SourcePlan → Read
     many_read : Reads → Read
     -- a plan that no query can write
     other_read : Read
@@ -131,15 +145,17 @@ expression_says of.Bin (operator_read op ∷ expression_read left ∷ expression
 expression_says of.Cast (expression_read operand ∷ type_read type ∷ mode_read mode ∷ []) =
     Some (node (CastOp type mode) (more operand no_more))
 expression_says of.Len (nothing_read ∷ []) = Some (node LenOp no_more)
+expression_says of.Slice (expression_read input ∷ expression_read offset ∷ expression_read count ∷ []) =
+    Some (node SliceOp (more input (more offset (more count no_more))))
 expression_says _ _ = None
 
-abbrev pub plan_says : PlanKey → List Read → Option Plan
+abbrev pub plan_says : PlanKey → List Read → Option SourcePlan
 plan_says by.Scan (table_read number columns ∷ []) = Some (node (scan_op (Some number) columns) no_more)
 plan_says by.Empty (columns_read columns ∷ []) = Some (node (scan_op None columns) no_more)
 plan_says by.Filter (plan_read input ∷ expression_read predicate ∷ []) =
-    Some (node (filter_op (named predicate)) (more input no_more))
+    Some (written_filter predicate input)
 plan_says by.Select (plan_read input ∷ many_read outputs ∷ []) =
-    Some (node (select_op (map named (expressions_in outputs)) None) (more input no_more))
+    Some (written_select (expressions_in outputs) input)
 plan_says _ _ = None
 
 -- ---- keys of any kind
@@ -212,8 +228,9 @@ item_view (items.Leaf which) = leaf which
 
 abbrev pub place_view : Place → Asked
 place_view (places.One item) = item_view item
-place_view (places.Many item) = many (item_view item)
+place_view places.Expressions = many expression
 
 abbrev pub places_view : CodePlaces → Places
-places_view (counts.Single place) = single (place_view place)
-places_view (counts.Listed ps) = listed (map place_view ps.now)
+places_view (counts.One p) = single (place_view p)
+places_view (counts.Two p q) = listed (place_view p ∷ place_view q ∷ [])
+places_view (counts.Three p q r) = listed (place_view p ∷ place_view q ∷ place_view r ∷ [])

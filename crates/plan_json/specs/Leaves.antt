@@ -1,6 +1,6 @@
 -- What a part of a value is that stands in no row of the table of forms.
 -- Each definition gives what a value of its shape means, and nothing where the value hasn't the shape.
-use Rattle.std.specs.Prelude.{ℕ, ℤ, ◌^◌, ◌==◌, ◌&&◌, Bool, List, not, Option, Some, None, option_map, option_and_then, codes, nat_lt, position, slice_index, if◌then◌else◌, true, false}
+use Rattle.std.specs.Prelude.{ℕ, ℤ, ◌^◌, ◌==◌, ◌&&◌, Bool, List, [], ◌∷◌, not, Option, Some, None, option_map, option_and_then, codes, nat_lt, position, slice_index, if◌then◌else◌, true, false}
 use Rattle.std.specs.Map.{lookup}
 use Rattle.std.specs.Option.{option_or}
 use Rattle.std.specs.Str.{chars, bytes_eq}
@@ -9,7 +9,7 @@ use Rattle.serde_json.specs.Events.{items_len}
 use Rattle.serde_json.specs.Find.{get, as_str, as_array}
 use Rattle.plan_types.specs.Schemas.{Name, Columns, same_name, names_of, repeats}
 use Rattle.plan_types.specs.Casts.{number_in}
-use Rattle.plan_types.specs.Types.{Ty, NullType, Truth, Integer, TextType, DateType, TimeType, DatetimeType, DurationType, ListType, StructType, Untyped, Fields, no_field, with_field, is_counted}
+use Rattle.plan_types.specs.Types.{Ty, NullType, Truth, Integer, TextType, DateType, TimeType, DatetimeType, DurationType, ListType, StructType, Untyped, Fields, fields_from, is_counted}
 use Rattle.plan_types.specs.Values.{NullValue, TruthValue, IntValue, TextValue, in_range}
 use Rattle.plan_types.specs.declared.dtype.CastOptions.{CastOptions}
 use Rattle.plan_types.specs.declared.dtype.CastOptions.TheVariants.{Strict, NonStrict, Overflowing}
@@ -18,8 +18,11 @@ use Rattle.plan_types.specs.declared.dtype.TimeUnit.TheVariants.{Nanoseconds, Mi
 use Rattle.plan_dsl.specs.Ops.{Op, LiteralOp}
 use Rattle.plan_dsl.specs.declared.operator.Operator.{Operator}
 use Rattle.plan_dsl.specs.declared.operator.Operator.TheVariants.{Eq, EqValidity, NotEq, NotEqValidity, Lt, LtEq, Gt, GtEq, Plus, Minus, Multiply, Divide, FloorDivide, Modulus, And, Or, Xor, LogicalAnd, LogicalOr}
+use Rattle.plan_json.specs.Forms.{row_named, type_rows}
 use Rattle.plan_json.specs.Looking.{both, whole_number, two_members, two_items, all_of, some_of}
 use Rattle.plan_json.specs.Tables.{Declared}
+use Rattle.plan_json.specs.declared.forms.TypeKey.{TypeKey}
+use Rattle.plan_json.specs.declared.forms.TypeKey.TheVariants as types
 
 -- ---- names and types
 
@@ -60,46 +63,38 @@ unit_named name =
 abbrev pub unit_of : Data → Option TimeUnit
 unit_of d = option_and_then unit_named (as_str d)
 
-abbrev pub datetime_type : TimeUnit → Ty
-datetime_type unit = DatetimeType unit
-
-abbrev pub duration_type : TimeUnit → Ty
-duration_type unit = DurationType unit
-
-abbrev pub list_type : Ty → Ty
-list_type items = ListType items
-
-abbrev pub struct_type : Fields → Ty
-struct_type fields = StructType fields
-
--- the field, and those after it
-abbrev pub field_before : (Name × Ty) × Fields → Fields
-field_before parts = with_field parts.0.0 parts.0.1 parts.1
+-- what a type's key says, by what its value is as a unit, as a type, and as a list of fields
+abbrev pub type_says : TypeKey → Option TimeUnit → Option Ty → Option Fields → Option Ty
+type_says types.Datetime unit items fields = option_map (λ u. DatetimeType u) unit
+type_says types.Duration unit items fields = option_map (λ u. DurationType u) unit
+type_says types.List unit items fields = option_map (λ t. ListType t) items
+type_says types.Struct unit items fields = option_map (λ fs. StructType fs) fields
 
 abbrev mutual
   -- a name, or an object of one key, which names its form
   pub type_of : Data → Option Ty
   type_of (string name) = type_named name
-  type_of (object (member key value no_members)) =
-      if bytes_eq key (codes "Datetime") then option_map datetime_type (unit_of value) else (
-      if bytes_eq key (codes "Duration") then option_map duration_type (unit_of value) else (
-      if bytes_eq key (codes "List") then option_map list_type (type_of value) else (
-      if bytes_eq key (codes "Struct") then option_map struct_type (struct_of value) else None)))
+  type_of (object (member word value no_members)) =
+      option_and_then (λ row. type_says row.1 (unit_of value) (type_of value) (struct_of value)) (row_named type_rows word)
   type_of _ = None
 
   -- a list of fields, whose names may repeat
   pub struct_of : Data → Option Fields
-  struct_of (array items) = fields_from items
+  struct_of (array items) = option_map fields_from (each_column items)
   struct_of _ = None
 
-  pub fields_from : Items → Option Fields
-  fields_from no_items = Some no_field
-  fields_from (item first rest) = option_map field_before (both (column_of first) (fields_from rest))
+  pub each_column : Items → Option Columns
+  each_column no_items = Some []
+  each_column (item d ds) = option_map (λ p. p.0 ∷ p.1) (both (column_of d) (each_column ds))
 
   -- a column or a field: `[name, type]`
   pub column_of : Data → Option (Name × Ty)
   column_of (array (item name (item type no_items))) = both (text_of name) (type_of type)
   column_of _ = None
+
+-- what a key says of its value
+abbrev pub keyed_type : TypeKey → Data → Option Ty
+keyed_type key d = type_says key (unit_of d) (type_of d) (struct_of d)
 
 abbrev pub comparison_named : List ℕ → Option Operator
 comparison_named name =
@@ -152,7 +147,7 @@ abbrev pub column_name : Data → Option Name
 column_name d = option_and_then (λ pair. text_of pair.0) (two_items d)
 
 abbrev pub columns_from : Items → Option Columns
-columns_from items = if repeats (some_of column_name items) then None else all_of column_of items
+columns_from items = if repeats (some_of column_name items) then None else each_column items
 
 -- a list of columns, no two of one name
 abbrev pub columns_of : Data → Option Columns

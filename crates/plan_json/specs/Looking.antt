@@ -1,5 +1,5 @@
 -- Looking into a value that a text reads to.
-use Rattle.std.specs.Prelude.{ℕ, ℤ, List, [], ◌∷◌, ◌==◌, ◌&&◌, Bool, not, Option, Some, None, is_some, option_map, option_and_then, if◌then◌else◌}
+use Rattle.std.specs.Prelude.{ℕ, zero, suc, ℤ, List, [], ◌∷◌, ◌==◌, ◌&&◌, Bool, not, Option, Some, None, is_some, option_map, option_and_then, if◌then◌else◌}
 use Rattle.std.specs.Option.{option_map_or}
 use Rattle.serde_json.specs.Data.{Data, array, object, Items, no_items, item, no_members, member}
 use Rattle.serde_json.specs.Events.{members_len}
@@ -34,6 +34,11 @@ abbrev pub two_items : Data → Option (Data × Data)
 two_items (array (item first (item second no_items))) = Some (first, second)
 two_items _ = None
 
+-- the items of a list of three
+abbrev pub three_items : Data → Option (Data × Data × Data)
+three_items (array (item first (item second (item third no_items)))) = Some (first, second, third)
+three_items _ = None
+
 -- what each item reads to, if each does
 abbrev pub all_of : {A : Type 0} → (Data → Option A) → Items → Option (List A)
 all_of read no_items = Some []
@@ -43,3 +48,9 @@ all_of read (item d ds) = option_map (λ p. p.0 ∷ p.1) (both (read d) (all_of 
 abbrev pub some_of : {A : Type 0} → (Data → Option A) → Items → List A
 some_of read no_items = []
 some_of read (item d ds) = option_map_or (λ x. x ∷ some_of read ds) (read d) (some_of read ds)
+
+-- the items before that of the number
+abbrev pub first_items : ℕ → Items → Items
+first_items n no_items = no_items
+first_items zero (item d ds) = no_items
+first_items (suc n) (item d ds) = item d (first_items n ds)

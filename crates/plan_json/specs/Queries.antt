@@ -2,7 +2,7 @@
 use Rattle.std.specs.Prelude.{◌≡◌, List, [], ◌∷◌, Option, Some, None, Bool, false, ◌||◌, option_map, option_and_then, codes}
 use Rattle.serde_json.specs.Find.{as_null}
 use Rattle.serde_json.specs.Data.{Data, array, object, Items, no_items, item, no_members, member}
-use Rattle.plan_dsl.specs.Plans.{Plan, plan_tree}
+use Rattle.plan_dsl.specs.Plans.{SourcePlan, plan_tree}
 use Rattle.plan_dsl.specs.declared.plan.DslPlan.{DslPlan}
 use Rattle.plan_dsl.specs.declared.plan.DslPlan.TheVariants.{DataFrameScan, Filter', Select'}
 use Rattle.plan_json.specs.Forms.{Asked, a_form, leaf, many, Places, single, listed, plan, Read, name_read, literal_read, operator_read, type_read, mode_read, table_read, columns_read, plan_read, many_read, reads_of, key_named, asks, says, nothing_read}
@@ -16,7 +16,7 @@ use Rattle.plan_json.specs.declared.read.Query.{Query}
 -- a query: its tables, and its plan over them
 pub record QueryModel : Type 0 where
   pub tables : Declared
-  pub plan : Plan
+  pub plan : SourcePlan
 
 abbrev pub query_model : Query → QueryModel
 query_model query = record { tables = declared query.tables; plan = plan_tree query.plan }
@@ -76,11 +76,11 @@ places_as tables places d = given places (λ a. read_as tables a d) (λ ps. list
 
 -- ---- queries
 
-abbrev pub plan_in : Read → Option Plan
+abbrev pub plan_in : Read → Option SourcePlan
 plan_in (plan_read tree) = Some tree
 plan_in _ = None
 
-abbrev pub plan_of : Declared → Data → Option Plan
+abbrev pub plan_of : Declared → Data → Option SourcePlan
 plan_of tables d = option_and_then plan_in (read_as tables plan d)
 
 abbrev pub query_from : Data × Data → Option QueryModel

@@ -2,17 +2,18 @@
 use Prim.Native.String.{String as Literal}
 use Rattle.std.specs.Prelude.{◌≡◌, ◌+◌, ℕ, ℤ, negsuc, List, [], ◌∷◌, map, codes, ⊤, true, Option, Some, None, option_and_then, String, string_bytes}
 use Rattle.std.specs.Global.{Global}
-use Rattle.serde_json.specs.Data.{Data, Items, array, no_items, item, no_members, member, negative, number, object, string, unsigned}
+use Rattle.std.specs.Option.{option_map_or}
+use Rattle.serde_json.specs.Data.{Data, Items, Members, array, no_items, item, no_members, member, negative, number, object, string, unsigned}
 use Rattle.plan_types.specs.Schemas.{Columns, Name as Text}
 use Rattle.plan_types.specs.Types.{Ty, Integer, Untyped}
 use Rattle.plan_types.specs.Values.{IntValue}
 use Rattle.plan_types.specs.declared.dtype.CastOptions.{CastOptions}
 use Rattle.plan_dsl.specs.declared.operator.Operator.{Operator}
 use Rattle.plan_dsl.specs.Ops.{ColumnOp, LiteralOp, BinaryOp, CastOp, Expression, Op}
-use Rattle.plan_dsl.specs.Plans.{Plan, named, scan_op, select_op, filter_op}
+use Rattle.plan_dsl.specs.Plans.{SourcePlan, scan_op, written_select, written_filter}
 use Rattle.plan_dsl.specs.Trees.{node, no_more, more}
 use Rattle.plan_json.specs.Bytes.{IsRefusalOf, WritesQuery}
-use Rattle.plan_json.specs.Faults.{FaultKind, BadShape, BadFloat, BadName, Form, IsBadAt, Part, Path, key, number as at_number, own_fault, part, parts_of, keyed_form, list_of, places_form}
+use Rattle.plan_json.specs.Faults.{FaultKind, BadShape, BadFloat, BadName, Form, Part, Path, Step, fault_at, key, number as at_number, own_fault, part, part_of, keyed_form, list_of, places_form}
 use Rattle.plan_json.specs.Forms.{Read, expression, expression_read, asks}
 use Rattle.plan_json.specs.Queries.{QueryModel, read_as}
 use Rattle.plan_json.specs.declared.forms.Kind.TheVariants as kinds
@@ -130,16 +131,16 @@ binary operator left right = node (BinaryOp operator) (more left (more right no_
 abbrev pub cast_to : Ty → CastOptions → Expression → Expression
 cast_to type mode operand = node (CastOp type mode) (more operand no_more)
 
-abbrev pub scan : Option ℕ → Columns → Plan
+abbrev pub scan : Option ℕ → Columns → SourcePlan
 scan table columns = node (scan_op table columns) no_more
 
-abbrev pub select : List Expression → Plan → Plan
-select outputs input = node (select_op (map named outputs) None) (more input no_more)
+abbrev pub select : List Expression → SourcePlan → SourcePlan
+select outputs input = written_select outputs input
 
-abbrev pub filter : Expression → Plan → Plan
-filter predicate input = node (filter_op (named predicate)) (more input no_more)
+abbrev pub filter : Expression → SourcePlan → SourcePlan
+filter predicate input = written_filter predicate input
 
-abbrev pub query : Declared → Plan → QueryModel
+abbrev pub query : Declared → SourcePlan → QueryModel
 query tables plan = record { tables = tables; plan = plan }
 
 -- ---- parts and faults
@@ -147,29 +148,45 @@ query tables plan = record { tables = tables; plan = plan }
 abbrev pub fault_in : Form × Data → Option FaultKind
 fault_in case = own_fault case.0 case.1
 
-abbrev pub parts_in : Form × Data → List Part
-parts_in case = parts_of case.0 case.1
+abbrev pub keys_in : Members → List Step
+keys_in no_members = []
+keys_in (member name value rest) = key name ∷ keys_in rest
 
-abbrev pub under : Literal → Form → Data → List Part
-under name form value = part (key (codes name)) form value ∷ []
+abbrev pub numbers_in : ℕ → Items → List Step
+numbers_in n no_items = []
+numbers_in n (item d ds) = at_number n ∷ numbers_in (n + 1) ds
 
-abbrev pub from_number : ℕ → List (Form × Data) → List Part
+-- the keys or the numbers that a value has
+abbrev pub steps_in : Data → List Step
+steps_in (object members) = keys_in members
+steps_in (array items) = numbers_in 0 items
+steps_in _ = []
+
+abbrev pub at_steps : Form → Data → List Step → List (Step × Part)
+at_steps form d [] = []
+at_steps form d (step ∷ steps) = option_map_or (λ below. (step, below) ∷ at_steps form d steps) (part_of form step d) (at_steps form d steps)
+
+-- the parts of a value, each with its step
+abbrev pub parts_in : Form × Data → List (Step × Part)
+parts_in case = at_steps case.0 case.1 (steps_in case.1)
+
+abbrev pub under : Literal → Form → Data → List (Step × Part)
+under name form value = (key (codes name), part form value) ∷ []
+
+abbrev pub from_number : ℕ → List (Form × Data) → List (Step × Part)
 from_number n [] = []
-from_number n (asked ∷ rest) = part (at_number n) asked.0 asked.1 ∷ from_number (n + 1) rest
+from_number n (asked ∷ rest) = (at_number n, part asked.0 asked.1) ∷ from_number (n + 1) rest
 
 -- the items of a list, and what is asked of each
-abbrev pub in_turn : List (Form × Data) → List Part
+abbrev pub in_turn : List (Form × Data) → List (Step × Part)
 in_turn asked = from_number 0 asked
 
 abbrev pub to : Literal → Path → Path
 to name path = key (codes name) ∷ path
 
--- a value of the form is at fault in this way at the path's end
-abbrev pub BadAt : Form × Data × FaultKind × Path → Type 0
-BadAt case = IsBadAt case.0 case.1 case.2 case.3
-
-abbrev pub NotBadAt : Form × Data × FaultKind × Path → Type 0
-NotBadAt case = ¬ (IsBadAt case.0 case.1 case.2 case.3)
+-- how a value of the form is at fault at the path's end
+abbrev pub fault_along : Form × Data × Path → Option FaultKind
+fault_along case = fault_at case.0 case.1 case.2
 
 -- ---- texts
 

@@ -1,16 +1,15 @@
 //! What is read of a key's value, item by item, and taking it apart again.
-ghost use Rattle.std.specs.Prelude.{◌≡◌, ◌<◌, ◌++◌, ◌∷◌, [], false, length, map, IfOk, IfErr};
+ghost use Rattle.std.specs.Prelude.{◌≡◌, ◌∷◌, [], false, length, map};
 ghost use Rattle.plan_dsl.specs.Expressions.{tree_of};
 ghost use Rattle.plan_dsl.specs.Literals.{literal_op};
 ghost use Rattle.plan_dsl.specs.Plans.{plan_tree, trees_of};
 ghost use Rattle.plan_types.specs.Schemas.{columns};
 ghost use Rattle.plan_types.specs.Types.{ty};
-ghost use Rattle.plan_json.specs.Arguments.{arg_view, args_view, part_view};
+ghost use Rattle.plan_json.specs.Arguments.{arg_view, args_view};
 ghost use Rattle.plan_json.specs.Forms.{AllFit, Asked, Fits, columns_read, expression, expression_read, expressions_in, leaf, literal_read, many, many_read, mode_read, name_read, operator_read, plan, plan_read, reads_of, table_read, type_read, nothing_read};
 ghost use Rattle.plan_json.specs.Queries.{has_flags};
 ghost use Rattle.plan_json.specs.declared.forms.Leaf.TheVariants as leaves;
 
-use super::error::JsonError;
 use plan_dsl::expr::Expr;
 use plan_dsl::literal::LiteralValue;
 use plan_dsl::operator::Operator;
@@ -18,18 +17,17 @@ use plan_dsl::plan::{DslPlan, Exprs};
 use plan_types::dtype::{CastOptions, DataType};
 use plan_types::schema::Schema;
 use plan_types::text::PlSmallStr;
-use std::alloc::Global;
 
-// What is read of one item.
+// What is read of one item. What is wide stands in a box, since each item goes through several hands.
 #[derive(Drop)]
 pub(crate) enum Part {
     Name(PlSmallStr),
-    Literal(LiteralValue),
+    Literal(Box<LiteralValue>),
     Operator(Operator),
-    Dtype(DataType),
+    Dtype(Box<DataType>),
     Mode(CastOptions),
-    Table(u32, Schema),
-    Columns(Schema),
+    Table(u32, Box<Schema>),
+    Columns(Box<Schema>),
     Expression(Box<Expr>),
     Plan(Box<DslPlan>),
     Nothing,
@@ -39,35 +37,19 @@ pub(crate) enum Part {
 #[derive(Drop)]
 pub(crate) enum Arg {
     One(Part),
-    Many(Vec<Part>),
+    Expressions(Exprs),
 }
 
 // What is read of a key's value. It stands in place.
 #[derive(Drop)]
 pub(crate) enum Args {
-    Zero,
     One(Arg),
     Two(Arg, Arg),
     Three(Arg, Arg, Arg),
-    Four(Arg, Arg, Arg, Arg),
-}
-
-// One more argument.
-pub(crate) fn push(args: Args, arg: Arg) -> Args
-    requires { length (args_view args) < 4 }
-    ensures { args_view result ≡ args_view args ++ arg_view arg ∷ [] }
-{
-    match args {
-        Args::Zero => Args::One(arg),
-        Args::One(a) => Args::Two(a, arg),
-        Args::Two(a, b) => Args::Three(a, b, arg),
-        Args::Three(a, b, c) => Args::Four(a, b, c, arg),
-        Args::Four(_, _, _, _) => unreachable!(),
-    }
 }
 
 // Drops what was read. A caller that drops it itself has a case for each variant.
-pub(crate) fn discard(_args: Args) {}
+pub(crate) fn discard(_arg: Arg) {}
 
 pub(crate) fn one(args: Args) -> Arg
     requires { length (args_view args) ≡ 1 }
@@ -120,7 +102,7 @@ pub(crate) fn value(arg: Arg) -> LiteralValue
     ensures { arg_view arg ≡ literal_read (literal_op result) }
 {
     match arg {
-        Arg::One(Part::Literal(value)) => value,
+        Arg::One(Part::Literal(value)) => Box::into_inner(value),
         _ => unreachable!(),
     }
 }
@@ -130,7 +112,7 @@ pub(crate) fn digits(arg: Arg) -> LiteralValue
     ensures { arg_view arg ≡ literal_read (literal_op result) }
 {
     match arg {
-        Arg::One(Part::Literal(digits)) => digits,
+        Arg::One(Part::Literal(digits)) => Box::into_inner(digits),
         _ => unreachable!(),
     }
 }
@@ -140,7 +122,7 @@ pub(crate) fn typed(arg: Arg) -> LiteralValue
     ensures { arg_view arg ≡ literal_read (literal_op result) }
 {
     match arg {
-        Arg::One(Part::Literal(typed)) => typed,
+        Arg::One(Part::Literal(typed)) => Box::into_inner(typed),
         _ => unreachable!(),
     }
 }
@@ -160,7 +142,7 @@ pub(crate) fn dtype(arg: Arg) -> DataType
     ensures { arg_view arg ≡ type_read (ty result) }
 {
     match arg {
-        Arg::One(Part::Dtype(dtype)) => dtype,
+        Arg::One(Part::Dtype(dtype)) => Box::into_inner(dtype),
         _ => unreachable!(),
     }
 }
@@ -180,7 +162,7 @@ pub(crate) fn table(arg: Arg) -> (u32, Schema)
     ensures { arg_view arg ≡ table_read result.0 (columns result.1) }
 {
     match arg {
-        Arg::One(Part::Table(number, schema)) => (number, schema),
+        Arg::One(Part::Table(number, schema)) => (number, Box::into_inner(schema)),
         _ => unreachable!(),
     }
 }
@@ -190,7 +172,7 @@ pub(crate) fn columns(arg: Arg) -> Schema
     ensures { arg_view arg ≡ columns_read (columns result) }
 {
     match arg {
-        Arg::One(Part::Columns(schema)) => schema,
+        Arg::One(Part::Columns(schema)) => Box::into_inner(schema),
         _ => unreachable!(),
     }
 }
@@ -211,17 +193,7 @@ pub(crate) fn expression(arg: Arg) -> Box<Expr>
     ensures { arg_view arg ≡ expression_read (tree_of result.value) }
 {
     match arg {
-        Arg::One(part) => part_expression(part),
-        Arg::Many(_) => unreachable!(),
-    }
-}
-
-fn part_expression(part: Part) -> Box<Expr>
-    requires { Fits expression (part_view part) }
-    ensures { part_view part ≡ expression_read (tree_of result.value) }
-{
-    match part {
-        Part::Expression(expr) => expr,
+        Arg::One(Part::Expression(expr)) => expr,
         _ => unreachable!(),
     }
 }
@@ -238,20 +210,12 @@ pub(crate) fn plan(arg: Arg) -> Box<DslPlan>
 }
 
 // A list of expressions.
-pub(crate) fn expressions(alloc: Global, arg: Arg) -> Result<Exprs, JsonError>
+pub(crate) fn expressions(arg: Arg) -> Exprs
     requires { Fits (many expression) (arg_view arg) }
-    ensures ok { IfOk result (λ exprs. arg_view arg ≡ many_read (reads_of (map expression_read (trees_of exprs)))) }
-    ensures err { IfErr result (λ error. error ≡ JsonError.NoMemory) }
+    ensures { arg_view arg ≡ many_read (reads_of (map expression_read (trees_of result))) }
 {
     match arg {
-        Arg::One(_) => unreachable!(),
-        Arg::Many(parts) => {
-            let mut items = Vec::new(alloc);
-            for part in parts {
-                let expr = part_expression(part);
-                items.push(Box::into_inner(expr))?;
-            }
-            Ok(Exprs { items })
-        }
+        Arg::Expressions(exprs) => exprs,
+        _ => unreachable!(),
     }
 }

@@ -7,7 +7,7 @@ ghost use Rattle.plan_json.specs.Faults.{column_list};
 ghost use Rattle.plan_json.specs.Leaves.{columns_of};
 
 use super::dtype::read_column;
-use super::error::{JsonError, Step, at};
+use super::error::{JsonError, Step};
 use plan_types::field::Field;
 use plan_types::schema::Schema;
 use serde_json::Value;
@@ -24,8 +24,10 @@ pub(crate) fn read_columns(alloc: Global, value: &Value) -> Result<Schema, JsonE
             let items = items.as_slice();
             let mut schema = Schema::new(alloc);
             for (number, item) in items.iter().enumerate() {
-                let column = at(alloc, Step::Item(number), read_column(alloc, item))?;
-                let Field { name, dtype } = column;
+                let Field { name, dtype } = match read_column(alloc, item) {
+                    Ok(column) => column,
+                    Err(error) => return Err(error.below(alloc, Step::Item(number))),
+                };
                 let before = match schema.with_column(name, dtype) {
                     Ok(before) => before,
                     Err(error) => return Err(JsonError::out_of_memory(error)),

@@ -9,7 +9,7 @@ ghost use Rattle.plan_json.specs.Tables.{declared};
 
 use super::columns::read_columns;
 use super::dtype::read_text;
-use super::error::{JsonError, Step, at};
+use super::error::{JsonError, Step};
 use super::tables::{Table, Tables};
 use super::value::two_members;
 use plan_types::text::PlSmallStr;
@@ -30,8 +30,10 @@ pub(crate) fn read_tables(alloc: Global, value: &Value) -> Result<Tables, JsonEr
             }
             let mut tables = Tables::new(alloc);
             for (number, value) in values.iter().enumerate() {
-                let table = at(alloc, Step::Item(number), read_table(alloc, &tables, value))?;
-                tables.push(table)?;
+                match read_table(alloc, &tables, value) {
+                    Ok(table) => tables.push(table)?,
+                    Err(error) => return Err(error.below(alloc, Step::Item(number))),
+                }
             }
             Ok(tables)
         }
@@ -48,11 +50,13 @@ pub(crate) fn read_table(alloc: Global, before: &Tables, value: &Value) -> Resul
 {
     match two_members(value, "name", "columns") {
         None => Err(JsonError::shape(alloc, value)),
-        Some((name, columns)) => {
-            let name = at(alloc, Step::Key("name"), read_new_name(alloc, before, name))?;
-            let schema = at(alloc, Step::Key("columns"), read_columns(alloc, columns))?;
-            Ok(Table { name, schema })
-        }
+        Some((name, columns)) => match read_new_name(alloc, before, name) {
+            Err(error) => Err(error.below(alloc, Step::Key("name"))),
+            Ok(name) => match read_columns(alloc, columns) {
+                Err(error) => Err(error.below(alloc, Step::Key("columns"))),
+                Ok(schema) => Ok(Table { name, schema }),
+            },
+        },
     }
 }
 
@@ -62,9 +66,13 @@ fn read_new_name(alloc: Global, before: &Tables, value: &Value) -> Result<PlSmal
     ensures new { IfOk result (λ name. is_among name (names_of (declared before.now)) ≡ false) }
     ensures err { IfErr result (IsErrorOf (a_new_name (names_of (declared before.now))) (view value.now)) }
 {
-    let name = read_text(alloc, value)?;
-    if before.contains(&name) {
-        return Err(JsonError::name(alloc));
+    match read_text(alloc, value) {
+        Err(error) => Err(error),
+        Ok(name) => {
+            if before.contains(&name) {
+                return Err(JsonError::name(alloc));
+            }
+            Ok(name)
+        }
     }
-    Ok(name)
 }

@@ -4,10 +4,11 @@ ghost use Rattle.std.specs.Option.{option_map};
 ghost use Rattle.serde_json.specs.View.{view};
 ghost use Rattle.plan_types.specs.Types.{fields_of, ty};
 ghost use Rattle.plan_json.specs.Errors.{IsErrorOf};
-ghost use Rattle.plan_json.specs.Faults.{a_column, a_text, a_type, a_unit, field_list};
-ghost use Rattle.plan_json.specs.Leaves.{column_of, integer_named, plain_named, struct_of, text_of, type_named, type_of, unit_named, unit_of};
+ghost use Rattle.plan_json.specs.Faults.{a_column, a_text, a_type, a_unit, field_list, type_form};
+ghost use Rattle.plan_json.specs.Leaves.{column_of, integer_named, keyed_type, plain_named, struct_of, text_of, type_named, type_of, unit_named, unit_of};
 
-use super::error::{JsonError, Step, at};
+use super::error::{JsonError, Step};
+use super::forms::{TypeKey, find_type};
 use super::value::{only_member, two_items};
 use plan_types::dtype::{DataType, Fields, TimeUnit};
 use plan_types::field::Field;
@@ -42,26 +43,42 @@ pub(crate) fn read_type(alloc: Global, value: &Value) -> Result<DataType, JsonEr
         },
         None => match only_member(value) {
             None => Err(JsonError::shape(alloc, value)),
-            Some((key, inner)) => match key {
-                "Datetime" => {
-                    let unit = at(alloc, Step::Key("Datetime"), read_unit(alloc, inner))?;
-                    Ok(DataType::Datetime(unit))
-                }
-                "Duration" => {
-                    let unit = at(alloc, Step::Key("Duration"), read_unit(alloc, inner))?;
-                    Ok(DataType::Duration(unit))
-                }
-                "List" => {
-                    let item = at(alloc, Step::Key("List"), read_type(alloc, inner))?;
-                    let item = Box::new(alloc, item)?;
-                    Ok(DataType::List(item))
-                }
-                "Struct" => {
-                    let fields = at(alloc, Step::Key("Struct"), read_fields(alloc, inner))?;
-                    Ok(DataType::Struct(fields))
-                }
-                _ => Err(JsonError::shape(alloc, value)),
+            Some((word, inner)) => match find_type(word) {
+                None => Err(JsonError::shape(alloc, value)),
+                Some((word, key)) => match read_keyed(alloc, key, inner) {
+                    Err(error) => Err(error.below(alloc, Step::Key(word))),
+                    Ok(dtype) => Ok(dtype),
+                },
             },
+        },
+    }
+}
+
+// The value of a type's key.
+#[cycle(types)]
+fn read_keyed(alloc: Global, key: TypeKey, value: &Value) -> Result<DataType, JsonError>
+    ensures ok { IfOk result (λ dtype. keyed_type key (view value.now) ≡ Some (ty dtype)) }
+    ensures err { IfErr result (IsErrorOf (type_form key) (view value.now)) }
+{
+    match key {
+        TypeKey::Datetime => match read_unit(alloc, value) {
+            Err(error) => Err(error),
+            Ok(unit) => Ok(DataType::Datetime(unit)),
+        },
+        TypeKey::Duration => match read_unit(alloc, value) {
+            Err(error) => Err(error),
+            Ok(unit) => Ok(DataType::Duration(unit)),
+        },
+        TypeKey::List => match read_type(alloc, value) {
+            Err(error) => Err(error),
+            Ok(item) => {
+                let item = Box::new(alloc, item)?;
+                Ok(DataType::List(item))
+            }
+        },
+        TypeKey::Struct => match read_fields(alloc, value) {
+            Err(error) => Err(error),
+            Ok(fields) => Ok(DataType::Struct(fields)),
         },
     }
 }
@@ -78,8 +95,10 @@ fn read_fields(alloc: Global, value: &Value) -> Result<Fields, JsonError>
             let values = values.as_slice();
             let mut items = Vec::new(alloc);
             for (number, value) in values.iter().enumerate() {
-                let field = at(alloc, Step::Item(number), read_column(alloc, value))?;
-                items.push(field)?;
+                match read_column(alloc, value) {
+                    Ok(field) => items.push(field)?,
+                    Err(error) => return Err(error.below(alloc, Step::Item(number))),
+                }
             }
             Ok(Fields { items })
         }
@@ -95,11 +114,13 @@ pub(crate) fn read_column(alloc: Global, value: &Value) -> Result<Field, JsonErr
 {
     match two_items(value) {
         None => Err(JsonError::shape(alloc, value)),
-        Some((name, dtype)) => {
-            let name = at(alloc, Step::Item(0), read_text(alloc, name))?;
-            let dtype = at(alloc, Step::Item(1), read_type(alloc, dtype))?;
-            Ok(Field::new(name, dtype))
-        }
+        Some((name, dtype)) => match read_text(alloc, name) {
+            Err(error) => Err(error.below(alloc, Step::Item(0))),
+            Ok(name) => match read_type(alloc, dtype) {
+                Err(error) => Err(error.below(alloc, Step::Item(1))),
+                Ok(dtype) => Ok(Field::new(name, dtype)),
+            },
+        },
     }
 }
 

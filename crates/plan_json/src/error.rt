@@ -1,8 +1,8 @@
 //! Why bytes are no query, and where.
-ghost use Rattle.std.specs.Prelude.{◌≡◌, ◌++◌, Ok, IfOk, IfErr, string_bytes};
+ghost use Rattle.std.specs.Prelude.{◌≡◌, ◌++◌, IfOk, string_bytes};
 ghost use Rattle.serde_json.specs.View.{view};
 ghost use Rattle.plan_types.specs.Errors.{no_memory};
-ghost use Rattle.plan_json.specs.Errors.{IsBelow, IsErrBelow, IsOwn, IsPlain, step_of, step_text};
+ghost use Rattle.plan_json.specs.Errors.{IsBelow, IsOwn, IsPlain, step_of, step_text};
 ghost use Rattle.plan_json.specs.Faults.{BadName, shape_fault};
 
 use plan_types::error::PlanError;
@@ -90,18 +90,6 @@ impl JsonError {
             JsonError::NotJson => JsonError::NotJson,
             JsonError::NoMemory => JsonError::NoMemory,
         }
-    }
-}
-
-// What was read of a part, with an error as the value sees it that has the part at the step.
-pub(crate) fn at<T>(alloc: Global, step: Step, read: Result<T, JsonError>) -> Result<T, JsonError>
-    requires { IsPlain (step_of step) }
-    ensures ok { IfOk result (λ found. read ≡ Ok found) }
-    ensures err { IfErr result (IsErrBelow (step_of step) read) }
-{
-    match read {
-        Ok(part) => Ok(part),
-        Err(error) => Err(error.below(alloc, step)),
     }
 }
 

@@ -26,6 +26,7 @@ pub(crate) fn assemble_expression(key: ExpressionKey, args: Args) -> Result<Expr
         ExpressionKey::Bin => Ok(bin(args)),
         ExpressionKey::Cast => Ok(cast(args)),
         ExpressionKey::Len => Ok(count(args)),
+        ExpressionKey::Slice => Ok(slice(args)),
     }
 }
 
@@ -87,4 +88,16 @@ fn count(args: Args) -> Expr
 {
     nothing(one(args));
     Expr::Len
+}
+
+fn slice(args: Args) -> Expr
+    requires { AllFit (asked_in (expression_asks of.Slice)) (args_view args) }
+    ensures { expression_says of.Slice (args_view args) ≡ Some (tree_of result) }
+{
+    let (input, offset, length) = three(args);
+    Expr::Slice {
+        input: expression(input),
+        offset: expression(offset),
+        length: expression(length),
+    }
 }

@@ -1,8 +1,8 @@
 //! The table of forms: the keys of an object of one key, and what each asks of its value.
-ghost use Rattle.std.specs.Prelude.{◌≡◌, ◌≤◌, IfSome, length, map};
+ghost use Rattle.std.specs.Prelude.{◌≡◌, IfSome, map};
 ghost use Rattle.std.specs.Option.{option_map};
 ghost use Rattle.plan_json.specs.Errors.{escaped};
-ghost use Rattle.plan_json.specs.Forms.{asked_in, asks, expression_asks, expression_rows, key_named, places_view, plan_asks, plan_rows, row_named, row_view};
+ghost use Rattle.plan_json.specs.Forms.{asks, expression_asks, expression_rows, key_named, places_view, plan_asks, plan_rows, row_named, row_view, type_rows};
 
 // What an object of one key can be.
 #[derive(Clone, Copy)]
@@ -44,16 +44,16 @@ pub(crate) enum Item {
 #[derive(Clone, Copy)]
 pub(crate) enum Place {
     One(Item),
-    // A list of any number of these.
-    Many(Item),
+    // A list of any number of expressions.
+    Expressions,
 }
 
-// What a key asks of its value.
+// What a key asks of its value: one thing, or a list of exactly these.
 #[derive(Clone, Copy)]
 pub(crate) enum Places {
-    Single(Place),
-    // A list of exactly these.
-    Listed(&'static [Place]),
+    One(Place),
+    Two(Place, Place),
+    Three(Place, Place, Place),
 }
 
 #[derive(Clone, Copy)]
@@ -65,6 +65,7 @@ pub(crate) enum ExpressionKey {
     Bin,
     Cast,
     Len,
+    Slice,
 }
 
 #[derive(Clone, Copy)]
@@ -73,6 +74,15 @@ pub(crate) enum PlanKey {
     Empty,
     Filter,
     Select,
+}
+
+// The keys of types that have parts.
+#[derive(Clone, Copy)]
+pub(crate) enum TypeKey {
+    Datetime,
+    Duration,
+    List,
+    Struct,
 }
 
 #[derive(Clone, Copy)]
@@ -89,7 +99,7 @@ pub(crate) struct Row<K> {
 
 const EXPRESSION: Place = Place::One(Item::Form(Kind::Expression));
 
-const EXPRESSIONS: Place = Place::Many(Item::Form(Kind::Expression));
+const EXPRESSIONS: Place = Place::Expressions;
 
 const PLAN: Place = Place::One(Item::Form(Kind::Plan));
 
@@ -113,7 +123,7 @@ const COLUMNS: Place = Place::One(Item::Leaf(Leaf::Columns));
 
 const NOTHING: Place = Place::One(Item::Leaf(Leaf::Nothing));
 
-const EXPRESSION_ROWS: [Row<ExpressionKey>; 7] = [
+const EXPRESSION_ROWS: [Row<ExpressionKey>; 8] = [
     Row {
         word: "col",
         key: ExpressionKey::Col,
@@ -142,6 +152,10 @@ const EXPRESSION_ROWS: [Row<ExpressionKey>; 7] = [
         word: "len",
         key: ExpressionKey::Len,
     },
+    Row {
+        word: "slice",
+        key: ExpressionKey::Slice,
+    },
 ];
 
 const PLAN_ROWS: [Row<PlanKey>; 4] = [
@@ -163,6 +177,25 @@ const PLAN_ROWS: [Row<PlanKey>; 4] = [
     },
 ];
 
+const TYPE_ROWS: [Row<TypeKey>; 4] = [
+    Row {
+        word: "Datetime",
+        key: TypeKey::Datetime,
+    },
+    Row {
+        word: "Duration",
+        key: TypeKey::Duration,
+    },
+    Row {
+        word: "List",
+        key: TypeKey::List,
+    },
+    Row {
+        word: "Struct",
+        key: TypeKey::Struct,
+    },
+];
+
 // The keys of expressions.
 fn expression_table() -> &'static [Row<ExpressionKey>]
     ensures { map row_view result.now ≡ expression_rows }
@@ -177,8 +210,15 @@ fn plan_table() -> &'static [Row<PlanKey>]
     &PLAN_ROWS
 }
 
+// The keys of types.
+fn type_table() -> &'static [Row<TypeKey>]
+    ensures { map row_view result.now ≡ type_rows }
+{
+    &TYPE_ROWS
+}
+
 // The first row of that word.
-pub(crate) fn find<K: Copy>(rows: &[Row<K>], word: &str) -> Option<(&'static str, K)>
+fn find<K: Copy>(rows: &[Row<K>], word: &str) -> Option<(&'static str, K)>
     ensures row { option_map (λ row. (row.0.now, row.1)) result ≡ row_named (map row_view rows.now) word.now }
     ensures word { IfSome result (λ row. row.0.now ≡ word.now) }
 {
@@ -209,10 +249,21 @@ pub(crate) fn find_key(kind: Kind, word: &str) -> Option<(&'static str, Key)>
     }
 }
 
+// The key of types of that word.
+pub(crate) fn find_type(word: &str) -> Option<(&'static str, TypeKey)>
+    ensures row { option_map (λ row. (row.0.now, row.1)) result ≡ row_named type_rows word.now }
+    ensures word { IfSome result (λ row. row.0.now ≡ word.now) }
+    ensures plain { IfSome result (λ row. escaped row.0.now ≡ row.0.now) }
+{
+    match find(type_table(), word) {
+        None => None,
+        Some((word, key)) => Some((word, key)),
+    }
+}
+
 // What the key asks of its value.
 pub(crate) fn places_of(key: Key) -> Places
     ensures asks { places_view result ≡ asks key }
-    ensures few { length (asked_in (places_view result)) ≤ 4 }
 {
     match key {
         Key::Expression(key) => expression_places(key),
@@ -222,27 +273,26 @@ pub(crate) fn places_of(key: Key) -> Places
 
 fn expression_places(key: ExpressionKey) -> Places
     ensures asks { places_view result ≡ expression_asks key }
-    ensures few { length (asked_in (places_view result)) ≤ 4 }
 {
     match key {
-        ExpressionKey::Col => Places::Single(NAME),
-        ExpressionKey::Lit => Places::Single(VALUE),
-        ExpressionKey::Int => Places::Single(DIGITS),
-        ExpressionKey::Typed => Places::Single(TYPED),
-        ExpressionKey::Bin => Places::Listed(&[OPERATOR, EXPRESSION, EXPRESSION]),
-        ExpressionKey::Cast => Places::Listed(&[EXPRESSION, DTYPE, MODE]),
-        ExpressionKey::Len => Places::Single(NOTHING),
+        ExpressionKey::Col => Places::One(NAME),
+        ExpressionKey::Lit => Places::One(VALUE),
+        ExpressionKey::Int => Places::One(DIGITS),
+        ExpressionKey::Typed => Places::One(TYPED),
+        ExpressionKey::Bin => Places::Three(OPERATOR, EXPRESSION, EXPRESSION),
+        ExpressionKey::Cast => Places::Three(EXPRESSION, DTYPE, MODE),
+        ExpressionKey::Len => Places::One(NOTHING),
+        ExpressionKey::Slice => Places::Three(EXPRESSION, EXPRESSION, EXPRESSION),
     }
 }
 
 fn plan_places(key: PlanKey) -> Places
     ensures asks { places_view result ≡ plan_asks key }
-    ensures few { length (asked_in (places_view result)) ≤ 4 }
 {
     match key {
-        PlanKey::Scan => Places::Single(TABLE),
-        PlanKey::Empty => Places::Single(COLUMNS),
-        PlanKey::Filter => Places::Listed(&[PLAN, EXPRESSION]),
-        PlanKey::Select => Places::Listed(&[PLAN, EXPRESSIONS]),
+        PlanKey::Scan => Places::One(TABLE),
+        PlanKey::Empty => Places::One(COLUMNS),
+        PlanKey::Filter => Places::Two(PLAN, EXPRESSION),
+        PlanKey::Select => Places::Two(PLAN, EXPRESSIONS),
     }
 }

@@ -8,7 +8,7 @@ ghost use Rattle.plan_json.specs.Faults.{a_counted_type, a_literal, a_number_of,
 ghost use Rattle.plan_json.specs.Leaves.{counted_of, literal_of, number_of, number_text_of, number_written, typed_of};
 
 use super::dtype::read_type;
-use super::error::{JsonError, Step, at};
+use super::error::{JsonError, Step};
 use super::value::{two_items, whole_number};
 use plan_dsl::literal::LiteralValue;
 use plan_types::dtype::DataType;
@@ -79,11 +79,13 @@ pub(crate) fn read_typed(alloc: Global, value: &Value) -> Result<LiteralValue, J
 {
     match two_items(value) {
         None => Err(JsonError::shape(alloc, value)),
-        Some((dtype, number)) => {
-            let dtype = at(alloc, Step::Item(0), read_counted(alloc, dtype))?;
-            let literal = at(alloc, Step::Item(1), read_number_of(alloc, &dtype, number))?;
-            Ok(literal)
-        }
+        Some((dtype, number)) => match read_counted(alloc, dtype) {
+            Err(error) => Err(error.below(alloc, Step::Item(0))),
+            Ok(dtype) => match read_number_of(alloc, &dtype, number) {
+                Err(error) => Err(error.below(alloc, Step::Item(1))),
+                Ok(literal) => Ok(literal),
+            },
+        },
     }
 }
 
@@ -92,11 +94,15 @@ fn read_counted(alloc: Global, value: &Value) -> Result<DataType, JsonError>
     ensures ok { IfOk result (λ dtype. counted_of (view value.now) ≡ Some (ty dtype)) }
     ensures err { IfErr result (IsErrorOf a_counted_type (view value.now)) }
 {
-    let dtype = read_type(alloc, value)?;
-    if !dtype.is_counted() {
-        return Err(JsonError::shape(alloc, value));
+    match read_type(alloc, value) {
+        Err(error) => Err(error),
+        Ok(dtype) => {
+            if !dtype.is_counted() {
+                return Err(JsonError::shape(alloc, value));
+            }
+            Ok(dtype)
+        }
     }
-    Ok(dtype)
 }
 
 // A whole number that the type has.

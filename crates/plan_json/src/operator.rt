@@ -29,9 +29,13 @@ pub(crate) fn read_operator(alloc: Global, value: &Value) -> Result<Operator, Js
 fn operator_named(name: &str) -> Option<Operator>
     ensures { result ≡ operator_named name.now }
 {
-    comparison_named(name)
-        .or(arithmetic_named(name))
-        .or(logic_named(name))
+    match comparison_named(name) {
+        Some(operator) => Some(operator),
+        None => match arithmetic_named(name) {
+            Some(operator) => Some(operator),
+            None => logic_named(name),
+        },
+    }
 }
 
 // The comparison of that name.

@@ -1,26 +1,28 @@
 //! Reading what a place asks for, by the table of forms.
-ghost use Rattle.std.specs.Prelude.{◌≡◌, ◌<◌, ◌≤◌, Some, length, map, slice_get, option_and_then, IfOk, IfErr};
+ghost use Rattle.std.specs.Prelude.{◌≡◌, [], ◌∷◌, Some, map, option_and_then, IfOk, IfErr};
 ghost use Rattle.serde_json.specs.View.{view};
+ghost use Rattle.plan_dsl.specs.Plans.{trees_of};
 ghost use Rattle.plan_types.specs.Schemas.{columns, names_of};
 ghost use Rattle.plan_json.specs.Arguments.{arg_view, args_view, part_view};
 ghost use Rattle.plan_json.specs.Errors.{IsErrorOf};
 ghost use Rattle.plan_json.specs.Faults.{asked_form, a_scan, items_of, keyed_form, leaf_form, places_form, nothing_form};
-ghost use Rattle.plan_json.specs.Forms.{AllFit, a_form, asked_in, asks, item_view, many, many_read, place_view, places_view, reads_of, says};
+ghost use Rattle.plan_json.specs.Forms.{AllFit, a_form, asked_in, asks, expression, expression_read, item_view, many, many_read, place_view, places_view, reads_of, says};
 ghost use Rattle.plan_json.specs.Leaves.{table_at, text_of};
 ghost use Rattle.plan_json.specs.Queries.{leaf_of, list_as, places_as, read_as, nothing_of};
 ghost use Rattle.plan_json.specs.Tables.{declared};
 
-use super::arguments::{Arg, Args, Part, discard, push};
+use super::arguments::{Arg, Args, Part, discard, expression};
 use super::columns::read_columns;
 use super::dtype::{read_text, read_type};
-use super::error::{JsonError, Step, at};
+use super::error::{JsonError, Step};
 use super::expression::assemble_expression;
 use super::forms::{Item, Key, Kind, Leaf, Place, Places, find_key, places_of};
 use super::literal::{read_literal, read_number_text, read_typed};
 use super::operator::{read_mode, read_operator};
 use super::plan::assemble_plan;
 use super::tables::Tables;
-use super::value::only_member;
+use super::value::{only_member, three_items, two_items};
+use plan_dsl::plan::Exprs;
 use plan_types::schema::Schema;
 use serde_json::Value;
 use std::alloc::Global;
@@ -41,16 +43,13 @@ pub(crate) fn read_form(
         None => Err(JsonError::shape(alloc, value)),
         Some((word, inner)) => match find_key(kind, word) {
             None => Err(JsonError::shape(alloc, value)),
-            Some((word, key)) => {
-                let places = places_of(key);
-                let args = at(
-                    alloc,
-                    Step::Key(word),
-                    read_places(alloc, tables, places, inner),
-                )?;
-                let part = assemble(alloc, key, args)?;
-                Ok(part)
-            }
+            Some((word, key)) => match read_places(alloc, tables, places_of(key), inner) {
+                Err(error) => Err(error.below(alloc, Step::Key(word))),
+                Ok(args) => {
+                    let part = assemble(alloc, key, args)?;
+                    Ok(part)
+                }
+            },
         },
     }
 }
@@ -63,71 +62,92 @@ fn read_places(
     places: Places,
     value: &Value,
 ) -> Result<Args, JsonError>
-    requires { length (asked_in (places_view places)) ≤ 4 }
     ensures ok { IfOk result (λ args. places_as (declared tables.now) (places_view places) (view value.now)
         ≡ Some (args_view args)) }
     ensures err { IfErr result (IsErrorOf (places_form (names_of (declared tables.now)) (places_view places))
         (view value.now)) }
 {
     match places {
-        Places::Single(place) => match read_place(alloc, tables, place, value) {
+        Places::One(place) => match read_place(alloc, tables, place, value) {
             Ok(arg) => Ok(Args::One(arg)),
             Err(error) => Err(error),
         },
-        Places::Listed(places) => match read_list(alloc, tables, places, value) {
+        Places::Two(first, second) => match read_two(alloc, tables, first, second, value) {
             Ok(args) => Ok(args),
             Err(error) => Err(error),
         },
-    }
-}
-
-// A list of exactly these.
-#[cycle(forms)]
-fn read_list(
-    alloc: Global,
-    tables: &Tables,
-    places: &[Place],
-    value: &Value,
-) -> Result<Args, JsonError>
-    requires { length (map place_view places.now) ≤ 4 }
-    ensures ok { IfOk result (λ args. list_as (declared tables.now) (map place_view places.now) (view value.now)
-        ≡ Some (args_view args)) }
-    ensures err { IfErr result (IsErrorOf (items_of (names_of (declared tables.now)) (map place_view places.now))
-        (view value.now)) }
-{
-    match value.as_array() {
-        None => Err(JsonError::shape(alloc, value)),
-        Some(values) => {
-            let values = values.as_slice();
-            if values.len() != places.len() {
-                return Err(JsonError::shape(alloc, value));
+        Places::Three(first, second, third) => {
+            match read_three(alloc, tables, first, second, third, value) {
+                Ok(args) => Ok(args),
+                Err(error) => Err(error),
             }
-            let mut args = Args::Zero;
-            for (number, value) in values.iter().enumerate() {
-                let place = place_at(places, number);
-                let read = read_place(alloc, tables, place, value);
-                match at(alloc, Step::Item(number), read) {
-                    Ok(arg) => {
-                        args = push(args, arg);
-                    }
-                    Err(error) => {
-                        discard(args);
-                        return Err(error);
-                    }
-                }
-            }
-            Ok(args)
         }
     }
 }
 
-fn place_at(places: &[Place], number: usize) -> Place
-    requires { number < length places.now }
-    ensures { slice_get places.now number ≡ Some result }
+// A list of exactly these two.
+#[cycle(forms)]
+fn read_two(
+    alloc: Global,
+    tables: &Tables,
+    first: Place,
+    second: Place,
+    value: &Value,
+) -> Result<Args, JsonError>
+    ensures ok { IfOk result (λ args. list_as (declared tables.now) (place_view first ∷ place_view second ∷ []) (view value.now)
+        ≡ Some (args_view args)) }
+    ensures err { IfErr result (IsErrorOf (items_of (names_of (declared tables.now)) (place_view first ∷ place_view second ∷ []))
+        (view value.now)) }
 {
-    match places.get(number) {
-        Some(place) => *place,
-        None => unreachable!(),
+    match two_items(value) {
+        None => Err(JsonError::shape(alloc, value)),
+        Some((a, b)) => match read_place(alloc, tables, first, a) {
+            Err(error) => Err(error.below(alloc, Step::Item(0))),
+            Ok(a) => match read_place(alloc, tables, second, b) {
+                Err(error) => {
+                    discard(a);
+                    Err(error.below(alloc, Step::Item(1)))
+                }
+                Ok(b) => Ok(Args::Two(a, b)),
+            },
+        },
+    }
+}
+
+// A list of exactly these three.
+#[cycle(forms)]
+fn read_three(
+    alloc: Global,
+    tables: &Tables,
+    first: Place,
+    second: Place,
+    third: Place,
+    value: &Value,
+) -> Result<Args, JsonError>
+    ensures ok { IfOk result (λ args. list_as (declared tables.now) (place_view first ∷ place_view second ∷ place_view third ∷ [])
+        (view value.now) ≡ Some (args_view args)) }
+    ensures err { IfErr result (IsErrorOf (items_of (names_of (declared tables.now))
+        (place_view first ∷ place_view second ∷ place_view third ∷ [])) (view value.now)) }
+{
+    match three_items(value) {
+        None => Err(JsonError::shape(alloc, value)),
+        Some((a, b, c)) => match read_place(alloc, tables, first, a) {
+            Err(error) => Err(error.below(alloc, Step::Item(0))),
+            Ok(a) => match read_place(alloc, tables, second, b) {
+                Err(error) => {
+                    discard(a);
+                    Err(error.below(alloc, Step::Item(1)))
+                }
+                Ok(b) => match read_place(alloc, tables, third, c) {
+                    Err(error) => {
+                        discard(a);
+                        discard(b);
+                        Err(error.below(alloc, Step::Item(2)))
+                    }
+                    Ok(c) => Ok(Args::Three(a, b, c)),
+                },
+            },
+        },
     }
 }
 
@@ -144,46 +164,42 @@ fn read_place(alloc: Global, tables: &Tables, place: Place, value: &Value) -> Re
             Ok(part) => Ok(Arg::One(part)),
             Err(error) => Err(error),
         },
-        Place::Many(item) => match read_many(alloc, tables, item, value) {
-            Ok(parts) => Ok(Arg::Many(parts)),
+        Place::Expressions => match read_expressions(alloc, tables, value) {
+            Ok(exprs) => Ok(Arg::Expressions(exprs)),
             Err(error) => Err(error),
         },
     }
 }
 
-// A list of any number of these.
+// A list of any number of expressions.
 #[cycle(forms)]
-fn read_many(
-    alloc: Global,
-    tables: &Tables,
-    item: Item,
-    value: &Value,
-) -> Result<Vec<Part>, JsonError>
-    ensures ok { IfOk result (λ parts. read_as (declared tables.now) (many (item_view item)) (view value.now)
-        ≡ Some (many_read (reads_of (map part_view parts.items)))) }
-    ensures err { IfErr result (IsErrorOf (asked_form (names_of (declared tables.now)) (many (item_view item)))
-        (view value.now)) }
+fn read_expressions(alloc: Global, tables: &Tables, value: &Value) -> Result<Exprs, JsonError>
+    ensures ok { IfOk result (λ exprs. read_as (declared tables.now) (many expression) (view value.now)
+        ≡ Some (many_read (reads_of (map expression_read (trees_of exprs))))) }
+    ensures err { IfErr result (IsErrorOf (asked_form (names_of (declared tables.now)) (many expression)) (view value.now)) }
 {
     match value.as_array() {
         None => Err(JsonError::shape(alloc, value)),
         Some(values) => {
             let values = values.as_slice();
-            let mut parts = Vec::new(alloc);
+            let mut items = Vec::new(alloc);
             for (number, value) in values.iter().enumerate() {
-                let part = at(
-                    alloc,
-                    Step::Item(number),
-                    read_item(alloc, tables, item, value),
-                )?;
-                parts.push(part)?;
+                match read_form(alloc, tables, Kind::Expression, value) {
+                    Ok(part) => {
+                        let expr = expression(Arg::One(part));
+                        items.push(Box::into_inner(expr))?;
+                    }
+                    Err(error) => return Err(error.below(alloc, Step::Item(number))),
+                }
             }
-            Ok(parts)
+            Ok(Exprs { items })
         }
     }
 }
 
 // One item.
 #[cycle(forms)]
+#[inline(always)]
 fn read_item(alloc: Global, tables: &Tables, item: Item, value: &Value) -> Result<Part, JsonError>
     ensures ok { IfOk result (λ part. read_as (declared tables.now) (item_view item) (view value.now)
         ≡ Some (part_view part)) }
@@ -213,15 +229,24 @@ fn read_leaf(alloc: Global, tables: &Tables, leaf: Leaf, value: &Value) -> Resul
             Err(error) => Err(error),
         },
         Leaf::Value => match read_literal(alloc, value) {
-            Ok(literal) => Ok(Part::Literal(literal)),
+            Ok(literal) => {
+                let literal = Box::new(alloc, literal)?;
+                Ok(Part::Literal(literal))
+            }
             Err(error) => Err(error),
         },
         Leaf::Digits => match read_number_text(alloc, value) {
-            Ok(literal) => Ok(Part::Literal(literal)),
+            Ok(literal) => {
+                let literal = Box::new(alloc, literal)?;
+                Ok(Part::Literal(literal))
+            }
             Err(error) => Err(error),
         },
         Leaf::Typed => match read_typed(alloc, value) {
-            Ok(literal) => Ok(Part::Literal(literal)),
+            Ok(literal) => {
+                let literal = Box::new(alloc, literal)?;
+                Ok(Part::Literal(literal))
+            }
             Err(error) => Err(error),
         },
         Leaf::Operator => match read_operator(alloc, value) {
@@ -229,7 +254,10 @@ fn read_leaf(alloc: Global, tables: &Tables, leaf: Leaf, value: &Value) -> Resul
             Err(error) => Err(error),
         },
         Leaf::Dtype => match read_type(alloc, value) {
-            Ok(dtype) => Ok(Part::Dtype(dtype)),
+            Ok(dtype) => {
+                let dtype = Box::new(alloc, dtype)?;
+                Ok(Part::Dtype(dtype))
+            }
             Err(error) => Err(error),
         },
         Leaf::Mode => match read_mode(alloc, value) {
@@ -241,7 +269,10 @@ fn read_leaf(alloc: Global, tables: &Tables, leaf: Leaf, value: &Value) -> Resul
             Err(error) => Err(error),
         },
         Leaf::Columns => match read_columns(alloc, value) {
-            Ok(schema) => Ok(Part::Columns(schema)),
+            Ok(schema) => {
+                let schema = Box::new(alloc, schema)?;
+                Ok(Part::Columns(schema))
+            }
             Err(error) => Err(error),
         },
         Leaf::Nothing => match read_nothing(alloc, value) {
@@ -267,17 +298,22 @@ fn read_table_name(
     alloc: Global,
     tables: &Tables,
     value: &Value,
-) -> Result<(u32, Schema), JsonError>
+) -> Result<(u32, Box<Schema>), JsonError>
     ensures ok { IfOk result (λ table. option_and_then (table_at (declared tables.now)) (text_of (view value.now))
-        ≡ Some (table.0, columns table.1)) }
+        ≡ Some (table.0, columns table.1.value)) }
     ensures err { IfErr result (IsErrorOf (a_scan (names_of (declared tables.now))) (view value.now)) }
 {
-    let name = read_text(alloc, value)?;
-    match tables.find(&name) {
-        None => Err(JsonError::name(alloc)),
-        Some((number, schema)) => match schema.try_clone(alloc) {
-            Ok(schema) => Ok((number, schema)),
-            Err(error) => Err(JsonError::out_of_memory(error)),
+    match read_text(alloc, value) {
+        Err(error) => Err(error),
+        Ok(name) => match tables.find(&name) {
+            None => Err(JsonError::name(alloc)),
+            Some((number, schema)) => match schema.try_clone(alloc) {
+                Ok(schema) => {
+                    let schema = Box::new(alloc, schema)?;
+                    Ok((number, schema))
+                }
+                Err(error) => Err(JsonError::out_of_memory(error)),
+            },
         },
     }
 }
@@ -295,7 +331,7 @@ fn assemble(alloc: Global, key: Key, args: Args) -> Result<Part, JsonError>
             Ok(Part::Expression(expr))
         }
         Key::Plan(key) => {
-            let plan = assemble_plan(alloc, key, args)?;
+            let plan = assemble_plan(key, args)?;
             let plan = Box::new(alloc, plan)?;
             Ok(Part::Plan(plan))
         }

@@ -12,10 +12,9 @@ use super::arguments::{Args, columns, expression, expressions, one, plan, table,
 use super::error::JsonError;
 use super::forms::PlanKey;
 use plan_dsl::plan::{DslPlan, ProjectionOptions};
-use std::alloc::Global;
 
 // The plan of that key.
-pub(crate) fn assemble_plan(alloc: Global, key: PlanKey, args: Args) -> Result<DslPlan, JsonError>
+pub(crate) fn assemble_plan(key: PlanKey, args: Args) -> Result<DslPlan, JsonError>
     requires { AllFit (asked_in (plan_asks key)) (args_view args) }
     ensures ok { IfOk result (λ plan. plan_says key (args_view args) ≡ Some (plan_tree plan)) }
     ensures flags { IfOk result (λ plan. has_flags plan ≡ false) }
@@ -25,7 +24,7 @@ pub(crate) fn assemble_plan(alloc: Global, key: PlanKey, args: Args) -> Result<D
         PlanKey::Scan => Ok(scan(args)),
         PlanKey::Empty => Ok(empty(args)),
         PlanKey::Filter => Ok(filter(args)),
-        PlanKey::Select => select(alloc, args),
+        PlanKey::Select => Ok(select(args)),
     }
 }
 
@@ -64,19 +63,17 @@ fn filter(args: Args) -> DslPlan
     }
 }
 
-fn select(alloc: Global, args: Args) -> Result<DslPlan, JsonError>
+fn select(args: Args) -> DslPlan
     requires { AllFit (asked_in (plan_asks by.Select)) (args_view args) }
-    ensures says { IfOk result (λ made. plan_says by.Select (args_view args) ≡ Some (plan_tree made)) }
-    ensures flags { IfOk result (λ made. has_flags made ≡ false) }
-    ensures err { IfErr result (λ error. error ≡ JsonError.NoMemory) }
+    ensures says { plan_says by.Select (args_view args) ≡ Some (plan_tree result) }
+    ensures flags { has_flags result ≡ false }
 {
     let (input, outputs) = two(args);
-    let expr = expressions(alloc, outputs)?;
-    Ok(DslPlan::Select {
-        expr,
+    DslPlan::Select {
+        expr: expressions(outputs),
         input: plan(input),
         options: ProjectionOptions {
             duplicate_check: false,
         },
-    })
+    }
 }

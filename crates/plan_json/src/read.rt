@@ -12,7 +12,7 @@ ghost use Rattle.plan_json.specs.Tables.{declared};
 
 use super::arguments::{Arg, plan};
 use super::declarations::read_tables;
-use super::error::{JsonError, Step, at};
+use super::error::{JsonError, Step};
 use super::forms::Kind;
 use super::places::read_form;
 use super::tables::Tables;
@@ -46,10 +46,10 @@ pub fn read_query(alloc: Global, bytes: &[u8]) -> Result<Query, JsonError>
                 Err(JsonError::NotJson)
             }
         }
-        Ok(value) => {
-            let query = read_value(alloc, &value)?;
-            Ok(query)
-        }
+        Ok(value) => match read_value(alloc, &value) {
+            Ok(query) => Ok(query),
+            Err(error) => Err(error),
+        },
     }
 }
 
@@ -61,11 +61,13 @@ fn read_value(alloc: Global, value: &Value) -> Result<Query, JsonError>
 {
     match two_members(value, "tables", "plan") {
         None => Err(JsonError::shape(alloc, value)),
-        Some((tables, plan)) => {
-            let tables = at(alloc, Step::Key("tables"), read_tables(alloc, tables))?;
-            let plan = at(alloc, Step::Key("plan"), read_plan(alloc, &tables, plan))?;
-            Ok(Query { tables, plan })
-        }
+        Some((tables, plan)) => match read_tables(alloc, tables) {
+            Err(error) => Err(error.below(alloc, Step::Key("tables"))),
+            Ok(tables) => match read_plan(alloc, &tables, plan) {
+                Err(error) => Err(error.below(alloc, Step::Key("plan"))),
+                Ok(plan) => Ok(Query { tables, plan }),
+            },
+        },
     }
 }
 

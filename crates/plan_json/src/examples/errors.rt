@@ -1,7 +1,7 @@
 //! Worked examples of errors, of their paths and pointers, and of the query that a `Query` is.
 #![tactic(auto, unfolding(crate::proofs::OnLiterals::values_on_literals))]
 
-ghost use Rattle.std.specs.Prelude.{◌≡◌, ℕ, [], ◌∷◌, Option, None, false, true, Ok, Err, Result, String, codes, string_bytes};
+ghost use Rattle.std.specs.Prelude.{◌≡◌, ℕ, [], ◌∷◌, Option, None, false, true, String, codes, string_bytes};
 ghost use Rattle.std.specs.Global.{Global};
 ghost use Rattle.plan_types.specs.declared.schema.Schema.{Schema};
 ghost use Rattle.plan_dsl.specs.Plans.{empty_table, plan_tree};
@@ -10,7 +10,7 @@ ghost use Rattle.plan_dsl.specs.declared.plan.DslPlan.TheVariants.{DataFrameScan
 ghost use Rattle.plan_dsl.specs.declared.plan.Exprs.{Exprs};
 ghost use Rattle.plan_dsl.specs.declared.plan.ProjectionOptions.{ProjectionOptions};
 ghost use Rattle.serde_json.specs.Data.{null};
-ghost use Rattle.plan_json.specs.Errors.{IsBelow, IsErrBelow, IsErrorOf, IsOwn, IsPlain, escaped, pointer_text, step_of};
+ghost use Rattle.plan_json.specs.Errors.{IsBelow, IsErrorOf, IsOwn, IsPlain, escaped, pointer_text, step_of};
 ghost use Rattle.plan_json.specs.Faults.{BadFloat, BadName, BadShape, a_column, a_text, key, number};
 ghost use Rattle.plan_json.specs.Queries.{has_flags, query_model};
 ghost use Rattle.plan_json.specs.Samples.{Gives, list, query, to, word};
@@ -40,9 +40,6 @@ pub fn errors_of_parts()
     ensures step_behind { (path longer : String Global) → string_bytes path ≡ codes "/lit" → string_bytes longer ≡ codes "/lit/1" → ¬ (IsBelow (number 1) (Shape path) (Shape longer)) }
     ensures of_memory { (path longer : String Global) → ¬ (IsBelow (number 1) (Float path) (Shape longer)) × IsBelow (number 1) (Shape path) NoMemory
         × IsBelow (number 1) NoMemory NoMemory × ¬ (IsBelow (number 1) NoMemory (Shape longer)) }
-    ensures what_was_read { (n : ℕ) (error : JsonError) → ¬ (IsErrBelow (number 1) (Ok n) error) }
-    ensures what_was_refused { (path longer : String Global) → string_bytes path ≡ [] → string_bytes longer ≡ codes "/1"
-        → let read : Result ℕ JsonError = Err (Shape path) in IsErrBelow (number 1) read (Shape longer) }
 {}
 
 /// A pointer has each step behind a slash. In a key, `~` is `~0` and `/` is `~1`; the code's steps need no such escape.

@@ -6,8 +6,8 @@ ghost use Rattle.plan_types.specs.Types.{TimeType, DateType};
 ghost use Rattle.plan_types.specs.Schemas.{Name};
 ghost use Rattle.serde_json.specs.Data.{Data, Items, array, float, member, no_members, null, number, object};
 ghost use Rattle.serde_json.specs.Events.{items_len};
-ghost use Rattle.plan_json.specs.Faults.{BadFloat, BadName, BadShape, FaultKind, Path, key, own_fault, part};
-ghost use Rattle.plan_json.specs.Samples.{a_cast, a_filter, a_selection, expression_list, expression_over, operands, BadAt, NotBadAt, Each, GivesAll, below_zero, bin, cast_value, col, column_value, fault_in, int8, keyed, keyed_twice, list, moments, query_value, scan_value, select_value, table_value, to, whole, word, Gives, in_turn, parts_in, under};
+ghost use Rattle.plan_json.specs.Faults.{BadFloat, BadName, BadShape, Path, key, own_fault, part};
+ghost use Rattle.plan_json.specs.Samples.{a_cast, a_filter, a_selection, expression_list, expression_over, operands, GivesAll, fault_along, below_zero, bin, cast_value, col, column_value, fault_in, int8, keyed, keyed_twice, list, moments, query_value, scan_value, select_value, table_value, to, whole, word, Gives, in_turn, parts_in, under};
 ghost use Rattle.plan_json.specs.Leaves.{table_limit};
 ghost use Rattle.plan_json.specs.Faults as fault;
 
@@ -57,10 +57,10 @@ pub fn fault_examples()
 
 /// The parts of a value: the step to each, and what its place asks for. A type, a plan and an expression have what their only key names.
 pub fn part_examples()
-    ensures declarations { (names : List Name) (d e : Data) → let t = table_value "t" null in let s = table_value "s" null in let plan = under "plan" (fault.a_plan (codes "t" ∷ [])) d in
-        Gives parts_in (((fault.a_query, query_value (t ∷ null ∷ []) d), part (key (codes "tables")) fault.table_list (list (t ∷ null ∷ [])) ∷ plan) ∷
+    ensures declarations { (names : List Name) (d e : Data) → let t = table_value "t" null in let s = table_value "s" null in let declared = under "tables" fault.table_list (list (t ∷ null ∷ [])) in
+        Gives parts_in (((fault.a_query, query_value (t ∷ null ∷ []) d), (key (codes "plan"), part (fault.a_plan (codes "t" ∷ [])) d) ∷ declared) ∷
         ((fault.table_list, list (t ∷ s ∷ d ∷ [])), in_turn ((fault.a_table [], t) ∷ (fault.a_table (codes "t" ∷ []), s) ∷ (fault.a_table (codes "t" ∷ codes "s" ∷ []), d) ∷ [])) ∷
-        ((fault.a_table names, keyed_twice "columns" d "name" e), part (key (codes "name")) (fault.a_new_name names) e ∷ under "columns" fault.column_list d) ∷
+        ((fault.a_table names, keyed_twice "columns" d "name" e), (key (codes "columns"), part fault.column_list d) ∷ under "name" (fault.a_new_name names) e) ∷
         ((fault.column_list, list (d ∷ e ∷ [])), in_turn ((fault.a_column, d) ∷ (fault.a_column, e) ∷ [])) ∷
         ((fault.a_column, list (d ∷ e ∷ [])), in_turn ((fault.a_text, d) ∷ (fault.a_type, e) ∷ [])) ∷ []) }
     ensures no_declarations { (names : List Name) (d e : Data) → GivesAll parts_in [] ((fault.a_column, list (d ∷ [])) ∷ (fault.a_table names, keyed_twice "cols" d "name" e) ∷ []) }
@@ -93,33 +93,31 @@ pub fn part_examples()
 pub fn place_examples()
     ensures queries { (x : Float) → let t = table_value "t" (list []) in let twice = table_value "t" (list (column_value "a" "Int8" ∷ column_value "a" "Int8" ∷ [])) in
         let sum = bin (word "Plus" ∷ col "a" ∷ keyed "neg" null ∷ []) in
-        Each BadAt ((fault.a_query, null, BadShape, []) ∷ (fault.a_query, query_value [] (scan_value "t"), BadName, to "plan" (to "scan" [])) ∷
-        (fault.a_query, query_value (t ∷ t ∷ []) null, BadName, to "tables" (fault.number 1 ∷ to "name" [])) ∷
-        (fault.a_query, query_value (twice ∷ []) null, BadShape, to "tables" (fault.number 0 ∷ to "columns" [])) ∷
-        (fault.a_query, query_value [] (select_value (null ∷ list (col "a" ∷ sum ∷ []) ∷ [])), BadShape, to "plan" (to "select" (fault.number 1 ∷ fault.number 1 ∷ to "bin" (fault.number 2 ∷ [])))) ∷
-        (fault.a_query, query_value [] (keyed "filter" (list (null ∷ keyed "lit" (number (float x)) ∷ []))), BadFloat, to "plan" (to "filter" (fault.number 1 ∷ to "lit" []))) ∷ []) }
+        Gives fault_along (((fault.a_query, null, []), Some BadShape) ∷ ((fault.a_query, query_value [] (scan_value "t"), to "plan" (to "scan" [])), Some BadName) ∷
+        ((fault.a_query, query_value (t ∷ t ∷ []) null, to "tables" (fault.number 1 ∷ to "name" [])), Some BadName) ∷
+        ((fault.a_query, query_value (twice ∷ []) null, to "tables" (fault.number 0 ∷ to "columns" [])), Some BadShape) ∷
+        ((fault.a_query, query_value [] (select_value (null ∷ list (col "a" ∷ sum ∷ []) ∷ [])), to "plan" (to "select" (fault.number 1 ∷ fault.number 1 ∷ to "bin" (fault.number 2 ∷ [])))), Some BadShape) ∷
+        ((fault.a_query, query_value [] (keyed "filter" (list (null ∷ keyed "lit" (number (float x)) ∷ []))), to "plan" (to "filter" (fault.number 1 ∷ to "lit" []))), Some BadFloat) ∷ []) }
     ensures expressions { (x : Float) → let wrapping = cast_value (null ∷ null ∷ word "Wrapping" ∷ []) in
-        Each BadAt ((fault.an_expression, cast_value (keyed "neg" null ∷ null ∷ null ∷ []), BadShape, to "cast" (fault.number 0 ∷ [])) ∷
-        (fault.an_expression, cast_value (null ∷ word "bool" ∷ null ∷ []), BadShape, to "cast" (fault.number 1 ∷ [])) ∷
-        (fault.an_expression, cast_value (null ∷ moments "s" ∷ null ∷ []), BadShape, to "cast" (fault.number 1 ∷ to "Datetime" [])) ∷
-        (fault.an_expression, cast_value (wrapping ∷ null ∷ null ∷ []), BadShape, to "cast" (fault.number 0 ∷ to "cast" (fault.number 2 ∷ []))) ∷
-        (fault.an_expression, keyed "int" (word "1x"), BadShape, to "int" []) ∷
-        (fault.an_expression, keyed "typed" (list (word "Int8" ∷ whole 128 ∷ [])), BadShape, to "typed" (fault.number 1 ∷ [])) ∷
-        (fault.an_expression, keyed "typed" (list (word "Int8" ∷ number (float x) ∷ [])), BadFloat, to "typed" (fault.number 1 ∷ [])) ∷
-        (fault.an_expression, keyed "typed" (list (word "String" ∷ whole 1 ∷ [])), BadShape, to "typed" (fault.number 0 ∷ [])) ∷
-        (fault.an_expression, keyed "typed" (list (moments "s" ∷ whole 1 ∷ [])), BadShape, to "typed" (fault.number 0 ∷ to "Datetime" [])) ∷ []) }
+        Gives fault_along (((fault.an_expression, cast_value (keyed "neg" null ∷ null ∷ null ∷ []), to "cast" (fault.number 0 ∷ [])), Some BadShape) ∷
+        ((fault.an_expression, cast_value (null ∷ word "bool" ∷ null ∷ []), to "cast" (fault.number 1 ∷ [])), Some BadShape) ∷
+        ((fault.an_expression, cast_value (null ∷ moments "s" ∷ null ∷ []), to "cast" (fault.number 1 ∷ to "Datetime" [])), Some BadShape) ∷
+        ((fault.an_expression, cast_value (wrapping ∷ null ∷ null ∷ []), to "cast" (fault.number 0 ∷ to "cast" (fault.number 2 ∷ []))), Some BadShape) ∷
+        ((fault.an_expression, keyed "int" (word "1x"), to "int" []), Some BadShape) ∷
+        ((fault.an_expression, keyed "typed" (list (word "Int8" ∷ whole 128 ∷ [])), to "typed" (fault.number 1 ∷ [])), Some BadShape) ∷
+        ((fault.an_expression, keyed "typed" (list (word "Int8" ∷ number (float x) ∷ [])), to "typed" (fault.number 1 ∷ [])), Some BadFloat) ∷
+        ((fault.an_expression, keyed "typed" (list (word "String" ∷ whole 1 ∷ [])), to "typed" (fault.number 0 ∷ [])), Some BadShape) ∷
+        ((fault.an_expression, keyed "typed" (list (moments "s" ∷ whole 1 ∷ [])), to "typed" (fault.number 0 ∷ to "Datetime" [])), Some BadShape) ∷ []) }
     ensures types { (x : Float) → let field = list (null ∷ keyed "List" null ∷ []) in
-        Each BadAt ((fault.column_list, list (list (null ∷ keyed "Duration" (number (float x)) ∷ []) ∷ []), BadFloat, fault.number 0 ∷ fault.number 1 ∷ to "Duration" []) ∷
-        (fault.a_type, keyed "List" (word "int8"), BadShape, to "List" []) ∷ (fault.a_type, keyed "List" (moments "s"), BadShape, to "List" (to "Datetime" [])) ∷
-        (fault.a_type, keyed "Struct" (number (float x)), BadFloat, to "Struct" []) ∷
-        (fault.a_type, keyed "Struct" (list (null ∷ list (word "a" ∷ []) ∷ [])), BadShape, to "Struct" (fault.number 1 ∷ [])) ∷
-        (fault.a_type, keyed "Struct" (list (list (null ∷ null ∷ []) ∷ [])), BadShape, to "Struct" (fault.number 0 ∷ fault.number 0 ∷ [])) ∷
-        (fault.a_type, keyed "Struct" (list (field ∷ [])), BadShape, to "Struct" (fault.number 0 ∷ fault.number 1 ∷ to "List" [])) ∷ []) }
-    ensures other_places { (x : Float) → let t = table_value "t" (list []) in
-        Each NotBadAt ((fault.an_expression, keyed "lit" (number (float x)), BadShape, to "lit" []) ∷
-        (fault.a_query, query_value (t ∷ t ∷ []) null, BadName, to "tables" (fault.number 0 ∷ to "name" [])) ∷ []) }
-    ensures no_places { (kind : FaultKind) (path : Path) → let key_too_many = member (codes "tables") null (member (codes "x/y") null no_members) in
-        Each NotBadAt ((fault.a_type, keyed "Date" (word "s"), kind, to "Date" path) ∷ (fault.a_type, keyed "list" (word "s"), kind, to "list" path) ∷
-        (fault.a_query, object (member (codes "plan") null key_too_many), kind, to "x/y" path) ∷
-        (fault.a_typed_literal, list (word "String" ∷ null ∷ []), kind, fault.number 1 ∷ path) ∷ []) }
+        Gives fault_along (((fault.column_list, list (list (null ∷ keyed "Duration" (number (float x)) ∷ []) ∷ []), fault.number 0 ∷ fault.number 1 ∷ to "Duration" []), Some BadFloat) ∷
+        ((fault.a_type, keyed "List" (word "int8"), to "List" []), Some BadShape) ∷ ((fault.a_type, keyed "List" (moments "s"), to "List" (to "Datetime" [])), Some BadShape) ∷
+        ((fault.a_type, keyed "Struct" (number (float x)), to "Struct" []), Some BadFloat) ∷
+        ((fault.a_type, keyed "Struct" (list (null ∷ list (word "a" ∷ []) ∷ [])), to "Struct" (fault.number 1 ∷ [])), Some BadShape) ∷
+        ((fault.a_type, keyed "Struct" (list (list (null ∷ null ∷ []) ∷ [])), to "Struct" (fault.number 0 ∷ fault.number 0 ∷ [])), Some BadShape) ∷
+        ((fault.a_type, keyed "Struct" (list (field ∷ [])), to "Struct" (fault.number 0 ∷ fault.number 1 ∷ to "List" [])), Some BadShape) ∷ []) }
+    ensures other_places { (x : Float) (path : Path) → let t = table_value "t" (list []) in let key_too_many = member (codes "tables") null (member (codes "x/y") null no_members) in
+        GivesAll fault_along None ((fault.a_query, query_value (t ∷ t ∷ []) null, to "tables" (fault.number 0 ∷ to "name" [])) ∷
+        (fault.a_type, keyed "Date" (word "s"), to "Date" path) ∷ (fault.a_type, keyed "list" (word "s"), to "list" path) ∷
+        (fault.a_query, object (member (codes "plan") null key_too_many), to "x/y" path) ∷
+        (fault.a_typed_literal, list (word "String" ∷ null ∷ []), fault.number 1 ∷ path) ∷ []) }
 {}

@@ -1,38 +1,34 @@
 use Rattle.std.proofs.Common.{Some, is_some, ◌∙◌, sym, ap, arith}
-use Rattle.std.proofs.lemmas.Result.{IfOk-at_ok}
 use Rattle.plan_types.proofs.SchemaLemmas.{is_some-option_map}
 use Rattle.serde_json.specs.View.{view, items_view}
 use Rattle.plan_types.specs.Schemas.{columns, names_of, repeats}
 use Rattle.plan_types.specs.Types.{ty}
 use Rattle.plan_json.specs.Leaves.{column_of}
-use Rattle.plan_json.specs.Faults.{a_column, column_list, part, number, each}
-use Rattle.plan_json.proofs.ColumnLemmas.{columns_more, columns_all, column_repeated}
-use Rattle.plan_json.proofs.FaultLemmas.{IfErr-below, IsErrorOf-own, in_parts}
-use Rattle.plan_json.proofs.ItemLemmas.{all_of-more, each-at}
+use Rattle.plan_json.specs.Faults.{a_column, column_list, part, number}
+use Rattle.plan_json.proofs.DeclarationLemmas.{columns_more, columns_all, column_repeated}
+use Rattle.plan_json.proofs.FaultLemmas.{error_below, IsErrorOf-own, item_in}
+use Rattle.plan_json.proofs.ItemLemmas.{all_of-more}
 use Rattle.plan_json.proofs.columns.read_columns.Goals as goal
 
-pub returns-in_err-column-in-Some-clause-err : goal.returns-in_err-column-in-Some-clause-err
-returns-in_err-column-in-Some-clause-err c =
-    let items = c.as_slice-items.ensures.value in
-    IfErr-below _ _ column_list _ (part (number c.loop-number.number) a_column (view c.index-items-number.result)) _ c.from_residual.ensures.1
-    (in_parts (each a_column 0) _ _ _ (ap (λ vs. Some (items_view vs)) items ∙ c.in-Some.ensures) (each-at a_column 0 c.as_slice-items.result.now c.loop-number.number _ _ c.loop-number-test.true c.index-items-number.is (omega arith))) c.read_column.ensures.err c.in_err-column-in-Some.ensures.err
+pub returns-in-Err-clause-err : goal.returns-in-Err-clause-err
+returns-in-Err-clause-err c =
+    error_below column_list _ (number c.loop-number.number) (part a_column (view c.index-items-number.result)) _ _
+    (item_in a_column _ c.as_slice-items.result.now c.loop-number.number _ (ap (λ vs. Some (items_view vs)) c.as_slice-items.ensures.value ∙ c.in-Some.ensures) c.loop-number-test.true c.index-items-number.is)
+    c.in-Err.ensures.err c.below.ensures
 
 pub returns-then-is_some-clause-err : goal.returns-then-is_some-clause-err
 returns-then-is_some-clause-err c =
-    let items = c.as_slice-items.ensures.value in
-    let there = ap is_some (sym c.in-Ok.ensures.before) ∙ is_some-option_map ty _ ∙ sym c.is_some.ensures ∙ c.if-is_some.true in
-    let column = IfOk-at_ok _ c.in_ok-column-in-Some.ensures.ok c.read_column.ensures.ok in
+    let there = ap is_some (sym c.in-Ok-with_column.ensures.before) ∙ is_some-option_map ty _ ∙ sym c.is_some.ensures ∙ c.if-is_some.true in
     IsErrorOf-own column_list _ _ _ c.shape-then-is_some.ensures
-    (column_repeated _ c.as_slice-items.result.now c.loop-number.number _ _ _ (ap (λ vs. Some (items_view vs)) items ∙ c.in-Some.ensures) c.loop-number-test.true c.index-items-number.is c.loop-number.invariant.read column there)
+    (column_repeated _ c.as_slice-items.result.now c.loop-number.number _ _ _ (ap (λ vs. Some (items_view vs)) c.as_slice-items.ensures.value ∙ c.in-Some.ensures) c.loop-number-test.true c.index-items-number.is c.loop-number.invariant.read c.in-Ok.ensures.ok there)
 
 pub loop-number-preserved : goal.loop-number-preserved
 loop-number-preserved c =
-    let new = ap is_some (sym c.in-Ok.ensures.before) ∙ is_some-option_map ty _ ∙ sym c.is_some.ensures ∙ c.if-is_some.false in
-    let column = IfOk-at_ok _ c.in_ok-column-in-Some.ensures.ok c.read_column.ensures.ok in
+    let new = ap is_some (sym c.in-Ok-with_column.ensures.before) ∙ is_some-option_map ty _ ∙ sym c.is_some.ensures ∙ c.if-is_some.false in
     let more = columns_more (columns c.loop-number.schema) _ _ new c.loop-number.invariant.distinct in
-    let all = c.in-Ok.ensures.ok ∙ more.0 in
+    let all = c.in-Ok-with_column.ensures.ok ∙ more.0 in
     record {
-      read = all_of-more column_of c.as_slice-items.result.now c.loop-number.number _ _ _ c.loop-number-test.true c.index-items-number.is c.loop-number.invariant.read column ∙ ap Some (sym all);
+      read = all_of-more column_of c.as_slice-items.result.now c.loop-number.number _ _ _ c.loop-number-test.true c.index-items-number.is c.loop-number.invariant.read c.in-Ok.ensures.ok ∙ ap Some (sym all);
       distinct = ap (λ cs. repeats (names_of cs)) all ∙ more.1;
     }
 

@@ -4,7 +4,7 @@ use Rattle.plan_json.specs.Faults.{number}
 use Rattle.plan_json.specs.Queries.{query_of}
 use Rattle.plan_json.specs.Samples.{to}
 use Rattle.plan_json.proofs.OnLiterals.{values_on_literals}
-use Rattle.plan_json.proofs.PlaceTests.{each_written, each_refused, each_unread}
+use Rattle.plan_json.proofs.TextTests.{each_written, each_refused, each_unread}
 use Rattle.plan_json.proofs.examples.text_examples.Goals as goal
 
 pub returns-clause-written : goal.returns-clause-written
@@ -15,13 +15,8 @@ pub returns-clause-refused : goal.returns-clause-refused
 unfolding values_on_literals
 returns-clause-refused c =
     let scan = to "plan" (to "scan" []) in
-    each_refused _
-    (to "plan" [] ∷
-    to "plan" (to "empty" (number 0 ∷ number 1 ∷ to "Datetime" [])) ∷
-    scan ∷
-    to "plan" (to "filter" (number 1 ∷ to "lit" [])) ∷
-    scan ∷ scan ∷ scan ∷ scan ∷ [])
-    refl
+    each_refused _ (to "plan" [] ∷ to "plan" (to "empty" (number 0 ∷ number 1 ∷ to "Datetime" [])) ∷ scan ∷ to "plan" (to "filter" (number 1 ∷ to "lit" [])) ∷ scan ∷ scan ∷ scan ∷ scan ∷ [])
+    ((refl, refl, refl), ((refl, refl, refl), ((refl, refl, refl), ((refl, refl, refl), ((refl, refl, refl), ((refl, refl, refl), ((refl, refl, refl), ((refl, refl, refl), tt))))))))
 
 pub returns-clause-no_json : goal.returns-clause-no_json
 unfolding values_on_literals

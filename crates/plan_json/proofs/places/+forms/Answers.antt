@@ -1,107 +1,116 @@
-use Rattle.std.proofs.Common.{◌≡◌, Some, map, sym, ap, subst, ◌∙◌, arith}
+use Rattle.std.proofs.Common.{◌≡◌, [], ◌∷◌, Some, map, sym, ap, subst, ◌∙◌, arith}
 use Rattle.std.proofs.lemmas.List.{map-append}
-use Rattle.std.proofs.lemmas.Result.{IfOk-at_ok}
 use Rattle.serde_json.specs.View.{view, items_view}
 use Rattle.plan_types.specs.Schemas.{names_of}
-use Rattle.plan_json.specs.Arguments.{args_view, part_view}
-use Rattle.plan_json.specs.Faults.{keyed_form, items_of, list_of, asked_form, places_form, part, key, number, each}
-use Rattle.plan_json.specs.Forms.{AllFit, asked_in, item_view, place_view, places_view}
+use Rattle.plan_dsl.specs.Expressions.{tree_of}
+use Rattle.plan_json.specs.Arguments.{args_view}
+use Rattle.plan_json.specs.Faults.{keyed_form, items_of, list_of, asked_form, places_form, part, part_of, key, number}
+use Rattle.plan_json.specs.Forms.{AllFit, asked_in, expression, expression_read, place_view, places_view}
 use Rattle.plan_json.specs.Queries.{places_as}
 use Rattle.plan_json.specs.Tables.{declared}
-use Rattle.plan_json.proofs.FaultLemmas.{IfErr-below, IsErrorOf-below, IsErrorOf-own, in_parts}
-use Rattle.plan_json.proofs.FormLemmas.{form_read, places_fit, these_more}
-use Rattle.plan_json.proofs.ItemLemmas.{each-at}
-use Rattle.plan_json.proofs.LookingLemmas.{depth-item}
-use Rattle.plan_json.proofs.PlaceLemmas.{key_part, other_length, item_part, got_at, mapped_length, has_room, list_read, each_more, each_read}
+use Rattle.plan_json.specs.declared.forms.Kind.TheVariants as kinds
+use Rattle.plan_json.proofs.FaultLemmas.{error_below, IsErrorOf-own, item_in}
+use Rattle.plan_json.proofs.FormLemmas.{form_read, places_fit, plan_fits, key_part, two_read, three_read, other_than_two, other_than_three, each_more, each_read}
+use Rattle.plan_json.proofs.LookingLemmas.{array-from_two_items, array-from_three_items, depth-item, depth-two_items, depth-three_items}
 use Rattle.plan_json.proofs.places.+forms.Goals as goal
 
 -- ---- a form
 
-pub read_form-returns-in_err-args-in-Some-find_key-clause-err : goal.read_form-returns-in_err-args-in-Some-find_key-clause-err
-read_form-returns-in_err-args-in-Some-find_key-clause-err t c =
+pub read_form-returns-in-Err-clause-err : goal.read_form-returns-in-Err-clause-err
+read_form-returns-in-Err-clause-err t c =
     let names = names_of (declared c.args.tables.now) in
-    IfErr-below _ _ (keyed_form names c.args.kind) _ (part (key c.in-Some-find_key.word.now) (places_form names (places_view c.places_of-places.result)) (view c.in-Some.inner.now)) _ c.from_residual.ensures.1
-    (key_part names c.args.kind _ _ _ (c.in-Some-find_key.word.now, c.in-Some-find_key.key) _ c.in-Some.ensures c.in-Some-find_key.ensures.row c.in-Some-find_key.ensures.word c.places_of-places.ensures.asks)
-    c.read_places.ensures.err c.in_err-args-in-Some-find_key.ensures.err
+    error_below (keyed_form names c.args.kind) _ (key c.in-Some-find_key.word.now) (part (places_form names (places_view c.places_of.result)) (view c.in-Some.inner.now)) _ _
+    (key_part names c.args.kind _ _ _ (c.in-Some-find_key.word.now, c.in-Some-find_key.key) _ c.in-Some.ensures c.in-Some-find_key.ensures.row c.in-Some-find_key.ensures.word c.places_of.ensures.asks)
+    c.in-Err.ensures.err c.below.ensures
 
 pub read_form-assemble-requires : goal.read_form-assemble-requires
 read_form-assemble-requires t c =
-    subst (λ p. AllFit (asked_in p) (args_view c.in_ok-args-in-Some-find_key.args)) c.places_of-places.ensures.asks
-    (places_fit (declared c.args.tables.now) (places_view c.places_of-places.result) (view c.in-Some.inner.now) _ (IfOk-at_ok _ c.in_ok-args-in-Some-find_key.ensures.ok c.read_places.ensures.ok))
+    subst (λ p. AllFit (asked_in p) (args_view c.in-Ok.args)) c.places_of.ensures.asks
+    (places_fit (declared c.args.tables.now) (places_view c.places_of.result) (view c.in-Some.inner.now) _ c.in-Ok.ensures.ok)
 
-pub read_form-returns-in_ok-part-in-Some-find_key-clause-ok : goal.read_form-returns-in_ok-part-in-Some-find_key-clause-ok
-read_form-returns-in_ok-part-in-Some-find_key-clause-ok t c =
-    let read = IfOk-at_ok _ c.in_ok-args-in-Some-find_key.ensures.ok c.read_places.ensures.ok in
+pub read_form-returns-in_ok-part-in-Ok-clause-ok : goal.read_form-returns-in_ok-part-in-Ok-clause-ok
+read_form-returns-in_ok-part-in-Ok-clause-ok t c =
     form_read (declared c.args.tables.now) c.args.kind _ _ _ (c.in-Some-find_key.word.now, c.in-Some-find_key.key) _ _ c.in-Some.ensures c.in-Some-find_key.ensures.row
-    (subst (λ p. places_as (declared c.args.tables.now) p (view c.in-Some.inner.now) ≡ Some (args_view c.in_ok-args-in-Some-find_key.args)) c.places_of-places.ensures.asks read)
-    c.in_ok-part-in-Some-find_key.ensures.ok
+    (subst (λ p. places_as (declared c.args.tables.now) p (view c.in-Some.inner.now) ≡ Some (args_view c.in-Ok.args)) c.places_of.ensures.asks c.in-Ok.ensures.ok)
+    c.in_ok-part-in-Ok.ensures.ok
 
 -- ---- a list of exactly these
 
-pub read_list-returns-then-values-places-clause-err : goal.read_list-returns-then-values-places-clause-err
-read_list-returns-then-values-places-clause-err t c =
-    let names = names_of (declared c.args.tables.now) in
-    let ps = map place_view c.args.places.now in
-    IsErrorOf-own (items_of names ps) _ _ _ c.shape-then-values-places.ensures
-    (other_length names ps _ c.as_slice-values.result.now (ap (λ vs. Some (items_view vs)) c.as_slice-values.ensures.value ∙ c.in-Some.ensures)
-    (λ same. c.if-values-places.true (same ∙ mapped_length place_view c.args.places.now)))
+pub read_two-returns-in-None-clause-err : goal.read_two-returns-in-None-clause-err
+read_two-returns-in-None-clause-err t c = IsErrorOf-own _ _ _ _ c.shape.ensures (other_than_two (names_of (declared c.args.tables.now)) (place_view c.args.first) (place_view c.args.second) _ c.in-None.ensures)
 
-pub read_list-read_place-read-requires : goal.read_list-read_place-read-requires
-read_list-read_place-read-requires t c =
+pub read_two-returns-in-Err-clause-err : goal.read_two-returns-in-Err-clause-err
+read_two-returns-in-Err-clause-err t c =
+    let names = names_of (declared c.args.tables.now) in
+    error_below (items_of names (place_view c.args.first ∷ place_view c.args.second ∷ [])) _ (number 0) (part (asked_form names (place_view c.args.first)) (view c.in-Some.a.now)) _ _
+    (ap (part_of (items_of names (place_view c.args.first ∷ place_view c.args.second ∷ [])) (number 0)) (array-from_two_items _ _ _ c.in-Some.ensures)) c.in-Err.ensures.err c.below.ensures
+
+pub read_two-returns-in-Err-read_place-clause-err : goal.read_two-returns-in-Err-read_place-clause-err
+read_two-returns-in-Err-read_place-clause-err t c =
+    let names = names_of (declared c.args.tables.now) in
+    error_below (items_of names (place_view c.args.first ∷ place_view c.args.second ∷ [])) _ (number 1) (part (asked_form names (place_view c.args.second)) (view c.in-Some.b.now)) _ _
+    (ap (part_of (items_of names (place_view c.args.first ∷ place_view c.args.second ∷ [])) (number 1)) (array-from_two_items _ _ _ c.in-Some.ensures)) c.in-Err-read_place.ensures.err c.below-in-Err-read_place.ensures
+
+pub read_two-returns-in-Ok-read_place-clause-ok : goal.read_two-returns-in-Ok-read_place-clause-ok
+read_two-returns-in-Ok-read_place-clause-ok t c = two_read (declared c.args.tables.now) (place_view c.args.first) (place_view c.args.second) _ _ _ _ _ c.in-Some.ensures c.in-Ok.ensures.ok c.in-Ok-read_place.ensures.ok
+
+pub read_two-read_place-requires-in-Ok : goal.read_two-read_place-requires-in-Ok
+read_two-read_place-requires-in-Ok t c = let below = depth-two_items _ _ _ c.in-Some.ensures in (omega (arith, below.1, c.decreases), tt)
+
+pub read_three-read_place-requires-in-Ok : goal.read_three-read_place-requires-in-Ok
+read_three-read_place-requires-in-Ok t c = let below = depth-three_items _ _ _ _ c.in-Some.ensures in (omega (arith, below.1, c.decreases), tt)
+
+pub read_three-read_place-requires-in-Ok-read_place : goal.read_three-read_place-requires-in-Ok-read_place
+read_three-read_place-requires-in-Ok-read_place t c = let below = depth-three_items _ _ _ _ c.in-Some.ensures in (omega (arith, below.2, c.decreases), tt)
+
+pub read_three-returns-in-None-clause-err : goal.read_three-returns-in-None-clause-err
+read_three-returns-in-None-clause-err t c = IsErrorOf-own _ _ _ _ c.shape.ensures (other_than_three (names_of (declared c.args.tables.now)) (place_view c.args.first) (place_view c.args.second) (place_view c.args.third) _ c.in-None.ensures)
+
+pub read_three-returns-in-Err-clause-err : goal.read_three-returns-in-Err-clause-err
+read_three-returns-in-Err-clause-err t c =
+    let names = names_of (declared c.args.tables.now) in
+    error_below (items_of names (place_view c.args.first ∷ place_view c.args.second ∷ place_view c.args.third ∷ [])) _ (number 0) (part (asked_form names (place_view c.args.first)) (view c.in-Some.a.now)) _ _
+    (ap (part_of (items_of names (place_view c.args.first ∷ place_view c.args.second ∷ place_view c.args.third ∷ [])) (number 0)) (array-from_three_items _ _ _ _ c.in-Some.ensures)) c.in-Err.ensures.err c.below.ensures
+
+pub read_three-returns-in-Err-read_place-clause-err : goal.read_three-returns-in-Err-read_place-clause-err
+read_three-returns-in-Err-read_place-clause-err t c =
+    let names = names_of (declared c.args.tables.now) in
+    error_below (items_of names (place_view c.args.first ∷ place_view c.args.second ∷ place_view c.args.third ∷ [])) _ (number 1) (part (asked_form names (place_view c.args.second)) (view c.in-Some.b.now)) _ _
+    (ap (part_of (items_of names (place_view c.args.first ∷ place_view c.args.second ∷ place_view c.args.third ∷ [])) (number 1)) (array-from_three_items _ _ _ _ c.in-Some.ensures)) c.in-Err-read_place.ensures.err c.below-in-Err-read_place.ensures
+
+pub read_three-returns-in-Err-read_place-2-clause-err : goal.read_three-returns-in-Err-read_place-2-clause-err
+read_three-returns-in-Err-read_place-2-clause-err t c =
+    let names = names_of (declared c.args.tables.now) in
+    error_below (items_of names (place_view c.args.first ∷ place_view c.args.second ∷ place_view c.args.third ∷ [])) _ (number 2) (part (asked_form names (place_view c.args.third)) (view c.in-Some.c.now)) _ _
+    (ap (part_of (items_of names (place_view c.args.first ∷ place_view c.args.second ∷ place_view c.args.third ∷ [])) (number 2)) (array-from_three_items _ _ _ _ c.in-Some.ensures)) c.in-Err-read_place-2.ensures.err c.below-in-Err-read_place-2.ensures
+
+pub read_three-returns-in-Ok-read_place-2-clause-ok : goal.read_three-returns-in-Ok-read_place-2-clause-ok
+read_three-returns-in-Ok-read_place-2-clause-ok t c = three_read (declared c.args.tables.now) (place_view c.args.first) (place_view c.args.second) (place_view c.args.third) _ _ _ _ _ _ _ c.in-Some.ensures c.in-Ok.ensures.ok c.in-Ok-read_place.ensures.ok c.in-Ok-read_place-2.ensures.ok
+
+-- ---- a list of expressions
+
+pub read_expressions-read_form-requires : goal.read_expressions-read_form-requires
+read_expressions-read_form-requires t c =
     let below = depth-item _ c.as_slice-values.result.now c.loop-number.number _ (ap (λ vs. Some (items_view vs)) c.as_slice-values.ensures.value ∙ c.in-Some.ensures) c.loop-number-test.true c.index-values-number.is in
     (omega (arith, below, c.decreases), tt)
 
-pub read_list-returns-in-Err-clause-err : goal.read_list-returns-in-Err-clause-err
-read_list-returns-in-Err-clause-err t c =
+pub read_expressions-returns-in-Err-clause-err : goal.read_expressions-returns-in-Err-clause-err
+read_expressions-returns-in-Err-clause-err t c =
     let names = names_of (declared c.args.tables.now) in
-    let ps = map place_view c.args.places.now in
-    let same = mapped_length place_view c.args.places.now in
-    IsErrorOf-below (items_of names ps) _ (part (number c.loop-number.number) (asked_form names (place_view c.place_at-place.result)) (view c.index-values-number.result)) _ _
-    (item_part names ps _ c.as_slice-values.result.now c.loop-number.number _ _ (ap (λ vs. Some (items_view vs)) c.as_slice-values.ensures.value ∙ c.in-Some.ensures) (omega (arith, same, c.if-values-places.false)) c.loop-number-test.true c.index-values-number.is
-    (got_at place_view c.args.places.now c.loop-number.number c.place_at-place.result c.place_at-place.ensures))
-    c.read_place-read.ensures.err c.in-Err.ensures.err
+    error_below (list_of names expression) _ (number c.loop-number.number) (part (asked_form names expression) (view c.index-values-number.result)) _ _
+    (item_in (asked_form names expression) _ c.as_slice-values.result.now c.loop-number.number _ (ap (λ vs. Some (items_view vs)) c.as_slice-values.ensures.value ∙ c.in-Some.ensures) c.loop-number-test.true c.index-values-number.is)
+    c.in-Err.ensures.err c.below.ensures
 
-pub read_list-push-args-requires : goal.read_list-push-args-requires
-read_list-push-args-requires t c =
-    let same = mapped_length place_view c.args.places.now in
-    has_room (declared c.args.tables.now) (map place_view c.args.places.now) c.loop-number.number _ _ c.loop-number.invariant (omega (arith, same, c.if-values-places.false, c.loop-number-test.true)) c.requires
+pub read_expressions-expression-expr-requires : goal.read_expressions-expression-expr-requires
+read_expressions-expression-expr-requires t c = plan_fits (declared c.args.tables.now) kinds.Expression (view c.index-values-number.result) _ c.in-Ok.ensures.ok
 
-pub read_list-loop-number-preserved : goal.read_list-loop-number-preserved
-read_list-loop-number-preserved t c =
-    let ps = map place_view c.args.places.now in
-    let same = mapped_length place_view c.args.places.now in
-    let arg = IfOk-at_ok _ c.in-Ok.ensures.ok c.read_place-read.ensures.ok in
-    these_more (declared c.args.tables.now) ps _ c.as_slice-values.result.now c.loop-number.number _ _ _ c.loop-number-test.true c.index-values-number.is (omega (arith, same, c.if-values-places.false, c.loop-number-test.true))
-    (got_at place_view c.args.places.now c.loop-number.number c.place_at-place.result c.place_at-place.ensures) c.loop-number.invariant arg
-    ∙ ap Some (sym c.push-args.ensures)
+pub read_expressions-loop-number-preserved : goal.read_expressions-loop-number-preserved
+read_expressions-loop-number-preserved t c =
+    let items = c.loop-number.items.items in
+    let expr = c.in-Ok.ensures.ok ∙ ap Some c.expression-expr.ensures ∙ ap (λ x. Some (expression_read (tree_of x))) (sym c.into_inner.ensures) in
+    each_more (declared c.args.tables.now) expression c.as_slice-values.result.now c.loop-number.number _ _ _ c.loop-number-test.true c.index-values-number.is c.loop-number.invariant expr
+    ∙ ap Some (sym (ap (λ l. map expression_read (map tree_of l)) c.in_ok-push-in-Ok.ensures.items ∙ ap (map expression_read) (map-append tree_of items _) ∙ map-append expression_read (map tree_of items) _))
 
-pub read_list-returns-after-loop-number-clause-ok : goal.read_list-returns-after-loop-number-clause-ok
-read_list-returns-after-loop-number-clause-ok t c =
-    let same = mapped_length place_view c.args.places.now in
-    list_read (declared c.args.tables.now) (map place_view c.args.places.now) _ c.as_slice-values.result.now c.loop-number.number _ (ap (λ vs. Some (items_view vs)) c.as_slice-values.ensures.value ∙ c.in-Some.ensures)
-    (omega (arith, same, c.if-values-places.false)) (omega arith) c.loop-number.invariant
-
--- ---- a list of any number
-
-pub read_many-read_item-requires : goal.read_many-read_item-requires
-read_many-read_item-requires t c =
-    let below = depth-item _ c.as_slice-values.result.now c.loop-number.number _ (ap (λ vs. Some (items_view vs)) c.as_slice-values.ensures.value ∙ c.in-Some.ensures) c.loop-number-test.true c.index-values-number.is in
-    (omega (arith, below, c.decreases), tt)
-
-pub read_many-returns-in_err-part-in-Some-clause-err : goal.read_many-returns-in_err-part-in-Some-clause-err
-read_many-returns-in_err-part-in-Some-clause-err t c =
-    let names = names_of (declared c.args.tables.now) in
-    let form = asked_form names (item_view c.args.item) in
-    IfErr-below _ _ (list_of names (item_view c.args.item)) _ (part (number c.loop-number.number) form (view c.index-values-number.result)) _ c.from_residual.ensures.1
-    (in_parts (each form 0) _ _ _ (ap (λ vs. Some (items_view vs)) c.as_slice-values.ensures.value ∙ c.in-Some.ensures) (each-at form 0 c.as_slice-values.result.now c.loop-number.number _ _ c.loop-number-test.true c.index-values-number.is (omega arith)))
-    c.read_item.ensures.err c.in_err-part-in-Some.ensures.err
-
-pub read_many-loop-number-preserved : goal.read_many-loop-number-preserved
-read_many-loop-number-preserved t c =
-    let part = IfOk-at_ok _ c.in_ok-part-in-Some.ensures.ok c.read_item.ensures.ok in
-    each_more (declared c.args.tables.now) (item_view c.args.item) c.as_slice-values.result.now c.loop-number.number _ _ _ c.loop-number-test.true c.index-values-number.is c.loop-number.invariant part
-    ∙ ap Some (sym (ap (map part_view) c.in_ok-push-in-Some.ensures.items ∙ map-append part_view c.loop-number.parts.items _))
-
-pub read_many-returns-after-loop-number-clause-ok : goal.read_many-returns-after-loop-number-clause-ok
-read_many-returns-after-loop-number-clause-ok t c =
-    each_read (declared c.args.tables.now) (item_view c.args.item) _ c.as_slice-values.result.now c.loop-number.number _ (ap (λ vs. Some (items_view vs)) c.as_slice-values.ensures.value ∙ c.in-Some.ensures) (omega arith) c.loop-number.invariant
+pub read_expressions-returns-after-loop-number-clause-ok : goal.read_expressions-returns-after-loop-number-clause-ok
+read_expressions-returns-after-loop-number-clause-ok t c =
+    each_read (declared c.args.tables.now) expression _ c.as_slice-values.result.now c.loop-number.number _ (ap (λ vs. Some (items_view vs)) c.as_slice-values.ensures.value ∙ c.in-Some.ensures) (omega arith) c.loop-number.invariant

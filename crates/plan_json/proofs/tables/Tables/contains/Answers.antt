@@ -1,5 +1,5 @@
 use Rattle.std.proofs.Common.{◌∙◌}
-use Rattle.plan_json.proofs.TableLemmas.{is_among-entries}
+use Rattle.plan_json.proofs.DeclarationLemmas.{is_among-entries}
 use Rattle.plan_json.proofs.tables.Tables.contains.Goals as goal
 
 pub returns : goal.returns

@@ -1,4 +1,4 @@
-use Rattle.plan_json.proofs.TableLemmas.{table_at-some, table_at-none}
+use Rattle.plan_json.proofs.DeclarationLemmas.{table_at-some, table_at-none}
 use Rattle.plan_json.proofs.tables.Tables.find.Goals as goal
 
 pub returns-in-None : goal.returns-in-None

@@ -1,6 +1,6 @@
 use Rattle.std.proofs.Common.{map, ap, ◌∙◌}
 use Rattle.plan_json.specs.Tables.{table_entry}
-use Rattle.plan_json.proofs.TableLemmas.{declared-insert}
+use Rattle.plan_json.proofs.DeclarationLemmas.{declared-insert}
 use Rattle.plan_json.proofs.tables.Tables.push.Goals as goal
 
 pub returns-clause-ok : goal.returns-clause-ok

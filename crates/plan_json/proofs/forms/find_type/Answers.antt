@@ -1,0 +1,7 @@
+use Rattle.std.proofs.Common.{ap, refl, ◌∙◌}
+use Rattle.plan_json.specs.Forms.{row_named, type_rows}
+use Rattle.plan_json.proofs.FormLemmas.{named_plain}
+use Rattle.plan_json.proofs.forms.find_type.Goals as goal
+
+pub returns-in-Some-clause-plain : goal.returns-in-Some-clause-plain
+returns-in-Some-clause-plain c = named_plain type_rows c.args.word.now (c.in-Some.word.now, c.in-Some.key) refl (c.in-Some.ensures.row ∙ ap (λ rows. row_named rows c.args.word.now) c.type_table.ensures)
