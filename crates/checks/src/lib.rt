@@ -17,6 +17,8 @@ mod lowering;
 #[cfg(test)]
 mod plans;
 #[cfg(test)]
+mod queries;
+#[cfg(test)]
 mod refusals;
 #[cfg(test)]
 mod runs;

@@ -1,0 +1,65 @@
+//! Queries that are read, of many parts and of many levels.
+
+use crate::fixtures::NO_MEMORY;
+use plan_json::error::JsonError;
+use plan_json::read::read_query;
+use std::alloc::Global;
+use std::process::Abort;
+
+// So many selects reach from the second level to the last but one, of the 127 that a text may have.
+const STACKED: usize = 62;
+
+// A select of the text's items, over the empty table.
+fn select_of(rt: &impl Abort, alloc: Global, items: &str) -> String {
+    let text = format!(in alloc;
+        "{{\"tables\":[],\"plan\":{{\"select\":[{{\"empty\":[]}},[{items}]]}}}}"
+    );
+    text.expect(rt, NO_MEMORY)
+}
+
+// The text so many times, and then the other.
+fn repeated(rt: &impl Abort, alloc: Global, text: &str, times: usize, last: &str) -> String {
+    let mut all = text.repeat(alloc, times).expect(rt, NO_MEMORY);
+    all.push_str(last).expect(rt, NO_MEMORY);
+    all
+}
+
+fn assert_read(rt: &impl Abort, alloc: Global, text: &str) {
+    assert!(rt; read_query(alloc, text.as_bytes()).is_ok());
+}
+
+fn assert_shape_at(rt: &impl Abort, alloc: Global, text: &str, pointer: &str) {
+    match read_query(alloc, text.as_bytes()) {
+        Err(JsonError::Shape { path }) => assert_eq!(rt; path.as_str(), pointer),
+        _ => panic!(rt; "the query is at fault there"),
+    }
+}
+
+#[test]
+fn queries_of_many_expressions_are_read(rt: HostRuntime) {
+    let items = repeated(
+        &rt,
+        rt.alloc(),
+        "{\"len\":null},",
+        999_999,
+        "{\"len\":null}",
+    );
+    let text = select_of(&rt, rt.alloc(), items.as_str());
+    assert_read(&rt, rt.alloc(), text.as_str());
+}
+
+#[test]
+fn the_last_of_many_items_is_found_at_fault(rt: HostRuntime) {
+    let items = repeated(&rt, rt.alloc(), "{\"len\":null},", 99_999, "{\"len\":1}");
+    let text = select_of(&rt, rt.alloc(), items.as_str());
+    assert_shape_at(&rt, rt.alloc(), text.as_str(), "/plan/select/1/99999/len");
+}
+
+#[test]
+fn queries_of_all_levels_are_read(rt: HostRuntime) {
+    let mut text = repeated(&rt, rt.alloc(), "{\"select\":[", STACKED, "{\"empty\":[]}");
+    let ends = repeated(&rt, rt.alloc(), ",[]]}", STACKED, "}");
+    text.push_str(ends.as_str()).expect(&rt, NO_MEMORY);
+    let whole = format!(in rt.alloc(); "{{\"tables\":[],\"plan\":{text}").expect(&rt, NO_MEMORY);
+    assert_read(&rt, rt.alloc(), whole.as_str());
+}
