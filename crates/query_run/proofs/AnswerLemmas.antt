@@ -36,6 +36,7 @@ reported registry plan lowering text well_formed t sound same_frame tells =
       denotes = t.denotes;
       accepted = t.accepted;
       strict = t.strict;
+      names = t.names;
       schema = t.schema;
       sound = sound t.tree t.denotes;
       same_frame = same_frame t.tree t.denotes;
