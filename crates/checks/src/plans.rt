@@ -4,8 +4,9 @@ use crate::fixtures::{NO_MEMORY, SIZES};
 use crate::schemas::schema_of;
 use crate::sums::{column, sum_of};
 use plan_arena::arena::{Arena, Node};
+use plan_dsl::builder::DslBuilder;
 use plan_dsl::expr::Expr;
-use plan_dsl::plan::{DslPlan, Exprs, ProjectionOptions};
+use plan_dsl::plan::{DslPlan, ProjectionOptions};
 use plan_types::dtype::DataType;
 use std::alloc::Global;
 use std::process::Abort;
@@ -13,7 +14,7 @@ use std::process::Abort;
 /// A scan of that table, with so many columns of truth values.
 pub(crate) fn scan_of(rt: &impl Abort, alloc: Global, table: Option<u32>, count: usize) -> DslPlan {
     let schema = schema_of(rt, alloc, count, &DataType::Boolean);
-    DslPlan::DataFrameScan { table, schema }
+    DslBuilder::from_existing_df(table, schema).build()
 }
 
 /// So many filters over the plan, by its first column.
@@ -23,23 +24,22 @@ pub(crate) fn filters_over(
     plan: DslPlan,
     filters: usize,
 ) -> DslPlan {
-    let mut plan = plan;
+    let mut builder = DslBuilder::from(plan);
     for _ in 0..filters {
-        let input = Box::new(alloc, plan).expect(rt, NO_MEMORY);
         let predicate = column(alloc, "part 0").expect(rt, NO_MEMORY);
-        plan = DslPlan::Filter { input, predicate };
+        builder = builder.filter(alloc, predicate).expect(rt, NO_MEMORY);
     }
-    plan
+    builder.build()
 }
 
 // So many times the expression.
-fn exprs_of(rt: &impl Abort, alloc: Global, count: usize, expr: &Expr) -> Exprs {
+fn exprs_of(rt: &impl Abort, alloc: Global, count: usize, expr: &Expr) -> Vec<Expr> {
     let mut items = Vec::new(alloc);
     for _ in 0..count {
         let copy = expr.try_clone(alloc).expect(rt, NO_MEMORY);
         items.push(copy).expect(rt, NO_MEMORY);
     }
-    Exprs { items }
+    items
 }
 
 /// A select of so many times the expression over the plan.
@@ -50,16 +50,12 @@ pub(crate) fn select_of(
     count: usize,
     input: DslPlan,
 ) -> DslPlan {
-    let input = Box::new(alloc, input).expect(rt, NO_MEMORY);
-    let expr = exprs_of(rt, alloc, count, expr);
+    let exprs = exprs_of(rt, alloc, count, expr);
     let options = ProjectionOptions {
         duplicate_check: false,
     };
-    DslPlan::Select {
-        expr,
-        input,
-        options,
-    }
+    let built = DslBuilder::from(input).project(alloc, exprs, options);
+    built.expect(rt, NO_MEMORY).build()
 }
 
 // Whether both are one plan.
