@@ -16,7 +16,7 @@ use Rattle.plan_dsl.specs.Ops.{Op, ColumnOp, LiteralOp, BinaryOp, CastOp, Expres
 use Rattle.plan_dsl.specs.declared.signature.Ask.{Ask}
 use Rattle.plan_dsl.specs.declared.signature.Asked.{Asked}
 use Rattle.plan_dsl.specs.declared.signature.Many.{Many}
-use Rattle.plan_dsl.specs.declared.signature.Many.TheVariants.{Never, Always, First, Any}
+use Rattle.plan_dsl.specs.declared.signature.Many.TheVariants.{Never, Always, AsFirst, WhereAny}
 use Rattle.plan_dsl.specs.declared.signature.Signature.{Signature}
 use Rattle.plan_dsl.specs.Signatures.{asked_at, asked_target, is_asked, own_type, signature}
 
@@ -91,8 +91,8 @@ first_of (t ∷ ts) = t
 abbrev pub many_of : Many → List Typed → Bool
 many_of Never typed = false
 many_of Always typed = true
-many_of First typed = (first_of typed).many
-many_of Any typed = some_many typed
+many_of AsFirst typed = (first_of typed).many
+many_of WhereAny typed = some_many typed
 
 -- the own typing over operands that were taken
 abbrev pub own_over : Signature → List Typed → Typed

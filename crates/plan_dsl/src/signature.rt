@@ -1,6 +1,8 @@
 //! What a kind of expression asks of its operands, and what it makes of them.
 ghost use Rattle.std.specs.Prelude.{◌≡◌};
-ghost use Rattle.plan_dsl.specs.Signatures.{asked_at};
+ghost use Rattle.plan_dsl.specs.Signatures.{asked_at, asks, asks_one, takes};
+
+use plan_types::error::ErrorKind;
 
 /// What is asked of the type that an operand has alone, and the type to which it is taken.
 #[derive(Clone, Copy)]
@@ -44,9 +46,9 @@ pub enum Many {
     Never,
     Always,
     /// Where that of the first operand may.
-    First,
+    AsFirst,
     /// Where that of some operand may.
-    Any,
+    WhereAny,
 }
 
 /// What a kind of expression asks of its operands, one by one, and what it makes of them.
@@ -71,4 +73,37 @@ impl Signature {
             _ => self.rest,
         }
     }
+}
+
+/// An operand is asked for this, of whatever length its column is.
+pub fn asks(ask: Ask) -> Asked
+    ensures { result ≡ asks ask }
+{
+    Asked { ask, one: false }
+}
+
+/// An operand of one value is asked for this.
+pub fn asks_one(ask: Ask) -> Asked
+    ensures { result ≡ asks_one ask }
+{
+    Asked { ask, one: true }
+}
+
+/// The signature of a kind: what it asks of its first operand, of its second and of each other, and what it makes of them.
+pub fn takes(
+    first: Asked,
+    second: Asked,
+    rest: Asked,
+    own: OwnType,
+    many: Many,
+) -> Result<Signature, ErrorKind>
+    ensures { result ≡ takes first second rest own many }
+{
+    Ok(Signature {
+        first,
+        second,
+        rest,
+        own,
+        many,
+    })
 }

@@ -8,7 +8,7 @@ ghost use Rattle.plan_types.specs.declared.dtype.CastOptions.TheVariants.{Strict
 ghost use Rattle.plan_dsl.specs.declared.operator.Operator.TheVariants.{Plus};
 ghost use Rattle.plan_dsl.specs.declared.signature.Ask.TheVariants.{Any, Sortable, Boolean, Place, Length};
 ghost use Rattle.plan_dsl.specs.declared.signature.OwnType.TheVariants.{First, Item, ListOf, Count};
-ghost use Rattle.plan_dsl.specs.declared.signature.Many.TheVariants.{Never, Always, First as AsFirst, Any as WhereAny};
+ghost use Rattle.plan_dsl.specs.declared.signature.Many.TheVariants.{Never, Always, AsFirst, WhereAny};
 ghost use Rattle.plan_dsl.specs.declared.signature.Signature.{Signature};
 ghost use Rattle.plan_dsl.specs.Ops.{BinaryOp, CastOp, LenOp, SliceOp};
 ghost use Rattle.plan_dsl.specs.Signatures.{asked_at, asked_target, asks, asks_one, is_asked, own_type, signature, takes};
