@@ -19,7 +19,7 @@ use Rattle.plan_dsl.specs.Typing.{Typed, own_typed, then_typed, typing, typing_a
 use Rattle.plan_dsl.proofs.StrictLemmas.{strict_from}
 use Rattle.plan_dsl.specs.Strictness.{CanBecome, IsSame, cast_to, changed, integer_has, number_as, number_literal, as_operand, as_operands, IsStrictOver}
 use Rattle.plan_dsl.proofs.TypingLemmas.{ok_same, typed_parts, by_children, by_no_children}
-use Rattle.plan_dsl.proofs.CastLemmas.{if_true, if_false}
+use Rattle.plan_dsl.proofs.CastMeaningLemmas.{if_true, if_false}
 use Rattle.plan_dsl.proofs.OperandLemmas.{operands_strict}
 use Rattle.plan_arena.specs.declared.arena.Node.{Node}
 use Rattle.plan_arena.specs.declared.aexpr.AExpr.{AExpr}

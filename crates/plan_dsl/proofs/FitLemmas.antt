@@ -13,10 +13,10 @@ use Rattle.plan_dsl.specs.Typing.{Typed, types_of, typed_to, typing, typing_all}
 use Rattle.plan_dsl.specs.Kernels.{Meaning, cast_column, cast_meaning, given, kernel}
 use Rattle.plan_dsl.specs.Meaning.{meaning, meaning_all, node_meaning, ruled_meaning, taken_to}
 use Rattle.plan_dsl.specs.Laws.{AreOf}
-use Rattle.plan_dsl.proofs.CastLemmas.{column_by_column}
+use Rattle.plan_dsl.proofs.CastMeaningLemmas.{cast_own, column_by_column}
 use Rattle.plan_dsl.proofs.ColumnLemmas.{AreAllOf, CastFits, become_fits, cast_column_fits}
 use Rattle.plan_dsl.proofs.OpLemmas.{keeps_rule}
-use Rattle.plan_dsl.proofs.SignatureLemmas.{AllBecome}
+use Rattle.plan_dsl.proofs.SignatureLemmas.{AllBecome, TakesTo, makes, passes}
 use Rattle.plan_dsl.proofs.TypingLemmas.{by_children, by_no_children, typed_parts}
 
 -- on any rows it is not stuck, and gives values of that typing
@@ -37,13 +37,17 @@ cast_means from target options many input each h =
     meets_then (AreOf (record { type = from; many = many })) (AreOf (record { type = target; many = many })) (input rows) (cast_column from target options) (h rows) (λ values of. cast_column_fits from target options many values each of))
 
 -- operands that are taken have the types to which they are taken
-taken_mean : (typed : List Typed) (targets : List Ty) (operands : List Meaning) → AllBecome (types_of typed) targets → AllMean typed operands → AllMean (typed_to typed targets) (taken_to (types_of typed) targets operands)
-taken_mean [] targets [] b h = tt
-taken_mean [] targets (m ∷ ms) b h = absurd h
-taken_mean (t ∷ ts) [] operands b h = tt
-taken_mean (t ∷ ts) (target ∷ targets) [] b h = absurd h
-taken_mean (t ∷ ts) (target ∷ targets) (m ∷ ms) b h =
-    (cast_means t.type target NonStrict t.many m (become_fits t.type target b.0) h.0, taken_mean ts targets ms b.1 h.1)
+taken_means : (own from target : Ty) (many : Bool) (input : Meaning) → TakesTo own from target → MeansType (record { type = from; many = many }) input → MeansType (record { type = target; many = many }) (cast_meaning from target NonStrict input)
+taken_means own from target many input (makes can) h = cast_means from target NonStrict many input (become_fits from target can) h
+taken_means own from target many input (passes kept owned) h =
+    subst (λ t. MeansType (record { type = t; many = many }) (cast_meaning from t NonStrict input)) kept (subst (MeansType (record { type = from; many = many })) (sym (cast_own from input)) h)
+
+taken_mean : (own : Ty) (typed : List Typed) (targets : List Ty) (operands : List Meaning) → AllBecome own (types_of typed) targets → AllMean typed operands → AllMean (typed_to typed targets) (taken_to (types_of typed) targets operands)
+taken_mean own [] targets [] b h = tt
+taken_mean own [] targets (m ∷ ms) b h = absurd h
+taken_mean own (t ∷ ts) [] operands b h = tt
+taken_mean own (t ∷ ts) (target ∷ targets) [] b h = absurd h
+taken_mean own (t ∷ ts) (target ∷ targets) (m ∷ ms) b h = (taken_means own t.type target t.many m b.0 h.0, taken_mean own ts targets ms b.1 h.1)
 
 -- operands that mean their types give columns of them
 given_meet : (typed : List Typed) (operands : List Meaning) → AllMean typed operands → (rows : List ℕ) → Meets (AreAllOf typed) (given operands rows)
@@ -62,7 +66,7 @@ module _ (registry : Registry) (frame : Frame) (of : IsFrame frame) where
         let keeps = keeps_rule registry frame.schema op p.below p.ruling p.rules in
         let ms = meaning_all registry frame children in
         let operands = taken_to (types_of p.below) p.ruling.operands ms in
-        let mean = taken_mean p.below p.ruling.operands ms keeps.becomes (meanings_have_types children p.below p.children_typed) in
+        let mean = taken_mean p.ruling.own.type p.below p.ruling.operands ms keeps.becomes (meanings_have_types children p.below p.children_typed) in
         let gives = meets_then (AreAllOf (typed_to p.below p.ruling.operands)) (AreOf p.ruling.own) (given operands rows) (kernel registry frame rows op p.ruling.operands p.ruling.own.type) (given_meet (typed_to p.below p.ruling.operands) operands mean rows) (keeps.gives frame refl of rows) in
         let is = ap (λ r. node_meaning registry frame op r ms rows) p.children_typed ∙ ap (λ r. ruled_meaning registry frame op (types_of p.below) r ms rows) p.rules in
         subst (λ own. Meets (AreOf own) (meaning registry frame (node op children) rows)) p.is (subst (Meets (AreOf p.ruling.own)) (sym is) gives)

@@ -1,6 +1,8 @@
+pub mod AliasLemmas
 pub mod ArithmeticLemmas
 pub mod BitLemmas
 pub mod CastLemmas
+pub mod CastMeaningLemmas
 pub mod ColumnLemmas
 pub mod ComparisonLemmas
 pub mod FitLemmas

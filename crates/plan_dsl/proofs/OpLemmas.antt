@@ -17,17 +17,17 @@ use Rattle.plan_types.proofs.CommonLemmas.{alone_known, alone_itself, alone_same
 use Rattle.plan_types.proofs.ValueLemmas.{int_eq_exact, cast_fits, column_fits}
 use Rattle.plan_dsl.specs.declared.operator.Operator.{Operator}
 use Rattle.plan_dsl.specs.Registry.{Registry}
-use Rattle.plan_dsl.specs.Ops.{Op, ColumnOp, LiteralOp, BinaryOp, CastOp, LenOp, SliceOp}
+use Rattle.plan_dsl.specs.Ops.{Op, ColumnOp, LiteralOp, BinaryOp, CastOp, LenOp, SliceOp, AliasOp}
 use Rattle.plan_dsl.specs.Literals.{is_literal, is_literal_of}
 use Rattle.plan_dsl.specs.OperatorTypes.{Taken, operator_types}
 use Rattle.plan_dsl.specs.Signatures.{signature}
-use Rattle.plan_dsl.specs.Typing.{Typed, Ruling, column_type, literal_taken, cast_taken, own_over, types_of, typed_to, ruled_as, rule, signed}
+use Rattle.plan_dsl.specs.Typing.{Typed, Ruling, aliased, column_type, literal_taken, cast_taken, own_over, types_of, typed_to, ruled_as, rule, signed}
 use Rattle.plan_dsl.specs.Kernels.{kernel}
 use Rattle.plan_dsl.specs.Laws.{AreOf}
-use Rattle.plan_dsl.proofs.TypingLemmas.{ok_where, ruling_of, ruled_is}
+use Rattle.plan_dsl.proofs.TypingLemmas.{ok_same, ok_where, ruling_of, ruled_is}
 use Rattle.plan_dsl.proofs.ColumnLemmas.{AreAllOf, on_columns, cast_column_fits, operator_values_fit, literal_fits}
 use Rattle.plan_dsl.proofs.OperatorLemmas.{TakesOperands, operands_taken, pair_becomes, pair_stays}
-use Rattle.plan_dsl.proofs.SignatureLemmas.{AllBecome, KernelGives, OnAsked, OnSigned, alone_becomes, is_signed, target_known}
+use Rattle.plan_dsl.proofs.SignatureLemmas.{AllBecome, makes, passes, KernelGives, OnAsked, OnSigned, alone_becomes, is_signed, target_known}
 use Rattle.plan_dsl.proofs.KindLemmas.{len_gives, slice_gives}
 
 -- a node of a number's own type is that number, as a literal
@@ -38,13 +38,20 @@ pub record IsNumberOp (number : ℤ) (op : Op) (typed : List Typed) (own : Typed
   pub single : own.many ≡ false
   pub literal : is_literal (Untyped number) (IntValue number) ≡ true
 
--- the own type is one of columns, or that number's
+-- a node of an alias is typed as its operand is
+pub record IsAliasOp (op : Op) (typed : List Typed) (own : Typed) : Type 0 where
+  pub name : Name
+  pub op_is : op ≡ AliasOp name
+  pub over : typed ≡ own ∷ []
+
+-- the own type is one of columns, that number's, or the operand's
 pub data HasOwnType (op : Op) (typed : List Typed) (own : Typed) : Type 0 where
   of_columns : (known : is_known own.type ≡ true) → HasOwnType op typed own
   of_number : (number : ℤ) (is : IsNumberOp number op typed own) → HasOwnType op typed own
+  of_operand : (is : IsAliasOp op typed own) → HasOwnType op typed own
 
 pub record KeepsRule (registry : Registry) (schema : Columns) (op : Op) (typed : List Typed) (ruling : Ruling) : Type 0 where
-  pub becomes : AllBecome (types_of typed) ruling.operands
+  pub becomes : AllBecome ruling.own.type (types_of typed) ruling.operands
   pub stays : rule registry schema op (typed_to typed ruling.operands) ≡ Ok ruling
   pub own : HasOwnType op typed ruling.own
   pub gives : (frame : Frame) → frame.schema ≡ schema → IsFrame frame → (rows : List ℕ) (columns : List (List Val)) → AreAllOf (typed_to typed ruling.operands) columns → Meets (AreOf ruling.own) (kernel registry frame rows op ruling.operands ruling.own.type columns)
@@ -102,7 +109,7 @@ binary_keeps registry schema operator left right taken t =
     let many = left.many || (right.many || false) in
     let can = pair_becomes operator left.type right.type taken t in
     subst (λ (t : Taken). KeepsRule registry schema (BinaryOp operator) (left ∷ right ∷ []) (ruling_of t many)) pair.is (record {
-      becomes = (can.0, (can.1, tt));
+      becomes = (makes can.0, (makes can.1, tt));
       stays = ap (λ found. ruled_as found many) (pair_stays operator t.left_own t.right_own taken pair);
       own = of_columns pair.known;
       gives = λ frame same of rows. on_columns (record { type = pair.left; many = left.many } ∷ record { type = pair.right; many = right.many } ∷ []) (λ columns. Meets (AreOf (record { type = pair.type; many = many })) (kernel registry frame rows (BinaryOp operator) (pair.left ∷ pair.right ∷ []) pair.type columns)) (λ ls l rs r.
@@ -116,12 +123,22 @@ cast_keeps registry schema target options from None taken alone h = cc
 cast_keeps registry schema target options from (Some own) taken alone h =
     let p = ok_where (can_cast own target) _ taken InvalidOperation h in
     subst (λ (t : Taken). KeepsRule registry schema (CastOp target options) (from ∷ []) (ruling_of t from.many)) p.1 (record {
-      becomes = (alone_becomes from.type own alone, tt);
+      becomes = (makes (alone_becomes from.type own alone), tt);
       stays = ap (λ found. ruled_as (cast_taken target found) from.many) (alone_itself own (alone_known from.type own alone)) ∙ ap (λ b. ruled_as (cond b (Ok (record { operands = own ∷ []; type = target })) (Err InvalidOperation)) from.many) p.0;
       own = of_columns (target_known own target p.0);
       gives = λ frame same of rows. on_columns (record { type = own; many = from.many } ∷ []) (λ columns. Meets (AreOf (record { type = target; many = from.many })) (kernel registry frame rows (CastOp target options) (own ∷ []) target columns)) (λ column fit.
           cast_column_fits own target options from.many column (λ value fit. cast_fits value own target options fit p.0) fit);
     })
+
+-- ---- aliases
+
+alias_keeps : (registry : Registry) (schema : Columns) (name : Name) (input : Typed) → KeepsRule registry schema (AliasOp name) (input ∷ []) (aliased input)
+alias_keeps registry schema name input = record {
+  becomes = (passes refl refl, tt);
+  stays = refl;
+  own = of_operand (record { name = name; op_is = refl; over = refl });
+  gives = λ frame same of rows. on_columns (input ∷ []) (λ columns. Meets (AreOf input) (kernel registry frame rows (AliasOp name) (input.type ∷ []) input.type columns)) (λ column fit. fit);
+}
 
 -- ---- ops that go by a signature
 
@@ -153,6 +170,8 @@ keeps_rule registry schema (BinaryOp operator) (left ∷ right ∷ []) ruling h 
     ruled_is (KeepsRule registry schema (BinaryOp operator) (left ∷ right ∷ [])) (operator_types operator (left.type ∷ right.type ∷ [])) (left.many || (right.many || false)) ruling h (λ taken found. binary_keeps registry schema operator left right taken (operands_taken operator left.type right.type taken found))
 keeps_rule registry schema (CastOp target options) (from ∷ []) ruling h =
     ruled_is (KeepsRule registry schema (CastOp target options) (from ∷ [])) (cast_taken target (type_alone from.type)) from.many ruling h (λ taken found. cast_keeps registry schema target options from (type_alone from.type) taken refl found)
+keeps_rule registry schema (AliasOp name) (input ∷ []) ruling h =
+    subst (KeepsRule registry schema (AliasOp name) (input ∷ [])) (ok_same (rule registry schema (AliasOp name) (input ∷ [])) (aliased input) ruling refl h) (alias_keeps registry schema name input)
 keeps_rule registry schema LenOp typed ruling h = signed_keeps registry schema LenOp len_gives (λ typed. refl) typed ruling h
 keeps_rule registry schema SliceOp typed ruling h = signed_keeps registry schema SliceOp slice_gives (λ typed. refl) typed ruling h
 keeps_rule _ _ _ _ _ h = cc

@@ -27,12 +27,21 @@ use Rattle.plan_dsl.specs.Laws.{AreOf}
 use Rattle.plan_dsl.proofs.ColumnLemmas.{OnColumns}
 use Rattle.plan_dsl.proofs.TypingLemmas.{ok_same}
 
--- each can become one of its type
-abbrev pub AllBecome : List Ty → List Ty → Type 0
-AllBecome [] [] = Unit {0}
-AllBecome (from ∷ types) (target ∷ targets) = CanBecome from target × AllBecome types targets
-AllBecome [] (target ∷ targets) = ⊥
-AllBecome (from ∷ types) [] = ⊥
+-- an operand can become one of the type to which it is taken, or the node, of its type, passes it on
+pub data TakesTo (own from target : Ty) : Type 0 where
+  makes : (can : CanBecome from target) → TakesTo own from target
+  passes : (kept : from ≡ target) (owned : target ≡ own) → TakesTo own from target
+
+pub takes_known : (own from target : Ty) → is_known own ≡ true → TakesTo own from target → is_known target ≡ true
+takes_known own from target known (makes can) = can.known
+takes_known own from target known (passes kept owned) = ap is_known owned ∙ known
+
+-- each of a node of that type is taken to its type
+abbrev pub AllBecome : Ty → List Ty → List Ty → Type 0
+AllBecome own [] [] = Unit {0}
+AllBecome own (from ∷ types) (target ∷ targets) = TakesTo own from target × AllBecome own types targets
+AllBecome own [] (target ∷ targets) = ⊥
+AllBecome own (from ∷ types) [] = ⊥
 
 -- ---- operands alone
 
@@ -175,7 +184,7 @@ KernelGives op = (registry : Registry) (frame : Frame) (rows : List ℕ) (typed 
     OnAsked signature 0 typed (λ columns. Meets (AreOf (own_over signature typed)) (kernel registry frame rows op (types_of typed) (own_over signature typed).type columns)))
 
 record AreTaken (signature : Signature) (place : ℕ) (typed : List Typed) (targets : List Ty) : Type 1 where
-  pub becomes : AllBecome (types_of typed) targets
+  pub becomes : (own : Ty) → AllBecome own (types_of typed) targets
   pub again : taken_from signature place (typed_to typed targets) ≡ Some targets
   pub twice : typed_to (typed_to typed targets) targets ≡ typed_to typed targets
   pub types : types_of (typed_to typed targets) ≡ targets
@@ -191,14 +200,14 @@ before_parts (Some type) (Some others) types h = (type, others, refl, refl, cc)
 are_taken : (signature : Signature) (place : ℕ) (typed : List Typed) (targets : List Ty) → taken_from signature place typed ≡ Some targets → AreTaken signature place typed targets
 are_taken signature place [] targets h =
     let e : [] ≡ targets = cc in
-    subst (AreTaken signature place []) e (record { becomes = tt; again = refl; twice = refl; types = refl; as_many = refl; first_known = refl; on = λ P h. h })
+    subst (AreTaken signature place []) e (record { becomes = λ own. tt; again = refl; twice = refl; types = refl; as_many = refl; first_known = refl; on = λ P h. h })
 are_taken signature place (t ∷ ts) targets h =
     let p = before_parts (taken_by (asked_at signature place) t) (taken_from signature (suc place) ts) targets h in
     let here = is_taken (asked_at signature place) t p.0 p.2 in
     let rest = are_taken signature (suc place) ts p.1 p.3 in
     let own : Typed = record { type = p.0; many = t.many } in
     subst (AreTaken signature place (t ∷ ts)) p.4 (record {
-      becomes = (here.becomes, rest.becomes);
+      becomes = λ own. (makes here.becomes, rest.becomes own);
       again = ap (λ o. type_before o (taken_from signature (suc place) (typed_to ts p.1))) (taken_own (asked_at signature place) own here.takes) ∙ ap (type_before (Some p.0)) rest.again;
       twice = ap (λ l. own ∷ l) rest.twice;
       types = ap (λ l. p.0 ∷ l) rest.types;
@@ -220,7 +229,7 @@ own_known Count type k = refl
 pub record IsSigned (found : Result Signature ErrorKind) (typed : List Typed) (ruling : Ruling) : Type 1 where
   pub signature : Signature
   pub found_is : found ≡ Ok signature
-  pub becomes : AllBecome (types_of typed) ruling.operands
+  pub becomes : AllBecome ruling.own.type (types_of typed) ruling.operands
   pub stays : signed found (typed_to typed ruling.operands) ≡ Ok ruling
   pub types : types_of (typed_to typed ruling.operands) ≡ ruling.operands
   pub as_many : length (typed_to typed ruling.operands) ≡ length typed
@@ -236,7 +245,7 @@ taken_signed signature typed (Some targets) ruling taken h =
     subst (IsSigned (Ok signature) typed) (ok_same (signed_to signature typed (Some targets)) (record { operands = targets; own = own_over signature own }) ruling refl h) (record {
       signature = signature;
       found_is = refl;
-      becomes = all.becomes;
+      becomes = all.becomes (own_over signature own).type;
       stays = ap (signed_to signature own) all.again ∙ ap (λ l. Ok (record { operands = targets; own = own_over signature l })) all.twice;
       types = all.types;
       as_many = all.as_many;

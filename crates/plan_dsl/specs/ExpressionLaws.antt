@@ -18,7 +18,7 @@ use Rattle.plan_dsl.specs.declared.literal.LiteralValue.{LiteralValue}
 use Rattle.plan_dsl.specs.declared.operator.Operator.{Operator}
 use Rattle.plan_dsl.specs.declared.operator.Operator.TheVariants.{Eq, EqValidity, NotEq, NotEqValidity, Lt, LtEq, Gt, GtEq, Plus, Minus, Multiply, Divide, FloorDivide, Modulus, And, Or, Xor, LogicalAnd, LogicalOr}
 use Rattle.plan_dsl.specs.Trees.{Tree, Trees, node, no_more, more}
-use Rattle.plan_dsl.specs.Ops.{Op, ColumnOp, LiteralOp, BinaryOp, CastOp, LenOp, SliceOp, Expression}
+use Rattle.plan_dsl.specs.Ops.{Op, ColumnOp, LiteralOp, BinaryOp, CastOp, LenOp, SliceOp, AliasOp, Expression}
 use Rattle.plan_dsl.specs.Expressions.{tree_of}
 use Rattle.plan_dsl.specs.Literals.{literal_type, literal_value, literal_op}
 use Rattle.plan_dsl.specs.SameExpressions.{operator_rank, same_operator, options_rank, same_options, same_literal, same_op, same_tree, same_trees, literal_writes, op_writes, tree_writes}
@@ -70,6 +70,7 @@ same_op_exact (CastOp target options) (CastOp other given) h =
     ap (λ t. CastOp t options) (same_type_exact target other parts.0) ∙ ap (CastOp other) (same_options_exact options given parts.1)
 same_op_exact LenOp LenOp h = refl
 same_op_exact SliceOp SliceOp h = refl
+same_op_exact (AliasOp name) (AliasOp other) h = ap AliasOp ((bytes_eq-Decides name other).0 h)
 same_op_exact _ _ h = cc
 
 pub same_op_own : (a : Op) → same_op a a ≡ true
@@ -79,6 +80,7 @@ same_op_own (BinaryOp operator) = same_operator_own operator
 same_op_own (CastOp target options) = and_from _ _ (same_type_own target) (same_options_own options)
 same_op_own LenOp = refl
 same_op_own SliceOp = refl
+same_op_own (AliasOp name) = (bytes_eq-Decides name name).1 refl
 
 -- trees that compare equal are one where nodes are, and each is equal to itself
 module _ {O : Type 0} (test : O → O → Bool) where

@@ -1,10 +1,10 @@
 -- The tree of an expression.
 use Rattle.plan_types.specs.Types.{ty}
 use Rattle.plan_dsl.specs.declared.expr.Expr.{Expr}
-use Rattle.plan_dsl.specs.declared.expr.Expr.TheVariants.{Column, Literal, BinaryExpr', Cast', Len, Slice'}
+use Rattle.plan_dsl.specs.declared.expr.Expr.TheVariants.{Column, Literal, BinaryExpr', Cast', Len, Slice', Alias'}
 use Rattle.plan_dsl.specs.Trees.{node, no_more, more}
 use Rattle.plan_dsl.specs.Literals.{literal_op}
-use Rattle.plan_dsl.specs.Ops.{ColumnOp, BinaryOp, CastOp, LenOp, SliceOp, Expression}
+use Rattle.plan_dsl.specs.Ops.{ColumnOp, BinaryOp, CastOp, LenOp, SliceOp, AliasOp, Expression}
 
 abbrev pub tree_of : Expr → Expression
 tree_of (Column name) = node (ColumnOp name) no_more
@@ -13,3 +13,4 @@ tree_of (BinaryExpr' p left operator q right) = node (BinaryOp operator) (more (
 tree_of (Cast' p expr dtype options) = node (CastOp (ty dtype) options) (more (tree_of expr) no_more)
 tree_of Len = node LenOp no_more
 tree_of (Slice' p input q offset r length) = node SliceOp (more (tree_of input) (more (tree_of offset) (more (tree_of length) no_more)))
+tree_of (Alias' p expr name) = node (AliasOp name) (more (tree_of expr) no_more)

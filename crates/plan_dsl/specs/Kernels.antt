@@ -13,7 +13,7 @@ use Rattle.plan_dsl.specs.declared.operator.Operator.{Operator}
 use Rattle.plan_dsl.specs.Operators.{operator_value}
 use Rattle.plan_dsl.specs.Slices.{slice_values}
 use Rattle.plan_dsl.specs.Registry.{Registry}
-use Rattle.plan_dsl.specs.Ops.{Op, ColumnOp, LiteralOp, BinaryOp, CastOp, LenOp, SliceOp}
+use Rattle.plan_dsl.specs.Ops.{Op, ColumnOp, LiteralOp, BinaryOp, CastOp, LenOp, SliceOp, AliasOp}
 
 -- what an expression gives on the rows of these numbers
 abbrev pub Meaning : Type 0
@@ -84,4 +84,5 @@ kernel registry frame rows (BinaryOp operator) (from ∷ types) type (left ∷ r
 kernel registry frame rows (CastOp target options) (from ∷ []) type (column ∷ []) = cast_column from target options column
 kernel registry frame rows LenOp [] type [] = Done (IntValue (wrapped type (pos (length rows))) ∷ [])
 kernel registry frame rows SliceOp types type (values ∷ offset ∷ count ∷ []) = slice_values values offset count
+kernel registry frame rows (AliasOp name) types type (column ∷ []) = Done column
 kernel registry frame rows op types type columns = Stuck

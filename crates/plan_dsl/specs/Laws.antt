@@ -5,10 +5,11 @@ use Rattle.plan_types.specs.Types.{Ty, Untyped, is_known}
 use Rattle.plan_types.specs.Schemas.{Columns}
 use Rattle.plan_types.specs.Values.{Val, IntValue, all_fit}
 use Rattle.plan_types.specs.Outcomes.{Meets}
-use Rattle.plan_types.specs.Frames.{Frame, IsFrame, IsFrameOf}
+use Rattle.plan_types.specs.Frames.{Frame, Row, IsFrame, IsFrameOf}
 use Rattle.plan_types.specs.declared.error.ErrorKind.{ErrorKind}
 use Rattle.plan_dsl.specs.Registry.{Registry}
 use Rattle.plan_dsl.specs.Ops.{Op, LiteralOp, BinaryOp, Expression}
+use Rattle.plan_dsl.specs.Aliases.{IsCore, core, renamed}
 use Rattle.plan_dsl.specs.Trees.{Trees, node, no_more, more, tree_at}
 use Rattle.plan_dsl.specs.Plans.{Named, PlanKind, RefusedKind, PlanOp, Plan, SourcePlan, scans_in}
 use Rattle.plan_dsl.specs.Sources.{Source, written, expanded}
@@ -49,9 +50,9 @@ pub record SaysSwapped (operator other : Operator) : Type 0 where
 abbrev pub SwappedOperandsSaySame : Type 0
 SwappedOperandsSaySame = (operator other : Operator) → swapped operator ≡ Some other → SaysSwapped operator other
 
--- a strict expression gives what it means
+-- a strict expression without aliases gives what it means
 abbrev pub StrictRunIsMeaning : Type 0
-StrictRunIsMeaning = (registry : Registry) (frame : Frame) (tree : Expression) → IsStrict registry frame.schema tree → strict_run registry frame tree ≡ meaning registry frame tree
+StrictRunIsMeaning = (registry : Registry) (frame : Frame) (tree : Expression) → IsCore tree → IsStrict registry frame.schema tree → strict_run registry frame tree ≡ meaning registry frame tree
 
 -- values of the type, and one alone where there are not many
 pub record AreOf (typed : Typed) (values : List Val) : Type 0 where
@@ -62,9 +63,18 @@ pub record AreOf (typed : Typed) (values : List Val) : Type 0 where
 abbrev pub MeaningHasType : Type 0
 MeaningHasType = (registry : Registry) (frame : Frame) (tree : Expression) (typed : Typed) → IsFrame frame → typing registry frame.schema tree ≡ Ok typed → (rows : List ℕ) → Meets (AreOf typed) (meaning registry frame tree rows)
 
--- an expression of a number's own type is that number, written without a type
+-- an expression of a number's own type is that number, written without a type, maybe under aliases
 abbrev pub OnlyNumbersAreUntyped : Type 0
-OnlyNumbersAreUntyped = (registry : Registry) (schema : Columns) (number : ℤ) (tree : Expression) (typed : Typed) → typing registry schema tree ≡ Ok typed → typed.type ≡ Untyped number → tree ≡ node (LiteralOp (Untyped number) (IntValue number)) no_more
+OnlyNumbersAreUntyped = (registry : Registry) (schema : Columns) (number : ℤ) (tree : Expression) (typed : Typed) → typing registry schema tree ≡ Ok typed → typed.type ≡ Untyped number → tree ≡ renamed tree (node (LiteralOp (Untyped number) (IntValue number)) no_more)
+
+-- what a typed expression says without its aliases: it is typed so, and means the same
+pub record CoreSaysSame (registry : Registry) (schema : Columns) (tree : Expression) (typed : Typed) : Type 0 where
+  pub none : IsCore (core tree)
+  pub typing : typing registry schema (core tree) ≡ Ok typed
+  pub meaning : (rows : List Row) → meaning registry (record { schema = schema; rows = rows }) (core tree) ≡ meaning registry (record { schema = schema; rows = rows }) tree
+
+abbrev pub CoresSaySame : Type 0
+CoresSaySame = (registry : Registry) (schema : Columns) (tree : Expression) (typed : Typed) → typing registry schema tree ≡ Ok typed → CoreSaysSame registry schema tree typed
 
 -- a typed expression breaks no rule
 abbrev pub TypedBreaksNothing : Type 0

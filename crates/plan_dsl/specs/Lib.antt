@@ -1,4 +1,5 @@
 -- What the contracts of this crate cite.
+pub mod Aliases
 pub mod Counts
 pub mod ExpressionLaws
 pub mod Expressions

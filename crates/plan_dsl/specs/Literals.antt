@@ -8,8 +8,8 @@ use Rattle.plan_types.specs.Values.{Val, NullValue, TruthValue, IntValue, TextVa
 use Rattle.plan_types.specs.CommonTypes.{type_alone}
 use Rattle.plan_dsl.specs.declared.literal.LiteralValue.{LiteralValue}
 use Rattle.plan_dsl.specs.declared.literal.LiteralValue.TheVariants.{Null, Boolean, String, Int, Int8, Int16, Int32, Int64, UInt8, UInt16, UInt32, UInt64, Date, Time, DateTime, Duration}
-use Rattle.plan_dsl.specs.Trees.{node}
-use Rattle.plan_dsl.specs.Ops.{Op, LiteralOp, Expression}
+use Rattle.plan_dsl.specs.Trees.{node, no_more, more}
+use Rattle.plan_dsl.specs.Ops.{Op, LiteralOp, AliasOp, Expression}
 
 abbrev pub literal_type : LiteralValue → Ty
 literal_type Null = NullType
@@ -69,6 +69,7 @@ abbrev pub settled_op : Op → Op
 settled_op (LiteralOp type value) = LiteralOp (settled_type type) value
 settled_op op = op
 
--- an expression as a plan's node takes it: a number without a type at its top gets one
+-- an expression as a plan's node takes it: a number without a type at its top, maybe under aliases, gets one
 abbrev pub settled : Expression → Expression
+settled (node (AliasOp name) (more tree no_more)) = node (AliasOp name) (more (settled tree) no_more)
 settled (node op children) = node (settled_op op) children

@@ -13,6 +13,7 @@ pub data Op : Type 0 where
   CastOp : (target : Ty) (options : CastOptions) → Op
   LenOp : Op
   SliceOp : Op
+  AliasOp : (name : Name) → Op
 
 abbrev pub Expression : Type 0
 Expression = Tree Op

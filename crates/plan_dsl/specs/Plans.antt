@@ -7,6 +7,7 @@ use Rattle.plan_dsl.specs.declared.plan.DslPlan.{DslPlan}
 use Rattle.plan_dsl.specs.declared.plan.DslPlan.TheVariants.{DataFrameScan, Filter', Select'}
 use Rattle.plan_dsl.specs.declared.plan.Exprs.{Exprs}
 use Rattle.plan_dsl.specs.declared.plan.ProjectionOptions.{ProjectionOptions}
+use Rattle.plan_dsl.specs.Aliases.{core}
 use Rattle.plan_dsl.specs.Trees.{Tree, node, no_more, more, fold}
 use Rattle.plan_dsl.specs.Ops.{Expression}
 use Rattle.plan_dsl.specs.Expressions.{tree_of}
@@ -55,9 +56,9 @@ Plan = Tree (PlanOp (Named Expression))
 abbrev pub SourcePlan : Type 0
 SourcePlan = Tree (PlanOp Source)
 
--- an expression under the name that the rules give it
+-- an expression without its aliases, under the name that the rules give it with them
 abbrev pub named : Expression → Named Expression
-named tree = record { label = label_of tree; expression = tree }
+named tree = record { label = label_of tree; expression = core tree }
 
 -- the trees of expressions
 abbrev pub trees_of : Exprs → List Expression

@@ -12,7 +12,7 @@ use Rattle.plan_dsl.specs.declared.literal.LiteralValue.{LiteralValue}
 use Rattle.plan_dsl.specs.declared.operator.Operator.{Operator}
 use Rattle.plan_dsl.specs.declared.operator.Operator.TheVariants.{Eq, EqValidity, NotEq, NotEqValidity, Lt, LtEq, Gt, GtEq, Plus, Minus, Multiply, Divide, FloorDivide, Modulus, And, Or, Xor, LogicalAnd, LogicalOr}
 use Rattle.plan_dsl.specs.Trees.{Tree, Trees, node, no_more, more}
-use Rattle.plan_dsl.specs.Ops.{Op, ColumnOp, LiteralOp, BinaryOp, CastOp, LenOp, SliceOp}
+use Rattle.plan_dsl.specs.Ops.{Op, ColumnOp, LiteralOp, BinaryOp, CastOp, LenOp, SliceOp, AliasOp}
 use Rattle.plan_dsl.specs.Literals.{literal_type, literal_value}
 
 -- ---- what is one
@@ -63,6 +63,7 @@ same_op (BinaryOp operator) (BinaryOp other) = same_operator operator other
 same_op (CastOp target options) (CastOp other given) = same_type target other && same_options options given
 same_op LenOp LenOp = true
 same_op SliceOp SliceOp = true
+same_op (AliasOp name) (AliasOp other) = bytes_eq name other
 same_op op other = false
 
 -- whether two trees have nodes that do the same, by that test, over as many children
@@ -97,6 +98,7 @@ op_writes (BinaryOp operator) = fed.u8 2 ++ fed.u8 (operator_rank operator)
 op_writes (CastOp target options) = fed.u8 3 ++ (type_writes target ++ fed.u8 (options_rank options))
 op_writes LenOp = fed.u8 4
 op_writes SliceOp = fed.u8 5
+op_writes (AliasOp name) = fed.u8 11 ++ fed.str (encode_utf8_all name)
 
 -- each node, before its children
 abbrev mutual

@@ -16,7 +16,7 @@ use Rattle.plan_dsl.specs.declared.literal.LiteralValue.{LiteralValue}
 use Rattle.plan_dsl.specs.declared.operator.Operator.{Operator}
 use Rattle.plan_dsl.specs.declared.operator.Operator.TheVariants.{Eq, EqValidity, NotEq, NotEqValidity, Lt, LtEq, Gt, GtEq, Plus, Minus, Multiply, Divide, FloorDivide, Modulus, And, Or, Xor, LogicalAnd, LogicalOr}
 use Rattle.plan_dsl.specs.Trees.{Tree, node, no_more, more}
-use Rattle.plan_dsl.specs.Ops.{ColumnOp, LiteralOp, BinaryOp, CastOp, Expression, LenOp, SliceOp}
+use Rattle.plan_dsl.specs.Ops.{ColumnOp, LiteralOp, BinaryOp, CastOp, Expression, LenOp, SliceOp, AliasOp}
 use Rattle.plan_dsl.specs.Expressions.{tree_of}
 use Rattle.plan_dsl.specs.Literals.{is_literal}
 use Rattle.plan_dsl.specs.Typing.{Typed, typing}
@@ -271,6 +271,9 @@ cast_as options target operand = node (CastOp target options) (more operand no_m
 -- a slice of an expression, by an offset and a length
 abbrev pub slice : Expression → Expression → Expression → Expression
 slice input offset count = node SliceOp (more input (more offset (more count no_more)))
+
+abbrev pub alias : String → Expression → Expression
+alias name operand = node (AliasOp (codes name)) (more operand no_more)
 
 -- null, which has no type but its own
 abbrev pub nothing : Expression

@@ -10,6 +10,7 @@ use Rattle.plan_types.specs.Frames.{Row}
 use Rattle.plan_types.specs.declared.error.ErrorKind.{ErrorKind}
 use Rattle.plan_types.specs.declared.dtype.CastOptions.TheVariants.{NonStrict}
 use Rattle.plan_dsl.specs.Registry.{Registry}
+use Rattle.plan_dsl.specs.Aliases.{renamed}
 use Rattle.plan_dsl.specs.Trees.{Trees, node, no_more, more}
 use Rattle.plan_dsl.specs.Ops.{Op, LiteralOp, CastOp, Expression}
 use Rattle.plan_dsl.specs.Literals.{settled_type}
@@ -74,9 +75,10 @@ abbrev pub number_as : ℤ → Ty → Expression
 number_as number target =
     if integer_has target number then number_literal target number else cast_to target (number_literal (settled_type (Untyped number)) number)
 
--- an expression of the first type, made one of the second: a cast stands round it, where it is no number without a type
+-- an expression of the first type, made one of the second: a cast stands round it, where it is no number without a type.
+-- Such a number keeps the aliases over it
 abbrev pub changed : Ty → Ty → Expression → Expression
-changed (Untyped number) target tree = number_as number target
+changed (Untyped number) target tree = renamed tree (number_as number target)
 changed from target tree = cast_to target tree
 
 -- the same, where the types aren't one

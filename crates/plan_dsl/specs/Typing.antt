@@ -12,7 +12,7 @@ use Rattle.plan_dsl.specs.OperatorTypes.{Taken, operator_types}
 use Rattle.plan_dsl.specs.Literals.{is_literal}
 use Rattle.plan_dsl.specs.Registry.{Registry}
 use Rattle.plan_dsl.specs.Trees.{Trees, node, no_more, more}
-use Rattle.plan_dsl.specs.Ops.{Op, ColumnOp, LiteralOp, BinaryOp, CastOp, Expression}
+use Rattle.plan_dsl.specs.Ops.{Op, ColumnOp, LiteralOp, BinaryOp, CastOp, AliasOp, Expression}
 use Rattle.plan_dsl.specs.declared.signature.Ask.{Ask}
 use Rattle.plan_dsl.specs.declared.signature.Asked.{Asked}
 use Rattle.plan_dsl.specs.declared.signature.Many.{Many}
@@ -107,6 +107,10 @@ abbrev pub signed : Result Signature ErrorKind → List Typed → Result Ruling 
 signed (Err kind) typed = Err kind
 signed (Ok signature) typed = signed_to signature typed (taken_from signature 0 typed)
 
+-- an alias passes its operand on, a number without a type too
+abbrev pub aliased : Typed → Ruling
+aliased input = record { operands = input.type ∷ []; own = input }
+
 -- The types to which a node takes operands that are typed so, and its own typing: of a kind without a clause here, by its
 -- signature.
 abbrev pub rule : Registry → Columns → Op → List Typed → Result Ruling ErrorKind
@@ -114,6 +118,7 @@ rule registry schema (ColumnOp name) [] = ruled_as (column_type (type_at schema 
 rule registry schema (LiteralOp type value) [] = ruled_as (literal_taken type value) false
 rule registry schema (BinaryOp operator) typed = ruled_as (operator_types operator (types_of typed)) (some_many typed)
 rule registry schema (CastOp target options) (from ∷ []) = ruled_as (cast_taken target (type_alone from.type)) from.many
+rule registry schema (AliasOp name) (input ∷ []) = Ok (aliased input)
 rule registry schema op typed = signed (signature op (length typed)) typed
 
 abbrev pub own_typed : Result Ruling ErrorKind → Result Typed ErrorKind

@@ -1,5 +1,6 @@
 //! Worked examples of the definitions. The functions do nothing: their clauses are the examples.
 
+pub mod aliases;
 pub mod arithmetic;
 pub mod bits;
 pub mod expressions;

@@ -41,6 +41,8 @@ pub enum Expr {
         offset: Box<Expr>,
         length: Box<Expr>,
     },
+    /// The same under another name.
+    Alias(Box<Expr>, PlSmallStr),
 }
 
 impl Expr {
@@ -97,6 +99,11 @@ impl Expr {
                     length,
                 })
             }
+            Expr::Alias(expr, name) => {
+                let expr = Box::new(alloc, expr.try_clone(alloc)?)?;
+                let name = name.try_clone(alloc)?;
+                Ok(Expr::Alias(expr, name))
+            }
         }
     }
 
@@ -142,6 +149,9 @@ impl Expr {
             ) => {
                 input.is_same(own_input) && offset.is_same(own_offset) && length.is_same(own_length)
             }
+            (Expr::Alias(expr, name), Expr::Alias(own, own_name)) => {
+                *name == *own_name && expr.is_same(own)
+            }
             _ => false,
         }
     }
@@ -185,6 +195,11 @@ impl Expr {
                 input.feed(state);
                 offset.feed(state);
                 length.feed(state);
+            }
+            Expr::Alias(expr, name) => {
+                state.write_u8(11);
+                name.hash(state);
+                expr.feed(state);
             }
         }
     }

@@ -1,11 +1,12 @@
 //! Laws of the definitions. The functions do nothing: their clauses are the laws.
-ghost use Rattle.plan_dsl.specs.Laws.{TakenTypesStay, TakenOperandsSaySame, SwappedOperandsSaySame, StrictRunIsMeaning, MeaningHasType, OnlyNumbersAreUntyped};
+ghost use Rattle.plan_dsl.specs.Laws.{TakenTypesStay, TakenOperandsSaySame, SwappedOperandsSaySame, StrictRunIsMeaning, MeaningHasType, OnlyNumbersAreUntyped, CoresSaySame};
 
 /// Operands that were taken to their types stay, and a node over operands that were made of those types says
 /// the same. Where an operator has one for swapped operands, that takes them to the same types and gives the same.
-/// A strict expression gives what it means as it is written.
+/// A strict expression without aliases gives what it means as it is written.
 /// What a typed expression means has its type on every frame, and is never stuck.
 /// Only a number that is written without a type has no type of columns.
+/// Without its aliases a typed expression has the same type, and means the same.
 pub fn expression_laws()
     ensures taken_stay { TakenTypesStay }
     ensures taken_operands { TakenOperandsSaySame }
@@ -13,4 +14,5 @@ pub fn expression_laws()
     ensures strict_run { StrictRunIsMeaning }
     ensures has_type { MeaningHasType }
     ensures untyped { OnlyNumbersAreUntyped }
+    ensures cores { CoresSaySame }
 {}

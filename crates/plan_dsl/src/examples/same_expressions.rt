@@ -7,7 +7,7 @@ ghost use Rattle.plan_types.specs.declared.dtype.TimeUnit.TheVariants.{Nanosecon
 ghost use Rattle.plan_dsl.specs.declared.literal.LiteralValue.TheVariants.{Null, Boolean, String, Int, Int8, Int16, UInt8, Date, Time, DateTime, Duration};
 ghost use Rattle.plan_dsl.specs.declared.operator.Operator.TheVariants.{Eq, EqValidity, Plus, And, Or, LogicalAnd, LogicalOr};
 ghost use Rattle.plan_dsl.specs.Trees.{node, no_more, more};
-ghost use Rattle.plan_dsl.specs.Ops.{ColumnOp, LiteralOp, BinaryOp, CastOp, LenOp, SliceOp};
+ghost use Rattle.plan_dsl.specs.Ops.{ColumnOp, LiteralOp, BinaryOp, CastOp, LenOp, SliceOp, AliasOp};
 ghost use Rattle.plan_dsl.specs.SameExpressions.{same_literal, same_op, same_tree};
 ghost use Rattle.plan_dsl.specs.Samples.{Gives, GivesAll, int8, uint8, null, yes, number, a, b, count, slice, typed_literal, binary, sum, cast_as};
 
@@ -28,13 +28,14 @@ pub fn same_literals()
 /// Two nodes do the same where they are of one kind, and all that they name is the same.
 pub fn same_nodes()
     ensures one { GivesAll (λ op. same_op op op) true (
-        ColumnOp (codes "a") ∷ BinaryOp And ∷ BinaryOp Eq ∷ CastOp int8 Strict ∷ LiteralOp int8 (number 1) ∷ LenOp ∷ SliceOp ∷ []) }
+        ColumnOp (codes "a") ∷ BinaryOp And ∷ BinaryOp Eq ∷ CastOp int8 Strict ∷ LiteralOp int8 (number 1) ∷ LenOp ∷ SliceOp ∷ AliasOp (codes "a") ∷ []) }
     ensures columns { GivesAll (same_op (ColumnOp (codes "a"))) false (ColumnOp (codes "b") ∷ ColumnOp (codes "aa") ∷ ColumnOp [] ∷ []) }
     ensures operators { GivesAll (same_op (BinaryOp And)) false (BinaryOp LogicalAnd ∷ BinaryOp Or ∷ []) }
     ensures comparisons { GivesAll (same_op (BinaryOp Eq)) false (BinaryOp EqValidity ∷ BinaryOp LogicalOr ∷ []) }
     ensures casts { GivesAll (same_op (CastOp int8 Strict)) false (CastOp int8 NonStrict ∷ CastOp int8 Overflowing ∷ CastOp uint8 Strict ∷ CastOp Truth Strict ∷ []) }
     ensures literals { GivesAll (same_op (LiteralOp int8 (number 1))) false (LiteralOp int8 (number 2) ∷ LiteralOp int8 null ∷ LiteralOp (Untyped (pos 1)) (number 1) ∷ []) }
     ensures other_kind { GivesAll (same_op (BinaryOp Plus)) false (ColumnOp (codes "+") ∷ LiteralOp Truth yes ∷ CastOp Truth Strict ∷ LenOp ∷ []) }
+    ensures aliases { GivesAll (same_op (AliasOp (codes "a"))) false (AliasOp (codes "b") ∷ ColumnOp (codes "a") ∷ []) }
     ensures counts { GivesAll (same_op LenOp) false (SliceOp ∷ ColumnOp (codes "len") ∷ LiteralOp Truth yes ∷ []) }
 {}
 

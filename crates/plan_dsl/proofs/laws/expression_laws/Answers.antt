@@ -1,4 +1,5 @@
-use Rattle.std.proofs.Common.{Ok, ap, ◌∙◌}
+use Rattle.std.proofs.Common.{[], Ok, ap, ◌∙◌}
+use Rattle.plan_dsl.proofs.AliasLemmas.{core_same}
 use Rattle.plan_dsl.proofs.LiteralLemmas.{untyped_is_number}
 use Rattle.plan_dsl.proofs.OperandLemmas.{operands_same, operands_strict}
 use Rattle.plan_dsl.proofs.OpLemmas.{keeps_rule}
@@ -26,3 +27,12 @@ returns-clause-untyped c registry schema number tree typed typing is =
 pub returns-clause-taken_operands : goal.returns-clause-taken_operands
 returns-clause-taken_operands c registry schema op trees typed ruling h rules known =
     (operands_same registry schema op trees typed h ruling rules, operands_strict registry schema op trees typed h ruling rules known)
+
+pub returns-clause-cores : goal.returns-clause-cores
+returns-clause-cores c registry schema tree typed typing =
+    let same = core_same registry (record { schema = schema; rows = [] }) tree typed typing in
+    record {
+      none = same.none;
+      typing = same.typing;
+      meaning = λ rows. (core_same registry (record { schema = schema; rows = rows }) tree typed typing).meaning;
+    }

@@ -1,0 +1,41 @@
+-- Expressions without aliases.
+-- An alias gives its operand a name, and nothing else. A plan takes an expression's name from its aliases, and the
+-- expression itself without them: its core.
+use Rattle.std.specs.Prelude.{Bool, true, false, ◌&&◌, IsTrue}
+use Rattle.plan_dsl.specs.Trees.{Trees, node, no_more, more}
+use Rattle.plan_dsl.specs.Ops.{Op, AliasOp, Expression}
+
+-- a node, or what stands under it where it is an alias
+abbrev pub without_alias : Op → Trees Op → Expression
+without_alias (AliasOp name) (more tree no_more) = tree
+without_alias op children = node op children
+
+abbrev mutual
+  -- an expression without its aliases
+  pub core : Expression → Expression
+  core (node op children) = without_alias op (all_core children)
+
+  pub all_core : Trees Op → Trees Op
+  all_core no_more = no_more
+  all_core (more child rest) = more (core child) (all_core rest)
+
+abbrev pub is_core_op : Op → Bool
+is_core_op (AliasOp name) = false
+is_core_op op = true
+
+abbrev mutual
+  -- whether there is no alias in it
+  pub is_core : Expression → Bool
+  is_core (node op children) = is_core_op op && are_core children
+
+  pub are_core : Trees Op → Bool
+  are_core no_more = true
+  are_core (more child rest) = is_core child && are_core rest
+
+abbrev pub IsCore : Expression → Type 0
+IsCore tree = IsTrue (is_core tree)
+
+-- another expression under the aliases at the top of one
+abbrev pub renamed : Expression → Expression → Expression
+renamed (node (AliasOp name) (more tree no_more)) other = node (AliasOp name) (more (renamed tree other) no_more)
+renamed tree other = other
