@@ -1,4 +1,5 @@
 pub mod DenotationLemmas
+pub mod InputLemmas
 pub mod ItemLemmas
 pub mod NumberLemmas
 pub mod RunLemmas
