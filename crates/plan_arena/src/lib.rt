@@ -8,4 +8,5 @@ pub mod expr_ir;
 pub mod inputs;
 pub mod ir;
 pub mod laws;
+pub mod names;
 pub mod plan;
