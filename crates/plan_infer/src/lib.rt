@@ -3,6 +3,7 @@
 
 mod examples;
 pub mod field;
+pub mod names;
 pub mod operator_types;
 pub mod steps;
 pub mod type_table;
