@@ -11,7 +11,6 @@ use Rattle.plan_dsl.specs.Plans.{Named, PlanKind, ScanKind, SelectKind, FilterKi
 use Rattle.plan_dsl.specs.Typing.{typing}
 use Rattle.plan_dsl.specs.Kernels.{Meaning}
 use Rattle.plan_dsl.specs.Meaning.{meaning}
-use Rattle.plan_dsl.specs.Strictness.{IsStrict}
 use Rattle.plan_dsl.specs.PlanRules.{input_schema, schema_of, schemas_of}
 use Rattle.plan_dsl.specs.PlanKernels.{Evaluated, selected, filtered, plan_kernel, frame_by}
 use Rattle.plan_dsl.specs.PlanMeaning.{by_meaning, HasTables, FitsPlan, MeetsWhere}
@@ -19,19 +18,19 @@ use Rattle.plan_dsl.proofs.FrameLemmas.{AllMeet, front_tables, back_tables, scan
 use Rattle.plan_dsl.proofs.KernelLemmas.{AgreeOn, selected_agrees, filtered_agrees}
 use Rattle.plan_dsl.proofs.LiteralLemmas.{strict_settled}
 use Rattle.plan_dsl.proofs.RunLemmas.{strict_is_meaning}
-use Rattle.plan_arena.specs.Runs.{own_schema, HasRecorded, IsAccepted, AllAccepted, AreStrictOver, AreStrict, IsStrictPlan, AllStrictPlans, by_running, plan_run, RunsSoundly, AllRunSoundly}
+use Rattle.plan_arena.specs.Runs.{own_schema, IsStrictCore, HasRecorded, IsAccepted, AllAccepted, AreStrictOver, AreStrict, IsStrictPlan, AllStrictPlans, by_running, plan_run, RunsSoundly, AllRunSoundly}
 
 abbrev evaluated_as : Registry → Columns → Named Expression → Meaning → Evaluated
 evaluated_as registry schema output gives = record { name = output.label.name; typing = typing registry schema output.expression; gives = gives }
 
 module _ (registry : Registry) where
   -- strict expressions give what they mean
-  pub strict_agree : (schema : Columns) (outputs : List (Named Expression)) → AllByRecursion (λ output. IsStrict registry schema output.expression) outputs → AgreeOn schema (by_running registry) (by_meaning registry) outputs outputs
+  pub strict_agree : (schema : Columns) (outputs : List (Named Expression)) → AllByRecursion (λ output. IsStrictCore registry schema output.expression) outputs → AgreeOn schema (by_running registry) (by_meaning registry) outputs outputs
   strict_agree schema [] strict rows = refl
   strict_agree schema (output ∷ outputs) strict rows =
       let frame : Frame = record { schema = schema; rows = rows } in
-      ap (λ gives. evaluated_as registry schema output gives ∷ map (by_running registry frame) outputs) (strict_is_meaning registry frame output.expression strict.0)
-      ∙ ap (λ tree. record { name = output.label.name; typing = typing registry schema tree; gives = meaning registry frame tree } ∷ map (by_running registry frame) outputs) (sym (strict_settled registry schema output.expression strict.0))
+      ap (λ gives. evaluated_as registry schema output gives ∷ map (by_running registry frame) outputs) (strict_is_meaning registry frame output.expression strict.0.0 strict.0.1)
+      ∙ ap (λ tree. record { name = output.label.name; typing = typing registry schema tree; gives = meaning registry frame tree } ∷ map (by_running registry frame) outputs) (sym (strict_settled registry schema output.expression strict.0.1))
       ∙ ap (λ rest. by_meaning registry frame output ∷ rest) (strict_agree schema outputs strict.1 rows)
 
   -- the only outcome is that of an input with a schema

@@ -4,18 +4,18 @@ use Rattle.std.specs.Prelude.{◌≡◌, ◌≤◌, ℕ, List, [], ◌∷◌, �
 use Rattle.std.specs.List.{AllByRecursion}
 use Rattle.plan_types.specs.Types.{ty}
 use Rattle.plan_types.specs.Schemas.{columns}
-use Rattle.plan_dsl.specs.Ops.{Op, ColumnOp, BinaryOp, CastOp, LenOp, SliceOp, Expression}
+use Rattle.plan_dsl.specs.Ops.{Op, ColumnOp, BinaryOp, CastOp, LenOp, SliceOp, AliasOp, Expression}
 use Rattle.plan_dsl.specs.Literals.{literal_op}
-use Rattle.plan_dsl.specs.Names.{Label, column_label, literal_label}
+use Rattle.plan_dsl.specs.Names.{Label, alias_label, column_label, literal_label}
 use Rattle.plan_dsl.specs.Plans.{PlanKind, ScanKind, SelectKind, FilterKind, RefusedKind, PlanOp, Plan, Named, scan_op, select_op, filter_op}
 use Rattle.plan_arena.specs.Denotation.{Denotes, DenoteAll, DenotesTree}
 use Rattle.plan_arena.specs.Layers.{Layer, layer, op_of, inputs_of}
 use Rattle.plan_dsl.specs.Trees.{node}
 use Rattle.plan_arena.specs.declared.arena.Node.{Node}
 use Rattle.plan_arena.specs.declared.aexpr.AExpr.{AExpr}
-use Rattle.plan_arena.specs.declared.aexpr.AExpr.TheVariants.{Column, Literal, BinaryExpr, Cast, Len, Slice}
+use Rattle.plan_arena.specs.declared.aexpr.AExpr.TheVariants.{Column, Literal, BinaryExpr, Cast, Len, Slice, Alias}
 use Rattle.plan_arena.specs.declared.expr_ir.OutputName.{OutputName}
-use Rattle.plan_arena.specs.declared.expr_ir.OutputName.TheVariants.{ColumnLhs, LiteralLhs}
+use Rattle.plan_arena.specs.declared.expr_ir.OutputName.TheVariants.{ColumnLhs, LiteralLhs, Alias as NamedByAlias}
 use Rattle.plan_arena.specs.declared.expr_ir.ExprIR.{ExprIR}
 use Rattle.plan_arena.specs.declared.ir.IR.{IR}
 use Rattle.plan_arena.specs.declared.ir.IR.TheVariants.{DataFrameScan, Filter, Select}
@@ -28,12 +28,14 @@ expression_layer (Literal value) = layer (literal_op value) []
 expression_layer (BinaryExpr left operator right) = layer (BinaryOp operator) (left.0 ∷ right.0 ∷ [])
 expression_layer (Cast expr dtype options) = layer (CastOp (ty dtype) options) (expr.0 ∷ [])
 expression_layer Len = layer LenOp []
+expression_layer (Alias expr name) = layer (AliasOp name) (expr.0 ∷ [])
 expression_layer (Slice input offset length) = layer SliceOp (input.0 ∷ offset.0 ∷ length.0 ∷ [])
 
 -- the name of an output, with what it comes from
 abbrev pub output_label : OutputName → Label
 output_label (ColumnLhs name) = column_label name
 output_label (LiteralLhs name) = literal_label name
+output_label (NamedByAlias name) = alias_label name
 
 -- the numbers of nodes
 abbrev pub numbers : List Node → List ℕ

@@ -1,16 +1,17 @@
 -- Lowered plans: which are accepted, strict and named, and how they run on tables.
 -- A plan is accepted where each of its nodes has a schema by the rules, which is the one that it records where
--- it records one, strict where each of its expressions is, and named where each has its own name. It runs by what its expressions give as they are
--- written.
-use Rattle.std.specs.Prelude.{◌≡◌, List, Option, Some, None, is_some, IsTrue}
+-- it records one, strict where each of its expressions is, without aliases, and named where each has its own name or an
+-- alias. It runs by what its expressions give as they are written.
+use Rattle.std.specs.Prelude.{◌≡◌, ◌⊎◌, List, Option, Some, None, is_some, IsTrue}
 use Rattle.std.specs.List.{AllByRecursion}
 use Rattle.plan_types.specs.Schemas.{Columns}
 use Rattle.plan_types.specs.Outcomes.{Outcome}
 use Rattle.plan_types.specs.Frames.{Frame}
 use Rattle.plan_dsl.specs.Registry.{Registry}
+use Rattle.plan_dsl.specs.Aliases.{IsCore}
 use Rattle.plan_dsl.specs.Trees.{Trees, node, no_more, more, fold}
 use Rattle.plan_dsl.specs.Ops.{Expression}
-use Rattle.plan_dsl.specs.Names.{label_of}
+use Rattle.plan_dsl.specs.Names.{FromAlias, label_of}
 use Rattle.plan_dsl.specs.Plans.{Named, OverInput, PlanOp, Plan, expressions_of}
 use Rattle.plan_dsl.specs.PlanRules.{input_schema, schema_of, schemas_of}
 use Rattle.plan_dsl.specs.PlanMeaning.{MeetsWhere}
@@ -38,10 +39,14 @@ abbrev mutual
   AllAccepted registry no_more = Unit {0}
   AllAccepted registry (more plan rest) = IsAccepted registry plan × AllAccepted registry rest
 
--- there is a schema, over which the expressions are strict
+-- an expression is strict and has no aliases
+abbrev pub IsStrictCore : Registry → Columns → Expression → Type 0
+IsStrictCore registry schema tree = IsCore tree × IsStrict registry schema tree
+
+-- there is a schema, over which the expressions are strict, and they have no aliases
 abbrev pub AreStrictOver : Registry → Option Columns → List (Named Expression) → Type 0
 AreStrictOver registry None outputs = ⊥
-AreStrictOver registry (Some schema) outputs = AllByRecursion (λ output. IsStrict registry schema output.expression) outputs
+AreStrictOver registry (Some schema) outputs = AllByRecursion (λ output. IsStrictCore registry schema output.expression) outputs
 
 -- the expressions of a node are strict, by the schemas of its inputs
 abbrev pub AreStrict : Registry → List (Option Columns) → List (OverInput (Named Expression)) → Type 0
@@ -57,9 +62,9 @@ abbrev mutual
   AllStrictPlans registry no_more = Unit {0}
   AllStrictPlans registry (more plan rest) = IsStrictPlan registry plan × AllStrictPlans registry rest
 
--- an expression is under the name that the rules give it, from what they say
+-- an expression is under an alias, or under the name that the rules give it, from what they say
 abbrev pub HasOwnName : Named Expression → Type 0
-HasOwnName output = output.label ≡ label_of output.expression
+HasOwnName output = (output.label.origin ≡ FromAlias) ⊎ (output.label ≡ label_of output.expression)
 
 -- the expressions of a node are
 abbrev pub HaveOwnNames : List (OverInput (Named Expression)) → Type 0

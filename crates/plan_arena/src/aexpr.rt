@@ -44,6 +44,8 @@ pub enum AExpr {
         offset: Node,
         length: Node,
     },
+    /// A node under another name.
+    Alias(Node, PlSmallStr),
 }
 
 impl AExpr {
@@ -54,7 +56,7 @@ impl AExpr {
         match self {
             AExpr::Column(_) | AExpr::Literal(_) | AExpr::Len => Inputs::none(),
             AExpr::BinaryExpr { left, right, .. } => Inputs::two(*left, *right),
-            AExpr::Cast { expr, .. } => Inputs::one(*expr),
+            AExpr::Cast { expr, .. } | AExpr::Alias(expr, _) => Inputs::one(*expr),
             AExpr::Slice {
                 input,
                 offset,
@@ -104,6 +106,7 @@ impl AExpr {
             AExpr::Column(_) | AExpr::Literal(_) | AExpr::Len => {}
             AExpr::BinaryExpr { left, right, .. } => set_two(left, right, inputs),
             AExpr::Cast { expr, .. } => *expr = inputs[0],
+            AExpr::Alias(expr, _) => *expr = inputs[0],
             AExpr::Slice {
                 input,
                 offset,

@@ -15,6 +15,8 @@ pub enum OutputName {
     ColumnLhs(PlSmallStr),
     /// A literal at the left end of the expression.
     LiteralLhs(PlSmallStr),
+    /// An alias.
+    Alias(PlSmallStr),
 }
 
 impl OutputName {
@@ -23,7 +25,8 @@ impl OutputName {
         ensures { result.now ≡ (output_label self.now).name }
     {
         match self {
-            OutputName::ColumnLhs(name) | OutputName::LiteralLhs(name) => name,
+            OutputName::ColumnLhs(name) | OutputName::LiteralLhs(name) | OutputName::Alias(name) =>
+                name,
         }
     }
 }

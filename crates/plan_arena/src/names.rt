@@ -35,6 +35,10 @@ impl AExpr {
                 let name = PlSmallStr::new(alloc, "len")?;
                 Ok(Some(OutputName::LiteralLhs(name)))
             }
+            AExpr::Alias(_, name) => {
+                let name = name.try_clone(alloc)?;
+                Ok(Some(OutputName::Alias(name)))
+            }
             _ => Ok(None),
         }
     }
@@ -53,7 +57,8 @@ impl AExpr {
 }
 
 impl ExprIR {
-    /// The expression at the node, under the name of its leftmost column, literal or count of rows.
+    /// The expression at the node, under the name of the topmost alias on the way down first inputs, or else of the
+    /// leftmost column, literal or count of rows.
     pub fn from_node(alloc: Global, node: Node, arena: &Arena<AExpr>) -> Result<ExprIR, PlanError>
         requires { DenotesTree (HoldsExpression arena.now) node.0 }
         ensures node { IfOk result (λ expr_ir. (named_node expr_ir).expression ≡ node.0) }

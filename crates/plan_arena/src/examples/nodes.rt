@@ -13,17 +13,17 @@ ghost use Rattle.plan_dsl.specs.declared.literal.LiteralValue.TheVariants.{Int, 
 ghost use Rattle.plan_dsl.specs.declared.operator.Operator.TheVariants.{Plus};
 ghost use Rattle.plan_dsl.specs.declared.plan.ProjectionOptions.{ProjectionOptions};
 ghost use Rattle.plan_dsl.specs.Trees.{node, no_more, more};
-ghost use Rattle.plan_dsl.specs.Names.{column_label, literal_label};
-ghost use Rattle.plan_dsl.specs.Ops.{ColumnOp, LiteralOp, BinaryOp, CastOp, LenOp, SliceOp, Expression};
+ghost use Rattle.plan_dsl.specs.Names.{alias_label, column_label, literal_label};
+ghost use Rattle.plan_dsl.specs.Ops.{ColumnOp, LiteralOp, BinaryOp, CastOp, LenOp, SliceOp, AliasOp, Expression};
 ghost use Rattle.plan_dsl.specs.Plans.{Named, named, scan_op, select_op, filter_op};
-ghost use Rattle.plan_dsl.specs.Samples.{Gives, GivesOfTwo, int8, int32, a, b, cast_as, column, count, keep, literal, slice, sum, typed_literal};
+ghost use Rattle.plan_dsl.specs.Samples.{Gives, GivesOfTwo, int8, int32, a, alias, b, cast_as, column, count, keep, literal, slice, sum, typed_literal};
 ghost use Rattle.plan_arena.specs.declared.aexpr.AExpr.{AExpr};
-ghost use Rattle.plan_arena.specs.declared.aexpr.AExpr.TheVariants.{Column, Literal, BinaryExpr, Cast, Len, Slice};
+ghost use Rattle.plan_arena.specs.declared.aexpr.AExpr.TheVariants.{Column, Literal, BinaryExpr, Cast, Len, Slice, Alias};
 ghost use Rattle.plan_arena.specs.declared.arena.Node.{Node};
 ghost use Rattle.plan_arena.specs.declared.expr_ir.ExprIR.{ExprIR};
 ghost use Rattle.plan_arena.specs.declared.expr_ir.ExprIRs.{ExprIRs};
 ghost use Rattle.plan_arena.specs.declared.expr_ir.OutputName.{OutputName};
-ghost use Rattle.plan_arena.specs.declared.expr_ir.OutputName.TheVariants.{ColumnLhs, LiteralLhs};
+ghost use Rattle.plan_arena.specs.declared.expr_ir.OutputName.TheVariants.{ColumnLhs, LiteralLhs, Alias as NamedByAlias};
 ghost use Rattle.plan_arena.specs.declared.ir.IR.TheVariants.{DataFrameScan, Filter, Select};
 ghost use Rattle.plan_arena.specs.declared.plan.IRPlan.{IRPlan};
 ghost use Rattle.plan_arena.specs.Layers.{layer};
@@ -39,7 +39,7 @@ pub fn layers_of_items()
         ∷ (Literal (Int (neg_ℤ (pos 5))), layer (LiteralOp (Untyped (neg_ℤ (pos 5))) (IntValue (neg_ℤ (pos 5)))) [])
         ∷ (Literal (Int8 (neg_ℤ (pos 128))), layer (LiteralOp int8 (IntValue (neg_ℤ (pos 128)))) [])
         ∷ (Literal (UInt64 18446744073709551615), layer (LiteralOp (Integer false 64) (IntValue (pos 18446744073709551615))) []) ∷ (Len, layer LenOp [])
-        ∷ (Slice (node_at 4) (node_at 2) (node_at 7), layer SliceOp (4 ∷ 2 ∷ 7 ∷ [])) ∷ []) }
+        ∷ (Slice (node_at 4) (node_at 2) (node_at 7), layer SliceOp (4 ∷ 2 ∷ 7 ∷ [])) ∷ (Alias (node_at 4) (codes "x"), layer (AliasOp (codes "x")) (4 ∷ [])) ∷ []) }
     ensures plans { (schema : Schema) → Gives plan_layer ((DataFrameScan (Some 2) schema, layer (scan_op (Some 2) (columns schema)) [])
         ∷ (DataFrameScan None schema, layer (scan_op None (columns schema)) []) ∷ (Filter (node_at 5) (a_at 3), layer (filter_op (named_at "a" 3)) (5 ∷ [])) ∷ []) }
     ensures select { (exprs : ExprIRs) (schema : Schema) (options : ProjectionOptions) →
@@ -52,7 +52,7 @@ pub fn layers_of_items()
 
 /// The name that an item keeps, with what it comes from.
 pub fn names_of_outputs()
-    ensures labels { Gives output_label ((LiteralLhs (codes "literal"), literal_label (codes "literal")) ∷ (LiteralLhs (codes "len"), literal_label (codes "len")) ∷ (ColumnLhs (codes "literal"), column_label (codes "literal")) ∷ []) }
+    ensures labels { Gives output_label ((LiteralLhs (codes "literal"), literal_label (codes "literal")) ∷ (LiteralLhs (codes "len"), literal_label (codes "len")) ∷ (ColumnLhs (codes "literal"), column_label (codes "literal")) ∷ (NamedByAlias (codes "literal"), alias_label (codes "literal")) ∷ []) }
     ensures named { named_node (a_at 3) ≡ named_at "a" 3 }
 {}
 
@@ -63,6 +63,7 @@ pub fn expressions_of_nodes()
     ensures sum { Denotes (HoldsExpression sum_items) 3 strict_sum }
     ensures slice { let items = Column (codes "a") ∷ Literal (Int (pos 1)) ∷ Slice (node_at 0) (node_at 1) (node_at 1) ∷ [] in
         Denotes (HoldsExpression items) 2 (slice a (literal (pos 1)) (literal (pos 1))) }
+    ensures alias { Denotes (HoldsExpression (Column (codes "a") ∷ Alias (node_at 0) (codes "x") ∷ [])) 1 (alias "x" a) }
     ensures others { AllByRecursion {X = ℕ × Expression} (λ c. ¬ (Denotes (HoldsExpression sum_items) c.0 c.1)) ((1, a) ∷ (3, sum a b) ∷ (3, sum b wide_a) ∷ (4, a) ∷ []) }
     ensures circle { ¬ (DenotesTree (HoldsExpression circle) 0) }
 {}

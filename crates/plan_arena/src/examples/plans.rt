@@ -9,10 +9,10 @@ ghost use Rattle.plan_types.specs.Frames.{empty_frame};
 ghost use Rattle.plan_types.specs.declared.dtype.CastOptions.TheVariants.{Strict};
 ghost use Rattle.plan_dsl.specs.Trees.{node, no_more, more};
 ghost use Rattle.plan_dsl.specs.Ops.{Expression};
-ghost use Rattle.plan_dsl.specs.Names.{Label, column_label, literal_label};
+ghost use Rattle.plan_dsl.specs.Names.{Label, alias_label, column_label, literal_label};
 ghost use Rattle.plan_dsl.specs.Plans.{empty_table, select_op, filter_op};
 ghost use Rattle.plan_dsl.specs.PlanMeaning.{source_meaning};
-ghost use Rattle.plan_dsl.specs.Samples.{Gives, GivesOfTwo, int8, int16, int32, int64, number, null, yes, a, b, cast_as, column, empty_scan, frame_with, keep, less, literal, scan, scan_of, schema_ab, schema_flagged, select, sum, table, typed_literal};
+ghost use Rattle.plan_dsl.specs.Samples.{Gives, GivesOfTwo, int8, int16, int32, int64, number, null, yes, a, alias, b, cast_as, column, empty_scan, frame_with, keep, less, literal, scan, scan_of, schema_ab, schema_flagged, select, sum, table, typed_literal};
 ghost use Rattle.plan_arena.specs.Runs.{own_schema, HasRecorded, IsAccepted, IsStrictPlan, IsNamedPlan, plan_run, RunsSoundly};
 ghost use Rattle.plan_arena.specs.Samples.{lowered_number, lowered_select, lowered_sum, narrowed, schema_of_one, sums, three_flagged, three_numbers};
 
@@ -52,7 +52,7 @@ pub fn plans_that_are_accepted()
         ∷ lowered_sum (schema_of_one "a" int64) ∷ keep a (scan schema_flagged) ∷ lowered_number int8 (typed_literal int32 (pos 5)) ∷ []) }
 {}
 
-/// A plan is strict where each expression is.
+/// A plan is strict where each expression is, and has no aliases.
 pub fn plans_that_are_strict()
     ensures sum { IsStrictPlan [] (lowered_sum (schema_of_one "a" int32)) }
     ensures filter { IsStrictPlan [] (keep (column "keep") (scan schema_flagged)) }
@@ -60,13 +60,16 @@ pub fn plans_that_are_strict()
     ensures sum_of_two_types { ¬ (IsStrictPlan [] (select (sum a b ∷ []) (scan schema_ab))) }
     ensures filter_of_two_types { ¬ (IsStrictPlan [] (keep (sum a (column "keep")) (scan schema_flagged))) }
     ensures untyped { ¬ (IsStrictPlan [] (lowered_number int32 (literal (pos 5)))) }
+    ensures with_an_alias { ¬ (IsStrictPlan [] (node (filter_op (record { label = column_label (codes "keep"); expression = alias "x" (column "keep") })) (more (scan schema_flagged) no_more))) }
 {}
 
-/// A plan is named where each expression has the name that the rules give it, from what they say.
+/// A plan is named where each expression has the name that the rules give it, from what they say, or an alias.
 pub fn named_plans()
     ensures named { AllByRecursion IsNamedPlan (lowered_sum (schema_of_one "a" int32) ∷ keep (column "keep") (scan schema_flagged) ∷ lowered_number int32 (typed_literal int32 (pos 5)) ∷ []) }
     ensures others { AllByRecursion {X = Label × Expression} (λ c. ¬ (IsNamedPlan (node (select_op (record { label = c.0; expression = c.1 } ∷ []) None) (more (scan schema_ab) no_more))))
         ((literal_label (codes "a"), a) ∷ (column_label (codes "b"), a) ∷ (column_label (codes "literal"), typed_literal int32 (pos 5)) ∷ []) }
+    ensures aliases { AllByRecursion IsNamedPlan (select (alias "x" (sum a b) ∷ b ∷ []) (scan schema_ab) ∷
+        node (filter_op (record { label = alias_label (codes "a"); expression = column "keep" })) (more (scan schema_flagged) no_more) ∷ []) }
     ensures filter_by_another_name { ¬ (IsNamedPlan (node (filter_op (record { label = column_label (codes "a"); expression = column "keep" })) (more (scan schema_flagged) no_more))) }
 {}
 

@@ -32,3 +32,6 @@ mutual
 
 pub returns-clause-circle : goal.returns-clause-circle
 returns-clause-circle c = λ d. no_tree d.tree d.denotes
+
+pub returns-clause-alias : goal.returns-clause-alias
+returns-clause-alias c = (0 ∷ [], refl, (([], refl, tt), tt))
