@@ -11,7 +11,7 @@ use Rattle.plan_types.specs.declared.dtype.DataType.{DataType}
 use Rattle.plan_types.specs.declared.dtype.CastOptions.TheVariants.{NonStrict}
 use Rattle.plan_dsl.specs.declared.literal.LiteralValue.{LiteralValue}
 use Rattle.plan_dsl.specs.Registry.{Registry}
-use Rattle.plan_dsl.specs.Names.{Label, label_of}
+use Rattle.plan_dsl.specs.Names.{label_of}
 use Rattle.plan_dsl.specs.Trees.{node, no_more, more}
 use Rattle.plan_dsl.specs.Ops.{Op, CastOp, Expression}
 use Rattle.plan_dsl.specs.Literals.{literal_op, literal_type, literal_value, is_literal}

@@ -16,6 +16,7 @@ use Rattle.plan_arena.specs.declared.aexpr.AExpr.{AExpr}
 use Rattle.plan_arena.specs.declared.expr_ir.ExprIR.{ExprIR}
 use Rattle.plan_arena.specs.declared.ir.IR.{IR}
 use Rattle.plan_arena.proofs.DenotationLemmas.{some_same}
+use Rattle.plan_arena.proofs.NumberLemmas.{all_there}
 use Rattle.plan_arena.proofs.ItemLemmas.{layer_parts, expression_got}
 use Rattle.plan_dsl.specs.Counts.{op_casts, expression_casts, outputs_casts, kind_casts, plan_op_casts, cast_count}
 use Rattle.plan_report.proofs.NodeLemmas.{held_op, held_children, LeadsDown, expression_inputs}
@@ -87,16 +88,11 @@ inputs_lead : (items : List AExpr) (n : ℕ) (item : AExpr) → slice_get items 
 inputs_lead items n item got (node op ts) d =
     expression_inputs items n item got (op_of (expression_layer item)) (inputs_of (expression_layer item)) (layer_parts (expression_layer item)) (record { tree = node op ts; denotes = d })
 
-number_leads : (P : ℕ → Type 0) (ns : List ℕ) → AllByRecursion P ns → (i n : ℕ) → slice_get ns i ≡ Some n → P n
-number_leads P [] all i n at = cc
-number_leads P (m ∷ ns) all zero n at = let same : m ≡ n = cc in subst P same all.0
-number_leads P (m ∷ ns) all (suc i) n at = number_leads P ns all.1 i n at
-
 -- so does the input at a place
 pub input_leads : (items : List AExpr) (n : ℕ) (item : AExpr) → slice_get items n ≡ Some item → DenotesTree (HoldsExpression items) n → (ns : List ℕ) → ns ≡ inputs_of (expression_layer item) → (i m : ℕ) → slice_get ns i ≡ Some m → DenotesTree (HoldsExpression items) m × (depth_at (shape_of (map expression_layer items)) m < depth_at (shape_of (map expression_layer items)) n)
 input_leads items n item got d ns are i m at =
     let leads : ℕ → Type 0 = λ k. DenotesTree (HoldsExpression items) k × (depth_at (shape_of (map expression_layer items)) k < depth_at (shape_of (map expression_layer items)) n) in
-    number_leads leads ns (subst (AllByRecursion leads) (sym are) (inputs_lead items n item got d.tree d.denotes)) i m at
+    all_there leads ns (subst (AllByRecursion leads) (sym are) (inputs_lead items n item got d.tree d.denotes)) i m at
 
 -- the count of a plan, from its expressions' and its inputs'
 pub plan_counted : (expressions : List AExpr) (plans : List IR) (n : ℕ) (item : IR) → slice_get plans n ≡ Some item → (flat : PlanOp (Named ℕ)) (inputs : List ℕ) (here : ℕ) (cs : List ℕ) → plan_layer item ≡ layer flat inputs → ((kind : PlanKind (Named Expression)) → DenotesKind expressions flat.kind kind → here ≡ kind_casts kind) → CountAll (HoldsPlan expressions plans) cast_count inputs cs → (t : Plan) → Denotes (HoldsPlan expressions plans) n t → here + sum cs ≡ cast_count t
