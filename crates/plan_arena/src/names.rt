@@ -1,12 +1,13 @@
 //! Names of nodes.
-ghost use Rattle.std.specs.Prelude.{◌≡◌, List, codes, IfOk, IfErr};
+ghost use Rattle.std.specs.Prelude.{◌≡◌, [], ◌∷◌, List, codes, true, IfOk, IfErr, MatchOption};
 ghost use Rattle.std.specs.Option.{option_map_or};
 ghost use Rattle.plan_types.specs.Errors.{no_memory};
 ghost use Rattle.plan_dsl.specs.Names.{Label, first_label, label_of, literal_label, op_label};
-ghost use Rattle.plan_dsl.specs.Ops.{Expression};
+ghost use Rattle.plan_dsl.specs.Aliases.{is_core_op};
+ghost use Rattle.plan_dsl.specs.Ops.{AliasOp, Expression};
 ghost use Rattle.plan_arena.specs.Denotation.{Denotes, DenotesTree};
 ghost use Rattle.plan_arena.specs.Items.{expression_layer, named_node, output_label, HoldsExpression};
-ghost use Rattle.plan_arena.specs.Layers.{op_of};
+ghost use Rattle.plan_arena.specs.Layers.{layer, op_of};
 
 use crate::aexpr::AExpr;
 use crate::arena::{Arena, Node};
@@ -40,6 +41,17 @@ impl AExpr {
                 Ok(Some(OutputName::Alias(name)))
             }
             _ => Ok(None),
+        }
+    }
+
+    /// The node of which it is an alias, with the name.
+    pub fn alias(&self) -> Option<(Node, &PlSmallStr)>
+        ensures { MatchOption result (is_core_op (op_of (expression_layer self.now)) ≡ true) (λ alias.
+            expression_layer self.now ≡ layer (AliasOp alias.1.now) (alias.0.0 ∷ [])) }
+    {
+        match self {
+            AExpr::Alias(expr, name) => Some((*expr, name)),
+            _ => None,
         }
     }
 

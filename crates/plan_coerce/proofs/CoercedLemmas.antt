@@ -3,7 +3,7 @@ use Rattle.std.proofs.Common.{◌≡◌, Bool, true, false, cond, List, [], ◌�
 use Rattle.std.specs.Prelude.{ℤ, unwrap_or}
 use Rattle.plan_types.specs.Types.{Ty, Untyped, is_known, same_type}
 use Rattle.plan_types.specs.TypeLaws.{same_type_own}
-use Rattle.plan_types.specs.Schemas.{Columns}
+use Rattle.plan_types.specs.Schemas.{Name, Columns}
 use Rattle.plan_types.specs.Values.{IntValue}
 use Rattle.plan_types.specs.Casts.{can_cast}
 use Rattle.plan_types.specs.declared.error.ErrorKind.{ErrorKind}
@@ -14,16 +14,19 @@ use Rattle.plan_types.proofs.CommonLemmas.{alone_itself, literal_has}
 use Rattle.plan_types.proofs.CastLemmas.{source_known}
 use Rattle.plan_dsl.specs.Registry.{Registry}
 use Rattle.plan_dsl.specs.Trees.{Trees, node, no_more, more, AllRelated}
-use Rattle.plan_dsl.specs.Ops.{Op, LiteralOp, CastOp, Expression}
+use Rattle.plan_dsl.specs.Aliases.{renamed}
+use Rattle.plan_dsl.specs.Ops.{Op, LiteralOp, CastOp, AliasOp, Expression}
 use Rattle.plan_dsl.specs.Typing.{Typed, Ruling, rule, ruled_as, cast_taken, types_of, typed_to, typed_before, typing, typing_all}
 use Rattle.plan_dsl.specs.Strictness.{CanBecome, IsSame, IsStrict, AllStrict, is_strict, are_strict, is_strict_over, cast_to, changed, integer_has, number_as, number_literal, as_operand, as_operands}
 use Rattle.plan_dsl.specs.Literals.{settled_type}
-use Rattle.plan_dsl.proofs.LiteralLemmas.{becomes_literal, literal_typing}
+use Rattle.plan_dsl.proofs.LiteralLemmas.{bare, becomes_literal, child_is, literal_typing, number_node, under, untyped}
+use Rattle.plan_dsl.proofs.AliasLemmas.{alias}
+use Rattle.plan_dsl.proofs.CastLemmas.{number_made}
 use Rattle.plan_dsl.proofs.TypingLemmas.{by_children, by_no_children}
 use Rattle.plan_dsl.proofs.CastMeaningLemmas.{if_true}
 use Rattle.plan_dsl.proofs.OpLemmas.{keeps_rule}
-use Rattle.plan_dsl.proofs.SignatureLemmas.{AllBecome}
-use Rattle.plan_dsl.proofs.OperandLemmas.{after_typed, operands_same}
+use Rattle.plan_dsl.proofs.SignatureLemmas.{AllBecome, TakesTo, makes, passes}
+use Rattle.plan_dsl.proofs.OperandLemmas.{after_typed, operands_same, types_are}
 use Rattle.plan_dsl.proofs.SameLemmas.{node_same, typings_same, same_itself, same_then}
 use Rattle.plan_dsl.proofs.StrictLemmas.{strict_parts}
 use Rattle.std.proofs.lemmas.Bool.{and_parts}
@@ -44,19 +47,13 @@ own_operands (type ∷ types) (more tree trees) h =
 own_operands [] (more tree trees) h = absurd h
 own_operands (type ∷ types) no_more h = absurd h
 
-taken_alongside : (types targets : List Ty) (trees : Trees Op) → AllBecome types targets → Alongside types trees → Alongside targets (as_operands types targets trees)
-taken_alongside [] [] no_more b h = tt
-taken_alongside (from ∷ types) (target ∷ targets) (more tree trees) b h = taken_alongside types targets trees b.1 h
-taken_alongside [] [] (more tree trees) b h = absurd h
-taken_alongside [] (target ∷ targets) trees b h = absurd b
-taken_alongside (from ∷ types) [] trees b h = absurd b
-taken_alongside (from ∷ types) (target ∷ targets) no_more b h = absurd h
-
-types_are : (typed : List Typed) (targets : List Ty) → AllBecome (types_of typed) targets → types_of (typed_to typed targets) ≡ targets
-types_are [] [] h = refl
-types_are [] (target ∷ targets) h = absurd h
-types_are (t ∷ ts) [] h = absurd h
-types_are (t ∷ ts) (target ∷ targets) h = ap (λ l. target ∷ l) (types_are ts targets h.1)
+taken_alongside : (own : Ty) (types targets : List Ty) (trees : Trees Op) → AllBecome own types targets → Alongside types trees → Alongside targets (as_operands types targets trees)
+taken_alongside own [] [] no_more b h = tt
+taken_alongside own (from ∷ types) (target ∷ targets) (more tree trees) b h = taken_alongside own types targets trees b.1 h
+taken_alongside own [] [] (more tree trees) b h = absurd h
+taken_alongside own [] (target ∷ targets) trees b h = absurd b
+taken_alongside own (from ∷ types) [] trees b h = absurd b
+taken_alongside own (from ∷ types) (target ∷ targets) no_more b h = absurd h
 
 no_operands : (types targets : List Ty) → as_operands types targets no_more ≡ no_more
 no_operands [] targets = refl
@@ -110,24 +107,57 @@ module _ (registry : Registry) (schema : Columns) where
             subst (λ type. coerced registry schema (cast_to target (number_literal type number)) ≡ cast_to target (number_literal type number)) (sym (ap (λ found. unwrap_or found (Untyped number)) own.1)) (own_coerced own.0 target number own.1 own.2)
       ] refl
 
+  -- a node of an alias
+  alias_coerced : (name : Name) (tree : Expression) (typed : Typed) → typing registry schema tree ≡ Ok typed → coerced registry schema (alias name tree) ≡ alias name (coerced registry schema tree)
+  alias_coerced name tree typed is =
+      let child = more (coerced registry schema tree) no_more in
+      ap (λ r. node (AliasOp name) (fitted registry schema (AliasOp name) (typed_before r (Ok [])) child)) is
+      ∙ ap (node (AliasOp name)) (own_operands (typed.type ∷ []) child tt)
+
+  -- a number without a type, maybe under aliases
+  module _ (number : ℤ) (many : Bool) (target : Ty) (can : CanBecome (Untyped number) target) where
+    abbrev made : Expression → Expression
+    made tree = renamed tree (number_as number target)
+
+    under_coerced : (op : Op) (children : Trees Op) → typing registry schema (node op children) ≡ Ok (record { type = Untyped number; many = many }) → ((name : Name) (tree : Expression) → children ≡ more tree no_more → typing registry schema tree ≡ Ok (record { type = Untyped number; many = many }) → coerced registry schema (made tree) ≡ made (coerced registry schema tree)) → coerced registry schema (made (node op children)) ≡ made (coerced registry schema (node op children))
+    under_coerced op children h each =
+        elim (number_node registry schema number op children many h) as (λ _. coerced registry schema (made (node op children)) ≡ made (coerced registry schema (node op children))) [
+          | bare op_is none single literal ↦
+              let here : coerced registry schema (made (untyped number)) ≡ made (coerced registry schema (untyped number)) = number_coerced number target can ∙ sym (ap made (literal_coerced (Untyped number) number)) in
+              subst (λ o. coerced registry schema (made (node o children)) ≡ made (coerced registry schema (node o children))) (sym op_is) (subst (λ c. coerced registry schema (made (node (LiteralOp (Untyped number) (IntValue number)) c)) ≡ made (coerced registry schema (node (LiteralOp (Untyped number) (IntValue number)) c))) (sym none) here)
+          | under name tree op_is over typed ↦
+              let after = (number_made registry schema number many target can tree typed).typing in
+              let here : coerced registry schema (made (alias name tree)) ≡ made (coerced registry schema (alias name tree)) =
+                  alias_coerced name (made tree) _ after ∙ ap (alias name) (each name tree over typed) ∙ sym (ap made (alias_coerced name tree _ typed)) in
+              subst (λ o. coerced registry schema (made (node o children)) ≡ made (coerced registry schema (node o children))) (sym op_is) (subst (λ c. coerced registry schema (made (node (AliasOp name) c)) ≡ made (coerced registry schema (node (AliasOp name) c))) (sym over) here)
+        ]
+
+    made_coerced : (tree : Expression) → typing registry schema tree ≡ Ok (record { type = Untyped number; many = many }) → coerced registry schema (made tree) ≡ made (coerced registry schema tree)
+    made_coerced (node op (more child no_more)) h =
+        under_coerced op (more child no_more) h (λ name tree over typed. let same = child_is child tree over in subst (λ t. coerced registry schema (made t) ≡ made (coerced registry schema t)) same (made_coerced child (ap (typing registry schema) same ∙ typed)))
+    made_coerced (node op children) h = under_coerced op children h (λ name tree over typed. cc)
+
   changed_coerced : (from target : Ty) (tree : Expression) (many : Bool) → typing registry schema tree ≡ Ok (record { type = from; many = many }) → CanBecome from target → coerced registry schema (changed from target tree) ≡ changed from target (coerced registry schema tree)
-  changed_coerced (Untyped number) target tree many is can = number_coerced number target can
+  changed_coerced (Untyped number) target tree many is can = made_coerced number many target can tree is
   changed_coerced from target tree many is can =
       let casts = can.casts (λ number e. cc) in cast_coerced from target tree many is (source_known from target casts) casts
 
-  operand_coerced : (from target : Ty) (tree : Expression) (many : Bool) → typing registry schema tree ≡ Ok (record { type = from; many = many }) → CanBecome from target → coerced registry schema (as_operand from target tree) ≡ as_operand from target (coerced registry schema tree)
-  operand_coerced from target tree many is can =
+  operand_coerced : (own from target : Ty) (tree : Expression) (many : Bool) → typing registry schema tree ≡ Ok (record { type = from; many = many }) → TakesTo own from target → coerced registry schema (as_operand from target tree) ≡ as_operand from target (coerced registry schema tree)
+  operand_coerced own from target tree many is (passes kept owned) =
+      let same = ap (same_type from) (sym kept) ∙ same_type_own from in
+      subst (λ b. coerced registry schema (cond b tree (changed from target tree)) ≡ cond b (coerced registry schema tree) (changed from target (coerced registry schema tree))) (sym same) refl
+  operand_coerced own from target tree many is (makes can) =
       elim (same_type from target) as (λ b. coerced registry schema (cond b tree (changed from target tree)) ≡ cond b (coerced registry schema tree) (changed from target (coerced registry schema tree))) [ true ↦ refl | false ↦ changed_coerced from target tree many is can ]
 
-  operands_coerced : (trees : Trees Op) (typed : List Typed) (targets : List Ty) → typing_all registry schema trees ≡ Ok typed → AllBecome (types_of typed) targets → coerced_all registry schema (as_operands (types_of typed) targets trees) ≡ as_operands (types_of typed) targets (coerced_all registry schema trees)
-  operands_coerced no_more typed targets h b =
+  operands_coerced : (own : Ty) (trees : Trees Op) (typed : List Typed) (targets : List Ty) → typing_all registry schema trees ≡ Ok typed → AllBecome own (types_of typed) targets → coerced_all registry schema (as_operands (types_of typed) targets trees) ≡ as_operands (types_of typed) targets (coerced_all registry schema trees)
+  operands_coerced own no_more typed targets h b =
       ap (coerced_all registry schema) (no_operands (types_of typed) targets) ∙ sym (no_operands (types_of typed) targets)
-  operands_coerced (more tree trees) typed [] h b =
-      by_children (λ ts. AllBecome (types_of ts) [] → coerced_all registry schema (as_operands (types_of ts) [] (more tree trees)) ≡ as_operands (types_of ts) [] (coerced_all registry schema (more tree trees))) _ _ typed h (λ t ts first rest none. absurd none) b
-  operands_coerced (more tree trees) typed (target ∷ targets) h b =
-      by_children (λ ts. AllBecome (types_of ts) (target ∷ targets) → coerced_all registry schema (as_operands (types_of ts) (target ∷ targets) (more tree trees)) ≡ as_operands (types_of ts) (target ∷ targets) (coerced_all registry schema (more tree trees))) _ _ typed h (λ t ts first rest c.
-      ap (λ x. more x (coerced_all registry schema (as_operands (types_of ts) targets trees))) (operand_coerced t.type target tree t.many first c.0)
-      ∙ ap (more (as_operand t.type target (coerced registry schema tree))) (operands_coerced trees ts targets rest c.1)) b
+  operands_coerced own (more tree trees) typed [] h b =
+      by_children (λ ts. AllBecome own (types_of ts) [] → coerced_all registry schema (as_operands (types_of ts) [] (more tree trees)) ≡ as_operands (types_of ts) [] (coerced_all registry schema (more tree trees))) _ _ typed h (λ t ts first rest none. absurd none) b
+  operands_coerced own (more tree trees) typed (target ∷ targets) h b =
+      by_children (λ ts. AllBecome own (types_of ts) (target ∷ targets) → coerced_all registry schema (as_operands (types_of ts) (target ∷ targets) (more tree trees)) ≡ as_operands (types_of ts) (target ∷ targets) (coerced_all registry schema (more tree trees))) _ _ typed h (λ t ts first rest c.
+      ap (λ x. more x (coerced_all registry schema (as_operands (types_of ts) targets trees))) (operand_coerced own t.type target tree t.many first c.0)
+      ∙ ap (more (as_operand t.type target (coerced registry schema tree))) (operands_coerced own trees ts targets rest c.1)) b
 
   -- a node over operands that were made of their types
   pub node_alike_over : (op : Op) (trees : Trees Op) (typed : List Typed) (h : typing_all registry schema trees ≡ Ok typed) (ruling : Ruling) (rules : rule registry schema op typed ≡ Ok ruling) → IsAlike registry schema (node op trees) (node op (as_operands (types_of typed) ruling.operands trees))
@@ -135,14 +165,14 @@ module _ (registry : Registry) (schema : Columns) where
       let keeps = keeps_rule registry schema op typed ruling rules in
       let after = as_operands (types_of typed) ruling.operands trees in
       let children = coerced_all registry schema after in
-      let made = operands_coerced trees typed ruling.operands h keeps.becomes in
-      let along = subst (Alongside ruling.operands) (sym made) (taken_alongside (types_of typed) ruling.operands (coerced_all registry schema trees) keeps.becomes (coerced_alongside (types_of typed) trees (typed_alongside trees typed h))) in
+      let made = operands_coerced ruling.own.type trees typed ruling.operands h keeps.becomes in
+      let along = subst (Alongside ruling.operands) (sym made) (taken_alongside ruling.own.type (types_of typed) ruling.operands (coerced_all registry schema trees) keeps.becomes (coerced_alongside (types_of typed) trees (typed_alongside trees typed h))) in
       record {
         same = operands_same registry schema op trees typed h ruling rules;
         casts =
             ap (λ r. node op (fitted registry schema op r children)) (after_typed registry schema op trees typed h ruling rules)
             ∙ ap (λ r. node op (fitted_by r (types_of (typed_to typed ruling.operands)) children)) keeps.stays
-            ∙ ap (λ l. node op (as_operands l ruling.operands children)) (types_are typed ruling.operands keeps.becomes)
+            ∙ ap (λ l. node op (as_operands l ruling.operands children)) (types_are ruling.own.type typed ruling.operands keeps.becomes)
             ∙ ap (node op) (own_operands ruling.operands children along ∙ made)
             ∙ sym (ap (λ r. node op (fitted_by r (types_of typed) (coerced_all registry schema trees))) rules)
             ∙ sym (ap (λ r. node op (fitted registry schema op r (coerced_all registry schema trees))) h);

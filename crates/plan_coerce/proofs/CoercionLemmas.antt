@@ -4,7 +4,7 @@ use Rattle.std.specs.Prelude.{ℤ, ◌&&◌, unwrap_or}
 use Rattle.std.proofs.lemmas.Bool.{false≢true}
 use Rattle.plan_types.specs.Types.{Ty, Integer, Untyped, ty, is_counted, is_integer, is_known, same_type}
 use Rattle.plan_types.specs.CommonTypes.{type_alone}
-use Rattle.plan_types.specs.Schemas.{Columns}
+use Rattle.plan_types.specs.Schemas.{Name, Columns}
 use Rattle.plan_types.specs.Values.{Val, IntValue, in_range}
 use Rattle.plan_types.specs.Casts.{can_cast}
 use Rattle.plan_types.specs.declared.dtype.DataType.{DataType}
@@ -44,7 +44,7 @@ use Rattle.plan_infer.specs.KeptTypes.{Keeps, KeepsEntry, IsKept, Extends, AllKe
 use Rattle.plan_arena.proofs.NumberLemmas.{all_joined, all_weaker}
 use Rattle.plan_infer.proofs.TableLemmas.{children_kept, kept_type, kept_typing, layer_held, listed_operands, ruled_inputs, still_keeps, still_kept, kept_of, type_of, type_one}
 use Rattle.plan_dsl.proofs.OpLemmas.{keeps_rule}
-use Rattle.plan_dsl.proofs.SignatureLemmas.{AllBecome}
+use Rattle.plan_dsl.proofs.SignatureLemmas.{AllBecome, TakesTo, makes, passes}
 
 -- what an arena holds it holds when it has grown and another item was written
 pub written_elsewhere : (old new : List AExpr) (at : ℕ) (item : AExpr) → Grows old new → (n : ℕ) (op : Op) (inputs : List ℕ) → n ≢ at → HoldsExpression old n op inputs → HoldsExpression (set new at item) n op inputs
@@ -55,6 +55,12 @@ pub cast_denotes : (first : ℕ) (old new : List AExpr) (input cast : Node) (tar
 cast_denotes first old new input cast target t le grown at d =
     let g : Grows old new = record { added = Cast input target NonStrict ∷ []; longer = grown } in
     added_denotes first old new (Cast input target NonStrict) cast.0 (CastOp (ty target) NonStrict) (input.0 ∷ []) (more t no_more) le grown at refl (tree_grown first first old new (omega arith) g input.0 t d, tt)
+
+-- an alias that was added over a tree
+pub alias_denotes : (first : ℕ) (old new : List AExpr) (input alias : Node) (name : Name) (t : Expression) → first ≤ length old → new ≡ old ++ Alias input name ∷ [] → alias.0 ≡ length old → Denotes (HoldsFrom first old) input.0 t → Denotes (HoldsFrom first new) alias.0 (node (AliasOp name) (more t no_more))
+alias_denotes first old new input alias name t le grown at d =
+    let g : Grows old new = record { added = Alias input name ∷ []; longer = grown } in
+    added_denotes first old new (Alias input name) alias.0 (AliasOp name) (input.0 ∷ []) (more t no_more) le grown at refl (tree_grown first first old new (omega arith) g input.0 t d, tt)
 
 -- a literal that was added
 pub literal_denotes : (first : ℕ) (old new : List AExpr) (n : Node) (value : LiteralValue) → first ≤ length old → new ≡ old ++ Literal value ∷ [] → n.0 ≡ length old → Denotes (HoldsFrom first new) n.0 (node (literal_op value) no_more)
@@ -83,6 +89,15 @@ change_cast _ target t known = refl
 pub becomes_cast : (from target : Ty) → CanBecome from target → ((number : ℤ) → from ≢ Untyped number) → (is_known from ≡ true) × (can_cast from target ≡ true)
 becomes_cast from target can own = let casts = can.casts own in (source_known from target casts, casts)
 
+-- how deep a number is that was made of a type, and what stands under aliases in place of another
+number_depth : (number : ℤ) (target : Ty) → tree_depth (number_as number target) ≤ 2
+number_depth number target =
+    elim (integer_has target number) as (λ b. tree_depth (cond b (number_literal target number) (cast_to target (number_literal (settled_type (Untyped number)) number))) ≤ 2) [ true ↦ omega arith | false ↦ omega arith ]
+
+renamed_depth : (x y : Expression) → tree_depth (renamed x y) + 1 ≤ tree_depth x + tree_depth y
+renamed_depth (node (AliasOp name) (more x no_more)) y = let below = renamed_depth x y in omega (arith, below)
+renamed_depth (node op children) y = omega arith
+
 -- a write at one node
 module _ (first : ℕ) (items : List AExpr) (at : ℕ) (item : AExpr) (t : Expression) (d : Denotes (HoldsFrom first items) at t) where
   keeps : (n : ℕ) (op : Op) (inputs : List ℕ) → n ≢ at → HoldsFrom first items n op inputs → HoldsFrom first (set items at item) n op inputs
@@ -110,6 +125,10 @@ module _ (first : ℕ) (items : List AExpr) (at : ℕ) (item : AExpr) (t : Expre
       ] dm
 
   changed_kept : (from : Ty) (m : ℕ) (target : Ty) (x : Expression) → tree_depth x < tree_depth t → m ≢ at → Denotes (HoldsFrom first items) m (changed from target x) → Denotes (HoldsFrom first (set items at item)) m (changed from target x)
+  changed_kept (Untyped number) m target (node (AliasOp name) (more x no_more)) lt other dx =
+      let small = renamed_depth x (number_as number target) in
+      let most = number_depth number target in
+      (dx.0, keeps m _ dx.0 other dx.1, all_kept_below (shape_of (map expression_layer items)) (HoldsFrom first items) (HoldsFrom first (set items at item)) (from_laws first items) at keeps t d dx.0 (more (renamed x (number_as number target)) no_more) dx.2 (omega (arith, small, most, lt)))
   changed_kept (Untyped number) m target x lt other dx = number_kept m number target (deeper x (tree_depth t) lt) other dx
   changed_kept _ m target x lt other dx = cast_kept m target x lt other dx
 
@@ -139,15 +158,25 @@ cast_round old new table n m from target k other known at denotes = record {
 }
 
 -- what stands for a number without a type
-pub number_for : (old new : List AExpr) (table : TypeTable) (n m : ℕ) (from : DataType) (target : Ty) (number : ℤ) → Keeps table n from → same_type (ty from) target ≡ false → ty from ≡ Untyped number → length old ≤ m → ((first : ℕ) → first ≤ length old → Denotes (HoldsFrom first new) m (number_as number target)) → IsChanged old new table (record { input = n; changed = m; from = ty from; target = target })
+pub number_for : (old new : List AExpr) (table : TypeTable) (n m : ℕ) (from : DataType) (target : Ty) (number : ℤ) → Keeps table n from → same_type (ty from) target ≡ false → ty from ≡ Untyped number → length old ≤ m → ((first : ℕ) (t : Expression) → first ≤ length old → Denotes (HoldsFrom first old) n t → Denotes (HoldsFrom first new) m (renamed t (number_as number target))) → IsChanged old new table (record { input = n; changed = m; from = ty from; target = target })
 number_for old new table n m from target number k other untyped fresh denotes = record {
   keeps = record { dtype = from; keeps = k; is = refl };
   denotes = λ first t le d.
       let is = ap (λ f. changed f target t) untyped in
-      subst (Denotes (HoldsFrom first new) m) (sym is ∙ sym (if_false (same_type (ty from) target) t _ other)) (denotes first le);
+      subst (Denotes (HoldsFrom first new) m) (sym is ∙ sym (if_false (same_type (ty from) target) t _ other)) (denotes first t le d);
   stays = λ e. absurd (false≢true (sym other ∙ e));
   fresh = λ e. fresh;
 }
+
+-- under the aliases of a node: of one that is no alias it stands alone
+renamed_alone : (t other : Expression) (op : Op) (children : Trees Op) → node op children ≡ t → is_core_op op ≡ true → renamed t other ≡ other
+renamed_alone t other (AliasOp name) children is core = cc
+renamed_alone t other op children is core = ap (λ x. renamed x other) (sym is)
+
+pub not_renamed : (first : ℕ) (items : List AExpr) (n : ℕ) (item : AExpr) (t other : Expression) → slice_get items n ≡ Some item → is_core_op (op_of (expression_layer item)) ≡ true → Denotes (HoldsFrom first items) n t → renamed t other ≡ other
+not_renamed first items n item t other got core d =
+    let top = from_top first items n (op_of (expression_layer item)) (inputs_of (expression_layer item)) (layer_held items n item got) t d in
+    renamed_alone t other (op_of (expression_layer item)) top.0 (sym top.1) core
 
 -- such a literal has its value
 pub literal_is : (target : Ty) (value : LiteralValue) (number : ℤ) → is_known target ≡ true → in_range target number ≡ true → literal_op value ≡ LiteralOp target (IntValue number) → (target ≡ literal_type value) × (is_literal (literal_type value) (literal_value value) ≡ true)
@@ -184,25 +213,33 @@ pub changed_from : (old new : List AExpr) (table : TypeTable) (n m : ℕ) (from 
 changed_from old new table n m from other target k l is =
     subst (λ (d : DataType). IsChanged old new table (record { input = n; changed = m; from = ty d; target = target })) (type_one table n from other k l) is
 
-pub becomes_of : (table : TypeTable) (n : ℕ) (from : DataType) (target : Ty) → Keeps table n from → IsReady table n target → CanBecome (ty from) target
-becomes_of table n from target k ready = subst (λ (d : DataType). CanBecome (ty d) target) (type_one table n ready.dtype from ready.keeps k) ready.becomes
+pub becomes_of : (table : TypeTable) (n : ℕ) (from : DataType) (target : Ty) → Keeps table n from → IsReady table n target → same_type (ty from) target ≡ false → CanBecome (ty from) target
+becomes_of table n from target k ready other =
+    let one = type_one table n ready.dtype from ready.keeps k in
+    subst (λ (d : DataType). CanBecome (ty d) target) one (⊎_elim
+    (λ kept. absurd (false≢true (sym other ∙ ap (λ (d : DataType). same_type (ty d) target) (sym one) ∙ ap (λ t. same_type t target) kept ∙ same_type_own target)))
+    (λ can. can) ready.becomes)
 
 -- ---- operands one by one
 
--- operands that can become of their types are ready for them
-pub all_ready : (table : TypeTable) (ns : List ℕ) (typed : List Typed) (targets : List Ty) → AllKept table ns typed → AllBecome (types_of typed) targets → AllReady table ns targets
-all_ready table [] [] [] k b = tt
-all_ready table (n ∷ ns) (t ∷ ts) (target ∷ targets) k b =
-    let is = ap (λ (x : Typed). x.type) k.0.is in
-    (record { dtype = k.0.own.dtype; keeps = type_of table n k.0.own k.0.keeps; becomes = subst (λ t. CanBecome t target) (sym is) b.0 }, all_ready table ns ts targets k.1 b.1)
-all_ready table [] [] (target ∷ targets) k b = absurd b
-all_ready table [] (t ∷ ts) targets k b = absurd k
-all_ready table (n ∷ ns) [] targets k b = absurd k
-all_ready table (n ∷ ns) (t ∷ ts) [] k b = absurd b
+ready_to : (own from target : Ty) → TakesTo own from target → (from ≡ target) ⊎ CanBecome from target
+ready_to own from target (makes can) = inr can
+ready_to own from target (passes kept owned) = inl kept
 
-no_more_become : (types : List Ty) → AllBecome types [] → types ≡ []
-no_more_become [] b = refl
-no_more_become (type ∷ types) b = absurd b
+-- operands that can become of their types are ready for them
+pub all_ready : (own : Ty) (table : TypeTable) (ns : List ℕ) (typed : List Typed) (targets : List Ty) → AllKept table ns typed → AllBecome own (types_of typed) targets → AllReady table ns targets
+all_ready own table [] [] [] k b = tt
+all_ready own table (n ∷ ns) (t ∷ ts) (target ∷ targets) k b =
+    let is = ap (λ (x : Typed). x.type) k.0.is in
+    (record { dtype = k.0.own.dtype; keeps = type_of table n k.0.own k.0.keeps; becomes = subst (λ t. (t ≡ target) ⊎ CanBecome t target) (sym is) (ready_to own t.type target b.0) }, all_ready own table ns ts targets k.1 b.1)
+all_ready own table [] [] (target ∷ targets) k b = absurd b
+all_ready own table [] (t ∷ ts) targets k b = absurd k
+all_ready own table (n ∷ ns) [] targets k b = absurd k
+all_ready own table (n ∷ ns) (t ∷ ts) [] k b = absurd b
+
+no_more_become : (own : Ty) (types : List Ty) → AllBecome own types [] → types ≡ []
+no_more_become own [] b = refl
+no_more_become own (type ∷ types) b = absurd b
 
 no_items : (xs : List DataType) → map ty xs ≡ [] → xs ≡ []
 no_items [] e = refl
@@ -212,9 +249,9 @@ same_children : (op : Op) (ts us : Trees Op) → node op ts ≡ node op us → t
 same_children op ts us e = cc
 
 -- operands of which no types are kept are taken as they are
-as_they_are : (listed own targets : List Ty) → listed ≡ [] → AreOperands listed own targets → AllBecome own targets → own ≡ targets
-as_they_are listed own targets none are become = ⊎_elim
-    (λ e. let bare = sym e ∙ none in no_more_become own (subst (AllBecome own) bare become) ∙ sym bare)
+as_they_are : (type : Ty) (listed own targets : List Ty) → listed ≡ [] → AreOperands listed own targets → AllBecome type own targets → own ≡ targets
+as_they_are type listed own targets none are become = ⊎_elim
+    (λ e. let bare = sym e ∙ none in no_more_become type own (subst (AllBecome type own) bare become) ∙ sym bare)
     (λ p. p.1)
     are
 
@@ -232,7 +269,7 @@ module _ (registry : Registry) (schema : Columns) (items : List AExpr) (table : 
       let e = ruled_inputs registry schema items table right n item own got keeps in
       let same = takes_listed some e.typed e.ruling e.kept e.rules in
       let becomes = (keeps_rule registry schema (op_of (expression_layer item)) e.typed e.ruling e.rules).becomes in
-      subst (AllReady table (inputs_of (expression_layer item))) same (all_ready table (inputs_of (expression_layer item)) e.typed e.ruling.operands e.kept becomes)
+      subst (AllReady table (inputs_of (expression_layer item))) same (all_ready e.ruling.own.type table (inputs_of (expression_layer item)) e.typed e.ruling.operands e.kept becomes)
 
   -- and where there are none the node is strict as it is
   pub strict_visits : own.operands.items ≡ [] → (first : ℕ) (t : Expression) → Denotes (HoldsFrom first items) n t → HasKnownType (typing registry schema t) → Visits registry schema first items n t
@@ -246,7 +283,7 @@ module _ (registry : Registry) (schema : Columns) (items : List AExpr) (table : 
       let e = ruled_inputs registry schema items table right n item own got keeps in
       let typed = subst (λ ts. typing_all registry schema ts ≡ Ok e.typed) one (children_kept registry schema items table right inputs plain.0 e.typed plain.2 e.kept) in
       let becomes = (keeps_rule registry schema op e.typed e.ruling e.rules).becomes in
-      let same = as_they_are (map ty own.operands.items) (types_of e.typed) e.ruling.operands (ap (map ty) none) (listed_operands registry schema items table right n item own got keeps e.typed e.ruling e.kept e.rules) becomes in
+      let same = as_they_are e.ruling.own.type (map ty own.operands.items) (types_of e.typed) e.ruling.operands (ap (map ty) none) (listed_operands registry schema items table right n item own got keeps e.typed e.ruling e.kept e.rules) becomes in
       let whole = ap (λ r. then_typed r (typing_rule registry schema op)) typed ∙ ap own_typed e.rules in
       let is = ok_same (typing registry schema t) e.ruling.own has.typed (ap (typing registry schema) top.1 ∙ whole) has.is in
       record {
@@ -278,7 +315,7 @@ ready_there table (m ∷ ns) [] i n t all at = absurd all
 pub ready_at : (old new : TypeTable) (ns : List ℕ) (ts : List DataType) (i n : ℕ) (t copy : DataType) → AllReady old ns (map ty ts) → slice_get ns i ≡ Some n → t ≡ get_or ts i t → ty copy ≡ ty t → Extends old new → IsReady new n (ty copy)
 ready_at old new ns ts i n t copy all at is_t same extends =
     let one = subst (λ (u : DataType). IsReady old n (ty u)) (sym is_t) (ready_there old ns ts i n t all at) in
-    record { dtype = one.dtype; keeps = still_keeps old new extends n one.dtype one.keeps; becomes = subst (CanBecome (ty one.dtype)) (sym same) one.becomes }
+    record { dtype = one.dtype; keeps = still_keeps old new extends n one.dtype one.keeps; becomes = subst (λ t. (ty one.dtype ≡ t) ⊎ CanBecome (ty one.dtype) t) (sym same) one.becomes }
 
 grown_changed : (old mid new : List AExpr) (table : TypeTable) (os : List Operand) → Grows mid new → AllByRecursion (IsChanged old mid table) os → AllByRecursion (IsChanged old new table) os
 grown_changed old mid new table [] g all = tt

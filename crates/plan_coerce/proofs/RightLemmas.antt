@@ -2,22 +2,22 @@
 use Rattle.std.proofs.Common.{reverse, ◌≡◌, ◌≢◌, ◌⊎◌, ℕ, ◌<◌, List, [], ◌∷◌, ◌++◌, length, map, set, true, false, cond, Some, Ok, Err, slice_get, refl, sym, ap, ◌∙◌, subst, arith, zero-le, inl, inr, ⊎_elim}
 use Rattle.std.specs.List.{AllByRecursion}
 use Rattle.std.proofs.lemmas.List.{length-map}
-use Rattle.plan_types.specs.Types.{ty, is_known}
+use Rattle.plan_types.specs.Types.{Ty, ty, is_known}
 use Rattle.plan_types.specs.Casts.{can_cast}
 use Rattle.plan_types.proofs.CommonLemmas.{alone_itself}
 use Rattle.plan_types.specs.declared.error.ErrorKind.TheVariants.{InvalidOperation}
-use Rattle.plan_types.specs.Schemas.{Columns}
+use Rattle.plan_types.specs.Schemas.{Name, Columns}
 use Rattle.plan_types.specs.declared.dtype.DataType.{DataType}
 use Rattle.plan_types.specs.declared.dtype.CastOptions.TheVariants.{NonStrict}
 use Rattle.plan_dsl.specs.declared.literal.LiteralValue.{LiteralValue}
 use Rattle.plan_dsl.specs.Registry.{Registry}
 use Rattle.plan_dsl.specs.Names.{label_of}
 use Rattle.plan_dsl.specs.Trees.{node, no_more, more}
-use Rattle.plan_dsl.specs.Ops.{Op, CastOp, Expression}
+use Rattle.plan_dsl.specs.Ops.{Op, CastOp, AliasOp, Expression}
 use Rattle.plan_dsl.specs.Literals.{literal_op, literal_type, literal_value, is_literal}
 use Rattle.plan_dsl.specs.OperatorTypes.{Taken}
 use Rattle.plan_dsl.specs.Strictness.{as_operand}
-use Rattle.plan_dsl.specs.Typing.{Ruling, Typed, cast_taken, literal_taken, rule, typed_to, types_of, typing}
+use Rattle.plan_dsl.specs.Typing.{Ruling, Typed, aliased, cast_taken, literal_taken, rule, typed_to, types_of, typing}
 use Rattle.plan_dsl.proofs.TypingLemmas.{ok_same}
 use Rattle.plan_dsl.proofs.CastLemmas.{operand_made}
 use Rattle.plan_dsl.proofs.LiteralLemmas.{literal_typing}
@@ -25,7 +25,7 @@ use Rattle.plan_dsl.proofs.OpLemmas.{keeps_rule}
 use Rattle.plan_dsl.proofs.SignatureLemmas.{AllBecome}
 use Rattle.plan_arena.specs.declared.arena.Node.{Node}
 use Rattle.plan_arena.specs.declared.aexpr.AExpr.{AExpr}
-use Rattle.plan_arena.specs.declared.aexpr.AExpr.TheVariants.{Literal, Cast}
+use Rattle.plan_arena.specs.declared.aexpr.AExpr.TheVariants.{Literal, Cast, Alias}
 use Rattle.plan_arena.specs.Denotation.{Denotes, DenotesTree}
 use Rattle.plan_arena.specs.Layers.{layer, shape_of, inputs_of, op_of}
 use Rattle.plan_arena.specs.Items.{HoldsExpression, HoldsFrom, Grows, Rewired, expression_layer}
@@ -102,9 +102,9 @@ right_over registry schema old new final table at op ns ms held g rew d same bel
 
 -- operands that were changed have the types to which they are taken
 module _ (registry : Registry) (schema : Columns) (old new : List AExpr) (table table' : TypeTable) (right : IsRight registry schema old table) (right' : IsRight registry schema new table') where
-  changed_typings : (os : List Operand) (typed typed' : List Typed) → AllKept table (map (λ o. o.input) os) typed → AllKept table' (map (λ o. o.changed) os) typed' → AllByRecursion (IsChanged old new table) os → AllBecome (types_of typed) (map (λ o. o.target) os) → typed' ≡ typed_to typed (map (λ o. o.target) os)
-  changed_typings [] [] [] k k' all become = refl
-  changed_typings (o ∷ os) (t ∷ ts) (u ∷ us) k k' all become =
+  changed_typings : (type : Ty) (os : List Operand) (typed typed' : List Typed) → AllKept table (map (λ o. o.input) os) typed → AllKept table' (map (λ o. o.changed) os) typed' → AllByRecursion (IsChanged old new table) os → AllBecome type (types_of typed) (map (λ o. o.target) os) → typed' ≡ typed_to typed (map (λ o. o.target) os)
+  changed_typings type [] [] [] k k' all become = refl
+  changed_typings type (o ∷ os) (t ∷ ts) (u ∷ us) k k' all become =
       let e = right.each o.input k.0.own k.0.keeps in
       let is = e.typed ∙ ap Ok k.0.is in
       let own = type_of table o.input k.0.own k.0.keeps in
@@ -112,12 +112,12 @@ module _ (registry : Registry) (schema : Columns) (old new : List AExpr) (table 
       let made = all.0.denotes 0 e.tree zero-le (from_zero old o.input e.tree e.denotes) in
       let there = subst (λ f. Denotes (HoldsFrom 0 new) o.changed (as_operand f o.target e.tree)) (sym from) made in
       let found = kept_typing registry schema new table' right' o.changed k'.0.own k'.0.keeps (as_operand t.type o.target e.tree) (any_node 0 new o.changed _ there) ∙ ap Ok k'.0.is in
-      let one = ok_same (typing registry schema (as_operand t.type o.target e.tree)) u (record { type = o.target; many = t.many }) found (operand_made registry schema o.target e.tree t.many t.type is become.0).typing in
-      ap (λ x. x ∷ us) one ∙ ap (λ xs. record { type = o.target; many = t.many } ∷ xs) (changed_typings os ts us k.1 k'.1 all.1 become.1)
-  changed_typings [] [] (u ∷ us) k k' all become = absurd k'
-  changed_typings [] (t ∷ ts) typed' k k' all become = absurd k
-  changed_typings (o ∷ os) [] typed' k k' all become = absurd k
-  changed_typings (o ∷ os) (t ∷ ts) [] k k' all become = absurd k'
+      let one = ok_same (typing registry schema (as_operand t.type o.target e.tree)) u (record { type = o.target; many = t.many }) found (operand_made registry schema o.target e.tree t.many type t.type is become.0).typing in
+      ap (λ x. x ∷ us) one ∙ ap (λ xs. record { type = o.target; many = t.many } ∷ xs) (changed_typings type os ts us k.1 k'.1 all.1 become.1)
+  changed_typings type [] [] (u ∷ us) k k' all become = absurd k'
+  changed_typings type [] (t ∷ ts) typed' k k' all become = absurd k
+  changed_typings type (o ∷ os) [] typed' k k' all become = absurd k
+  changed_typings type (o ∷ os) (t ∷ ts) [] k k' all become = absurd k'
 
   -- so the node's rule takes them to the same
   operands_after : (at : ℕ) (item : AExpr) (own : Inferred) (ms : List ℕ) → slice_get old at ≡ Some item → KeepsEntry table at own → TakesTo registry schema table item (map ty own.operands.items) → AreChanged old new table (inputs_of (expression_layer item)) ms (map ty own.operands.items) → (typed : List Typed) (ruling : Ruling) → AllKept table' ms typed → rule registry schema (op_of (expression_layer item)) typed ≡ Ok ruling → AreOperands (map ty own.operands.items) (types_of typed) ruling.operands
@@ -126,8 +126,8 @@ module _ (registry : Registry) (schema : Columns) (old new : List AExpr) (table 
       let e = ruled_inputs registry schema old table right at item own got k in
       let targets = takes e.typed e.ruling e.kept e.rules in
       let keeps = keeps_rule registry schema op e.typed e.ruling e.rules in
-      let become = subst (AllBecome (types_of e.typed)) (targets ∙ sym c.targets_are) keeps.becomes in
-      let is = changed_typings c.operands e.typed typed (subst (λ ns. AllKept table ns e.typed) (sym c.inputs_are) e.kept) (subst (λ ns. AllKept table' ns typed) (sym c.changed_are) kept) c.each become in
+      let become = subst (AllBecome e.ruling.own.type (types_of e.typed)) (targets ∙ sym c.targets_are) keeps.becomes in
+      let is = changed_typings e.ruling.own.type c.operands e.typed typed (subst (λ ns. AllKept table ns e.typed) (sym c.inputs_are) e.kept) (subst (λ ns. AllKept table' ns typed) (sym c.changed_are) kept) c.each become in
       let again = ap (rule registry schema op) (is ∙ ap (typed_to e.typed) (c.targets_are ∙ sym targets)) ∙ keeps.stays in
       let one = ok_same (rule registry schema op typed) ruling e.ruling rules again in
       inl (sym targets ∙ ap (λ (r : Ruling). r.operands) (sym one))
@@ -154,6 +154,17 @@ right_cast registry schema old new table table' input n from own target grown at
     let takes = ap (cast_taken (ty target)) (alone_itself (ty from.dtype) known) ∙ ap (λ b. cond b (Ok taken) (Err InvalidOperation)) casts in
     let ruled = cast_ruled registry schema (ty target) NonStrict (typed_of from) taken own takes (sym same) many (inr (ap (map ty) none, refl)) in
     right_added registry schema old new table table' n.0 (Cast input target NonStrict) (CastOp (ty target) NonStrict) (input.0 ∷ []) own grown at refl stays only tree (record { own = from; keeps = keeps }, tt) (λ typed k. subst (λ ts. IsRuled registry schema (CastOp (ty target) NonStrict) ts own) (kept_one table (input.0 ∷ []) (typed_of from ∷ []) typed (record { own = from; keeps = keeps; is = refl }, tt) k) ruled) (by_first input.0 [] from refl keeps (ap (λ (m : Node). m.0) name) (λ names. refl)) right
+
+-- an alias that was added of a node
+pub right_alias : (registry : Registry) (schema : Columns) (old new : List AExpr) (table table' : TypeTable) (input n : Node) (name : Name) (from own : Inferred) → new ≡ old ++ Alias input name ∷ [] → n.0 ≡ length old → KeepsEntry table input.0 from → ty own.dtype ≡ ty from.dtype → own.name ≡ n → own.many ≡ from.many → own.operands.items ≡ [] → ((n : ℕ) (other : Inferred) → KeepsEntry table n other → KeepsEntry table' n other) → ((m : ℕ) (other : Inferred) → KeepsEntry table' m other → KeepsEntry table m other ⊎ ((m ≡ n.0) × (other ≡ own))) → IsRight registry schema old table → IsRight registry schema new table'
+right_alias registry schema old new table table' input n name from own grown at keeps same called many none stays only right =
+    let g : Grows old new = record { added = Alias input name ∷ []; longer = grown } in
+    let below = (right_grown registry schema old new table g right).each input.0 from keeps in
+    let held = held_there registry schema old new table table' n.0 (Alias input name) (AliasOp name) (input.0 ∷ []) own grown at refl stays only in
+    let tree : DenotesTree (HoldsExpression new) n.0 = record { tree = node (AliasOp name) (more below.tree no_more); denotes = (input.0 ∷ [], held, (below.denotes, tt)) } in
+    let is : typed_of from ≡ typed_of own = λ i. record { type = sym same i; many = sym many i } in
+    let ruled : IsRuled registry schema (AliasOp name) (typed_of from ∷ []) own = record { ruling = aliased (typed_of from); rules = refl; is = is; operands = inr (ap (map ty) none, refl) } in
+    right_added registry schema old new table table' n.0 (Alias input name) (AliasOp name) (input.0 ∷ []) own grown at refl stays only tree (record { own = from; keeps = keeps }, tt) (λ typed k. subst (λ ts. IsRuled registry schema (AliasOp name) ts own) (kept_one table (input.0 ∷ []) (typed_of from ∷ []) typed (record { own = from; keeps = keeps; is = refl }, tt) k) ruled) (by_itself (ap (λ (m : Node). m.0) called) (λ names. refl)) right
 
 -- a literal that was added
 pub right_literal : (registry : Registry) (schema : Columns) (old new : List AExpr) (table table' : TypeTable) (n : Node) (value : LiteralValue) (own : Inferred) → new ≡ old ++ Literal value ∷ [] → n.0 ≡ length old → ty own.dtype ≡ literal_type value → own.name ≡ n → own.many ≡ false → own.operands.items ≡ [] → is_literal (literal_type value) (literal_value value) ≡ true → ((n : ℕ) (other : Inferred) → KeepsEntry table n other → KeepsEntry table' n other) → ((m : ℕ) (other : Inferred) → KeepsEntry table' m other → KeepsEntry table m other ⊎ ((m ≡ n.0) × (other ≡ own))) → IsRight registry schema old table → IsRight registry schema new table'

@@ -1,6 +1,6 @@
 -- What coercion leaves.
 -- A node that was visited is strict over its inputs, and says the same as before. Other items stay.
-use Rattle.std.specs.Prelude.{◌≡◌, ◌≤◌, ℕ, true, false, List, [], ◌∷◌, length, map, Result, Ok, Err}
+use Rattle.std.specs.Prelude.{◌≡◌, ◌≤◌, ◌⊎◌, ℕ, true, false, List, [], ◌∷◌, length, map, Result, Ok, Err}
 use Rattle.plan_types.specs.declared.error.ErrorKind.{ErrorKind}
 use Rattle.plan_dsl.specs.Typing.{Typed, Ruling, rule, types_of, typing_all}
 use Rattle.std.specs.List.{AllByRecursion}
@@ -60,11 +60,11 @@ pub record Visits (registry : Registry) (schema : Columns) (first : ℕ) (items 
   pub same : IsAlike registry schema before (node op children)
   pub strict : IsStrictOver registry schema op children
 
--- the operand at a node can be made of the type
+-- the operand at a node has the type, or can be made of it
 pub record IsReady (table : TypeTable) (n : ℕ) (target : Ty) : Type 0 where
   pub dtype : DataType
   pub keeps : Keeps table n dtype
-  pub becomes : CanBecome (ty dtype) target
+  pub becomes : (ty dtype ≡ target) ⊎ CanBecome (ty dtype) target
 
 -- operands at nodes, one by one
 abbrev pub AllReady : TypeTable → List ℕ → List Ty → Type 0

@@ -10,13 +10,14 @@ ghost use Rattle.plan_types.specs.Casts.{can_cast};
 ghost use Rattle.plan_types.specs.declared.dtype.CastOptions.TheVariants.{NonStrict};
 ghost use Rattle.plan_types.specs.declared.dtype.DataType.{DataType};
 ghost use Rattle.plan_dsl.specs.Literals.{is_literal, literal_op, literal_type, literal_value, settled_type};
-ghost use Rattle.plan_dsl.specs.Ops.{CastOp, Expression, LiteralOp, Op};
+ghost use Rattle.plan_dsl.specs.Aliases.{renamed};
+ghost use Rattle.plan_dsl.specs.Ops.{AliasOp, CastOp, Expression, LiteralOp, Op};
 ghost use Rattle.plan_dsl.specs.Strictness.{CanBecome, cast_to, integer_has, number_as, number_literal};
 ghost use Rattle.plan_dsl.specs.Registry.{Registry};
 ghost use Rattle.plan_dsl.specs.Trees.{node, no_more, more};
 ghost use Rattle.plan_dsl.specs.Typing.{typing};
 ghost use Rattle.plan_arena.specs.declared.aexpr.AExpr.{AExpr};
-ghost use Rattle.plan_arena.specs.Denotation.{Denotes};
+ghost use Rattle.plan_arena.specs.Denotation.{Denotes, DenotesTree};
 ghost use Rattle.plan_arena.specs.Items.{Grows, HoldsExpression, HoldsFrom, numbers};
 ghost use Rattle.plan_infer.specs.declared.type_table.Inferred.{Inferred};
 ghost use Rattle.plan_infer.specs.KeptTypes.{Extends, HasRightTypes, IsKept, IsRight, Keeps, KeepsEntry};
@@ -32,6 +33,7 @@ use plan_infer::type_table::{Inferred, TypeTable};
 use plan_types::common_type::materialize_dyn_int;
 use plan_types::dtype::{CastOptions, DataType};
 use plan_types::error::PlanError;
+use plan_types::text::PlSmallStr;
 use smallvec::SmallVec;
 
 /// Makes the operands of the node of the types to which it takes them, where theirs are others.
@@ -126,8 +128,44 @@ fn operand_to(
             Ok(cast)
         }
         Some(number) => {
+            let made = number_under(node, number, target, arena, types)?;
+            Ok(made)
+        }
+    }
+}
+
+// Adds a number without a type, made of the type, under the aliases that the node has.
+fn number_under(
+    node: Node,
+    number: i128,
+    target: DataType,
+    arena: &mut Arena<AExpr>,
+    types: &mut TypeTable,
+) -> Result<Node, PlanError>
+    requires tree { DenotesTree (HoldsExpression arena.old) node.0 }
+    requires becomes { CanBecome (Untyped number) (ty target) }
+    ensures denotes { IfOk result (λ made. (first : ℕ) (t : Expression) → first ≤ length arena.old → Denotes (HoldsFrom first arena.old) node.0 t →
+        Denotes (HoldsFrom first arena.new) made.0 (renamed t (number_as number (ty target)))) }
+    ensures fresh { IfOk result (λ made. length arena.old ≤ made.0) }
+    ensures right { OnOk result ((registry : Registry) (schema : Columns) →
+        IsRight registry schema arena.old types.old → IsRight registry schema arena.new types.new) }
+    ensures kept { IfOk result (λ made. IsKept types.new made.0) }
+    ensures closed { OnOk result ((start : List AExpr) (roots : List ℕ) → length start ≤ length arena.old →
+        IsClosed start roots arena.old → IsClosed start roots arena.new) }
+    ensures extends { OnOk result (Extends types.old types.new) }
+    ensures grows { Grows arena.old arena.new }
+    ensures err { IfErr result (λ error. error ≡ no_memory) }
+{
+    match arena.get(node).alias() {
+        None => {
             let made = number_to(number, target, arena, types)?;
             Ok(made)
+        }
+        Some((below, name)) => {
+            let name = name.try_clone(arena.allocator())?;
+            let made = number_under(below, number, target, arena, types)?;
+            let alias = add_alias(made, name, arena, types)?;
+            Ok(alias)
         }
     }
 }
@@ -242,6 +280,40 @@ fn add_cast(
     })?;
     types.keep(cast, own)?;
     Ok(cast)
+}
+
+// Adds an alias of a node. Its type is kept.
+fn add_alias(
+    input: Node,
+    name: PlSmallStr,
+    arena: &mut Arena<AExpr>,
+    types: &mut TypeTable,
+) -> Result<Node, PlanError>
+    requires { IsKept types.old input.0 }
+    ensures denotes { IfOk result (λ alias. (first : ℕ) (t : Expression) → first ≤ length arena.old → Denotes (HoldsFrom first arena.old) input.0 t →
+        Denotes (HoldsFrom first arena.new) alias.0 (node (AliasOp name) (more t no_more))) }
+    ensures fresh { IfOk result (λ alias. alias.0 ≡ length arena.old) }
+    ensures right { OnOk result ((registry : Registry) (schema : Columns) →
+        IsRight registry schema arena.old types.old → IsRight registry schema arena.new types.new) }
+    ensures kept { IfOk result (λ alias. IsKept types.new alias.0) }
+    ensures closed { OnOk result ((start : List AExpr) (roots : List ℕ) → Near start roots input.0 →
+        IsClosed start roots arena.old → IsClosed start roots arena.new) }
+    ensures extends { OnOk result (Extends types.old types.new) }
+    ensures grows { Grows arena.old arena.new }
+    ensures err { IfErr result (λ error. error ≡ no_memory) }
+{
+    let from = types.get(input);
+    let dtype = from.dtype.try_clone(arena.allocator())?;
+    let many = from.many;
+    let alias = arena.add(AExpr::Alias(input, name))?;
+    let own = Inferred {
+        name: alias,
+        dtype,
+        many,
+        operands: Vec::new(arena.allocator()),
+    };
+    types.keep(alias, own)?;
+    Ok(alias)
 }
 
 // Adds a literal. Its type is kept.

@@ -150,7 +150,7 @@ module _ (registry : Registry) (schema : Columns) (number : ℤ) (many : Bool) (
             (alias_made registry schema (Untyped number) target many name tree (renamed tree (number_as number target)) typed (each name tree over typed)))
       ]
 
-  number_made : (tree : Expression) → typing registry schema tree ≡ Ok (record { type = Untyped number; many = many }) → IsNumberMade tree
+  pub number_made : (tree : Expression) → typing registry schema tree ≡ Ok (record { type = Untyped number; many = many }) → IsNumberMade tree
   number_made (node op (more child no_more)) h =
       node_made op (more child no_more) h (λ name tree over typed. let same = child_is child tree over in subst IsNumberMade same (number_made child (ap (typing registry schema) same ∙ typed)))
   number_made (node op children) h = node_made op children h (λ name tree over typed. cc)

@@ -23,7 +23,7 @@ use Rattle.plan_dsl.proofs.SignatureLemmas.{AllBecome, takes_known}
 
 -- ---- operands one by one
 
-types_are : (own : Ty) (typed : List Typed) (targets : List Ty) → AllBecome own (types_of typed) targets → types_of (typed_to typed targets) ≡ targets
+pub types_are : (own : Ty) (typed : List Typed) (targets : List Ty) → AllBecome own (types_of typed) targets → types_of (typed_to typed targets) ≡ targets
 types_are own [] [] h = refl
 types_are own [] (target ∷ targets) h = absurd h
 types_are own (t ∷ ts) [] h = absurd h
