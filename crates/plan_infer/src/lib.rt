@@ -5,6 +5,7 @@ mod examples;
 pub mod field;
 pub mod names;
 pub mod operator_types;
+mod signed;
 pub mod steps;
 pub mod type_table;
 pub mod typing;
