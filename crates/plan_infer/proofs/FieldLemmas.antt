@@ -1,12 +1,9 @@
 -- The name of a node, from the item that gives it.
-use Rattle.std.proofs.Common.{◌≡◌, ℕ, ◌<◌, List, [], ◌∷◌, length, map, Some, slice_get, refl, sym, ap, ◌∙◌, arith}
+use Rattle.std.proofs.Common.{◌≡◌, ℕ, ◌<◌, List, length, map, Some, slice_get, ap, ◌∙◌, arith}
 use Rattle.std.proofs.lemmas.List.{length-map}
-use Rattle.plan_types.specs.declared.text.PlSmallStr.{PlSmallStr}
-use Rattle.plan_dsl.specs.declared.literal.LiteralValue.{LiteralValue}
-use Rattle.plan_dsl.specs.Names.{Label, column_label, label_of, op_label}
+use Rattle.plan_dsl.specs.Names.{Label, label_of, op_label}
 use Rattle.plan_dsl.specs.Ops.{Expression}
 use Rattle.plan_arena.specs.declared.aexpr.AExpr.{AExpr}
-use Rattle.plan_arena.specs.declared.aexpr.AExpr.TheVariants.{Column, Literal, Len}
 use Rattle.plan_arena.specs.Layers.{inputs_of, layer, op_of, shape_of}
 use Rattle.plan_arena.specs.Items.{expression_layer}
 use Rattle.plan_arena.proofs.DenotationLemmas.{some_same}

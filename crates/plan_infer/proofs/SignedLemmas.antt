@@ -21,7 +21,7 @@ use Rattle.plan_dsl.specs.Typing.{Typed, first_of, many_of, own_over, rule, sign
 use Rattle.plan_dsl.proofs.SignatureLemmas.{is_signed}
 use Rattle.plan_arena.specs.declared.arena.Node.{Node}
 use Rattle.plan_arena.specs.declared.aexpr.AExpr.{AExpr}
-use Rattle.plan_arena.specs.declared.aexpr.AExpr.TheVariants.{Column, Literal, BinaryExpr, Cast, Len}
+use Rattle.plan_arena.specs.declared.aexpr.AExpr.TheVariants.{Column, Literal, BinaryExpr, Cast, Len, Alias}
 use Rattle.plan_arena.specs.Layers.{Layer, layer, op_of, inputs_of}
 use Rattle.plan_arena.specs.Items.{expression_layer, numbers}
 use Rattle.plan_infer.specs.declared.type_table.Inferred.{Inferred}
@@ -154,6 +154,7 @@ pub record IsSignedItem (item : AExpr) : Type 0 where
   pub no_literal : (value : _) → item ≢ Literal value
   pub no_operator : (left : _) (operator : _) (right : _) → item ≢ BinaryExpr left operator right
   pub no_cast : (expr : _) (dtype : _) (options : _) → item ≢ Cast expr dtype options
+  pub no_alias : (expr : _) (name : _) → item ≢ Alias expr name
 
 -- any other goes by its signature
 pub by_signature : (item : AExpr) → IsSignedItem item → (registry : Registry) (schema : Columns) (typed : List Typed) → rule registry schema (op_of (expression_layer item)) typed ≡ signed (signature (op_of (expression_layer item)) (length typed)) typed
@@ -161,6 +162,7 @@ by_signature (Column name) is registry schema typed = absurd (is.no_column name 
 by_signature (Literal value) is registry schema typed = absurd (is.no_literal value refl)
 by_signature (BinaryExpr left operator right) is registry schema typed = absurd (is.no_operator left operator right refl)
 by_signature (Cast expr dtype options) is registry schema typed = absurd (is.no_cast expr dtype options refl)
+by_signature (Alias expr name) is registry schema typed = absurd (is.no_alias expr name refl)
 by_signature _ is registry schema typed = refl
 
 -- and has the name of its first input, or one of its own where it has none
@@ -170,6 +172,7 @@ name_of_first (Column name) is = absurd (is.no_column name refl)
 name_of_first (Literal value) is = absurd (is.no_literal value refl)
 name_of_first (BinaryExpr left operator right) is = absurd (is.no_operator left operator right refl)
 name_of_first (Cast expr dtype options) is = absurd (is.no_cast expr dtype options refl)
+name_of_first (Alias expr name) is = absurd (is.no_alias expr name refl)
 name_of_first Len is = inl (refl, λ names. refl)
 name_of_first _ is = inr (_, _, refl, λ names. refl)
 

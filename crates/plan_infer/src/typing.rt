@@ -1,11 +1,11 @@
 //! Types of expressions in an arena.
 ghost use Rattle.std.specs.Prelude.{◌≡◌, ◌≤◌, ◌+◌, ◌⊎◌, ◌||◌, ℕ, false, length, OnErr, [], Ok, IfOk, IfErr, OnOk};
 ghost use Rattle.std.specs.List.{AllByRecursion};
-ghost use Rattle.plan_types.specs.Errors.{IsRefusal};
-ghost use Rattle.plan_types.specs.Schemas.{Columns, columns};
+ghost use Rattle.plan_types.specs.Errors.{IsRefusal, no_memory};
+ghost use Rattle.plan_types.specs.Schemas.{Columns, Name, columns};
 ghost use Rattle.plan_types.specs.Types.{ty};
 ghost use Rattle.plan_types.specs.declared.dtype.CastOptions.{CastOptions};
-ghost use Rattle.plan_dsl.specs.Ops.{ColumnOp, BinaryOp, CastOp, Expression};
+ghost use Rattle.plan_dsl.specs.Ops.{AliasOp, ColumnOp, BinaryOp, CastOp, Expression};
 ghost use Rattle.plan_dsl.specs.Registry.{Registry, registry};
 ghost use Rattle.plan_dsl.specs.Literals.{literal_op, literal_type, literal_value};
 ghost use Rattle.plan_dsl.specs.Typing.{typing, typing_rule, literal_taken};
@@ -87,6 +87,7 @@ fn own_typing(
         AExpr::Literal(value) => literal_typing(node, value, alloc),
         AExpr::BinaryExpr { op, .. } => binary_typing(*op, inputs, types, alloc),
         AExpr::Cast { dtype, .. } => cast_typing(dtype, inputs, types, alloc),
+        AExpr::Alias(..) => alias_typing(node, inputs, types, alloc),
         _ => signed_typing(node, signature(item), inputs, types, alloc),
     }
 }
@@ -194,6 +195,29 @@ fn cast_typing(
         dtype,
         many: from.many,
         operands: unless_own(targets, inputs, types),
+    })
+}
+
+// An alias passes its operand on.
+fn alias_typing(
+    node: Node,
+    inputs: &[Node],
+    types: &TypeTable,
+    alloc: Global,
+) -> Result<Inferred, PlanError>
+    requires one { length inputs.now ≡ 1 }
+    requires inputs { AllByRecursion (IsKept types.now) (numbers inputs.now) }
+    ensures ok { IfOk result (λ own. (registry : Registry) (schema : Columns) (name : Name) → IsRuled registry schema (AliasOp name) (typings_at types.now (numbers inputs.now)) own) }
+    ensures name { IfOk result (λ own. own.name ≡ node) }
+    ensures err { IfErr result (λ error. error ≡ no_memory) }
+{
+    let from = types.get(inputs[0]);
+    let dtype = from.dtype.try_clone(alloc)?;
+    Ok(Inferred {
+        name: node,
+        dtype,
+        many: from.many,
+        operands: Vec::new(alloc),
     })
 }
 

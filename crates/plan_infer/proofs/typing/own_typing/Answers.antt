@@ -1,5 +1,6 @@
 use Rattle.std.proofs.Common.{[], ◌∷◌, IfOk, IfErr, sym, ap, ◌∙◌, subst}
-use Rattle.plan_types.specs.Errors.{IsRefusal}
+use Rattle.plan_types.specs.Errors.{IsRefusal, no_room}
+use Rattle.plan_arena.specs.declared.arena.Node.{Node}
 use Rattle.plan_types.specs.Schemas.{columns}
 use Rattle.plan_dsl.specs.Registry.{registry}
 use Rattle.plan_dsl.specs.Literals.{literal_op}
@@ -8,7 +9,7 @@ use Rattle.plan_dsl.specs.Ops.{ColumnOp}
 use Rattle.plan_dsl.specs.Typing.{own_typed, typing_rule}
 use Rattle.plan_arena.specs.Layers.{op_of, inputs_of}
 use Rattle.plan_arena.specs.Items.{expression_layer, numbers}
-use Rattle.plan_infer.specs.KeptTypes.{IsRuled, Says, typings_at}
+use Rattle.plan_infer.specs.KeptTypes.{IsRuled, Says, by_itself, typings_at}
 use Rattle.plan_infer.proofs.TypingLemmas.{if_err, if_ok, refused_so}
 use Rattle.plan_infer.proofs.SignedLemmas.{IsSignedItem, item_signed, named_over, named_signed, over_item}
 use Rattle.plan_infer.proofs.typing.own_typing.Goals as goal
@@ -55,19 +56,31 @@ pub returns-in-Cast-clause-err : goal.returns-in-Cast-clause-err
 returns-in-Cast-clause-err c =
     subst (λ op. IfErr c.cast_typing.result (IsRefusal (typing_rule (registry c.args.udfs.now) (columns c.args.schema.now) op (typings_at c.args.types.now (numbers c.args.inputs.now))))) (sym (ap op_of (ap expression_layer c.in-Cast.is))) (if_err c.cast_typing.result _ _ (λ error h. h (registry c.args.udfs.now) (columns c.args.schema.now) c.in-Cast.options) c.cast_typing.ensures.err)
 
+pub returns-in-Alias-clause-ok : goal.returns-in-Alias-clause-ok
+returns-in-Alias-clause-ok c =
+    subst (λ op. IfOk c.alias_typing.result (IsRuled (registry c.args.udfs.now) (columns c.args.schema.now) op (typings_at c.args.types.now (numbers c.args.inputs.now)))) (sym (ap op_of (ap expression_layer c.in-Alias.is))) (if_ok c.alias_typing.result _ _ (λ own h. h (registry c.args.udfs.now) (columns c.args.schema.now) c.in-Alias.field-1) c.alias_typing.ensures.ok)
+
+pub returns-in-Alias-clause-name : goal.returns-in-Alias-clause-name
+returns-in-Alias-clause-name c =
+    let is = ap expression_layer c.in-Alias.is in
+    if_ok c.alias_typing.result _ _ (λ own named. by_itself (ap (λ (n : Node). n.0) named) (λ names. ap (λ l. op_label (op_of l) names) is ∙ sym (ap (λ l. op_label (op_of l) []) is))) c.alias_typing.ensures.name
+
+pub returns-in-Alias-clause-err : goal.returns-in-Alias-clause-err
+returns-in-Alias-clause-err c = if_err c.alias_typing.result _ _ (λ error none. no_room none) c.alias_typing.ensures.err
+
 pub returns-in_default-clause-ok : goal.returns-in_default-clause-ok
 returns-in_default-clause-ok c =
-    let is : IsSignedItem c.args.item.now = record { no_column = c.in_default.not-Column; no_literal = c.in_default.not-Literal; no_operator = c.in_default.not-BinaryExpr; no_cast = c.in_default.not-Cast } in
+    let is : IsSignedItem c.args.item.now = record { no_column = c.in_default.not-Column; no_literal = c.in_default.not-Literal; no_operator = c.in_default.not-BinaryExpr; no_cast = c.in_default.not-Cast; no_alias = c.in_default.not-Alias } in
     let typed = typings_at c.args.types.now (numbers c.args.inputs.now) in
     subst (λ found. IfOk c.signed_typing.result (Says found typed)) (item_signed c.args.item.now is (registry c.args.udfs.now) (columns c.args.schema.now) c.args.types.now (numbers c.args.inputs.now) c.signature.result c.requires.listed c.signature.ensures) c.signed_typing.ensures.ok
 
 pub returns-in_default-clause-name : goal.returns-in_default-clause-name
 returns-in_default-clause-name c =
-    let is : IsSignedItem c.args.item.now = record { no_column = c.in_default.not-Column; no_literal = c.in_default.not-Literal; no_operator = c.in_default.not-BinaryExpr; no_cast = c.in_default.not-Cast } in
+    let is : IsSignedItem c.args.item.now = record { no_column = c.in_default.not-Column; no_literal = c.in_default.not-Literal; no_operator = c.in_default.not-BinaryExpr; no_cast = c.in_default.not-Cast; no_alias = c.in_default.not-Alias } in
     if_ok c.signed_typing.result _ _ (λ own named. named_signed c.args.item.now c.args.types.now c.args.node.0 own.name.0 (numbers c.args.inputs.now) is c.requires.listed c.requires.inputs named) c.signed_typing.ensures.name
 
 pub returns-in_default-clause-err : goal.returns-in_default-clause-err
 returns-in_default-clause-err c =
-    let is : IsSignedItem c.args.item.now = record { no_column = c.in_default.not-Column; no_literal = c.in_default.not-Literal; no_operator = c.in_default.not-BinaryExpr; no_cast = c.in_default.not-Cast } in
+    let is : IsSignedItem c.args.item.now = record { no_column = c.in_default.not-Column; no_literal = c.in_default.not-Literal; no_operator = c.in_default.not-BinaryExpr; no_cast = c.in_default.not-Cast; no_alias = c.in_default.not-Alias } in
     let same = item_signed c.args.item.now is (registry c.args.udfs.now) (columns c.args.schema.now) c.args.types.now (numbers c.args.inputs.now) c.signature.result c.requires.listed c.signature.ensures in
     if_err c.signed_typing.result _ _ (λ error refused. refused_so _ _ error (λ kind e. ap own_typed (sym same ∙ e)) refused) c.signed_typing.ensures.err
