@@ -25,7 +25,7 @@ use Rattle.plan_dsl.proofs.CastLemmas.{number_made}
 use Rattle.plan_dsl.proofs.TypingLemmas.{by_children, by_no_children}
 use Rattle.plan_dsl.proofs.CastMeaningLemmas.{if_true}
 use Rattle.plan_dsl.proofs.OpLemmas.{keeps_rule}
-use Rattle.plan_dsl.proofs.SignatureLemmas.{AllBecome, TakesTo, makes, passes}
+use Rattle.plan_dsl.proofs.SignatureLemmas.{AllBecome, IsTakenTo, makes, passes}
 use Rattle.plan_dsl.proofs.OperandLemmas.{after_typed, operands_same, types_are}
 use Rattle.plan_dsl.proofs.SameLemmas.{node_same, typings_same, same_itself, same_then}
 use Rattle.plan_dsl.proofs.StrictLemmas.{strict_parts}
@@ -128,7 +128,7 @@ module _ (registry : Registry) (schema : Columns) where
           | under name tree op_is over typed ↦
               let after = (number_made registry schema number many target can tree typed).typing in
               let here : coerced registry schema (made (alias name tree)) ≡ made (coerced registry schema (alias name tree)) =
-                  alias_coerced name (made tree) _ after ∙ ap (alias name) (each name tree over typed) ∙ sym (ap made (alias_coerced name tree _ typed)) in
+              alias_coerced name (made tree) _ after ∙ ap (alias name) (each name tree over typed) ∙ sym (ap made (alias_coerced name tree _ typed)) in
               subst (λ o. coerced registry schema (made (node o children)) ≡ made (coerced registry schema (node o children))) (sym op_is) (subst (λ c. coerced registry schema (made (node (AliasOp name) c)) ≡ made (coerced registry schema (node (AliasOp name) c))) (sym over) here)
         ]
 
@@ -142,7 +142,7 @@ module _ (registry : Registry) (schema : Columns) where
   changed_coerced from target tree many is can =
       let casts = can.casts (λ number e. cc) in cast_coerced from target tree many is (source_known from target casts) casts
 
-  operand_coerced : (own from target : Ty) (tree : Expression) (many : Bool) → typing registry schema tree ≡ Ok (record { type = from; many = many }) → TakesTo own from target → coerced registry schema (as_operand from target tree) ≡ as_operand from target (coerced registry schema tree)
+  operand_coerced : (own from target : Ty) (tree : Expression) (many : Bool) → typing registry schema tree ≡ Ok (record { type = from; many = many }) → IsTakenTo own from target → coerced registry schema (as_operand from target tree) ≡ as_operand from target (coerced registry schema tree)
   operand_coerced own from target tree many is (passes kept owned) =
       let same = ap (same_type from) (sym kept) ∙ same_type_own from in
       subst (λ b. coerced registry schema (cond b tree (changed from target tree)) ≡ cond b (coerced registry schema tree) (changed from target (coerced registry schema tree))) (sym same) refl

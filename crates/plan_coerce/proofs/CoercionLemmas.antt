@@ -1,8 +1,9 @@
 -- What the visit of a node leaves.
-use Rattle.std.proofs.Common.{◌≡◌, ◌≢◌, ℕ, ◌<◌, ◌≤◌, true, false, cond, List, [], ◌∷◌, ◌++◌, length, set, Some, Ok, refl, sym, ap, ◌∙◌, subst, arith, map, zero, suc, ◌+◌, take, get_or, slice_get, ⊎_elim}
+use Rattle.std.proofs.Common.{◌≡◌, ◌≢◌, ℕ, ◌<◌, ◌≤◌, true, false, cond, List, [], ◌∷◌, ◌++◌, length, set, Some, Ok, refl, sym, ap, ◌∙◌, subst, arith, map, zero, suc, ◌+◌, take, get_or, slice_get, ⊎_elim, ◌⊎◌, inl, inr}
 use Rattle.std.specs.Prelude.{ℤ, ◌&&◌, unwrap_or}
 use Rattle.std.proofs.lemmas.Bool.{false≢true}
 use Rattle.plan_types.specs.Types.{Ty, Integer, Untyped, ty, is_counted, is_integer, is_known, same_type}
+use Rattle.plan_types.specs.TypeLaws.{same_type_own}
 use Rattle.plan_types.specs.CommonTypes.{type_alone}
 use Rattle.plan_types.specs.Schemas.{Name, Columns}
 use Rattle.plan_types.specs.Values.{Val, IntValue, in_range}
@@ -12,9 +13,10 @@ use Rattle.plan_types.specs.declared.dtype.CastOptions.TheVariants.{NonStrict}
 use Rattle.plan_dsl.specs.declared.literal.LiteralValue.{LiteralValue}
 use Rattle.plan_dsl.specs.Registry.{Registry}
 use Rattle.plan_dsl.specs.Trees.{Trees, node, no_more, more, tree_depth, trees_depth}
-use Rattle.plan_dsl.specs.Ops.{Op, LiteralOp, CastOp, Expression}
+use Rattle.plan_dsl.specs.Ops.{Op, LiteralOp, CastOp, AliasOp, Expression}
 use Rattle.plan_dsl.specs.Literals.{is_literal, literal_op, literal_type, literal_value, settled_type}
 use Rattle.plan_dsl.proofs.LiteralLemmas.{becomes_literal}
+use Rattle.plan_dsl.specs.Aliases.{is_core_op, renamed}
 use Rattle.plan_dsl.specs.Typing.{Typed, own_typed, then_typed, typing, typing_all, typing_rule, types_of, Ruling, rule}
 use Rattle.plan_dsl.proofs.StrictLemmas.{strict_from}
 use Rattle.plan_dsl.specs.Strictness.{CanBecome, cast_to, changed, integer_has, number_as, number_literal, as_operand, as_operands, IsStrictOver}
@@ -23,7 +25,7 @@ use Rattle.plan_dsl.proofs.CastMeaningLemmas.{if_true, if_false}
 use Rattle.plan_dsl.proofs.OperandLemmas.{operands_strict}
 use Rattle.plan_arena.specs.declared.arena.Node.{Node}
 use Rattle.plan_arena.specs.declared.aexpr.AExpr.{AExpr}
-use Rattle.plan_arena.specs.declared.aexpr.AExpr.TheVariants.{Literal, Cast}
+use Rattle.plan_arena.specs.declared.aexpr.AExpr.TheVariants.{Literal, Cast, Alias}
 use Rattle.plan_arena.specs.Denotation.{Denotes, DenoteAll}
 use Rattle.plan_arena.specs.Layers.{layer, shape_of, op_of, inputs_of}
 use Rattle.plan_arena.specs.Items.{HoldsExpression, HoldsFrom, Grows, expression_layer, Rewired, numbers}
@@ -44,7 +46,7 @@ use Rattle.plan_infer.specs.KeptTypes.{Keeps, KeepsEntry, IsKept, Extends, AllKe
 use Rattle.plan_arena.proofs.NumberLemmas.{all_joined, all_weaker}
 use Rattle.plan_infer.proofs.TableLemmas.{children_kept, kept_type, kept_typing, layer_held, listed_operands, ruled_inputs, still_keeps, still_kept, kept_of, type_of, type_one}
 use Rattle.plan_dsl.proofs.OpLemmas.{keeps_rule}
-use Rattle.plan_dsl.proofs.SignatureLemmas.{AllBecome, TakesTo, makes, passes}
+use Rattle.plan_dsl.proofs.SignatureLemmas.{AllBecome, IsTakenTo, makes, passes}
 
 -- what an arena holds it holds when it has grown and another item was written
 pub written_elsewhere : (old new : List AExpr) (at : ℕ) (item : AExpr) → Grows old new → (n : ℕ) (op : Op) (inputs : List ℕ) → n ≢ at → HoldsExpression old n op inputs → HoldsExpression (set new at item) n op inputs
@@ -178,6 +180,17 @@ not_renamed first items n item t other got core d =
     let top = from_top first items n (op_of (expression_layer item)) (inputs_of (expression_layer item)) (layer_held items n item got) t d in
     renamed_alone t other (op_of (expression_layer item)) top.0 (sym top.1) core
 
+-- and of an alias it stands under that
+only_child : (first : ℕ) (items : List AExpr) (name : Name) (m : ℕ) (t other : Expression) (ts : Trees Op) → t ≡ node (AliasOp name) ts → DenoteAll (HoldsFrom first items) (m ∷ []) ts → (below : Expression) × (renamed t other ≡ node (AliasOp name) (more (renamed below other) no_more)) × Denotes (HoldsFrom first items) m below
+only_child first items name m t other (more below no_more) is d = (below, ap (λ x. renamed x other) is, d.0)
+only_child first items name m t other no_more is d = absurd d
+only_child first items name m t other (more below (more second rest)) is d = absurd d.1
+
+pub under_alias : (first : ℕ) (items : List AExpr) (n m : ℕ) (item : AExpr) (name : Name) (t other : Expression) → slice_get items n ≡ Some item → expression_layer item ≡ layer (AliasOp name) (m ∷ []) → Denotes (HoldsFrom first items) n t → (below : Expression) × (renamed t other ≡ node (AliasOp name) (more (renamed below other) no_more)) × Denotes (HoldsFrom first items) m below
+under_alias first items n m item name t other got is d =
+    let top = from_top first items n (AliasOp name) (m ∷ []) (expression_got items n item got ∙ ap Some is) t d in
+    only_child first items name m t other top.0 top.1 top.2
+
 -- such a literal has its value
 pub literal_is : (target : Ty) (value : LiteralValue) (number : ℤ) → is_known target ≡ true → in_range target number ≡ true → literal_op value ≡ LiteralOp target (IntValue number) → (target ≡ literal_type value) × (is_literal (literal_type value) (literal_value value) ≡ true)
 literal_is target value number known has is =
@@ -222,7 +235,7 @@ becomes_of table n from target k ready other =
 
 -- ---- operands one by one
 
-ready_to : (own from target : Ty) → TakesTo own from target → (from ≡ target) ⊎ CanBecome from target
+ready_to : (own from target : Ty) → IsTakenTo own from target → (from ≡ target) ⊎ CanBecome from target
 ready_to own from target (makes can) = inr can
 ready_to own from target (passes kept owned) = inl kept
 

@@ -25,7 +25,7 @@ use Rattle.plan_dsl.specs.Typing.{Ruling, cast_taken, own_typed, ruled_as, typin
 use Rattle.plan_dsl.specs.Kernels.{cast_column, cast_meaning, kernel}
 use Rattle.plan_dsl.specs.Meaning.{applied, meaning, node_meaning, ruled_meaning}
 use Rattle.plan_dsl.proofs.AliasLemmas.{alias, alias_means, alias_typing}
-use Rattle.plan_dsl.proofs.SignatureLemmas.{TakesTo, makes, passes}
+use Rattle.plan_dsl.proofs.SignatureLemmas.{IsTakenTo, makes, passes}
 use Rattle.plan_dsl.proofs.CastMeaningLemmas.{cast_own, cast_same, column_by_column}
 use Rattle.plan_dsl.proofs.LiteralLemmas.{bare, child_is, number_node, under, untyped, typed_known, literal_means, literal_typing, becomes_literal, number_cast, own_number_cast}
 use Rattle.plan_dsl.specs.Strictness.{CanBecome, integer_has, number_literal, cast_to, number_as, changed, as_operand}
@@ -169,7 +169,7 @@ module _ (registry : Registry) (schema : Columns) (target : Ty) (t : Expression)
   }
 
   -- the operand as it is taken
-  pub operand_made : (own from : Ty) → typing registry schema t ≡ Ok (record { type = from; many = many }) → TakesTo own from target → IsMade registry schema from target many t (as_operand from target t)
+  pub operand_made : (own from : Ty) → typing registry schema t ≡ Ok (record { type = from; many = many }) → IsTakenTo own from target → IsMade registry schema from target many t (as_operand from target t)
   operand_made own from typed (makes can) =
       elim (same_type from target) as (λ b. same_type from target ≡ b → IsMade registry schema from target many t (cond b t (changed from target t))) [ true ↦ same_made from typed | false ↦ λ e. changed_made from typed can ] refl
   operand_made own from typed (passes kept owned) =

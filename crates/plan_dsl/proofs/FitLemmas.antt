@@ -16,7 +16,7 @@ use Rattle.plan_dsl.specs.Laws.{AreOf}
 use Rattle.plan_dsl.proofs.CastMeaningLemmas.{cast_own, column_by_column}
 use Rattle.plan_dsl.proofs.ColumnLemmas.{AreAllOf, CastFits, become_fits, cast_column_fits}
 use Rattle.plan_dsl.proofs.OpLemmas.{keeps_rule}
-use Rattle.plan_dsl.proofs.SignatureLemmas.{AllBecome, TakesTo, makes, passes}
+use Rattle.plan_dsl.proofs.SignatureLemmas.{AllBecome, IsTakenTo, makes, passes}
 use Rattle.plan_dsl.proofs.TypingLemmas.{by_children, by_no_children, typed_parts}
 
 -- on any rows it is not stuck, and gives values of that typing
@@ -37,7 +37,7 @@ cast_means from target options many input each h =
     meets_then (AreOf (record { type = from; many = many })) (AreOf (record { type = target; many = many })) (input rows) (cast_column from target options) (h rows) (λ values of. cast_column_fits from target options many values each of))
 
 -- operands that are taken have the types to which they are taken
-taken_means : (own from target : Ty) (many : Bool) (input : Meaning) → TakesTo own from target → MeansType (record { type = from; many = many }) input → MeansType (record { type = target; many = many }) (cast_meaning from target NonStrict input)
+taken_means : (own from target : Ty) (many : Bool) (input : Meaning) → IsTakenTo own from target → MeansType (record { type = from; many = many }) input → MeansType (record { type = target; many = many }) (cast_meaning from target NonStrict input)
 taken_means own from target many input (makes can) h = cast_means from target NonStrict many input (become_fits from target can) h
 taken_means own from target many input (passes kept owned) h =
     subst (λ t. MeansType (record { type = t; many = many }) (cast_meaning from t NonStrict input)) kept (subst (MeansType (record { type = from; many = many })) (sym (cast_own from input)) h)

@@ -28,18 +28,18 @@ use Rattle.plan_dsl.proofs.ColumnLemmas.{OnColumns}
 use Rattle.plan_dsl.proofs.TypingLemmas.{ok_same}
 
 -- an operand can become one of the type to which it is taken, or the node, of its type, passes it on
-pub data TakesTo (own from target : Ty) : Type 0 where
-  makes : (can : CanBecome from target) → TakesTo own from target
-  passes : (kept : from ≡ target) (owned : target ≡ own) → TakesTo own from target
+pub data IsTakenTo (own from target : Ty) : Type 0 where
+  makes : (can : CanBecome from target) → IsTakenTo own from target
+  passes : (kept : from ≡ target) (owned : target ≡ own) → IsTakenTo own from target
 
-pub takes_known : (own from target : Ty) → is_known own ≡ true → TakesTo own from target → is_known target ≡ true
+pub takes_known : (own from target : Ty) → is_known own ≡ true → IsTakenTo own from target → is_known target ≡ true
 takes_known own from target known (makes can) = can.known
 takes_known own from target known (passes kept owned) = ap is_known owned ∙ known
 
 -- each of a node of that type is taken to its type
 abbrev pub AllBecome : Ty → List Ty → List Ty → Type 0
 AllBecome own [] [] = Unit {0}
-AllBecome own (from ∷ types) (target ∷ targets) = TakesTo own from target × AllBecome own types targets
+AllBecome own (from ∷ types) (target ∷ targets) = IsTakenTo own from target × AllBecome own types targets
 AllBecome own [] (target ∷ targets) = ⊥
 AllBecome own (from ∷ types) [] = ⊥
 

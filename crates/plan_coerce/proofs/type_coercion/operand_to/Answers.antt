@@ -5,7 +5,7 @@ use Rattle.std.proofs.lemmas.Int.{to_z-of_z}
 use Rattle.plan_types.specs.Types.{Untyped, ty}
 use Rattle.plan_dsl.specs.Strictness.{CanBecome}
 use Rattle.plan_coerce.proofs.CoercionLemmas.{becomes_cast, becomes_of, cast_round, changed_from, number_for}
-use Rattle.plan_infer.proofs.TableLemmas.{type_of}
+use Rattle.plan_infer.proofs.TableLemmas.{known_typed, plain_tree, type_of}
 use Rattle.plan_coerce.proofs.type_coercion.operand_to.Goals as goal
 
 pub returns-in_ok-cast-in-None-clause-changed : goal.returns-in_ok-cast-in-None-clause-changed
@@ -14,7 +14,7 @@ returns-in_ok-cast-in-None-clause-changed c = λ from keeps.
     let own = c.get-from.result.now.dtype in
     let is = type_of c.args.types.now c.args.node.0 c.get-from.result.now c.get-from.ensures in
     let cast = c.in_ok-cast-in-None in
-    let can = becomes_of c.args.types.now c.args.node.0 own target is c.requires.ready in
+    let can = becomes_of c.args.types.now c.args.node.0 own target is c.requires.ready (sym c.eq.ensures ∙ c.if-eq.false) in
     let casts = becomes_cast (ty own) target can c.in-None.ensures in
     changed_from c.args.arena.now c.add_cast.new.arena c.args.types.now c.args.node.0 cast.cast.0 own from target is keeps (cast_round c.args.arena.now c.add_cast.new.arena c.args.types.now c.args.node.0 cast.cast.0 own target is (sym c.eq.ensures ∙ c.if-eq.false) casts.0 cast.ensures.fresh cast.ensures.denotes)
 
@@ -23,17 +23,22 @@ returns-in_ok-cast-in-None-clause-right c = λ registry schema right.
     let target = ty c.args.target in
     let own = c.get-from.result.now.dtype in
     let is = type_of c.args.types.now c.args.node.0 c.get-from.result.now c.get-from.ensures in
-    let can = becomes_of c.args.types.now c.args.node.0 own target is c.requires.ready in
+    let can = becomes_of c.args.types.now c.args.node.0 own target is c.requires.ready (sym c.eq.ensures ∙ c.if-eq.false) in
     let casts = becomes_cast (ty own) target can c.in-None.ensures in
     c.in_ok-cast-in-None.ensures.right registry schema own is casts.0 casts.1 right
 
-pub number_to-requires : goal.number_to-requires
-number_to-requires c =
+pub number_under-requires-clause-becomes : goal.number_under-requires-clause-becomes
+number_under-requires-clause-becomes c =
     let own = c.get-from.result.now.dtype in
     let is = type_of c.args.types.now c.args.node.0 c.get-from.result.now c.get-from.ensures in
     let fits : FitsSigned w128 c.in-Some.number = search rules in
     let untyped = c.in-Some.ensures ∙ ap Untyped (sym (to_z-of_z w128 c.in-Some.number fits)) in
-    record { becomes = subst (λ from. CanBecome from (ty c.args.target)) untyped (becomes_of c.args.types.now c.args.node.0 own (ty c.args.target) is c.requires.ready) }
+    subst (λ from. CanBecome from (ty c.args.target)) untyped (becomes_of c.args.types.now c.args.node.0 own (ty c.args.target) is c.requires.ready (sym c.eq.ensures ∙ c.if-eq.false))
+
+pub number_under-requires-clause-tree : goal.number_under-requires-clause-tree
+number_under-requires-clause-tree c =
+    let is = c.requires.right in
+    plain_tree (known_typed is.registry is.schema c.args.arena.now c.args.types.now is.right c.args.node.0 (record { own = c.get-from.result.now; keeps = c.get-from.ensures }))
 
 pub returns-in_ok-made-in-Some-clause-changed : goal.returns-in_ok-made-in-Some-clause-changed
 returns-in_ok-made-in-Some-clause-changed c = λ from keeps.
@@ -43,4 +48,4 @@ returns-in_ok-made-in-Some-clause-changed c = λ from keeps.
     let made = c.in_ok-made-in-Some in
     let fits : FitsSigned w128 c.in-Some.number = search rules in
     let untyped = c.in-Some.ensures ∙ ap Untyped (sym (to_z-of_z w128 c.in-Some.number fits)) in
-    changed_from c.args.arena.now c.number_to.new.arena c.args.types.now c.args.node.0 made.made.0 own from target is keeps (number_for c.args.arena.now c.number_to.new.arena c.args.types.now c.args.node.0 made.made.0 own target _ is (sym c.eq.ensures ∙ c.if-eq.false) untyped made.ensures.fresh made.ensures.denotes)
+    changed_from c.args.arena.now c.number_under.new.arena c.args.types.now c.args.node.0 made.made.0 own from target is keeps (number_for c.args.arena.now c.number_under.new.arena c.args.types.now c.args.node.0 made.made.0 own target _ is (sym c.eq.ensures ∙ c.if-eq.false) untyped made.ensures.fresh made.ensures.denotes)
