@@ -18,7 +18,7 @@ use std::alloc::Global;
 pub type Nodes = SmallVec<Node, 8>;
 
 /// One node of an expression, which names its inputs by number. Contracts see it as a layer.
-#[derive(Drop)]
+#[derive(Default, Drop)]
 pub enum AExpr {
     /// The column of that name.
     Column(PlSmallStr),
@@ -37,6 +37,7 @@ pub enum AExpr {
         options: CastOptions,
     },
     /// How many rows there are.
+    #[default]
     Len,
     /// So many values of a node from a place on.
     Slice {
@@ -48,21 +49,32 @@ pub enum AExpr {
     Alias(Node, PlSmallStr),
 }
 
+// The inputs of each kind in order, the one from which the name comes first: what the functions give of none, one, two
+// or three of them.
+macro_rules! by_inputs {
+    ($item:expr, $none:expr, $one:path, $two:path, $three:path $(, $given:expr)?) => {
+        match $item {
+            AExpr::Column(_) | AExpr::Literal(_) | AExpr::Len => $none,
+            AExpr::BinaryExpr { left, right, .. } => $two(left, right $(, $given)?),
+            AExpr::Cast { expr, .. } => $one(expr $(, $given)?),
+            AExpr::Alias(expr, _) => $one(expr $(, $given)?),
+            AExpr::Slice { input, offset, length } => $three(input, offset, length $(, $given)?),
+        }
+    };
+}
+
 impl AExpr {
-    /// The inputs in order, the one from which the name comes first.
+    /// The inputs in order.
     pub fn input_nodes(&self) -> Inputs
         ensures { result ≡ inputs_of (expression_layer self.now) }
     {
-        match self {
-            AExpr::Column(_) | AExpr::Literal(_) | AExpr::Len => Inputs::none(),
-            AExpr::BinaryExpr { left, right, .. } => Inputs::two(*left, *right),
-            AExpr::Cast { expr, .. } | AExpr::Alias(expr, _) => Inputs::one(*expr),
-            AExpr::Slice {
-                input,
-                offset,
-                length,
-            } => Inputs::three(*input, *offset, *length),
-        }
+        by_inputs!(
+            self,
+            Inputs::none(),
+            Inputs::one,
+            Inputs::two,
+            Inputs::three
+        )
     }
 
     /// Appends the inputs in reverse, so that the one from which the name comes is the last.
@@ -102,18 +114,15 @@ impl AExpr {
         ensures layer { expression_layer self.new ≡ layer (op_of (expression_layer self.old)) (numbers inputs.now) }
         ensures same { numbers inputs.now ≡ inputs_of (expression_layer self.old) → self.new ≡ self.old }
     {
-        match self {
-            AExpr::Column(_) | AExpr::Literal(_) | AExpr::Len => {}
-            AExpr::BinaryExpr { left, right, .. } => set_two(left, right, inputs),
-            AExpr::Cast { expr, .. } => *expr = inputs[0],
-            AExpr::Alias(expr, _) => *expr = inputs[0],
-            AExpr::Slice {
-                input,
-                offset,
-                length,
-            } => set_three(input, offset, length, inputs),
-        }
+        by_inputs!(self, (), set_one, set_two, set_three, inputs)
     }
+}
+
+fn set_one(first: &mut Node, inputs: &[Node])
+    requires { length inputs.now ≡ 1 }
+    ensures { inputs.now ≡ first.new ∷ [] }
+{
+    *first = inputs[0];
 }
 
 fn set_two(first: &mut Node, second: &mut Node, inputs: &[Node])

@@ -30,22 +30,22 @@ impl Inputs {
         Inputs::some(0, Node(0), Node(0), Node(0))
     }
 
-    pub(crate) fn one(first: Node) -> Inputs
-        ensures { result ≡ first.0 ∷ [] }
+    pub(crate) fn one(first: &Node) -> Inputs
+        ensures { result ≡ first.now.0 ∷ [] }
     {
-        Inputs::some(1, first, first, first)
+        Inputs::some(1, *first, *first, *first)
     }
 
-    pub(crate) fn two(first: Node, second: Node) -> Inputs
-        ensures { result ≡ first.0 ∷ second.0 ∷ [] }
+    pub(crate) fn two(first: &Node, second: &Node) -> Inputs
+        ensures { result ≡ first.now.0 ∷ second.now.0 ∷ [] }
     {
-        Inputs::some(2, first, second, second)
+        Inputs::some(2, *first, *second, *second)
     }
 
-    pub(crate) fn three(first: Node, second: Node, third: Node) -> Inputs
-        ensures { result ≡ first.0 ∷ second.0 ∷ third.0 ∷ [] }
+    pub(crate) fn three(first: &Node, second: &Node, third: &Node) -> Inputs
+        ensures { result ≡ first.now.0 ∷ second.now.0 ∷ third.now.0 ∷ [] }
     {
-        Inputs::some(3, first, second, third)
+        Inputs::some(3, *first, *second, *third)
     }
 
     // So many of these.
