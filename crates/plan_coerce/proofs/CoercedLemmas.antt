@@ -14,7 +14,7 @@ use Rattle.plan_types.proofs.CommonLemmas.{alone_itself, literal_has}
 use Rattle.plan_types.proofs.CastLemmas.{source_known}
 use Rattle.plan_dsl.specs.Registry.{Registry}
 use Rattle.plan_dsl.specs.Trees.{Trees, node, no_more, more, AllRelated}
-use Rattle.plan_dsl.specs.Aliases.{renamed}
+use Rattle.plan_dsl.specs.Aliases.{IsCore, are_core, is_core, is_core_op, renamed}
 use Rattle.plan_dsl.specs.Ops.{Op, LiteralOp, CastOp, AliasOp, Expression}
 use Rattle.plan_dsl.specs.Typing.{Typed, Ruling, rule, ruled_as, cast_taken, types_of, typed_to, typed_before, typing, typing_all}
 use Rattle.plan_dsl.specs.Strictness.{CanBecome, IsSame, IsStrict, AllStrict, is_strict, are_strict, is_strict_over, cast_to, changed, integer_has, number_as, number_literal, as_operand, as_operands}
@@ -29,7 +29,7 @@ use Rattle.plan_dsl.proofs.SignatureLemmas.{AllBecome, IsTakenTo, makes, passes}
 use Rattle.plan_dsl.proofs.OperandLemmas.{after_typed, operands_same, types_are}
 use Rattle.plan_dsl.proofs.SameLemmas.{node_same, typings_same, same_itself, same_then}
 use Rattle.plan_dsl.proofs.StrictLemmas.{strict_parts}
-use Rattle.std.proofs.lemmas.Bool.{and_parts}
+use Rattle.std.proofs.lemmas.Bool.{and_parts, and_from}
 use Rattle.plan_coerce.specs.Coercion.{IsAlike, fitted, fitted_by, coerced, coerced_all}
 
 -- as many types as trees
@@ -224,3 +224,52 @@ module _ (registry : Registry) (schema : Columns) where
     all_strict_coerced (more t ts) strict =
         let parts = and_parts (is_strict registry schema t) (are_strict registry schema ts) strict in
         ap (λ x. more x (coerced_all registry schema ts)) (strict_coerced t parts.0) ∙ ap (more t) (all_strict_coerced ts parts.1)
+
+-- ---- casts that are written out are no aliases
+
+-- under no aliases another stands alone
+pub renamed_bare : (tree other : Expression) → IsCore tree → renamed tree other ≡ other
+renamed_bare (node (AliasOp name) children) other h = cc
+renamed_bare (node op children) other h = refl
+
+number_core : (number : ℤ) (target : Ty) → IsCore (number_as number target)
+number_core number target =
+    elim (integer_has target number) as (λ b. IsCore (cond b (number_literal target number) (cast_to target (number_literal (settled_type (Untyped number)) number)))) [ true ↦ refl | false ↦ refl ]
+
+changed_core : (from target : Ty) (tree : Expression) → IsCore tree → IsCore (changed from target tree)
+changed_core (Untyped number) target tree h = subst IsCore (sym (renamed_bare tree (number_as number target) h)) (number_core number target)
+changed_core from target tree h = and_from (is_core tree) true h refl
+
+operand_core : (from target : Ty) (tree : Expression) → IsCore tree → IsCore (as_operand from target tree)
+operand_core from target tree h =
+    elim (same_type from target) as (λ b. IsCore (cond b tree (changed from target tree))) [ true ↦ h | false ↦ changed_core from target tree h ]
+
+operands_core : (types targets : List Ty) (trees : Trees Op) → are_core trees ≡ true → are_core (as_operands types targets trees) ≡ true
+operands_core [] targets trees h = refl
+operands_core (from ∷ types) [] trees h = refl
+operands_core (from ∷ types) (target ∷ targets) no_more h = refl
+operands_core (from ∷ types) (target ∷ targets) (more tree trees) h =
+    let parts = and_parts (is_core tree) (are_core trees) h in
+    and_from (is_core (as_operand from target tree)) (are_core (as_operands types targets trees)) (operand_core from target tree parts.0) (operands_core types targets trees parts.1)
+
+ruled_core : (found : Result Ruling ErrorKind) (types : List Ty) (trees : Trees Op) → are_core trees ≡ true → are_core (fitted_by found types trees) ≡ true
+ruled_core (Err kind) types trees h = h
+ruled_core (Ok ruling) types trees h = operands_core types ruling.operands trees h
+
+module _ (registry : Registry) (schema : Columns) where
+  fitted_core : (op : Op) (found : Result (List Typed) ErrorKind) (trees : Trees Op) → are_core trees ≡ true → are_core (fitted registry schema op found trees) ≡ true
+  fitted_core op (Err kind) trees h = h
+  fitted_core op (Ok typed) trees h = ruled_core (rule registry schema op typed) (types_of typed) trees h
+
+  mutual
+    pub coerced_core : (tree : Expression) → IsCore tree → IsCore (coerced registry schema tree)
+    coerced_core (node op children) h =
+        let parts = and_parts (is_core_op op) (are_core children) h in
+        let after = fitted registry schema op (typing_all registry schema children) (coerced_all registry schema children) in
+        and_from (is_core_op op) (are_core after) parts.0 (fitted_core op (typing_all registry schema children) (coerced_all registry schema children) (all_coerced_core children parts.1))
+
+    all_coerced_core : (trees : Trees Op) → are_core trees ≡ true → are_core (coerced_all registry schema trees) ≡ true
+    all_coerced_core no_more h = refl
+    all_coerced_core (more tree trees) h =
+        let parts = and_parts (is_core tree) (are_core trees) h in
+        and_from (is_core (coerced registry schema tree)) (are_core (coerced_all registry schema trees)) (coerced_core tree parts.0) (all_coerced_core trees parts.1)

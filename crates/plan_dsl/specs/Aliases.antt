@@ -1,23 +1,27 @@
 -- Expressions without aliases.
 -- An alias gives its operand a name, and nothing else. A plan takes an expression's name from its aliases, and the
 -- expression itself without them: its core.
-use Rattle.std.specs.Prelude.{Bool, true, false, ◌&&◌, IsTrue}
+use Rattle.std.specs.Prelude.{Bool, true, false, ◌&&◌, IsTrue, if◌then◌else◌}
 use Rattle.plan_dsl.specs.Trees.{Trees, node, no_more, more}
 use Rattle.plan_dsl.specs.Ops.{Op, AliasOp, Expression}
 
--- a node, or what stands under it where it is an alias
-abbrev pub without_alias : Op → Trees Op → Expression
-without_alias (AliasOp name) (more tree no_more) = tree
-without_alias op children = node op children
+-- a node, or what stands under it where it is an alias and those aren't kept
+abbrev pub prune_node : Bool → Op → Trees Op → Expression
+prune_node keep (AliasOp name) (more tree no_more) = if keep then node (AliasOp name) (more tree no_more) else tree
+prune_node keep op children = node op children
 
 abbrev mutual
-  -- an expression without its aliases
-  pub core : Expression → Expression
-  core (node op children) = without_alias op (all_core children)
+  -- an expression with its aliases, or without
+  pub pruned : Bool → Expression → Expression
+  pruned keep (node op children) = prune_node keep op (all_pruned keep children)
 
-  pub all_core : Trees Op → Trees Op
-  all_core no_more = no_more
-  all_core (more child rest) = more (core child) (all_core rest)
+  pub all_pruned : Bool → Trees Op → Trees Op
+  all_pruned keep no_more = no_more
+  all_pruned keep (more child rest) = more (pruned keep child) (all_pruned keep rest)
+
+-- an expression without its aliases
+abbrev pub core : Expression → Expression
+core tree = pruned false tree
 
 abbrev pub is_core_op : Op → Bool
 is_core_op (AliasOp name) = false

@@ -1,5 +1,5 @@
 -- What is built from scans, filters and selects, and why a filter or a select isn't.
-use Rattle.std.proofs.Common.{◌≡◌, ◌⊎◌, ℕ, List, [], ◌∷◌, ◌++◌, map, true, false, is_some, Option, Some, None, Ok, refl, sym, ap, ◌∙◌, subst, ⊎_elim}
+use Rattle.std.proofs.Common.{◌≡◌, ◌⊎◌, inl, inr, ℕ, List, [], ◌∷◌, ◌++◌, map, true, false, is_some, Option, Some, None, Ok, refl, sym, ap, ◌∙◌, subst, ⊎_elim}
 use Rattle.std.specs.List.{AllByRecursion, Contains}
 use Rattle.std.proofs.lemmas.List.{map-append}
 use Rattle.plan_types.specs.Types.{Truth}
@@ -16,18 +16,20 @@ use Rattle.plan_dsl.specs.Trees.{node, no_more, more}
 use Rattle.plan_dsl.specs.Ops.{Expression}
 use Rattle.plan_dsl.specs.Names.{Label, label_of, name_of}
 use Rattle.plan_dsl.specs.Plans.{PlanOp, Plan, Named, named, scan_op, select_op, filter_op}
+use Rattle.plan_dsl.specs.Aliases.{IsCore, core}
 use Rattle.plan_dsl.specs.Literals.{settled}
 use Rattle.plan_dsl.specs.Typing.{Typed, typing}
-use Rattle.plan_dsl.specs.Strictness.{IsStrict}
 use Rattle.plan_dsl.specs.PlanRules.{plan_rule, schema_of, broken_kinds, Breaks}
 use Rattle.plan_dsl.specs.PlanKernels.{selected, filtered}
 use Rattle.plan_dsl.specs.PlanMeaning.{by_meaning, FitsPlan, MeetsWhere}
 use Rattle.plan_dsl.proofs.FrameLemmas.{fits_input, fits_over}
 use Rattle.plan_dsl.proofs.KernelLemmas.{AgreeOn, selected_agrees, filtered_agrees}
 use Rattle.plan_dsl.proofs.LiteralLemmas.{strict_settled, settled_label}
+use Rattle.plan_dsl.proofs.AliasLemmas.{core_label, core_none}
+use Rattle.plan_coerce.proofs.CoercedLemmas.{coerced_core}
 use Rattle.plan_dsl.proofs.RunLemmas.{strict_is_meaning}
 use Rattle.plan_dsl.proofs.RuleLemmas.{scan_schema, scan_unknown_kind, select_schema, select_refused_kind, select_repeated_name, filter_schema, filter_refused_kind, filter_other_type, broken_is_ill_formed}
-use Rattle.plan_arena.specs.Runs.{AreStrictOver, HasOwnName, by_running, plan_run}
+use Rattle.plan_arena.specs.Runs.{AreStrictOver, HasOwnName, IsStrictCore, by_running, plan_run}
 use Rattle.plan_arena.proofs.RunLemmas.{runs_soundly, sound_top}
 use Rattle.plan_lower.specs.Outputs.{Lowered, IsLowered, lowered_named, lowered_column, lowered_select, SelectsTo}
 use Rattle.plan_lower.specs.Projection.{IsOutputRefusal, no_room, untyped, repeated, IsProjectionRefusal, out_of_memory as no_space, refused}
@@ -56,7 +58,7 @@ module _ (registry : Registry) where
         same = λ tables f. refl;
       }
 
-  each_typed : (schema : Columns) (outputs : List Lowered) → AllByRecursion (IsLowered registry schema) outputs → AllByRecursion (λ (o : Lowered). typing registry schema (settled o.tree) ≡ Ok o.typed) outputs
+  each_typed : (schema : Columns) (outputs : List Lowered) → AllByRecursion (IsLowered registry schema) outputs → AllByRecursion (λ (o : Lowered). typing registry schema (settled (core o.tree)) ≡ Ok o.typed) outputs
   each_typed schema [] each = tt
   each_typed schema (o ∷ os) each = (each.0.typed, each_typed schema os each.1)
 
@@ -67,16 +69,27 @@ module _ (registry : Registry) where
   each_after_typed schema [] each = tt
   each_after_typed schema (o ∷ os) each = (after_typed schema o each.0, each_after_typed schema os each.1)
 
-  each_strict : (schema : Columns) (outputs : List Lowered) → AllByRecursion (IsLowered registry schema) outputs → AllByRecursion (λ (o : Named Expression). IsStrict registry schema o.expression) (map lowered_named outputs)
-  each_strict schema [] each = tt
-  each_strict schema (o ∷ os) each = (each.0.strict, each_strict schema os each.1)
+  -- what stands for an expression has no aliases
+  after_core : (schema : Columns) (o : Lowered) → IsLowered registry schema o → IsCore o.after
+  after_core schema o is =
+      subst IsCore (sym is.casts) (coerced_core registry schema (settled (core o.tree)) (core_none registry schema o.tree o.typed is.typed))
 
-  -- what stands for an expression has its name, from the same
+  strict_core : (schema : Columns) (o : Lowered) → IsLowered registry schema o → IsStrictCore registry schema o.after
+  strict_core schema o is = (after_core schema o is, is.strict)
+
+  each_strict : (schema : Columns) (outputs : List Lowered) → AllByRecursion (IsLowered registry schema) outputs → AllByRecursion (λ (o : Named Expression). IsStrictCore registry schema o.expression) (map lowered_named outputs)
+  each_strict schema [] each = tt
+  each_strict schema (o ∷ os) each = (strict_core schema o each.0, each_strict schema os each.1)
+
+  -- what stands for an expression has its name, from the same, or an alias
+  own_named : (schema : Columns) (o : Lowered) → IsLowered registry schema o → HasOwnName (lowered_named o)
+  own_named schema o is = ⊎_elim (λ alias. inl alias) (λ e. inr (e ∙ sym (is.same.name ∙ settled_label (core o.tree)))) (core_label o.tree)
+
   each_named : (schema : Columns) (outputs : List Lowered) → AllByRecursion (IsLowered registry schema) outputs → AllByRecursion HasOwnName (map lowered_named outputs)
   each_named schema [] each = tt
-  each_named schema (o ∷ os) each = (sym (each.0.same.name ∙ settled_label o.tree), each_named schema os each.1)
+  each_named schema (o ∷ os) each = (own_named schema o each.0, each_named schema os each.1)
 
-  strict_over : (schema : Columns) (under : Option Columns) (outputs : List (Named Expression)) → under ≡ Some schema → AllByRecursion (λ (o : Named Expression). IsStrict registry schema o.expression) outputs → AreStrictOver registry under outputs
+  strict_over : (schema : Columns) (under : Option Columns) (outputs : List (Named Expression)) → under ≡ Some schema → AllByRecursion (λ (o : Named Expression). IsStrictCore registry schema o.expression) outputs → AreStrictOver registry under outputs
   strict_over schema under outputs is strict = subst (λ u. AreStrictOver registry u outputs) (sym is) strict
 
   -- what stands for an expression gives what the expression means
@@ -85,7 +98,7 @@ module _ (registry : Registry) where
   agree schema (o ∷ os) each rows =
       let frame : Frame = record { schema = schema; rows = rows } in
       let typed = each.0.same.typing in
-      let gives = strict_is_meaning registry frame o.after each.0.strict ∙ each.0.same.meaning rows in
+      let gives = strict_is_meaning registry frame o.after (after_core schema o each.0) each.0.strict ∙ each.0.same.meaning rows in
       let rest = agree schema os each.1 rows in
       λ i. record { name = name_of o.tree; typing = typed i; gives = gives i } ∷ rest i
 
@@ -105,7 +118,7 @@ module _ (registry : Registry) where
 
   select_columns : (schema : Columns) (recorded : Option Columns) (outputs : List Lowered) → AllByRecursion (IsLowered registry schema) outputs → HasDistinctNames (map lowered_column outputs) → plan_rule registry (select_op (source_outputs outputs) recorded) (Some schema ∷ []) ≡ Some (map lowered_column outputs)
   select_columns schema recorded outputs each distinct =
-      select_schema registry schema output_label (λ (o : Lowered). o.tree) output_typed recorded outputs (each_typed schema outputs each) distinct
+      select_schema registry schema output_label (λ (o : Lowered). core o.tree) output_typed recorded outputs (each_typed schema outputs each) distinct
 
   -- a select over what was built from its input
   built_over : (source lowered : Plan) (schema : Columns) → IsBuilt registry source lowered schema → (outputs : List Lowered) → AllByRecursion (IsLowered registry schema) outputs → HasDistinctNames (map lowered_column outputs) → IsBuilt registry (source_plan outputs source) (lowered_select outputs lowered) (map lowered_column outputs)
@@ -160,7 +173,7 @@ module _ (registry : Registry) where
         source_schema = there;
         lowered_schema = here;
         accepted = (ap is_some here, (built.accepted, tt));
-        strict = ((strict_over schema _ (lowered_named o ∷ []) built.lowered_schema (is.strict, tt), tt), (built.strict, tt));
+        strict = ((strict_over schema _ (lowered_named o ∷ []) built.lowered_schema (strict_core schema o is, tt), tt), (built.strict, tt));
         names = ((each_named schema (o ∷ []) (is, tt), tt), (built.names, tt));
         fits = λ tables f. fits_over tables op lowered refl (built.fits tables (fits_input tables before source f));
         same = λ tables f.

@@ -1,5 +1,5 @@
 -- What the worked examples of plans rest on: one plan a node, scans, and the lowering of a sum.
-use Rattle.std.proofs.Common.{◌≡◌, ℕ, List, [], ◌∷◌, map, codes, Option, Some, slice_get, refl, sym, ap, ◌∙◌, subst}
+use Rattle.std.proofs.Common.{inr, ◌≡◌, ℕ, List, [], ◌∷◌, map, codes, Option, Some, slice_get, refl, sym, ap, ◌∙◌, subst}
 use Rattle.plan_types.specs.Schemas.{Columns}
 use Rattle.plan_types.specs.Frames.{Frame}
 use Rattle.plan_dsl.specs.Trees.{node, no_more}
@@ -56,8 +56,8 @@ built = record {
   source_schema = refl;
   lowered_schema = refl;
   accepted = (refl, ((refl, tt), tt));
-  strict = (((refl, tt), tt), ((tt, tt), tt));
-  names = (((refl, tt), tt), ((tt, tt), tt));
+  strict = ((((refl, refl), tt), tt), ((tt, tt), tt));
+  names = (((inr refl, tt), tt), ((tt, tt), tt));
   fits = λ tables fits. fits;
   same = same_frame;
 }

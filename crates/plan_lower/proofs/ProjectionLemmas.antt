@@ -14,6 +14,7 @@ use Rattle.plan_dsl.specs.Ops.{Op, Expression}
 use Rattle.plan_dsl.specs.Strictness.{IsStrict}
 use Rattle.plan_dsl.specs.Names.{Label, label_of, name_of}
 use Rattle.plan_dsl.specs.Plans.{Named}
+use Rattle.plan_dsl.specs.Aliases.{core}
 use Rattle.plan_dsl.specs.Literals.{settled}
 use Rattle.plan_dsl.proofs.LiteralLemmas.{settled_known}
 use Rattle.plan_dsl.specs.Typing.{typing}
@@ -37,7 +38,7 @@ use Rattle.plan_infer.specs.Typed.{HasType}
 use Rattle.plan_lower.specs.Predicates.{HasPredicate, IsPredicateRefusal, without_room, without_type, of_other_type}
 use Rattle.plan_lower.specs.Projection.{Output, output_node, output_column, IsOutput, Projects, AddsOutput, IsOutputRefusal, no_room, untyped, IsProjectionRefusal, refused}
 
-pub refused_output : (registry : Registry) (schema : Columns) (tree : Expression) (before : Columns) (error : PlanError) → IsRefusal (typing registry schema (settled tree)) error → IsOutputRefusal registry schema tree before error
+pub refused_output : (registry : Registry) (schema : Columns) (tree : Expression) (before : Columns) (error : PlanError) → IsRefusal (typing registry schema (settled (core tree))) error → IsOutputRefusal registry schema tree before error
 refused_output registry schema tree before error (short e) = no_room e
 refused_output registry schema tree before error (broken kind e b) = untyped kind e b
 
@@ -54,10 +55,10 @@ abbrev record_of : Label → ℕ → Named ℕ
 record_of label expression = record { label = label; expression = expression }
 
 -- a node of an expression that has a type, and a column of its name
-pub adds_output : (registry : Registry) (schema : Columns) (first : ℕ) (items : List AExpr) (tree : Expression) (node : Named ℕ) (asked : ℕ) (old new : Columns) (seen copy : Name) (type : Ty) → node.label ≡ label_of tree → Denotes (HoldsFrom first items) node.expression (settled tree) → asked ≡ node.expression → ((t : Expression) → Denotes (HoldsExpression items) asked t → HasType (typing registry schema t) type) → is_some (type_at old seen) ≡ false → seen ≡ node.label.name → copy ≡ node.label.name → new ≡ with_column old copy type → AddsOutput registry schema first items tree node old new
+pub adds_output : (registry : Registry) (schema : Columns) (first : ℕ) (items : List AExpr) (tree : Expression) (node : Named ℕ) (asked : ℕ) (old new : Columns) (seen copy : Name) (type : Ty) → node.label ≡ label_of tree → Denotes (HoldsFrom first items) node.expression (settled (core tree)) → asked ≡ node.expression → ((t : Expression) → Denotes (HoldsExpression items) asked t → HasType (typing registry schema t) type) → is_some (type_at old seen) ≡ false → seen ≡ node.label.name → copy ≡ node.label.name → new ≡ with_column old copy type → AddsOutput registry schema first items tree node old new
 adds_output registry schema first items tree node asked old new seen copy type label d at typed absent s c e =
     let name = ap (λ (l : Label). l.name) label in
-    let has = typed (settled tree) (subst (λ k. Denotes (HoldsExpression items) k (settled tree)) (sym at) (any_node first items node.expression (settled tree) d)) in
+    let has = typed (settled (core tree)) (subst (λ k. Denotes (HoldsExpression items) k (settled (core tree))) (sym at) (any_node first items node.expression (settled (core tree)) d)) in
     record {
       output = record { tree = tree; node = node.expression; typed = record { type = type; many = has.many } };
       is = record { denotes = d; typed = has.is };
@@ -71,7 +72,7 @@ adds_output registry schema first items tree node asked old new seen copy type l
 outputs_grown : (registry : Registry) (schema : Columns) (first : ℕ) (items grown : List AExpr) → Grows items grown → (outputs : List Output) → AllByRecursion (IsOutput registry schema first items) outputs → AllByRecursion (IsOutput registry schema first grown) outputs
 outputs_grown registry schema first items grown g [] all = tt
 outputs_grown registry schema first items grown g (o ∷ os) all =
-    (record { denotes = tree_grown first first items grown (omega arith) g o.node (settled o.tree) all.0.denotes; typed = all.0.typed }, outputs_grown registry schema first items grown g os all.1)
+    (record { denotes = tree_grown first first items grown (omega arith) g o.node (settled (core o.tree)) all.0.denotes; typed = all.0.typed }, outputs_grown registry schema first items grown g os all.1)
 
 all_pushed : (P : Output → Type 0) (os : List Output) (o : Output) → AllByRecursion P os → P o → AllByRecursion P (os ++ o ∷ [])
 all_pushed P [] o all p = (p, tt)
@@ -99,7 +100,7 @@ projecting_step registry schema first items grown whole before rest tree nodes n
     let o = a.output in
     let outputs = p.projects.outputs in
     let nothing : Grows grown grown = record { added = []; longer = sym (append-nil grown) } in
-    let lower = tree_grown (length items) first grown grown le nothing o.node (settled o.tree) a.is.denotes in
+    let lower = tree_grown (length items) first grown grown le nothing o.node (settled (core o.tree)) a.is.denotes in
     record {
       front = p.front ++ tree ∷ [];
       projects = record {
@@ -148,7 +149,7 @@ pub roots_typed : (registry : Registry) (schema : Columns) (lower first : ℕ) (
 roots_typed registry schema lower first items le [] all = tt
 roots_typed registry schema lower first items le (o ∷ os) all =
     let nothing : Grows items items = record { added = []; longer = sym (append-nil items) } in
-    (record { tree = settled o.tree; denotes = tree_grown first lower items items le nothing o.node (settled o.tree) all.0.denotes; has = record { typed = o.typed; is = all.0.typed; known = settled_known registry schema o.tree o.typed all.0.typed } }, roots_typed registry schema lower first items le os all.1)
+    (record { tree = settled (core o.tree); denotes = tree_grown first lower items items le nothing o.node (settled (core o.tree)) all.0.denotes; has = record { typed = o.typed; is = all.0.typed; known = settled_known registry schema (core o.tree) o.typed all.0.typed } }, roots_typed registry schema lower first items le os all.1)
 
 -- the outputs with what stands for them after coercion
 record HasLowered (registry : Registry) (schema : Columns) (items : List AExpr) (outputs : List Output) : Type 0 where
@@ -161,7 +162,7 @@ record HasLowered (registry : Registry) (schema : Columns) (items : List AExpr) 
 -- what stands for one output after coercion
 lowered_as : (registry : Registry) (schema : Columns) (first : ℕ) (old new : List AExpr) → ((n : ℕ) (t : Expression) → Denotes (HoldsFrom first old) n t → DenotesSame registry schema first new n t) → (o : Output) → IsOutput registry schema first old o → ((t : Expression) × Denotes (HoldsFrom first new) o.node t × IsStrict registry schema t) → (after : Expression) × IsLowered registry schema (record { tree = o.tree; typed = o.typed; after = after }) × Denotes (HoldsExpression new) o.node after
 lowered_as registry schema first old new become o is strict =
-    let same = become o.node (settled o.tree) is.denotes in
+    let same = become o.node (settled (core o.tree)) is.denotes in
     let one = denotes_one _ (HoldsFrom first new) (from_laws first new) o.node strict.0 same.tree strict.1 same.denotes in
     let own = subst (IsStrict registry schema) one strict.2 in (
       same.tree,
@@ -196,9 +197,9 @@ has_outputs registry schema first old new trees nodes columns p coerced =
     }
 
 -- one output that has a type
-pub one_output : (registry : Registry) (schema : Columns) (first : ℕ) (items : List AExpr) (tree : Expression) (n asked : ℕ) (type : Ty) → Denotes (HoldsFrom first items) n (settled tree) → asked ≡ n → ((t : Expression) → Denotes (HoldsExpression items) asked t → HasType (typing registry schema t) type) → (many : Bool) × IsOutput registry schema first items (record { tree = tree; node = n; typed = record { type = type; many = many } })
+pub one_output : (registry : Registry) (schema : Columns) (first : ℕ) (items : List AExpr) (tree : Expression) (n asked : ℕ) (type : Ty) → Denotes (HoldsFrom first items) n (settled (core tree)) → asked ≡ n → ((t : Expression) → Denotes (HoldsExpression items) asked t → HasType (typing registry schema t) type) → (many : Bool) × IsOutput registry schema first items (record { tree = tree; node = n; typed = record { type = type; many = many } })
 one_output registry schema first items tree n asked type d at typed =
-    let has = typed (settled tree) (subst (λ k. Denotes (HoldsExpression items) k (settled tree)) (sym at) (any_node first items n (settled tree) d)) in
+    let has = typed (settled (core tree)) (subst (λ k. Denotes (HoldsExpression items) k (settled (core tree))) (sym at) (any_node first items n (settled (core tree)) d)) in
     (has.many, record { denotes = d; typed = has.is })
 
 -- a predicate of the type of truth values that was coerced
@@ -214,9 +215,9 @@ has_predicate registry schema first old new o node is truth name at coerced =
 -- the root is a typed output
 pub root_typed : (registry : Registry) (schema : Columns) (first : ℕ) (items : List AExpr) (o : Output) (roots : List ℕ) → IsOutput registry schema first items o → roots ≡ o.node ∷ [] → AllByRecursion (DenotesKnown registry schema first items) roots
 root_typed registry schema first items o roots is at =
-    subst (AllByRecursion (DenotesKnown registry schema first items)) (sym at) (record { tree = settled o.tree; denotes = is.denotes; has = record { typed = o.typed; is = is.typed; known = settled_known registry schema o.tree o.typed is.typed } }, tt)
+    subst (AllByRecursion (DenotesKnown registry schema first items)) (sym at) (record { tree = settled (core o.tree); denotes = is.denotes; has = record { typed = o.typed; is = is.typed; known = settled_known registry schema (core o.tree) o.typed is.typed } }, tt)
 
-pub refused_predicate : (registry : Registry) (schema : Columns) (tree : Expression) (error : PlanError) → IsRefusal (typing registry schema (settled tree)) error → IsPredicateRefusal registry schema tree error
+pub refused_predicate : (registry : Registry) (schema : Columns) (tree : Expression) (error : PlanError) → IsRefusal (typing registry schema (settled (core tree))) error → IsPredicateRefusal registry schema tree error
 refused_predicate registry schema tree error (short e) = without_room e
 refused_predicate registry schema tree error (broken kind e b) = without_type kind e b
 

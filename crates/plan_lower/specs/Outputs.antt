@@ -8,6 +8,7 @@ use Rattle.plan_dsl.specs.Trees.{node, no_more, more}
 use Rattle.plan_dsl.specs.Ops.{Expression}
 use Rattle.plan_dsl.specs.Names.{label_of, name_of}
 use Rattle.plan_dsl.specs.Plans.{Named, Plan, select_op, empty_table}
+use Rattle.plan_dsl.specs.Aliases.{core}
 use Rattle.plan_dsl.specs.Literals.{settled}
 use Rattle.plan_dsl.specs.Typing.{Typed, typing}
 use Rattle.plan_dsl.specs.Strictness.{IsSame, IsStrict}
@@ -30,10 +31,10 @@ lowered_column output = (name_of output.tree, output.typed.type)
 -- the expression, as a plan takes it, is typed, and what stands for it says the same and is strict: it is that expression
 -- with every implicit cast written out
 pub record IsLowered (registry : Registry) (schema : Columns) (output : Lowered) : Type 0 where
-  pub typed : typing registry schema (settled output.tree) ≡ Ok output.typed
-  pub same : IsSame registry schema (settled output.tree) output.after
+  pub typed : typing registry schema (settled (core output.tree)) ≡ Ok output.typed
+  pub same : IsSame registry schema (settled (core output.tree)) output.after
   pub strict : IsStrict registry schema output.after
-  pub casts : output.after ≡ coerced registry schema (settled output.tree)
+  pub casts : output.after ≡ coerced registry schema (settled (core output.tree))
 
 -- the outputs are those of the expressions, under distinct names
 pub record SelectsTo (registry : Registry) (schema : Columns) (trees : List Expression) (outputs : List Lowered) : Type 0 where

@@ -10,6 +10,7 @@ use Rattle.plan_dsl.specs.Registry.{Registry}
 use Rattle.plan_dsl.specs.Trees.{node, no_more, more}
 use Rattle.plan_dsl.specs.Ops.{Expression}
 use Rattle.plan_dsl.specs.Plans.{Named, Plan, filter_op}
+use Rattle.plan_dsl.specs.Aliases.{core}
 use Rattle.plan_dsl.specs.Literals.{settled}
 use Rattle.plan_dsl.specs.Typing.{Typed, typing}
 use Rattle.plan_arena.specs.declared.aexpr.AExpr.{AExpr}
@@ -31,8 +32,8 @@ pub record HasPredicate (registry : Registry) (schema : Columns) (items : List A
 -- why an expression can't be a predicate
 pub data IsPredicateRefusal (registry : Registry) (schema : Columns) (tree : Expression) (error : PlanError) : Type 0 where
   without_room : error ≡ no_memory → IsPredicateRefusal registry schema tree error
-  without_type : (kind : ErrorKind) → error ≡ at_top kind → typing registry schema (settled tree) ≡ Err kind → IsPredicateRefusal registry schema tree error
-  of_other_type : (typed : Typed) → error ≡ at_top InvalidOperation → typing registry schema (settled tree) ≡ Ok typed → same_type typed.type Truth ≡ false → IsPredicateRefusal registry schema tree error
+  without_type : (kind : ErrorKind) → error ≡ at_top kind → typing registry schema (settled (core tree)) ≡ Err kind → IsPredicateRefusal registry schema tree error
+  of_other_type : (typed : Typed) → error ≡ at_top InvalidOperation → typing registry schema (settled (core tree)) ≡ Ok typed → same_type typed.type Truth ≡ false → IsPredicateRefusal registry schema tree error
 
 -- a filter by the output over a lowered plan
 abbrev pub lowered_filter : Lowered → Plan → Plan

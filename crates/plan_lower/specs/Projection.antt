@@ -11,6 +11,7 @@ use Rattle.plan_dsl.specs.Registry.{Registry}
 use Rattle.plan_dsl.specs.Ops.{Expression}
 use Rattle.plan_dsl.specs.Names.{label_of, name_of}
 use Rattle.plan_dsl.specs.Plans.{Named}
+use Rattle.plan_dsl.specs.Aliases.{core}
 use Rattle.plan_dsl.specs.Literals.{settled}
 use Rattle.plan_dsl.specs.Typing.{Typed, typing}
 use Rattle.plan_arena.specs.declared.aexpr.AExpr.{AExpr}
@@ -31,8 +32,8 @@ output_column output = (name_of output.tree, output.typed.type)
 
 -- the node denotes the expression as a plan takes it, which has the type
 pub record IsOutput (registry : Registry) (schema : Columns) (first : ℕ) (items : List AExpr) (output : Output) : Type 0 where
-  pub denotes : Denotes (HoldsFrom first items) output.node (settled output.tree)
-  pub typed : typing registry schema (settled output.tree) ≡ Ok output.typed
+  pub denotes : Denotes (HoldsFrom first items) output.node (settled (core output.tree))
+  pub typed : typing registry schema (settled (core output.tree)) ≡ Ok output.typed
 
 -- the nodes are those of the expressions, and the columns their names and types
 pub record Projects (registry : Registry) (schema : Columns) (first : ℕ) (items : List AExpr) (trees : List Expression) (nodes : List (Named ℕ)) (columns : Columns) : Type 0 where
@@ -55,7 +56,7 @@ pub record AddsOutput (registry : Registry) (schema : Columns) (first : ℕ) (it
 -- why an expression can't be added behind these columns
 pub data IsOutputRefusal (registry : Registry) (schema : Columns) (tree : Expression) (before : Columns) (error : PlanError) : Type 0 where
   no_room : error ≡ no_memory → IsOutputRefusal registry schema tree before error
-  untyped : (kind : ErrorKind) → error ≡ at_top kind → typing registry schema (settled tree) ≡ Err kind → IsOutputRefusal registry schema tree before error
+  untyped : (kind : ErrorKind) → error ≡ at_top kind → typing registry schema (settled (core tree)) ≡ Err kind → IsOutputRefusal registry schema tree before error
   repeated : error ≡ at_top Duplicate → is_some (type_at before (name_of tree)) ≡ true → IsOutputRefusal registry schema tree before error
 
 -- one of the expressions can't be added behind the columns of those before it

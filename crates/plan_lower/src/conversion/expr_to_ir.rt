@@ -1,52 +1,167 @@
 //! Expressions to nodes of an arena.
-ghost use Rattle.std.specs.Prelude.{◌≡◌, length, IfOk, IfErr};
-ghost use Rattle.plan_types.specs.Errors.{no_memory};
+ghost use Rattle.std.specs.Prelude.{◌≡◌, length, false, IfOk, IfErr, MatchOption};
+ghost use Rattle.std.specs.Option.{option_map_or};
+ghost use Rattle.plan_types.specs.Errors.{IsMemoryOr, no_memory};
+ghost use Rattle.plan_dsl.specs.Aliases.{core, pruned};
 ghost use Rattle.plan_dsl.specs.Expressions.{tree_of};
-ghost use Rattle.plan_dsl.specs.Literals.{settled};
-ghost use Rattle.plan_dsl.specs.Names.{label_of};
-ghost use Rattle.plan_arena.specs.Denotation.{Denotes};
-ghost use Rattle.plan_arena.specs.Items.{named_node, HoldsFrom, Grows};
+ghost use Rattle.plan_dsl.specs.Literals.{literal_op, settled, settled_op, settles};
+ghost use Rattle.plan_dsl.specs.Names.{alias_label, label_of};
+ghost use Rattle.plan_dsl.specs.Ops.{Expression};
+ghost use Rattle.plan_arena.specs.Denotation.{Denotes, DenotesTree};
+ghost use Rattle.plan_arena.specs.Items.{named_node, output_label, HoldsExpression, HoldsFrom, Grows};
 
 use plan_arena::aexpr::AExpr;
 use plan_arena::arena::{Arena, Node};
-use plan_arena::expr_ir::ExprIR;
+use plan_arena::expr_ir::{ExprIR, OutputName};
 use plan_dsl::expr::Expr;
 use plan_dsl::literal::LiteralValue;
 use plan_types::common_type::materialize_dyn_int;
-use plan_types::error::PlanError;
+use plan_types::error::{ErrorKind, PlanError};
+use plan_types::text::PlSmallStr;
+use std::alloc::Global;
 
-/// Adds an expression's nodes, and answers the top one with the expression's name.
+/// Adds an expression's nodes without its aliases, and answers the top one with the expression's name. A number
+/// without a type at the top stays one.
 pub fn to_expr_ir(expr: Expr, arena: &mut Arena<AExpr>) -> Result<ExprIR, PlanError>
     ensures name { IfOk result (λ expr_ir. (named_node expr_ir).label ≡ label_of (tree_of expr)) }
-    ensures denotes { IfOk result (λ expr_ir. Denotes (HoldsFrom (length arena.old) arena.new) (named_node expr_ir).expression (tree_of expr)) }
+    ensures denotes { IfOk result (λ expr_ir. Denotes (HoldsFrom (length arena.old) arena.new) (named_node expr_ir).expression (core (tree_of expr))) }
     ensures grows { Grows arena.old arena.new }
     ensures err { IfErr result (λ error. error ≡ no_memory) }
 {
-    let node = add_nodes(expr, arena)?;
+    let alias = alias_name(&expr, arena.allocator())?;
+    let node = add_nodes(expr, false, arena)?;
+    let expr_ir = under_name(node, alias, arena)?;
+    Ok(expr_ir)
+}
+
+/// The same without names of aliases. A number without a type at the top gets the one that it has alone.
+pub fn to_expr_ir_ignore_alias(expr: Expr, arena: &mut Arena<AExpr>) -> Result<ExprIR, PlanError>
+    ensures name { IfOk result (λ expr_ir. (named_node expr_ir).label ≡ label_of (core (tree_of expr))) }
+    ensures denotes { IfOk result (λ expr_ir. Denotes (HoldsFrom (length arena.old) arena.new) (named_node expr_ir).expression (settled (core (tree_of expr)))) }
+    ensures grows { Grows arena.old arena.new }
+    ensures err { IfErr result (IsMemoryOr ErrorKind.InvalidOperation (settles (tree_of expr) ≡ false)) }
+{
+    let node = add_settled(expr, false, arena)?;
     let expr_ir = ExprIR::from_node(arena.allocator(), node, arena)?;
     Ok(expr_ir)
 }
 
-/// The expression as a plan's node takes it: a number without a type at its top gets the one that it has alone.
-pub(crate) fn settle(expr: Expr) -> Expr
-    ensures { tree_of result ≡ settled (tree_of expr) }
+/// Adds an expression's nodes with its aliases. A number without a type at the top, maybe under aliases, gets the one
+/// that it has alone.
+pub fn to_aexpr(expr: Expr, arena: &mut Arena<AExpr>) -> Result<Node, PlanError>
+    ensures denotes { IfOk result (λ node. Denotes (HoldsFrom (length arena.old) arena.new) node.0 (settled (tree_of expr))) }
+    ensures grows { Grows arena.old arena.new }
+    ensures err { IfErr result (IsMemoryOr ErrorKind.InvalidOperation (settles (tree_of expr) ≡ false)) }
 {
-    let Expr::Literal(LiteralValue::Int(number)) = &expr else {
-        return expr;
+    let node = add_settled(expr, true, arena)?;
+    Ok(node)
+}
+
+// Adds the nodes of an expression as a plan takes it, with its aliases or without.
+fn add_settled(expr: Expr, keep: bool, arena: &mut Arena<AExpr>) -> Result<Node, PlanError>
+    ensures denotes { IfOk result (λ node. Denotes (HoldsFrom (length arena.old) arena.new) node.0 (pruned keep (settled (tree_of expr)))) }
+    ensures grows { Grows arena.old arena.new }
+    ensures err { IfErr result (IsMemoryOr ErrorKind.InvalidOperation (settles (tree_of expr) ≡ false)) }
+{
+    if !settles(&expr) {
+        return Err(PlanError::at_top(ErrorKind::InvalidOperation));
+    }
+    let mut expr = expr;
+    settle(&mut expr);
+    let node = add_nodes(expr, keep, arena)?;
+    Ok(node)
+}
+
+// The node under the alias, or under the name of the expression there.
+fn under_name(
+    node: Node,
+    alias: Option<OutputName>,
+    arena: &Arena<AExpr>,
+) -> Result<ExprIR, PlanError>
+    requires { DenotesTree (HoldsExpression arena.now) node.0 }
+    ensures node { IfOk result (λ expr_ir. (named_node expr_ir).expression ≡ node.0) }
+    ensures name { IfOk result (λ expr_ir. (tree : Expression) → Denotes (HoldsExpression arena.now) node.0 tree →
+        (named_node expr_ir).label ≡ option_map_or output_label alias (label_of tree)) }
+    ensures err { IfErr result (λ error. error ≡ no_memory) }
+{
+    match alias {
+        Some(name) => Ok(ExprIR::new(node, name)),
+        None => {
+            let expr_ir = ExprIR::from_node(arena.allocator(), node, arena)?;
+            Ok(expr_ir)
+        }
+    }
+}
+
+/// The alias that names an expression. One without has the name that it has without aliases.
+pub(crate) fn alias_name(expr: &Expr, alloc: Global) -> Result<Option<OutputName>, PlanError>
+    ensures ok { IfOk result (λ alias. label_of (tree_of expr.now) ≡ option_map_or output_label alias (label_of (core (tree_of expr.now)))) }
+    ensures err { IfErr result (λ error. error ≡ no_memory) }
+{
+    match first_alias(expr) {
+        Some(name) => {
+            let name = name.try_clone(alloc)?;
+            Ok(Some(OutputName::Alias(name)))
+        }
+        None => Ok(None),
+    }
+}
+
+// The topmost alias on the way down first operands.
+fn first_alias(expr: &Expr) -> Option<&PlSmallStr>
+    ensures { MatchOption result (label_of (tree_of expr.now) ≡ label_of (core (tree_of expr.now))) (λ name. label_of (tree_of expr.now) ≡ alias_label name.now) }
+{
+    match expr {
+        Expr::Alias(_, name) => Some(name),
+        Expr::Column(_) | Expr::Literal(_) | Expr::Len => None,
+        Expr::BinaryExpr { left, .. } => first_alias(left),
+        Expr::Cast { expr, .. } => first_alias(expr),
+        Expr::Slice { input, .. } => first_alias(input),
+    }
+}
+
+// Whether a number without a type at the top, maybe under aliases, has one alone.
+fn settles(expr: &Expr) -> bool
+    ensures { result ≡ settles (tree_of expr.now) }
+{
+    match expr {
+        Expr::Alias(expr, _) => settles(expr),
+        Expr::Literal(LiteralValue::Int(number)) => materialize_dyn_int(*number).is_some(),
+        _ => true,
+    }
+}
+
+/// Makes of an expression what a plan's node takes: a number without a type at its top, maybe under aliases, gets the
+/// one that it has alone.
+pub(crate) fn settle(expr: &mut Expr)
+    ensures { tree_of expr.new ≡ settled (tree_of expr.old) }
+{
+    match expr {
+        Expr::Alias(expr, _) => settle(expr),
+        Expr::Literal(value) => settle_literal(value),
+        _ => {}
+    }
+}
+
+fn settle_literal(value: &mut LiteralValue)
+    ensures { literal_op value.new ≡ settled_op (literal_op value.old) }
+{
+    let LiteralValue::Int(number) = value else {
+        return;
     };
     let number = *number;
     let Some(alone) = materialize_dyn_int(number) else {
-        return expr;
+        return;
     };
     match LiteralValue::of_number(&alone, number) {
-        Some(value) => Expr::Literal(value),
+        Some(typed) => *value = typed,
         None => unreachable!(),
     }
 }
 
-/// Adds an expression's nodes, inputs first.
-pub(crate) fn add_nodes(expr: Expr, arena: &mut Arena<AExpr>) -> Result<Node, PlanError>
-    ensures denotes { IfOk result (λ node. Denotes (HoldsFrom (length arena.old) arena.new) node.0 (tree_of expr)) }
+/// Adds an expression's nodes, inputs first, with its aliases or without.
+pub(crate) fn add_nodes(expr: Expr, keep: bool, arena: &mut Arena<AExpr>) -> Result<Node, PlanError>
+    ensures denotes { IfOk result (λ node. Denotes (HoldsFrom (length arena.old) arena.new) node.0 (pruned keep (tree_of expr))) }
     ensures grows { Grows arena.old arena.new }
     ensures err { IfErr result (λ error. error ≡ no_memory) }
 {
@@ -64,8 +179,8 @@ pub(crate) fn add_nodes(expr: Expr, arena: &mut Arena<AExpr>) -> Result<Node, Pl
             Ok(node)
         }
         Expr::BinaryExpr { left, op, right } => {
-            let left = add_nodes(Box::into_inner(left), arena)?;
-            let right = add_nodes(Box::into_inner(right), arena)?;
+            let left = add_nodes(Box::into_inner(left), keep, arena)?;
+            let right = add_nodes(Box::into_inner(right), keep, arena)?;
             let node = arena.add(AExpr::BinaryExpr { left, op, right })?;
             Ok(node)
         }
@@ -74,7 +189,7 @@ pub(crate) fn add_nodes(expr: Expr, arena: &mut Arena<AExpr>) -> Result<Node, Pl
             dtype,
             options,
         } => {
-            let expr = add_nodes(Box::into_inner(expr), arena)?;
+            let expr = add_nodes(Box::into_inner(expr), keep, arena)?;
             let node = arena.add(AExpr::Cast {
                 expr,
                 dtype,
@@ -87,14 +202,22 @@ pub(crate) fn add_nodes(expr: Expr, arena: &mut Arena<AExpr>) -> Result<Node, Pl
             offset,
             length,
         } => {
-            let input = add_nodes(Box::into_inner(input), arena)?;
-            let offset = add_nodes(Box::into_inner(offset), arena)?;
-            let length = add_nodes(Box::into_inner(length), arena)?;
+            let input = add_nodes(Box::into_inner(input), keep, arena)?;
+            let offset = add_nodes(Box::into_inner(offset), keep, arena)?;
+            let length = add_nodes(Box::into_inner(length), keep, arena)?;
             let node = arena.add(AExpr::Slice {
                 input,
                 offset,
                 length,
             })?;
+            Ok(node)
+        }
+        Expr::Alias(expr, name) => {
+            let expr = add_nodes(Box::into_inner(expr), keep, arena)?;
+            if !keep {
+                return Ok(expr);
+            }
+            let node = arena.add(AExpr::Alias(expr, name))?;
             Ok(node)
         }
     }

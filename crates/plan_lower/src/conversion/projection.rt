@@ -1,25 +1,27 @@
 //! The expressions of one node, lowered together.
 ghost use Rattle.std.specs.Prelude.{◌≡◌, ◌≤◌, ℕ, List, OnOk, IfOk, IfErr, length, map};
 ghost use Rattle.std.specs.List.{AllByRecursion};
+ghost use Rattle.std.specs.Option.{option_map_or};
 ghost use Rattle.plan_types.specs.Errors.{no_memory, IsRefusal};
 ghost use Rattle.plan_types.specs.Schemas.{columns};
+ghost use Rattle.plan_dsl.specs.Aliases.{core};
 ghost use Rattle.plan_dsl.specs.Expressions.{tree_of};
 ghost use Rattle.plan_dsl.specs.Literals.{settled};
 ghost use Rattle.plan_dsl.specs.Names.{label_of};
-ghost use Rattle.plan_dsl.specs.Ops.{Op};
+ghost use Rattle.plan_dsl.specs.Ops.{Expression, Op};
 ghost use Rattle.plan_dsl.specs.Plans.{trees_of};
 ghost use Rattle.plan_dsl.specs.Registry.{registry};
 ghost use Rattle.plan_dsl.specs.Typing.{typing};
 ghost use Rattle.plan_arena.specs.Denotation.{Denotes};
-ghost use Rattle.plan_arena.specs.Items.{named_node, numbers, Grows, HoldsExpression, HoldsFrom};
-ghost use Rattle.plan_infer.specs.KeptTypes.{Extends, IsKept, IsRight};
+ghost use Rattle.plan_arena.specs.Items.{named_node, numbers, output_label, Grows, HoldsExpression, HoldsFrom};
+ghost use Rattle.plan_infer.specs.KeptTypes.{Extends, HasRightTypes, IsKept, IsRight};
 ghost use Rattle.plan_lower.specs.Outputs.{HasOutputs};
 ghost use Rattle.plan_lower.specs.Projection.{Projects, AddsOutput, IsOutputRefusal, IsProjectionRefusal};
 
-use crate::conversion::expr_to_ir::{add_nodes, settle};
+use crate::conversion::expr_to_ir::{add_nodes, alias_name, settle};
 use plan_arena::aexpr::{AExpr, Nodes};
-use plan_arena::arena::Arena;
-use plan_arena::expr_ir::{ExprIR, ExprIRs};
+use plan_arena::arena::{Arena, Node};
+use plan_arena::expr_ir::{ExprIR, ExprIRs, OutputName};
 use plan_coerce::stack_opt::coerce_types;
 use plan_dsl::expr::Expr;
 use plan_dsl::plan::Exprs;
@@ -130,8 +132,8 @@ fn project_one(
     Ok(expr_ir)
 }
 
-/// Adds an expression's nodes, and types them over a frame of the schema. A number without a type at its top gets
-/// the one that it has alone.
+/// Adds an expression's nodes without its aliases, and types them over a frame of the schema. A number without a type
+/// at its top gets the one that it has alone.
 pub(crate) fn add_typed(
     expr: Expr,
     schema: &Schema,
@@ -141,15 +143,40 @@ pub(crate) fn add_typed(
 ) -> Result<ExprIR, PlanError>
     requires right { IsRight (registry udfs.now) (columns schema.now) arena.old types.old }
     ensures name { IfOk result (λ expr_ir. (named_node expr_ir).label ≡ label_of (tree_of expr)) }
-    ensures denotes { IfOk result (λ expr_ir. Denotes (HoldsFrom (length arena.old) arena.new) (named_node expr_ir).expression (settled (tree_of expr))) }
+    ensures denotes { IfOk result (λ expr_ir. Denotes (HoldsFrom (length arena.old) arena.new) (named_node expr_ir).expression (settled (core (tree_of expr)))) }
     ensures grows { Grows arena.old arena.new }
     ensures kept { IfOk result (λ expr_ir. IsKept types.new (named_node expr_ir).expression) }
     ensures right { OnOk result (IsRight (registry udfs.now) (columns schema.now) arena.new types.new) }
     ensures extends { OnOk result (Extends types.old types.new) }
-    ensures err { IfErr result (IsRefusal (typing (registry udfs.now) (columns schema.now) (settled (tree_of expr)))) }
+    ensures err { IfErr result (IsRefusal (typing (registry udfs.now) (columns schema.now) (settled (core (tree_of expr))))) }
 {
-    let node = add_nodes(settle(expr), arena)?;
+    let mut expr = expr;
+    let alias = alias_name(&expr, arena.allocator())?;
+    settle(&mut expr);
+    let node = add_nodes(expr, false, arena)?;
     types.infer(node, schema, arena, udfs)?;
-    let name = types.output_name(node, arena)?;
+    let name = name_under(alias, node, arena, types)?;
     Ok(ExprIR::new(node, name))
+}
+
+// The alias, or the name of the typed expression at the node.
+fn name_under(
+    alias: Option<OutputName>,
+    node: Node,
+    arena: &Arena<AExpr>,
+    types: &TypeTable,
+) -> Result<OutputName, PlanError>
+    requires kept { IsKept types.now node.0 }
+    requires right { HasRightTypes arena.now types.now }
+    ensures ok { IfOk result (λ name. (t : Expression) → Denotes (HoldsExpression arena.now) node.0 t →
+        output_label name ≡ option_map_or output_label alias (label_of t)) }
+    ensures err { IfErr result (λ error. error ≡ no_memory) }
+{
+    match alias {
+        Some(name) => Ok(name),
+        None => {
+            let name = types.output_name(node, arena)?;
+            Ok(name)
+        }
+    }
 }

@@ -2,6 +2,7 @@ use Rattle.std.proofs.Common.{◌≡◌, List, [], ◌∷◌, map, Ok, Err, subs
 use Rattle.std.specs.List.{AllByRecursion}
 use Rattle.plan_types.specs.Types.{Truth}
 use Rattle.plan_types.specs.declared.error.ErrorKind.TheVariants.{ColumnNotFound}
+use Rattle.plan_dsl.specs.Aliases.{core}
 use Rattle.plan_dsl.specs.Literals.{settled}
 use Rattle.plan_dsl.specs.Typing.{typing}
 use Rattle.plan_lower.specs.Outputs.{Lowered, IsLowered}
@@ -14,7 +15,7 @@ first_tree output outputs e = cc
 no_outputs : (outputs : List Lowered) → map (λ o. o.tree) outputs ≡ c ∷ [] → AllByRecursion (IsLowered [] (one_column Truth)) outputs → ⊥
 no_outputs [] trees each = cc
 no_outputs (output ∷ outputs) trees each =
-    let typed : Err ColumnNotFound ≡ Ok output.typed = subst (λ t. typing [] (one_column Truth) (settled t) ≡ Ok output.typed) (first_tree output outputs trees) each.0.typed in
+    let typed : Err ColumnNotFound ≡ Ok output.typed = subst (λ t. typing [] (one_column Truth) (settled (core t)) ≡ Ok output.typed) (first_tree output outputs trees) each.0.typed in
     cc
 
 pub returns-clause-select_of_no_column : goal.returns-clause-select_of_no_column
