@@ -478,8 +478,8 @@ module _ (items : List AExpr) (start mid new : TypeTable) (at : ℕ) (before : (
   pub not_yet : ¬ (IsKept start at) → ¬ (IsKept mid at)
   not_yet none k = ⊎_elim (λ s. none s) (λ less. absurd (omega (arith, less))) (before at k)
 
-  pub below_kept : (own : Inferred) → ((n : ℕ) (other : Inferred) → KeepsEntry new n other → KeepsEntry mid n other ⊎ ((n ≡ at) × (other ≡ own))) → (n : ℕ) → IsKept new n → IsKept start n ⊎ (node_depth items n ≤ node_depth items at)
-  below_kept own only n k = ⊎_elim
-      (λ m. no_deeper items start at n (before n (record { own = k.own; keeps = m })))
-      (λ is. inr (subst (λ m. node_depth items m ≤ node_depth items at) (sym is.0) (omega arith)))
-      (only n k.own k.keeps)
+  pub below_over : ((n : ℕ) → IsKept new n → IsKept mid n ⊎ (n ≡ at)) → (n : ℕ) → IsKept new n → IsKept start n ⊎ (node_depth items n ≤ node_depth items at)
+  below_over only n k = ⊎_elim
+      (λ m. no_deeper items start at n (before n m))
+      (λ is. inr (subst (λ m. node_depth items m ≤ node_depth items at) (sym is) (omega arith)))
+      (only n k)

@@ -112,6 +112,20 @@ impl TypeTable {
         if self.kept(node).is_some() {
             return Ok(());
         }
+        self.add(node, own)
+    }
+
+    /// Keeps what is inferred of a node of which nothing is kept.
+    pub(crate) fn add(&mut self, node: Node, own: Inferred) -> Result<(), PlanError>
+        requires { ¬ (IsKept self.old node.0) }
+        ensures kept { OnOk result (IsKept self.new node.0) }
+        ensures stays { (n : ℕ) (other : Inferred) → KeepsEntry self.old n other → KeepsEntry self.new n other }
+        ensures only { (n : ℕ) (other : Inferred) → KeepsEntry self.new n other →
+            KeepsEntry self.old n other ⊎ ((n ≡ node.0) × (other ≡ own)) }
+        ensures count { OnOk result (kept_count self.new ≡ kept_count self.old + 1) }
+        ensures count_stays { OnErr result (kept_count self.new ≡ kept_count self.old) }
+        ensures err { IfErr result (λ error. error ≡ no_memory) }
+    {
         self.start_at(node.0)?;
         let index = node.0 - self.first;
         self.make_room(index)?;

@@ -1,5 +1,5 @@
 //! Types of expressions in an arena.
-ghost use Rattle.std.specs.Prelude.{◌≡◌, ◌≤◌, ◌+◌, ◌⊎◌, ◌||◌, ℕ, false, length, OnErr, [], Ok, IfOk, IfErr, OnOk};
+ghost use Rattle.std.specs.Prelude.{◌≡◌, ◌≤◌, ◌+◌, ◌⊎◌, ◌||◌, ℕ, true, false, length, slice_get, OnErr, [], Some, Ok, IfOk, IfErr, OnOk};
 ghost use Rattle.std.specs.List.{AllByRecursion};
 ghost use Rattle.plan_types.specs.Errors.{IsRefusal, no_memory};
 ghost use Rattle.plan_types.specs.Schemas.{Columns, Name, columns};
@@ -55,15 +55,53 @@ pub(crate) fn type_node<M: Ledger>(
         return Ok(());
     }
     let item = arena.get(node);
+    if is_leaf(item) {
+        return type_over(node, item, &[], arena, schema, udfs, types, typings);
+    }
     let nodes = item.inputs(arena.allocator())?;
     let inputs = nodes.as_slice();
     for index in 0..inputs.len() {
         type_node(inputs[index], arena, schema, udfs, types, typings)?;
     }
+    type_over(node, item, inputs, arena, schema, udfs, types, typings)
+}
+
+// Whether an item is known to have no inputs, so that no list of them is made.
+fn is_leaf(item: &AExpr) -> bool
+    ensures { result ≡ true → inputs_of (expression_layer item.now) ≡ [] }
+{
+    matches!(item, AExpr::Column(_) | AExpr::Literal(_))
+}
+
+// Types a node over inputs of which each is typed.
+fn type_over<M: Ledger>(
+    node: Node,
+    item: &AExpr,
+    inputs: &[Node],
+    arena: &Arena<AExpr>,
+    schema: &Schema,
+    udfs: &Udfs,
+    types: &mut TypeTable,
+    typings: &mut Steps<M>,
+) -> Result<(), PlanError>
+    requires tree { DenotesTree (HoldsExpression arena.now) node.0 }
+    requires item { slice_get arena.now node.0 ≡ Some item.now }
+    requires listed { numbers inputs.now ≡ inputs_of (expression_layer item.now) }
+    requires inputs { AllByRecursion (IsKept types.old) (numbers inputs.now) }
+    requires none { ¬ (IsKept types.old node.0) }
+    requires right { IsRight (registry udfs.now) (columns schema.now) arena.now types.old }
+    ensures kept { OnOk result (IsKept types.new node.0) }
+    ensures right { IsRight (registry udfs.now) (columns schema.now) arena.now types.new }
+    ensures extends { Extends types.old types.new }
+    ensures only { (n : ℕ) → IsKept types.new n → IsKept types.old n ⊎ (n ≡ node.0) }
+    ensures counted { OnOk result (typings.new + kept_count types.old ≤ typings.old + kept_count types.new) }
+    ensures refused { OnErr result (typings.new + kept_count types.old ≤ typings.old + kept_count types.new + 1) }
+    ensures err { IfErr result (λ error. (t : Expression) → Denotes (HoldsExpression arena.now) node.0 t →
+        IsRefusal (typing (registry udfs.now) (columns schema.now) t) error) }
+{
     typings.tick();
     let own = own_typing(node, item, inputs, types, schema, udfs, arena.allocator())?;
-    types.keep(node, own)?;
-    Ok(())
+    types.add(node, own)
 }
 
 // What the rule of a node says, whose inputs are typed.
