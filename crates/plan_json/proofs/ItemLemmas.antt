@@ -1,5 +1,5 @@
 -- What an answer was made of, and lists that are read item by item.
-use Rattle.std.proofs.Common.{◌≡◌, List, ◌∷◌, Option, Some, None, option_map, option_and_then, refl, ap, ℕ, zero, suc, ◌+◌, ◌<◌, [], ◌++◌, length, get_or, take, sym, ◌∙◌}
+use Rattle.std.proofs.Common.{◌≡◌, List, ◌∷◌, Option, Some, None, option_map, option_and_then, refl, ap, ℕ, zero, suc, ◌+◌, ◌<◌, [], ◌++◌, length, get_or, take, sym, ◌∙◌, Bool, true, false, cond}
 use Rattle.plan_json.specs.Looking.{both, all_of, some_of, first_items}
 use Rattle.std.proofs.lemmas.List.{take_more}
 use Rattle.std.specs.Option.{option_map_or}
@@ -9,6 +9,9 @@ use Rattle.serde_json.specs.Find.{get_item}
 use Rattle.serde_json.specs.View.{view, items_view}
 use Rattle.serde_json.specs.declared.value.Value.{Value}
 use Rattle.serde_json.proofs.Views.{get_item_within}
+
+abbrev pub Present : {A : Type 0} → Option A → Type 0
+Present {A} o = (x : A) × (o ≡ Some x)
 
 pub mapped : {A B : Type 0} (f : A → B) (o : Option A) (y : B) → option_map f o ≡ Some y → (x : A) × (o ≡ Some x) × (f x ≡ y)
 mapped f None y e = cc
@@ -23,6 +26,15 @@ both_are None b p e = cc
 both_are (Some x) None p e = cc
 both_are {A = A} {B = B} (Some x) (Some y) p e =
     let all : ◌≡◌ {A = A × B} (x, y) p = cc in (ap (λ q. Some q.0) all, ap (λ q. Some q.1) all)
+
+-- what a test lets through
+pub kept : {A : Type 0} (test : Bool) (o : Option A) (x : A) → cond test o None ≡ Some x → (test ≡ true) × (o ≡ Some x)
+kept true o x e = (refl, e)
+kept false o x e = cc
+
+pub passed : {A : Type 0} (test : Bool) (o : Option A) (x : A) → cond test None o ≡ Some x → (test ≡ false) × (o ≡ Some x)
+passed true o x e = cc
+passed false o x e = (refl, e)
 
 -- the first of a list that is read, and the others
 pub opened : {A : Type 0} (first : Option A) (rest : Option (List A)) (l : List A) → option_map (λ p. p.0 ∷ p.1) (both first rest) ≡ Some l → (x : A) × (xs : List A) × (first ≡ Some x) × (rest ≡ Some xs) × (x ∷ xs ≡ l)
@@ -46,7 +58,7 @@ all_of-more read vs i v xs x within is before now =
     ap (λ l. all_of read (items_view l)) (take_more vs i v within ∙ ap (λ w. take i vs ++ w ∷ []) (sym is)) ∙ all_of-push read (take i vs) v xs x before now
 
 -- each item that stands in such a list is read
-pub all_of-item : {A : Type 0} (read : Data → Option A) (ds : Items) (xs : List A) (n : ℕ) (v : Data) → all_of read ds ≡ Some xs → get_item n ds ≡ Some v → (x : A) × (read v ≡ Some x)
+pub all_of-item : {A : Type 0} (read : Data → Option A) (ds : Items) (xs : List A) (n : ℕ) (v : Data) → all_of read ds ≡ Some xs → get_item n ds ≡ Some v → Present (read v)
 all_of-item read no_items xs n v e here = cc
 all_of-item read (item d ds) xs zero v e here =
     let parts = opened (read d) (all_of read ds) xs e in

@@ -8,6 +8,8 @@ use Rattle.plan_dsl.specs.Plans.{plan_tree, trees_of}
 use Rattle.plan_dsl.specs.declared.plan.DslPlan.{DslPlan}
 use Rattle.plan_json.specs.Forms.{Read, name_read, literal_read, operator_read, type_read, mode_read, table_read, columns_read, expression_read, plan_read, many_read, reads_of, other_read, nothing_read}
 use Rattle.plan_json.specs.Queries.{has_flags}
+use Rattle.plan_json.specs.declared.arguments.Node.{Node}
+use Rattle.plan_json.specs.declared.arguments.Node.TheVariants as nodes
 use Rattle.plan_json.specs.declared.arguments.Part.{Part}
 use Rattle.plan_json.specs.declared.arguments.Part.TheVariants.{Name, Literal, Operator, Dtype, Mode, Table, Columns, Expression, Plan, Nothing}
 use Rattle.plan_json.specs.declared.arguments.Arg.{Arg}
@@ -17,6 +19,10 @@ use Rattle.plan_json.specs.declared.arguments.Args.TheVariants as args
 
 abbrev pub plan_seen : DslPlan → Read
 plan_seen plan = if has_flags plan then other_read else plan_read (plan_tree plan)
+
+abbrev pub node_view : Node → Read
+node_view (nodes.Expression expr) = expression_read (tree_of expr)
+node_view (nodes.Plan plan) = plan_seen plan
 
 abbrev pub part_view : Part → Read
 part_view (Name name) = name_read name

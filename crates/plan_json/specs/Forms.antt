@@ -168,6 +168,10 @@ abbrev pub key_named : Kind → List ℕ → Option (List ℕ × Key)
 key_named kinds.Expression word = option_map (λ row. (row.0, keys.Expression row.1)) (row_named expression_rows word)
 key_named kinds.Plan word = option_map (λ row. (row.0, keys.Plan row.1)) (row_named plan_rows word)
 
+abbrev pub kind_of : Key → Kind
+kind_of (keys.Expression key) = kinds.Expression
+kind_of (keys.Plan key) = kinds.Plan
+
 abbrev pub asks : Key → Places
 asks (keys.Expression key) = expression_asks key
 asks (keys.Plan key) = plan_asks key
@@ -204,18 +208,18 @@ abbrev pub asked_in : Places → List Asked
 asked_in (single a) = a ∷ []
 asked_in (listed ps) = ps
 
-abbrev pub each_fits : List Asked → List Read → Bool
-each_fits [] [] = true
-each_fits (a ∷ ps) (r ∷ rs) = fits a r && each_fits ps rs
-each_fits _ _ = false
-
 pub record Fits (asked : Asked) (found : Read) : Type 0 where
   pub fit : fits asked found ≡ true
+
+abbrev pub EachFits : List Asked → List Read → Type 0
+EachFits [] [] = Unit {0}
+EachFits (a ∷ ps) (r ∷ rs) = Fits a r × EachFits ps rs
+EachFits _ _ = ⊥
 
 -- as many are read as are asked for, each what is asked
 pub record AllFit (asked : List Asked) (found : List Read) : Type 0 where
   pub count : length found ≡ length asked
-  pub each : each_fits asked found ≡ true
+  pub each : EachFits asked found
 
 -- ---- the code's table
 

@@ -1,15 +1,16 @@
 //! What is read of a key's value, item by item, and taking it apart again.
-ghost use Rattle.std.specs.Prelude.{◌≡◌, ◌∷◌, [], false, length, map};
+ghost use Rattle.std.specs.Prelude.{◌≡◌, ◌∷◌, [], false, length, map, IfOk, IfErr};
 ghost use Rattle.plan_dsl.specs.Expressions.{tree_of};
 ghost use Rattle.plan_dsl.specs.Literals.{literal_op};
 ghost use Rattle.plan_dsl.specs.Plans.{plan_tree, trees_of};
 ghost use Rattle.plan_types.specs.Schemas.{columns};
 ghost use Rattle.plan_types.specs.Types.{ty};
-ghost use Rattle.plan_json.specs.Arguments.{arg_view, args_view};
+ghost use Rattle.plan_json.specs.Arguments.{arg_view, args_view, node_view, part_view};
 ghost use Rattle.plan_json.specs.Forms.{AllFit, Asked, Fits, columns_read, expression, expression_read, expressions_in, leaf, literal_read, many, many_read, mode_read, name_read, operator_read, plan, plan_read, reads_of, table_read, type_read, nothing_read};
 ghost use Rattle.plan_json.specs.Queries.{has_flags};
 ghost use Rattle.plan_json.specs.declared.forms.Leaf.TheVariants as leaves;
 
+use super::error::JsonError;
 use plan_dsl::expr::Expr;
 use plan_dsl::literal::LiteralValue;
 use plan_dsl::operator::Operator;
@@ -17,6 +18,14 @@ use plan_dsl::plan::{DslPlan, Exprs};
 use plan_types::dtype::{CastOptions, DataType};
 use plan_types::schema::Schema;
 use plan_types::text::PlSmallStr;
+use std::alloc::Global;
+
+// What an object of one key says. It stands in place.
+#[derive(Drop)]
+pub(crate) enum Node {
+    Expression(Expr),
+    Plan(DslPlan),
+}
 
 // What is read of one item. What is wide stands in a box, since each item goes through several hands.
 #[derive(Drop)]
@@ -50,6 +59,44 @@ pub(crate) enum Args {
 
 // Drops what was read. A caller that drops it itself has a case for each variant.
 pub(crate) fn discard(_arg: Arg) {}
+
+// What an object of one key says, as an item.
+pub(crate) fn boxed(alloc: Global, node: Node) -> Result<Part, JsonError>
+    ensures ok { IfOk result (λ part. part_view part ≡ node_view node) }
+    ensures err { IfErr result (λ error. error ≡ JsonError.NoMemory) }
+{
+    match node {
+        Node::Expression(expr) => {
+            let expr = Box::new(alloc, expr)?;
+            Ok(Part::Expression(expr))
+        }
+        Node::Plan(plan) => {
+            let plan = Box::new(alloc, plan)?;
+            Ok(Part::Plan(plan))
+        }
+    }
+}
+
+pub(crate) fn expression_node(node: Node) -> Expr
+    requires { Fits expression (node_view node) }
+    ensures { node_view node ≡ expression_read (tree_of result) }
+{
+    match node {
+        Node::Expression(expr) => expr,
+        _ => unreachable!(),
+    }
+}
+
+pub(crate) fn plan_node(node: Node) -> DslPlan
+    requires { Fits plan (node_view node) }
+    ensures tree { node_view node ≡ plan_read (plan_tree result) }
+    ensures flags { has_flags result ≡ false }
+{
+    match node {
+        Node::Plan(plan) => plan,
+        _ => unreachable!(),
+    }
+}
 
 pub(crate) fn one(args: Args) -> Arg
     requires { length (args_view args) ≡ 1 }

@@ -2,7 +2,7 @@
 ghost use Rattle.std.specs.Prelude.{◌≡◌, IfSome, map};
 ghost use Rattle.std.specs.Option.{option_map};
 ghost use Rattle.plan_json.specs.Errors.{escaped};
-ghost use Rattle.plan_json.specs.Forms.{asks, expression_asks, expression_rows, key_named, places_view, plan_asks, plan_rows, row_named, row_view, type_rows};
+ghost use Rattle.plan_json.specs.Forms.{asks, expression_asks, expression_rows, key_named, kind_of, places_view, plan_asks, plan_rows, row_named, row_view, type_rows};
 
 // What an object of one key can be.
 #[derive(Clone, Copy)]
@@ -233,6 +233,7 @@ fn find<K: Copy>(rows: &[Row<K>], word: &str) -> Option<(&'static str, K)>
 // The key of that kind and word.
 pub(crate) fn find_key(kind: Kind, word: &str) -> Option<(&'static str, Key)>
     ensures row { option_map (λ row. (row.0.now, row.1)) result ≡ key_named kind word.now }
+    ensures kind { IfSome result (λ row. kind_of row.1 ≡ kind) }
     ensures word { IfSome result (λ row. row.0.now ≡ word.now) }
     // It needs no escape in a pointer.
     ensures plain { IfSome result (λ row. escaped row.0.now ≡ row.0.now) }

@@ -3,15 +3,15 @@ ghost use Rattle.std.specs.Prelude.{◌≡◌, [], ◌∷◌, Some, map, option_
 ghost use Rattle.serde_json.specs.View.{view};
 ghost use Rattle.plan_dsl.specs.Plans.{trees_of};
 ghost use Rattle.plan_types.specs.Schemas.{columns, names_of};
-ghost use Rattle.plan_json.specs.Arguments.{arg_view, args_view, part_view};
+ghost use Rattle.plan_json.specs.Arguments.{arg_view, args_view, node_view, part_view};
 ghost use Rattle.plan_json.specs.Errors.{IsErrorOf};
 ghost use Rattle.plan_json.specs.Faults.{asked_form, a_scan, items_of, keyed_form, leaf_form, places_form, nothing_form};
-ghost use Rattle.plan_json.specs.Forms.{AllFit, a_form, asked_in, asks, expression, expression_read, item_view, many, many_read, place_view, places_view, reads_of, says};
+ghost use Rattle.plan_json.specs.Forms.{AllFit, Fits, a_form, asked_in, asks, expression, expression_read, item_view, kind_of, leaf, many, many_read, place_view, places_view, reads_of, says, nothing_read};
 ghost use Rattle.plan_json.specs.Leaves.{table_at, text_of};
 ghost use Rattle.plan_json.specs.Queries.{leaf_of, list_as, places_as, read_as, nothing_of};
 ghost use Rattle.plan_json.specs.Tables.{declared};
 
-use super::arguments::{Arg, Args, Part, discard, expression};
+use super::arguments::{Arg, Args, Node, Part, boxed, discard, expression_node};
 use super::columns::read_columns;
 use super::dtype::{read_text, read_type};
 use super::error::{JsonError, Step};
@@ -34,9 +34,10 @@ pub(crate) fn read_form(
     tables: &Tables,
     kind: Kind,
     value: &Value,
-) -> Result<Part, JsonError>
-    ensures ok { IfOk result (λ part. read_as (declared tables.now) (a_form kind) (view value.now)
-        ≡ Some (part_view part)) }
+) -> Result<Node, JsonError>
+    ensures ok { IfOk result (λ node. read_as (declared tables.now) (a_form kind) (view value.now)
+        ≡ Some (node_view node)) }
+    ensures fit { IfOk result (λ node. Fits (a_form kind) (node_view node)) }
     ensures err { IfErr result (IsErrorOf (keyed_form (names_of (declared tables.now)) kind) (view value.now)) }
 {
     match only_member(value) {
@@ -46,8 +47,8 @@ pub(crate) fn read_form(
             Some((word, key)) => match read_places(alloc, tables, places_of(key), inner) {
                 Err(error) => Err(error.below(alloc, Step::Key(word))),
                 Ok(args) => {
-                    let part = assemble(alloc, key, args)?;
-                    Ok(part)
+                    let node = assemble(key, args)?;
+                    Ok(node)
                 }
             },
         },
@@ -64,6 +65,7 @@ fn read_places(
 ) -> Result<Args, JsonError>
     ensures ok { IfOk result (λ args. places_as (declared tables.now) (places_view places) (view value.now)
         ≡ Some (args_view args)) }
+    ensures fit { IfOk result (λ args. AllFit (asked_in (places_view places)) (args_view args)) }
     ensures err { IfErr result (IsErrorOf (places_form (names_of (declared tables.now)) (places_view places))
         (view value.now)) }
 {
@@ -96,6 +98,7 @@ fn read_two(
 ) -> Result<Args, JsonError>
     ensures ok { IfOk result (λ args. list_as (declared tables.now) (place_view first ∷ place_view second ∷ []) (view value.now)
         ≡ Some (args_view args)) }
+    ensures fit { IfOk result (λ args. AllFit (place_view first ∷ place_view second ∷ []) (args_view args)) }
     ensures err { IfErr result (IsErrorOf (items_of (names_of (declared tables.now)) (place_view first ∷ place_view second ∷ []))
         (view value.now)) }
 {
@@ -126,6 +129,7 @@ fn read_three(
 ) -> Result<Args, JsonError>
     ensures ok { IfOk result (λ args. list_as (declared tables.now) (place_view first ∷ place_view second ∷ place_view third ∷ [])
         (view value.now) ≡ Some (args_view args)) }
+    ensures fit { IfOk result (λ args. AllFit (place_view first ∷ place_view second ∷ place_view third ∷ []) (args_view args)) }
     ensures err { IfErr result (IsErrorOf (items_of (names_of (declared tables.now))
         (place_view first ∷ place_view second ∷ place_view third ∷ [])) (view value.now)) }
 {
@@ -156,6 +160,7 @@ fn read_three(
 fn read_place(alloc: Global, tables: &Tables, place: Place, value: &Value) -> Result<Arg, JsonError>
     ensures ok { IfOk result (λ arg. read_as (declared tables.now) (place_view place) (view value.now)
         ≡ Some (arg_view arg)) }
+    ensures fit { IfOk result (λ arg. Fits (place_view place) (arg_view arg)) }
     ensures err { IfErr result (IsErrorOf (asked_form (names_of (declared tables.now)) (place_view place))
         (view value.now)) }
 {
@@ -176,6 +181,7 @@ fn read_place(alloc: Global, tables: &Tables, place: Place, value: &Value) -> Re
 fn read_expressions(alloc: Global, tables: &Tables, value: &Value) -> Result<Exprs, JsonError>
     ensures ok { IfOk result (λ exprs. read_as (declared tables.now) (many expression) (view value.now)
         ≡ Some (many_read (reads_of (map expression_read (trees_of exprs))))) }
+    ensures fit { IfOk result (λ exprs. Fits (many expression) (many_read (reads_of (map expression_read (trees_of exprs))))) }
     ensures err { IfErr result (IsErrorOf (asked_form (names_of (declared tables.now)) (many expression)) (view value.now)) }
 {
     match value.as_array() {
@@ -185,10 +191,7 @@ fn read_expressions(alloc: Global, tables: &Tables, value: &Value) -> Result<Exp
             let mut items = Vec::new(alloc);
             for (number, value) in values.iter().enumerate() {
                 match read_form(alloc, tables, Kind::Expression, value) {
-                    Ok(part) => {
-                        let expr = expression(Arg::One(part));
-                        items.push(Box::into_inner(expr))?;
-                    }
+                    Ok(node) => items.push(expression_node(node))?,
                     Err(error) => return Err(error.below(alloc, Step::Item(number))),
                 }
             }
@@ -203,12 +206,16 @@ fn read_expressions(alloc: Global, tables: &Tables, value: &Value) -> Result<Exp
 fn read_item(alloc: Global, tables: &Tables, item: Item, value: &Value) -> Result<Part, JsonError>
     ensures ok { IfOk result (λ part. read_as (declared tables.now) (item_view item) (view value.now)
         ≡ Some (part_view part)) }
+    ensures fit { IfOk result (λ part. Fits (item_view item) (part_view part)) }
     ensures err { IfErr result (IsErrorOf (asked_form (names_of (declared tables.now)) (item_view item))
         (view value.now)) }
 {
     match item {
         Item::Form(kind) => match read_form(alloc, tables, kind, value) {
-            Ok(part) => Ok(part),
+            Ok(node) => {
+                let part = boxed(alloc, node)?;
+                Ok(part)
+            }
             Err(error) => Err(error),
         },
         Item::Leaf(leaf) => match read_leaf(alloc, tables, leaf, value) {
@@ -219,11 +226,17 @@ fn read_item(alloc: Global, tables: &Tables, item: Item, value: &Value) -> Resul
 }
 
 // What has no forms.
-fn read_leaf(alloc: Global, tables: &Tables, leaf: Leaf, value: &Value) -> Result<Part, JsonError>
-    ensures ok { IfOk result (λ part. leaf_of (declared tables.now) leaf (view value.now) ≡ Some (part_view part)) }
-    ensures err { IfErr result (IsErrorOf (leaf_form (names_of (declared tables.now)) leaf) (view value.now)) }
+fn read_leaf(
+    alloc: Global,
+    tables: &Tables,
+    which: Leaf,
+    value: &Value,
+) -> Result<Part, JsonError>
+    ensures ok { IfOk result (λ part. leaf_of (declared tables.now) which (view value.now) ≡ Some (part_view part)) }
+    ensures fit { IfOk result (λ part. Fits (leaf which) (part_view part)) }
+    ensures err { IfErr result (IsErrorOf (leaf_form (names_of (declared tables.now)) which) (view value.now)) }
 {
-    match leaf {
+    match which {
         Leaf::Name => match read_text(alloc, value) {
             Ok(name) => Ok(Part::Name(name)),
             Err(error) => Err(error),
@@ -276,21 +289,21 @@ fn read_leaf(alloc: Global, tables: &Tables, leaf: Leaf, value: &Value) -> Resul
             Err(error) => Err(error),
         },
         Leaf::Nothing => match read_nothing(alloc, value) {
-            Ok(part) => Ok(part),
+            Ok(()) => Ok(Part::Nothing),
             Err(error) => Err(error),
         },
     }
 }
 
 // Null.
-fn read_nothing(alloc: Global, value: &Value) -> Result<Part, JsonError>
-    ensures ok { IfOk result (λ part. nothing_of (view value.now) ≡ Some (part_view part)) }
+fn read_nothing(alloc: Global, value: &Value) -> Result<(), JsonError>
+    ensures ok { IfOk result (λ _. nothing_of (view value.now) ≡ Some nothing_read) }
     ensures err { IfErr result (IsErrorOf nothing_form (view value.now)) }
 {
     if !value.is_null() {
         return Err(JsonError::shape(alloc, value));
     }
-    Ok(Part::Nothing)
+    Ok(())
 }
 
 // The number and the columns of the table of that name.
@@ -319,21 +332,20 @@ fn read_table_name(
 }
 
 // What a key says of what was read of its value.
-fn assemble(alloc: Global, key: Key, args: Args) -> Result<Part, JsonError>
+fn assemble(key: Key, args: Args) -> Result<Node, JsonError>
     requires { AllFit (asked_in (asks key)) (args_view args) }
-    ensures ok { IfOk result (λ part. says key (args_view args) ≡ Some (part_view part)) }
+    ensures ok { IfOk result (λ node. says key (args_view args) ≡ Some (node_view node)) }
+    ensures fit { IfOk result (λ node. Fits (a_form (kind_of key)) (node_view node)) }
     ensures err { IfErr result (λ error. error ≡ JsonError.NoMemory) }
 {
     match key {
         Key::Expression(key) => {
             let expr = assemble_expression(key, args)?;
-            let expr = Box::new(alloc, expr)?;
-            Ok(Part::Expression(expr))
+            Ok(Node::Expression(expr))
         }
         Key::Plan(key) => {
             let plan = assemble_plan(key, args)?;
-            let plan = Box::new(alloc, plan)?;
-            Ok(Part::Plan(plan))
+            Ok(Node::Plan(plan))
         }
     }
 }

@@ -10,7 +10,7 @@ use Rattle.plan_json.specs.Queries.{places_as}
 use Rattle.plan_json.specs.Tables.{declared}
 use Rattle.plan_json.specs.declared.forms.Kind.TheVariants as kinds
 use Rattle.plan_json.proofs.FaultLemmas.{error_below, IsErrorOf-own, item_in}
-use Rattle.plan_json.proofs.FormLemmas.{form_read, places_fit, plan_fits, key_part, two_read, three_read, other_than_two, other_than_three, each_more, each_read}
+use Rattle.plan_json.proofs.FormLemmas.{form_read, key_part, expressions_fit, two_read, three_read, other_than_two, other_than_three, each_more, each_read}
 use Rattle.plan_json.proofs.LookingLemmas.{array-from_two_items, array-from_three_items, depth-item, depth-two_items, depth-three_items}
 use Rattle.plan_json.proofs.places.+forms.Goals as goal
 
@@ -24,15 +24,13 @@ read_form-returns-in-Err-clause-err t c =
     c.in-Err.ensures.err c.below.ensures
 
 pub read_form-assemble-requires : goal.read_form-assemble-requires
-read_form-assemble-requires t c =
-    subst (λ p. AllFit (asked_in p) (args_view c.in-Ok.args)) c.places_of.ensures.asks
-    (places_fit (declared c.args.tables.now) (places_view c.places_of.result) (view c.in-Some.inner.now) _ c.in-Ok.ensures.ok)
+read_form-assemble-requires t c = subst (λ p. AllFit (asked_in p) (args_view c.in-Ok.args)) c.places_of.ensures.asks c.in-Ok.ensures.fit
 
-pub read_form-returns-in_ok-part-in-Ok-clause-ok : goal.read_form-returns-in_ok-part-in-Ok-clause-ok
-read_form-returns-in_ok-part-in-Ok-clause-ok t c =
+pub read_form-returns-in_ok-node-in-Ok-clause-ok : goal.read_form-returns-in_ok-node-in-Ok-clause-ok
+read_form-returns-in_ok-node-in-Ok-clause-ok t c =
     form_read (declared c.args.tables.now) c.args.kind _ _ _ (c.in-Some-find_key.word.now, c.in-Some-find_key.key) _ _ c.in-Some.ensures c.in-Some-find_key.ensures.row
     (subst (λ p. places_as (declared c.args.tables.now) p (view c.in-Some.inner.now) ≡ Some (args_view c.in-Ok.args)) c.places_of.ensures.asks c.in-Ok.ensures.ok)
-    c.in_ok-part-in-Ok.ensures.ok
+    c.in_ok-node-in-Ok.ensures.ok
 
 -- ---- a list of exactly these
 
@@ -101,16 +99,15 @@ read_expressions-returns-in-Err-clause-err t c =
     (item_in (asked_form names expression) _ c.as_slice-values.result.now c.loop-number.number _ (ap (λ vs. Some (items_view vs)) c.as_slice-values.ensures.value ∙ c.in-Some.ensures) c.loop-number-test.true c.index-values-number.is)
     c.in-Err.ensures.err c.below.ensures
 
-pub read_expressions-expression-expr-requires : goal.read_expressions-expression-expr-requires
-read_expressions-expression-expr-requires t c = plan_fits (declared c.args.tables.now) kinds.Expression (view c.index-values-number.result) _ c.in-Ok.ensures.ok
-
 pub read_expressions-loop-number-preserved : goal.read_expressions-loop-number-preserved
 read_expressions-loop-number-preserved t c =
     let items = c.loop-number.items.items in
-    let expr = c.in-Ok.ensures.ok ∙ ap Some c.expression-expr.ensures ∙ ap (λ x. Some (expression_read (tree_of x))) (sym c.into_inner.ensures) in
-    each_more (declared c.args.tables.now) expression c.as_slice-values.result.now c.loop-number.number _ _ _ c.loop-number-test.true c.index-values-number.is c.loop-number.invariant expr
+    each_more (declared c.args.tables.now) expression c.as_slice-values.result.now c.loop-number.number _ _ _ c.loop-number-test.true c.index-values-number.is c.loop-number.invariant (c.in-Ok.ensures.ok ∙ ap Some c.expression_node.ensures)
     ∙ ap Some (sym (ap (λ l. map expression_read (map tree_of l)) c.in_ok-push-in-Ok.ensures.items ∙ ap (map expression_read) (map-append tree_of items _) ∙ map-append expression_read (map tree_of items) _))
 
 pub read_expressions-returns-after-loop-number-clause-ok : goal.read_expressions-returns-after-loop-number-clause-ok
 read_expressions-returns-after-loop-number-clause-ok t c =
     each_read (declared c.args.tables.now) expression _ c.as_slice-values.result.now c.loop-number.number _ (ap (λ vs. Some (items_view vs)) c.as_slice-values.ensures.value ∙ c.in-Some.ensures) (omega arith) c.loop-number.invariant
+
+pub read_expressions-returns-after-loop-number-clause-fit : goal.read_expressions-returns-after-loop-number-clause-fit
+read_expressions-returns-after-loop-number-clause-fit t c = record { fit = expressions_fit (map tree_of c.loop-number.items.items) }
