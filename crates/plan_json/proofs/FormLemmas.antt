@@ -1,31 +1,24 @@
 -- What is read by the table of forms.
-use Rattle.std.proofs.Common.{◌≡◌, ℕ, zero, suc, ◌+◌, ◌<◌, List, [], ◌∷◌, ◌++◌, length, get_or, slice_get, take, map, Bool, true, false, cond, ◌&&◌, Option, Some, None, is_some, option_map, option_and_then, bytes_eq, refl, sym, ap, subst, ◌∙◌, arith, ne_eqb}
+use Rattle.std.proofs.Common.{◌≡◌, ℕ, suc, ◌+◌, ◌<◌, List, [], ◌∷◌, ◌++◌, length, get_or, take, map, Bool, true, false, cond, ◌&&◌, Some, None, is_some, option_map, option_and_then, bytes_eq, refl, sym, ap, subst, ◌∙◌, arith, ne_eqb}
 use Rattle.serde_json.specs.Find.{as_null, as_array}
 use Rattle.std.proofs.lemmas.Slice.Eq.{bytes_eq-Decides}
 use Rattle.plan_dsl.specs.Ops.{Expression}
-use Rattle.serde_json.specs.Data.{Data, null, Items, array, object, no_items, item, member, no_members}
+use Rattle.serde_json.specs.Data.{Data, null, Items, array, no_items, item}
 use Rattle.serde_json.specs.View.{view, items_view}
 use Rattle.serde_json.specs.declared.value.Value.{Value}
 use Rattle.plan_json.specs.Errors.{escaped}
-use Rattle.plan_json.specs.Forms.{Asked, a_form, leaf, many, Places, single, listed, Read, name_read, literal_read, operator_read, type_read, mode_read, table_read, columns_read, expression_read, plan_read, many_read, reads_of, expressions_in, expression_rows, plan_rows, row_named, key_named, asks, says, expression_says, plan_says, expression, all_fit, nothing_read}
-use Rattle.plan_json.specs.Leaves.{text_of, literal_of, number_text_of, typed_of, operator_of, type_of, mode_of, table_at, columns_of}
+use Rattle.plan_json.specs.Forms.{Asked, a_form, many, Places, Read, expression_read, many_read, reads_of, expressions_in, row_named, key_named, asks, says, expression, all_fit, nothing_read}
 use Rattle.plan_json.specs.Looking.{only_member, all_of, two_items, three_items}
-use Rattle.plan_json.specs.Queries.{nothing_of, leaf_of, front, read_as, each_as, these_as, list_as, places_as}
+use Rattle.plan_json.specs.Queries.{nothing_of, front, read_as, each_as, list_as, places_as}
 use Rattle.plan_json.specs.Tables.{Declared}
 use Rattle.plan_json.specs.declared.forms.Kind.{Kind}
-use Rattle.plan_json.specs.declared.forms.Kind.TheVariants as kinds
 use Rattle.plan_json.specs.declared.forms.Key.{Key}
-use Rattle.plan_json.specs.declared.forms.Key.TheVariants as keys
-use Rattle.plan_json.specs.declared.forms.ExpressionKey.{ExpressionKey}
-use Rattle.plan_json.specs.declared.forms.PlanKey.{PlanKey}
-use Rattle.plan_json.specs.declared.forms.Leaf.{Leaf}
-use Rattle.plan_json.specs.declared.forms.Leaf.TheVariants as leaves
 use Rattle.plan_json.proofs.LookingLemmas.{object-from_only_member, array-from_as_array, array-from_two_items, array-from_three_items}
-use Rattle.plan_json.proofs.ItemLemmas.{mapped, chained, opened, all_of-more}
+use Rattle.plan_json.proofs.ItemLemmas.{all_of-more}
 use Rattle.std.proofs.lemmas.List.{take_all}
 use Rattle.plan_types.specs.Schemas.{Name}
 use Rattle.serde_json.specs.Events.{items_len}
-use Rattle.plan_json.specs.Faults.{part, key, number, keyed_form, items_of, asked_form, places_form, key_form, own_fault, shape_fault, part_of, unless, BadShape}
+use Rattle.plan_json.specs.Faults.{part, key, keyed_form, items_of, places_form, key_form, own_fault, shape_fault, part_of, unless, BadShape}
 use Rattle.plan_json.proofs.FaultLemmas.{key_in}
 
 -- ---- keys need no escape in a pointer

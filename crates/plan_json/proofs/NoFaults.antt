@@ -189,16 +189,15 @@ item_holds : {A : Type 0} (form : Form) (read : Data → Option A) (ds : Items) 
 item_holds form read ds xs n p all well here =
     let v = mapped (part form) (get_item n ds) p here in subst Holds v.2 (well v.0 (all_of-item read ds xs n v.0 all v.1))
 
-parts : (form : Form) (d : Data) → IsOf form d → (step : Step) (p : Part) → part_of form step d ≡ Some p → Holds p
-parts a_query d (q, e) (key word) p here =
-    let pair = chained query_from (two_members (codes "tables") (codes "plan") d) q e in
-    let tables = chained (λ ts. option_map (λ tree. record { tables = ts; plan = tree }) (plan_of ts pair.0.1)) (tables_of pair.0.0) q pair.2 in
-    let tree = mapped (λ tree. record { tables = tables.0; plan = tree }) (plan_of tables.0 pair.0.1) q tables.2 in
-    let plan = chained plan_in (read_as tables.0 plan_asked pair.0.1) tree.0 tree.1 in
-    either_holds (bytes_eq word (codes "tables")) (bytes_eq word (codes "plan")) (part table_list pair.0.0) (part (a_plan (declared_names pair.0.0)) pair.0.1) p
-    (tables.0, tables.1) (tables.0, sym (declared_names-read pair.0.0 tables.0 tables.1), (plan.0, plan.1))
-    (sym (ap (option_and_then (query_part word)) pair.1) ∙ here)
-parts table_list (array ds) (ts, e) (number n) p here =
+-- the value of a type's key
+type_part : (d : Data) (t : Ty) → type_of d ≡ Some t → (at : List ℕ) (p : Part) → option_and_then (part_if at) (keyed_part type_key_form d) ≡ Some p → Holds p
+type_part (object (member word value no_members)) t e at p here =
+    let row = type_row word value t e in
+    key_holds type_key_form word value (type_form row.0.1) (type_form_of word row.0 row.1) (type_key_is row.0.1 value t row.2) at p here
+type_part _ t _ at p here = cc
+
+at_number : (form : Form) (d : Data) → IsOf form d → (n : ℕ) (p : Part) → part_of form (number n) d ≡ Some p → Holds p
+at_number table_list (array ds) (ts, e) n p here =
     let all = kept (nat_lt (items_len ds) table_limit && not (repeats (some_of table_name ds))) (all_of table_of ds) ts e in
     let distinct : repeats (some_of table_name ds) ≡ false = not_true (repeats (some_of table_name ds)) (and_parts _ _ all.0).1 in
     let v = mapped (part (a_table (some_of table_name (first_items n ds)))) (get_item n ds) p here in
@@ -209,40 +208,52 @@ parts table_list (array ds) (ts, e) (number n) p here =
     not_true : (b : Bool) → not b ≡ true → b ≡ false
     not_true true h = cc
     not_true false h = refl
-parts column_list (array ds) (cs, e) (number n) p here =
+at_number column_list (array ds) (cs, e) n p here =
     item_holds a_column column_of ds cs n p (sym (each_column-all_of ds) ∙ (passed (repeats (some_of column_name ds)) (each_column ds) cs e).1) (λ v h. h) here
-parts field_list (array ds) (fs, e) (number n) p here =
+at_number field_list (array ds) (fs, e) n p here =
     let read = mapped fields_from (each_column ds) fs e in item_holds a_column column_of ds read.0 n p (sym (each_column-all_of ds) ∙ read.1) (λ v h. h) here
-parts a_column (array (item name (item type no_items))) (c, e) (number n) p here =
+at_number a_column (array (item name (item type no_items))) (c, e) n p here =
     let are = both_are (text_of name) (type_of type) c e in either_holds (n == 0) (n == 1) (part a_text name) (part a_type type) p (c.0, are.0) (c.1, are.1) here
-parts a_type (object (member word value no_members)) (t, e) (key at) p here =
-    let row = type_row word value t e in
-    key_holds type_key_form word value (type_form row.0.1) (type_form_of word row.0 row.1) (type_key_is row.0.1 value t row.2) at p here
-parts (a_table before) d (t, e, new) (key word) p here =
-    let pair = chained (λ q. both (text_of q.0) (columns_of q.1)) (two_members (codes "name") (codes "columns") d) t e in
-    let are = both_are (text_of pair.0.0) (columns_of pair.0.1) t pair.2 in
-    either_holds (bytes_eq word (codes "name")) (bytes_eq word (codes "columns")) (part (a_new_name before) pair.0.0) (part column_list pair.0.1) p
-    (t.0, are.0, new) (t.1, are.1) (sym (ap (option_and_then (table_part before word)) pair.1) ∙ here)
-parts a_typed_literal d (op, e) (number n) p here =
+at_number a_typed_literal d (op, e) n p here =
     let pair = chained typed_from (two_items d) op e in
     let type = chained (λ t. number_of t pair.0.1) (counted_of pair.0.0) op pair.2 in
     either_holds (n == 0) (n == 1) (part a_counted_type pair.0.0) (part (a_number_of type.0) pair.0.1) p (type.0, type.1) (op, type.2)
     (sym (ap (option_and_then (typed_part n)) pair.1 ∙ ap (λ o. cond (n == 0) (Some (part a_counted_type pair.0.0)) (cond (n == 1) (option_map (λ t. part (a_number_of t) pair.0.1) o) None)) type.1) ∙ here)
-parts a_counted_type d (t, e) (key word) p here =
-    let found = chained counted (type_of d) t e in parts a_type d (found.0, found.1) (key word) p here
-parts (keyed_form names kind) (object (member word value no_members)) (tables, same, (r, e)) (key at) p here =
-    let row = chained (λ row. option_and_then (says row.1) (places_as tables (asks row.1) value)) (key_named kind word) r e in
-    let args = chained (says row.0.1) (places_as tables (asks row.0.1) value) r row.2 in
-    key_holds (key_form names kind) word value (places_form names (asks row.0.1)) (form_row names kind word row.0 row.1) (places_are names tables same (asks row.0.1) value args.0 args.1) at p here
-parts (list_of names a) (array ds) (tables, same, (r, e)) (number n) p here =
+at_number (list_of names a) (array ds) (tables, same, (r, e)) n p here =
     let rs = mapped (λ xs. many_read (reads_of xs)) (each_as tables a ds) r e in
     item_holds (asked_form names a) (read_as tables a) ds rs.0 n p (sym (each_as-all_of tables a ds) ∙ rs.1) (asked_is names tables same a) here
-parts (items_of names ps) (array ds) (tables, same, (rs, e)) (number n) p here =
+at_number (items_of names ps) (array ds) (tables, same, (rs, e)) n p here =
     let found = kept (items_len ds == length ps) (option_map (λ q. part (asked_form names q.0) q.1) (both (slice_get ps n) (get_item n ds))) p here in
     let q = mapped (λ (q : Asked × Data). part (asked_form names q.0) q.1) (both (slice_get ps n) (get_item n ds)) p found.1 in
     let are = both_are (slice_get ps n) (get_item n ds) q.0 q.1 in
     subst Holds q.2 (asked_is names tables same q.0.0 q.0.1 (this_read tables ps ds rs n q.0.0 q.0.1 e are.0 are.1))
-parts _ _ _ _ _ here = cc
+at_number _ _ _ n p here = cc
+
+at_key : (form : Form) (d : Data) → IsOf form d → (word : List ℕ) (p : Part) → part_of form (key word) d ≡ Some p → Holds p
+at_key a_query d (q, e) word p here =
+    let pair = chained query_from (two_members (codes "tables") (codes "plan") d) q e in
+    let tables = chained (λ ts. option_map (λ tree. record { tables = ts; plan = tree }) (plan_of ts pair.0.1)) (tables_of pair.0.0) q pair.2 in
+    let tree = mapped (λ tree. record { tables = tables.0; plan = tree }) (plan_of tables.0 pair.0.1) q tables.2 in
+    let plan = chained plan_in (read_as tables.0 plan_asked pair.0.1) tree.0 tree.1 in
+    either_holds (bytes_eq word (codes "tables")) (bytes_eq word (codes "plan")) (part table_list pair.0.0) (part (a_plan (declared_names pair.0.0)) pair.0.1) p
+    (tables.0, tables.1) (tables.0, sym (declared_names-read pair.0.0 tables.0 tables.1), (plan.0, plan.1))
+    (sym (ap (option_and_then (query_part word)) pair.1) ∙ here)
+at_key a_type d (t, e) word p here = type_part d t e word p here
+at_key (a_table before) d (t, e, new) word p here =
+    let pair = chained (λ q. both (text_of q.0) (columns_of q.1)) (two_members (codes "name") (codes "columns") d) t e in
+    let are = both_are (text_of pair.0.0) (columns_of pair.0.1) t pair.2 in
+    either_holds (bytes_eq word (codes "name")) (bytes_eq word (codes "columns")) (part (a_new_name before) pair.0.0) (part column_list pair.0.1) p
+    (t.0, are.0, new) (t.1, are.1) (sym (ap (option_and_then (table_part before word)) pair.1) ∙ here)
+at_key a_counted_type d (t, e) word p here = let found = chained counted (type_of d) t e in type_part d found.0 found.1 word p here
+at_key (keyed_form names kind) (object (member word value no_members)) (tables, same, (r, e)) at p here =
+    let row = chained (λ row. option_and_then (says row.1) (places_as tables (asks row.1) value)) (key_named kind word) r e in
+    let args = chained (says row.0.1) (places_as tables (asks row.0.1) value) r row.2 in
+    key_holds (key_form names kind) word value (places_form names (asks row.0.1)) (form_row names kind word row.0 row.1) (places_are names tables same (asks row.0.1) value args.0 args.1) at p here
+at_key _ _ _ word p here = cc
+
+parts : (form : Form) (d : Data) → IsOf form d → (step : Step) (p : Part) → part_of form step d ≡ Some p → Holds p
+parts form d h (number n) p here = at_number form d h n p here
+parts form d h (key word) p here = at_key form d h word p here
 
 no_fault : (form : Form) (d : Data) → IsOf form d → (path : Path) → fault_at form d path ≡ None
 no_fault form d h [] = own form d h

@@ -1,20 +1,14 @@
 use Rattle.std.proofs.Common.{Some, is_some, ◌∙◌, sym, ap, arith}
 use Rattle.plan_types.proofs.SchemaLemmas.{is_some-option_map}
-use Rattle.serde_json.specs.View.{view, items_view}
+use Rattle.serde_json.specs.View.{items_view}
 use Rattle.plan_types.specs.Schemas.{columns, names_of, repeats}
 use Rattle.plan_types.specs.Types.{ty}
 use Rattle.plan_json.specs.Leaves.{column_of}
-use Rattle.plan_json.specs.Faults.{a_column, column_list, part, number}
+use Rattle.plan_json.specs.Faults.{a_column, column_list}
 use Rattle.plan_json.proofs.DeclarationLemmas.{columns_more, columns_all, column_repeated}
-use Rattle.plan_json.proofs.FaultLemmas.{error_below, IsErrorOf-own, item_in}
+use Rattle.plan_json.proofs.FaultLemmas.{IsErrorOf-own, item_in}
 use Rattle.plan_json.proofs.ItemLemmas.{all_of-more}
 use Rattle.plan_json.proofs.columns.read_columns.Goals as goal
-
-pub returns-in-Err-clause-err : goal.returns-in-Err-clause-err
-returns-in-Err-clause-err c =
-    error_below column_list _ (number c.loop-number.number) (part a_column (view c.index-items-number.result)) _ _
-    (item_in a_column _ c.as_slice-items.result.now c.loop-number.number _ (ap (λ vs. Some (items_view vs)) c.as_slice-items.ensures.value ∙ c.in-Some.ensures) c.loop-number-test.true c.index-items-number.is)
-    c.in-Err.ensures.err c.below.ensures
 
 pub returns-then-is_some-clause-err : goal.returns-then-is_some-clause-err
 returns-then-is_some-clause-err c =
@@ -35,3 +29,8 @@ loop-number-preserved c =
 pub returns-after-loop-number-clause-ok : goal.returns-after-loop-number-clause-ok
 returns-after-loop-number-clause-ok c =
     columns_all _ c.as_slice-items.result.now c.loop-number.number _ (ap (λ vs. Some (items_view vs)) c.as_slice-items.ensures.value ∙ c.in-Some.ensures) (omega arith) c.loop-number.invariant.read c.loop-number.invariant.distinct
+
+pub returns-in-Err-clause-err : goal.returns-in-Err-clause-err
+returns-in-Err-clause-err c =
+    c.below.ensures column_list a_column _ _
+    (item_in a_column _ c.as_slice-items.result.now c.loop-number.number _ (ap (λ vs. Some (items_view vs)) c.as_slice-items.ensures.value ∙ c.in-Some.ensures) c.loop-number-test.true c.index-items-number.is) c.in-Err.ensures.err

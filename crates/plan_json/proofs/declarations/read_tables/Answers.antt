@@ -1,11 +1,11 @@
 use Rattle.std.proofs.Common.{Some, ◌∙◌, sym, ap, arith}
-use Rattle.serde_json.specs.View.{view, items_view}
+use Rattle.serde_json.specs.View.{items_view}
 use Rattle.plan_types.specs.Schemas.{names_of, repeats}
-use Rattle.plan_json.specs.Faults.{a_table, table_list, part, number}
+use Rattle.plan_json.specs.Faults.{a_table, table_list}
 use Rattle.plan_json.specs.Leaves.{table_of}
 use Rattle.plan_json.specs.Tables.{declared}
 use Rattle.plan_json.proofs.DeclarationLemmas.{tables_all, tables_more, tables_too_many, table_next, length-tables}
-use Rattle.plan_json.proofs.FaultLemmas.{error_below, IsErrorOf-own}
+use Rattle.plan_json.proofs.FaultLemmas.{IsErrorOf-own}
 use Rattle.plan_json.proofs.ItemLemmas.{all_of-more}
 use Rattle.plan_json.proofs.declarations.read_tables.Goals as goal
 
@@ -13,12 +13,6 @@ pub returns-then-values-clause-err : goal.returns-then-values-clause-err
 returns-then-values-clause-err c =
     IsErrorOf-own table_list _ _ _ c.shape-then-values.ensures
     (tables_too_many _ c.as_slice-values.result.now (ap (λ vs. Some (items_view vs)) c.as_slice-values.ensures.value ∙ c.in-Some.ensures) c.if-values.true)
-
-pub returns-in-Err-clause-err : goal.returns-in-Err-clause-err
-returns-in-Err-clause-err c =
-    error_below table_list _ (number c.loop-number.number) (part (a_table (names_of (declared c.loop-number.tables))) (view c.index-values-number.result)) _ _
-    (table_next _ c.as_slice-values.result.now c.loop-number.number _ _ (ap (λ vs. Some (items_view vs)) c.as_slice-values.ensures.value ∙ c.in-Some.ensures) c.loop-number-test.true c.index-values-number.is c.loop-number.invariant.read)
-    c.in-Err.ensures.err c.below.ensures
 
 pub push-requires-clause-room : goal.push-requires-clause-room
 push-requires-clause-room c =
@@ -36,3 +30,8 @@ loop-number-preserved c =
 pub returns-after-loop-number-clause-ok : goal.returns-after-loop-number-clause-ok
 returns-after-loop-number-clause-ok c =
     tables_all _ c.as_slice-values.result.now c.loop-number.number _ (ap (λ vs. Some (items_view vs)) c.as_slice-values.ensures.value ∙ c.in-Some.ensures) c.if-values.false (omega arith) c.loop-number.invariant.read c.loop-number.invariant.distinct
+
+pub returns-in-Err-clause-err : goal.returns-in-Err-clause-err
+returns-in-Err-clause-err c =
+    c.below.ensures table_list (a_table (names_of (declared c.loop-number.tables))) _ _
+    (table_next _ c.as_slice-values.result.now c.loop-number.number _ _ (ap (λ vs. Some (items_view vs)) c.as_slice-values.ensures.value ∙ c.in-Some.ensures) c.loop-number-test.true c.index-values-number.is c.loop-number.invariant.read) c.in-Err.ensures.err
