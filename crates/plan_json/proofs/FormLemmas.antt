@@ -64,11 +64,6 @@ pub expressions_read : (trees : List Expression) → expressions_in (reads_of (m
 expressions_read [] = refl
 expressions_read (tree ∷ trees) = ap (λ l. tree ∷ l) (expressions_read trees)
 
--- null says nothing
-pub null_said : (d : Data) → is_some (as_null d) ≡ true → nothing_of d ≡ Some nothing_read
-null_said null h = refl
-null_said _ h = cc
-
 -- ---- a form by its key
 
 -- the value of a key is a part of a value that has it

@@ -1,7 +1,7 @@
 -- A value that is a query has no fault, along any path: what is of its form has no fault of its own, and each part of it is of the
 -- form that its place asks for.
 use Rattle.std.proofs.Common.{◌≡◌, ℕ, zero, suc, ◌==◌, List, [], ◌∷◌, length, slice_get, Option, Some, None, option_map, option_and_then, Bool, true, false, cond, not, ◌&&◌, ◌||◌, is_some, codes, nat_lt, bytes_eq, refl, sym, ap, subst, ◌∙◌}
-use Rattle.std.proofs.lemmas.Bool.{and_parts, eq-eqb}
+use Rattle.std.proofs.lemmas.Bool.{and_from, and_parts, eq-eqb}
 use Rattle.std.specs.Option.{option_map_or}
 use Rattle.plan_types.specs.Schemas.{Name, Columns, names_of, is_among, repeats}
 use Rattle.plan_types.proofs.NameLemmas.{repeats-apart}
@@ -12,7 +12,7 @@ use Rattle.serde_json.specs.Find.{as_null, get_item}
 use Rattle.plan_json.specs.Errors.{IsErrorOf}
 use Rattle.plan_json.specs.declared.error.JsonError.{JsonError}
 use Rattle.plan_json.specs.declared.error.JsonError.TheVariants.{NotJson, Shape, Float, Name as Name', NoMemory}
-use Rattle.plan_json.specs.Faults.{FaultKind, BadShape, BadFloat, BadName, Step, key, number, Path, Form, a_query, table_list, column_list, field_list, a_column, a_type, a_unit, a_text, a_table, a_new_name, a_plan, a_scan, a_literal, a_number_text, a_typed_literal, a_counted_type, a_number_of, an_operator, a_mode, keyed_form, list_of, items_of, asked_form, places_form, key_form, type_form, type_key_form, Part, part, part_if, part_of, own_fault, has_type_shape, shape_fault, unless, keyed_part, either_part, query_part, table_part, typed_part, declared_names, fault_at, nothing_form}
+use Rattle.plan_json.specs.Faults.{FaultKind, BadShape, BadFloat, BadName, Step, key, number, Path, Form, a_query, table_list, column_list, field_list, a_column, a_type, a_unit, a_text, a_table, a_new_name, a_plan, a_scan, a_literal, a_number_text, a_typed_literal, a_counted_type, a_number_of, an_operator, a_mode, keyed_form, list_of, items_of, asked_form, places_form, key_form, type_form, type_key_form, Part, part, part_if, part_of, own_fault, has_shape, has_type_shape, shape_fault, unless, keyed_part, either_part, query_part, table_part, typed_part, declared_names, fault_at, nothing_form}
 use Rattle.plan_json.specs.Forms.{Asked, plan as plan_asked, a_form, leaf, many, Places, single, listed, Read, name_read, literal_read, operator_read, type_read, mode_read, table_read, columns_read, nothing_read, many_read, reads_of, asks, says, key_named, row_named, type_rows}
 use Rattle.plan_json.specs.declared.forms.Key.{Key}
 use Rattle.plan_json.specs.declared.forms.Kind.{Kind}
@@ -35,22 +35,15 @@ IsOf column_list d = Present (columns_of d)
 IsOf field_list d = Present (struct_of d)
 IsOf a_column d = Present (column_of d)
 IsOf a_type d = Present (type_of d)
-IsOf a_unit d = Present (unit_of d)
-IsOf a_text d = Present (text_of d)
 IsOf (a_table before) d = (table : Name × Columns) × (table_of d ≡ Some table) × (is_among table.0 before ≡ false)
 IsOf (a_new_name before) d = (name : Name) × (text_of d ≡ Some name) × (is_among name before ≡ false)
 IsOf (a_scan names) d = (name : Name) × (text_of d ≡ Some name) × (is_among name names ≡ true)
-IsOf a_literal d = Present (literal_of d)
-IsOf a_number_text d = Present (number_text_of d)
 IsOf a_typed_literal d = Present (typed_of d)
 IsOf a_counted_type d = Present (counted_of d)
-IsOf (a_number_of type) d = Present (number_of type d)
-IsOf an_operator d = Present (operator_of d)
-IsOf a_mode d = Present (mode_of d)
-IsOf nothing_form d = Present (as_null d)
 IsOf (keyed_form names kind) d = (tables : Declared) × (names_of tables ≡ names) × Present (read_as tables (a_form kind) d)
 IsOf (list_of names a) d = (tables : Declared) × (names_of tables ≡ names) × Present (read_as tables (many a) d)
 IsOf (items_of names ps) d = (tables : Declared) × (names_of tables ≡ names) × Present (list_as tables ps d)
+IsOf form d = has_shape form d ≡ true
 
 abbrev Holds : Part → Type 0
 Holds p = IsOf p.form p.value
@@ -58,10 +51,10 @@ Holds p = IsOf p.form p.value
 made : {A B : Type 0} (f : A → B) (o : Option A) (y : B) → option_map f o ≡ Some y → Present o
 made f o y e = let x = mapped f o y e in (x.0, x.1)
 
--- ---- no fault of its own
+shown : {A B : Type 0} (f : A → B) (o : Option A) (y : B) → option_map f o ≡ Some y → is_some o ≡ true
+shown f o y e = ap is_some (mapped f o y e).1
 
-present : {A : Type 0} (d : Data) (o : Option A) → Present o → unless (shape_fault d) (is_some o) ≡ None
-present d o (x, is) = ap (λ r. unless (shape_fault d) (is_some r)) is
+-- ---- no fault of its own
 
 named : (d : Data) (test : Name → Bool) (name : Name) → text_of d ≡ Some name → test name ≡ true → option_map_or (λ n. unless BadName (test n)) (text_of d) (Some (shape_fault d)) ≡ None
 named d test name is passes = ap (λ o. option_map_or (λ n. unless BadName (test n)) o (Some (shape_fault d))) is ∙ ap (unless BadName) passes
@@ -92,62 +85,57 @@ these_count tables _ _ rs e = cc
 form_row : (names : List Name) (kind : Kind) (word : List ℕ) (row : List ℕ × Key) → key_named kind word ≡ Some row → key_form names kind word ≡ Some (places_form names (asks row.1))
 form_row names kind word row is = ap (option_map (λ (r : List ℕ × Key). places_form names (asks r.1))) is
 
+shape : (form : Form) (d : Data) → IsOf form d → has_shape form d ≡ true
+shape a_query d (q, e) = ap is_some (chained query_from (two_members (codes "tables") (codes "plan") d) q e).1
+shape table_list (array ds) (ts, e) = (and_parts _ _ (kept (nat_lt (items_len ds) table_limit && not (repeats (some_of table_name ds))) (all_of table_of ds) ts e).0).0
+shape table_list _ (ts, e) = cc
+shape column_list (array ds) (cs, e) = ap not (passed (repeats (some_of column_name ds)) (each_column ds) cs e).0
+shape column_list _ (cs, e) = cc
+shape field_list (array ds) h = refl
+shape field_list _ (fs, e) = cc
+shape a_column (array (item name (item type no_items))) h = refl
+shape a_column _ (c, e) = cc
+shape a_type d (t, e) = type_shape d t e
+shape (a_table before) d (t, e, new) = ap is_some (chained (λ q. both (text_of q.0) (columns_of q.1)) (two_members (codes "name") (codes "columns") d) t e).1
+shape (a_new_name before) d (name, is, new) = ap is_some is
+shape (a_scan names) d (name, is, there) = ap is_some is
+shape a_typed_literal d (op, e) = ap is_some (chained typed_from (two_items d) op e).1
+shape a_counted_type d (t, e) =
+    let found = chained counted (type_of d) t e in
+    and_from _ _ (type_shape d found.0 found.1) (ap (λ o. option_map_or is_counted o true) found.1 ∙ (kept (is_counted found.0) (Some found.0) t found.2).0)
+shape (keyed_form names kind) (object (member word value no_members)) (tables, same, (r, e)) =
+    let row = chained (λ row. option_and_then (says row.1) (places_as tables (asks row.1) value)) (key_named kind word) r e in
+    keyed (key_form names kind) word value (places_form names (asks row.0.1), form_row names kind word row.0 row.1)
+shape (keyed_form names kind) _ (tables, same, (r, e)) = cc
+shape (list_of names a) (array ds) h = refl
+shape (list_of names a) _ (tables, same, (r, e)) = cc
+shape (items_of names ps) (array ds) (tables, same, (rs, e)) = eq-eqb _ _ (these_count tables ps ds rs e)
+shape (items_of names ps) _ (tables, same, (rs, e)) = cc
+shape _ d h = h
+
 own : (form : Form) (d : Data) → IsOf form d → own_fault form d ≡ None
-own a_query d (q, e) = let pair = chained query_from (two_members (codes "tables") (codes "plan") d) q e in present d _ (pair.0, pair.1)
-own table_list (array ds) (ts, e) = ap (unless BadShape) (and_parts _ _ (kept (nat_lt (items_len ds) table_limit && not (repeats (some_of table_name ds))) (all_of table_of ds) ts e).0).0
-own table_list _ (ts, e) = cc
-own column_list (array ds) (cs, e) = ap (λ b. unless BadShape (not b)) (passed (repeats (some_of column_name ds)) (each_column ds) cs e).0
-own column_list _ (cs, e) = cc
-own field_list (array ds) h = refl
-own field_list _ (fs, e) = cc
-own a_column (array (item name (item type no_items))) h = refl
-own a_column _ (c, e) = cc
-own a_type d (t, e) = ap (unless (shape_fault d)) (type_shape d t e)
-own a_unit d h = present d (unit_of d) h
-own a_text d h = present d (text_of d) h
-own (a_table before) d (t, e, new) =
-    let pair = chained (λ q. both (text_of q.0) (columns_of q.1)) (two_members (codes "name") (codes "columns") d) t e in present d _ (pair.0, pair.1)
 own (a_new_name before) d (name, is, new) = named d (λ n. not (is_among n before)) name is (ap not new)
 own (a_scan names) d (name, is, there) = named d (λ n. is_among n names) name is there
-own a_literal d h = present d (literal_of d) h
-own a_number_text d h = present d (number_text_of d) h
-own a_typed_literal d (op, e) = let pair = chained typed_from (two_items d) op e in present d _ (pair.0, pair.1)
-own a_counted_type d (t, e) =
-    let found = chained counted (type_of d) t e in
-    let counts = (kept (is_counted found.0) (Some found.0) t found.2).0 in
-    ap (λ b. unless (shape_fault d) (b && option_map_or is_counted (type_of d) true)) (type_shape d found.0 found.1)
-    ∙ ap (λ o. unless (shape_fault d) (option_map_or is_counted o true)) found.1 ∙ ap (unless (shape_fault d)) counts
-own (a_number_of type) d h = present d (number_of type d) h
-own an_operator d h = present d (operator_of d) h
-own a_mode d h = present d (mode_of d) h
-own nothing_form d h = present d (as_null d) h
-own (keyed_form names kind) (object (member word value no_members)) (tables, same, (r, e)) =
-    let row = chained (λ row. option_and_then (says row.1) (places_as tables (asks row.1) value)) (key_named kind word) r e in
-    ap (unless BadShape) (keyed (key_form names kind) word value (places_form names (asks row.0.1), form_row names kind word row.0 row.1))
-own (keyed_form names kind) _ (tables, same, (r, e)) = cc
-own (list_of names a) (array ds) h = refl
-own (list_of names a) _ (tables, same, (r, e)) = cc
-own (items_of names ps) (array ds) (tables, same, (rs, e)) = ap (unless BadShape) (eq-eqb _ _ (these_count tables ps ds rs e))
-own (items_of names ps) _ (tables, same, (rs, e)) = cc
+own form d h = ap (unless (shape_fault d)) (shape form d h)
 
 -- ---- what is asked
 
 asked_is : (names : List Name) (tables : Declared) → names_of tables ≡ names → (a : Asked) (d : Data) → Present (read_as tables a d) → IsOf (asked_form names a) d
 asked_is names tables same (a_form kind) d h = (tables, same, h)
 asked_is names tables same (many a) d h = (tables, same, h)
-asked_is names tables same (leaf leaves.Name) d (r, e) = made name_read (text_of d) r e
-asked_is names tables same (leaf leaves.Value) d (r, e) = made literal_read (literal_of d) r e
-asked_is names tables same (leaf leaves.Digits) d (r, e) = made literal_read (number_text_of d) r e
+asked_is names tables same (leaf leaves.Name) d (r, e) = shown name_read (text_of d) r e
+asked_is names tables same (leaf leaves.Value) d (r, e) = shown literal_read (literal_of d) r e
+asked_is names tables same (leaf leaves.Digits) d (r, e) = shown literal_read (number_text_of d) r e
 asked_is names tables same (leaf leaves.Typed) d (r, e) = made literal_read (typed_of d) r e
-asked_is names tables same (leaf leaves.Operator) d (r, e) = made operator_read (operator_of d) r e
+asked_is names tables same (leaf leaves.Operator) d (r, e) = shown operator_read (operator_of d) r e
 asked_is names tables same (leaf leaves.Dtype) d (r, e) = made type_read (type_of d) r e
-asked_is names tables same (leaf leaves.Mode) d (r, e) = made mode_read (mode_of d) r e
+asked_is names tables same (leaf leaves.Mode) d (r, e) = shown mode_read (mode_of d) r e
 asked_is names tables same (leaf leaves.Table) d (r, e) =
     let table = mapped (λ table. table_read table.0 table.1) (option_and_then (table_at tables) (text_of d)) r e in
     let at = chained (table_at tables) (text_of d) table.0 table.1 in
     (at.0, at.1, ap (is_among at.0) (sym same) ∙ sym (is_some-table_at tables at.0) ∙ ap is_some at.2)
 asked_is names tables same (leaf leaves.Columns) d (r, e) = made columns_read (columns_of d) r e
-asked_is names tables same (leaf leaves.Nothing) d (r, e) = made (λ none. nothing_read) (as_null d) r e
+asked_is names tables same (leaf leaves.Nothing) d (r, e) = shown (λ none. nothing_read) (as_null d) r e
 
 places_are : (names : List Name) (tables : Declared) → names_of tables ≡ names → (ps : Places) (d : Data) (rs : List Read) → places_as tables ps d ≡ Some rs → IsOf (places_form names ps) d
 places_are names tables same (single a) d rs e = asked_is names tables same a d (made (λ r. r ∷ []) (read_as tables a d) rs e)
@@ -163,8 +151,8 @@ this_read tables (b ∷ ps) (item d ds) rs (suc n) a v e at here =
 this_read tables _ _ rs n a v e at here = cc
 
 type_key_is : (k : TypeKey) (value : Data) (t : Ty) → type_says k (unit_of value) (type_of value) (struct_of value) ≡ Some t → IsOf (type_form k) value
-type_key_is types.Datetime value t e = made (λ u. DatetimeType u) (unit_of value) t e
-type_key_is types.Duration value t e = made (λ u. DurationType u) (unit_of value) t e
+type_key_is types.Datetime value t e = shown (λ u. DatetimeType u) (unit_of value) t e
+type_key_is types.Duration value t e = shown (λ u. DurationType u) (unit_of value) t e
 type_key_is types.List value t e = made (λ u. ListType u) (type_of value) t e
 type_key_is types.Struct value t e = made (λ fs. StructType fs) (struct_of value) t e
 
@@ -213,11 +201,11 @@ at_number column_list (array ds) (cs, e) n p here =
 at_number field_list (array ds) (fs, e) n p here =
     let read = mapped fields_from (each_column ds) fs e in item_holds a_column column_of ds read.0 n p (sym (each_column-all_of ds) ∙ read.1) (λ v h. h) here
 at_number a_column (array (item name (item type no_items))) (c, e) n p here =
-    let are = both_are (text_of name) (type_of type) c e in either_holds (n == 0) (n == 1) (part a_text name) (part a_type type) p (c.0, are.0) (c.1, are.1) here
+    let are = both_are (text_of name) (type_of type) c e in either_holds (n == 0) (n == 1) (part a_text name) (part a_type type) p (ap is_some are.0) (c.1, are.1) here
 at_number a_typed_literal d (op, e) n p here =
     let pair = chained typed_from (two_items d) op e in
     let type = chained (λ t. number_of t pair.0.1) (counted_of pair.0.0) op pair.2 in
-    either_holds (n == 0) (n == 1) (part a_counted_type pair.0.0) (part (a_number_of type.0) pair.0.1) p (type.0, type.1) (op, type.2)
+    either_holds (n == 0) (n == 1) (part a_counted_type pair.0.0) (part (a_number_of type.0) pair.0.1) p (type.0, type.1) (ap is_some type.2)
     (sym (ap (option_and_then (typed_part n)) pair.1 ∙ ap (λ o. cond (n == 0) (Some (part a_counted_type pair.0.0)) (cond (n == 1) (option_map (λ t. part (a_number_of t) pair.0.1) o) None)) type.1) ∙ here)
 at_number (list_of names a) (array ds) (tables, same, (r, e)) n p here =
     let rs = mapped (λ xs. many_read (reads_of xs)) (each_as tables a ds) r e in

@@ -12,8 +12,6 @@ use Rattle.plan_json.specs.declared.forms.Kind.{Kind}
 use Rattle.plan_json.specs.declared.forms.Kind.TheVariants as kinds
 use Rattle.plan_json.specs.declared.forms.Leaf.{Leaf}
 use Rattle.plan_json.specs.declared.forms.Leaf.TheVariants as leaves
-use Rattle.plan_json.specs.declared.forms.Item.{Item}
-use Rattle.plan_json.specs.declared.forms.Item.TheVariants as items
 use Rattle.plan_json.specs.declared.forms.Place.{Place}
 use Rattle.plan_json.specs.declared.forms.Place.TheVariants as places
 use Rattle.plan_json.specs.declared.forms.Places.{Places as CodePlaces}
@@ -226,12 +224,9 @@ pub record AllFit (asked : List Asked) (found : List Read) : Type 0 where
 abbrev pub row_view : {K : Type 0} → Row K → List ℕ × K
 row_view row = (row.word.now, row.key)
 
-abbrev pub item_view : Item → Asked
-item_view (items.Form kind) = a_form kind
-item_view (items.Leaf which) = leaf which
-
 abbrev pub place_view : Place → Asked
-place_view (places.One item) = item_view item
+place_view (places.Form kind) = a_form kind
+place_view (places.Leaf which) = leaf which
 place_view places.Expressions = many expression
 
 abbrev pub places_view : CodePlaces → Places

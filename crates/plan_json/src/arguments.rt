@@ -1,16 +1,15 @@
 //! What is read of a key's value, item by item, and taking it apart again.
-ghost use Rattle.std.specs.Prelude.{◌≡◌, ◌∷◌, [], false, length, map, IfOk, IfErr};
+ghost use Rattle.std.specs.Prelude.{◌≡◌, ◌∷◌, [], false, length, map};
 ghost use Rattle.plan_dsl.specs.Expressions.{tree_of};
 ghost use Rattle.plan_dsl.specs.Literals.{literal_op};
 ghost use Rattle.plan_dsl.specs.Plans.{plan_tree, trees_of};
 ghost use Rattle.plan_types.specs.Schemas.{columns};
 ghost use Rattle.plan_types.specs.Types.{ty};
-ghost use Rattle.plan_json.specs.Arguments.{arg_view, args_view, node_view, part_view};
+ghost use Rattle.plan_json.specs.Arguments.{arg_view, args_view};
 ghost use Rattle.plan_json.specs.Forms.{AllFit, Asked, Fits, columns_read, expression, expression_read, expressions_in, leaf, literal_read, many, many_read, mode_read, name_read, operator_read, plan, plan_read, reads_of, table_read, type_read, nothing_read};
 ghost use Rattle.plan_json.specs.Queries.{has_flags};
 ghost use Rattle.plan_json.specs.declared.forms.Leaf.TheVariants as leaves;
 
-use super::error::JsonError;
 use plan_dsl::expr::Expr;
 use plan_dsl::literal::LiteralValue;
 use plan_dsl::operator::Operator;
@@ -18,18 +17,10 @@ use plan_dsl::plan::{DslPlan, Exprs};
 use plan_types::dtype::{CastOptions, DataType};
 use plan_types::schema::Schema;
 use plan_types::text::PlSmallStr;
-use std::alloc::Global;
 
-// What an object of one key says. It stands in place.
+// What is read at one place. What is wide stands in a box, since it goes through several hands.
 #[derive(Drop)]
-pub(crate) enum Node {
-    Expression(Expr),
-    Plan(DslPlan),
-}
-
-// What is read of one item. What is wide stands in a box, since each item goes through several hands.
-#[derive(Drop)]
-pub(crate) enum Part {
+pub(crate) enum Arg {
     Name(PlSmallStr),
     Literal(Box<LiteralValue>),
     Operator(Operator),
@@ -37,15 +28,9 @@ pub(crate) enum Part {
     Mode(CastOptions),
     Table(u32, Box<Schema>),
     Columns(Box<Schema>),
+    Nothing,
     Expression(Box<Expr>),
     Plan(Box<DslPlan>),
-    Nothing,
-}
-
-// What is read at one place.
-#[derive(Drop)]
-pub(crate) enum Arg {
-    One(Part),
     Expressions(Exprs),
 }
 
@@ -59,44 +44,6 @@ pub(crate) enum Args {
 
 // Drops what was read. A caller that drops it itself has a case for each variant.
 pub(crate) fn discard(_arg: Arg) {}
-
-// What an object of one key says, as an item.
-pub(crate) fn boxed(alloc: Global, node: Node) -> Result<Part, JsonError>
-    ensures ok { IfOk result (λ part. part_view part ≡ node_view node) }
-    ensures err { IfErr result (λ error. error ≡ JsonError.NoMemory) }
-{
-    match node {
-        Node::Expression(expr) => {
-            let expr = Box::new(alloc, expr)?;
-            Ok(Part::Expression(expr))
-        }
-        Node::Plan(plan) => {
-            let plan = Box::new(alloc, plan)?;
-            Ok(Part::Plan(plan))
-        }
-    }
-}
-
-pub(crate) fn expression_node(node: Node) -> Expr
-    requires { Fits expression (node_view node) }
-    ensures { node_view node ≡ expression_read (tree_of result) }
-{
-    match node {
-        Node::Expression(expr) => expr,
-        _ => unreachable!(),
-    }
-}
-
-pub(crate) fn plan_node(node: Node) -> DslPlan
-    requires { Fits plan (node_view node) }
-    ensures tree { node_view node ≡ plan_read (plan_tree result) }
-    ensures flags { has_flags result ≡ false }
-{
-    match node {
-        Node::Plan(plan) => plan,
-        _ => unreachable!(),
-    }
-}
 
 pub(crate) fn one(args: Args) -> Arg
     requires { length (args_view args) ≡ 1 }
@@ -139,7 +86,7 @@ pub(crate) fn name(arg: Arg) -> PlSmallStr
     ensures { arg_view arg ≡ name_read result }
 {
     match arg {
-        Arg::One(Part::Name(name)) => name,
+        Arg::Name(name) => name,
         _ => unreachable!(),
     }
 }
@@ -149,7 +96,7 @@ pub(crate) fn value(arg: Arg) -> LiteralValue
     ensures { arg_view arg ≡ literal_read (literal_op result) }
 {
     match arg {
-        Arg::One(Part::Literal(value)) => Box::into_inner(value),
+        Arg::Literal(value) => Box::into_inner(value),
         _ => unreachable!(),
     }
 }
@@ -159,7 +106,7 @@ pub(crate) fn digits(arg: Arg) -> LiteralValue
     ensures { arg_view arg ≡ literal_read (literal_op result) }
 {
     match arg {
-        Arg::One(Part::Literal(digits)) => Box::into_inner(digits),
+        Arg::Literal(digits) => Box::into_inner(digits),
         _ => unreachable!(),
     }
 }
@@ -169,7 +116,7 @@ pub(crate) fn typed(arg: Arg) -> LiteralValue
     ensures { arg_view arg ≡ literal_read (literal_op result) }
 {
     match arg {
-        Arg::One(Part::Literal(typed)) => Box::into_inner(typed),
+        Arg::Literal(typed) => Box::into_inner(typed),
         _ => unreachable!(),
     }
 }
@@ -179,7 +126,7 @@ pub(crate) fn operator(arg: Arg) -> Operator
     ensures { arg_view arg ≡ operator_read result }
 {
     match arg {
-        Arg::One(Part::Operator(operator)) => operator,
+        Arg::Operator(operator) => operator,
         _ => unreachable!(),
     }
 }
@@ -189,7 +136,7 @@ pub(crate) fn dtype(arg: Arg) -> DataType
     ensures { arg_view arg ≡ type_read (ty result) }
 {
     match arg {
-        Arg::One(Part::Dtype(dtype)) => Box::into_inner(dtype),
+        Arg::Dtype(dtype) => Box::into_inner(dtype),
         _ => unreachable!(),
     }
 }
@@ -199,7 +146,7 @@ pub(crate) fn mode(arg: Arg) -> CastOptions
     ensures { arg_view arg ≡ mode_read result }
 {
     match arg {
-        Arg::One(Part::Mode(mode)) => mode,
+        Arg::Mode(mode) => mode,
         _ => unreachable!(),
     }
 }
@@ -209,7 +156,7 @@ pub(crate) fn table(arg: Arg) -> (u32, Schema)
     ensures { arg_view arg ≡ table_read result.0 (columns result.1) }
 {
     match arg {
-        Arg::One(Part::Table(number, schema)) => (number, Box::into_inner(schema)),
+        Arg::Table(number, schema) => (number, Box::into_inner(schema)),
         _ => unreachable!(),
     }
 }
@@ -219,7 +166,7 @@ pub(crate) fn columns(arg: Arg) -> Schema
     ensures { arg_view arg ≡ columns_read (columns result) }
 {
     match arg {
-        Arg::One(Part::Columns(schema)) => Box::into_inner(schema),
+        Arg::Columns(schema) => Box::into_inner(schema),
         _ => unreachable!(),
     }
 }
@@ -230,7 +177,7 @@ pub(crate) fn nothing(arg: Arg)
     ensures { arg_view arg ≡ nothing_read }
 {
     match arg {
-        Arg::One(Part::Nothing) => {}
+        Arg::Nothing => {}
         _ => unreachable!(),
     }
 }
@@ -240,7 +187,7 @@ pub(crate) fn expression(arg: Arg) -> Box<Expr>
     ensures { arg_view arg ≡ expression_read (tree_of result.value) }
 {
     match arg {
-        Arg::One(Part::Expression(expr)) => expr,
+        Arg::Expression(expr) => expr,
         _ => unreachable!(),
     }
 }
@@ -251,7 +198,7 @@ pub(crate) fn plan(arg: Arg) -> Box<DslPlan>
     ensures flags { has_flags result.value ≡ false }
 {
     match arg {
-        Arg::One(Part::Plan(plan)) => plan,
+        Arg::Plan(plan) => plan,
         _ => unreachable!(),
     }
 }

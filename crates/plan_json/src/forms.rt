@@ -35,15 +35,11 @@ pub(crate) enum Leaf {
     Nothing,
 }
 
-#[derive(Clone, Copy)]
-pub(crate) enum Item {
-    Form(Kind),
-    Leaf(Leaf),
-}
-
+// What is asked for at one place.
 #[derive(Clone, Copy)]
 pub(crate) enum Place {
-    One(Item),
+    Form(Kind),
+    Leaf(Leaf),
     // A list of any number of expressions.
     Expressions,
 }
@@ -97,31 +93,31 @@ pub(crate) struct Row<K> {
     pub(crate) key: K,
 }
 
-const EXPRESSION: Place = Place::One(Item::Form(Kind::Expression));
+const EXPRESSION: Place = Place::Form(Kind::Expression);
 
 const EXPRESSIONS: Place = Place::Expressions;
 
-const PLAN: Place = Place::One(Item::Form(Kind::Plan));
+const PLAN: Place = Place::Form(Kind::Plan);
 
-const NAME: Place = Place::One(Item::Leaf(Leaf::Name));
+const NAME: Place = Place::Leaf(Leaf::Name);
 
-const VALUE: Place = Place::One(Item::Leaf(Leaf::Value));
+const VALUE: Place = Place::Leaf(Leaf::Value);
 
-const DIGITS: Place = Place::One(Item::Leaf(Leaf::Digits));
+const DIGITS: Place = Place::Leaf(Leaf::Digits);
 
-const TYPED: Place = Place::One(Item::Leaf(Leaf::Typed));
+const TYPED: Place = Place::Leaf(Leaf::Typed);
 
-const OPERATOR: Place = Place::One(Item::Leaf(Leaf::Operator));
+const OPERATOR: Place = Place::Leaf(Leaf::Operator);
 
-const DTYPE: Place = Place::One(Item::Leaf(Leaf::Dtype));
+const DTYPE: Place = Place::Leaf(Leaf::Dtype);
 
-const MODE: Place = Place::One(Item::Leaf(Leaf::Mode));
+const MODE: Place = Place::Leaf(Leaf::Mode);
 
-const TABLE: Place = Place::One(Item::Leaf(Leaf::Table));
+const TABLE: Place = Place::Leaf(Leaf::Table);
 
-const COLUMNS: Place = Place::One(Item::Leaf(Leaf::Columns));
+const COLUMNS: Place = Place::Leaf(Leaf::Columns);
 
-const NOTHING: Place = Place::One(Item::Leaf(Leaf::Nothing));
+const NOTHING: Place = Place::Leaf(Leaf::Nothing);
 
 const EXPRESSION_ROWS: [Row<ExpressionKey>; 8] = [
     Row {

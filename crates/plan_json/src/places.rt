@@ -3,20 +3,20 @@ ghost use Rattle.std.specs.Prelude.{◌≡◌, [], ◌∷◌, Some, map, option_
 ghost use Rattle.serde_json.specs.View.{view};
 ghost use Rattle.plan_dsl.specs.Plans.{trees_of};
 ghost use Rattle.plan_types.specs.Schemas.{columns, names_of};
-ghost use Rattle.plan_json.specs.Arguments.{arg_view, args_view, node_view, part_view};
+ghost use Rattle.plan_json.specs.Arguments.{arg_view, args_view};
 ghost use Rattle.plan_json.specs.Errors.{IsErrorOf};
 ghost use Rattle.plan_json.specs.Faults.{asked_form, a_scan, items_of, keyed_form, leaf_form, places_form, nothing_form};
-ghost use Rattle.plan_json.specs.Forms.{AllFit, Fits, a_form, asked_in, asks, expression, expression_read, item_view, kind_of, leaf, many, many_read, place_view, places_view, reads_of, says, nothing_read};
+ghost use Rattle.plan_json.specs.Forms.{AllFit, Fits, a_form, asked_in, asks, expression, expression_read, kind_of, leaf, many, many_read, place_view, places_view, reads_of, says, nothing_read};
 ghost use Rattle.plan_json.specs.Leaves.{table_at, text_of};
 ghost use Rattle.plan_json.specs.Queries.{leaf_of, list_as, places_as, read_as, nothing_of};
 ghost use Rattle.plan_json.specs.Tables.{declared};
 
-use super::arguments::{Arg, Args, Node, Part, boxed, discard, expression_node};
+use super::arguments::{Arg, Args, discard, expression};
 use super::columns::read_columns;
 use super::dtype::{read_text, read_type};
 use super::error::{JsonError, Step};
 use super::expression::assemble_expression;
-use super::forms::{Item, Key, Kind, Leaf, Place, Places, find_key, places_of};
+use super::forms::{Key, Kind, Leaf, Place, Places, find_key, places_of};
 use super::literal::{read_literal, read_number_text, read_typed};
 use super::operator::{read_mode, read_operator};
 use super::plan::assemble_plan;
@@ -34,10 +34,10 @@ pub(crate) fn read_form(
     tables: &Tables,
     kind: Kind,
     value: &Value,
-) -> Result<Node, JsonError>
-    ensures ok { IfOk result (λ node. read_as (declared tables.now) (a_form kind) (view value.now)
-        ≡ Some (node_view node)) }
-    ensures fit { IfOk result (λ node. Fits (a_form kind) (node_view node)) }
+) -> Result<Arg, JsonError>
+    ensures ok { IfOk result (λ arg. read_as (declared tables.now) (a_form kind) (view value.now)
+        ≡ Some (arg_view arg)) }
+    ensures fit { IfOk result (λ arg. Fits (a_form kind) (arg_view arg)) }
     ensures err { IfErr result (IsErrorOf (keyed_form (names_of (declared tables.now)) kind) (view value.now)) }
 {
     match only_member(value) {
@@ -47,8 +47,8 @@ pub(crate) fn read_form(
             Some((word, key)) => match read_places(alloc, tables, places_of(key), inner) {
                 Err(error) => Err(error.below(alloc, Step::Key(word))),
                 Ok(args) => {
-                    let node = assemble(key, args)?;
-                    Ok(node)
+                    let arg = assemble(alloc, key, args)?;
+                    Ok(arg)
                 }
             },
         },
@@ -165,8 +165,12 @@ fn read_place(alloc: Global, tables: &Tables, place: Place, value: &Value) -> Re
         (view value.now)) }
 {
     match place {
-        Place::One(item) => match read_item(alloc, tables, item, value) {
-            Ok(part) => Ok(Arg::One(part)),
+        Place::Form(kind) => match read_form(alloc, tables, kind, value) {
+            Ok(arg) => Ok(arg),
+            Err(error) => Err(error),
+        },
+        Place::Leaf(leaf) => match read_leaf(alloc, tables, leaf, value) {
+            Ok(arg) => Ok(arg),
             Err(error) => Err(error),
         },
         Place::Expressions => match read_expressions(alloc, tables, value) {
@@ -188,40 +192,15 @@ fn read_expressions(alloc: Global, tables: &Tables, value: &Value) -> Result<Exp
         None => Err(JsonError::shape(alloc, value)),
         Some(values) => {
             let values = values.as_slice();
-            let mut items = Vec::new(alloc);
+            let mut items = Vec::with_capacity(alloc, values.len())?;
             for (number, value) in values.iter().enumerate() {
                 match read_form(alloc, tables, Kind::Expression, value) {
-                    Ok(node) => items.push(expression_node(node))?,
+                    Ok(arg) => items.push(Box::into_inner(expression(arg)))?,
                     Err(error) => return Err(error.below(alloc, Step::Item(number))),
                 }
             }
             Ok(Exprs { items })
         }
-    }
-}
-
-// One item.
-#[cycle(forms)]
-#[inline(always)]
-fn read_item(alloc: Global, tables: &Tables, item: Item, value: &Value) -> Result<Part, JsonError>
-    ensures ok { IfOk result (λ part. read_as (declared tables.now) (item_view item) (view value.now)
-        ≡ Some (part_view part)) }
-    ensures fit { IfOk result (λ part. Fits (item_view item) (part_view part)) }
-    ensures err { IfErr result (IsErrorOf (asked_form (names_of (declared tables.now)) (item_view item))
-        (view value.now)) }
-{
-    match item {
-        Item::Form(kind) => match read_form(alloc, tables, kind, value) {
-            Ok(node) => {
-                let part = boxed(alloc, node)?;
-                Ok(part)
-            }
-            Err(error) => Err(error),
-        },
-        Item::Leaf(leaf) => match read_leaf(alloc, tables, leaf, value) {
-            Ok(part) => Ok(part),
-            Err(error) => Err(error),
-        },
     }
 }
 
@@ -231,65 +210,65 @@ fn read_leaf(
     tables: &Tables,
     which: Leaf,
     value: &Value,
-) -> Result<Part, JsonError>
-    ensures ok { IfOk result (λ part. leaf_of (declared tables.now) which (view value.now) ≡ Some (part_view part)) }
-    ensures fit { IfOk result (λ part. Fits (leaf which) (part_view part)) }
+) -> Result<Arg, JsonError>
+    ensures ok { IfOk result (λ arg. leaf_of (declared tables.now) which (view value.now) ≡ Some (arg_view arg)) }
+    ensures fit { IfOk result (λ arg. Fits (leaf which) (arg_view arg)) }
     ensures err { IfErr result (IsErrorOf (leaf_form (names_of (declared tables.now)) which) (view value.now)) }
 {
     match which {
         Leaf::Name => match read_text(alloc, value) {
-            Ok(name) => Ok(Part::Name(name)),
+            Ok(name) => Ok(Arg::Name(name)),
             Err(error) => Err(error),
         },
         Leaf::Value => match read_literal(alloc, value) {
             Ok(literal) => {
                 let literal = Box::new(alloc, literal)?;
-                Ok(Part::Literal(literal))
+                Ok(Arg::Literal(literal))
             }
             Err(error) => Err(error),
         },
         Leaf::Digits => match read_number_text(alloc, value) {
             Ok(literal) => {
                 let literal = Box::new(alloc, literal)?;
-                Ok(Part::Literal(literal))
+                Ok(Arg::Literal(literal))
             }
             Err(error) => Err(error),
         },
         Leaf::Typed => match read_typed(alloc, value) {
             Ok(literal) => {
                 let literal = Box::new(alloc, literal)?;
-                Ok(Part::Literal(literal))
+                Ok(Arg::Literal(literal))
             }
             Err(error) => Err(error),
         },
         Leaf::Operator => match read_operator(alloc, value) {
-            Ok(operator) => Ok(Part::Operator(operator)),
+            Ok(operator) => Ok(Arg::Operator(operator)),
             Err(error) => Err(error),
         },
         Leaf::Dtype => match read_type(alloc, value) {
             Ok(dtype) => {
                 let dtype = Box::new(alloc, dtype)?;
-                Ok(Part::Dtype(dtype))
+                Ok(Arg::Dtype(dtype))
             }
             Err(error) => Err(error),
         },
         Leaf::Mode => match read_mode(alloc, value) {
-            Ok(mode) => Ok(Part::Mode(mode)),
+            Ok(mode) => Ok(Arg::Mode(mode)),
             Err(error) => Err(error),
         },
         Leaf::Table => match read_table_name(alloc, tables, value) {
-            Ok((number, schema)) => Ok(Part::Table(number, schema)),
+            Ok((number, schema)) => Ok(Arg::Table(number, schema)),
             Err(error) => Err(error),
         },
         Leaf::Columns => match read_columns(alloc, value) {
             Ok(schema) => {
                 let schema = Box::new(alloc, schema)?;
-                Ok(Part::Columns(schema))
+                Ok(Arg::Columns(schema))
             }
             Err(error) => Err(error),
         },
         Leaf::Nothing => match read_nothing(alloc, value) {
-            Ok(()) => Ok(Part::Nothing),
+            Ok(()) => Ok(Arg::Nothing),
             Err(error) => Err(error),
         },
     }
@@ -300,10 +279,10 @@ fn read_nothing(alloc: Global, value: &Value) -> Result<(), JsonError>
     ensures ok { IfOk result (λ _. nothing_of (view value.now) ≡ Some nothing_read) }
     ensures err { IfErr result (IsErrorOf nothing_form (view value.now)) }
 {
-    if !value.is_null() {
-        return Err(JsonError::shape(alloc, value));
+    match value.as_null() {
+        None => Err(JsonError::shape(alloc, value)),
+        Some(()) => Ok(()),
     }
-    Ok(())
 }
 
 // The number and the columns of the table of that name.
@@ -332,20 +311,22 @@ fn read_table_name(
 }
 
 // What a key says of what was read of its value.
-fn assemble(key: Key, args: Args) -> Result<Node, JsonError>
+fn assemble(alloc: Global, key: Key, args: Args) -> Result<Arg, JsonError>
     requires { AllFit (asked_in (asks key)) (args_view args) }
-    ensures ok { IfOk result (λ node. says key (args_view args) ≡ Some (node_view node)) }
-    ensures fit { IfOk result (λ node. Fits (a_form (kind_of key)) (node_view node)) }
+    ensures ok { IfOk result (λ arg. says key (args_view args) ≡ Some (arg_view arg)) }
+    ensures fit { IfOk result (λ arg. Fits (a_form (kind_of key)) (arg_view arg)) }
     ensures err { IfErr result (λ error. error ≡ JsonError.NoMemory) }
 {
     match key {
         Key::Expression(key) => {
             let expr = assemble_expression(key, args)?;
-            Ok(Node::Expression(expr))
+            let expr = Box::new(alloc, expr)?;
+            Ok(Arg::Expression(expr))
         }
         Key::Plan(key) => {
             let plan = assemble_plan(key, args)?;
-            Ok(Node::Plan(plan))
+            let plan = Box::new(alloc, plan)?;
+            Ok(Arg::Plan(plan))
         }
     }
 }

@@ -10,7 +10,7 @@ ghost use Rattle.plan_json.specs.Faults.{a_plan, a_query};
 ghost use Rattle.plan_json.specs.Queries.{QueryModel, IsQueryOf, has_flags, plan_of, query_model};
 ghost use Rattle.plan_json.specs.Tables.{declared};
 
-use super::arguments::plan_node;
+use super::arguments::plan;
 use super::declarations::read_tables;
 use super::error::{JsonError, Step};
 use super::forms::Kind;
@@ -78,7 +78,7 @@ fn read_plan(alloc: Global, tables: &Tables, value: &Value) -> Result<DslPlan, J
     ensures err { IfErr result (IsErrorOf (a_plan (names_of (declared tables.now))) (view value.now)) }
 {
     match read_form(alloc, tables, Kind::Plan, value) {
-        Ok(node) => Ok(plan_node(node)),
+        Ok(arg) => Ok(Box::into_inner(plan(arg))),
         Err(error) => Err(error),
     }
 }

@@ -18,11 +18,11 @@ use Rattle.plan_json.proofs.places.+forms.Goals as goal
 pub read_form-assemble-requires : goal.read_form-assemble-requires
 read_form-assemble-requires t c = subst (λ p. AllFit (asked_in p) (args_view c.in-Ok.args)) c.places_of.ensures.asks c.in-Ok.ensures.fit
 
-pub read_form-returns-in_ok-node-in-Ok-clause-ok : goal.read_form-returns-in_ok-node-in-Ok-clause-ok
-read_form-returns-in_ok-node-in-Ok-clause-ok t c =
+pub read_form-returns-in_ok-arg-in-Ok-clause-ok : goal.read_form-returns-in_ok-arg-in-Ok-clause-ok
+read_form-returns-in_ok-arg-in-Ok-clause-ok t c =
     form_read (declared c.args.tables.now) c.args.kind _ _ _ (c.in-Some-find_key.word.now, c.in-Some-find_key.key) _ _ c.in-Some.ensures c.in-Some-find_key.ensures.row
     (subst (λ p. places_as (declared c.args.tables.now) p (view c.in-Some.inner.now) ≡ Some (args_view c.in-Ok.args)) c.places_of.ensures.asks c.in-Ok.ensures.ok)
-    c.in_ok-node-in-Ok.ensures.ok
+    c.in_ok-arg-in-Ok.ensures.ok
 
 -- ---- a list of exactly these
 
@@ -57,7 +57,7 @@ read_expressions-read_form-requires t c =
 pub read_expressions-loop-number-preserved : goal.read_expressions-loop-number-preserved
 read_expressions-loop-number-preserved t c =
     let items = c.loop-number.items.items in
-    each_more (declared c.args.tables.now) expression c.as_slice-values.result.now c.loop-number.number _ _ _ c.loop-number-test.true c.index-values-number.is c.loop-number.invariant (c.in-Ok.ensures.ok ∙ ap Some c.expression_node.ensures)
+    each_more (declared c.args.tables.now) expression c.as_slice-values.result.now c.loop-number.number _ _ _ c.loop-number-test.true c.index-values-number.is c.loop-number.invariant (c.in-Ok.ensures.ok ∙ ap Some c.expression.ensures ∙ ap (λ x. Some (expression_read (tree_of x))) (sym c.into_inner.ensures))
     ∙ ap Some (sym (ap (λ l. map expression_read (map tree_of l)) c.in_ok-push-in-Ok.ensures.items ∙ ap (map expression_read) (map-append tree_of items _) ∙ map-append expression_read (map tree_of items) _))
 
 pub read_expressions-returns-after-loop-number-clause-ok : goal.read_expressions-returns-after-loop-number-clause-ok
