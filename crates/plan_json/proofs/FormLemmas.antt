@@ -106,8 +106,6 @@ each_more tables a vs i v rs r within is before now =
     each_as-all_of tables a (items_view (take (i + 1) vs))
     ∙ all_of-more (read_as tables a) vs i v rs r within is (sym (each_as-all_of tables a (items_view (take i vs))) ∙ before) now
 
-pub each_read : (tables : Declared) (a : Asked) (d : Data) (vs : List Value) (n : ℕ) (rs : List Read) → Some (items_view vs) ≡ as_array d → length vs ≡ n → each_as tables a (items_view (take n vs)) ≡ Some rs → read_as tables (many a) d ≡ Some (many_read (reads_of rs))
-each_read tables a d vs n rs is all read =
-    ap (read_as tables (many a)) (array-from_as_array d _ is)
-    ∙ ap (λ l. option_map (λ xs. many_read (reads_of xs)) (each_as tables a (items_view l))) (sym (take_all n vs (omega arith)))
-    ∙ ap (option_map (λ xs. many_read (reads_of xs))) read
+pub each_read : (tables : Declared) (a : Asked) (d : Data) (ds : Items) (rs : List Read) → Some ds ≡ as_array d → each_as tables a ds ≡ Some rs → read_as tables (many a) d ≡ Some (many_read (reads_of rs))
+each_read tables a d ds rs is read =
+    ap (read_as tables (many a)) (array-from_as_array d ds is) ∙ ap (option_map (λ xs. many_read (reads_of xs))) read

@@ -1,9 +1,10 @@
 -- What an answer was made of, and lists that are read item by item.
-use Rattle.std.proofs.Common.{◌≡◌, List, ◌∷◌, Option, Some, None, option_map, option_and_then, refl, ap, ℕ, zero, suc, ◌+◌, ◌<◌, [], ◌++◌, length, get_or, take, sym, ◌∙◌, Bool, true, false, cond}
+use Rattle.std.proofs.Common.{◌≡◌, List, ◌∷◌, Option, Some, None, option_map, option_and_then, refl, ap, ℕ, zero, suc, ◌+◌, ◌<◌, [], ◌++◌, length, get_or, take, sym, ◌∙◌, Bool, true, false, cond, arith}
 use Rattle.plan_json.specs.Looking.{both, all_of, some_of, first_items}
-use Rattle.std.proofs.lemmas.List.{take_more}
+use Rattle.std.proofs.lemmas.List.{map-append, take_all, take_more}
 use Rattle.std.specs.Option.{option_map_or}
-use Rattle.plan_types.specs.Schemas.{Name, names_of}
+use Rattle.plan_types.specs.Schemas.{Name, names_of, is_among, repeats}
+use Rattle.plan_types.proofs.NameLemmas.{repeats-push}
 use Rattle.serde_json.specs.Data.{Data, Items, no_items, item}
 use Rattle.serde_json.specs.Find.{get_item}
 use Rattle.serde_json.specs.View.{view, items_view}
@@ -66,7 +67,15 @@ all_of-item read (item d ds) xs zero v e here =
 all_of-item read (item d ds) xs (suc n) v e here =
     let parts = opened (read d) (all_of read ds) xs e in all_of-item read ds parts.1 n v parts.3 here
 
+-- all items are read
+pub all_taken : {A : Type 0} (f : Items → A) (vs : List Value) (n : ℕ) → length vs ≡ n → f (items_view (take n vs)) ≡ f (items_view vs)
+all_taken f vs n all = ap (λ l. f (items_view l)) (take_all n vs (omega arith))
+
 -- ---- names that items give themselves
+
+-- names stay apart as a new one comes
+pub names_apart : {A : Type 0} (xs : List (Name × A)) (x : Name × A) → is_among x.0 (names_of xs) ≡ false → repeats (names_of xs) ≡ false → repeats (names_of (xs ++ x ∷ [])) ≡ false
+names_apart {A} xs x new distinct = ap repeats (map-append (λ (y : Name × A). y.0) xs (x ∷ [])) ∙ repeats-push (names_of xs) x.0 distinct new
 
 module _ {A : Type 0} (read : Data → Option (Name × A)) (name : Data → Option Name) (named : (d : Data) (x : Name × A) → read d ≡ Some x → name d ≡ Some x.0) where
   -- items that are read give themselves the names that are read

@@ -54,10 +54,10 @@ plan = a_form kinds.Plan
 abbrev pub expression_rows : List (List ℕ × ExpressionKey)
 expression_rows =
     (codes "col", of.Col) ∷
+    (codes "bin", of.Bin) ∷
     (codes "lit", of.Lit) ∷
     (codes "int", of.Int) ∷
     (codes "typed", of.Typed) ∷
-    (codes "bin", of.Bin) ∷
     (codes "cast", of.Cast) ∷
     (codes "len", of.Len) ∷
     (codes "slice", of.Slice) ∷ []

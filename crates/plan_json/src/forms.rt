@@ -119,10 +119,15 @@ const COLUMNS: Place = Place::Leaf(Leaf::Columns);
 
 const NOTHING: Place = Place::Leaf(Leaf::Nothing);
 
+// A word is looked for from the first row on, so common ones stand in front.
 const EXPRESSION_ROWS: [Row<ExpressionKey>; 8] = [
     Row {
         word: "col",
         key: ExpressionKey::Col,
+    },
+    Row {
+        word: "bin",
+        key: ExpressionKey::Bin,
     },
     Row {
         word: "lit",
@@ -135,10 +140,6 @@ const EXPRESSION_ROWS: [Row<ExpressionKey>; 8] = [
     Row {
         word: "typed",
         key: ExpressionKey::Typed,
-    },
-    Row {
-        word: "bin",
-        key: ExpressionKey::Bin,
     },
     Row {
         word: "cast",

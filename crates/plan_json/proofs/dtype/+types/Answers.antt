@@ -4,9 +4,10 @@ use Rattle.serde_json.specs.View.{view, items_view}
 use Rattle.plan_types.specs.Types.{field_of}
 use Rattle.plan_json.specs.Faults.{a_column, a_text, a_type, column_part, field_list, type_form, type_key_form}
 use Rattle.plan_json.specs.Leaves.{column_of}
+use Rattle.plan_json.specs.Looking.{all_of}
 use Rattle.plan_json.proofs.DeclarationLemmas.{struct_all, type_by_key}
 use Rattle.plan_json.proofs.FaultLemmas.{item_in, key_in, part_in}
-use Rattle.plan_json.proofs.ItemLemmas.{all_of-more}
+use Rattle.plan_json.proofs.ItemLemmas.{all_of-more, all_taken}
 use Rattle.plan_json.proofs.LookingLemmas.{depth-item, depth-only_member}
 use Rattle.plan_json.proofs.dtype.+types.Goals as goal
 
@@ -36,7 +37,7 @@ read_fields-loop-number-preserved t c =
 
 pub read_fields-returns-after-loop-number-clause-ok : goal.read_fields-returns-after-loop-number-clause-ok
 read_fields-returns-after-loop-number-clause-ok t c =
-    struct_all _ c.as_slice-values.result.now c.loop-number.number c.loop-number.items (ap (λ vs. Some (items_view vs)) c.as_slice-values.ensures.value ∙ c.in-Some.ensures) (omega arith) c.loop-number.invariant
+    struct_all _ _ c.loop-number.items (ap (λ vs. Some (items_view vs)) c.as_slice-values.ensures.value ∙ c.in-Some.ensures) (sym (all_taken (all_of column_of) c.as_slice-values.result.now c.loop-number.number (omega arith)) ∙ c.loop-number.invariant)
 
 -- ---- errors of parts
 

@@ -6,10 +6,11 @@ use Rattle.plan_dsl.specs.Expressions.{tree_of}
 use Rattle.plan_json.specs.Arguments.{args_view}
 use Rattle.plan_json.specs.Faults.{keyed_form, items_of, list_of, asked_form, places_form, part_of, number}
 use Rattle.plan_json.specs.Forms.{AllFit, asked_in, expression, expression_read, place_view, places_view}
-use Rattle.plan_json.specs.Queries.{places_as}
+use Rattle.plan_json.specs.Queries.{each_as, places_as}
 use Rattle.plan_json.specs.Tables.{declared}
 use Rattle.plan_json.proofs.FaultLemmas.{IsErrorOf-own, item_in}
 use Rattle.plan_json.proofs.FormLemmas.{form_read, key_part, expressions_fit, two_read, three_read, other_than_two, other_than_three, each_more, each_read}
+use Rattle.plan_json.proofs.ItemLemmas.{all_taken}
 use Rattle.plan_json.proofs.LookingLemmas.{array-from_two_items, array-from_three_items, depth-item, depth-two_items, depth-three_items}
 use Rattle.plan_json.proofs.places.+forms.Goals as goal
 
@@ -62,7 +63,8 @@ read_expressions-loop-number-preserved t c =
 
 pub read_expressions-returns-after-loop-number-clause-ok : goal.read_expressions-returns-after-loop-number-clause-ok
 read_expressions-returns-after-loop-number-clause-ok t c =
-    each_read (declared c.args.tables.now) expression _ c.as_slice-values.result.now c.loop-number.number _ (ap (λ vs. Some (items_view vs)) c.as_slice-values.ensures.value ∙ c.in-Some.ensures) (omega arith) c.loop-number.invariant
+    let tables = declared c.args.tables.now in
+    each_read tables expression _ _ _ (ap (λ vs. Some (items_view vs)) c.as_slice-values.ensures.value ∙ c.in-Some.ensures) (sym (all_taken (each_as tables expression) c.as_slice-values.result.now c.loop-number.number (omega arith)) ∙ c.loop-number.invariant)
 
 pub read_expressions-returns-after-loop-number-clause-fit : goal.read_expressions-returns-after-loop-number-clause-fit
 read_expressions-returns-after-loop-number-clause-fit t c = record { fit = expressions_fit (map tree_of c.loop-number.items.items) }
