@@ -13,7 +13,7 @@ use Rattle.plan_dsl.specs.Ops.{LiteralOp}
 use Rattle.serde_json.specs.Data.{Data}
 use Rattle.plan_json.specs.Errors.{IsErrorOf}
 use Rattle.plan_json.specs.Faults.{FaultKind, Step, key, number, a_counted_type, a_number_of, a_type, a_typed_literal, has_type_shape, may_be_counted, own_fault, part, part_of, typed_part, shape_fault, unless}
-use Rattle.plan_json.specs.Leaves.{counted, counted_of, narrow, number_of, number_written, type_of, typed_op}
+use Rattle.plan_json.specs.Leaves.{counted_of, narrow, number_of, number_written, type_of, typed_op}
 use Rattle.plan_json.specs.Looking.{two_items, whole_number}
 use Rattle.plan_json.specs.declared.error.JsonError.{JsonError}
 use Rattle.plan_json.proofs.FaultLemmas.{stricter_error}

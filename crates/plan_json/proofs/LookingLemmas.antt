@@ -1,9 +1,8 @@
 -- Looking into a value, beside what the value's type holds.
 use Rattle.std.proofs.Common.{◌≡◌, ℕ, zero, suc, get_or, ◌<◌, ◌≤◌, ◌==◌, List, [], ◌∷◌, length, slice_get, Option, Some, None, option_map, String, Global, string_bytes, cond, refl, sym, ap, ◌∙◌, subst, arith, ne_eqb, max}
 use Rattle.std.proofs.lemmas.Bool.{eq-eqb}
-use Rattle.serde_json.specs.Data.{Data, string, array, object, Items, no_items, item, Members, no_members, member, depth, items_depth}
-use Rattle.serde_json.specs.Events.{members_len}
-use Rattle.serde_json.specs.Find.{get, get_member, as_str, as_array, as_object}
+use Rattle.serde_json.specs.Data.{Data, array, object, Items, no_items, item, Members, no_members, member, depth, items_depth}
+use Rattle.serde_json.specs.Find.{get, get_member, as_array, as_object}
 use Rattle.serde_json.specs.View.{view, items_view, members_view}
 use Rattle.serde_json.specs.declared.value.Value.{Value}
 use Rattle.serde_json.proofs.Views.{members_len-members_view}

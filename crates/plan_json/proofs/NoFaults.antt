@@ -13,7 +13,7 @@ use Rattle.plan_json.specs.Bytes.{IsTextOf, WritesQuery, IsRefusalOf}
 use Rattle.plan_json.specs.Errors.{IsErrorOf}
 use Rattle.plan_json.specs.declared.error.JsonError.{JsonError}
 use Rattle.plan_json.specs.declared.error.JsonError.TheVariants.{NotJson, Shape, Float, Name as Name', NoMemory}
-use Rattle.plan_json.specs.Faults.{FaultKind, BadShape, BadFloat, BadName, Step, key, number, Path, Form, a_query, table_list, column_list, field_list, a_column, a_type, a_unit, a_text, a_table, a_new_name, a_plan, a_scan, a_literal, a_number_text, a_typed_literal, a_counted_type, a_number_of, an_operator, a_mode, keyed_form, list_of, items_of, asked_form, places_form, key_form, type_form, type_key_form, Part, part, part_if, part_of, own_fault, has_shape, has_type_shape, shape_fault, unless, keyed_part, either_part, query_part, table_part, typed_part, declared_names, fault_at, nothing_form}
+use Rattle.plan_json.specs.Faults.{FaultKind, BadShape, BadFloat, BadName, Step, key, number, Path, Form, a_query, table_list, column_list, field_list, a_column, a_type, a_text, a_table, a_new_name, a_plan, a_scan, a_typed_literal, a_counted_type, a_number_of, keyed_form, list_of, items_of, asked_form, places_form, key_form, type_form, type_key_form, Part, part, part_if, part_of, own_fault, has_shape, has_type_shape, shape_fault, unless, keyed_part, either_part, query_part, table_part, typed_part, declared_names, fault_at}
 use Rattle.plan_json.specs.Forms.{Asked, plan as plan_asked, a_form, leaf, many, Places, single, listed, Read, name_read, literal_read, operator_read, type_read, mode_read, table_read, columns_read, nothing_read, many_read, reads_of, asks, says, key_named, row_named, type_rows}
 use Rattle.plan_json.specs.declared.forms.Key.{Key}
 use Rattle.plan_json.specs.declared.forms.Kind.{Kind}
