@@ -1,8 +1,8 @@
 -- Looking into a value, beside what the value's type holds.
 use Rattle.std.proofs.Common.{◌≡◌, ℕ, zero, suc, get_or, ◌<◌, ◌≤◌, ◌==◌, List, [], ◌∷◌, length, slice_get, Option, Some, None, option_map, String, Global, string_bytes, cond, refl, sym, ap, ◌∙◌, subst, arith, ne_eqb, max}
-use Rattle.serde_json.specs.Data.{Data, string, array, object, Items, no_items, item, Members, no_members, member, depth, items_depth}
-use Rattle.serde_json.specs.Events.{members_len}
-use Rattle.serde_json.specs.Find.{get, get_member, as_str, as_array, as_object}
+use Rattle.std.proofs.lemmas.Bool.{eq-eqb}
+use Rattle.serde_json.specs.Data.{Data, array, object, Items, no_items, item, Members, no_members, member, depth, items_depth}
+use Rattle.serde_json.specs.Find.{get, get_member, as_array, as_object}
 use Rattle.serde_json.specs.View.{view, items_view, members_view}
 use Rattle.serde_json.specs.declared.value.Value.{Value}
 use Rattle.serde_json.proofs.Views.{members_len-members_view}
@@ -13,7 +13,7 @@ Entry = String Global × Value
 
 -- ---- a value is what it is seen as
 
-pub object-from_as_object : (d : Data) (ms : Members) → Some ms ≡ as_object d → d ≡ object ms
+object-from_as_object : (d : Data) (ms : Members) → Some ms ≡ as_object d → d ≡ object ms
 object-from_as_object (object es) ms e = cc
 object-from_as_object _ ms e = cc
 
@@ -21,75 +21,52 @@ pub array-from_as_array : (d : Data) (ds : Items) → Some ds ≡ as_array d →
 array-from_as_array (array es) ds e = cc
 array-from_as_array _ ds e = cc
 
-pub string-from_as_str : (d : Data) (text : List ℕ) → Some text ≡ as_str d → d ≡ string text
-string-from_as_str (string s) text e = cc
-string-from_as_str _ text e = cc
+-- what a list or an object is asked, the value is asked
+pub of_object : {A : Type 0} (f : Data → A) (d : Data) (ms : Members) → Some ms ≡ as_object d → f (object ms) ≡ f d
+of_object f d ms is = ap f (sym (object-from_as_object d ms is))
+
+pub of_array : {A : Type 0} (f : Data → A) (d : Data) (ds : Items) → Some ds ≡ as_array d → f (array ds) ≡ f d
+of_array f d ds is = ap f (sym (array-from_as_array d ds is))
 
 -- ---- objects
 
-one_entry : (es : List Entry) (k : String Global) (v : Value) → length es ≡ 1 → slice_get es 0 ≡ Some (k, v) → Some (string_bytes k, view v) ≡ only_member (object (members_view es))
+pub one_entry : (es : List Entry) (k : String Global) (v : Value) → length es ≡ 1 → slice_get es 0 ≡ Some (k, v) → Some (string_bytes k, view v) ≡ only_member (object (members_view es))
 one_entry [] k v one first = absurd (omega arith)
 one_entry (e ∷ []) k v one first = ap (option_map (λ (p : Entry). (string_bytes p.0, view p.1))) (sym first)
 one_entry (e ∷ f ∷ es) k v one first = absurd (omega arith)
 
-other_entries : (es : List Entry) → (length es ≡ 1 → ⊥) → None ≡ only_member (object (members_view es))
+pub other_entries : (es : List Entry) → (length es ≡ 1 → ⊥) → None ≡ only_member (object (members_view es))
 other_entries [] other = refl
 other_entries (e ∷ []) other = absurd (other refl)
 other_entries (e ∷ f ∷ es) other = refl
 
-pub only_member-one : (d : Data) (es : List Entry) (k : String Global) (v : Value) → Some (members_view es) ≡ as_object d → length es ≡ 1 → slice_get es 0 ≡ Some (k, v) → Some (string_bytes k, view v) ≡ only_member d
-only_member-one d es k v is one first = one_entry es k v one first ∙ ap only_member (sym (object-from_as_object d _ is))
-
-pub only_member-other : (d : Data) (es : List Entry) → Some (members_view es) ≡ as_object d → (length es ≡ 1 → ⊥) → None ≡ only_member d
-only_member-other d es is other = other_entries es other ∙ ap only_member (sym (object-from_as_object d _ is))
-
-two_of : (first second : List ℕ) (ms : Members) (n : ℕ) → members_len ms ≡ n → n ≡ 2 → both (get_member first ms) (get_member second ms) ≡ two_members first second (object ms)
-two_of first second ms n has two = rw (has, two) refl
-
 pub two_members-two : (first second : List ℕ) (d : Data) (es : List Entry) → Some (members_view es) ≡ as_object d → length es ≡ 2 → both (get first d) (get second d) ≡ two_members first second d
 two_members-two first second d es is two =
-    let e = object-from_as_object d _ is in
-    ap (λ x. both (get first x) (get second x)) e ∙ two_of first second (members_view es) (length es) (members_len-members_view es) two ∙ ap (two_members first second) (sym e)
+    sym (of_object (λ x. both (get first x) (get second x)) d _ is)
+    ∙ sym (ap (λ b. cond b (both (get_member first (members_view es)) (get_member second (members_view es))) None) (eq-eqb _ _ (members_len-members_view es ∙ two))) ∙ of_object (two_members first second) d _ is
 
-pub two_members-other : (first second : List ℕ) (d : Data) (es : List Entry) → Some (members_view es) ≡ as_object d → (length es ≡ 2 → ⊥) → None ≡ two_members first second d
-two_members-other first second d es is other =
-    let unlike = ne_eqb (length es) 2 other in
-    let n = members_len-members_view es in
-    sym (ap (λ b. cond b (both (get_member first (members_view es)) (get_member second (members_view es))) None) (ap (λ k. k == 2) n ∙ unlike)) ∙ ap (two_members first second) (sym (object-from_as_object d _ is))
+pub two_members-other : (first second : List ℕ) (es : List Entry) → (length es ≡ 2 → ⊥) → None ≡ two_members first second (object (members_view es))
+two_members-other first second es other =
+    sym (ap (λ b. cond b (both (get_member first (members_view es)) (get_member second (members_view es))) None) (ap (λ k. k == 2) (members_len-members_view es) ∙ ne_eqb (length es) 2 other))
 
-both_second_none : {A B : Type 0} (x : Option A) → None ≡ both {B = B} x None
-both_second_none None = refl
-both_second_none (Some x) = refl
-
-pub both-none_first : {A B : Type 0} (x : Option A) (y : Option B) → None ≡ x → None ≡ both x y
-both-none_first x y none = subst (λ z. None ≡ both z y) none refl
-
-pub both-none_second : {A B : Type 0} (x : Option A) (y : Option B) → None ≡ y → None ≡ both x y
-both-none_second x y none = subst (λ z. None ≡ both x z) none (both_second_none x)
-
-pub both-some : {A B : Type 0} (x : Option A) (y : Option B) (a : A) (b : B) → Some a ≡ x → Some b ≡ y → Some (a, b) ≡ both x y
-both-some x y a b is_a is_b = subst (λ z. Some (a, b) ≡ both z y) is_a (subst (λ z. Some (a, b) ≡ both (Some a) z) is_b refl)
+pub none_second : {A B : Type 0} (x : Option A) → None ≡ both {B = B} x None
+none_second None = refl
+none_second (Some x) = refl
 
 -- ---- lists
 
-two_others : (vs : List Value) → (length vs ≡ 2 → ⊥) → None ≡ two_items (array (items_view vs))
+pub two_others : (vs : List Value) → (length vs ≡ 2 → ⊥) → None ≡ two_items (array (items_view vs))
 two_others [] other = refl
 two_others (a ∷ []) other = refl
 two_others (a ∷ b ∷ []) other = absurd (other refl)
 two_others (a ∷ b ∷ c ∷ vs) other = refl
 
-pub two_items-other : (d : Data) (vs : List Value) → Some (items_view vs) ≡ as_array d → (length vs ≡ 2 → ⊥) → None ≡ two_items d
-two_items-other d vs is other = two_others vs other ∙ ap two_items (sym (array-from_as_array d _ is))
-
-three_others : (vs : List Value) → (length vs ≡ 3 → ⊥) → None ≡ three_items (array (items_view vs))
+pub three_others : (vs : List Value) → (length vs ≡ 3 → ⊥) → None ≡ three_items (array (items_view vs))
 three_others [] other = refl
 three_others (a ∷ []) other = refl
 three_others (a ∷ b ∷ []) other = refl
 three_others (a ∷ b ∷ c ∷ []) other = absurd (other refl)
 three_others (a ∷ b ∷ c ∷ e ∷ vs) other = refl
-
-pub three_items-other : (d : Data) (vs : List Value) → Some (items_view vs) ≡ as_array d → (length vs ≡ 3 → ⊥) → None ≡ three_items d
-three_items-other d vs is other = three_others vs other ∙ ap three_items (sym (array-from_as_array d _ is))
 
 pub array-from_two_items : (d a b : Data) → Some (a, b) ≡ two_items d → d ≡ array (item a (item b no_items))
 array-from_two_items (array (item x (item y no_items))) a b e =
