@@ -6,6 +6,7 @@ ghost use Rattle.plan_dsl.specs.Literals.{settled};
 ghost use Rattle.plan_dsl.specs.Names.{label_of};
 ghost use Rattle.plan_arena.specs.Denotation.{Denotes};
 ghost use Rattle.plan_arena.specs.Items.{named_node, HoldsFrom, Grows};
+ghost use Rattle.plan_lower.specs.Nodes.{IsItemOf};
 
 use plan_arena::aexpr::AExpr;
 use plan_arena::arena::{Arena, Node};
@@ -45,57 +46,53 @@ pub(crate) fn settle(expr: Expr) -> Expr
 }
 
 /// Adds an expression's nodes, inputs first.
+#[cycle(nodes)]
 pub(crate) fn add_nodes(expr: Expr, arena: &mut Arena<AExpr>) -> Result<Node, PlanError>
     ensures denotes { IfOk result (λ node. Denotes (HoldsFrom (length arena.old) arena.new) node.0 (tree_of expr)) }
     ensures grows { Grows arena.old arena.new }
     ensures err { IfErr result (λ error. error ≡ no_memory) }
 {
+    let item = add_inputs(expr, arena)?;
+    let node = arena.add(item)?;
+    Ok(node)
+}
+
+// The item of a kind, whose inputs are added and whose other fields it keeps.
+macro_rules! over {
+    ($arena:ident, $kind:ident { $($input:ident),* } $($other:ident),*) => {{
+        $(let $input = add_nodes(Box::into_inner($input), $arena)?;)*
+        Ok(AExpr::$kind { $($input,)* $($other),* })
+    }};
+}
+
+// Adds the nodes of an expression's inputs, and answers its item over them.
+#[cycle(nodes)]
+fn add_inputs(expr: Expr, arena: &mut Arena<AExpr>) -> Result<AExpr, PlanError>
+    ensures ok { IfOk result (IsItemOf (length arena.old) arena.new (tree_of expr)) }
+    ensures grows { Grows arena.old arena.new }
+    ensures err { IfErr result (λ error. error ≡ no_memory) }
+{
     match expr {
-        Expr::Column(name) => {
-            let node = arena.add(AExpr::Column(name))?;
-            Ok(node)
-        }
-        Expr::Literal(value) => {
-            let node = arena.add(AExpr::Literal(value))?;
-            Ok(node)
-        }
-        Expr::Len => {
-            let node = arena.add(AExpr::Len)?;
-            Ok(node)
-        }
-        Expr::BinaryExpr { left, op, right } => {
-            let left = add_nodes(Box::into_inner(left), arena)?;
-            let right = add_nodes(Box::into_inner(right), arena)?;
-            let node = arena.add(AExpr::BinaryExpr { left, op, right })?;
-            Ok(node)
-        }
+        Expr::Column(name) => Ok(AExpr::Column(name)),
+        Expr::Literal(value) => Ok(AExpr::Literal(value)),
+        Expr::Len => Ok(AExpr::Len),
+        Expr::BinaryExpr { left, op, right } => over!(arena, BinaryExpr { left, right } op),
         Expr::Cast {
             expr,
             dtype,
             options,
-        } => {
-            let expr = add_nodes(Box::into_inner(expr), arena)?;
-            let node = arena.add(AExpr::Cast {
-                expr,
-                dtype,
-                options,
-            })?;
-            Ok(node)
-        }
+        } => over!(arena, Cast { expr } dtype, options),
         Expr::Slice {
             input,
             offset,
             length,
-        } => {
-            let input = add_nodes(Box::into_inner(input), arena)?;
-            let offset = add_nodes(Box::into_inner(offset), arena)?;
-            let length = add_nodes(Box::into_inner(length), arena)?;
-            let node = arena.add(AExpr::Slice {
+        } => over!(
+            arena,
+            Slice {
                 input,
                 offset,
-                length,
-            })?;
-            Ok(node)
-        }
+                length
+            }
+        ),
     }
 }
