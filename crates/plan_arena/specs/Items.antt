@@ -6,7 +6,7 @@ use Rattle.plan_types.specs.Types.{ty}
 use Rattle.plan_types.specs.Schemas.{columns}
 use Rattle.plan_dsl.specs.Ops.{Op, ColumnOp, BinaryOp, CastOp, LenOp, SliceOp, AliasOp, Expression}
 use Rattle.plan_dsl.specs.Literals.{literal_op}
-use Rattle.plan_dsl.specs.Names.{Label, alias_label, column_label, literal_label}
+use Rattle.plan_dsl.specs.Names.{Label, FromField, FromNothing, alias_label, column_label, literal_label}
 use Rattle.plan_dsl.specs.Plans.{PlanKind, ScanKind, SelectKind, FilterKind, RefusedKind, PlanOp, Plan, Named, scan_op, select_op, filter_op}
 use Rattle.plan_arena.specs.Denotation.{Denotes, DenoteAll, DenotesTree}
 use Rattle.plan_arena.specs.Layers.{Layer, layer, op_of, inputs_of}
@@ -15,7 +15,7 @@ use Rattle.plan_arena.specs.declared.arena.Node.{Node}
 use Rattle.plan_arena.specs.declared.aexpr.AExpr.{AExpr}
 use Rattle.plan_arena.specs.declared.aexpr.AExpr.TheVariants.{Column, Literal, BinaryExpr, Cast, Len, Slice, Alias}
 use Rattle.plan_arena.specs.declared.expr_ir.OutputName.{OutputName}
-use Rattle.plan_arena.specs.declared.expr_ir.OutputName.TheVariants.{ColumnLhs, LiteralLhs, Alias as NamedByAlias}
+use Rattle.plan_arena.specs.declared.expr_ir.OutputName.TheVariants.{None, ColumnLhs, LiteralLhs, Alias as NamedByAlias, Field}
 use Rattle.plan_arena.specs.declared.expr_ir.ExprIR.{ExprIR}
 use Rattle.plan_arena.specs.declared.ir.IR.{IR}
 use Rattle.plan_arena.specs.declared.ir.IR.TheVariants.{DataFrameScan, Filter, Select}
@@ -33,9 +33,11 @@ expression_layer (Slice input offset length) = layer SliceOp (input.0 ∷ offset
 
 -- the name of an output, with what it comes from
 abbrev pub output_label : OutputName → Label
+output_label None = record { name = []; origin = FromNothing }
 output_label (ColumnLhs name) = column_label name
 output_label (LiteralLhs name) = literal_label name
 output_label (NamedByAlias name) = alias_label name
+output_label (Field name) = record { name = name; origin = FromField }
 
 -- the numbers of nodes
 abbrev pub numbers : List Node → List ℕ

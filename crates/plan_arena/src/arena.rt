@@ -1,7 +1,9 @@
 //! An arena: a list of items, each known by its number.
-ghost use Rattle.std.specs.Prelude.{◌≡◌, ◌<◌, ◌↔◌, [], ◌∷◌, ◌++◌, length, slice_get, slice_set, IsTrue, IfOk, IfErr, OnOk, OnErr, Some};
+ghost use Rattle.std.specs.Prelude.{◌≡◌, ◌+◌, ◌<◌, ◌↔◌, [], ◌∷◌, ◌++◌, length, slice_get, slice_set, IsTrue, IfNone, IfSome, IfOk, IfErr, OnOk, OnErr, Some};
+ghost use Rattle.std.specs.Borrow.{sem};
 ghost use Rattle.plan_types.specs.Errors.{no_memory};
 ghost use Rattle.plan_arena.specs.Layers.{inputs_of};
+ghost use Rattle.plan_arena.specs.Lending.{LendsItem};
 ghost use Rattle.plan_arena.specs.Items.{expression_layer, numbers, Rewired};
 
 use crate::aexpr::AExpr;
@@ -62,6 +64,34 @@ impl<T> Arena<T> {
         &self.items[node.0]
     }
 
+    /// The item at the node, to be changed.
+    pub fn get_mut(&mut self, node: Node) -> &mut T
+        requires { node.0 < length self.old }
+        ensures* writes_back { sem 𝓛 (LendsItem T.row self.entry node.0 result) }
+        ensures value { slice_get self.old node.0 ≡ Some result.now }
+    {
+        &mut self.items[node.0]
+    }
+
+    /// The last node, if there is one.
+    pub fn last_node(&self) -> Option<Node>
+        ensures none { IfNone result (self.now ≡ []) }
+        ensures some { IfSome result (λ node. node.0 + 1 ≡ length self.now) }
+    {
+        if self.items.is_empty() {
+            return None;
+        }
+        Some(Node(self.items.len() - 1))
+    }
+
+    /// Takes the last item away, if there is one, and answers it.
+    pub fn pop(&mut self) -> Option<T>
+        ensures none { IfNone result ((self.old ≡ []) × (self.new ≡ [])) }
+        ensures some { IfSome result (λ item. self.old ≡ self.new ++ item ∷ []) }
+    {
+        self.items.pop()
+    }
+
     /// Puts the item in place of the one at the node, and answers that one.
     pub fn replace(&mut self, node: Node, item: T) -> T
         requires { node.0 < length self.old }
@@ -69,6 +99,17 @@ impl<T> Arena<T> {
         ensures items { self.new ≡ slice_set self.old node.0 item }
     {
         mem::replace(&mut self.items[node.0], item)
+    }
+}
+
+impl<T: Default> Arena<T> {
+    /// Leaves the default in place of the item at the node, and answers that item.
+    pub fn take(&mut self, node: Node) -> T
+        requires { node.0 < length self.old }
+        ensures old { slice_get self.old node.0 ≡ Some result }
+        ensures items { (item : T) × (T.is_default item) × (self.new ≡ slice_set self.old node.0 item) }
+    {
+        mem::take(&mut self.items[node.0])
     }
 }
 

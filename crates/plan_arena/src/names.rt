@@ -1,5 +1,5 @@
 //! Names of nodes.
-ghost use Rattle.std.specs.Prelude.{◌≡◌, [], ◌∷◌, List, codes, true, IfOk, IfErr, MatchOption};
+ghost use Rattle.std.specs.Prelude.{◌≡◌, ◌≢◌, [], ◌∷◌, List, codes, true, IfOk, IfErr, IfSome, MatchOption};
 ghost use Rattle.std.specs.Option.{option_map_or};
 ghost use Rattle.plan_types.specs.Errors.{no_memory};
 ghost use Rattle.plan_dsl.specs.Names.{Label, first_label, label_of, literal_label, op_label};
@@ -21,6 +21,7 @@ impl AExpr {
     pub fn own_name(&self, alloc: Global) -> Result<Option<OutputName>, PlanError>
         ensures ok { IfOk result (λ name. (labels : List Label) →
             op_label (op_of (expression_layer self.now)) labels ≡ option_map_or output_label name (first_label labels)) }
+        ensures set { IfOk result (λ name. IfSome name (λ own. own ≢ OutputName.None)) }
         ensures err { IfErr result (λ error. error ≡ no_memory) }
     {
         match self {
@@ -59,6 +60,7 @@ impl AExpr {
     pub fn given_name(&self, alloc: Global) -> Result<OutputName, PlanError>
         requires { (label : Label) × ((labels : List Label) → op_label (op_of (expression_layer self.now)) labels ≡ label) }
         ensures ok { IfOk result (λ name. (labels : List Label) → op_label (op_of (expression_layer self.now)) labels ≡ output_label name) }
+        ensures set { IfOk result (λ name. name ≢ OutputName.None) }
         ensures err { IfErr result (λ error. error ≡ no_memory) }
     {
         match self.own_name(alloc)? {
@@ -87,6 +89,7 @@ impl ExprIR {
 fn output_name(alloc: Global, node: Node, arena: &Arena<AExpr>) -> Result<OutputName, PlanError>
     requires { DenotesTree (HoldsExpression arena.now) node.0 }
     ensures ok { IfOk result (λ name. (tree : Expression) → Denotes (HoldsExpression arena.now) node.0 tree → output_label name ≡ label_of tree) }
+    ensures set { IfOk result (λ name. name ≢ OutputName.None) }
     ensures err { IfErr result (λ error. error ≡ no_memory) }
 {
     let item = arena.get(node);
@@ -108,6 +111,7 @@ fn output_name(alloc: Global, node: Node, arena: &Arena<AExpr>) -> Result<Output
 // The name of a literal's column.
 fn literal_name(alloc: Global) -> Result<OutputName, PlanError>
     ensures ok { IfOk result (λ name. output_label name ≡ literal_label (codes "literal")) }
+    ensures set { IfOk result (λ name. name ≢ OutputName.None) }
     ensures err { IfErr result (λ error. error ≡ no_memory) }
 {
     let name = PlSmallStr::new(alloc, "literal")?;

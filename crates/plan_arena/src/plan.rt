@@ -24,11 +24,55 @@ impl IRPlan {
         }
     }
 
+    /// The plan, lent.
+    pub fn as_ref(&self) -> IRPlanRef<'_>
+        ensures top { result.lp_top ≡ self.now.lp_top }
+        ensures plans { result.lp_arena.now ≡ self.now.lp_arena }
+        ensures expressions { result.expr_arena.now ≡ self.now.expr_arena }
+    {
+        IRPlanRef {
+            lp_top: self.lp_top,
+            lp_arena: &self.lp_arena,
+            expr_arena: &self.expr_arena,
+        }
+    }
+
     /// The top node.
     pub fn root(&self) -> &IR
         requires { self.now.lp_top.0 < length self.now.lp_arena }
         ensures { slice_get self.now.lp_arena self.now.lp_top.0 ≡ Some result.now }
     {
+        self.as_ref().root()
+    }
+}
+
+/// A lowered plan that is lent.
+#[derive(Clone, Copy)]
+pub struct IRPlanRef<'a> {
+    pub lp_top: Node,
+    pub lp_arena: &'a Arena<IR>,
+    pub expr_arena: &'a Arena<AExpr>,
+}
+
+impl<'a> IRPlanRef<'a> {
+    /// The top node.
+    pub fn root(self) -> &'a IR
+        requires { self.lp_top.0 < length self.lp_arena.now }
+        ensures { slice_get self.entry.lp_arena.now self.entry.lp_top.0 ≡ Some result.now }
+    {
         self.lp_arena.get(self.lp_top)
+    }
+
+    /// The same arenas, from another node.
+    pub fn with_root(self, root: Node) -> IRPlanRef<'a>
+        ensures top { result.lp_top ≡ root }
+        ensures plans { result.lp_arena.now ≡ self.entry.lp_arena.now }
+        ensures expressions { result.expr_arena.now ≡ self.entry.expr_arena.now }
+    {
+        IRPlanRef {
+            lp_top: root,
+            lp_arena: self.lp_arena,
+            expr_arena: self.expr_arena,
+        }
     }
 }

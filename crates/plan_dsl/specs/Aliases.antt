@@ -19,6 +19,10 @@ abbrev mutual
   all_pruned keep no_more = no_more
   all_pruned keep (more child rest) = more (pruned keep child) (all_pruned keep rest)
 
+-- the same of what stands under a node
+abbrev pub inputs_pruned : Bool → Expression → Expression
+inputs_pruned keep (node op children) = node op (all_pruned keep children)
+
 -- an expression without its aliases
 abbrev pub core : Expression → Expression
 core tree = pruned false tree

@@ -7,11 +7,14 @@ use Rattle.plan_types.specs.Schemas.{Name}
 use Rattle.plan_dsl.specs.Trees.{fold}
 use Rattle.plan_dsl.specs.Ops.{Op, ColumnOp, LiteralOp, LenOp, AliasOp, Expression}
 
--- what a name comes from: a column, a literal or a count of rows, or an alias
+-- what a name comes from: a column, a literal or a count of rows, an alias, a field of a struct, or nothing, where none is
+-- set
 pub data Origin : Type 0 where
   FromColumn : Origin
   FromLiteral : Origin
   FromAlias : Origin
+  FromField : Origin
+  FromNothing : Origin
 
 -- a name, with what it comes from
 pub record Label : Type 0 where

@@ -2,13 +2,14 @@
 ghost use Rattle.std.specs.Prelude.{◌≡◌, length, false, IfOk, IfErr, MatchOption};
 ghost use Rattle.std.specs.Option.{option_map_or};
 ghost use Rattle.plan_types.specs.Errors.{IsMemoryOr, no_memory};
-ghost use Rattle.plan_dsl.specs.Aliases.{core, pruned};
+ghost use Rattle.plan_dsl.specs.Aliases.{core, inputs_pruned, pruned};
 ghost use Rattle.plan_dsl.specs.Expressions.{tree_of};
 ghost use Rattle.plan_dsl.specs.Literals.{literal_op, settled, settled_op, settles};
 ghost use Rattle.plan_dsl.specs.Names.{alias_label, label_of};
 ghost use Rattle.plan_dsl.specs.Ops.{Expression};
 ghost use Rattle.plan_arena.specs.Denotation.{Denotes, DenotesTree};
 ghost use Rattle.plan_arena.specs.Items.{named_node, output_label, HoldsExpression, HoldsFrom, Grows};
+ghost use Rattle.plan_lower.specs.Nodes.{IsItemOf};
 
 use plan_arena::aexpr::AExpr;
 use plan_arena::arena::{Arena, Node};
@@ -160,65 +161,74 @@ fn settle_literal(value: &mut LiteralValue)
 }
 
 /// Adds an expression's nodes, inputs first, with its aliases or without.
-pub(crate) fn add_nodes(expr: Expr, keep: bool, arena: &mut Arena<AExpr>) -> Result<Node, PlanError>
+#[cycle(nodes)]
+pub(crate) fn add_nodes(
+    expr: Expr,
+    keep: bool,
+    arena: &mut Arena<AExpr>,
+) -> Result<Node, PlanError>
     ensures denotes { IfOk result (λ node. Denotes (HoldsFrom (length arena.old) arena.new) node.0 (pruned keep (tree_of expr))) }
     ensures grows { Grows arena.old arena.new }
     ensures err { IfErr result (λ error. error ≡ no_memory) }
 {
     match expr {
-        Expr::Column(name) => {
-            let node = arena.add(AExpr::Column(name))?;
+        Expr::Alias(below, name) => {
+            let below = add_nodes(Box::into_inner(below), keep, arena)?;
+            if !keep {
+                return Ok(below);
+            }
+            let node = arena.add(AExpr::Alias(below, name))?;
             Ok(node)
         }
-        Expr::Literal(value) => {
-            let node = arena.add(AExpr::Literal(value))?;
+        expr => {
+            let item = add_inputs(expr, keep, arena)?;
+            let node = arena.add(item)?;
             Ok(node)
         }
-        Expr::Len => {
-            let node = arena.add(AExpr::Len)?;
-            Ok(node)
-        }
-        Expr::BinaryExpr { left, op, right } => {
-            let left = add_nodes(Box::into_inner(left), keep, arena)?;
-            let right = add_nodes(Box::into_inner(right), keep, arena)?;
-            let node = arena.add(AExpr::BinaryExpr { left, op, right })?;
-            Ok(node)
-        }
+    }
+}
+
+// The item of a kind, whose inputs are added and whose other fields it keeps.
+macro_rules! over {
+    ($arena:ident, $keep:ident, $kind:ident { $($input:ident),* } $($other:ident),*) => {{
+        $(let $input = add_nodes(Box::into_inner($input), $keep, $arena)?;)*
+        Ok(AExpr::$kind { $($input,)* $($other),* })
+    }};
+}
+
+// Adds the nodes of an expression's inputs, and answers its item over them.
+#[cycle(nodes)]
+fn add_inputs(expr: Expr, keep: bool, arena: &mut Arena<AExpr>) -> Result<AExpr, PlanError>
+    ensures ok { IfOk result (IsItemOf (length arena.old) arena.new (inputs_pruned keep (tree_of expr))) }
+    ensures grows { Grows arena.old arena.new }
+    ensures err { IfErr result (λ error. error ≡ no_memory) }
+{
+    match expr {
+        Expr::Column(name) => Ok(AExpr::Column(name)),
+        Expr::Literal(value) => Ok(AExpr::Literal(value)),
+        Expr::Len => Ok(AExpr::Len),
+        Expr::BinaryExpr { left, op, right } => over!(arena, keep, BinaryExpr { left, right } op),
         Expr::Cast {
             expr,
             dtype,
             options,
-        } => {
-            let expr = add_nodes(Box::into_inner(expr), keep, arena)?;
-            let node = arena.add(AExpr::Cast {
-                expr,
-                dtype,
-                options,
-            })?;
-            Ok(node)
-        }
+        } => over!(arena, keep, Cast { expr } dtype, options),
         Expr::Slice {
             input,
             offset,
             length,
-        } => {
-            let input = add_nodes(Box::into_inner(input), keep, arena)?;
-            let offset = add_nodes(Box::into_inner(offset), keep, arena)?;
-            let length = add_nodes(Box::into_inner(length), keep, arena)?;
-            let node = arena.add(AExpr::Slice {
+        } => over!(
+            arena,
+            keep,
+            Slice {
                 input,
                 offset,
-                length,
-            })?;
-            Ok(node)
-        }
-        Expr::Alias(expr, name) => {
-            let expr = add_nodes(Box::into_inner(expr), keep, arena)?;
-            if !keep {
-                return Ok(expr);
+                length
             }
-            let node = arena.add(AExpr::Alias(expr, name))?;
-            Ok(node)
+        ),
+        Expr::Alias(input, name) => {
+            let input = add_nodes(Box::into_inner(input), keep, arena)?;
+            Ok(AExpr::Alias(input, name))
         }
     }
 }

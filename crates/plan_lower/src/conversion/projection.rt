@@ -120,15 +120,15 @@ fn project_one(
     ensures err { IfErr result (IsOutputRefusal (registry udfs.now) (columns schema.now) (tree_of expr) (columns output.old)) }
 {
     let expr_ir = add_typed(expr, schema, arena, udfs, types)?;
-    if output.contains(expr_ir.output_name()) {
-        return Err(PlanError::at_top(ErrorKind::Duplicate));
-    }
     let name = expr_ir.output_name().try_clone(arena.allocator())?;
     let dtype = types
         .get(expr_ir.node())
         .dtype
         .try_clone(arena.allocator())?;
-    output.with_column(name, dtype)?;
+    let before = output.with_column(name, dtype)?;
+    if before.is_some() {
+        return Err(PlanError::at_top(ErrorKind::Duplicate));
+    }
     Ok(expr_ir)
 }
 
