@@ -1,8 +1,7 @@
-use Rattle.std.proofs.Common.{ℕ, length, sym, ap, ◌∙◌, subst}
+use Rattle.std.proofs.Common.{length, sym, ap, ◌∙◌, subst}
 use Rattle.plan_types.specs.Errors.{IsRefusal}
 use Rattle.plan_dsl.specs.Literals.{settled}
 use Rattle.plan_dsl.specs.Names.{label_of}
-use Rattle.plan_dsl.specs.Plans.{Named}
 use Rattle.plan_dsl.specs.Typing.{typing}
 use Rattle.plan_dsl.proofs.LiteralLemmas.{settled_label}
 use Rattle.plan_types.specs.Schemas.{columns}
@@ -10,7 +9,8 @@ use Rattle.plan_types.proofs.ResultLemmas.{passed_on}
 use Rattle.plan_dsl.specs.Expressions.{tree_of}
 use Rattle.plan_dsl.specs.Registry.{registry}
 use Rattle.plan_arena.specs.Denotation.{Denotes}
-use Rattle.plan_arena.specs.Items.{HoldsFrom}
+use Rattle.plan_arena.specs.Items.{HoldsFrom, named_node}
+use Rattle.plan_arena.specs.NamedNodes.{NamedNode}
 use Rattle.plan_arena.proofs.ItemLemmas.{any_node}
 use Rattle.plan_infer.proofs.TableLemmas.{right_grown}
 use Rattle.plan_lower.proofs.conversion.projection.add_typed.Goals as goal
@@ -39,10 +39,10 @@ pub returns-clause-name : goal.returns-clause-name
 returns-clause-name c =
     let tree = tree_of c.settle.result in
     let d = any_node _ c.add_nodes.new.arena c.in_ok-node.node.0 tree c.in_ok-node.ensures.denotes in
-    ap (λ (n : Named ℕ). n.label) c.new.ensures ∙ c.in_ok-name.ensures.ok tree d ∙ ap label_of c.settle.ensures ∙ settled_label (tree_of c.args.expr)
+    ap (λ (e : NamedNode). (named_node e).label) c.new.ensures ∙ c.in_ok-name.ensures.ok tree d ∙ ap label_of c.settle.ensures ∙ settled_label (tree_of c.args.expr)
 
 pub returns-clause-denotes : goal.returns-clause-denotes
 returns-clause-denotes c =
     let items = c.add_nodes.new.arena in
     let settled_denotes = subst (Denotes (HoldsFrom (length c.args.arena.now) items) c.in_ok-node.node.0) c.settle.ensures c.in_ok-node.ensures.denotes in
-    subst (λ (n : Named ℕ). Denotes (HoldsFrom (length c.args.arena.now) items) n.expression (settled (tree_of c.args.expr))) (sym c.new.ensures) settled_denotes
+    subst (λ (e : NamedNode). Denotes (HoldsFrom (length c.args.arena.now) items) e.node.0 (settled (tree_of c.args.expr))) (sym c.new.ensures) settled_denotes
