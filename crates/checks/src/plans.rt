@@ -1,9 +1,8 @@
-//! Plans of any size: copies, and the arenas of lowered ones.
+//! Copies of plans of any size.
 
 use crate::fixtures::{NO_MEMORY, SIZES};
 use crate::schemas::schema_of;
 use crate::sums::{column, sum_of};
-use plan_arena::arena::{Arena, Node};
 use plan_dsl::builder::DslBuilder;
 use plan_dsl::expr::Expr;
 use plan_dsl::plan::{DslPlan, ProjectionOptions};
@@ -150,24 +149,5 @@ fn selects_of_any_size_are_copied(rt: HostRuntime) {
     let sum = sum_of(rt.alloc(), "a", 2).expect(&rt, NO_MEMORY);
     for count in SIZES {
         assert_select(&rt, rt.alloc(), &sum, count);
-    }
-}
-
-// An arena of the numbers below that one.
-fn numbers_below(rt: &impl Abort, alloc: Global, count: usize) -> Arena<usize> {
-    let mut arena = Arena::new(alloc);
-    for number in 0..count {
-        let node = arena.add(number).expect(rt, NO_MEMORY);
-        assert_eq!(rt; node, Node(number));
-    }
-    arena
-}
-
-#[test]
-fn arenas_of_any_size_keep_their_items(rt: HostRuntime) {
-    let arena = numbers_below(&rt, rt.alloc(), 10_000);
-    assert_eq!(rt; arena.len(), 10_000);
-    for number in 0..10_000usize {
-        assert_eq!(rt; *arena.get(Node(number)), number);
     }
 }

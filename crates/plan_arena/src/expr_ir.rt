@@ -120,7 +120,7 @@ impl ExprIR {
     }
 
     pub fn node(&self) -> Node
-        ensures { result ≡ self.now.node }
+        ensures { result.0 ≡ (named_node self.now).expression }
     {
         self.node
     }

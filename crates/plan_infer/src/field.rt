@@ -59,7 +59,7 @@ impl TypeTable {
     {
         type_node(node, arena, schema, udfs, self, typings)?;
         let label = self.output_name(node, arena)?;
-        let name = label.get().try_clone(arena.allocator())?;
+        let name = label.unwrap().try_clone(arena.allocator())?;
         let dtype = dtype_in(ctxt, self.get(node), arena.allocator())?;
         Ok(Field { name, dtype })
     }

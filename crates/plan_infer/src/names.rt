@@ -1,5 +1,5 @@
 //! Names of expressions that are typed.
-ghost use Rattle.std.specs.Prelude.{◌≡◌, IfOk, IfErr};
+ghost use Rattle.std.specs.Prelude.{◌≡◌, ◌≢◌, IfOk, IfErr};
 ghost use Rattle.plan_types.specs.Errors.{no_memory};
 ghost use Rattle.plan_dsl.specs.Names.{label_of};
 ghost use Rattle.plan_dsl.specs.Ops.{Expression};
@@ -19,6 +19,7 @@ impl TypeTable {
         requires kept { IsKept self.now node.0 }
         requires right { HasRightTypes arena.now self.now }
         ensures ok { IfOk result (λ name. (t : Expression) → Denotes (HoldsExpression arena.now) node.0 t → output_label name ≡ label_of t) }
+        ensures set { IfOk result (λ name. name ≢ OutputName.None) }
         ensures err { IfErr result (λ error. error ≡ no_memory) }
     {
         let own = self.get(node);

@@ -1,7 +1,7 @@
 //! Worked examples on items of the two arenas, and on what nodes denote.
 #![tactic(auto, unfolding(crate::specs::Denotation::depth_within, crate::specs::Denotation::depth_at))]
 
-ghost use Rattle.std.specs.Prelude.{◌≡◌, ℕ, List, [], ◌∷◌, pos, neg_ℤ, codes, true, false, Some, None};
+ghost use Rattle.std.specs.Prelude.{◌≡◌, ℕ, List, [], ◌∷◌, pos, neg_ℤ, codes, map, true, false, Some, None};
 ghost use Rattle.std.specs.List.{AllByRecursion};
 ghost use Rattle.plan_types.specs.Types.{Integer, Untyped};
 ghost use Rattle.plan_types.specs.Values.{IntValue};
@@ -13,7 +13,7 @@ ghost use Rattle.plan_dsl.specs.declared.literal.LiteralValue.TheVariants.{Int, 
 ghost use Rattle.plan_dsl.specs.declared.operator.Operator.TheVariants.{Plus};
 ghost use Rattle.plan_dsl.specs.declared.plan.ProjectionOptions.{ProjectionOptions};
 ghost use Rattle.plan_dsl.specs.Trees.{node, no_more, more};
-ghost use Rattle.plan_dsl.specs.Names.{alias_label, column_label, literal_label};
+ghost use Rattle.plan_dsl.specs.Names.{FromField, FromNothing, alias_label, column_label, literal_label};
 ghost use Rattle.plan_dsl.specs.Ops.{ColumnOp, LiteralOp, BinaryOp, CastOp, LenOp, SliceOp, AliasOp, Expression};
 ghost use Rattle.plan_dsl.specs.Plans.{Named, named, scan_op, select_op, filter_op};
 ghost use Rattle.plan_dsl.specs.Samples.{Gives, GivesOfTwo, int8, int32, a, alias, b, cast_as, column, count, keep, literal, slice, sum, typed_literal};
@@ -23,12 +23,13 @@ ghost use Rattle.plan_arena.specs.declared.arena.Node.{Node};
 ghost use Rattle.plan_arena.specs.declared.expr_ir.ExprIR.{ExprIR};
 ghost use Rattle.plan_arena.specs.declared.expr_ir.ExprIRs.{ExprIRs};
 ghost use Rattle.plan_arena.specs.declared.expr_ir.OutputName.{OutputName};
-ghost use Rattle.plan_arena.specs.declared.expr_ir.OutputName.TheVariants.{ColumnLhs, LiteralLhs, Alias as NamedByAlias};
+ghost use Rattle.plan_arena.specs.declared.expr_ir.OutputName.TheVariants.{ColumnLhs, LiteralLhs};
 ghost use Rattle.plan_arena.specs.declared.ir.IR.TheVariants.{DataFrameScan, Filter, Select};
 ghost use Rattle.plan_arena.specs.declared.plan.IRPlan.{IRPlan};
-ghost use Rattle.plan_arena.specs.Layers.{layer};
-ghost use Rattle.plan_arena.specs.Denotation.{Denotes, DenotesTree, depth_at};
+ghost use Rattle.plan_arena.specs.Layers.{layer, op_of, inputs_of, shape_of};
+ghost use Rattle.plan_arena.specs.Denotation.{Denotes, DenotesTree, depth_at, greatest, inputs_at};
 ghost use Rattle.plan_arena.specs.Items.{expression_layer, output_label, named_node, node_name, plan_layer, DenoteNamed, DenotesItem, DenotesPlan, Grows, HasInputs, HoldsExpression, HoldsFrom, HoldsPlan};
+ghost use Rattle.plan_arena.specs.NamedNodes.{same_named};
 ghost use Rattle.plan_arena.specs.Samples.{a_at, circle, literal_at, named_at, node_at, strict_sum, sum_items, wide_a};
 
 /// The layer of an item is what it does, with its expressions' names and its schema, and the numbers of its inputs.
@@ -52,8 +53,18 @@ pub fn layers_of_items()
 
 /// The name that an item keeps, with what it comes from.
 pub fn names_of_outputs()
-    ensures labels { Gives output_label ((LiteralLhs (codes "literal"), literal_label (codes "literal")) ∷ (LiteralLhs (codes "len"), literal_label (codes "len")) ∷ (ColumnLhs (codes "literal"), column_label (codes "literal")) ∷ (NamedByAlias (codes "literal"), alias_label (codes "literal")) ∷ []) }
+    ensures labels { Gives output_label ((LiteralLhs (codes "literal"), literal_label (codes "literal")) ∷ (LiteralLhs (codes "len"), literal_label (codes "len")) ∷ (ColumnLhs (codes "literal"), column_label (codes "literal"))
+        ∷ (OutputName.Alias (codes "x"), alias_label (codes "x")) ∷ (OutputName.Field (codes "x"), record { name = codes "x"; origin = FromField }) ∷ (OutputName.None, record { name = []; origin = FromNothing }) ∷ []) }
     ensures named { named_node (a_at 3) ≡ named_at "a" 3 }
+    ensures same { map (same_named (a_at 3)) (a_at 3 ∷ a_at 4 ∷ record { node = node_at 3; output_name = LiteralLhs (codes "a") } ∷ record { node = node_at 3; output_name = ColumnLhs (codes "b") } ∷ []) ≡ true ∷ false ∷ false ∷ false ∷ [] }
+{}
+
+/// What an item does and its inputs, the inputs of each item of an arena, and the greatest value at inputs.
+pub fn parts_of_layers()
+    ensures parts { let sum = expression_layer (BinaryExpr (node_at 4) Plus (node_at 2)) in (op_of sum ≡ BinaryOp Plus) × (inputs_of sum ≡ 4 ∷ 2 ∷ []) }
+    ensures shape { shape_of (map expression_layer sum_items) ≡ [] ∷ [] ∷ (0 ∷ []) ∷ (2 ∷ 1 ∷ []) ∷ [] }
+    ensures inputs { map (inputs_at ([] ∷ (0 ∷ 0 ∷ []) ∷ [])) (0 ∷ 1 ∷ 2 ∷ []) ≡ [] ∷ (0 ∷ 0 ∷ []) ∷ [] ∷ [] }
+    ensures greatest { map (greatest (λ n. n)) ([] ∷ (7 ∷ []) ∷ (3 ∷ 5 ∷ 1 ∷ []) ∷ []) ≡ 0 ∷ 7 ∷ 5 ∷ [] }
 {}
 
 /// A node denotes the tree that its item and those of its inputs make.

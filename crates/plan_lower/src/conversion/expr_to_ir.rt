@@ -162,11 +162,7 @@ fn settle_literal(value: &mut LiteralValue)
 
 /// Adds an expression's nodes, inputs first, with its aliases or without.
 #[cycle(nodes)]
-pub(crate) fn add_nodes(
-    expr: Expr,
-    keep: bool,
-    arena: &mut Arena<AExpr>,
-) -> Result<Node, PlanError>
+pub(crate) fn add_nodes(expr: Expr, keep: bool, arena: &mut Arena<AExpr>) -> Result<Node, PlanError>
     ensures denotes { IfOk result (λ node. Denotes (HoldsFrom (length arena.old) arena.new) node.0 (pruned keep (tree_of expr))) }
     ensures grows { Grows arena.old arena.new }
     ensures err { IfErr result (λ error. error ≡ no_memory) }

@@ -10,7 +10,7 @@ ghost use Rattle.plan_arena.specs.declared.aexpr.AExpr.TheVariants.{Column};
 ghost use Rattle.plan_arena.specs.declared.ir.IR.{IR};
 ghost use Rattle.plan_arena.specs.declared.plan.IRPlan.{IRPlan};
 ghost use Rattle.plan_arena.specs.Layers.{layer};
-ghost use Rattle.plan_lower.specs.Lowering.{IsBuilt, StandsFor, IsPlanRefusal, Answers, IsTyped, IsSound, GivesSameFrame, IsLoweringOf, source_select, source_filter, IsSelectAt, IsFilterAt, IsEmptyTableAt, recorded_at, columns_at, Records};
+ghost use Rattle.plan_lower.specs.Lowering.{IsBuilt, StandsFor, IsPlanRefusal, Answers, IsTyped, IsSound, GivesSameFrame, IsLoweringOf, source_select, source_filter, IsSelectAt, IsFilterAt, IsEmptyTableAt, recorded_in, recorded_at, columns_at, Records};
 ghost use Rattle.plan_infer.specs.Samples.{int8, int32, one_column, two_columns, a, c, sum, a_items, refused};
 ghost use Rattle.plan_lower.specs.Samples.{truths, keep, keep_items, node_named, scan_of, select_over, filter_over, query, lowered_query, scan_layer, select_layer, ForPlans, ForScan, ForSum};
 
@@ -65,6 +65,7 @@ pub fn nodes_that_stand_for_plans()
 
 /// A scan and a select record a schema, and a filter and no node at all none.
 pub fn recorded_schemas()
+    ensures of_items { map recorded_in (None ∷ Some (scan_layer None truths) ∷ Some (layer (filter_op (node_named (codes "keep") 0)) (0 ∷ [])) ∷ []) ≡ None ∷ Some truths ∷ None ∷ [] }
     ensures recorded { ForPlans (scan_layer (Some 0) truths ∷ layer (filter_op (node_named (codes "keep") 0)) (0 ∷ []) ∷ select_layer 0 (one_column Truth) ∷ []) (λ plans.
         map (recorded_at plans) (0 ∷ 1 ∷ 2 ∷ 3 ∷ []) ≡ Some truths ∷ None ∷ Some (one_column Truth) ∷ None ∷ []) }
     ensures columns { ForPlans (scan_layer (Some 0) truths ∷ layer (filter_op (node_named (codes "keep") 0)) (0 ∷ []) ∷ []) (λ plans.

@@ -13,10 +13,10 @@ output_name-requires g c =
 
 pub returns-clause-ok : goal.returns-clause-ok
 returns-clause-ok g c = λ t d.
-    let own = c.get-2.result.now in
+    let own = c.get.result.now in
     record {
-      name = c.in_ok-name.ensures.ok ∙ c.get.ensures ∙ ap (λ (l : Label). l.name) (c.in_ok-label.ensures.ok t d);
+      name = c.in_ok-name.ensures.ok ∙ c.unwrap.ensures ∙ ap (λ (l : Label). l.name) (c.in_ok-label.ensures.ok t d);
       typed = typed_of own;
-      typed_is = kept_typing (registry c.args.udfs.now) (columns c.args.schema.now) c.args.arena.now _ c.in_ok-type_node.ensures.right c.args.node.0 own c.get-2.ensures t d;
+      typed_is = kept_typing (registry c.args.udfs.now) (columns c.args.schema.now) c.args.arena.now _ c.in_ok-type_node.ensures.right c.args.node.0 own c.get.ensures t d;
       type = c.in_ok-dtype.ensures.ok;
     }

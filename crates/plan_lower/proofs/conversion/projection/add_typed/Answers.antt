@@ -1,10 +1,9 @@
-use Rattle.std.proofs.Common.{ℕ, length, sym, ap, ◌∙◌, subst}
+use Rattle.std.proofs.Common.{length, sym, ap, ◌∙◌, subst}
 use Rattle.plan_types.specs.Errors.{IsRefusal}
 use Rattle.plan_dsl.specs.Aliases.{core}
 use Rattle.plan_dsl.proofs.AliasLemmas.{core_settled}
 use Rattle.plan_dsl.specs.Literals.{settled}
 use Rattle.plan_dsl.specs.Names.{label_of}
-use Rattle.plan_dsl.specs.Plans.{Named}
 use Rattle.plan_dsl.specs.Typing.{typing}
 use Rattle.plan_dsl.proofs.LiteralLemmas.{settled_label}
 use Rattle.plan_types.specs.Schemas.{columns}
@@ -13,7 +12,8 @@ use Rattle.plan_dsl.specs.Expressions.{tree_of}
 use Rattle.plan_dsl.specs.Registry.{registry}
 use Rattle.plan_arena.specs.Denotation.{Denotes}
 use Rattle.std.specs.Option.{option_map_or}
-use Rattle.plan_arena.specs.Items.{HoldsFrom, output_label}
+use Rattle.plan_arena.specs.Items.{HoldsFrom, named_node, output_label}
+use Rattle.plan_arena.specs.NamedNodes.{NamedNode}
 use Rattle.plan_arena.proofs.ItemLemmas.{any_node}
 use Rattle.plan_infer.proofs.TableLemmas.{right_grown}
 use Rattle.plan_lower.proofs.conversion.projection.add_typed.Goals as goal
@@ -44,10 +44,10 @@ returns-clause-name c =
     let d = any_node _ c.add_nodes.new.arena c.in_ok-node.node.0 tree c.in_ok-node.ensures.denotes in
     let is = ap core c.settle.ensures ∙ core_settled (tree_of c.args.expr) in
     let same = ap label_of is ∙ settled_label (core (tree_of c.args.expr)) in
-    ap (λ (n : Named ℕ). n.label) c.new.ensures ∙ c.in_ok-name.ensures.ok tree d ∙ ap (option_map_or output_label c.in_ok-alias.alias) same ∙ sym c.in_ok-alias.ensures.ok
+    ap (λ (e : NamedNode). (named_node e).label) c.new.ensures ∙ c.in_ok-name.ensures.ok tree d ∙ ap (option_map_or output_label c.in_ok-alias.alias) same ∙ sym c.in_ok-alias.ensures.ok
 
 pub returns-clause-denotes : goal.returns-clause-denotes
 returns-clause-denotes c =
     let items = c.add_nodes.new.arena in
     let here = subst (Denotes (HoldsFrom (length c.args.arena.now) items) c.in_ok-node.node.0) (ap core c.settle.ensures ∙ core_settled (tree_of c.args.expr)) c.in_ok-node.ensures.denotes in
-    subst (λ (n : Named ℕ). Denotes (HoldsFrom (length c.args.arena.now) items) n.expression (settled (core (tree_of c.args.expr)))) (sym c.new.ensures) here
+    subst (λ (e : NamedNode). Denotes (HoldsFrom (length c.args.arena.now) items) e.node.0 (settled (core (tree_of c.args.expr)))) (sym c.new.ensures) here
