@@ -10,6 +10,7 @@ pub mod Names
 pub mod OperatorTypes
 pub mod Operators
 pub mod Ops
+pub mod Picks
 pub mod PlanKernels
 pub mod PlanMeaning
 pub mod PlanRules
@@ -19,6 +20,7 @@ pub mod Resolving
 pub mod SameExpressions
 pub mod Samples
 pub mod Slices
+pub mod Sorting
 pub mod Sources
 pub mod StrictRun
 pub mod Strictness

@@ -7,6 +7,7 @@ ghost use Rattle.plan_types.specs.Errors.{no_memory};
 
 use crate::literal::LiteralValue;
 use crate::operator::Operator;
+use crate::sort_options::SortOptions;
 use plan_types::dtype::{CastOptions, DataType};
 use plan_types::error::PlanError;
 use plan_types::text::PlSmallStr;
@@ -40,6 +41,26 @@ pub enum Expr {
         /// A number below 0 counts from the end.
         offset: Box<Expr>,
         length: Box<Expr>,
+    },
+    /// The values of each list, and a null in place of none. Values of other types stay.
+    Explode(Box<Expr>),
+    /// The value at each index.
+    Gather {
+        expr: Box<Expr>,
+        /// A number below 0 counts from the end.
+        idx: Box<Expr>,
+        /// Whether there is one index, and so one value.
+        returns_scalar: bool,
+    },
+    /// The values beside which the other expression is true.
+    Filter {
+        input: Box<Expr>,
+        by: Box<Expr>,
+    },
+    /// The values in order. Those that are the same stay in order.
+    Sort {
+        expr: Box<Expr>,
+        options: SortOptions,
     },
 }
 
@@ -97,6 +118,37 @@ impl Expr {
                     length,
                 })
             }
+            Expr::Explode(input) => {
+                let input = input.try_clone(alloc)?;
+                let input = Box::new(alloc, input)?;
+                Ok(Expr::Explode(input))
+            }
+            Expr::Gather {
+                expr,
+                idx,
+                returns_scalar,
+            } => {
+                let expr = Box::new(alloc, expr.try_clone(alloc)?)?;
+                let idx = Box::new(alloc, idx.try_clone(alloc)?)?;
+                Ok(Expr::Gather {
+                    expr,
+                    idx,
+                    returns_scalar: *returns_scalar,
+                })
+            }
+            Expr::Filter { input, by } => {
+                let input = Box::new(alloc, input.try_clone(alloc)?)?;
+                let by = Box::new(alloc, by.try_clone(alloc)?)?;
+                Ok(Expr::Filter { input, by })
+            }
+            Expr::Sort { expr, options } => {
+                let expr = expr.try_clone(alloc)?;
+                let expr = Box::new(alloc, expr)?;
+                Ok(Expr::Sort {
+                    expr,
+                    options: *options,
+                })
+            }
         }
     }
 
@@ -142,6 +194,33 @@ impl Expr {
             ) => {
                 input.is_same(own_input) && offset.is_same(own_offset) && length.is_same(own_length)
             }
+            (Expr::Explode(input), Expr::Explode(own)) => input.is_same(own),
+            (
+                Expr::Gather {
+                    expr,
+                    idx,
+                    returns_scalar,
+                },
+                Expr::Gather {
+                    expr: own_expr,
+                    idx: own_idx,
+                    returns_scalar: own_scalar,
+                },
+            ) => *returns_scalar == *own_scalar && expr.is_same(own_expr) && idx.is_same(own_idx),
+            (
+                Expr::Filter { input, by },
+                Expr::Filter {
+                    input: own_input,
+                    by: own_by,
+                },
+            ) => input.is_same(own_input) && by.is_same(own_by),
+            (
+                Expr::Sort { expr, options },
+                Expr::Sort {
+                    expr: own_expr,
+                    options: own_options,
+                },
+            ) => *options == *own_options && expr.is_same(own_expr),
             _ => false,
         }
     }
@@ -185,6 +264,30 @@ impl Expr {
                 input.feed(state);
                 offset.feed(state);
                 length.feed(state);
+            }
+            Expr::Explode(input) => {
+                state.write_u8(6);
+                input.feed(state);
+            }
+            Expr::Gather {
+                expr,
+                idx,
+                returns_scalar,
+            } => {
+                state.write_u8(7);
+                returns_scalar.hash(state);
+                expr.feed(state);
+                idx.feed(state);
+            }
+            Expr::Filter { input, by } => {
+                state.write_u8(8);
+                input.feed(state);
+                by.feed(state);
+            }
+            Expr::Sort { expr, options } => {
+                state.write_u8(9);
+                options.hash(state);
+                expr.feed(state);
             }
         }
     }

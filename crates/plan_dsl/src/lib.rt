@@ -8,4 +8,5 @@ pub mod literal;
 pub mod operator;
 pub mod plan;
 pub mod plan_laws;
+pub mod sort_options;
 pub mod udfs;
