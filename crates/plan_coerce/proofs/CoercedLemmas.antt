@@ -21,7 +21,8 @@ use Rattle.plan_dsl.specs.Literals.{settled_type}
 use Rattle.plan_dsl.proofs.LiteralLemmas.{becomes_literal, literal_typing}
 use Rattle.plan_dsl.proofs.TypingLemmas.{by_children, by_no_children}
 use Rattle.plan_dsl.proofs.CastLemmas.{if_true}
-use Rattle.plan_dsl.proofs.OpLemmas.{AllBecome, keeps_rule}
+use Rattle.plan_dsl.proofs.OpLemmas.{keeps_rule}
+use Rattle.plan_dsl.proofs.SignatureLemmas.{AllBecome}
 use Rattle.plan_dsl.proofs.OperandLemmas.{after_typed, operands_same}
 use Rattle.plan_dsl.proofs.SameLemmas.{node_same, typings_same, same_itself, same_then}
 use Rattle.plan_dsl.proofs.StrictLemmas.{strict_parts}

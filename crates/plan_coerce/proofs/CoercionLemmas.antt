@@ -43,7 +43,8 @@ use Rattle.plan_infer.specs.declared.type_table.Inferred.{Inferred}
 use Rattle.plan_infer.specs.KeptTypes.{Keeps, KeepsEntry, IsKept, Extends, AllKept, AreOperands, IsRight, TakesTo, typed_of}
 use Rattle.plan_arena.proofs.NumberLemmas.{all_joined, all_weaker}
 use Rattle.plan_infer.proofs.TableLemmas.{children_kept, kept_type, kept_typing, layer_held, listed_operands, ruled_inputs, still_keeps, still_kept, kept_of, type_of, type_one}
-use Rattle.plan_dsl.proofs.OpLemmas.{AllBecome, keeps_rule}
+use Rattle.plan_dsl.proofs.OpLemmas.{keeps_rule}
+use Rattle.plan_dsl.proofs.SignatureLemmas.{AllBecome}
 
 -- what an arena holds it holds when it has grown and another item was written
 pub written_elsewhere : (old new : List AExpr) (at : ℕ) (item : AExpr) → Grows old new → (n : ℕ) (op : Op) (inputs : List ℕ) → n ≢ at → HoldsExpression old n op inputs → HoldsExpression (set new at item) n op inputs

@@ -21,7 +21,8 @@ use Rattle.plan_dsl.specs.Typing.{Ruling, Typed, cast_taken, literal_taken, rule
 use Rattle.plan_dsl.proofs.TypingLemmas.{ok_same}
 use Rattle.plan_dsl.proofs.CastLemmas.{operand_made}
 use Rattle.plan_dsl.proofs.LiteralLemmas.{literal_typing}
-use Rattle.plan_dsl.proofs.OpLemmas.{AllBecome, keeps_rule}
+use Rattle.plan_dsl.proofs.OpLemmas.{keeps_rule}
+use Rattle.plan_dsl.proofs.SignatureLemmas.{AllBecome}
 use Rattle.plan_arena.specs.declared.arena.Node.{Node}
 use Rattle.plan_arena.specs.declared.aexpr.AExpr.{AExpr}
 use Rattle.plan_arena.specs.declared.aexpr.AExpr.TheVariants.{Literal, Cast}

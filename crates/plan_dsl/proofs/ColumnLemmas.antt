@@ -26,31 +26,22 @@ AreAllOf (t ∷ ts) (c ∷ cs) = AreOf t c × AreAllOf ts cs
 AreAllOf [] (c ∷ cs) = ⊥
 AreAllOf (t ∷ ts) [] = ⊥
 
--- what holds of none, of one column and of two holds of columns of so many typings
-pub of_none : (P : List (List Val) → Type 0) → P [] → (columns : List (List Val)) → AreAllOf [] columns → P columns
-of_none P h [] of = h
-of_none P h (c ∷ cs) of = absurd of
+-- what holds of all columns of these typings, one by one, holds of the columns
+abbrev pub OnColumns : List Typed → (List (List Val) → Type 0) → Type 0
+OnColumns [] P = P []
+OnColumns (t ∷ ts) P = (column : List Val) → AreOf t column → OnColumns ts (λ columns. P (column ∷ columns))
 
-pub of_one : (t : Typed) (P : List (List Val) → Type 0) → ((c : List Val) → AreOf t c → P (c ∷ [])) → (columns : List (List Val)) → AreAllOf (t ∷ []) columns → P columns
-of_one t P h [] of = absurd of
-of_one t P h (c ∷ cs) of = of_none (λ cs. P (c ∷ cs)) (h c of.0) cs of.1
+pub on_columns : (typed : List Typed) (P : List (List Val) → Type 0) → OnColumns typed P → (columns : List (List Val)) → AreAllOf typed columns → P columns
+on_columns [] P h [] of = h
+on_columns [] P h (c ∷ cs) of = absurd of
+on_columns (t ∷ ts) P h [] of = absurd of
+on_columns (t ∷ ts) P h (c ∷ cs) of = on_columns ts (λ columns. P (c ∷ columns)) (h c of.0) cs of.1
 
-pub of_two : (t u : Typed) (P : List (List Val) → Type 0) → ((c d : List Val) → AreOf t c → AreOf u d → P (c ∷ d ∷ [])) → (columns : List (List Val)) → AreAllOf (t ∷ u ∷ []) columns → P columns
-of_two t u P h [] of = absurd of
-of_two t u P h (c ∷ cs) of = of_one u (λ cs. P (c ∷ cs)) (λ d fit. h c d of.0 fit) cs of.1
-
-pub of_three : (t u v : Typed) (P : List (List Val) → Type 0) → ((c d e : List Val) → AreOf t c → AreOf u d → AreOf v e → P (c ∷ d ∷ e ∷ [])) → (columns : List (List Val)) → AreAllOf (t ∷ u ∷ v ∷ []) columns → P columns
-of_three t u v P h [] of = absurd of
-of_three t u v P h (c ∷ cs) of = of_two u v (λ cs. P (c ∷ cs)) (λ d e fit. h c d e of.0 fit) cs of.1
-
--- and what holds of one value holds of a column that has no more
-one_value : (P : List Val → Type 0) → ((value : Val) → P (value ∷ [])) → (values : List Val) → length values ≡ 1 → P values
+-- what holds of one value holds of a column that has no more
+pub one_value : (P : List Val → Type 0) → ((value : Val) → P (value ∷ [])) → (values : List Val) → length values ≡ 1 → P values
 one_value P h [] one = absurd (omega arith)
 one_value P h (value ∷ []) one = h value
 one_value P h (value ∷ second ∷ rest) one = absurd (omega arith)
-
-pub of_one_value : (t : Typed) (P : List Val → Type 0) → t.many ≡ false → ((value : Val) → P (value ∷ [])) → (values : List Val) → AreOf t values → P values
-of_one_value t P single h values of = one_value P h values (of.single single)
 
 -- ---- casts
 
@@ -151,11 +142,11 @@ sliced_fits start (IntValue count) values type h =
 sliced_fits start _ values type h = dropped_fit (in_front_of start) values type h
 
 -- a slice by one offset and one length is there
-pub slice_values_fit : (type : Ty) (many : Bool) (counted : Ty) (starts sizes : Bool) → starts ≡ false → sizes ≡ false → (values offsets counts : List Val) → AreOf (record { type = type; many = many }) values → AreOf (record { type = counted; many = starts }) offsets → AreOf (record { type = counted; many = sizes }) counts → Meets (AreOf (record { type = type; many = true })) (slice_values values offsets counts)
-slice_values_fit type many counted starts sizes one_start one_size values offsets counts fit start size =
-    of_one_value (record { type = counted; many = starts }) (λ offsets. Meets (AreOf (record { type = type; many = true })) (slice_values values offsets counts)) one_start (λ offset.
-    of_one_value (record { type = counted; many = sizes }) (λ counts. Meets (AreOf (record { type = type; many = true })) (slice_values values (offset ∷ []) counts)) one_size (λ count.
-    record { fitting = sliced_fits (slice_start (offset_of offset) (length values)) count values type fit.fitting; single = λ one. cc }) counts size) offsets start
+pub slice_values_fit : (type : Ty) (values offsets counts : List Val) → IsTrue (all_fit values type) → length offsets ≡ 1 → length counts ≡ 1 → Meets (AreOf (record { type = type; many = true })) (slice_values values offsets counts)
+slice_values_fit type values offsets counts fit start size =
+    one_value (λ offsets. Meets (AreOf (record { type = type; many = true })) (slice_values values offsets counts)) (λ offset.
+    one_value (λ counts. Meets (AreOf (record { type = type; many = true })) (slice_values values (offset ∷ []) counts)) (λ count.
+    record { fitting = sliced_fits (slice_start (offset_of offset) (length values)) count values type fit; single = λ one. cc }) counts size) offsets start
 
 -- ---- literals
 

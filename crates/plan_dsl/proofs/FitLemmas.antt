@@ -15,7 +15,8 @@ use Rattle.plan_dsl.specs.Meaning.{meaning, meaning_all, node_meaning, ruled_mea
 use Rattle.plan_dsl.specs.Laws.{AreOf}
 use Rattle.plan_dsl.proofs.CastLemmas.{column_by_column}
 use Rattle.plan_dsl.proofs.ColumnLemmas.{AreAllOf, CastFits, become_fits, cast_column_fits}
-use Rattle.plan_dsl.proofs.OpLemmas.{AllBecome, keeps_rule}
+use Rattle.plan_dsl.proofs.OpLemmas.{keeps_rule}
+use Rattle.plan_dsl.proofs.SignatureLemmas.{AllBecome}
 use Rattle.plan_dsl.proofs.TypingLemmas.{by_children, by_no_children, typed_parts}
 
 -- on any rows it is not stuck, and gives values of that typing

@@ -6,6 +6,7 @@ pub mod ComparisonLemmas
 pub mod FitLemmas
 pub mod FrameLemmas
 pub mod KernelLemmas
+pub mod KindLemmas
 pub mod LiteralLemmas
 pub mod OpLemmas
 pub mod OperandLemmas
@@ -16,6 +17,7 @@ pub mod RuleLemmas
 pub mod RunLemmas
 pub mod SameLemmas
 pub mod SortLemmas
+pub mod SignatureLemmas
 pub mod StrictLemmas
 pub mod SwapLemmas
 pub mod SwappedNodeLemmas

@@ -17,7 +17,8 @@ use Rattle.plan_dsl.specs.Strictness.{IsSame, IsStrictOver, as_operands}
 use Rattle.plan_dsl.proofs.TypingLemmas.{by_children, by_no_children}
 use Rattle.plan_dsl.proofs.StrictLemmas.{StrictParts, strict_from}
 use Rattle.plan_dsl.proofs.CastLemmas.{cast_own, operand_made}
-use Rattle.plan_dsl.proofs.OpLemmas.{AllBecome, KeepsRule, keeps_rule}
+use Rattle.plan_dsl.proofs.OpLemmas.{KeepsRule, keeps_rule}
+use Rattle.plan_dsl.proofs.SignatureLemmas.{AllBecome}
 
 -- ---- operands one by one
 

@@ -1,13 +1,11 @@
 -- What is typed has one typing, and children that are typed are so one by one.
-use Rattle.std.proofs.Common.{◌≡◌, Bool, true, false, cond, List, [], ◌∷◌, Option, Some, None, Result, Ok, Err, refl, subst}
+use Rattle.std.proofs.Common.{◌≡◌, Bool, true, false, cond, List, [], ◌∷◌, Result, Ok, Err, refl, subst}
 use Rattle.plan_types.specs.Schemas.{Columns}
-use Rattle.plan_types.specs.Types.{Ty}
 use Rattle.plan_types.specs.declared.error.ErrorKind.{ErrorKind}
-use Rattle.plan_types.specs.declared.error.ErrorKind.TheVariants.{InvalidOperation}
 use Rattle.plan_dsl.specs.Registry.{Registry}
 use Rattle.plan_dsl.specs.Trees.{Trees, node}
 use Rattle.plan_dsl.specs.Ops.{Op}
-use Rattle.plan_dsl.specs.Typing.{Typed, Ruling, rule, ruled_as, over_type, ruled_where, own_typed, typing_rule, then_typed, typed_before, typing, typing_all}
+use Rattle.plan_dsl.specs.Typing.{Typed, Ruling, rule, ruled_as, own_typed, typing_rule, then_typed, typed_before, typing, typing_all}
 use Rattle.plan_dsl.specs.OperatorTypes.{Taken}
 
 -- what was found is one
@@ -39,14 +37,6 @@ typed_as found many = own_typed (ruled_as found many)
 pub ruled_is : (P : Ruling → Type 0) (found : Result Taken ErrorKind) (many : Bool) (ruling : Ruling) → ruled_as found many ≡ Ok ruling → ((taken : Taken) → found ≡ Ok taken → P (ruling_of taken many)) → P ruling
 ruled_is P (Err kind) many ruling h each = cc
 ruled_is P (Ok taken) many ruling h each = subst P (ok_same (ruled_as (Ok taken) many) (ruling_of taken many) ruling refl h) (each taken refl)
-
--- what a rule says over the type that an operand has alone, and where a test lets it through
-pub over_is : (P : Ruling → Type 0) (found : Option Ty) (ruled : Ty → Result Ruling ErrorKind) (ruling : Ruling) → over_type found ruled ≡ Ok ruling → ((own : Ty) → found ≡ Some own → ruled own ≡ Ok ruling → P ruling) → P ruling
-over_is P None ruled ruling h each = cc
-over_is P (Some own) ruled ruling h each = each own refl h
-
-pub where_is : (P : Ruling → Type 0) (test : Bool) (made ruling : Ruling) → ruled_where test made ≡ Ok ruling → (test ≡ true → P made) → P ruling
-where_is P test made ruling h each = let p = ok_where test made ruling InvalidOperation h in subst P p.1 (each p.0)
 
 -- the parts of a typing
 pub record TypedParts (registry : Registry) (schema : Columns) (op : Op) (children : Trees Op) (typed : Typed) : Type 0 where

@@ -19,6 +19,7 @@ pub mod Registry
 pub mod Resolving
 pub mod SameExpressions
 pub mod Samples
+pub mod Signatures
 pub mod Slices
 pub mod Sorting
 pub mod Sources

@@ -1,18 +1,24 @@
 -- Types of expressions.
 -- Typing goes from the leaves up by one rule for a node. The first child that is refused is the answer.
-use Rattle.std.specs.Prelude.{Bool, true, false, not, ◌&&◌, ◌||◌, List, [], ◌∷◌, ◌++◌, map, Option, Some, None, Result, Ok, Err, if◌then◌else◌}
-use Rattle.plan_types.specs.Types.{Ty, Integer, is_integer, is_known, is_null}
+use Rattle.std.specs.Prelude.{ℕ, suc, Bool, true, false, ◌&&◌, ◌||◌, List, [], ◌∷◌, ◌++◌, map, length, Option, Some, None, Result, Ok, Err, if◌then◌else◌}
+use Rattle.plan_types.specs.Types.{Ty, NullType, is_known}
 use Rattle.plan_types.specs.Values.{Val}
 use Rattle.plan_types.specs.Schemas.{Columns, type_at}
 use Rattle.plan_types.specs.Casts.{can_cast}
 use Rattle.plan_types.specs.CommonTypes.{type_alone}
 use Rattle.plan_types.specs.declared.error.ErrorKind.{ErrorKind}
-use Rattle.plan_types.specs.declared.error.ErrorKind.TheVariants.{ColumnNotFound, SchemaMismatch, InvalidOperation}
+use Rattle.plan_types.specs.declared.error.ErrorKind.TheVariants.{ColumnNotFound, InvalidOperation}
 use Rattle.plan_dsl.specs.OperatorTypes.{Taken, operator_types}
 use Rattle.plan_dsl.specs.Literals.{is_literal}
 use Rattle.plan_dsl.specs.Registry.{Registry}
 use Rattle.plan_dsl.specs.Trees.{Trees, node, no_more, more}
-use Rattle.plan_dsl.specs.Ops.{Op, ColumnOp, LiteralOp, BinaryOp, CastOp, LenOp, SliceOp, Expression}
+use Rattle.plan_dsl.specs.Ops.{Op, ColumnOp, LiteralOp, BinaryOp, CastOp, Expression}
+use Rattle.plan_dsl.specs.declared.signature.Ask.{Ask}
+use Rattle.plan_dsl.specs.declared.signature.Asked.{Asked}
+use Rattle.plan_dsl.specs.declared.signature.Many.{Many}
+use Rattle.plan_dsl.specs.declared.signature.Many.TheVariants.{Never, Always, AsFirst, WhereAny}
+use Rattle.plan_dsl.specs.declared.signature.Signature.{Signature}
+use Rattle.plan_dsl.specs.Signatures.{asked_at, asked_target, is_asked, own_type, signature}
 
 -- an expression's type, and whether its column may have another length than one
 pub record Typed : Type 0 where
@@ -52,50 +58,63 @@ abbrev pub ruled_as : Result Taken ErrorKind → Bool → Result Ruling ErrorKin
 ruled_as (Err kind) many = Err kind
 ruled_as (Ok taken) many = Ok (record { operands = taken.operands; own = record { type = taken.type; many = many } })
 
--- the type of a count of rows
-abbrev pub count_type : Ty
-count_type = Integer false 32
+-- the typings of operands that were made of these types
+abbrev pub typed_to : List Typed → List Ty → List Typed
+typed_to [] targets = []
+typed_to (t ∷ ts) [] = []
+typed_to (t ∷ ts) (target ∷ targets) = record { type = target; many = t.many } ∷ typed_to ts targets
 
--- goes on with the type that an operand has alone
-abbrev pub over_type : Option Ty → (Ty → Result Ruling ErrorKind) → Result Ruling ErrorKind
-over_type None ruled = Err InvalidOperation
-over_type (Some type) ruled = ruled type
+-- the type to which an operand is taken, where the type that it has alone is what is asked, and it is one if it must be
+abbrev pub taken_alone : Ask → Option Ty → Option Ty
+taken_alone ask None = None
+taken_alone ask (Some type) = if is_asked ask type then Some (asked_target ask type) else None
 
--- a ruling, where a test lets it through
-abbrev pub ruled_where : Bool → Ruling → Result Ruling ErrorKind
-ruled_where test ruling = if test then Ok ruling else Err InvalidOperation
+abbrev pub taken_by : Asked → Typed → Option Ty
+taken_by asked operand = if asked.one && operand.many then None else taken_alone asked.ask (type_alone operand.type)
 
--- whether a test holds of the type, if there is one
-abbrev pub holds_of : (Ty → Bool) → Option Ty → Bool
-holds_of test None = false
-holds_of test (Some type) = test type
+-- one more type in front
+abbrev pub type_before : Option Ty → Option (List Ty) → Option (List Ty)
+type_before None rest = None
+type_before (Some type) None = None
+type_before (Some type) (Some types) = Some (type ∷ types)
 
--- whether an operand has one value, of such a type alone
-abbrev pub is_one : (Ty → Bool) → Typed → Bool
-is_one test operand = not operand.many && holds_of test (type_alone operand.type)
+-- the types to which operands are taken, of which the first has that place
+abbrev pub taken_from : Signature → ℕ → List Typed → Option (List Ty)
+taken_from signature place [] = Some []
+taken_from signature place (t ∷ ts) = type_before (taken_by (asked_at signature place) t) (taken_from signature (suc place) ts)
 
--- the type in which places and lengths are counted, and whether a length may be of a type
-abbrev pub place_type : Ty
-place_type = Integer true 64
+-- the first operand, which matters to no kind without operands
+abbrev pub first_of : List Typed → Typed
+first_of [] = record { type = NullType; many = false }
+first_of (t ∷ ts) = t
 
-abbrev pub is_length : Ty → Bool
-is_length type = is_integer type || is_null type
+abbrev pub many_of : Many → List Typed → Bool
+many_of Never typed = false
+many_of Always typed = true
+many_of AsFirst typed = (first_of typed).many
+many_of WhereAny typed = some_many typed
 
--- a slice of an input of the type
-abbrev pub slice_ruling : Ty → Ruling
-slice_ruling type = record { operands = type ∷ place_type ∷ place_type ∷ []; own = record { type = type; many = true } }
+-- the own typing over operands that were taken
+abbrev pub own_over : Signature → List Typed → Typed
+own_over signature typed = record { type = own_type signature.own (first_of typed).type; many = many_of signature.many typed }
 
--- The types to which a node takes operands that are typed so, and its own typing. A node with another number of
--- operands than its own, which no expression has, has none.
+-- what a signature says of typed operands
+abbrev pub signed_to : Signature → List Typed → Option (List Ty) → Result Ruling ErrorKind
+signed_to signature typed None = Err InvalidOperation
+signed_to signature typed (Some targets) = Ok (record { operands = targets; own = own_over signature (typed_to typed targets) })
+
+abbrev pub signed : Result Signature ErrorKind → List Typed → Result Ruling ErrorKind
+signed (Err kind) typed = Err kind
+signed (Ok signature) typed = signed_to signature typed (taken_from signature 0 typed)
+
+-- The types to which a node takes operands that are typed so, and its own typing: of a kind without a clause here, by its
+-- signature.
 abbrev pub rule : Registry → Columns → Op → List Typed → Result Ruling ErrorKind
 rule registry schema (ColumnOp name) [] = ruled_as (column_type (type_at schema name)) true
 rule registry schema (LiteralOp type value) [] = ruled_as (literal_taken type value) false
 rule registry schema (BinaryOp operator) typed = ruled_as (operator_types operator (types_of typed)) (some_many typed)
 rule registry schema (CastOp target options) (from ∷ []) = ruled_as (cast_taken target (type_alone from.type)) from.many
-rule registry schema LenOp [] = Ok (record { operands = []; own = record { type = count_type; many = false } })
-rule registry schema SliceOp (input ∷ offset ∷ count ∷ []) =
-    over_type (type_alone input.type) (λ type. ruled_where (is_one is_integer offset && is_one is_length count) (slice_ruling type))
-rule registry schema op typed = Err SchemaMismatch
+rule registry schema op typed = signed (signature op (length typed)) typed
 
 abbrev pub own_typed : Result Ruling ErrorKind → Result Typed ErrorKind
 own_typed (Err kind) = Err kind
@@ -104,12 +123,6 @@ own_typed (Ok ruling) = Ok ruling.own
 -- a node's typing, from its children's
 abbrev pub typing_rule : Registry → Columns → Op → List Typed → Result Typed ErrorKind
 typing_rule registry schema op children = own_typed (rule registry schema op children)
-
--- the typings of operands that were made of these types
-abbrev pub typed_to : List Typed → List Ty → List Typed
-typed_to [] targets = []
-typed_to (t ∷ ts) [] = []
-typed_to (t ∷ ts) (target ∷ targets) = record { type = target; many = t.many } ∷ typed_to ts targets
 
 -- goes on where a child is typed
 abbrev pub then_typed : {A : Type 0} → Result A ErrorKind → (A → Result Typed ErrorKind) → Result Typed ErrorKind

@@ -15,6 +15,7 @@ pub mod parts_of_plans;
 pub mod plans;
 pub mod resolved;
 pub mod same_expressions;
+pub mod signatures;
 pub mod strictness;
 pub mod texts_and_times;
 pub mod time_arithmetic;

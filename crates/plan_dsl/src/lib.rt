@@ -9,4 +9,5 @@ pub mod operator;
 pub mod plan;
 pub mod plan_laws;
 pub mod sort_options;
+pub mod signature;
 pub mod udfs;

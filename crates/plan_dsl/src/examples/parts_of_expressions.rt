@@ -1,7 +1,7 @@
 //! Parts of what expressions give and become, each by itself.
 
 ghost use Rattle.std.specs.Prelude.{◌≡◌, List, [], ◌∷◌, pos, map, codes, true, false, Result, Ok, Err};
-ghost use Rattle.plan_types.specs.Types.{Ty, NullType, Truth, TextType, ListType, Untyped, is_integer};
+ghost use Rattle.plan_types.specs.Types.{Ty, NullType, Truth, TextType, ListType, Untyped};
 ghost use Rattle.plan_types.specs.Outcomes.{Done, Fault, Stuck};
 ghost use Rattle.plan_types.specs.Frames.{empty_frame};
 ghost use Rattle.plan_types.specs.declared.dtype.CastOptions.TheVariants.{Strict, NonStrict};
@@ -10,7 +10,7 @@ ghost use Rattle.plan_types.specs.declared.error.ErrorKind.TheVariants.{ColumnNo
 ghost use Rattle.plan_dsl.specs.declared.operator.Operator.TheVariants.{Plus, Lt};
 ghost use Rattle.plan_dsl.specs.Trees.{no_more, more};
 ghost use Rattle.plan_dsl.specs.Ops.{ColumnOp, LiteralOp, BinaryOp, CastOp};
-ghost use Rattle.plan_dsl.specs.Typing.{Typed, Ruling, is_one, rule, typed_to, typing_rule};
+ghost use Rattle.plan_dsl.specs.Typing.{Typed, Ruling, rule, typed_to, typing_rule};
 ghost use Rattle.plan_dsl.specs.Kernels.{Meaning, given, cast_meaning, column_values, kernel};
 ghost use Rattle.plan_dsl.specs.Meaning.{taken_to};
 ghost use Rattle.plan_dsl.specs.Strictness.{same_types, as_operands};
@@ -29,9 +29,6 @@ pub fn types_of_operands()
         (CastOp int8 NonStrict, one_value (Untyped (pos 5)) ∷ [], taken (int32 ∷ []) (one_value int8)) ∷ []) }
     ensures no_cast { GivesAll (λ target. rule [] [] (CastOp target Strict) (one_value TextType ∷ [])) (Err InvalidOperation) (
         Truth ∷ NullType ∷ ListType TextType ∷ Untyped (pos 1) ∷ []) }
-    ensures one_value { Gives (is_one is_integer) (
-        (one_value int8, true) ∷ (one_value (Untyped (pos 5)), true) ∷ (many_values int8, false) ∷ (one_value TextType, false) ∷
-        (one_value (Untyped (pos 18446744073709551616)), false) ∷ []) }
     ensures typed_again { GivesOfTwo typed_to (
         (many_values int8 ∷ one_value (Untyped (pos 5)) ∷ [], int16 ∷ int32 ∷ [], many_values int16 ∷ one_value int32 ∷ []) ∷
         ([], [], []) ∷ (many_values int8 ∷ [], [], []) ∷ ([], int16 ∷ [], []) ∷ []) }

@@ -1,0 +1,69 @@
+-- Signatures: what a kind of expression asks of its operands, one by one, and what it makes of them. Most kinds have one,
+-- and with it their rule (`Typing`).
+use Rattle.std.specs.Prelude.{ℕ, zero, suc, Bool, true, false, ◌||◌, Result, Ok, Err}
+use Rattle.plan_types.specs.Types.{Ty, Truth, Integer, ListType, is_integer, is_null, is_ord, is_truth}
+use Rattle.plan_types.specs.declared.error.ErrorKind.{ErrorKind}
+use Rattle.plan_types.specs.declared.error.ErrorKind.TheVariants.{SchemaMismatch}
+use Rattle.plan_dsl.specs.declared.signature.Ask.{Ask}
+use Rattle.plan_dsl.specs.declared.signature.Ask.TheVariants.{Any, Sortable, Boolean, Place, Length}
+use Rattle.plan_dsl.specs.declared.signature.Asked.{Asked}
+use Rattle.plan_dsl.specs.declared.signature.OwnType.{OwnType}
+use Rattle.plan_dsl.specs.declared.signature.OwnType.TheVariants.{First, Item, ListOf, Count}
+use Rattle.plan_dsl.specs.declared.signature.Many.{Many}
+use Rattle.plan_dsl.specs.declared.signature.Many.TheVariants.{Never, Always}
+use Rattle.plan_dsl.specs.declared.signature.Signature.{Signature}
+use Rattle.plan_dsl.specs.Ops.{Op, LenOp, SliceOp}
+
+-- the types of counts, and of places and lengths
+abbrev pub count_type : Ty
+count_type = Integer false 32
+
+abbrev pub place_type : Ty
+place_type = Integer true 64
+
+-- whether the type that an operand has alone is what is asked
+abbrev pub is_asked : Ask → Ty → Bool
+is_asked Any type = true
+is_asked Sortable type = is_ord type || is_null type
+is_asked Boolean type = is_truth type || is_null type
+is_asked Place type = is_integer type
+is_asked Length type = is_integer type || is_null type
+
+-- and the type to which it is taken
+abbrev pub asked_target : Ask → Ty → Ty
+asked_target Boolean type = Truth
+asked_target Place type = place_type
+asked_target Length type = place_type
+asked_target ask type = type
+
+-- the own type, from that of the first operand
+abbrev pub own_type : OwnType → Ty → Ty
+own_type First type = type
+own_type Item (ListType item) = item
+own_type Item type = type
+own_type ListOf type = ListType type
+own_type Count type = count_type
+
+-- what is asked of an operand, of which there may be many values or must be one
+abbrev pub asks : Ask → Asked
+asks ask = record { ask = ask; one = false }
+
+abbrev pub asks_one : Ask → Asked
+asks_one ask = record { ask = ask; one = true }
+
+-- what is asked of the operand at a place
+abbrev pub asked_at : Signature → ℕ → Asked
+asked_at signature zero = signature.first
+asked_at signature (suc zero) = signature.second
+asked_at signature place = signature.rest
+
+-- what is asked of the first operand, of the second and of each other, the own type, and whether there are many values
+abbrev pub takes : Asked → Asked → Asked → OwnType → Many → Result Signature ErrorKind
+takes first second rest own many = Ok (record { first = first; second = second; rest = rest; own = own; many = many })
+
+-- The signature of an op over so many operands. An op over another number of operands than its own, which no expression
+-- has, has none.
+abbrev pub signature : Op → ℕ → Result Signature ErrorKind
+signature LenOp zero = takes (asks Any) (asks Any) (asks Any) Count Never
+signature SliceOp (suc (suc (suc zero))) = takes (asks Any) (asks_one Place) (asks_one Length) First Always
+signature op count = Err SchemaMismatch

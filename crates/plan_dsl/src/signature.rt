@@ -1,0 +1,109 @@
+//! What a kind of expression asks of its operands, and what it makes of them.
+ghost use Rattle.std.specs.Prelude.{◌≡◌};
+ghost use Rattle.plan_dsl.specs.Signatures.{asked_at, asks, asks_one, takes};
+
+use plan_types::error::ErrorKind;
+
+/// What is asked of the type that an operand has alone, and the type to which it is taken.
+#[derive(Clone, Copy)]
+pub enum Ask {
+    /// Any type, which is kept.
+    Any,
+    /// A type whose values are in an order, or null, which is kept.
+    Sortable,
+    /// Truth values or null, taken to truth values.
+    Boolean,
+    /// An integer, taken to places.
+    Place,
+    /// An integer or null, taken to places.
+    Length,
+}
+
+/// What is asked of an operand.
+#[derive(Clone, Copy)]
+pub struct Asked {
+    pub ask: Ask,
+    /// Whether its column must have one value.
+    pub one: bool,
+}
+
+/// The own type of a kind.
+#[derive(Clone, Copy)]
+pub enum OwnType {
+    /// That of the first operand.
+    First,
+    /// That of its items where it is a list, else its own.
+    Item,
+    /// Lists of it.
+    ListOf,
+    /// That of counts.
+    Count,
+}
+
+/// Whether the column of a kind may have another length than one.
+#[derive(Clone, Copy)]
+pub enum Many {
+    Never,
+    Always,
+    /// Where that of the first operand may.
+    AsFirst,
+    /// Where that of some operand may.
+    WhereAny,
+}
+
+/// What a kind of expression asks of its operands, one by one, and what it makes of them.
+#[derive(Clone, Copy)]
+pub struct Signature {
+    pub first: Asked,
+    pub second: Asked,
+    /// Of each operand after the second.
+    pub rest: Asked,
+    pub own: OwnType,
+    pub many: Many,
+}
+
+impl Signature {
+    /// What is asked of the operand at a place.
+    pub fn asked(&self, place: usize) -> Asked
+        ensures { result ≡ asked_at self.now place }
+    {
+        match place {
+            0 => self.first,
+            1 => self.second,
+            _ => self.rest,
+        }
+    }
+}
+
+/// An operand is asked for this, of whatever length its column is.
+pub fn asks(ask: Ask) -> Asked
+    ensures { result ≡ asks ask }
+{
+    Asked { ask, one: false }
+}
+
+/// An operand of one value is asked for this.
+pub fn asks_one(ask: Ask) -> Asked
+    ensures { result ≡ asks_one ask }
+{
+    Asked { ask, one: true }
+}
+
+/// The signature of a kind: what it asks of its first operand, of its second and of each other, and what it makes of them.
+pub fn takes(
+    first: Asked,
+    second: Asked,
+    rest: Asked,
+    own: OwnType,
+    many: Many,
+) -> Result<Signature, ErrorKind>
+    ensures { result ≡ takes first second rest own many }
+{
+    Ok(Signature {
+        first,
+        second,
+        rest,
+        own,
+        many,
+    })
+}
