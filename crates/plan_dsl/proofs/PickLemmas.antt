@@ -6,9 +6,11 @@ use Rattle.plan_types.specs.Types.{Ty, Truth, TextType, ListType, StructType}
 use Rattle.plan_types.specs.Values.{Val, Vals, no_value, with_value, NullValue, TruthValue, IntValue, TextValue, ListValue, StructValue, fits, items_fit, all_fit, in_range}
 use Rattle.plan_types.specs.Outcomes.{Done, Meets, then_do}
 use Rattle.plan_types.proofs.ValueLemmas.{meets_then, meets_as}
+use Rattle.plan_dsl.specs.declared.signature.OwnType.TheVariants.{Item}
 use Rattle.plan_dsl.specs.Kernels.{common_length, stretched, at_length, filter_values}
 use Rattle.plan_dsl.specs.Laws.{AreOf}
-use Rattle.plan_dsl.specs.Picks.{items_in, or_null, exploded, explode_values, exploded_type, or_fault, at_place, gathered, gather_values, is_true, where_true}
+use Rattle.plan_dsl.specs.Picks.{items_in, or_null, exploded, explode_values, or_fault, at_place, gathered, gather_values, is_true, where_true}
+use Rattle.plan_dsl.specs.Signatures.{own_type}
 use Rattle.plan_dsl.specs.Slices.{slice_start}
 use Rattle.plan_dsl.proofs.ColumnLemmas.{AreSoMany, stretched_fits}
 
@@ -35,7 +37,7 @@ no_number : (below : Bool) → (not below && below) ≡ true → ⊥
 no_number true h = cc
 no_number false h = cc
 
-exploded_fits : (value : Val) (type : Ty) → fits value type ≡ true → IsTrue (all_fit (exploded value) (exploded_type type))
+exploded_fits : (value : Val) (type : Ty) → fits value type ≡ true → IsTrue (all_fit (exploded value) (own_type Item type))
 exploded_fits NullValue type h = refl
 exploded_fits (TruthValue truth) Truth h = refl
 exploded_fits (TruthValue truth) _ h = cc
@@ -48,11 +50,11 @@ exploded_fits (ListValue items) _ h = cc
 exploded_fits (StructValue parts) (StructType fields) h = and_from _ true h refl
 exploded_fits (StructValue parts) _ h = cc
 
-pub explode_values_fit : (values : List Val) (type : Ty) → IsTrue (all_fit values type) → IsTrue (all_fit (explode_values values) (exploded_type type))
+pub explode_values_fit : (values : List Val) (type : Ty) → IsTrue (all_fit values type) → IsTrue (all_fit (explode_values values) (own_type Item type))
 explode_values_fit [] type h = refl
 explode_values_fit (value ∷ values) type h =
     let parts = and_parts (fits value type) (all_fit values type) h in
-    joined_fit (exploded value) (explode_values values) (exploded_type type) (exploded_fits value type parts.0) (explode_values_fit values type parts.1)
+    joined_fit (exploded value) (explode_values values) (own_type Item type) (exploded_fits value type parts.0) (explode_values_fit values type parts.1)
 
 -- ---- at indices
 
@@ -78,9 +80,9 @@ gathered_all values (index ∷ indices) type h =
     record { fitting = and_from (fits value type) (all_fit rest type) fit of.fitting; as_many = ap suc of.as_many }))
 
 -- one index gathers one value
-pub gather_values_fit : (type counted : Ty) (many indexed own : Bool) → (own ≡ false → indexed ≡ false) → (values indices : List Val) → AreOf (record { type = type; many = many }) values → AreOf (record { type = counted; many = indexed }) indices → Meets (AreOf (record { type = type; many = own })) (gather_values values indices)
-gather_values_fit type counted many indexed own single values indices fit at =
-    meets_as (AreSoMany type (length indices)) (AreOf (record { type = type; many = own })) (gather_values values indices) (gathered_all values indices type fit.fitting) (λ found made. record { fitting = made.fitting; single = λ one. made.as_many ∙ at.single (single one) })
+pub gather_values_fit : (type : Ty) (values indices : List Val) (many : Bool) → IsTrue (all_fit values type) → (many ≡ false → length indices ≡ 1) → Meets (AreOf (record { type = type; many = many })) (gather_values values indices)
+gather_values_fit type values indices many fit single =
+    meets_as (AreSoMany type (length indices)) (AreOf (record { type = type; many = many })) (gather_values values indices) (gathered_all values indices type fit) (λ found made. record { fitting = made.fitting; single = λ one. made.as_many ∙ single one })
 
 -- ---- where it is true
 
@@ -95,9 +97,9 @@ where_true_fits (truth ∷ truths) (value ∷ values) type h =
       | false ↦ rest
     ]
 
-pub filter_values_fit : (type tested : Ty) (many asked : Bool) (values truths : List Val) → AreOf (record { type = type; many = many }) values → AreOf (record { type = tested; many = asked }) truths → Meets (AreOf (record { type = type; many = true })) (filter_values values truths)
-filter_values_fit type tested many asked values truths fit asked_of =
+pub filter_values_fit : (type : Ty) (values truths : List Val) → IsTrue (all_fit values type) → Meets (AreOf (record { type = type; many = true })) (filter_values values truths)
+filter_values_fit type values truths fit =
     elim (common_length (length values) (length truths)) as (λ o. Meets (AreOf (record { type = type; many = true })) (at_length o (λ count. where_true (stretched count truths) (stretched count values)))) [
       | None ↦ tt
-      | Some count ↦ record { fitting = where_true_fits (stretched count truths) (stretched count values) type (stretched_fits count values type fit.fitting); single = λ one. cc }
+      | Some count ↦ record { fitting = where_true_fits (stretched count truths) (stretched count values) type (stretched_fits count values type fit); single = λ one. cc }
     ]

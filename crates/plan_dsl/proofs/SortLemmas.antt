@@ -7,6 +7,7 @@ use Rattle.std.proofs.lemmas.List.Sorted.{IsPermutation-refl, IsPermutation-tran
 use Rattle.plan_types.specs.Types.{Ty}
 use Rattle.plan_types.specs.Values.{Val, fits, all_fit}
 use Rattle.plan_dsl.specs.declared.sort_options.SortOptions.{SortOptions}
+use Rattle.plan_dsl.specs.Typing.{Typed}
 use Rattle.plan_dsl.specs.Laws.{AreOf}
 use Rattle.plan_dsl.specs.Sorting.{comes_before, inserted, sorted, sort_values}
 
@@ -47,10 +48,10 @@ fit_each : (values : List Val) (type : Ty) → list_all (λ value. fits value ty
 fit_each [] type = refl
 fit_each (value ∷ values) type = ap (λ b. fits value type && b) (fit_each values type)
 
-pub sort_values_fit : (options : SortOptions) (type : Ty) (many : Bool) (values : List Val) → AreOf (record { type = type; many = many }) values → AreOf (record { type = type; many = many }) (sort_values options values)
-sort_values_fit options type many values of =
+pub sort_values_fit : (options : SortOptions) (typed : Typed) (values : List Val) → AreOf typed values → AreOf typed (sort_values options values)
+sort_values_fit options typed values of =
     let before = comes_before options in
     record {
-      fitting = sym (fit_each (sorted before values) type) ∙ sorted_all before (λ value. fits value type) values (fit_each values type ∙ of.fitting);
+      fitting = sym (fit_each (sorted before values) typed.type) ∙ sorted_all before (λ value. fits value typed.type) values (fit_each values typed.type ∙ of.fitting);
       single = λ one. sorted_length before values ∙ of.single one;
     }

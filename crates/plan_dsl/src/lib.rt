@@ -8,6 +8,6 @@ pub mod literal;
 pub mod operator;
 pub mod plan;
 pub mod plan_laws;
-pub mod sort_options;
 pub mod signature;
+pub mod sort_options;
 pub mod udfs;
