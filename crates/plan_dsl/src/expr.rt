@@ -1,6 +1,7 @@
 //! Expressions over the columns of a frame.
 ghost use Rattle.std.specs.Prelude.{◌≡◌, IfOk, IfErr};
 ghost use Rattle.std.specs.List.{fold};
+ghost use Rattle.plan_dsl.specs.Trees.{top_op};
 ghost use Rattle.plan_dsl.specs.Expressions.{tree_of};
 ghost use Rattle.plan_dsl.specs.SameExpressions.{operator_rank, options_rank, same_op, same_tree, op_writes, tree_writes};
 ghost use Rattle.plan_types.specs.Errors.{no_memory};
@@ -70,85 +71,53 @@ impl Expr {
         ensures err { IfErr result (λ error. error ≡ no_memory) }
     {
         match self {
-            Expr::Column(name) => {
-                let name = name.try_clone(alloc)?;
-                Ok(Expr::Column(name))
-            }
-            Expr::Literal(value) => {
-                let value = value.try_clone(alloc)?;
-                Ok(Expr::Literal(value))
-            }
-            Expr::BinaryExpr { left, op, right } => {
-                let left = left.try_clone(alloc)?;
-                let right = right.try_clone(alloc)?;
-                let left = Box::new(alloc, left)?;
-                let right = Box::new(alloc, right)?;
-                Ok(Expr::BinaryExpr {
-                    left,
-                    op: *op,
-                    right,
-                })
-            }
+            Expr::Column(name) => Ok(Expr::Column(name.try_clone(alloc)?)),
+            Expr::Literal(value) => Ok(Expr::Literal(value.try_clone(alloc)?)),
+            Expr::BinaryExpr { left, op, right } => Ok(Expr::BinaryExpr {
+                left: Box::new(alloc, left.try_clone(alloc)?)?,
+                op: *op,
+                right: Box::new(alloc, right.try_clone(alloc)?)?,
+            }),
             Expr::Cast {
                 expr,
                 dtype,
                 options,
-            } => {
-                let expr = expr.try_clone(alloc)?;
-                let expr = Box::new(alloc, expr)?;
-                let dtype = dtype.try_clone(alloc)?;
-                Ok(Expr::Cast {
-                    expr,
-                    dtype,
-                    options: *options,
-                })
-            }
+            } => Ok(Expr::Cast {
+                expr: Box::new(alloc, expr.try_clone(alloc)?)?,
+                dtype: dtype.try_clone(alloc)?,
+                options: *options,
+            }),
             Expr::Len => Ok(Expr::Len),
             Expr::Slice {
                 input,
                 offset,
                 length,
-            } => {
-                let input = Box::new(alloc, input.try_clone(alloc)?)?;
-                let offset = Box::new(alloc, offset.try_clone(alloc)?)?;
-                let length = Box::new(alloc, length.try_clone(alloc)?)?;
-                Ok(Expr::Slice {
-                    input,
-                    offset,
-                    length,
-                })
-            }
+            } => Ok(Expr::Slice {
+                input: Box::new(alloc, input.try_clone(alloc)?)?,
+                offset: Box::new(alloc, offset.try_clone(alloc)?)?,
+                length: Box::new(alloc, length.try_clone(alloc)?)?,
+            }),
             Expr::Explode(input) => {
                 let input = input.try_clone(alloc)?;
-                let input = Box::new(alloc, input)?;
-                Ok(Expr::Explode(input))
+                Ok(Expr::Explode(Box::new(alloc, input)?))
             }
             Expr::Gather {
                 expr,
                 idx,
                 returns_scalar,
-            } => {
-                let expr = Box::new(alloc, expr.try_clone(alloc)?)?;
-                let idx = Box::new(alloc, idx.try_clone(alloc)?)?;
-                Ok(Expr::Gather {
-                    expr,
-                    idx,
-                    returns_scalar: *returns_scalar,
-                })
-            }
-            Expr::Filter { input, by } => {
-                let input = Box::new(alloc, input.try_clone(alloc)?)?;
-                let by = Box::new(alloc, by.try_clone(alloc)?)?;
-                Ok(Expr::Filter { input, by })
-            }
-            Expr::Sort { expr, options } => {
-                let expr = expr.try_clone(alloc)?;
-                let expr = Box::new(alloc, expr)?;
-                Ok(Expr::Sort {
-                    expr,
-                    options: *options,
-                })
-            }
+            } => Ok(Expr::Gather {
+                expr: Box::new(alloc, expr.try_clone(alloc)?)?,
+                idx: Box::new(alloc, idx.try_clone(alloc)?)?,
+                returns_scalar: *returns_scalar,
+            }),
+            Expr::Filter { input, by } => Ok(Expr::Filter {
+                input: Box::new(alloc, input.try_clone(alloc)?)?,
+                by: Box::new(alloc, by.try_clone(alloc)?)?,
+            }),
+            Expr::Sort { expr, options } => Ok(Expr::Sort {
+                expr: Box::new(alloc, expr.try_clone(alloc)?)?,
+                options: *options,
+            }),
         }
     }
 
@@ -229,6 +198,40 @@ impl Expr {
     fn feed<H: Hasher>(&self, state: &mut H)
         ensures { state.new ≡ fold H.write state.old (tree_writes op_writes (tree_of self.now)) }
     {
+        self.feed_own(state);
+        match self {
+            Expr::Column(_) | Expr::Literal(_) | Expr::Len => {}
+            Expr::Cast { expr, .. } => expr.feed(state),
+            Expr::Explode(input) => input.feed(state),
+            Expr::Sort { expr, .. } => expr.feed(state),
+            Expr::BinaryExpr { left, right, .. } => {
+                left.feed(state);
+                right.feed(state);
+            }
+            Expr::Gather { expr, idx, .. } => {
+                expr.feed(state);
+                idx.feed(state);
+            }
+            Expr::Filter { input, by } => {
+                input.feed(state);
+                by.feed(state);
+            }
+            Expr::Slice {
+                input,
+                offset,
+                length,
+            } => {
+                input.feed(state);
+                offset.feed(state);
+                length.feed(state);
+            }
+        }
+    }
+
+    // Feeds what the node does, without its operands.
+    fn feed_own<H: Hasher>(&self, state: &mut H)
+        ensures { state.new ≡ fold H.write state.old (op_writes (top_op (tree_of self.now))) }
+    {
         match self {
             Expr::Column(name) => {
                 state.write_u8(0);
@@ -238,56 +241,26 @@ impl Expr {
                 state.write_u8(1);
                 value.hash(state);
             }
-            Expr::BinaryExpr { left, op, right } => {
+            Expr::BinaryExpr { op, .. } => {
                 state.write_u8(2);
                 state.write_u8(operator_rank(*op));
-                left.feed(state);
-                right.feed(state);
             }
-            Expr::Cast {
-                expr,
-                dtype,
-                options,
-            } => {
+            Expr::Cast { dtype, options, .. } => {
                 state.write_u8(3);
                 dtype.hash(state);
                 state.write_u8(options_rank(*options));
-                expr.feed(state);
             }
             Expr::Len => state.write_u8(4),
-            Expr::Slice {
-                input,
-                offset,
-                length,
-            } => {
-                state.write_u8(5);
-                input.feed(state);
-                offset.feed(state);
-                length.feed(state);
-            }
-            Expr::Explode(input) => {
-                state.write_u8(6);
-                input.feed(state);
-            }
-            Expr::Gather {
-                expr,
-                idx,
-                returns_scalar,
-            } => {
+            Expr::Slice { .. } => state.write_u8(5),
+            Expr::Explode(_) => state.write_u8(6),
+            Expr::Gather { returns_scalar, .. } => {
                 state.write_u8(7);
                 returns_scalar.hash(state);
-                expr.feed(state);
-                idx.feed(state);
             }
-            Expr::Filter { input, by } => {
-                state.write_u8(8);
-                input.feed(state);
-                by.feed(state);
-            }
-            Expr::Sort { expr, options } => {
+            Expr::Filter { .. } => state.write_u8(8),
+            Expr::Sort { options, .. } => {
                 state.write_u8(9);
                 options.hash(state);
-                expr.feed(state);
             }
         }
     }
