@@ -1,7 +1,7 @@
 -- What the visit of a node leaves.
 use Rattle.std.proofs.Common.{◌≡◌, ◌≢◌, ℕ, ◌<◌, ◌≤◌, true, false, cond, List, [], ◌∷◌, ◌++◌, length, set, Some, Ok, refl, sym, ap, ◌∙◌, subst, arith, map, zero, suc, ◌+◌, take, get_or, slice_get, ⊎_elim}
 use Rattle.std.specs.Prelude.{ℤ, ◌&&◌, unwrap_or}
-use Rattle.std.proofs.lemmas.Bool.{false≢true, and_parts}
+use Rattle.std.proofs.lemmas.Bool.{false≢true}
 use Rattle.plan_types.specs.Types.{Ty, Integer, Untyped, ty, is_counted, is_integer, is_known, same_type}
 use Rattle.plan_types.specs.CommonTypes.{type_alone}
 use Rattle.plan_types.specs.Schemas.{Columns}
@@ -17,7 +17,7 @@ use Rattle.plan_dsl.specs.Literals.{is_literal, literal_op, literal_type, litera
 use Rattle.plan_dsl.proofs.LiteralLemmas.{becomes_literal}
 use Rattle.plan_dsl.specs.Typing.{Typed, own_typed, then_typed, typing, typing_all, typing_rule, types_of, Ruling, rule}
 use Rattle.plan_dsl.proofs.StrictLemmas.{strict_from}
-use Rattle.plan_dsl.specs.Strictness.{CanBecome, IsSame, cast_to, changed, integer_has, number_as, number_literal, as_operand, as_operands, IsStrictOver}
+use Rattle.plan_dsl.specs.Strictness.{CanBecome, cast_to, changed, integer_has, number_as, number_literal, as_operand, as_operands, IsStrictOver}
 use Rattle.plan_dsl.proofs.TypingLemmas.{ok_same, typed_parts, by_children, by_no_children}
 use Rattle.plan_dsl.proofs.CastLemmas.{if_true, if_false}
 use Rattle.plan_dsl.proofs.OperandLemmas.{operands_strict}

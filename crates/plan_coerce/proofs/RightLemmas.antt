@@ -11,13 +11,12 @@ use Rattle.plan_types.specs.declared.dtype.DataType.{DataType}
 use Rattle.plan_types.specs.declared.dtype.CastOptions.TheVariants.{NonStrict}
 use Rattle.plan_dsl.specs.declared.literal.LiteralValue.{LiteralValue}
 use Rattle.plan_dsl.specs.Registry.{Registry}
-use Rattle.plan_dsl.specs.Names.{Label, label_of}
+use Rattle.plan_dsl.specs.Names.{label_of}
 use Rattle.plan_dsl.specs.Trees.{node, no_more, more}
 use Rattle.plan_dsl.specs.Ops.{Op, CastOp, Expression}
 use Rattle.plan_dsl.specs.Literals.{literal_op, literal_type, literal_value, is_literal}
-use Rattle.plan_dsl.specs.OperatorTypes.{Taken}
 use Rattle.plan_dsl.specs.Strictness.{as_operand}
-use Rattle.plan_dsl.specs.Typing.{Ruling, Typed, cast_taken, literal_taken, rule, typed_to, types_of, typing}
+use Rattle.plan_dsl.specs.Typing.{Ruling, Typed, literal_taken, rule, typed_to, types_of, typing}
 use Rattle.plan_dsl.proofs.TypingLemmas.{ok_same}
 use Rattle.plan_dsl.proofs.CastLemmas.{operand_made}
 use Rattle.plan_dsl.proofs.LiteralLemmas.{literal_typing}
@@ -150,9 +149,7 @@ right_cast registry schema old new table table' input n from own target grown at
     let below = (right_grown registry schema old new table g right).each input.0 from keeps in
     let held = held_there registry schema old new table table' n.0 (Cast input target NonStrict) (CastOp (ty target) NonStrict) (input.0 ∷ []) own grown at refl stays only in
     let tree : DenotesTree (HoldsExpression new) n.0 = record { tree = node (CastOp (ty target) NonStrict) (more below.tree no_more); denotes = (input.0 ∷ [], held, (below.denotes, tt)) } in
-    let taken : Taken = record { operands = ty from.dtype ∷ []; type = ty target } in
-    let takes = ap (cast_taken (ty target)) (alone_itself (ty from.dtype) known) ∙ ap (λ b. cond b (Ok taken) (Err InvalidOperation)) casts in
-    let ruled = cast_ruled registry schema (ty target) NonStrict (typed_of from) taken own takes (sym same) many (inr (ap (map ty) none, refl)) in
+    let ruled = cast_ruled registry schema (ty target) NonStrict (typed_of from) (ty from.dtype) own (alone_itself (ty from.dtype) known) casts same many (inr (ap (map ty) none, refl)) in
     right_added registry schema old new table table' n.0 (Cast input target NonStrict) (CastOp (ty target) NonStrict) (input.0 ∷ []) own grown at refl stays only tree (record { own = from; keeps = keeps }, tt) (λ typed k. subst (λ ts. IsRuled registry schema (CastOp (ty target) NonStrict) ts own) (kept_one table (input.0 ∷ []) (typed_of from ∷ []) typed (record { own = from; keeps = keeps; is = refl }, tt) k) ruled) (by_first input.0 [] from refl keeps (ap (λ (m : Node). m.0) name) (λ names. refl)) right
 
 -- a literal that was added

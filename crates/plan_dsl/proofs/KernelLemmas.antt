@@ -15,7 +15,7 @@ on_frame : (e f : Evaluation) (xs ys : List (Named Expression)) (schema : Column
 on_frame e f xs ys schema frame is agree =
     subst (λ s. map (e (record { schema = s; rows = frame.rows })) xs ≡ map (f (record { schema = s; rows = frame.rows })) ys) (sym is) (agree frame.rows)
 
-first_is : {A : Type 0} (x y : A) (xs ys : List A) → (x ∷ xs) ≡ (y ∷ ys) → x ≡ y
+pub first_is : {A : Type 0} (x y : A) (xs ys : List A) → (x ∷ xs) ≡ (y ∷ ys) → x ≡ y
 first_is x y xs ys e = cc
 
 -- then a select gives the same

@@ -1,6 +1,7 @@
 pub mod ExampleLemmas
 pub mod FieldLemmas
 pub mod OperandTypeLemmas
+pub mod SignedLemmas
 pub mod TableLemmas
 pub mod TimeTypeLemmas
 pub mod TypingLemmas

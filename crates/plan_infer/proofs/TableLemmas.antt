@@ -29,7 +29,7 @@ use Rattle.plan_arena.proofs.NumberLemmas.{all_weaker}
 use Rattle.plan_infer.specs.declared.type_table.Inferred.{Inferred}
 use Rattle.plan_infer.specs.declared.type_table.TypeTable.{TypeTable}
 use Rattle.plan_infer.specs.Typed.{DenotesTyped}
-use Rattle.plan_infer.specs.KeptTypes.{AllKept, AreOperands, Extends, GivesName, IsKept, IsNamedBy, IsRight, IsRuled, IsTypedNode, Keeps, KeepsEntry, by_first, by_itself, node_depth, some_count, typed_of}
+use Rattle.plan_infer.specs.KeptTypes.{AllKept, AreOperands, Extends, GivesName, IsKept, IsNamedBy, IsRight, IsRuled, IsTypedNode, Keeps, KeepsEntry, by_first, by_itself, node_depth, some_count, typed_by, typed_of, typings_at}
 use Rattle.plan_infer.proofs.TypingLemmas.{AllHaveType, AllRefused, AllTyped, refused_so}
 
 -- a node holds one op over one list of inputs
@@ -239,16 +239,16 @@ typings_kept table (n ∷ ns) all =
     let rest = typings_kept table ns all.1 in
     (typed_of all.0.own ∷ rest.0, (record { own = all.0.own; keeps = all.0.keeps; is = refl }, rest.1))
 
--- what holds of an item over the typings that are kept for its inputs holds over any that are
-pub over_inputs : (P : Op → List Typed → Type 0) (table : TypeTable) (l : Layer Op) (op : Op) (ns : List ℕ) (typed : List Typed) → l ≡ layer op ns → AllKept table ns typed → P op typed → (others : List Typed) → AllKept table (inputs_of l) others → P (op_of l) others
-over_inputs P table l op ns typed is kept p others k =
-    let here = subst (λ (x : Layer Op). AllKept table (inputs_of x) others) is k in
-    subst (P (op_of l)) (kept_one table ns typed others kept here) (subst (λ o. P o typed) (sym (ap op_of is)) p)
+-- the typings at nodes are those that are kept of them
+typings_there : (table : TypeTable) (ns : List ℕ) (typed : List Typed) → AllKept table ns typed → typings_at table ns ≡ typed
+typings_there table [] [] k = refl
+typings_there table (n ∷ ns) (t ∷ ts) k =
+    ap (λ o. typed_by o ∷ typings_at table ns) k.0.keeps.1 ∙ ap (λ x. x ∷ typings_at table ns) k.0.is ∙ ap (λ l. t ∷ l) (typings_there table ns ts k.1)
+typings_there table [] (t ∷ ts) k = absurd k
+typings_there table (n ∷ ns) [] k = absurd k
 
--- an item is named by its first input
-pub named_first : (table : TypeTable) (l : Layer Op) (op : Op) (n m : ℕ) (rest : List ℕ) (name : ℕ) (first : Inferred) → l ≡ layer op (m ∷ rest) → KeepsEntry table m first → name ≡ first.name.0 → ((names : List Label) → op_label op names ≡ first_label names) → IsNamedBy table (op_of l) n (inputs_of l) name
-named_first table l op n m rest name first is keeps at same =
-    by_first m rest first (ap inputs_of is) keeps at (λ names. ap (λ o. op_label o names) (ap op_of is) ∙ same names)
+pub over_kept : (P : List Typed → Type 0) (table : TypeTable) (ns ms : List ℕ) → ns ≡ ms → P (typings_at table ns) → (typed : List Typed) → AllKept table ms typed → P typed
+over_kept P table ns ms same p typed k = subst P (ap (typings_at table) same ∙ typings_there table ms typed k) p
 
 -- what was kept before is the same now
 pub typings_before : (old new : TypeTable) → Extends old new → (ns : List ℕ) (typed : List Typed) → AllByRecursion (IsKept old) ns → AllKept new ns typed → AllKept old ns typed

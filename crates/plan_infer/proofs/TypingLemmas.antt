@@ -1,12 +1,10 @@
 -- The type of a node, from those of its inputs.
-use Rattle.std.proofs.Common.{◌≡◌, ◌≢◌, ℕ, Bool, true, false, ◌||◌, ◌&&◌, cond, List, [], ◌∷◌, map, Option, Some, None, Result, Ok, Err, is_ok, refl, sym, ap, ◌∙◌, inl, ⊎_elim}
-use Rattle.std.specs.Prelude.{ℤ}
-use Rattle.plan_types.specs.Types.{Ty, Untyped, ty, is_integer, is_known}
+use Rattle.std.proofs.Common.{◌≡◌, ℕ, Bool, true, false, ◌||◌, cond, List, [], ◌∷◌, map, Some, None, Result, Ok, Err, IfOk, IfErr, refl, sym, ap, ◌∙◌, inl, ⊎_elim}
+use Rattle.plan_types.specs.Types.{Ty, ty, is_known}
 use Rattle.plan_types.specs.Values.{Val}
 use Rattle.plan_types.specs.Schemas.{Columns, Name, type_at}
-use Rattle.plan_types.specs.CommonTypes.{known_type, type_alone}
+use Rattle.plan_types.specs.CommonTypes.{type_alone}
 use Rattle.plan_types.specs.Casts.{can_cast}
-use Rattle.plan_types.proofs.CastLemmas.{source_known}
 use Rattle.plan_types.specs.Errors.{at_top, IsMemoryOr, IsRefusal, no_room, broken}
 use Rattle.plan_types.specs.declared.error.ErrorKind.{ErrorKind}
 use Rattle.plan_types.specs.declared.error.ErrorKind.TheVariants.{ColumnNotFound, InvalidOperation}
@@ -14,11 +12,11 @@ use Rattle.plan_types.specs.declared.error.PlanError.{PlanError}
 use Rattle.plan_types.specs.declared.dtype.CastOptions.{CastOptions}
 use Rattle.plan_dsl.specs.declared.operator.Operator.{Operator}
 use Rattle.plan_dsl.specs.Registry.{Registry}
-use Rattle.plan_dsl.specs.Ops.{Op, ColumnOp, LiteralOp, BinaryOp, CastOp, LenOp, SliceOp, Expression}
+use Rattle.plan_dsl.specs.Ops.{Op, ColumnOp, LiteralOp, BinaryOp, CastOp, Expression}
 use Rattle.plan_dsl.specs.Literals.{is_literal}
-use Rattle.plan_dsl.specs.Typing.{Typed, count_type, column_type, is_length, is_one, literal_taken, cast_taken, over_type, own_typed, place_type, ruled_where, slice_ruling, ruled_as, typing_rule, types_of, typing, rule}
+use Rattle.plan_dsl.specs.Typing.{Typed, column_type, literal_taken, cast_taken, own_typed, ruled_as, typing_rule, types_of, typing, rule}
 use Rattle.plan_dsl.specs.OperatorTypes.{Taken, operator_types}
-use Rattle.plan_dsl.proofs.TypingLemmas.{ok_where, ruling_of}
+use Rattle.plan_dsl.proofs.TypingLemmas.{ruling_of}
 use Rattle.plan_arena.specs.declared.aexpr.AExpr.{AExpr}
 use Rattle.plan_arena.specs.Denotation.{Denotes}
 use Rattle.plan_arena.specs.Items.{HoldsExpression}
@@ -31,46 +29,18 @@ pub refused_so : {A B : Type 0} (from : Result A ErrorKind) (to : Result B Error
 refused_so from to error same (no_room e) = no_room e
 refused_so from to error same (broken kind e b) = broken kind e (same kind b)
 
+-- what an answer says, where it says more
+pub if_ok : {T E : Type 0} (r : Result T E) (P Q : T → Type 0) → ((x : T) → P x → Q x) → IfOk r P → IfOk r Q
+if_ok (Ok x) P Q so h = so x h
+if_ok (Err e) P Q so h = tt
+
+pub if_err : {T E : Type 0} (r : Result T E) (P Q : E → Type 0) → ((e : E) → P e → Q e) → IfErr r P → IfErr r Q
+if_err (Ok x) P Q so h = tt
+if_err (Err e) P Q so h = so e h
+
 -- a literal whose type doesn't have its value
 pub no_literal : (type : Ty) (value : Val) (error : PlanError) → error ≡ at_top InvalidOperation → is_literal type value ≡ false → IsRefusal (literal_taken type value) error
 no_literal type value error e h = broken InvalidOperation e (ap (λ b. cond b (Ok (record { operands = []; type = type })) (Err InvalidOperation)) h)
-
--- an answer stands where its test holds
-has_it : {A : Type 0} (test : Bool) (taken : A) (kind : ErrorKind) → is_ok (cond test (Ok taken) (Err kind)) ≡ test
-has_it true taken kind = refl
-has_it false taken kind = refl
-
--- what a cast takes, where there is one
-takes_cast : (target : Ty) (alone : Option Ty) → is_ok (cast_taken target alone) ≡ true → (own : Ty) × (cast_taken target alone ≡ Ok (record { operands = own ∷ []; type = target }))
-takes_cast target None h = cc
-takes_cast target (Some own) h =
-    let casts = sym (has_it (can_cast own target) _ InvalidOperation) ∙ h in
-    (own, ap (λ b. cond b (Ok (record { operands = own ∷ []; type = target })) (Err InvalidOperation)) casts)
-
-pub cast_of : (target : Ty) (alone : Option Ty) (copy : Ty) → is_ok (cast_taken target alone) ≡ true → copy ≡ target → (own : Ty) × (cast_taken target alone ≡ Ok (record { operands = own ∷ []; type = copy }))
-cast_of target alone copy h same =
-    let found = takes_cast target alone h in
-    (found.0, found.1 ∙ ap (λ t. Ok (record { operands = found.0 ∷ []; type = t })) (sym same))
-
-uncast : (from target : Ty) → is_known from ≡ false → can_cast from target ≡ false
-uncast from target unknown =
-    elim (can_cast from target) as (λ b. can_cast from target ≡ b → b ≡ false) [ true ↦ λ h. sym (source_known from target h) ∙ unknown | false ↦ λ h. refl ] refl
-
--- alone it keeps its type, unless it is a number without one
-alone_own : (from : Ty) → ((number : ℤ) → from ≢ Untyped number) → type_alone from ≡ known_type from
-alone_own (Untyped number) own = absurd (own number refl)
-alone_own _ own = refl
-
-pub casts_own : (from target : Ty) → ((number : ℤ) → from ≢ Untyped number) → is_ok (cast_taken target (type_alone from)) ≡ can_cast from target
-casts_own from target own =
-    ap (λ o. is_ok (cast_taken target o)) (alone_own from own)
-    ∙ elim (is_known from) as (λ b. is_known from ≡ b → is_ok (cast_taken target (cond b (Some from) None)) ≡ can_cast from target) [ true ↦ λ e. has_it (can_cast from target) _ InvalidOperation | false ↦ λ e. sym (uncast from target e) ] refl
-
-pub takes_no_cast : (target : Ty) (alone : Option Ty) → is_ok (cast_taken target alone) ≡ false → cast_taken target alone ≡ Err InvalidOperation
-takes_no_cast target None h = refl
-takes_no_cast target (Some own) h =
-    let casts = sym (has_it (can_cast own target) _ InvalidOperation) ∙ h in
-    ap (λ b. cond b (Ok (record { operands = own ∷ []; type = target })) (Err InvalidOperation)) casts
 
 module _ (items : List AExpr) (registry : Registry) (schema : Columns) where
   -- the expressions at a node have this typing
@@ -122,62 +92,29 @@ pub literal_refused : (registry : Registry) (schema : Columns) (type : Ty) (valu
 literal_refused registry schema type value error refused =
     rule_refused registry schema (LiteralOp type value) [] (literal_taken type value) false refl error refused
 
--- a count of rows
-pub len_ruled : (registry : Registry) (schema : Columns) (own : Inferred) → ty own.dtype ≡ count_type → own.many ≡ false → own.operands.items ≡ [] → IsRuled registry schema LenOp [] own
-len_ruled registry schema own type many none = record {
-  ruling = record { operands = []; own = record { type = count_type; many = false } };
-  rules = refl;
-  is = λ i. record { type = sym type i; many = sym many i };
-  operands = inl (ap (map ty) none);
-}
-
 -- an operator over two operands
-pub last_many : (a b : Bool) → (a || (b || false)) ≡ (a || b)
-last_many true b = refl
-last_many false true = refl
-last_many false false = refl
-
-pub binary_ruled : (registry : Registry) (schema : Columns) (operator : Operator) (left right : Typed) (taken : Taken) (own : Inferred) → operator_types operator (left.type ∷ right.type ∷ []) ≡ Ok taken → taken.type ≡ ty own.dtype → own.many ≡ (left.many || right.many) → AreOperands (map ty own.operands.items) (left.type ∷ right.type ∷ []) taken.operands → IsRuled registry schema (BinaryOp operator) (left ∷ right ∷ []) own
+pub binary_ruled : (registry : Registry) (schema : Columns) (operator : Operator) (left right : Typed) (taken : Taken) (own : Inferred) → operator_types operator (left.type ∷ right.type ∷ []) ≡ Ok taken → taken.type ≡ ty own.dtype → own.many ≡ (left.many || (right.many || false)) → AreOperands (map ty own.operands.items) (left.type ∷ right.type ∷ []) taken.operands → IsRuled registry schema (BinaryOp operator) (left ∷ right ∷ []) own
 binary_ruled registry schema operator left right taken own found type many operands =
-    ruled_taken registry schema (BinaryOp operator) (left ∷ right ∷ []) (operator_types operator (left.type ∷ right.type ∷ [])) (left.many || (right.many || false)) refl taken own found type (last_many left.many right.many ∙ sym many) operands
+    ruled_taken registry schema (BinaryOp operator) (left ∷ right ∷ []) (operator_types operator (left.type ∷ right.type ∷ [])) (left.many || (right.many || false)) refl taken own found type (sym many) operands
 
 pub binary_refused : (registry : Registry) (schema : Columns) (operator : Operator) (left right : Typed) (error : PlanError) → IsRefusal (operator_types operator (left.type ∷ right.type ∷ [])) error → IsRefusal (typing_rule registry schema (BinaryOp operator) (left ∷ right ∷ [])) error
 binary_refused registry schema operator left right error refused =
     rule_refused registry schema (BinaryOp operator) (left ∷ right ∷ []) (operator_types operator (left.type ∷ right.type ∷ [])) (left.many || (right.many || false)) refl error refused
 
 -- a cast of an operand
-pub cast_ruled : (registry : Registry) (schema : Columns) (target : Ty) (options : CastOptions) (from : Typed) (taken : Taken) (own : Inferred) → cast_taken target (type_alone from.type) ≡ Ok taken → taken.type ≡ ty own.dtype → own.many ≡ from.many → AreOperands (map ty own.operands.items) (from.type ∷ []) taken.operands → IsRuled registry schema (CastOp target options) (from ∷ []) own
-cast_ruled registry schema target options from taken own found type many operands =
-    ruled_taken registry schema (CastOp target options) (from ∷ []) (cast_taken target (type_alone from.type)) from.many refl taken own found type (sym many) operands
+pub cast_ruled : (registry : Registry) (schema : Columns) (target : Ty) (options : CastOptions) (from : Typed) (alone : Ty) (own : Inferred) → type_alone from.type ≡ Some alone → can_cast alone target ≡ true → ty own.dtype ≡ target → own.many ≡ from.many → AreOperands (map ty own.operands.items) (from.type ∷ []) (alone ∷ []) → IsRuled registry schema (CastOp target options) (from ∷ []) own
+cast_ruled registry schema target options from alone own is casts type many operands =
+    let found = ap (cast_taken target) is ∙ ap (λ b. cond b (Ok (record { operands = alone ∷ []; type = target })) (Err InvalidOperation)) casts in
+    ruled_taken registry schema (CastOp target options) (from ∷ []) (cast_taken target (type_alone from.type)) from.many refl (record { operands = alone ∷ []; type = target }) own found (sym type) (sym many) operands
 
-pub cast_refused : (registry : Registry) (schema : Columns) (target : Ty) (options : CastOptions) (from : Typed) (error : PlanError) → IsRefusal (cast_taken target (type_alone from.type)) error → IsRefusal (typing_rule registry schema (CastOp target options) (from ∷ [])) error
+cast_refused : (registry : Registry) (schema : Columns) (target : Ty) (options : CastOptions) (from : Typed) (error : PlanError) → IsRefusal (cast_taken target (type_alone from.type)) error → IsRefusal (typing_rule registry schema (CastOp target options) (from ∷ [])) error
 cast_refused registry schema target options from error refused =
     rule_refused registry schema (CastOp target options) (from ∷ []) (cast_taken target (type_alone from.type)) from.many refl error refused
 
-first_operand : (from own target type : Ty) → (let taken : Taken = record { operands = from ∷ []; type = target } in taken ≡ record { operands = own ∷ []; type = type }) → from ≡ own
-first_operand from own target type e = let l = ap (λ (x : Taken). x.operands) e in cc
+pub cast_alone : (registry : Registry) (schema : Columns) (target : Ty) (options : CastOptions) (from : Typed) (error : PlanError) → IsMemoryOr InvalidOperation (type_alone from.type ≡ None) error → IsRefusal (typing_rule registry schema (CastOp target options) (from ∷ [])) error
+cast_alone registry schema target options from error b =
+    cast_refused registry schema target options from error (⊎_elim (λ e. no_room e) (λ p. broken InvalidOperation p.0 (ap (cast_taken target) p.1)) b)
 
--- where there is a cast, the operand has a type alone
-pub cast_alone : (target : Ty) (alone : Option Ty) (own type : Ty) → cast_taken target alone ≡ Ok (record { operands = own ∷ []; type = type }) → alone ≡ Some own
-cast_alone target None own type h = cc
-cast_alone target (Some from) own type h =
-    let e = (ok_where (can_cast from target) _ _ InvalidOperation h).1 in
-    ap Some (first_operand from own target type e)
-
--- a slice of an input, as it is alone
-pub slice_ruled : (registry : Registry) (schema : Columns) (input offset count : Typed) (type : Ty) (own : Inferred) → type_alone input.type ≡ Some type → (is_one is_integer offset && is_one is_length count) ≡ true → type ≡ ty own.dtype → own.many ≡ true → AreOperands (map ty own.operands.items) (input.type ∷ offset.type ∷ count.type ∷ []) (type ∷ place_type ∷ place_type ∷ []) → IsRuled registry schema SliceOp (input ∷ offset ∷ count ∷ []) own
-slice_ruled registry schema input offset count type own alone places same many operands = record {
-  ruling = slice_ruling type;
-  rules = ap (λ o. over_type o (λ type. ruled_where (is_one is_integer offset && is_one is_length count) (slice_ruling type))) alone ∙ ap (λ b. ruled_where b (slice_ruling type)) places;
-  is = λ i. record { type = same i; many = sym many i };
-  operands = operands;
-}
-
--- one that has none alone, or other places, is refused
-pub slice_alone : (registry : Registry) (schema : Columns) (input offset count : Typed) (error : PlanError) → IsMemoryOr InvalidOperation (type_alone input.type ≡ None) error → IsRefusal (typing_rule registry schema SliceOp (input ∷ offset ∷ count ∷ [])) error
-slice_alone registry schema input offset count error b =
-    ⊎_elim (λ e. no_room e) (λ p. broken InvalidOperation p.0 (ap (λ o. own_typed (over_type o (λ type. ruled_where (is_one is_integer offset && is_one is_length count) (slice_ruling type)))) p.1)) b
-
-pub slice_places : (registry : Registry) (schema : Columns) (input offset count : Typed) (type : Ty) (error : PlanError) → error ≡ at_top InvalidOperation → type_alone input.type ≡ Some type → (is_one is_integer offset && is_one is_length count) ≡ false → IsRefusal (typing_rule registry schema SliceOp (input ∷ offset ∷ count ∷ [])) error
-slice_places registry schema input offset count type error e alone places =
-    broken InvalidOperation e (ap (λ o. own_typed (over_type o (λ type. ruled_where (is_one is_integer offset && is_one is_length count) (slice_ruling type)))) alone ∙ ap (λ b. own_typed (ruled_where b (slice_ruling type))) places)
+pub no_cast : (registry : Registry) (schema : Columns) (target : Ty) (options : CastOptions) (from : Typed) (alone : Ty) (error : PlanError) → type_alone from.type ≡ Some alone → can_cast alone target ≡ false → error ≡ at_top InvalidOperation → IsRefusal (typing_rule registry schema (CastOp target options) (from ∷ [])) error
+no_cast registry schema target options from alone error is casts e =
+    cast_refused registry schema target options from error (broken InvalidOperation e (ap (cast_taken target) is ∙ ap (λ b. cond b (Ok (record { operands = alone ∷ []; type = target })) (Err InvalidOperation)) casts))

@@ -1,10 +1,11 @@
 -- What is inferred of nodes, kept by node.
 -- A table keeps entries of nodes from its first number on.
-use Rattle.std.specs.Prelude.{◌≡◌, ◌≤◌, ◌-◌, ◌⊎◌, ℕ, suc, List, [], ◌∷◌, map, Option, Some, None, Ok, slice_get}
+use Rattle.std.specs.Prelude.{◌≡◌, ◌≤◌, ◌-◌, ◌⊎◌, ℕ, suc, false, List, [], ◌∷◌, map, Option, Some, None, Result, Ok, slice_get}
 use Rattle.std.specs.List.{AllByRecursion}
-use Rattle.plan_types.specs.Types.{Ty, ty}
+use Rattle.plan_types.specs.Types.{Ty, NullType, ty}
 use Rattle.plan_types.specs.Schemas.{Columns}
 use Rattle.plan_types.specs.declared.dtype.DataType.{DataType}
+use Rattle.plan_types.specs.declared.error.ErrorKind.{ErrorKind}
 use Rattle.plan_dsl.specs.Registry.{Registry}
 use Rattle.plan_dsl.specs.Names.{Label, first_label, label_of, op_label}
 use Rattle.plan_dsl.specs.Ops.{Op, Expression}
@@ -72,12 +73,37 @@ AllKept table (n ∷ ns) [] = ⊥
 abbrev pub AreOperands : List Ty → List Ty → List Ty → Type 0
 AreOperands listed own targets = (listed ≡ targets) ⊎ ((listed ≡ []) × (own ≡ targets))
 
--- what is inferred of a node over inputs of these typings is what its rule says
-pub record IsRuled (registry : Registry) (schema : Columns) (op : Op) (typed : List Typed) (own : Inferred) : Type 0 where
+-- what is inferred of a node over inputs of these typings is what was found
+pub record Says (found : Result Ruling ErrorKind) (typed : List Typed) (own : Inferred) : Type 0 where
   pub ruling : Ruling
-  pub rules : rule registry schema op typed ≡ Ok ruling
+  pub rules : found ≡ Ok ruling
   pub is : ruling.own ≡ typed_of own
   pub operands : AreOperands (map ty own.operands.items) (types_of typed) ruling.operands
+
+-- so it is what its rule says
+abbrev pub IsRuled : Registry → Columns → Op → List Typed → Inferred → Type 0
+IsRuled registry schema op typed own = Says (rule registry schema op typed) typed own
+
+-- what is kept at a place, if there is something
+abbrev pub entry_at : TypeTable → ℕ → Option (Option Inferred)
+entry_at table n = slice_get table.entries.items (n - table.first)
+
+-- the typing at a place, and at each of these
+abbrev pub typed_by : Option (Option Inferred) → Typed
+typed_by (Some (Some own)) = typed_of own
+typed_by _ = record { type = NullType; many = false }
+
+abbrev pub typings_at : TypeTable → List ℕ → List Typed
+typings_at table ns = map (λ n. typed_by (entry_at table n)) ns
+
+-- the node that names one over these inputs
+abbrev pub named_by : ℕ → Option (Option Inferred) → ℕ
+named_by n (Some (Some own)) = own.name.0
+named_by n _ = n
+
+abbrev pub name_at : TypeTable → ℕ → List ℕ → ℕ
+name_at table n [] = n
+name_at table n (first ∷ rest) = named_by n (entry_at table first)
 
 -- the node that names an expression: the node itself, or the one that names its first input
 pub data IsNamedBy (table : TypeTable) (op : Op) (n : ℕ) (inputs : List ℕ) (name : ℕ) : Type 0 where

@@ -1,8 +1,7 @@
 -- What the worked examples share: columns a and b, their sum, what arenas hold of them, and tables of types.
-use Rattle.std.specs.Prelude.{◌≡◌, ℕ, ℤ, Bool, List, [], ◌∷◌, pos, codes, true, false, Option}
+use Rattle.std.specs.Prelude.{◌≡◌, ℕ, Bool, List, [], ◌∷◌, codes, Option}
 use Rattle.std.specs.List.{AllByRecursion}
-use Rattle.plan_types.specs.Types.{Ty, Integer, StructType, Untyped, no_field, with_field}
-use Rattle.plan_types.specs.Values.{IntValue}
+use Rattle.plan_types.specs.Types.{Ty, StructType, no_field, with_field}
 use Rattle.plan_types.specs.Errors.{IsRefusal, at_top}
 use Rattle.plan_types.specs.Schemas.{Name, Columns}
 use Rattle.plan_types.specs.declared.dtype.DataType.{DataType}
@@ -11,27 +10,18 @@ use Rattle.plan_types.specs.declared.error.ErrorKind.{ErrorKind}
 use Rattle.plan_types.specs.declared.error.PlanError.{PlanError}
 use Rattle.plan_dsl.specs.declared.operator.Operator.{Operator}
 use Rattle.plan_dsl.specs.declared.operator.Operator.TheVariants.{Plus}
-use Rattle.plan_dsl.specs.Trees.{node, no_more, more}
-use Rattle.plan_dsl.specs.Ops.{ColumnOp, LiteralOp, BinaryOp, CastOp, Expression}
-use Rattle.plan_dsl.specs.Typing.{Typed, typing}
+use Rattle.plan_dsl.specs.Ops.{ColumnOp, Expression}
+use Rattle.plan_dsl.specs.Trees.{node, no_more}
+use Rattle.plan_dsl.specs.Samples.{cast_as}
+use Rattle.plan_dsl.specs.Typing.{typing}
 use Rattle.plan_arena.specs.declared.arena.Node.{Node}
 use Rattle.plan_arena.specs.declared.aexpr.AExpr.{AExpr}
 use Rattle.plan_arena.specs.declared.aexpr.AExpr.TheVariants.{Column, BinaryExpr}
 use Rattle.plan_infer.specs.declared.type_table.Inferred.{Inferred}
 use Rattle.plan_infer.specs.declared.type_table.TypeTable.{TypeTable}
 use Rattle.plan_infer.specs.Typed.{HasType}
-
-abbrev pub int8 : Ty
-int8 = Integer true 8
-
-abbrev pub int16 : Ty
-int16 = Integer true 16
-
-abbrev pub int32 : Ty
-int32 = Integer true 32
-
-abbrev pub int64 : Ty
-int64 = Integer true 64
+-- those of queries: integer types, columns a, b and c, of which no schema here has c, literals, and operators
+pub use Rattle.plan_dsl.specs.Samples.{int8, int16, int32, int64, a, b, c, five, binary, typed_literal as literal, literal as number, many_values as of_type, one_value as of_one}
 
 -- a column a alone
 abbrev pub one_column : Ty → Columns
@@ -48,44 +38,14 @@ two_columns = columns_of int8 int32
 abbrev pub struct_of : Name → Ty → Ty
 struct_of name type = StructType (with_field name type no_field)
 
--- the typing of an expression with as many values as rows
-abbrev pub of_type : Ty → Typed
-of_type type = record { type = type; many = true }
-
-abbrev pub of_one : Ty → Typed
-of_one type = record { type = type; many = false }
-
 abbrev pub column : Name → Expression
 column name = node (ColumnOp name) no_more
 
-abbrev pub a : Expression
-a = column (codes "a")
-
-abbrev pub b : Expression
-b = column (codes "b")
-
--- a column that no schema here has
-abbrev pub c : Expression
-c = column (codes "c")
-
-abbrev pub literal : Ty → ℤ → Expression
-literal type value = node (LiteralOp type (IntValue value)) no_more
-
--- a number without a type
-abbrev pub number : ℤ → Expression
-number value = literal (Untyped value) value
-
-abbrev pub five : Expression
-five = number (pos 5)
-
-abbrev pub binary : Operator → Expression → Expression → Expression
-binary operator left right = node (BinaryOp operator) (more left (more right no_more))
-
 abbrev pub cast_to : Ty → Expression → Expression
-cast_to type tree = node (CastOp type NonStrict) (more tree no_more)
+cast_to = cast_as NonStrict
 
 abbrev pub strictly_cast_to : Ty → Expression → Expression
-strictly_cast_to type tree = node (CastOp type Strict) (more tree no_more)
+strictly_cast_to = cast_as Strict
 
 abbrev pub sum : Expression
 sum = binary Plus a b

@@ -4,6 +4,7 @@
 mod examples;
 pub mod field;
 pub mod operator_types;
+mod signed;
 pub mod steps;
 pub mod type_table;
 pub mod typing;

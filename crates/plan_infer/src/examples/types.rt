@@ -1,6 +1,6 @@
 //! Types and refusals of expressions, and tables that keep types by node.
 
-ghost use Rattle.std.specs.Prelude.{◌≡◌, [], ◌∷◌, true, false, pos, codes, Some, None};
+ghost use Rattle.std.specs.Prelude.{◌≡◌, ℕ, [], ◌∷◌, map, true, false, pos, codes, Some, None};
 ghost use Rattle.plan_types.specs.Types.{NullType, Truth, TextType, DateType, TimeType, DatetimeType, DurationType, ListType, StructType, Untyped, no_field, with_field};
 ghost use Rattle.plan_types.specs.Errors.{IsRefusal, no_memory, at_top};
 ghost use Rattle.plan_types.specs.declared.dtype.DataType.TheVariants.{Int8, Int16, Int32};
@@ -10,12 +10,12 @@ ghost use Rattle.plan_dsl.specs.declared.operator.Operator.TheVariants.{Eq, Lt, 
 ghost use Rattle.plan_dsl.specs.Typing.{typing};
 ghost use Rattle.plan_dsl.specs.Ops.{BinaryOp, ColumnOp};
 ghost use Rattle.plan_infer.specs.declared.type_table.TypeTable.{TypeTable};
-ghost use Rattle.plan_infer.specs.KeptTypes.{AreOperands, GivesName, IsKept, IsNamedBy, IsRight, IsTypedNode, Keeps, KeepsEntry, kept_count};
+ghost use Rattle.plan_infer.specs.KeptTypes.{AllKept, AreOperands, Extends, GivesName, HasRightTypes, IsKept, IsNamedBy, IsRight, IsRuled, IsTypedNode, Keeps, KeepsEntry, KeepsTyped, TakesTo, kept_count, name_at, node_depth, some_count, typings_at};
 ghost use Rattle.plan_infer.specs.Fields.{IsFieldOf, type_in};
 ghost use Rattle.plan_infer.specs.declared.field.Context.TheVariants.{Default, Aggregation};
 ghost use Rattle.plan_types.specs.declared.field.Field.{Field};
 ghost use Rattle.plan_infer.specs.Typed.{HasType, HasKnownType};
-ghost use Rattle.plan_infer.specs.Samples.{int8, int16, int32, int64, one_column, two_columns, columns_of, struct_of, a, b, c, number, five, binary, cast_to, strictly_cast_to, sum_items, a_items, of_one, of_type, refused, sum, ForEntry, ForTable, HaveTypes, AreRefused};
+ghost use Rattle.plan_infer.specs.Samples.{int8, int16, int32, int64, one_column, two_columns, columns_of, struct_of, a, b, c, number, five, binary, cast_to, strictly_cast_to, sum_items, a_items, pair, of_one, of_type, refused, sum, ForEntry, ForTable, HaveTypes, AreRefused};
 
 /// What typing an expression says: its type, and whether that is one of columns. Casts have their target's type.
 pub fn types_of_expressions()
@@ -102,12 +102,40 @@ pub fn tables_that_are_right()
     ensures other_type { ForEntry 0 Int16 true [] (λ own. (table : TypeTable) → ¬ (IsTypedNode [] (one_column int8) a_items table 0 own)) }
     ensures one_alone { ForEntry 0 Int8 false [] (λ own. (table : TypeTable) → ¬ (IsTypedNode [] (one_column int8) a_items table 0 own)) }
     ensures nothing { ForTable 0 [] (λ table. IsRight [] [] a_items table) }
+    ensures something { ForEntry 0 Int8 true [] (λ own. ForTable 0 (Some own ∷ []) (λ table. IsRight [] (one_column int8) a_items table)) }
+    ensures of_another_type { ForEntry 0 Int16 true [] (λ own. ForTable 0 (Some own ∷ []) (λ table. ¬ (IsRight [] (one_column int8) a_items table))) }
+    ensures over_some_schema { ForEntry 0 Int8 true [] (λ own. ForTable 0 (Some own ∷ []) (HasRightTypes a_items)) }
+    ensures over_no_schema { ForEntry 0 Int8 false [] (λ own. ForTable 0 (Some own ∷ []) (λ table. ¬ (HasRightTypes a_items table))) }
+{}
+
+/// What is kept of some nodes: their typings, the name of the first, and what a rule or an item makes of them.
+pub fn typings_that_are_kept()
+    ensures typed { ForEntry 0 Int8 true [] (λ own. ForTable 0 (Some own ∷ []) (λ table. KeepsTyped table 0 (of_type int8))) }
+    ensures otherwise { ForEntry 0 Int8 true [] (λ own. ForTable 0 (Some own ∷ []) (λ table. ¬ (KeepsTyped table 0 (of_one int8)))) }
+    ensures all { ForEntry 0 Int8 true [] (λ own. ForTable 4 (Some own ∷ Some own ∷ []) (λ table. AllKept table (5 ∷ 4 ∷ []) (of_type int8 ∷ of_type int8 ∷ []))) }
+    ensures too_few { (table : TypeTable) → ¬ (AllKept table (0 ∷ []) []) }
+    ensures places { ForEntry 0 Int8 true [] (λ own. ForTable 4 (Some own ∷ None ∷ []) (λ table. typings_at table (4 ∷ 5 ∷ 6 ∷ []) ≡ of_type int8 ∷ of_one NullType ∷ of_one NullType ∷ [])) }
+    ensures first_name { ForEntry 3 Int8 true [] (λ own. ForTable 4 (Some own ∷ []) (λ table. name_at table 7 (4 ∷ 5 ∷ []) ≡ 3)) }
+    ensures own_name { (table : TypeTable) → name_at table 7 [] ≡ 7 }
+    ensures ruled { ForEntry 0 Int32 true (Int32 ∷ Int32 ∷ []) (IsRuled [] [] (BinaryOp Plus) (of_type int8 ∷ of_type int32 ∷ [])) }
+    ensures otherwise_ruled { ForEntry 0 Int8 true (Int32 ∷ Int32 ∷ []) (λ own. ¬ (IsRuled [] [] (BinaryOp Plus) (of_type int8 ∷ of_type int32 ∷ []) own)) }
+    ensures taken { ForEntry 0 Int8 true [] (λ left. ForEntry 1 Int32 true [] (λ right. ForTable 0 (Some left ∷ Some right ∷ []) (λ table. TakesTo [] [] table (pair 0 Plus 1) (int32 ∷ int32 ∷ [])))) }
+    ensures otherwise_taken { ForEntry 0 Int8 true [] (λ left. ForEntry 1 Int32 true [] (λ right. ForTable 0 (Some left ∷ Some right ∷ []) (λ table. ¬ (TakesTo [] [] table (pair 0 Plus 1) (int8 ∷ int32 ∷ []))))) }
+{}
+
+/// A table extends one that keeps no more, at the same places. How far down nodes lead.
+pub fn tables_that_extend()
+    ensures more { ForEntry 0 Int8 true [] (λ own. ForTable 0 (Some own ∷ []) (λ old. ForTable 0 (Some own ∷ None ∷ Some own ∷ []) (λ new. Extends old new))) }
+    ensures less { ForEntry 0 Int8 true [] (λ own. ForTable 0 (Some own ∷ None ∷ Some own ∷ []) (λ old. ForTable 0 (Some own ∷ []) (λ new. ¬ (Extends old new)))) }
+    ensures other_first { ForEntry 0 Int8 true [] (λ own. ForTable 0 (Some own ∷ []) (λ old. ForTable 1 (Some own ∷ []) (λ new. ¬ (Extends old new)))) }
+    ensures depths { map (node_depth sum_items) (0 ∷ 1 ∷ 2 ∷ []) ≡ 1 ∷ 1 ∷ 2 ∷ [] }
 {}
 
 /// A table counts the nodes of which it keeps something.
 pub fn entries_that_are_counted()
     ensures two { ForEntry 0 Int8 true [] (λ own. ForTable 0 (Some own ∷ None ∷ Some own ∷ []) (λ table. kept_count table ≡ 2)) }
     ensures none { ForTable 0 [] (λ table. kept_count table ≡ 0) }
+    ensures of_a_list { some_count {A = ℕ} (None ∷ Some 7 ∷ None ∷ Some 8 ∷ []) ≡ 2 }
 {}
 
 /// In an aggregation a column that may have another length than one is a list.

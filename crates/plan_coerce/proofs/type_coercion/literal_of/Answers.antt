@@ -1,1 +1,0 @@
-use Rattle.plan_coerce.proofs.type_coercion.literal_of.Goals as goal

@@ -1,15 +1,17 @@
 use Rattle.std.proofs.Common.{◌+◌, ◌<◌, get_or, map, take, sym, ap, ◌∙◌, subst, arith}
 use Rattle.std.specs.List.{AllByRecursion}
+use Rattle.plan_types.specs.Errors.{IsRefusal}
 use Rattle.plan_types.specs.Schemas.{columns}
 use Rattle.plan_types.proofs.ResultLemmas.{passed_on}
 use Rattle.plan_dsl.specs.Registry.{registry}
+use Rattle.plan_dsl.specs.Typing.{typing_rule}
 use Rattle.plan_arena.specs.Denotation.{DenotesTree, depth_at}
-use Rattle.plan_arena.specs.Layers.{shape_of}
+use Rattle.plan_arena.specs.Layers.{op_of, shape_of}
 use Rattle.plan_arena.specs.Items.{HoldsExpression, expression_layer, numbers}
 use Rattle.plan_arena.proofs.ItemLemmas.{expression_inputs, tree_within}
 use Rattle.plan_arena.proofs.NumberLemmas.{all_weaker}
-use Rattle.plan_infer.specs.KeptTypes.{IsKept}
-use Rattle.plan_infer.proofs.TableLemmas.{all_at, all_taken, all_whole, below_kept, below_more, extends_then, found_kept, input_refused, layer_held, no_deeper, none_found, not_yet, own_refused, right_kept, still_kept}
+use Rattle.plan_infer.specs.KeptTypes.{IsKept, IsNamedBy, IsRuled}
+use Rattle.plan_infer.proofs.TableLemmas.{all_at, all_taken, all_whole, below_kept, below_more, extends_then, found_kept, input_refused, layer_held, no_deeper, none_found, not_yet, over_kept, own_refused, right_kept, still_kept}
 use Rattle.plan_infer.proofs.typing.+type_node.Goals as goal
 
 pub returns-then-is_some-clause-kept : goal.returns-then-is_some-clause-kept
@@ -67,7 +69,7 @@ loop-index-preserved g t c =
 pub own_typing-requires : goal.own_typing-requires
 own_typing-requires g t c =
     let listed = ap numbers c.as_slice-inputs.ensures ∙ c.in_ok-nodes.ensures.ok in
-    record { inputs = subst (AllByRecursion (IsKept c.loop-index.types)) listed (all_whole (IsKept c.loop-index.types) c.as_slice-inputs.result.now c.loop-index.index (omega (arith, c.loop-index-test.false, c.loop-index.auto.index-end)) c.loop-index.invariant.kept) }
+    record { listed = listed; inputs = (all_whole (IsKept c.loop-index.types) c.as_slice-inputs.result.now c.loop-index.index (omega (arith, c.loop-index-test.false, c.loop-index.auto.index-end)) c.loop-index.invariant.kept) }
 
 pub returns-in_err-own-clause-err : goal.returns-in_err-own-clause-err
 returns-in_err-own-clause-err g t c =
@@ -77,7 +79,7 @@ returns-in_err-own-clause-err g t c =
     let held = layer_held items c.args.node.0 c.get-item.result.now c.get-item.ensures in
     let listed = ap numbers c.as_slice-inputs.ensures ∙ c.in_ok-nodes.ensures.ok in
     let known = subst (AllByRecursion (IsKept c.loop-index.types)) listed (all_whole (IsKept c.loop-index.types) c.as_slice-inputs.result.now c.loop-index.index (omega (arith, c.loop-index-test.false, c.loop-index.auto.index-end)) c.loop-index.invariant.kept) in
-    passed_on handed.result error _ handed.ensures.1 (own_refused (registry c.args.udfs.now) (columns c.args.schema.now) items c.loop-index.types c.loop-index.invariant.right error c.args.node.0 _ _ held known c.in_err-own.ensures.err)
+    passed_on handed.result error _ handed.ensures.1 (own_refused (registry c.args.udfs.now) (columns c.args.schema.now) items c.loop-index.types c.loop-index.invariant.right error c.args.node.0 _ _ held known (over_kept (λ typed. IsRefusal (typing_rule (registry c.args.udfs.now) (columns c.args.schema.now) _ typed) error) c.loop-index.types _ _ listed c.in_err-own.ensures.err))
 
 pub returns-in_err-keep-clause-right : goal.returns-in_err-keep-clause-right
 returns-in_err-keep-clause-right g t c =
@@ -85,7 +87,7 @@ returns-in_err-keep-clause-right g t c =
     let held = layer_held items c.args.node.0 c.get-item.result.now c.get-item.ensures in
     let listed = ap numbers c.as_slice-inputs.ensures ∙ c.in_ok-nodes.ensures.ok in
     let known = subst (AllByRecursion (IsKept c.loop-index.types)) listed (all_whole (IsKept c.loop-index.types) c.as_slice-inputs.result.now c.loop-index.index (omega (arith, c.loop-index-test.false, c.loop-index.auto.index-end)) c.loop-index.invariant.kept) in
-    right_kept (registry c.args.udfs.now) (columns c.args.schema.now) items c.loop-index.types c.keep.new.self c.args.node.0 _ _ c.in_ok-own.own held c.requires.tree known c.in_ok-own.ensures.ok c.in_ok-own.ensures.name c.in_err-keep.ensures.stays c.in_err-keep.ensures.only c.loop-index.invariant.right
+    right_kept (registry c.args.udfs.now) (columns c.args.schema.now) items c.loop-index.types c.keep.new.self c.args.node.0 _ _ c.in_ok-own.own held c.requires.tree known (over_kept (λ typed. IsRuled (registry c.args.udfs.now) (columns c.args.schema.now) _ typed c.in_ok-own.own) c.loop-index.types _ _ listed c.in_ok-own.ensures.ok) (subst (λ ns. IsNamedBy c.loop-index.types (op_of (expression_layer c.get-item.result.now)) c.args.node.0 ns c.in_ok-own.own.name.0) listed c.in_ok-own.ensures.name) c.in_err-keep.ensures.stays c.in_err-keep.ensures.only c.loop-index.invariant.right
 
 pub returns-in_err-keep-clause-extends : goal.returns-in_err-keep-clause-extends
 returns-in_err-keep-clause-extends g t c =
@@ -97,7 +99,7 @@ returns-clause-right g t c =
     let held = layer_held items c.args.node.0 c.get-item.result.now c.get-item.ensures in
     let listed = ap numbers c.as_slice-inputs.ensures ∙ c.in_ok-nodes.ensures.ok in
     let known = subst (AllByRecursion (IsKept c.loop-index.types)) listed (all_whole (IsKept c.loop-index.types) c.as_slice-inputs.result.now c.loop-index.index (omega (arith, c.loop-index-test.false, c.loop-index.auto.index-end)) c.loop-index.invariant.kept) in
-    right_kept (registry c.args.udfs.now) (columns c.args.schema.now) items c.loop-index.types c.keep.new.self c.args.node.0 _ _ c.in_ok-own.own held c.requires.tree known c.in_ok-own.ensures.ok c.in_ok-own.ensures.name c.in_ok-keep.ensures.stays c.in_ok-keep.ensures.only c.loop-index.invariant.right
+    right_kept (registry c.args.udfs.now) (columns c.args.schema.now) items c.loop-index.types c.keep.new.self c.args.node.0 _ _ c.in_ok-own.own held c.requires.tree known (over_kept (λ typed. IsRuled (registry c.args.udfs.now) (columns c.args.schema.now) _ typed c.in_ok-own.own) c.loop-index.types _ _ listed c.in_ok-own.ensures.ok) (subst (λ ns. IsNamedBy c.loop-index.types (op_of (expression_layer c.get-item.result.now)) c.args.node.0 ns c.in_ok-own.own.name.0) listed c.in_ok-own.ensures.name) c.in_ok-keep.ensures.stays c.in_ok-keep.ensures.only c.loop-index.invariant.right
 
 pub returns-clause-extends : goal.returns-clause-extends
 returns-clause-extends g t c =

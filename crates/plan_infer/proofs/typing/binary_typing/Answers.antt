@@ -1,13 +1,36 @@
-use Rattle.std.proofs.Common.{refl}
+use Rattle.std.proofs.Common.{arith, refl, sym, ap, ◌∙◌, subst, ◌∷◌, [], ◌++◌, map}
 use Rattle.plan_types.proofs.ResultLemmas.{passed_on}
-use Rattle.plan_infer.specs.KeptTypes.{typed_of}
+use Rattle.plan_types.specs.Errors.{IsRefusal}
+use Rattle.plan_types.specs.Types.{ty}
+use Rattle.plan_dsl.specs.Ops.{BinaryOp}
+use Rattle.plan_dsl.specs.Typing.{types_of, typing_rule}
+use Rattle.plan_arena.specs.Items.{numbers}
+use Rattle.plan_infer.specs.declared.type_table.Inferred.{Inferred}
+use Rattle.plan_infer.specs.KeptTypes.{AreOperands, IsKept, IsRuled, typed_of, typings_at}
+use Rattle.plan_infer.proofs.TableLemmas.{all_at}
 use Rattle.plan_infer.proofs.TypingLemmas.{binary_refused, binary_ruled}
+use Rattle.plan_infer.proofs.SignedLemmas.{two_typings}
 use Rattle.plan_infer.proofs.typing.binary_typing.Goals as goal
+
+pub get-left-requires : goal.get-left-requires
+get-left-requires c = all_at (IsKept c.args.types.now) c.args.inputs.now 0 (record { 0 = 0 }) c.requires.inputs (omega (arith, c.requires.two))
+
+pub get-right-requires : goal.get-right-requires
+get-right-requires c = all_at (IsKept c.args.types.now) c.args.inputs.now 1 (record { 0 = 0 }) c.requires.inputs (omega (arith, c.requires.two))
 
 pub returns-in_err-taken-clause-err : goal.returns-in_err-taken-clause-err
 returns-in_err-taken-clause-err c =
-    passed_on c.from_residual.result c.in_err-taken.field-0.0 _ c.from_residual.ensures.1 (λ registry schema. binary_refused registry schema c.args.op (typed_of c.args.left.now) (typed_of c.args.right.now) _ c.in_err-taken.ensures.err)
+    let error = c.in_err-taken.field-0.0 in
+    let typed = two_typings c.args.types.now c.args.inputs.now (record { 0 = 0 }) c.get-left.result.now c.get-right.result.now c.requires.two c.get-left.ensures c.get-right.ensures in
+    passed_on c.from_residual.result error _ c.from_residual.ensures.1 (λ registry schema. subst (λ ts. IsRefusal (typing_rule registry schema (BinaryOp c.args.op) ts) error) (sym typed) (binary_refused registry schema c.args.op (typed_of c.get-left.result.now) (typed_of c.get-right.result.now) error c.in_err-taken.ensures.err))
 
 pub returns-clause-ok : goal.returns-clause-ok
 returns-clause-ok c = λ registry schema.
-    binary_ruled registry schema c.args.op (typed_of c.args.left.now) (typed_of c.args.right.now) _ _ c.in_ok-taken.ensures.ok refl c.either.ensures c.in_ok-operands.ensures.ok
+    let left = c.get-left.result.now in
+    let right = c.get-right.result.now in
+    let taken = c.in_ok-taken.taken in
+    let own : Inferred = record { name = left.name; dtype = taken.result; many = c.either.result; operands = c.unless_own.result } in
+    let typed = two_typings c.args.types.now c.args.inputs.now (record { 0 = 0 }) left right c.requires.two c.get-left.ensures c.get-right.ensures in
+    let targets = c.in_ok-push-2.ensures.items ∙ ap (λ ts. ts ++ taken.right ∷ []) (c.in_ok-push.ensures.items ∙ ap (λ ts. ts ++ taken.left ∷ []) c.new-targets.ensures.items) in
+    let operands = subst (λ ts. AreOperands (map ty c.unless_own.result.items) (types_of ts) (ty taken.left ∷ ty taken.right ∷ [])) typed (subst (λ ts. AreOperands (map ty c.unless_own.result.items) (types_of (typings_at c.args.types.now (numbers c.args.inputs.now))) (map ty ts)) targets c.unless_own.ensures) in
+    subst (λ ts. IsRuled registry schema (BinaryOp c.args.op) ts own) (sym typed) (binary_ruled registry schema c.args.op (typed_of left) (typed_of right) _ own c.in_ok-taken.ensures.ok refl c.either.ensures operands)

@@ -8,7 +8,7 @@ use Rattle.plan_arena.specs.declared.aexpr.AExpr.{AExpr}
 use Rattle.plan_arena.specs.declared.aexpr.AExpr.TheVariants.{Column, Literal}
 use Rattle.plan_infer.specs.Samples.{int8, int16, int32, one_column, two_columns, a, b, five, literal, binary, sum, cast_to, pair, columns_and, sum_items}
 use Rattle.plan_coerce.specs.Samples.{wide, cast_of}
-use Rattle.plan_coerce.proofs.ExampleLemmas.{visited, other_name, other_label}
+use Rattle.plan_coerce.proofs.ExampleLemmas.{visited, other_label}
 use Rattle.plan_coerce.proofs.examples.coercions.visits_of_a_sum.Goals as goal
 
 pub returns-clause-cast : goal.returns-clause-cast

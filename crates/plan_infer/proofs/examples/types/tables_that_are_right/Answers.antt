@@ -1,27 +1,24 @@
-use Rattle.std.proofs.Common.{◌≡◌, ℕ, Bool, true, false, List, [], ◌∷◌, codes, map, Some, None, Ok, inl, refl, sym, ap, ◌∙◌, subst, arith, ⊎_elim}
+use Rattle.std.proofs.Common.{◌≡◌, ℕ, zero, suc, ◌-◌, slice_get, Result, Err, true, false, List, [], ◌∷◌, codes, map, Some, None, Ok, inl, refl, sym, ap, ◌∙◌, subst, arith, ⊎_elim}
 use Rattle.std.specs.List.{AllByRecursion}
 use Rattle.plan_types.specs.Types.{ty, same_type}
-use Rattle.plan_types.specs.Schemas.{same_name}
-use Rattle.plan_types.specs.declared.dtype.DataType.{DataType}
+use Rattle.plan_types.specs.Schemas.{same_name, type_at}
+use Rattle.plan_types.specs.declared.error.ErrorKind.{ErrorKind}
 use Rattle.plan_types.specs.declared.dtype.DataType.TheVariants as dtype
 use Rattle.plan_dsl.specs.declared.operator.Operator.TheVariants.{Plus}
 use Rattle.plan_dsl.specs.Names.{Label, op_label}
 use Rattle.plan_dsl.specs.Ops.{Op, BinaryOp, ColumnOp}
 use Rattle.plan_dsl.specs.Strictness.{same_types}
-use Rattle.plan_dsl.specs.Typing.{Ruling, Typed, rule, typing}
+use Rattle.plan_dsl.specs.Typing.{Ruling, Typed, column_type, own_typed, rule, ruled_as, typing}
+use Rattle.plan_dsl.specs.OperatorTypes.{Taken}
 use Rattle.plan_dsl.proofs.TypingLemmas.{ok_same}
 use Rattle.plan_arena.specs.Items.{HoldsExpression}
 use Rattle.plan_infer.specs.declared.type_table.Inferred.{Inferred}
 use Rattle.plan_infer.specs.declared.type_table.TypeTable.{TypeTable}
-use Rattle.plan_infer.specs.KeptTypes.{AllKept, AreOperands, GivesName, IsKept, KeepsEntry, typed_of}
+use Rattle.plan_infer.specs.KeptTypes.{AllKept, AreOperands, GivesName, IsKept, IsTypedNode, KeepsEntry, typed_of}
 use Rattle.plan_infer.specs.Samples.{int8, int32, one_column, two_columns, of_type, a, sum, sum_items, a_items}
-use Rattle.plan_infer.proofs.ExampleLemmas.{one_expression}
+use Rattle.plan_infer.proofs.ExampleLemmas.{one_expression, says}
 use Rattle.plan_infer.proofs.TableLemmas.{kept_one}
 use Rattle.plan_infer.proofs.examples.types.tables_that_are_right.Goals as goal
-
--- an entry of this type says this typing
-says : (own : Inferred) (d : DataType) (many : Bool) → own.dtype ≡ d → own.many ≡ many → record { type = ty d; many = many } ≡ typed_of own
-says own d many is same = λ i. record { type = ty (sym is i); many = sym same i }
 
 sum_op : (op : Op) (inputs : List ℕ) → HoldsExpression sum_items 2 op inputs → op ≡ BinaryOp Plus
 sum_op op inputs h = cc
@@ -35,8 +32,8 @@ column_op op inputs h = cc
 column_inputs : (op : Op) (inputs : List ℕ) → HoldsExpression a_items 0 op inputs → inputs ≡ []
 column_inputs op inputs h = cc
 
-pub returns-clause-column : goal.returns-clause-column
-returns-clause-column c = λ own n d m o table. record {
+column_typed : (own : Inferred) (table : TypeTable) → own.name.0 ≡ 0 → own.dtype ≡ dtype.Int8 → own.many ≡ true → own.operands.items ≡ [] → IsTypedNode [] (one_column int8) a_items table 0 own
+column_typed own table n d m o = record {
   tree = a;
   denotes = ([], refl, tt);
   typed = ap Ok (says own dtype.Int8 true d m);
@@ -49,12 +46,51 @@ returns-clause-column c = λ own n d m o table. record {
       inl (ap (map ty) o ∙ sym (ap (λ (r : Ruling). r.operands) one));
 }
 
-pub returns-clause-other_type : goal.returns-clause-other_type
-returns-clause-other_type c = λ own n d m o table found.
+pub returns-clause-column : goal.returns-clause-column
+returns-clause-column c = λ own n d m o table. column_typed own table n d m o
+
+other_typed : (own : Inferred) (table : TypeTable) → own.dtype ≡ dtype.Int16 → IsTypedNode [] (one_column int8) a_items table 0 own → ⊥
+other_typed own table d found =
     let same = one_expression a_items 0 found.tree a found.denotes ([], refl, tt) in
     let typed = subst (λ t. typing [] (one_column int8) t ≡ Ok (typed_of own)) same found.typed in
     let one = ap (λ (t : Typed). t.type) (ok_same _ (typed_of own) (of_type int8) typed refl) in
     let differs : false ≡ true = ap (same_type int8) (sym (ap ty d) ∙ one) in
+    cc
+
+pub returns-clause-other_type : goal.returns-clause-other_type
+returns-clause-other_type c = λ own n d m o table found. other_typed own table d found
+
+-- a table of one entry keeps that of the first node
+only_first : (n : ℕ) (own x : Inferred) → slice_get (Some own ∷ []) n ≡ Some (Some x) → (n ≡ 0) × (own ≡ x)
+only_first zero own x h = (refl, cc)
+only_first (suc n) own x h = cc
+
+pub returns-clause-something : goal.returns-clause-something
+returns-clause-something c = λ own n d m o table first entries. record {
+  each = λ k x keeps.
+      let place : k - table.first ≡ k = omega (arith, first) in
+      let one = only_first k own x (ap (slice_get (Some own ∷ [])) (sym place) ∙ ap (λ l. slice_get l (k - table.first)) (sym entries) ∙ keeps.1) in
+      subst (λ (y : Inferred). IsTypedNode [] (one_column int8) a_items table k y) one.1 (subst (λ j. IsTypedNode [] (one_column int8) a_items table j own) (sym one.0) (column_typed own table n d m o));
+}
+
+pub returns-clause-of_another_type : goal.returns-clause-of_another_type
+returns-clause-of_another_type c = λ own n d m o table first entries right.
+    other_typed own table d (right.each 0 own (rw (first, entries) (omega arith, refl)))
+
+pub returns-clause-over_some_schema : goal.returns-clause-over_some_schema
+returns-clause-over_some_schema c = λ own n d m o table first entries.
+    record { registry = []; schema = one_column int8; right = returns-clause-something c own n d m o table first entries }
+
+column_many : (found : Result Taken ErrorKind) (typed : Typed) → own_typed (ruled_as found true) ≡ Ok typed → typed.many ≡ true
+column_many (Err kind) typed h = cc
+column_many (Ok taken) typed h = sym (ap (λ (t : Typed). t.many) (ok_same _ (record { type = taken.type; many = true }) typed refl h))
+
+pub returns-clause-over_no_schema : goal.returns-clause-over_no_schema
+returns-clause-over_no_schema c = λ own n d m o table first entries has.
+    let found = has.right.each 0 own (rw (first, entries) (omega arith, refl)) in
+    let same = one_expression a_items 0 found.tree a found.denotes ([], refl, tt) in
+    let typed = subst (λ t. typing has.registry has.schema t ≡ Ok (typed_of own)) same found.typed in
+    let differs : false ≡ true = sym m ∙ column_many (column_type (type_at has.schema (codes "a"))) (typed_of own) typed in
     cc
 
 pub returns-clause-one_alone : goal.returns-clause-one_alone

@@ -1,0 +1,192 @@
+-- Kinds that go by a signature: what is found of their inputs one by one, and the names of their nodes.
+use Rattle.std.proofs.Common.{◌≡◌, ◌≢◌, ◌⊎◌, inl, inr, ℕ, zero, suc, ◌<◌, ◌==◌, ◌||◌, false, List, [], ◌∷◌, ◌++◌, length, map, drop, get_or, Option, Some, None, Result, Ok, refl, sym, ap, ◌∙◌, subst, arith, ⊎_elim}
+use Rattle.std.specs.List.{AllByRecursion}
+use Rattle.std.proofs.lemmas.List.{append-nil, append_assoc, length-map}
+use Rattle.plan_types.proofs.ListLemmas.{drop_item}
+use Rattle.plan_types.specs.Types.{Ty, NullType, ty}
+use Rattle.plan_types.specs.Schemas.{Columns}
+use Rattle.plan_types.specs.Errors.{IsMemoryOr, IsRefusal, no_room, broken}
+use Rattle.plan_types.specs.declared.error.ErrorKind.{ErrorKind}
+use Rattle.plan_types.specs.declared.error.ErrorKind.TheVariants.{InvalidOperation}
+use Rattle.plan_types.specs.declared.error.PlanError.{PlanError}
+use Rattle.plan_types.specs.declared.dtype.DataType.{DataType}
+use Rattle.plan_dsl.specs.declared.signature.Many.{Many}
+use Rattle.plan_dsl.specs.declared.signature.Many.TheVariants.{Never, Always, AsFirst, WhereAny}
+use Rattle.plan_dsl.specs.declared.signature.Signature.{Signature}
+use Rattle.plan_dsl.specs.Ops.{Op}
+use Rattle.plan_dsl.specs.Registry.{Registry}
+use Rattle.plan_dsl.specs.Names.{Label, first_label, op_label}
+use Rattle.plan_dsl.specs.Signatures.{asked_at, own_type, signature}
+use Rattle.plan_dsl.specs.Typing.{Typed, first_of, many_of, own_over, rule, signed, signed_to, some_many, taken_by, taken_from, type_before, typed_to, types_of}
+use Rattle.plan_dsl.proofs.SignatureLemmas.{is_signed}
+use Rattle.plan_arena.specs.declared.arena.Node.{Node}
+use Rattle.plan_arena.specs.declared.aexpr.AExpr.{AExpr}
+use Rattle.plan_arena.specs.declared.aexpr.AExpr.TheVariants.{Column, Literal, BinaryExpr, Cast, Len}
+use Rattle.plan_arena.specs.Layers.{Layer, layer, op_of, inputs_of}
+use Rattle.plan_arena.specs.Items.{expression_layer, numbers}
+use Rattle.plan_infer.specs.declared.type_table.Inferred.{Inferred}
+use Rattle.plan_infer.specs.declared.type_table.TypeTable.{TypeTable}
+use Rattle.plan_infer.specs.KeptTypes.{AreOperands, IsKept, IsNamedBy, KeepsEntry, Says, by_first, by_itself, name_at, named_by, typed_by, typed_of, typings_at}
+
+-- ---- inputs one by one
+
+pub typings_length : (table : TypeTable) (ns : List Node) → length (typings_at table (numbers ns)) ≡ length ns
+typings_length table [] = refl
+typings_length table (n ∷ ns) = ap suc (typings_length table ns)
+
+-- the typing at a place is that of the entry there
+pub place_typed : (table : TypeTable) (ns : List Node) (i : ℕ) (n : Node) (own : Inferred) → i < length ns → KeepsEntry table (get_or ns i n).0 own → typed_of own ≡ get_or (typings_at table (numbers ns)) i (typed_of own)
+place_typed table [] i n own lt k = absurd (omega (arith, lt))
+place_typed table (m ∷ ns) zero n own lt k = sym (ap typed_by k.1)
+place_typed table (m ∷ ns) (suc i) n own lt k = place_typed table ns i n own (omega (arith, lt)) k
+
+-- so what is left from a place on begins with it
+pub typings_left : (table : TypeTable) (ns : List Node) (i k : ℕ) (n : Node) (own : Inferred) → i < length ns → KeepsEntry table (get_or ns i n).0 own → k ≡ suc i → drop i (typings_at table (numbers ns)) ≡ typed_of own ∷ drop k (typings_at table (numbers ns))
+typings_left table ns i k n own lt keeps next =
+    drop_item (typings_at table (numbers ns)) i k (typed_of own) (omega (arith, lt, typings_length table ns)) (place_typed table ns i n own lt keeps) next
+
+pub one_typing : (table : TypeTable) (ns : List Node) (d : Node) (own : Inferred) → length ns ≡ 1 → KeepsEntry table (get_or ns 0 d).0 own → typings_at table (numbers ns) ≡ typed_of own ∷ []
+one_typing table (n ∷ []) d own one k = ap (λ o. typed_by o ∷ []) k.1
+one_typing table [] d own one k = absurd (omega (arith, one))
+one_typing table (n ∷ m ∷ ns) d own one k = absurd (omega (arith, one))
+
+pub two_typings : (table : TypeTable) (ns : List Node) (d : Node) (left right : Inferred) → length ns ≡ 2 → KeepsEntry table (get_or ns 0 d).0 left → KeepsEntry table (get_or ns 1 d).0 right → typings_at table (numbers ns) ≡ typed_of left ∷ typed_of right ∷ []
+two_typings table [] d left right two k l = absurd (omega (arith, two))
+two_typings table (n ∷ ns) d left right two k l =
+    ap (λ o. typed_by o ∷ typings_at table (numbers ns)) k.1 ∙ ap (λ typed. typed_of left ∷ typed) (one_typing table ns d right (omega (arith, two)) l)
+
+pub drop_all : {A : Type 0} (xs : List A) (i : ℕ) → i ≡ length xs → drop i xs ≡ []
+drop_all [] zero h = refl
+drop_all [] (suc i) h = refl
+drop_all (x ∷ xs) zero h = absurd (omega (arith, h))
+drop_all (x ∷ xs) (suc i) h = drop_all xs i (omega (arith, h))
+
+pub none_left : (table : TypeTable) (ns : List Node) (i : ℕ) → i ≡ length ns → drop i (typings_at table (numbers ns)) ≡ []
+none_left table ns i whole = drop_all (typings_at table (numbers ns)) i (whole ∙ sym (typings_length table ns))
+
+pub some_there : {A : Type 0} (xs : List A) → (length xs == 0) ≡ false → 0 < length xs
+some_there [] h = cc
+some_there (x ∷ xs) h = omega arith
+
+pub or_other : (kind : ErrorKind) (P Q : Type 0) (error : PlanError) → (P → Q) → IsMemoryOr kind P error → IsMemoryOr kind Q error
+or_other kind P Q error so b = ⊎_elim (λ e. inl e) (λ p. inr (p.0, so p.1)) b
+
+-- ---- the types to which they are taken
+
+-- types in front of those of the others
+abbrev pub types_before : List Ty → Option (List Ty) → Option (List Ty)
+types_before done None = None
+types_before done (Some types) = Some (done ++ types)
+
+before_more : (done : List Ty) (target : Ty) (rest : Option (List Ty)) → types_before done (type_before (Some target) rest) ≡ types_before (done ++ target ∷ []) rest
+before_more done target None = refl
+before_more done target (Some types) = ap Some (sym (append_assoc done (target ∷ []) types))
+
+module _ (s : Signature) (all : List Typed) (done : List Ty) (i k : ℕ) (t : Typed) (before : taken_from s 0 all ≡ types_before done (taken_from s i (drop i all))) (next : k ≡ suc i) (left : drop i all ≡ t ∷ drop k all) where
+  taken_here : (found : Option Ty) → taken_by (asked_at s i) t ≡ found → taken_from s 0 all ≡ types_before done (type_before found (taken_from s (suc i) (drop k all)))
+  taken_here found is = before ∙ ap (λ l. types_before done (taken_from s i l)) left ∙ ap (λ o. types_before done (type_before o (taken_from s (suc i) (drop k all)))) is
+
+  pub taken_more : (target : Ty) → taken_by (asked_at s i) t ≡ Some target → taken_from s 0 all ≡ types_before (done ++ target ∷ []) (taken_from s k (drop k all))
+  taken_more target is =
+      taken_here (Some target) is ∙ before_more done target (taken_from s (suc i) (drop k all)) ∙ ap (λ m. types_before (done ++ target ∷ []) (taken_from s m (drop k all))) (sym next)
+
+  pub taken_none : taken_by (asked_at s i) t ≡ None → taken_from s 0 all ≡ None
+  taken_none is = taken_here None is
+
+pub taken_whole : (s : Signature) (all : List Typed) (done : List Ty) (i : ℕ) → taken_from s 0 all ≡ types_before done (taken_from s i (drop i all)) → drop i all ≡ [] → taken_from s 0 all ≡ Some done
+taken_whole s all done i before none = before ∙ ap (λ l. types_before done (taken_from s i l)) none ∙ ap Some (append-nil done)
+
+-- ---- what a signature says of them
+
+many_taken : (typed : List Typed) (targets : List Ty) → length (typed_to typed targets) ≡ length typed → some_many (typed_to typed targets) ≡ some_many typed
+many_taken [] targets h = refl
+many_taken (t ∷ ts) [] h = absurd (omega (arith, h))
+many_taken (t ∷ ts) (target ∷ targets) h = ap (λ b. t.many || b) (many_taken ts targets (omega (arith, h)))
+
+many_of_taken : (many : Many) (typed : List Typed) (targets : List Ty) → length (typed_to typed targets) ≡ length typed → many_of many (typed_to typed targets) ≡ many_of many typed
+many_of_taken Never typed targets h = refl
+many_of_taken Always typed targets h = refl
+many_of_taken AsFirst [] targets h = refl
+many_of_taken AsFirst (t ∷ ts) [] h = absurd (omega (arith, h))
+many_of_taken AsFirst (t ∷ ts) (target ∷ targets) h = refl
+many_of_taken WhereAny typed targets h = many_taken typed targets h
+
+first_taken : (typed : List Typed) (targets : List Ty) → types_of (typed_to typed targets) ≡ targets → (first_of (typed_to typed targets)).type ≡ get_or targets 0 NullType
+first_taken [] [] h = refl
+first_taken (t ∷ ts) [] h = refl
+first_taken (t ∷ ts) (target ∷ targets) h = refl
+first_taken [] (target ∷ targets) h = cc
+
+pub signed_says : (found : Result Signature ErrorKind) (s : Signature) (typed : List Typed) (targets : List Ty) (own : Inferred) → found ≡ Ok s → taken_from s 0 typed ≡ Some targets → ty own.dtype ≡ own_type s.own (get_or targets 0 NullType) → own.many ≡ many_of s.many typed → AreOperands (map ty own.operands.items) (types_of typed) targets → Says (signed found typed) typed own
+signed_says found s typed targets own is taken type many operands =
+    let own_typing = own_over s (typed_to typed targets) in
+    let rules = ap (λ f. signed f typed) is ∙ ap (signed_to s typed) taken in
+    let all = is_signed found typed (record { operands = targets; own = own_typing }) rules in
+    record {
+      ruling = record { operands = targets; own = own_typing };
+      rules = rules;
+      is = λ i. record { type = (ap (own_type s.own) (first_taken typed targets all.types) ∙ sym type) i; many = (many_of_taken s.many typed targets all.as_many ∙ sym many) i };
+      operands = operands;
+    }
+
+-- as many as there are inputs
+pub as_many_targets : (s : Signature) (table : TypeTable) (ns : List Node) (targets : List DataType) → taken_from s 0 (typings_at table (numbers ns)) ≡ Some (map ty targets) → length targets ≡ length ns
+as_many_targets s table ns targets taken =
+    let typed = typings_at table (numbers ns) in
+    let types = map ty targets in
+    let all = is_signed (Ok s) typed (record { operands = types; own = own_over s (typed_to typed types) }) (ap (signed_to s typed) taken) in
+    sym (length-map targets ty) ∙ sym (ap length all.types) ∙ length-map (typed_to typed types) _ ∙ all.as_many ∙ typings_length table ns
+
+pub signed_refused : (found : Result Signature ErrorKind) (s : Signature) (typed : List Typed) (error : PlanError) → found ≡ Ok s → IsMemoryOr InvalidOperation (taken_from s 0 typed ≡ None) error → IsRefusal (signed found typed) error
+signed_refused found s typed error is b =
+    ⊎_elim (λ e. no_room e) (λ p. broken InvalidOperation p.0 (ap (λ f. signed f typed) is ∙ ap (signed_to s typed) p.1)) b
+
+-- ---- items
+
+-- what holds of an item's op over these typings
+pub over_item : (P : Op → List Typed → Type 0) (table : TypeTable) (l : Layer Op) (op : Op) (ms ns : List ℕ) → l ≡ layer op ms → ns ≡ inputs_of l → P op (typings_at table ms) → P (op_of l) (typings_at table ns)
+over_item P table l op ms ns is listed p =
+    subst (λ o. P o (typings_at table ns)) (sym (ap op_of is)) (subst (λ ks. P op (typings_at table ks)) (sym (listed ∙ ap inputs_of is)) p)
+
+-- no item of these, whose kinds have clauses of their own
+pub record IsSignedItem (item : AExpr) : Type 0 where
+  pub no_column : (name : _) → item ≢ Column name
+  pub no_literal : (value : _) → item ≢ Literal value
+  pub no_operator : (left : _) (operator : _) (right : _) → item ≢ BinaryExpr left operator right
+  pub no_cast : (expr : _) (dtype : _) (options : _) → item ≢ Cast expr dtype options
+
+-- any other goes by its signature
+pub by_signature : (item : AExpr) → IsSignedItem item → (registry : Registry) (schema : Columns) (typed : List Typed) → rule registry schema (op_of (expression_layer item)) typed ≡ signed (signature (op_of (expression_layer item)) (length typed)) typed
+by_signature (Column name) is registry schema typed = absurd (is.no_column name refl)
+by_signature (Literal value) is registry schema typed = absurd (is.no_literal value refl)
+by_signature (BinaryExpr left operator right) is registry schema typed = absurd (is.no_operator left operator right refl)
+by_signature (Cast expr dtype options) is registry schema typed = absurd (is.no_cast expr dtype options refl)
+by_signature _ is registry schema typed = refl
+
+-- and has the name of its first input, or one of its own where it has none
+name_of_first : (item : AExpr) → IsSignedItem item → ((inputs_of (expression_layer item) ≡ []) × ((names : List Label) → op_label (op_of (expression_layer item)) names ≡ op_label (op_of (expression_layer item)) []))
+    ⊎ ((m : ℕ) × (rest : List ℕ) × (inputs_of (expression_layer item) ≡ m ∷ rest) × ((names : List Label) → op_label (op_of (expression_layer item)) names ≡ first_label names))
+name_of_first (Column name) is = absurd (is.no_column name refl)
+name_of_first (Literal value) is = absurd (is.no_literal value refl)
+name_of_first (BinaryExpr left operator right) is = absurd (is.no_operator left operator right refl)
+name_of_first (Cast expr dtype options) is = absurd (is.no_cast expr dtype options refl)
+name_of_first Len is = inl (refl, λ names. refl)
+name_of_first _ is = inr (_, _, refl, λ names. refl)
+
+-- what its rule says of inputs is what its signature says
+pub item_signed : (item : AExpr) → IsSignedItem item → (registry : Registry) (schema : Columns) (table : TypeTable) (ns : List ℕ) (found : Result Signature ErrorKind) → ns ≡ inputs_of (expression_layer item) → found ≡ signature (op_of (expression_layer item)) (length (inputs_of (expression_layer item))) → signed found (typings_at table ns) ≡ rule registry schema (op_of (expression_layer item)) (typings_at table ns)
+item_signed item is registry schema table ns found listed at =
+    ap (λ f. signed f (typings_at table ns)) (at ∙ ap (signature (op_of (expression_layer item))) (ap length (sym listed) ∙ sym (length-map ns _)))
+    ∙ sym (by_signature item is registry schema (typings_at table ns))
+
+-- a node over inputs is named by the first
+pub named_over : (table : TypeTable) (op : Op) (n k m : ℕ) (rest ns : List ℕ) (name : ℕ) → ns ≡ m ∷ rest → AllByRecursion (IsKept table) ns → name ≡ name_at table k ns → ((names : List Label) → op_label op names ≡ first_label names) → IsNamedBy table op n ns name
+named_over table op n k m rest ns name is all named first =
+    let kept = (subst (AllByRecursion (IsKept table)) is all).0 in
+    by_first m rest kept.own is kept.keeps (named ∙ ap (name_at table k) is ∙ ap (named_by k) kept.keeps.1) first
+
+pub named_signed : (item : AExpr) (table : TypeTable) (n name : ℕ) (ns : List ℕ) → IsSignedItem item → ns ≡ inputs_of (expression_layer item) → AllByRecursion (IsKept table) ns → name ≡ name_at table n ns → IsNamedBy table (op_of (expression_layer item)) n ns name
+named_signed item table n name ns is listed all named = ⊎_elim
+    (λ own. by_itself (named ∙ ap (name_at table n) (listed ∙ own.0)) own.1)
+    (λ first. named_over table (op_of (expression_layer item)) n n first.0 first.1 ns name (listed ∙ first.2) all named first.3)
+    (name_of_first item is)
