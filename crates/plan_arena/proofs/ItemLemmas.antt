@@ -13,11 +13,14 @@ use Rattle.plan_types.specs.Schemas.{Columns}
 use Rattle.plan_types.specs.declared.error.ErrorKind.{ErrorKind}
 use Rattle.plan_dsl.specs.Trees.{Trees, node, no_more, more}
 use Rattle.plan_arena.specs.Denotation.{Denotes, DenoteAll, DenotesTree, greatest, depth_at}
-use Rattle.plan_arena.specs.Layers.{Layer, layer, inputs_of, shape_of}
+use Rattle.plan_arena.specs.Layers.{Layer, layer, inputs_of, op_of, shape_of}
 use Rattle.plan_arena.specs.Items.{expression_layer, plan_layer, HoldsExpression, HoldsFrom, DenoteNamed, DenotesKind, DenotesOp, HoldsPlan, DenotesItem, HasInputs, Grows}
 use Rattle.plan_arena.specs.Runs.{HasRecorded, IsAccepted, AllAccepted}
 use Rattle.plan_arena.specs.declared.aexpr.AExpr.{AExpr}
 use Rattle.plan_arena.specs.declared.ir.IR.{IR}
+use Rattle.plan_arena.specs.declared.ir.IR.TheVariants.{DataFrameScan, Filter, Select}
+use Rattle.plan_arena.specs.declared.arena.Node.{Node}
+use Rattle.plan_arena.specs.declared.expr_ir.ExprIR.{ExprIR}
 use Rattle.plan_arena.proofs.DenotationLemmas.{HasShape, some_same, denotes_one, kept, inputs_denote, depth_of_inputs}
 
 pub layer_op : {Op : Type 0} (a b : Op) (ms ns : List ℕ) → layer a ms ≡ layer b ns → a ≡ b
@@ -25,6 +28,9 @@ layer_op a b ms ns e = cc
 
 pub layer_inputs : {Op : Type 0} (a b : Op) (ms ns : List ℕ) → layer a ms ≡ layer b ns → ms ≡ ns
 layer_inputs a b ms ns e = cc
+
+pub layer_parts : {Op : Type 0} (l : Layer Op) → l ≡ layer (op_of l) (inputs_of l)
+layer_parts (layer op inputs) = refl
 
 layer_node : {Op : Type 0} (a b : Op) (ms ns : List ℕ) (ts : Trees Op) → layer a ms ≡ layer b ns → node a ts ≡ node b ts
 layer_node a b ms ns ts e = ap (λ op. node op ts) (layer_op a b ms ns e)
@@ -160,6 +166,12 @@ plan_here items plans n (node op ts) d = omega (arith, slice_get_within (map pla
 -- a node that denotes a plan is in the arena
 pub plan_within : (items : List AExpr) (plans : List IR) (n : ℕ) → DenotesTree (HoldsPlan items plans) n → n < length plans
 plan_within items plans n d = plan_here items plans n d.tree d.denotes
+
+-- only a filter's item records no schema
+pub records_unless_filter : (item : IR) → ((input : Node) (predicate : ExprIR) → item ≡ Filter input predicate → ⊥) → IsTrue (is_some (op_of (plan_layer item)).recorded)
+records_unless_filter (Filter input predicate) other = absurd (other input predicate refl)
+records_unless_filter (DataFrameScan table schema) other = refl
+records_unless_filter (Select expr input schema options) other = refl
 
 -- how far down an item leads
 abbrev pub item_depth : List IR → IR → ℕ

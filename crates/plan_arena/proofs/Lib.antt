@@ -1,4 +1,6 @@
 pub mod DenotationLemmas
+pub mod InputLemmas
 pub mod ItemLemmas
+pub mod LabelLemmas
 pub mod NumberLemmas
 pub mod RunLemmas

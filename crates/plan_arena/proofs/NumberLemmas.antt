@@ -1,5 +1,7 @@
 -- What all numbers of a list have.
-use Rattle.std.proofs.Common.{ℕ, List, [], ◌∷◌, ◌++◌, reverse, sym, subst}
+use Rattle.std.proofs.Common.{◌≡◌, ℕ, zero, suc, List, [], ◌∷◌, ◌++◌, reverse, take, Some, slice_get, sym, ap, ◌∙◌, subst}
+use Rattle.std.proofs.Math.Seq.{take-suc}
+use Rattle.std.proofs.lemmas.Option.{slice_get_within, get_or_from_slice_get}
 use Rattle.std.proofs.lemmas.Grind.{reverse_onto}
 use Rattle.std.specs.List.{AllByRecursion}
 
@@ -23,3 +25,13 @@ pub all_reversed : (P : ℕ → Type 0) (ns : List ℕ) → AllByRecursion P ns 
 all_reversed P [] all = tt
 all_reversed P (n ∷ ns) all =
     subst (AllByRecursion P) (sym (reverse_onto ns n [])) (all_joined P (reverse ns) (n ∷ []) (all_reversed P ns all.1) (all.0, tt))
+
+-- one of them has it
+pub all_there : (P : ℕ → Type 0) (ns : List ℕ) → AllByRecursion P ns → (i n : ℕ) → slice_get ns i ≡ Some n → P n
+all_there P [] all i n at = cc
+all_there P (m ∷ ns) all zero n at = let same : m ≡ n = cc in subst P same all.0
+all_there P (m ∷ ns) all (suc i) n at = all_there P ns all.1 i n at
+
+-- one more than so many of them
+pub taken_more : (ns : List ℕ) (i n : ℕ) → slice_get ns i ≡ Some n → take (suc i) ns ≡ take i ns ++ n ∷ []
+taken_more ns i n at = take-suc ns i n (slice_get_within ns i n at) ∙ ap (λ k. take i ns ++ k ∷ []) (get_or_from_slice_get ns i n n at)

@@ -1,10 +1,11 @@
 //! Expressions in an arena.
-ghost use Rattle.std.specs.Prelude.{◌≡◌, ◌++◌, length, reverse, IfOk, OnOk, OnErr, IfErr};
+ghost use Rattle.std.specs.Prelude.{◌≡◌, [], ◌∷◌, ◌++◌, length, reverse, IfOk, OnOk, OnErr, IfErr};
 ghost use Rattle.plan_types.specs.Errors.{no_memory};
 ghost use Rattle.plan_arena.specs.Layers.{layer, op_of, inputs_of};
 ghost use Rattle.plan_arena.specs.Items.{expression_layer, numbers};
 
 use crate::arena::Node;
+use crate::inputs::Inputs;
 use plan_dsl::literal::LiteralValue;
 use plan_dsl::operator::Operator;
 use plan_types::dtype::{CastOptions, DataType};
@@ -46,22 +47,29 @@ pub enum AExpr {
 }
 
 impl AExpr {
+    /// The inputs in order, the one from which the name comes first.
+    pub fn input_nodes(&self) -> Inputs
+        ensures { result ≡ inputs_of (expression_layer self.now) }
+    {
+        match self {
+            AExpr::Column(_) | AExpr::Literal(_) | AExpr::Len => Inputs::none(),
+            AExpr::BinaryExpr { left, right, .. } => Inputs::two(*left, *right),
+            AExpr::Cast { expr, .. } => Inputs::one(*expr),
+            AExpr::Slice {
+                input,
+                offset,
+                length,
+            } => Inputs::three(*input, *offset, *length),
+        }
+    }
+
     /// Appends the inputs in reverse, so that the one from which the name comes is the last.
     pub fn inputs_rev(&self, nodes: &mut Nodes) -> Result<(), PlanError>
         ensures ok { OnOk result (numbers nodes.new.items ≡ numbers nodes.old.items ++ reverse (inputs_of (expression_layer self.now))) }
         ensures unchanged { OnErr result (nodes.new.items ≡ nodes.old.items) }
         ensures err { IfErr result (λ error. error ≡ no_memory) }
     {
-        match self {
-            AExpr::Column(_) | AExpr::Literal(_) | AExpr::Len => Ok(()),
-            AExpr::BinaryExpr { left, right, .. } => push_reversed(nodes, &[*left, *right]),
-            AExpr::Cast { expr, .. } => push_reversed(nodes, &[*expr]),
-            AExpr::Slice {
-                input,
-                offset,
-                length,
-            } => push_reversed(nodes, &[*input, *offset, *length]),
-        }
+        push_reversed(nodes, &self.input_nodes())
     }
 
     /// The inputs in order.
@@ -94,35 +102,45 @@ impl AExpr {
     {
         match self {
             AExpr::Column(_) | AExpr::Literal(_) | AExpr::Len => {}
-            AExpr::BinaryExpr { left, right, .. } => {
-                *left = inputs[0];
-                *right = inputs[1];
-            }
-            AExpr::Cast { expr, .. } => {
-                *expr = inputs[0];
-            }
+            AExpr::BinaryExpr { left, right, .. } => set_two(left, right, inputs),
+            AExpr::Cast { expr, .. } => *expr = inputs[0],
             AExpr::Slice {
                 input,
                 offset,
                 length,
-            } => {
-                *input = inputs[0];
-                *offset = inputs[1];
-                *length = inputs[2];
-            }
+            } => set_three(input, offset, length, inputs),
         }
     }
 }
 
+fn set_two(first: &mut Node, second: &mut Node, inputs: &[Node])
+    requires { length inputs.now ≡ 2 }
+    ensures { inputs.now ≡ first.new ∷ second.new ∷ [] }
+{
+    *first = inputs[0];
+    *second = inputs[1];
+}
+
+fn set_three(first: &mut Node, second: &mut Node, third: &mut Node, inputs: &[Node])
+    requires { length inputs.now ≡ 3 }
+    ensures { inputs.now ≡ first.new ∷ second.new ∷ third.new ∷ [] }
+{
+    *first = inputs[0];
+    *second = inputs[1];
+    *third = inputs[2];
+}
+
 // Appends a node's inputs in reverse, all or none.
-fn push_reversed(nodes: &mut Nodes, inputs: &[Node]) -> Result<(), PlanError>
-    ensures ok { OnOk result (numbers nodes.new.items ≡ numbers nodes.old.items ++ reverse (numbers inputs.now)) }
+fn push_reversed(nodes: &mut Nodes, inputs: &Inputs) -> Result<(), PlanError>
+    ensures ok { OnOk result (numbers nodes.new.items ≡ numbers nodes.old.items ++ reverse inputs.now) }
     ensures unchanged { OnErr result (nodes.new.items ≡ nodes.old.items) }
     ensures err { IfErr result (λ error. error ≡ no_memory) }
 {
-    nodes.reserve(inputs.len())?;
-    for node in inputs.iter().rev() {
-        nodes.push_reserved(*node);
+    let mut left = inputs.len();
+    nodes.reserve(left)?;
+    while left > 0 {
+        left -= 1;
+        nodes.push_reserved(inputs.at(left));
     }
     Ok(())
 }

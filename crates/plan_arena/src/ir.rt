@@ -1,5 +1,5 @@
 //! Lowered plans in an arena.
-ghost use Rattle.std.specs.Prelude.{◌≡◌, List, IfOk, IfErr, IfSome, Some};
+ghost use Rattle.std.specs.Prelude.{◌≡◌, List, IfOk, IfErr, IfSome, IsTrue, Some, is_some};
 ghost use Rattle.plan_types.specs.Errors.{no_memory};
 ghost use Rattle.plan_types.specs.Schemas.{columns};
 ghost use Rattle.plan_dsl.specs.Plans.{Plan};
@@ -77,9 +77,19 @@ impl IR {
             DenotesItem expressions arena.now self.now plan → IsAccepted registry plan → schema_of registry plan ≡ Some (columns result.now) }
     {
         match self {
-            IR::DataFrameScan { schema, .. } => schema,
             IR::Filter { input, .. } => arena.get(*input).schema_ref(arena),
-            IR::Select { schema, .. } => schema,
+            _ => self.recorded_schema(),
+        }
+    }
+
+    /// The schema that a node records which records one.
+    pub fn recorded_schema(&self) -> &Schema
+        requires { IsTrue (is_some (op_of (plan_layer self.now)).recorded) }
+        ensures { (op_of (plan_layer self.now)).recorded ≡ Some (columns result.now) }
+    {
+        match self {
+            IR::DataFrameScan { schema, .. } | IR::Select { schema, .. } => schema,
+            IR::Filter { .. } => unreachable!(),
         }
     }
 }

@@ -5,6 +5,8 @@ pub mod aexpr;
 pub mod arena;
 mod examples;
 pub mod expr_ir;
+pub mod inputs;
 pub mod ir;
 pub mod laws;
+pub mod names;
 pub mod plan;

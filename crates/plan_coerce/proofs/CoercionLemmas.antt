@@ -28,6 +28,7 @@ use Rattle.plan_arena.specs.Denotation.{Denotes, DenoteAll}
 use Rattle.plan_arena.specs.Layers.{layer, shape_of, op_of, inputs_of}
 use Rattle.plan_arena.specs.Items.{HoldsExpression, HoldsFrom, Grows, expression_layer, Rewired, numbers}
 use Rattle.plan_arena.proofs.DenotationLemmas.{kept_below, all_kept_below, some_same}
+use Rattle.plan_arena.proofs.NumberLemmas.{taken_more}
 use Rattle.plan_arena.proofs.ItemLemmas.{held_top, tree_grown, added_denotes, length-grown, any_node, from_laws, from_top, expression_elsewhere, expression_written, grown_held, within, expression_got}
 use Rattle.plan_infer.specs.Typed.{HasKnownType}
 use Rattle.plan_coerce.proofs.CoercedLemmas.{alike_itself, node_alike_over}
@@ -36,7 +37,6 @@ use Rattle.plan_infer.specs.declared.type_table.TypeTable.{TypeTable}
 use Rattle.plan_types.proofs.CastLemmas.{source_known}
 use Rattle.plan_types.proofs.ListLemmas.{mapped_more}
 use Rattle.std.proofs.lemmas.List.{map-append, length-map}
-use Rattle.std.proofs.lemmas.Option.{slice_get-get_or, get_or_from_slice_get}
 use Rattle.std.proofs.Math.Seq.{take-length}
 use Rattle.std.specs.List.{AllByRecursion}
 use Rattle.plan_infer.specs.declared.type_table.Inferred.{Inferred}
@@ -189,10 +189,6 @@ becomes_of table n from target k ready = subst (λ (d : DataType). CanBecome (ty
 
 -- ---- operands one by one
 
--- an item that is there, whatever stands in where there is none
-pub same_place : {A : Type 0} (xs : List A) (i : ℕ) (x d : A) → i < length xs → x ≡ get_or xs i d → x ≡ get_or xs i x
-same_place xs i x d within is = is ∙ sym (get_or_from_slice_get xs i (get_or xs i d) x (slice_get-get_or xs i d within))
-
 -- operands that can become of their types are ready for them
 pub all_ready : (table : TypeTable) (ns : List ℕ) (typed : List Typed) (targets : List Ty) → AllKept table ns typed → AllBecome (types_of typed) targets → AllReady table ns targets
 all_ready table [] [] [] k b = tt
@@ -263,28 +259,26 @@ module _ (registry : Registry) (schema : Columns) (items : List AExpr) (table : 
         strict = strict_from registry schema op top.0 e.typed e.ruling typed e.rules same (ap (λ (x : Typed). is_known x.type) is ∙ has.known);
       }
 
-pub ready_length : (table : TypeTable) (ns : List Node) (ts : List DataType) → AllReady table (numbers ns) (map ty ts) → length ns ≡ length ts
+pub ready_length : (table : TypeTable) (ns : List ℕ) (ts : List DataType) → AllReady table ns (map ty ts) → length ns ≡ length ts
 ready_length table [] [] all = refl
 ready_length table (n ∷ ns) (t ∷ ts) all = ap suc (ready_length table ns ts all.1)
 ready_length table [] (t ∷ ts) all = absurd all
 ready_length table (n ∷ ns) [] all = absurd all
 
-pub ready_within : (table : TypeTable) (ns : List Node) (ts : List DataType) (i : ℕ) → AllReady table (numbers ns) (map ty ts) → i < length ns → i < length ts
+pub ready_within : (table : TypeTable) (ns : List ℕ) (ts : List DataType) (i : ℕ) → AllReady table ns (map ty ts) → i < length ns → i < length ts
 ready_within table ns ts i all lt = omega (arith, lt, ready_length table ns ts all)
 
-pub ready_there : (table : TypeTable) (ns : List Node) (ts : List DataType) (i : ℕ) (n : Node) (t : DataType) → AllReady table (numbers ns) (map ty ts) → i < length ns → IsReady table (get_or ns i n).0 (ty (get_or ts i t))
-ready_there table [] ts i n t all lt = absurd (omega (arith, lt))
-ready_there table (m ∷ ns) (u ∷ ts) zero n t all lt = all.0
-ready_there table (m ∷ ns) (u ∷ ts) (suc i) n t all lt = ready_there table ns ts i n t all.1 (omega (arith, lt))
-ready_there table (m ∷ ns) [] i n t all lt = absurd all
+pub ready_there : (table : TypeTable) (ns : List ℕ) (ts : List DataType) (i n : ℕ) (t : DataType) → AllReady table ns (map ty ts) → slice_get ns i ≡ Some n → IsReady table n (ty (get_or ts i t))
+ready_there table [] ts i n t all at = cc
+ready_there table (m ∷ ns) (u ∷ ts) zero n t all at = let same : m ≡ n = cc in subst (λ k. IsReady table k (ty u)) same all.0
+ready_there table (m ∷ ns) (u ∷ ts) (suc i) n t all at = ready_there table ns ts i n t all.1 at
+ready_there table (m ∷ ns) [] i n t all at = absurd all
 
 -- one operand can be made of its type, of which there is a copy
-pub ready_at : (old new : TypeTable) (ns : List Node) (ts : List DataType) (i : ℕ) (n : Node) (t copy : DataType) → AllReady old (numbers ns) (map ty ts) → i < length ns → n ≡ get_or ns i n → t ≡ get_or ts i t → ty copy ≡ ty t → Extends old new → IsReady new n.0 (ty copy)
-ready_at old new ns ts i n t copy all lt is_n is_t same extends =
-    let here = ready_there old ns ts i n t all lt in
-    let one = subst (λ (m : Node). IsReady old m.0 (ty (get_or ts i t))) (sym is_n) here in
-    let two = subst (λ (u : DataType). IsReady old n.0 (ty u)) (sym is_t) one in
-    record { dtype = two.dtype; keeps = still_keeps old new extends n.0 two.dtype two.keeps; becomes = subst (CanBecome (ty two.dtype)) (sym same) two.becomes }
+pub ready_at : (old new : TypeTable) (ns : List ℕ) (ts : List DataType) (i n : ℕ) (t copy : DataType) → AllReady old ns (map ty ts) → slice_get ns i ≡ Some n → t ≡ get_or ts i t → ty copy ≡ ty t → Extends old new → IsReady new n (ty copy)
+ready_at old new ns ts i n t copy all at is_t same extends =
+    let one = subst (λ (u : DataType). IsReady old n (ty u)) (sym is_t) (ready_there old ns ts i n t all at) in
+    record { dtype = one.dtype; keeps = still_keeps old new extends n one.dtype one.keeps; becomes = subst (CanBecome (ty one.dtype)) (sym same) one.becomes }
 
 grown_changed : (old mid new : List AExpr) (table : TypeTable) (os : List Operand) → Grows mid new → AllByRecursion (IsChanged old mid table) os → AllByRecursion (IsChanged old new table) os
 grown_changed old mid new table [] g all = tt
@@ -306,19 +300,20 @@ all_more : {A : Type 0} (P : A → Type 0) (xs : List A) (x : A) → AllByRecurs
 all_more P [] x all p = (p, tt)
 all_more P (y ∷ xs) x all p = (all.0, all_more P xs x all.1 p)
 
-module _ (old mid new : List AExpr) (table table' : TypeTable) (inputs done grown : List Node) (targets : List DataType) (i : ℕ) (n m : Node) (target copy : DataType) where
-  pub changed_more : AreChanged old mid table (numbers (take i inputs)) (numbers done) (map ty (take i targets)) → i < length inputs → i < length targets → n ≡ get_or inputs i n → target ≡ get_or targets i target → ty copy ≡ ty target → grown ≡ done ++ m ∷ [] → Grows old mid → Grows mid new → (from : DataType) → Keeps table n.0 from → IsChanged mid new table' (record { input = n.0; changed = m.0; from = ty from; target = ty copy }) → AreChanged old new table (numbers (take (i + 1) inputs)) (numbers grown) (map ty (take (i + 1) targets))
-  changed_more before within also is_n is_t same longer g h from keeps one =
-      let o : Operand = record { input = n.0; changed = m.0; from = ty from; target = ty copy } in
+module _ (old mid new : List AExpr) (table table' : TypeTable) (inputs : List ℕ) (done grown : List Node) (targets : List DataType) (i n : ℕ) (m : Node) (target copy : DataType) where
+  pub changed_more : AreChanged old mid table (take i inputs) (numbers done) (map ty (take i targets)) → slice_get inputs i ≡ Some n → i < length targets → target ≡ get_or targets i target → ty copy ≡ ty target → grown ≡ done ++ m ∷ [] → Grows old mid → Grows mid new → (from : DataType) → Keeps table n from → IsChanged mid new table' (record { input = n; changed = m.0; from = ty from; target = ty copy }) → AreChanged old new table (take (i + 1) inputs) (numbers grown) (map ty (take (i + 1) targets))
+  changed_more before at also is_t same longer g h from keeps one =
+      let o : Operand = record { input = n; changed = m.0; from = ty from; target = ty copy } in
       let here : IsChanged old new table o = record {
         keeps = record { dtype = from; keeps = keeps; is = refl };
-        denotes = λ first t le d. one.denotes first t (omega (arith, le, length-grown old mid g)) (tree_grown first first old mid (omega arith) g n.0 t d);
+        denotes = λ first t le d. one.denotes first t (omega (arith, le, length-grown old mid g)) (tree_grown first first old mid (omega arith) g n t d);
         stays = one.stays;
         fresh = λ e. omega (arith, one.fresh e, length-grown old mid g);
       } in
+      let next : i + 1 ≡ suc i = omega arith in
       record {
         operands = before.operands ++ o ∷ [];
-        inputs_are = mapped_more (λ (o : Operand). o.input) (λ (n : Node). n.0) before.operands _ o inputs i n within before.inputs_are refl refl is_n;
+        inputs_are = map-append (λ (o : Operand). o.input) before.operands (o ∷ []) ∙ ap (λ l. l ++ n ∷ []) before.inputs_are ∙ sym (ap (λ k. take k inputs) next ∙ taken_more inputs i n at);
         changed_are = map-append (λ (o : Operand). o.changed) before.operands (o ∷ []) ∙ ap (λ l. l ++ m.0 ∷ []) before.changed_are ∙ sym (map-append (λ (n : Node). n.0) done (m ∷ [])) ∙ ap numbers (sym longer);
         targets_are = mapped_more (λ (o : Operand). o.target) ty before.operands _ o targets i target also before.targets_are refl same is_t;
         each = all_more (IsChanged old new table) before.operands o (grown_changed old mid new table before.operands h before.each) here;
@@ -331,11 +326,11 @@ kept_more old new done grown m extends all k longer =
     subst (AllByRecursion (IsKept new)) (sym one) (all_joined (IsKept new) (numbers done) (m.0 ∷ []) (all_weaker (IsKept old) (IsKept new) (still_kept old new extends) (numbers done) all) (k, tt))
 
 -- all of them
-pub all_changed : (old new : List AExpr) (table : TypeTable) (inputs outputs : List Node) (targets : List DataType) (i j : ℕ) → i ≡ length inputs → length inputs ≡ length targets → AreChanged old new table (numbers (take i inputs)) (numbers outputs) (map ty (take i targets)) → AreChanged old new table (numbers inputs) (numbers outputs) (map ty targets)
-all_changed old new table inputs outputs targets i j whole same c =
+pub all_changed : (old new : List AExpr) (table : TypeTable) (inputs : List ℕ) (outputs : List Node) (targets : List DataType) (i : ℕ) → i ≡ length inputs → length inputs ≡ length targets → AreChanged old new table (take i inputs) (numbers outputs) (map ty (take i targets)) → AreChanged old new table inputs (numbers outputs) (map ty targets)
+all_changed old new table inputs outputs targets i whole same c =
     let xs = ap (λ k. take k inputs) whole ∙ take-length inputs in
     let ts = ap (λ k. take k targets) (whole ∙ same) ∙ take-length targets in
-    subst (λ l. AreChanged old new table (numbers inputs) (numbers outputs) (map ty l)) ts (subst (λ l. AreChanged old new table (numbers l) (numbers outputs) (map ty (take i targets))) xs c)
+    subst (λ l. AreChanged old new table inputs (numbers outputs) (map ty l)) ts (subst (λ l. AreChanged old new table l (numbers outputs) (map ty (take i targets))) xs c)
 
 -- ---- the node over them
 

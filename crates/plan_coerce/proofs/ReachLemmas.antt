@@ -1,5 +1,5 @@
 -- Nodes that roots reach, as nodes are added and one is written.
-use Rattle.std.proofs.Common.{◌≡◌, ◌≢◌, ℕ, zero, suc, ◌<◌, ◌≤◌, true, false, List, [], ◌∷◌, ◌++◌, length, map, get_or, set, reverse, Some, slice_get, refl, sym, ap, ◌∙◌, subst, arith, inl, inr, ⊎_elim, length-append}
+use Rattle.std.proofs.Common.{◌≡◌, ◌≢◌, ℕ, zero, suc, ◌<◌, ◌≤◌, true, false, List, [], ◌∷◌, ◌++◌, length, map, set, reverse, Some, slice_get, refl, sym, ap, ◌∙◌, subst, arith, inl, inr, ⊎_elim, length-append}
 use Rattle.std.specs.List.{AllByRecursion}
 use Rattle.std.proofs.lemmas.Option.{slice_get_within, slice_get-get_or}
 use Rattle.std.proofs.lemmas.Bool.{cases_lt}
@@ -8,10 +8,9 @@ use Rattle.std.proofs.Math.ListN.{length-set}
 use Rattle.plan_types.proofs.ListLemmas.{slice_get-append, slice_get-set_other}
 use Rattle.plan_types.specs.Types.{Ty, same_type}
 use Rattle.plan_dsl.specs.Ops.{Op}
-use Rattle.plan_arena.specs.declared.arena.Node.{Node}
 use Rattle.plan_arena.specs.declared.aexpr.AExpr.{AExpr}
 use Rattle.plan_arena.specs.Layers.{layer, op_of, inputs_of}
-use Rattle.plan_arena.specs.Items.{HoldsExpression, Rewired, expression_layer, numbers}
+use Rattle.plan_arena.specs.Items.{HoldsExpression, Rewired, expression_layer}
 use Rattle.plan_arena.proofs.DenotationLemmas.{some_same, same_or_other}
 use Rattle.plan_arena.proofs.ItemLemmas.{layer_inputs, expression_added, expression_written}
 use Rattle.plan_arena.proofs.NumberLemmas.{all_joined, all_reversed}
@@ -89,11 +88,6 @@ operands_near start roots old new table (o ∷ os) le near all =
 pub changed_near : (start : List AExpr) (roots : List ℕ) (old new : List AExpr) (table : TypeTable) (ns ms : List ℕ) (targets : List Ty) → length start ≤ length old → AreChanged old new table ns ms targets → AllByRecursion (Near start roots) ns → AllByRecursion (Near start roots) ms
 changed_near start roots old new table ns ms targets le c near =
     subst (AllByRecursion (Near start roots)) c.changed_are (operands_near start roots old new table c.operands le (subst (AllByRecursion (Near start roots)) (sym c.inputs_are) near) c.each)
-
-pub near_at : (P : ℕ → Type 0) (ns : List Node) (i : ℕ) (d : Node) → AllByRecursion P (numbers ns) → i < length ns → P (get_or ns i d).0
-near_at P [] i d all lt = absurd (omega (arith, lt))
-near_at P (n ∷ ns) zero d all lt = all.0
-near_at P (n ∷ ns) (suc i) d all lt = near_at P ns i d all.1 (omega (arith, lt))
 
 -- the inputs of a node
 pub inputs_near : (start : List AExpr) (roots : List ℕ) (items : List AExpr) (n : ℕ) (item : AExpr) → slice_get items n ≡ Some item → IsClosed start roots items → Near start roots n → AllByRecursion (Near start roots) (inputs_of (expression_layer item))

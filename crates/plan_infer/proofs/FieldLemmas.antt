@@ -13,16 +13,6 @@ use Rattle.plan_arena.proofs.DenotationLemmas.{some_same}
 use Rattle.plan_arena.proofs.ItemLemmas.{expression_got, expression_laws}
 use Rattle.plan_infer.specs.KeptTypes.{GivesName}
 
-two_labels : (label : Label) → column_label [] ≡ label → column_label (0 ∷ []) ≡ label → ⊥
-two_labels label e f = let none : List ℕ = [] in let g : none ≡ 0 ∷ [] = ap (λ (l : Label). l.name) (e ∙ sym f) in cc
-
--- any other item has the name of its first input
-pub gives_none : (item : AExpr) → ((name : PlSmallStr) → item ≡ Column name → ⊥) → ((value : LiteralValue) → item ≡ Literal value → ⊥) → (item ≡ Len → ⊥) → (label : Label) → ((labels : List Label) → op_label (op_of (expression_layer item)) labels ≡ label) → ⊥
-gives_none (Column text) column literal len name own = column text refl
-gives_none (Literal value) column literal len name own = literal value refl
-gives_none Len column literal len name own = len refl
-gives_none _ column literal len name own = two_labels name (own (column_label [] ∷ [])) (own (column_label (0 ∷ []) ∷ []))
-
 -- the item that gives a name
 pub item_gives : (items : List AExpr) (n : ℕ) (item : AExpr) (t : Expression) → GivesName items n t → slice_get items n ≡ Some item → (names : List Label) → op_label (op_of (expression_layer item)) names ≡ label_of t
 item_gives items n item t name got names =

@@ -1,15 +1,13 @@
 //! The name and type of a node's column.
-ghost use Rattle.std.specs.Prelude.{◌≡◌, ◌<◌, ◌≤◌, ◌+◌, List, IfOk, IfErr, OnOk, OnErr};
+ghost use Rattle.std.specs.Prelude.{◌≡◌, ◌<◌, ◌≤◌, ◌+◌, IfOk, IfErr, OnOk, OnErr};
 ghost use Rattle.plan_types.specs.Errors.{IsRefusal, no_memory};
 ghost use Rattle.plan_types.specs.Schemas.{columns};
 ghost use Rattle.plan_types.specs.Types.{ty};
-ghost use Rattle.plan_dsl.specs.Names.{Label, op_label};
 ghost use Rattle.plan_dsl.specs.Ops.{Expression};
 ghost use Rattle.plan_dsl.specs.Registry.{registry};
 ghost use Rattle.plan_dsl.specs.Typing.{typing};
 ghost use Rattle.plan_arena.specs.Denotation.{Denotes, DenotesTree};
-ghost use Rattle.plan_arena.specs.Layers.{op_of};
-ghost use Rattle.plan_arena.specs.Items.{HoldsExpression, expression_layer};
+ghost use Rattle.plan_arena.specs.Items.{HoldsExpression};
 ghost use Rattle.plan_infer.specs.Fields.{IsFieldOf, type_in};
 ghost use Rattle.plan_infer.specs.KeptTypes.{Extends, IsKept, IsRight, kept_count, typed_of};
 
@@ -23,7 +21,6 @@ use plan_types::dtype::DataType;
 use plan_types::error::PlanError;
 use plan_types::field::Field;
 use plan_types::schema::Schema;
-use plan_types::text::PlSmallStr;
 use std::alloc::Global;
 use std::marker::Brand;
 use std::sync::ledger::{Blank, Ledger};
@@ -61,9 +58,9 @@ impl TypeTable {
             IsRefusal (typing (registry udfs.now) (columns schema.now) t) error) }
     {
         type_node(node, arena, schema, udfs, self, typings)?;
-        let own = self.get(node);
-        let name = item_name(arena.get(own.name), arena.allocator())?;
-        let dtype = dtype_in(ctxt, own, arena.allocator())?;
+        let label = self.output_name(node, arena)?;
+        let name = label.get().try_clone(arena.allocator())?;
+        let dtype = dtype_in(ctxt, self.get(node), arena.allocator())?;
         Ok(Field { name, dtype })
     }
 
@@ -108,30 +105,6 @@ impl TypeTable {
     {
         let mut typings = Steps::<M>::new(blank);
         type_node(node, arena, schema, udfs, self, &mut typings)
-    }
-}
-
-// The name that an item gives, whatever its inputs are called.
-fn item_name(item: &AExpr, alloc: Global) -> Result<PlSmallStr, PlanError>
-    requires own { (label : Label) × ((labels : List Label) → op_label (op_of (expression_layer item.now)) labels ≡ label) }
-    ensures ok { IfOk result (λ text. (label : Label) →
-        ((labels : List Label) → op_label (op_of (expression_layer item.now)) labels ≡ label) → text ≡ label.name) }
-    ensures err { IfErr result (λ error. error ≡ no_memory) }
-{
-    match item {
-        AExpr::Column(name) => {
-            let text = name.try_clone(alloc)?;
-            Ok(text)
-        }
-        AExpr::Literal(_) => {
-            let text = PlSmallStr::new(alloc, "literal")?;
-            Ok(text)
-        }
-        AExpr::Len => {
-            let text = PlSmallStr::new(alloc, "len")?;
-            Ok(text)
-        }
-        _ => unreachable!(),
     }
 }
 

@@ -3,6 +3,7 @@
 
 mod examples;
 pub mod field;
+pub mod names;
 pub mod operator_types;
 mod signed;
 pub mod steps;

@@ -3,7 +3,7 @@ use Rattle.std.proofs.Common.{◌≡◌, ◌⊎◌, ℕ, List, [], ◌∷◌, �
 use Rattle.std.specs.List.{AllByRecursion, Contains}
 use Rattle.std.proofs.lemmas.List.{map-append}
 use Rattle.plan_types.specs.Types.{Truth}
-use Rattle.plan_types.specs.Schemas.{Name, Columns, HasDistinctNames, names_of, all_known}
+use Rattle.plan_types.specs.Schemas.{Columns, HasDistinctNames, names_of, all_known}
 use Rattle.plan_types.specs.Outcomes.{Meets}
 use Rattle.plan_types.specs.Frames.{Frame, IsFrameOf}
 use Rattle.plan_types.specs.Errors.{no_memory, at_top, IsMemoryOr}

@@ -1,6 +1,5 @@
 pub mod BuiltLemmas
 pub mod ExamplePlanLemmas
-pub mod LabelLemmas
 pub mod NodeLemmas
 pub mod PlanLemmas
 pub mod ProjectionLemmas

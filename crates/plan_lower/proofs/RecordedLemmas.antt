@@ -22,20 +22,12 @@ records_within plans n records =
     omega (arith, slice_get_within (map plan_layer plans) n held.0 held.1, length-map plans plan_layer)
 
 -- what the item that `get` answers records
-pub recorded_got : (plans : List IR) (n : ℕ) (item : IR) (recorded : Option Columns) → slice_get plans n ≡ Some item → (op_of (plan_layer item)).recorded ≡ recorded → recorded_at plans n ≡ recorded
-recorded_got plans n item recorded got is = ap recorded_in (plan_got plans n item got) ∙ is
+pub recorded_got : (plans : List IR) (n : ℕ) (item : IR) → slice_get plans n ≡ Some item → recorded_at plans n ≡ (op_of (plan_layer item)).recorded
+recorded_got plans n item got = ap recorded_in (plan_got plans n item got)
 
 -- the columns of what is recorded
 pub columns_of_recorded : (plans : List IR) (n : ℕ) (schema : Columns) → recorded_at plans n ≡ Some schema → columns_at plans n ≡ schema
 columns_of_recorded plans n schema is = ap (λ recorded. unwrap_or recorded []) is
-
-none_recorded : (recorded : Option Columns) → IsTrue (is_some recorded) → recorded ≡ None → ⊥
-none_recorded None records is = absurd cc
-none_recorded (Some schema) records is = cc
-
--- an item without a schema isn't at a node that records one
-pub without_schema : (plans : List IR) (n : ℕ) (item : IR) → Records plans n → slice_get plans n ≡ Some item → (op_of (plan_layer item)).recorded ≡ None → ⊥
-without_schema plans n item records got is = none_recorded (recorded_at plans n) records (recorded_got plans n item None got is)
 
 -- a new item records its schema
 pub recorded_added : (plans new : List IR) (item : IR) (n : ℕ) (schema : Columns) → new ≡ plans ++ item ∷ [] → n ≡ length plans → (op_of (plan_layer item)).recorded ≡ Some schema → recorded_at new n ≡ Some schema

@@ -1,5 +1,5 @@
 -- Counts of casts.
-use Rattle.std.proofs.Common.{◌≡◌, ℕ, zero, suc, ◌+◌, ◌<◌, ◌≤◌, List, [], ◌∷◌, length, map, take, get_or, slice_index_or, sum, Option, Some, slice_get, refl, sym, ap, ◌∙◌, subst, arith}
+use Rattle.std.proofs.Common.{◌≡◌, ℕ, zero, suc, ◌+◌, ◌<◌, ◌≤◌, List, [], ◌∷◌, length, map, take, get_or, sum, Option, Some, slice_get, refl, sym, ap, ◌∙◌, subst, arith}
 use Rattle.std.specs.List.{AllByRecursion}
 use Rattle.std.specs.Option.{option_map}
 use Rattle.std.proofs.lemmas.List.{take_all}
@@ -10,14 +10,14 @@ use Rattle.plan_dsl.specs.Ops.{Op, Expression}
 use Rattle.plan_dsl.specs.Plans.{Named, PlanKind, ScanKind, SelectKind, FilterKind, PlanOp, Plan}
 use Rattle.plan_types.specs.Schemas.{Columns}
 use Rattle.plan_arena.specs.Denotation.{Denotes, DenoteAll, DenotesTree, depth_at}
-use Rattle.plan_arena.specs.Layers.{Layer, layer, op_of, inputs_of, shape_of}
-use Rattle.plan_arena.specs.declared.arena.Node.{Node}
-use Rattle.plan_arena.specs.Items.{named_node, numbers, expression_layer, plan_layer, HoldsExpression, DenoteNamed, DenotesKind, HoldsPlan}
+use Rattle.plan_arena.specs.Layers.{layer, op_of, inputs_of, shape_of}
+use Rattle.plan_arena.specs.Items.{named_node, expression_layer, plan_layer, HoldsExpression, DenoteNamed, DenotesKind, HoldsPlan}
 use Rattle.plan_arena.specs.declared.aexpr.AExpr.{AExpr}
 use Rattle.plan_arena.specs.declared.expr_ir.ExprIR.{ExprIR}
 use Rattle.plan_arena.specs.declared.ir.IR.{IR}
 use Rattle.plan_arena.proofs.DenotationLemmas.{some_same}
-use Rattle.plan_arena.proofs.ItemLemmas.{layer_op, layer_inputs, expression_got}
+use Rattle.plan_arena.proofs.NumberLemmas.{all_there}
+use Rattle.plan_arena.proofs.ItemLemmas.{layer_parts, expression_got}
 use Rattle.plan_dsl.specs.Counts.{op_casts, expression_casts, outputs_casts, kind_casts, plan_op_casts, cast_count}
 use Rattle.plan_report.proofs.NodeLemmas.{held_op, held_children, LeadsDown, expression_inputs}
 
@@ -83,29 +83,16 @@ expression_counted items n item got ns are i own count past by_own all (node op 
     let by_op = sym (by_own counts) ∙ ap (λ l. op_casts (op_of l) counts) same in
     whole_count ∙ ap (λ k. own + k) whole ∙ by_op
 
-layer_parts : (l : Layer Op) → l ≡ layer (op_of l) (inputs_of l)
-layer_parts (layer op inputs) = refl
-
 -- the inputs of an expression denote expressions, and lead less far down
 inputs_lead : (items : List AExpr) (n : ℕ) (item : AExpr) → slice_get items n ≡ Some item → (t : Expression) → Denotes (HoldsExpression items) n t → LeadsDown (HoldsExpression items) (shape_of (map expression_layer items)) n (inputs_of (expression_layer item))
 inputs_lead items n item got (node op ts) d =
     expression_inputs items n item got (op_of (expression_layer item)) (inputs_of (expression_layer item)) (layer_parts (expression_layer item)) (record { tree = node op ts; denotes = d })
 
-number_leads : (P : ℕ → Type 0) (ns : List ℕ) → AllByRecursion P ns → (i n : ℕ) → slice_get ns i ≡ Some n → P n
-number_leads P [] all i n at = cc
-number_leads P (m ∷ ns) all zero n at = let same : m ≡ n = cc in subst P same all.0
-number_leads P (m ∷ ns) all (suc i) n at = number_leads P ns all.1 i n at
-
 -- so does the input at a place
 pub input_leads : (items : List AExpr) (n : ℕ) (item : AExpr) → slice_get items n ≡ Some item → DenotesTree (HoldsExpression items) n → (ns : List ℕ) → ns ≡ inputs_of (expression_layer item) → (i m : ℕ) → slice_get ns i ≡ Some m → DenotesTree (HoldsExpression items) m × (depth_at (shape_of (map expression_layer items)) m < depth_at (shape_of (map expression_layer items)) n)
 input_leads items n item got d ns are i m at =
     let leads : ℕ → Type 0 = λ k. DenotesTree (HoldsExpression items) k × (depth_at (shape_of (map expression_layer items)) k < depth_at (shape_of (map expression_layer items)) n) in
-    number_leads leads ns (subst (AllByRecursion leads) (sym are) (inputs_lead items n item got d.tree d.denotes)) i m at
-
--- the number of a node at a place
-pub number_there : (nodes : List Node) (i : ℕ) (other : Node) → i < length nodes → slice_get (numbers nodes) i ≡ Some (slice_index_or nodes i other).0
-number_there nodes i other within =
-    slice_get-map (λ (n : Node). n.0) nodes i ∙ ap (option_map (λ (n : Node). n.0)) (slice_get-get_or nodes i other within)
+    all_there leads ns (subst (AllByRecursion leads) (sym are) (inputs_lead items n item got d.tree d.denotes)) i m at
 
 -- the count of a plan, from its expressions' and its inputs'
 pub plan_counted : (expressions : List AExpr) (plans : List IR) (n : ℕ) (item : IR) → slice_get plans n ≡ Some item → (flat : PlanOp (Named ℕ)) (inputs : List ℕ) (here : ℕ) (cs : List ℕ) → plan_layer item ≡ layer flat inputs → ((kind : PlanKind (Named Expression)) → DenotesKind expressions flat.kind kind → here ≡ kind_casts kind) → CountAll (HoldsPlan expressions plans) cast_count inputs cs → (t : Plan) → Denotes (HoldsPlan expressions plans) n t → here + sum cs ≡ cast_count t

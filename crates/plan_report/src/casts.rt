@@ -1,44 +1,25 @@
 //! How many casts the expressions of a lowered plan have.
 ghost use Rattle.std.specs.Prelude.{◌≡◌, ◌+◌, ℕ, List, map, sum, IfOk};
-ghost use Rattle.plan_types.specs.Errors.{no_memory};
 ghost use Rattle.plan_dsl.specs.Ops.{Expression};
 ghost use Rattle.plan_dsl.specs.Plans.{Plan, Named};
 ghost use Rattle.plan_arena.specs.Denotation.{Denotes, DenotesTree};
-ghost use Rattle.plan_arena.specs.Items.{named_node, numbers, expression_layer, HoldsExpression, DenoteNamed, HoldsPlan};
+ghost use Rattle.plan_arena.specs.Items.{named_node, expression_layer, HoldsExpression, DenoteNamed, HoldsPlan};
 ghost use Rattle.plan_dsl.specs.Counts.{op_casts, expression_casts, outputs_casts, cast_count};
-ghost use Rattle.plan_arena.specs.Layers.{inputs_of, op_of};
+ghost use Rattle.plan_arena.specs.Layers.{op_of};
 ghost use Rattle.plan_report.specs.Casts.{DenoteOutputs};
 
-use plan_arena::aexpr::{AExpr, Nodes};
+use plan_arena::aexpr::AExpr;
 use plan_arena::arena::{Arena, Node};
 use plan_arena::expr_ir::ExprIRs;
 use plan_arena::ir::IR;
 use plan_arena::plan::IRPlan;
-use plan_types::error::PlanError;
-use std::alloc::{AllocError, Global};
+use std::alloc::AllocError;
 
 // The sum. A count past the counter's range is answered as want of memory.
 fn add(left: u64, right: u64) -> Result<u64, AllocError>
     ensures { IfOk result (λ sum. sum ≡ left + right) }
 {
     left.checked_add(right).ok_or(AllocError)
-}
-
-// Want of memory, where nothing else can come.
-fn out_of_memory(_error: PlanError) -> AllocError
-    requires { _error ≡ no_memory }
-{
-    AllocError
-}
-
-// The inputs of a node.
-fn inputs_of(item: &AExpr, alloc: Global) -> Result<Nodes, AllocError>
-    ensures { IfOk result (λ nodes. numbers nodes.items ≡ inputs_of (expression_layer item.now)) }
-{
-    match item.inputs(alloc) {
-        Ok(inputs) => Ok(inputs),
-        Err(error) => Err(out_of_memory(error)),
-    }
 }
 
 // One for a cast, and none for any other node.
@@ -58,10 +39,10 @@ pub(crate) fn expression_casts(arena: &Arena<AExpr>, node: Node) -> Result<u64, 
         → count ≡ expression_casts tree) }
 {
     let item = arena.get(node);
-    let inputs = inputs_of(item, arena.allocator())?;
+    let inputs = item.input_nodes();
     let mut count = own_casts(item);
-    for input in inputs.as_slice() {
-        let casts = expression_casts(arena, *input)?;
+    for index in 0..inputs.len() {
+        let casts = expression_casts(arena, inputs.at(index))?;
         count = add(count, casts)?;
     }
     Ok(count)

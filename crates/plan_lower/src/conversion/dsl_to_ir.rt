@@ -64,11 +64,7 @@ fn recorded_schema(lp_arena: &Arena<IR>, node: Node) -> &Schema
     requires { Records lp_arena.now node.0 }
     ensures { columns result.now ≡ columns_at lp_arena.now node.0 }
 {
-    match lp_arena.get(node) {
-        IR::DataFrameScan { schema, .. } => schema,
-        IR::Filter { .. } => unreachable!(),
-        IR::Select { schema, .. } => schema,
-    }
+    lp_arena.get(node).recorded_schema()
 }
 
 // Adds a plan's nodes, its input first.

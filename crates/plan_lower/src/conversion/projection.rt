@@ -16,7 +16,7 @@ ghost use Rattle.plan_infer.specs.KeptTypes.{Extends, IsKept, IsRight};
 ghost use Rattle.plan_lower.specs.Outputs.{HasOutputs};
 ghost use Rattle.plan_lower.specs.Projection.{Projects, AddsOutput, IsOutputRefusal, IsProjectionRefusal};
 
-use crate::conversion::expr_to_ir::{settle, to_expr_ir};
+use crate::conversion::expr_to_ir::{add_nodes, settle};
 use plan_arena::aexpr::{AExpr, Nodes};
 use plan_arena::arena::Arena;
 use plan_arena::expr_ir::{ExprIR, ExprIRs};
@@ -148,7 +148,8 @@ pub(crate) fn add_typed(
     ensures extends { OnOk result (Extends types.old types.new) }
     ensures err { IfErr result (IsRefusal (typing (registry udfs.now) (columns schema.now) (settled (tree_of expr)))) }
 {
-    let expr_ir = to_expr_ir(settle(expr), arena)?;
-    types.infer(expr_ir.node(), schema, arena, udfs)?;
-    Ok(expr_ir)
+    let node = add_nodes(settle(expr), arena)?;
+    types.infer(node, schema, arena, udfs)?;
+    let name = types.output_name(node, arena)?;
+    Ok(ExprIR::new(node, name))
 }

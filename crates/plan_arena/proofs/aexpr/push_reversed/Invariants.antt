@@ -1,8 +1,15 @@
-use Rattle.std.proofs.Common.{◌≡◌, ◌++◌, ◌+◌, ◌≤◌, length, reverse}
+use Rattle.std.proofs.Common.{◌≡◌, ◌++◌, ◌+◌, ◌≤◌, length, reverse, take}
+use Rattle.plan_arena.specs.Items.{numbers}
 use Rattle.plan_arena.proofs.aexpr.push_reversed.Given as goal
 
--- what is left is still to be appended, and there is room for it
-abbrev pub invariant-loop-node : goal.invariant-loop-node
-invariant-loop-node l =
-    let left = l.node-iterator.iter.rest.now in
-    (l.nodes.items ++ reverse left ≡ l.fn.nodes.items ++ reverse l.fn.inputs) × (length l.nodes.items + length left ≤ l.nodes.capacity)
+-- the inputs from a number on are appended, and there is room for the others
+abbrev pub invariant-loop-left : goal.invariant-loop-left
+invariant-loop-left l =
+    record {
+      appended : numbers l.nodes.items ++ reverse (take l.left l.inputs) ≡ numbers l.initial.nodes.items ++ reverse l.inputs;
+      within : l.left ≤ length l.inputs;
+      room : length l.nodes.items + l.left ≤ l.nodes.capacity;
+    }
+
+abbrev pub decreases-loop-left : goal.decreases-loop-left
+decreases-loop-left l = l.left

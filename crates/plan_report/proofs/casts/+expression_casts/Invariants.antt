@@ -1,12 +1,12 @@
 use Rattle.std.proofs.Common.{map}
 use Rattle.plan_arena.specs.Denotation.{depth_at}
 use Rattle.plan_arena.specs.Layers.{shape_of}
-use Rattle.plan_arena.specs.Items.{expression_layer, numbers}
+use Rattle.plan_arena.specs.Items.{expression_layer}
 use Rattle.plan_report.proofs.CastLemmas.{CountsUpTo}
 use Rattle.plan_report.proofs.casts.+expression_casts.Given as goal
 
 abbrev pub decreases-expression_casts : goal.decreases-expression_casts
 decreases-expression_casts l = depth_at (shape_of (map expression_layer l.arena.now)) l.node.0
 
-abbrev pub invariant-loop-input : goal.invariant-loop-input
-invariant-loop-input l = CountsUpTo l.arena (numbers l.input-items) l.input-index l.initial.count l.count
+abbrev pub invariant-loop-index : goal.invariant-loop-index
+invariant-loop-index l = CountsUpTo l.arena l.inputs l.index l.initial.count l.count

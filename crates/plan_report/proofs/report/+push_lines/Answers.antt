@@ -1,4 +1,4 @@
-use Rattle.std.proofs.Common.{refl, ap, arith}
+use Rattle.std.proofs.Common.{ap, arith}
 use Rattle.plan_types.specs.Schemas.{columns}
 use Rattle.plan_arena.specs.Items.{plan_layer}
 use Rattle.plan_arena.proofs.ItemLemmas.{item_inputs, plan_within}

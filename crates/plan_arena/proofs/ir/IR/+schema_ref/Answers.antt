@@ -1,7 +1,8 @@
-use Rattle.std.proofs.Common.{refl, ap, ◌∙◌, arith}
+use Rattle.std.proofs.Common.{ap, ◌∙◌, arith}
 use Rattle.plan_types.specs.Schemas.{columns}
+use Rattle.plan_arena.specs.Layers.{inputs_of, op_of}
 use Rattle.plan_arena.specs.Items.{plan_layer}
-use Rattle.plan_arena.proofs.ItemLemmas.{plan_within, item_denotes, item_inputs, item_recorded, filter_item, only_input, only_input_less_deep}
+use Rattle.plan_arena.proofs.ItemLemmas.{layer_parts, records_unless_filter, plan_within, item_denotes, item_inputs, item_recorded, filter_item, only_input, only_input_less_deep}
 use Rattle.plan_arena.proofs.ir.IR.+schema_ref.Goals as goal
 
 pub get-requires : goal.get-requires
@@ -16,13 +17,12 @@ schema_ref-requires t c =
     let less = only_input_less_deep c.args.arena.now c.args.self.now _ c.in-Filter.input.0 is c.requires c.get.result.now c.get.ensures in
     (omega (arith, c.decreases, less), item_inputs c.requires.expressions c.args.arena.now c.in-Filter.input.0 c.get.result.now c.get.ensures input)
 
-pub returns-in-DataFrameScan-clause-rule : goal.returns-in-DataFrameScan-clause-rule
-returns-in-DataFrameScan-clause-rule t c expressions registry plan d accepted =
-    item_recorded expressions c.args.arena.now c.args.self.now _ _ (ap plan_layer c.in-DataFrameScan.is) registry (columns c.in-DataFrameScan.schema) refl plan d accepted
+pub recorded_schema-requires : goal.recorded_schema-requires
+recorded_schema-requires t c = records_unless_filter c.args.self.now c.in_default.not-Filter
 
-pub returns-in-Select-clause-rule : goal.returns-in-Select-clause-rule
-returns-in-Select-clause-rule t c expressions registry plan d accepted =
-    item_recorded expressions c.args.arena.now c.args.self.now _ _ (ap plan_layer c.in-Select.is) registry (columns c.in-Select.schema) refl plan d accepted
+pub returns-in_default-clause-rule : goal.returns-in_default-clause-rule
+returns-in_default-clause-rule t c expressions registry plan d accepted =
+    item_recorded expressions c.args.arena.now c.args.self.now (op_of (plan_layer c.args.self.now)) (inputs_of (plan_layer c.args.self.now)) (layer_parts (plan_layer c.args.self.now)) registry (columns c.recorded_schema.result.now) c.recorded_schema.ensures plan d accepted
 
 pub returns-in-Filter-clause-rule : goal.returns-in-Filter-clause-rule
 returns-in-Filter-clause-rule t c expressions registry plan d accepted =

@@ -9,7 +9,6 @@ use Rattle.plan_dsl.specs.PlanRules.{schema_of}
 use Rattle.plan_dsl.specs.Registry.{registry}
 use Rattle.plan_dsl.specs.Resolving.{resolved_op, resolved}
 use Rattle.plan_dsl.proofs.ResolvingLemmas.{filter_resolved, select_resolved}
-use Rattle.plan_arena.proofs.ItemLemmas.{grows_then}
 use Rattle.plan_lower.specs.Lowering.{columns_at}
 use Rattle.plan_lower.proofs.PlanLemmas.{scan_stands, scan_refused, filter_stands, filter_refused, select_stands, select_refused, refused_below}
 use Rattle.plan_lower.proofs.RecordedLemmas.{columns_of_recorded, columns_stay, records_stay}

@@ -1,12 +1,14 @@
-use Rattle.std.proofs.Common.{ap, sym}
-use Rattle.plan_arena.specs.Items.{plan_layer}
-use Rattle.plan_arena.specs.Layers.{op_of}
-use Rattle.plan_lower.proofs.RecordedLemmas.{records_within, recorded_got, columns_of_recorded, without_schema}
+use Rattle.std.proofs.Common.{◌∙◌, sym, subst, is_some, IsTrue}
+use Rattle.plan_lower.proofs.RecordedLemmas.{records_within, recorded_got, columns_of_recorded}
 use Rattle.plan_lower.proofs.conversion.dsl_to_ir.recorded_schema.Goals as goal
 
 pub get-requires : goal.get-requires
 get-requires c = records_within c.args.lp_arena.now c.args.node.0 c.requires
 
-pub returns-in-DataFrameScan : goal.returns-in-DataFrameScan
-returns-in-DataFrameScan c =
-    sym (columns_of_recorded c.args.lp_arena.now c.args.node.0 _ (recorded_got c.args.lp_arena.now c.args.node.0 c.get.result.now _ c.get.ensures (ap (λ item. (op_of (plan_layer item)).recorded) c.in-DataFrameScan.is)))
+pub recorded_schema-requires : goal.recorded_schema-requires
+recorded_schema-requires c =
+    subst (λ recorded. IsTrue (is_some recorded)) (recorded_got c.args.lp_arena.now c.args.node.0 c.get.result.now c.get.ensures) c.requires
+
+pub returns : goal.returns
+returns c =
+    sym (columns_of_recorded c.args.lp_arena.now c.args.node.0 _ (recorded_got c.args.lp_arena.now c.args.node.0 c.get.result.now c.get.ensures ∙ c.recorded_schema.ensures))

@@ -1,13 +1,12 @@
-use Rattle.std.proofs.Common.{◌≡◌, [], ◌∷◌, codes, true, None, Some, refl, subst}
+use Rattle.std.proofs.Common.{[], ◌∷◌, codes, true, None, refl}
 use Rattle.plan_types.specs.Types.{Truth}
 use Rattle.plan_types.specs.Schemas.{Name, Columns}
 use Rattle.plan_dsl.specs.Trees.{node, no_more}
 use Rattle.plan_dsl.specs.Ops.{ColumnOp, Expression}
-use Rattle.plan_dsl.specs.Plans.{scan_op, select_op, filter_op}
+use Rattle.plan_dsl.specs.Plans.{scan_op}
 use Rattle.plan_lower.specs.Outputs.{Lowered, IsLowered}
-use Rattle.plan_infer.specs.Samples.{a_items}
-use Rattle.plan_lower.specs.Samples.{keep_items, node_named, scan_of}
-use Rattle.plan_lower.proofs.ExamplePlanLemmas.{one_plan, item_at, scan_denotes, built}
+use Rattle.plan_lower.specs.Samples.{node_named}
+use Rattle.plan_lower.proofs.ExamplePlanLemmas.{item_at, scan_denotes, built}
 use Rattle.plan_lower.proofs.examples.plans.nodes_that_stand_for_plans.Goals as goal
 
 pub returns-clause-built : goal.returns-clause-built

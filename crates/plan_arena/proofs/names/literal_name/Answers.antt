@@ -1,7 +1,7 @@
 use Rattle.std.proofs.Common.{ap}
 use Rattle.std.specs.Str.{chars}
 use Rattle.plan_dsl.specs.Names.{literal_label}
-use Rattle.plan_lower.proofs.conversion.expr_to_ir.literal_name.Goals as goal
+use Rattle.plan_arena.proofs.names.literal_name.Goals as goal
 
 pub returns-clause-ok : goal.returns-clause-ok
 unfolding chars

@@ -1,9 +1,9 @@
 use Rattle.std.proofs.Common.{sym, ap, ◌∙◌}
 use Rattle.std.specs.Str.{chars}
-use Rattle.plan_dsl.specs.Names.{column_label, literal_label, op_label}
+use Rattle.plan_dsl.specs.Names.{literal_label, op_label}
 use Rattle.plan_arena.specs.Layers.{op_of}
 use Rattle.plan_arena.specs.Items.{expression_layer}
-use Rattle.plan_lower.proofs.conversion.expr_to_ir.own_name.Goals as goal
+use Rattle.plan_arena.proofs.aexpr.AExpr.own_name.Goals as goal
 
 pub returns-in_ok-name-in-Len-clause-ok : goal.returns-in_ok-name-in-Len-clause-ok
 unfolding chars

@@ -1,15 +1,12 @@
 -- Names of nodes, with what they come from.
-use Rattle.std.proofs.Common.{◌≡◌, ℕ, ◌<◌, List, [], ◌∷◌, map, Option, Some, None, slice_get, codes, refl, sym, ap, ◌∙◌, subst}
-use Rattle.std.specs.Option.{option_map}
-use Rattle.std.proofs.lemmas.Option.{slice_get-map}
+use Rattle.std.proofs.Common.{◌≡◌, ℕ, ◌<◌, List, [], ◌∷◌, map, Some, None, slice_get, codes, refl, sym, ap, ◌∙◌, subst}
 use Rattle.plan_dsl.specs.Trees.{Trees, node, no_more, more, fold_all}
-use Rattle.plan_dsl.specs.Names.{Label, first_label, label_of, literal_label, op_label}
+use Rattle.plan_dsl.specs.Names.{Label, column_label, first_label, label_of, literal_label, op_label}
 use Rattle.plan_dsl.specs.Ops.{Op, Expression}
 use Rattle.plan_arena.specs.declared.aexpr.AExpr.{AExpr}
-use Rattle.plan_arena.specs.declared.arena.Node.{Node}
 use Rattle.plan_arena.specs.Denotation.{Denotes, DenoteAll, DenotesTree, depth_at}
 use Rattle.plan_arena.specs.Layers.{layer, op_of, inputs_of, shape_of}
-use Rattle.plan_arena.specs.Items.{expression_layer, numbers, HoldsExpression}
+use Rattle.plan_arena.specs.Items.{expression_layer, HoldsExpression}
 use Rattle.plan_arena.proofs.DenotationLemmas.{some_same}
 use Rattle.plan_arena.proofs.ItemLemmas.{expression_got, expression_inputs}
 
@@ -21,10 +18,13 @@ none_there : (inputs : List ℕ) → slice_get inputs 0 ≡ None → inputs ≡ 
 none_there [] there = refl
 none_there (n ∷ ns) there = cc
 
--- the first of the nodes, as a number
-pub first_number : (nodes : List Node) (inputs : List ℕ) (first : Option Node) → numbers nodes ≡ inputs → first ≡ slice_get nodes 0 → slice_get inputs 0 ≡ option_map (λ (n : Node). n.0) first
-first_number nodes inputs first are is =
-    ap (λ ns. slice_get ns 0) (sym are) ∙ slice_get-map (λ (n : Node). n.0) nodes 0 ∙ ap (option_map (λ (n : Node). n.0)) (sym is)
+two_labels : (label : Label) → column_label [] ≡ label → column_label (0 ∷ []) ≡ label → ⊥
+two_labels label e f = let none : List ℕ = [] in let g : none ≡ 0 ∷ [] = ap (λ (l : Label). l.name) (e ∙ sym f) in cc
+
+-- one that has a name of its own doesn't have that of its first input
+pub not_by_first : (name : List Label → Label) (label : Label) → ((labels : List Label) → name labels ≡ label) → ((labels : List Label) → name labels ≡ first_label labels) → ⊥
+not_by_first name label own first =
+    two_labels label (sym (first (column_label [] ∷ [])) ∙ own (column_label [] ∷ [])) (sym (first (column_label (0 ∷ []) ∷ [])) ∙ own (column_label (0 ∷ []) ∷ []))
 
 module _ (items : List AExpr) (n : ℕ) (item : AExpr) (got : slice_get items n ≡ Some item) where
   held : (op : Op) (inputs : List ℕ) → HoldsExpression items n op inputs → expression_layer item ≡ layer op inputs

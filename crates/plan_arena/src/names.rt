@@ -1,0 +1,98 @@
+//! Names of nodes.
+ghost use Rattle.std.specs.Prelude.{◌≡◌, List, codes, IfOk, IfErr};
+ghost use Rattle.std.specs.Option.{option_map_or};
+ghost use Rattle.plan_types.specs.Errors.{no_memory};
+ghost use Rattle.plan_dsl.specs.Names.{Label, first_label, label_of, literal_label, op_label};
+ghost use Rattle.plan_dsl.specs.Ops.{Expression};
+ghost use Rattle.plan_arena.specs.Denotation.{Denotes, DenotesTree};
+ghost use Rattle.plan_arena.specs.Items.{expression_layer, named_node, output_label, HoldsExpression};
+ghost use Rattle.plan_arena.specs.Layers.{op_of};
+
+use crate::aexpr::AExpr;
+use crate::arena::{Arena, Node};
+use crate::expr_ir::{ExprIR, OutputName};
+use plan_types::error::PlanError;
+use plan_types::text::PlSmallStr;
+use std::alloc::Global;
+
+impl AExpr {
+    /// The name that a node has whatever its inputs are. Any other has that of its first input.
+    pub fn own_name(&self, alloc: Global) -> Result<Option<OutputName>, PlanError>
+        ensures ok { IfOk result (λ name. (labels : List Label) →
+            op_label (op_of (expression_layer self.now)) labels ≡ option_map_or output_label name (first_label labels)) }
+        ensures err { IfErr result (λ error. error ≡ no_memory) }
+    {
+        match self {
+            AExpr::Column(name) => {
+                let name = name.try_clone(alloc)?;
+                Ok(Some(OutputName::ColumnLhs(name)))
+            }
+            AExpr::Literal(_) => {
+                let name = literal_name(alloc)?;
+                Ok(Some(name))
+            }
+            AExpr::Len => {
+                let name = PlSmallStr::new(alloc, "len")?;
+                Ok(Some(OutputName::LiteralLhs(name)))
+            }
+            _ => Ok(None),
+        }
+    }
+
+    /// The name of a node that has one of its own.
+    pub fn given_name(&self, alloc: Global) -> Result<OutputName, PlanError>
+        requires { (label : Label) × ((labels : List Label) → op_label (op_of (expression_layer self.now)) labels ≡ label) }
+        ensures ok { IfOk result (λ name. (labels : List Label) → op_label (op_of (expression_layer self.now)) labels ≡ output_label name) }
+        ensures err { IfErr result (λ error. error ≡ no_memory) }
+    {
+        match self.own_name(alloc)? {
+            Some(name) => Ok(name),
+            None => unreachable!(),
+        }
+    }
+}
+
+impl ExprIR {
+    /// The expression at the node, under the name of its leftmost column, literal or count of rows.
+    pub fn from_node(alloc: Global, node: Node, arena: &Arena<AExpr>) -> Result<ExprIR, PlanError>
+        requires { DenotesTree (HoldsExpression arena.now) node.0 }
+        ensures node { IfOk result (λ expr_ir. (named_node expr_ir).expression ≡ node.0) }
+        ensures name { IfOk result (λ expr_ir. (tree : Expression) → Denotes (HoldsExpression arena.now) node.0 tree →
+            (named_node expr_ir).label ≡ label_of tree) }
+        ensures err { IfErr result (λ error. error ≡ no_memory) }
+    {
+        let name = output_name(alloc, node, arena)?;
+        Ok(ExprIR::new(node, name))
+    }
+}
+
+// The name of the expression at the node.
+fn output_name(alloc: Global, node: Node, arena: &Arena<AExpr>) -> Result<OutputName, PlanError>
+    requires { DenotesTree (HoldsExpression arena.now) node.0 }
+    ensures ok { IfOk result (λ name. (tree : Expression) → Denotes (HoldsExpression arena.now) node.0 tree → output_label name ≡ label_of tree) }
+    ensures err { IfErr result (λ error. error ≡ no_memory) }
+{
+    let item = arena.get(node);
+    if let Some(name) = item.own_name(alloc)? {
+        return Ok(name);
+    }
+    match item.input_nodes().first() {
+        Some(first) => {
+            let name = output_name(alloc, first, arena)?;
+            Ok(name)
+        }
+        None => {
+            let name = literal_name(alloc)?;
+            Ok(name)
+        }
+    }
+}
+
+// The name of a literal's column.
+fn literal_name(alloc: Global) -> Result<OutputName, PlanError>
+    ensures ok { IfOk result (λ name. output_label name ≡ literal_label (codes "literal")) }
+    ensures err { IfErr result (λ error. error ≡ no_memory) }
+{
+    let name = PlSmallStr::new(alloc, "literal")?;
+    Ok(OutputName::LiteralLhs(name))
+}
