@@ -2,7 +2,7 @@
 use Rattle.std.proofs.Common.{◌≡◌, ℕ, List, [], ◌∷◌, ◌++◌, map, position, Bool, true, false, ◌||◌, cond, Option, Some, None, is_some, refl, sym, ap, ◌∙◌, Vec, Global, ◌<◌, length, get_or, take, option_and_then, not, option_map, arith, suc, ◌≤◌, ◌==◌, ◌&&◌, codes, nat_lt}
 use Rattle.std.specs.Map.{lookup}
 use Rattle.std.specs.Option.{option_map, option_map_or}
-use Rattle.std.proofs.lemmas.Bool.{or_parts, ltb-true, lt-ltb}
+use Rattle.std.proofs.lemmas.Bool.{false_from_ne_true, or_parts, ltb-true, lt-ltb}
 use Rattle.indexmap.specs.IndexMap.{insert_entry}
 use Rattle.indexmap.proofs.MapLemmas.{some_index}
 use Rattle.plan_types.specs.Schemas.{Name, columns, same_name, names_of, is_among, Columns, type_at, with_column, repeats}
@@ -25,7 +25,7 @@ use Rattle.serde_json.specs.declared.value.Value.{Value}
 use Rattle.plan_json.specs.Faults.{FaultKind, column_list, own_fault, shape_fault, unless, table_list, a_table, number, part, part_of, table_item, declared_names}
 use Rattle.plan_json.specs.Forms.{row_named, type_rows}
 use Rattle.plan_json.specs.declared.forms.TypeKey.{TypeKey}
-use Rattle.plan_json.proofs.ItemLemmas.{some_of-names, names_split, item_at, first_items-take, both_are, chained, opened}
+use Rattle.plan_json.proofs.ItemLemmas.{some_of-names, names_split, item_at, first_items-take, both_are, chained, opened, kept}
 use Rattle.serde_json.specs.Events.{items_len, members_len}
 use Rattle.serde_json.proofs.Views.{items_len-items_view}
 
@@ -85,12 +85,9 @@ each_column-all_of no_items = refl
 each_column-all_of (item d ds) = ap (λ o. option_map (λ p. p.0 ∷ p.1) (both (column_of d) o)) (each_column-all_of ds)
 
 -- all fields are read
-pub struct_all : (d : Data) (vs : List Value) (n : ℕ) (made : Vec Field Global) → Some (items_view vs) ≡ as_array d → length vs ≡ n → all_of column_of (items_view (take n vs)) ≡ Some (map field_of made.items) → struct_of d ≡ Some (row_of (roll-Fields (record { items = made })))
-struct_all d vs n made is all read =
-    ap struct_of (array-from_as_array d _ is)
-    ∙ ap (λ l. option_map fields_from (each_column (items_view l))) (sym (take_all n vs (omega arith)))
-    ∙ ap (option_map fields_from) (each_column-all_of (items_view (take n vs)) ∙ read)
-    ∙ ap Some (sym (rolled_fields made))
+pub struct_all : (d : Data) (ds : Items) (made : Vec Field Global) → Some ds ≡ as_array d → all_of column_of ds ≡ Some (map field_of made.items) → struct_of d ≡ Some (row_of (roll-Fields (record { items = made })))
+struct_all d ds made is read =
+    ap struct_of (array-from_as_array d ds is) ∙ ap (option_map fields_from) (each_column-all_of ds ∙ read) ∙ ap Some (sym (rolled_fields made))
 
 -- a column that is read gives itself the name that is read
 pub column_name-read : (d : Data) (c : Name × Ty) → column_of d ≡ Some c → column_name d ≡ Some c.0
@@ -98,13 +95,10 @@ column_name-read (array (item name (item type no_items))) c e = (both_are (text_
 column_name-read _ c e = cc
 
 -- all columns are read, and no name repeats
-pub columns_all : (d : Data) (vs : List Value) (n : ℕ) (cs : Columns) → Some (items_view vs) ≡ as_array d → length vs ≡ n → all_of column_of (items_view (take n vs)) ≡ Some cs → repeats (names_of cs) ≡ false → columns_of d ≡ Some cs
-columns_all d vs n cs is all read distinct =
-    let here = ap (λ l. all_of column_of (items_view l)) (sym (take_all n vs (omega arith))) ∙ read in
-    let names = some_of-names column_of column_name column_name-read (items_view vs) cs here in
+pub columns_all : (d : Data) (ds : Items) (cs : Columns) → Some ds ≡ as_array d → all_of column_of ds ≡ Some cs → repeats (names_of cs) ≡ false → columns_of d ≡ Some cs
+columns_all d ds cs is read distinct =
     ap (option_and_then columns_from) (sym is)
-    ∙ ap (λ b. cond b None (each_column (items_view vs))) (ap repeats names ∙ distinct)
-    ∙ each_column-all_of (items_view vs) ∙ here
+    ∙ ap (λ b. cond b None (each_column ds)) (ap repeats (some_of-names column_of column_name column_name-read ds cs read) ∙ distinct) ∙ each_column-all_of ds ∙ read
 
 -- a name that earlier columns have repeats among all
 pub column_repeated : (d : Data) (vs : List Value) (i : ℕ) (v : Value) (cs : Columns) (c : Name × Ty) → Some (items_view vs) ≡ as_array d → i < length vs → v ≡ get_or vs i v → all_of column_of (items_view (take i vs)) ≡ Some cs → column_of (view v) ≡ Some c → is_some (type_at cs c.0) ≡ true → own_fault column_list d ≡ Some (shape_fault d)
@@ -112,26 +106,11 @@ column_repeated d vs i v cs c found within is read now there =
     let split = names_split column_name (items_view vs) i (view v) c.0 (item_at vs i v within is) (column_name-read (view v) c now) in
     let before = ap (some_of column_name) (first_items-take vs i) ∙ some_of-names column_of column_name column_name-read (items_view (take i vs)) cs read in
     let again = ap repeats (split.1 ∙ ap (λ l. l ++ c.0 ∷ split.0) before) ∙ repeats-again (names_of cs) c.0 _ (is_among-type_at cs c.0 ∙ there) in
-    ap (list_fault_of (λ items. not (repeats (some_of column_name items)))) (sym found) ∙ ap (λ b. unless (shape_fault d) (not b)) again
-  where
-    list_fault_of : (Items → Bool) → Option Items → Option FaultKind
-    list_fault_of test o = unless (shape_fault d) (option_map_or test o false)
-
--- one more column is read
-pub columns_more : (cs : Columns) (name : Name) (type : Ty) → is_some (type_at cs name) ≡ false → repeats (names_of cs) ≡ false → (with_column cs name type ≡ cs ++ (name, type) ∷ []) × (repeats (names_of (cs ++ (name, type) ∷ [])) ≡ false)
-columns_more cs name type new distinct =
-    let apart = is_among-type_at cs name ∙ new in (
-      with_column-new cs name type (IsNewName-test cs name apart),
-      ap repeats (map-append (λ (c : Name × Ty). c.0) cs ((name, type) ∷ [])) ∙ repeats-push (names_of cs) name distinct apart,
-    )
+    ap (λ o. unless (shape_fault d) (option_map_or (λ items. not (repeats (some_of column_name items))) o false)) (sym found) ∙ ap (λ b. unless (shape_fault d) (not b)) again
 
 -- the first of two members is found at its key
 get-two_members : (first second : List ℕ) (d : Data) (p : Data × Data) → two_members first second d ≡ Some p → get first d ≡ Some p.0
-get-two_members first second (object ms) p e = go (members_len ms == 2) e
-  where
-    go : (b : Bool) → cond b (both (get_member first ms) (get_member second ms)) None ≡ Some p → get_member first ms ≡ Some p.0
-    go true h = (both_are _ _ p h).0
-    go false h = cc
+get-two_members first second (object ms) p e = (both_are _ _ p (kept (members_len ms == 2) _ p e).1).0
 get-two_members first second _ p e = cc
 
 -- a table that is read gives itself the name that is read
@@ -143,55 +122,25 @@ table_name-read d t e =
 pub table_names-read : (ds : Items) (ts : Declared) → all_of table_of ds ≡ Some ts → some_of table_name ds ≡ names_of ts
 table_names-read ds ts read = some_of-names table_of table_name table_name-read ds ts read
 
--- one table for each item
-length-all_of : {A : Type 0} (read : Data → Option A) (vs : List Value) (xs : List A) → all_of read (items_view vs) ≡ Some xs → length xs ≡ length vs
-length-all_of read [] xs e = let none : [] ≡ xs = cc in ap length (sym none)
-length-all_of read (v ∷ vs) xs e =
-    let parts = opened (read (view v)) (all_of read (items_view vs)) xs e in ap length (sym parts.4) ∙ ap suc (length-all_of read vs parts.1 parts.3)
-
-pub length-tables : (vs : List Value) (i : ℕ) (ts : Declared) → i < length vs → all_of table_of (items_view (take i vs)) ≡ Some ts → length ts ≡ i
-length-tables vs i ts within read = length-all_of table_of (take i vs) ts read ∙ length-take-le i vs (omega arith)
-
--- ---- too many, all, and one more
-
 few : (vs : List Value) (b : Bool) → nat_lt (length vs) table_limit ≡ b → nat_lt (items_len (items_view vs)) table_limit ≡ b
 few vs b e = ap (λ n. nat_lt n table_limit) (items_len-items_view vs) ∙ e
 
-not_less : (a b : ℕ) → b ≤ a → nat_lt a b ≡ false
-not_less a b h = go (nat_lt a b) refl
-  where
-    go : (t : Bool) → nat_lt a b ≡ t → t ≡ false
-    go true e = absurd (omega (arith, ltb-true a b e))
-    go false e = refl
-
 pub tables_too_many : (d : Data) (vs : List Value) → Some (items_view vs) ≡ as_array d → table_limit ≤ length vs → own_fault table_list d ≡ Some (shape_fault d)
-tables_too_many d vs is many = ap (λ o. unless (shape_fault d) (option_map_or (λ items. nat_lt (items_len items) table_limit) o false)) (sym is) ∙ ap (unless (shape_fault d)) (few vs false (not_less (length vs) table_limit many))
+tables_too_many d vs is many =
+    ap (λ o. unless (shape_fault d) (option_map_or (λ items. nat_lt (items_len items) table_limit) o false)) (sym is)
+    ∙ ap (unless (shape_fault d)) (few vs false (false_from_ne_true _ (λ less. omega (arith, ltb-true (length vs) table_limit less))))
 
-pub tables_all : (d : Data) (vs : List Value) (n : ℕ) (ts : Declared) → Some (items_view vs) ≡ as_array d → length vs < table_limit → length vs ≡ n → all_of table_of (items_view (take n vs)) ≡ Some ts → repeats (names_of ts) ≡ false → tables_of d ≡ Some ts
-tables_all d vs n ts is some all read distinct =
-    let whole = take_all n vs (omega arith) in
-    let here = ap (λ l. all_of table_of (items_view l)) (sym whole) ∙ read in
-    let names = table_names-read (items_view vs) ts here in
+pub tables_all : (d : Data) (vs : List Value) (ts : Declared) → Some (items_view vs) ≡ as_array d → length vs < table_limit → all_of table_of (items_view vs) ≡ Some ts → repeats (names_of ts) ≡ false → tables_of d ≡ Some ts
+tables_all d vs ts is some read distinct =
     ap (option_and_then tables_from) (sym is)
     ∙ ap (λ b. cond (b && not (repeats (some_of table_name (items_view vs)))) (all_of table_of (items_view vs)) None) (few vs true (lt-ltb (length vs) table_limit some))
-    ∙ ap (λ b. cond (not b) (all_of table_of (items_view vs)) None) (ap repeats names ∙ distinct)
-    ∙ here
-
-pub tables_more : (ts : Declared) (name : Name) (cs : Columns) → is_among name (names_of ts) ≡ false → repeats (names_of ts) ≡ false → repeats (names_of (ts ++ (name, cs) ∷ [])) ≡ false
-tables_more ts name cs new distinct =
-    ap repeats (map-append (λ (t : Name × Columns). t.0) ts ((name, cs) ∷ [])) ∙ repeats-push (names_of ts) name distinct new
+    ∙ ap (λ b. cond (not b) (all_of table_of (items_view vs)) None) (ap repeats (table_names-read (items_view vs) ts read) ∙ distinct) ∙ read
 
 -- tables that are read have the names that they give themselves
 pub declared_names-read : (d : Data) (ts : Declared) → tables_of d ≡ Some ts → declared_names d ≡ names_of ts
-declared_names-read d ts e = go (as_array d) e
-  where
-    tested : (items : Items) (b : Bool) → cond b (all_of table_of items) None ≡ Some ts → some_of table_name items ≡ names_of ts
-    tested items true h = table_names-read items ts h
-    tested items false h = cc
-
-    go : (o : Option Items) → option_and_then tables_from o ≡ Some ts → option_map_or (some_of table_name) o [] ≡ names_of ts
-    go None h = cc
-    go (Some items) h = tested items (nat_lt (items_len items) table_limit && not (repeats (some_of table_name items))) h
+declared_names-read d ts e =
+    let items = chained tables_from (as_array d) ts e in
+    ap (λ o. option_map_or (some_of table_name) o []) items.1 ∙ table_names-read items.0 ts (kept _ _ ts items.2).1
 
 -- the next table, behind those that were read
 pub table_next : (d : Data) (vs : List Value) (i : ℕ) (v : Value) (ts : Declared) → Some (items_view vs) ≡ as_array d → i < length vs → v ≡ get_or vs i v → all_of table_of (items_view (take i vs)) ≡ Some ts → part_of table_list (number i) d ≡ Some (part (a_table (names_of ts)) (view v))

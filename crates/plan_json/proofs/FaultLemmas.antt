@@ -1,5 +1,5 @@
 -- An error of a part is an error of the value that has the part.
-use Rattle.std.proofs.Common.{◌≡◌, ℕ, List, [], ◌∷◌, ◌++◌, ◌<◌, Option, Some, None, option_map, option_and_then, is_some, length, get_or, Bool, false, refl, sym, ap, ◌∙◌, bytes_eq, cond}
+use Rattle.std.proofs.Common.{◌≡◌, ℕ, List, [], ◌∷◌, ◌++◌, ◌<◌, Option, Some, None, option_map, option_and_then, is_some, length, get_or, Bool, false, sym, ap, ◌∙◌, cond}
 use Rattle.std.specs.Option.{option_map_or}
 use Rattle.std.proofs.lemmas.Slice.Eq.{bytes_eq-Decides}
 use Rattle.serde_json.specs.Data.{Data}
@@ -8,7 +8,7 @@ use Rattle.serde_json.specs.View.{view, items_view}
 use Rattle.serde_json.specs.declared.value.Value.{Value}
 use Rattle.plan_types.specs.Schemas.{Name as Name'}
 use Rattle.plan_json.specs.Errors.{IsErrorOf, IsBadAtPointer, IsBelow, IsOwn, step_text}
-use Rattle.plan_json.specs.Faults.{FaultKind, BadShape, BadFloat, BadName, Form, Step, key, number, a_text, Part, part, part_if, own_fault, part_of, shape_fault, unless, name_fault, keyed_part, fault_at}
+use Rattle.plan_json.specs.Faults.{FaultKind, BadShape, BadFloat, BadName, Form, Step, a_text, Part, part, part_if, own_fault, part_of, shape_fault, unless, name_fault, keyed_part, fault_at}
 use Rattle.plan_json.specs.Leaves.{text_of}
 use Rattle.plan_json.specs.Looking.{only_member}
 use Rattle.plan_json.specs.declared.error.JsonError.{JsonError}
@@ -16,18 +16,18 @@ use Rattle.plan_json.specs.declared.error.JsonError.TheVariants.{NotJson, Shape,
 use Rattle.plan_json.proofs.ItemLemmas.{item_at}
 use Rattle.plan_json.proofs.LookingLemmas.{array-from_as_array}
 
-further : (form : Form) (d : Data) (step : Step) (below : Part) (kind : FaultKind) (path longer : List ℕ) → part_of form step d ≡ Some below → IsBadAtPointer below.form below.value kind path → longer ≡ step_text step ++ path → IsBadAtPointer form d kind longer
-further form d step below kind path longer here (steps, is, bad) told =
+further : (form inner : Form) (d value : Data) (step : Step) (kind : FaultKind) (path longer : List ℕ) → part_of form step d ≡ Some (part inner value) → IsBadAtPointer inner value kind path → longer ≡ step_text step ++ path → IsBadAtPointer form d kind longer
+further form inner d value step kind path longer here (steps, is, bad) told =
     (step ∷ steps, told ∙ ap (λ text. step_text step ++ text) is, ap (option_and_then (λ b. fault_at b.form b.value steps)) here ∙ bad)
 
 -- an error of a part, told with the step to it
-pub error_below : (form : Form) (d : Data) (step : Step) (below : Part) (inner error : JsonError) → part_of form step d ≡ Some below → IsErrorOf below.form below.value inner → IsBelow step inner error → IsErrorOf form d error
-error_below form d step below NotJson error here bad told = absurd bad
-error_below form d step below (Shape path) (Shape longer) here bad told = further form d step below BadShape _ _ here bad told
-error_below form d step below (Float path) (Float longer) here bad told = further form d step below BadFloat _ _ here bad told
-error_below form d step below (Name path) (Name longer) here bad told = further form d step below BadName _ _ here bad told
-error_below form d step below inner NoMemory here bad told = tt
-error_below form d step below inner error here bad told = absurd told
+pub error_below : (form inner : Form) (d value : Data) (step : Step) (below above : JsonError) → part_of form step d ≡ Some (part inner value) → IsErrorOf inner value below → IsBelow step below above → IsErrorOf form d above
+error_below form inner d value step NotJson above here bad told = absurd bad
+error_below form inner d value step (Shape path) (Shape longer) here bad told = further form inner d value step BadShape _ _ here bad told
+error_below form inner d value step (Float path) (Float longer) here bad told = further form inner d value step BadFloat _ _ here bad told
+error_below form inner d value step (Name path) (Name longer) here bad told = further form inner d value step BadName _ _ here bad told
+error_below form inner d value step below NoMemory here bad told = tt
+error_below form inner d value step below above here bad told = absurd told
 
 -- an error of the value itself
 pub IsErrorOf-own : (form : Form) (d : Data) (kind : FaultKind) (error : JsonError) → IsOwn kind error → own_fault form d ≡ Some kind → IsErrorOf form d error

@@ -1,31 +1,24 @@
 -- What is read by the table of forms.
-use Rattle.std.proofs.Common.{◌≡◌, ℕ, zero, suc, ◌+◌, ◌<◌, List, [], ◌∷◌, ◌++◌, length, get_or, slice_get, take, map, Bool, true, false, cond, ◌&&◌, Option, Some, None, is_some, option_map, option_and_then, bytes_eq, refl, sym, ap, subst, ◌∙◌, arith, ne_eqb}
+use Rattle.std.proofs.Common.{◌≡◌, ℕ, suc, ◌+◌, ◌<◌, List, [], ◌∷◌, ◌++◌, length, get_or, take, map, Bool, true, false, cond, ◌&&◌, Some, None, is_some, option_map, option_and_then, bytes_eq, refl, sym, ap, subst, ◌∙◌, arith, ne_eqb}
 use Rattle.serde_json.specs.Find.{as_null, as_array}
 use Rattle.std.proofs.lemmas.Slice.Eq.{bytes_eq-Decides}
 use Rattle.plan_dsl.specs.Ops.{Expression}
-use Rattle.serde_json.specs.Data.{Data, null, Items, array, object, no_items, item, member, no_members}
+use Rattle.serde_json.specs.Data.{Data, null, Items, array, no_items, item}
 use Rattle.serde_json.specs.View.{view, items_view}
 use Rattle.serde_json.specs.declared.value.Value.{Value}
 use Rattle.plan_json.specs.Errors.{escaped}
-use Rattle.plan_json.specs.Forms.{Asked, a_form, leaf, many, Places, single, listed, Read, name_read, literal_read, operator_read, type_read, mode_read, table_read, columns_read, expression_read, plan_read, many_read, reads_of, expressions_in, expression_rows, plan_rows, row_named, key_named, asks, says, expression_says, plan_says, fits, all_fit, asked_in, each_fits, Fits, AllFit, nothing_read}
-use Rattle.plan_json.specs.Leaves.{text_of, literal_of, number_text_of, typed_of, operator_of, type_of, mode_of, table_at, columns_of}
+use Rattle.plan_json.specs.Forms.{Asked, a_form, many, Places, Read, expression_read, many_read, reads_of, expressions_in, row_named, key_named, asks, says, expression, all_fit, nothing_read}
 use Rattle.plan_json.specs.Looking.{only_member, all_of, two_items, three_items}
-use Rattle.plan_json.specs.Queries.{nothing_of, leaf_of, front, read_as, each_as, these_as, list_as, places_as}
+use Rattle.plan_json.specs.Queries.{nothing_of, front, read_as, each_as, list_as, places_as}
 use Rattle.plan_json.specs.Tables.{Declared}
 use Rattle.plan_json.specs.declared.forms.Kind.{Kind}
-use Rattle.plan_json.specs.declared.forms.Kind.TheVariants as kinds
 use Rattle.plan_json.specs.declared.forms.Key.{Key}
-use Rattle.plan_json.specs.declared.forms.Key.TheVariants as keys
-use Rattle.plan_json.specs.declared.forms.ExpressionKey.{ExpressionKey}
-use Rattle.plan_json.specs.declared.forms.PlanKey.{PlanKey}
-use Rattle.plan_json.specs.declared.forms.Leaf.{Leaf}
-use Rattle.plan_json.specs.declared.forms.Leaf.TheVariants as leaves
 use Rattle.plan_json.proofs.LookingLemmas.{object-from_only_member, array-from_as_array, array-from_two_items, array-from_three_items}
-use Rattle.plan_json.proofs.ItemLemmas.{mapped, chained, opened, all_of-more}
+use Rattle.plan_json.proofs.ItemLemmas.{all_of-more}
 use Rattle.std.proofs.lemmas.List.{take_all}
 use Rattle.plan_types.specs.Schemas.{Name}
 use Rattle.serde_json.specs.Events.{items_len}
-use Rattle.plan_json.specs.Faults.{part, key, number, keyed_form, items_of, asked_form, places_form, key_form, own_fault, shape_fault, part_of, unless, BadShape}
+use Rattle.plan_json.specs.Faults.{part, key, keyed_form, items_of, places_form, key_form, own_fault, shape_fault, part_of, unless, BadShape}
 use Rattle.plan_json.proofs.FaultLemmas.{key_in}
 
 -- ---- keys need no escape in a pointer
@@ -47,87 +40,10 @@ named_plain {K} (first ∷ rows) word row plain is =
         subst (λ (x : List ℕ × K). escaped x.0 ≡ x.0) is_first (same refl)
     go true same false later p e = later p e
 
--- ---- what is read of an item fits what is asked
-
-leaf_fits : (tables : Declared) (which : Leaf) (d : Data) (r : Read) → leaf_of tables which d ≡ Some r → fits (leaf which) r ≡ true
-leaf_fits tables leaves.Name d r e = let x = mapped name_read (text_of d) r e in ap (fits (leaf leaves.Name)) (sym x.2)
-leaf_fits tables leaves.Value d r e = let x = mapped literal_read (literal_of d) r e in ap (fits (leaf leaves.Value)) (sym x.2)
-leaf_fits tables leaves.Digits d r e = let x = mapped literal_read (number_text_of d) r e in ap (fits (leaf leaves.Digits)) (sym x.2)
-leaf_fits tables leaves.Typed d r e = let x = mapped literal_read (typed_of d) r e in ap (fits (leaf leaves.Typed)) (sym x.2)
-leaf_fits tables leaves.Operator d r e = let x = mapped operator_read (operator_of d) r e in ap (fits (leaf leaves.Operator)) (sym x.2)
-leaf_fits tables leaves.Dtype d r e = let x = mapped type_read (type_of d) r e in ap (fits (leaf leaves.Dtype)) (sym x.2)
-leaf_fits tables leaves.Mode d r e = let x = mapped mode_read (mode_of d) r e in ap (fits (leaf leaves.Mode)) (sym x.2)
-leaf_fits tables leaves.Table d r e = let x = mapped (λ table. table_read table.0 table.1) (option_and_then (table_at tables) (text_of d)) r e in ap (fits (leaf leaves.Table)) (sym x.2)
-leaf_fits tables leaves.Columns d r e = let x = mapped columns_read (columns_of d) r e in ap (fits (leaf leaves.Columns)) (sym x.2)
-leaf_fits tables leaves.Nothing d r e = let x = mapped (λ none. nothing_read) (as_null d) r e in ap (fits (leaf leaves.Nothing)) (sym x.2)
-
--- what a key of a kind says is of that kind
-says_fits : (kind : Kind) (word : List ℕ) (row : List ℕ × Key) (args : List Read) (r : Read) → key_named kind word ≡ Some row → says row.1 args ≡ Some r → fits (a_form kind) r ≡ true
-says_fits kinds.Expression word row args r named said =
-    let found = mapped (λ (x : List ℕ × ExpressionKey). (x.0, keys.Expression x.1)) (row_named expression_rows word) row named in
-    let tree = mapped expression_read (expression_says found.0.1 args) r (ap (λ (x : List ℕ × Key). says x.1 args) found.2 ∙ said) in
-    ap (fits (a_form kinds.Expression)) (sym tree.2)
-says_fits kinds.Plan word row args r named said =
-    let found = mapped (λ (x : List ℕ × PlanKey). (x.0, keys.Plan x.1)) (row_named plan_rows word) row named in
-    let tree = mapped plan_read (plan_says found.0.1 args) r (ap (λ (x : List ℕ × Key). says x.1 args) found.2 ∙ said) in
-    ap (fits (a_form kinds.Plan)) (sym tree.2)
-
-and_both : (a b : Bool) → a ≡ true → b ≡ true → (a && b) ≡ true
-and_both a b first second = cc
-
-mutual
-  read_fits : (tables : Declared) (a : Asked) (d : Data) (r : Read) → read_as tables a d ≡ Some r → fits a r ≡ true
-  read_fits tables (a_form kind) (object (member word value no_members)) r e =
-      let row = chained (λ row. option_and_then (says row.1) (places_as tables (asks row.1) value)) (key_named kind word) r e in
-      let args = chained (says row.0.1) (places_as tables (asks row.0.1) value) r row.2 in
-      says_fits kind word row.0 args.0 r row.1 args.2
-  read_fits tables (leaf which) d r e = leaf_fits tables which d r e
-  read_fits tables (many a) (array ds) r e =
-      let rs = mapped (λ xs. many_read (reads_of xs)) (each_as tables a ds) r e in
-      subst (λ x. fits (many a) x ≡ true) rs.2 (each_read_fits tables a ds rs.0 rs.1)
-  read_fits tables _ _ r e = cc
-
-  each_read_fits : (tables : Declared) (a : Asked) (ds : Items) (rs : List Read) → each_as tables a ds ≡ Some rs → all_fit a (reads_of rs) ≡ true
-  each_read_fits tables a no_items rs e = let none : [] ≡ rs = cc in ap (λ l. all_fit a (reads_of l)) (sym none)
-  each_read_fits tables a (item d ds) rs e =
-      let parts = opened (read_as tables a d) (each_as tables a ds) rs e in
-      subst (λ l. all_fit a (reads_of l) ≡ true) parts.4 (and_both _ _ (read_fits tables a d parts.0 parts.2) (each_read_fits tables a ds parts.1 parts.3))
-
-pub these_fit : (tables : Declared) (ps : List Asked) (ds : Items) (rs : List Read) → these_as tables ps ds ≡ Some rs → AllFit ps rs
-these_fit tables [] no_items rs e = let none : [] ≡ rs = cc in subst (AllFit []) none (record { count = refl; each = refl })
-these_fit tables (a ∷ ps) (item d ds) rs e =
-    let parts = opened (read_as tables a d) (these_as tables ps ds) rs e in
-    let rest = these_fit tables ps ds parts.1 parts.3 in
-    subst (AllFit (a ∷ ps)) parts.4 (record { count = ap suc rest.count; each = and_both _ _ (read_fits tables a d parts.0 parts.2) rest.each })
-these_fit tables _ _ rs e = cc
-
-list_fit : (tables : Declared) (ps : List Asked) (d : Data) (rs : List Read) → list_as tables ps d ≡ Some rs → AllFit ps rs
-list_fit tables ps (array ds) rs e = these_fit tables ps ds rs e
-list_fit tables ps _ rs e = cc
-
-pub places_fit : (tables : Declared) (ps : Places) (d : Data) (rs : List Read) → places_as tables ps d ≡ Some rs → AllFit (asked_in ps) rs
-places_fit tables (single a) d rs e =
-    let r = mapped (λ r. r ∷ []) (read_as tables a d) rs e in
-    subst (AllFit (a ∷ [])) r.2 (record { count = refl; each = and_both _ _ (read_fits tables a d r.0 r.1) refl })
-places_fit tables (listed ps) d rs e = list_fit tables ps d rs e
-
-pub plan_fits : (tables : Declared) (kind : Kind) (d : Data) (r : Read) → read_as tables (a_form kind) d ≡ Some r → Fits (a_form kind) r
-plan_fits tables kind d r e = record { fit = read_fits tables (a_form kind) d r e }
-
--- the first of some that fit, and the others
-pub first_fits : (a : Asked) (ps : List Asked) (r : Read) (rs : List Read) → AllFit (a ∷ ps) (r ∷ rs) → Fits a r
-first_fits a ps r rs h = record { fit = go (fits a r) h.each }
-  where
-    go : (b : Bool) → (b && each_fits ps rs) ≡ true → b ≡ true
-    go true e = refl
-    go false e = cc
-
-pub others_fit : (a : Asked) (ps : List Asked) (r : Read) (rs : List Read) → AllFit (a ∷ ps) (r ∷ rs) → AllFit ps rs
-others_fit a ps r rs h = record { count = omega (arith, h.count); each = go (fits a r) h.each }
-  where
-    go : (b : Bool) → (b && each_fits ps rs) ≡ true → each_fits ps rs ≡ true
-    go true e = e
-    go false e = cc
+-- a list of expressions is one
+pub expressions_fit : (trees : List Expression) → all_fit expression (reads_of (map expression_read trees)) ≡ true
+expressions_fit [] = refl
+expressions_fit (tree ∷ trees) = expressions_fit trees
 
 -- ---- a form, by its key
 
@@ -147,11 +63,6 @@ each_as-all_of tables a (item d ds) = ap (front (read_as tables a d)) (each_as-a
 pub expressions_read : (trees : List Expression) → expressions_in (reads_of (map expression_read trees)) ≡ trees
 expressions_read [] = refl
 expressions_read (tree ∷ trees) = ap (λ l. tree ∷ l) (expressions_read trees)
-
--- null says nothing
-pub null_said : (d : Data) → is_some (as_null d) ≡ true → nothing_of d ≡ Some nothing_read
-null_said null h = refl
-null_said _ h = cc
 
 -- ---- a form by its key
 
@@ -195,8 +106,6 @@ each_more tables a vs i v rs r within is before now =
     each_as-all_of tables a (items_view (take (i + 1) vs))
     ∙ all_of-more (read_as tables a) vs i v rs r within is (sym (each_as-all_of tables a (items_view (take i vs))) ∙ before) now
 
-pub each_read : (tables : Declared) (a : Asked) (d : Data) (vs : List Value) (n : ℕ) (rs : List Read) → Some (items_view vs) ≡ as_array d → length vs ≡ n → each_as tables a (items_view (take n vs)) ≡ Some rs → read_as tables (many a) d ≡ Some (many_read (reads_of rs))
-each_read tables a d vs n rs is all read =
-    ap (read_as tables (many a)) (array-from_as_array d _ is)
-    ∙ ap (λ l. option_map (λ xs. many_read (reads_of xs)) (each_as tables a (items_view l))) (sym (take_all n vs (omega arith)))
-    ∙ ap (option_map (λ xs. many_read (reads_of xs))) read
+pub each_read : (tables : Declared) (a : Asked) (d : Data) (ds : Items) (rs : List Read) → Some ds ≡ as_array d → each_as tables a ds ≡ Some rs → read_as tables (many a) d ≡ Some (many_read (reads_of rs))
+each_read tables a d ds rs is read =
+    ap (read_as tables (many a)) (array-from_as_array d ds is) ∙ ap (option_map (λ xs. many_read (reads_of xs))) read

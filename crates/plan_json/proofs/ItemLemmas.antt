@@ -1,14 +1,18 @@
 -- What an answer was made of, and lists that are read item by item.
-use Rattle.std.proofs.Common.{◌≡◌, List, ◌∷◌, Option, Some, None, option_map, option_and_then, refl, ap, ℕ, zero, suc, ◌+◌, ◌<◌, [], ◌++◌, length, get_or, take, sym, ◌∙◌}
+use Rattle.std.proofs.Common.{◌≡◌, List, ◌∷◌, Option, Some, None, option_map, option_and_then, refl, ap, ℕ, zero, suc, ◌+◌, ◌<◌, [], ◌++◌, length, get_or, take, sym, ◌∙◌, Bool, true, false, cond, arith}
 use Rattle.plan_json.specs.Looking.{both, all_of, some_of, first_items}
-use Rattle.std.proofs.lemmas.List.{take_more}
+use Rattle.std.proofs.lemmas.List.{map-append, take_all, take_more}
 use Rattle.std.specs.Option.{option_map_or}
-use Rattle.plan_types.specs.Schemas.{Name, names_of}
+use Rattle.plan_types.specs.Schemas.{Name, names_of, is_among, repeats}
+use Rattle.plan_types.proofs.NameLemmas.{repeats-push}
 use Rattle.serde_json.specs.Data.{Data, Items, no_items, item}
 use Rattle.serde_json.specs.Find.{get_item}
 use Rattle.serde_json.specs.View.{view, items_view}
 use Rattle.serde_json.specs.declared.value.Value.{Value}
 use Rattle.serde_json.proofs.Views.{get_item_within}
+
+abbrev pub Present : {A : Type 0} → Option A → Type 0
+Present {A} o = (x : A) × (o ≡ Some x)
 
 pub mapped : {A B : Type 0} (f : A → B) (o : Option A) (y : B) → option_map f o ≡ Some y → (x : A) × (o ≡ Some x) × (f x ≡ y)
 mapped f None y e = cc
@@ -23,6 +27,15 @@ both_are None b p e = cc
 both_are (Some x) None p e = cc
 both_are {A = A} {B = B} (Some x) (Some y) p e =
     let all : ◌≡◌ {A = A × B} (x, y) p = cc in (ap (λ q. Some q.0) all, ap (λ q. Some q.1) all)
+
+-- what a test lets through
+pub kept : {A : Type 0} (test : Bool) (o : Option A) (x : A) → cond test o None ≡ Some x → (test ≡ true) × (o ≡ Some x)
+kept true o x e = (refl, e)
+kept false o x e = cc
+
+pub passed : {A : Type 0} (test : Bool) (o : Option A) (x : A) → cond test None o ≡ Some x → (test ≡ false) × (o ≡ Some x)
+passed true o x e = cc
+passed false o x e = (refl, e)
 
 -- the first of a list that is read, and the others
 pub opened : {A : Type 0} (first : Option A) (rest : Option (List A)) (l : List A) → option_map (λ p. p.0 ∷ p.1) (both first rest) ≡ Some l → (x : A) × (xs : List A) × (first ≡ Some x) × (rest ≡ Some xs) × (x ∷ xs ≡ l)
@@ -46,7 +59,7 @@ all_of-more read vs i v xs x within is before now =
     ap (λ l. all_of read (items_view l)) (take_more vs i v within ∙ ap (λ w. take i vs ++ w ∷ []) (sym is)) ∙ all_of-push read (take i vs) v xs x before now
 
 -- each item that stands in such a list is read
-pub all_of-item : {A : Type 0} (read : Data → Option A) (ds : Items) (xs : List A) (n : ℕ) (v : Data) → all_of read ds ≡ Some xs → get_item n ds ≡ Some v → (x : A) × (read v ≡ Some x)
+pub all_of-item : {A : Type 0} (read : Data → Option A) (ds : Items) (xs : List A) (n : ℕ) (v : Data) → all_of read ds ≡ Some xs → get_item n ds ≡ Some v → Present (read v)
 all_of-item read no_items xs n v e here = cc
 all_of-item read (item d ds) xs zero v e here =
     let parts = opened (read d) (all_of read ds) xs e in
@@ -54,7 +67,15 @@ all_of-item read (item d ds) xs zero v e here =
 all_of-item read (item d ds) xs (suc n) v e here =
     let parts = opened (read d) (all_of read ds) xs e in all_of-item read ds parts.1 n v parts.3 here
 
+-- all items are read
+pub all_taken : {A : Type 0} (f : Items → A) (vs : List Value) (n : ℕ) → length vs ≡ n → f (items_view (take n vs)) ≡ f (items_view vs)
+all_taken f vs n all = ap (λ l. f (items_view l)) (take_all n vs (omega arith))
+
 -- ---- names that items give themselves
+
+-- names stay apart as a new one comes
+pub names_apart : {A : Type 0} (xs : List (Name × A)) (x : Name × A) → is_among x.0 (names_of xs) ≡ false → repeats (names_of xs) ≡ false → repeats (names_of (xs ++ x ∷ [])) ≡ false
+names_apart {A} xs x new distinct = ap repeats (map-append (λ (y : Name × A). y.0) xs (x ∷ [])) ∙ repeats-push (names_of xs) x.0 distinct new
 
 module _ {A : Type 0} (read : Data → Option (Name × A)) (name : Data → Option Name) (named : (d : Data) (x : Name × A) → read d ≡ Some x → name d ≡ Some x.0) where
   -- items that are read give themselves the names that are read

@@ -1,5 +1,5 @@
 -- Literals: numbers that texts write, and types of numbers.
-use Rattle.std.proofs.Common.{◌≡◌, ℕ, ◌^◌, ◌<◌, List, [], ◌∷◌, Option, Some, None, Result, Ok, Err, Bool, true, false, cond, ◌&&◌, ◌==◌, ℤ, slice_index, option_map, option_and_then, refl, sym, ap, subst, ◌∙◌, arith, FitsSigned}
+use Rattle.std.proofs.Common.{◌≡◌, ℕ, ◌^◌, ◌<◌, List, Option, Some, None, Result, Ok, Err, Bool, true, false, cond, ◌&&◌, ◌==◌, ℤ, slice_index, option_map, option_and_then, refl, sym, ap, ◌∙◌, arith, FitsSigned}
 use Rattle.std.specs.Prelude.{pos, negsuc}
 use Rattle.std.specs.Int.{w128}
 use Rattle.std.specs.Option.{option_map_or}

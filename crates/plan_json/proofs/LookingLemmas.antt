@@ -13,7 +13,7 @@ Entry = String Global × Value
 
 -- ---- a value is what it is seen as
 
-pub object-from_as_object : (d : Data) (ms : Members) → Some ms ≡ as_object d → d ≡ object ms
+object-from_as_object : (d : Data) (ms : Members) → Some ms ≡ as_object d → d ≡ object ms
 object-from_as_object (object es) ms e = cc
 object-from_as_object _ ms e = cc
 
@@ -21,27 +21,24 @@ pub array-from_as_array : (d : Data) (ds : Items) → Some ds ≡ as_array d →
 array-from_as_array (array es) ds e = cc
 array-from_as_array _ ds e = cc
 
-pub string-from_as_str : (d : Data) (text : List ℕ) → Some text ≡ as_str d → d ≡ string text
-string-from_as_str (string s) text e = cc
-string-from_as_str _ text e = cc
+-- what a list or an object is asked, the value is asked
+pub of_object : {A : Type 0} (f : Data → A) (d : Data) (ms : Members) → Some ms ≡ as_object d → f (object ms) ≡ f d
+of_object f d ms is = ap f (sym (object-from_as_object d ms is))
+
+pub of_array : {A : Type 0} (f : Data → A) (d : Data) (ds : Items) → Some ds ≡ as_array d → f (array ds) ≡ f d
+of_array f d ds is = ap f (sym (array-from_as_array d ds is))
 
 -- ---- objects
 
-one_entry : (es : List Entry) (k : String Global) (v : Value) → length es ≡ 1 → slice_get es 0 ≡ Some (k, v) → Some (string_bytes k, view v) ≡ only_member (object (members_view es))
+pub one_entry : (es : List Entry) (k : String Global) (v : Value) → length es ≡ 1 → slice_get es 0 ≡ Some (k, v) → Some (string_bytes k, view v) ≡ only_member (object (members_view es))
 one_entry [] k v one first = absurd (omega arith)
 one_entry (e ∷ []) k v one first = ap (option_map (λ (p : Entry). (string_bytes p.0, view p.1))) (sym first)
 one_entry (e ∷ f ∷ es) k v one first = absurd (omega arith)
 
-other_entries : (es : List Entry) → (length es ≡ 1 → ⊥) → None ≡ only_member (object (members_view es))
+pub other_entries : (es : List Entry) → (length es ≡ 1 → ⊥) → None ≡ only_member (object (members_view es))
 other_entries [] other = refl
 other_entries (e ∷ []) other = absurd (other refl)
 other_entries (e ∷ f ∷ es) other = refl
-
-pub only_member-one : (d : Data) (es : List Entry) (k : String Global) (v : Value) → Some (members_view es) ≡ as_object d → length es ≡ 1 → slice_get es 0 ≡ Some (k, v) → Some (string_bytes k, view v) ≡ only_member d
-only_member-one d es k v is one first = one_entry es k v one first ∙ ap only_member (sym (object-from_as_object d _ is))
-
-pub only_member-other : (d : Data) (es : List Entry) → Some (members_view es) ≡ as_object d → (length es ≡ 1 → ⊥) → None ≡ only_member d
-only_member-other d es is other = other_entries es other ∙ ap only_member (sym (object-from_as_object d _ is))
 
 two_of : (first second : List ℕ) (ms : Members) (n : ℕ) → members_len ms ≡ n → n ≡ 2 → both (get_member first ms) (get_member second ms) ≡ two_members first second (object ms)
 two_of first second ms n has two = rw (has, two) refl
@@ -72,24 +69,18 @@ both-some x y a b is_a is_b = subst (λ z. Some (a, b) ≡ both z y) is_a (subst
 
 -- ---- lists
 
-two_others : (vs : List Value) → (length vs ≡ 2 → ⊥) → None ≡ two_items (array (items_view vs))
+pub two_others : (vs : List Value) → (length vs ≡ 2 → ⊥) → None ≡ two_items (array (items_view vs))
 two_others [] other = refl
 two_others (a ∷ []) other = refl
 two_others (a ∷ b ∷ []) other = absurd (other refl)
 two_others (a ∷ b ∷ c ∷ vs) other = refl
 
-pub two_items-other : (d : Data) (vs : List Value) → Some (items_view vs) ≡ as_array d → (length vs ≡ 2 → ⊥) → None ≡ two_items d
-two_items-other d vs is other = two_others vs other ∙ ap two_items (sym (array-from_as_array d _ is))
-
-three_others : (vs : List Value) → (length vs ≡ 3 → ⊥) → None ≡ three_items (array (items_view vs))
+pub three_others : (vs : List Value) → (length vs ≡ 3 → ⊥) → None ≡ three_items (array (items_view vs))
 three_others [] other = refl
 three_others (a ∷ []) other = refl
 three_others (a ∷ b ∷ []) other = refl
 three_others (a ∷ b ∷ c ∷ []) other = absurd (other refl)
 three_others (a ∷ b ∷ c ∷ e ∷ vs) other = refl
-
-pub three_items-other : (d : Data) (vs : List Value) → Some (items_view vs) ≡ as_array d → (length vs ≡ 3 → ⊥) → None ≡ three_items d
-three_items-other d vs is other = three_others vs other ∙ ap three_items (sym (array-from_as_array d _ is))
 
 pub array-from_two_items : (d a b : Data) → Some (a, b) ≡ two_items d → d ≡ array (item a (item b no_items))
 array-from_two_items (array (item x (item y no_items))) a b e =

@@ -8,30 +8,25 @@ use Rattle.plan_dsl.specs.Plans.{plan_tree, trees_of}
 use Rattle.plan_dsl.specs.declared.plan.DslPlan.{DslPlan}
 use Rattle.plan_json.specs.Forms.{Read, name_read, literal_read, operator_read, type_read, mode_read, table_read, columns_read, expression_read, plan_read, many_read, reads_of, other_read, nothing_read}
 use Rattle.plan_json.specs.Queries.{has_flags}
-use Rattle.plan_json.specs.declared.arguments.Part.{Part}
-use Rattle.plan_json.specs.declared.arguments.Part.TheVariants.{Name, Literal, Operator, Dtype, Mode, Table, Columns, Expression, Plan, Nothing}
 use Rattle.plan_json.specs.declared.arguments.Arg.{Arg}
-use Rattle.plan_json.specs.declared.arguments.Arg.TheVariants.{One, Expressions}
+use Rattle.plan_json.specs.declared.arguments.Arg.TheVariants.{Name, Literal, Operator, Dtype, Mode, Table, Columns, Nothing, Expression, Plan, Expressions}
 use Rattle.plan_json.specs.declared.arguments.Args.{Args}
 use Rattle.plan_json.specs.declared.arguments.Args.TheVariants as args
 
 abbrev pub plan_seen : DslPlan → Read
 plan_seen plan = if has_flags plan then other_read else plan_read (plan_tree plan)
 
-abbrev pub part_view : Part → Read
-part_view (Name name) = name_read name
-part_view (Literal literal) = literal_read (literal_op literal.value)
-part_view (Operator operator) = operator_read operator
-part_view (Dtype dtype) = type_read (ty dtype.value)
-part_view (Mode mode) = mode_read mode
-part_view (Table number schema) = table_read number (columns schema.value)
-part_view (Columns schema) = columns_read (columns schema.value)
-part_view (Expression expr) = expression_read (tree_of expr.value)
-part_view (Plan plan) = plan_seen plan.value
-part_view Nothing = nothing_read
-
 abbrev pub arg_view : Arg → Read
-arg_view (One part) = part_view part
+arg_view (Name name) = name_read name
+arg_view (Literal literal) = literal_read (literal_op literal.value)
+arg_view (Operator operator) = operator_read operator
+arg_view (Dtype dtype) = type_read (ty dtype.value)
+arg_view (Mode mode) = mode_read mode
+arg_view (Table number schema) = table_read number (columns schema.value)
+arg_view (Columns schema) = columns_read (columns schema.value)
+arg_view Nothing = nothing_read
+arg_view (Expression expr) = expression_read (tree_of expr.value)
+arg_view (Plan plan) = plan_seen plan.value
 arg_view (Expressions exprs) = many_read (reads_of (map expression_read (trees_of exprs)))
 
 abbrev pub args_view : Args → List Read

@@ -121,9 +121,9 @@ unless kind false = Some kind
 abbrev pub name_fault : (Name → Bool) → Data → Option FaultKind
 name_fault test d = option_map_or (λ name. unless BadName (test name)) (text_of d) (Some (shape_fault d))
 
--- a value must be a list, and the list must pass the test
-abbrev pub list_fault : (Items → Bool) → Data → Option FaultKind
-list_fault test d = unless (shape_fault d) (option_map_or test (as_array d) false)
+-- whether a value is a list that passes the test
+abbrev pub is_list : (Items → Bool) → Data → Bool
+is_list test d = option_map_or test (as_array d) false
 
 -- whether a value is the name of a type without parts
 abbrev pub is_type_name : Data → Bool
@@ -137,30 +137,36 @@ has_type_shape d = is_type_name d || is_some (keyed_part type_key_form d)
 abbrev pub may_be_counted : Data → Bool
 may_be_counted d = option_map_or is_counted (type_of d) true
 
+-- whether a value itself has the shape of the form, whatever its parts are
+abbrev pub has_shape : Form → Data → Bool
+has_shape a_query d = is_some (two_members (codes "tables") (codes "plan") d)
+has_shape table_list d = is_list (λ items. nat_lt (items_len items) table_limit) d
+has_shape column_list d = is_list (λ items. not (repeats (some_of column_name items))) d
+has_shape field_list d = is_list (λ items. true) d
+has_shape a_column d = is_some (two_items d)
+has_shape a_type d = has_type_shape d
+has_shape a_unit d = is_some (unit_of d)
+has_shape a_text d = is_some (text_of d)
+has_shape (a_table before) d = is_some (two_members (codes "name") (codes "columns") d)
+has_shape (a_new_name before) d = is_some (text_of d)
+has_shape (a_scan tables) d = is_some (text_of d)
+has_shape a_literal d = is_some (literal_of d)
+has_shape a_number_text d = is_some (number_text_of d)
+has_shape a_typed_literal d = is_some (two_items d)
+has_shape a_counted_type d = has_type_shape d && may_be_counted d
+has_shape (a_number_of type) d = is_some (number_of type d)
+has_shape an_operator d = is_some (operator_of d)
+has_shape a_mode d = is_some (mode_of d)
+has_shape nothing_form d = is_some (as_null d)
+has_shape (keyed_form names kind) d = is_some (keyed_part (key_form names kind) d)
+has_shape (list_of names a) d = is_list (λ items. true) d
+has_shape (items_of names ps) d = is_list (λ items. items_len items == length ps) d
+
 -- how a value itself breaks the form
 abbrev pub own_fault : Form → Data → Option FaultKind
-own_fault a_query d = unless (shape_fault d) (is_some (two_members (codes "tables") (codes "plan") d))
-own_fault table_list d = list_fault (λ items. nat_lt (items_len items) table_limit) d
-own_fault column_list d = list_fault (λ items. not (repeats (some_of column_name items))) d
-own_fault field_list d = list_fault (λ items. true) d
-own_fault a_column d = unless (shape_fault d) (is_some (two_items d))
-own_fault a_type d = unless (shape_fault d) (has_type_shape d)
-own_fault a_unit d = unless (shape_fault d) (is_some (unit_of d))
-own_fault a_text d = unless (shape_fault d) (is_some (text_of d))
-own_fault (a_table before) d = unless (shape_fault d) (is_some (two_members (codes "name") (codes "columns") d))
 own_fault (a_new_name before) d = name_fault (λ name. not (is_among name before)) d
 own_fault (a_scan tables) d = name_fault (λ name. is_among name tables) d
-own_fault a_literal d = unless (shape_fault d) (is_some (literal_of d))
-own_fault a_number_text d = unless (shape_fault d) (is_some (number_text_of d))
-own_fault a_typed_literal d = unless (shape_fault d) (is_some (two_items d))
-own_fault a_counted_type d = unless (shape_fault d) (has_type_shape d && may_be_counted d)
-own_fault (a_number_of type) d = unless (shape_fault d) (is_some (number_of type d))
-own_fault an_operator d = unless (shape_fault d) (is_some (operator_of d))
-own_fault a_mode d = unless (shape_fault d) (is_some (mode_of d))
-own_fault nothing_form d = unless (shape_fault d) (is_some (as_null d))
-own_fault (keyed_form names kind) d = unless (shape_fault d) (is_some (keyed_part (key_form names kind) d))
-own_fault (list_of names a) d = list_fault (λ items. true) d
-own_fault (items_of names ps) d = list_fault (λ items. items_len items == length ps) d
+own_fault form d = unless (shape_fault d) (has_shape form d)
 
 -- ---- parts of a value
 

@@ -1,5 +1,5 @@
 -- The table of forms: the keys of an object of one key, what each asks of its value, and what it says.
-use Rattle.std.specs.Prelude.{◌≡◌, ℕ, List, [], ◌∷◌, map, Option, Some, None, Bool, ◌&&◌, true, false, option_map, codes, length, if◌then◌else◌}
+use Rattle.std.specs.Prelude.{◌≡◌, ℕ, List, [], ◌∷◌, Option, Some, None, Bool, ◌&&◌, true, false, option_map, codes, length, if◌then◌else◌}
 use Rattle.std.specs.Str.{bytes_eq}
 use Rattle.plan_types.specs.Schemas.{Name, Columns}
 use Rattle.plan_types.specs.Types.{Ty}
@@ -12,8 +12,6 @@ use Rattle.plan_json.specs.declared.forms.Kind.{Kind}
 use Rattle.plan_json.specs.declared.forms.Kind.TheVariants as kinds
 use Rattle.plan_json.specs.declared.forms.Leaf.{Leaf}
 use Rattle.plan_json.specs.declared.forms.Leaf.TheVariants as leaves
-use Rattle.plan_json.specs.declared.forms.Item.{Item}
-use Rattle.plan_json.specs.declared.forms.Item.TheVariants as items
 use Rattle.plan_json.specs.declared.forms.Place.{Place}
 use Rattle.plan_json.specs.declared.forms.Place.TheVariants as places
 use Rattle.plan_json.specs.declared.forms.Places.{Places as CodePlaces}
@@ -56,10 +54,10 @@ plan = a_form kinds.Plan
 abbrev pub expression_rows : List (List ℕ × ExpressionKey)
 expression_rows =
     (codes "col", of.Col) ∷
+    (codes "bin", of.Bin) ∷
     (codes "lit", of.Lit) ∷
     (codes "int", of.Int) ∷
     (codes "typed", of.Typed) ∷
-    (codes "bin", of.Bin) ∷
     (codes "cast", of.Cast) ∷
     (codes "len", of.Len) ∷
     (codes "slice", of.Slice) ∷ []
@@ -168,6 +166,10 @@ abbrev pub key_named : Kind → List ℕ → Option (List ℕ × Key)
 key_named kinds.Expression word = option_map (λ row. (row.0, keys.Expression row.1)) (row_named expression_rows word)
 key_named kinds.Plan word = option_map (λ row. (row.0, keys.Plan row.1)) (row_named plan_rows word)
 
+abbrev pub kind_of : Key → Kind
+kind_of (keys.Expression key) = kinds.Expression
+kind_of (keys.Plan key) = kinds.Plan
+
 abbrev pub asks : Key → Places
 asks (keys.Expression key) = expression_asks key
 asks (keys.Plan key) = plan_asks key
@@ -204,30 +206,27 @@ abbrev pub asked_in : Places → List Asked
 asked_in (single a) = a ∷ []
 asked_in (listed ps) = ps
 
-abbrev pub each_fits : List Asked → List Read → Bool
-each_fits [] [] = true
-each_fits (a ∷ ps) (r ∷ rs) = fits a r && each_fits ps rs
-each_fits _ _ = false
-
 pub record Fits (asked : Asked) (found : Read) : Type 0 where
   pub fit : fits asked found ≡ true
+
+abbrev pub EachFits : List Asked → List Read → Type 0
+EachFits [] [] = Unit {0}
+EachFits (a ∷ ps) (r ∷ rs) = Fits a r × EachFits ps rs
+EachFits _ _ = ⊥
 
 -- as many are read as are asked for, each what is asked
 pub record AllFit (asked : List Asked) (found : List Read) : Type 0 where
   pub count : length found ≡ length asked
-  pub each : each_fits asked found ≡ true
+  pub each : EachFits asked found
 
 -- ---- the code's table
 
 abbrev pub row_view : {K : Type 0} → Row K → List ℕ × K
 row_view row = (row.word.now, row.key)
 
-abbrev pub item_view : Item → Asked
-item_view (items.Form kind) = a_form kind
-item_view (items.Leaf which) = leaf which
-
 abbrev pub place_view : Place → Asked
-place_view (places.One item) = item_view item
+place_view (places.Form kind) = a_form kind
+place_view (places.Leaf which) = leaf which
 place_view places.Expressions = many expression
 
 abbrev pub places_view : CodePlaces → Places

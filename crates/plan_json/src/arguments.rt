@@ -18,9 +18,9 @@ use plan_types::dtype::{CastOptions, DataType};
 use plan_types::schema::Schema;
 use plan_types::text::PlSmallStr;
 
-// What is read of one item. What is wide stands in a box, since each item goes through several hands.
+// What is read at one place. What is wide stands in a box, since it goes through several hands.
 #[derive(Drop)]
-pub(crate) enum Part {
+pub(crate) enum Arg {
     Name(PlSmallStr),
     Literal(Box<LiteralValue>),
     Operator(Operator),
@@ -28,15 +28,9 @@ pub(crate) enum Part {
     Mode(CastOptions),
     Table(u32, Box<Schema>),
     Columns(Box<Schema>),
+    Nothing,
     Expression(Box<Expr>),
     Plan(Box<DslPlan>),
-    Nothing,
-}
-
-// What is read at one place.
-#[derive(Drop)]
-pub(crate) enum Arg {
-    One(Part),
     Expressions(Exprs),
 }
 
@@ -92,7 +86,7 @@ pub(crate) fn name(arg: Arg) -> PlSmallStr
     ensures { arg_view arg ≡ name_read result }
 {
     match arg {
-        Arg::One(Part::Name(name)) => name,
+        Arg::Name(name) => name,
         _ => unreachable!(),
     }
 }
@@ -102,7 +96,7 @@ pub(crate) fn value(arg: Arg) -> LiteralValue
     ensures { arg_view arg ≡ literal_read (literal_op result) }
 {
     match arg {
-        Arg::One(Part::Literal(value)) => Box::into_inner(value),
+        Arg::Literal(value) => Box::into_inner(value),
         _ => unreachable!(),
     }
 }
@@ -112,7 +106,7 @@ pub(crate) fn digits(arg: Arg) -> LiteralValue
     ensures { arg_view arg ≡ literal_read (literal_op result) }
 {
     match arg {
-        Arg::One(Part::Literal(digits)) => Box::into_inner(digits),
+        Arg::Literal(digits) => Box::into_inner(digits),
         _ => unreachable!(),
     }
 }
@@ -122,7 +116,7 @@ pub(crate) fn typed(arg: Arg) -> LiteralValue
     ensures { arg_view arg ≡ literal_read (literal_op result) }
 {
     match arg {
-        Arg::One(Part::Literal(typed)) => Box::into_inner(typed),
+        Arg::Literal(typed) => Box::into_inner(typed),
         _ => unreachable!(),
     }
 }
@@ -132,7 +126,7 @@ pub(crate) fn operator(arg: Arg) -> Operator
     ensures { arg_view arg ≡ operator_read result }
 {
     match arg {
-        Arg::One(Part::Operator(operator)) => operator,
+        Arg::Operator(operator) => operator,
         _ => unreachable!(),
     }
 }
@@ -142,7 +136,7 @@ pub(crate) fn dtype(arg: Arg) -> DataType
     ensures { arg_view arg ≡ type_read (ty result) }
 {
     match arg {
-        Arg::One(Part::Dtype(dtype)) => Box::into_inner(dtype),
+        Arg::Dtype(dtype) => Box::into_inner(dtype),
         _ => unreachable!(),
     }
 }
@@ -152,7 +146,7 @@ pub(crate) fn mode(arg: Arg) -> CastOptions
     ensures { arg_view arg ≡ mode_read result }
 {
     match arg {
-        Arg::One(Part::Mode(mode)) => mode,
+        Arg::Mode(mode) => mode,
         _ => unreachable!(),
     }
 }
@@ -162,7 +156,7 @@ pub(crate) fn table(arg: Arg) -> (u32, Schema)
     ensures { arg_view arg ≡ table_read result.0 (columns result.1) }
 {
     match arg {
-        Arg::One(Part::Table(number, schema)) => (number, Box::into_inner(schema)),
+        Arg::Table(number, schema) => (number, Box::into_inner(schema)),
         _ => unreachable!(),
     }
 }
@@ -172,7 +166,7 @@ pub(crate) fn columns(arg: Arg) -> Schema
     ensures { arg_view arg ≡ columns_read (columns result) }
 {
     match arg {
-        Arg::One(Part::Columns(schema)) => Box::into_inner(schema),
+        Arg::Columns(schema) => Box::into_inner(schema),
         _ => unreachable!(),
     }
 }
@@ -183,7 +177,7 @@ pub(crate) fn nothing(arg: Arg)
     ensures { arg_view arg ≡ nothing_read }
 {
     match arg {
-        Arg::One(Part::Nothing) => {}
+        Arg::Nothing => {}
         _ => unreachable!(),
     }
 }
@@ -193,7 +187,7 @@ pub(crate) fn expression(arg: Arg) -> Box<Expr>
     ensures { arg_view arg ≡ expression_read (tree_of result.value) }
 {
     match arg {
-        Arg::One(Part::Expression(expr)) => expr,
+        Arg::Expression(expr) => expr,
         _ => unreachable!(),
     }
 }
@@ -204,7 +198,7 @@ pub(crate) fn plan(arg: Arg) -> Box<DslPlan>
     ensures flags { has_flags result.value ≡ false }
 {
     match arg {
-        Arg::One(Part::Plan(plan)) => plan,
+        Arg::Plan(plan) => plan,
         _ => unreachable!(),
     }
 }

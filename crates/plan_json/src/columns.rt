@@ -1,5 +1,5 @@
 //! Lists of columns.
-ghost use Rattle.std.specs.Prelude.{◌≡◌, Some, IfOk, IfErr};
+ghost use Rattle.std.specs.Prelude.{◌≡◌, [], Some, IfOk, IfErr};
 ghost use Rattle.serde_json.specs.View.{view};
 ghost use Rattle.plan_types.specs.Schemas.{columns};
 ghost use Rattle.plan_json.specs.Errors.{IsErrorOf};
@@ -22,7 +22,7 @@ pub(crate) fn read_columns(alloc: Global, value: &Value) -> Result<Schema, JsonE
         None => Err(JsonError::shape(alloc, value)),
         Some(items) => {
             let items = items.as_slice();
-            let mut schema = Schema::new(alloc);
+            let mut schema = without_columns(alloc, items.len())?;
             for (number, item) in items.iter().enumerate() {
                 let Field { name, dtype } = match read_column(alloc, item) {
                     Ok(column) => column,
@@ -38,5 +38,16 @@ pub(crate) fn read_columns(alloc: Global, value: &Value) -> Result<Schema, JsonE
             }
             Ok(schema)
         }
+    }
+}
+
+// No columns, with room for so many.
+fn without_columns(alloc: Global, room: usize) -> Result<Schema, JsonError>
+    ensures ok { IfOk result (λ schema. columns schema ≡ []) }
+    ensures err { IfErr result (λ error. error ≡ JsonError.NoMemory) }
+{
+    match Schema::with_capacity(alloc, room) {
+        Ok(schema) => Ok(schema),
+        Err(error) => Err(JsonError::out_of_memory(error)),
     }
 }

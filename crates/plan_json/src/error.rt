@@ -1,9 +1,10 @@
 //! Why bytes are no query, and where.
-ghost use Rattle.std.specs.Prelude.{◌≡◌, ◌++◌, IfOk, string_bytes};
+ghost use Rattle.std.specs.Prelude.{◌≡◌, ◌++◌, Some, IfOk, string_bytes};
+ghost use Rattle.serde_json.specs.Data.{Data};
 ghost use Rattle.serde_json.specs.View.{view};
 ghost use Rattle.plan_types.specs.Errors.{no_memory};
-ghost use Rattle.plan_json.specs.Errors.{IsBelow, IsOwn, IsPlain, step_of, step_text};
-ghost use Rattle.plan_json.specs.Faults.{BadName, shape_fault};
+ghost use Rattle.plan_json.specs.Errors.{IsBelow, IsErrorOf, IsOwn, IsPlain, step_of, step_text};
+ghost use Rattle.plan_json.specs.Faults.{BadName, Form, part, part_of, shape_fault};
 
 use plan_types::error::PlanError;
 use serde_json::Value;
@@ -71,6 +72,15 @@ impl JsonError {
 
     // The error of a part, as the value sees it that has the part at the step.
     pub(crate) fn below(self, alloc: Global, step: Step) -> JsonError
+        requires { IsPlain (step_of step) }
+        ensures { (form inner : Form) (d value : Data) → part_of form (step_of step) d ≡ Some (part inner value)
+            → IsErrorOf inner value self → IsErrorOf form d result }
+    {
+        self.told_from(alloc, step)
+    }
+
+    // The error, told with the step in front.
+    fn told_from(self, alloc: Global, step: Step) -> JsonError
         requires { IsPlain (step_of step) }
         ensures { IsBelow (step_of step) self result }
     {

@@ -2,7 +2,7 @@
 ghost use Rattle.std.specs.Prelude.{◌≡◌, IfSome, map};
 ghost use Rattle.std.specs.Option.{option_map};
 ghost use Rattle.plan_json.specs.Errors.{escaped};
-ghost use Rattle.plan_json.specs.Forms.{asks, expression_asks, expression_rows, key_named, places_view, plan_asks, plan_rows, row_named, row_view, type_rows};
+ghost use Rattle.plan_json.specs.Forms.{asks, expression_asks, expression_rows, key_named, kind_of, places_view, plan_asks, plan_rows, row_named, row_view, type_rows};
 
 // What an object of one key can be.
 #[derive(Clone, Copy)]
@@ -35,15 +35,11 @@ pub(crate) enum Leaf {
     Nothing,
 }
 
-#[derive(Clone, Copy)]
-pub(crate) enum Item {
-    Form(Kind),
-    Leaf(Leaf),
-}
-
+// What is asked for at one place.
 #[derive(Clone, Copy)]
 pub(crate) enum Place {
-    One(Item),
+    Form(Kind),
+    Leaf(Leaf),
     // A list of any number of expressions.
     Expressions,
 }
@@ -97,36 +93,41 @@ pub(crate) struct Row<K> {
     pub(crate) key: K,
 }
 
-const EXPRESSION: Place = Place::One(Item::Form(Kind::Expression));
+const EXPRESSION: Place = Place::Form(Kind::Expression);
 
 const EXPRESSIONS: Place = Place::Expressions;
 
-const PLAN: Place = Place::One(Item::Form(Kind::Plan));
+const PLAN: Place = Place::Form(Kind::Plan);
 
-const NAME: Place = Place::One(Item::Leaf(Leaf::Name));
+const NAME: Place = Place::Leaf(Leaf::Name);
 
-const VALUE: Place = Place::One(Item::Leaf(Leaf::Value));
+const VALUE: Place = Place::Leaf(Leaf::Value);
 
-const DIGITS: Place = Place::One(Item::Leaf(Leaf::Digits));
+const DIGITS: Place = Place::Leaf(Leaf::Digits);
 
-const TYPED: Place = Place::One(Item::Leaf(Leaf::Typed));
+const TYPED: Place = Place::Leaf(Leaf::Typed);
 
-const OPERATOR: Place = Place::One(Item::Leaf(Leaf::Operator));
+const OPERATOR: Place = Place::Leaf(Leaf::Operator);
 
-const DTYPE: Place = Place::One(Item::Leaf(Leaf::Dtype));
+const DTYPE: Place = Place::Leaf(Leaf::Dtype);
 
-const MODE: Place = Place::One(Item::Leaf(Leaf::Mode));
+const MODE: Place = Place::Leaf(Leaf::Mode);
 
-const TABLE: Place = Place::One(Item::Leaf(Leaf::Table));
+const TABLE: Place = Place::Leaf(Leaf::Table);
 
-const COLUMNS: Place = Place::One(Item::Leaf(Leaf::Columns));
+const COLUMNS: Place = Place::Leaf(Leaf::Columns);
 
-const NOTHING: Place = Place::One(Item::Leaf(Leaf::Nothing));
+const NOTHING: Place = Place::Leaf(Leaf::Nothing);
 
+// A word is looked for from the first row on, so common ones stand in front.
 const EXPRESSION_ROWS: [Row<ExpressionKey>; 8] = [
     Row {
         word: "col",
         key: ExpressionKey::Col,
+    },
+    Row {
+        word: "bin",
+        key: ExpressionKey::Bin,
     },
     Row {
         word: "lit",
@@ -139,10 +140,6 @@ const EXPRESSION_ROWS: [Row<ExpressionKey>; 8] = [
     Row {
         word: "typed",
         key: ExpressionKey::Typed,
-    },
-    Row {
-        word: "bin",
-        key: ExpressionKey::Bin,
     },
     Row {
         word: "cast",
@@ -233,6 +230,7 @@ fn find<K: Copy>(rows: &[Row<K>], word: &str) -> Option<(&'static str, K)>
 // The key of that kind and word.
 pub(crate) fn find_key(kind: Kind, word: &str) -> Option<(&'static str, Key)>
     ensures row { option_map (λ row. (row.0.now, row.1)) result ≡ key_named kind word.now }
+    ensures kind { IfSome result (λ row. kind_of row.1 ≡ kind) }
     ensures word { IfSome result (λ row. row.0.now ≡ word.now) }
     // It needs no escape in a pointer.
     ensures plain { IfSome result (λ row. escaped row.0.now ≡ row.0.now) }

@@ -3,20 +3,20 @@ ghost use Rattle.std.specs.Prelude.{◌≡◌, [], ◌∷◌, Some, map, option_
 ghost use Rattle.serde_json.specs.View.{view};
 ghost use Rattle.plan_dsl.specs.Plans.{trees_of};
 ghost use Rattle.plan_types.specs.Schemas.{columns, names_of};
-ghost use Rattle.plan_json.specs.Arguments.{arg_view, args_view, part_view};
+ghost use Rattle.plan_json.specs.Arguments.{arg_view, args_view};
 ghost use Rattle.plan_json.specs.Errors.{IsErrorOf};
 ghost use Rattle.plan_json.specs.Faults.{asked_form, a_scan, items_of, keyed_form, leaf_form, places_form, nothing_form};
-ghost use Rattle.plan_json.specs.Forms.{AllFit, a_form, asked_in, asks, expression, expression_read, item_view, many, many_read, place_view, places_view, reads_of, says};
+ghost use Rattle.plan_json.specs.Forms.{AllFit, Fits, a_form, asked_in, asks, expression, expression_read, kind_of, leaf, many, many_read, place_view, places_view, reads_of, says, nothing_read};
 ghost use Rattle.plan_json.specs.Leaves.{table_at, text_of};
 ghost use Rattle.plan_json.specs.Queries.{leaf_of, list_as, places_as, read_as, nothing_of};
 ghost use Rattle.plan_json.specs.Tables.{declared};
 
-use super::arguments::{Arg, Args, Part, discard, expression};
+use super::arguments::{Arg, Args, discard, expression};
 use super::columns::read_columns;
 use super::dtype::{read_text, read_type};
 use super::error::{JsonError, Step};
 use super::expression::assemble_expression;
-use super::forms::{Item, Key, Kind, Leaf, Place, Places, find_key, places_of};
+use super::forms::{Key, Kind, Leaf, Place, Places, find_key, places_of};
 use super::literal::{read_literal, read_number_text, read_typed};
 use super::operator::{read_mode, read_operator};
 use super::plan::assemble_plan;
@@ -34,9 +34,10 @@ pub(crate) fn read_form(
     tables: &Tables,
     kind: Kind,
     value: &Value,
-) -> Result<Part, JsonError>
-    ensures ok { IfOk result (λ part. read_as (declared tables.now) (a_form kind) (view value.now)
-        ≡ Some (part_view part)) }
+) -> Result<Arg, JsonError>
+    ensures ok { IfOk result (λ arg. read_as (declared tables.now) (a_form kind) (view value.now)
+        ≡ Some (arg_view arg)) }
+    ensures fit { IfOk result (λ arg. Fits (a_form kind) (arg_view arg)) }
     ensures err { IfErr result (IsErrorOf (keyed_form (names_of (declared tables.now)) kind) (view value.now)) }
 {
     match only_member(value) {
@@ -46,8 +47,8 @@ pub(crate) fn read_form(
             Some((word, key)) => match read_places(alloc, tables, places_of(key), inner) {
                 Err(error) => Err(error.below(alloc, Step::Key(word))),
                 Ok(args) => {
-                    let part = assemble(alloc, key, args)?;
-                    Ok(part)
+                    let arg = assemble(alloc, key, args)?;
+                    Ok(arg)
                 }
             },
         },
@@ -64,6 +65,7 @@ fn read_places(
 ) -> Result<Args, JsonError>
     ensures ok { IfOk result (λ args. places_as (declared tables.now) (places_view places) (view value.now)
         ≡ Some (args_view args)) }
+    ensures fit { IfOk result (λ args. AllFit (asked_in (places_view places)) (args_view args)) }
     ensures err { IfErr result (IsErrorOf (places_form (names_of (declared tables.now)) (places_view places))
         (view value.now)) }
 {
@@ -96,6 +98,7 @@ fn read_two(
 ) -> Result<Args, JsonError>
     ensures ok { IfOk result (λ args. list_as (declared tables.now) (place_view first ∷ place_view second ∷ []) (view value.now)
         ≡ Some (args_view args)) }
+    ensures fit { IfOk result (λ args. AllFit (place_view first ∷ place_view second ∷ []) (args_view args)) }
     ensures err { IfErr result (IsErrorOf (items_of (names_of (declared tables.now)) (place_view first ∷ place_view second ∷ []))
         (view value.now)) }
 {
@@ -126,6 +129,7 @@ fn read_three(
 ) -> Result<Args, JsonError>
     ensures ok { IfOk result (λ args. list_as (declared tables.now) (place_view first ∷ place_view second ∷ place_view third ∷ [])
         (view value.now) ≡ Some (args_view args)) }
+    ensures fit { IfOk result (λ args. AllFit (place_view first ∷ place_view second ∷ place_view third ∷ []) (args_view args)) }
     ensures err { IfErr result (IsErrorOf (items_of (names_of (declared tables.now))
         (place_view first ∷ place_view second ∷ place_view third ∷ [])) (view value.now)) }
 {
@@ -156,12 +160,17 @@ fn read_three(
 fn read_place(alloc: Global, tables: &Tables, place: Place, value: &Value) -> Result<Arg, JsonError>
     ensures ok { IfOk result (λ arg. read_as (declared tables.now) (place_view place) (view value.now)
         ≡ Some (arg_view arg)) }
+    ensures fit { IfOk result (λ arg. Fits (place_view place) (arg_view arg)) }
     ensures err { IfErr result (IsErrorOf (asked_form (names_of (declared tables.now)) (place_view place))
         (view value.now)) }
 {
     match place {
-        Place::One(item) => match read_item(alloc, tables, item, value) {
-            Ok(part) => Ok(Arg::One(part)),
+        Place::Form(kind) => match read_form(alloc, tables, kind, value) {
+            Ok(arg) => Ok(arg),
+            Err(error) => Err(error),
+        },
+        Place::Leaf(leaf) => match read_leaf(alloc, tables, leaf, value) {
+            Ok(arg) => Ok(arg),
             Err(error) => Err(error),
         },
         Place::Expressions => match read_expressions(alloc, tables, value) {
@@ -176,19 +185,17 @@ fn read_place(alloc: Global, tables: &Tables, place: Place, value: &Value) -> Re
 fn read_expressions(alloc: Global, tables: &Tables, value: &Value) -> Result<Exprs, JsonError>
     ensures ok { IfOk result (λ exprs. read_as (declared tables.now) (many expression) (view value.now)
         ≡ Some (many_read (reads_of (map expression_read (trees_of exprs))))) }
+    ensures fit { IfOk result (λ exprs. Fits (many expression) (many_read (reads_of (map expression_read (trees_of exprs))))) }
     ensures err { IfErr result (IsErrorOf (asked_form (names_of (declared tables.now)) (many expression)) (view value.now)) }
 {
     match value.as_array() {
         None => Err(JsonError::shape(alloc, value)),
         Some(values) => {
             let values = values.as_slice();
-            let mut items = Vec::new(alloc);
+            let mut items = Vec::with_capacity(alloc, values.len())?;
             for (number, value) in values.iter().enumerate() {
                 match read_form(alloc, tables, Kind::Expression, value) {
-                    Ok(part) => {
-                        let expr = expression(Arg::One(part));
-                        items.push(Box::into_inner(expr))?;
-                    }
+                    Ok(arg) => items.push(Box::into_inner(expression(arg)))?,
                     Err(error) => return Err(error.below(alloc, Step::Item(number))),
                 }
             }
@@ -197,100 +204,85 @@ fn read_expressions(alloc: Global, tables: &Tables, value: &Value) -> Result<Exp
     }
 }
 
-// One item.
-#[cycle(forms)]
-#[inline(always)]
-fn read_item(alloc: Global, tables: &Tables, item: Item, value: &Value) -> Result<Part, JsonError>
-    ensures ok { IfOk result (λ part. read_as (declared tables.now) (item_view item) (view value.now)
-        ≡ Some (part_view part)) }
-    ensures err { IfErr result (IsErrorOf (asked_form (names_of (declared tables.now)) (item_view item))
-        (view value.now)) }
-{
-    match item {
-        Item::Form(kind) => match read_form(alloc, tables, kind, value) {
-            Ok(part) => Ok(part),
-            Err(error) => Err(error),
-        },
-        Item::Leaf(leaf) => match read_leaf(alloc, tables, leaf, value) {
-            Ok(part) => Ok(part),
-            Err(error) => Err(error),
-        },
-    }
-}
-
 // What has no forms.
-fn read_leaf(alloc: Global, tables: &Tables, leaf: Leaf, value: &Value) -> Result<Part, JsonError>
-    ensures ok { IfOk result (λ part. leaf_of (declared tables.now) leaf (view value.now) ≡ Some (part_view part)) }
-    ensures err { IfErr result (IsErrorOf (leaf_form (names_of (declared tables.now)) leaf) (view value.now)) }
+fn read_leaf(
+    alloc: Global,
+    tables: &Tables,
+    which: Leaf,
+    value: &Value,
+) -> Result<Arg, JsonError>
+    ensures ok { IfOk result (λ arg. leaf_of (declared tables.now) which (view value.now) ≡ Some (arg_view arg)) }
+    ensures fit { IfOk result (λ arg. Fits (leaf which) (arg_view arg)) }
+    ensures err { IfErr result (IsErrorOf (leaf_form (names_of (declared tables.now)) which) (view value.now)) }
 {
-    match leaf {
+    match which {
         Leaf::Name => match read_text(alloc, value) {
-            Ok(name) => Ok(Part::Name(name)),
+            Ok(name) => Ok(Arg::Name(name)),
             Err(error) => Err(error),
         },
         Leaf::Value => match read_literal(alloc, value) {
             Ok(literal) => {
                 let literal = Box::new(alloc, literal)?;
-                Ok(Part::Literal(literal))
+                Ok(Arg::Literal(literal))
             }
             Err(error) => Err(error),
         },
         Leaf::Digits => match read_number_text(alloc, value) {
             Ok(literal) => {
                 let literal = Box::new(alloc, literal)?;
-                Ok(Part::Literal(literal))
+                Ok(Arg::Literal(literal))
             }
             Err(error) => Err(error),
         },
         Leaf::Typed => match read_typed(alloc, value) {
             Ok(literal) => {
                 let literal = Box::new(alloc, literal)?;
-                Ok(Part::Literal(literal))
+                Ok(Arg::Literal(literal))
             }
             Err(error) => Err(error),
         },
         Leaf::Operator => match read_operator(alloc, value) {
-            Ok(operator) => Ok(Part::Operator(operator)),
+            Ok(operator) => Ok(Arg::Operator(operator)),
             Err(error) => Err(error),
         },
         Leaf::Dtype => match read_type(alloc, value) {
             Ok(dtype) => {
                 let dtype = Box::new(alloc, dtype)?;
-                Ok(Part::Dtype(dtype))
+                Ok(Arg::Dtype(dtype))
             }
             Err(error) => Err(error),
         },
         Leaf::Mode => match read_mode(alloc, value) {
-            Ok(mode) => Ok(Part::Mode(mode)),
+            Ok(mode) => Ok(Arg::Mode(mode)),
             Err(error) => Err(error),
         },
         Leaf::Table => match read_table_name(alloc, tables, value) {
-            Ok((number, schema)) => Ok(Part::Table(number, schema)),
+            Ok((number, schema)) => Ok(Arg::Table(number, schema)),
             Err(error) => Err(error),
         },
         Leaf::Columns => match read_columns(alloc, value) {
             Ok(schema) => {
                 let schema = Box::new(alloc, schema)?;
-                Ok(Part::Columns(schema))
+                Ok(Arg::Columns(schema))
             }
             Err(error) => Err(error),
         },
         Leaf::Nothing => match read_nothing(alloc, value) {
-            Ok(part) => Ok(part),
+            Ok(()) => Ok(Arg::Nothing),
             Err(error) => Err(error),
         },
     }
 }
 
 // Null.
-fn read_nothing(alloc: Global, value: &Value) -> Result<Part, JsonError>
-    ensures ok { IfOk result (λ part. nothing_of (view value.now) ≡ Some (part_view part)) }
+fn read_nothing(alloc: Global, value: &Value) -> Result<(), JsonError>
+    ensures ok { IfOk result (λ _. nothing_of (view value.now) ≡ Some nothing_read) }
     ensures err { IfErr result (IsErrorOf nothing_form (view value.now)) }
 {
-    if !value.is_null() {
-        return Err(JsonError::shape(alloc, value));
+    match value.as_null() {
+        None => Err(JsonError::shape(alloc, value)),
+        Some(()) => Ok(()),
     }
-    Ok(Part::Nothing)
 }
 
 // The number and the columns of the table of that name.
@@ -319,21 +311,22 @@ fn read_table_name(
 }
 
 // What a key says of what was read of its value.
-fn assemble(alloc: Global, key: Key, args: Args) -> Result<Part, JsonError>
+fn assemble(alloc: Global, key: Key, args: Args) -> Result<Arg, JsonError>
     requires { AllFit (asked_in (asks key)) (args_view args) }
-    ensures ok { IfOk result (λ part. says key (args_view args) ≡ Some (part_view part)) }
+    ensures ok { IfOk result (λ arg. says key (args_view args) ≡ Some (arg_view arg)) }
+    ensures fit { IfOk result (λ arg. Fits (a_form (kind_of key)) (arg_view arg)) }
     ensures err { IfErr result (λ error. error ≡ JsonError.NoMemory) }
 {
     match key {
         Key::Expression(key) => {
             let expr = assemble_expression(key, args)?;
             let expr = Box::new(alloc, expr)?;
-            Ok(Part::Expression(expr))
+            Ok(Arg::Expression(expr))
         }
         Key::Plan(key) => {
             let plan = assemble_plan(key, args)?;
             let plan = Box::new(alloc, plan)?;
-            Ok(Part::Plan(plan))
+            Ok(Arg::Plan(plan))
         }
     }
 }

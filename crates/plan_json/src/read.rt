@@ -10,7 +10,7 @@ ghost use Rattle.plan_json.specs.Faults.{a_plan, a_query};
 ghost use Rattle.plan_json.specs.Queries.{QueryModel, IsQueryOf, has_flags, plan_of, query_model};
 ghost use Rattle.plan_json.specs.Tables.{declared};
 
-use super::arguments::{Arg, plan};
+use super::arguments::plan;
 use super::declarations::read_tables;
 use super::error::{JsonError, Step};
 use super::forms::Kind;
@@ -78,7 +78,7 @@ fn read_plan(alloc: Global, tables: &Tables, value: &Value) -> Result<DslPlan, J
     ensures err { IfErr result (IsErrorOf (a_plan (names_of (declared tables.now))) (view value.now)) }
 {
     match read_form(alloc, tables, Kind::Plan, value) {
-        Ok(part) => Ok(Box::into_inner(plan(Arg::One(part)))),
+        Ok(arg) => Ok(Box::into_inner(plan(arg))),
         Err(error) => Err(error),
     }
 }

@@ -35,6 +35,15 @@ impl Schema {
         }
     }
 
+    /// A schema without columns, with room for so many.
+    pub fn with_capacity(alloc: Global, room: usize) -> Result<Schema, PlanError>
+        ensures ok { IfOk result (λ schema. columns schema ≡ []) }
+        ensures err { IfErr result (λ error. error ≡ no_memory) }
+    {
+        let fields = IndexMap::with_capacity(alloc, room)?;
+        Ok(Schema { fields })
+    }
+
     /// How many columns there are.
     pub fn len(&self) -> usize
         ensures { result ≡ length (columns self.now) }
@@ -242,7 +251,7 @@ impl Schema {
         ensures ok { IfOk result (λ copy. columns copy ≡ columns self.now) }
         ensures err { IfErr result (λ error. error ≡ no_memory) }
     {
-        let mut copy = Schema::new(alloc);
+        let mut copy = Schema::with_capacity(alloc, self.len())?;
         for (name, dtype) in self.fields.iter() {
             let name = name.try_clone(alloc)?;
             let dtype = dtype.try_clone(alloc)?;

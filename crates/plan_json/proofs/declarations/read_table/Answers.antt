@@ -1,17 +1,16 @@
 use Rattle.std.proofs.Common.{codes, refl}
-use Rattle.serde_json.specs.View.{view}
 use Rattle.plan_types.specs.Schemas.{names_of}
-use Rattle.plan_json.specs.Faults.{a_table, a_new_name, column_list, part, key, table_part}
+use Rattle.plan_json.specs.Faults.{a_table, a_new_name, column_list, table_part}
 use Rattle.plan_json.specs.Tables.{declared}
-use Rattle.plan_json.proofs.FaultLemmas.{error_below, part_in}
+use Rattle.plan_json.proofs.FaultLemmas.{part_in}
 use Rattle.plan_json.proofs.declarations.read_table.Goals as goal
 
 pub returns-in-Err-clause-err : goal.returns-in-Err-clause-err
 returns-in-Err-clause-err c =
     let names = names_of (declared c.args.before.now) in
-    error_below (a_table names) _ (key (codes "name")) (part (a_new_name names) (view c.in-Some.name.now)) _ _ (part_in (table_part names (codes "name")) _ _ _ c.in-Some.ensures refl) c.in-Err.ensures.err c.below.ensures
+    c.below.ensures (a_table names) (a_new_name names) _ _ (part_in (table_part names (codes "name")) _ _ _ c.in-Some.ensures refl) c.in-Err.ensures.err
 
 pub returns-in-Err-read_columns-clause-err : goal.returns-in-Err-read_columns-clause-err
 returns-in-Err-read_columns-clause-err c =
     let names = names_of (declared c.args.before.now) in
-    error_below (a_table names) _ (key (codes "columns")) (part column_list (view c.in-Some.columns.now)) _ _ (part_in (table_part names (codes "columns")) _ _ _ c.in-Some.ensures refl) c.in-Err-read_columns.ensures.err c.below-in-Err-read_columns.ensures
+    c.below-in-Err-read_columns.ensures (a_table names) column_list _ _ (part_in (table_part names (codes "columns")) _ _ _ c.in-Some.ensures refl) c.in-Err-read_columns.ensures.err

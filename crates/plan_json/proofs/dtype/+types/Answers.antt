@@ -2,21 +2,16 @@ use Rattle.std.proofs.Common.{Some, map, option_map, refl, sym, ap, ◌∙◌, a
 use Rattle.std.proofs.lemmas.List.{map-append}
 use Rattle.serde_json.specs.View.{view, items_view}
 use Rattle.plan_types.specs.Types.{field_of}
-use Rattle.plan_json.specs.Faults.{a_column, a_text, a_type, column_part, field_list, part, key, number, type_form, type_key_form}
+use Rattle.plan_json.specs.Faults.{a_column, a_text, a_type, column_part, field_list, type_form, type_key_form}
 use Rattle.plan_json.specs.Leaves.{column_of}
+use Rattle.plan_json.specs.Looking.{all_of}
 use Rattle.plan_json.proofs.DeclarationLemmas.{struct_all, type_by_key}
-use Rattle.plan_json.proofs.FaultLemmas.{error_below, item_in, key_in, part_in}
-use Rattle.plan_json.proofs.ItemLemmas.{all_of-more}
+use Rattle.plan_json.proofs.FaultLemmas.{item_in, key_in, part_in}
+use Rattle.plan_json.proofs.ItemLemmas.{all_of-more, all_taken}
 use Rattle.plan_json.proofs.LookingLemmas.{depth-item, depth-only_member}
 use Rattle.plan_json.proofs.dtype.+types.Goals as goal
 
 -- ---- a type
-
-pub read_type-returns-in-Err-clause-err : goal.read_type-returns-in-Err-clause-err
-read_type-returns-in-Err-clause-err t c =
-    error_below a_type _ (key c.in-Some-find_type.word.now) (part (type_form c.in-Some-find_type.key) (view c.in-Some-only_member.inner.now)) _ _
-    (key_in type_key_form _ _ _ _ _ c.in-Some-only_member.ensures c.in-Some-find_type.ensures.word (ap (option_map (λ r. type_form r.1)) (sym c.in-Some-find_type.ensures.row)))
-    c.in-Err.ensures.err c.below.ensures
 
 pub read_type-returns-in-Ok-clause-ok : goal.read_type-returns-in-Ok-clause-ok
 read_type-returns-in-Ok-clause-ok t c =
@@ -28,26 +23,12 @@ read_type-read_keyed-requires t c =
 
 -- ---- a field
 
-pub read_column-returns-in-Err-clause-err : goal.read_column-returns-in-Err-clause-err
-read_column-returns-in-Err-clause-err t c =
-    error_below a_column _ (number 0) (part a_text (view c.in-Some.name.now)) _ _ (part_in (column_part 0) _ _ _ c.in-Some.ensures refl) c.in-Err.ensures.err c.below.ensures
-
-pub read_column-returns-in-Err-read_type-clause-err : goal.read_column-returns-in-Err-read_type-clause-err
-read_column-returns-in-Err-read_type-clause-err t c =
-    error_below a_column _ (number 1) (part a_type (view c.in-Some.dtype.now)) _ _ (part_in (column_part 1) _ _ _ c.in-Some.ensures refl) c.in-Err-read_type.ensures.err c.below-in-Err-read_type.ensures
-
 -- ---- a list of fields
 
 pub read_fields-read_column-requires : goal.read_fields-read_column-requires
 read_fields-read_column-requires t c =
     let below = depth-item _ c.as_slice-values.result.now c.loop-number.number _ (ap (λ vs. Some (items_view vs)) c.as_slice-values.ensures.value ∙ c.in-Some.ensures) c.loop-number-test.true c.index-values-number.is in
     (omega (arith, below, c.decreases), tt)
-
-pub read_fields-returns-in-Err-clause-err : goal.read_fields-returns-in-Err-clause-err
-read_fields-returns-in-Err-clause-err t c =
-    error_below field_list _ (number c.loop-number.number) (part a_column (view c.index-values-number.result)) _ _
-    (item_in a_column _ c.as_slice-values.result.now c.loop-number.number _ (ap (λ vs. Some (items_view vs)) c.as_slice-values.ensures.value ∙ c.in-Some.ensures) c.loop-number-test.true c.index-values-number.is)
-    c.in-Err.ensures.err c.below.ensures
 
 pub read_fields-loop-number-preserved : goal.read_fields-loop-number-preserved
 read_fields-loop-number-preserved t c =
@@ -56,4 +37,22 @@ read_fields-loop-number-preserved t c =
 
 pub read_fields-returns-after-loop-number-clause-ok : goal.read_fields-returns-after-loop-number-clause-ok
 read_fields-returns-after-loop-number-clause-ok t c =
-    struct_all _ c.as_slice-values.result.now c.loop-number.number c.loop-number.items (ap (λ vs. Some (items_view vs)) c.as_slice-values.ensures.value ∙ c.in-Some.ensures) (omega arith) c.loop-number.invariant
+    struct_all _ _ c.loop-number.items (ap (λ vs. Some (items_view vs)) c.as_slice-values.ensures.value ∙ c.in-Some.ensures) (sym (all_taken (all_of column_of) c.as_slice-values.result.now c.loop-number.number (omega arith)) ∙ c.loop-number.invariant)
+
+-- ---- errors of parts
+
+pub read_type-returns-in-Err-clause-err : goal.read_type-returns-in-Err-clause-err
+read_type-returns-in-Err-clause-err t c =
+    c.below.ensures a_type (type_form c.in-Some-find_type.key) _ (view c.in-Some-only_member.inner.now)
+    (key_in type_key_form _ _ _ _ _ c.in-Some-only_member.ensures c.in-Some-find_type.ensures.word (ap (option_map (λ r. type_form r.1)) (sym c.in-Some-find_type.ensures.row))) c.in-Err.ensures.err
+
+pub read_column-returns-in-Err-clause-err : goal.read_column-returns-in-Err-clause-err
+read_column-returns-in-Err-clause-err t c = c.below.ensures a_column a_text _ _ (part_in (column_part 0) _ _ _ c.in-Some.ensures refl) c.in-Err.ensures.err
+
+pub read_column-returns-in-Err-read_type-clause-err : goal.read_column-returns-in-Err-read_type-clause-err
+read_column-returns-in-Err-read_type-clause-err t c = c.below-in-Err-read_type.ensures a_column a_type _ _ (part_in (column_part 1) _ _ _ c.in-Some.ensures refl) c.in-Err-read_type.ensures.err
+
+pub read_fields-returns-in-Err-clause-err : goal.read_fields-returns-in-Err-clause-err
+read_fields-returns-in-Err-clause-err t c =
+    c.below.ensures field_list a_column _ _
+    (item_in a_column _ c.as_slice-values.result.now c.loop-number.number _ (ap (λ vs. Some (items_view vs)) c.as_slice-values.ensures.value ∙ c.in-Some.ensures) c.loop-number-test.true c.index-values-number.is) c.in-Err.ensures.err

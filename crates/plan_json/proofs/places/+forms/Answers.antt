@@ -4,52 +4,31 @@ use Rattle.serde_json.specs.View.{view, items_view}
 use Rattle.plan_types.specs.Schemas.{names_of}
 use Rattle.plan_dsl.specs.Expressions.{tree_of}
 use Rattle.plan_json.specs.Arguments.{args_view}
-use Rattle.plan_json.specs.Faults.{keyed_form, items_of, list_of, asked_form, places_form, part, part_of, key, number}
+use Rattle.plan_json.specs.Faults.{keyed_form, items_of, list_of, asked_form, places_form, part_of, number}
 use Rattle.plan_json.specs.Forms.{AllFit, asked_in, expression, expression_read, place_view, places_view}
-use Rattle.plan_json.specs.Queries.{places_as}
+use Rattle.plan_json.specs.Queries.{each_as, places_as}
 use Rattle.plan_json.specs.Tables.{declared}
-use Rattle.plan_json.specs.declared.forms.Kind.TheVariants as kinds
-use Rattle.plan_json.proofs.FaultLemmas.{error_below, IsErrorOf-own, item_in}
-use Rattle.plan_json.proofs.FormLemmas.{form_read, places_fit, plan_fits, key_part, two_read, three_read, other_than_two, other_than_three, each_more, each_read}
+use Rattle.plan_json.proofs.FaultLemmas.{IsErrorOf-own, item_in}
+use Rattle.plan_json.proofs.FormLemmas.{form_read, key_part, expressions_fit, two_read, three_read, other_than_two, other_than_three, each_more, each_read}
+use Rattle.plan_json.proofs.ItemLemmas.{all_taken}
 use Rattle.plan_json.proofs.LookingLemmas.{array-from_two_items, array-from_three_items, depth-item, depth-two_items, depth-three_items}
 use Rattle.plan_json.proofs.places.+forms.Goals as goal
 
 -- ---- a form
 
-pub read_form-returns-in-Err-clause-err : goal.read_form-returns-in-Err-clause-err
-read_form-returns-in-Err-clause-err t c =
-    let names = names_of (declared c.args.tables.now) in
-    error_below (keyed_form names c.args.kind) _ (key c.in-Some-find_key.word.now) (part (places_form names (places_view c.places_of.result)) (view c.in-Some.inner.now)) _ _
-    (key_part names c.args.kind _ _ _ (c.in-Some-find_key.word.now, c.in-Some-find_key.key) _ c.in-Some.ensures c.in-Some-find_key.ensures.row c.in-Some-find_key.ensures.word c.places_of.ensures.asks)
-    c.in-Err.ensures.err c.below.ensures
-
 pub read_form-assemble-requires : goal.read_form-assemble-requires
-read_form-assemble-requires t c =
-    subst (λ p. AllFit (asked_in p) (args_view c.in-Ok.args)) c.places_of.ensures.asks
-    (places_fit (declared c.args.tables.now) (places_view c.places_of.result) (view c.in-Some.inner.now) _ c.in-Ok.ensures.ok)
+read_form-assemble-requires t c = subst (λ p. AllFit (asked_in p) (args_view c.in-Ok.args)) c.places_of.ensures.asks c.in-Ok.ensures.fit
 
-pub read_form-returns-in_ok-part-in-Ok-clause-ok : goal.read_form-returns-in_ok-part-in-Ok-clause-ok
-read_form-returns-in_ok-part-in-Ok-clause-ok t c =
+pub read_form-returns-in_ok-arg-in-Ok-clause-ok : goal.read_form-returns-in_ok-arg-in-Ok-clause-ok
+read_form-returns-in_ok-arg-in-Ok-clause-ok t c =
     form_read (declared c.args.tables.now) c.args.kind _ _ _ (c.in-Some-find_key.word.now, c.in-Some-find_key.key) _ _ c.in-Some.ensures c.in-Some-find_key.ensures.row
     (subst (λ p. places_as (declared c.args.tables.now) p (view c.in-Some.inner.now) ≡ Some (args_view c.in-Ok.args)) c.places_of.ensures.asks c.in-Ok.ensures.ok)
-    c.in_ok-part-in-Ok.ensures.ok
+    c.in_ok-arg-in-Ok.ensures.ok
 
 -- ---- a list of exactly these
 
 pub read_two-returns-in-None-clause-err : goal.read_two-returns-in-None-clause-err
 read_two-returns-in-None-clause-err t c = IsErrorOf-own _ _ _ _ c.shape.ensures (other_than_two (names_of (declared c.args.tables.now)) (place_view c.args.first) (place_view c.args.second) _ c.in-None.ensures)
-
-pub read_two-returns-in-Err-clause-err : goal.read_two-returns-in-Err-clause-err
-read_two-returns-in-Err-clause-err t c =
-    let names = names_of (declared c.args.tables.now) in
-    error_below (items_of names (place_view c.args.first ∷ place_view c.args.second ∷ [])) _ (number 0) (part (asked_form names (place_view c.args.first)) (view c.in-Some.a.now)) _ _
-    (ap (part_of (items_of names (place_view c.args.first ∷ place_view c.args.second ∷ [])) (number 0)) (array-from_two_items _ _ _ c.in-Some.ensures)) c.in-Err.ensures.err c.below.ensures
-
-pub read_two-returns-in-Err-read_place-clause-err : goal.read_two-returns-in-Err-read_place-clause-err
-read_two-returns-in-Err-read_place-clause-err t c =
-    let names = names_of (declared c.args.tables.now) in
-    error_below (items_of names (place_view c.args.first ∷ place_view c.args.second ∷ [])) _ (number 1) (part (asked_form names (place_view c.args.second)) (view c.in-Some.b.now)) _ _
-    (ap (part_of (items_of names (place_view c.args.first ∷ place_view c.args.second ∷ [])) (number 1)) (array-from_two_items _ _ _ c.in-Some.ensures)) c.in-Err-read_place.ensures.err c.below-in-Err-read_place.ensures
 
 pub read_two-returns-in-Ok-read_place-clause-ok : goal.read_two-returns-in-Ok-read_place-clause-ok
 read_two-returns-in-Ok-read_place-clause-ok t c = two_read (declared c.args.tables.now) (place_view c.args.first) (place_view c.args.second) _ _ _ _ _ c.in-Some.ensures c.in-Ok.ensures.ok c.in-Ok-read_place.ensures.ok
@@ -66,24 +45,6 @@ read_three-read_place-requires-in-Ok-read_place t c = let below = depth-three_it
 pub read_three-returns-in-None-clause-err : goal.read_three-returns-in-None-clause-err
 read_three-returns-in-None-clause-err t c = IsErrorOf-own _ _ _ _ c.shape.ensures (other_than_three (names_of (declared c.args.tables.now)) (place_view c.args.first) (place_view c.args.second) (place_view c.args.third) _ c.in-None.ensures)
 
-pub read_three-returns-in-Err-clause-err : goal.read_three-returns-in-Err-clause-err
-read_three-returns-in-Err-clause-err t c =
-    let names = names_of (declared c.args.tables.now) in
-    error_below (items_of names (place_view c.args.first ∷ place_view c.args.second ∷ place_view c.args.third ∷ [])) _ (number 0) (part (asked_form names (place_view c.args.first)) (view c.in-Some.a.now)) _ _
-    (ap (part_of (items_of names (place_view c.args.first ∷ place_view c.args.second ∷ place_view c.args.third ∷ [])) (number 0)) (array-from_three_items _ _ _ _ c.in-Some.ensures)) c.in-Err.ensures.err c.below.ensures
-
-pub read_three-returns-in-Err-read_place-clause-err : goal.read_three-returns-in-Err-read_place-clause-err
-read_three-returns-in-Err-read_place-clause-err t c =
-    let names = names_of (declared c.args.tables.now) in
-    error_below (items_of names (place_view c.args.first ∷ place_view c.args.second ∷ place_view c.args.third ∷ [])) _ (number 1) (part (asked_form names (place_view c.args.second)) (view c.in-Some.b.now)) _ _
-    (ap (part_of (items_of names (place_view c.args.first ∷ place_view c.args.second ∷ place_view c.args.third ∷ [])) (number 1)) (array-from_three_items _ _ _ _ c.in-Some.ensures)) c.in-Err-read_place.ensures.err c.below-in-Err-read_place.ensures
-
-pub read_three-returns-in-Err-read_place-2-clause-err : goal.read_three-returns-in-Err-read_place-2-clause-err
-read_three-returns-in-Err-read_place-2-clause-err t c =
-    let names = names_of (declared c.args.tables.now) in
-    error_below (items_of names (place_view c.args.first ∷ place_view c.args.second ∷ place_view c.args.third ∷ [])) _ (number 2) (part (asked_form names (place_view c.args.third)) (view c.in-Some.c.now)) _ _
-    (ap (part_of (items_of names (place_view c.args.first ∷ place_view c.args.second ∷ place_view c.args.third ∷ [])) (number 2)) (array-from_three_items _ _ _ _ c.in-Some.ensures)) c.in-Err-read_place-2.ensures.err c.below-in-Err-read_place-2.ensures
-
 pub read_three-returns-in-Ok-read_place-2-clause-ok : goal.read_three-returns-in-Ok-read_place-2-clause-ok
 read_three-returns-in-Ok-read_place-2-clause-ok t c = three_read (declared c.args.tables.now) (place_view c.args.first) (place_view c.args.second) (place_view c.args.third) _ _ _ _ _ _ _ c.in-Some.ensures c.in-Ok.ensures.ok c.in-Ok-read_place.ensures.ok c.in-Ok-read_place-2.ensures.ok
 
@@ -94,23 +55,55 @@ read_expressions-read_form-requires t c =
     let below = depth-item _ c.as_slice-values.result.now c.loop-number.number _ (ap (λ vs. Some (items_view vs)) c.as_slice-values.ensures.value ∙ c.in-Some.ensures) c.loop-number-test.true c.index-values-number.is in
     (omega (arith, below, c.decreases), tt)
 
-pub read_expressions-returns-in-Err-clause-err : goal.read_expressions-returns-in-Err-clause-err
-read_expressions-returns-in-Err-clause-err t c =
-    let names = names_of (declared c.args.tables.now) in
-    error_below (list_of names expression) _ (number c.loop-number.number) (part (asked_form names expression) (view c.index-values-number.result)) _ _
-    (item_in (asked_form names expression) _ c.as_slice-values.result.now c.loop-number.number _ (ap (λ vs. Some (items_view vs)) c.as_slice-values.ensures.value ∙ c.in-Some.ensures) c.loop-number-test.true c.index-values-number.is)
-    c.in-Err.ensures.err c.below.ensures
-
-pub read_expressions-expression-expr-requires : goal.read_expressions-expression-expr-requires
-read_expressions-expression-expr-requires t c = plan_fits (declared c.args.tables.now) kinds.Expression (view c.index-values-number.result) _ c.in-Ok.ensures.ok
-
 pub read_expressions-loop-number-preserved : goal.read_expressions-loop-number-preserved
 read_expressions-loop-number-preserved t c =
     let items = c.loop-number.items.items in
-    let expr = c.in-Ok.ensures.ok ∙ ap Some c.expression-expr.ensures ∙ ap (λ x. Some (expression_read (tree_of x))) (sym c.into_inner.ensures) in
-    each_more (declared c.args.tables.now) expression c.as_slice-values.result.now c.loop-number.number _ _ _ c.loop-number-test.true c.index-values-number.is c.loop-number.invariant expr
+    each_more (declared c.args.tables.now) expression c.as_slice-values.result.now c.loop-number.number _ _ _ c.loop-number-test.true c.index-values-number.is c.loop-number.invariant (c.in-Ok.ensures.ok ∙ ap Some c.expression.ensures ∙ ap (λ x. Some (expression_read (tree_of x))) (sym c.into_inner.ensures))
     ∙ ap Some (sym (ap (λ l. map expression_read (map tree_of l)) c.in_ok-push-in-Ok.ensures.items ∙ ap (map expression_read) (map-append tree_of items _) ∙ map-append expression_read (map tree_of items) _))
 
 pub read_expressions-returns-after-loop-number-clause-ok : goal.read_expressions-returns-after-loop-number-clause-ok
 read_expressions-returns-after-loop-number-clause-ok t c =
-    each_read (declared c.args.tables.now) expression _ c.as_slice-values.result.now c.loop-number.number _ (ap (λ vs. Some (items_view vs)) c.as_slice-values.ensures.value ∙ c.in-Some.ensures) (omega arith) c.loop-number.invariant
+    let tables = declared c.args.tables.now in
+    each_read tables expression _ _ _ (ap (λ vs. Some (items_view vs)) c.as_slice-values.ensures.value ∙ c.in-Some.ensures) (sym (all_taken (each_as tables expression) c.as_slice-values.result.now c.loop-number.number (omega arith)) ∙ c.loop-number.invariant)
+
+pub read_expressions-returns-after-loop-number-clause-fit : goal.read_expressions-returns-after-loop-number-clause-fit
+read_expressions-returns-after-loop-number-clause-fit t c = record { fit = expressions_fit (map tree_of c.loop-number.items.items) }
+
+-- ---- errors of parts
+
+pub read_form-returns-in-Err-clause-err : goal.read_form-returns-in-Err-clause-err
+read_form-returns-in-Err-clause-err t c =
+    let names = names_of (declared c.args.tables.now) in
+    c.below.ensures (keyed_form names c.args.kind) (places_form names (places_view c.places_of.result)) _ (view c.in-Some.inner.now)
+    (key_part names c.args.kind _ _ _ (c.in-Some-find_key.word.now, c.in-Some-find_key.key) _ c.in-Some.ensures c.in-Some-find_key.ensures.row c.in-Some-find_key.ensures.word c.places_of.ensures.asks) c.in-Err.ensures.err
+
+pub read_two-returns-in-Err-clause-err : goal.read_two-returns-in-Err-clause-err
+read_two-returns-in-Err-clause-err t c =
+    let form = items_of (names_of (declared c.args.tables.now)) (place_view c.args.first ∷ place_view c.args.second ∷ []) in
+    c.below.ensures form _ _ _ (ap (part_of form (number 0)) (array-from_two_items _ _ _ c.in-Some.ensures)) c.in-Err.ensures.err
+
+pub read_two-returns-in-Err-read_place-clause-err : goal.read_two-returns-in-Err-read_place-clause-err
+read_two-returns-in-Err-read_place-clause-err t c =
+    let form = items_of (names_of (declared c.args.tables.now)) (place_view c.args.first ∷ place_view c.args.second ∷ []) in
+    c.below-in-Err-read_place.ensures form _ _ _ (ap (part_of form (number 1)) (array-from_two_items _ _ _ c.in-Some.ensures)) c.in-Err-read_place.ensures.err
+
+pub read_three-returns-in-Err-clause-err : goal.read_three-returns-in-Err-clause-err
+read_three-returns-in-Err-clause-err t c =
+    let form = items_of (names_of (declared c.args.tables.now)) (place_view c.args.first ∷ place_view c.args.second ∷ place_view c.args.third ∷ []) in
+    c.below.ensures form _ _ _ (ap (part_of form (number 0)) (array-from_three_items _ _ _ _ c.in-Some.ensures)) c.in-Err.ensures.err
+
+pub read_three-returns-in-Err-read_place-clause-err : goal.read_three-returns-in-Err-read_place-clause-err
+read_three-returns-in-Err-read_place-clause-err t c =
+    let form = items_of (names_of (declared c.args.tables.now)) (place_view c.args.first ∷ place_view c.args.second ∷ place_view c.args.third ∷ []) in
+    c.below-in-Err-read_place.ensures form _ _ _ (ap (part_of form (number 1)) (array-from_three_items _ _ _ _ c.in-Some.ensures)) c.in-Err-read_place.ensures.err
+
+pub read_three-returns-in-Err-read_place-2-clause-err : goal.read_three-returns-in-Err-read_place-2-clause-err
+read_three-returns-in-Err-read_place-2-clause-err t c =
+    let form = items_of (names_of (declared c.args.tables.now)) (place_view c.args.first ∷ place_view c.args.second ∷ place_view c.args.third ∷ []) in
+    c.below-in-Err-read_place-2.ensures form _ _ _ (ap (part_of form (number 2)) (array-from_three_items _ _ _ _ c.in-Some.ensures)) c.in-Err-read_place-2.ensures.err
+
+pub read_expressions-returns-in-Err-clause-err : goal.read_expressions-returns-in-Err-clause-err
+read_expressions-returns-in-Err-clause-err t c =
+    let asked = asked_form (names_of (declared c.args.tables.now)) expression in
+    c.below.ensures (list_of (names_of (declared c.args.tables.now)) expression) asked _ _
+    (item_in asked _ c.as_slice-values.result.now c.loop-number.number _ (ap (λ vs. Some (items_view vs)) c.as_slice-values.ensures.value ∙ c.in-Some.ensures) c.loop-number-test.true c.index-values-number.is) c.in-Err.ensures.err

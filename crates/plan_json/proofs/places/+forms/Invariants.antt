@@ -8,25 +8,22 @@ use Rattle.plan_json.specs.Tables.{declared}
 use Rattle.plan_json.proofs.places.+forms.Given as goal
 
 abbrev pub decreases-read_form : goal.decreases-read_form
-decreases-read_form l = 5 * depth (view l.value.now)
-
-abbrev pub decreases-read_item : goal.decreases-read_item
-decreases-read_item l = 5 * depth (view l.value.now) + 1
+decreases-read_form l = 4 * depth (view l.value.now)
 
 abbrev pub decreases-read_expressions : goal.decreases-read_expressions
-decreases-read_expressions l = 5 * depth (view l.value.now) + 2
+decreases-read_expressions l = 4 * depth (view l.value.now) + 1
 
 abbrev pub decreases-read_place : goal.decreases-read_place
-decreases-read_place l = 5 * depth (view l.value.now) + 3
+decreases-read_place l = 4 * depth (view l.value.now) + 2
 
 abbrev pub decreases-read_two : goal.decreases-read_two
-decreases-read_two l = 5 * depth (view l.value.now)
+decreases-read_two l = 4 * depth (view l.value.now)
 
 abbrev pub decreases-read_three : goal.decreases-read_three
-decreases-read_three l = 5 * depth (view l.value.now)
+decreases-read_three l = 4 * depth (view l.value.now)
 
 abbrev pub decreases-read_places : goal.decreases-read_places
-decreases-read_places l = 5 * depth (view l.value.now) + 4
+decreases-read_places l = 4 * depth (view l.value.now) + 3
 
 abbrev pub invariant-read_expressions-loop-number : goal.invariant-read_expressions-loop-number
 invariant-read_expressions-loop-number l =

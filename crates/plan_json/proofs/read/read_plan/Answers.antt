@@ -1,13 +1,7 @@
 use Rattle.std.proofs.Common.{Some, option_and_then, ap, sym, ◌∙◌}
-use Rattle.serde_json.specs.View.{view}
 use Rattle.plan_dsl.specs.Plans.{plan_tree}
 use Rattle.plan_json.specs.Queries.{has_flags, plan_in}
-use Rattle.plan_json.specs.Tables.{declared}
-use Rattle.plan_json.proofs.FormLemmas.{plan_fits}
 use Rattle.plan_json.proofs.read.read_plan.Goals as goal
-
-pub plan-requires : goal.plan-requires
-plan-requires c = plan_fits (declared c.args.tables.now) _ (view c.args.value.now) _ c.in-Ok.ensures.ok
 
 pub returns-in-Ok-clause-ok : goal.returns-in-Ok-clause-ok
 returns-in-Ok-clause-ok c =
