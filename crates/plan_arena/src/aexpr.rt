@@ -8,6 +8,7 @@ use crate::arena::Node;
 use crate::inputs::Inputs;
 use plan_dsl::literal::LiteralValue;
 use plan_dsl::operator::Operator;
+use plan_dsl::sort_options::SortOptions;
 use plan_types::dtype::{CastOptions, DataType};
 use plan_types::error::PlanError;
 use plan_types::text::PlSmallStr;
@@ -44,6 +45,24 @@ pub enum AExpr {
         offset: Node,
         length: Node,
     },
+    /// The values of each list, and a null in place of none. Values of other types stay.
+    Explode(Node),
+    /// The value at each index, or at the one index.
+    Gather {
+        expr: Node,
+        idx: Node,
+        returns_scalar: bool,
+    },
+    /// The values beside which the other node is true.
+    Filter {
+        input: Node,
+        by: Node,
+    },
+    /// The values in order.
+    Sort {
+        expr: Node,
+        options: SortOptions,
+    },
 }
 
 impl AExpr {
@@ -60,6 +79,10 @@ impl AExpr {
                 offset,
                 length,
             } => Inputs::three(*input, *offset, *length),
+            AExpr::Explode(input) => Inputs::one(*input),
+            AExpr::Gather { expr, idx, .. } => Inputs::two(*expr, *idx),
+            AExpr::Filter { input, by } => Inputs::two(*input, *by),
+            AExpr::Sort { expr, .. } => Inputs::one(*expr),
         }
     }
 
@@ -109,6 +132,10 @@ impl AExpr {
                 offset,
                 length,
             } => set_three(input, offset, length, inputs),
+            AExpr::Explode(input) => *input = inputs[0],
+            AExpr::Gather { expr, idx, .. } => set_two(expr, idx, inputs),
+            AExpr::Filter { input, by } => set_two(input, by, inputs),
+            AExpr::Sort { expr, .. } => *expr = inputs[0],
         }
     }
 }

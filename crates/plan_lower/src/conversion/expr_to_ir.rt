@@ -97,5 +97,35 @@ pub(crate) fn add_nodes(expr: Expr, arena: &mut Arena<AExpr>) -> Result<Node, Pl
             })?;
             Ok(node)
         }
+        Expr::Explode(input) => {
+            let input = add_nodes(Box::into_inner(input), arena)?;
+            let node = arena.add(AExpr::Explode(input))?;
+            Ok(node)
+        }
+        Expr::Gather {
+            expr,
+            idx,
+            returns_scalar,
+        } => {
+            let expr = add_nodes(Box::into_inner(expr), arena)?;
+            let idx = add_nodes(Box::into_inner(idx), arena)?;
+            let node = arena.add(AExpr::Gather {
+                expr,
+                idx,
+                returns_scalar,
+            })?;
+            Ok(node)
+        }
+        Expr::Filter { input, by } => {
+            let input = add_nodes(Box::into_inner(input), arena)?;
+            let by = add_nodes(Box::into_inner(by), arena)?;
+            let node = arena.add(AExpr::Filter { input, by })?;
+            Ok(node)
+        }
+        Expr::Sort { expr, options } => {
+            let expr = add_nodes(Box::into_inner(expr), arena)?;
+            let node = arena.add(AExpr::Sort { expr, options })?;
+            Ok(node)
+        }
     }
 }
