@@ -271,6 +271,10 @@ fn read_leaf(
             Ok(()) => Ok(Arg::Nothing),
             Err(error) => Err(error),
         },
+        Leaf::Flag => match value.as_bool() {
+            None => Err(JsonError::shape(alloc, value)),
+            Some(flag) => Ok(Arg::Flag(flag)),
+        },
     }
 }
 
