@@ -1,31 +1,31 @@
 -- Types, columns and tables that are read one by one, and the tables' map.
-use Rattle.std.proofs.Common.{◌≡◌, ℕ, List, [], ◌∷◌, ◌++◌, map, position, Bool, true, false, ◌||◌, cond, Option, Some, None, is_some, refl, sym, ap, ◌∙◌, Vec, Global, ◌<◌, length, get_or, take, option_and_then, not, option_map, arith, suc, ◌≤◌, ◌==◌, ◌&&◌, codes, nat_lt}
+use Rattle.std.proofs.Common.{◌≡◌, ℕ, List, [], ◌∷◌, ◌++◌, map, position, Bool, true, false, ◌||◌, cond, Option, Some, None, is_some, refl, sym, ap, ◌∙◌, Vec, Global, ◌<◌, length, get_or, take, option_and_then, not, option_map, arith, ◌≤◌, ◌==◌, ◌&&◌, codes, nat_lt}
 use Rattle.std.specs.Map.{lookup}
 use Rattle.std.specs.Option.{option_map, option_map_or}
 use Rattle.std.proofs.lemmas.Bool.{false_from_ne_true, or_parts, ltb-true, lt-ltb}
+use Rattle.std.proofs.lemmas.Map.Made.{lookup-map_values}
 use Rattle.indexmap.specs.IndexMap.{insert_entry}
 use Rattle.indexmap.proofs.MapLemmas.{some_index}
-use Rattle.plan_types.specs.Schemas.{Name, columns, same_name, names_of, is_among, Columns, type_at, with_column, repeats}
+use Rattle.plan_types.specs.Schemas.{Name, columns, same_name, names_of, is_among, Columns, type_at, repeats}
 use Rattle.plan_types.specs.declared.schema.Schema.{Schema}
 use Rattle.plan_json.specs.Looking.{both, only_member, all_of, some_of, two_members}
 use Rattle.plan_json.specs.Leaves.{table_at, text_of, type_of, struct_of, each_column, column_of, column_name, columns_of, columns_from, keyed_type, table_of, table_name, tables_of, tables_from, table_limit}
 use Rattle.plan_json.specs.Tables.{Declared, table_entry}
-use Rattle.plan_json.proofs.LookingLemmas.{both-some, both-none_first, array-from_as_array, object-from_only_member}
-use Rattle.std.proofs.lemmas.List.{take_all, map-append, length-take-le}
+use Rattle.plan_json.proofs.LookingLemmas.{array-from_as_array, object-from_only_member}
 use Rattle.plan_types.specs.Types.{Ty, fields_of as row_of, fields_from, field_of}
 use Rattle.plan_types.specs.declared.dtype.Fields.{roll-Fields}
 use Rattle.plan_types.specs.declared.field.Field.{Field}
 use Rattle.plan_types.proofs.FieldLemmas.{rolled_fields}
-use Rattle.plan_types.proofs.NameLemmas.{repeats-push, repeats-again}
-use Rattle.plan_types.proofs.SchemaLemmas.{with_column-new, is_among-type_at, IsNewName-test}
+use Rattle.plan_types.proofs.NameLemmas.{repeats-again}
+use Rattle.plan_types.proofs.SchemaLemmas.{is_among-type_at}
 use Rattle.serde_json.specs.Data.{Data, Items, array, no_items, item, object}
-use Rattle.serde_json.specs.Find.{as_array, get, get_item, get_member}
+use Rattle.serde_json.specs.Find.{as_array, get, get_item}
 use Rattle.serde_json.specs.View.{view, items_view}
 use Rattle.serde_json.specs.declared.value.Value.{Value}
-use Rattle.plan_json.specs.Faults.{FaultKind, column_list, own_fault, shape_fault, unless, table_list, a_table, number, part, part_of, table_item, declared_names}
+use Rattle.plan_json.specs.Faults.{column_list, own_fault, shape_fault, unless, table_list, a_table, number, part, part_of, table_item, declared_names}
 use Rattle.plan_json.specs.Forms.{row_named, type_rows}
 use Rattle.plan_json.specs.declared.forms.TypeKey.{TypeKey}
-use Rattle.plan_json.proofs.ItemLemmas.{some_of-names, names_split, item_at, first_items-take, both_are, chained, opened, kept}
+use Rattle.plan_json.proofs.ItemLemmas.{some_of-names, names_split, item_at, first_items-take, both_are, chained, kept}
 use Rattle.serde_json.specs.Events.{items_len, members_len}
 use Rattle.serde_json.proofs.Views.{items_len-items_view}
 
@@ -35,11 +35,6 @@ Entries = List (Name × Schema)
 pub names_of-entries : (es : Entries) → names_of (map table_entry es) ≡ names_of es
 names_of-entries [] = refl
 names_of-entries (e ∷ es) = ap (λ l. e.0 ∷ l) (names_of-entries es)
-
-lookup-entries : (test : Name → Bool) (es : Entries) → lookup test (map table_entry es) ≡ option_map columns (lookup test es)
-lookup-entries test [] = refl
-lookup-entries test (e ∷ es) =
-    elim (test e.0) as (λ b. cond b (Some (columns e.1)) (lookup test (map table_entry es)) ≡ option_map columns (cond b (Some e.1) (lookup test es))) [ true ↦ refl | false ↦ lookup-entries test es ]
 
 is_among-lookup : {A : Type 0} (es : List (Name × A)) (name : Name) → is_some (lookup (same_name name) es) ≡ is_among name (names_of es)
 is_among-lookup [] name = refl
@@ -52,10 +47,11 @@ is_among-entries es name = is_among-lookup es name ∙ ap (is_among name) (sym (
 
 pub table_at-some : (es : Entries) (name : Name) (n : ℕ) (schema : Schema) → Some n ≡ position (same_name name) (names_of es) → Some schema ≡ lookup (same_name name) es → Some (n, columns schema) ≡ table_at (map table_entry es) name
 table_at-some es name n schema at found =
-    both-some _ _ n (columns schema) (at ∙ ap (position (same_name name)) (sym (names_of-entries es))) (ap (option_map columns) found ∙ sym (lookup-entries (same_name name) es))
+    ap (λ o. both o (Some (columns schema))) (at ∙ ap (position (same_name name)) (sym (names_of-entries es)))
+    ∙ ap (both (position (same_name name) (names_of (map table_entry es)))) (ap (option_map columns) found ∙ sym (lookup-map_values columns (same_name name) es))
 
 pub table_at-none : (es : Entries) (name : Name) → None ≡ position (same_name name) (names_of es) → None ≡ table_at (map table_entry es) name
-table_at-none es name none = both-none_first _ _ (none ∙ ap (position (same_name name)) (sym (names_of-entries es)))
+table_at-none es name none = ap (λ o. both o (lookup (same_name name) (map table_entry es))) (none ∙ ap (position (same_name name)) (sym (names_of-entries es)))
 
 is_some-both : {A B : Type 0} (x : Option A) (y : Option B) → is_some x ≡ is_some y → is_some (both x y) ≡ is_some x
 is_some-both None y e = refl

@@ -78,12 +78,3 @@ key_in form_of d word row value form is same named =
     ap (λ o. option_and_then (part_if row) (option_and_then (λ (m : List ℕ × Data). option_map (λ f. (m.0, part f m.1)) (form_of m.0)) o)) (sym is)
     ∙ ap (λ o. option_and_then (part_if row) (option_map (λ f. (word, part f value)) o)) named
     ∙ ap (λ b. cond b (Some (part form value)) None) ((bytes_eq-Decides row word).1 same)
-
--- an object whose only key names no form
-pub no_key : (form_of : List ℕ → Option Form) (d : Data) (word : List ℕ) (value : Data) → Some (word, value) ≡ only_member d → form_of word ≡ None → keyed_part form_of d ≡ None
-no_key form_of d word value is none =
-    ap (option_and_then (λ (m : List ℕ × Data). option_map (λ f. (m.0, part f m.1)) (form_of m.0))) (sym is) ∙ ap (option_map (λ f. (word, part f value))) none
-
--- a value that is no object of one key
-pub no_member : (form_of : List ℕ → Option Form) (d : Data) → None ≡ only_member d → keyed_part form_of d ≡ None
-no_member form_of d none = ap (option_and_then (λ (m : List ℕ × Data). option_map (λ f. (m.0, part f m.1)) (form_of m.0))) (sym none)

@@ -1,5 +1,5 @@
 -- A fault of a float is one of a number that is held as a float, and a fault of shape is none.
-use Rattle.std.proofs.Common.{◌≡◌, Option, Some, None, Bool, true, false, cond, refl}
+use Rattle.std.proofs.Common.{◌≡◌, Option, Some, None, Bool, true, false, cond, refl, subst}
 use Rattle.std.specs.Option.{option_map_or}
 use Rattle.serde_json.specs.Data.{Data, Num, unsigned, negative, float, number}
 use Rattle.serde_json.specs.Find.{as_i64, as_u64}
@@ -26,26 +26,24 @@ Tells d BadFloat = is_float d ≡ true
 Tells d BadShape = is_float d ≡ false
 Tells d BadName = Unit {0}
 
-by_shape : (d : Data) (b : Bool) (kind : FaultKind) → is_float d ≡ b → Some (cond b BadFloat BadShape) ≡ Some kind → Tells d kind
-by_shape d true BadFloat is e = is
-by_shape d false BadShape is e = is
-by_shape d b BadName is e = tt
-by_shape d true BadShape is e = cc
-by_shape d false BadFloat is e = cc
+by_shape : (d : Data) (b : Bool) → is_float d ≡ b → Tells d (cond b BadFloat BadShape)
+by_shape d true is = is
+by_shape d false is = is
+
+of_shape : (d : Data) (kind : FaultKind) → Some (shape_fault d) ≡ Some kind → Tells d kind
+of_shape d kind e = let same : shape_fault d ≡ kind = cc in subst (Tells d) same (by_shape d (is_float d) refl)
 
 of_test : (d : Data) (b : Bool) (kind : FaultKind) → unless (shape_fault d) b ≡ Some kind → Tells d kind
 of_test d true kind e = cc
-of_test d false kind e = by_shape d (is_float d) kind refl e
+of_test d false kind e = of_shape d kind e
 
 of_name : (d : Data) (test : Name → Bool) (o : Option Name) (kind : FaultKind) → option_map_or (λ name. unless BadName (test name)) o (Some (shape_fault d)) ≡ Some kind → Tells d kind
-of_name d test None kind e = by_shape d (is_float d) kind refl e
-of_name d test (Some name) kind e = go (test name) kind e
+of_name d test None kind e = of_shape d kind e
+of_name d test (Some name) kind e = go (test name) e
   where
-    go : (b : Bool) (kind : FaultKind) → unless BadName b ≡ Some kind → Tells d kind
-    go true kind e = cc
-    go false BadName e = tt
-    go false BadShape e = cc
-    go false BadFloat e = cc
+    go : (b : Bool) → unless BadName b ≡ Some kind → Tells d kind
+    go true e = cc
+    go false e = let same : BadName ≡ kind = cc in subst (Tells d) same tt
 
 pub own_tells : (form : Form) (d : Data) (kind : FaultKind) → own_fault form d ≡ Some kind → Tells d kind
 own_tells (a_new_name before) d kind e = of_name d _ (text_of d) kind e

@@ -1,21 +1,17 @@
 -- What is read by the table of forms.
-use Rattle.std.proofs.Common.{◌≡◌, ℕ, suc, ◌+◌, ◌<◌, List, [], ◌∷◌, ◌++◌, length, get_or, take, map, Bool, true, false, cond, ◌&&◌, Some, None, is_some, option_map, option_and_then, bytes_eq, refl, sym, ap, subst, ◌∙◌, arith, ne_eqb}
-use Rattle.serde_json.specs.Find.{as_null, as_array}
+use Rattle.std.proofs.Common.{◌≡◌, ℕ, suc, List, [], ◌∷◌, map, Bool, true, false, cond, ◌&&◌, Some, None, option_map, option_and_then, bytes_eq, refl, sym, ap, subst, ◌∙◌, arith, ne_eqb}
+use Rattle.serde_json.specs.Find.{as_array}
 use Rattle.std.proofs.lemmas.Slice.Eq.{bytes_eq-Decides}
 use Rattle.plan_dsl.specs.Ops.{Expression}
-use Rattle.serde_json.specs.Data.{Data, null, Items, array, no_items, item}
-use Rattle.serde_json.specs.View.{view, items_view}
-use Rattle.serde_json.specs.declared.value.Value.{Value}
+use Rattle.serde_json.specs.Data.{Data, Items, array, no_items, item}
 use Rattle.plan_json.specs.Errors.{escaped}
-use Rattle.plan_json.specs.Forms.{Asked, a_form, many, Places, Read, expression_read, many_read, reads_of, expressions_in, row_named, key_named, asks, says, expression, all_fit, nothing_read}
+use Rattle.plan_json.specs.Forms.{Asked, a_form, many, Places, Read, expression_read, many_read, reads_of, expressions_in, row_named, key_named, asks, says, expression, all_fit}
 use Rattle.plan_json.specs.Looking.{only_member, all_of, two_items, three_items}
-use Rattle.plan_json.specs.Queries.{nothing_of, front, read_as, each_as, list_as, places_as}
+use Rattle.plan_json.specs.Queries.{front, read_as, each_as, list_as, places_as}
 use Rattle.plan_json.specs.Tables.{Declared}
 use Rattle.plan_json.specs.declared.forms.Kind.{Kind}
 use Rattle.plan_json.specs.declared.forms.Key.{Key}
 use Rattle.plan_json.proofs.LookingLemmas.{object-from_only_member, array-from_as_array, array-from_two_items, array-from_three_items}
-use Rattle.plan_json.proofs.ItemLemmas.{all_of-more}
-use Rattle.std.proofs.lemmas.List.{take_all}
 use Rattle.plan_types.specs.Schemas.{Name}
 use Rattle.serde_json.specs.Events.{items_len}
 use Rattle.plan_json.specs.Faults.{part, key, keyed_form, items_of, places_form, key_form, own_fault, shape_fault, part_of, unless, BadShape}
@@ -101,11 +97,6 @@ other_than_three names p q r _ e = refl
 
 -- ---- a list of any number
 
-pub each_more : (tables : Declared) (a : Asked) (vs : List Value) (i : ℕ) (v : Value) (rs : List Read) (r : Read) → i < length vs → v ≡ get_or vs i v → each_as tables a (items_view (take i vs)) ≡ Some rs → read_as tables a (view v) ≡ Some r → each_as tables a (items_view (take (i + 1) vs)) ≡ Some (rs ++ r ∷ [])
-each_more tables a vs i v rs r within is before now =
-    each_as-all_of tables a (items_view (take (i + 1) vs))
-    ∙ all_of-more (read_as tables a) vs i v rs r within is (sym (each_as-all_of tables a (items_view (take i vs))) ∙ before) now
-
-pub each_read : (tables : Declared) (a : Asked) (d : Data) (ds : Items) (rs : List Read) → Some ds ≡ as_array d → each_as tables a ds ≡ Some rs → read_as tables (many a) d ≡ Some (many_read (reads_of rs))
+pub each_read : (tables : Declared) (a : Asked) (d : Data) (ds : Items) (rs : List Read) → Some ds ≡ as_array d → all_of (read_as tables a) ds ≡ Some rs → read_as tables (many a) d ≡ Some (many_read (reads_of rs))
 each_read tables a d ds rs is read =
-    ap (read_as tables (many a)) (array-from_as_array d ds is) ∙ ap (option_map (λ xs. many_read (reads_of xs))) read
+    ap (read_as tables (many a)) (array-from_as_array d ds is) ∙ ap (option_map (λ xs. many_read (reads_of xs))) (each_as-all_of tables a ds ∙ read)

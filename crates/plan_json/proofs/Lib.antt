@@ -7,5 +7,4 @@ pub mod LiteralLemmas
 pub mod LookingLemmas
 pub mod NoFaults
 pub mod OnLiterals
-pub mod QueryLaws
 pub mod TextTests

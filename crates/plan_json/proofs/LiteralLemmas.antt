@@ -13,7 +13,7 @@ use Rattle.plan_dsl.specs.Ops.{LiteralOp}
 use Rattle.serde_json.specs.Data.{Data}
 use Rattle.plan_json.specs.Errors.{IsErrorOf}
 use Rattle.plan_json.specs.Faults.{FaultKind, Step, key, number, a_counted_type, a_number_of, a_type, a_typed_literal, has_type_shape, may_be_counted, own_fault, part, part_of, typed_part, shape_fault, unless}
-use Rattle.plan_json.specs.Leaves.{counted, counted_of, narrow, number_of, number_written, type_of, typed_op}
+use Rattle.plan_json.specs.Leaves.{counted_of, narrow, number_of, number_written, type_of, typed_op}
 use Rattle.plan_json.specs.Looking.{two_items, whole_number}
 use Rattle.plan_json.specs.declared.error.JsonError.{JsonError}
 use Rattle.plan_json.proofs.FaultLemmas.{stricter_error}
@@ -44,9 +44,6 @@ wide_fits (negsuc n) h = record { sfits = neg_wide n h }
 
 without_plus : (bytes : List ℕ) → (slice_index bytes 0 == 43) ≡ false → number_written bytes ≡ option_and_then narrow (number_in bytes)
 without_plus bytes h = ap (λ b. cond b None (option_and_then narrow (number_in bytes))) h
-
-pub with_plus : (bytes : List ℕ) → (slice_index bytes 0 == 43) ≡ true → number_written bytes ≡ None
-with_plus bytes h = ap (λ b. cond b None (option_and_then narrow (number_in bytes))) h
 
 pub written : {E : Type 0} (bytes : List ℕ) (r : Result ℤ E) (z : ℤ) → ParsesSigned w128 10 bytes r → r ≡ Ok z → (slice_index bytes 0 == 43) ≡ false → number_written bytes ≡ Some z
 written bytes r z parses is plain =
@@ -82,9 +79,6 @@ other_kind d type is other =
     none : (b : Bool) → unless (shape_fault d) (b && false) ≡ Some (shape_fault d)
     none true = refl
     none false = refl
-
-pub counted_type : (d : Data) (type : Ty) → type_of d ≡ Some type → is_counted type ≡ true → counted_of d ≡ Some type
-counted_type d type is own = ap (option_and_then counted) is ∙ ap (λ b. cond b (Some type) None) own
 
 -- a number that the type has
 pub number_had : (type : Ty) (d : Data) (z : ℤ) → Some z ≡ whole_number d → (is_counted type && in_range type z) ≡ true → number_of type d ≡ Some (LiteralOp type (IntValue z))

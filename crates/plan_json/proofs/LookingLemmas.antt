@@ -1,8 +1,8 @@
 -- Looking into a value, beside what the value's type holds.
 use Rattle.std.proofs.Common.{◌≡◌, ℕ, zero, suc, get_or, ◌<◌, ◌≤◌, ◌==◌, List, [], ◌∷◌, length, slice_get, Option, Some, None, option_map, String, Global, string_bytes, cond, refl, sym, ap, ◌∙◌, subst, arith, ne_eqb, max}
-use Rattle.serde_json.specs.Data.{Data, string, array, object, Items, no_items, item, Members, no_members, member, depth, items_depth}
-use Rattle.serde_json.specs.Events.{members_len}
-use Rattle.serde_json.specs.Find.{get, get_member, as_str, as_array, as_object}
+use Rattle.std.proofs.lemmas.Bool.{eq-eqb}
+use Rattle.serde_json.specs.Data.{Data, array, object, Items, no_items, item, Members, no_members, member, depth, items_depth}
+use Rattle.serde_json.specs.Find.{get, get_member, as_array, as_object}
 use Rattle.serde_json.specs.View.{view, items_view, members_view}
 use Rattle.serde_json.specs.declared.value.Value.{Value}
 use Rattle.serde_json.proofs.Views.{members_len-members_view}
@@ -40,32 +40,18 @@ other_entries [] other = refl
 other_entries (e ∷ []) other = absurd (other refl)
 other_entries (e ∷ f ∷ es) other = refl
 
-two_of : (first second : List ℕ) (ms : Members) (n : ℕ) → members_len ms ≡ n → n ≡ 2 → both (get_member first ms) (get_member second ms) ≡ two_members first second (object ms)
-two_of first second ms n has two = rw (has, two) refl
-
 pub two_members-two : (first second : List ℕ) (d : Data) (es : List Entry) → Some (members_view es) ≡ as_object d → length es ≡ 2 → both (get first d) (get second d) ≡ two_members first second d
 two_members-two first second d es is two =
-    let e = object-from_as_object d _ is in
-    ap (λ x. both (get first x) (get second x)) e ∙ two_of first second (members_view es) (length es) (members_len-members_view es) two ∙ ap (two_members first second) (sym e)
+    sym (of_object (λ x. both (get first x) (get second x)) d _ is)
+    ∙ sym (ap (λ b. cond b (both (get_member first (members_view es)) (get_member second (members_view es))) None) (eq-eqb _ _ (members_len-members_view es ∙ two))) ∙ of_object (two_members first second) d _ is
 
-pub two_members-other : (first second : List ℕ) (d : Data) (es : List Entry) → Some (members_view es) ≡ as_object d → (length es ≡ 2 → ⊥) → None ≡ two_members first second d
-two_members-other first second d es is other =
-    let unlike = ne_eqb (length es) 2 other in
-    let n = members_len-members_view es in
-    sym (ap (λ b. cond b (both (get_member first (members_view es)) (get_member second (members_view es))) None) (ap (λ k. k == 2) n ∙ unlike)) ∙ ap (two_members first second) (sym (object-from_as_object d _ is))
+pub two_members-other : (first second : List ℕ) (es : List Entry) → (length es ≡ 2 → ⊥) → None ≡ two_members first second (object (members_view es))
+two_members-other first second es other =
+    sym (ap (λ b. cond b (both (get_member first (members_view es)) (get_member second (members_view es))) None) (ap (λ k. k == 2) (members_len-members_view es) ∙ ne_eqb (length es) 2 other))
 
-both_second_none : {A B : Type 0} (x : Option A) → None ≡ both {B = B} x None
-both_second_none None = refl
-both_second_none (Some x) = refl
-
-pub both-none_first : {A B : Type 0} (x : Option A) (y : Option B) → None ≡ x → None ≡ both x y
-both-none_first x y none = subst (λ z. None ≡ both z y) none refl
-
-pub both-none_second : {A B : Type 0} (x : Option A) (y : Option B) → None ≡ y → None ≡ both x y
-both-none_second x y none = subst (λ z. None ≡ both x z) none (both_second_none x)
-
-pub both-some : {A B : Type 0} (x : Option A) (y : Option B) (a : A) (b : B) → Some a ≡ x → Some b ≡ y → Some (a, b) ≡ both x y
-both-some x y a b is_a is_b = subst (λ z. Some (a, b) ≡ both z y) is_a (subst (λ z. Some (a, b) ≡ both (Some a) z) is_b refl)
+pub none_second : {A B : Type 0} (x : Option A) → None ≡ both {B = B} x None
+none_second None = refl
+none_second (Some x) = refl
 
 -- ---- lists
 

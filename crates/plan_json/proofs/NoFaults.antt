@@ -1,4 +1,4 @@
--- A value that is a query has no fault, along any path: what is of its form has no fault of its own, and each part of it is of the
+-- A value that is a query has no fault, along any path, and bytes that write one are refused for want of memory alone: what is of its form has no fault of its own, and each part of it is of the
 -- form that its place asks for.
 use Rattle.std.proofs.Common.{◌≡◌, ℕ, zero, suc, ◌==◌, List, [], ◌∷◌, length, slice_get, Option, Some, None, option_map, option_and_then, Bool, true, false, cond, not, ◌&&◌, ◌||◌, is_some, codes, nat_lt, bytes_eq, refl, sym, ap, subst, ◌∙◌}
 use Rattle.std.proofs.lemmas.Bool.{and_from, and_parts, eq-eqb}
@@ -9,10 +9,11 @@ use Rattle.plan_types.specs.Types.{Ty, DatetimeType, DurationType, ListType, Str
 use Rattle.serde_json.specs.Data.{Data, Items, string, array, object, no_items, item, member, no_members}
 use Rattle.serde_json.specs.Events.{items_len}
 use Rattle.serde_json.specs.Find.{as_bool, as_null, get_item}
+use Rattle.plan_json.specs.Bytes.{IsTextOf, WritesQuery, IsRefusalOf}
 use Rattle.plan_json.specs.Errors.{IsErrorOf}
 use Rattle.plan_json.specs.declared.error.JsonError.{JsonError}
 use Rattle.plan_json.specs.declared.error.JsonError.TheVariants.{NotJson, Shape, Float, Name as Name', NoMemory}
-use Rattle.plan_json.specs.Faults.{FaultKind, BadShape, BadFloat, BadName, Step, key, number, Path, Form, a_query, table_list, column_list, field_list, a_column, a_type, a_unit, a_text, a_table, a_new_name, a_plan, a_scan, a_literal, a_number_text, a_typed_literal, a_counted_type, a_number_of, an_operator, a_mode, keyed_form, list_of, items_of, asked_form, places_form, key_form, type_form, type_key_form, Part, part, part_if, part_of, own_fault, has_shape, has_type_shape, shape_fault, unless, keyed_part, either_part, query_part, table_part, typed_part, declared_names, fault_at, nothing_form}
+use Rattle.plan_json.specs.Faults.{FaultKind, BadShape, BadFloat, BadName, Step, key, number, Path, Form, a_query, table_list, column_list, field_list, a_column, a_type, a_text, a_table, a_new_name, a_plan, a_scan, a_typed_literal, a_counted_type, a_number_of, keyed_form, list_of, items_of, asked_form, places_form, key_form, type_form, type_key_form, Part, part, part_if, part_of, own_fault, has_shape, has_type_shape, shape_fault, unless, keyed_part, either_part, query_part, table_part, typed_part, declared_names, fault_at}
 use Rattle.plan_json.specs.Forms.{Asked, plan as plan_asked, a_form, leaf, many, Places, single, listed, Read, name_read, literal_read, operator_read, type_read, mode_read, table_read, columns_read, nothing_read, flag_read, many_read, reads_of, asks, says, key_named, row_named, type_rows}
 use Rattle.plan_json.specs.declared.forms.Key.{Key}
 use Rattle.plan_json.specs.declared.forms.Kind.{Kind}
@@ -265,3 +266,25 @@ query_has_no_fault d query error is bad = go error bad
     go (Float text) (path, told, h) = absurd (never BadFloat path h)
     go (Name' text) (path, told, h) = absurd (never BadName path h)
     go NoMemory h = refl
+
+-- ---- the query that bytes write
+
+-- bytes are the text of one value at most
+one_value : (bytes : List ℕ) (d e : Data) → IsTextOf bytes d → IsTextOf bytes e → d ≡ e
+one_value bytes d e (utf8, is) (valid, same) = cc (is, same)
+
+pub writes_one_query : (bytes : List ℕ) (query other : QueryModel) → WritesQuery bytes query → WritesQuery bytes other → query ≡ other
+writes_one_query bytes query other (d, text, is) (e, written, found) =
+    let both : Some query ≡ Some other = sym is ∙ ap query_of (one_value bytes d e text written) ∙ found in cc
+
+-- an error that tells a fault of the bytes' value
+fault_is_memory : (bytes : List ℕ) (query : QueryModel) (error : JsonError) (e : Data) → WritesQuery bytes query → IsTextOf bytes e → IsErrorOf a_query e error → error ≡ NoMemory
+fault_is_memory bytes query error e (d, text, is) written bad =
+    query_has_no_fault d query error is (subst (λ x. IsErrorOf a_query x error) (one_value bytes e d written text) bad)
+
+pub refused_query_is_memory : (bytes : List ℕ) (query : QueryModel) (error : JsonError) → WritesQuery bytes query → IsRefusalOf bytes error → error ≡ NoMemory
+refused_query_is_memory bytes query NotJson (d, text, is) none = absurd (none d text)
+refused_query_is_memory bytes query (Shape path) writes (e, written, bad) = fault_is_memory bytes query (Shape path) e writes written bad
+refused_query_is_memory bytes query (Float path) writes (e, written, bad) = fault_is_memory bytes query (Float path) e writes written bad
+refused_query_is_memory bytes query (Name' path) writes (e, written, bad) = fault_is_memory bytes query (Name' path) e writes written bad
+refused_query_is_memory bytes query NoMemory writes told = refl

@@ -1,5 +1,5 @@
 //! Expressions, from what was read of a key's value: one function for each key.
-ghost use Rattle.std.specs.Prelude.{◌≡◌, [], ◌∷◌, Some, IfOk, IfErr};
+ghost use Rattle.std.specs.Prelude.{◌≡◌, [], ◌∷◌, Some};
 ghost use Rattle.plan_dsl.specs.Expressions.{tree_of};
 ghost use Rattle.plan_json.specs.Arguments.{args_view};
 ghost use Rattle.plan_json.specs.Forms.{AllFit, asked_in, expression_asks, expression_says};
@@ -9,30 +9,28 @@ use super::arguments::{
     Args, digits, dtype, expression, flag, mode, name, nothing, one, operator, three, two, typed,
     value,
 };
-use super::error::JsonError;
 use super::forms::ExpressionKey;
 use plan_dsl::expr::Expr;
 use plan_dsl::sort_options::SortOptions;
 
 // The expression of that key.
-pub(crate) fn assemble_expression(key: ExpressionKey, args: Args) -> Result<Expr, JsonError>
+pub(crate) fn assemble_expression(key: ExpressionKey, args: Args) -> Expr
     requires { AllFit (asked_in (expression_asks key)) (args_view args) }
-    ensures ok { IfOk result (λ expr. expression_says key (args_view args) ≡ Some (tree_of expr)) }
-    ensures err { IfErr result (λ error. error ≡ JsonError.NoMemory) }
+    ensures { expression_says key (args_view args) ≡ Some (tree_of result) }
 {
     match key {
-        ExpressionKey::Col => Ok(col(args)),
-        ExpressionKey::Lit => Ok(lit(args)),
-        ExpressionKey::Int => Ok(int(args)),
-        ExpressionKey::Typed => Ok(typed_number(args)),
-        ExpressionKey::Bin => Ok(bin(args)),
-        ExpressionKey::Cast => Ok(cast(args)),
-        ExpressionKey::Len => Ok(count(args)),
-        ExpressionKey::Slice => Ok(slice(args)),
-        ExpressionKey::Explode => Ok(explode(args)),
-        ExpressionKey::Gather => Ok(gather(args)),
-        ExpressionKey::Filter => Ok(filter(args)),
-        ExpressionKey::Sort => Ok(sort(args)),
+        ExpressionKey::Col => col(args),
+        ExpressionKey::Lit => lit(args),
+        ExpressionKey::Int => int(args),
+        ExpressionKey::Typed => typed_number(args),
+        ExpressionKey::Bin => bin(args),
+        ExpressionKey::Cast => cast(args),
+        ExpressionKey::Len => count(args),
+        ExpressionKey::Slice => slice(args),
+        ExpressionKey::Explode => explode(args),
+        ExpressionKey::Gather => gather(args),
+        ExpressionKey::Filter => filter(args),
+        ExpressionKey::Sort => sort(args),
     }
 }
 

@@ -205,12 +205,7 @@ fn read_expressions(alloc: Global, tables: &Tables, value: &Value) -> Result<Exp
 }
 
 // What has no forms.
-fn read_leaf(
-    alloc: Global,
-    tables: &Tables,
-    which: Leaf,
-    value: &Value,
-) -> Result<Arg, JsonError>
+fn read_leaf(alloc: Global, tables: &Tables, which: Leaf, value: &Value) -> Result<Arg, JsonError>
     ensures ok { IfOk result (λ arg. leaf_of (declared tables.now) which (view value.now) ≡ Some (arg_view arg)) }
     ensures fit { IfOk result (λ arg. Fits (leaf which) (arg_view arg)) }
     ensures err { IfErr result (IsErrorOf (leaf_form (names_of (declared tables.now)) which) (view value.now)) }
@@ -323,13 +318,11 @@ fn assemble(alloc: Global, key: Key, args: Args) -> Result<Arg, JsonError>
 {
     match key {
         Key::Expression(key) => {
-            let expr = assemble_expression(key, args)?;
-            let expr = Box::new(alloc, expr)?;
+            let expr = Box::new(alloc, assemble_expression(key, args))?;
             Ok(Arg::Expression(expr))
         }
         Key::Plan(key) => {
-            let plan = assemble_plan(key, args)?;
-            let plan = Box::new(alloc, plan)?;
+            let plan = Box::new(alloc, assemble_plan(key, args))?;
             Ok(Arg::Plan(plan))
         }
     }

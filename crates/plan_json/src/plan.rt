@@ -1,7 +1,7 @@
 //! Plans, from what was read of a key's value: one function for each key.
 #![tactic(auto, using(crate::proofs::FormLemmas::expressions_read))]
 
-ghost use Rattle.std.specs.Prelude.{◌≡◌, [], ◌∷◌, Some, false, IfOk, IfErr};
+ghost use Rattle.std.specs.Prelude.{◌≡◌, [], ◌∷◌, Some, false};
 ghost use Rattle.plan_dsl.specs.Plans.{plan_tree};
 ghost use Rattle.plan_json.specs.Arguments.{args_view};
 ghost use Rattle.plan_json.specs.Forms.{AllFit, asked_in, plan_asks, plan_says};
@@ -9,22 +9,20 @@ ghost use Rattle.plan_json.specs.Queries.{has_flags};
 ghost use Rattle.plan_json.specs.declared.forms.PlanKey.TheVariants as by;
 
 use super::arguments::{Args, columns, expression, expressions, one, plan, table, two};
-use super::error::JsonError;
 use super::forms::PlanKey;
 use plan_dsl::plan::{DslPlan, ProjectionOptions};
 
 // The plan of that key.
-pub(crate) fn assemble_plan(key: PlanKey, args: Args) -> Result<DslPlan, JsonError>
+pub(crate) fn assemble_plan(key: PlanKey, args: Args) -> DslPlan
     requires { AllFit (asked_in (plan_asks key)) (args_view args) }
-    ensures ok { IfOk result (λ plan. plan_says key (args_view args) ≡ Some (plan_tree plan)) }
-    ensures flags { IfOk result (λ plan. has_flags plan ≡ false) }
-    ensures err { IfErr result (λ error. error ≡ JsonError.NoMemory) }
+    ensures says { plan_says key (args_view args) ≡ Some (plan_tree result) }
+    ensures flags { has_flags result ≡ false }
 {
     match key {
-        PlanKey::Scan => Ok(scan(args)),
-        PlanKey::Empty => Ok(empty(args)),
-        PlanKey::Filter => Ok(filter(args)),
-        PlanKey::Select => Ok(select(args)),
+        PlanKey::Scan => scan(args),
+        PlanKey::Empty => empty(args),
+        PlanKey::Filter => filter(args),
+        PlanKey::Select => select(args),
     }
 }
 

@@ -1,8 +1,7 @@
 //! Queries.
 ghost use Rattle.std.specs.Prelude.{◌≡◌, Some, false, IfOk, IfErr};
-ghost use Rattle.serde_json.specs.Data.{Data};
 ghost use Rattle.serde_json.specs.View.{view};
-ghost use Rattle.plan_json.specs.Bytes.{IsTextOf, IsRefusalOf, WritesQuery};
+ghost use Rattle.plan_json.specs.Bytes.{IsRefusalOf, WritesQuery};
 ghost use Rattle.plan_json.specs.Errors.{IsErrorOf};
 ghost use Rattle.plan_dsl.specs.Plans.{plan_tree};
 ghost use Rattle.plan_types.specs.Schemas.{names_of};

@@ -1,4 +1,4 @@
-use Rattle.plan_json.proofs.QueryLaws.{writes_one_query, refused_query_is_memory}
+use Rattle.plan_json.proofs.NoFaults.{writes_one_query, refused_query_is_memory}
 use Rattle.plan_json.proofs.laws.query_laws.Goals as goal
 
 pub returns-clause-one_query : goal.returns-clause-one_query

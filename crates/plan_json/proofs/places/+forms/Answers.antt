@@ -6,11 +6,12 @@ use Rattle.plan_dsl.specs.Expressions.{tree_of}
 use Rattle.plan_json.specs.Arguments.{args_view}
 use Rattle.plan_json.specs.Faults.{keyed_form, items_of, list_of, asked_form, places_form, part_of, number}
 use Rattle.plan_json.specs.Forms.{AllFit, asked_in, expression, expression_read, place_view, places_view}
-use Rattle.plan_json.specs.Queries.{each_as, places_as}
+use Rattle.plan_json.specs.Looking.{all_of}
+use Rattle.plan_json.specs.Queries.{places_as, read_as}
 use Rattle.plan_json.specs.Tables.{declared}
 use Rattle.plan_json.proofs.FaultLemmas.{IsErrorOf-own, item_in}
-use Rattle.plan_json.proofs.FormLemmas.{form_read, key_part, expressions_fit, two_read, three_read, other_than_two, other_than_three, each_more, each_read}
-use Rattle.plan_json.proofs.ItemLemmas.{all_taken}
+use Rattle.plan_json.proofs.FormLemmas.{form_read, key_part, expressions_fit, two_read, three_read, other_than_two, other_than_three, each_read}
+use Rattle.plan_json.proofs.ItemLemmas.{all_of-more, all_taken}
 use Rattle.plan_json.proofs.LookingLemmas.{array-from_two_items, array-from_three_items, depth-item, depth-two_items, depth-three_items}
 use Rattle.plan_json.proofs.places.+forms.Goals as goal
 
@@ -58,13 +59,13 @@ read_expressions-read_form-requires t c =
 pub read_expressions-loop-number-preserved : goal.read_expressions-loop-number-preserved
 read_expressions-loop-number-preserved t c =
     let items = c.loop-number.items.items in
-    each_more (declared c.args.tables.now) expression c.as_slice-values.result.now c.loop-number.number _ _ _ c.loop-number-test.true c.index-values-number.is c.loop-number.invariant (c.in-Ok.ensures.ok ∙ ap Some c.expression.ensures ∙ ap (λ x. Some (expression_read (tree_of x))) (sym c.into_inner.ensures))
+    all_of-more (read_as (declared c.args.tables.now) expression) c.as_slice-values.result.now c.loop-number.number _ _ _ c.loop-number-test.true c.index-values-number.is c.loop-number.invariant (c.in-Ok.ensures.ok ∙ ap Some c.expression.ensures ∙ ap (λ x. Some (expression_read (tree_of x))) (sym c.into_inner.ensures))
     ∙ ap Some (sym (ap (λ l. map expression_read (map tree_of l)) c.in_ok-push-in-Ok.ensures.items ∙ ap (map expression_read) (map-append tree_of items _) ∙ map-append expression_read (map tree_of items) _))
 
 pub read_expressions-returns-after-loop-number-clause-ok : goal.read_expressions-returns-after-loop-number-clause-ok
 read_expressions-returns-after-loop-number-clause-ok t c =
     let tables = declared c.args.tables.now in
-    each_read tables expression _ _ _ (ap (λ vs. Some (items_view vs)) c.as_slice-values.ensures.value ∙ c.in-Some.ensures) (sym (all_taken (each_as tables expression) c.as_slice-values.result.now c.loop-number.number (omega arith)) ∙ c.loop-number.invariant)
+    each_read tables expression _ _ _ (ap (λ vs. Some (items_view vs)) c.as_slice-values.ensures.value ∙ c.in-Some.ensures) (sym (all_taken (all_of (read_as tables expression)) c.as_slice-values.result.now c.loop-number.number (omega arith)) ∙ c.loop-number.invariant)
 
 pub read_expressions-returns-after-loop-number-clause-fit : goal.read_expressions-returns-after-loop-number-clause-fit
 read_expressions-returns-after-loop-number-clause-fit t c = record { fit = expressions_fit (map tree_of c.loop-number.items.items) }

@@ -3,7 +3,8 @@ use Rattle.serde_json.specs.Data.{depth}
 use Rattle.serde_json.specs.View.{view, items_view}
 use Rattle.plan_dsl.specs.Expressions.{tree_of}
 use Rattle.plan_json.specs.Forms.{expression, expression_read}
-use Rattle.plan_json.specs.Queries.{each_as}
+use Rattle.plan_json.specs.Looking.{all_of}
+use Rattle.plan_json.specs.Queries.{read_as}
 use Rattle.plan_json.specs.Tables.{declared}
 use Rattle.plan_json.proofs.places.+forms.Given as goal
 
@@ -27,4 +28,4 @@ decreases-read_places l = 4 * depth (view l.value.now) + 3
 
 abbrev pub invariant-read_expressions-loop-number : goal.invariant-read_expressions-loop-number
 invariant-read_expressions-loop-number l =
-    each_as (declared l.tables) expression (items_view (take l.number l.values)) ≡ Some (map expression_read (map tree_of l.items.items))
+    all_of (read_as (declared l.tables) expression) (items_view (take l.number l.values)) ≡ Some (map expression_read (map tree_of l.items.items))

@@ -1,22 +1,23 @@
-use Rattle.std.proofs.Common.{sym, ◌∙◌}
-use Rattle.plan_json.proofs.LookingLemmas.{two_members-two, two_members-other, both-none_first, both-none_second, both-some}
+use Rattle.std.proofs.Common.{Some, sym, ap, ◌∙◌}
+use Rattle.serde_json.specs.Find.{get}
+use Rattle.serde_json.specs.View.{view}
+use Rattle.plan_json.specs.Looking.{both, two_members}
+use Rattle.plan_json.proofs.LookingLemmas.{of_object, two_members-two, two_members-other, none_second}
 use Rattle.plan_json.proofs.value.two_members.Goals as goal
 
 pub returns-then-len-ne2 : goal.returns-then-len-ne2
 returns-then-len-ne2 c =
-    two_members-other _ _ _ c.in-Some.members.now.entries c.in-Some.ensures (λ two. c.if-len-ne2.true (c.len.ensures.len ∙ two))
+    two_members-other _ _ c.in-Some.members.now.entries (λ two. c.if-len-ne2.true (c.len.ensures.len ∙ two)) ∙ of_object (two_members c.args.first.now c.args.second.now) _ _ c.in-Some.ensures
 
 pub returns-in-None-get : goal.returns-in-None-get
 returns-in-None-get c =
-    both-none_first _ _ c.in-None-get.ensures
-    ∙ two_members-two _ _ _ c.in-Some.members.now.entries c.in-Some.ensures (sym c.len.ensures.len ∙ c.if-len-ne2.false)
+    ap (λ x. both x (get c.args.second.now (view c.args.value.now))) c.in-None-get.ensures ∙ two_members-two _ _ _ c.in-Some.members.now.entries c.in-Some.ensures (sym c.len.ensures.len ∙ c.if-len-ne2.false)
 
 pub returns-in-None-get-2 : goal.returns-in-None-get-2
 returns-in-None-get-2 c =
-    both-none_second _ _ c.in-None-get-2.ensures
-    ∙ two_members-two _ _ _ c.in-Some.members.now.entries c.in-Some.ensures (sym c.len.ensures.len ∙ c.if-len-ne2.false)
+    none_second _ ∙ ap (both _) c.in-None-get-2.ensures ∙ two_members-two _ _ _ c.in-Some.members.now.entries c.in-Some.ensures (sym c.len.ensures.len ∙ c.if-len-ne2.false)
 
 pub returns-in-Some-get-2 : goal.returns-in-Some-get-2
 returns-in-Some-get-2 c =
-    both-some _ _ _ _ c.in-Some-get.ensures c.in-Some-get-2.ensures
+    ap (λ x. both x (Some (view c.in-Some-get-2.right.now))) c.in-Some-get.ensures ∙ ap (both _) c.in-Some-get-2.ensures
     ∙ two_members-two _ _ _ c.in-Some.members.now.entries c.in-Some.ensures (sym c.len.ensures.len ∙ c.if-len-ne2.false)
