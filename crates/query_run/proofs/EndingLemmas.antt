@@ -17,7 +17,7 @@ use Rattle.plan_json.specs.Bytes.{WritesQuery}
 use Rattle.plan_json.specs.Queries.{QueryModel}
 use Rattle.plan_json.specs.declared.error.JsonError.{JsonError}
 use Rattle.plan_json.specs.declared.error.JsonError.TheVariants as json
-use Rattle.plan_json.proofs.QueryLaws.{writes_one_query, refused_query_is_memory}
+use Rattle.plan_json.proofs.NoFaults.{writes_one_query, refused_query_is_memory}
 use Rattle.query_run.specs.Answers.{IsAnswer, IsQueryAnswer, IsPlanAnswer, lowered, refused, planned, bad, usage, read, too_long, read_fault, no_memory, right_words, bad_query_text}
 use Rattle.query_run.specs.Endings.{IsInput, SaysLowered, SaysRefused, SaysUsage, SaysBadQuery, SaysTooLong, IsFault, IsExcused, Ends, IsRefused, IsBadQuery, UsageCalledFor, TooLongCalledFor, BadQueryCalledFor, RefusalCalledFor, LoweringCalledFor, IsComplete, IsOfInput}
 use Rattle.query_run.specs.declared.status.Done.{Done}
