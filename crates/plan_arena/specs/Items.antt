@@ -4,7 +4,7 @@ use Rattle.std.specs.Prelude.{◌≡◌, ◌≤◌, ℕ, List, [], ◌∷◌, �
 use Rattle.std.specs.List.{AllByRecursion}
 use Rattle.plan_types.specs.Types.{ty}
 use Rattle.plan_types.specs.Schemas.{columns}
-use Rattle.plan_dsl.specs.Ops.{Op, ColumnOp, BinaryOp, CastOp, LenOp, SliceOp, AliasOp, Expression}
+use Rattle.plan_dsl.specs.Ops.{Op, ColumnOp, BinaryOp, CastOp, LenOp, SliceOp, AliasOp, Expression, ExplodeOp, GatherOp, FilterOp, SortOp}
 use Rattle.plan_dsl.specs.Literals.{literal_op}
 use Rattle.plan_dsl.specs.Names.{Label, FromField, FromNothing, alias_label, column_label, literal_label}
 use Rattle.plan_dsl.specs.Plans.{PlanKind, ScanKind, SelectKind, FilterKind, RefusedKind, PlanOp, Plan, Named, scan_op, select_op, filter_op}
@@ -13,7 +13,7 @@ use Rattle.plan_arena.specs.Layers.{Layer, layer, op_of, inputs_of}
 use Rattle.plan_dsl.specs.Trees.{node}
 use Rattle.plan_arena.specs.declared.arena.Node.{Node}
 use Rattle.plan_arena.specs.declared.aexpr.AExpr.{AExpr}
-use Rattle.plan_arena.specs.declared.aexpr.AExpr.TheVariants.{Column, Literal, BinaryExpr, Cast, Len, Slice, Alias}
+use Rattle.plan_arena.specs.declared.aexpr.AExpr.TheVariants.{Column, Literal, BinaryExpr, Cast, Len, Slice, Alias, Explode, Gather, Filter as FilterBy, Sort}
 use Rattle.plan_arena.specs.declared.expr_ir.OutputName.{OutputName}
 use Rattle.plan_arena.specs.declared.expr_ir.OutputName.TheVariants.{None, ColumnLhs, LiteralLhs, Alias as NamedByAlias, Field}
 use Rattle.plan_arena.specs.declared.expr_ir.ExprIR.{ExprIR}
@@ -30,6 +30,10 @@ expression_layer (Cast expr dtype options) = layer (CastOp (ty dtype) options) (
 expression_layer Len = layer LenOp []
 expression_layer (Alias expr name) = layer (AliasOp name) (expr.0 ∷ [])
 expression_layer (Slice input offset length) = layer SliceOp (input.0 ∷ offset.0 ∷ length.0 ∷ [])
+expression_layer (Explode input) = layer ExplodeOp (input.0 ∷ [])
+expression_layer (Gather expr idx returns_scalar) = layer (GatherOp returns_scalar) (expr.0 ∷ idx.0 ∷ [])
+expression_layer (FilterBy input by) = layer FilterOp (input.0 ∷ by.0 ∷ [])
+expression_layer (Sort expr options) = layer (SortOp options) (expr.0 ∷ [])
 
 -- the name of an output, with what it comes from
 abbrev pub output_label : OutputName → Label

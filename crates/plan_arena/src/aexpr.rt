@@ -8,6 +8,7 @@ use crate::arena::Node;
 use crate::inputs::Inputs;
 use plan_dsl::literal::LiteralValue;
 use plan_dsl::operator::Operator;
+use plan_dsl::sort_options::SortOptions;
 use plan_types::dtype::{CastOptions, DataType};
 use plan_types::error::PlanError;
 use plan_types::text::PlSmallStr;
@@ -45,6 +46,24 @@ pub enum AExpr {
         offset: Node,
         length: Node,
     },
+    /// The values of each list, and a null in place of none. Values of other types stay.
+    Explode(Node),
+    /// The value at each index, or at the one index.
+    Gather {
+        expr: Node,
+        idx: Node,
+        returns_scalar: bool,
+    },
+    /// The values beside which the other node is true.
+    Filter {
+        input: Node,
+        by: Node,
+    },
+    /// The values in order.
+    Sort {
+        expr: Node,
+        options: SortOptions,
+    },
     /// A node under another name.
     Alias(Node, PlSmallStr),
 }
@@ -57,6 +76,10 @@ macro_rules! by_inputs {
             AExpr::Column(_) | AExpr::Literal(_) | AExpr::Len => $none,
             AExpr::BinaryExpr { left, right, .. } => $two(left, right $(, $given)?),
             AExpr::Cast { expr, .. } => $one(expr $(, $given)?),
+            AExpr::Explode(input) => $one(input $(, $given)?),
+            AExpr::Gather { expr, idx, .. } => $two(expr, idx $(, $given)?),
+            AExpr::Filter { input, by } => $two(input, by $(, $given)?),
+            AExpr::Sort { expr, .. } => $one(expr $(, $given)?),
             AExpr::Alias(expr, _) => $one(expr $(, $given)?),
             AExpr::Slice { input, offset, length } => $three(input, offset, length $(, $given)?),
         }

@@ -56,17 +56,17 @@ become_fits (Untyped number) target can (IntValue other) fit = number_to_fits (U
 become_fits (Untyped number) target can _ fit = cc
 become_fits from target can value fit = cast_fits value from target NonStrict fit (can.casts (λ number e. cc))
 
--- a column that is cast: as many values, which fit
-record AreCast (target : Ty) (count : ℕ) (values : List Val) : Type 0 where
+-- a column that is made of another: so many values, which fit
+pub record AreSoMany (target : Ty) (count : ℕ) (values : List Val) : Type 0 where
   pub fitting : IsTrue (all_fit values target)
   pub as_many : length values ≡ count
 
-before_fits : (target : Ty) (count : ℕ) (converted : Converted) (rest : Outcome (List Val)) → ConvertedFits target converted → Meets (AreCast target count) rest → Meets (AreCast target (suc count)) (value_before converted rest)
+before_fits : (target : Ty) (count : ℕ) (converted : Converted) (rest : Outcome (List Val)) → ConvertedFits target converted → Meets (AreSoMany target count) rest → Meets (AreSoMany target (suc count)) (value_before converted rest)
 before_fits target count Fails rest h r = tt
 before_fits target count (Gives value) rest h r =
-    meets_then (AreCast target count) (AreCast target (suc count)) rest (λ values. Done (value ∷ values)) r (λ values of. record { fitting = and_from (fits value target) (all_fit values target) h of.fitting; as_many = ap suc of.as_many })
+    meets_then (AreSoMany target count) (AreSoMany target (suc count)) rest (λ values. Done (value ∷ values)) r (λ values of. record { fitting = and_from (fits value target) (all_fit values target) h of.fitting; as_many = ap suc of.as_many })
 
-cast_values_fit : (from target : Ty) (options : CastOptions) (values : List Val) → CastFits from target options → IsTrue (all_fit values from) → Meets (AreCast target (length values)) (cast_values from target options values)
+cast_values_fit : (from target : Ty) (options : CastOptions) (values : List Val) → CastFits from target options → IsTrue (all_fit values from) → Meets (AreSoMany target (length values)) (cast_values from target options values)
 cast_values_fit from target options [] each h = record { fitting = refl; as_many = refl }
 cast_values_fit from target options (value ∷ values) each h =
     let parts = and_parts (fits value from) (all_fit values from) h in
@@ -75,7 +75,7 @@ cast_values_fit from target options (value ∷ values) each h =
 -- a column of a type that is cast has the target's
 pub column_cast : (from target : Ty) (options : CastOptions) (many : Bool) (values : List Val) → CastFits from target options → AreOf (record { type = from; many = many }) values → Meets (AreOf (record { type = target; many = many })) (cast_values from target options values)
 column_cast from target options many values each of =
-    meets_as (AreCast target (length values)) (AreOf (record { type = target; many = many })) (cast_values from target options values) (cast_values_fit from target options values each of.fitting) (λ found made. record { fitting = made.fitting; single = λ one. made.as_many ∙ of.single one })
+    meets_as (AreSoMany target (length values)) (AreOf (record { type = target; many = many })) (cast_values from target options values) (cast_values_fit from target options values each of.fitting) (λ found made. record { fitting = made.fitting; single = λ one. made.as_many ∙ of.single one })
 
 pub cast_column_fits : (from target : Ty) (options : CastOptions) (many : Bool) (values : List Val) → CastFits from target options → AreOf (record { type = from; many = many }) values → Meets (AreOf (record { type = target; many = many })) (cast_column from target options values)
 cast_column_fits from target options many values each of =
@@ -96,7 +96,7 @@ replicate_fits zero value type h = refl
 replicate_fits (suc count) value type h = and_from (fits value type) (all_fit (replicate count value) type) h (replicate_fits count value type h)
 
 -- a column that is stretched still fits
-stretched_fits : (count : ℕ) (values : List Val) (type : Ty) → IsTrue (all_fit values type) → IsTrue (all_fit (stretched count values) type)
+pub stretched_fits : (count : ℕ) (values : List Val) (type : Ty) → IsTrue (all_fit values type) → IsTrue (all_fit (stretched count values) type)
 stretched_fits count [] type h = refl
 stretched_fits count (value ∷ []) type h = replicate_fits count value type (and_parts (fits value type) true h).0
 stretched_fits count (first ∷ second ∷ rest) type h = h

@@ -15,8 +15,9 @@ use Rattle.plan_dsl.specs.Plans.{Named, PlanKind, ScanKind, SelectKind, FilterKi
 use Rattle.plan_dsl.specs.Literals.{settled}
 use Rattle.plan_dsl.specs.Typing.{Typed, typing}
 use Rattle.plan_dsl.specs.Meaning.{meaning}
-use Rattle.plan_dsl.specs.Kernels.{stretched, at_length}
-use Rattle.plan_dsl.specs.PlanKernels.{Series, series_typed, all_series, shared_length, in_front, rows_of, series_columns, framed, selected, table_frame, scanned, frame_by, plan_kernel, is_true, rows_where_true, kept_rows, filtered_on, filtered}
+use Rattle.plan_dsl.specs.Kernels.{stretched, at_length, in_front}
+use Rattle.plan_dsl.specs.Picks.{is_true, where_true}
+use Rattle.plan_dsl.specs.PlanKernels.{Series, series_typed, all_series, shared_length, rows_of, series_columns, framed, selected, table_frame, scanned, frame_by, plan_kernel, kept_rows, filtered_on, filtered}
 use Rattle.plan_dsl.specs.PlanRules.{broken_kinds, scan_kinds, column_before, columns_of, schema_by, plan_rule, schema_of, schemas_of, IsWellFormed, AllWellFormed}
 use Rattle.plan_dsl.specs.PlanMeaning.{by_meaning, source_meaning, HasTable, HasTables, FitsPlan, MeetsWhere}
 use Rattle.plan_dsl.specs.Laws.{AreOf, MeaningHasSchema}
@@ -173,22 +174,22 @@ without_columns : (schema : Columns) → [] ≡ schema → IsFrameOf schema empt
 without_columns schema e = record { schema_is = e; frame_is = record { distinct = tt; fitting = tt; bare = refl } }
 
 -- rows that are kept still fit
-kept_fit : (columns : Columns) (values : List Val) (rows : List Row) → AllByRecursion (RowFits columns) rows → AllByRecursion (RowFits columns) (rows_where_true values rows)
+kept_fit : (columns : Columns) (values : List Val) (rows : List Row) → AllByRecursion (RowFits columns) rows → AllByRecursion (RowFits columns) (where_true values rows)
 kept_fit columns [] rows h = tt
 kept_fit columns (value ∷ values) [] h = tt
 kept_fit columns (value ∷ values) (row ∷ rows) h =
     let rest = kept_fit columns values rows h.1 in
-    elim (is_true value) as (λ b. AllByRecursion (RowFits columns) (cond b (row ∷ rows_where_true values rows) (rows_where_true values rows))) [ true ↦ (h.0, rest) | false ↦ rest ]
+    elim (is_true value) as (λ b. AllByRecursion (RowFits columns) (cond b (row ∷ where_true values rows) (where_true values rows))) [ true ↦ (h.0, rest) | false ↦ rest ]
 
-kept_of_none : (values : List Val) → rows_where_true values [] ≡ []
+kept_of_none : (values : List Val) → where_true {A = Row} values [] ≡ []
 kept_of_none [] = refl
 kept_of_none (value ∷ values) = refl
 
-kept_bare : (columns : Columns) (values : List Val) (rows : List Row) → HasNoRowsWithoutColumns columns rows → HasNoRowsWithoutColumns columns (rows_where_true values rows)
-kept_bare [] values rows h = ap (rows_where_true values) h ∙ kept_of_none values
+kept_bare : (columns : Columns) (values : List Val) (rows : List Row) → HasNoRowsWithoutColumns columns rows → HasNoRowsWithoutColumns columns (where_true values rows)
+kept_bare [] values rows h = ap (where_true values) h ∙ kept_of_none values
 kept_bare (c ∷ cs) values rows h = tt
 
-kept_frame : (schema : Columns) (frame : Frame) (values : List Val) → IsFrameOf schema frame → IsFrameOf schema (record { schema = frame.schema; rows = rows_where_true values frame.rows })
+kept_frame : (schema : Columns) (frame : Frame) (values : List Val) → IsFrameOf schema frame → IsFrameOf schema (record { schema = frame.schema; rows = where_true values frame.rows })
 kept_frame schema frame values h = record {
   schema_is = h.schema_is;
   frame_is = record {
@@ -202,7 +203,7 @@ kept_frame schema frame values h = record {
 kept_meets : (schema : Columns) (frame : Frame) (values : List Val) → IsFrameOf schema frame → Meets (IsFrameOf schema) (kept_rows frame values)
 kept_meets schema frame values h =
     let count = length frame.rows in
-    elim (length values == count || length values == 1) as (λ b. Meets (IsFrameOf schema) (then_do (cond b (Done (stretched count values)) Fault) (λ each. Done (record { schema = frame.schema; rows = rows_where_true each frame.rows })))) [ true ↦ kept_frame schema frame (stretched count values) h | false ↦ tt ]
+    elim (length values == count || length values == 1) as (λ b. Meets (IsFrameOf schema) (then_do (cond b (Done (stretched count values)) Fault) (λ each. Done (record { schema = frame.schema; rows = where_true each frame.rows })))) [ true ↦ kept_frame schema frame (stretched count values) h | false ↦ tt ]
 
 module _ (registry : Registry) (frame : Frame) (is_frame : IsFrame frame) (rows : List ℕ) where
   -- expressions that have columns give columns of them

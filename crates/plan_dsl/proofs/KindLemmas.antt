@@ -1,9 +1,12 @@
 -- What the kernel of each kind gives that goes by a signature: values of its own type.
-use Rattle.std.proofs.Common.{pos, length, true, false, [], ◌∷◌, refl}
+use Rattle.std.proofs.Common.{pos, length, Bool, true, false, [], ◌∷◌, refl}
 use Rattle.std.proofs.lemmas.Bool.{and_from}
 use Rattle.plan_types.proofs.ValueLemmas.{wrapped_in_range}
-use Rattle.plan_dsl.specs.Ops.{LenOp, SliceOp}
+use Rattle.plan_dsl.specs.declared.sort_options.SortOptions.{SortOptions}
+use Rattle.plan_dsl.specs.Ops.{LenOp, SliceOp, ExplodeOp, GatherOp, FilterOp, SortOp}
 use Rattle.plan_dsl.proofs.ColumnLemmas.{slice_values_fit}
+use Rattle.plan_dsl.proofs.PickLemmas.{explode_values_fit, gather_values_fit, filter_values_fit}
+use Rattle.plan_dsl.proofs.SortLemmas.{sort_values_fit}
 use Rattle.plan_dsl.proofs.SignatureLemmas.{KernelGives}
 
 pub len_gives : KernelGives LenOp
@@ -13,3 +16,20 @@ len_gives registry frame rows _ = tt
 pub slice_gives : KernelGives SliceOp
 slice_gives registry frame rows (input ∷ offset ∷ count ∷ []) = λ values i starts o sizes c. slice_values_fit input.type values starts sizes i.of.fitting (o.one refl) (c.one refl)
 slice_gives registry frame rows _ = tt
+
+pub explode_gives : KernelGives ExplodeOp
+explode_gives registry frame rows (input ∷ []) = λ values i. record { fitting = explode_values_fit values input.type i.of.fitting; single = λ one. cc }
+explode_gives registry frame rows _ = tt
+
+pub gather_gives : (returns_scalar : Bool) → KernelGives (GatherOp returns_scalar)
+gather_gives true registry frame rows (input ∷ index ∷ []) = λ values i indices at. gather_values_fit input.type values indices false i.of.fitting (λ one. at.one refl)
+gather_gives false registry frame rows (input ∷ index ∷ []) = λ values i indices at. gather_values_fit input.type values indices true i.of.fitting (λ one. cc)
+gather_gives _ registry frame rows _ = tt
+
+pub filter_gives : KernelGives FilterOp
+filter_gives registry frame rows (input ∷ by ∷ []) = λ values i truths b. filter_values_fit input.type values truths i.of.fitting
+filter_gives registry frame rows _ = tt
+
+pub sort_gives : (options : SortOptions) → KernelGives (SortOp options)
+sort_gives options registry frame rows (input ∷ []) = λ values i. sort_values_fit options input values i.of
+sort_gives options registry frame rows _ = tt

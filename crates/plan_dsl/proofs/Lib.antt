@@ -13,10 +13,12 @@ pub mod LiteralLemmas
 pub mod OpLemmas
 pub mod OperandLemmas
 pub mod OperatorLemmas
+pub mod PickLemmas
 pub mod ResolvingLemmas
 pub mod RuleLemmas
 pub mod RunLemmas
 pub mod SameLemmas
+pub mod SortLemmas
 pub mod SignatureLemmas
 pub mod StrictLemmas
 pub mod SwapLemmas

@@ -1,11 +1,12 @@
 -- Laws of comparing expressions.
 use Rattle.std.specs.Prelude.{◌≡◌, Bool, true}
-use Rattle.std.specs.Cmp.{IsEquivalence}
+use Rattle.std.specs.Cmp.{IsEquivalence, booleans_Decides}
 use Rattle.std.proofs.Common.{refl, ap, ◌∙◌}
 use Rattle.std.proofs.lemmas.Slice.Eq.{bytes_eq-Decides}
 use Rattle.std.proofs.lemmas.Bool.{and_parts, and_from}
 use Rattle.std.proofs.lemmas.Bool.Decides.{Decides-eqb}
 use Rattle.std.proofs.lemmas.Cmp.{on_equiv}
+use Rattle.std.specs.Bool.{beq}
 use Rattle.std.specs.Ordering.{on}
 use Rattle.plan_types.specs.Types.{same_type}
 use Rattle.plan_types.specs.TypeLaws.{equivalence_from_exact, same_type_exact, same_type_own}
@@ -17,11 +18,12 @@ use Rattle.plan_dsl.specs.declared.expr.Expr.{Expr}
 use Rattle.plan_dsl.specs.declared.literal.LiteralValue.{LiteralValue}
 use Rattle.plan_dsl.specs.declared.operator.Operator.{Operator}
 use Rattle.plan_dsl.specs.declared.operator.Operator.TheVariants.{Eq, EqValidity, NotEq, NotEqValidity, Lt, LtEq, Gt, GtEq, Plus, Minus, Multiply, Divide, FloorDivide, Modulus, And, Or, Xor, LogicalAnd, LogicalOr}
+use Rattle.plan_dsl.specs.declared.sort_options.SortOptions.{SortOptions}
 use Rattle.plan_dsl.specs.Trees.{Tree, Trees, node, no_more, more}
-use Rattle.plan_dsl.specs.Ops.{Op, ColumnOp, LiteralOp, BinaryOp, CastOp, LenOp, SliceOp, AliasOp, Expression}
+use Rattle.plan_dsl.specs.Ops.{Op, ColumnOp, LiteralOp, BinaryOp, CastOp, LenOp, SliceOp, AliasOp, Expression, ExplodeOp, GatherOp, FilterOp, SortOp}
 use Rattle.plan_dsl.specs.Expressions.{tree_of}
 use Rattle.plan_dsl.specs.Literals.{literal_type, literal_value, literal_op}
-use Rattle.plan_dsl.specs.SameExpressions.{operator_rank, same_operator, options_rank, same_options, same_literal, same_op, same_tree, same_trees, literal_writes, op_writes, tree_writes}
+use Rattle.plan_dsl.specs.SameExpressions.{operator_rank, same_operator, options_rank, same_options, same_sort, same_literal, same_op, same_tree, same_trees, literal_writes, op_writes, tree_writes}
 
 -- operators and ways to cast that compare equal are one
 pub same_operator_exact : (a b : Operator) → same_operator a b ≡ true → a ≡ b
@@ -58,6 +60,16 @@ same_options_exact _ _ h = cc
 pub same_options_own : (a : CastOptions) → same_options a a ≡ true
 same_options_own a = (Decides-eqb (options_rank a) (options_rank a)).1 refl
 
+pub same_sort_exact : (a b : SortOptions) → same_sort a b ≡ true → a ≡ b
+same_sort_exact a b h =
+    let parts = and_parts (beq a.descending b.descending) (beq a.nulls_last b.nulls_last) h in
+    let descending = (booleans_Decides a.descending b.descending).0 parts.0 in
+    let nulls_last = (booleans_Decides a.nulls_last b.nulls_last).0 parts.1 in
+    λ i. record { descending = descending i; nulls_last = nulls_last i }
+
+pub same_sort_own : (a : SortOptions) → same_sort a a ≡ true
+same_sort_own a = and_from _ _ ((booleans_Decides a.descending a.descending).1 refl) ((booleans_Decides a.nulls_last a.nulls_last).1 refl)
+
 -- nodes that compare equal do the same
 pub same_op_exact : (a b : Op) → same_op a b ≡ true → a ≡ b
 same_op_exact (ColumnOp name) (ColumnOp other) h = ap ColumnOp ((bytes_eq-Decides name other).0 h)
@@ -70,6 +82,10 @@ same_op_exact (CastOp target options) (CastOp other given) h =
     ap (λ t. CastOp t options) (same_type_exact target other parts.0) ∙ ap (CastOp other) (same_options_exact options given parts.1)
 same_op_exact LenOp LenOp h = refl
 same_op_exact SliceOp SliceOp h = refl
+same_op_exact ExplodeOp ExplodeOp h = refl
+same_op_exact (GatherOp returns_scalar) (GatherOp other) h = ap GatherOp ((booleans_Decides returns_scalar other).0 h)
+same_op_exact FilterOp FilterOp h = refl
+same_op_exact (SortOp options) (SortOp other) h = ap SortOp (same_sort_exact options other h)
 same_op_exact (AliasOp name) (AliasOp other) h = ap AliasOp ((bytes_eq-Decides name other).0 h)
 same_op_exact _ _ h = cc
 
@@ -80,6 +96,10 @@ same_op_own (BinaryOp operator) = same_operator_own operator
 same_op_own (CastOp target options) = and_from _ _ (same_type_own target) (same_options_own options)
 same_op_own LenOp = refl
 same_op_own SliceOp = refl
+same_op_own ExplodeOp = refl
+same_op_own (GatherOp returns_scalar) = (booleans_Decides returns_scalar returns_scalar).1 refl
+same_op_own FilterOp = refl
+same_op_own (SortOp options) = same_sort_own options
 same_op_own (AliasOp name) = (bytes_eq-Decides name name).1 refl
 
 -- trees that compare equal are one where nodes are, and each is equal to itself

@@ -1,10 +1,10 @@
 -- The tree of an expression.
 use Rattle.plan_types.specs.Types.{ty}
 use Rattle.plan_dsl.specs.declared.expr.Expr.{Expr}
-use Rattle.plan_dsl.specs.declared.expr.Expr.TheVariants.{Column, Literal, BinaryExpr', Cast', Len, Slice', Alias'}
+use Rattle.plan_dsl.specs.declared.expr.Expr.TheVariants.{Column, Literal, BinaryExpr', Cast', Len, Slice', Alias', Explode', Gather', Filter', Sort'}
 use Rattle.plan_dsl.specs.Trees.{node, no_more, more}
 use Rattle.plan_dsl.specs.Literals.{literal_op}
-use Rattle.plan_dsl.specs.Ops.{ColumnOp, BinaryOp, CastOp, LenOp, SliceOp, AliasOp, Expression}
+use Rattle.plan_dsl.specs.Ops.{ColumnOp, BinaryOp, CastOp, LenOp, SliceOp, AliasOp, Expression, ExplodeOp, GatherOp, FilterOp, SortOp}
 
 abbrev pub tree_of : Expr → Expression
 tree_of (Column name) = node (ColumnOp name) no_more
@@ -13,4 +13,8 @@ tree_of (BinaryExpr' p left operator q right) = node (BinaryOp operator) (more (
 tree_of (Cast' p expr dtype options) = node (CastOp (ty dtype) options) (more (tree_of expr) no_more)
 tree_of Len = node LenOp no_more
 tree_of (Slice' p input q offset r length) = node SliceOp (more (tree_of input) (more (tree_of offset) (more (tree_of length) no_more)))
+tree_of (Explode' p input) = node ExplodeOp (more (tree_of input) no_more)
+tree_of (Gather' p expr q idx returns_scalar) = node (GatherOp returns_scalar) (more (tree_of expr) (more (tree_of idx) no_more))
+tree_of (Filter' p input q by) = node FilterOp (more (tree_of input) (more (tree_of by) no_more))
+tree_of (Sort' p expr options) = node (SortOp options) (more (tree_of expr) no_more)
 tree_of (Alias' p expr name) = node (AliasOp name) (more (tree_of expr) no_more)

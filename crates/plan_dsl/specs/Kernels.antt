@@ -1,19 +1,21 @@
 -- What a node does with the columns of its operands.
 -- A column is a list of values. Two columns are brought to a common length: one of one value is
 -- repeated, and other unequal lengths are a data fault.
-use Rattle.std.specs.Prelude.{ℕ, pos, List, [], ◌∷◌, map, length, replicate, Option, Some, None, ◌==◌, if◌then◌else◌}
+use Rattle.std.specs.Prelude.{ℕ, pos, List, [], ◌∷◌, map, length, replicate, Option, Some, None, ◌==◌, ◌||◌, if◌then◌else◌}
 use Rattle.plan_types.specs.Types.{Ty, same_type}
 use Rattle.plan_types.specs.Schemas.{Name}
 use Rattle.plan_types.specs.Values.{Val, IntValue}
 use Rattle.plan_types.specs.Outcomes.{Outcome, Done, Fault, Stuck, then_do}
 use Rattle.plan_types.specs.Casts.{Converted, Gives, Fails, cast, wrapped}
-use Rattle.plan_types.specs.Frames.{Frame, value_in, row_at}
+use Rattle.plan_types.specs.Frames.{Frame, Row, value_in, row_at}
 use Rattle.plan_types.specs.declared.dtype.CastOptions.{CastOptions}
 use Rattle.plan_dsl.specs.declared.operator.Operator.{Operator}
 use Rattle.plan_dsl.specs.Operators.{operator_value}
 use Rattle.plan_dsl.specs.Slices.{slice_values}
+use Rattle.plan_dsl.specs.Sorting.{sort_values}
+use Rattle.plan_dsl.specs.Picks.{explode_values, gather_values, where_true}
 use Rattle.plan_dsl.specs.Registry.{Registry}
-use Rattle.plan_dsl.specs.Ops.{Op, ColumnOp, LiteralOp, BinaryOp, CastOp, LenOp, SliceOp, AliasOp}
+use Rattle.plan_dsl.specs.Ops.{Op, ColumnOp, LiteralOp, BinaryOp, CastOp, LenOp, SliceOp, AliasOp, ExplodeOp, GatherOp, FilterOp, SortOp}
 
 -- what an expression gives on the rows of these numbers
 abbrev pub Meaning : Type 0
@@ -56,6 +58,16 @@ stretched count [] = []
 stretched count (value ∷ []) = replicate count value
 stretched count (first ∷ second ∷ rest) = first ∷ second ∷ rest
 
+-- values for that many rows: one for each, or a single one that is repeated
+abbrev pub for_rows : ℕ → List Val → Outcome (List Val)
+for_rows count values = if length values == count || length values == 1 then Done (stretched count values) else Fault
+
+-- a value in front of each row
+abbrev pub in_front : List Val → List Row → List Row
+in_front [] rows = []
+in_front (value ∷ values) [] = []
+in_front (value ∷ values) (row ∷ rows) = (value ∷ row) ∷ in_front values rows
+
 -- the values of an operator at each place
 abbrev pub at_each : (Val → Val → Val) → List Val → List Val → List Val
 at_each f [] right = []
@@ -72,6 +84,11 @@ abbrev pub operator_values : Operator → Ty → Ty → List Val → List Val �
 operator_values operator from type left right =
     at_length (common_length (length left) (length right)) (λ count. at_each (operator_value operator from type) (stretched count left) (stretched count right))
 
+-- the values of a column beside which another is true, at the common length
+abbrev pub filter_values : List Val → List Val → Outcome (List Val)
+filter_values values truths =
+    at_length (common_length (length values) (length truths)) (λ count. where_true (stretched count truths) (stretched count values))
+
 -- a frame's column at these rows
 abbrev pub column_values : Frame → Name → List ℕ → List Val
 column_values frame name rows = map (λ number. value_in frame.schema name (row_at frame number)) rows
@@ -84,5 +101,9 @@ kernel registry frame rows (BinaryOp operator) (from ∷ types) type (left ∷ r
 kernel registry frame rows (CastOp target options) (from ∷ []) type (column ∷ []) = cast_column from target options column
 kernel registry frame rows LenOp [] type [] = Done (IntValue (wrapped type (pos (length rows))) ∷ [])
 kernel registry frame rows SliceOp types type (values ∷ offset ∷ count ∷ []) = slice_values values offset count
+kernel registry frame rows ExplodeOp types type (values ∷ []) = Done (explode_values values)
+kernel registry frame rows (GatherOp returns_scalar) types type (values ∷ indices ∷ []) = gather_values values indices
+kernel registry frame rows FilterOp types type (values ∷ truths ∷ []) = filter_values values truths
+kernel registry frame rows (SortOp options) types type (values ∷ []) = Done (sort_values options values)
 kernel registry frame rows (AliasOp name) types type (column ∷ []) = Done column
 kernel registry frame rows op types type columns = Stuck

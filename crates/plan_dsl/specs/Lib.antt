@@ -11,6 +11,7 @@ pub mod Names
 pub mod OperatorTypes
 pub mod Operators
 pub mod Ops
+pub mod Picks
 pub mod PlanKernels
 pub mod PlanMeaning
 pub mod PlanRules
@@ -21,6 +22,7 @@ pub mod SameExpressions
 pub mod Samples
 pub mod Signatures
 pub mod Slices
+pub mod Sorting
 pub mod Sources
 pub mod StrictRun
 pub mod Strictness

@@ -1,9 +1,11 @@
 -- What a node of an expression does, without its children.
+use Rattle.std.specs.Prelude.{Bool}
 use Rattle.plan_types.specs.Types.{Ty}
 use Rattle.plan_types.specs.Schemas.{Name}
 use Rattle.plan_types.specs.Values.{Val}
 use Rattle.plan_types.specs.declared.dtype.CastOptions.{CastOptions}
 use Rattle.plan_dsl.specs.declared.operator.Operator.{Operator}
+use Rattle.plan_dsl.specs.declared.sort_options.SortOptions.{SortOptions}
 use Rattle.plan_dsl.specs.Trees.{Tree}
 
 pub data Op : Type 0 where
@@ -13,6 +15,10 @@ pub data Op : Type 0 where
   CastOp : (target : Ty) (options : CastOptions) → Op
   LenOp : Op
   SliceOp : Op
+  ExplodeOp : Op
+  GatherOp : (returns_scalar : Bool) → Op
+  FilterOp : Op
+  SortOp : (options : SortOptions) → Op
   AliasOp : (name : Name) → Op
 
 abbrev pub Expression : Type 0

@@ -2,17 +2,18 @@
 -- A scan gives its table, and the empty table has no rows. A select gives a column for each expression,
 -- brought to a common length; one of nothing gives the frame without columns, whatever its input gives.
 -- A filter keeps the rows for which its predicate is true: null is not true.
-use Rattle.std.specs.Prelude.{ℕ, List, [], ◌∷◌, map, length, replicate, slice_get, Option, Some, None, Bool, false, ◌||◌, ◌==◌, if◌then◌else◌, Result, Ok, Err}
+use Rattle.std.specs.Prelude.{ℕ, List, [], ◌∷◌, map, length, replicate, slice_get, Option, Some, None, Result, Ok, Err}
 use Rattle.plan_types.specs.Types.{Ty}
 use Rattle.plan_types.specs.Schemas.{Name, Columns}
-use Rattle.plan_types.specs.Values.{Val, TruthValue}
-use Rattle.plan_types.specs.Outcomes.{Outcome, Done, Fault, Stuck, then_do}
+use Rattle.plan_types.specs.Values.{Val}
+use Rattle.plan_types.specs.Outcomes.{Outcome, Done, Stuck, then_do}
 use Rattle.plan_types.specs.Frames.{Row, Frame, empty_frame, row_numbers}
 use Rattle.plan_types.specs.declared.error.ErrorKind.{ErrorKind}
 use Rattle.plan_dsl.specs.Ops.{Expression}
+use Rattle.plan_dsl.specs.Picks.{where_true}
 use Rattle.plan_dsl.specs.Plans.{PlanKind, ScanKind, SelectKind, FilterKind, PlanOp, Named}
 use Rattle.plan_dsl.specs.Typing.{Typed}
-use Rattle.plan_dsl.specs.Kernels.{Meaning, common_length, stretched, at_length}
+use Rattle.plan_dsl.specs.Kernels.{Meaning, common_length, stretched, at_length, for_rows, in_front}
 
 -- an expression as a node sees it on a frame: its name, its typing, and what it gives
 pub record Evaluated : Type 0 where
@@ -52,12 +53,6 @@ abbrev pub shared_length : List Series → Option ℕ
 shared_length [] = Some 1
 shared_length (s ∷ ss) = length_beside (length s.values) (shared_length ss)
 
--- a value in front of each row
-abbrev pub in_front : List Val → List Row → List Row
-in_front [] rows = []
-in_front (value ∷ values) [] = []
-in_front (value ∷ values) (row ∷ rows) = (value ∷ row) ∷ in_front values rows
-
 -- the rows of columns of that length
 abbrev pub rows_of : ℕ → List Series → List Row
 rows_of count [] = replicate count []
@@ -79,25 +74,10 @@ selected evaluate [] input = Done empty_frame
 selected evaluate (output ∷ outputs) input =
     then_do input (λ frame. selected_on (map (evaluate frame) (output ∷ outputs)) (row_numbers frame))
 
--- values for that many rows: one for each, or a single one that is repeated
-abbrev pub for_rows : ℕ → List Val → Outcome (List Val)
-for_rows count values = if length values == count || length values == 1 then Done (stretched count values) else Fault
-
-abbrev pub is_true : Val → Bool
-is_true (TruthValue truth) = truth
-is_true value = false
-
--- the rows beside a true value
-abbrev pub rows_where_true : List Val → List Row → List Row
-rows_where_true [] rows = []
-rows_where_true (value ∷ values) [] = []
-rows_where_true (value ∷ values) (row ∷ rows) =
-    if is_true value then row ∷ rows_where_true values rows else rows_where_true values rows
-
 -- the frame of the rows for which the values are true
 abbrev pub kept_rows : Frame → List Val → Outcome Frame
 kept_rows frame values =
-    then_do (for_rows (length frame.rows) values) (λ each. Done (record { schema = frame.schema; rows = rows_where_true each frame.rows }))
+    then_do (for_rows (length frame.rows) values) (λ each. Done (record { schema = frame.schema; rows = where_true each frame.rows }))
 
 -- the rows of a frame for which an expression is true
 abbrev pub filtered_on : Evaluated → Frame → Outcome Frame

@@ -3,6 +3,7 @@
 -- as many children, which are one in order. So a literal of a type isn't one without, nor of another type.
 use Rattle.std.specs.Prelude.{ℕ, Bool, true, false, ◌&&◌, ◌==◌, List, [], ◌++◌, encode_utf8_all}
 use Rattle.std.specs.Hash as fed
+use Rattle.std.specs.Bool.{beq}
 use Rattle.std.specs.Str.{bytes_eq}
 use Rattle.plan_types.specs.Types.{Ty, same_type, type_writes}
 use Rattle.plan_types.specs.Values.{Val, NullValue, TruthValue, IntValue, TextValue, ListValue, StructValue, same_value}
@@ -11,8 +12,9 @@ use Rattle.plan_types.specs.declared.dtype.CastOptions.TheVariants.{Strict, NonS
 use Rattle.plan_dsl.specs.declared.literal.LiteralValue.{LiteralValue}
 use Rattle.plan_dsl.specs.declared.operator.Operator.{Operator}
 use Rattle.plan_dsl.specs.declared.operator.Operator.TheVariants.{Eq, EqValidity, NotEq, NotEqValidity, Lt, LtEq, Gt, GtEq, Plus, Minus, Multiply, Divide, FloorDivide, Modulus, And, Or, Xor, LogicalAnd, LogicalOr}
+use Rattle.plan_dsl.specs.declared.sort_options.SortOptions.{SortOptions}
 use Rattle.plan_dsl.specs.Trees.{Tree, Trees, node, no_more, more}
-use Rattle.plan_dsl.specs.Ops.{Op, ColumnOp, LiteralOp, BinaryOp, CastOp, LenOp, SliceOp, AliasOp}
+use Rattle.plan_dsl.specs.Ops.{Op, ColumnOp, LiteralOp, BinaryOp, CastOp, LenOp, SliceOp, AliasOp, ExplodeOp, GatherOp, FilterOp, SortOp}
 use Rattle.plan_dsl.specs.Literals.{literal_type, literal_value}
 
 -- ---- what is one
@@ -51,6 +53,10 @@ options_rank Overflowing = 2
 abbrev pub same_options : CastOptions → CastOptions → Bool
 same_options left right = options_rank left == options_rank right
 
+-- whether two ways to sort are one
+abbrev pub same_sort : SortOptions → SortOptions → Bool
+same_sort left right = beq left.descending right.descending && beq left.nulls_last right.nulls_last
+
 -- whether two literals are one
 abbrev pub same_literal : LiteralValue → LiteralValue → Bool
 same_literal left right = same_type (literal_type left) (literal_type right) && same_value (literal_value left) (literal_value right)
@@ -63,6 +69,10 @@ same_op (BinaryOp operator) (BinaryOp other) = same_operator operator other
 same_op (CastOp target options) (CastOp other given) = same_type target other && same_options options given
 same_op LenOp LenOp = true
 same_op SliceOp SliceOp = true
+same_op ExplodeOp ExplodeOp = true
+same_op (GatherOp returns_scalar) (GatherOp other) = beq returns_scalar other
+same_op FilterOp FilterOp = true
+same_op (SortOp options) (SortOp other) = same_sort options other
 same_op (AliasOp name) (AliasOp other) = bytes_eq name other
 same_op op other = false
 
@@ -98,6 +108,10 @@ op_writes (BinaryOp operator) = fed.u8 2 ++ fed.u8 (operator_rank operator)
 op_writes (CastOp target options) = fed.u8 3 ++ (type_writes target ++ fed.u8 (options_rank options))
 op_writes LenOp = fed.u8 4
 op_writes SliceOp = fed.u8 5
+op_writes ExplodeOp = fed.u8 6
+op_writes (GatherOp returns_scalar) = fed.u8 7 ++ fed.bool returns_scalar
+op_writes FilterOp = fed.u8 8
+op_writes (SortOp options) = fed.u8 9 ++ (fed.bool options.descending ++ fed.bool options.nulls_last)
 op_writes (AliasOp name) = fed.u8 11 ++ fed.str (encode_utf8_all name)
 
 -- each node, before its children

@@ -1,6 +1,6 @@
 -- What the worked examples share: tables of cases, types, values, expressions, plans and frames.
 use Prim.Native.String.{String}
-use Rattle.std.specs.Prelude.{◌≡◌, ℕ, ℤ, pos, neg_ℤ, List, [], ◌∷◌, map, codes, true, false, Some, None, Result, Ok, Err}
+use Rattle.std.specs.Prelude.{◌≡◌, ℕ, ℤ, pos, neg_ℤ, List, [], ◌∷◌, map, codes, Bool, true, false, Some, None, Result, Ok, Err}
 use Rattle.plan_types.specs.Types.{Ty, NullType, Truth, Integer, TextType, DateType, TimeType, DatetimeType, DurationType, StructType, Untyped, fields_from}
 use Rattle.plan_types.specs.Values.{Val, NullValue, TruthValue, IntValue, TextValue, ListValue, StructValue}
 use Rattle.plan_types.specs.ValueViews.{values_from}
@@ -15,8 +15,9 @@ use Rattle.plan_dsl.specs.declared.expr.Expr.TheVariants.{Literal}
 use Rattle.plan_dsl.specs.declared.literal.LiteralValue.{LiteralValue}
 use Rattle.plan_dsl.specs.declared.operator.Operator.{Operator}
 use Rattle.plan_dsl.specs.declared.operator.Operator.TheVariants.{Eq, EqValidity, NotEq, NotEqValidity, Lt, LtEq, Gt, GtEq, Plus, Minus, Multiply, Divide, FloorDivide, Modulus, And, Or, Xor, LogicalAnd, LogicalOr}
+use Rattle.plan_dsl.specs.declared.sort_options.SortOptions.{SortOptions}
 use Rattle.plan_dsl.specs.Trees.{Tree, node, no_more, more}
-use Rattle.plan_dsl.specs.Ops.{ColumnOp, LiteralOp, BinaryOp, CastOp, Expression, LenOp, SliceOp, AliasOp}
+use Rattle.plan_dsl.specs.Ops.{ColumnOp, LiteralOp, BinaryOp, CastOp, Expression, LenOp, SliceOp, AliasOp, ExplodeOp, GatherOp, FilterOp, SortOp}
 use Rattle.plan_dsl.specs.Expressions.{tree_of}
 use Rattle.plan_dsl.specs.Literals.{is_literal}
 use Rattle.plan_dsl.specs.Typing.{Typed, typing}
@@ -271,6 +272,30 @@ cast_as options target operand = node (CastOp target options) (more operand no_m
 -- a slice of an expression, by an offset and a length
 abbrev pub slice : Expression → Expression → Expression → Expression
 slice input offset count = node SliceOp (more input (more offset (more count no_more)))
+
+abbrev pub explode : Expression → Expression
+explode input = node ExplodeOp (more input no_more)
+
+-- what is gathered at indices, and at one index alone
+abbrev pub gather : Expression → Expression → Expression
+gather input index = node (GatherOp false) (more input (more index no_more))
+
+abbrev pub gather_one : Expression → Expression → Expression
+gather_one input index = node (GatherOp true) (more input (more index no_more))
+
+-- the values where another expression is true
+abbrev pub keep_where : Expression → Expression → Expression
+keep_where input by = node FilterOp (more input (more by no_more))
+
+-- ways to sort: whether from the greatest on, and whether nulls are last
+abbrev pub way : Bool → Bool → SortOptions
+way descending nulls_last = record { descending = descending; nulls_last = nulls_last }
+
+abbrev pub rising : SortOptions
+rising = way false false
+
+abbrev pub sort_as : SortOptions → Expression → Expression
+sort_as options input = node (SortOp options) (more input no_more)
 
 abbrev pub alias : String → Expression → Expression
 alias name operand = node (AliasOp (codes name)) (more operand no_more)

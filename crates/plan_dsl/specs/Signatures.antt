@@ -10,9 +10,9 @@ use Rattle.plan_dsl.specs.declared.signature.Asked.{Asked}
 use Rattle.plan_dsl.specs.declared.signature.OwnType.{OwnType}
 use Rattle.plan_dsl.specs.declared.signature.OwnType.TheVariants.{First, Item, ListOf, Count}
 use Rattle.plan_dsl.specs.declared.signature.Many.{Many}
-use Rattle.plan_dsl.specs.declared.signature.Many.TheVariants.{Never, Always}
+use Rattle.plan_dsl.specs.declared.signature.Many.TheVariants.{Never, Always, AsFirst}
 use Rattle.plan_dsl.specs.declared.signature.Signature.{Signature}
-use Rattle.plan_dsl.specs.Ops.{Op, LenOp, SliceOp}
+use Rattle.plan_dsl.specs.Ops.{Op, LenOp, SliceOp, ExplodeOp, GatherOp, FilterOp, SortOp}
 
 -- the types of counts, and of places and lengths
 abbrev pub count_type : Ty
@@ -66,4 +66,9 @@ takes first second rest own many = Ok (record { first = first; second = second; 
 abbrev pub signature : Op → ℕ → Result Signature ErrorKind
 signature LenOp zero = takes (asks Any) (asks Any) (asks Any) Count Never
 signature SliceOp (suc (suc (suc zero))) = takes (asks Any) (asks_one Place) (asks_one Length) First Always
+signature ExplodeOp (suc zero) = takes (asks Any) (asks Any) (asks Any) Item Always
+signature (GatherOp true) (suc (suc zero)) = takes (asks Any) (asks_one Place) (asks Any) First Never
+signature (GatherOp false) (suc (suc zero)) = takes (asks Any) (asks Place) (asks Any) First Always
+signature FilterOp (suc (suc zero)) = takes (asks Any) (asks Boolean) (asks Any) First Always
+signature (SortOp options) (suc zero) = takes (asks Sortable) (asks Any) (asks Any) First AsFirst
 signature op count = Err SchemaMismatch

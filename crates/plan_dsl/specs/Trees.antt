@@ -28,6 +28,10 @@ abbrev mutual
   fold_all step no_more = []
   fold_all step (more child rest) = fold step child ∷ fold_all step rest
 
+-- what the top of a tree does
+abbrev pub top_op : {Op : Type 0} → Tree Op → Op
+top_op (node op children) = op
+
 -- the child of that number
 abbrev pub child_at : {Op : Type 0} → Trees Op → ℕ → Option (Tree Op)
 child_at no_more number = None

@@ -1,12 +1,14 @@
 //! Expressions over the columns of a frame.
 ghost use Rattle.std.specs.Prelude.{◌≡◌, IfOk, IfErr};
 ghost use Rattle.std.specs.List.{fold};
+ghost use Rattle.plan_dsl.specs.Trees.{top_op};
 ghost use Rattle.plan_dsl.specs.Expressions.{tree_of};
 ghost use Rattle.plan_dsl.specs.SameExpressions.{operator_rank, options_rank, same_op, same_tree, op_writes, tree_writes};
 ghost use Rattle.plan_types.specs.Errors.{no_memory};
 
 use crate::literal::LiteralValue;
 use crate::operator::Operator;
+use crate::sort_options::SortOptions;
 use plan_types::dtype::{CastOptions, DataType};
 use plan_types::error::PlanError;
 use plan_types::text::PlSmallStr;
@@ -41,6 +43,26 @@ pub enum Expr {
         offset: Box<Expr>,
         length: Box<Expr>,
     },
+    /// The values of each list, and a null in place of none. Values of other types stay.
+    Explode(Box<Expr>),
+    /// The value at each index.
+    Gather {
+        expr: Box<Expr>,
+        /// A number below 0 counts from the end.
+        idx: Box<Expr>,
+        /// Whether there is one index, and so one value.
+        returns_scalar: bool,
+    },
+    /// The values beside which the other expression is true.
+    Filter {
+        input: Box<Expr>,
+        by: Box<Expr>,
+    },
+    /// The values in order. Those that are the same stay in order.
+    Sort {
+        expr: Box<Expr>,
+        options: SortOptions,
+    },
     /// The same under another name.
     Alias(Box<Expr>, PlSmallStr),
 }
@@ -51,54 +73,53 @@ impl Expr {
         ensures err { IfErr result (λ error. error ≡ no_memory) }
     {
         match self {
-            Expr::Column(name) => {
-                let name = name.try_clone(alloc)?;
-                Ok(Expr::Column(name))
-            }
-            Expr::Literal(value) => {
-                let value = value.try_clone(alloc)?;
-                Ok(Expr::Literal(value))
-            }
-            Expr::BinaryExpr { left, op, right } => {
-                let left = left.try_clone(alloc)?;
-                let right = right.try_clone(alloc)?;
-                let left = Box::new(alloc, left)?;
-                let right = Box::new(alloc, right)?;
-                Ok(Expr::BinaryExpr {
-                    left,
-                    op: *op,
-                    right,
-                })
-            }
+            Expr::Column(name) => Ok(Expr::Column(name.try_clone(alloc)?)),
+            Expr::Literal(value) => Ok(Expr::Literal(value.try_clone(alloc)?)),
+            Expr::BinaryExpr { left, op, right } => Ok(Expr::BinaryExpr {
+                left: Box::new(alloc, left.try_clone(alloc)?)?,
+                op: *op,
+                right: Box::new(alloc, right.try_clone(alloc)?)?,
+            }),
             Expr::Cast {
                 expr,
                 dtype,
                 options,
-            } => {
-                let expr = expr.try_clone(alloc)?;
-                let expr = Box::new(alloc, expr)?;
-                let dtype = dtype.try_clone(alloc)?;
-                Ok(Expr::Cast {
-                    expr,
-                    dtype,
-                    options: *options,
-                })
-            }
+            } => Ok(Expr::Cast {
+                expr: Box::new(alloc, expr.try_clone(alloc)?)?,
+                dtype: dtype.try_clone(alloc)?,
+                options: *options,
+            }),
             Expr::Len => Ok(Expr::Len),
             Expr::Slice {
                 input,
                 offset,
                 length,
-            } => {
-                let input = Box::new(alloc, input.try_clone(alloc)?)?;
-                let offset = Box::new(alloc, offset.try_clone(alloc)?)?;
-                let length = Box::new(alloc, length.try_clone(alloc)?)?;
-                Ok(Expr::Slice {
-                    input,
-                    offset,
-                    length,
-                })
+            } => Ok(Expr::Slice {
+                input: Box::new(alloc, input.try_clone(alloc)?)?,
+                offset: Box::new(alloc, offset.try_clone(alloc)?)?,
+                length: Box::new(alloc, length.try_clone(alloc)?)?,
+            }),
+            Expr::Explode(input) => {
+                let input = input.try_clone(alloc)?;
+                Ok(Expr::Explode(Box::new(alloc, input)?))
             }
+            Expr::Gather {
+                expr,
+                idx,
+                returns_scalar,
+            } => Ok(Expr::Gather {
+                expr: Box::new(alloc, expr.try_clone(alloc)?)?,
+                idx: Box::new(alloc, idx.try_clone(alloc)?)?,
+                returns_scalar: *returns_scalar,
+            }),
+            Expr::Filter { input, by } => Ok(Expr::Filter {
+                input: Box::new(alloc, input.try_clone(alloc)?)?,
+                by: Box::new(alloc, by.try_clone(alloc)?)?,
+            }),
+            Expr::Sort { expr, options } => Ok(Expr::Sort {
+                expr: Box::new(alloc, expr.try_clone(alloc)?)?,
+                options: *options,
+            }),
             Expr::Alias(expr, name) => {
                 let expr = Box::new(alloc, expr.try_clone(alloc)?)?;
                 let name = name.try_clone(alloc)?;
@@ -149,6 +170,33 @@ impl Expr {
             ) => {
                 input.is_same(own_input) && offset.is_same(own_offset) && length.is_same(own_length)
             }
+            (Expr::Explode(input), Expr::Explode(own)) => input.is_same(own),
+            (
+                Expr::Gather {
+                    expr,
+                    idx,
+                    returns_scalar,
+                },
+                Expr::Gather {
+                    expr: own_expr,
+                    idx: own_idx,
+                    returns_scalar: own_scalar,
+                },
+            ) => *returns_scalar == *own_scalar && expr.is_same(own_expr) && idx.is_same(own_idx),
+            (
+                Expr::Filter { input, by },
+                Expr::Filter {
+                    input: own_input,
+                    by: own_by,
+                },
+            ) => input.is_same(own_input) && by.is_same(own_by),
+            (
+                Expr::Sort { expr, options },
+                Expr::Sort {
+                    expr: own_expr,
+                    options: own_options,
+                },
+            ) => *options == *own_options && expr.is_same(own_expr),
             (Expr::Alias(expr, name), Expr::Alias(own, own_name)) => {
                 *name == *own_name && expr.is_same(own)
             }
@@ -160,6 +208,40 @@ impl Expr {
     fn feed<H: Hasher>(&self, state: &mut H)
         ensures { state.new ≡ fold H.write state.old (tree_writes op_writes (tree_of self.now)) }
     {
+        self.feed_own(state);
+        match self {
+            Expr::Column(_) | Expr::Literal(_) | Expr::Len => {}
+            Expr::Cast { expr, .. } => expr.feed(state),
+            Expr::Explode(input) => input.feed(state),
+            Expr::Sort { expr, .. } => expr.feed(state),
+            Expr::BinaryExpr { left, right, .. } => {
+                left.feed(state);
+                right.feed(state);
+            }
+            Expr::Gather { expr, idx, .. } => {
+                expr.feed(state);
+                idx.feed(state);
+            }
+            Expr::Filter { input, by } => {
+                input.feed(state);
+                by.feed(state);
+            }
+            Expr::Slice {
+                input,
+                offset,
+                length,
+            } => {
+                input.feed(state);
+                offset.feed(state);
+                length.feed(state);
+            }
+        }
+    }
+
+    // Feeds what the node does, without its operands.
+    fn feed_own<H: Hasher>(&self, state: &mut H)
+        ensures { state.new ≡ fold H.write state.old (op_writes (top_op (tree_of self.now))) }
+    {
         match self {
             Expr::Column(name) => {
                 state.write_u8(0);
@@ -169,32 +251,26 @@ impl Expr {
                 state.write_u8(1);
                 value.hash(state);
             }
-            Expr::BinaryExpr { left, op, right } => {
+            Expr::BinaryExpr { op, .. } => {
                 state.write_u8(2);
                 state.write_u8(operator_rank(*op));
-                left.feed(state);
-                right.feed(state);
             }
-            Expr::Cast {
-                expr,
-                dtype,
-                options,
-            } => {
+            Expr::Cast { dtype, options, .. } => {
                 state.write_u8(3);
                 dtype.hash(state);
                 state.write_u8(options_rank(*options));
-                expr.feed(state);
             }
             Expr::Len => state.write_u8(4),
-            Expr::Slice {
-                input,
-                offset,
-                length,
-            } => {
-                state.write_u8(5);
-                input.feed(state);
-                offset.feed(state);
-                length.feed(state);
+            Expr::Slice { .. } => state.write_u8(5),
+            Expr::Explode(_) => state.write_u8(6),
+            Expr::Gather { returns_scalar, .. } => {
+                state.write_u8(7);
+                returns_scalar.hash(state);
+            }
+            Expr::Filter { .. } => state.write_u8(8),
+            Expr::Sort { options, .. } => {
+                state.write_u8(9);
+                options.hash(state);
             }
             Expr::Alias(expr, name) => {
                 state.write_u8(11);

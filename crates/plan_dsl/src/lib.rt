@@ -10,4 +10,5 @@ pub mod operator;
 pub mod plan;
 pub mod plan_laws;
 pub mod signature;
+pub mod sort_options;
 pub mod udfs;

@@ -24,12 +24,22 @@ use std::alloc::Global;
 pub(crate) fn signature(item: &AExpr) -> Result<Signature, ErrorKind>
     ensures { result ≡ signature (op_of (expression_layer item.now)) (length (inputs_of (expression_layer item.now))) }
 {
-    use Ask::{Any, Length, Place};
-    use Many::{Always, Never};
-    use OwnType::{Count, First};
+    use Ask::{Any, Boolean, Length, Place, Sortable};
+    use Many::{Always, AsFirst, Never};
+    use OwnType::{Count, First, Item};
     match item {
         AExpr::Len => takes(asks(Any), asks(Any), asks(Any), Count, Never),
         AExpr::Slice { .. } => takes(asks(Any), asks_one(Place), asks_one(Length), First, Always),
+        AExpr::Explode(_) => takes(asks(Any), asks(Any), asks(Any), Item, Always),
+        AExpr::Gather { returns_scalar, .. } => {
+            if *returns_scalar {
+                takes(asks(Any), asks_one(Place), asks(Any), First, Never)
+            } else {
+                takes(asks(Any), asks(Place), asks(Any), First, Always)
+            }
+        }
+        AExpr::Filter { .. } => takes(asks(Any), asks(Boolean), asks(Any), First, Always),
+        AExpr::Sort { .. } => takes(asks(Sortable), asks(Any), asks(Any), First, AsFirst),
         _ => Err(ErrorKind::SchemaMismatch),
     }
 }

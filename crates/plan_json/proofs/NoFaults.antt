@@ -8,13 +8,13 @@ use Rattle.plan_types.proofs.NameLemmas.{repeats-apart}
 use Rattle.plan_types.specs.Types.{Ty, DatetimeType, DurationType, ListType, StructType, is_counted, fields_from}
 use Rattle.serde_json.specs.Data.{Data, Items, string, array, object, no_items, item, member, no_members}
 use Rattle.serde_json.specs.Events.{items_len}
-use Rattle.serde_json.specs.Find.{as_null, get_item}
+use Rattle.serde_json.specs.Find.{as_bool, as_null, get_item}
 use Rattle.plan_json.specs.Bytes.{IsTextOf, WritesQuery, IsRefusalOf}
 use Rattle.plan_json.specs.Errors.{IsErrorOf}
 use Rattle.plan_json.specs.declared.error.JsonError.{JsonError}
 use Rattle.plan_json.specs.declared.error.JsonError.TheVariants.{NotJson, Shape, Float, Name as Name', NoMemory}
 use Rattle.plan_json.specs.Faults.{FaultKind, BadShape, BadFloat, BadName, Step, key, number, Path, Form, a_query, table_list, column_list, field_list, a_column, a_type, a_text, a_table, a_new_name, a_plan, a_scan, a_typed_literal, a_counted_type, a_number_of, keyed_form, list_of, items_of, asked_form, places_form, key_form, type_form, type_key_form, Part, part, part_if, part_of, own_fault, has_shape, has_type_shape, shape_fault, unless, keyed_part, either_part, query_part, table_part, typed_part, declared_names, fault_at}
-use Rattle.plan_json.specs.Forms.{Asked, plan as plan_asked, a_form, leaf, many, Places, single, listed, Read, name_read, literal_read, operator_read, type_read, mode_read, table_read, columns_read, nothing_read, many_read, reads_of, asks, says, key_named, row_named, type_rows}
+use Rattle.plan_json.specs.Forms.{Asked, plan as plan_asked, a_form, leaf, many, Places, single, listed, Read, name_read, literal_read, operator_read, type_read, mode_read, table_read, columns_read, nothing_read, flag_read, many_read, reads_of, asks, says, key_named, row_named, type_rows}
 use Rattle.plan_json.specs.declared.forms.Key.{Key}
 use Rattle.plan_json.specs.declared.forms.Kind.{Kind}
 use Rattle.plan_json.specs.declared.forms.TypeKey.{TypeKey}
@@ -137,6 +137,7 @@ asked_is names tables same (leaf leaves.Table) d (r, e) =
     (at.0, at.1, ap (is_among at.0) (sym same) ∙ sym (is_some-table_at tables at.0) ∙ ap is_some at.2)
 asked_is names tables same (leaf leaves.Columns) d (r, e) = made columns_read (columns_of d) r e
 asked_is names tables same (leaf leaves.Nothing) d (r, e) = shown (λ none. nothing_read) (as_null d) r e
+asked_is names tables same (leaf leaves.Flag) d (r, e) = shown flag_read (as_bool d) r e
 
 places_are : (names : List Name) (tables : Declared) → names_of tables ≡ names → (ps : Places) (d : Data) (rs : List Read) → places_as tables ps d ≡ Some rs → IsOf (places_form names ps) d
 places_are names tables same (single a) d rs e = asked_is names tables same a d (made (λ r. r ∷ []) (read_as tables a d) rs e)

@@ -6,10 +6,10 @@ use Rattle.plan_dsl.specs.Expressions.{tree_of}
 use Rattle.plan_dsl.specs.Literals.{literal_op}
 use Rattle.plan_dsl.specs.Plans.{plan_tree, trees_of}
 use Rattle.plan_dsl.specs.declared.plan.DslPlan.{DslPlan}
-use Rattle.plan_json.specs.Forms.{Read, name_read, literal_read, operator_read, type_read, mode_read, table_read, columns_read, expression_read, plan_read, many_read, reads_of, other_read, nothing_read}
+use Rattle.plan_json.specs.Forms.{Read, name_read, literal_read, operator_read, type_read, mode_read, table_read, columns_read, expression_read, plan_read, many_read, reads_of, other_read, nothing_read, flag_read}
 use Rattle.plan_json.specs.Queries.{has_flags}
 use Rattle.plan_json.specs.declared.arguments.Arg.{Arg}
-use Rattle.plan_json.specs.declared.arguments.Arg.TheVariants.{Name, Literal, Operator, Dtype, Mode, Table, Columns, Nothing, Expression, Plan, Expressions}
+use Rattle.plan_json.specs.declared.arguments.Arg.TheVariants.{Name, Literal, Operator, Dtype, Mode, Table, Columns, Nothing, Flag, Expression, Plan, Expressions}
 use Rattle.plan_json.specs.declared.arguments.Args.{Args}
 use Rattle.plan_json.specs.declared.arguments.Args.TheVariants as args
 
@@ -25,6 +25,7 @@ arg_view (Mode mode) = mode_read mode
 arg_view (Table number schema) = table_read number (columns schema.value)
 arg_view (Columns schema) = columns_read (columns schema.value)
 arg_view Nothing = nothing_read
+arg_view (Flag flag) = flag_read flag
 arg_view (Expression expr) = expression_read (tree_of expr.value)
 arg_view (Plan plan) = plan_seen plan.value
 arg_view (Expressions exprs) = many_read (reads_of (map expression_read (trees_of exprs)))

@@ -6,7 +6,7 @@ use Rattle.std.specs.Option.{option_map_or}
 use Rattle.std.specs.Str.{bytes_eq}
 use Rattle.serde_json.specs.Data.{Data, Items}
 use Rattle.serde_json.specs.Events.{items_len}
-use Rattle.serde_json.specs.Find.{as_str, as_array, as_null, at, get_item}
+use Rattle.serde_json.specs.Find.{as_str, as_array, as_bool, as_null, at, get_item}
 use Rattle.plan_types.specs.Schemas.{Name, is_among, repeats}
 use Rattle.plan_types.specs.Types.{Ty, is_counted}
 use Rattle.plan_json.specs.Forms.{Asked, a_form, leaf, many, Places, single, listed, asks, key_named, row_named, type_rows}
@@ -42,7 +42,7 @@ Path = List Step
 pub data Form : Type 0 where
   a_query table_list column_list field_list a_column a_type a_unit a_text : Form
   a_table a_new_name a_scan : List Name → Form
-  a_literal a_number_text a_typed_literal a_counted_type an_operator a_mode nothing_form : Form
+  a_literal a_number_text a_typed_literal a_counted_type an_operator a_mode nothing_form flag_form : Form
   a_number_of : Ty → Form
   -- an object of one key, which names a form of the kind
   keyed_form : List Name → Kind → Form
@@ -83,6 +83,7 @@ leaf_form names leaves.Mode = a_mode
 leaf_form names leaves.Table = a_scan names
 leaf_form names leaves.Columns = column_list
 leaf_form names leaves.Nothing = nothing_form
+leaf_form names leaves.Flag = flag_form
 
 abbrev pub asked_form : List Name → Asked → Form
 asked_form names (a_form kind) = keyed_form names kind
@@ -158,6 +159,7 @@ has_shape (a_number_of type) d = is_some (number_of type d)
 has_shape an_operator d = is_some (operator_of d)
 has_shape a_mode d = is_some (mode_of d)
 has_shape nothing_form d = is_some (as_null d)
+has_shape flag_form d = is_some (as_bool d)
 has_shape (keyed_form names kind) d = is_some (keyed_part (key_form names kind) d)
 has_shape (list_of names a) d = is_list (λ items. true) d
 has_shape (items_of names ps) d = is_list (λ items. items_len items == length ps) d

@@ -4,7 +4,7 @@ use Rattle.std.specs.Str.{bytes_eq}
 use Rattle.plan_types.specs.Schemas.{Name, Columns}
 use Rattle.plan_types.specs.Types.{Ty}
 use Rattle.plan_types.specs.declared.dtype.CastOptions.{CastOptions}
-use Rattle.plan_dsl.specs.Ops.{Op, ColumnOp, BinaryOp, CastOp, LenOp, SliceOp, Expression}
+use Rattle.plan_dsl.specs.Ops.{Op, ColumnOp, BinaryOp, CastOp, LenOp, SliceOp, ExplodeOp, GatherOp, FilterOp, SortOp, Expression}
 use Rattle.plan_dsl.specs.Plans.{SourcePlan, scan_op, written_select, written_filter}
 use Rattle.plan_dsl.specs.Trees.{node, no_more, more}
 use Rattle.plan_dsl.specs.declared.operator.Operator.{Operator}
@@ -60,7 +60,11 @@ expression_rows =
     (codes "typed", of.Typed) ∷
     (codes "cast", of.Cast) ∷
     (codes "len", of.Len) ∷
-    (codes "slice", of.Slice) ∷ []
+    (codes "slice", of.Slice) ∷
+    (codes "explode", of.Explode) ∷
+    (codes "gather", of.Gather) ∷
+    (codes "filter", of.Filter) ∷
+    (codes "sort", of.Sort) ∷ []
 
 -- what each asks of its value
 abbrev pub expression_asks : ExpressionKey → Places
@@ -72,6 +76,10 @@ expression_asks of.Bin = listed (leaf leaves.Operator ∷ expression ∷ express
 expression_asks of.Cast = listed (expression ∷ leaf leaves.Dtype ∷ leaf leaves.Mode ∷ [])
 expression_asks of.Len = single (leaf leaves.Nothing)
 expression_asks of.Slice = listed (expression ∷ expression ∷ expression ∷ [])
+expression_asks of.Explode = single expression
+expression_asks of.Gather = listed (expression ∷ expression ∷ leaf leaves.Flag ∷ [])
+expression_asks of.Filter = listed (expression ∷ expression ∷ [])
+expression_asks of.Sort = listed (expression ∷ leaf leaves.Flag ∷ leaf leaves.Flag ∷ [])
 
 -- ---- plans
 
@@ -113,6 +121,7 @@ mutual
     table_read : ℕ → Columns → Read
     columns_read : Columns → Read
     nothing_read : Read
+    flag_read : Bool → Read
     expression_read : Expression → Read
     plan_read : SourcePlan → Read
     many_read : Reads → Read
@@ -145,6 +154,12 @@ expression_says of.Cast (expression_read operand ∷ type_read type ∷ mode_rea
 expression_says of.Len (nothing_read ∷ []) = Some (node LenOp no_more)
 expression_says of.Slice (expression_read input ∷ expression_read offset ∷ expression_read count ∷ []) =
     Some (node SliceOp (more input (more offset (more count no_more))))
+expression_says of.Explode (expression_read input ∷ []) = Some (node ExplodeOp (more input no_more))
+expression_says of.Gather (expression_read input ∷ expression_read index ∷ flag_read returns_scalar ∷ []) =
+    Some (node (GatherOp returns_scalar) (more input (more index no_more)))
+expression_says of.Filter (expression_read input ∷ expression_read truth ∷ []) = Some (node FilterOp (more input (more truth no_more)))
+expression_says of.Sort (expression_read input ∷ flag_read descending ∷ flag_read nulls_last ∷ []) =
+    Some (node (SortOp (record { descending = descending; nulls_last = nulls_last })) (more input no_more))
 expression_says _ _ = None
 
 abbrev pub plan_says : PlanKey → List Read → Option SourcePlan
@@ -194,6 +209,7 @@ abbrev mutual
   fits (leaf leaves.Table) (table_read number columns) = true
   fits (leaf leaves.Columns) (columns_read columns) = true
   fits (leaf leaves.Nothing) nothing_read = true
+  fits (leaf leaves.Flag) (flag_read flag) = true
   fits (many a) (many_read rs) = all_fit a rs
   fits _ _ = false
 

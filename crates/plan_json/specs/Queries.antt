@@ -1,11 +1,11 @@
 -- The query that a value is.
 use Rattle.std.specs.Prelude.{◌≡◌, List, [], ◌∷◌, Option, Some, None, Bool, false, ◌||◌, option_map, option_and_then, codes}
-use Rattle.serde_json.specs.Find.{as_null}
+use Rattle.serde_json.specs.Find.{as_bool, as_null}
 use Rattle.serde_json.specs.Data.{Data, array, object, Items, no_items, item, no_members, member}
 use Rattle.plan_dsl.specs.Plans.{SourcePlan, plan_tree}
 use Rattle.plan_dsl.specs.declared.plan.DslPlan.{DslPlan}
 use Rattle.plan_dsl.specs.declared.plan.DslPlan.TheVariants.{DataFrameScan, Filter', Select'}
-use Rattle.plan_json.specs.Forms.{Asked, a_form, leaf, many, Places, single, listed, plan, Read, name_read, literal_read, operator_read, type_read, mode_read, table_read, columns_read, plan_read, many_read, reads_of, key_named, asks, says, nothing_read}
+use Rattle.plan_json.specs.Forms.{Asked, a_form, leaf, many, Places, single, listed, plan, Read, name_read, literal_read, operator_read, type_read, mode_read, table_read, columns_read, plan_read, many_read, reads_of, key_named, asks, says, nothing_read, flag_read}
 use Rattle.plan_json.specs.Leaves.{text_of, literal_of, number_text_of, typed_of, operator_of, type_of, mode_of, table_at, columns_of, tables_of}
 use Rattle.plan_json.specs.Looking.{both, two_members}
 use Rattle.plan_json.specs.Tables.{Declared, declared}
@@ -38,6 +38,7 @@ leaf_of tables leaves.Mode d = option_map mode_read (mode_of d)
 leaf_of tables leaves.Table d = option_map (λ table. table_read table.0 table.1) (option_and_then (table_at tables) (text_of d))
 leaf_of tables leaves.Columns d = option_map columns_read (columns_of d)
 leaf_of tables leaves.Nothing d = nothing_of d
+leaf_of tables leaves.Flag d = option_map flag_read (as_bool d)
 
 -- the first of these, and the others
 abbrev pub front : Option Read → Option (List Read) → Option (List Read)

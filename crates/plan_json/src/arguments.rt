@@ -6,7 +6,7 @@ ghost use Rattle.plan_dsl.specs.Plans.{plan_tree, trees_of};
 ghost use Rattle.plan_types.specs.Schemas.{columns};
 ghost use Rattle.plan_types.specs.Types.{ty};
 ghost use Rattle.plan_json.specs.Arguments.{arg_view, args_view};
-ghost use Rattle.plan_json.specs.Forms.{AllFit, Asked, Fits, columns_read, expression, expression_read, leaf, literal_read, many, many_read, mode_read, name_read, operator_read, plan, plan_read, reads_of, table_read, type_read, nothing_read};
+ghost use Rattle.plan_json.specs.Forms.{AllFit, Asked, Fits, columns_read, expression, expression_read, leaf, literal_read, many, many_read, mode_read, name_read, operator_read, plan, plan_read, reads_of, table_read, type_read, nothing_read, flag_read};
 ghost use Rattle.plan_json.specs.Queries.{has_flags};
 ghost use Rattle.plan_json.specs.declared.forms.Leaf.TheVariants as leaves;
 
@@ -29,6 +29,7 @@ pub(crate) enum Arg {
     Table(u32, Box<Schema>),
     Columns(Box<Schema>),
     Nothing,
+    Flag(bool),
     Expression(Box<Expr>),
     Plan(Box<DslPlan>),
     Expressions(Exprs),
@@ -178,6 +179,16 @@ pub(crate) fn nothing(arg: Arg)
 {
     match arg {
         Arg::Nothing => {}
+        _ => unreachable!(),
+    }
+}
+
+pub(crate) fn flag(arg: Arg) -> bool
+    requires { Fits (leaf leaves.Flag) (arg_view arg) }
+    ensures { arg_view arg ≡ flag_read result }
+{
+    match arg {
+        Arg::Flag(flag) => flag,
         _ => unreachable!(),
     }
 }

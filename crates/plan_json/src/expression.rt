@@ -6,10 +6,12 @@ ghost use Rattle.plan_json.specs.Forms.{AllFit, asked_in, expression_asks, expre
 ghost use Rattle.plan_json.specs.declared.forms.ExpressionKey.TheVariants as of;
 
 use super::arguments::{
-    Args, digits, dtype, expression, mode, name, nothing, one, operator, three, typed, value,
+    Args, digits, dtype, expression, flag, mode, name, nothing, one, operator, three, two, typed,
+    value,
 };
 use super::forms::ExpressionKey;
 use plan_dsl::expr::Expr;
+use plan_dsl::sort_options::SortOptions;
 
 // The expression of that key.
 pub(crate) fn assemble_expression(key: ExpressionKey, args: Args) -> Expr
@@ -25,6 +27,10 @@ pub(crate) fn assemble_expression(key: ExpressionKey, args: Args) -> Expr
         ExpressionKey::Cast => cast(args),
         ExpressionKey::Len => count(args),
         ExpressionKey::Slice => slice(args),
+        ExpressionKey::Explode => explode(args),
+        ExpressionKey::Gather => gather(args),
+        ExpressionKey::Filter => filter(args),
+        ExpressionKey::Sort => sort(args),
     }
 }
 
@@ -97,5 +103,49 @@ fn slice(args: Args) -> Expr
         input: expression(input),
         offset: expression(offset),
         length: expression(length),
+    }
+}
+
+fn explode(args: Args) -> Expr
+    requires { AllFit (asked_in (expression_asks of.Explode)) (args_view args) }
+    ensures { expression_says of.Explode (args_view args) ≡ Some (tree_of result) }
+{
+    Expr::Explode(expression(one(args)))
+}
+
+fn gather(args: Args) -> Expr
+    requires { AllFit (asked_in (expression_asks of.Gather)) (args_view args) }
+    ensures { expression_says of.Gather (args_view args) ≡ Some (tree_of result) }
+{
+    let (input, index, scalar) = three(args);
+    Expr::Gather {
+        expr: expression(input),
+        idx: expression(index),
+        returns_scalar: flag(scalar),
+    }
+}
+
+fn filter(args: Args) -> Expr
+    requires { AllFit (asked_in (expression_asks of.Filter)) (args_view args) }
+    ensures { expression_says of.Filter (args_view args) ≡ Some (tree_of result) }
+{
+    let (input, by) = two(args);
+    Expr::Filter {
+        input: expression(input),
+        by: expression(by),
+    }
+}
+
+fn sort(args: Args) -> Expr
+    requires { AllFit (asked_in (expression_asks of.Sort)) (args_view args) }
+    ensures { expression_says of.Sort (args_view args) ≡ Some (tree_of result) }
+{
+    let (input, descending, nulls_last) = three(args);
+    Expr::Sort {
+        expr: expression(input),
+        options: SortOptions {
+            descending: flag(descending),
+            nulls_last: flag(nulls_last),
+        },
     }
 }

@@ -33,6 +33,8 @@ pub(crate) enum Leaf {
     Columns,
     // Null, where a key has nothing to say.
     Nothing,
+    // True or false.
+    Flag,
 }
 
 // What is asked for at one place.
@@ -62,6 +64,10 @@ pub(crate) enum ExpressionKey {
     Cast,
     Len,
     Slice,
+    Explode,
+    Gather,
+    Filter,
+    Sort,
 }
 
 #[derive(Clone, Copy)]
@@ -119,8 +125,10 @@ const COLUMNS: Place = Place::Leaf(Leaf::Columns);
 
 const NOTHING: Place = Place::Leaf(Leaf::Nothing);
 
+const FLAG: Place = Place::Leaf(Leaf::Flag);
+
 // A word is looked for from the first row on, so common ones stand in front.
-const EXPRESSION_ROWS: [Row<ExpressionKey>; 8] = [
+const EXPRESSION_ROWS: [Row<ExpressionKey>; 12] = [
     Row {
         word: "col",
         key: ExpressionKey::Col,
@@ -152,6 +160,22 @@ const EXPRESSION_ROWS: [Row<ExpressionKey>; 8] = [
     Row {
         word: "slice",
         key: ExpressionKey::Slice,
+    },
+    Row {
+        word: "explode",
+        key: ExpressionKey::Explode,
+    },
+    Row {
+        word: "gather",
+        key: ExpressionKey::Gather,
+    },
+    Row {
+        word: "filter",
+        key: ExpressionKey::Filter,
+    },
+    Row {
+        word: "sort",
+        key: ExpressionKey::Sort,
     },
 ];
 
@@ -281,6 +305,10 @@ fn expression_places(key: ExpressionKey) -> Places
         ExpressionKey::Cast => Places::Three(EXPRESSION, DTYPE, MODE),
         ExpressionKey::Len => Places::One(NOTHING),
         ExpressionKey::Slice => Places::Three(EXPRESSION, EXPRESSION, EXPRESSION),
+        ExpressionKey::Explode => Places::One(EXPRESSION),
+        ExpressionKey::Gather => Places::Three(EXPRESSION, EXPRESSION, FLAG),
+        ExpressionKey::Filter => Places::Two(EXPRESSION, EXPRESSION),
+        ExpressionKey::Sort => Places::Three(EXPRESSION, FLAG, FLAG),
     }
 }
 

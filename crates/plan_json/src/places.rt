@@ -266,6 +266,10 @@ fn read_leaf(alloc: Global, tables: &Tables, which: Leaf, value: &Value) -> Resu
             Ok(()) => Ok(Arg::Nothing),
             Err(error) => Err(error),
         },
+        Leaf::Flag => match value.as_bool() {
+            None => Err(JsonError::shape(alloc, value)),
+            Some(flag) => Ok(Arg::Flag(flag)),
+        },
     }
 }
 

@@ -11,9 +11,10 @@ ghost use Rattle.plan_types.specs.declared.error.ErrorKind.TheVariants.{ColumnNo
 ghost use Rattle.plan_dsl.specs.declared.operator.Operator.TheVariants.{Gt, And};
 ghost use Rattle.plan_dsl.specs.Trees.{node, no_more};
 ghost use Rattle.plan_dsl.specs.Ops.{LiteralOp};
+ghost use Rattle.plan_dsl.specs.Kernels.{for_rows};
 ghost use Rattle.plan_dsl.specs.Plans.{empty_table, named, filter_op};
 ghost use Rattle.plan_dsl.specs.PlanRules.{schema_of, schema_at, broken_kinds, IsWellFormed, Breaks};
-ghost use Rattle.plan_dsl.specs.PlanKernels.{for_rows, kept_rows, plan_kernel};
+ghost use Rattle.plan_dsl.specs.PlanKernels.{kept_rows, plan_kernel};
 ghost use Rattle.plan_dsl.specs.PlanMeaning.{by_meaning, source_meaning, FitsPlan};
 ghost use Rattle.plan_dsl.specs.Counts.{cast_count, node_count};
 ghost use Rattle.plan_dsl.specs.Samples.{Gives, GivesOfTwo, GivesAll, int8, int32, int64, null, yes, no, number, text, column, a, b, c, u, literal, binary, sum, less, equal, cast_as, frame_with, mixed, flagged, schema_ab, schema_au, schema_flagged, scan, empty_scan, select, keep};

@@ -17,12 +17,13 @@ ghost use Rattle.plan_dsl.specs.Trees.{node, no_more, more};
 ghost use Rattle.plan_dsl.specs.Ops.{ColumnOp, LiteralOp, BinaryOp, Expression};
 ghost use Rattle.plan_dsl.specs.Names.{column_label, literal_label};
 ghost use Rattle.plan_dsl.specs.Typing.{Typed, own_kind};
-ghost use Rattle.plan_dsl.specs.Kernels.{Meaning};
+ghost use Rattle.plan_dsl.specs.Kernels.{Meaning, in_front};
+ghost use Rattle.plan_dsl.specs.Picks.{where_true};
 ghost use Rattle.plan_dsl.specs.Laws.{operator_node};
 ghost use Rattle.plan_dsl.specs.Sources.{Plain};
 ghost use Rattle.plan_dsl.specs.Plans.{ScanKind, SelectKind, FilterKind, Named, named, over_input, expressions_of, scans_in, scan_op, select_op, filter_op, plan_tree, options_in};
 ghost use Rattle.plan_dsl.specs.PlanRules.{scan_kinds, predicate_kinds, own_kinds, input_schema, expression_kinds, broken_kinds, columns_of, schema_by, plan_rule, top_kinds};
-ghost use Rattle.plan_dsl.specs.PlanKernels.{Evaluated, series_on, shared_length, in_front, rows_of, rows_where_true, kept_rows};
+ghost use Rattle.plan_dsl.specs.PlanKernels.{Evaluated, series_on, shared_length, rows_of, kept_rows};
 ghost use Rattle.plan_dsl.specs.Samples.{Gives, GivesOfTwo, int8, null, yes, no, number, column, a, b, c, u, many_values, of_one, of_many, sum, equal, frame_with, schema_au, uint64, scan, scan_of, empty_scan, select, keep, series};
 
 /// A plan's tree has the parts of the plan, and an expression is named by its own name. Its selects keep their options beside it.
@@ -135,7 +136,7 @@ pub fn columns_of_selects()
 
 /// The rows beside a true value: null isn't true, and no number is.
 pub fn rows_beside_true_values()
-    ensures mixed { rows_where_true (yes ∷ null ∷ no ∷ number 1 ∷ yes ∷ []) ((number 1 ∷ []) ∷ (number 2 ∷ []) ∷ (number 3 ∷ []) ∷ (number 4 ∷ []) ∷ (number 5 ∷ []) ∷ [])
+    ensures mixed { where_true (yes ∷ null ∷ no ∷ number 1 ∷ yes ∷ []) ((number 1 ∷ []) ∷ (number 2 ∷ []) ∷ (number 3 ∷ []) ∷ (number 4 ∷ []) ∷ (number 5 ∷ []) ∷ [])
         ≡ (number 1 ∷ []) ∷ (number 5 ∷ []) ∷ [] }
     ensures kept { let schema = (codes "a", int8) ∷ [] in
         kept_rows (frame_with schema ((number 1 ∷ []) ∷ (number 2 ∷ []) ∷ (number 3 ∷ []) ∷ [])) (null ∷ yes ∷ no ∷ []) ≡ Done (frame_with schema ((number 2 ∷ []) ∷ [])) }

@@ -1,5 +1,5 @@
 //! Expressions to nodes of an arena.
-ghost use Rattle.std.specs.Prelude.{◌≡◌, length, false, IfOk, IfErr, MatchOption};
+ghost use Rattle.std.specs.Prelude.{◌≡◌, ◌≢◌, length, false, IfOk, IfErr, IfSome, MatchOption};
 ghost use Rattle.std.specs.Option.{option_map_or};
 ghost use Rattle.plan_types.specs.Errors.{IsMemoryOr, no_memory};
 ghost use Rattle.plan_dsl.specs.Aliases.{core, inputs_pruned, pruned};
@@ -79,7 +79,8 @@ fn under_name(
     alias: Option<OutputName>,
     arena: &Arena<AExpr>,
 ) -> Result<ExprIR, PlanError>
-    requires { DenotesTree (HoldsExpression arena.now) node.0 }
+    requires set { IfSome alias (λ name. name ≢ OutputName.None) }
+    requires tree { DenotesTree (HoldsExpression arena.now) node.0 }
     ensures node { IfOk result (λ expr_ir. (named_node expr_ir).expression ≡ node.0) }
     ensures name { IfOk result (λ expr_ir. (tree : Expression) → Denotes (HoldsExpression arena.now) node.0 tree →
         (named_node expr_ir).label ≡ option_map_or output_label alias (label_of tree)) }
@@ -97,6 +98,7 @@ fn under_name(
 /// The alias that names an expression. One without has the name that it has without aliases.
 pub(crate) fn alias_name(expr: &Expr, alloc: Global) -> Result<Option<OutputName>, PlanError>
     ensures ok { IfOk result (λ alias. label_of (tree_of expr.now) ≡ option_map_or output_label alias (label_of (core (tree_of expr.now)))) }
+    ensures set { IfOk result (λ alias. IfSome alias (λ name. name ≢ OutputName.None)) }
     ensures err { IfErr result (λ error. error ≡ no_memory) }
 {
     match first_alias(expr) {
@@ -116,8 +118,12 @@ fn first_alias(expr: &Expr) -> Option<&PlSmallStr>
         Expr::Alias(_, name) => Some(name),
         Expr::Column(_) | Expr::Literal(_) | Expr::Len => None,
         Expr::BinaryExpr { left, .. } => first_alias(left),
-        Expr::Cast { expr, .. } => first_alias(expr),
-        Expr::Slice { input, .. } => first_alias(input),
+        Expr::Cast { expr, .. } | Expr::Gather { expr, .. } | Expr::Sort { expr, .. } => {
+            first_alias(expr)
+        }
+        Expr::Explode(input) | Expr::Slice { input, .. } | Expr::Filter { input, .. } => {
+            first_alias(input)
+        }
     }
 }
 
@@ -222,6 +228,17 @@ fn add_inputs(expr: Expr, keep: bool, arena: &mut Arena<AExpr>) -> Result<AExpr,
                 length
             }
         ),
+        Expr::Explode(input) => {
+            let input = add_nodes(Box::into_inner(input), keep, arena)?;
+            Ok(AExpr::Explode(input))
+        }
+        Expr::Gather {
+            expr,
+            idx,
+            returns_scalar,
+        } => over!(arena, keep, Gather { expr, idx } returns_scalar),
+        Expr::Filter { input, by } => over!(arena, keep, Filter { input, by }),
+        Expr::Sort { expr, options } => over!(arena, keep, Sort { expr } options),
         Expr::Alias(input, name) => {
             let input = add_nodes(Box::into_inner(input), keep, arena)?;
             Ok(AExpr::Alias(input, name))

@@ -1,5 +1,5 @@
 //! The expressions of one node, lowered together.
-ghost use Rattle.std.specs.Prelude.{◌≡◌, ◌≤◌, ℕ, List, OnOk, IfOk, IfErr, length, map};
+ghost use Rattle.std.specs.Prelude.{◌≡◌, ◌≢◌, ◌≤◌, ℕ, List, OnOk, IfOk, IfErr, IfSome, length, map};
 ghost use Rattle.std.specs.List.{AllByRecursion};
 ghost use Rattle.std.specs.Option.{option_map_or};
 ghost use Rattle.plan_types.specs.Errors.{no_memory, IsRefusal};
@@ -166,8 +166,10 @@ fn name_under(
     arena: &Arena<AExpr>,
     types: &TypeTable,
 ) -> Result<OutputName, PlanError>
+    requires set { IfSome alias (λ name. name ≢ OutputName.None) }
     requires kept { IsKept types.now node.0 }
     requires right { HasRightTypes arena.now types.now }
+    ensures set { IfOk result (λ name. name ≢ OutputName.None) }
     ensures ok { IfOk result (λ name. (t : Expression) → Denotes (HoldsExpression arena.now) node.0 t →
         output_label name ≡ option_map_or output_label alias (label_of t)) }
     ensures err { IfErr result (λ error. error ≡ no_memory) }

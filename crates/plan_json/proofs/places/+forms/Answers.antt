@@ -12,10 +12,13 @@ use Rattle.plan_json.specs.Tables.{declared}
 use Rattle.plan_json.proofs.FaultLemmas.{IsErrorOf-own, item_in}
 use Rattle.plan_json.proofs.FormLemmas.{form_read, key_part, expressions_fit, two_read, three_read, other_than_two, other_than_three, each_read}
 use Rattle.plan_json.proofs.ItemLemmas.{all_of-more, all_taken}
-use Rattle.plan_json.proofs.LookingLemmas.{array-from_two_items, array-from_three_items, depth-item, depth-two_items, depth-three_items}
+use Rattle.plan_json.proofs.LookingLemmas.{array-from_two_items, array-from_three_items, depth-item, depth-only_member, depth-two_items, depth-three_items}
 use Rattle.plan_json.proofs.places.+forms.Goals as goal
 
 -- ---- a form
+
+pub read_form-read_places-requires : goal.read_form-read_places-requires
+read_form-read_places-requires t c = let below = depth-only_member _ _ _ c.in-Some.ensures in (omega (arith, below, c.decreases), tt)
 
 pub read_form-assemble-requires : goal.read_form-assemble-requires
 read_form-assemble-requires t c = subst (λ p. AllFit (asked_in p) (args_view c.in-Ok.args)) c.places_of.ensures.asks c.in-Ok.ensures.fit

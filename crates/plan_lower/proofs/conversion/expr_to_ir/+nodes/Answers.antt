@@ -4,10 +4,11 @@ use Rattle.plan_arena.proofs.ItemLemmas.{length-grown}
 use Rattle.plan_lower.proofs.NodeLemmas.{item_denotes, over_added}
 use Rattle.plan_lower.proofs.conversion.expr_to_ir.+nodes.Goals as goal
 
-pub add_nodes-returns-clause-denotes : goal.add_nodes-returns-clause-denotes
-add_nodes-returns-clause-denotes t c =
-    let item = c.in_ok-item.ensures in
-    item_denotes _ c.add_inputs.new.arena _ _ c.in_ok-item.item c.in_ok-node.node.0 (length-grown c.args.arena.now c.add_inputs.new.arena item.grows) item.ok c.in_ok-node.ensures.ok c.in_ok-node.ensures.node
+pub add_nodes-returns-in_ok-node-in-Alias-clause-denotes : goal.add_nodes-returns-in_ok-node-in-Alias-clause-denotes
+add_nodes-returns-in_ok-node-in-Alias-clause-denotes t c = ?
+
+pub add_nodes-returns-in_ok-node-in_default-clause-denotes : goal.add_nodes-returns-in_ok-node-in_default-clause-denotes
+add_nodes-returns-in_ok-node-in_default-clause-denotes t c = ?
 
 -- an item over two inputs or more, of which each was added behind those before it
 pub add_inputs-returns-in_ok-right-in-BinaryExpr-clause-ok :
@@ -24,3 +25,17 @@ add_inputs-returns-in_ok-length-in-Slice-clause-ok t c =
     let offset = c.in_ok-offset-in-Slice.ensures in
     let length = c.in_ok-length-in-Slice.ensures in
     rw (c.in-Slice.is, ← c.into_inner-in-Slice.ensures, ← c.into_inner-in-Slice-2.ensures, ← c.into_inner-in-Slice-3.ensures) (over_added _ _ _ _ (more _ (more _ (more _ no_more))) refl (_, input.denotes, input.grows, (_, offset.denotes, offset.grows, (_, length.denotes, length.grows, refl))))
+
+pub add_inputs-returns-in_ok-idx-in-Gather-clause-ok :
+    goal.add_inputs-returns-in_ok-idx-in-Gather-clause-ok
+add_inputs-returns-in_ok-idx-in-Gather-clause-ok t c =
+    let expr = c.in_ok-expr-in-Gather.ensures in
+    let idx = c.in_ok-idx-in-Gather.ensures in
+    rw (c.in-Gather.is, ← c.into_inner-in-Gather.ensures, ← c.into_inner-in-Gather-2.ensures) (over_added _ _ _ _ (more _ (more _ no_more)) refl (_, expr.denotes, expr.grows, (_, idx.denotes, idx.grows, refl)))
+
+pub add_inputs-returns-in_ok-by-in-Filter-clause-ok :
+    goal.add_inputs-returns-in_ok-by-in-Filter-clause-ok
+add_inputs-returns-in_ok-by-in-Filter-clause-ok t c =
+    let input = c.in_ok-input-in-Filter.ensures in
+    let by = c.in_ok-by-in-Filter.ensures in
+    rw (c.in-Filter.is, ← c.into_inner-in-Filter.ensures, ← c.into_inner-in-Filter-2.ensures) (over_added _ _ _ _ (more _ (more _ no_more)) refl (_, input.denotes, input.grows, (_, by.denotes, by.grows, refl)))

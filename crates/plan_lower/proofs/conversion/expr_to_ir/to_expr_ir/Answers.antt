@@ -6,8 +6,8 @@ use Rattle.plan_arena.specs.Items.{HoldsFrom}
 use Rattle.plan_arena.proofs.ItemLemmas.{any_node}
 use Rattle.plan_lower.proofs.conversion.expr_to_ir.to_expr_ir.Goals as goal
 
-pub under_name-requires : goal.under_name-requires
-under_name-requires c =
+pub under_name-requires-clause-tree : goal.under_name-requires-clause-tree
+under_name-requires-clause-tree c =
     record { tree = core (tree_of c.args.expr); denotes = any_node (length c.args.arena.now) c.add_nodes.new.arena c.in_ok-node.node.0 (core (tree_of c.args.expr)) c.in_ok-node.ensures.denotes }
 
 pub returns-clause-name : goal.returns-clause-name
