@@ -3,7 +3,7 @@ use Rattle.std.proofs.Common.{◌≡◌, ◌∙◌, ℕ, zero, suc, ℤ, pos, ne
 use Rattle.std.specs.Prelude.{not, ◌&&◌, int_lt, slice_get}
 use Rattle.std.proofs.lemmas.Bool.{and_parts, and_from}
 use Rattle.plan_types.specs.Types.{Ty, Truth, TextType, ListType, StructType}
-use Rattle.plan_types.specs.Values.{Val, Vals, no_value, with_value, NullValue, TruthValue, IntValue, TextValue, ListValue, StructValue, fits, items_fit, all_fit, in_range}
+use Rattle.plan_types.specs.Values.{Val, Vals, no_value, with_value, NullValue, TruthValue, IntValue, TextValue, ListValue, StructValue, fits, items_fit, all_fit}
 use Rattle.plan_types.specs.Outcomes.{Done, Meets, then_do}
 use Rattle.plan_types.proofs.ValueLemmas.{meets_then, meets_as}
 use Rattle.plan_dsl.specs.declared.signature.OwnType.TheVariants.{Item}

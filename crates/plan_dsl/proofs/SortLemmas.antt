@@ -1,9 +1,8 @@
 -- Items that are put in order.
-use Rattle.std.proofs.Common.{◌≡◌, ◌∙◌, sym, subst, ℕ, suc, Bool, true, false, cond, List, [], ◌∷◌, length, map, IsTrue, refl, ap}
+use Rattle.std.proofs.Common.{◌≡◌, ◌∙◌, sym, suc, Bool, true, false, cond, List, [], ◌∷◌, length, refl, ap}
 use Rattle.std.specs.Prelude.{◌&&◌}
 use Rattle.std.specs.List.{list_all}
 use Rattle.std.proofs.lemmas.Bool.{and_parts, and_from}
-use Rattle.std.proofs.lemmas.List.Sorted.{IsPermutation-refl, IsPermutation-trans, IsPermutation-cons, length_permutation}
 use Rattle.plan_types.specs.Types.{Ty}
 use Rattle.plan_types.specs.Values.{Val, fits, all_fit}
 use Rattle.plan_dsl.specs.declared.sort_options.SortOptions.{SortOptions}

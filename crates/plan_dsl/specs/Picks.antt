@@ -1,7 +1,7 @@
 -- Values that are picked out of a column.
 -- Exploding a list gives its values, and a null in place of none. Gathering gives the value at each index: one below 0
 -- counts from the end, null gives null, and one outside is a data fault. A filter keeps what stands beside a true value.
-use Rattle.std.specs.Prelude.{ℕ, ℤ, pos, negsuc, List, [], ◌∷◌, length, Option, Some, None, Bool, false, slice_get, flat_map, if◌then◌else◌}
+use Rattle.std.specs.Prelude.{ℤ, pos, negsuc, List, [], ◌∷◌, length, Option, Some, None, Bool, false, slice_get, flat_map, if◌then◌else◌}
 use Rattle.plan_types.specs.Values.{Val, Vals, no_value, with_value, NullValue, TruthValue, IntValue, ListValue}
 use Rattle.plan_types.specs.Outcomes.{Outcome, Done, Fault, then_do}
 use Rattle.plan_dsl.specs.Slices.{slice_start}

@@ -112,7 +112,7 @@ op_writes ExplodeOp = fed.u8 6
 op_writes (GatherOp returns_scalar) = fed.u8 7 ++ fed.bool returns_scalar
 op_writes FilterOp = fed.u8 8
 op_writes (SortOp options) = fed.u8 9 ++ (fed.bool options.descending ++ fed.bool options.nulls_last)
-op_writes (AliasOp name) = fed.u8 11 ++ fed.str (encode_utf8_all name)
+op_writes (AliasOp name) = fed.u8 10 ++ fed.str (encode_utf8_all name)
 
 -- each node, before its children
 abbrev mutual

@@ -1,7 +1,7 @@
 -- Sorted columns.
 -- Values are in the order of comparisons: false before true, numbers by size, texts by their bytes; from the greatest on
 -- where a column descends. Nulls come first or last, whichever way the others go. What none comes before stays in order.
-use Rattle.std.specs.Prelude.{Bool, true, false, not, ◌&&◌, ◌||◌, List, [], ◌∷◌, map, zip, if◌then◌else◌}
+use Rattle.std.specs.Prelude.{Bool, false, not, ◌&&◌, ◌||◌, List, [], ◌∷◌, map, zip, if◌then◌else◌}
 use Rattle.plan_types.specs.Values.{Val, NullValue}
 use Rattle.plan_dsl.specs.declared.sort_options.SortOptions.{SortOptions}
 use Rattle.plan_dsl.specs.Operators.{is_less}

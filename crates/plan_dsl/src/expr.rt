@@ -214,6 +214,7 @@ impl Expr {
             Expr::Cast { expr, .. } => expr.feed(state),
             Expr::Explode(input) => input.feed(state),
             Expr::Sort { expr, .. } => expr.feed(state),
+            Expr::Alias(expr, _) => expr.feed(state),
             Expr::BinaryExpr { left, right, .. } => {
                 left.feed(state);
                 right.feed(state);
@@ -272,10 +273,9 @@ impl Expr {
                 state.write_u8(9);
                 options.hash(state);
             }
-            Expr::Alias(expr, name) => {
-                state.write_u8(11);
+            Expr::Alias(_, name) => {
+                state.write_u8(10);
                 name.hash(state);
-                expr.feed(state);
             }
         }
     }

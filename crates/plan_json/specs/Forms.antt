@@ -4,7 +4,7 @@ use Rattle.std.specs.Str.{bytes_eq}
 use Rattle.plan_types.specs.Schemas.{Name, Columns}
 use Rattle.plan_types.specs.Types.{Ty}
 use Rattle.plan_types.specs.declared.dtype.CastOptions.{CastOptions}
-use Rattle.plan_dsl.specs.Ops.{Op, ColumnOp, BinaryOp, CastOp, LenOp, SliceOp, ExplodeOp, GatherOp, FilterOp, SortOp, Expression}
+use Rattle.plan_dsl.specs.Ops.{Op, ColumnOp, BinaryOp, CastOp, LenOp, SliceOp, ExplodeOp, GatherOp, FilterOp, SortOp, AliasOp, Expression}
 use Rattle.plan_dsl.specs.Plans.{SourcePlan, scan_op, written_select, written_filter}
 use Rattle.plan_dsl.specs.Trees.{node, no_more, more}
 use Rattle.plan_dsl.specs.declared.operator.Operator.{Operator}
@@ -64,7 +64,8 @@ expression_rows =
     (codes "explode", of.Explode) ∷
     (codes "gather", of.Gather) ∷
     (codes "filter", of.Filter) ∷
-    (codes "sort", of.Sort) ∷ []
+    (codes "sort", of.Sort) ∷
+    (codes "alias", of.Alias) ∷ []
 
 -- what each asks of its value
 abbrev pub expression_asks : ExpressionKey → Places
@@ -80,6 +81,7 @@ expression_asks of.Explode = single expression
 expression_asks of.Gather = listed (expression ∷ expression ∷ leaf leaves.Flag ∷ [])
 expression_asks of.Filter = listed (expression ∷ expression ∷ [])
 expression_asks of.Sort = listed (expression ∷ leaf leaves.Flag ∷ leaf leaves.Flag ∷ [])
+expression_asks of.Alias = listed (expression ∷ leaf leaves.Name ∷ [])
 
 -- ---- plans
 
@@ -160,6 +162,7 @@ expression_says of.Gather (expression_read input ∷ expression_read index ∷ f
 expression_says of.Filter (expression_read input ∷ expression_read truth ∷ []) = Some (node FilterOp (more input (more truth no_more)))
 expression_says of.Sort (expression_read input ∷ flag_read descending ∷ flag_read nulls_last ∷ []) =
     Some (node (SortOp (record { descending = descending; nulls_last = nulls_last })) (more input no_more))
+expression_says of.Alias (expression_read operand ∷ name_read name ∷ []) = Some (node (AliasOp name) (more operand no_more))
 expression_says _ _ = None
 
 abbrev pub plan_says : PlanKey → List Read → Option SourcePlan

@@ -31,6 +31,7 @@ pub(crate) fn assemble_expression(key: ExpressionKey, args: Args) -> Expr
         ExpressionKey::Gather => gather(args),
         ExpressionKey::Filter => filter(args),
         ExpressionKey::Sort => sort(args),
+        ExpressionKey::Alias => alias(args),
     }
 }
 
@@ -148,4 +149,12 @@ fn sort(args: Args) -> Expr
             nulls_last: flag(nulls_last),
         },
     }
+}
+
+fn alias(args: Args) -> Expr
+    requires { AllFit (asked_in (expression_asks of.Alias)) (args_view args) }
+    ensures { expression_says of.Alias (args_view args) ≡ Some (tree_of result) }
+{
+    let (operand, called) = two(args);
+    Expr::Alias(expression(operand), name(called))
 }

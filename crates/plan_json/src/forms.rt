@@ -68,6 +68,7 @@ pub(crate) enum ExpressionKey {
     Gather,
     Filter,
     Sort,
+    Alias,
 }
 
 #[derive(Clone, Copy)]
@@ -128,7 +129,7 @@ const NOTHING: Place = Place::Leaf(Leaf::Nothing);
 const FLAG: Place = Place::Leaf(Leaf::Flag);
 
 // A word is looked for from the first row on, so common ones stand in front.
-const EXPRESSION_ROWS: [Row<ExpressionKey>; 12] = [
+const EXPRESSION_ROWS: [Row<ExpressionKey>; 13] = [
     Row {
         word: "col",
         key: ExpressionKey::Col,
@@ -176,6 +177,10 @@ const EXPRESSION_ROWS: [Row<ExpressionKey>; 12] = [
     Row {
         word: "sort",
         key: ExpressionKey::Sort,
+    },
+    Row {
+        word: "alias",
+        key: ExpressionKey::Alias,
     },
 ];
 
@@ -309,6 +314,7 @@ fn expression_places(key: ExpressionKey) -> Places
         ExpressionKey::Gather => Places::Three(EXPRESSION, EXPRESSION, FLAG),
         ExpressionKey::Filter => Places::Two(EXPRESSION, EXPRESSION),
         ExpressionKey::Sort => Places::Three(EXPRESSION, FLAG, FLAG),
+        ExpressionKey::Alias => Places::Two(EXPRESSION, NAME),
     }
 }
 

@@ -204,6 +204,28 @@ fn read_expressions(alloc: Global, tables: &Tables, value: &Value) -> Result<Exp
     }
 }
 
+// What was read, as the argument of its kind, and the same in a box, where it is wide.
+macro_rules! plain {
+    ($read:expr, $kind:path) => {
+        match $read {
+            Ok(read) => Ok($kind(read)),
+            Err(error) => Err(error),
+        }
+    };
+}
+
+macro_rules! boxed {
+    ($alloc:ident, $read:expr, $kind:path) => {
+        match $read {
+            Ok(read) => {
+                let read = Box::new($alloc, read)?;
+                Ok($kind(read))
+            }
+            Err(error) => Err(error),
+        }
+    };
+}
+
 // What has no forms.
 fn read_leaf(alloc: Global, tables: &Tables, which: Leaf, value: &Value) -> Result<Arg, JsonError>
     ensures ok { IfOk result (λ arg. leaf_of (declared tables.now) which (view value.now) ≡ Some (arg_view arg)) }
@@ -211,57 +233,18 @@ fn read_leaf(alloc: Global, tables: &Tables, which: Leaf, value: &Value) -> Resu
     ensures err { IfErr result (IsErrorOf (leaf_form (names_of (declared tables.now)) which) (view value.now)) }
 {
     match which {
-        Leaf::Name => match read_text(alloc, value) {
-            Ok(name) => Ok(Arg::Name(name)),
-            Err(error) => Err(error),
-        },
-        Leaf::Value => match read_literal(alloc, value) {
-            Ok(literal) => {
-                let literal = Box::new(alloc, literal)?;
-                Ok(Arg::Literal(literal))
-            }
-            Err(error) => Err(error),
-        },
-        Leaf::Digits => match read_number_text(alloc, value) {
-            Ok(literal) => {
-                let literal = Box::new(alloc, literal)?;
-                Ok(Arg::Literal(literal))
-            }
-            Err(error) => Err(error),
-        },
-        Leaf::Typed => match read_typed(alloc, value) {
-            Ok(literal) => {
-                let literal = Box::new(alloc, literal)?;
-                Ok(Arg::Literal(literal))
-            }
-            Err(error) => Err(error),
-        },
-        Leaf::Operator => match read_operator(alloc, value) {
-            Ok(operator) => Ok(Arg::Operator(operator)),
-            Err(error) => Err(error),
-        },
-        Leaf::Dtype => match read_type(alloc, value) {
-            Ok(dtype) => {
-                let dtype = Box::new(alloc, dtype)?;
-                Ok(Arg::Dtype(dtype))
-            }
-            Err(error) => Err(error),
-        },
-        Leaf::Mode => match read_mode(alloc, value) {
-            Ok(mode) => Ok(Arg::Mode(mode)),
-            Err(error) => Err(error),
-        },
+        Leaf::Name => plain!(read_text(alloc, value), Arg::Name),
+        Leaf::Value => boxed!(alloc, read_literal(alloc, value), Arg::Literal),
+        Leaf::Digits => boxed!(alloc, read_number_text(alloc, value), Arg::Literal),
+        Leaf::Typed => boxed!(alloc, read_typed(alloc, value), Arg::Literal),
+        Leaf::Operator => plain!(read_operator(alloc, value), Arg::Operator),
+        Leaf::Dtype => boxed!(alloc, read_type(alloc, value), Arg::Dtype),
+        Leaf::Mode => plain!(read_mode(alloc, value), Arg::Mode),
         Leaf::Table => match read_table_name(alloc, tables, value) {
             Ok((number, schema)) => Ok(Arg::Table(number, schema)),
             Err(error) => Err(error),
         },
-        Leaf::Columns => match read_columns(alloc, value) {
-            Ok(schema) => {
-                let schema = Box::new(alloc, schema)?;
-                Ok(Arg::Columns(schema))
-            }
-            Err(error) => Err(error),
-        },
+        Leaf::Columns => boxed!(alloc, read_columns(alloc, value), Arg::Columns),
         Leaf::Nothing => match read_nothing(alloc, value) {
             Ok(()) => Ok(Arg::Nothing),
             Err(error) => Err(error),

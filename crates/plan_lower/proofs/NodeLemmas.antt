@@ -3,7 +3,7 @@ use Rattle.std.proofs.Common.{◌≡◌, ◌≢◌, ℕ, Bool, refl, ◌≤◌, 
 use Rattle.plan_dsl.specs.Aliases.{inputs_pruned, pruned}
 use Rattle.plan_dsl.specs.Expressions.{tree_of}
 use Rattle.plan_dsl.specs.declared.expr.Expr.{Expr}
-use Rattle.plan_dsl.specs.declared.expr.Expr.TheVariants.{Alias'}
+use Rattle.plan_dsl.specs.declared.expr.Expr.TheVariants.{Alias, Alias'}
 use Rattle.plan_dsl.specs.Trees.{Trees, node, no_more, more}
 use Rattle.plan_dsl.specs.Ops.{Op, Expression}
 use Rattle.plan_arena.specs.declared.aexpr.AExpr.{AExpr}
@@ -63,6 +63,6 @@ item_denotes first last new tree item n le of grown at =
     subst (Denotes (HoldsFrom first new) n) (sym of.is) (added_denotes first last new item n (op_of l) (inputs_of l) of.operands le grown at (layer_parts l) operands)
 
 -- an expression that is no alias is what it is over its inputs
-pub pruned_item : (keep : Bool) (expr : Expr) → ((p : _) (below : _) (name : _) → expr ≢ Alias' p below name) → inputs_pruned keep (tree_of expr) ≡ pruned keep (tree_of expr)
-pruned_item keep (Alias' p below name) apart = absurd (apart p below name refl)
+pub pruned_item : (keep : Bool) (expr : Expr) → ((below : _) (name : _) → expr ≢ Alias below name) → inputs_pruned keep (tree_of expr) ≡ pruned keep (tree_of expr)
+pruned_item keep (Alias' p below name) apart = absurd (apart _ name refl)
 pruned_item keep _ apart = refl

@@ -1,14 +1,32 @@
-use Rattle.std.proofs.Common.{refl}
-use Rattle.plan_dsl.specs.Trees.{no_more, more}
+use Rattle.std.proofs.Common.{length, refl, subst, sym}
+use Rattle.plan_dsl.specs.Aliases.{prune_node, pruned}
+use Rattle.plan_dsl.specs.Expressions.{tree_of}
+use Rattle.plan_dsl.specs.Ops.{AliasOp}
+use Rattle.plan_dsl.specs.Trees.{node, no_more, more}
+use Rattle.plan_arena.specs.declared.aexpr.AExpr.TheVariants.{Alias}
+use Rattle.plan_arena.specs.Denotation.{Denotes}
+use Rattle.plan_arena.specs.Items.{HoldsFrom}
+use Rattle.plan_lower.specs.Nodes.{IsItemOf}
 use Rattle.plan_arena.proofs.ItemLemmas.{length-grown}
-use Rattle.plan_lower.proofs.NodeLemmas.{item_denotes, over_added}
+use Rattle.plan_lower.proofs.NodeLemmas.{item_denotes, over_added, pruned_item}
 use Rattle.plan_lower.proofs.conversion.expr_to_ir.+nodes.Goals as goal
 
 pub add_nodes-returns-in_ok-node-in-Alias-clause-denotes : goal.add_nodes-returns-in_ok-node-in-Alias-clause-denotes
-add_nodes-returns-in_ok-node-in-Alias-clause-denotes t c = ?
+add_nodes-returns-in_ok-node-in-Alias-clause-denotes t c =
+    let below = c.in_ok-below-in-Alias.ensures in
+    let top = c.in_ok-node-in-Alias in
+    let tree = pruned c.args.keep (tree_of c.into_inner.result) in
+    let item : IsItemOf (length c.args.arena.now) c.add_nodes.new.arena (node (AliasOp c.in-Alias.name) (more tree no_more)) (Alias c.in_ok-below-in-Alias.below c.in-Alias.name) = record { operands = more tree no_more; is = refl; denote = (below.denotes, tt) } in
+    let added = item_denotes _ c.add_nodes.new.arena _ _ _ top.node.0 (length-grown c.args.arena.now c.add_nodes.new.arena below.grows) item top.ensures.ok top.ensures.node in
+    let kept = subst (λ keep. Denotes (HoldsFrom (length c.args.arena.now) c.add.new.self) top.node.0 (prune_node keep (AliasOp c.in-Alias.name) (more tree no_more))) (sym c.if-not-keep.false) added in
+    rw (c.in-Alias.is, ← c.into_inner.ensures) kept
 
 pub add_nodes-returns-in_ok-node-in_default-clause-denotes : goal.add_nodes-returns-in_ok-node-in_default-clause-denotes
-add_nodes-returns-in_ok-node-in_default-clause-denotes t c = ?
+add_nodes-returns-in_ok-node-in_default-clause-denotes t c =
+    let item = c.in_ok-item-in_default.ensures in
+    let top = c.in_ok-node-in_default in
+    let added = item_denotes _ c.add_inputs.new.arena _ _ c.in_ok-item-in_default.item top.node.0 (length-grown c.args.arena.now c.add_inputs.new.arena item.grows) item.ok top.ensures.ok top.ensures.node in
+    subst (Denotes (HoldsFrom (length c.args.arena.now) c.add-in_default.new.self) top.node.0) (pruned_item c.args.keep c.args.expr c.in_default.not-Alias) added
 
 -- an item over two inputs or more, of which each was added behind those before it
 pub add_inputs-returns-in_ok-right-in-BinaryExpr-clause-ok :

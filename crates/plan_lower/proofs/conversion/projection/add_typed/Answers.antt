@@ -33,10 +33,12 @@ returns-in_err-infer-clause-err c =
     let refused = subst (λ t. IsRefusal (typing (registry c.args.udfs.now) (columns c.args.schema.now) t) c.in_err-infer.field-0.0) (ap core c.settle.ensures ∙ core_settled (tree_of c.args.expr)) (c.in_err-infer.ensures.err tree d) in
     passed_on c.from_residual-in_err-infer.result c.in_err-infer.field-0.0 _ c.from_residual-in_err-infer.ensures.1 refused
 
-pub name_under-requires : goal.name_under-requires
-name_under-requires c =
-    let done = c.in_ok-infer.ensures in
-    record { kept = done.kept; right = record { registry = registry c.args.udfs.now; schema = columns c.args.schema.now; right = done.right } }
+pub name_under-requires-clause-kept : goal.name_under-requires-clause-kept
+name_under-requires-clause-kept c = c.in_ok-infer.ensures.kept
+
+pub name_under-requires-clause-right : goal.name_under-requires-clause-right
+name_under-requires-clause-right c =
+    record { registry = registry c.args.udfs.now; schema = columns c.args.schema.now; right = c.in_ok-infer.ensures.right }
 
 pub returns-clause-name : goal.returns-clause-name
 returns-clause-name c =
