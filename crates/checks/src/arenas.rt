@@ -2,15 +2,10 @@
 
 use crate::fixtures::{LENGTHS, NO_MEMORY, assert_alike, long_name, numbered};
 use crate::sums::sum_of;
-use plan_arena::aexpr::AExpr;
 use plan_arena::arena::{Arena, Node};
 use plan_arena::expr_ir::{ColumnNode, ExprIR, OutputName};
-use plan_arena::ir::IR;
-use plan_arena::plan::IRPlan;
-use plan_dsl::operator::Operator;
 use plan_lower::conversion::expr_to_ir::to_expr_ir;
 use plan_types::dtype::DataType;
-use plan_types::schema::Schema;
 use plan_types::text::PlSmallStr;
 use std::alloc::Global;
 use std::process::Abort;
@@ -34,17 +29,6 @@ fn arenas_of_any_size_keep_their_items(rt: HostRuntime) {
     assert_eq!(rt; arena.len(), 10_000);
     for number in 0..10_000usize {
         assert_eq!(rt; *arena.get(Node(number)), number);
-    }
-}
-
-#[test]
-fn items_are_changed_and_taken(rt: HostRuntime) {
-    let mut arena = numbers_below(&rt, rt.alloc(), 10_000);
-    for number in 0..10_000 {
-        *arena.get_mut(Node(number)) += 1;
-        assert_eq!(rt; arena.replace(Node(number), number), number + 1);
-        assert_eq!(rt; arena.take(Node(number)), number);
-        assert_eq!(rt; *arena.get(Node(number)), 0);
     }
 }
 
@@ -105,29 +89,6 @@ fn expressions_are_copied(rt: HostRuntime) {
     assert!(rt; Node::from(ColumnNode(Node(3))) == Node(3));
 }
 
-// The node of the item, which is added.
-fn added(rt: &impl Abort, arena: &mut Arena<AExpr>, item: AExpr) -> Node {
-    let node = arena.add(item).expect(rt, NO_MEMORY);
-    node
-}
-
-#[test]
-fn names_come_from_the_left(rt: HostRuntime) {
-    let mut arena = Arena::new(rt.alloc());
-    let count = added(&rt, &mut arena, AExpr::default());
-    let text = numbered(&rt, rt.alloc(), 7);
-    let right = added(&rt, &mut arena, AExpr::Column(text));
-    let sum = AExpr::BinaryExpr {
-        left: count,
-        op: Operator::Plus,
-        right,
-    };
-    let sum = added(&rt, &mut arena, sum);
-    let expr_ir = ExprIR::from_node(rt.alloc(), sum, &arena).expect(&rt, NO_MEMORY);
-    assert!(rt; expr_ir.output_name().as_str() == "len");
-    assert!(rt; expr_ir.node() == sum);
-}
-
 #[test]
 fn sums_of_any_length_are_named(rt: HostRuntime) {
     for additions in [0, 1, 2, 1_000] {
@@ -137,27 +98,4 @@ fn sums_of_any_length_are_named(rt: HostRuntime) {
         assert!(rt; expr_ir.output_name().as_str() == "a");
         assert!(rt; arena.last_node() == Some(expr_ir.node()));
     }
-}
-
-#[test]
-fn plans_are_lent(rt: HostRuntime) {
-    let mut lp_arena = Arena::new(rt.alloc());
-    for table in [0, 1] {
-        let schema = Schema::new(rt.alloc());
-        lp_arena
-            .add(IR::DataFrameScan {
-                table: Some(table),
-                schema,
-            })
-            .expect(&rt, NO_MEMORY);
-    }
-    let plan = IRPlan::new(Node(0), lp_arena, Arena::new(rt.alloc()));
-    let lent = plan.as_ref();
-    assert!(rt; matches!(lent.root(), IR::DataFrameScan { table: Some(0), .. }));
-    assert!(rt;
-        matches!(
-            lent.with_root(Node(1)).root(),
-            IR::DataFrameScan { table: Some(1), .. }
-        )
-    );
 }
