@@ -8,7 +8,7 @@ use Rattle.plan_types.specs.Schemas.{Name, Columns}
 use Rattle.plan_types.specs.declared.dtype.TimeUnit.{TimeUnit}
 use Rattle.plan_types.specs.declared.dtype.TimeUnit.TheVariants.{Nanoseconds, Microseconds, Milliseconds}
 use Rattle.plan_types.specs.declared.error.ErrorKind.{ErrorKind}
-use Rattle.plan_types.specs.declared.error.ErrorKind.TheVariants.{ColumnNotFound, Duplicate, SchemaMismatch, InvalidOperation, NoMemory}
+use Rattle.plan_types.specs.declared.error.ErrorKind.TheVariants.{ColumnNotFound, Duplicate, SchemaMismatch, InvalidOperation, ComputeError, NoMemory}
 
 -- a name as JSON, with its quotes and escapes
 abbrev pub name_text : Name → List ℕ
@@ -78,4 +78,5 @@ error_kind_text ColumnNotFound = codes "ColumnNotFound"
 error_kind_text Duplicate = codes "Duplicate"
 error_kind_text SchemaMismatch = codes "SchemaMismatch"
 error_kind_text InvalidOperation = codes "InvalidOperation"
+error_kind_text ComputeError = codes "ComputeError"
 error_kind_text NoMemory = codes "NoMemory"

@@ -5,7 +5,7 @@ ghost use Rattle.std.specs.Prelude.{◌≡◌, ℕ, List, [], ◌∷◌, ◌++�
 ghost use Rattle.plan_types.specs.Schemas.{Columns};
 ghost use Rattle.plan_types.specs.Types.{NullType, Truth, Integer, TextType, DateType, TimeType, DatetimeType, DurationType, ListType, StructType, no_field, fields_from};
 ghost use Rattle.plan_types.specs.declared.dtype.TimeUnit.TheVariants.{Nanoseconds, Microseconds, Milliseconds};
-ghost use Rattle.plan_types.specs.declared.error.ErrorKind.TheVariants.{ColumnNotFound, Duplicate, SchemaMismatch, InvalidOperation, NoMemory};
+ghost use Rattle.plan_types.specs.declared.error.ErrorKind.TheVariants.{ColumnNotFound, Duplicate, SchemaMismatch, InvalidOperation, ComputeError, NoMemory};
 ghost use Rattle.plan_dsl.specs.declared.operator.Operator.TheVariants.{Lt, Plus};
 ghost use Rattle.plan_dsl.specs.Plans.{Named, ScanKind, SelectKind, FilterKind, empty_table};
 ghost use Rattle.plan_arena.specs.declared.aexpr.AExpr.{AExpr};
@@ -58,8 +58,8 @@ pub fn name_examples()
 
 /// A refusal is the broken rule and the place.
 pub fn refusal_examples()
-    ensures top { map (λ kind. refusal_text kind []) (Duplicate ∷ InvalidOperation ∷ NoMemory ∷ [])
-        ≡ map codes ("refused Duplicate .\n" ∷ "refused InvalidOperation .\n" ∷ "refused NoMemory .\n" ∷ []) }
+    ensures top { map (λ kind. refusal_text kind []) (Duplicate ∷ InvalidOperation ∷ ComputeError ∷ NoMemory ∷ [])
+        ≡ map codes ("refused Duplicate .\n" ∷ "refused InvalidOperation .\n" ∷ "refused ComputeError .\n" ∷ "refused NoMemory .\n" ∷ []) }
     ensures deep { refusal_text ColumnNotFound (0 ∷ 1 ∷ []) ≡ codes "refused ColumnNotFound .0.1\n" }
     ensures no_common_type { refusal_text SchemaMismatch (0 ∷ []) ≡ codes "refused SchemaMismatch .0\n" }
 {}

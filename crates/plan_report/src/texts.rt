@@ -23,6 +23,7 @@ pub(crate) fn kind_name(kind: ErrorKind) -> &'static str
         ErrorKind::Duplicate => "Duplicate",
         ErrorKind::SchemaMismatch => "SchemaMismatch",
         ErrorKind::InvalidOperation => "InvalidOperation",
+        ErrorKind::ComputeError => "ComputeError",
         ErrorKind::NoMemory => "NoMemory",
     }
 }

@@ -17,6 +17,8 @@ pub enum ErrorKind {
     SchemaMismatch,
     /// A rule of types that names this kind is broken.
     InvalidOperation,
+    /// What is to be made can't be: flags of a sort are of a wrong number.
+    ComputeError,
     /// Memory ran out. It may stand in place of any other answer.
     NoMemory,
 }

@@ -157,6 +157,7 @@ fn is_memory(error: &PlanError) -> bool
         ErrorKind::ColumnNotFound
         | ErrorKind::Duplicate
         | ErrorKind::SchemaMismatch
-        | ErrorKind::InvalidOperation => false,
+        | ErrorKind::InvalidOperation
+        | ErrorKind::ComputeError => false,
     }
 }
