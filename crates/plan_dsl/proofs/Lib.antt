@@ -5,6 +5,7 @@ pub mod CastLemmas
 pub mod CastMeaningLemmas
 pub mod ColumnLemmas
 pub mod ComparisonLemmas
+pub mod ExprLemmas
 pub mod FitLemmas
 pub mod FrameLemmas
 pub mod KernelLemmas
@@ -13,6 +14,7 @@ pub mod LiteralLemmas
 pub mod OpLemmas
 pub mod OperandLemmas
 pub mod OperatorLemmas
+pub mod OrderLemmas
 pub mod PickLemmas
 pub mod ResolvingLemmas
 pub mod RuleLemmas

@@ -17,7 +17,7 @@ use Rattle.plan_types.proofs.CommonLemmas.{alone_known, alone_itself, alone_same
 use Rattle.plan_types.proofs.ValueLemmas.{int_eq_exact, cast_fits, column_fits}
 use Rattle.plan_dsl.specs.declared.operator.Operator.{Operator}
 use Rattle.plan_dsl.specs.Registry.{Registry}
-use Rattle.plan_dsl.specs.Ops.{Op, ColumnOp, LiteralOp, BinaryOp, CastOp, LenOp, SliceOp, AliasOp, ExplodeOp, GatherOp, FilterOp, SortOp}
+use Rattle.plan_dsl.specs.Ops.{Op, ColumnOp, LiteralOp, BinaryOp, CastOp, LenOp, SliceOp, AliasOp, ExplodeOp, GatherOp, FilterOp, SortOp, SortByOp}
 use Rattle.plan_dsl.specs.Literals.{is_literal, is_literal_of}
 use Rattle.plan_dsl.specs.OperatorTypes.{Taken, operator_types}
 use Rattle.plan_dsl.specs.Signatures.{signature}
@@ -28,7 +28,7 @@ use Rattle.plan_dsl.proofs.TypingLemmas.{ok_same, ok_where, ruling_of, ruled_is}
 use Rattle.plan_dsl.proofs.ColumnLemmas.{AreAllOf, on_columns, cast_column_fits, operator_values_fit, literal_fits}
 use Rattle.plan_dsl.proofs.OperatorLemmas.{TakesOperands, operands_taken, pair_becomes, pair_stays}
 use Rattle.plan_dsl.proofs.SignatureLemmas.{AllBecome, makes, passes, KernelGives, OnAsked, OnSigned, alone_becomes, is_signed, target_known}
-use Rattle.plan_dsl.proofs.KindLemmas.{len_gives, slice_gives, explode_gives, gather_gives, filter_gives, sort_gives}
+use Rattle.plan_dsl.proofs.KindLemmas.{len_gives, slice_gives, explode_gives, gather_gives, filter_gives, sort_gives, sort_by_gives}
 
 -- a node of a number's own type is that number, as a literal
 pub record IsNumberOp (number : ℤ) (op : Op) (typed : List Typed) (own : Typed) : Type 0 where
@@ -178,4 +178,5 @@ keeps_rule registry schema ExplodeOp typed ruling h = signed_keeps registry sche
 keeps_rule registry schema (GatherOp returns_scalar) typed ruling h = signed_keeps registry schema (GatherOp returns_scalar) (gather_gives returns_scalar) (λ typed. refl) typed ruling h
 keeps_rule registry schema FilterOp typed ruling h = signed_keeps registry schema FilterOp filter_gives (λ typed. refl) typed ruling h
 keeps_rule registry schema (SortOp options) typed ruling h = signed_keeps registry schema (SortOp options) (sort_gives options) (λ typed. refl) typed ruling h
+keeps_rule registry schema (SortByOp descending nulls_last) typed ruling h = signed_keeps registry schema (SortByOp descending nulls_last) (sort_by_gives descending nulls_last) (λ typed. refl) typed ruling h
 keeps_rule _ _ _ _ _ h = cc

@@ -33,7 +33,7 @@ or_null_fits [] type h = refl
 or_null_fits (value ∷ values) type h = h
 
 -- no number is in a range without numbers
-no_number : (below : Bool) → (not below && below) ≡ true → ⊥
+pub no_number : (below : Bool) → (not below && below) ≡ true → ⊥
 no_number true h = cc
 no_number false h = cc
 

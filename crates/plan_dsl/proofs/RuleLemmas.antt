@@ -9,11 +9,12 @@ use Rattle.plan_types.specs.declared.error.ErrorKind.{ErrorKind}
 use Rattle.plan_types.specs.declared.error.ErrorKind.TheVariants.{Duplicate, SchemaMismatch, InvalidOperation}
 use Rattle.plan_types.proofs.SchemaLemmas.{repeated_test, test_from_distinct, distinct_from_test}
 use Rattle.plan_dsl.specs.Registry.{Registry}
-use Rattle.plan_dsl.specs.Trees.{Trees, node, no_more, more, child_at, child_of, tree_at}
+use Rattle.plan_dsl.specs.Trees.{Trees, node, no_more, more, child_at, child_of, tree_at, tree_count}
 use Rattle.plan_dsl.specs.Ops.{Op, Expression}
 use Rattle.plan_dsl.specs.Plans.{Named, PlanKind, ScanKind, SelectKind, FilterKind, RefusedKind, PlanOp, Plan, scan_op, select_op, filter_op}
 use Rattle.plan_dsl.specs.Literals.{settled}
 use Rattle.plan_dsl.specs.Names.{Label}
+use Rattle.plan_dsl.specs.Signatures.{bare_kinds}
 use Rattle.plan_dsl.specs.Typing.{Typed, typing, typing_all, typing_rule, then_typed, typed_before, kind_of, own_kind, kinds_in, kinds_in_all}
 use Rattle.plan_dsl.specs.PlanRules.{all_kinds, kind_where, name_kinds, scan_kinds, predicate_kinds, broken_kinds, column_before, columns_of, where_unbroken, plan_rule, schema_of, IsWellFormed, AllWellFormed, top_kinds, Breaks}
 use Rattle.plan_dsl.specs.Laws.{NoSchemaIsBroken}
@@ -27,7 +28,8 @@ module _ (registry : Registry) (schema : Columns) where
     pub typed_breaks_nothing : (tree : Expression) (typed : Typed) → typing registry schema tree ≡ Ok typed → kinds_in registry schema tree ≡ []
     typed_breaks_nothing (node op children) typed h =
         let rule = typing_rule registry schema op in
-        elim (typing_all registry schema children) as (λ r. typing_all registry schema children ≡ r → then_typed r rule ≡ Ok typed → kinds_in_all registry schema children ++ own_kind r rule ≡ []) [ Ok ts ↦ λ e t. ap (λ k. k ++ kind_of (rule ts)) (all_break_nothing children ts e) ∙ ap kind_of t | Err k ↦ λ e t. cc ] refl h
+        let bare = bare_kinds op (tree_count children) in
+        elim (typing_all registry schema children) as (λ r. typing_all registry schema children ≡ r → then_typed r rule ≡ Ok typed → kinds_in_all registry schema children ++ own_kind bare r rule ≡ []) [ Ok ts ↦ λ e t. ap (λ k. k ++ kind_of (rule ts)) (all_break_nothing children ts e) ∙ ap kind_of t | Err k ↦ λ e t. cc ] refl h
 
     all_break_nothing : (trees : Trees Op) (typed : List Typed) → typing_all registry schema trees ≡ Ok typed → kinds_in_all registry schema trees ≡ []
     all_break_nothing no_more typed h = refl
@@ -40,7 +42,8 @@ module _ (registry : Registry) (schema : Columns) where
     refusal_is_broken (node op children) kind h =
         let rule = typing_rule registry schema op in
         let below = kinds_in_all registry schema children in
-        elim (typing_all registry schema children) as (λ r. typing_all registry schema children ≡ r → then_typed r rule ≡ Err kind → Contains (below ++ own_kind r rule) kind) [ Ok ts ↦ λ e t. Contains-append_right below (kind_of (rule ts)) kind (subst (λ r. Contains (kind_of r) kind) (sym t) (Contains-push [] kind)) | Err k ↦ λ e t. Contains-append_left below [] kind (one_is_broken children kind (e ∙ ap Err (same_kind (Err k) k kind refl t))) ] refl h
+        let bare = bare_kinds op (tree_count children) in
+        elim (typing_all registry schema children) as (λ r. typing_all registry schema children ≡ r → then_typed r rule ≡ Err kind → Contains (below ++ own_kind bare r rule) kind) [ Ok ts ↦ λ e t. Contains-append_right below (kind_of (rule ts)) kind (subst (λ r. Contains (kind_of r) kind) (sym t) (Contains-push [] kind)) | Err k ↦ λ e t. Contains-append_left below bare kind (one_is_broken children kind (e ∙ ap Err (same_kind (Err k) k kind refl t))) ] refl h
 
     one_is_broken : (trees : Trees Op) (kind : ErrorKind) → typing_all registry schema trees ≡ Err kind → Contains (kinds_in_all registry schema trees) kind
     one_is_broken no_more kind h = cc

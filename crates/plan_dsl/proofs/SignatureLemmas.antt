@@ -178,6 +178,11 @@ abbrev pub OnAsked : Signature → ℕ → List Typed → (List (List Val) → T
 OnAsked signature place [] P = P []
 OnAsked signature place (t ∷ ts) P = (column : List Val) → IsAsked (asked_at signature place) t column → OnAsked signature (suc place) ts (λ columns. P (column ∷ columns))
 
+-- what holds of any columns holds of those
+pub any_columns : (signature : Signature) (place : ℕ) (typed : List Typed) (P : List (List Val) → Type 0) → ((columns : List (List Val)) → P columns) → OnAsked signature place typed P
+any_columns signature place [] P h = h []
+any_columns signature place (t ∷ ts) P h = λ column of. any_columns signature (suc place) ts (λ columns. P (column ∷ columns)) (λ columns. h (column ∷ columns))
+
 -- over columns of operands that are taken as they are, the kernel gives values of the own type
 abbrev pub KernelGives : Op → Type 0
 KernelGives op = (registry : Registry) (frame : Frame) (rows : List ℕ) (typed : List Typed) → OnSigned (signature op (length typed)) (λ signature.

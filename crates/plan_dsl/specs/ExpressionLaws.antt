@@ -1,6 +1,7 @@
 -- Laws of comparing expressions.
-use Rattle.std.specs.Prelude.{◌≡◌, Bool, true}
+use Rattle.std.specs.Prelude.{◌≡◌, Bool, true, List}
 use Rattle.std.specs.Cmp.{IsEquivalence, booleans_Decides}
+use Rattle.std.specs.Cmp.Lexicographic.{pointwise_decides}
 use Rattle.std.proofs.Common.{refl, ap, ◌∙◌}
 use Rattle.std.proofs.lemmas.Slice.Eq.{bytes_eq-Decides}
 use Rattle.std.proofs.lemmas.Bool.{and_parts, and_from}
@@ -20,10 +21,10 @@ use Rattle.plan_dsl.specs.declared.operator.Operator.{Operator}
 use Rattle.plan_dsl.specs.declared.operator.Operator.TheVariants.{Eq, EqValidity, NotEq, NotEqValidity, Lt, LtEq, Gt, GtEq, Plus, Minus, Multiply, Divide, FloorDivide, Modulus, And, Or, Xor, LogicalAnd, LogicalOr}
 use Rattle.plan_dsl.specs.declared.sort_options.SortOptions.{SortOptions}
 use Rattle.plan_dsl.specs.Trees.{Tree, Trees, node, no_more, more}
-use Rattle.plan_dsl.specs.Ops.{Op, ColumnOp, LiteralOp, BinaryOp, CastOp, LenOp, SliceOp, AliasOp, Expression, ExplodeOp, GatherOp, FilterOp, SortOp}
+use Rattle.plan_dsl.specs.Ops.{Op, ColumnOp, LiteralOp, BinaryOp, CastOp, LenOp, SliceOp, AliasOp, Expression, ExplodeOp, GatherOp, FilterOp, SortOp, SortByOp}
 use Rattle.plan_dsl.specs.Expressions.{tree_of}
 use Rattle.plan_dsl.specs.Literals.{literal_type, literal_value, literal_op}
-use Rattle.plan_dsl.specs.SameExpressions.{operator_rank, same_operator, options_rank, same_options, same_sort, same_literal, same_op, same_tree, same_trees, literal_writes, op_writes, tree_writes}
+use Rattle.plan_dsl.specs.SameExpressions.{operator_rank, same_operator, options_rank, same_options, same_sort, same_flags, same_literal, same_op, same_tree, same_trees, literal_writes, op_writes, tree_writes}
 
 -- operators and ways to cast that compare equal are one
 pub same_operator_exact : (a b : Operator) → same_operator a b ≡ true → a ≡ b
@@ -70,6 +71,12 @@ same_sort_exact a b h =
 pub same_sort_own : (a : SortOptions) → same_sort a a ≡ true
 same_sort_own a = and_from _ _ ((booleans_Decides a.descending a.descending).1 refl) ((booleans_Decides a.nulls_last a.nulls_last).1 refl)
 
+pub same_flags_exact : (a b : List Bool) → same_flags a b ≡ true → a ≡ b
+same_flags_exact a b h = (pointwise_decides booleans_Decides a b).0 h
+
+pub same_flags_own : (a : List Bool) → same_flags a a ≡ true
+same_flags_own a = (pointwise_decides booleans_Decides a a).1 refl
+
 -- nodes that compare equal do the same
 pub same_op_exact : (a b : Op) → same_op a b ≡ true → a ≡ b
 same_op_exact (ColumnOp name) (ColumnOp other) h = ap ColumnOp ((bytes_eq-Decides name other).0 h)
@@ -86,6 +93,9 @@ same_op_exact ExplodeOp ExplodeOp h = refl
 same_op_exact (GatherOp returns_scalar) (GatherOp other) h = ap GatherOp ((booleans_Decides returns_scalar other).0 h)
 same_op_exact FilterOp FilterOp h = refl
 same_op_exact (SortOp options) (SortOp other) h = ap SortOp (same_sort_exact options other h)
+same_op_exact (SortByOp descending nulls_last) (SortByOp other others) h =
+    let parts = and_parts (same_flags descending other) (same_flags nulls_last others) h in
+    ap (λ d. SortByOp d nulls_last) (same_flags_exact descending other parts.0) ∙ ap (SortByOp other) (same_flags_exact nulls_last others parts.1)
 same_op_exact (AliasOp name) (AliasOp other) h = ap AliasOp ((bytes_eq-Decides name other).0 h)
 same_op_exact _ _ h = cc
 
@@ -100,6 +110,7 @@ same_op_own ExplodeOp = refl
 same_op_own (GatherOp returns_scalar) = (booleans_Decides returns_scalar returns_scalar).1 refl
 same_op_own FilterOp = refl
 same_op_own (SortOp options) = same_sort_own options
+same_op_own (SortByOp descending nulls_last) = and_from _ _ (same_flags_own descending) (same_flags_own nulls_last)
 same_op_own (AliasOp name) = (bytes_eq-Decides name name).1 refl
 
 -- trees that compare equal are one where nodes are, and each is equal to itself

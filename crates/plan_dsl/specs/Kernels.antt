@@ -1,7 +1,7 @@
 -- What a node does with the columns of its operands.
 -- A column is a list of values. Two columns are brought to a common length: one of one value is
 -- repeated, and other unequal lengths are a data fault.
-use Rattle.std.specs.Prelude.{ℕ, pos, List, [], ◌∷◌, map, length, replicate, Option, Some, None, ◌==◌, ◌||◌, if◌then◌else◌}
+use Rattle.std.specs.Prelude.{ℕ, pos, Bool, List, [], ◌∷◌, map, length, replicate, Option, Some, None, ◌==◌, ◌||◌, if◌then◌else◌}
 use Rattle.plan_types.specs.Types.{Ty, same_type}
 use Rattle.plan_types.specs.Schemas.{Name}
 use Rattle.plan_types.specs.Values.{Val, IntValue}
@@ -12,10 +12,10 @@ use Rattle.plan_types.specs.declared.dtype.CastOptions.{CastOptions}
 use Rattle.plan_dsl.specs.declared.operator.Operator.{Operator}
 use Rattle.plan_dsl.specs.Operators.{operator_value}
 use Rattle.plan_dsl.specs.Slices.{slice_values}
-use Rattle.plan_dsl.specs.Sorting.{sort_values}
+use Rattle.plan_dsl.specs.Sorting.{key_options, sort_values, sorted_by}
 use Rattle.plan_dsl.specs.Picks.{explode_values, gather_values, where_true}
 use Rattle.plan_dsl.specs.Registry.{Registry}
-use Rattle.plan_dsl.specs.Ops.{Op, ColumnOp, LiteralOp, BinaryOp, CastOp, LenOp, SliceOp, AliasOp, ExplodeOp, GatherOp, FilterOp, SortOp}
+use Rattle.plan_dsl.specs.Ops.{Op, ColumnOp, LiteralOp, BinaryOp, CastOp, LenOp, SliceOp, AliasOp, ExplodeOp, GatherOp, FilterOp, SortOp, SortByOp}
 
 -- what an expression gives on the rows of these numbers
 abbrev pub Meaning : Type 0
@@ -89,6 +89,16 @@ abbrev pub filter_values : List Val → List Val → Outcome (List Val)
 filter_values values truths =
     at_length (common_length (length values) (length truths)) (λ count. where_true (stretched count truths) (stretched count values))
 
+-- the keys beside each of so many values: a column of keys has as many, or a single one that is repeated
+abbrev pub key_rows : ℕ → List (List Val) → Outcome (List Row)
+key_rows count [] = Done (replicate count [])
+key_rows count (key ∷ keys) = then_do (for_rows count key) (λ column. then_do (key_rows count keys) (λ rows. Done (in_front column rows)))
+
+-- values in the order of columns of keys, by a flag for each or one for all
+abbrev pub sort_by_values : List Bool → List Bool → List Val → List (List Val) → Outcome (List Val)
+sort_by_values descending nulls_last values keys =
+    then_do (key_rows (length values) keys) (λ rows. Done (sorted_by (key_options (length keys) descending nulls_last) rows values))
+
 -- a frame's column at these rows
 abbrev pub column_values : Frame → Name → List ℕ → List Val
 column_values frame name rows = map (λ number. value_in frame.schema name (row_at frame number)) rows
@@ -105,5 +115,6 @@ kernel registry frame rows ExplodeOp types type (values ∷ []) = Done (explode_
 kernel registry frame rows (GatherOp returns_scalar) types type (values ∷ indices ∷ []) = gather_values values indices
 kernel registry frame rows FilterOp types type (values ∷ truths ∷ []) = filter_values values truths
 kernel registry frame rows (SortOp options) types type (values ∷ []) = Done (sort_values options values)
+kernel registry frame rows (SortByOp descending nulls_last) types type (values ∷ keys) = sort_by_values descending nulls_last values keys
 kernel registry frame rows (AliasOp name) types type (column ∷ []) = Done column
 kernel registry frame rows op types type columns = Stuck

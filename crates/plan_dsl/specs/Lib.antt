@@ -22,6 +22,7 @@ pub mod SameExpressions
 pub mod Samples
 pub mod Signatures
 pub mod Slices
+pub mod SortLaws
 pub mod Sorting
 pub mod Sources
 pub mod StrictRun

@@ -1,5 +1,5 @@
 -- What a node of an expression does, without its children.
-use Rattle.std.specs.Prelude.{Bool}
+use Rattle.std.specs.Prelude.{Bool, List}
 use Rattle.plan_types.specs.Types.{Ty}
 use Rattle.plan_types.specs.Schemas.{Name}
 use Rattle.plan_types.specs.Values.{Val}
@@ -19,6 +19,7 @@ pub data Op : Type 0 where
   GatherOp : (returns_scalar : Bool) → Op
   FilterOp : Op
   SortOp : (options : SortOptions) → Op
+  SortByOp : (descending nulls_last : List Bool) → Op
   AliasOp : (name : Name) → Op
 
 abbrev pub Expression : Type 0

@@ -5,12 +5,11 @@ use Rattle.plan_types.specs.Schemas.{Columns, columns}
 use Rattle.plan_types.specs.declared.error.ErrorKind.{ErrorKind}
 use Rattle.plan_dsl.specs.declared.plan.DslPlan.{DslPlan}
 use Rattle.plan_dsl.specs.declared.plan.DslPlan.TheVariants.{DataFrameScan, Filter', Select'}
-use Rattle.plan_dsl.specs.declared.plan.Exprs.{Exprs}
 use Rattle.plan_dsl.specs.declared.plan.ProjectionOptions.{ProjectionOptions}
 use Rattle.plan_dsl.specs.Aliases.{core}
 use Rattle.plan_dsl.specs.Trees.{Tree, node, no_more, more, fold}
 use Rattle.plan_dsl.specs.Ops.{Expression}
-use Rattle.plan_dsl.specs.Expressions.{tree_of}
+use Rattle.plan_dsl.specs.Expressions.{tree_of, trees_of}
 use Rattle.plan_dsl.specs.Names.{Label, label_of}
 use Rattle.plan_dsl.specs.Sources.{Source, written}
 
@@ -59,10 +58,6 @@ SourcePlan = Tree (PlanOp Source)
 -- an expression without its aliases, under the name that the rules give it with them
 abbrev pub named : Expression → Named Expression
 named tree = record { label = label_of tree; expression = core tree }
-
--- the trees of expressions
-abbrev pub trees_of : Exprs → List Expression
-trees_of exprs = map tree_of exprs.items.items
 
 abbrev pub scan_op : {E : Type 0} → Option ℕ → Columns → PlanOp E
 scan_op table schema = record { kind = ScanKind table schema; recorded = Some schema }

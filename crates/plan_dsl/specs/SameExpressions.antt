@@ -4,6 +4,7 @@
 use Rattle.std.specs.Prelude.{ℕ, Bool, true, false, ◌&&◌, ◌==◌, List, [], ◌++◌, encode_utf8_all}
 use Rattle.std.specs.Hash as fed
 use Rattle.std.specs.Bool.{beq}
+use Rattle.std.specs.Cmp.Lexicographic.{pointwise}
 use Rattle.std.specs.Str.{bytes_eq}
 use Rattle.plan_types.specs.Types.{Ty, same_type, type_writes}
 use Rattle.plan_types.specs.Values.{Val, NullValue, TruthValue, IntValue, TextValue, ListValue, StructValue, same_value}
@@ -14,7 +15,7 @@ use Rattle.plan_dsl.specs.declared.operator.Operator.{Operator}
 use Rattle.plan_dsl.specs.declared.operator.Operator.TheVariants.{Eq, EqValidity, NotEq, NotEqValidity, Lt, LtEq, Gt, GtEq, Plus, Minus, Multiply, Divide, FloorDivide, Modulus, And, Or, Xor, LogicalAnd, LogicalOr}
 use Rattle.plan_dsl.specs.declared.sort_options.SortOptions.{SortOptions}
 use Rattle.plan_dsl.specs.Trees.{Tree, Trees, node, no_more, more}
-use Rattle.plan_dsl.specs.Ops.{Op, ColumnOp, LiteralOp, BinaryOp, CastOp, LenOp, SliceOp, AliasOp, ExplodeOp, GatherOp, FilterOp, SortOp}
+use Rattle.plan_dsl.specs.Ops.{Op, ColumnOp, LiteralOp, BinaryOp, CastOp, LenOp, SliceOp, AliasOp, ExplodeOp, GatherOp, FilterOp, SortOp, SortByOp}
 use Rattle.plan_dsl.specs.Literals.{literal_type, literal_value}
 
 -- ---- what is one
@@ -57,6 +58,9 @@ same_options left right = options_rank left == options_rank right
 abbrev pub same_sort : SortOptions → SortOptions → Bool
 same_sort left right = beq left.descending right.descending && beq left.nulls_last right.nulls_last
 
+abbrev pub same_flags : List Bool → List Bool → Bool
+same_flags left right = pointwise beq left right
+
 -- whether two literals are one
 abbrev pub same_literal : LiteralValue → LiteralValue → Bool
 same_literal left right = same_type (literal_type left) (literal_type right) && same_value (literal_value left) (literal_value right)
@@ -73,6 +77,7 @@ same_op ExplodeOp ExplodeOp = true
 same_op (GatherOp returns_scalar) (GatherOp other) = beq returns_scalar other
 same_op FilterOp FilterOp = true
 same_op (SortOp options) (SortOp other) = same_sort options other
+same_op (SortByOp descending nulls_last) (SortByOp other others) = same_flags descending other && same_flags nulls_last others
 same_op (AliasOp name) (AliasOp other) = bytes_eq name other
 same_op op other = false
 
@@ -113,6 +118,7 @@ op_writes (GatherOp returns_scalar) = fed.u8 7 ++ fed.bool returns_scalar
 op_writes FilterOp = fed.u8 8
 op_writes (SortOp options) = fed.u8 9 ++ (fed.bool options.descending ++ fed.bool options.nulls_last)
 op_writes (AliasOp name) = fed.u8 10 ++ fed.str (encode_utf8_all name)
+op_writes (SortByOp descending nulls_last) = fed.u8 11 ++ (fed.slice fed.bool descending ++ fed.slice fed.bool nulls_last)
 
 -- each node, before its children
 abbrev mutual

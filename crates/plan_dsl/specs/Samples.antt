@@ -16,8 +16,8 @@ use Rattle.plan_dsl.specs.declared.literal.LiteralValue.{LiteralValue}
 use Rattle.plan_dsl.specs.declared.operator.Operator.{Operator}
 use Rattle.plan_dsl.specs.declared.operator.Operator.TheVariants.{Eq, EqValidity, NotEq, NotEqValidity, Lt, LtEq, Gt, GtEq, Plus, Minus, Multiply, Divide, FloorDivide, Modulus, And, Or, Xor, LogicalAnd, LogicalOr}
 use Rattle.plan_dsl.specs.declared.sort_options.SortOptions.{SortOptions}
-use Rattle.plan_dsl.specs.Trees.{Tree, node, no_more, more}
-use Rattle.plan_dsl.specs.Ops.{ColumnOp, LiteralOp, BinaryOp, CastOp, Expression, LenOp, SliceOp, AliasOp, ExplodeOp, GatherOp, FilterOp, SortOp}
+use Rattle.plan_dsl.specs.Trees.{Tree, node, no_more, more, children_from}
+use Rattle.plan_dsl.specs.Ops.{ColumnOp, LiteralOp, BinaryOp, CastOp, Expression, LenOp, SliceOp, AliasOp, ExplodeOp, GatherOp, FilterOp, SortOp, SortByOp}
 use Rattle.plan_dsl.specs.Expressions.{tree_of}
 use Rattle.plan_dsl.specs.Literals.{is_literal}
 use Rattle.plan_dsl.specs.Typing.{Typed, typing}
@@ -296,6 +296,13 @@ rising = way false false
 
 abbrev pub sort_as : SortOptions → Expression → Expression
 sort_as options input = node (SortOp options) (more input no_more)
+
+-- sorted by keys, by these flags, and from the least on with nulls first
+abbrev pub sort_by : List Bool → List Bool → List Expression → Expression → Expression
+sort_by descending nulls_last keys input = node (SortByOp descending nulls_last) (more input (children_from keys))
+
+abbrev pub rising_by : List Expression → Expression → Expression
+rising_by keys input = sort_by (false ∷ []) (false ∷ []) keys input
 
 abbrev pub alias : String → Expression → Expression
 alias name operand = node (AliasOp (codes name)) (more operand no_more)

@@ -1,9 +1,9 @@
 -- Signatures: what a kind of expression asks of its operands, one by one, and what it makes of them. Most kinds have one,
 -- and with it their rule (`Typing`).
-use Rattle.std.specs.Prelude.{ℕ, zero, suc, Bool, true, false, ◌||◌, Result, Ok, Err}
+use Rattle.std.specs.Prelude.{ℕ, zero, suc, Bool, true, false, ◌&&◌, ◌||◌, List, [], ◌∷◌, Result, Ok, Err, if◌then◌else◌}
 use Rattle.plan_types.specs.Types.{Ty, Truth, Integer, ListType, is_integer, is_null, is_ord, is_truth}
 use Rattle.plan_types.specs.declared.error.ErrorKind.{ErrorKind}
-use Rattle.plan_types.specs.declared.error.ErrorKind.TheVariants.{SchemaMismatch}
+use Rattle.plan_types.specs.declared.error.ErrorKind.TheVariants.{SchemaMismatch, ComputeError}
 use Rattle.plan_dsl.specs.declared.signature.Ask.{Ask}
 use Rattle.plan_dsl.specs.declared.signature.Ask.TheVariants.{Any, Sortable, Boolean, Place, Length}
 use Rattle.plan_dsl.specs.declared.signature.Asked.{Asked}
@@ -12,7 +12,8 @@ use Rattle.plan_dsl.specs.declared.signature.OwnType.TheVariants.{First, Item, L
 use Rattle.plan_dsl.specs.declared.signature.Many.{Many}
 use Rattle.plan_dsl.specs.declared.signature.Many.TheVariants.{Never, Always, AsFirst}
 use Rattle.plan_dsl.specs.declared.signature.Signature.{Signature}
-use Rattle.plan_dsl.specs.Ops.{Op, LenOp, SliceOp, ExplodeOp, GatherOp, FilterOp, SortOp}
+use Rattle.plan_dsl.specs.Ops.{Op, LenOp, SliceOp, ExplodeOp, GatherOp, FilterOp, SortOp, SortByOp}
+use Rattle.plan_dsl.specs.Sorting.{are_for}
 
 -- the types of counts, and of places and lengths
 abbrev pub count_type : Ty
@@ -61,6 +62,10 @@ asked_at signature place = signature.rest
 abbrev pub takes : Asked → Asked → Asked → OwnType → Many → Result Signature ErrorKind
 takes first second rest own many = Ok (record { first = first; second = second; rest = rest; own = own; many = many })
 
+-- whether a sort by so many keys has flags for them
+abbrev pub has_flags : List Bool → List Bool → ℕ → Bool
+has_flags descending nulls_last keys = are_for descending keys && are_for nulls_last keys
+
 -- The signature of an op over so many operands. An op over another number of operands than its own, which no expression
 -- has, has none.
 abbrev pub signature : Op → ℕ → Result Signature ErrorKind
@@ -71,4 +76,11 @@ signature (GatherOp true) (suc (suc zero)) = takes (asks Any) (asks_one Place) (
 signature (GatherOp false) (suc (suc zero)) = takes (asks Any) (asks Place) (asks Any) First Always
 signature FilterOp (suc (suc zero)) = takes (asks Any) (asks Boolean) (asks Any) First Always
 signature (SortOp options) (suc zero) = takes (asks Sortable) (asks Any) (asks Any) First AsFirst
+signature (SortByOp descending nulls_last) (suc keys) =
+    if has_flags descending nulls_last keys then takes (asks Any) (asks Sortable) (asks Sortable) First AsFirst else Err ComputeError
 signature op count = Err SchemaMismatch
+
+-- the kinds that a node breaks over so many children, whatever their types, and where they have none
+abbrev pub bare_kinds : Op → ℕ → List ErrorKind
+bare_kinds (SortByOp descending nulls_last) (suc keys) = if has_flags descending nulls_last keys then [] else ComputeError ∷ []
+bare_kinds op count = []

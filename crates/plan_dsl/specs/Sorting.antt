@@ -1,7 +1,7 @@
 -- Sorted columns.
 -- Values are in the order of comparisons: false before true, numbers by size, texts by their bytes; from the greatest on
 -- where a column descends. Nulls come first or last, whichever way the others go. What none comes before stays in order.
-use Rattle.std.specs.Prelude.{Bool, false, not, ◌&&◌, ◌||◌, List, [], ◌∷◌, map, zip, if◌then◌else◌}
+use Rattle.std.specs.Prelude.{ℕ, Bool, false, not, ◌&&◌, ◌||◌, ◌==◌, List, [], ◌∷◌, length, replicate, map, zip, if◌then◌else◌}
 use Rattle.plan_types.specs.Values.{Val, NullValue}
 use Rattle.plan_dsl.specs.declared.sort_options.SortOptions.{SortOptions}
 use Rattle.plan_dsl.specs.Operators.{is_less}
@@ -28,6 +28,25 @@ sort_values options values = sorted (comes_before options) values
 
 -- ---- by keys
 
+-- whether there is a flag for each of so many keys, or one for all
+abbrev pub are_for : List Bool → ℕ → Bool
+are_for flags keys = length flags == keys || length flags == 1
+
+-- a flag for each key
+abbrev pub for_keys : ℕ → List Bool → List Bool
+for_keys keys [] = []
+for_keys keys (flag ∷ []) = replicate keys flag
+for_keys keys (first ∷ second ∷ rest) = first ∷ second ∷ rest
+
+-- how each key is sorted
+abbrev pub options_of : List Bool → List Bool → List SortOptions
+options_of [] nulls_last = []
+options_of (flag ∷ descending) [] = []
+options_of (flag ∷ descending) (last ∷ nulls_last) = record { descending = flag; nulls_last = last } ∷ options_of descending nulls_last
+
+abbrev pub key_options : ℕ → List Bool → List Bool → List SortOptions
+key_options keys descending nulls_last = options_of (for_keys keys descending) (for_keys keys nulls_last)
+
 -- whether keys come before others: the first key that does so in one way or the other says it
 abbrev pub keys_before : List SortOptions → List Val → List Val → Bool
 keys_before [] left right = false
@@ -35,6 +54,9 @@ keys_before (options ∷ rest) [] right = false
 keys_before (options ∷ rest) (x ∷ left) [] = false
 keys_before (options ∷ rest) (x ∷ left) (y ∷ right) = comes_before options x y || (not (comes_before options y x) && keys_before rest left right)
 
--- values in the order of the keys that stand beside each
+-- values, each beside its keys, in the order of the keys
+abbrev pub sorted_rows : List SortOptions → List (List Val) → List Val → List (Val × List Val)
+sorted_rows options keys values = sorted (λ left right. keys_before options left.1 right.1) (zip values keys)
+
 abbrev pub sorted_by : List SortOptions → List (List Val) → List Val → List Val
-sorted_by options keys values = map (λ row. row.0) (sorted (λ left right. keys_before options left.1 right.1) (zip values keys))
+sorted_by options keys values = map (λ row. row.0) (sorted_rows options keys values)

@@ -28,6 +28,16 @@ abbrev mutual
   fold_all step no_more = []
   fold_all step (more child rest) = fold step child ∷ fold_all step rest
 
+-- trees in order, as children
+abbrev pub children_from : {Op : Type 0} → List (Tree Op) → Trees Op
+children_from [] = no_more
+children_from (child ∷ rest) = more child (children_from rest)
+
+-- how many trees there are
+abbrev pub tree_count : {Op : Type 0} → Trees Op → ℕ
+tree_count no_more = 0
+tree_count (more child rest) = suc (tree_count rest)
+
 -- what the top of a tree does
 abbrev pub top_op : {Op : Type 0} → Tree Op → Op
 top_op (node op children) = op

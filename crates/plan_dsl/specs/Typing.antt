@@ -11,14 +11,14 @@ use Rattle.plan_types.specs.declared.error.ErrorKind.TheVariants.{ColumnNotFound
 use Rattle.plan_dsl.specs.OperatorTypes.{Taken, operator_types}
 use Rattle.plan_dsl.specs.Literals.{is_literal}
 use Rattle.plan_dsl.specs.Registry.{Registry}
-use Rattle.plan_dsl.specs.Trees.{Trees, node, no_more, more}
+use Rattle.plan_dsl.specs.Trees.{Trees, node, no_more, more, tree_count}
 use Rattle.plan_dsl.specs.Ops.{Op, ColumnOp, LiteralOp, BinaryOp, CastOp, AliasOp, Expression}
 use Rattle.plan_dsl.specs.declared.signature.Ask.{Ask}
 use Rattle.plan_dsl.specs.declared.signature.Asked.{Asked}
 use Rattle.plan_dsl.specs.declared.signature.Many.{Many}
 use Rattle.plan_dsl.specs.declared.signature.Many.TheVariants.{Never, Always, AsFirst, WhereAny}
 use Rattle.plan_dsl.specs.declared.signature.Signature.{Signature}
-use Rattle.plan_dsl.specs.Signatures.{asked_at, asked_target, is_asked, own_type, signature}
+use Rattle.plan_dsl.specs.Signatures.{asked_at, asked_target, bare_kinds, is_asked, own_type, signature}
 
 -- an expression's type, and whether its column may have another length than one
 pub record Typed : Type 0 where
@@ -153,15 +153,16 @@ abbrev pub kind_of : Result Typed ErrorKind → List ErrorKind
 kind_of (Err kind) = kind ∷ []
 kind_of (Ok typed) = []
 
--- the kind that a node breaks itself, where its children are typed
-abbrev pub own_kind : Result (List Typed) ErrorKind → (List Typed → Result Typed ErrorKind) → List ErrorKind
-own_kind (Err kind) rule = []
-own_kind (Ok typed) rule = kind_of (rule typed)
+-- the kinds that a node breaks itself: by its rule where its children are typed, and else what it breaks whatever they are
+abbrev pub own_kind : List ErrorKind → Result (List Typed) ErrorKind → (List Typed → Result Typed ErrorKind) → List ErrorKind
+own_kind bare (Err kind) rule = bare
+own_kind bare (Ok typed) rule = kind_of (rule typed)
 
--- the kinds that an expression breaks: those of each node whose children are typed
+-- the kinds that an expression breaks: those of each node
 abbrev mutual
   pub kinds_in : Registry → Columns → Expression → List ErrorKind
-  kinds_in registry schema (node op children) = kinds_in_all registry schema children ++ own_kind (typing_all registry schema children) (typing_rule registry schema op)
+  kinds_in registry schema (node op children) =
+      kinds_in_all registry schema children ++ own_kind (bare_kinds op (tree_count children)) (typing_all registry schema children) (typing_rule registry schema op)
 
   pub kinds_in_all : Registry → Columns → Trees Op → List ErrorKind
   kinds_in_all registry schema no_more = []

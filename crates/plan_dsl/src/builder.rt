@@ -6,8 +6,8 @@ ghost use Rattle.plan_dsl.specs.Expressions.{tree_of};
 ghost use Rattle.plan_dsl.specs.Plans.{plan_tree, options_in, scan_op, written_filter, written_select};
 ghost use Rattle.plan_dsl.specs.Trees.{node, no_more};
 
-use crate::expr::Expr;
-use crate::plan::{DslPlan, Exprs, ProjectionOptions};
+use crate::expr::{Expr, Exprs};
+use crate::plan::{DslPlan, ProjectionOptions};
 use plan_types::error::PlanError;
 use plan_types::schema::Schema;
 use std::alloc::Global;

@@ -1,22 +1,45 @@
 //! Expressions over the columns of a frame.
-ghost use Rattle.std.specs.Prelude.{◌≡◌, IfOk, IfErr};
+ghost use Rattle.std.specs.Prelude.{◌≡◌, map, IfOk, IfErr};
 ghost use Rattle.std.specs.List.{fold};
-ghost use Rattle.plan_dsl.specs.Trees.{top_op};
-ghost use Rattle.plan_dsl.specs.Expressions.{tree_of};
-ghost use Rattle.plan_dsl.specs.SameExpressions.{operator_rank, options_rank, same_op, same_tree, op_writes, tree_writes};
+ghost use Rattle.plan_dsl.specs.Trees.{children_from, top_op};
+ghost use Rattle.plan_dsl.specs.Expressions.{tree_of, trees_of};
+ghost use Rattle.plan_dsl.specs.SameExpressions.{operator_rank, options_rank, same_op, same_tree, same_trees, op_writes, tree_writes, trees_writes};
 ghost use Rattle.plan_types.specs.Errors.{no_memory};
 
 use crate::literal::LiteralValue;
 use crate::operator::Operator;
-use crate::sort_options::SortOptions;
+use crate::sort_options::{SortMultipleOptions, SortOptions};
 use plan_types::dtype::{CastOptions, DataType};
 use plan_types::error::PlanError;
 use plan_types::text::PlSmallStr;
 use std::alloc::Global;
 use std::hash::{Hash, Hasher};
 
+/// The expressions of a node, in order.
+#[derive(Drop)]
+#[cycle(expr)]
+pub struct Exprs {
+    pub items: Vec<Expr>,
+}
+
+impl Exprs {
+    #[cycle(expr_copies)]
+    pub fn try_clone(&self, alloc: Global) -> Result<Exprs, PlanError>
+        ensures ok { IfOk result (λ copy. trees_of copy ≡ trees_of self.now) }
+        ensures err { IfErr result (λ error. error ≡ no_memory) }
+    {
+        let mut items = Vec::new(alloc);
+        for expr in self.items.as_slice() {
+            let copy = expr.try_clone(alloc)?;
+            items.push(copy)?;
+        }
+        Ok(Exprs { items })
+    }
+}
+
 /// An expression. Contracts see its tree. Two expressions are equal where these are, and each node is hashed.
 #[derive(Drop)]
+#[cycle(expr)]
 pub enum Expr {
     /// The column of that name.
     Column(PlSmallStr),
@@ -63,180 +86,134 @@ pub enum Expr {
         expr: Box<Expr>,
         options: SortOptions,
     },
+    /// The values in the order of the keys beside them, of which the first that differ decide. Those of the same keys
+    /// stay in order.
+    SortBy {
+        expr: Box<Expr>,
+        by: Exprs,
+        sort_options: SortMultipleOptions,
+    },
     /// The same under another name.
     Alias(Box<Expr>, PlSmallStr),
 }
 
+// A copy of an expression, by its kind: of those that are listed the operands, the fields that are copied, and those
+// that take memory.
+macro_rules! copied {
+    ($expr:expr, $alloc:expr, $($kind:ident { $($input:ident),* } [$($copied:ident),*] [$($cloned:ident),*])*) => {
+        match $expr {
+            Expr::Column(name) => Ok(Expr::Column(name.try_clone($alloc)?)),
+            Expr::Literal(value) => Ok(Expr::Literal(value.try_clone($alloc)?)),
+            Expr::Len => Ok(Expr::Len),
+            $(Expr::$kind { $($input,)* $($copied,)* $($cloned),* } => Ok(Expr::$kind {
+                $($input: Box::new($alloc, $input.try_clone($alloc)?)?,)*
+                $($copied: *$copied,)*
+                $($cloned: $cloned.try_clone($alloc)?),*
+            }),)*
+            Expr::Explode(input) => {
+                let input = input.try_clone($alloc)?;
+                Ok(Expr::Explode(Box::new($alloc, input)?))
+            }
+            Expr::Alias(expr, name) => {
+                let expr = Box::new($alloc, expr.try_clone($alloc)?)?;
+                let name = name.try_clone($alloc)?;
+                Ok(Expr::Alias(expr, name))
+            }
+        }
+    };
+}
+
+// Whether two expressions are one tree, by their kind: of those that are listed the operands and the other fields, each
+// with a name for that of the other expression.
+macro_rules! compared {
+    ($expr:expr, $other:expr, $($kind:ident { $($input:ident $own:ident),* } [$($field:ident $own_field:ident),*])*) => {
+        match ($expr, $other) {
+            (Expr::Column(name), Expr::Column(own)) => *name == *own,
+            (Expr::Literal(value), Expr::Literal(own)) => value.is_same(own),
+            (Expr::Len, Expr::Len) => true,
+            $((
+                Expr::$kind { $($input,)* $($field),* },
+                Expr::$kind { $($input: $own,)* $($field: $own_field),* },
+            ) => true $(&& *$field == *$own_field)* $(&& $input.is_same($own))*,)*
+            (Expr::Explode(input), Expr::Explode(own)) => input.is_same(own),
+            (
+                Expr::SortBy { expr, by, sort_options },
+                Expr::SortBy { expr: own_expr, by: own_by, sort_options: own_options },
+            ) => {
+                *sort_options == *own_options
+                    && expr.is_same(own_expr)
+                    && same_exprs(by.items.as_slice(), own_by.items.as_slice())
+            }
+            (Expr::Alias(expr, name), Expr::Alias(own, own_name)) => *name == *own_name && expr.is_same(own),
+            _ => false,
+        }
+    };
+}
+
+// Feeds the operands to the hasher, by the kind: of those that are listed in that order.
+macro_rules! feed_operands {
+    ($expr:expr, $state:expr, $($kind:ident { $($input:ident),* })*) => {
+        match $expr {
+            Expr::Column(_) | Expr::Literal(_) | Expr::Len => {}
+            $(Expr::$kind { $($input,)* .. } => {
+                $($input.feed($state);)*
+            })*
+            Expr::Explode(input) => input.feed($state),
+            Expr::SortBy { expr, by, .. } => {
+                expr.feed($state);
+                feed_each(by.items.as_slice(), $state);
+            }
+            Expr::Alias(expr, _) => expr.feed($state),
+        }
+    };
+}
+
 impl Expr {
+    #[cycle(expr_copies)]
     pub fn try_clone(&self, alloc: Global) -> Result<Expr, PlanError>
         ensures ok { IfOk result (λ copy. tree_of copy ≡ tree_of self.now) }
         ensures err { IfErr result (λ error. error ≡ no_memory) }
     {
-        match self {
-            Expr::Column(name) => Ok(Expr::Column(name.try_clone(alloc)?)),
-            Expr::Literal(value) => Ok(Expr::Literal(value.try_clone(alloc)?)),
-            Expr::BinaryExpr { left, op, right } => Ok(Expr::BinaryExpr {
-                left: Box::new(alloc, left.try_clone(alloc)?)?,
-                op: *op,
-                right: Box::new(alloc, right.try_clone(alloc)?)?,
-            }),
-            Expr::Cast {
-                expr,
-                dtype,
-                options,
-            } => Ok(Expr::Cast {
-                expr: Box::new(alloc, expr.try_clone(alloc)?)?,
-                dtype: dtype.try_clone(alloc)?,
-                options: *options,
-            }),
-            Expr::Len => Ok(Expr::Len),
-            Expr::Slice {
-                input,
-                offset,
-                length,
-            } => Ok(Expr::Slice {
-                input: Box::new(alloc, input.try_clone(alloc)?)?,
-                offset: Box::new(alloc, offset.try_clone(alloc)?)?,
-                length: Box::new(alloc, length.try_clone(alloc)?)?,
-            }),
-            Expr::Explode(input) => {
-                let input = input.try_clone(alloc)?;
-                Ok(Expr::Explode(Box::new(alloc, input)?))
-            }
-            Expr::Gather {
-                expr,
-                idx,
-                returns_scalar,
-            } => Ok(Expr::Gather {
-                expr: Box::new(alloc, expr.try_clone(alloc)?)?,
-                idx: Box::new(alloc, idx.try_clone(alloc)?)?,
-                returns_scalar: *returns_scalar,
-            }),
-            Expr::Filter { input, by } => Ok(Expr::Filter {
-                input: Box::new(alloc, input.try_clone(alloc)?)?,
-                by: Box::new(alloc, by.try_clone(alloc)?)?,
-            }),
-            Expr::Sort { expr, options } => Ok(Expr::Sort {
-                expr: Box::new(alloc, expr.try_clone(alloc)?)?,
-                options: *options,
-            }),
-            Expr::Alias(expr, name) => {
-                let expr = Box::new(alloc, expr.try_clone(alloc)?)?;
-                let name = name.try_clone(alloc)?;
-                Ok(Expr::Alias(expr, name))
-            }
-        }
+        copied!(self, alloc,
+            BinaryExpr { left, right } [op] []
+            Cast { expr } [options] [dtype]
+            Slice { input, offset, length } [] []
+            Gather { expr, idx } [returns_scalar] []
+            Filter { input, by } [] []
+            Sort { expr } [options] []
+            SortBy { expr } [] [by, sort_options]
+        )
     }
 
     // Whether both are one tree: the same nodes in the same places.
+    #[cycle(same_exprs)]
     pub(crate) fn is_same(&self, other: &Expr) -> bool
         ensures { result ≡ same_tree same_op (tree_of self.now) (tree_of other.now) }
     {
-        match (self, other) {
-            (Expr::Column(name), Expr::Column(own)) => *name == *own,
-            (Expr::Literal(value), Expr::Literal(own)) => value.is_same(own),
-            (
-                Expr::BinaryExpr { left, op, right },
-                Expr::BinaryExpr {
-                    left: own_left,
-                    op: own_op,
-                    right: own_right,
-                },
-            ) => *op == *own_op && left.is_same(own_left) && right.is_same(own_right),
-            (
-                Expr::Cast {
-                    expr,
-                    dtype,
-                    options,
-                },
-                Expr::Cast {
-                    expr: own_expr,
-                    dtype: own_dtype,
-                    options: own_options,
-                },
-            ) => dtype.is_same(own_dtype) && *options == *own_options && expr.is_same(own_expr),
-            (Expr::Len, Expr::Len) => true,
-            (
-                Expr::Slice {
-                    input,
-                    offset,
-                    length,
-                },
-                Expr::Slice {
-                    input: own_input,
-                    offset: own_offset,
-                    length: own_length,
-                },
-            ) => {
-                input.is_same(own_input) && offset.is_same(own_offset) && length.is_same(own_length)
-            }
-            (Expr::Explode(input), Expr::Explode(own)) => input.is_same(own),
-            (
-                Expr::Gather {
-                    expr,
-                    idx,
-                    returns_scalar,
-                },
-                Expr::Gather {
-                    expr: own_expr,
-                    idx: own_idx,
-                    returns_scalar: own_scalar,
-                },
-            ) => *returns_scalar == *own_scalar && expr.is_same(own_expr) && idx.is_same(own_idx),
-            (
-                Expr::Filter { input, by },
-                Expr::Filter {
-                    input: own_input,
-                    by: own_by,
-                },
-            ) => input.is_same(own_input) && by.is_same(own_by),
-            (
-                Expr::Sort { expr, options },
-                Expr::Sort {
-                    expr: own_expr,
-                    options: own_options,
-                },
-            ) => *options == *own_options && expr.is_same(own_expr),
-            (Expr::Alias(expr, name), Expr::Alias(own, own_name)) => {
-                *name == *own_name && expr.is_same(own)
-            }
-            _ => false,
-        }
+        compared!(self, other,
+            BinaryExpr { left own_left, right own_right } [op own_op]
+            Cast { expr own_expr } [dtype own_dtype, options own_options]
+            Slice { input own_input, offset own_offset, length own_length } []
+            Gather { expr own_expr, idx own_idx } [returns_scalar own_scalar]
+            Filter { input own_input, by own_by } []
+            Sort { expr own_expr } [options own_options]
+        )
     }
 
     // Feeds each node to the hasher, before its operands.
+    #[cycle(expr_hashes)]
     fn feed<H: Hasher>(&self, state: &mut H)
         ensures { state.new ≡ fold H.write state.old (tree_writes op_writes (tree_of self.now)) }
     {
         self.feed_own(state);
-        match self {
-            Expr::Column(_) | Expr::Literal(_) | Expr::Len => {}
-            Expr::Cast { expr, .. } => expr.feed(state),
-            Expr::Explode(input) => input.feed(state),
-            Expr::Sort { expr, .. } => expr.feed(state),
-            Expr::Alias(expr, _) => expr.feed(state),
-            Expr::BinaryExpr { left, right, .. } => {
-                left.feed(state);
-                right.feed(state);
-            }
-            Expr::Gather { expr, idx, .. } => {
-                expr.feed(state);
-                idx.feed(state);
-            }
-            Expr::Filter { input, by } => {
-                input.feed(state);
-                by.feed(state);
-            }
-            Expr::Slice {
-                input,
-                offset,
-                length,
-            } => {
-                input.feed(state);
-                offset.feed(state);
-                length.feed(state);
-            }
-        }
+        feed_operands!(self, state,
+            BinaryExpr { left, right }
+            Cast { expr }
+            Slice { input, offset, length }
+            Gather { expr, idx }
+            Filter { input, by }
+            Sort { expr }
+        )
     }
 
     // Feeds what the node does, without its operands.
@@ -277,7 +254,37 @@ impl Expr {
                 state.write_u8(10);
                 name.hash(state);
             }
+            Expr::SortBy { sort_options, .. } => {
+                state.write_u8(11);
+                sort_options.hash(state);
+            }
         }
+    }
+}
+
+// Whether both have the same expressions, in the same order.
+#[cycle(same_exprs)]
+fn same_exprs(left: &[Expr], right: &[Expr]) -> bool
+    ensures { result ≡ same_trees same_op (children_from (map tree_of left.now)) (children_from (map tree_of right.now)) }
+{
+    if left.len() != right.len() {
+        return false;
+    }
+    for index in 0..left.len() {
+        if !left[index].is_same(&right[index]) {
+            return false;
+        }
+    }
+    true
+}
+
+// Feeds each expression to the hasher, in order.
+#[cycle(expr_hashes)]
+fn feed_each<H: Hasher>(exprs: &[Expr], state: &mut H)
+    ensures { state.new ≡ fold H.write state.old (trees_writes op_writes (children_from (map tree_of exprs.now))) }
+{
+    for expr in exprs {
+        expr.feed(state);
     }
 }
 

@@ -1,9 +1,9 @@
 //! Plans as a user writes them.
 ghost use Rattle.std.specs.Prelude.{◌≡◌, true, IfOk, IfErr};
-ghost use Rattle.plan_dsl.specs.Plans.{plan_tree, options_in, empty_table, trees_of};
+ghost use Rattle.plan_dsl.specs.Plans.{plan_tree, options_in, empty_table};
 ghost use Rattle.plan_types.specs.Errors.{no_memory};
 
-use crate::expr::Expr;
+use crate::expr::{Expr, Exprs};
 use plan_types::error::PlanError;
 use plan_types::schema::Schema;
 use std::alloc::Global;
@@ -21,26 +21,6 @@ impl Default for ProjectionOptions {
         ProjectionOptions {
             duplicate_check: true,
         }
-    }
-}
-
-/// The expressions of a node, in order.
-#[derive(Drop)]
-pub struct Exprs {
-    pub items: Vec<Expr>,
-}
-
-impl Exprs {
-    pub fn try_clone(&self, alloc: Global) -> Result<Exprs, PlanError>
-        ensures ok { IfOk result (λ copy. trees_of copy ≡ trees_of self.now) }
-        ensures err { IfErr result (λ error. error ≡ no_memory) }
-    {
-        let mut items = Vec::new(alloc);
-        for expr in self.items.as_slice() {
-            let copy = expr.try_clone(alloc)?;
-            items.push(copy)?;
-        }
-        Ok(Exprs { items })
     }
 }
 

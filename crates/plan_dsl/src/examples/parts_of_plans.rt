@@ -6,12 +6,12 @@ ghost use Rattle.plan_types.specs.Types.{NullType, Truth, TextType, ListType, Un
 ghost use Rattle.plan_types.specs.Values.{NullValue, IntValue};
 ghost use Rattle.plan_types.specs.Outcomes.{Done, Fault, Stuck};
 ghost use Rattle.plan_types.specs.declared.error.ErrorKind.{ErrorKind};
-ghost use Rattle.plan_types.specs.declared.error.ErrorKind.TheVariants.{ColumnNotFound, Duplicate, SchemaMismatch, InvalidOperation};
+ghost use Rattle.plan_types.specs.declared.error.ErrorKind.TheVariants.{ColumnNotFound, Duplicate, SchemaMismatch, InvalidOperation, ComputeError};
 ghost use Rattle.plan_types.specs.declared.schema.Schema.{Schema};
 ghost use Rattle.plan_dsl.specs.declared.expr.Expr.TheVariants.{Column};
 ghost use Rattle.plan_dsl.specs.declared.operator.Operator.TheVariants.{Minus};
 ghost use Rattle.plan_dsl.specs.declared.plan.DslPlan.TheVariants.{DataFrameScan, Filter', Select'};
-ghost use Rattle.plan_dsl.specs.declared.plan.Exprs.{Exprs};
+ghost use Rattle.plan_dsl.specs.declared.expr.Exprs.{Exprs};
 ghost use Rattle.plan_dsl.specs.declared.plan.ProjectionOptions.{ProjectionOptions};
 ghost use Rattle.plan_dsl.specs.Trees.{node, no_more, more};
 ghost use Rattle.plan_dsl.specs.Ops.{ColumnOp, LiteralOp, BinaryOp, Expression};
@@ -86,8 +86,8 @@ pub fn expressions_and_scans()
 /// An expression's own kind is told where its children are typed, and a plan's top tells those of its node alone.
 pub fn kinds_at_the_top()
     ensures of_expressions { let typed = many_values Truth in
-        GivesOfTwo own_kind (
-        (Err ColumnNotFound, λ children. Err SchemaMismatch, []) ∷
+        GivesOfTwo (own_kind (ComputeError ∷ [])) (
+        (Err ColumnNotFound, λ children. Err SchemaMismatch, ComputeError ∷ []) ∷
         (Ok [], λ children. Err SchemaMismatch, SchemaMismatch ∷ []) ∷
         (Ok (typed ∷ []), λ children. Ok typed, []) ∷ []) }
     ensures of_plans { let input = scan ((codes "a", int8) ∷ []) in

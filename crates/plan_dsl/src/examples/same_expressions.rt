@@ -7,9 +7,9 @@ ghost use Rattle.plan_types.specs.declared.dtype.TimeUnit.TheVariants.{Nanosecon
 ghost use Rattle.plan_dsl.specs.declared.literal.LiteralValue.TheVariants.{Null, Boolean, String, Int, Int8, Int16, UInt8, Date, Time, DateTime, Duration};
 ghost use Rattle.plan_dsl.specs.declared.operator.Operator.TheVariants.{Eq, EqValidity, Plus, And, Or, LogicalAnd, LogicalOr};
 ghost use Rattle.plan_dsl.specs.Trees.{node, no_more, more};
-ghost use Rattle.plan_dsl.specs.Ops.{ColumnOp, LiteralOp, BinaryOp, CastOp, LenOp, SliceOp, AliasOp};
+ghost use Rattle.plan_dsl.specs.Ops.{ColumnOp, LiteralOp, BinaryOp, CastOp, LenOp, SliceOp, AliasOp, SortByOp};
 ghost use Rattle.plan_dsl.specs.SameExpressions.{same_literal, same_op, same_tree};
-ghost use Rattle.plan_dsl.specs.Samples.{Gives, GivesAll, int8, uint8, null, yes, number, a, b, count, slice, typed_literal, binary, sum, cast_as};
+ghost use Rattle.plan_dsl.specs.Samples.{Gives, GivesAll, int8, uint8, null, yes, number, a, b, count, slice, typed_literal, binary, sum, cast_as, rising_by};
 
 /// Two literals are one where their types and their values are.
 pub fn same_literals()
@@ -28,7 +28,8 @@ pub fn same_literals()
 /// Two nodes do the same where they are of one kind, and all that they name is the same.
 pub fn same_nodes()
     ensures one { GivesAll (λ op. same_op op op) true (
-        ColumnOp (codes "a") ∷ BinaryOp And ∷ BinaryOp Eq ∷ CastOp int8 Strict ∷ LiteralOp int8 (number 1) ∷ LenOp ∷ SliceOp ∷ AliasOp (codes "a") ∷ []) }
+        ColumnOp (codes "a") ∷ BinaryOp And ∷ BinaryOp Eq ∷ CastOp int8 Strict ∷ LiteralOp int8 (number 1) ∷ LenOp ∷ SliceOp ∷ AliasOp (codes "a") ∷
+        SortByOp (true ∷ false ∷ []) (false ∷ []) ∷ SortByOp [] [] ∷ []) }
     ensures columns { GivesAll (same_op (ColumnOp (codes "a"))) false (ColumnOp (codes "b") ∷ ColumnOp (codes "aa") ∷ ColumnOp [] ∷ []) }
     ensures operators { GivesAll (same_op (BinaryOp And)) false (BinaryOp LogicalAnd ∷ BinaryOp Or ∷ []) }
     ensures comparisons { GivesAll (same_op (BinaryOp Eq)) false (BinaryOp EqValidity ∷ BinaryOp LogicalOr ∷ []) }
@@ -36,6 +37,8 @@ pub fn same_nodes()
     ensures literals { GivesAll (same_op (LiteralOp int8 (number 1))) false (LiteralOp int8 (number 2) ∷ LiteralOp int8 null ∷ LiteralOp (Untyped (pos 1)) (number 1) ∷ []) }
     ensures other_kind { GivesAll (same_op (BinaryOp Plus)) false (ColumnOp (codes "+") ∷ LiteralOp Truth yes ∷ CastOp Truth Strict ∷ LenOp ∷ []) }
     ensures aliases { GivesAll (same_op (AliasOp (codes "a"))) false (AliasOp (codes "b") ∷ ColumnOp (codes "a") ∷ []) }
+    ensures flags { GivesAll (same_op (SortByOp (true ∷ []) (false ∷ []))) false (
+        SortByOp (false ∷ []) (true ∷ []) ∷ SortByOp (true ∷ []) (true ∷ []) ∷ SortByOp (true ∷ true ∷ []) (false ∷ []) ∷ SortByOp [] (false ∷ []) ∷ LenOp ∷ []) }
     ensures counts { GivesAll (same_op LenOp) false (SliceOp ∷ ColumnOp (codes "len") ∷ LiteralOp Truth yes ∷ []) }
 {}
 
@@ -48,6 +51,7 @@ pub fn same_expressions()
     ensures far_below { let one = typed_literal int8 (pos 1) in
         same_tree same_op (cast_as Strict Truth (sum one one)) (cast_as Strict Truth (sum one (typed_literal int8 (pos 2)))) ≡ false }
     ensures slices { GivesAll (same_tree same_op (slice a b b)) false (slice b a b ∷ slice b b a ∷ count ∷ a ∷ []) }
+    ensures keys { GivesAll (same_tree same_op (rising_by (a ∷ b ∷ []) a)) false (rising_by (b ∷ a ∷ []) a ∷ rising_by (a ∷ []) a ∷ rising_by (a ∷ b ∷ b ∷ []) a ∷ a ∷ []) }
     ensures casts { GivesAll (same_tree same_op (cast_as Strict Truth a)) false (cast_as NonStrict Truth a ∷ a ∷ []) }
     ensures other_trees { let under = λ (number : ℕ). node 1 (more (node number no_more) no_more) in
         Gives (same_tree nat_eq (under 2)) ((under 2, true) ∷ (under 3, false) ∷ (node 1 no_more, false) ∷ []) }

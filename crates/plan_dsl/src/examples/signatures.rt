@@ -3,17 +3,18 @@
 ghost use Rattle.std.specs.Prelude.{◌≡◌, ℕ, List, [], ◌∷◌, pos, true, false, map, Some, None, Result, Ok, Err};
 ghost use Rattle.plan_types.specs.Types.{Ty, NullType, Truth, TextType, DateType, ListType, Untyped};
 ghost use Rattle.plan_types.specs.declared.error.ErrorKind.{ErrorKind};
-ghost use Rattle.plan_types.specs.declared.error.ErrorKind.TheVariants.{SchemaMismatch, InvalidOperation};
+ghost use Rattle.plan_types.specs.declared.error.ErrorKind.TheVariants.{SchemaMismatch, InvalidOperation, ComputeError};
 ghost use Rattle.plan_types.specs.declared.dtype.CastOptions.TheVariants.{Strict};
 ghost use Rattle.plan_dsl.specs.declared.operator.Operator.TheVariants.{Plus};
 ghost use Rattle.plan_dsl.specs.declared.signature.Ask.TheVariants.{Any, Sortable, Boolean, Place, Length};
 ghost use Rattle.plan_dsl.specs.declared.signature.OwnType.TheVariants.{First, Item, ListOf, Count};
 ghost use Rattle.plan_dsl.specs.declared.signature.Many.TheVariants.{Never, Always, AsFirst, WhereAny};
 ghost use Rattle.plan_dsl.specs.declared.signature.Signature.{Signature};
-ghost use Rattle.plan_dsl.specs.Ops.{BinaryOp, CastOp, LenOp, SliceOp};
-ghost use Rattle.plan_dsl.specs.Signatures.{asked_at, asked_target, asks, asks_one, is_asked, own_type, signature, takes};
+ghost use Rattle.plan_dsl.specs.Ops.{BinaryOp, CastOp, LenOp, SliceOp, ExplodeOp, GatherOp, FilterOp, SortOp, SortByOp};
+ghost use Rattle.plan_dsl.specs.Signatures.{asked_at, asked_target, asks, asks_one, bare_kinds, is_asked, own_type, signature, takes};
+ghost use Rattle.plan_dsl.specs.Sorting.{are_for};
 ghost use Rattle.plan_dsl.specs.Typing.{Typed, Ruling, first_of, many_of, own_over, signed, taken_by, taken_from, typed_to};
-ghost use Rattle.plan_dsl.specs.Samples.{Gives, GivesOfTwo, int8, int16, int32, int64, uint32, uint64, moment, one_field, one_value, many_values};
+ghost use Rattle.plan_dsl.specs.Samples.{Gives, GivesOfTwo, int8, int16, int32, int64, uint32, uint64, moment, one_field, one_value, many_values, rising};
 
 /// What is asked of a type: any, one in an order, of truth values, of places, or of lengths. Null is in order with itself.
 pub fn types_that_are_asked()
@@ -63,11 +64,41 @@ pub fn rules_of_signatures()
         (takes (asks Any) (asks Boolean) (asks Any) First Always, one_value (Untyped (pos 5)) ∷ many_values NullType ∷ [], ruling (int32 ∷ Truth ∷ []) (many_values int32)) ∷
         (takes (asks Any) (asks Any) (asks Any) Item Always, many_values (ListType TextType) ∷ [], ruling (ListType TextType ∷ []) (many_values TextType)) ∷
         (takes (asks Sortable) (asks Any) (asks Any) First AsFirst, many_values (ListType int8) ∷ [], Err InvalidOperation) ∷
-        (takes (asks Any) (asks_one Place) (asks Any) First Never, many_values int8 ∷ many_values int8 ∷ [], Err InvalidOperation) ∷
+        (takes (asks Sortable) (asks Any) (asks Any) First AsFirst, one_value (Untyped (pos 5)) ∷ [], ruling (int32 ∷ []) (one_value int32)) ∷
+        (takes (asks Any) (asks Place) (asks Any) First Always, many_values int8 ∷ one_value (Untyped (pos 5)) ∷ [], ruling (int8 ∷ int64 ∷ []) (many_values int8)) ∷
+        (takes (asks Any) (asks_one Place) (asks Any) First Never, many_values int8 ∷ one_value int8 ∷ [], ruling (int8 ∷ int64 ∷ []) (one_value int8)) ∷
+        (takes (asks Any) (asks_one Place) (asks Any) First Never, many_values int8 ∷ many_values int8 ∷ [], Err InvalidOperation) ∷ (
+          takes (asks Any) (asks Sortable) (asks Sortable) First AsFirst,
+          many_values (ListType int8) ∷ one_value (Untyped (pos 5)) ∷ many_values TextType ∷ [],
+          ruling (ListType int8 ∷ int32 ∷ TextType ∷ []) (many_values (ListType int8)),
+        ) ∷
+        (takes (asks Any) (asks Sortable) (asks Sortable) First AsFirst, one_value int8 ∷ many_values int8 ∷ [], ruling (int8 ∷ int8 ∷ []) (one_value int8)) ∷
+        (takes (asks Any) (asks Sortable) (asks Sortable) First AsFirst, many_values int8 ∷ many_values int8 ∷ many_values (ListType int8) ∷ [], Err InvalidOperation) ∷
         (Err SchemaMismatch, many_values int8 ∷ [], Err SchemaMismatch) ∷ []) }
     ensures numbers { let none : Result Signature ErrorKind = Err SchemaMismatch in
         GivesOfTwo signature (
         (LenOp, 0, takes (asks Any) (asks Any) (asks Any) Count Never) ∷ (LenOp, 1, none) ∷
         (SliceOp, 3, takes (asks Any) (asks_one Place) (asks_one Length) First Always) ∷ (SliceOp, 0, none) ∷ (SliceOp, 2, none) ∷ (SliceOp, 4, none) ∷
+        (ExplodeOp, 1, takes (asks Any) (asks Any) (asks Any) Item Always) ∷ (ExplodeOp, 0, none) ∷ (ExplodeOp, 2, none) ∷
+        (GatherOp false, 2, takes (asks Any) (asks Place) (asks Any) First Always) ∷ (GatherOp true, 2, takes (asks Any) (asks_one Place) (asks Any) First Never) ∷
+        (GatherOp false, 1, none) ∷ (GatherOp true, 3, none) ∷
+        (FilterOp, 2, takes (asks Any) (asks Boolean) (asks Any) First Always) ∷ (FilterOp, 1, none) ∷ (FilterOp, 3, none) ∷
+        (SortOp rising, 1, takes (asks Sortable) (asks Any) (asks Any) First AsFirst) ∷ (SortOp rising, 0, none) ∷ (SortOp rising, 2, none) ∷
         (BinaryOp Plus, 3, none) ∷ (CastOp int8 Strict, 2, none) ∷ []) }
+{}
+
+/// A sort by keys has one flag of a kind, or one for each key. Others are refused, also where an operand has no type.
+pub fn flags_of_keys()
+    ensures counts { Gives (λ keys. map (λ flags. are_for flags keys) ([] ∷ (true ∷ []) ∷ (true ∷ false ∷ []) ∷ (true ∷ false ∷ true ∷ []) ∷ [])) (
+        (0, true ∷ true ∷ false ∷ false ∷ []) ∷ (1, false ∷ true ∷ false ∷ false ∷ []) ∷ (2, false ∷ true ∷ true ∷ false ∷ []) ∷ (3, false ∷ true ∷ false ∷ true ∷ []) ∷ []) }
+    ensures numbers { let keys = takes (asks Any) (asks Sortable) (asks Sortable) First AsFirst in
+        let refused : Result Signature ErrorKind = Err ComputeError in
+        GivesOfTwo signature (
+        (SortByOp (true ∷ []) (false ∷ []), 1, keys) ∷ (SortByOp (true ∷ []) (false ∷ []), 2, keys) ∷ (SortByOp (true ∷ []) (false ∷ []), 4, keys) ∷
+        (SortByOp (true ∷ false ∷ []) (false ∷ []), 3, keys) ∷ (SortByOp (true ∷ false ∷ []) (false ∷ true ∷ []), 3, keys) ∷ (SortByOp [] (true ∷ []), 1, keys) ∷ (SortByOp [] [], 1, keys) ∷
+        (SortByOp (true ∷ false ∷ []) (false ∷ []), 2, refused) ∷ (SortByOp (true ∷ []) (false ∷ true ∷ []), 4, refused) ∷ (SortByOp [] (true ∷ []), 2, refused) ∷
+        (SortByOp (true ∷ false ∷ []) (true ∷ []), 1, refused) ∷ (SortByOp (true ∷ []) (true ∷ []), 0, Err SchemaMismatch) ∷ []) }
+    ensures bare { GivesOfTwo bare_kinds (
+        (SortByOp (true ∷ []) (false ∷ []), 2, []) ∷ (SortByOp (true ∷ false ∷ []) (false ∷ []), 2, ComputeError ∷ []) ∷ (SortByOp (true ∷ []) (true ∷ []), 0, []) ∷
+        (SortOp rising, 2, []) ∷ (BinaryOp Plus, 3, []) ∷ []) }
 {}
