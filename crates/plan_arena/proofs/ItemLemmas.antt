@@ -18,7 +18,7 @@ use Rattle.plan_arena.specs.Items.{expression_layer, plan_layer, HoldsExpression
 use Rattle.plan_arena.specs.Runs.{HasRecorded, IsAccepted, AllAccepted}
 use Rattle.plan_arena.specs.declared.aexpr.AExpr.{AExpr}
 use Rattle.plan_arena.specs.declared.ir.IR.{IR}
-use Rattle.plan_arena.specs.declared.ir.IR.TheVariants.{DataFrameScan, Filter, Select}
+use Rattle.plan_arena.specs.declared.ir.IR.TheVariants.{DataFrameScan, Filter, Select, Invalid}
 use Rattle.plan_arena.specs.declared.arena.Node.{Node}
 use Rattle.plan_arena.specs.declared.expr_ir.ExprIR.{ExprIR}
 use Rattle.plan_arena.proofs.DenotationLemmas.{HasShape, some_same, denotes_one, kept, inputs_denote, depth_of_inputs}
@@ -167,11 +167,20 @@ plan_here items plans n (node op ts) d = omega (arith, slice_get_within (map pla
 pub plan_within : (items : List AExpr) (plans : List IR) (n : ℕ) → DenotesTree (HoldsPlan items plans) n → n < length plans
 plan_within items plans n d = plan_here items plans n d.tree d.denotes
 
--- only a filter's item records no schema
-pub records_unless_filter : (item : IR) → ((input : Node) (predicate : ExprIR) → item ≡ Filter input predicate → ⊥) → IsTrue (is_some (op_of (plan_layer item)).recorded)
-records_unless_filter (Filter input predicate) other = absurd (other input predicate refl)
-records_unless_filter (DataFrameScan table schema) other = refl
-records_unless_filter (Select expr input schema options) other = refl
+-- of items that were not taken out only a filter's records no schema
+pub records_unless_filter : (item : IR) → item ≢ Invalid → ((input : Node) (predicate : ExprIR) → item ≡ Filter input predicate → ⊥) → IsTrue (is_some (op_of (plan_layer item)).recorded)
+records_unless_filter (Filter input predicate) valid other = absurd (other input predicate refl)
+records_unless_filter (DataFrameScan table schema) valid other = refl
+records_unless_filter (Select expr input schema options) valid other = refl
+records_unless_filter Invalid valid other = absurd (valid refl)
+
+-- an item that does something was not taken out
+pub is_valid : (expressions : List AExpr) (item : IR) (flat : PlanOp (Named ℕ)) (inputs : List ℕ) (op : PlanOp (Named Expression)) → plan_layer item ≡ layer flat inputs → DenotesOp expressions flat op → item ≢ Invalid
+is_valid expressions (Filter input predicate) flat inputs op is d e = cc
+is_valid expressions (DataFrameScan table schema) flat inputs op is d e = cc
+is_valid expressions (Select expr input schema options) flat inputs op is d e = cc
+is_valid expressions Invalid flat inputs op is d e =
+    subst (λ (f : PlanOp (Named ℕ)). DenotesKind expressions f.kind op.kind) (sym (layer_op _ flat [] inputs is)) d.kind
 
 -- how far down an item leads
 abbrev pub item_depth : List IR → IR → ℕ
@@ -214,7 +223,7 @@ module _ (expressions : List AExpr) (plans : List IR) where
     inputs_of_plan : (t : Plan) → Denotes (HoldsPlan expressions plans) n t → HasInputs plans item
     inputs_of_plan (node op ts) d =
         let same = ap inputs_of (item_is op d.0 d.1) in
-        record { expressions = expressions; each = subst (AllByRecursion (DenotesTree (HoldsPlan expressions plans))) (sym same) (each_denotes d.0 ts d.2) }
+        record { valid = is_valid expressions item d.1.flat d.0 op (item_is op d.0 d.1) d.1.denotes; expressions = expressions; each = subst (AllByRecursion (DenotesTree (HoldsPlan expressions plans))) (sym same) (each_denotes d.0 ts d.2) }
 
     -- the item's inputs denote plans
     pub item_inputs : DenotesTree (HoldsPlan expressions plans) n → HasInputs plans item

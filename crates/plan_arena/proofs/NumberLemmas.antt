@@ -1,9 +1,11 @@
 -- What all numbers of a list have.
-use Rattle.std.proofs.Common.{◌≡◌, ℕ, zero, suc, List, [], ◌∷◌, ◌++◌, reverse, take, Some, slice_get, sym, ap, ◌∙◌, subst}
+use Rattle.std.proofs.Common.{◌≡◌, ℕ, zero, suc, ◌<◌, List, [], ◌∷◌, ◌++◌, get_or, length, reverse, take, Some, slice_get, refl, sym, ap, ◌∙◌, subst, arith}
 use Rattle.std.proofs.Math.Seq.{take-suc}
 use Rattle.std.proofs.lemmas.Option.{slice_get_within, get_or_from_slice_get}
 use Rattle.std.proofs.lemmas.Grind.{reverse_onto}
 use Rattle.std.specs.List.{AllByRecursion}
+use Rattle.plan_arena.specs.Items.{numbers}
+use Rattle.plan_arena.specs.declared.arena.Node.{Node}
 
 pub all_front : (P : ℕ → Type 0) (ms ns : List ℕ) → AllByRecursion P (ms ++ ns) → AllByRecursion P ms
 all_front P [] ns all = tt
@@ -35,3 +37,9 @@ all_there P (m ∷ ns) all (suc i) n at = all_there P ns all.1 i n at
 -- one more than so many of them
 pub taken_more : (ns : List ℕ) (i n : ℕ) → slice_get ns i ≡ Some n → take (suc i) ns ≡ take i ns ++ n ∷ []
 taken_more ns i n at = take-suc ns i n (slice_get_within ns i n at) ∙ ap (λ k. take i ns ++ k ∷ []) (get_or_from_slice_get ns i n n at)
+
+-- the number of the node at a place
+pub number_at : (ns : List Node) (i : ℕ) (default : Node) → i < length ns → slice_get (numbers ns) i ≡ Some (get_or ns i default).0
+number_at [] i default lt = absurd (omega (arith, lt))
+number_at (n ∷ ns) zero default lt = refl
+number_at (n ∷ ns) (suc i) default lt = number_at ns i default (omega (arith, lt))

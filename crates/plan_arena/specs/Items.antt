@@ -1,10 +1,10 @@
 -- The items of the two arenas.
 -- An item of the plans' arena holds a plan's op where its expression nodes denote that op's expressions.
-use Rattle.std.specs.Prelude.{◌≡◌, ◌≤◌, ℕ, List, [], ◌∷◌, ◌++◌, map, set, Some, slice_get, codes}
+use Rattle.std.specs.Prelude.{◌≡◌, ◌≢◌, ◌≤◌, ℕ, List, [], ◌∷◌, ◌++◌, map, set, Some, None, slice_get, codes}
 use Rattle.std.specs.List.{AllByRecursion}
 use Rattle.plan_types.specs.Types.{ty}
 use Rattle.plan_types.specs.Schemas.{columns}
-use Rattle.plan_dsl.specs.Ops.{Op, ColumnOp, BinaryOp, CastOp, LenOp, SliceOp, AliasOp, Expression, ExplodeOp, GatherOp, FilterOp, SortOp}
+use Rattle.plan_dsl.specs.Ops.{Op, ColumnOp, BinaryOp, CastOp, LenOp, SliceOp, AliasOp, Expression, ExplodeOp, GatherOp, FilterOp, SortOp, SortByOp}
 use Rattle.plan_dsl.specs.Literals.{literal_op}
 use Rattle.plan_dsl.specs.Names.{Label, FromField, FromNothing, alias_label, column_label, literal_label}
 use Rattle.plan_dsl.specs.Plans.{PlanKind, ScanKind, SelectKind, FilterKind, RefusedKind, PlanOp, Plan, Named, scan_op, select_op, filter_op}
@@ -13,13 +13,17 @@ use Rattle.plan_arena.specs.Layers.{Layer, layer, op_of, inputs_of}
 use Rattle.plan_dsl.specs.Trees.{node}
 use Rattle.plan_arena.specs.declared.arena.Node.{Node}
 use Rattle.plan_arena.specs.declared.aexpr.AExpr.{AExpr}
-use Rattle.plan_arena.specs.declared.aexpr.AExpr.TheVariants.{Column, Literal, BinaryExpr, Cast, Len, Slice, Alias, Explode, Gather, Filter as FilterBy, Sort}
+use Rattle.plan_arena.specs.declared.aexpr.AExpr.TheVariants.{Column, Literal, BinaryExpr, Cast, Len, Slice, Alias, Explode, Gather, Filter as FilterBy, Sort, SortBy}
 use Rattle.plan_arena.specs.declared.expr_ir.OutputName.{OutputName}
-use Rattle.plan_arena.specs.declared.expr_ir.OutputName.TheVariants.{None, ColumnLhs, LiteralLhs, Alias as NamedByAlias, Field}
+use Rattle.plan_arena.specs.declared.expr_ir.OutputName.TheVariants.{None as Unnamed, ColumnLhs, LiteralLhs, Alias as NamedByAlias, Field}
 use Rattle.plan_arena.specs.declared.expr_ir.ExprIR.{ExprIR}
 use Rattle.plan_arena.specs.declared.ir.IR.{IR}
-use Rattle.plan_arena.specs.declared.ir.IR.TheVariants.{DataFrameScan, Filter, Select}
+use Rattle.plan_arena.specs.declared.ir.IR.TheVariants.{DataFrameScan, Filter, Select, Invalid}
 use Rattle.plan_arena.specs.declared.plan.IRPlan.{IRPlan}
+
+-- the numbers of nodes
+abbrev pub numbers : List Node → List ℕ
+numbers nodes = map (λ n. n.0) nodes
 
 -- an expression's item
 abbrev pub expression_layer : AExpr → Layer Op
@@ -34,35 +38,33 @@ expression_layer (Explode input) = layer ExplodeOp (input.0 ∷ [])
 expression_layer (Gather expr idx returns_scalar) = layer (GatherOp returns_scalar) (expr.0 ∷ idx.0 ∷ [])
 expression_layer (FilterBy input by) = layer FilterOp (input.0 ∷ by.0 ∷ [])
 expression_layer (Sort expr options) = layer (SortOp options) (expr.0 ∷ [])
+expression_layer (SortBy expr by sort_options) = layer (SortByOp sort_options.descending.items.items sort_options.nulls_last.items.items) (expr.0 ∷ numbers by.items.items)
 
 -- the name of an output, with what it comes from
 abbrev pub output_label : OutputName → Label
-output_label None = record { name = []; origin = FromNothing }
+output_label Unnamed = record { name = []; origin = FromNothing }
 output_label (ColumnLhs name) = column_label name
 output_label (LiteralLhs name) = literal_label name
 output_label (NamedByAlias name) = alias_label name
 output_label (Field name) = record { name = name; origin = FromField }
 
--- the numbers of nodes
-abbrev pub numbers : List Node → List ℕ
-numbers nodes = map (λ n. n.0) nodes
-
 -- a node with the name of its column, and what that comes from
 abbrev pub named_node : ExprIR → Named ℕ
 named_node expr = record { label = output_label expr.output_name; expression = expr.node.0 }
 
--- a plan's item
+-- a plan's item. One that was taken out is no plan's
 abbrev pub plan_layer : IR → Layer (PlanOp (Named ℕ))
 plan_layer (DataFrameScan table schema) = layer (scan_op table (columns schema)) []
 plan_layer (Select expr input schema options) = layer (select_op (map named_node expr.items.items) (Some (columns schema))) (input.0 ∷ [])
 plan_layer (Filter input predicate) = layer (filter_op (named_node predicate)) (input.0 ∷ [])
+plan_layer Invalid = layer (record { kind = RefusedKind []; recorded = None }) []
 
 -- what a report calls a node of the kind
 abbrev pub kind_text : {E : Type 0} → PlanKind E → List ℕ
 kind_text (ScanKind table schema) = codes "df"
 kind_text (SelectKind outputs) = codes "projection"
 kind_text (FilterKind predicate) = codes "selection"
-kind_text (RefusedKind kinds) = codes "refused"
+kind_text (RefusedKind kinds) = codes "invalid"
 
 abbrev pub node_name : IR → List ℕ
 node_name item = kind_text (op_of (plan_layer item)).kind
@@ -82,7 +84,7 @@ DenoteNamed expressions (n ∷ ns) (e ∷ es) = (n.label ≡ e.label) × Denotes
 DenoteNamed expressions [] (e ∷ es) = ⊥
 DenoteNamed expressions (n ∷ ns) [] = ⊥
 
--- a kind over nodes is a kind over expressions. No item of the arena is refused
+-- a kind over nodes is a kind over expressions. What is refused, as an item that was taken out, is none
 abbrev pub DenotesKind : List AExpr → PlanKind (Named ℕ) → PlanKind (Named Expression) → Type 0
 DenotesKind expressions (ScanKind table schema) kind = kind ≡ ScanKind table schema
 DenotesKind expressions (SelectKind nodes) kind =
@@ -113,8 +115,9 @@ abbrev pub DenotesItem : List AExpr → List IR → IR → Plan → Type 0
 DenotesItem expressions plans item (node op children) =
     (inputs : List ℕ) × IsPlanItem expressions item op inputs × DenoteAll (HoldsPlan expressions plans) inputs children
 
--- an item's inputs denote plans, with some arena of expressions
+-- an item's inputs denote plans, with some arena of expressions, and it was not taken out
 pub record HasInputs (plans : List IR) (item : IR) : Type 0 where
+  pub valid : item ≢ Invalid
   pub expressions : List AExpr
   pub each : AllByRecursion (DenotesTree (HoldsPlan expressions plans)) (inputs_of (plan_layer item))
 

@@ -1,14 +1,14 @@
 //! Expressions in an arena.
-ghost use Rattle.std.specs.Prelude.{◌≡◌, [], ◌∷◌, ◌++◌, length, reverse, IfOk, OnOk, OnErr, IfErr};
+ghost use Rattle.std.specs.Prelude.{◌≡◌, ◌+◌, [], ◌∷◌, ◌++◌, length, reverse, IfOk, OnOk, OnErr, IfErr};
 ghost use Rattle.plan_types.specs.Errors.{no_memory};
 ghost use Rattle.plan_arena.specs.Layers.{layer, op_of, inputs_of};
 ghost use Rattle.plan_arena.specs.Items.{expression_layer, numbers};
 
 use crate::arena::Node;
-use crate::inputs::Inputs;
+use crate::inputs::{Inputs, NodeList};
 use plan_dsl::literal::LiteralValue;
 use plan_dsl::operator::Operator;
-use plan_dsl::sort_options::SortOptions;
+use plan_dsl::sort_options::{SortMultipleOptions, SortOptions};
 use plan_types::dtype::{CastOptions, DataType};
 use plan_types::error::PlanError;
 use plan_types::text::PlSmallStr;
@@ -64,14 +64,20 @@ pub enum AExpr {
         expr: Node,
         options: SortOptions,
     },
+    /// The values in the order of the keys beside them.
+    SortBy {
+        expr: Node,
+        by: NodeList,
+        sort_options: SortMultipleOptions,
+    },
     /// A node under another name.
     Alias(Node, PlSmallStr),
 }
 
 // The inputs of each kind in order, the one from which the name comes first: what the functions give of none, one, two
-// or three of them.
+// or three of them, or of one and a list.
 macro_rules! by_inputs {
-    ($item:expr, $none:expr, $one:path, $two:path, $three:path $(, $given:expr)?) => {
+    ($item:expr, $none:expr, $one:path, $two:path, $three:path, $listed:path $(, $given:expr)?) => {
         match $item {
             AExpr::Column(_) | AExpr::Literal(_) | AExpr::Len => $none,
             AExpr::BinaryExpr { left, right, .. } => $two(left, right $(, $given)?),
@@ -80,15 +86,49 @@ macro_rules! by_inputs {
             AExpr::Gather { expr, idx, .. } => $two(expr, idx $(, $given)?),
             AExpr::Filter { input, by } => $two(input, by $(, $given)?),
             AExpr::Sort { expr, .. } => $one(expr $(, $given)?),
+            AExpr::SortBy { expr, by, .. } => $listed(expr, by $(, $given)?),
             AExpr::Alias(expr, _) => $one(expr $(, $given)?),
             AExpr::Slice { input, offset, length } => $three(input, offset, length $(, $given)?),
         }
     };
 }
 
+// A copy of an item by its kind: of those that are listed the fields that are copied, and those that take memory.
+macro_rules! copied {
+    ($item:expr, $alloc:expr, $($kind:ident [$($copied:ident),*] [$($cloned:ident),*])*) => {
+        match $item {
+            AExpr::Column(name) => Ok(AExpr::Column(name.try_clone($alloc)?)),
+            AExpr::Literal(value) => Ok(AExpr::Literal(value.try_clone($alloc)?)),
+            AExpr::Len => Ok(AExpr::Len),
+            $(AExpr::$kind { $($copied,)* $($cloned),* } => Ok(AExpr::$kind {
+                $($copied: *$copied,)*
+                $($cloned: $cloned.try_clone($alloc)?),*
+            }),)*
+            AExpr::Explode(input) => Ok(AExpr::Explode(*input)),
+            AExpr::Alias(expr, name) => Ok(AExpr::Alias(*expr, name.try_clone($alloc)?)),
+        }
+    };
+}
+
 impl AExpr {
+    /// The same node, over the same inputs.
+    pub fn try_clone(&self, alloc: Global) -> Result<AExpr, PlanError>
+        ensures ok { IfOk result (λ copy. expression_layer copy ≡ expression_layer self.now) }
+        ensures err { IfErr result (λ error. error ≡ no_memory) }
+    {
+        copied!(self, alloc,
+            BinaryExpr [left, op, right] []
+            Cast [expr, options] [dtype]
+            Slice [input, offset, length] []
+            Gather [expr, idx, returns_scalar] []
+            Filter [input, by] []
+            Sort [expr, options] []
+            SortBy [expr] [by, sort_options]
+        )
+    }
+
     /// The inputs in order.
-    pub fn input_nodes(&self) -> Inputs
+    pub fn input_nodes(&self) -> Inputs<'_>
         ensures { result ≡ inputs_of (expression_layer self.now) }
     {
         by_inputs!(
@@ -96,7 +136,8 @@ impl AExpr {
             Inputs::none(),
             Inputs::one,
             Inputs::two,
-            Inputs::three
+            Inputs::three,
+            Inputs::listed
         )
     }
 
@@ -137,7 +178,7 @@ impl AExpr {
         ensures layer { expression_layer self.new ≡ layer (op_of (expression_layer self.old)) (numbers inputs.now) }
         ensures same { numbers inputs.now ≡ inputs_of (expression_layer self.old) → self.new ≡ self.old }
     {
-        by_inputs!(self, (), set_one, set_two, set_three, inputs)
+        by_inputs!(self, (), set_one, set_two, set_three, set_listed, inputs)
     }
 }
 
@@ -165,8 +206,17 @@ fn set_three(first: &mut Node, second: &mut Node, third: &mut Node, inputs: &[No
     *third = inputs[2];
 }
 
+fn set_listed(first: &mut Node, rest: &mut NodeList, inputs: &[Node])
+    requires { length inputs.now ≡ 1 + length rest.old.items.items }
+    ensures list { inputs.now ≡ first.new ∷ rest.new.items.items }
+    ensures same { numbers inputs.now ≡ numbers (first.old ∷ rest.old.items.items) → rest.new ≡ rest.old }
+{
+    *first = inputs[0];
+    rest.items.as_mut_slice().copy_from_slice(&inputs[1..]);
+}
+
 // Appends a node's inputs in reverse, all or none.
-fn push_reversed(nodes: &mut Nodes, inputs: &Inputs) -> Result<(), PlanError>
+fn push_reversed(nodes: &mut Nodes, inputs: &Inputs<'_>) -> Result<(), PlanError>
     ensures ok { OnOk result (numbers nodes.new.items ≡ numbers nodes.old.items ++ reverse inputs.now) }
     ensures unchanged { OnErr result (nodes.new.items ≡ nodes.old.items) }
     ensures err { IfErr result (λ error. error ≡ no_memory) }

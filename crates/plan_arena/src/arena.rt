@@ -39,6 +39,15 @@ impl<T> Arena<T> {
         }
     }
 
+    /// Makes room for so many more items, so that adding them takes no memory.
+    pub fn reserve(&mut self, additional: usize) -> Result<(), PlanError>
+        ensures same { self.new ≡ self.old }
+        ensures err { IfErr result (λ error. error ≡ no_memory) }
+    {
+        self.items.reserve(additional)?;
+        Ok(())
+    }
+
     /// How many items there are.
     pub fn len(&self) -> usize
         ensures { result ≡ length self.now }

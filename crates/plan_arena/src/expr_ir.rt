@@ -222,3 +222,17 @@ impl From<&ExprIR> for Node {
 pub struct ExprIRs {
     pub items: Vec<ExprIR>,
 }
+
+impl ExprIRs {
+    pub fn try_clone(&self, alloc: Global) -> Result<ExprIRs, PlanError>
+        ensures ok { IfOk result (λ copy. copy.items.items ≡ self.now.items.items) }
+        ensures err { IfErr result (λ error. error ≡ no_memory) }
+    {
+        let mut items = Vec::new(alloc);
+        for expr in self.items.as_slice() {
+            let copy = expr.try_clone(alloc)?;
+            items.push(copy)?;
+        }
+        Ok(ExprIRs { items })
+    }
+}

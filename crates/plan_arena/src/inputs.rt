@@ -1,63 +1,96 @@
-//! The inputs of a node, without a list in memory.
-ghost use Rattle.std.specs.Prelude.{◌≡◌, ◌<◌, ◌≤◌, [], ◌∷◌, Some, length, slice_get, take, MatchOption};
+//! The inputs of a node, without a list in memory but one that the node keeps.
+ghost use Rattle.std.specs.Prelude.{◌≡◌, ◌<◌, ◌≤◌, [], ◌∷◌, ◌++◌, Some, length, slice_get, take, MatchOption, IfOk, IfErr};
+ghost use Rattle.plan_types.specs.Errors.{no_memory};
+ghost use Rattle.plan_arena.specs.Items.{numbers};
 
 use crate::arena::Node;
+use plan_types::error::PlanError;
+use std::alloc::Global;
 use std::marker::Model;
 
-/// The inputs of a node in order, of which there are few. Contracts see their numbers.
+/// Nodes in a list of any length.
 #[derive(Drop)]
-pub struct Inputs {
+pub struct NodeList {
+    pub items: Vec<Node>,
+}
+
+impl NodeList {
+    pub fn try_clone(&self, alloc: Global) -> Result<NodeList, PlanError>
+        ensures ok { IfOk result (λ copy. copy.items.items ≡ self.now.items.items) }
+        ensures err { IfErr result (λ error. error ≡ no_memory) }
+    {
+        let mut items = Vec::new(alloc);
+        for node in self.items.as_slice() {
+            items.push(*node)?;
+        }
+        Ok(NodeList { items })
+    }
+}
+
+/// The inputs of a node in order: at most three, and then those of a list that the node keeps. Contracts see their
+/// numbers.
+#[derive(Drop)]
+pub struct Inputs<'a> {
     count: usize,
     first: Node,
     second: Node,
     third: Node,
+    rest: &'a [Node],
 }
 
-impl Model for Inputs {
-    ghost use Rattle.std.specs.Prelude.{ℕ, ◌≤◌, List, [], ◌∷◌, take};
+impl<'a> Model for Inputs<'a> {
+    ghost use Rattle.std.specs.Prelude.{ℕ, ◌≤◌, List, [], ◌∷◌, ◌++◌, map, take};
 
     ghost Value = { List ℕ };
 
-    ghost view = { λ inputs. take inputs.count (inputs.first.0 ∷ inputs.second.0 ∷ inputs.third.0 ∷ []) };
+    ghost view = { λ inputs. take inputs.count (inputs.first.0 ∷ inputs.second.0 ∷ inputs.third.0 ∷ []) ++ map (λ n. n.0) inputs.rest.now };
 
     ghost invariant = { λ inputs. inputs.count ≤ 3 };
 }
 
-impl Inputs {
-    pub(crate) fn none() -> Inputs
+impl<'a> Inputs<'a> {
+    pub(crate) fn none() -> Inputs<'a>
         ensures { result ≡ [] }
     {
-        Inputs::some(0, Node(0), Node(0), Node(0))
+        Inputs::some(0, Node(0), Node(0), Node(0), &[])
     }
 
-    pub(crate) fn one(first: &Node) -> Inputs
+    pub(crate) fn one(first: &Node) -> Inputs<'a>
         ensures { result ≡ first.now.0 ∷ [] }
     {
-        Inputs::some(1, *first, *first, *first)
+        Inputs::some(1, *first, *first, *first, &[])
     }
 
-    pub(crate) fn two(first: &Node, second: &Node) -> Inputs
+    pub(crate) fn two(first: &Node, second: &Node) -> Inputs<'a>
         ensures { result ≡ first.now.0 ∷ second.now.0 ∷ [] }
     {
-        Inputs::some(2, *first, *second, *second)
+        Inputs::some(2, *first, *second, *second, &[])
     }
 
-    pub(crate) fn three(first: &Node, second: &Node, third: &Node) -> Inputs
+    pub(crate) fn three(first: &Node, second: &Node, third: &Node) -> Inputs<'a>
         ensures { result ≡ first.now.0 ∷ second.now.0 ∷ third.now.0 ∷ [] }
     {
-        Inputs::some(3, *first, *second, *third)
+        Inputs::some(3, *first, *second, *third, &[])
     }
 
-    // So many of these.
-    fn some(count: usize, first: Node, second: Node, third: Node) -> Inputs
+    // One, and then a list.
+    pub(crate) fn listed(first: &Node, rest: &'a NodeList) -> Inputs<'a>
+        ensures { result ≡ first.now.0 ∷ numbers rest.now.items.items }
+    {
+        Inputs::some(1, *first, *first, *first, rest.items.as_slice())
+    }
+
+    // So many of these, and then a list.
+    fn some(count: usize, first: Node, second: Node, third: Node, rest: &'a [Node]) -> Inputs<'a>
         requires { count ≤ 3 }
-        ensures { result ≡ take count (first.0 ∷ second.0 ∷ third.0 ∷ []) }
+        ensures { result ≡ take count (first.0 ∷ second.0 ∷ third.0 ∷ []) ++ numbers rest.now }
     {
         Inputs {
             count,
             first,
             second,
             third,
+            rest,
         }
     }
 
@@ -65,7 +98,7 @@ impl Inputs {
     pub fn len(&self) -> usize
         ensures { result ≡ length self.now }
     {
-        self.count
+        self.count + self.rest.len()
     }
 
     /// The input of that number.
@@ -73,6 +106,9 @@ impl Inputs {
         requires { index < length self.now }
         ensures { slice_get self.now index ≡ Some result.0 }
     {
+        if index >= self.count {
+            return self.rest[index - self.count];
+        }
         if index == 0 {
             return self.first;
         }
@@ -86,9 +122,9 @@ impl Inputs {
     pub fn first(&self) -> Option<Node>
         ensures { MatchOption result (self.now ≡ []) (λ first. slice_get self.now 0 ≡ Some first.0) }
     {
-        if self.count == 0 {
+        if self.len() == 0 {
             return None;
         }
-        Some(self.first)
+        Some(self.at(0))
     }
 }

@@ -19,7 +19,7 @@ use plan_types::schema::Schema;
 use std::alloc::Global;
 
 /// One node of a lowered plan, which names its inputs and expressions by number. Contracts see it as a layer.
-#[derive(Drop)]
+#[derive(Default, Drop)]
 pub enum IR {
     /// A scan of a table by its number, or of the empty table.
     DataFrameScan {
@@ -38,9 +38,51 @@ pub enum IR {
         schema: Schema,
         options: ProjectionOptions,
     },
+    /// No plan: what is left where a node was taken out.
+    #[default]
+    Invalid,
 }
 
 impl IR {
+    /// The same node, over the same inputs and expressions.
+    pub fn try_clone(&self, alloc: Global) -> Result<IR, PlanError>
+        ensures ok { IfOk result (λ copy. plan_layer copy ≡ plan_layer self.now) }
+        ensures err { IfErr result (λ error. error ≡ no_memory) }
+    {
+        match self {
+            IR::DataFrameScan { table, schema } => {
+                let schema = schema.try_clone(alloc)?;
+                Ok(IR::DataFrameScan {
+                    table: *table,
+                    schema,
+                })
+            }
+            IR::Filter { input, predicate } => {
+                let predicate = predicate.try_clone(alloc)?;
+                Ok(IR::Filter {
+                    input: *input,
+                    predicate,
+                })
+            }
+            IR::Select {
+                expr,
+                input,
+                schema,
+                options,
+            } => {
+                let expr = expr.try_clone(alloc)?;
+                let schema = schema.try_clone(alloc)?;
+                Ok(IR::Select {
+                    expr,
+                    input: *input,
+                    schema,
+                    options: *options,
+                })
+            }
+            IR::Invalid => Ok(IR::Invalid),
+        }
+    }
+
     /// What a report calls the node.
     pub fn name(&self) -> &'static str
         ensures { result.now ≡ node_name self.now }
@@ -49,6 +91,7 @@ impl IR {
             IR::DataFrameScan { .. } => "df",
             IR::Filter { .. } => "selection",
             IR::Select { .. } => "projection",
+            IR::Invalid => "invalid",
         }
     }
 
@@ -89,7 +132,7 @@ impl IR {
     {
         match self {
             IR::DataFrameScan { schema, .. } | IR::Select { schema, .. } => schema,
-            IR::Filter { .. } => unreachable!(),
+            IR::Filter { .. } | IR::Invalid => unreachable!(),
         }
     }
 }

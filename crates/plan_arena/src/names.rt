@@ -33,10 +33,7 @@ impl AExpr {
                 let name = literal_name(alloc)?;
                 Ok(Some(name))
             }
-            AExpr::Len => {
-                let name = PlSmallStr::new(alloc, "len")?;
-                Ok(Some(OutputName::LiteralLhs(name)))
-            }
+            AExpr::Len => Ok(Some(OutputName::LiteralLhs(PlSmallStr::new(alloc, "len")?))),
             AExpr::Alias(_, name) => {
                 let name = name.try_clone(alloc)?;
                 Ok(Some(OutputName::Alias(name)))

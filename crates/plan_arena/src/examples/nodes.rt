@@ -8,27 +8,29 @@ ghost use Rattle.plan_types.specs.Values.{IntValue};
 ghost use Rattle.plan_types.specs.Schemas.{columns};
 ghost use Rattle.plan_types.specs.declared.schema.Schema.{Schema};
 ghost use Rattle.plan_types.specs.declared.dtype.CastOptions.TheVariants.{Strict, NonStrict};
-ghost use Rattle.plan_types.specs.declared.dtype.DataType.TheVariants.{UInt16};
+ghost use Rattle.plan_types.specs.declared.dtype.DataType.TheVariants.{Int32, UInt16};
 ghost use Rattle.plan_dsl.specs.declared.literal.LiteralValue.TheVariants.{Int, Int8, UInt64};
 ghost use Rattle.plan_dsl.specs.declared.operator.Operator.TheVariants.{Plus};
 ghost use Rattle.plan_dsl.specs.declared.plan.ProjectionOptions.{ProjectionOptions};
+ghost use Rattle.plan_dsl.specs.declared.sort_options.SortMultipleOptions.{SortMultipleOptions};
 ghost use Rattle.plan_dsl.specs.Trees.{node, no_more, more};
 ghost use Rattle.plan_dsl.specs.Names.{FromField, FromNothing, alias_label, column_label, literal_label};
-ghost use Rattle.plan_dsl.specs.Ops.{ColumnOp, LiteralOp, BinaryOp, CastOp, LenOp, SliceOp, AliasOp, Expression};
-ghost use Rattle.plan_dsl.specs.Plans.{Named, named, scan_op, select_op, filter_op};
-ghost use Rattle.plan_dsl.specs.Samples.{Gives, GivesOfTwo, int8, int32, a, alias, b, cast_as, column, count, keep, literal, slice, sum, typed_literal};
+ghost use Rattle.plan_dsl.specs.Ops.{ColumnOp, LiteralOp, BinaryOp, CastOp, LenOp, SliceOp, AliasOp, ExplodeOp, GatherOp, FilterOp, SortOp, SortByOp, Expression};
+ghost use Rattle.plan_dsl.specs.Plans.{FilterKind, Named, RefusedKind, ScanKind, SelectKind, named, scan_op, select_op, filter_op};
+ghost use Rattle.plan_dsl.specs.Samples.{Gives, GivesOfTwo, int8, int32, a, alias, b, cast_as, column, count, keep, literal, slice, sort_by, sum, typed_literal, way};
 ghost use Rattle.plan_arena.specs.declared.aexpr.AExpr.{AExpr};
-ghost use Rattle.plan_arena.specs.declared.aexpr.AExpr.TheVariants.{Column, Literal, BinaryExpr, Cast, Len, Slice, Alias};
+ghost use Rattle.plan_arena.specs.declared.aexpr.AExpr.TheVariants.{Column, Literal, BinaryExpr, Cast, Len, Slice, Alias, Explode, Gather, Filter as FilterBy, Sort, SortBy};
 ghost use Rattle.plan_arena.specs.declared.arena.Node.{Node};
+ghost use Rattle.plan_arena.specs.declared.inputs.NodeList.{NodeList};
 ghost use Rattle.plan_arena.specs.declared.expr_ir.ExprIR.{ExprIR};
 ghost use Rattle.plan_arena.specs.declared.expr_ir.ExprIRs.{ExprIRs};
 ghost use Rattle.plan_arena.specs.declared.expr_ir.OutputName.{OutputName};
 ghost use Rattle.plan_arena.specs.declared.expr_ir.OutputName.TheVariants.{ColumnLhs, LiteralLhs};
-ghost use Rattle.plan_arena.specs.declared.ir.IR.TheVariants.{DataFrameScan, Filter, Select};
+ghost use Rattle.plan_arena.specs.declared.ir.IR.TheVariants.{DataFrameScan, Filter, Select, Invalid};
 ghost use Rattle.plan_arena.specs.declared.plan.IRPlan.{IRPlan};
 ghost use Rattle.plan_arena.specs.Layers.{layer, op_of, inputs_of, shape_of};
 ghost use Rattle.plan_arena.specs.Denotation.{Denotes, DenotesTree, depth_at, greatest, inputs_at};
-ghost use Rattle.plan_arena.specs.Items.{expression_layer, output_label, named_node, node_name, plan_layer, DenoteNamed, DenotesItem, DenotesPlan, Grows, HasInputs, HoldsExpression, HoldsFrom, HoldsPlan};
+ghost use Rattle.plan_arena.specs.Items.{expression_layer, output_label, named_node, node_name, plan_layer, DenoteNamed, DenotesItem, DenotesKind, DenotesPlan, Grows, HasInputs, HoldsExpression, HoldsFrom, HoldsPlan, Rewired};
 ghost use Rattle.plan_arena.specs.NamedNodes.{same_named};
 ghost use Rattle.plan_arena.specs.Samples.{a_at, circle, literal_at, named_at, node_at, strict_sum, sum_items, wide_a};
 
@@ -40,15 +42,23 @@ pub fn layers_of_items()
         ∷ (Literal (Int (neg_ℤ (pos 5))), layer (LiteralOp (Untyped (neg_ℤ (pos 5))) (IntValue (neg_ℤ (pos 5)))) [])
         ∷ (Literal (Int8 (neg_ℤ (pos 128))), layer (LiteralOp int8 (IntValue (neg_ℤ (pos 128)))) [])
         ∷ (Literal (UInt64 18446744073709551615), layer (LiteralOp (Integer false 64) (IntValue (pos 18446744073709551615))) []) ∷ (Len, layer LenOp [])
-        ∷ (Slice (node_at 4) (node_at 2) (node_at 7), layer SliceOp (4 ∷ 2 ∷ 7 ∷ [])) ∷ (Alias (node_at 4) (codes "x"), layer (AliasOp (codes "x")) (4 ∷ [])) ∷ []) }
+        ∷ (Slice (node_at 4) (node_at 2) (node_at 7), layer SliceOp (4 ∷ 2 ∷ 7 ∷ [])) ∷ (Alias (node_at 4) (codes "x"), layer (AliasOp (codes "x")) (4 ∷ []))
+        ∷ (Explode (node_at 4), layer ExplodeOp (4 ∷ [])) ∷ (FilterBy (node_at 4) (node_at 2), layer FilterOp (4 ∷ 2 ∷ [])) ∷ (Sort (node_at 4) (way true false), layer (SortOp (way true false)) (4 ∷ []))
+        ∷ (Gather (node_at 4) (node_at 2) false, layer (GatherOp false) (4 ∷ 2 ∷ [])) ∷ (Gather (node_at 4) (node_at 2) true, layer (GatherOp true) (4 ∷ 2 ∷ [])) ∷ []) }
+    ensures sort_by { (by : NodeList) (options : SortMultipleOptions) → by.items.items ≡ node_at 2 ∷ node_at 7 ∷ [] →
+        options.descending.items.items ≡ true ∷ false ∷ [] → options.nulls_last.items.items ≡ true ∷ [] →
+        expression_layer (SortBy (node_at 4) by options) ≡ layer (SortByOp (true ∷ false ∷ []) (true ∷ [])) (4 ∷ 2 ∷ 7 ∷ []) }
+    ensures sort_by_nothing { (by : NodeList) (options : SortMultipleOptions) → by.items.items ≡ [] →
+        inputs_of (expression_layer (SortBy (node_at 4) by options)) ≡ 4 ∷ [] }
     ensures plans { (schema : Schema) → Gives plan_layer ((DataFrameScan (Some 2) schema, layer (scan_op (Some 2) (columns schema)) [])
-        ∷ (DataFrameScan None schema, layer (scan_op None (columns schema)) []) ∷ (Filter (node_at 5) (a_at 3), layer (filter_op (named_at "a" 3)) (5 ∷ [])) ∷ []) }
+        ∷ (DataFrameScan None schema, layer (scan_op None (columns schema)) []) ∷ (Filter (node_at 5) (a_at 3), layer (filter_op (named_at "a" 3)) (5 ∷ []))
+        ∷ (Invalid, layer (record { kind = RefusedKind []; recorded = None }) []) ∷ []) }
     ensures select { (exprs : ExprIRs) (schema : Schema) (options : ProjectionOptions) →
         let number : ExprIR = record { node = node_at 4; output_name = LiteralLhs (codes "literal") } in exprs.items.items ≡ a_at 3 ∷ number ∷ [] →
         plan_layer (Select exprs (node_at 5) schema options) ≡ layer (select_op (named_at "a" 3 ∷ literal_at 4 ∷ []) (Some (columns schema))) (5 ∷ []) }
     ensures names { (schema : Schema) (input : Node) (predicate : ExprIR) (exprs : ExprIRs) (options : ProjectionOptions) → Gives node_name
         ((DataFrameScan (Some 0) schema, codes "df") ∷ (DataFrameScan None schema, codes "df") ∷ (Filter input predicate, codes "selection")
-        ∷ (Select exprs input schema options, codes "projection") ∷ []) }
+        ∷ (Select exprs input schema options, codes "projection") ∷ (Invalid, codes "invalid") ∷ []) }
 {}
 
 /// The name that an item keeps, with what it comes from.
@@ -75,6 +85,12 @@ pub fn expressions_of_nodes()
     ensures slice { let items = Column (codes "a") ∷ Literal (Int (pos 1)) ∷ Slice (node_at 0) (node_at 1) (node_at 1) ∷ [] in
         Denotes (HoldsExpression items) 2 (slice a (literal (pos 1)) (literal (pos 1))) }
     ensures alias { Denotes (HoldsExpression (Column (codes "a") ∷ Alias (node_at 0) (codes "x") ∷ [])) 1 (alias "x" a) }
+    ensures sort_by { (by : NodeList) (options : SortMultipleOptions) → by.items.items ≡ node_at 1 ∷ node_at 0 ∷ [] →
+        Denotes (HoldsExpression (Column (codes "a") ∷ Len ∷ SortBy (node_at 0) by options ∷ [])) 2
+        (sort_by options.descending.items.items options.nulls_last.items.items (count ∷ a ∷ []) a) }
+    ensures other_keys { (by : NodeList) (options : SortMultipleOptions) → by.items.items ≡ node_at 1 ∷ node_at 0 ∷ [] →
+        AllByRecursion {X = List Expression} (λ keys. ¬ (Denotes (HoldsExpression (Column (codes "a") ∷ Len ∷ SortBy (node_at 0) by options ∷ [])) 2
+        (sort_by options.descending.items.items options.nulls_last.items.items keys a))) ((a ∷ count ∷ []) ∷ (count ∷ []) ∷ (count ∷ a ∷ a ∷ []) ∷ []) }
     ensures others { AllByRecursion {X = ℕ × Expression} (λ c. ¬ (Denotes (HoldsExpression sum_items) c.0 c.1)) ((1, a) ∷ (3, sum a b) ∷ (3, sum b wide_a) ∷ (4, a) ∷ []) }
     ensures circle { ¬ (DenotesTree (HoldsExpression circle) 0) }
 {}
@@ -129,11 +145,23 @@ pub fn plans_of_items()
     } in ¬ (DenotesPlan lowering (node (scan_op None (columns schema)) no_more)) }
 {}
 
+/// A kind over nodes is that kind over the expressions that these denote.
+pub fn kinds_of_plans()
+    ensures scan { DenotesKind [] (ScanKind (Some 0) []) (ScanKind (Some 0) []) }
+    ensures other_table { ¬ (DenotesKind [] (ScanKind (Some 0) []) (ScanKind (Some 1) [])) }
+    ensures select { DenotesKind sum_items (SelectKind (named_at "a" 3 ∷ named_at "b" 1 ∷ [])) (SelectKind (named strict_sum ∷ named b ∷ [])) }
+    ensures turned { ¬ (DenotesKind sum_items (SelectKind (named_at "b" 1 ∷ named_at "a" 3 ∷ [])) (SelectKind (named strict_sum ∷ named b ∷ []))) }
+    ensures filter { DenotesKind sum_items (FilterKind (named_at "a" 0)) (FilterKind (named a)) }
+    ensures other_node { ¬ (DenotesKind sum_items (FilterKind (named_at "a" 1)) (FilterKind (named a))) }
+    ensures refused { ¬ (DenotesKind sum_items (RefusedKind []) (RefusedKind [])) }
+{}
+
 /// The inputs of a plan's item denote plans, and lead into no circle.
 pub fn inputs_of_items()
     ensures scan { (schema : Schema) → HasInputs [] (DataFrameScan (Some 0) schema) }
     ensures filter { (schema : Schema) (predicate : ExprIR) → HasInputs (DataFrameScan (Some 0) schema ∷ []) (Filter (node_at 0) predicate) }
     ensures no_such_input { (schema : Schema) (predicate : ExprIR) → ¬ (HasInputs (DataFrameScan (Some 0) schema ∷ []) (Filter (node_at 1) predicate)) }
+    ensures taken_out { ¬ (HasInputs [] Invalid) }
     ensures itself_as_its_input { (predicate : ExprIR) → ¬ (HasInputs (Filter (node_at 0) predicate ∷ []) (Filter (node_at 0) predicate)) }
 {}
 
@@ -141,6 +169,16 @@ pub fn inputs_of_items()
 pub fn depths_of_nodes()
     ensures { GivesOfTwo depth_at (([] ∷ [], 0, 1) ∷ ([] ∷ (0 ∷ []) ∷ [], 1, 2) ∷ ([] ∷ [] ∷ (0 ∷ []) ∷ (2 ∷ 1 ∷ []) ∷ [], 3, 3) ∷ ([] ∷ (0 ∷ 0 ∷ []) ∷ [], 1, 2) ∷
         ((1 ∷ []) ∷ [] ∷ [], 0, 2) ∷ []) }
+{}
+
+/// An item that does the same over other inputs, where no other has changed.
+pub fn rewired_items()
+    ensures to_another { Rewired circle (Cast (node_at 7) Int32 NonStrict ∷ []) 0 (7 ∷ []) }
+    ensures to_itself { Rewired circle circle 0 (0 ∷ []) }
+    ensures other_inputs { ¬ (Rewired circle (Cast (node_at 7) Int32 NonStrict ∷ []) 0 (8 ∷ [])) }
+    ensures other_cast { ¬ (Rewired circle (Cast (node_at 7) Int32 Strict ∷ []) 0 (7 ∷ [])) }
+    ensures another_too { ¬ (Rewired (Len ∷ circle) (Column (codes "a") ∷ circle) 1 (0 ∷ [])) }
+    ensures no_such_node { ¬ (Rewired circle circle 1 []) }
 {}
 
 /// A node from a number on, and arenas that grow.

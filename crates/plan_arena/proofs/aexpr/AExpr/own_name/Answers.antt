@@ -5,7 +5,7 @@ use Rattle.plan_arena.specs.Layers.{op_of}
 use Rattle.plan_arena.specs.Items.{expression_layer}
 use Rattle.plan_arena.proofs.aexpr.AExpr.own_name.Goals as goal
 
-pub returns-in_ok-name-in-Len-clause-ok : goal.returns-in_ok-name-in-Len-clause-ok
+pub returns-in_ok-new-in-Len-clause-ok : goal.returns-in_ok-new-in-Len-clause-ok
 unfolding chars
-returns-in_ok-name-in-Len-clause-ok c = λ labels.
-    ap (λ item. op_label (op_of (expression_layer item)) labels) c.in-Len.is ∙ sym (ap literal_label c.in_ok-name-in-Len.ensures.ok)
+returns-in_ok-new-in-Len-clause-ok c = λ labels.
+    ap (λ item. op_label (op_of (expression_layer item)) labels) c.in-Len.is ∙ sym (ap literal_label c.in_ok-new-in-Len.ensures.ok)

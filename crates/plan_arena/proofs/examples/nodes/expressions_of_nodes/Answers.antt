@@ -1,9 +1,15 @@
-use Rattle.std.proofs.Common.{◌≡◌, ℕ, List, [], ◌∷◌, refl, subst}
-use Rattle.plan_dsl.specs.Trees.{Trees, node, no_more, more}
-use Rattle.plan_dsl.specs.Ops.{Op, Expression}
+use Rattle.std.proofs.Common.{◌≡◌, ℕ, List, [], ◌∷◌, Some, codes, refl, sym, ap, ◌∙◌, subst}
+use Rattle.plan_dsl.specs.declared.sort_options.SortMultipleOptions.{SortMultipleOptions}
+use Rattle.plan_dsl.specs.Trees.{Trees, node, no_more, more, children_from}
+use Rattle.plan_dsl.specs.Ops.{Op, Expression, SortByOp}
+use Rattle.plan_dsl.specs.Samples.{a, count, sort_by}
+use Rattle.plan_arena.specs.declared.aexpr.AExpr.{AExpr}
+use Rattle.plan_arena.specs.declared.aexpr.AExpr.TheVariants.{Column, Len, SortBy}
+use Rattle.plan_arena.specs.declared.inputs.NodeList.{NodeList}
+use Rattle.plan_arena.specs.Layers.{layer}
 use Rattle.plan_arena.specs.Denotation.{Denotes, DenoteAll}
-use Rattle.plan_arena.specs.Items.{HoldsExpression}
-use Rattle.plan_arena.specs.Samples.{circle, sum_items, wide_a}
+use Rattle.plan_arena.specs.Items.{HoldsExpression, numbers}
+use Rattle.plan_arena.specs.Samples.{circle, node_at, sum_items, wide_a}
 use Rattle.plan_arena.proofs.examples.nodes.expressions_of_nodes.Goals as goal
 
 cast_denotes : Denotes (HoldsExpression sum_items) 2 wide_a
@@ -35,3 +41,24 @@ returns-clause-circle c = λ d. no_tree d.tree d.denotes
 
 pub returns-clause-alias : goal.returns-clause-alias
 returns-clause-alias c = (0 ∷ [], refl, (([], refl, tt), tt))
+
+pub returns-clause-sort_by : goal.returns-clause-sort_by
+returns-clause-sort_by c = λ by options is. (
+  0 ∷ 1 ∷ 0 ∷ [],
+  ap (λ nodes. Some (layer (SortByOp options.descending.items.items options.nulls_last.items.items) (0 ∷ numbers nodes))) is,
+  (([], refl, tt), (([], refl, tt), (([], refl, tt), tt))),
+)
+
+-- its keys are those two
+keys_are : (by : NodeList) (options : SortMultipleOptions) → by.items.items ≡ node_at 1 ∷ node_at 0 ∷ [] → (op : Op) (inputs : List ℕ) → HoldsExpression (Column (codes "a") ∷ Len ∷ SortBy (node_at 0) by options ∷ []) 2 op inputs → 0 ∷ 1 ∷ 0 ∷ [] ≡ inputs
+keys_are by options is op inputs h = ap (λ nodes. 0 ∷ numbers nodes) (sym is) ∙ cc
+
+count_isnt_a : (rest : List AExpr) → Denotes (HoldsExpression (Column (codes "a") ∷ Len ∷ rest)) 1 a → ⊥
+count_isnt_a rest d = cc
+
+pub returns-clause-other_keys : goal.returns-clause-other_keys
+returns-clause-other_keys c = λ by options is.
+    let items : List AExpr = Column (codes "a") ∷ Len ∷ SortBy (node_at 0) by options ∷ [] in
+    let under : (keys : List Expression) → Denotes (HoldsExpression items) 2 (sort_by options.descending.items.items options.nulls_last.items.items keys a) → DenoteAll (HoldsExpression items) (0 ∷ 1 ∷ 0 ∷ []) (more a (children_from keys))
+    = λ keys d. subst (λ inputs. DenoteAll (HoldsExpression items) inputs (more a (children_from keys))) (sym (keys_are by options is _ d.0 d.1)) d.2 in
+    (λ d. count_isnt_a (SortBy (node_at 0) by options ∷ []) (under (a ∷ count ∷ []) d).1.0, (λ d. (under (count ∷ []) d).1.1, (λ d. (under (count ∷ a ∷ a ∷ []) d).1.1.1, tt)))

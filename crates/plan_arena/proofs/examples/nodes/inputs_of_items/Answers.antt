@@ -9,8 +9,15 @@ use Rattle.plan_arena.specs.Samples.{node_at}
 use Rattle.plan_arena.proofs.ItemLemmas.{only_input_less_deep, plan_within}
 use Rattle.plan_arena.proofs.examples.nodes.inputs_of_items.Goals as goal
 
+pub returns-clause-scan : goal.returns-clause-scan
+returns-clause-scan c = λ schema. record { valid = λ e. cc; expressions = []; each = tt }
+
+pub returns-clause-taken_out : goal.returns-clause-taken_out
+returns-clause-taken_out c = λ h. h.valid refl
+
 pub returns-clause-filter : goal.returns-clause-filter
 returns-clause-filter c = λ schema predicate. record {
+  valid = λ e. cc;
   expressions = [];
   each = (
     record {

@@ -18,7 +18,7 @@ schema_ref-requires t c =
     (omega (arith, c.decreases, less), item_inputs c.requires.expressions c.args.arena.now c.in-Filter.input.0 c.get.result.now c.get.ensures input)
 
 pub recorded_schema-requires : goal.recorded_schema-requires
-recorded_schema-requires t c = records_unless_filter c.args.self.now c.in_default.not-Filter
+recorded_schema-requires t c = records_unless_filter c.args.self.now c.requires.valid c.in_default.not-Filter
 
 pub returns-in_default-clause-rule : goal.returns-in_default-clause-rule
 returns-in_default-clause-rule t c expressions registry plan d accepted =
