@@ -27,7 +27,6 @@ ghost use Rattle.plan_coerce.specs.Reaching.{IsClosed, Near};
 
 use plan_arena::aexpr::{AExpr, Nodes};
 use plan_arena::arena::{Arena, Node};
-use plan_arena::inputs::Inputs;
 use plan_dsl::literal::LiteralValue;
 use plan_infer::type_table::{Inferred, TypeTable};
 use plan_types::common_type::materialize_dyn_int;
@@ -62,8 +61,9 @@ pub(crate) fn coerce_node(
     if types.get(node).is_strict() {
         return Ok(());
     }
-    let inputs = item.input_nodes();
-    let operands = operands_to(node, &inputs, arena, types)?;
+    let nodes = item.inputs(arena.allocator())?;
+    let inputs = nodes.as_slice();
+    let operands = operands_to(node, inputs, arena, types)?;
     arena.replace_inputs(node, operands.as_slice());
     Ok(())
 }
@@ -71,20 +71,20 @@ pub(crate) fn coerce_node(
 // The nodes that stand for the operands of a node, made of the types to which it takes them.
 fn operands_to(
     node: Node,
-    inputs: &Inputs,
+    inputs: &[Node],
     arena: &mut Arena<AExpr>,
     types: &mut TypeTable,
 ) -> Result<Nodes, PlanError>
     requires right { HasRightTypes arena.old types.old }
     requires kept { IsKept types.old node.0 }
-    requires ready { (own : Inferred) → KeepsEntry types.old node.0 own → AllReady types.old inputs.now (map ty own.operands.items) }
+    requires ready { (own : Inferred) → KeepsEntry types.old node.0 own → AllReady types.old (numbers inputs.now) (map ty own.operands.items) }
     ensures changed { IfOk result (λ operands. (own : Inferred) → KeepsEntry types.old node.0 own →
-        AreChanged arena.old arena.new types.old inputs.now (numbers operands.items) (map ty own.operands.items)) }
+        AreChanged arena.old arena.new types.old (numbers inputs.now) (numbers operands.items) (map ty own.operands.items)) }
     ensures kept { IfOk result (λ operands. AllByRecursion (IsKept types.new) (numbers operands.items)) }
     ensures right { OnOk result ((registry : Registry) (schema : Columns) →
         IsRight registry schema arena.old types.old → IsRight registry schema arena.new types.new) }
     ensures closed { OnOk result ((start : List AExpr) (roots : List ℕ) → length start ≤ length arena.old →
-        AllByRecursion (Near start roots) inputs.now → IsClosed start roots arena.old → IsClosed start roots arena.new) }
+        AllByRecursion (Near start roots) (numbers inputs.now) → IsClosed start roots arena.old → IsClosed start roots arena.new) }
     ensures extends { OnOk result (Extends types.old types.new) }
     ensures grows { Grows arena.old arena.new }
     ensures err { IfErr result (λ error. error ≡ no_memory) }
@@ -92,7 +92,7 @@ fn operands_to(
     let mut operands = SmallVec::new(arena.allocator());
     for index in 0..inputs.len() {
         let target = types.get(node).operand(index).try_clone(arena.allocator())?;
-        let changed = operand_to(inputs.at(index), target, arena, types)?;
+        let changed = operand_to(inputs[index], target, arena, types)?;
         operands.push(changed)?;
     }
     Ok(operands)

@@ -5,7 +5,8 @@ ghost use Rattle.plan_types.specs.Errors.{IsMemoryOr, IsRefusal, no_memory};
 ghost use Rattle.plan_types.specs.CommonTypes.{type_alone};
 ghost use Rattle.plan_types.specs.Types.{Ty, NullType, ty};
 ghost use Rattle.plan_dsl.specs.declared.signature.OwnType.TheVariants.{Item};
-ghost use Rattle.plan_dsl.specs.Signatures.{asked_target, is_asked, own_type, signature};
+ghost use Rattle.plan_dsl.specs.Signatures.{asked_target, has_flags, is_asked, own_type, signature};
+ghost use Rattle.plan_dsl.specs.Sorting.{are_for};
 ghost use Rattle.plan_dsl.specs.Typing.{Typed, many_of, signed, some_many, taken_by, taken_from, types_of};
 ghost use Rattle.plan_arena.specs.Layers.{op_of, inputs_of};
 ghost use Rattle.plan_arena.specs.Items.{expression_layer, numbers};
@@ -14,7 +15,9 @@ ghost use Rattle.plan_infer.specs.KeptTypes.{AreOperands, IsKept, Says, name_at,
 use crate::type_table::{Inferred, TypeTable};
 use plan_arena::aexpr::AExpr;
 use plan_arena::arena::Node;
+use plan_arena::inputs::NodeList;
 use plan_dsl::signature::{Ask, Asked, Many, OwnType, Signature, asks, asks_one, takes};
+use plan_dsl::sort_options::{Flags, SortMultipleOptions};
 use plan_types::common_type::materialize_dyn_int;
 use plan_types::dtype::DataType;
 use plan_types::error::{ErrorKind, PlanError};
@@ -40,8 +43,33 @@ pub(crate) fn signature(item: &AExpr) -> Result<Signature, ErrorKind>
         }
         AExpr::Filter { .. } => takes(asks(Any), asks(Boolean), asks(Any), First, Always),
         AExpr::Sort { .. } => takes(asks(Sortable), asks(Any), asks(Any), First, AsFirst),
+        AExpr::SortBy {
+            by,
+            sort_options,
+            ..
+        } => {
+            if !has_flags(sort_options, by) {
+                return Err(ErrorKind::ComputeError);
+            }
+            takes(asks(Any), asks(Sortable), asks(Sortable), First, AsFirst)
+        }
         _ => Err(ErrorKind::SchemaMismatch),
     }
+}
+
+// Whether a sort has flags for its keys.
+fn has_flags(options: &SortMultipleOptions, by: &NodeList) -> bool
+    ensures { result ≡ has_flags options.now.descending.items.items options.now.nulls_last.items.items (length (numbers by.now.items.items)) }
+{
+    let keys = by.items.len();
+    are_for(&options.descending, keys) && are_for(&options.nulls_last, keys)
+}
+
+// Whether there is a flag for each of so many keys, or one for all.
+fn are_for(flags: &Flags, keys: usize) -> bool
+    ensures { result ≡ are_for flags.now.items.items keys }
+{
+    flags.items.len() == keys || flags.items.len() == 1
 }
 
 /// What a signature says of a node over these inputs, which are typed. It has the name of its first input.

@@ -1,5 +1,5 @@
 //! What is inferred of nodes, kept by node.
-ghost use Rattle.std.specs.Prelude.{◌≡◌, ◌<◌, ◌≤◌, ◌↔◌, ◌⊎◌, ◌+◌, ℕ, [], IsTrue, Some, length, slice_get, if◌then◌else◌, MatchOption, IfErr, OnOk, OnErr};
+ghost use Rattle.std.specs.Prelude.{◌≡◌, ◌<◌, ◌≤◌, ◌↔◌, ◌⊎◌, ◌+◌, ℕ, [], IsTrue, Some, length, slice_get, if◌then◌else◌, MatchOption, IfOk, IfErr, OnOk, OnErr};
 ghost use Rattle.plan_types.specs.Errors.{no_memory};
 ghost use Rattle.plan_infer.specs.declared.type_table.Inferred.{Inferred};
 ghost use Rattle.plan_infer.specs.KeptTypes.{KeepsEntry, IsKept, kept_count, some_count};
@@ -54,6 +54,17 @@ impl TypeTable {
             first: 0,
             entries: Vec::new(alloc),
         }
+    }
+
+    /// A table that keeps nothing yet, with room for so many nodes.
+    pub fn with_capacity(alloc: Global, room: usize) -> Result<TypeTable, PlanError>
+        ensures ok { IfOk result (λ types. (n : ℕ) → ¬ (IsKept types n)) }
+        ensures err { IfErr result (λ error. error ≡ no_memory) }
+    {
+        Ok(TypeTable {
+            first: 0,
+            entries: Vec::with_capacity(alloc, room)?,
+        })
     }
 
     /// Of how many nodes something is kept.

@@ -1,5 +1,5 @@
 //! Types of expressions in an arena.
-ghost use Rattle.std.specs.Prelude.{◌≡◌, ◌≤◌, ◌+◌, ◌⊎◌, ◌||◌, ℕ, true, false, length, slice_get, OnErr, [], Some, Ok, IfOk, IfErr, OnOk};
+ghost use Rattle.std.specs.Prelude.{◌≡◌, ◌≤◌, ◌+◌, ◌⊎◌, ◌||◌, ℕ, true, false, length, slice_get, OnErr, [], ◌∷◌, Some, Ok, IfOk, IfErr, OnOk};
 ghost use Rattle.std.specs.List.{AllByRecursion};
 ghost use Rattle.plan_types.specs.Errors.{IsRefusal, no_memory};
 ghost use Rattle.plan_types.specs.Schemas.{Columns, Name, columns};
@@ -190,15 +190,24 @@ fn binary_typing(
         right: to_right,
         result: dtype,
     } = taken;
-    let mut targets = Vec::new(alloc);
-    targets.push(to_left)?;
-    targets.push(to_right)?;
+    let targets = pair(to_left, to_right, alloc)?;
     Ok(Inferred {
         name: left.name,
         dtype,
         many: either(left.many, right.many),
         operands: unless_own(targets, inputs, types),
     })
+}
+
+// Two types in a list that has room for no more.
+fn pair(left: DataType, right: DataType, alloc: Global) -> Result<Vec<DataType>, PlanError>
+    ensures ok { IfOk result (λ types. types.items ≡ left ∷ right ∷ []) }
+    ensures err { IfErr result (λ error. error ≡ no_memory) }
+{
+    let mut types = Vec::with_capacity(alloc, 2)?;
+    types.push(left)?;
+    types.push(right)?;
+    Ok(types)
 }
 
 fn either(left: bool, right: bool) -> bool

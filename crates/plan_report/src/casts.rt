@@ -71,6 +71,7 @@ pub(crate) fn plan_casts(plan: &IRPlan, node: Node) -> Result<u64, AllocError>
     let item = plan.lp_arena.get(node);
     match item {
         IR::DataFrameScan { .. } => Ok(0),
+        IR::Invalid => unreachable!(),
         IR::Filter { input, predicate } => {
             let here = expression_casts(&plan.expr_arena, predicate.node())?;
             let below = plan_casts(plan, *input)?;

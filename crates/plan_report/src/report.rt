@@ -81,6 +81,7 @@ fn push_lines(
     push_line(alloc, text, path.as_slice(), item.name(), schema)?;
     match item {
         IR::DataFrameScan { .. } => Ok(()),
+        IR::Invalid => unreachable!(),
         IR::Filter { input, .. } => {
             path.push(ONLY_INPUT)?;
             push_lines(alloc, text, path, plan, *input, schema)?;

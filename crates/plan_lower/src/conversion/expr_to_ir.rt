@@ -1,20 +1,22 @@
 //! Expressions to nodes of an arena.
-ghost use Rattle.std.specs.Prelude.{◌≡◌, ◌≢◌, length, false, IfOk, IfErr, IfSome, MatchOption};
+ghost use Rattle.std.specs.Prelude.{◌≡◌, ◌≢◌, length, false, true, IfOk, IfErr, IfSome, MatchOption, OnOk};
 ghost use Rattle.std.specs.Option.{option_map_or};
 ghost use Rattle.plan_types.specs.Errors.{IsMemoryOr, no_memory};
-ghost use Rattle.plan_dsl.specs.Aliases.{core, inputs_pruned, pruned};
-ghost use Rattle.plan_dsl.specs.Expressions.{tree_of};
+ghost use Rattle.plan_dsl.specs.Aliases.{all_pruned, core, inputs_pruned, pruned};
+ghost use Rattle.plan_dsl.specs.Expressions.{tree_of, trees_of};
 ghost use Rattle.plan_dsl.specs.Literals.{literal_op, settled, settled_op, settles};
 ghost use Rattle.plan_dsl.specs.Names.{alias_label, label_of};
 ghost use Rattle.plan_dsl.specs.Ops.{Expression};
-ghost use Rattle.plan_arena.specs.Denotation.{Denotes, DenotesTree};
-ghost use Rattle.plan_arena.specs.Items.{named_node, output_label, HoldsExpression, HoldsFrom, Grows};
+ghost use Rattle.plan_dsl.specs.Trees.{children_from};
+ghost use Rattle.plan_arena.specs.Denotation.{Denotes, DenoteAll, DenotesTree};
+ghost use Rattle.plan_arena.specs.Items.{named_node, numbers, output_label, HoldsExpression, HoldsFrom, Grows};
 ghost use Rattle.plan_lower.specs.Nodes.{IsItemOf};
 
 use plan_arena::aexpr::AExpr;
 use plan_arena::arena::{Arena, Node};
 use plan_arena::expr_ir::{ExprIR, OutputName};
-use plan_dsl::expr::Expr;
+use plan_arena::inputs::NodeList;
+use plan_dsl::expr::{Expr, Exprs};
 use plan_dsl::literal::LiteralValue;
 use plan_types::common_type::materialize_dyn_int;
 use plan_types::error::{ErrorKind, PlanError};
@@ -40,6 +42,7 @@ pub fn to_expr_ir_ignore_alias(expr: Expr, arena: &mut Arena<AExpr>) -> Result<E
     ensures name { IfOk result (λ expr_ir. (named_node expr_ir).label ≡ label_of (core (tree_of expr))) }
     ensures denotes { IfOk result (λ expr_ir. Denotes (HoldsFrom (length arena.old) arena.new) (named_node expr_ir).expression (settled (core (tree_of expr)))) }
     ensures grows { Grows arena.old arena.new }
+    ensures typed { OnOk result (settles (tree_of expr) ≡ true) }
     ensures err { IfErr result (IsMemoryOr ErrorKind.InvalidOperation (settles (tree_of expr) ≡ false)) }
 {
     let node = add_settled(expr, false, arena)?;
@@ -52,6 +55,7 @@ pub fn to_expr_ir_ignore_alias(expr: Expr, arena: &mut Arena<AExpr>) -> Result<E
 pub fn to_aexpr(expr: Expr, arena: &mut Arena<AExpr>) -> Result<Node, PlanError>
     ensures denotes { IfOk result (λ node. Denotes (HoldsFrom (length arena.old) arena.new) node.0 (settled (tree_of expr))) }
     ensures grows { Grows arena.old arena.new }
+    ensures typed { OnOk result (settles (tree_of expr) ≡ true) }
     ensures err { IfErr result (IsMemoryOr ErrorKind.InvalidOperation (settles (tree_of expr) ≡ false)) }
 {
     let node = add_settled(expr, true, arena)?;
@@ -62,6 +66,7 @@ pub fn to_aexpr(expr: Expr, arena: &mut Arena<AExpr>) -> Result<Node, PlanError>
 fn add_settled(expr: Expr, keep: bool, arena: &mut Arena<AExpr>) -> Result<Node, PlanError>
     ensures denotes { IfOk result (λ node. Denotes (HoldsFrom (length arena.old) arena.new) node.0 (pruned keep (settled (tree_of expr)))) }
     ensures grows { Grows arena.old arena.new }
+    ensures typed { OnOk result (settles (tree_of expr) ≡ true) }
     ensures err { IfErr result (IsMemoryOr ErrorKind.InvalidOperation (settles (tree_of expr) ≡ false)) }
 {
     if !settles(&expr) {
@@ -118,9 +123,10 @@ fn first_alias(expr: &Expr) -> Option<&PlSmallStr>
         Expr::Alias(_, name) => Some(name),
         Expr::Column(_) | Expr::Literal(_) | Expr::Len => None,
         Expr::BinaryExpr { left, .. } => first_alias(left),
-        Expr::Cast { expr, .. } | Expr::Gather { expr, .. } | Expr::Sort { expr, .. } => {
-            first_alias(expr)
-        }
+        Expr::Cast { expr, .. }
+        | Expr::Gather { expr, .. }
+        | Expr::Sort { expr, .. }
+        | Expr::SortBy { expr, .. } => first_alias(expr),
         Expr::Explode(input) | Expr::Slice { input, .. } | Expr::Filter { input, .. } => {
             first_alias(input)
         }
@@ -190,12 +196,32 @@ pub(crate) fn add_nodes(expr: Expr, keep: bool, arena: &mut Arena<AExpr>) -> Res
     }
 }
 
-// The item of a kind, whose inputs are added and whose other fields it keeps.
-macro_rules! over {
-    ($arena:ident, $keep:ident, $kind:ident { $($input:ident),* } $($other:ident),*) => {{
-        $(let $input = add_nodes(Box::into_inner($input), $keep, $arena)?;)*
-        Ok(AExpr::$kind { $($input,)* $($other),* })
-    }};
+// The item of an expression by its kind: of those that are listed its inputs are added, and its other fields kept.
+macro_rules! item_over {
+    ($expr:ident, $arena:ident, $keep:ident, $($kind:ident { $($input:ident),* } [$($other:ident),*])*) => {
+        match $expr {
+            Expr::Column(name) => Ok(AExpr::Column(name)),
+            Expr::Literal(value) => Ok(AExpr::Literal(value)),
+            Expr::Len => Ok(AExpr::Len),
+            $(Expr::$kind { $($input,)* $($other),* } => {
+                $(let $input = add_nodes(Box::into_inner($input), $keep, $arena)?;)*
+                Ok(AExpr::$kind { $($input,)* $($other),* })
+            })*
+            Expr::Explode(input) => {
+                let input = add_nodes(Box::into_inner(input), $keep, $arena)?;
+                Ok(AExpr::Explode(input))
+            }
+            Expr::SortBy { expr, by, sort_options } => {
+                let expr = add_nodes(Box::into_inner(expr), $keep, $arena)?;
+                let by = add_each(by, $keep, $arena)?;
+                Ok(AExpr::SortBy { expr, by, sort_options })
+            }
+            Expr::Alias(input, name) => {
+                let input = add_nodes(Box::into_inner(input), $keep, $arena)?;
+                Ok(AExpr::Alias(input, name))
+            }
+        }
+    };
 }
 
 // Adds the nodes of an expression's inputs, and answers its item over them.
@@ -205,43 +231,27 @@ fn add_inputs(expr: Expr, keep: bool, arena: &mut Arena<AExpr>) -> Result<AExpr,
     ensures grows { Grows arena.old arena.new }
     ensures err { IfErr result (λ error. error ≡ no_memory) }
 {
-    match expr {
-        Expr::Column(name) => Ok(AExpr::Column(name)),
-        Expr::Literal(value) => Ok(AExpr::Literal(value)),
-        Expr::Len => Ok(AExpr::Len),
-        Expr::BinaryExpr { left, op, right } => over!(arena, keep, BinaryExpr { left, right } op),
-        Expr::Cast {
-            expr,
-            dtype,
-            options,
-        } => over!(arena, keep, Cast { expr } dtype, options),
-        Expr::Slice {
-            input,
-            offset,
-            length,
-        } => over!(
-            arena,
-            keep,
-            Slice {
-                input,
-                offset,
-                length
-            }
-        ),
-        Expr::Explode(input) => {
-            let input = add_nodes(Box::into_inner(input), keep, arena)?;
-            Ok(AExpr::Explode(input))
-        }
-        Expr::Gather {
-            expr,
-            idx,
-            returns_scalar,
-        } => over!(arena, keep, Gather { expr, idx } returns_scalar),
-        Expr::Filter { input, by } => over!(arena, keep, Filter { input, by }),
-        Expr::Sort { expr, options } => over!(arena, keep, Sort { expr } options),
-        Expr::Alias(input, name) => {
-            let input = add_nodes(Box::into_inner(input), keep, arena)?;
-            Ok(AExpr::Alias(input, name))
-        }
+    item_over!(expr, arena, keep,
+        BinaryExpr { left, right } [op]
+        Cast { expr } [dtype, options]
+        Slice { input, offset, length } []
+        Gather { expr, idx } [returns_scalar]
+        Filter { input, by } []
+        Sort { expr } [options]
+    )
+}
+
+// Adds the nodes of expressions, one after the other.
+#[cycle(nodes)]
+fn add_each(exprs: Exprs, keep: bool, arena: &mut Arena<AExpr>) -> Result<NodeList, PlanError>
+    ensures ok { IfOk result (λ nodes. DenoteAll (HoldsFrom (length arena.old) arena.new) (numbers nodes.items.items) (all_pruned keep (children_from (trees_of exprs)))) }
+    ensures grows { Grows arena.old arena.new }
+    ensures err { IfErr result (λ error. error ≡ no_memory) }
+{
+    let mut items = Vec::new(arena.allocator());
+    for expr in exprs.items {
+        let node = add_nodes(expr, keep, arena)?;
+        items.push(node)?;
     }
+    Ok(NodeList { items })
 }

@@ -5,11 +5,10 @@ ghost use Rattle.std.specs.Option.{option_map_or};
 ghost use Rattle.plan_types.specs.Errors.{no_memory, IsRefusal};
 ghost use Rattle.plan_types.specs.Schemas.{columns};
 ghost use Rattle.plan_dsl.specs.Aliases.{core};
-ghost use Rattle.plan_dsl.specs.Expressions.{tree_of};
+ghost use Rattle.plan_dsl.specs.Expressions.{tree_of, trees_of};
 ghost use Rattle.plan_dsl.specs.Literals.{settled};
 ghost use Rattle.plan_dsl.specs.Names.{label_of};
 ghost use Rattle.plan_dsl.specs.Ops.{Expression, Op};
-ghost use Rattle.plan_dsl.specs.Plans.{trees_of};
 ghost use Rattle.plan_dsl.specs.Registry.{registry};
 ghost use Rattle.plan_dsl.specs.Typing.{typing};
 ghost use Rattle.plan_arena.specs.Denotation.{Denotes};
@@ -23,14 +22,16 @@ use plan_arena::aexpr::{AExpr, Nodes};
 use plan_arena::arena::{Arena, Node};
 use plan_arena::expr_ir::{ExprIR, ExprIRs, OutputName};
 use plan_coerce::stack_opt::coerce_types;
-use plan_dsl::expr::Expr;
-use plan_dsl::plan::Exprs;
+use plan_dsl::expr::{Expr, Exprs};
 use plan_dsl::udfs::Udfs;
 use plan_infer::type_table::TypeTable;
 use plan_types::error::{ErrorKind, PlanError};
 use plan_types::schema::Schema;
 use smallvec::SmallVec;
 use std::alloc::Global;
+
+// So many nodes has an operator over two columns that are both cast.
+const USUAL_NODES: usize = 5;
 
 /// Lowered expressions, and the schema of their columns.
 #[derive(Drop)]
@@ -52,7 +53,39 @@ pub(crate) fn project_strictly(
         HoldsExpression arena.old n op inputs → HoldsExpression arena.new n op inputs }
     ensures err { IfErr result (IsProjectionRefusal (registry udfs.now) (columns schema.now) (trees_of exprs)) }
 {
-    let mut types = TypeTable::new(arena.allocator());
+    let types = room_for(exprs.items.len(), arena)?;
+    let projection = project_in(exprs, schema, arena, udfs, types)?;
+    Ok(projection)
+}
+
+// Makes room for the nodes of so many expressions, and a table for their types.
+fn room_for(count: usize, arena: &mut Arena<AExpr>) -> Result<TypeTable, PlanError>
+    ensures ok { IfOk result (λ types. (n : ℕ) → ¬ (IsKept types n)) }
+    ensures same { arena.new ≡ arena.old }
+    ensures err { IfErr result (λ error. error ≡ no_memory) }
+{
+    let nodes = count.saturating_mul(USUAL_NODES);
+    arena.reserve(nodes)?;
+    let types = TypeTable::with_capacity(arena.allocator(), nodes)?;
+    Ok(types)
+}
+
+// The same, with a table that keeps nothing yet.
+fn project_in(
+    exprs: Exprs,
+    schema: &Schema,
+    arena: &mut Arena<AExpr>,
+    udfs: &Udfs,
+    types: TypeTable,
+) -> Result<Projection, PlanError>
+    requires empty { (n : ℕ) → ¬ (IsKept types n) }
+    ensures ok { IfOk result (λ projection. HasOutputs (registry udfs.now) (columns schema.now) arena.new
+        (trees_of exprs) (map named_node projection.expr.items.items) (columns projection.schema)) }
+    ensures kept { (n : ℕ) (op : Op) (inputs : List ℕ) →
+        HoldsExpression arena.old n op inputs → HoldsExpression arena.new n op inputs }
+    ensures err { IfErr result (IsProjectionRefusal (registry udfs.now) (columns schema.now) (trees_of exprs)) }
+{
+    let mut types = types;
     let projection = project(exprs, schema, arena, udfs, &mut types)?;
     let mut stack = roots_of(&projection.expr, arena.allocator())?;
     coerce_types(&mut stack, arena, &mut types)?;
@@ -89,8 +122,8 @@ pub(crate) fn project(
     ensures err { IfErr result (IsProjectionRefusal (registry udfs.now) (columns schema.now) (trees_of exprs)) }
 {
     let alloc = arena.allocator();
-    let mut items = Vec::new(alloc);
-    let mut output = Schema::new(alloc);
+    let mut items = Vec::with_capacity(alloc, exprs.items.len())?;
+    let mut output = Schema::with_capacity(alloc, exprs.items.len())?;
     for expr in exprs.items {
         let expr_ir = project_one(expr, schema, arena, udfs, types, &mut output)?;
         items.push(expr_ir)?;

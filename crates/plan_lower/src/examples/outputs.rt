@@ -4,19 +4,32 @@ ghost use Rattle.std.specs.Prelude.{◌≡◌, [], ◌∷◌, pos, codes, Some};
 ghost use Rattle.plan_types.specs.Types.{Truth};
 ghost use Rattle.plan_types.specs.Errors.{no_memory, at_top};
 ghost use Rattle.plan_types.specs.declared.dtype.CastOptions.TheVariants.{NonStrict};
+ghost use Rattle.plan_types.specs.declared.dtype.DataType.TheVariants.{Int16 as HalfWide, Int32 as Wide};
 ghost use Rattle.plan_types.specs.declared.error.ErrorKind.TheVariants.{ColumnNotFound, Duplicate, InvalidOperation};
 ghost use Rattle.plan_dsl.specs.declared.literal.LiteralValue.TheVariants.{Int, Int32};
 ghost use Rattle.plan_dsl.specs.Names.{column_label};
 ghost use Rattle.plan_dsl.specs.Ops.{CastOp};
 ghost use Rattle.plan_dsl.specs.Trees.{node, no_more, more};
 ghost use Rattle.plan_dsl.specs.Plans.{empty_table, select_op};
-ghost use Rattle.plan_arena.specs.declared.aexpr.AExpr.TheVariants.{Literal};
+ghost use Rattle.plan_arena.specs.declared.aexpr.AExpr.TheVariants.{Cast, Column, Literal};
+ghost use Rattle.plan_arena.specs.Samples.{node_at};
+ghost use Rattle.plan_lower.specs.Nodes.{IsItemOf};
 ghost use Rattle.plan_lower.specs.Outputs.{IsLowered, SelectsTo, HasOutputs, lowered_named, lowered_column, over, lowered_select};
 ghost use Rattle.plan_lower.specs.Predicates.{FiltersBy, HasPredicate, IsPredicateRefusal, lowered_filter};
 ghost use Rattle.plan_lower.specs.Projection.{IsOutput, Projects, AddsOutput, IsOutputRefusal, RefusesOne, IsProjectionRefusal, output_node, output_column};
 ghost use Rattle.plan_infer.specs.Samples.{int8, int16, int32, one_column, columns_of, two_columns, of_type, of_one, a, b, c, five, sum, columns_and, a_items};
 ghost use Rattle.plan_coerce.specs.Samples.{strict_sum, wide};
 ghost use Rattle.plan_lower.specs.Samples.{truths, keep, keep_items, node_named, output, lowered_to, as_it_is, scan_of, select_over, filter_over};
+
+/// An item does what an expression's top does, over nodes from a number on that denote its operands.
+pub fn items_of_expressions()
+    ensures column { IsItemOf 0 [] a (Column (codes "a")) }
+    ensures cast { IsItemOf 0 a_items wide (Cast (node_at 0) Wide NonStrict) }
+    ensures other_column { ¬ (IsItemOf 0 [] b (Column (codes "a"))) }
+    ensures other_cast { ¬ (IsItemOf 0 a_items wide (Cast (node_at 0) HalfWide NonStrict)) }
+    ensures other_operand { ¬ (IsItemOf 0 a_items (node (CastOp int32 NonStrict) (more b no_more)) (Cast (node_at 0) Wide NonStrict)) }
+    ensures below_the_number { ¬ (IsItemOf 1 a_items wide (Cast (node_at 0) Wide NonStrict)) }
+{}
 
 /// An output's node denotes its expression as a plan takes it, with its typing.
 pub fn outputs_of_expressions()

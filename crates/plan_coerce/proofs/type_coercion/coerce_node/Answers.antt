@@ -29,8 +29,8 @@ operands_to-requires-clause-ready c = λ own keeps.
     let some : found.operands.items ≢ [] = λ e. false≢true (sym c.if-is_strict.false ∙ c.is_strict.ensures.1 e) in
     let one = keeps_one c.args.types.now c.args.node.0 found own c.get.ensures keeps in
     let ready = takes_ready is.registry is.schema c.args.arena.now c.args.types.now is.right c.args.node.0 item found c.get-item.ensures c.get.ensures some in
-    let inputs = c.input_nodes-inputs.ensures in
-    subst (λ (x : Inferred). AllReady c.args.types.now c.input_nodes-inputs.result (map ty x.operands.items)) one (subst (λ ns. AllReady c.args.types.now ns (map ty found.operands.items)) (sym inputs) ready)
+    let inputs = ap numbers c.as_slice-inputs.ensures ∙ c.in_ok-nodes.ensures.ok in
+    subst (λ (x : Inferred). AllReady c.args.types.now (numbers c.as_slice-inputs.result.now) (map ty x.operands.items)) one (subst (λ ns. AllReady c.args.types.now ns (map ty found.operands.items)) (sym inputs) ready)
 
 pub returns-in_err-operands-clause-elsewhere : goal.returns-in_err-operands-clause-elsewhere
 returns-in_err-operands-clause-elsewhere c = λ n op inputs other h. grown_held _ _ c.in_err-operands.ensures.grows n op inputs h
@@ -43,7 +43,7 @@ replace_inputs-requires-clause-there c =
 pub replace_inputs-requires-clause-count : goal.replace_inputs-requires-clause-count
 replace_inputs-requires-clause-count c = λ now there.
     let item = c.get-item.result.now in
-    let inputs = c.input_nodes-inputs.ensures in
+    let inputs = ap numbers c.as_slice-inputs.ensures ∙ c.in_ok-nodes.ensures.ok in
     let changed = c.in_ok-operands.ensures.changed c.get.result.now c.get.ensures in
     let count = changed_count _ _ _ _ _ _ changed ∙ ap length inputs in
     let same = same_inputs c.args.arena.now c.operands_to.new.arena c.args.node.0 item now c.get-item.ensures c.in_ok-operands.ensures.grows there in
@@ -53,7 +53,7 @@ pub returns-clause-ok : goal.returns-clause-ok
 returns-clause-ok c = λ registry schema first t right le d has.
     let item = c.get-item.result.now in
     let own = c.get.result.now in
-    let inputs = c.input_nodes-inputs.ensures in
+    let inputs = ap numbers c.as_slice-inputs.ensures ∙ c.in_ok-nodes.ensures.ok in
     let some : own.operands.items ≢ [] = λ e. false≢true (sym c.if-is_strict.false ∙ c.is_strict.ensures.1 e) in
     let changed = subst (λ ns. AreChanged c.args.arena.now c.operands_to.new.arena c.args.types.now ns (numbers c.in_ok-operands.operands.items) (map ty own.operands.items)) inputs (c.in_ok-operands.ensures.changed own c.get.ensures) in
     let rew = subst (λ ms. Rewired c.operands_to.new.arena c.replace_inputs.new.self c.args.node.0 (numbers ms)) c.as_slice.ensures c.replace_inputs.ensures in
@@ -64,7 +64,7 @@ pub returns-clause-right : goal.returns-clause-right
 returns-clause-right c = λ registry schema right.
     let item = c.get-item.result.now in
     let own = c.get.result.now in
-    let inputs = c.input_nodes-inputs.ensures in
+    let inputs = ap numbers c.as_slice-inputs.ensures ∙ c.in_ok-nodes.ensures.ok in
     let some : own.operands.items ≢ [] = λ e. false≢true (sym c.if-is_strict.false ∙ c.is_strict.ensures.1 e) in
     let changed = subst (λ ns. AreChanged c.args.arena.now c.operands_to.new.arena c.args.types.now ns (numbers c.in_ok-operands.operands.items) (map ty own.operands.items)) inputs (c.in_ok-operands.ensures.changed own c.get.ensures) in
     let rew = subst (λ ms. Rewired c.operands_to.new.arena c.replace_inputs.new.self c.args.node.0 (numbers ms)) c.as_slice.ensures c.replace_inputs.ensures in
@@ -79,7 +79,7 @@ returns-clause-elsewhere c = λ n op inputs other h.
 pub returns-clause-closed : goal.returns-clause-closed
 returns-clause-closed c = λ start roots le near closed.
     let item = c.get-item.result.now in
-    let inputs = c.input_nodes-inputs.ensures in
+    let inputs = ap numbers c.as_slice-inputs.ensures ∙ c.in_ok-nodes.ensures.ok in
     let below = subst (AllByRecursion (Near start roots)) (sym inputs) (inputs_near start roots c.args.arena.now c.args.node.0 item c.get-item.ensures closed near) in
     let after = changed_near start roots c.args.arena.now c.operands_to.new.arena c.args.types.now _ _ _ le (c.in_ok-operands.ensures.changed c.get.result.now c.get.ensures) below in
     let rew = subst (λ ms. Rewired c.operands_to.new.arena c.replace_inputs.new.self c.args.node.0 (numbers ms)) c.as_slice.ensures c.replace_inputs.ensures in

@@ -1,7 +1,9 @@
-use Rattle.std.proofs.Common.{◌<◌, length, slice_get, sym, ap, ◌∙◌, subst, arith}
+use Rattle.std.proofs.Common.{◌<◌, get_or, length, slice_get, sym, ap, ◌∙◌, subst, arith}
 use Rattle.std.proofs.lemmas.Option.{get_or_from_slice_get}
 use Rattle.plan_arena.proofs.ItemLemmas.{grows_then, length-grown}
-use Rattle.plan_arena.proofs.NumberLemmas.{all_there}
+use Rattle.std.proofs.lemmas.List.{length-map}
+use Rattle.plan_arena.specs.Items.{numbers}
+use Rattle.plan_arena.proofs.NumberLemmas.{all_there, number_at}
 use Rattle.plan_infer.specs.declared.type_table.Inferred.{Inferred}
 use Rattle.plan_infer.proofs.TableLemmas.{extends_then, keeps_one, still_keeps, still_kept}
 use Rattle.plan_coerce.proofs.CoercionLemmas.{all_changed, changed_more, kept_more, ready_at, ready_length, ready_there, ready_within}
@@ -17,7 +19,7 @@ operand-requires c =
     let keeps = c.requires.kept.keeps in
     let same = keeps_one c.loop-index.types c.args.node.0 c.get.result.now own c.get.ensures (c.loop-index.invariant.extends.entries c.args.node.0 own keeps) in
     let listed = ap (λ (x : Inferred). x.operands.items) same in
-    let within = ready_within c.args.types.now c.args.inputs.now own.operands.items c.loop-index.index (c.requires.ready own keeps) (omega (arith, c.loop-index-test.true)) in
+    let within = ready_within c.args.types.now (numbers c.args.inputs.now) own.operands.items c.loop-index.index (c.requires.ready own keeps) (omega (arith, c.loop-index-test.true, length-map c.args.inputs.now (λ n. n.0))) in
     subst (λ l. c.loop-index.index < length l) (sym listed) within
 
 pub operand_to-requires-clause-ready : goal.operand_to-requires-clause-ready
@@ -28,30 +30,31 @@ operand_to-requires-clause-ready c =
     let listed = ap (λ (x : Inferred). x.operands.items) same in
     let t = c.operand.result.now in
     let is = sym (get_or_from_slice_get own.operands.items c.loop-index.index t t (ap (λ l. slice_get l c.loop-index.index) (sym listed) ∙ c.operand.ensures)) in
-    ready_at c.args.types.now c.loop-index.types c.args.inputs.now own.operands.items c.loop-index.index c.at.result.0 t c.in_ok-target.target (c.requires.ready own keeps) c.at.ensures is c.in_ok-target.ensures.ok c.loop-index.invariant.extends
+    ready_at c.args.types.now c.loop-index.types (numbers c.args.inputs.now) own.operands.items c.loop-index.index (get_or c.args.inputs.now c.loop-index.index (record { 0 = 0 })).0 t c.in_ok-target.target (c.requires.ready own keeps) (number_at c.args.inputs.now c.loop-index.index (record { 0 = 0 }) c.loop-index-test.true) is c.in_ok-target.ensures.ok c.loop-index.invariant.extends
 
 pub loop-index-preserved : goal.loop-index-preserved
 loop-index-preserved c =
     let before = c.loop-index.invariant in
     let one = c.in_ok-changed.ensures in
-    let n = c.at.result.0 in
-    let ns = c.args.inputs.now in
+    let n = (get_or c.args.inputs.now c.loop-index.index (record { 0 = 0 })).0 in
+    let ns = numbers c.args.inputs.now in
+    let at = number_at c.args.inputs.now c.loop-index.index (record { 0 = 0 }) c.loop-index-test.true in
     record {
       grows = grows_then c.args.arena.now c.loop-index.arena c.operand_to.new.arena before.grows one.grows;
       extends = extends_then c.args.types.now c.loop-index.types c.operand_to.new.types before.extends one.extends;
       right = λ registry schema right. one.right registry schema (before.right registry schema right);
-      closed = λ start roots le near closed. one.closed start roots (omega (arith, le, length-grown c.args.arena.now c.loop-index.arena before.grows)) (all_there (Near start roots) ns near c.loop-index.index n c.at.ensures) (before.closed start roots le near closed);
+      closed = λ start roots le near closed. one.closed start roots (omega (arith, le, length-grown c.args.arena.now c.loop-index.arena before.grows)) (all_there (Near start roots) ns near c.loop-index.index n at) (before.closed start roots le near closed);
       kept = kept_more c.loop-index.types c.operand_to.new.types c.loop-index.operands.items c.push.new.self.items c.in_ok-changed.changed one.extends before.kept one.kept c.in_ok-push.ensures.ok;
       changed = λ own keeps.
           let same = keeps_one c.loop-index.types c.args.node.0 c.get.result.now own c.get.ensures (before.extends.entries c.args.node.0 own keeps) in
           let listed = ap (λ (x : Inferred). x.operands.items) same in
           let t = c.operand.result.now in
           let is = sym (get_or_from_slice_get own.operands.items c.loop-index.index t t (ap (λ l. slice_get l c.loop-index.index) (sym listed) ∙ c.operand.ensures)) in
-          let ready = ready_there c.args.types.now ns own.operands.items c.loop-index.index n t (c.requires.ready own keeps) c.at.ensures in
-          let also = ready_within c.args.types.now ns own.operands.items c.loop-index.index (c.requires.ready own keeps) (omega (arith, c.loop-index-test.true)) in
-          changed_more c.args.arena.now c.loop-index.arena c.operand_to.new.arena c.args.types.now c.loop-index.types ns c.loop-index.operands.items c.push.new.self.items own.operands.items c.loop-index.index n c.in_ok-changed.changed t c.in_ok-target.target (before.changed own keeps) c.at.ensures also is c.in_ok-target.ensures.ok c.in_ok-push.ensures.ok before.grows one.grows ready.dtype ready.keeps (one.changed ready.dtype (still_keeps c.args.types.now c.loop-index.types before.extends n ready.dtype ready.keeps));
+          let ready = ready_there c.args.types.now ns own.operands.items c.loop-index.index n t (c.requires.ready own keeps) at in
+          let also = ready_within c.args.types.now ns own.operands.items c.loop-index.index (c.requires.ready own keeps) (omega (arith, c.loop-index-test.true, length-map c.args.inputs.now (λ n. n.0))) in
+          changed_more c.args.arena.now c.loop-index.arena c.operand_to.new.arena c.args.types.now c.loop-index.types ns c.loop-index.operands.items c.push.new.self.items own.operands.items c.loop-index.index n c.in_ok-changed.changed t c.in_ok-target.target (before.changed own keeps) at also is c.in_ok-target.ensures.ok c.in_ok-push.ensures.ok before.grows one.grows ready.dtype ready.keeps (one.changed ready.dtype (still_keeps c.args.types.now c.loop-index.types before.extends n ready.dtype ready.keeps));
     }
 
 pub returns-clause-changed : goal.returns-clause-changed
 returns-clause-changed c = λ own keeps.
-    all_changed c.args.arena.now c.loop-index.arena c.args.types.now c.args.inputs.now c.loop-index.operands.items own.operands.items c.loop-index.index (omega (arith, c.loop-index-test.false, c.loop-index.auto.index-end)) (ready_length c.args.types.now c.args.inputs.now own.operands.items (c.requires.ready own keeps)) (c.loop-index.invariant.changed own keeps)
+    all_changed c.args.arena.now c.loop-index.arena c.args.types.now (numbers c.args.inputs.now) c.loop-index.operands.items own.operands.items c.loop-index.index (omega (arith, c.loop-index-test.false, c.loop-index.auto.index-end, length-map c.args.inputs.now (λ n. n.0))) (ready_length c.args.types.now (numbers c.args.inputs.now) own.operands.items (c.requires.ready own keeps)) (c.loop-index.invariant.changed own keeps)

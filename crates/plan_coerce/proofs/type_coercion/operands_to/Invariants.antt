@@ -17,7 +17,7 @@ invariant-loop-index l =
       grows : Grows l.initial.arena l.arena;
       extends : Extends l.initial.types l.types;
       right : (registry : Registry) (schema : Columns) → IsRight registry schema l.initial.arena l.initial.types → IsRight registry schema l.arena l.types;
-      closed : (start : List AExpr) (roots : List ℕ) → length start ≤ length l.initial.arena → AllByRecursion (Near start roots) l.inputs → IsClosed start roots l.initial.arena → IsClosed start roots l.arena;
+      closed : (start : List AExpr) (roots : List ℕ) → length start ≤ length l.initial.arena → AllByRecursion (Near start roots) (numbers l.inputs) → IsClosed start roots l.initial.arena → IsClosed start roots l.arena;
       kept : AllByRecursion (IsKept l.types) (numbers l.operands.items);
-      changed : (own : Inferred) → KeepsEntry l.initial.types l.node.0 own → AreChanged l.initial.arena l.arena l.initial.types (take l.index l.inputs) (numbers l.operands.items) (map ty (take l.index own.operands.items));
+      changed : (own : Inferred) → KeepsEntry l.initial.types l.node.0 own → AreChanged l.initial.arena l.arena l.initial.types (take l.index (numbers l.inputs)) (numbers l.operands.items) (map ty (take l.index own.operands.items));
     }

@@ -1,4 +1,4 @@
-use Rattle.std.proofs.Common.{arith, refl, sym, ap, ◌∙◌, subst, ◌∷◌, [], ◌++◌, map}
+use Rattle.std.proofs.Common.{arith, refl, sym, subst, ◌∷◌, [], map}
 use Rattle.plan_types.proofs.ResultLemmas.{passed_on}
 use Rattle.plan_types.specs.Errors.{IsRefusal}
 use Rattle.plan_types.specs.Types.{ty}
@@ -31,6 +31,6 @@ returns-clause-ok c = λ registry schema.
     let taken = c.in_ok-taken.taken in
     let own : Inferred = record { name = left.name; dtype = taken.result; many = c.either.result; operands = c.unless_own.result } in
     let typed = two_typings c.args.types.now c.args.inputs.now (record { 0 = 0 }) left right c.requires.two c.get-left.ensures c.get-right.ensures in
-    let targets = c.in_ok-push-2.ensures.items ∙ ap (λ ts. ts ++ taken.right ∷ []) (c.in_ok-push.ensures.items ∙ ap (λ ts. ts ++ taken.left ∷ []) c.new-targets.ensures.items) in
+    let targets = c.in_ok-targets.ensures.ok in
     let operands = subst (λ ts. AreOperands (map ty c.unless_own.result.items) (types_of ts) (ty taken.left ∷ ty taken.right ∷ [])) typed (subst (λ ts. AreOperands (map ty c.unless_own.result.items) (types_of (typings_at c.args.types.now (numbers c.args.inputs.now))) (map ty ts)) targets c.unless_own.ensures) in
     subst (λ ts. IsRuled registry schema (BinaryOp c.args.op) ts own) (sym typed) (binary_ruled registry schema c.args.op (typed_of left) (typed_of right) _ own c.in_ok-taken.ensures.ok refl c.either.ensures operands)

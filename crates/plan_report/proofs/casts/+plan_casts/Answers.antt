@@ -1,12 +1,16 @@
 use Rattle.std.proofs.Common.{[], ◌∷◌, ap, arith}
 use Rattle.plan_arena.specs.Items.{named_node, plan_layer}
-use Rattle.plan_arena.proofs.ItemLemmas.{plan_within}
+use Rattle.plan_arena.proofs.ItemLemmas.{item_inputs, plan_within}
 use Rattle.plan_report.proofs.NodeLemmas.{plan_inputs, node_kind, select_outputs, filter_outputs}
 use Rattle.plan_report.proofs.CastLemmas.{only_named, scan_casts, select_casts, filter_casts, plan_counted}
 use Rattle.plan_report.proofs.casts.+plan_casts.Goals as goal
 
 pub get-item-requires : goal.get-item-requires
 get-item-requires t c = plan_within c.args.plan.now.expr_arena c.args.plan.now.lp_arena c.args.node.0 c.requires
+
+pub unreachable-requires : goal.unreachable-requires
+unreachable-requires t c =
+    (item_inputs c.args.plan.now.expr_arena c.args.plan.now.lp_arena c.args.node.0 c.get-item.result.now c.get-item.ensures c.requires).valid c.in-Invalid.is
 
 pub outputs_casts-requires : goal.outputs_casts-requires
 outputs_casts-requires t c =

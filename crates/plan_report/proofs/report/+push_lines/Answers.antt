@@ -8,6 +8,10 @@ use Rattle.plan_report.proofs.report.+push_lines.Goals as goal
 pub get-item-requires : goal.get-item-requires
 get-item-requires t c = plan_within c.args.plan.now.expr_arena c.args.plan.now.lp_arena c.args.node.0 c.requires
 
+pub unreachable-requires : goal.unreachable-requires
+unreachable-requires t c =
+    (item_inputs c.args.plan.now.expr_arena c.args.plan.now.lp_arena c.args.node.0 c.get-item.result.now c.get-item.ensures c.requires).valid c.in-Invalid.is
+
 pub push_lines-requires : goal.push_lines-requires
 push_lines-requires t c =
     let is = ap plan_layer c.in-Filter.is in

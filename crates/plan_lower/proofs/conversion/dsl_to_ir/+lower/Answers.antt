@@ -2,8 +2,8 @@ use Rattle.std.proofs.Common.{[], ◌∷◌, map, None, sym, ap, ◌∙◌}
 use Rattle.plan_types.specs.Schemas.{columns}
 use Rattle.plan_types.proofs.ResultLemmas.{passed_on}
 use Rattle.plan_types.proofs.SchemaLemmas.{schema_has_distinct_names}
-use Rattle.plan_dsl.specs.Expressions.{tree_of}
-use Rattle.plan_dsl.specs.Plans.{plan_tree, trees_of, filter_op, select_op, written_filter, written_select}
+use Rattle.plan_dsl.specs.Expressions.{tree_of, trees_of}
+use Rattle.plan_dsl.specs.Plans.{plan_tree, filter_op, select_op, written_filter, written_select}
 use Rattle.plan_dsl.specs.Sources.{written}
 use Rattle.plan_dsl.specs.PlanRules.{schema_of}
 use Rattle.plan_dsl.specs.Registry.{registry}

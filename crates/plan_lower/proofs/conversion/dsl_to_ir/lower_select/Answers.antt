@@ -1,7 +1,7 @@
 use Rattle.std.proofs.Common.{is_some, map, sym, ap, refl, subst, ◌∙◌, arith}
 use Rattle.std.proofs.lemmas.List.{length-map}
 use Rattle.plan_types.specs.Schemas.{Columns, columns}
-use Rattle.plan_dsl.specs.Plans.{trees_of}
+use Rattle.plan_dsl.specs.Expressions.{trees_of}
 use Rattle.plan_dsl.specs.Registry.{registry}
 use Rattle.plan_arena.specs.Items.{named_node}
 use Rattle.plan_lower.specs.Lowering.{IsSelectAt, columns_at}

@@ -1,14 +1,16 @@
-use Rattle.std.proofs.Common.{length, refl, subst, sym}
-use Rattle.plan_dsl.specs.Aliases.{prune_node, pruned}
-use Rattle.plan_dsl.specs.Expressions.{tree_of}
+use Rattle.std.proofs.Common.{length, map, refl, subst, sym, ap, ◌∙◌}
+use Rattle.std.specs.Vec.Iter.{into_iter_items}
+use Rattle.plan_dsl.specs.Aliases.{all_pruned, inputs_pruned, prune_node, pruned}
+use Rattle.plan_dsl.specs.Expressions.{tree_of, trees_of}
 use Rattle.plan_dsl.specs.Ops.{AliasOp}
-use Rattle.plan_dsl.specs.Trees.{node, no_more, more}
-use Rattle.plan_arena.specs.declared.aexpr.AExpr.TheVariants.{Alias}
+use Rattle.plan_dsl.specs.Trees.{node, no_more, more, children_from}
+use Rattle.plan_dsl.proofs.ExprLemmas.{sort_by_op, sort_by_tree}
+use Rattle.plan_arena.specs.declared.aexpr.AExpr.TheVariants.{Alias, SortBy}
 use Rattle.plan_arena.specs.Denotation.{Denotes}
 use Rattle.plan_arena.specs.Items.{HoldsFrom}
 use Rattle.plan_lower.specs.Nodes.{IsItemOf}
-use Rattle.plan_arena.proofs.ItemLemmas.{length-grown}
-use Rattle.plan_lower.proofs.NodeLemmas.{item_denotes, over_added, pruned_item}
+use Rattle.plan_arena.proofs.ItemLemmas.{grows_then, length-grown}
+use Rattle.plan_lower.proofs.NodeLemmas.{adding_step, item_denotes, over_added, over_listed, pruned_item}
 use Rattle.plan_lower.proofs.conversion.expr_to_ir.+nodes.Goals as goal
 
 pub add_nodes-returns-in_ok-node-in-Alias-clause-denotes : goal.add_nodes-returns-in_ok-node-in-Alias-clause-denotes
@@ -57,3 +59,26 @@ add_inputs-returns-in_ok-by-in-Filter-clause-ok t c =
     let input = c.in_ok-input-in-Filter.ensures in
     let by = c.in_ok-by-in-Filter.ensures in
     rw (c.in-Filter.is, ← c.into_inner-in-Filter.ensures, ← c.into_inner-in-Filter-2.ensures) (over_added _ _ _ _ (more _ (more _ no_more)) refl (_, input.denotes, input.grows, (_, by.denotes, by.grows, refl)))
+
+-- one over an input and a list, which was added behind it
+pub add_inputs-returns-in_ok-by-in-SortBy-clause-ok :
+    goal.add_inputs-returns-in_ok-by-in-SortBy-clause-ok
+add_inputs-returns-in_ok-by-in-SortBy-clause-ok t c =
+    let kind = c.in-SortBy in
+    let first = c.in_ok-expr-in-SortBy.ensures in
+    let rest = c.in_ok-by-in-SortBy.ensures in
+    let keys = all_pruned c.args.keep (children_from (trees_of kind.by)) in
+    let whole = ap (inputs_pruned c.args.keep) (ap tree_of kind.is ∙ sort_by_tree kind.expr kind.by kind.sort_options) in
+    let tree = whole ∙ ap (λ e. node (sort_by_op kind.sort_options) (more (pruned c.args.keep (tree_of e)) keys)) (sym c.into_inner-in-SortBy.ensures) in
+    over_listed c.args.arena.now c.add_nodes-in-SortBy.new.arena c.add_each.new.arena _ (SortBy c.in_ok-expr-in-SortBy.expr c.in_ok-by-in-SortBy.by kind.sort_options) _ _ _ keys tree refl first.denotes first.grows rest.ok rest.grows
+
+pub add_each-loop-expr-preserved : goal.add_each-loop-expr-preserved
+add_each-loop-expr-preserved t c =
+    let before = c.loop-expr.invariant in
+    let node = c.in_ok-node.ensures in
+    record {
+      can = tt;
+      finite = tt;
+      grows = grows_then _ _ _ before.grows node.grows;
+      so_far = adding_step _ _ _ _ _ _ (map tree_of (into_iter_items c.next.new.self)) _ _ (tree_of c.in-Some.expr) c.in_ok-node.node before.so_far (ap (map tree_of) c.in-Some.ensures.steps.0) (length-grown _ _ before.grows) node.grows node.denotes c.in_ok-push.ensures.items;
+    }

@@ -2,8 +2,7 @@ use Rattle.std.proofs.Common.{length, map}
 use Rattle.std.specs.List.{AllByRecursion}
 use Rattle.std.specs.Vec.Iter.{into_iter_items}
 use Rattle.plan_types.specs.Schemas.{columns}
-use Rattle.plan_dsl.specs.Expressions.{tree_of}
-use Rattle.plan_dsl.specs.Plans.{trees_of}
+use Rattle.plan_dsl.specs.Expressions.{tree_of, trees_of}
 use Rattle.plan_dsl.specs.Registry.{registry}
 use Rattle.plan_arena.specs.Items.{named_node, Grows}
 use Rattle.plan_infer.specs.KeptTypes.{Extends, IsKept, IsRight}

@@ -8,11 +8,11 @@ use Rattle.plan_coerce.specs.Coercion.{IsCoerced}
 use Rattle.plan_infer.specs.KeptTypes.{IsKept}
 use Rattle.plan_lower.proofs.ProjectionLemmas.{roots_are, roots_typed, has_outputs, earlier_kept}
 use Rattle.plan_infer.proofs.TableLemmas.{right_start}
-use Rattle.plan_lower.proofs.conversion.projection.project_strictly.Goals as goal
+use Rattle.plan_lower.proofs.conversion.projection.project_in.Goals as goal
 
 pub project-requires : goal.project-requires
 project-requires c = record {
-  right = right_start (registry c.args.udfs.now) (columns c.args.schema.now) c.args.arena.now c.new-types.result c.new-types.ensures;
+  right = right_start (registry c.args.udfs.now) (columns c.args.schema.now) c.args.arena.now c.args.types c.requires.empty;
 }
 
 pub coerce_types-requires : goal.coerce_types-requires
