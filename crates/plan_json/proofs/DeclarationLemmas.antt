@@ -1,33 +1,15 @@
 -- Types, columns and tables that are read one by one, and the tables' map.
-use Rattle.std.proofs.Common.{◌≡◌, ℕ, List, [], ◌∷◌, ◌++◌, map, position, Bool, true, false, ◌||◌, cond, Option, Some, None, is_some, refl, sym, ap, ◌∙◌, Vec, Global, ◌<◌, length, get_or, take, option_and_then, not, option_map, arith, ◌≤◌, ◌==◌, ◌&&◌, codes, nat_lt}
+use Rattle.plan_json.proofs.Names.{Global, List, None, Option, Some, Vec, [], ap, arith, codes, cond, false, get_or, is_some, length, map, nat_lt, not, option_and_then, position, refl, sym, take, true, ℕ, ◌&&◌, ◌++◌, ◌<◌, ◌==◌, ◌∙◌, ◌∷◌, ◌≡◌, ◌≤◌, a_table, column_list, declared_names, number, own_fault, part, part_of, shape_fault, table_item, table_list, unless, all_of, both, only_member, some_of, two_members, items_view, view, Columns, Name, columns, is_among, names_of, repeats, same_name, type_at, Data, Items, array, item, no_items, object, Declared, table_entry, column_name, column_of, columns_from, columns_of, each_column, keyed_type, struct_of, table_at, table_limit, table_name, table_of, tables_from, tables_of, text_of, type_of, as_array, at, get, get_item, row_named, type_rows, option_map_or, Ty, field_of, fields_from, Value, items_len-items_view, false_from_ne_true, lt-ltb, ltb-true, or_parts, items_len, members_len, repeats-again, TypeKey, is_among-type_at, row_of, option_map}
 use Rattle.std.specs.Map.{lookup}
-use Rattle.std.specs.Option.{option_map, option_map_or}
-use Rattle.std.proofs.lemmas.Bool.{false_from_ne_true, or_parts, ltb-true, lt-ltb}
-use Rattle.std.proofs.lemmas.Map.Made.{lookup-map_values}
+use Rattle.std.proofs.lemmas.Map.Made.{is_some-lookup, lookup-map_values}
 use Rattle.indexmap.specs.IndexMap.{insert_entry}
 use Rattle.indexmap.proofs.MapLemmas.{some_index}
-use Rattle.plan_types.specs.Schemas.{Name, columns, same_name, names_of, is_among, Columns, type_at, repeats}
 use Rattle.plan_types.specs.declared.schema.Schema.{Schema}
-use Rattle.plan_json.specs.Looking.{both, only_member, all_of, some_of, two_members}
-use Rattle.plan_json.specs.Leaves.{table_at, text_of, type_of, struct_of, each_column, column_of, column_name, columns_of, columns_from, keyed_type, table_of, table_name, tables_of, tables_from, table_limit}
-use Rattle.plan_json.specs.Tables.{Declared, table_entry}
-use Rattle.plan_json.proofs.LookingLemmas.{array-from_as_array, object-from_only_member}
-use Rattle.plan_types.specs.Types.{Ty, fields_of as row_of, fields_from, field_of}
 use Rattle.plan_types.specs.declared.dtype.Fields.{roll-Fields}
 use Rattle.plan_types.specs.declared.field.Field.{Field}
 use Rattle.plan_types.proofs.FieldLemmas.{rolled_fields}
-use Rattle.plan_types.proofs.NameLemmas.{repeats-again}
-use Rattle.plan_types.proofs.SchemaLemmas.{is_among-type_at}
-use Rattle.serde_json.specs.Data.{Data, Items, array, no_items, item, object}
-use Rattle.serde_json.specs.Find.{as_array, get, get_item}
-use Rattle.serde_json.specs.View.{view, items_view}
-use Rattle.serde_json.specs.declared.value.Value.{Value}
-use Rattle.plan_json.specs.Faults.{column_list, own_fault, shape_fault, unless, table_list, a_table, number, part, part_of, table_item, declared_names}
-use Rattle.plan_json.specs.Forms.{row_named, type_rows}
-use Rattle.plan_json.specs.declared.forms.TypeKey.{TypeKey}
-use Rattle.plan_json.proofs.ItemLemmas.{some_of-names, names_split, item_at, first_items-take, both_are, chained, kept}
-use Rattle.serde_json.specs.Events.{items_len, members_len}
-use Rattle.serde_json.proofs.Views.{items_len-items_view}
+use Rattle.plan_json.proofs.ItemLemmas.{chained, both_are, kept, some_of-names, names_split, item_at, first_items-take}
+use Rattle.plan_json.proofs.LookingLemmas.{array-from_as_array, object-from_only_member}
 
 abbrev Entries : Type 0
 Entries = List (Name × Schema)
@@ -36,14 +18,9 @@ pub names_of-entries : (es : Entries) → names_of (map table_entry es) ≡ name
 names_of-entries [] = refl
 names_of-entries (e ∷ es) = ap (λ l. e.0 ∷ l) (names_of-entries es)
 
-is_among-lookup : {A : Type 0} (es : List (Name × A)) (name : Name) → is_some (lookup (same_name name) es) ≡ is_among name (names_of es)
-is_among-lookup [] name = refl
-is_among-lookup (e ∷ es) name =
-    elim (same_name name e.0) as (λ b. is_some (cond b (Some e.1) (lookup (same_name name) es)) ≡ (b || is_among name (names_of es))) [ true ↦ refl | false ↦ is_among-lookup es name ]
-
 -- whether a table is found is whether its name is among them
 pub is_among-entries : (es : Entries) (name : Name) → is_some (lookup (same_name name) es) ≡ is_among name (names_of (map table_entry es))
-is_among-entries es name = is_among-lookup es name ∙ ap (is_among name) (sym (names_of-entries es))
+is_among-entries es name = is_some-lookup (same_name name) es ∙ ap (is_among name) (sym (names_of-entries es))
 
 pub table_at-some : (es : Entries) (name : Name) (n : ℕ) (schema : Schema) → Some n ≡ position (same_name name) (names_of es) → Some schema ≡ lookup (same_name name) es → Some (n, columns schema) ≡ table_at (map table_entry es) name
 table_at-some es name n schema at found =
@@ -54,15 +31,14 @@ pub table_at-none : (es : Entries) (name : Name) → None ≡ position (same_nam
 table_at-none es name none = ap (λ o. both o (lookup (same_name name) (map table_entry es))) (none ∙ ap (position (same_name name)) (sym (names_of-entries es)))
 
 is_some-both : {A B : Type 0} (x : Option A) (y : Option B) → is_some x ≡ is_some y → is_some (both x y) ≡ is_some x
-is_some-both None y e = refl
 is_some-both (Some x) None e = sym e
-is_some-both (Some x) (Some y) e = refl
+is_some-both _ _ e = refl
 
 -- a table is at a name if and only if the name is among them
 pub is_some-table_at : (tables : Declared) (name : Name) → is_some (table_at tables name) ≡ is_among name (names_of tables)
 is_some-table_at tables name =
     let e = some_index (same_name name) tables in
-    is_some-both (position (same_name name) (names_of tables)) (lookup (same_name name) tables) e ∙ e ∙ is_among-lookup tables name
+    is_some-both (position (same_name name) (names_of tables)) (lookup (same_name name) tables) e ∙ e ∙ is_some-lookup (same_name name) tables
 
 -- a new table goes last
 pub declared-insert : (es : Entries) (name : Name) (schema : Schema) → is_among name (names_of (map table_entry es)) ≡ false → map table_entry (insert_entry same_name es name schema) ≡ map table_entry es ++ (name, columns schema) ∷ []
@@ -118,18 +94,15 @@ table_name-read d t e =
 pub table_names-read : (ds : Items) (ts : Declared) → all_of table_of ds ≡ Some ts → some_of table_name ds ≡ names_of ts
 table_names-read ds ts read = some_of-names table_of table_name table_name-read ds ts read
 
-few : (vs : List Value) (b : Bool) → nat_lt (length vs) table_limit ≡ b → nat_lt (items_len (items_view vs)) table_limit ≡ b
-few vs b e = ap (λ n. nat_lt n table_limit) (items_len-items_view vs) ∙ e
-
 pub tables_too_many : (d : Data) (vs : List Value) → Some (items_view vs) ≡ as_array d → table_limit ≤ length vs → own_fault table_list d ≡ Some (shape_fault d)
-tables_too_many d vs is many =
+tables_too_many d vs is full =
     ap (λ o. unless (shape_fault d) (option_map_or (λ items. nat_lt (items_len items) table_limit) o false)) (sym is)
-    ∙ ap (unless (shape_fault d)) (few vs false (false_from_ne_true _ (λ less. omega (arith, ltb-true (length vs) table_limit less))))
+    ∙ ap (unless (shape_fault d)) (ap (λ n. nat_lt n table_limit) (items_len-items_view vs) ∙ false_from_ne_true _ (λ less. omega (arith, ltb-true (length vs) table_limit less)))
 
 pub tables_all : (d : Data) (vs : List Value) (ts : Declared) → Some (items_view vs) ≡ as_array d → length vs < table_limit → all_of table_of (items_view vs) ≡ Some ts → repeats (names_of ts) ≡ false → tables_of d ≡ Some ts
 tables_all d vs ts is some read distinct =
     ap (option_and_then tables_from) (sym is)
-    ∙ ap (λ b. cond (b && not (repeats (some_of table_name (items_view vs)))) (all_of table_of (items_view vs)) None) (few vs true (lt-ltb (length vs) table_limit some))
+    ∙ ap (λ b. cond (b && not (repeats (some_of table_name (items_view vs)))) (all_of table_of (items_view vs)) None) (ap (λ n. nat_lt n table_limit) (items_len-items_view vs) ∙ lt-ltb (length vs) table_limit some)
     ∙ ap (λ b. cond (not b) (all_of table_of (items_view vs)) None) (ap repeats (table_names-read (items_view vs) ts read) ∙ distinct) ∙ read
 
 -- tables that are read have the names that they give themselves

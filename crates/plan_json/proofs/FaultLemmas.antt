@@ -1,18 +1,5 @@
 -- An error of a part is an error of the value that has the part.
-use Rattle.std.proofs.Common.{◌≡◌, ℕ, List, [], ◌∷◌, ◌++◌, ◌<◌, Option, Some, None, option_map, option_and_then, is_some, length, get_or, Bool, false, sym, ap, ◌∙◌, cond}
-use Rattle.std.specs.Option.{option_map_or}
-use Rattle.std.proofs.lemmas.Slice.Eq.{bytes_eq-Decides}
-use Rattle.serde_json.specs.Data.{Data}
-use Rattle.serde_json.specs.Find.{as_array, at}
-use Rattle.serde_json.specs.View.{view, items_view}
-use Rattle.serde_json.specs.declared.value.Value.{Value}
-use Rattle.plan_types.specs.Schemas.{Name as Name'}
-use Rattle.plan_json.specs.Errors.{IsErrorOf, IsBadAtPointer, IsBelow, IsOwn, step_text}
-use Rattle.plan_json.specs.Faults.{FaultKind, BadShape, BadFloat, BadName, Form, Step, a_text, Part, part, part_if, own_fault, part_of, shape_fault, unless, name_fault, keyed_part, fault_at}
-use Rattle.plan_json.specs.Leaves.{text_of}
-use Rattle.plan_json.specs.Looking.{only_member}
-use Rattle.plan_json.specs.declared.error.JsonError.{JsonError}
-use Rattle.plan_json.specs.declared.error.JsonError.TheVariants.{NotJson, Shape, Float, Name, NoMemory}
+use Rattle.plan_json.proofs.Names.{Bool, List, None, Option, Some, [], ap, cond, get_or, is_some, length, option_and_then, option_map, sym, ℕ, ◌++◌, ◌<◌, ◌∙◌, ◌∷◌, ◌≡◌, BadFloat, BadName, BadShape, FaultKind, Form, Part, Step, a_text, fault_at, keyed_part, name_fault, own_fault, part, part_if, part_of, shape_fault, unless, only_member, items_view, view, Data, text_of, as_array, at, option_map_or, IsBadAtPointer, IsBelow, IsErrorOf, IsOwn, step_text, Value, JsonError, bytes_eq-Decides, Float, NoMemory, NotJson, Shape, Name, Name', none-some}
 use Rattle.plan_json.proofs.ItemLemmas.{item_at}
 use Rattle.plan_json.proofs.LookingLemmas.{array-from_as_array}
 
@@ -25,7 +12,7 @@ pub error_below : (form inner : Form) (d value : Data) (step : Step) (below abov
 error_below form inner d value step NotJson above here bad told = absurd bad
 error_below form inner d value step (Shape path) (Shape longer) here bad told = further form inner d value step BadShape _ _ here bad told
 error_below form inner d value step (Float path) (Float longer) here bad told = further form inner d value step BadFloat _ _ here bad told
-error_below form inner d value step (Name path) (Name longer) here bad told = further form inner d value step BadName _ _ here bad told
+error_below form inner d value step (Name' path) (Name' longer) here bad told = further form inner d value step BadName _ _ here bad told
 error_below form inner d value step below NoMemory here bad told = tt
 error_below form inner d value step below above here bad told = absurd told
 
@@ -33,34 +20,26 @@ error_below form inner d value step below above here bad told = absurd told
 pub IsErrorOf-own : (form : Form) (d : Data) (kind : FaultKind) (error : JsonError) → IsOwn kind error → own_fault form d ≡ Some kind → IsErrorOf form d error
 IsErrorOf-own form d BadShape (Shape path) told broken = ([], told, broken)
 IsErrorOf-own form d BadFloat (Float path) told broken = ([], told, broken)
-IsErrorOf-own form d BadName (Name path) told broken = ([], told, broken)
+IsErrorOf-own form d BadName (Name' path) told broken = ([], told, broken)
 IsErrorOf-own form d kind error told broken = absurd told
 
 -- an error of a value that is to be of a form is one of another form that asks more of the value alone
 pub stricter_error : (form other : Form) (d : Data) → ((kind : FaultKind) → own_fault form d ≡ Some kind → own_fault other d ≡ Some kind) → ((step : Step) → part_of form step d ≡ part_of other step d) → (error : JsonError) → IsErrorOf form d error → IsErrorOf other d error
-stricter_error form other d own parts error bad = go error bad
-  where
-    along : (kind : FaultKind) (text : List ℕ) → IsBadAtPointer form d kind text → IsBadAtPointer other d kind text
-    along kind text ([], is, h) = ([], is, own kind h)
-    along kind text (step ∷ steps, is, h) = (step ∷ steps, is, ap (option_and_then (λ b. fault_at b.form b.value steps)) (sym (parts step)) ∙ h)
-
-    go : (error : JsonError) → IsErrorOf form d error → IsErrorOf other d error
-    go NotJson h = absurd h
-    go (Shape path) h = along BadShape _ h
-    go (Float path) h = along BadFloat _ h
-    go (Name path) h = along BadName _ h
-    go NoMemory h = tt
+stricter_error form other d own parts NotJson bad = bad
+stricter_error form other d own parts NoMemory bad = bad
+stricter_error form other d own parts _ ([], is, h) = ([], is, own _ h)
+stricter_error form other d own parts _ (step ∷ steps, is, h) = (step ∷ steps, is, ap (option_and_then (λ b. fault_at b.form b.value steps)) (sym (parts step)) ∙ h)
 
 -- an error of a value that must be a text is one of a value that must be such a name
-pub name_error : (form : Form) (test : Name' → Bool) (d : Data) (error : JsonError) → own_fault form d ≡ name_fault test d → ((step : Step) → part_of form step d ≡ None) → IsErrorOf a_text d error → IsErrorOf form d error
-name_error form test d error own none bad = stricter_error a_text form d (λ kind h. own ∙ go (text_of d) kind h) (λ step. sym (none step)) error bad
-  where
-    go : (o : Option Name') (kind : FaultKind) → unless (shape_fault d) (is_some o) ≡ Some kind → option_map_or (λ name. unless BadName (test name)) o (Some (shape_fault d)) ≡ Some kind
-    go None kind h = h
-    go (Some x) kind h = cc
+pub name_error : (form : Form) (test : Name → Bool) (d : Data) (error : JsonError) → own_fault form d ≡ name_fault test d → ((step : Step) → part_of form step d ≡ None) → IsErrorOf a_text d error → IsErrorOf form d error
+name_error form test d error own none bad =
+    let named : Option Name → Option FaultKind = λ o. option_map_or (λ name. unless BadName (test name)) o (Some (shape_fault d)) in
+    stricter_error a_text form d
+    (λ kind h. own ∙ elim (text_of d) as (λ o. unless (shape_fault d) (is_some o) ≡ Some kind → named o ≡ Some kind) [ None ↦ λ h. h | Some x ↦ λ h. absurd (none-some kind h) ] h)
+    (λ step. sym (none step)) error bad
 
-pub name_fault-failed : (test : Name' → Bool) (d : Data) (name : Name') → text_of d ≡ Some name → test name ≡ false → name_fault test d ≡ Some BadName
-name_fault-failed test d name is failed = ap (λ o. option_map_or (λ name. unless BadName (test name)) o (Some (shape_fault d))) is ∙ ap (unless BadName) failed
+pub name_fault-tested : {b : Bool} (test : Name → Bool) (d : Data) (name : Name) → text_of d ≡ Some name → test name ≡ b → name_fault test d ≡ unless BadName b
+name_fault-tested test d name is tested = ap (λ o. option_map_or (λ name. unless BadName (test name)) o (Some (shape_fault d))) is ∙ ap (unless BadName) tested
 
 -- ---- parts of a value, from what the value was found to hold
 

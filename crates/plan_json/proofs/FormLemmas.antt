@@ -1,21 +1,15 @@
 -- What is read by the table of forms.
-use Rattle.std.proofs.Common.{◌≡◌, ℕ, suc, List, [], ◌∷◌, map, Bool, true, false, cond, ◌&&◌, Some, None, option_map, option_and_then, bytes_eq, refl, sym, ap, subst, ◌∙◌, arith, ne_eqb}
-use Rattle.serde_json.specs.Find.{as_array}
-use Rattle.std.proofs.lemmas.Slice.Eq.{bytes_eq-Decides}
-use Rattle.plan_dsl.specs.Ops.{Expression}
-use Rattle.serde_json.specs.Data.{Data, Items, array, no_items, item}
-use Rattle.plan_json.specs.Errors.{escaped}
-use Rattle.plan_json.specs.Forms.{Asked, a_form, many, Places, Read, expression_read, many_read, reads_of, expressions_in, row_named, key_named, asks, says, expression, all_fit}
-use Rattle.plan_json.specs.Looking.{only_member, all_of, two_items, three_items}
-use Rattle.plan_json.specs.Queries.{front, read_as, each_as, list_as, places_as}
-use Rattle.plan_json.specs.Tables.{Declared}
-use Rattle.plan_json.specs.declared.forms.Kind.{Kind}
-use Rattle.plan_json.specs.declared.forms.Key.{Key}
-use Rattle.plan_json.proofs.LookingLemmas.{object-from_only_member, array-from_as_array, array-from_two_items, array-from_three_items}
-use Rattle.plan_types.specs.Schemas.{Name}
-use Rattle.serde_json.specs.Events.{items_len}
-use Rattle.plan_json.specs.Faults.{part, key, keyed_form, items_of, places_form, key_form, own_fault, shape_fault, part_of, unless, BadShape}
+use Rattle.plan_json.proofs.Names.{Bool, List, None, Some, [], ap, arith, bytes_eq, cond, false, get_or, length, map, ne_eqb, option_and_then, option_map, refl, slice_get, subst, suc, sym, take, true, zero, ℕ, ◌&&◌, ◌<◌, ◌==◌, ◌∙◌, ◌∷◌, ◌≡◌, ◌≤◌, asked_form, items_of, key, key_form, keyed_form, number, own_fault, part, part_of, places_form, shape_fault, unless, all_of, both, only_member, items_view, view, Name, Data, Items, array, item, no_items, Declared, as_array, at, get_item, AllFit, Asked, Fits, Read, a_form, all_fit, asks, expression_read, expressions_in, fits, flag_read, flags_in, key_named, leaves_read, list_read, many, many_read, place_view, reads_of, row_named, says, IsItem, each_as, front, places_as, read_as, these_as, option_map_or, escaped, Value, items_len-items_view, eq-eqb, length-map, items_len, Expression, bytes_eq-Decides, Kind, Key, tree_of, slice_get-map, slice_get-get_or, trees_of, SortByOp, expression_says, same_Some, and_parts, Box, Global}
+use Rattle.plan_json.specs.declared.forms.Place.{Place}
+use Rattle.plan_dsl.specs.Trees.{node, more, children_from}
+use Rattle.plan_dsl.specs.declared.expr.Expr.{Expr, SortBy}
+use Rattle.plan_dsl.specs.declared.expr.Exprs.{Exprs}
+use Rattle.plan_dsl.specs.declared.sort_options.SortMultipleOptions.{SortMultipleOptions}
+use Rattle.plan_dsl.proofs.ExprLemmas.{sort_by_tree}
+use Rattle.plan_json.specs.declared.forms.ExpressionKey.TheVariants as of
 use Rattle.plan_json.proofs.FaultLemmas.{key_in}
+use Rattle.plan_json.proofs.ItemLemmas.{item_at}
+use Rattle.plan_json.proofs.LookingLemmas.{array-from_as_array, object-from_only_member}
 
 -- ---- keys need no escape in a pointer
 
@@ -26,28 +20,24 @@ all_plain (row ∷ rows) = bytes_eq (escaped row.0) row.0 && all_plain rows
 pub named_plain : {K : Type 0} (rows : List (List ℕ × K)) (word : List ℕ) (row : List ℕ × K) → all_plain rows ≡ true → Some row ≡ row_named rows word → escaped row.0 ≡ row.0
 named_plain [] word row plain is = cc
 named_plain {K} (first ∷ rows) word row plain is =
-    go (bytes_eq (escaped first.0) first.0) (bytes_eq-Decides (escaped first.0) first.0).0 (bytes_eq first.0 word) (λ p e. named_plain rows word row p e) plain is
-  where
-    go : (b : Bool) → (b ≡ true → escaped first.0 ≡ first.0) → (here : Bool) → (all_plain rows ≡ true → Some row ≡ row_named rows word → escaped row.0 ≡ row.0)
-        → (b && all_plain rows) ≡ true → Some row ≡ cond here (Some first) (row_named rows word) → escaped row.0 ≡ row.0
-    go false same here later p e = cc
-    go true same true later p e =
-        let is_first : ◌≡◌ {A = List ℕ × K} first row = cc in
-        subst (λ (x : List ℕ × K). escaped x.0 ≡ x.0) is_first (same refl)
-    go true same false later p e = later p e
+    let parts = and_parts _ _ plain in
+    let here : Some row ≡ Some first → escaped row.0 ≡ row.0 = λ e. subst (λ (x : List ℕ × K). escaped x.0 ≡ x.0) (sym (same_Some row first e)) ((bytes_eq-Decides (escaped first.0) first.0).0 parts.0) in
+    elim (bytes_eq first.0 word) as (λ b. Some row ≡ cond b (Some first) (row_named rows word) → escaped row.0 ≡ row.0) [ true ↦ here | false ↦ named_plain rows word row parts.1 ] is
 
--- a list of expressions is one
-pub expressions_fit : (trees : List Expression) → all_fit expression (reads_of (map expression_read trees)) ≡ true
-expressions_fit [] = refl
-expressions_fit (tree ∷ trees) = expressions_fit trees
+-- a list of what fits is one
+pub many_fit : {A : Type 0} (a : Asked) (f : A → Read) → ((x : A) → fits a (f x) ≡ true) → (xs : List A) → all_fit a (reads_of (map f xs)) ≡ true
+many_fit a f each [] = refl
+many_fit a f each (x ∷ xs) = ap (λ b. b && all_fit a (reads_of (map f xs))) (each x) ∙ many_fit a f each xs
+
+place_at : (places : List Place) (n : ℕ) (p : Place) → n < length places → slice_get (map place_view places) n ≡ Some (place_view (get_or places n p))
+place_at places n p within = slice_get-map place_view places n ∙ ap (option_map place_view) (slice_get-get_or places n p within)
 
 -- ---- a form, by its key
 
-pub form_read : (tables : Declared) (kind : Kind) (d : Data) (word : List ℕ) (value : Data) (row : List ℕ × Key) (args : List Read) (r : Read) → Some (word, value) ≡ only_member d → Some row ≡ key_named kind word → places_as tables (asks row.1) value ≡ Some args → says row.1 args ≡ Some r → read_as tables (a_form kind) d ≡ Some r
-form_read tables kind d word value row args r is named read said =
+pub form_read : (tables : Declared) (kind : Kind) (d : Data) (word : List ℕ) (value : Data) (row : List ℕ × Key) (r : Read) → Some (word, value) ≡ only_member d → Some row ≡ key_named kind word → option_and_then (says row.1) (places_as tables (asks row.1) value) ≡ Some r → read_as tables (a_form kind) d ≡ Some r
+form_read tables kind d word value row r is named said =
     ap (read_as tables (a_form kind)) (object-from_only_member d word value is)
-    ∙ ap (option_and_then (λ x. option_and_then (says x.1) (places_as tables (asks x.1) value))) (sym named)
-    ∙ ap (option_and_then (says row.1)) read ∙ said
+    ∙ ap (option_and_then (λ x. option_and_then (says x.1) (places_as tables (asks x.1) value))) (sym named) ∙ said
 
 -- ---- lists
 
@@ -60,43 +50,79 @@ pub expressions_read : (trees : List Expression) → expressions_in (reads_of (m
 expressions_read [] = refl
 expressions_read (tree ∷ trees) = ap (λ l. tree ∷ l) (expressions_read trees)
 
+flags_read : (flags : List Bool) → flags_in (reads_of (map flag_read flags)) ≡ flags
+flags_read [] = refl
+flags_read (flag ∷ flags) = ap (λ l. flag ∷ l) (flags_read flags)
+
+pub sort_by_said : (expr : Box Expr Global) (by : Exprs) (options : SortMultipleOptions)
+    → expression_says of.SortBy (expression_read (tree_of expr.value) ∷ many_read (reads_of (map expression_read (trees_of by))) ∷ leaves_read (reads_of (map flag_read options.descending.items.items)) ∷ leaves_read (reads_of (map flag_read options.nulls_last.items.items)) ∷ []) ≡ Some (tree_of (SortBy expr by options))
+sort_by_said expr by options =
+    (λ i. Some (node (SortByOp (flags_read options.descending.items.items i) (flags_read options.nulls_last.items.items i)) (more (tree_of expr.value) (children_from (expressions_read (trees_of by) i)))))
+    ∙ ap (λ tree. Some tree) (sym (sort_by_tree expr by options))
+
 -- ---- a form by its key
 
 -- the value of a key is a part of a value that has it
-pub key_part : (names : List Name) (kind : Kind) (d : Data) (word : List ℕ) (value : Data) (row : List ℕ × Key) (places : Places) → Some (word, value) ≡ only_member d → Some row ≡ key_named kind word → row.0 ≡ word → places ≡ asks row.1
-    → part_of (keyed_form names kind) (key row.0) d ≡ Some (part (places_form names places) value)
-key_part names kind d word value row places is named same asked =
-    key_in (key_form names kind) d word row.0 value (places_form names places) is same
-    (ap (option_map (λ r. places_form names (asks r.1))) (sym named) ∙ ap (λ p. Some (places_form names p)) (sym asked))
+pub key_part : (names : List Name) (kind : Kind) (d : Data) (word : List ℕ) (value : Data) (row : List ℕ × Key) → Some (word, value) ≡ only_member d → Some row ≡ key_named kind word → row.0 ≡ word → part_of (keyed_form names kind) (key row.0) d ≡ Some (part (places_form names (asks row.1)) value)
+key_part names kind d word value row is named same =
+    key_in (key_form names kind) d word row.0 value (places_form names (asks row.1)) is same (ap (option_map (λ r. places_form names (asks r.1))) (sym named))
 
 -- ---- a list of exactly these
 
-pub two_read : (tables : Declared) (p q : Asked) (d a b : Data) (x y : Read) → Some (a, b) ≡ two_items d → read_as tables p a ≡ Some x → read_as tables q b ≡ Some y → list_as tables (p ∷ q ∷ []) d ≡ Some (x ∷ y ∷ [])
-two_read tables p q d a b x y is first second =
-    ap (list_as tables (p ∷ q ∷ [])) (array-from_two_items d a b is) ∙ ap (λ o. front o (front (read_as tables q b) (Some []))) first ∙ ap (λ o. front (Some x) (front o (Some []))) second
+-- what is read of items one by one, with something behind the last
+these_read : (tables : Declared) (ps : List Asked) (ds : Items) (rs : List Read) → items_len ds ≡ length ps → length ps ≤ length rs → ((n : ℕ) (r : Read) → slice_get rs n ≡ Some r → IsItem tables ps ds n r)
+    → (these_as tables ps ds ≡ Some (take (length ps) rs)) × AllFit ps (take (length ps) rs)
+these_read tables [] no_items rs count room each = (refl, record { count = refl; each = tt })
+these_read tables (p ∷ ps) (item d ds) (r ∷ rs) count room each =
+    let first = each 0 r refl in
+    let rest = these_read tables ps ds rs (omega (arith, count)) (omega (arith, room)) (λ n x at. record { read = λ q e asked here. (each (suc n) x at).read q e asked here; fit = λ q asked. (each (suc n) x at).fit q asked }) in
+    (ap (λ o. front o (these_as tables ps ds)) (first.read p d refl refl) ∙ ap (front (Some r)) rest.0, record { count = ap suc rest.1.count; each = (first.fit p refl, rest.1.each) })
+these_read tables _ _ _ count room each = absurd (omega (arith, count, room))
 
-pub three_read : (tables : Declared) (p q r : Asked) (d a b c : Data) (x y z : Read) → Some (a, b, c) ≡ three_items d → read_as tables p a ≡ Some x → read_as tables q b ≡ Some y → read_as tables r c ≡ Some z → list_as tables (p ∷ q ∷ r ∷ []) d ≡ Some (x ∷ y ∷ z ∷ [])
-three_read tables p q r d a b c x y z is first second third =
-    ap (list_as tables (p ∷ q ∷ r ∷ [])) (array-from_three_items d a b c is) ∙ ap (λ o. front o (front (read_as tables q b) (front (read_as tables r c) (Some [])))) first
-    ∙ ap (λ o. front (Some x) (front o (front (read_as tables r c) (Some [])))) second ∙ ap (λ o. front (Some x) (front (Some y) (front o (Some [])))) third
+one_of_four : (tables : Declared) (ps : List Asked) (ds : Items) (a b c e : Read) → IsItem tables ps ds 0 a → IsItem tables ps ds 1 b → IsItem tables ps ds 2 c → IsItem tables ps ds 3 e → (n : ℕ) (r : Read) → slice_get (a ∷ b ∷ c ∷ e ∷ []) n ≡ Some r → IsItem tables ps ds n r
+one_of_four tables ps ds a b c e first second third fourth zero r at = let same : a ≡ r = cc in subst (IsItem tables ps ds 0) same first
+one_of_four tables ps ds a b c e first second third fourth (suc zero) r at = let same : b ≡ r = cc in subst (IsItem tables ps ds 1) same second
+one_of_four tables ps ds a b c e first second third fourth (suc (suc zero)) r at = let same : c ≡ r = cc in subst (IsItem tables ps ds 2) same third
+one_of_four tables ps ds a b c e first second third fourth (suc (suc (suc zero))) r at = let same : e ≡ r = cc in subst (IsItem tables ps ds 3) same fourth
+one_of_four tables ps ds a b c e first second third fourth (suc (suc (suc (suc n)))) r at = cc
 
-pub other_than_two : (names : List Name) (p q : Asked) (d : Data) → None ≡ two_items d → own_fault (items_of names (p ∷ q ∷ [])) d ≡ Some (shape_fault d)
-other_than_two names p q (array no_items) e = refl
-other_than_two names p q (array (item a no_items)) e = refl
-other_than_two names p q (array (item a (item b no_items))) e = cc
-other_than_two names p q (array (item a (item b (item c ds)))) e = ap (unless BadShape) (ne_eqb (suc (suc (suc (items_len ds)))) 2 (λ same. omega (arith, same)))
-other_than_two names p q _ e = refl
+pub four_read : (tables : Declared) (places : List Place) (vs : List Value) (a b c e : Read) → length vs ≡ length places → length places ≤ 4 → let ps = map place_view places in let ds = items_view vs in
+    IsItem tables ps ds 0 a → IsItem tables ps ds 1 b → IsItem tables ps ds 2 c → IsItem tables ps ds 3 e → let rs = take (length places) (a ∷ b ∷ c ∷ e ∷ []) in (these_as tables ps ds ≡ Some rs) × AllFit ps rs
+four_read tables places vs a b c e count short first second third fourth =
+    let ps = map place_view places in
+    let ds = items_view vs in
+    let same : length ps ≡ length places = length-map places place_view in
+    subst (λ n. (these_as tables ps ds ≡ Some (take n (a ∷ b ∷ c ∷ e ∷ []))) × AllFit ps (take n (a ∷ b ∷ c ∷ e ∷ []))) same
+    (these_read tables ps ds (a ∷ b ∷ c ∷ e ∷ []) (items_len-items_view vs ∙ count ∙ sym same) (subst (λ n. n ≤ 4) (sym same) short) (one_of_four tables ps ds a b c e first second third fourth))
 
-pub other_than_three : (names : List Name) (p q r : Asked) (d : Data) → None ≡ three_items d → own_fault (items_of names (p ∷ q ∷ r ∷ [])) d ≡ Some (shape_fault d)
-other_than_three names p q r (array no_items) e = refl
-other_than_three names p q r (array (item a no_items)) e = refl
-other_than_three names p q r (array (item a (item b no_items))) e = refl
-other_than_three names p q r (array (item a (item b (item c no_items)))) e = cc
-other_than_three names p q r (array (item a (item b (item c (item f ds))))) e = ap (unless BadShape) (ne_eqb (suc (suc (suc (suc (items_len ds))))) 3 (λ same. omega (arith, same)))
-other_than_three names p q r _ e = refl
+-- the item of a number, by the place of that number
+pub item_read : (tables : Declared) (places : List Place) (vs : List Value) (n : ℕ) (p : Place) (v : Value) (r : Read) → length vs ≡ length places → n < length places → v ≡ get_or vs n v
+    → read_as tables (place_view (get_or places n p)) (view v) ≡ Some r → Fits (place_view (get_or places n p)) r → IsItem tables (map place_view places) (items_view vs) n r
+item_read tables places vs n p v r count within here read fit = record {
+  read = λ q d asked at.
+      let own : q ≡ place_view (get_or places n p) = same_Some _ _ (sym asked ∙ place_at places n p within) in
+      let value : d ≡ view v = same_Some _ _ (sym at ∙ item_at vs n v (subst (λ k. n < k) (sym count) within) here) in (λ i. read_as tables (own i) (value i)) ∙ read;
+  fit = λ q asked. subst (λ a. Fits a r) (same_Some _ q (sym (place_at places n p within) ∙ asked)) fit;
+}
+
+-- the item of a number is a part
+pub item_part_at : (names : List Name) (places : List Place) (vs : List Value) (n : ℕ) (p : Place) (v : Value) → length vs ≡ length places → n < length places → v ≡ get_or vs n v
+    → part_of (items_of names (map place_view places)) (number n) (array (items_view vs)) ≡ Some (part (asked_form names (place_view (get_or places n p))) (view v))
+item_part_at names places vs n p v count within here =
+    let ps = map place_view places in
+    ap (λ b. cond b (option_map (λ (q : Asked × Data). part (asked_form names q.0) q.1) (both (slice_get ps n) (get_item n (items_view vs)))) None) (eq-eqb _ _ (items_len-items_view vs ∙ count ∙ sym (length-map places place_view)))
+    ∙ ap (λ o. option_map (λ (q : Asked × Data). part (asked_form names q.0) q.1) (both o (get_item n (items_view vs)))) (place_at places n p within)
+    ∙ ap (λ o. option_map (λ (q : Asked × Data). part (asked_form names q.0) q.1) (both (Some (place_view (get_or places n p))) o)) (item_at vs n v (subst (λ k. n < k) (sym count) within) here)
+
+-- a list of another number of items
+pub other_count : (names : List Name) (places : List Place) (vs : List Value) (d : Data) → Some (items_view vs) ≡ as_array d → (length vs ≡ length places → ⊥) → own_fault (items_of names (map place_view places)) d ≡ Some (shape_fault d)
+other_count names places vs d is other =
+    let ps = map place_view places in
+    ap (λ o. unless (shape_fault d) (option_map_or (λ items. items_len items == length ps) o false)) (sym is)
+    ∙ ap (unless (shape_fault d)) (ne_eqb _ _ (λ same. other (sym (items_len-items_view vs) ∙ same ∙ length-map places place_view)))
 
 -- ---- a list of any number
 
-pub each_read : (tables : Declared) (a : Asked) (d : Data) (ds : Items) (rs : List Read) → Some ds ≡ as_array d → all_of (read_as tables a) ds ≡ Some rs → read_as tables (many a) d ≡ Some (many_read (reads_of rs))
+pub each_read : (tables : Declared) (a : Asked) (d : Data) (ds : Items) (rs : List Read) → Some ds ≡ as_array d → all_of (read_as tables a) ds ≡ Some rs → read_as tables (many a) d ≡ Some (list_read a (reads_of rs))
 each_read tables a d ds rs is read =
-    ap (read_as tables (many a)) (array-from_as_array d ds is) ∙ ap (option_map (λ xs. many_read (reads_of xs))) (each_as-all_of tables a ds ∙ read)
+    ap (read_as tables (many a)) (array-from_as_array d ds is) ∙ ap (option_map (λ xs. list_read a (reads_of xs))) (each_as-all_of tables a ds ∙ read)

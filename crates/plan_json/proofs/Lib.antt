@@ -3,8 +3,10 @@ pub mod FaultLemmas
 pub mod FloatLaws
 pub mod FormLemmas
 pub mod ItemLemmas
+pub mod Lemmas
 pub mod LiteralLemmas
 pub mod LookingLemmas
+pub mod Names
 pub mod NoFaults
 pub mod OnLiterals
 pub mod TextTests

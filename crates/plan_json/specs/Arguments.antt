@@ -1,15 +1,16 @@
 -- What the code holds of what it has read.
-use Rattle.std.specs.Prelude.{List, [], ◌∷◌, map, if◌then◌else◌}
+use Rattle.std.specs.Prelude.{List, [], ◌∷◌, map, take, if◌then◌else◌}
 use Rattle.plan_types.specs.Schemas.{columns}
 use Rattle.plan_types.specs.Types.{ty}
-use Rattle.plan_dsl.specs.Expressions.{tree_of}
+use Rattle.plan_dsl.specs.Expressions.{tree_of, trees_of}
 use Rattle.plan_dsl.specs.Literals.{literal_op}
-use Rattle.plan_dsl.specs.Plans.{plan_tree, trees_of}
+use Rattle.plan_dsl.specs.Plans.{plan_tree}
 use Rattle.plan_dsl.specs.declared.plan.DslPlan.{DslPlan}
-use Rattle.plan_json.specs.Forms.{Read, name_read, literal_read, operator_read, type_read, mode_read, table_read, columns_read, expression_read, plan_read, many_read, reads_of, other_read, nothing_read, flag_read}
+use Rattle.plan_json.specs.Forms.{Read, name_read, literal_read, operator_read, type_read, mode_read, table_read, columns_read, expression_read, plan_read, many_read, leaves_read, reads_of, other_read, nothing_read, flag_read}
 use Rattle.plan_json.specs.Queries.{has_flags}
 use Rattle.plan_json.specs.declared.arguments.Arg.{Arg}
-use Rattle.plan_json.specs.declared.arguments.Arg.TheVariants.{Name, Literal, Operator, Dtype, Mode, Table, Columns, Nothing, Flag, Expression, Plan, Expressions}
+use Rattle.plan_json.specs.declared.arguments.Arg.TheVariants.{Name, Literal, Operator, Dtype, Mode, Table, Columns, Nothing, Flag, Expression, Plan, Expressions, Flags}
+use Rattle.plan_json.specs.declared.arguments.Items.{Items}
 use Rattle.plan_json.specs.declared.arguments.Args.{Args}
 use Rattle.plan_json.specs.declared.arguments.Args.TheVariants as args
 
@@ -17,7 +18,7 @@ abbrev pub plan_seen : DslPlan → Read
 plan_seen plan = if has_flags plan then other_read else plan_read (plan_tree plan)
 
 abbrev pub arg_view : Arg → Read
-arg_view (Name name) = name_read name
+arg_view (Name name) = name_read name.value
 arg_view (Literal literal) = literal_read (literal_op literal.value)
 arg_view (Operator operator) = operator_read operator
 arg_view (Dtype dtype) = type_read (ty dtype.value)
@@ -28,9 +29,12 @@ arg_view Nothing = nothing_read
 arg_view (Flag flag) = flag_read flag
 arg_view (Expression expr) = expression_read (tree_of expr.value)
 arg_view (Plan plan) = plan_seen plan.value
-arg_view (Expressions exprs) = many_read (reads_of (map expression_read (trees_of exprs)))
+arg_view (Expressions exprs) = many_read (reads_of (map expression_read (trees_of exprs.value)))
+arg_view (Flags flags) = leaves_read (reads_of (map flag_read flags.value.items))
+
+abbrev pub items_seen : Items → List Read
+items_seen items = take items.count (arg_view items.first ∷ arg_view items.second ∷ arg_view items.third ∷ arg_view items.fourth ∷ [])
 
 abbrev pub args_view : Args → List Read
 args_view (args.One a) = arg_view a ∷ []
-args_view (args.Two a b) = arg_view a ∷ arg_view b ∷ []
-args_view (args.Three a b c) = arg_view a ∷ arg_view b ∷ arg_view c ∷ []
+args_view (args.Listed items) = items_seen items

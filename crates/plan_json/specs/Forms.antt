@@ -1,12 +1,12 @@
 -- The table of forms: the keys of an object of one key, what each asks of its value, and what it says.
-use Rattle.std.specs.Prelude.{◌≡◌, ℕ, List, [], ◌∷◌, Option, Some, None, Bool, ◌&&◌, true, false, option_map, codes, length, if◌then◌else◌}
+use Rattle.std.specs.Prelude.{◌≡◌, ℕ, List, [], ◌∷◌, Option, Some, None, Bool, ◌&&◌, true, false, option_map, codes, length, map, if◌then◌else◌}
 use Rattle.std.specs.Str.{bytes_eq}
 use Rattle.plan_types.specs.Schemas.{Name, Columns}
 use Rattle.plan_types.specs.Types.{Ty}
 use Rattle.plan_types.specs.declared.dtype.CastOptions.{CastOptions}
-use Rattle.plan_dsl.specs.Ops.{Op, ColumnOp, BinaryOp, CastOp, LenOp, SliceOp, ExplodeOp, GatherOp, FilterOp, SortOp, AliasOp, Expression}
+use Rattle.plan_dsl.specs.Ops.{Op, ColumnOp, BinaryOp, CastOp, LenOp, SliceOp, ExplodeOp, GatherOp, FilterOp, SortOp, SortByOp, AliasOp, Expression}
 use Rattle.plan_dsl.specs.Plans.{SourcePlan, scan_op, written_select, written_filter}
-use Rattle.plan_dsl.specs.Trees.{node, no_more, more}
+use Rattle.plan_dsl.specs.Trees.{node, no_more, more, children_from}
 use Rattle.plan_dsl.specs.declared.operator.Operator.{Operator}
 use Rattle.plan_json.specs.declared.forms.Kind.{Kind}
 use Rattle.plan_json.specs.declared.forms.Kind.TheVariants as kinds
@@ -24,7 +24,6 @@ use Rattle.plan_json.specs.declared.forms.PlanKey.{PlanKey}
 use Rattle.plan_json.specs.declared.forms.PlanKey.TheVariants as by
 use Rattle.plan_json.specs.declared.forms.TypeKey.{TypeKey}
 use Rattle.plan_json.specs.declared.forms.TypeKey.TheVariants as types
-use Rattle.plan_json.specs.declared.forms.Row.{Row}
 
 -- ---- what a place asks for
 
@@ -65,6 +64,7 @@ expression_rows =
     (codes "gather", of.Gather) ∷
     (codes "filter", of.Filter) ∷
     (codes "sort", of.Sort) ∷
+    (codes "sort_by", of.SortBy) ∷
     (codes "alias", of.Alias) ∷ []
 
 -- what each asks of its value
@@ -81,6 +81,7 @@ expression_asks of.Explode = single expression
 expression_asks of.Gather = listed (expression ∷ expression ∷ leaf leaves.Flag ∷ [])
 expression_asks of.Filter = listed (expression ∷ expression ∷ [])
 expression_asks of.Sort = listed (expression ∷ leaf leaves.Flag ∷ leaf leaves.Flag ∷ [])
+expression_asks of.SortBy = listed (expression ∷ many expression ∷ many (leaf leaves.Flag) ∷ many (leaf leaves.Flag) ∷ [])
 expression_asks of.Alias = listed (expression ∷ leaf leaves.Name ∷ [])
 
 -- ---- plans
@@ -127,6 +128,8 @@ mutual
     expression_read : Expression → Read
     plan_read : SourcePlan → Read
     many_read : Reads → Read
+    -- of a list of what has no forms
+    leaves_read : Reads → Read
     -- a plan that no query can write
     other_read : Read
 
@@ -138,11 +141,22 @@ abbrev pub reads_of : List Read → Reads
 reads_of [] = no_read
 reads_of (r ∷ rs) = more_read r (reads_of rs)
 
+-- what is read of a list of these
+abbrev pub list_read : Asked → Reads → Read
+list_read (leaf which) rs = leaves_read rs
+list_read _ rs = many_read rs
+
 -- the expressions among them
 abbrev pub expressions_in : Reads → List Expression
 expressions_in no_read = []
 expressions_in (more_read (expression_read tree) rs) = tree ∷ expressions_in rs
 expressions_in (more_read _ rs) = expressions_in rs
+
+-- the flags among them
+abbrev pub flags_in : Reads → List Bool
+flags_in no_read = []
+flags_in (more_read (flag_read flag) rs) = flag ∷ flags_in rs
+flags_in (more_read _ rs) = flags_in rs
 
 abbrev pub expression_says : ExpressionKey → List Read → Option Expression
 expression_says of.Col (name_read name ∷ []) = Some (node (ColumnOp name) no_more)
@@ -162,6 +176,8 @@ expression_says of.Gather (expression_read input ∷ expression_read index ∷ f
 expression_says of.Filter (expression_read input ∷ expression_read truth ∷ []) = Some (node FilterOp (more input (more truth no_more)))
 expression_says of.Sort (expression_read input ∷ flag_read descending ∷ flag_read nulls_last ∷ []) =
     Some (node (SortOp (record { descending = descending; nulls_last = nulls_last })) (more input no_more))
+expression_says of.SortBy (expression_read input ∷ many_read keys ∷ leaves_read descending ∷ leaves_read nulls_last ∷ []) =
+    Some (node (SortByOp (flags_in descending) (flags_in nulls_last)) (more input (children_from (expressions_in keys))))
 expression_says of.Alias (expression_read operand ∷ name_read name ∷ []) = Some (node (AliasOp name) (more operand no_more))
 expression_says _ _ = None
 
@@ -213,7 +229,9 @@ abbrev mutual
   fits (leaf leaves.Columns) (columns_read columns) = true
   fits (leaf leaves.Nothing) nothing_read = true
   fits (leaf leaves.Flag) (flag_read flag) = true
-  fits (many a) (many_read rs) = all_fit a rs
+  fits (many (leaf which)) (leaves_read rs) = all_fit (leaf which) rs
+  fits (many (a_form kind)) (many_read rs) = all_fit (a_form kind) rs
+  fits (many (many a)) (many_read rs) = all_fit (many a) rs
   fits _ _ = false
 
   pub all_fit : Asked → Reads → Bool
@@ -240,15 +258,12 @@ pub record AllFit (asked : List Asked) (found : List Read) : Type 0 where
 
 -- ---- the code's table
 
-abbrev pub row_view : {K : Type 0} → Row K → List ℕ × K
-row_view row = (row.word.now, row.key)
-
 abbrev pub place_view : Place → Asked
 place_view (places.Form kind) = a_form kind
 place_view (places.Leaf which) = leaf which
 place_view places.Expressions = many expression
+place_view places.Flags = many (leaf leaves.Flag)
 
 abbrev pub places_view : CodePlaces → Places
 places_view (counts.One p) = single (place_view p)
-places_view (counts.Two p q) = listed (place_view p ∷ place_view q ∷ [])
-places_view (counts.Three p q r) = listed (place_view p ∷ place_view q ∷ place_view r ∷ [])
+places_view (counts.Listed ps) = listed (map place_view ps.now)

@@ -1,11 +1,11 @@
 -- The query that a value is.
-use Rattle.std.specs.Prelude.{◌≡◌, List, [], ◌∷◌, Option, Some, None, Bool, false, ◌||◌, option_map, option_and_then, codes}
-use Rattle.serde_json.specs.Find.{as_bool, as_null}
+use Rattle.std.specs.Prelude.{◌≡◌, ℕ, List, [], ◌∷◌, Option, Some, None, Bool, false, ◌||◌, option_map, option_and_then, codes, slice_get}
+use Rattle.serde_json.specs.Find.{as_bool, as_null, get_item}
 use Rattle.serde_json.specs.Data.{Data, array, object, Items, no_items, item, no_members, member}
 use Rattle.plan_dsl.specs.Plans.{SourcePlan, plan_tree}
 use Rattle.plan_dsl.specs.declared.plan.DslPlan.{DslPlan}
 use Rattle.plan_dsl.specs.declared.plan.DslPlan.TheVariants.{DataFrameScan, Filter', Select'}
-use Rattle.plan_json.specs.Forms.{Asked, a_form, leaf, many, Places, single, listed, plan, Read, name_read, literal_read, operator_read, type_read, mode_read, table_read, columns_read, plan_read, many_read, reads_of, key_named, asks, says, nothing_read, flag_read}
+use Rattle.plan_json.specs.Forms.{Asked, a_form, leaf, many, Places, single, listed, plan, Read, name_read, literal_read, operator_read, type_read, mode_read, table_read, columns_read, plan_read, many_read, list_read, reads_of, key_named, asks, says, nothing_read, flag_read, Fits}
 use Rattle.plan_json.specs.Leaves.{text_of, literal_of, number_text_of, typed_of, operator_of, type_of, mode_of, table_at, columns_of, tables_of}
 use Rattle.plan_json.specs.Looking.{both, two_members}
 use Rattle.plan_json.specs.Tables.{Declared, declared}
@@ -54,7 +54,7 @@ abbrev mutual
   read_as tables (a_form kind) (object (member word value no_members)) =
       option_and_then (λ row. option_and_then (says row.1) (given (asks row.1) (λ a. read_as tables a value) (λ ps. list_as tables ps value))) (key_named kind word)
   read_as tables (leaf which) d = leaf_of tables which d
-  read_as tables (many a) (array ds) = option_map (λ rs. many_read (reads_of rs)) (each_as tables a ds)
+  read_as tables (many a) (array ds) = option_map (λ rs. list_read a (reads_of rs)) (each_as tables a ds)
   read_as tables _ _ = None
 
   -- a list of exactly these
@@ -70,6 +70,11 @@ abbrev mutual
   these_as tables [] no_items = Some []
   these_as tables (a ∷ ps) (item d ds) = front (read_as tables a d) (these_as tables ps ds)
   these_as tables _ _ = None
+
+-- what is read of the item of a number, where there is one
+pub record IsItem (tables : Declared) (ps : List Asked) (ds : Items) (n : ℕ) (r : Read) : Type 0 where
+  pub read : (p : Asked) (d : Data) → slice_get ps n ≡ Some p → get_item n ds ≡ Some d → read_as tables p d ≡ Some r
+  pub fit : (p : Asked) → slice_get ps n ≡ Some p → Fits p r
 
 -- what is read of a key's value
 abbrev pub places_as : Declared → Places → Data → Option (List Read)

@@ -1,19 +1,19 @@
 //! What is read of a key's value, item by item, and taking it apart again.
 ghost use Rattle.std.specs.Prelude.{◌≡◌, ◌∷◌, [], false, length, map};
-ghost use Rattle.plan_dsl.specs.Expressions.{tree_of};
+ghost use Rattle.plan_dsl.specs.Expressions.{tree_of, trees_of};
 ghost use Rattle.plan_dsl.specs.Literals.{literal_op};
-ghost use Rattle.plan_dsl.specs.Plans.{plan_tree, trees_of};
+ghost use Rattle.plan_dsl.specs.Plans.{plan_tree};
 ghost use Rattle.plan_types.specs.Schemas.{columns};
 ghost use Rattle.plan_types.specs.Types.{ty};
 ghost use Rattle.plan_json.specs.Arguments.{arg_view, args_view};
-ghost use Rattle.plan_json.specs.Forms.{AllFit, Asked, Fits, columns_read, expression, expression_read, leaf, literal_read, many, many_read, mode_read, name_read, operator_read, plan, plan_read, reads_of, table_read, type_read, nothing_read, flag_read};
+ghost use Rattle.plan_json.specs.Forms.{AllFit, Asked, Fits, columns_read, expression, expression_read, leaf, leaves_read, literal_read, many, many_read, mode_read, name_read, operator_read, plan, plan_read, reads_of, table_read, type_read, nothing_read, flag_read};
 ghost use Rattle.plan_json.specs.Queries.{has_flags};
 ghost use Rattle.plan_json.specs.declared.forms.Leaf.TheVariants as leaves;
 
-use plan_dsl::expr::Expr;
+use plan_dsl::expr::{Expr, Exprs};
 use plan_dsl::literal::LiteralValue;
 use plan_dsl::operator::Operator;
-use plan_dsl::plan::{DslPlan, Exprs};
+use plan_dsl::plan::DslPlan;
 use plan_types::dtype::{CastOptions, DataType};
 use plan_types::schema::Schema;
 use plan_types::text::PlSmallStr;
@@ -21,7 +21,7 @@ use plan_types::text::PlSmallStr;
 // What is read at one place. What is wide stands in a box, since it goes through several hands.
 #[derive(Drop)]
 pub(crate) enum Arg {
-    Name(PlSmallStr),
+    Name(Box<PlSmallStr>),
     Literal(Box<LiteralValue>),
     Operator(Operator),
     Dtype(Box<DataType>),
@@ -32,31 +32,65 @@ pub(crate) enum Arg {
     Flag(bool),
     Expression(Box<Expr>),
     Plan(Box<DslPlan>),
-    Expressions(Exprs),
+    Expressions(Box<Exprs>),
+    Flags(Box<Vec<bool>>),
 }
 
-// What is read of a key's value. It stands in place.
+// What is read of the items of a list, in order: so many, and nothing behind them. They stand in place.
+#[derive(Drop)]
+pub(crate) struct Items {
+    pub(crate) count: usize,
+    pub(crate) first: Arg,
+    pub(crate) second: Arg,
+    pub(crate) third: Arg,
+    pub(crate) fourth: Arg,
+}
+
+// What is read of a key's value.
 #[derive(Drop)]
 pub(crate) enum Args {
     One(Arg),
-    Two(Arg, Arg),
-    Three(Arg, Arg, Arg),
+    Listed(Items),
 }
 
 // Drops what was read. A caller that drops it itself has a case for each variant.
+#[inline(never)]
 pub(crate) fn discard(_arg: Arg) {}
 
-pub(crate) fn one(args: Args) -> Arg
-    requires { length (args_view args) ≡ 1 }
-    ensures all { args_view args ≡ arg_view result ∷ [] }
-    ensures fit { (p : Asked) → AllFit (p ∷ []) (args_view args) → Fits p (arg_view result) }
-{
-    match args {
-        Args::One(a) => a,
-        _ => unreachable!(),
+// Drops what stands behind the last, which is nothing.
+fn spare(arg: Arg) {
+    match arg {
+        Arg::Nothing => {}
+        other => discard(other),
     }
 }
 
+#[inline(always)]
+pub(crate) fn one(args: Args) -> Arg
+    requires { length (args_view args) ≡ 1 }
+    ensures all { args_view args ≡ arg_view result ∷ [] }
+    ensures first { (p : Asked) → AllFit (p ∷ []) (args_view args) → Fits p (arg_view result) }
+{
+    match args {
+        Args::One(first) => first,
+        Args::Listed(
+            Items {
+                first,
+                second,
+                third,
+                fourth,
+                ..
+            },
+        ) => {
+            spare(second);
+            spare(third);
+            spare(fourth);
+            first
+        }
+    }
+}
+
+#[inline(always)]
 pub(crate) fn two(args: Args) -> (Arg, Arg)
     requires { length (args_view args) ≡ 2 }
     ensures all { args_view args ≡ arg_view result.0 ∷ arg_view result.1 ∷ [] }
@@ -64,11 +98,24 @@ pub(crate) fn two(args: Args) -> (Arg, Arg)
     ensures second { (p q : Asked) → AllFit (p ∷ q ∷ []) (args_view args) → Fits q (arg_view result.1) }
 {
     match args {
-        Args::Two(a, b) => (a, b),
-        _ => unreachable!(),
+        Args::One(_) => unreachable!(),
+        Args::Listed(
+            Items {
+                first,
+                second,
+                third,
+                fourth,
+                ..
+            },
+        ) => {
+            spare(third);
+            spare(fourth);
+            (first, second)
+        }
     }
 }
 
+#[inline(always)]
 pub(crate) fn three(args: Args) -> (Arg, Arg, Arg)
     requires { length (args_view args) ≡ 3 }
     ensures all { args_view args ≡ arg_view result.0 ∷ arg_view result.1 ∷ arg_view result.2 ∷ [] }
@@ -77,8 +124,42 @@ pub(crate) fn three(args: Args) -> (Arg, Arg, Arg)
     ensures third { (p q r : Asked) → AllFit (p ∷ q ∷ r ∷ []) (args_view args) → Fits r (arg_view result.2) }
 {
     match args {
-        Args::Three(a, b, c) => (a, b, c),
-        _ => unreachable!(),
+        Args::One(_) => unreachable!(),
+        Args::Listed(
+            Items {
+                first,
+                second,
+                third,
+                fourth,
+                ..
+            },
+        ) => {
+            spare(fourth);
+            (first, second, third)
+        }
+    }
+}
+
+#[inline(always)]
+pub(crate) fn four(args: Args) -> (Arg, Arg, Arg, Arg)
+    requires { length (args_view args) ≡ 4 }
+    ensures all { args_view args ≡ arg_view result.0 ∷ arg_view result.1 ∷ arg_view result.2 ∷ arg_view result.3 ∷ [] }
+    ensures first { (p q r s : Asked) → AllFit (p ∷ q ∷ r ∷ s ∷ []) (args_view args) → Fits p (arg_view result.0) }
+    ensures second { (p q r s : Asked) → AllFit (p ∷ q ∷ r ∷ s ∷ []) (args_view args) → Fits q (arg_view result.1) }
+    ensures third { (p q r s : Asked) → AllFit (p ∷ q ∷ r ∷ s ∷ []) (args_view args) → Fits r (arg_view result.2) }
+    ensures fourth { (p q r s : Asked) → AllFit (p ∷ q ∷ r ∷ s ∷ []) (args_view args) → Fits s (arg_view result.3) }
+{
+    match args {
+        Args::One(_) => unreachable!(),
+        Args::Listed(
+            Items {
+                first,
+                second,
+                third,
+                fourth,
+                ..
+            },
+        ) => { (first, second, third, fourth) }
     }
 }
 
@@ -87,7 +168,7 @@ pub(crate) fn name(arg: Arg) -> PlSmallStr
     ensures { arg_view arg ≡ name_read result }
 {
     match arg {
-        Arg::Name(name) => name,
+        Arg::Name(name) => Box::into_inner(name),
         _ => unreachable!(),
     }
 }
@@ -220,7 +301,18 @@ pub(crate) fn expressions(arg: Arg) -> Exprs
     ensures { arg_view arg ≡ many_read (reads_of (map expression_read (trees_of result))) }
 {
     match arg {
-        Arg::Expressions(exprs) => exprs,
+        Arg::Expressions(exprs) => Box::into_inner(exprs),
+        _ => unreachable!(),
+    }
+}
+
+// A list of truth values.
+pub(crate) fn flags(arg: Arg) -> Vec<bool>
+    requires { Fits (many (leaf leaves.Flag)) (arg_view arg) }
+    ensures { arg_view arg ≡ leaves_read (reads_of (map flag_read result.items)) }
+{
+    match arg {
+        Arg::Flags(flags) => Box::into_inner(flags),
         _ => unreachable!(),
     }
 }

@@ -8,20 +8,21 @@ ghost use Rattle.plan_json.specs.Leaves.{columns_of};
 
 use super::dtype::read_column;
 use super::error::{JsonError, Step};
+use super::value::items;
 use plan_types::field::Field;
 use plan_types::schema::Schema;
 use serde_json::Value;
 use std::alloc::Global;
 
 // A list of columns, no two of one name.
+#[inline(never)]
 pub(crate) fn read_columns(alloc: Global, value: &Value) -> Result<Schema, JsonError>
     ensures ok { IfOk result (λ schema. columns_of (view value.now) ≡ Some (columns schema)) }
     ensures err { IfErr result (IsErrorOf column_list (view value.now)) }
 {
-    match value.as_array() {
+    match items(value) {
         None => Err(JsonError::shape(alloc, value)),
         Some(items) => {
-            let items = items.as_slice();
             let mut schema = without_columns(alloc, items.len())?;
             for (number, item) in items.iter().enumerate() {
                 let Field { name, dtype } = match read_column(alloc, item) {

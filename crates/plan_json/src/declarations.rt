@@ -11,7 +11,7 @@ use super::columns::read_columns;
 use super::dtype::read_text;
 use super::error::{JsonError, Step};
 use super::tables::{Table, Tables};
-use super::value::two_members;
+use super::value::{items, two_members};
 use plan_types::text::PlSmallStr;
 use serde_json::Value;
 use std::alloc::Global;
@@ -21,10 +21,9 @@ pub(crate) fn read_tables(alloc: Global, value: &Value) -> Result<Tables, JsonEr
     ensures ok { IfOk result (λ tables. tables_of (view value.now) ≡ Some (declared tables)) }
     ensures err { IfErr result (IsErrorOf table_list (view value.now)) }
 {
-    match value.as_array() {
+    match items(value) {
         None => Err(JsonError::shape(alloc, value)),
         Some(values) => {
-            let values = values.as_slice();
             if values.len() >= 1 << 32 {
                 return Err(JsonError::shape(alloc, value));
             }

@@ -9,7 +9,7 @@ ghost use Rattle.plan_json.specs.Leaves.{column_of, integer_named, keyed_type, p
 
 use super::error::{JsonError, Step};
 use super::forms::{TypeKey, find_type};
-use super::value::{only_member, two_items};
+use super::value::{items, only_member, two_items};
 use plan_types::dtype::{DataType, Fields, TimeUnit};
 use plan_types::field::Field;
 use plan_types::text::PlSmallStr;
@@ -17,6 +17,7 @@ use serde_json::Value;
 use std::alloc::Global;
 
 // A text.
+#[inline(always)]
 pub(crate) fn read_text(alloc: Global, value: &Value) -> Result<PlSmallStr, JsonError>
     ensures ok { IfOk result (λ text. text_of (view value.now) ≡ Some text) }
     ensures err { IfErr result (IsErrorOf a_text (view value.now)) }
@@ -32,6 +33,7 @@ pub(crate) fn read_text(alloc: Global, value: &Value) -> Result<PlSmallStr, Json
 
 // A type: a name, or an object of one key, which names its form.
 #[cycle(types)]
+#[tactic(auto, using(crate::proofs::Lemmas::less_deep))]
 pub(crate) fn read_type(alloc: Global, value: &Value) -> Result<DataType, JsonError>
     ensures ok { IfOk result (λ dtype. type_of (view value.now) ≡ Some (ty dtype)) }
     ensures err { IfErr result (IsErrorOf a_type (view value.now)) }
@@ -85,14 +87,14 @@ fn read_keyed(alloc: Global, key: TypeKey, value: &Value) -> Result<DataType, Js
 
 // The fields of a type of structs: a list of them, whose names may repeat.
 #[cycle(types)]
+#[tactic(auto, using(crate::proofs::Lemmas::less_deep))]
 fn read_fields(alloc: Global, value: &Value) -> Result<Fields, JsonError>
     ensures ok { IfOk result (λ fields. struct_of (view value.now) ≡ Some (fields_of fields)) }
     ensures err { IfErr result (IsErrorOf field_list (view value.now)) }
 {
-    match value.as_array() {
+    match items(value) {
         None => Err(JsonError::shape(alloc, value)),
         Some(values) => {
-            let values = values.as_slice();
             let mut items = Vec::new(alloc);
             for (number, value) in values.iter().enumerate() {
                 match read_column(alloc, value) {
@@ -107,6 +109,7 @@ fn read_fields(alloc: Global, value: &Value) -> Result<Fields, JsonError>
 
 // A column or a field: `[name, type]`.
 #[cycle(types)]
+#[inline(always)]
 pub(crate) fn read_column(alloc: Global, value: &Value) -> Result<Field, JsonError>
     ensures ok { IfOk result (λ field. column_of (view value.now)
         ≡ Some (field.name, ty field.dtype)) }

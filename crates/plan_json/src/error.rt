@@ -42,6 +42,7 @@ pub(crate) enum Step {
 
 impl JsonError {
     // The value itself breaks the shape.
+    #[cold]
     pub(crate) fn shape(alloc: Global, value: &Value) -> JsonError
         ensures { IsOwn (shape_fault (view value.now)) result }
     {
@@ -62,6 +63,7 @@ impl JsonError {
     }
 
     // The value itself is the wrong name.
+    #[cold]
     pub(crate) fn name(alloc: Global) -> JsonError
         ensures { IsOwn BadName result }
     {
@@ -71,6 +73,8 @@ impl JsonError {
     }
 
     // The error of a part, as the value sees it that has the part at the step.
+    #[cold]
+    #[tactic(auto, using(crate::proofs::FaultLemmas::error_below))]
     pub(crate) fn below(self, alloc: Global, step: Step) -> JsonError
         requires { IsPlain (step_of step) }
         ensures { (form inner : Form) (d value : Data) → part_of form (step_of step) d ≡ Some (part inner value)

@@ -14,7 +14,7 @@ ghost use Rattle.serde_json.specs.Data.{Items, array, boolean, member, no_member
 ghost use Rattle.serde_json.specs.Events.{items_len};
 ghost use Rattle.plan_json.specs.Leaves.{columns_of, table_limit, tables_of, type_of, unit_of, literal_of, number_text_of, number_written, operator_of, typed_of};
 ghost use Rattle.plan_json.specs.Queries.{plan_of, query_of, QueryModel};
-ghost use Rattle.plan_dsl.specs.Samples.{alias, count, explode, gather_one, keep_where, slice, sort_as, way};
+ghost use Rattle.plan_dsl.specs.Samples.{alias, count, explode, gather_one, keep_where, slice, sort_as, sort_by, way};
 ghost use Rattle.plan_json.specs.Samples.{expression_of, Gives, GivesAll, bin, binary, cast_to, cast_value, col, column, column_value, empty_value, filter, filter_value, int8, int64, keyed, keyed_twice, list, moments, query, query_value, scan, scan_value, select, select_value, spans, table_value, untyped, whole, word, below_zero, leaf, typed, Each, Refused, Writes, NoJson};
 ghost use Rattle.plan_types.specs.Values.{NullValue, TruthValue, TextValue};
 ghost use Rattle.plan_dsl.specs.Ops.{LiteralOp};
@@ -99,12 +99,14 @@ pub fn expression_examples()
         (cast_value (col "a" ∷ moments "ms" ∷ word "Strict" ∷ []), Some (cast_to (DatetimeType Milliseconds) Strict (column "a"))) ∷ (keyed "len" null, Some count) ∷ (keyed "slice" (list (col "a" ∷ keyed "lit" (whole 1) ∷ keyed "len" null ∷ [])), Some (slice (column "a") (untyped (pos 1)) count)) ∷
         (keyed "explode" (col "a"), Some (explode (column "a"))) ∷ (keyed "gather" (list (col "a" ∷ col "b" ∷ boolean true ∷ [])), Some (gather_one (column "a") (column "b"))) ∷
         (keyed "filter" (list (col "a" ∷ col "b" ∷ [])), Some (keep_where (column "a") (column "b"))) ∷ (keyed "sort" (list (col "a" ∷ boolean true ∷ boolean false ∷ [])), Some (sort_as (way true false) (column "a"))) ∷
+        (keyed "sort_by" (list (col "a" ∷ list (col "b" ∷ col "a" ∷ []) ∷ list (boolean true ∷ []) ∷ list (boolean false ∷ boolean true ∷ []) ∷ [])), Some (sort_by (true ∷ []) (false ∷ true ∷ []) (column "b" ∷ column "a" ∷ []) (column "a"))) ∷
         (keyed "alias" (list (col "a" ∷ word "x" ∷ [])), Some (alias "x" (column "a"))) ∷ []) }
     ensures unread { let a = col "a" in
         GivesAll expression_of None (cast_value (a ∷ word "Int64" ∷ word "strict" ∷ []) ∷ cast_value (a ∷ word "Int64" ∷ []) ∷ cast_value (null ∷ word "Int64" ∷ word "Strict" ∷ []) ∷
         cast_value (a ∷ word "Int64" ∷ word "Strict" ∷ null ∷ []) ∷ keyed "col" (whole 0) ∷ bin (word "plus" ∷ a ∷ a ∷ []) ∷ bin (word "Plus" ∷ a ∷ []) ∷
         bin (word "Plus" ∷ a ∷ a ∷ a ∷ []) ∷ bin (a ∷ word "Plus" ∷ a ∷ []) ∷ bin (word "Plus" ∷ word "a" ∷ a ∷ []) ∷ keyed "column" (word "a") ∷ keyed "len" (whole 1) ∷ keyed "len" (list []) ∷ keyed "slice" (list (a ∷ a ∷ [])) ∷ keyed "explode" (list (a ∷ [])) ∷ keyed "gather" (list (a ∷ a ∷ null ∷ [])) ∷ keyed "filter" (list (a ∷ [])) ∷
-        keyed "sort" (list (a ∷ boolean true ∷ whole 0 ∷ [])) ∷ keyed "alias" (list (a ∷ null ∷ [])) ∷ keyed "alias" (list (word "x" ∷ a ∷ [])) ∷ object no_members ∷ word "a" ∷ []) }
+        keyed "sort" (list (a ∷ boolean true ∷ whole 0 ∷ [])) ∷ keyed "sort_by" (list (a ∷ list (a ∷ []) ∷ list [] ∷ [])) ∷
+        keyed "sort_by" (list (a ∷ list (a ∷ []) ∷ boolean true ∷ list [] ∷ [])) ∷ keyed "sort_by" (list (a ∷ list (a ∷ []) ∷ list [] ∷ list (whole 0 ∷ []) ∷ [])) ∷ keyed "alias" (list (a ∷ null ∷ [])) ∷ keyed "alias" (list (word "x" ∷ a ∷ [])) ∷ object no_members ∷ word "a" ∷ []) }
     ensures operators { Gives (λ name. operator_of (word name)) (("Eq", Some Eq) ∷ ("EqValidity", Some EqValidity) ∷ ("NotEq", Some NotEq) ∷ ("NotEqValidity", Some NotEqValidity) ∷
         ("Lt", Some Lt) ∷ ("LtEq", Some LtEq) ∷ ("Gt", Some Gt) ∷ ("GtEq", Some GtEq) ∷ ("Plus", Some Plus) ∷ ("Minus", Some Minus) ∷
         ("Multiply", Some Multiply) ∷ ("Divide", Some Divide) ∷ ("FloorDivide", Some FloorDivide) ∷ ("Modulus", Some Modulus) ∷

@@ -1,4 +1,4 @@
-//! Expressions, from what was read of a key's value: one function for each key.
+//! Expressions, from what was read of a key's value: one function for each key that has parts.
 ghost use Rattle.std.specs.Prelude.{◌≡◌, [], ◌∷◌, Some};
 ghost use Rattle.plan_dsl.specs.Expressions.{tree_of};
 ghost use Rattle.plan_json.specs.Arguments.{args_view};
@@ -6,12 +6,12 @@ ghost use Rattle.plan_json.specs.Forms.{AllFit, asked_in, expression_asks, expre
 ghost use Rattle.plan_json.specs.declared.forms.ExpressionKey.TheVariants as of;
 
 use super::arguments::{
-    Args, digits, dtype, expression, flag, mode, name, nothing, one, operator, three, two, typed,
-    value,
+    Args, digits, dtype, expression, expressions, flag, flags, four, mode, name, nothing, one,
+    operator, three, two, typed, value,
 };
 use super::forms::ExpressionKey;
 use plan_dsl::expr::Expr;
-use plan_dsl::sort_options::SortOptions;
+use plan_dsl::sort_options::{Flags, SortMultipleOptions, SortOptions};
 
 // The expression of that key.
 pub(crate) fn assemble_expression(key: ExpressionKey, args: Args) -> Expr
@@ -25,12 +25,16 @@ pub(crate) fn assemble_expression(key: ExpressionKey, args: Args) -> Expr
         ExpressionKey::Typed => typed_number(args),
         ExpressionKey::Bin => bin(args),
         ExpressionKey::Cast => cast(args),
-        ExpressionKey::Len => count(args),
+        ExpressionKey::Len => {
+            nothing(one(args));
+            Expr::Len
+        }
         ExpressionKey::Slice => slice(args),
         ExpressionKey::Explode => explode(args),
         ExpressionKey::Gather => gather(args),
         ExpressionKey::Filter => filter(args),
         ExpressionKey::Sort => sort(args),
+        ExpressionKey::SortBy => sort_by(args),
         ExpressionKey::Alias => alias(args),
     }
 }
@@ -87,14 +91,6 @@ fn cast(args: Args) -> Expr
     }
 }
 
-fn count(args: Args) -> Expr
-    requires { AllFit (asked_in (expression_asks of.Len)) (args_view args) }
-    ensures { expression_says of.Len (args_view args) ≡ Some (tree_of result) }
-{
-    nothing(one(args));
-    Expr::Len
-}
-
 fn slice(args: Args) -> Expr
     requires { AllFit (asked_in (expression_asks of.Slice)) (args_view args) }
     ensures { expression_says of.Slice (args_view args) ≡ Some (tree_of result) }
@@ -147,6 +143,25 @@ fn sort(args: Args) -> Expr
         options: SortOptions {
             descending: flag(descending),
             nulls_last: flag(nulls_last),
+        },
+    }
+}
+
+fn sort_by(args: Args) -> Expr
+    requires { AllFit (asked_in (expression_asks of.SortBy)) (args_view args) }
+    ensures { expression_says of.SortBy (args_view args) ≡ Some (tree_of result) }
+{
+    let (input, keys, descending, nulls_last) = four(args);
+    Expr::SortBy {
+        expr: expression(input),
+        by: expressions(keys),
+        sort_options: SortMultipleOptions {
+            descending: Flags {
+                items: flags(descending),
+            },
+            nulls_last: Flags {
+                items: flags(nulls_last),
+            },
         },
     }
 }

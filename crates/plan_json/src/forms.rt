@@ -1,8 +1,8 @@
 //! The table of forms: the keys of an object of one key, and what each asks of its value.
-ghost use Rattle.std.specs.Prelude.{◌≡◌, IfSome, map};
+ghost use Rattle.std.specs.Prelude.{◌≡◌, ◌≤◌, IfSome, length, map};
 ghost use Rattle.std.specs.Option.{option_map};
 ghost use Rattle.plan_json.specs.Errors.{escaped};
-ghost use Rattle.plan_json.specs.Forms.{asks, expression_asks, expression_rows, key_named, kind_of, places_view, plan_asks, plan_rows, row_named, row_view, type_rows};
+ghost use Rattle.plan_json.specs.Forms.{asked_in, asks, expression_asks, expression_rows, key_named, kind_of, places_view, plan_asks, plan_rows, row_named, type_rows};
 
 // What an object of one key can be.
 #[derive(Clone, Copy)]
@@ -44,14 +44,15 @@ pub(crate) enum Place {
     Leaf(Leaf),
     // A list of any number of expressions.
     Expressions,
+    // A list of any number of truth values.
+    Flags,
 }
 
-// What a key asks of its value: one thing, or a list of exactly these.
+// What a key asks of its value: one thing, or a list of exactly these, of which there are four at most.
 #[derive(Clone, Copy)]
 pub(crate) enum Places {
     One(Place),
-    Two(Place, Place),
-    Three(Place, Place, Place),
+    Listed(&'static [Place]),
 }
 
 #[derive(Clone, Copy)]
@@ -68,6 +69,7 @@ pub(crate) enum ExpressionKey {
     Gather,
     Filter,
     Sort,
+    SortBy,
     Alias,
 }
 
@@ -94,15 +96,11 @@ pub(crate) enum Key {
     Plan(PlanKey),
 }
 
-// A key's word, and what it names.
-pub(crate) struct Row<K> {
-    pub(crate) word: &'static str,
-    pub(crate) key: K,
-}
-
 const EXPRESSION: Place = Place::Form(Kind::Expression);
 
 const EXPRESSIONS: Place = Place::Expressions;
+
+const FLAGS: Place = Place::Flags;
 
 const PLAN: Place = Place::Form(Kind::Plan);
 
@@ -129,128 +127,66 @@ const NOTHING: Place = Place::Leaf(Leaf::Nothing);
 const FLAG: Place = Place::Leaf(Leaf::Flag);
 
 // A word is looked for from the first row on, so common ones stand in front.
-const EXPRESSION_ROWS: [Row<ExpressionKey>; 13] = [
-    Row {
-        word: "col",
-        key: ExpressionKey::Col,
-    },
-    Row {
-        word: "bin",
-        key: ExpressionKey::Bin,
-    },
-    Row {
-        word: "lit",
-        key: ExpressionKey::Lit,
-    },
-    Row {
-        word: "int",
-        key: ExpressionKey::Int,
-    },
-    Row {
-        word: "typed",
-        key: ExpressionKey::Typed,
-    },
-    Row {
-        word: "cast",
-        key: ExpressionKey::Cast,
-    },
-    Row {
-        word: "len",
-        key: ExpressionKey::Len,
-    },
-    Row {
-        word: "slice",
-        key: ExpressionKey::Slice,
-    },
-    Row {
-        word: "explode",
-        key: ExpressionKey::Explode,
-    },
-    Row {
-        word: "gather",
-        key: ExpressionKey::Gather,
-    },
-    Row {
-        word: "filter",
-        key: ExpressionKey::Filter,
-    },
-    Row {
-        word: "sort",
-        key: ExpressionKey::Sort,
-    },
-    Row {
-        word: "alias",
-        key: ExpressionKey::Alias,
-    },
+const EXPRESSION_ROWS: [(&'static str, ExpressionKey); 14] = [
+    ("col", ExpressionKey::Col),
+    ("bin", ExpressionKey::Bin),
+    ("lit", ExpressionKey::Lit),
+    ("int", ExpressionKey::Int),
+    ("typed", ExpressionKey::Typed),
+    ("cast", ExpressionKey::Cast),
+    ("len", ExpressionKey::Len),
+    ("slice", ExpressionKey::Slice),
+    ("explode", ExpressionKey::Explode),
+    ("gather", ExpressionKey::Gather),
+    ("filter", ExpressionKey::Filter),
+    ("sort", ExpressionKey::Sort),
+    ("sort_by", ExpressionKey::SortBy),
+    ("alias", ExpressionKey::Alias),
 ];
 
-const PLAN_ROWS: [Row<PlanKey>; 4] = [
-    Row {
-        word: "scan",
-        key: PlanKey::Scan,
-    },
-    Row {
-        word: "empty",
-        key: PlanKey::Empty,
-    },
-    Row {
-        word: "filter",
-        key: PlanKey::Filter,
-    },
-    Row {
-        word: "select",
-        key: PlanKey::Select,
-    },
+const PLAN_ROWS: [(&'static str, PlanKey); 4] = [
+    ("scan", PlanKey::Scan),
+    ("empty", PlanKey::Empty),
+    ("filter", PlanKey::Filter),
+    ("select", PlanKey::Select),
 ];
 
-const TYPE_ROWS: [Row<TypeKey>; 4] = [
-    Row {
-        word: "Datetime",
-        key: TypeKey::Datetime,
-    },
-    Row {
-        word: "Duration",
-        key: TypeKey::Duration,
-    },
-    Row {
-        word: "List",
-        key: TypeKey::List,
-    },
-    Row {
-        word: "Struct",
-        key: TypeKey::Struct,
-    },
+const TYPE_ROWS: [(&'static str, TypeKey); 4] = [
+    ("Datetime", TypeKey::Datetime),
+    ("Duration", TypeKey::Duration),
+    ("List", TypeKey::List),
+    ("Struct", TypeKey::Struct),
 ];
 
 // The keys of expressions.
-fn expression_table() -> &'static [Row<ExpressionKey>]
-    ensures { map row_view result.now ≡ expression_rows }
+fn expression_table() -> &'static [(&'static str, ExpressionKey)]
+    ensures { map (λ row. (row.0.now, row.1)) result.now ≡ expression_rows }
 {
     &EXPRESSION_ROWS
 }
 
 // The keys of plans.
-fn plan_table() -> &'static [Row<PlanKey>]
-    ensures { map row_view result.now ≡ plan_rows }
+fn plan_table() -> &'static [(&'static str, PlanKey)]
+    ensures { map (λ row. (row.0.now, row.1)) result.now ≡ plan_rows }
 {
     &PLAN_ROWS
 }
 
 // The keys of types.
-fn type_table() -> &'static [Row<TypeKey>]
-    ensures { map row_view result.now ≡ type_rows }
+fn type_table() -> &'static [(&'static str, TypeKey)]
+    ensures { map (λ row. (row.0.now, row.1)) result.now ≡ type_rows }
 {
     &TYPE_ROWS
 }
 
 // The first row of that word.
-fn find<K: Copy>(rows: &[Row<K>], word: &str) -> Option<(&'static str, K)>
-    ensures row { option_map (λ row. (row.0.now, row.1)) result ≡ row_named (map row_view rows.now) word.now }
+fn find<K: Copy>(rows: &[(&'static str, K)], word: &str) -> Option<(&'static str, K)>
+    ensures row { option_map (λ row. (row.0.now, row.1)) result ≡ row_named (map (λ row. (row.0.now, row.1)) rows.now) word.now }
     ensures word { IfSome result (λ row. row.0.now ≡ word.now) }
 {
     for row in rows {
-        if row.word == word {
-            return Some((row.word, row.key));
+        if row.0 == word {
+            return Some((row.0, row.1));
         }
     }
     None
@@ -291,6 +227,7 @@ pub(crate) fn find_type(word: &str) -> Option<(&'static str, TypeKey)>
 // What the key asks of its value.
 pub(crate) fn places_of(key: Key) -> Places
     ensures asks { places_view result ≡ asks key }
+    ensures short { length (asked_in (places_view result)) ≤ 4 }
 {
     match key {
         Key::Expression(key) => expression_places(key),
@@ -300,31 +237,34 @@ pub(crate) fn places_of(key: Key) -> Places
 
 fn expression_places(key: ExpressionKey) -> Places
     ensures asks { places_view result ≡ expression_asks key }
+    ensures short { length (asked_in (places_view result)) ≤ 4 }
 {
     match key {
         ExpressionKey::Col => Places::One(NAME),
         ExpressionKey::Lit => Places::One(VALUE),
         ExpressionKey::Int => Places::One(DIGITS),
         ExpressionKey::Typed => Places::One(TYPED),
-        ExpressionKey::Bin => Places::Three(OPERATOR, EXPRESSION, EXPRESSION),
-        ExpressionKey::Cast => Places::Three(EXPRESSION, DTYPE, MODE),
+        ExpressionKey::Bin => Places::Listed(&[OPERATOR, EXPRESSION, EXPRESSION]),
+        ExpressionKey::Cast => Places::Listed(&[EXPRESSION, DTYPE, MODE]),
         ExpressionKey::Len => Places::One(NOTHING),
-        ExpressionKey::Slice => Places::Three(EXPRESSION, EXPRESSION, EXPRESSION),
+        ExpressionKey::Slice => Places::Listed(&[EXPRESSION, EXPRESSION, EXPRESSION]),
         ExpressionKey::Explode => Places::One(EXPRESSION),
-        ExpressionKey::Gather => Places::Three(EXPRESSION, EXPRESSION, FLAG),
-        ExpressionKey::Filter => Places::Two(EXPRESSION, EXPRESSION),
-        ExpressionKey::Sort => Places::Three(EXPRESSION, FLAG, FLAG),
-        ExpressionKey::Alias => Places::Two(EXPRESSION, NAME),
+        ExpressionKey::Gather => Places::Listed(&[EXPRESSION, EXPRESSION, FLAG]),
+        ExpressionKey::Filter => Places::Listed(&[EXPRESSION, EXPRESSION]),
+        ExpressionKey::Sort => Places::Listed(&[EXPRESSION, FLAG, FLAG]),
+        ExpressionKey::SortBy => Places::Listed(&[EXPRESSION, EXPRESSIONS, FLAGS, FLAGS]),
+        ExpressionKey::Alias => Places::Listed(&[EXPRESSION, NAME]),
     }
 }
 
 fn plan_places(key: PlanKey) -> Places
     ensures asks { places_view result ≡ plan_asks key }
+    ensures short { length (asked_in (places_view result)) ≤ 4 }
 {
     match key {
         PlanKey::Scan => Places::One(TABLE),
         PlanKey::Empty => Places::One(COLUMNS),
-        PlanKey::Filter => Places::Two(PLAN, EXPRESSION),
-        PlanKey::Select => Places::Two(PLAN, EXPRESSIONS),
+        PlanKey::Filter => Places::Listed(&[PLAN, EXPRESSION]),
+        PlanKey::Select => Places::Listed(&[PLAN, EXPRESSIONS]),
     }
 }

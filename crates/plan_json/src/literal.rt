@@ -17,6 +17,7 @@ use serde_json::Value;
 use std::alloc::Global;
 
 // A literal that is written as it is: null, a truth value, a text, or a whole number, which has no type.
+#[inline(never)]
 pub(crate) fn read_literal(alloc: Global, value: &Value) -> Result<LiteralValue, JsonError>
     ensures ok { IfOk result (λ literal. literal_of (view value.now) ≡ Some (literal_op literal)) }
     ensures err { IfErr result (IsErrorOf a_literal (view value.now)) }
@@ -37,6 +38,7 @@ pub(crate) fn read_literal(alloc: Global, value: &Value) -> Result<LiteralValue,
 }
 
 // A text that writes a whole number, which has no type.
+#[inline(never)]
 pub(crate) fn read_number_text(alloc: Global, value: &Value) -> Result<LiteralValue, JsonError>
     ensures ok { IfOk result (λ literal. number_text_of (view value.now) ≡ Some (literal_op literal)) }
     ensures err { IfErr result (IsErrorOf a_number_text (view value.now)) }
@@ -73,6 +75,7 @@ fn starts_with_plus(bytes: &[u8]) -> bool
 }
 
 // A number of a type: `[type, number]`.
+#[inline(never)]
 pub(crate) fn read_typed(alloc: Global, value: &Value) -> Result<LiteralValue, JsonError>
     ensures ok { IfOk result (λ literal. typed_of (view value.now) ≡ Some (literal_op literal)) }
     ensures err { IfErr result (IsErrorOf a_typed_literal (view value.now)) }
@@ -90,6 +93,7 @@ pub(crate) fn read_typed(alloc: Global, value: &Value) -> Result<LiteralValue, J
 }
 
 // A type of integers or of time.
+#[tactic(auto, using(crate::proofs::LiteralLemmas::counted_error))]
 fn read_counted(alloc: Global, value: &Value) -> Result<DataType, JsonError>
     ensures ok { IfOk result (λ dtype. counted_of (view value.now) ≡ Some (ty dtype)) }
     ensures err { IfErr result (IsErrorOf a_counted_type (view value.now)) }

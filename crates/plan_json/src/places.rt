@@ -1,34 +1,38 @@
 //! Reading what a place asks for, by the table of forms.
-ghost use Rattle.std.specs.Prelude.{◌≡◌, [], ◌∷◌, Some, map, option_and_then, IfOk, IfErr};
-ghost use Rattle.serde_json.specs.View.{view};
-ghost use Rattle.plan_dsl.specs.Plans.{trees_of};
-ghost use Rattle.plan_types.specs.Schemas.{columns, names_of};
-ghost use Rattle.plan_json.specs.Arguments.{arg_view, args_view};
+ghost use Rattle.std.specs.Prelude.{◌≡◌, ◌≤◌, List, Some, length, map, option_and_then, IfOk, IfErr};
+ghost use Rattle.serde_json.specs.Data.{array};
+ghost use Rattle.serde_json.specs.Find.{as_bool};
+ghost use Rattle.serde_json.specs.View.{view, items_view};
+ghost use Rattle.plan_dsl.specs.Expressions.{trees_of};
+ghost use Rattle.plan_types.specs.Schemas.{Name, columns, names_of};
+ghost use Rattle.plan_json.specs.Arguments.{arg_view, args_view, items_seen};
 ghost use Rattle.plan_json.specs.Errors.{IsErrorOf};
-ghost use Rattle.plan_json.specs.Faults.{asked_form, a_scan, items_of, keyed_form, leaf_form, places_form, nothing_form};
-ghost use Rattle.plan_json.specs.Forms.{AllFit, Fits, a_form, asked_in, asks, expression, expression_read, kind_of, leaf, many, many_read, place_view, places_view, reads_of, says, nothing_read};
+ghost use Rattle.plan_json.specs.Faults.{asked_form, a_scan, items_of, keyed_form, leaf_form, list_of, places_form, nothing_form, flag_form};
+ghost use Rattle.plan_json.specs.Forms.{AllFit, Fits, a_form, asked_in, asks, expression, expression_read, kind_of, leaf, leaves_read, many, many_read, place_view, places_view, reads_of, says, nothing_read, flag_read};
 ghost use Rattle.plan_json.specs.Leaves.{table_at, text_of};
-ghost use Rattle.plan_json.specs.Queries.{leaf_of, list_as, places_as, read_as, nothing_of};
-ghost use Rattle.plan_json.specs.Tables.{declared};
+ghost use Rattle.plan_json.specs.Queries.{IsItem, leaf_of, list_as, places_as, read_as, these_as, nothing_of};
+ghost use Rattle.plan_json.specs.Tables.{Declared, declared};
+ghost use Rattle.plan_json.specs.declared.forms.Leaf.TheVariants as leaves;
 
-use super::arguments::{Arg, Args, discard, expression};
+use super::arguments::{Arg, Args, Items, discard, expression};
 use super::columns::read_columns;
 use super::dtype::{read_text, read_type};
 use super::error::{JsonError, Step};
 use super::expression::assemble_expression;
-use super::forms::{Key, Kind, Leaf, Place, Places, find_key, places_of};
+use super::forms::{ExpressionKey, Key, Kind, Leaf, Place, Places, find_key, places_of};
 use super::literal::{read_literal, read_number_text, read_typed};
 use super::operator::{read_mode, read_operator};
 use super::plan::assemble_plan;
 use super::tables::Tables;
-use super::value::{only_member, three_items, two_items};
-use plan_dsl::plan::Exprs;
+use super::value::{items, only_member};
+use plan_dsl::expr::{Expr, Exprs};
 use plan_types::schema::Schema;
 use serde_json::Value;
 use std::alloc::Global;
 
 // An object of one key, which names a form of the kind.
 #[cycle(forms)]
+#[tactic(auto, using(crate::proofs::Lemmas::less_deep))]
 pub(crate) fn read_form(
     alloc: Global,
     tables: &Tables,
@@ -44,18 +48,44 @@ pub(crate) fn read_form(
         None => Err(JsonError::shape(alloc, value)),
         Some((word, inner)) => match find_key(kind, word) {
             None => Err(JsonError::shape(alloc, value)),
-            Some((word, key)) => match read_places(alloc, tables, places_of(key), inner) {
+            Some((word, key)) => match read_keyed(alloc, tables, key, inner) {
                 Err(error) => Err(error.below(alloc, Step::Key(word))),
-                Ok(args) => {
-                    let arg = assemble(alloc, key, args)?;
-                    Ok(arg)
-                }
+                Ok(arg) => Ok(arg),
             },
         },
     }
 }
 
-// The value of a key.
+// What a key says of its value.
+#[cycle(forms)]
+fn read_keyed(alloc: Global, tables: &Tables, key: Key, value: &Value) -> Result<Arg, JsonError>
+    ensures ok { IfOk result (λ arg. option_and_then (says key) (places_as (declared tables.now) (asks key) (view value.now))
+        ≡ Some (arg_view arg)) }
+    ensures fit { IfOk result (λ arg. Fits (a_form (kind_of key)) (arg_view arg)) }
+    ensures err { IfErr result (IsErrorOf (places_form (names_of (declared tables.now)) (asks key)) (view value.now)) }
+{
+    match key {
+        // Most forms are columns, whose name goes through no arguments.
+        Key::Expression(ExpressionKey::Col) => match read_text(alloc, value) {
+            Err(error) => Err(error),
+            Ok(name) => {
+                let expr = Box::new(alloc, Expr::Column(name))?;
+                Ok(Arg::Expression(expr))
+            }
+        },
+        Key::Expression(_) | Key::Plan(_) => {
+            match read_places(alloc, tables, places_of(key), value) {
+                Err(error) => Err(error),
+                Ok(args) => {
+                    let arg = assemble(alloc, key, args)?;
+                    Ok(arg)
+                }
+            }
+        }
+    }
+}
+
+// The value of a key, by its places.
 #[cycle(forms)]
 fn read_places(
     alloc: Global,
@@ -63,6 +93,7 @@ fn read_places(
     places: Places,
     value: &Value,
 ) -> Result<Args, JsonError>
+    requires { length (asked_in (places_view places)) ≤ 4 }
     ensures ok { IfOk result (λ args. places_as (declared tables.now) (places_view places) (view value.now)
         ≡ Some (args_view args)) }
     ensures fit { IfOk result (λ args. AllFit (asked_in (places_view places)) (args_view args)) }
@@ -74,133 +105,119 @@ fn read_places(
             Ok(arg) => Ok(Args::One(arg)),
             Err(error) => Err(error),
         },
-        Places::Two(first, second) => match read_two(alloc, tables, first, second, value) {
-            Ok(args) => Ok(args),
+        Places::Listed(places) => match read_listed(alloc, tables, places, value) {
+            Ok(items) => Ok(Args::Listed(items)),
             Err(error) => Err(error),
         },
-        Places::Three(first, second, third) => {
-            match read_three(alloc, tables, first, second, third, value) {
-                Ok(args) => Ok(args),
+    }
+}
+
+// A list of exactly these.
+#[cycle(forms)]
+#[tactic(auto, using(crate::proofs::Lemmas::listing))]
+fn read_listed(
+    alloc: Global,
+    tables: &Tables,
+    places: &[Place],
+    value: &Value,
+) -> Result<Items, JsonError>
+    requires { length places.now ≤ 4 }
+    ensures ok { IfOk result (λ items. list_as (declared tables.now) (map place_view places.now) (view value.now)
+        ≡ Some (items_seen items)) }
+    ensures fit { IfOk result (λ items. AllFit (map place_view places.now) (items_seen items)) }
+    ensures err { IfErr result (IsErrorOf (items_of (names_of (declared tables.now)) (map place_view places.now))
+        (view value.now)) }
+{
+    match items(value) {
+        None => Err(JsonError::shape(alloc, value)),
+        Some(values) => {
+            if values.len() != places.len() {
+                return Err(JsonError::shape(alloc, value));
+            }
+            match read_items(alloc, tables, places, values) {
+                Ok(items) => Ok(items),
                 Err(error) => Err(error),
             }
         }
     }
 }
 
-// A list of exactly these two.
+// Each item by its place.
 #[cycle(forms)]
-fn read_two(
+#[tactic(auto, using(crate::proofs::FormLemmas::four_read))]
+fn read_items(
     alloc: Global,
     tables: &Tables,
-    first: Place,
-    second: Place,
-    value: &Value,
-) -> Result<Args, JsonError>
-    ensures ok { IfOk result (λ args. list_as (declared tables.now) (place_view first ∷ place_view second ∷ []) (view value.now)
-        ≡ Some (args_view args)) }
-    ensures fit { IfOk result (λ args. AllFit (place_view first ∷ place_view second ∷ []) (args_view args)) }
-    ensures err { IfErr result (IsErrorOf (items_of (names_of (declared tables.now)) (place_view first ∷ place_view second ∷ []))
-        (view value.now)) }
+    places: &[Place],
+    values: &[Value],
+) -> Result<Items, JsonError>
+    requires count { length values.now ≡ length places.now }
+    requires short { length places.now ≤ 4 }
+    ensures ok { IfOk result (λ items. these_as (declared tables.now) (map place_view places.now) (items_view values.now)
+        ≡ Some (items_seen items)) }
+    ensures fit { IfOk result (λ items. AllFit (map place_view places.now) (items_seen items)) }
+    ensures err { IfErr result (IsErrorOf (items_of (names_of (declared tables.now)) (map place_view places.now))
+        (array (items_view values.now))) }
 {
-    match two_items(value) {
-        None => Err(JsonError::shape(alloc, value)),
-        Some((a, b)) => match read_place(alloc, tables, first, a) {
-            Err(error) => Err(error.below(alloc, Step::Item(0))),
-            Ok(a) => match read_place(alloc, tables, second, b) {
-                Err(error) => {
-                    discard(a);
-                    Err(error.below(alloc, Step::Item(1)))
-                }
-                Ok(b) => Ok(Args::Two(a, b)),
-            },
-        },
-    }
-}
-
-// A list of exactly these three.
-#[cycle(forms)]
-fn read_three(
-    alloc: Global,
-    tables: &Tables,
-    first: Place,
-    second: Place,
-    third: Place,
-    value: &Value,
-) -> Result<Args, JsonError>
-    ensures ok { IfOk result (λ args. list_as (declared tables.now) (place_view first ∷ place_view second ∷ place_view third ∷ [])
-        (view value.now) ≡ Some (args_view args)) }
-    ensures fit { IfOk result (λ args. AllFit (place_view first ∷ place_view second ∷ place_view third ∷ []) (args_view args)) }
-    ensures err { IfErr result (IsErrorOf (items_of (names_of (declared tables.now))
-        (place_view first ∷ place_view second ∷ place_view third ∷ [])) (view value.now)) }
-{
-    match three_items(value) {
-        None => Err(JsonError::shape(alloc, value)),
-        Some((a, b, c)) => match read_place(alloc, tables, first, a) {
-            Err(error) => Err(error.below(alloc, Step::Item(0))),
-            Ok(a) => match read_place(alloc, tables, second, b) {
-                Err(error) => {
-                    discard(a);
-                    Err(error.below(alloc, Step::Item(1)))
-                }
-                Ok(b) => match read_place(alloc, tables, third, c) {
-                    Err(error) => {
-                        discard(a);
-                        discard(b);
-                        Err(error.below(alloc, Step::Item(2)))
-                    }
-                    Ok(c) => Ok(Args::Three(a, b, c)),
-                },
-            },
-        },
-    }
-}
-
-// What is at one place.
-#[cycle(forms)]
-fn read_place(alloc: Global, tables: &Tables, place: Place, value: &Value) -> Result<Arg, JsonError>
-    ensures ok { IfOk result (λ arg. read_as (declared tables.now) (place_view place) (view value.now)
-        ≡ Some (arg_view arg)) }
-    ensures fit { IfOk result (λ arg. Fits (place_view place) (arg_view arg)) }
-    ensures err { IfErr result (IsErrorOf (asked_form (names_of (declared tables.now)) (place_view place))
-        (view value.now)) }
-{
-    match place {
-        Place::Form(kind) => match read_form(alloc, tables, kind, value) {
-            Ok(arg) => Ok(arg),
-            Err(error) => Err(error),
-        },
-        Place::Leaf(leaf) => match read_leaf(alloc, tables, leaf, value) {
-            Ok(arg) => Ok(arg),
-            Err(error) => Err(error),
-        },
-        Place::Expressions => match read_expressions(alloc, tables, value) {
-            Ok(exprs) => Ok(Arg::Expressions(exprs)),
-            Err(error) => Err(error),
-        },
-    }
-}
-
-// A list of any number of expressions.
-#[cycle(forms)]
-fn read_expressions(alloc: Global, tables: &Tables, value: &Value) -> Result<Exprs, JsonError>
-    ensures ok { IfOk result (λ exprs. read_as (declared tables.now) (many expression) (view value.now)
-        ≡ Some (many_read (reads_of (map expression_read (trees_of exprs))))) }
-    ensures fit { IfOk result (λ exprs. Fits (many expression) (many_read (reads_of (map expression_read (trees_of exprs))))) }
-    ensures err { IfErr result (IsErrorOf (asked_form (names_of (declared tables.now)) (many expression)) (view value.now)) }
-{
-    match value.as_array() {
-        None => Err(JsonError::shape(alloc, value)),
-        Some(values) => {
-            let values = values.as_slice();
-            let mut items = Vec::with_capacity(alloc, values.len())?;
-            for (number, value) in values.iter().enumerate() {
-                match read_form(alloc, tables, Kind::Expression, value) {
-                    Ok(arg) => items.push(Box::into_inner(expression(arg)))?,
-                    Err(error) => return Err(error.below(alloc, Step::Item(number))),
-                }
-            }
-            Ok(Exprs { items })
+    let first = match read_item(alloc, tables, places, values, 0) {
+        Ok(first) => first,
+        Err(error) => return Err(error),
+    };
+    let second = match read_item(alloc, tables, places, values, 1) {
+        Ok(second) => second,
+        Err(error) => {
+            discard(first);
+            return Err(error);
         }
+    };
+    let third = match read_item(alloc, tables, places, values, 2) {
+        Ok(third) => third,
+        Err(error) => {
+            discard(first);
+            discard(second);
+            return Err(error);
+        }
+    };
+    match read_item(alloc, tables, places, values, 3) {
+        Err(error) => {
+            discard(first);
+            discard(second);
+            discard(third);
+            Err(error)
+        }
+        Ok(fourth) => Ok(Items {
+            count: places.len(),
+            first,
+            second,
+            third,
+            fourth,
+        }),
+    }
+}
+
+// The item of that number by its place, and nothing behind the last.
+#[cycle(forms)]
+#[inline(always)]
+#[tactic(auto, using(crate::proofs::FormLemmas::item_read))]
+fn read_item(
+    alloc: Global,
+    tables: &Tables,
+    places: &[Place],
+    values: &[Value],
+    number: usize,
+) -> Result<Arg, JsonError>
+    requires { length values.now ≡ length places.now }
+    ensures ok { IfOk result (λ arg. IsItem (declared tables.now) (map place_view places.now) (items_view values.now) number
+        (arg_view arg)) }
+    ensures err { IfErr result (IsErrorOf (items_of (names_of (declared tables.now)) (map place_view places.now))
+        (array (items_view values.now))) }
+{
+    if number >= places.len() {
+        return Ok(Arg::Nothing);
+    }
+    match read_place(alloc, tables, places[number], &values[number]) {
+        Ok(arg) => Ok(arg),
+        Err(error) => Err(error.below(alloc, Step::Item(number))),
     }
 }
 
@@ -226,6 +243,94 @@ macro_rules! boxed {
     };
 }
 
+// What is at one place.
+#[cycle(forms)]
+#[tactic(auto, using(crate::proofs::FormLemmas::many_fit))]
+fn read_place(alloc: Global, tables: &Tables, place: Place, value: &Value) -> Result<Arg, JsonError>
+    ensures ok { IfOk result (λ arg. read_as (declared tables.now) (place_view place) (view value.now)
+        ≡ Some (arg_view arg)) }
+    ensures fit { IfOk result (λ arg. Fits (place_view place) (arg_view arg)) }
+    ensures err { IfErr result (IsErrorOf (asked_form (names_of (declared tables.now)) (place_view place))
+        (view value.now)) }
+{
+    match place {
+        Place::Form(kind) => match read_form(alloc, tables, kind, value) {
+            Ok(arg) => Ok(arg),
+            Err(error) => Err(error),
+        },
+        Place::Leaf(leaf) => match read_leaf(alloc, tables, leaf, value) {
+            Ok(arg) => Ok(arg),
+            Err(error) => Err(error),
+        },
+        Place::Expressions => {
+            boxed!(
+                alloc,
+                read_expressions(alloc, tables, value),
+                Arg::Expressions
+            )
+        }
+        Place::Flags => boxed!(alloc, read_flags(alloc, value), Arg::Flags),
+    }
+}
+
+// A list of any number of expressions.
+#[cycle(forms)]
+#[inline(never)]
+#[tactic(auto, using(crate::proofs::Lemmas::less_deep))]
+fn read_expressions(alloc: Global, tables: &Tables, value: &Value) -> Result<Exprs, JsonError>
+    ensures ok { IfOk result (λ exprs. read_as (declared tables.now) (many expression) (view value.now)
+        ≡ Some (many_read (reads_of (map expression_read (trees_of exprs))))) }
+    ensures err { IfErr result (IsErrorOf (asked_form (names_of (declared tables.now)) (many expression)) (view value.now)) }
+{
+    match items(value) {
+        None => Err(JsonError::shape(alloc, value)),
+        Some(values) => {
+            let mut items = Vec::with_capacity(alloc, values.len())?;
+            for (number, value) in values.iter().enumerate() {
+                match read_form(alloc, tables, Kind::Expression, value) {
+                    Ok(arg) => items.push(Box::into_inner(expression(arg)))?,
+                    Err(error) => return Err(error.below(alloc, Step::Item(number))),
+                }
+            }
+            Ok(Exprs { items })
+        }
+    }
+}
+
+// A list of any number of truth values.
+#[inline(never)]
+#[tactic(auto, using(crate::proofs::Lemmas::growing))]
+fn read_flags(alloc: Global, value: &Value) -> Result<Vec<bool>, JsonError>
+    ensures ok { (tables : Declared) → IfOk result (λ flags. read_as tables (many (leaf leaves.Flag)) (view value.now)
+        ≡ Some (leaves_read (reads_of (map flag_read flags.items)))) }
+    ensures err { (names : List Name) → IfErr result (IsErrorOf (list_of names (leaf leaves.Flag)) (view value.now)) }
+{
+    match items(value) {
+        None => Err(JsonError::shape(alloc, value)),
+        Some(values) => {
+            let mut flags = Vec::with_capacity(alloc, values.len())?;
+            for (number, value) in values.iter().enumerate() {
+                match read_flag(alloc, value) {
+                    Ok(flag) => flags.push(flag)?,
+                    Err(error) => return Err(error.below(alloc, Step::Item(number))),
+                }
+            }
+            Ok(flags)
+        }
+    }
+}
+
+// True or false.
+fn read_flag(alloc: Global, value: &Value) -> Result<bool, JsonError>
+    ensures ok { IfOk result (λ flag. as_bool (view value.now) ≡ Some flag) }
+    ensures err { IfErr result (IsErrorOf flag_form (view value.now)) }
+{
+    match value.as_bool() {
+        None => Err(JsonError::shape(alloc, value)),
+        Some(flag) => Ok(flag),
+    }
+}
+
 // What has no forms.
 fn read_leaf(alloc: Global, tables: &Tables, which: Leaf, value: &Value) -> Result<Arg, JsonError>
     ensures ok { IfOk result (λ arg. leaf_of (declared tables.now) which (view value.now) ≡ Some (arg_view arg)) }
@@ -233,7 +338,7 @@ fn read_leaf(alloc: Global, tables: &Tables, which: Leaf, value: &Value) -> Resu
     ensures err { IfErr result (IsErrorOf (leaf_form (names_of (declared tables.now)) which) (view value.now)) }
 {
     match which {
-        Leaf::Name => plain!(read_text(alloc, value), Arg::Name),
+        Leaf::Name => boxed!(alloc, read_text(alloc, value), Arg::Name),
         Leaf::Value => boxed!(alloc, read_literal(alloc, value), Arg::Literal),
         Leaf::Digits => boxed!(alloc, read_number_text(alloc, value), Arg::Literal),
         Leaf::Typed => boxed!(alloc, read_typed(alloc, value), Arg::Literal),
@@ -249,10 +354,7 @@ fn read_leaf(alloc: Global, tables: &Tables, which: Leaf, value: &Value) -> Resu
             Ok(()) => Ok(Arg::Nothing),
             Err(error) => Err(error),
         },
-        Leaf::Flag => match value.as_bool() {
-            None => Err(JsonError::shape(alloc, value)),
-            Some(flag) => Ok(Arg::Flag(flag)),
-        },
+        Leaf::Flag => plain!(read_flag(alloc, value), Arg::Flag),
     }
 }
 
@@ -268,6 +370,7 @@ fn read_nothing(alloc: Global, value: &Value) -> Result<(), JsonError>
 }
 
 // The number and the columns of the table of that name.
+#[inline(never)]
 fn read_table_name(
     alloc: Global,
     tables: &Tables,

@@ -58,6 +58,7 @@ impl Tables {
         self.items.get_index(number)
     }
 
+    #[tactic(auto, using(crate::proofs::Lemmas::of_tables))]
     pub(crate) fn contains(&self, name: &PlSmallStr) -> bool
         ensures { result ≡ is_among name.now (names_of (declared self.now)) }
     {
@@ -65,6 +66,7 @@ impl Tables {
     }
 
     /// The number and the columns of the table of that name.
+    #[tactic(auto, using(crate::proofs::Lemmas::of_tables))]
     pub(crate) fn find(&self, name: &PlSmallStr) -> Option<(u32, &Schema)>
         ensures { option_map (λ table. (table.0, columns table.1.now)) result
             ≡ table_at (declared self.now) name.now }
@@ -76,6 +78,7 @@ impl Tables {
     }
 
     /// Declares one more table.
+    #[tactic(auto, using(crate::proofs::Lemmas::of_tables))]
     pub(crate) fn push(&mut self, table: Table) -> Result<(), JsonError>
         requires new { is_among table.name (names_of (declared self.old)) ≡ false }
         requires room { length (declared self.old) + 1 < 2 ^ 32 }

@@ -1,8 +1,9 @@
 //! Looking into a value.
 ghost use Rattle.std.specs.Prelude.{◌≡◌};
 ghost use Rattle.std.specs.Option.{option_map};
-ghost use Rattle.serde_json.specs.View.{view};
-ghost use Rattle.plan_json.specs.Looking.{whole_number, only_member, two_members, two_items, three_items};
+ghost use Rattle.serde_json.specs.Find.{as_array};
+ghost use Rattle.serde_json.specs.View.{view, items_view};
+ghost use Rattle.plan_json.specs.Looking.{whole_number, only_member, two_members, two_items};
 
 use serde_json::Value;
 
@@ -20,6 +21,7 @@ pub(crate) fn whole_number(value: &Value) -> Option<i128>
 }
 
 // The key and the value of an object of one key.
+#[tactic(auto, using(crate::proofs::Lemmas::looking))]
 pub(crate) fn only_member(value: &Value) -> Option<(&str, &Value)>
     ensures { option_map (λ m. (m.0.now, view m.1.now)) result ≡ only_member (view value.now) }
 {
@@ -38,6 +40,7 @@ pub(crate) fn only_member(value: &Value) -> Option<(&str, &Value)>
 }
 
 // The values of an object of these two keys alone.
+#[tactic(auto, using(crate::proofs::Lemmas::looking))]
 pub(crate) fn two_members<'v>(
     value: &'v Value,
     first: &'static str,
@@ -63,32 +66,28 @@ pub(crate) fn two_members<'v>(
     }
 }
 
+// The items of a list.
+pub(crate) fn items(value: &Value) -> Option<&[Value]>
+    ensures { option_map (λ values. items_view values.now) result ≡ as_array (view value.now) }
+{
+    match value.as_array() {
+        None => None,
+        Some(values) => Some(values.as_slice()),
+    }
+}
+
 // The items of a list of two.
+#[tactic(auto, using(crate::proofs::Lemmas::looking))]
 pub(crate) fn two_items(value: &Value) -> Option<(&Value, &Value)>
     ensures { option_map (λ m. (view m.0.now, view m.1.now)) result ≡ two_items (view value.now) }
 {
-    match value.as_array() {
+    match items(value) {
         None => None,
         Some(items) => {
             if items.len() != 2 {
                 return None;
             }
             Some((&items[0], &items[1]))
-        }
-    }
-}
-
-// The items of a list of three.
-pub(crate) fn three_items(value: &Value) -> Option<(&Value, &Value, &Value)>
-    ensures { option_map (λ m. (view m.0.now, view m.1.now, view m.2.now)) result ≡ three_items (view value.now) }
-{
-    match value.as_array() {
-        None => None,
-        Some(items) => {
-            if items.len() != 3 {
-                return None;
-            }
-            Some((&items[0], &items[1], &items[2]))
         }
     }
 }

@@ -7,7 +7,7 @@ ghost use Rattle.plan_types.specs.declared.schema.Schema.{Schema};
 ghost use Rattle.plan_dsl.specs.Plans.{empty_table, plan_tree};
 ghost use Rattle.plan_dsl.specs.declared.expr.Expr.{Expr};
 ghost use Rattle.plan_dsl.specs.declared.plan.DslPlan.TheVariants.{DataFrameScan, Filter', Select'};
-ghost use Rattle.plan_dsl.specs.declared.plan.Exprs.{Exprs};
+ghost use Rattle.plan_dsl.specs.declared.expr.Exprs.{Exprs};
 ghost use Rattle.plan_dsl.specs.declared.plan.ProjectionOptions.{ProjectionOptions};
 ghost use Rattle.serde_json.specs.Data.{null};
 ghost use Rattle.plan_json.specs.Errors.{IsBelow, IsErrorOf, IsOwn, IsPlain, escaped, pointer_text, step_of};

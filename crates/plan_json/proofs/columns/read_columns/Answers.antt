@@ -1,21 +1,12 @@
-use Rattle.std.proofs.Common.{Some, is_some, ◌∙◌, sym, ap, arith}
-use Rattle.plan_types.proofs.SchemaLemmas.{is_some-option_map, is_among-type_at, with_column-new, IsNewName-test}
-use Rattle.serde_json.specs.View.{items_view}
-use Rattle.plan_types.specs.Schemas.{columns, names_of, repeats}
-use Rattle.plan_types.specs.Types.{ty}
-use Rattle.plan_json.specs.Leaves.{column_of}
-use Rattle.plan_json.specs.Looking.{all_of}
-use Rattle.plan_json.specs.Faults.{a_column, column_list}
-use Rattle.plan_json.proofs.DeclarationLemmas.{columns_all, column_repeated}
-use Rattle.plan_json.proofs.FaultLemmas.{IsErrorOf-own, item_in}
-use Rattle.plan_json.proofs.ItemLemmas.{all_of-more, all_taken, names_apart}
+use Rattle.plan_json.proofs.Names.{Some, ap, arith, false, is_some, sym, true, ◌∙◌, a_column, column_list, number, all_of, columns, names_of, repeats, column_of, ty, IsNewName-test, is_among-type_at, is_some-option_map, with_column-new}
+use Rattle.plan_json.proofs.Lemmas.{columns_all, column_repeated, IsErrorOf-own, item_in, all_of-more, all_taken, names_apart}
 use Rattle.plan_json.proofs.columns.read_columns.Goals as goal
 
 pub returns-then-is_some-clause-err : goal.returns-then-is_some-clause-err
 returns-then-is_some-clause-err c =
     let there = ap is_some (sym c.in-Ok-with_column.ensures.before) ∙ is_some-option_map ty _ ∙ sym c.is_some.ensures ∙ c.if-is_some.true in
     IsErrorOf-own column_list _ _ _ c.shape-then-is_some.ensures
-    (column_repeated _ c.as_slice-items.result.now c.loop-number.number _ _ _ (ap (λ vs. Some (items_view vs)) c.as_slice-items.ensures.value ∙ c.in-Some.ensures) c.loop-number-test.true c.index-items-number.is c.loop-number.invariant.read c.in-Ok.ensures.ok there)
+    (column_repeated _ c.in-Some.items.now c.loop-number.number _ _ _ c.in-Some.ensures c.loop-number-test.true c.index-items-number.is c.loop-number.invariant.read c.in-Ok.ensures.ok there)
 
 pub loop-number-preserved : goal.loop-number-preserved
 loop-number-preserved c =
@@ -23,15 +14,15 @@ loop-number-preserved c =
     let apart = is_among-type_at cs _ ∙ ap is_some (sym c.in-Ok-with_column.ensures.before) ∙ is_some-option_map ty _ ∙ sym c.is_some.ensures ∙ c.if-is_some.false in
     let all = c.in-Ok-with_column.ensures.ok ∙ with_column-new cs _ _ (IsNewName-test cs _ apart) in
     record {
-      read = all_of-more column_of c.as_slice-items.result.now c.loop-number.number _ _ _ c.loop-number-test.true c.index-items-number.is c.loop-number.invariant.read c.in-Ok.ensures.ok ∙ ap Some (sym all);
+      read = all_of-more column_of c.in-Some.items.now c.loop-number.number _ _ _ c.loop-number-test.true c.index-items-number.is c.loop-number.invariant.read c.in-Ok.ensures.ok ∙ ap Some (sym all);
       distinct = ap (λ cs. repeats (names_of cs)) all ∙ names_apart cs _ apart c.loop-number.invariant.distinct;
     }
 
 pub returns-after-loop-number-clause-ok : goal.returns-after-loop-number-clause-ok
 returns-after-loop-number-clause-ok c =
-    columns_all _ _ _ (ap (λ vs. Some (items_view vs)) c.as_slice-items.ensures.value ∙ c.in-Some.ensures) (sym (all_taken (all_of column_of) c.as_slice-items.result.now c.loop-number.number (omega arith)) ∙ c.loop-number.invariant.read) c.loop-number.invariant.distinct
+    columns_all _ _ _ c.in-Some.ensures (sym (all_taken (all_of column_of) c.in-Some.items.now c.loop-number.number (omega arith)) ∙ c.loop-number.invariant.read) c.loop-number.invariant.distinct
 
 pub returns-in-Err-clause-err : goal.returns-in-Err-clause-err
 returns-in-Err-clause-err c =
     c.below.ensures column_list a_column _ _
-    (item_in a_column _ c.as_slice-items.result.now c.loop-number.number _ (ap (λ vs. Some (items_view vs)) c.as_slice-items.ensures.value ∙ c.in-Some.ensures) c.loop-number-test.true c.index-items-number.is) c.in-Err.ensures.err
+    (item_in a_column _ c.in-Some.items.now c.loop-number.number _ c.in-Some.ensures c.loop-number-test.true c.index-items-number.is) c.in-Err.ensures.err

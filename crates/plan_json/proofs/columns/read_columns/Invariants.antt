@@ -1,8 +1,4 @@
-use Rattle.std.proofs.Common.{◌≡◌, Some, false, take}
-use Rattle.serde_json.specs.View.{items_view}
-use Rattle.plan_types.specs.Schemas.{columns, names_of, repeats}
-use Rattle.plan_json.specs.Looking.{all_of}
-use Rattle.plan_json.specs.Leaves.{column_of}
+use Rattle.plan_json.proofs.Names.{Some, false, take, ◌≡◌, number, all_of, items_view, columns, names_of, repeats, column_of}
 use Rattle.plan_json.proofs.columns.read_columns.Given as goal
 
 pub record ColumnsRead (l : goal.Live-loop-number) : Type 0 where

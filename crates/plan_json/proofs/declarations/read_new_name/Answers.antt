@@ -1,7 +1,4 @@
-use Rattle.std.proofs.Common.{refl, not}
-use Rattle.plan_types.specs.Schemas.{names_of, is_among}
-use Rattle.plan_json.specs.Faults.{a_new_name}
-use Rattle.plan_json.specs.Tables.{declared}
+use Rattle.plan_json.proofs.Names.{not, refl, a_new_name, is_among, names_of, declared}
 use Rattle.plan_json.proofs.FaultLemmas.{name_error}
 use Rattle.plan_json.proofs.declarations.read_new_name.Goals as goal
 

@@ -1,7 +1,4 @@
-use Rattle.std.proofs.Common.{codes, refl}
-use Rattle.plan_types.specs.Schemas.{names_of}
-use Rattle.plan_json.specs.Faults.{a_table, a_new_name, column_list, table_part}
-use Rattle.plan_json.specs.Tables.{declared}
+use Rattle.plan_json.proofs.Names.{codes, refl, a_new_name, a_table, column_list, table_part, names_of, declared}
 use Rattle.plan_json.proofs.FaultLemmas.{part_in}
 use Rattle.plan_json.proofs.declarations.read_table.Goals as goal
 

@@ -1,9 +1,4 @@
-use Rattle.std.proofs.Common.{◌≡◌, Some, false, length, take}
-use Rattle.serde_json.specs.View.{items_view}
-use Rattle.plan_types.specs.Schemas.{names_of, repeats}
-use Rattle.plan_json.specs.Looking.{all_of}
-use Rattle.plan_json.specs.Leaves.{table_of}
-use Rattle.plan_json.specs.Tables.{declared}
+use Rattle.plan_json.proofs.Names.{Some, false, length, take, ◌≡◌, number, all_of, items_view, names_of, repeats, declared, table_of}
 use Rattle.plan_json.proofs.declarations.read_tables.Given as goal
 
 pub record TablesRead (l : goal.Live-loop-number) : Type 0 where

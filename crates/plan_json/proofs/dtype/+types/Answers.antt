@@ -1,14 +1,5 @@
-use Rattle.std.proofs.Common.{Some, map, option_map, refl, sym, ap, ◌∙◌, arith}
-use Rattle.std.proofs.lemmas.List.{map-append}
-use Rattle.serde_json.specs.View.{view, items_view}
-use Rattle.plan_types.specs.Types.{field_of}
-use Rattle.plan_json.specs.Faults.{a_column, a_text, a_type, column_part, field_list, type_form, type_key_form}
-use Rattle.plan_json.specs.Leaves.{column_of}
-use Rattle.plan_json.specs.Looking.{all_of}
-use Rattle.plan_json.proofs.DeclarationLemmas.{struct_all, type_by_key}
-use Rattle.plan_json.proofs.FaultLemmas.{item_in, key_in, part_in}
-use Rattle.plan_json.proofs.ItemLemmas.{all_of-more, all_taken}
-use Rattle.plan_json.proofs.LookingLemmas.{depth-item, depth-only_member}
+use Rattle.plan_json.proofs.Names.{Some, ap, arith, map, option_map, refl, sym, true, ◌∙◌, a_column, a_text, a_type, column_part, field_list, key, number, type_form, type_key_form, all_of, view, column_of, field_of, map-append}
+use Rattle.plan_json.proofs.Lemmas.{type_by_key, struct_all, part_in, item_in, key_in, all_of-more, all_taken}
 use Rattle.plan_json.proofs.dtype.+types.Goals as goal
 
 -- ---- a type
@@ -17,27 +8,16 @@ pub read_type-returns-in-Ok-clause-ok : goal.read_type-returns-in-Ok-clause-ok
 read_type-returns-in-Ok-clause-ok t c =
     type_by_key _ _ _ (c.in-Some-find_type.word.now, c.in-Some-find_type.key) _ c.in-Some-only_member.ensures c.in-Some-find_type.ensures.row c.in-Ok.ensures.ok
 
-pub read_type-read_keyed-requires : goal.read_type-read_keyed-requires
-read_type-read_keyed-requires t c =
-    let below = depth-only_member _ _ _ c.in-Some-only_member.ensures in (omega (arith, below, c.decreases), tt)
-
--- ---- a field
-
 -- ---- a list of fields
-
-pub read_fields-read_column-requires : goal.read_fields-read_column-requires
-read_fields-read_column-requires t c =
-    let below = depth-item _ c.as_slice-values.result.now c.loop-number.number _ (ap (λ vs. Some (items_view vs)) c.as_slice-values.ensures.value ∙ c.in-Some.ensures) c.loop-number-test.true c.index-values-number.is in
-    (omega (arith, below, c.decreases), tt)
 
 pub read_fields-loop-number-preserved : goal.read_fields-loop-number-preserved
 read_fields-loop-number-preserved t c =
-    all_of-more column_of c.as_slice-values.result.now c.loop-number.number _ _ _ c.loop-number-test.true c.index-values-number.is c.loop-number.invariant c.in-Ok.ensures.ok
+    all_of-more column_of c.in-Some.values.now c.loop-number.number _ _ _ c.loop-number-test.true c.index-values-number.is c.loop-number.invariant c.in-Ok.ensures.ok
     ∙ ap Some (sym (ap (map field_of) c.in_ok-push-in-Ok.ensures.items ∙ map-append field_of c.loop-number.items.items _))
 
 pub read_fields-returns-after-loop-number-clause-ok : goal.read_fields-returns-after-loop-number-clause-ok
 read_fields-returns-after-loop-number-clause-ok t c =
-    struct_all _ _ c.loop-number.items (ap (λ vs. Some (items_view vs)) c.as_slice-values.ensures.value ∙ c.in-Some.ensures) (sym (all_taken (all_of column_of) c.as_slice-values.result.now c.loop-number.number (omega arith)) ∙ c.loop-number.invariant)
+    struct_all _ _ c.loop-number.items c.in-Some.ensures (sym (all_taken (all_of column_of) c.in-Some.values.now c.loop-number.number (omega arith)) ∙ c.loop-number.invariant)
 
 -- ---- errors of parts
 
@@ -55,4 +35,4 @@ read_column-returns-in-Err-read_type-clause-err t c = c.below-in-Err-read_type.e
 pub read_fields-returns-in-Err-clause-err : goal.read_fields-returns-in-Err-clause-err
 read_fields-returns-in-Err-clause-err t c =
     c.below.ensures field_list a_column _ _
-    (item_in a_column _ c.as_slice-values.result.now c.loop-number.number _ (ap (λ vs. Some (items_view vs)) c.as_slice-values.ensures.value ∙ c.in-Some.ensures) c.loop-number-test.true c.index-values-number.is) c.in-Err.ensures.err
+    (item_in a_column _ c.in-Some.values.now c.loop-number.number _ c.in-Some.ensures c.loop-number-test.true c.index-values-number.is) c.in-Err.ensures.err

@@ -1,9 +1,4 @@
-use Rattle.std.proofs.Common.{◌≡◌, ◌+◌, ◌*◌, Some, map, take}
-use Rattle.serde_json.specs.Data.{depth}
-use Rattle.serde_json.specs.View.{view, items_view}
-use Rattle.plan_types.specs.Types.{field_of}
-use Rattle.plan_json.specs.Looking.{all_of}
-use Rattle.plan_json.specs.Leaves.{column_of}
+use Rattle.plan_json.proofs.Names.{Some, map, take, ◌*◌, ◌+◌, ◌≡◌, number, all_of, items_view, view, depth, column_of, field_of}
 use Rattle.plan_json.proofs.dtype.+types.Given as goal
 
 abbrev pub decreases-read_type : goal.decreases-read_type

@@ -1,5 +1,4 @@
-use Rattle.std.proofs.Common.{ap, refl, ◌∙◌}
-use Rattle.plan_json.specs.Forms.{row_named, type_rows}
+use Rattle.plan_json.proofs.Names.{ap, refl, ◌∙◌, key, row_named, type_rows}
 use Rattle.plan_json.proofs.FormLemmas.{named_plain}
 use Rattle.plan_json.proofs.forms.find_type.Goals as goal
 

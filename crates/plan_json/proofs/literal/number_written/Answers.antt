@@ -1,7 +1,4 @@
-use Rattle.std.proofs.Common.{◌∙◌, ◌==◌, Some, slice_index, sym, ap}
-use Rattle.std.proofs.lemmas.Int.{to_z-of_z}
-use Rattle.std.specs.Int.{w128}
-use Rattle.plan_types.proofs.DigitLemmas.{read_fits}
+use Rattle.plan_json.proofs.Names.{Some, ap, false, slice_index, sym, ◌==◌, ◌∙◌, number, fits, w128, to_z-of_z, read_fits}
 use Rattle.plan_json.proofs.LiteralLemmas.{written, unwritten}
 use Rattle.plan_json.proofs.literal.number_written.Goals as goal
 

@@ -1,11 +1,6 @@
-use Rattle.std.proofs.Common.{◌∙◌, sym}
-use Rattle.plan_json.specs.Faults.{a_counted_type}
-use Rattle.plan_json.proofs.FaultLemmas.{IsErrorOf-own}
-use Rattle.plan_json.proofs.LiteralLemmas.{counted_error, other_kind}
+use Rattle.plan_json.proofs.Names.{sym, true, ◌∙◌, a_counted_type, is_counted}
+use Rattle.plan_json.proofs.Lemmas.{IsErrorOf-own, other_kind}
 use Rattle.plan_json.proofs.literal.read_counted.Goals as goal
-
-pub returns-in-Err-clause-err : goal.returns-in-Err-clause-err
-returns-in-Err-clause-err c = counted_error _ _ c.in-Err.ensures.err
 
 pub returns-then-not-is_counted-clause-err : goal.returns-then-not-is_counted-clause-err
 returns-then-not-is_counted-clause-err c =

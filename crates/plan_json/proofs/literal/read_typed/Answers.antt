@@ -1,8 +1,5 @@
-use Rattle.std.proofs.Common.{refl}
-use Rattle.plan_types.specs.Types.{ty}
-use Rattle.plan_json.specs.Faults.{a_counted_type, a_number_of, a_typed_literal, typed_part}
-use Rattle.plan_json.proofs.FaultLemmas.{part_in}
-use Rattle.plan_json.proofs.LiteralLemmas.{number_place}
+use Rattle.plan_json.proofs.Names.{refl, a_counted_type, a_number_of, a_typed_literal, typed_part, ty}
+use Rattle.plan_json.proofs.Lemmas.{part_in, number_place}
 use Rattle.plan_json.proofs.literal.read_typed.Goals as goal
 
 pub returns-in-Err-clause-err : goal.returns-in-Err-clause-err

@@ -1,30 +1,29 @@
-use Rattle.std.proofs.Common.{◌≡◌, ◌+◌, ◌*◌, Some, map, take}
-use Rattle.serde_json.specs.Data.{depth}
-use Rattle.serde_json.specs.View.{view, items_view}
-use Rattle.plan_dsl.specs.Expressions.{tree_of}
-use Rattle.plan_json.specs.Forms.{expression, expression_read}
-use Rattle.plan_json.specs.Looking.{all_of}
-use Rattle.plan_json.specs.Queries.{read_as}
-use Rattle.plan_json.specs.Tables.{declared}
+use Rattle.plan_json.proofs.Names.{Some, map, take, ◌*◌, ◌+◌, ◌≡◌, number, all_of, items_view, view, array, depth, declared, expression, expression_read, read_as, tree_of}
 use Rattle.plan_json.proofs.places.+forms.Given as goal
 
 abbrev pub decreases-read_form : goal.decreases-read_form
-decreases-read_form l = 4 * depth (view l.value.now)
+decreases-read_form l = 5 * depth (view l.value.now)
 
 abbrev pub decreases-read_expressions : goal.decreases-read_expressions
-decreases-read_expressions l = 4 * depth (view l.value.now) + 1
+decreases-read_expressions l = 5 * depth (view l.value.now) + 1
 
 abbrev pub decreases-read_place : goal.decreases-read_place
-decreases-read_place l = 4 * depth (view l.value.now) + 2
+decreases-read_place l = 5 * depth (view l.value.now) + 2
 
-abbrev pub decreases-read_two : goal.decreases-read_two
-decreases-read_two l = 4 * depth (view l.value.now)
+abbrev pub decreases-read_listed : goal.decreases-read_listed
+decreases-read_listed l = 5 * depth (view l.value.now) + 2
 
-abbrev pub decreases-read_three : goal.decreases-read_three
-decreases-read_three l = 4 * depth (view l.value.now)
+abbrev pub decreases-read_items : goal.decreases-read_items
+decreases-read_items l = 5 * depth (array (items_view l.values.now)) + 1
+
+abbrev pub decreases-read_item : goal.decreases-read_item
+decreases-read_item l = 5 * depth (array (items_view l.values.now))
+
+abbrev pub decreases-read_keyed : goal.decreases-read_keyed
+decreases-read_keyed l = 5 * depth (view l.value.now) + 4
 
 abbrev pub decreases-read_places : goal.decreases-read_places
-decreases-read_places l = 4 * depth (view l.value.now) + 3
+decreases-read_places l = 5 * depth (view l.value.now) + 3
 
 abbrev pub invariant-read_expressions-loop-number : goal.invariant-read_expressions-loop-number
 invariant-read_expressions-loop-number l =

@@ -1,6 +1,4 @@
-use Rattle.std.proofs.Common.{◌≡◌, sym, ap, ◌∙◌}
-use Rattle.serde_json.specs.View.{view}
-use Rattle.plan_json.specs.Queries.{query_of}
+use Rattle.plan_json.proofs.Names.{ap, sym, ◌∙◌, ◌≡◌, view, query_of}
 use Rattle.plan_json.proofs.NoFaults.{query_has_no_fault}
 use Rattle.plan_json.proofs.read.read_query.Goals as goal
 

@@ -1,10 +1,5 @@
-use Rattle.std.proofs.Common.{Some, codes, refl, ap}
-use Rattle.serde_json.specs.View.{view}
-use Rattle.plan_json.specs.Tables.{declared}
-use Rattle.plan_json.specs.Faults.{a_query, a_plan, table_list, part, query_part}
-use Rattle.plan_json.proofs.DeclarationLemmas.{declared_names-read}
-use Rattle.plan_json.proofs.FaultLemmas.{part_in}
-use Rattle.plan_types.specs.Schemas.{names_of}
+use Rattle.plan_json.proofs.Names.{Some, ap, codes, refl, a_plan, a_query, part, query_part, table_list, view, names_of, declared}
+use Rattle.plan_json.proofs.Lemmas.{declared_names-read, part_in}
 use Rattle.plan_json.proofs.read.read_value.Goals as goal
 
 pub returns-in-Err-clause-err : goal.returns-in-Err-clause-err

@@ -1,5 +1,4 @@
-use Rattle.std.proofs.Common.{[], ◌∷◌, refl}
-use Rattle.plan_json.specs.Faults.{BadShape, IsBadAt, Path, a_text, number}
+use Rattle.plan_json.proofs.Names.{[], refl, ◌∷◌, BadShape, IsBadAt, Path, a_text, number}
 use Rattle.plan_json.specs.Samples.{word}
 use Rattle.plan_json.proofs.OnLiterals.{values_on_literals}
 use Rattle.plan_json.proofs.examples.errors.errors_of_values.Goals as goal
