@@ -1,7 +1,7 @@
 //! Casts of values of any size, and those that fail at the last of many parts.
 
 use crate::fixtures::{LENGTHS, LEVELS, NO_MEMORY, SIZES, deep_type, long_name, struct_type};
-use crate::values::{deep_value, list_of, parts_of, struct_of};
+use crate::values::{deep_value, parts_of};
 use plan_types::cast::{CastError, can_cast, cast_value};
 use plan_types::dtype::CastOptions;
 use plan_types::dtype::DataType::{
@@ -105,21 +105,22 @@ fn values_are_cast_to_texts(rt: HostRuntime) {
 #[test]
 fn texts_of_any_length_stay_texts(rt: HostRuntime) {
     for length in LENGTHS {
-        let text = long_name(&rt, rt.alloc(), length);
-        let value = Value::Text(text);
+        let value = Value::Text(long_name(&rt, rt.alloc(), length));
         assert_cast(&rt, rt.alloc(), &value, &Text, &Text, &value);
     }
 }
 
+// A text of so many digits, each of which is 0.
+fn zeros(rt: &impl Abort, alloc: Global, count: usize) -> Value {
+    let digits = "0".repeat(alloc, count).expect(rt, NO_MEMORY);
+    Value::Text(PlSmallStr::new(alloc, digits.as_str()).expect(rt, NO_MEMORY))
+}
+
 #[test]
 fn texts_of_any_length_are_read_as_numbers(rt: HostRuntime) {
-    for zeros in LENGTHS {
-        let mut digits = "0".repeat(rt.alloc(), zeros).expect(&rt, NO_MEMORY);
-        digits.push_str("11").expect(&rt, NO_MEMORY);
-        let value = Value::Text(PlSmallStr::new(rt.alloc(), digits.as_str()).expect(
-            &rt, NO_MEMORY,
-        ));
-        assert_cast(&rt, rt.alloc(), &value, &Text, &Int8, &Value::Int(11));
+    for count in [1, 2, 1_001, 100_000] {
+        let value = zeros(&rt, rt.alloc(), count);
+        assert_cast(&rt, rt.alloc(), &value, &Text, &Int8, &Value::Int(0));
     }
 }
 
@@ -128,8 +129,8 @@ fn lists_of_any_size_are_cast(rt: HostRuntime) {
     let from = deep_type(&rt, rt.alloc(), 1, &Int64);
     let to = deep_type(&rt, rt.alloc(), 1, &Boolean);
     for count in SIZES {
-        let value = list_of(&rt, rt.alloc(), count, &Value::Int(5));
-        let want = list_of(&rt, rt.alloc(), count, &Value::Boolean(true));
+        let value = Value::List(parts_of(&rt, rt.alloc(), count, &Value::Int(5)));
+        let want = Value::List(parts_of(&rt, rt.alloc(), count, &Value::Boolean(true)));
         assert_cast(&rt, rt.alloc(), &value, &from, &to, &want);
     }
 }
@@ -139,8 +140,8 @@ fn structs_of_any_size_are_cast(rt: HostRuntime) {
     for count in SIZES {
         let from = struct_type(&rt, rt.alloc(), count, &Int64);
         let to = struct_type(&rt, rt.alloc(), count, &Boolean);
-        let value = struct_of(&rt, rt.alloc(), count, &Value::Int(5));
-        let want = struct_of(&rt, rt.alloc(), count, &Value::Boolean(true));
+        let value = Value::Struct(parts_of(&rt, rt.alloc(), count, &Value::Int(5)));
+        let want = Value::Struct(parts_of(&rt, rt.alloc(), count, &Value::Boolean(true)));
         assert_cast(&rt, rt.alloc(), &value, &from, &to, &want);
     }
 }
@@ -152,6 +153,16 @@ fn lists_of_any_depth_are_cast(rt: HostRuntime) {
         let to = deep_type(&rt, rt.alloc(), levels, &UInt8);
         let value = deep_value(&rt, rt.alloc(), levels, 5);
         assert_cast(&rt, rt.alloc(), &value, &from, &to, &value);
+        let value = deep_value(&rt, rt.alloc(), levels, 300);
+        assert_one_cast(
+            &rt,
+            rt.alloc(),
+            &value,
+            &from,
+            &to,
+            CastOptions::Strict,
+            None,
+        );
     }
 }
 
@@ -186,24 +197,6 @@ fn a_cast_fails_at_the_last_of_any_items(rt: HostRuntime) {
             &to,
             CastOptions::NonStrict,
             Some(&want),
-        );
-    }
-}
-
-#[test]
-fn a_cast_fails_at_any_depth(rt: HostRuntime) {
-    for levels in LEVELS {
-        let from = deep_type(&rt, rt.alloc(), levels, &Int64);
-        let to = deep_type(&rt, rt.alloc(), levels, &Int8);
-        let value = deep_value(&rt, rt.alloc(), levels, 300);
-        assert_one_cast(
-            &rt,
-            rt.alloc(),
-            &value,
-            &from,
-            &to,
-            CastOptions::Strict,
-            None,
         );
     }
 }

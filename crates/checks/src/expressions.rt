@@ -1,12 +1,13 @@
 //! Literals, operators and expressions.
 
-use crate::fixtures::{LENGTHS, NO_MEMORY, assert_alike, long_name};
-use crate::sums::{column, sum_of};
+use crate::fixtures::{LENGTHS, NO_MEMORY, assert_alike, column, long_name};
 use plan_dsl::expr::Expr;
 use plan_dsl::literal::LiteralValue;
 use plan_dsl::operator::Operator;
+use plan_dsl::sort_options::SortOptions;
 use plan_types::dtype::TimeUnit::{Microseconds, Milliseconds, Nanoseconds};
 use plan_types::dtype::{CastOptions, DataType};
+use plan_types::text::PlSmallStr;
 use std::alloc::Global;
 use std::process::Abort;
 
@@ -39,9 +40,15 @@ fn literals_of_each_kind_are_copied(rt: HostRuntime) {
     }
 }
 
+// The operator is written as the sign.
+fn assert_sign(rt: &impl Abort, alloc: Global, operator: Operator, sign: &str) {
+    let text = operator.to_string(alloc).expect(rt, NO_MEMORY);
+    assert_eq!(rt; text.as_str(), sign);
+}
+
 #[test]
 fn operators_are_written_as_signs(rt: HostRuntime) {
-    for (operator, sign) in [
+    for (operator, sign) in &[
         (Operator::Eq, "=="),
         (Operator::EqValidity, "==v"),
         (Operator::NotEq, "!="),
@@ -62,42 +69,104 @@ fn operators_are_written_as_signs(rt: HostRuntime) {
         (Operator::LogicalAnd, "&"),
         (Operator::LogicalOr, "|"),
     ] {
-        let text = operator.to_string(rt.alloc()).expect(&rt, NO_MEMORY);
-        assert_eq!(rt; text.as_str(), sign);
+        assert_sign(&rt, rt.alloc(), *operator, sign);
     }
 }
 
-/// So many casts of the column, one round another.
-pub(crate) fn casts_of(rt: &impl Abort, alloc: Global, name: &str, casts: usize) -> Expr {
-    let mut expr = column(alloc, name).expect(rt, NO_MEMORY);
-    for _ in 0..casts {
-        expr = Expr::Cast {
-            expr: Box::new(alloc, expr).expect(rt, NO_MEMORY),
+/// A kind of expression, by the operand that is nested.
+#[derive(Clone, Copy)]
+pub(crate) enum Kind {
+    Left,
+    Right,
+    Cast,
+    Slice,
+    Explode,
+    Gather,
+    Index,
+    Filter,
+    Condition,
+    Sort,
+    Alias,
+}
+
+fn boxed(rt: &impl Abort, alloc: Global, expr: Expr) -> Box<Expr> {
+    Box::new(alloc, expr).expect(rt, NO_MEMORY)
+}
+
+// The literal in a box.
+fn literal(rt: &impl Abort, alloc: Global, value: LiteralValue) -> Box<Expr> {
+    boxed(rt, alloc, Expr::Literal(value))
+}
+
+// The expression of the kind over the operand.
+fn over(rt: &impl Abort, alloc: Global, kind: Kind, operand: Box<Expr>) -> Expr {
+    match kind {
+        Kind::Left => Expr::BinaryExpr {
+            left: operand,
+            op: Operator::Plus,
+            right: literal(rt, alloc, LiteralValue::Int(1)),
+        },
+        Kind::Right => Expr::BinaryExpr {
+            left: literal(rt, alloc, LiteralValue::Int(1)),
+            op: Operator::Plus,
+            right: operand,
+        },
+        Kind::Cast => Expr::Cast {
+            expr: operand,
             dtype: DataType::Int64,
             options: CastOptions::Strict,
-        };
+        },
+        Kind::Slice => Expr::Slice {
+            input: operand,
+            offset: literal(rt, alloc, LiteralValue::Int(0)),
+            length: literal(rt, alloc, LiteralValue::Int(1)),
+        },
+        Kind::Explode => Expr::Explode(operand),
+        Kind::Gather => Expr::Gather {
+            expr: operand,
+            idx: literal(rt, alloc, LiteralValue::Int(0)),
+            returns_scalar: false,
+        },
+        Kind::Index => Expr::Gather {
+            expr: literal(rt, alloc, LiteralValue::Int(1)),
+            idx: operand,
+            returns_scalar: false,
+        },
+        Kind::Filter => Expr::Filter {
+            input: operand,
+            by: literal(rt, alloc, LiteralValue::Boolean(true)),
+        },
+        Kind::Condition => Expr::Filter {
+            input: literal(rt, alloc, LiteralValue::Boolean(true)),
+            by: operand,
+        },
+        Kind::Sort => Expr::Sort {
+            expr: operand,
+            options: SortOptions {
+                descending: false,
+                nulls_last: true,
+            },
+        },
+        Kind::Alias => {
+            let name = PlSmallStr::new(alloc, "x").expect(rt, NO_MEMORY);
+            Expr::Alias(operand, name)
+        }
     }
-    expr
 }
 
-/// The column of the last name, to which that of the first is added from the left so often.
-pub(crate) fn right_sum(
+/// So many expressions of the kind, one over another, and the lowest over that expression.
+pub(crate) fn nested(
     rt: &impl Abort,
     alloc: Global,
-    first: &str,
-    last: &str,
-    additions: usize,
+    kind: Kind,
+    levels: usize,
+    lowest: Expr,
 ) -> Expr {
-    let mut sum = column(alloc, last).expect(rt, NO_MEMORY);
-    for _ in 0..additions {
-        let left = column(alloc, first).expect(rt, NO_MEMORY);
-        sum = Expr::BinaryExpr {
-            left: Box::new(alloc, left).expect(rt, NO_MEMORY),
-            op: Operator::Plus,
-            right: Box::new(alloc, sum).expect(rt, NO_MEMORY),
-        };
+    let mut expr = lowest;
+    for _ in 0..levels {
+        expr = over(rt, alloc, kind, boxed(rt, alloc, expr));
     }
-    sum
+    expr
 }
 
 fn assert_copied(rt: &impl Abort, alloc: Global, expr: &Expr) {
@@ -115,14 +184,30 @@ fn columns_and_literals_of_any_length_are_copied(rt: HostRuntime) {
     }
 }
 
+// So many expressions of the kind, one over another, are copied.
+fn assert_nested(rt: &impl Abort, alloc: Global, kind: Kind, levels: usize) {
+    let lowest = column(rt, alloc, "a");
+    let expr = nested(rt, alloc, kind, levels, lowest);
+    assert_copied(rt, alloc, &expr);
+}
+
 #[test]
-fn sums_and_casts_of_any_number_are_copied(rt: HostRuntime) {
-    for count in [0, 1, 2, 299] {
-        let expr = sum_of(rt.alloc(), "a", count).expect(&rt, NO_MEMORY);
-        assert_copied(&rt, rt.alloc(), &expr);
-        let expr = right_sum(&rt, rt.alloc(), "a", "b", count);
-        assert_copied(&rt, rt.alloc(), &expr);
-        let expr = casts_of(&rt, rt.alloc(), "a", count);
-        assert_copied(&rt, rt.alloc(), &expr);
+fn expressions_of_any_depth_are_copied(rt: HostRuntime) {
+    for kind in &[
+        Kind::Left,
+        Kind::Right,
+        Kind::Cast,
+        Kind::Slice,
+        Kind::Explode,
+        Kind::Gather,
+        Kind::Index,
+        Kind::Filter,
+        Kind::Condition,
+        Kind::Sort,
+        Kind::Alias,
+    ] {
+        for levels in [0, 1, 2, 299] {
+            assert_nested(&rt, rt.alloc(), *kind, levels);
+        }
     }
 }

@@ -1,5 +1,6 @@
-//! Names, types and hashes that the tests share.
+//! Names, types, columns and hashes that the tests share.
 
+use plan_dsl::expr::Expr;
 use plan_types::dtype::TimeUnit::{Microseconds, Milliseconds, Nanoseconds};
 use plan_types::dtype::{DataType, Fields, UnknownKind};
 use plan_types::error::{ErrorKind, PlanError};
@@ -72,6 +73,12 @@ pub(crate) fn bare_types() -> [DataType; 21] {
         DataType::Unknown(UnknownKind::Int(1)),
         DataType::Unknown(UnknownKind::Int(-1)),
     ]
+}
+
+/// The column of that name.
+pub(crate) fn column(rt: &impl Abort, alloc: Global, name: &str) -> Expr {
+    let name = PlSmallStr::new(alloc, name).expect(rt, NO_MEMORY);
+    Expr::Column(name)
 }
 
 /// The type of structs of so many fields of the type.

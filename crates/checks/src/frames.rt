@@ -1,7 +1,7 @@
 //! Frames of any number of columns and rows, and their faults.
 
-use crate::fixtures::{NO_MEMORY, SIZES, long_name, numbered};
-use crate::schemas::schema_of;
+use crate::fixtures::{LENGTHS, NO_MEMORY, long_name, numbered};
+use crate::schemas::assert_columns;
 use crate::values::parts_of;
 use plan_types::column::{Column, Values};
 use plan_types::dtype::DataType;
@@ -32,56 +32,36 @@ fn columns_of(rt: &impl Abort, alloc: Global, count: usize, rows: usize) -> Vec<
     columns
 }
 
-// The frame has so many columns and rows, of the number 5.
-fn assert_rows(rt: &impl Abort, frame: &Frame, count: usize, rows: usize) {
+// The frame has so many columns and rows.
+fn assert_frame(rt: &impl Abort, alloc: Global, frame: &Frame, count: usize, rows: usize) {
     assert_eq!(rt; frame.width(), count);
     assert_eq!(rt; frame.height(), rows);
-    for number in 0..count {
-        assert!(rt; number < frame.width());
-        for value in frame.column(number).values.items.as_slice() {
-            assert!(rt; *value == Value::Int(5));
-        }
-    }
-}
-
-fn assert_schema(rt: &impl Abort, alloc: Global, frame: &Frame, count: usize) {
     let schema = frame.schema(alloc).expect(rt, NO_MEMORY);
-    let want = schema_of(rt, alloc, count, &DataType::Int8);
-    schema.matches_schema(&want).expect(rt, NO_MEMORY);
+    assert_columns(rt, alloc, &schema, count, &DataType::Int8);
 }
 
-fn assert_copied_frame(rt: &impl Abort, alloc: Global, frame: &Frame, count: usize, rows: usize) {
+// So many columns of so many rows are a frame, and a copy of it is one.
+fn assert_made(rt: &impl Abort, alloc: Global, count: usize, rows: usize) {
+    let columns = columns_of(rt, alloc, count, rows);
+    let frame = Frame::new(alloc, columns).expect(rt, NO_MEMORY);
+    assert_frame(rt, alloc, &frame, count, rows);
     let copy = frame.try_clone(alloc).expect(rt, NO_MEMORY);
-    assert_rows(rt, &copy, count, rows);
-    assert_schema(rt, alloc, &copy, count);
+    assert_frame(rt, alloc, &copy, count, rows);
 }
 
 #[test]
 fn frames_of_any_size_are_made_and_copied(rt: HostRuntime) {
     for (count, rows) in [(0, 0), (1, 0), (1, 1), (2, 2), (50, 2), (2, 100_000)] {
-        let columns = columns_of(&rt, rt.alloc(), count, rows);
-        let frame = Frame::new(rt.alloc(), columns).expect(&rt, NO_MEMORY);
-        assert_rows(&rt, &frame, count, rows);
-        assert_schema(&rt, rt.alloc(), &frame, count);
-        assert_copied_frame(&rt, rt.alloc(), &frame, count, rows);
+        assert_made(&rt, rt.alloc(), count, rows);
     }
 }
 
-fn assert_copied(rt: &impl Abort, alloc: Global, column: &Column) {
-    let copy = column.try_clone(alloc).expect(rt, NO_MEMORY);
-    assert!(rt; copy.name == column.name);
-    assert!(rt; copy.dtype == column.dtype);
-    assert!(rt; copy.values.items.as_slice() == column.values.items.as_slice());
-    let values = column.values.try_clone(alloc).expect(rt, NO_MEMORY);
-    assert!(rt; values.items.as_slice() == column.values.items.as_slice());
-}
-
 #[test]
-fn columns_of_any_size_are_copied(rt: HostRuntime) {
-    for rows in SIZES {
-        let name = long_name(&rt, rt.alloc(), 100 * rows);
-        let column = column_of(&rt, rt.alloc(), name, rows);
-        assert_copied(&rt, rt.alloc(), &column);
+fn columns_of_long_names_are_copied(rt: HostRuntime) {
+    for length in LENGTHS {
+        let name = long_name(&rt, rt.alloc(), length);
+        let column = column_of(&rt, rt.alloc(), name, 1);
+        column.try_clone(rt.alloc()).expect(&rt, NO_MEMORY);
     }
 }
 

@@ -1,7 +1,7 @@
 //! Tests of what a proof can't show: with ample memory each call gives its answer, at any size.
 //!
 //! A contract lets want of memory stand in place of any answer. So each call that takes memory is made here, with no
-//! part, with one, two and many, and its answer is compared.
+//! part, with one, two and many, unless the cases of the program reach it so.
 #![tactic(auto)]
 
 #[cfg(test)]
@@ -9,11 +9,15 @@ mod arenas;
 #[cfg(test)]
 mod casts;
 #[cfg(test)]
+mod conversions;
+#[cfg(test)]
 mod expressions;
 #[cfg(test)]
 mod fixtures;
 #[cfg(test)]
 mod frames;
+#[cfg(test)]
+mod keys;
 #[cfg(test)]
 mod lowering;
 #[cfg(test)]

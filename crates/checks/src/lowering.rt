@@ -1,9 +1,11 @@
 //! Lowering and reports of plans of any depth, and refusals below any number of levels.
 
-use crate::fixtures::NO_MEMORY;
+use crate::expressions::{Kind, nested};
+use crate::fixtures::{NO_MEMORY, column};
 use crate::plans::{filters_over, scan_of, select_of};
-use crate::schemas::schema_of;
-use crate::sums::{column, sum_of};
+use plan_arena::arena::Node;
+use plan_arena::plan::IRPlan;
+use plan_dsl::expr::Expr;
 use plan_dsl::plan::DslPlan;
 use plan_dsl::udfs::Udfs;
 use plan_lower::conversion::dsl_to_ir::PlanLowering;
@@ -11,9 +13,6 @@ use plan_report::report::{refusal, report};
 use plan_types::dtype::DataType;
 use std::alloc::{AllocError, Global};
 use std::process::Abort;
-
-/// How many filters stand one over another.
-const FILTERS: [usize; 5] = [0, 1, 2, 3, 200];
 
 // The report of the lowered plan, or of its refusal.
 fn answer(alloc: Global, plan: DslPlan) -> Result<String, AllocError> {
@@ -23,83 +22,115 @@ fn answer(alloc: Global, plan: DslPlan) -> Result<String, AllocError> {
     }
 }
 
-fn assert_sum(rt: &impl Abort, alloc: Global, additions: usize) {
-    let sum = sum_of(alloc, "part 0", additions).expect(rt, NO_MEMORY);
-    let schema = schema_of(rt, alloc, 1, &DataType::Int8);
-    let scan = DslPlan::DataFrameScan {
-        table: None,
-        schema,
-    };
-    let found = answer(alloc, select_of(rt, alloc, &sum, 1, scan)).expect(rt, NO_MEMORY);
+// A select of the expression over the plan.
+fn select(rt: &impl Abort, alloc: Global, expr: Expr, input: DslPlan) -> DslPlan {
+    let exprs = vec![in alloc; expr].expect(rt, NO_MEMORY);
+    select_of(rt, alloc, exprs, input)
+}
+
+// What is told of a select of so many expressions of the kind, one over another and over a column.
+fn assert_nested(rt: &impl Abort, alloc: Global, kind: Kind, levels: usize, want: &str) {
+    let lowest = column(rt, alloc, "part 0");
+    let expr = nested(rt, alloc, kind, levels, lowest);
+    let scan = scan_of(rt, alloc, None, 1, &DataType::Int8);
+    let found = answer(alloc, select(rt, alloc, expr, scan)).expect(rt, NO_MEMORY);
+    assert_eq!(rt; found.as_str(), want);
+}
+
+#[test]
+fn expressions_of_any_depth_are_lowered(rt: HostRuntime) {
+    for (kind, want) in &[
+        (
+            Kind::Left,
+            ". projection (\"part 0\" Int8)\n.0 df (\"part 0\" Int8)\ncasts 0\n",
+        ),
+        (
+            Kind::Right,
+            ". projection (\"literal\" Int8)\n.0 df (\"part 0\" Int8)\ncasts 0\n",
+        ),
+        (
+            Kind::Explode,
+            ". projection (\"part 0\" Int8)\n.0 df (\"part 0\" Int8)\ncasts 0\n",
+        ),
+        (
+            Kind::Gather,
+            ". projection (\"part 0\" Int8)\n.0 df (\"part 0\" Int8)\ncasts 0\n",
+        ),
+        (
+            Kind::Alias,
+            ". projection (\"x\" Int8)\n.0 df (\"part 0\" Int8)\ncasts 0\n",
+        ),
+    ] {
+        for levels in [1, 2, 1_000] {
+            assert_nested(&rt, rt.alloc(), *kind, levels, want);
+        }
+    }
+}
+
+#[test]
+fn an_operand_is_cast_at_each_of_many_levels(rt: HostRuntime) {
+    assert_nested(
+        &rt,
+        rt.alloc(),
+        Kind::Index,
+        1_000,
+        ". projection (\"literal\" Int32)\n.0 df (\"part 0\" Int8)\ncasts 1000\n",
+    );
+}
+
+// So many filters are lowered, of which the plan is a copy.
+fn assert_filters(rt: &impl Abort, alloc: Global, filters: usize) {
+    let scan = scan_of(rt, alloc, Some(3), 1, &DataType::Boolean);
+    let plan = filters_over(rt, alloc, scan, filters);
+    let copy = plan.try_clone(alloc).expect(rt, NO_MEMORY);
+    let found = answer(alloc, copy).expect(rt, NO_MEMORY);
     assert!(rt;
-        found.as_str() == ". projection (\"part 0\" Int8)\n.0 df (\"part 0\" Int8)\ncasts 0\n"
+        found
+            .as_str()
+            .ends_with(" df (\"part 0\" Boolean)\ncasts 0\n")
     );
 }
 
 #[test]
-fn sums_of_any_length_are_lowered(rt: HostRuntime) {
-    for additions in [0, 1, 2, 1_000] {
-        assert_sum(&rt, rt.alloc(), additions);
-    }
-}
-
-// Appends the path to the node so many levels below the top.
-fn push_path(rt: &impl Abort, text: &mut String, levels: usize) {
-    if levels == 0 {
-        text.push_str(".").expect(rt, NO_MEMORY);
-    }
-    for _ in 0..levels {
-        text.push_str(".0").expect(rt, NO_MEMORY);
-    }
-}
-
-// The report of so many filters over a scan of one column.
-fn filters_report(rt: &impl Abort, alloc: Global, filters: usize) -> String {
-    let mut text = String::new(alloc);
-    for level in 0..filters {
-        push_path(rt, &mut text, level);
-        text.push_str(" selection (\"part 0\" Boolean)\n")
-            .expect(rt, NO_MEMORY);
-    }
-    push_path(rt, &mut text, filters);
-    text.push_str(" df (\"part 0\" Boolean)\ncasts 0\n")
-        .expect(rt, NO_MEMORY);
-    text
-}
-
-fn assert_filters(rt: &impl Abort, alloc: Global, filters: usize) {
-    let scan = scan_of(rt, alloc, Some(3), 1);
-    let found = answer(alloc, filters_over(rt, alloc, scan, filters)).expect(rt, NO_MEMORY);
-    let want = filters_report(rt, alloc, filters);
-    assert!(rt; found.as_str() == want.as_str());
-}
-
-#[test]
-fn filters_of_any_depth_are_lowered(rt: HostRuntime) {
-    for filters in FILTERS {
+fn filters_of_any_depth_are_copied_and_lowered(rt: HostRuntime) {
+    for filters in [0, 1, 2, 3, 200] {
         assert_filters(&rt, rt.alloc(), filters);
     }
 }
 
-// The text of a refusal so many levels below the top.
-fn refused_text(rt: &impl Abort, alloc: Global, levels: usize) -> String {
-    let mut text = String::from_str(alloc, "refused ColumnNotFound ").expect(rt, NO_MEMORY);
-    push_path(rt, &mut text, levels);
-    text.push_str("\n").expect(rt, NO_MEMORY);
-    text
-}
-
+// A missing column is refused so many filters below the top.
 fn assert_refused(rt: &impl Abort, alloc: Global, filters: usize) {
-    let missing = column(alloc, "missing").expect(rt, NO_MEMORY);
-    let select = select_of(rt, alloc, &missing, 1, scan_of(rt, alloc, None, 1));
-    let found = answer(alloc, filters_over(rt, alloc, select, filters)).expect(rt, NO_MEMORY);
-    let want = refused_text(rt, alloc, filters);
-    assert!(rt; found.as_str() == want.as_str());
+    let missing = column(rt, alloc, "missing");
+    let scan = scan_of(rt, alloc, None, 1, &DataType::Boolean);
+    let plan = filters_over(rt, alloc, select(rt, alloc, missing, scan), filters);
+    let found = answer(alloc, plan).expect(rt, NO_MEMORY);
+    assert!(rt; found.as_str().starts_with("refused ColumnNotFound ."));
 }
 
 #[test]
 fn a_missing_column_is_refused_at_any_depth(rt: HostRuntime) {
-    for filters in FILTERS {
+    for filters in [0, 1, 2, 3, 200] {
         assert_refused(&rt, rt.alloc(), filters);
+    }
+}
+
+// What the node of that number is called, of the plan that is lent.
+fn name_at(rt: &impl Abort, plan: &IRPlan, number: usize) -> &'static str {
+    let lent = plan.as_ref().with_root(Node(number));
+    assert!(rt; lent.lp_top.0 < lent.lp_arena.len());
+    lent.root().name()
+}
+
+#[test]
+fn a_lowered_plan_is_lent_from_any_node(rt: HostRuntime) {
+    let scan = scan_of(&rt, rt.alloc(), None, 1, &DataType::Boolean);
+    let plan = filters_over(&rt, rt.alloc(), scan, 200);
+    let udfs = Udfs::new(rt.alloc());
+    let lowered = plan.to_alp(rt.alloc(), &udfs).expect(&rt, NO_MEMORY);
+    assert!(rt; lowered.lp_top.0 < lowered.lp_arena.len());
+    assert_eq!(rt; lowered.root().name(), "selection");
+    assert_eq!(rt; name_at(&rt, &lowered, 0), "df");
+    for number in 1..lowered.lp_arena.len() {
+        assert_eq!(rt; name_at(&rt, &lowered, number), "selection");
     }
 }
