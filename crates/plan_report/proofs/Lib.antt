@@ -1,4 +1,5 @@
 pub mod CastLemmas
 pub mod NodeLemmas
 pub mod OnLiterals
+pub mod PlainLemmas
 pub mod TextLemmas

@@ -1,10 +1,11 @@
 //! Texts of names, types, schemas and places.
-ghost use Rattle.std.specs.Prelude.{◌≡◌, ◌++◌, decimal, map, string_bytes, IfOk, OnOk};
+ghost use Rattle.std.specs.Prelude.{◌≡◌, [], ◌∷◌, ◌++◌, decimal, map, string_bytes, IsTrue, OnOk};
+ghost use Rattle.json.specs.Print.{escape, escape_byte};
 ghost use Rattle.serde_json.specs.Data.{string};
 ghost use Rattle.serde_json.specs.Written.{compact_text};
 ghost use Rattle.plan_types.specs.Schemas.{columns};
 ghost use Rattle.plan_types.specs.Types.{field_of, ty};
-ghost use Rattle.plan_report.specs.Texts.{name_text, in_parentheses, unit_text, variant_text, type_text, field_text, separator, schema_text, path_text, error_kind_text};
+ghost use Rattle.plan_report.specs.Texts.{name_text, in_parentheses, unit_text, variant_text, type_text, field_text, separator, schema_text, step_text, path_text, error_kind_text};
 
 use plan_types::dtype::{DataType, TimeUnit};
 use plan_types::error::ErrorKind;
@@ -66,14 +67,6 @@ pub(crate) fn unit_name(unit: TimeUnit) -> &'static str
     }
 }
 
-/// The text as a JSON string.
-pub(crate) fn quoted(alloc: Global, text: &str) -> Result<String, AllocError>
-    ensures { IfOk result (λ json. string_bytes json ≡ compact_text (string text.now)) }
-{
-    let text = String::from_str(alloc, text)?;
-    Value::String(text).to_string(alloc)
-}
-
 /// Appends the name as a JSON string.
 pub(crate) fn push_name(
     alloc: Global,
@@ -82,8 +75,42 @@ pub(crate) fn push_name(
 ) -> Result<(), AllocError>
     ensures { OnOk result (string_bytes text.new ≡ string_bytes text.old ++ name_text name.now) }
 {
-    let name = quoted(alloc, name.as_str())?;
-    text.push_str(name.as_str())
+    push_quoted(alloc, text, name.as_str())
+}
+
+// Appends a part as a JSON string.
+fn push_quoted(alloc: Global, text: &mut String, part: &str) -> Result<(), AllocError>
+    ensures { OnOk result (string_bytes text.new ≡ string_bytes text.old ++ compact_text (string part.now)) }
+{
+    if is_plain(part) {
+        text.push_str("\"")?;
+        text.push_str(part)?;
+        return text.push_str("\"");
+    }
+    let part = String::from_str(alloc, part)?;
+    let quoted = Value::String(part).to_string(alloc)?;
+    text.push_str(quoted.as_str())
+}
+
+// Whether a text is known to stand in a JSON string as it is.
+fn is_plain(text: &str) -> bool
+    ensures { IsTrue result → escape text.now ≡ text.now }
+{
+    for byte in text.as_bytes() {
+        if !is_plain_byte(*byte) {
+            return false;
+        }
+    }
+    true
+}
+
+fn is_plain_byte(byte: u8) -> bool
+    ensures { IsTrue result → escape_byte byte ≡ byte ∷ [] }
+{
+    match byte {
+        b'"' | b'\\' => false,
+        byte => byte >= b' ',
+    }
 }
 
 /// Appends the number in decimal.
@@ -94,6 +121,18 @@ pub(crate) fn push_number(alloc: Global, text: &mut String, number: u64) -> Resu
     text.push_str(digits.as_str())
 }
 
+// Appends a step of a place. That to an only input takes no memory of its own.
+#[tactic(auto, unfolding(crate::proofs::OnLiterals::texts_on_literals))]
+fn push_step(alloc: Global, text: &mut String, step: u64) -> Result<(), AllocError>
+    ensures { OnOk result (string_bytes text.new ≡ string_bytes text.old ++ step_text step) }
+{
+    if step == 0 {
+        return text.push_str(".0");
+    }
+    text.push_str(".")?;
+    push_number(alloc, text, step)
+}
+
 /// Appends the place to which the steps lead from the top.
 pub(crate) fn push_path(alloc: Global, text: &mut String, steps: &[u64]) -> Result<(), AllocError>
     ensures { OnOk result (string_bytes text.new ≡ string_bytes text.old ++ path_text steps.now) }
@@ -102,8 +141,7 @@ pub(crate) fn push_path(alloc: Global, text: &mut String, steps: &[u64]) -> Resu
         return text.push_str(".");
     }
     for step in steps {
-        text.push_str(".")?;
-        push_number(alloc, text, *step)?;
+        push_step(alloc, text, *step)?;
     }
     Ok(())
 }
