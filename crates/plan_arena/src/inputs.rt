@@ -19,10 +19,7 @@ impl NodeList {
         ensures ok { IfOk result (λ copy. copy.items.items ≡ self.now.items.items) }
         ensures err { IfErr result (λ error. error ≡ no_memory) }
     {
-        let mut items = Vec::new(alloc);
-        for node in self.items.as_slice() {
-            items.push(*node)?;
-        }
+        let items = Vec::from_slice(alloc, self.items.as_slice())?;
         Ok(NodeList { items })
     }
 }

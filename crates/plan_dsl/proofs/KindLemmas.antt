@@ -1,5 +1,5 @@
 -- What the kernel of each kind gives that goes by a signature: values of its own type.
-use Rattle.std.proofs.Common.{pos, length, Bool, true, false, cond, List, [], ◌∷◌, Ok, Err, refl}
+use Rattle.std.proofs.Common.{pos, length, Bool, true, false, List, [], ◌∷◌, refl}
 use Rattle.std.proofs.lemmas.Bool.{and_from}
 use Rattle.plan_types.proofs.ValueLemmas.{wrapped_in_range}
 use Rattle.plan_types.specs.Outcomes.{Meets}
@@ -10,14 +10,13 @@ use Rattle.plan_dsl.specs.declared.signature.Many.TheVariants.{AsFirst}
 use Rattle.plan_dsl.specs.declared.signature.Signature.{Signature}
 use Rattle.plan_dsl.specs.declared.sort_options.SortOptions.{SortOptions}
 use Rattle.plan_dsl.specs.Ops.{LenOp, SliceOp, ExplodeOp, GatherOp, FilterOp, SortOp, SortByOp}
-use Rattle.plan_dsl.specs.Kernels.{kernel, sort_by_values}
+use Rattle.plan_dsl.specs.Kernels.{sort_by_values}
 use Rattle.plan_dsl.specs.Laws.{AreOf}
 use Rattle.plan_dsl.specs.Signatures.{asks, has_flags}
-use Rattle.plan_dsl.specs.Typing.{own_over, types_of}
 use Rattle.plan_dsl.proofs.ColumnLemmas.{slice_values_fit}
 use Rattle.plan_dsl.proofs.PickLemmas.{explode_values_fit, gather_values_fit, filter_values_fit}
 use Rattle.plan_dsl.proofs.SortLemmas.{sort_by_values_fit, sort_values_fit}
-use Rattle.plan_dsl.proofs.SignatureLemmas.{KernelGives, OnAsked, OnSigned, any_columns}
+use Rattle.plan_dsl.proofs.SignatureLemmas.{KernelGives, any_columns, where_signed}
 
 pub len_gives : KernelGives LenOp
 len_gives registry frame rows [] = record { fitting = and_from _ true (wrapped_in_range false 32 (pos (length rows))) refl; single = λ one. refl }
@@ -47,9 +46,5 @@ sort_gives options registry frame rows _ = tt
 pub sort_by_gives : (descending nulls_last : List Bool) → KernelGives (SortByOp descending nulls_last)
 sort_by_gives descending nulls_last registry frame rows [] = tt
 sort_by_gives descending nulls_last registry frame rows (input ∷ keys) =
-    let op = SortByOp descending nulls_last in
     let asked : Signature = record { first = asks Any; second = asks Sortable; rest = asks Sortable; own = First; many = AsFirst } in
-    elim (has_flags descending nulls_last (length keys)) as (λ b. OnSigned (cond b (Ok asked) (Err ComputeError)) (λ signature. OnAsked signature 0 (input ∷ keys) (λ columns. Meets (AreOf (own_over signature (input ∷ keys))) (kernel registry frame rows op (types_of (input ∷ keys)) (own_over signature (input ∷ keys)).type columns)))) [
-      | true ↦ λ values i. any_columns asked 1 keys (λ columns. Meets (AreOf input) (sort_by_values descending nulls_last values columns)) (λ columns. sort_by_values_fit descending nulls_last input values columns i.of)
-      | false ↦ tt
-    ]
+    where_signed (has_flags descending nulls_last (length keys)) asked ComputeError _ (λ values i. any_columns asked 1 keys (λ columns. Meets (AreOf input) (sort_by_values descending nulls_last values columns)) (λ columns. sort_by_values_fit descending nulls_last input values columns i.of))

@@ -1,5 +1,5 @@
 -- Orders of values and of keys, and items that are put in order.
-use Rattle.std.proofs.Common.{◌≡◌, ◌∙◌, ℕ, zero, suc, replicate, pos, sym, Bool, true, false, cond, List, [], ◌∷◌, length, refl, ap, subst}
+use Rattle.std.proofs.Common.{◌≡◌, ◌∙◌, ℕ, zero, suc, replicate, pos, sym, Bool, true, false, cond, List, [], ◌∷◌, length, map, refl, ap, subst}
 use Rattle.std.specs.Prelude.{not, ◌&&◌, ◌||◌, ◌==◌, int_lt, nat_lt, encode_utf8_all, IsPermutation, zip}
 use Rattle.std.specs.List.{AllByRecursion, filter, list_all}
 use Rattle.std.specs.List.Sorted.{ties}
@@ -20,7 +20,7 @@ use Rattle.plan_types.proofs.ValueLemmas.{meets_then}
 use Rattle.plan_dsl.specs.declared.sort_options.SortOptions.{SortOptions}
 use Rattle.plan_dsl.specs.Operators.{is_before, is_less}
 use Rattle.plan_dsl.specs.Kernels.{for_rows, in_front, key_rows, sort_by_values, stretched}
-use Rattle.plan_dsl.specs.Sorting.{comes_before, inserted, key_options, keys_before, sort_values, sorted, sorted_by, sorted_rows}
+use Rattle.plan_dsl.specs.Sorting.{comes_before, inserted, key_options, keys_before, sort_values, sorted, sorted_rows}
 use Rattle.plan_dsl.specs.SortLaws.{IsOrderOf, IsInOrder, IsSortOf, IsSortByKeys, columns_fit, keys_fit}
 use Rattle.plan_dsl.proofs.PickLemmas.{no_number}
 use Rattle.plan_dsl.proofs.SortLemmas.{each_fits, inserted_same, key_rows_many, permuted_each, sorted_same, sort_by_values_same}
@@ -261,14 +261,6 @@ module _ {A : Type 0} (before : A → A → Bool) where
           | false ↦ λ e. absurd (both h (order.chain first x item hf hx hi e (not-true (before x item) parts.0)))
         ] refl
       where
-        and_false : (b : Bool) → (b && false) ≡ false
-        and_false true = refl
-        and_false false = refl
-
-        not_true : (b : Bool) → not b ≡ true → b ≡ false
-        not_true true h = cc
-        not_true false h = refl
-
         both : {b : Bool} → b ≡ true → b ≡ false → ⊥
         both h k = cc
 
@@ -357,7 +349,7 @@ pub sorts_by_keys : (descending nulls_last : List Bool) (types : List Ty) (value
     → IsSortByKeys (key_options (length keys) descending nulls_last) types values keys found
 sorts_by_keys descending nulls_last types values keys found fit is =
     let options = key_options (length keys) descending nulls_last in
-    let parts = done_parts (key_rows (length values) keys) (λ rows. Done (sorted_by options rows values)) found is in
+    let parts = done_parts (key_rows (length values) keys) (λ rows. Done (map (λ row. row.0) (sorted_rows options rows values))) found is in
     record {
       rows = parts.0;
       beside = parts.1;

@@ -173,6 +173,11 @@ abbrev pub OnSigned : Result Signature ErrorKind → (Signature → Type 0) → 
 OnSigned (Err kind) P = Unit {0}
 OnSigned (Ok signature) P = P signature
 
+-- which there is where a test of the op says so
+pub where_signed : (test : Bool) (signature : Signature) (kind : ErrorKind) (P : Signature → Type 0) → P signature → OnSigned (cond test (Ok signature) (Err kind)) P
+where_signed true signature kind P h = h
+where_signed false signature kind P h = tt
+
 -- what holds of the columns of operands of which this is asked, from a place on
 abbrev pub OnAsked : Signature → ℕ → List Typed → (List (List Val) → Type 0) → Type 0
 OnAsked signature place [] P = P []

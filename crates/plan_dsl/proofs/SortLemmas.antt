@@ -6,6 +6,7 @@ use Rattle.std.proofs.lemmas.Bool.{and_parts, and_from}
 use Rattle.std.proofs.lemmas.List.{length-replicate}
 use Rattle.std.proofs.lemmas.List.Elements.{All-from_recursion, recursion_from_All}
 use Rattle.std.proofs.lemmas.List.Sorted.{All-permutation, IsPermutation-cons, IsPermutation-map, IsPermutation-middle, IsPermutation-refl, IsPermutation-trans, length_permutation}
+use Rattle.std.proofs.lemmas.Slice.Zip.{firsts-zip}
 use Rattle.plan_types.specs.Types.{Ty}
 use Rattle.plan_types.specs.Values.{Val, fits, all_fit}
 use Rattle.plan_types.specs.Frames.{Row}
@@ -15,7 +16,7 @@ use Rattle.plan_dsl.specs.declared.sort_options.SortOptions.{SortOptions}
 use Rattle.plan_dsl.specs.Typing.{Typed}
 use Rattle.plan_dsl.specs.Kernels.{for_rows, in_front, key_rows, sort_by_values, stretched}
 use Rattle.plan_dsl.specs.Laws.{AreOf}
-use Rattle.plan_dsl.specs.Sorting.{comes_before, inserted, key_options, keys_before, sorted, sorted_by, sorted_rows, sort_values}
+use Rattle.plan_dsl.specs.Sorting.{comes_before, inserted, key_options, keys_before, sorted, sorted_rows, sort_values}
 
 -- ---- the same items
 
@@ -85,21 +86,13 @@ key_rows_many count (key ∷ keys) =
     meets_then (λ column. length column ≡ count) Many (for_rows count key) (λ column. then_do (key_rows count keys) (λ rows. Done (in_front column rows))) (column_for_rows count key) (λ column h.
     meets_then Many Many (key_rows count keys) (λ rows. Done (in_front column rows)) (key_rows_many count keys) (λ rows k. in_front_many count column rows h k))
 
-values_of : (values : List Val) (rows : List Row) → length rows ≡ length values → map (λ row. row.0) (zip values rows) ≡ values
-values_of [] rows h = refl
-values_of (value ∷ values) [] h = absurd (omega (arith, h))
-values_of (value ∷ values) (row ∷ rows) h = ap (λ l. value ∷ l) (values_of values rows (omega (arith, h)))
-
-sorted_by_same : (options : List SortOptions) (rows : List Row) (values : List Val) → length rows ≡ length values → IsPermutation values (sorted_by options rows values)
-sorted_by_same options rows values many =
-    subst (λ l. IsPermutation l (sorted_by options rows values)) (values_of values rows many)
-    (IsPermutation-map (λ row. row.0) (zip values rows) (sorted_rows options rows values) (sorted_same (λ (left right : Val × Row). keys_before options left.1 right.1) (zip values rows)))
-
 -- a sort by keys gives the same values, whatever the keys
 pub sort_by_values_same : (descending nulls_last : List Bool) (values : List Val) (keys : List (List Val)) → Meets (IsPermutation values) (sort_by_values descending nulls_last values keys)
 sort_by_values_same descending nulls_last values keys =
     let options = key_options (length keys) descending nulls_last in
-    meets_then (λ rows. length rows ≡ length values) (IsPermutation values) (key_rows (length values) keys) (λ rows. Done (sorted_by options rows values)) (key_rows_many (length values) keys) (λ rows many. sorted_by_same options rows values many)
+    meets_then (λ rows. length rows ≡ length values) (IsPermutation values) (key_rows (length values) keys) (λ rows. Done (map (λ row. row.0) (sorted_rows options rows values))) (key_rows_many (length values) keys) (λ rows many.
+    subst (λ l. IsPermutation l (map (λ row. row.0) (sorted_rows options rows values))) (firsts-zip values rows many)
+    (IsPermutation-map (λ row. row.0) (zip values rows) (sorted_rows options rows values) (sorted_same (λ (left right : Val × Row). keys_before options left.1 right.1) (zip values rows))))
 
 pub sort_by_values_fit : (descending nulls_last : List Bool) (typed : Typed) (values : List Val) (keys : List (List Val)) → AreOf typed values → Meets (AreOf typed) (sort_by_values descending nulls_last values keys)
 sort_by_values_fit descending nulls_last typed values keys of =

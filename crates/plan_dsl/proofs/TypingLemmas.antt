@@ -31,9 +31,6 @@ ok_where false x y error h = cc
 abbrev pub ruling_of : Taken → Bool → Ruling
 ruling_of taken many = record { operands = taken.operands; own = record { type = taken.type; many = many } }
 
-abbrev pub typed_as : Result Taken ErrorKind → Bool → Result Typed ErrorKind
-typed_as found many = own_typed (ruled_as found many)
-
 pub ruled_is : (P : Ruling → Type 0) (found : Result Taken ErrorKind) (many : Bool) (ruling : Ruling) → ruled_as found many ≡ Ok ruling → ((taken : Taken) → found ≡ Ok taken → P (ruling_of taken many)) → P ruling
 ruled_is P (Err kind) many ruling h each = cc
 ruled_is P (Ok taken) many ruling h each = subst P (ok_same (ruled_as (Ok taken) many) (ruling_of taken many) ruling refl h) (each taken refl)

@@ -12,7 +12,7 @@ use Rattle.plan_types.specs.declared.dtype.CastOptions.{CastOptions}
 use Rattle.plan_dsl.specs.declared.operator.Operator.{Operator}
 use Rattle.plan_dsl.specs.Operators.{operator_value}
 use Rattle.plan_dsl.specs.Slices.{slice_values}
-use Rattle.plan_dsl.specs.Sorting.{key_options, sort_values, sorted_by}
+use Rattle.plan_dsl.specs.Sorting.{key_options, sort_values, sorted_rows}
 use Rattle.plan_dsl.specs.Picks.{explode_values, gather_values, where_true}
 use Rattle.plan_dsl.specs.Registry.{Registry}
 use Rattle.plan_dsl.specs.Ops.{Op, ColumnOp, LiteralOp, BinaryOp, CastOp, LenOp, SliceOp, AliasOp, ExplodeOp, GatherOp, FilterOp, SortOp, SortByOp}
@@ -97,7 +97,7 @@ key_rows count (key ∷ keys) = then_do (for_rows count key) (λ column. then_do
 -- values in the order of columns of keys, by a flag for each or one for all
 abbrev pub sort_by_values : List Bool → List Bool → List Val → List (List Val) → Outcome (List Val)
 sort_by_values descending nulls_last values keys =
-    then_do (key_rows (length values) keys) (λ rows. Done (sorted_by (key_options (length keys) descending nulls_last) rows values))
+    then_do (key_rows (length values) keys) (λ rows. Done (map (λ row. row.0) (sorted_rows (key_options (length keys) descending nulls_last) rows values)))
 
 -- a frame's column at these rows
 abbrev pub column_values : Frame → Name → List ℕ → List Val

@@ -15,10 +15,7 @@ use Rattle.plan_dsl.specs.declared.signature.Signature.{Signature}
 use Rattle.plan_dsl.specs.Ops.{Op, LenOp, SliceOp, ExplodeOp, GatherOp, FilterOp, SortOp, SortByOp}
 use Rattle.plan_dsl.specs.Sorting.{are_for}
 
--- the types of counts, and of places and lengths
-abbrev pub count_type : Ty
-count_type = Integer false 32
-
+-- the type of places and lengths
 abbrev pub place_type : Ty
 place_type = Integer true 64
 
@@ -37,13 +34,13 @@ asked_target Place type = place_type
 asked_target Length type = place_type
 asked_target ask type = type
 
--- the own type, from that of the first operand
+-- the own type, from that of the first operand: of a count 32 bits without a sign
 abbrev pub own_type : OwnType → Ty → Ty
 own_type First type = type
 own_type Item (ListType item) = item
 own_type Item type = type
 own_type ListOf type = ListType type
-own_type Count type = count_type
+own_type Count type = Integer false 32
 
 -- what is asked of an operand, of which there may be many values or must be one
 abbrev pub asks : Ask → Asked
@@ -80,7 +77,11 @@ signature (SortByOp descending nulls_last) (suc keys) =
     if has_flags descending nulls_last keys then takes (asks Any) (asks Sortable) (asks Sortable) First AsFirst else Err ComputeError
 signature op count = Err SchemaMismatch
 
--- the kinds that a node breaks over so many children, whatever their types, and where they have none
+-- the kinds that a node breaks whatever its children's types, and where they have none: that for which its op has no
+-- signature, but for the number of the children
+abbrev pub unsigned_kinds : Result Signature ErrorKind → List ErrorKind
+unsigned_kinds (Err ComputeError) = ComputeError ∷ []
+unsigned_kinds found = []
+
 abbrev pub bare_kinds : Op → ℕ → List ErrorKind
-bare_kinds (SortByOp descending nulls_last) (suc keys) = if has_flags descending nulls_last keys then [] else ComputeError ∷ []
-bare_kinds op count = []
+bare_kinds op count = unsigned_kinds (signature op count)

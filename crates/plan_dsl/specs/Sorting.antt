@@ -32,31 +32,19 @@ sort_values options values = sorted (comes_before options) values
 abbrev pub are_for : List Bool → ℕ → Bool
 are_for flags keys = length flags == keys || length flags == 1
 
--- a flag for each key
+-- a flag for each key, and how each is sorted
 abbrev pub for_keys : ℕ → List Bool → List Bool
-for_keys keys [] = []
 for_keys keys (flag ∷ []) = replicate keys flag
-for_keys keys (first ∷ second ∷ rest) = first ∷ second ∷ rest
-
--- how each key is sorted
-abbrev pub options_of : List Bool → List Bool → List SortOptions
-options_of [] nulls_last = []
-options_of (flag ∷ descending) [] = []
-options_of (flag ∷ descending) (last ∷ nulls_last) = record { descending = flag; nulls_last = last } ∷ options_of descending nulls_last
+for_keys keys flags = flags
 
 abbrev pub key_options : ℕ → List Bool → List Bool → List SortOptions
-key_options keys descending nulls_last = options_of (for_keys keys descending) (for_keys keys nulls_last)
+key_options keys descending nulls_last = map (λ (flags : Bool × Bool). record { descending = flags.0; nulls_last = flags.1 }) (zip (for_keys keys descending) (for_keys keys nulls_last))
 
 -- whether keys come before others: the first key that does so in one way or the other says it
 abbrev pub keys_before : List SortOptions → List Val → List Val → Bool
-keys_before [] left right = false
-keys_before (options ∷ rest) [] right = false
-keys_before (options ∷ rest) (x ∷ left) [] = false
 keys_before (options ∷ rest) (x ∷ left) (y ∷ right) = comes_before options x y || (not (comes_before options y x) && keys_before rest left right)
+keys_before options left right = false
 
 -- values, each beside its keys, in the order of the keys
 abbrev pub sorted_rows : List SortOptions → List (List Val) → List Val → List (Val × List Val)
 sorted_rows options keys values = sorted (λ left right. keys_before options left.1 right.1) (zip values keys)
-
-abbrev pub sorted_by : List SortOptions → List (List Val) → List Val → List Val
-sorted_by options keys values = map (λ row. row.0) (sorted_rows options keys values)

@@ -1,5 +1,5 @@
 //! Expressions over the columns of a frame.
-ghost use Rattle.std.specs.Prelude.{◌≡◌, map, IfOk, IfErr};
+ghost use Rattle.std.specs.Prelude.{◌≡◌, IfOk, IfErr};
 ghost use Rattle.std.specs.List.{fold};
 ghost use Rattle.plan_dsl.specs.Trees.{children_from, top_op};
 ghost use Rattle.plan_dsl.specs.Expressions.{tree_of, trees_of};
@@ -34,6 +34,33 @@ impl Exprs {
             items.push(copy)?;
         }
         Ok(Exprs { items })
+    }
+
+    // Whether both have the same expressions, in the same order.
+    #[cycle(same_exprs)]
+    fn is_same(&self, other: &Exprs) -> bool
+        ensures { result ≡ same_trees same_op (children_from (trees_of self.now)) (children_from (trees_of other.now)) }
+    {
+        let (left, right) = (self.items.as_slice(), other.items.as_slice());
+        if left.len() != right.len() {
+            return false;
+        }
+        for index in 0..left.len() {
+            if !left[index].is_same(&right[index]) {
+                return false;
+            }
+        }
+        true
+    }
+
+    // Feeds each expression to the hasher, in order.
+    #[cycle(expr_hashes)]
+    fn feed<H: Hasher>(&self, state: &mut H)
+        ensures { state.new ≡ fold H.write state.old (trees_writes op_writes (children_from (trees_of self.now))) }
+    {
+        for expr in self.items.as_slice() {
+            expr.feed(state);
+        }
     }
 }
 
@@ -134,16 +161,8 @@ macro_rules! compared {
             $((
                 Expr::$kind { $($input,)* $($field),* },
                 Expr::$kind { $($input: $own,)* $($field: $own_field),* },
-            ) => true $(&& *$field == *$own_field)* $(&& $input.is_same($own))*,)*
+            ) => $(*$field == *$own_field &&)* $($input.is_same($own))&&*,)*
             (Expr::Explode(input), Expr::Explode(own)) => input.is_same(own),
-            (
-                Expr::SortBy { expr, by, sort_options },
-                Expr::SortBy { expr: own_expr, by: own_by, sort_options: own_options },
-            ) => {
-                *sort_options == *own_options
-                    && expr.is_same(own_expr)
-                    && same_exprs(by.items.as_slice(), own_by.items.as_slice())
-            }
             (Expr::Alias(expr, name), Expr::Alias(own, own_name)) => *name == *own_name && expr.is_same(own),
             _ => false,
         }
@@ -159,10 +178,6 @@ macro_rules! feed_operands {
                 $($input.feed($state);)*
             })*
             Expr::Explode(input) => input.feed($state),
-            Expr::SortBy { expr, by, .. } => {
-                expr.feed($state);
-                feed_each(by.items.as_slice(), $state);
-            }
             Expr::Alias(expr, _) => expr.feed($state),
         }
     };
@@ -197,12 +212,13 @@ impl Expr {
             Gather { expr own_expr, idx own_idx } [returns_scalar own_scalar]
             Filter { input own_input, by own_by } []
             Sort { expr own_expr } [options own_options]
+            SortBy { expr own_expr, by own_by } [sort_options own_options]
         )
     }
 
     // Feeds each node to the hasher, before its operands.
     #[cycle(expr_hashes)]
-    fn feed<H: Hasher>(&self, state: &mut H)
+    pub(crate) fn feed<H: Hasher>(&self, state: &mut H)
         ensures { state.new ≡ fold H.write state.old (tree_writes op_writes (tree_of self.now)) }
     {
         self.feed_own(state);
@@ -213,6 +229,7 @@ impl Expr {
             Gather { expr, idx }
             Filter { input, by }
             Sort { expr }
+            SortBy { expr, by }
         )
     }
 
@@ -259,32 +276,6 @@ impl Expr {
                 sort_options.hash(state);
             }
         }
-    }
-}
-
-// Whether both have the same expressions, in the same order.
-#[cycle(same_exprs)]
-fn same_exprs(left: &[Expr], right: &[Expr]) -> bool
-    ensures { result ≡ same_trees same_op (children_from (map tree_of left.now)) (children_from (map tree_of right.now)) }
-{
-    if left.len() != right.len() {
-        return false;
-    }
-    for index in 0..left.len() {
-        if !left[index].is_same(&right[index]) {
-            return false;
-        }
-    }
-    true
-}
-
-// Feeds each expression to the hasher, in order.
-#[cycle(expr_hashes)]
-fn feed_each<H: Hasher>(exprs: &[Expr], state: &mut H)
-    ensures { state.new ≡ fold H.write state.old (trees_writes op_writes (children_from (map tree_of exprs.now))) }
-{
-    for expr in exprs {
-        expr.feed(state);
     }
 }
 

@@ -1,6 +1,7 @@
 //! How columns are sorted.
 ghost use Rattle.std.specs.Prelude.{◌≡◌, IfOk, IfErr};
 ghost use Rattle.plan_types.specs.Errors.{no_memory};
+ghost use Rattle.plan_dsl.specs.Expressions.{sort_by_op};
 
 use plan_types::error::PlanError;
 use std::alloc::Global;
@@ -12,22 +13,21 @@ pub struct SortOptions {
     pub nulls_last: bool,
 }
 
-/// A flag for each key, in order, or one for all keys.
+/// A flag for each key, in order, or one for all keys. They stand in a box, so that no node is wider for them.
 #[derive(Drop, PartialEq, Eq, Hash)]
 pub struct Flags {
-    pub items: Vec<bool>,
+    pub items: Box<Vec<bool>>,
 }
 
 impl Flags {
     pub fn try_clone(&self, alloc: Global) -> Result<Flags, PlanError>
-        ensures ok { IfOk result (λ copy. copy.items.items ≡ self.now.items.items) }
+        ensures ok { IfOk result (λ copy. copy.items.value.items ≡ self.now.items.value.items) }
         ensures err { IfErr result (λ error. error ≡ no_memory) }
     {
-        let mut items = Vec::new(alloc);
-        for flag in self.items.as_slice() {
-            items.push(*flag)?;
-        }
-        Ok(Flags { items })
+        let items = Vec::from_slice(alloc, self.items.as_slice())?;
+        Ok(Flags {
+            items: Box::new(alloc, items)?,
+        })
     }
 }
 
@@ -40,15 +40,12 @@ pub struct SortMultipleOptions {
 
 impl SortMultipleOptions {
     pub fn try_clone(&self, alloc: Global) -> Result<SortMultipleOptions, PlanError>
-        ensures descending { IfOk result (λ copy. copy.descending.items.items ≡ self.now.descending.items.items) }
-        ensures nulls_last { IfOk result (λ copy. copy.nulls_last.items.items ≡ self.now.nulls_last.items.items) }
+        ensures ok { IfOk result (λ copy. sort_by_op copy ≡ sort_by_op self.now) }
         ensures err { IfErr result (λ error. error ≡ no_memory) }
     {
-        let descending = self.descending.try_clone(alloc)?;
-        let nulls_last = self.nulls_last.try_clone(alloc)?;
         Ok(SortMultipleOptions {
-            descending,
-            nulls_last,
+            descending: self.descending.try_clone(alloc)?,
+            nulls_last: self.nulls_last.try_clone(alloc)?,
         })
     }
 }

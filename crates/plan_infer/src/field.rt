@@ -26,8 +26,9 @@ use std::marker::Brand;
 use std::sync::ledger::{Blank, Ledger};
 
 /// What an expression is asked for: a column of its own, or one value for each group of rows.
-#[derive(Clone, Copy)]
+#[derive(Clone, Copy, Default)]
 pub enum Context {
+    #[default]
     Default,
     Aggregation,
 }

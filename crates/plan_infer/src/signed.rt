@@ -59,7 +59,7 @@ pub(crate) fn signature(item: &AExpr) -> Result<Signature, ErrorKind>
 
 // Whether a sort has flags for its keys.
 fn has_flags(options: &SortMultipleOptions, by: &NodeList) -> bool
-    ensures { result ≡ has_flags options.now.descending.items.items options.now.nulls_last.items.items (length (numbers by.now.items.items)) }
+    ensures { result ≡ has_flags options.now.descending.items.value.items options.now.nulls_last.items.value.items (length (numbers by.now.items.items)) }
 {
     let keys = by.items.len();
     are_for(&options.descending, keys) && are_for(&options.nulls_last, keys)
@@ -67,7 +67,7 @@ fn has_flags(options: &SortMultipleOptions, by: &NodeList) -> bool
 
 // Whether there is a flag for each of so many keys, or one for all.
 fn are_for(flags: &Flags, keys: usize) -> bool
-    ensures { result ≡ are_for flags.now.items.items keys }
+    ensures { result ≡ are_for flags.now.items.value.items keys }
 {
     flags.items.len() == keys || flags.items.len() == 1
 }

@@ -1,5 +1,6 @@
 -- Values compared: of other kinds, and those of lists and structs one by one.
 use Rattle.std.proofs.Common.{◌≡◌, ◌≢◌, ℕ, ℤ, suc, Bool, true, false, ◌&&◌, List as Many, [], ◌∷◌, length, refl, sym, ap, ◌∙◌}
+use Rattle.std.proofs.Math.Bool.{and-false}
 use Rattle.plan_types.specs.Values.{NullValue, TruthValue, IntValue, TextValue, ListValue, StructValue, same_value, same_values}
 use Rattle.plan_types.specs.ValueViews.{val_of, values_in}
 use Rattle.plan_types.specs.declared.value.Value.{Value, Null, Boolean, Int, Text, List, Struct}
@@ -32,14 +33,10 @@ pub structs_compared : (a b : Value) (r s : Parts) (xs ys : Many Value) → a �
 structs_compared a b r s xs ys is other left right =
     sym (ap (λ v. same_value v (val_of b)) (struct_of a r xs is left) ∙ ap (same_value (StructValue (values_in xs))) (struct_of b s ys other right))
 
-nothing_same : (b : Bool) → false ≡ (b && false)
-nothing_same true = refl
-nothing_same false = refl
-
 -- lists of other lengths aren't the same
 pub values_apart : (vs ws : Many Value) → length vs ≢ length ws → false ≡ same_values (values_in vs) (values_in ws)
 values_apart [] [] n = absurd (n refl)
 values_apart [] (w ∷ ws) n = refl
 values_apart (v ∷ vs) [] n = refl
 values_apart (v ∷ vs) (w ∷ ws) n =
-    nothing_same (same_value (val_of v) (val_of w)) ∙ ap (λ b. same_value (val_of v) (val_of w) && b) (values_apart vs ws (λ e. n (ap suc e)))
+    sym (and-false (same_value (val_of v) (val_of w))) ∙ ap (λ b. same_value (val_of v) (val_of w) && b) (values_apart vs ws (λ e. n (ap suc e)))

@@ -11,7 +11,7 @@ ghost use Rattle.plan_dsl.specs.declared.expr.Exprs.{Exprs};
 ghost use Rattle.plan_dsl.specs.declared.sort_options.SortMultipleOptions.{SortMultipleOptions};
 ghost use Rattle.plan_dsl.specs.Aliases.{core};
 ghost use Rattle.plan_dsl.specs.Expressions.{tree_of, trees_of};
-ghost use Rattle.plan_dsl.specs.SortLaws.{IsInOrder, IsSortOf, columns_fit, keys_fit};
+ghost use Rattle.plan_dsl.specs.SortLaws.{IsInOrder, IsSortByKeys, IsSortOf, columns_fit, keys_fit};
 ghost use Rattle.plan_dsl.specs.Trees.{children_from, more, node, no_more, tree_count};
 ghost use Rattle.plan_dsl.specs.Ops.{Expression, SortOp, SortByOp};
 ghost use Rattle.plan_dsl.specs.Names.{name_of};
@@ -65,7 +65,9 @@ pub fn stable_order()
 
 /// A column sorted by keys has the name, type and length of its input, which may be of any type. The keys are in an order.
 pub fn types_of_columns_sorted_by_keys()
-    ensures names { Gives name_of ((rising_by (a ∷ []) b, codes "b") ∷ (rising_by (a ∷ b ∷ []) (sum b a), codes "b") ∷ (rising_by (a ∷ []) five, codes "literal") ∷ []) }
+    ensures names { Gives name_of (
+        (rising_by (a ∷ []) b, codes "b") ∷ (rising_by (a ∷ b ∷ []) (sum b a), codes "b") ∷ (rising_by (a ∷ []) five, codes "literal") ∷
+        (rising_by (alias "k" b ∷ []) (alias "x" a), codes "x") ∷ (rising_by (alias "k" b ∷ []) a, codes "a") ∷ []) }
     ensures types { Gives (typing [] schema_ab) (
         (rising_by (b ∷ []) a, of_many int8) ∷ (rising_by (less a b ∷ nothing ∷ five ∷ []) b, of_many int32) ∷ (rising_by [] a, of_many int8) ∷ (sort_by [] [] [] a, of_many int8) ∷
         (rising_by (a ∷ []) five, of_one int32) ∷ (sort_by (true ∷ false ∷ []) (true ∷ []) (a ∷ b ∷ []) a, of_many int8) ∷
@@ -99,12 +101,12 @@ pub fn values_sorted_by_keys()
         Gives (λ flags. sort_by_values (false ∷ []) flags (number 1 ∷ number 2 ∷ number 3 ∷ number 4 ∷ []) keys) (
         (false ∷ [], Done (number 3 ∷ number 1 ∷ number 2 ∷ number 4 ∷ [])) ∷ (true ∷ [], Done (number 4 ∷ number 2 ∷ number 1 ∷ number 3 ∷ [])) ∷
         (false ∷ true ∷ [], Done (number 1 ∷ number 3 ∷ number 4 ∷ number 2 ∷ [])) ∷ (true ∷ false ∷ [], Done (number 2 ∷ number 4 ∷ number 3 ∷ number 1 ∷ [])) ∷ []) }
-    ensures lengths { Gives (sort_by_values (true ∷ []) (false ∷ []) (number 7 ∷ null ∷ number 9 ∷ [])) (
-        ((number 1 ∷ number 2 ∷ number 3 ∷ []) ∷ [], Done (number 9 ∷ null ∷ number 7 ∷ [])) ∷ ((number 1 ∷ []) ∷ [], Done (number 7 ∷ null ∷ number 9 ∷ [])) ∷
-        ((number 1 ∷ []) ∷ (number 1 ∷ number 2 ∷ number 3 ∷ []) ∷ [], Done (number 9 ∷ null ∷ number 7 ∷ [])) ∷ ([], Done (number 7 ∷ null ∷ number 9 ∷ [])) ∷
-        ((number 1 ∷ number 2 ∷ []) ∷ [], Fault) ∷ ([] ∷ [], Fault) ∷ ((number 1 ∷ []) ∷ (number 1 ∷ number 2 ∷ []) ∷ [], Fault) ∷ []) }
-    ensures few { Gives (λ values. sort_by_values (true ∷ []) (false ∷ []) values ((number 1 ∷ []) ∷ [])) (([], Done []) ∷ (null ∷ [], Done (null ∷ [])) ∷ []) }
-    ensures one_value_by_many { sort_by_values (true ∷ []) (false ∷ []) (number 5 ∷ []) ((number 1 ∷ number 2 ∷ []) ∷ []) ≡ Fault }
+    ensures lengths { let each = number 7 ∷ null ∷ number 9 ∷ [] in
+        GivesOfTwo (sort_by_values (true ∷ []) (false ∷ [])) (
+        (each, (number 1 ∷ number 2 ∷ number 3 ∷ []) ∷ [], Done (number 9 ∷ null ∷ number 7 ∷ [])) ∷ (each, (number 1 ∷ []) ∷ [], Done each) ∷ (each, [], Done each) ∷
+        (each, (number 1 ∷ []) ∷ (number 1 ∷ number 2 ∷ number 3 ∷ []) ∷ [], Done (number 9 ∷ null ∷ number 7 ∷ [])) ∷
+        (each, (number 1 ∷ number 2 ∷ []) ∷ [], Fault) ∷ (each, [] ∷ [], Fault) ∷ (each, (number 1 ∷ []) ∷ (number 1 ∷ number 2 ∷ []) ∷ [], Fault) ∷
+        ([], (number 1 ∷ []) ∷ [], Done []) ∷ (null ∷ [], (number 1 ∷ []) ∷ [], Done (null ∷ [])) ∷ (number 5 ∷ [], (number 1 ∷ number 2 ∷ []) ∷ [], Fault) ∷ []) }
     ensures parts { let keys : List (List Val) = (number 1 ∷ null ∷ []) ∷ (yes ∷ []) ∷ [] in
         (key_rows 2 keys ≡ Done ((number 1 ∷ yes ∷ []) ∷ (null ∷ yes ∷ []) ∷ []))
         × (key_options 2 (true ∷ []) (false ∷ true ∷ []) ≡ way true false ∷ way true true ∷ []) × (key_options 0 (true ∷ []) [] ≡ []) }
@@ -132,14 +134,14 @@ pub fn meanings_of_columns_sorted_by_keys()
 /// A sort by keys has its input as the first child, and the keys behind it, in order. Its flags are lists.
 pub fn trees_of_sorts_by_keys()
     ensures tree { (expr : Box Expr) (by : Exprs) (options : SortMultipleOptions) → tree_of (SortBy expr by options)
-        ≡ node (SortByOp options.descending.items.items options.nulls_last.items.items) (more (tree_of expr.value) (children_from (trees_of by))) }
+        ≡ node (SortByOp options.descending.items.value.items options.nulls_last.items.value.items) (more (tree_of expr.value) (children_from (trees_of by))) }
     ensures children { Gives {Case = List Expression} children_from (([], no_more) ∷ (a ∷ [], more a no_more) ∷ (a ∷ b ∷ [], more a (more b no_more)) ∷ []) }
     ensures counts { Gives {Case = List Expression} (λ trees. tree_count (children_from trees)) (([], 0) ∷ (a ∷ [], 1) ∷ (a ∷ b ∷ a ∷ [], 3) ∷ []) }
     ensures without_aliases { Gives core ((rising_by (alias "k" b ∷ a ∷ []) (alias "x" a), rising_by (b ∷ a ∷ []) a) ∷ []) }
-    ensures names { Gives name_of ((rising_by (alias "k" b ∷ []) (alias "x" a), codes "x") ∷ (rising_by (alias "k" b ∷ []) a, codes "a") ∷ []) }
 {}
 
 /// Items are in order where none comes before any in front of it. Keys fit types one by one. What ties stays as it stood.
+/// A sort by keys goes by the rows that they make, and there are none of keys of another length.
 pub fn items_in_order()
     ensures in_order { IsInOrder nat_lt (1 ∷ 1 ∷ 2 ∷ []) × IsInOrder nat_lt [] × IsInOrder nat_lt (7 ∷ []) }
     ensures out_of_order { ¬ (IsInOrder nat_lt (2 ∷ 3 ∷ 1 ∷ [])) }
@@ -152,4 +154,7 @@ pub fn items_in_order()
         (int8 ∷ [], (number 200 ∷ []) ∷ [], false) ∷ (int8 ∷ [], [], false) ∷ ([], [] ∷ [], false) ∷ []) }
     ensures unstable { ¬ (IsSortOf (λ (pair : ℕ × ℕ). true) (λ left right. nat_lt left.0 right.0) ((1, 5) ∷ (1, 6) ∷ []) ((1, 6) ∷ (1, 5) ∷ [])) }
     ensures unsorted { ¬ (IsSortOf (λ (x : ℕ). true) nat_lt (2 ∷ 1 ∷ []) (2 ∷ 1 ∷ [])) }
+    ensures by_keys { IsSortByKeys (rising ∷ []) (int8 ∷ []) (number 7 ∷ number 8 ∷ []) ((number 2 ∷ number 1 ∷ []) ∷ []) (number 8 ∷ number 7 ∷ []) }
+    ensures by_no_keys { ¬ (IsSortByKeys (rising ∷ []) (int8 ∷ []) (number 7 ∷ number 8 ∷ []) ((number 2 ∷ number 1 ∷ []) ∷ []) (number 7 ∷ number 8 ∷ [])) }
+    ensures by_long_keys { (found : List Val) → ¬ (IsSortByKeys (rising ∷ []) (int8 ∷ []) (number 7 ∷ number 8 ∷ []) ((number 2 ∷ number 1 ∷ number 3 ∷ []) ∷ []) found) }
 {}
