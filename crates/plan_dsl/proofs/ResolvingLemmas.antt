@@ -1,46 +1,52 @@
 -- Queries' plans, resolved: places, schemas and scans.
 use Rattle.std.proofs.Common.{◌≡◌, ℕ, zero, suc, List, [], ◌∷◌, ◌++◌, map, Option, Some, None, option_map, is_some, IsTrue, Bool, true, false, cond, Result, Ok, Err, refl, sym, ap, ◌∙◌, subst}
-use Rattle.std.specs.List.{flat_map, list_all}
+use Rattle.std.specs.List.{Contains, flat_map, list_all}
 use Rattle.plan_types.specs.Schemas.{Columns}
 use Rattle.plan_types.specs.declared.error.ErrorKind.{ErrorKind}
 use Rattle.plan_dsl.specs.Registry.{Registry}
 use Rattle.plan_dsl.specs.Trees.{Trees, node, no_more, more, fold_all, child_at, child_of, tree_at}
-use Rattle.plan_dsl.specs.Ops.{Op, Expression}
-use Rattle.plan_dsl.specs.Plans.{PlanKind, ScanKind, SelectKind, FilterKind, RefusedKind, PlanOp, Named, named, select_op, filter_op, written_select, written_filter, SourcePlan, own_scans, scans_in}
-use Rattle.plan_dsl.specs.Sources.{Source, written, all_written, all_expanded}
-use Rattle.plan_dsl.specs.PlanRules.{broken_kinds, plan_rule, schema_of, schemas_of, IsWellFormed, AllWellFormed}
+use Rattle.plan_dsl.specs.Ops.{Expression}
+use Rattle.plan_dsl.specs.Plans.{PlanKind, ScanKind, SelectKind, HStackKind, FilterKind, SimpleProjectionKind, DropKind, RefusedKind, PlanOp, Named, named, select_op, hstack_op, filter_op, simple_projection_op, drop_op, written_select, written_hstack, written_filter, written_drop, SourcePlan, own_scans, scans_in}
+use Rattle.plan_dsl.specs.Sources.{Source, written}
+use Rattle.plan_dsl.specs.Refusals.{then_ok, with_kinds}
+use Rattle.plan_dsl.specs.Expansion.{expansions, predicate_expansion}
+use Rattle.plan_dsl.specs.Drops.{drop_leaves}
+use Rattle.plan_dsl.specs.PlanRules.{broken_kinds, where_unbroken, plan_rule, schema_of, schemas_of, IsWellFormed, AllWellFormed}
 use Rattle.plan_dsl.specs.PlanMeaning.{HasTables}
-use Rattle.plan_dsl.specs.Resolving.{output_of_source, expanded_kind, resolved_kind, resolved_op, resolved, all_resolved}
-use Rattle.plan_dsl.specs.Laws.{WrittenIsExpanded, PlacesStay, ResolvedBreaksNothing, NothingIsToldAboveARefusal, ScansStay, QueryHasSchema}
+use Rattle.plan_dsl.specs.Resolving.{expanded_kind, first_columns, resolution, resolved_kind, resolved_op, resolved, all_resolved}
+use Rattle.plan_dsl.specs.Laws.{UnresolvedIsTold, PlacesStay, ResolvedBreaksNothing, NothingIsToldAboveARefusal, ScansStay, QueryHasSchema}
 use Rattle.plan_dsl.proofs.RuleLemmas.{unbroken_kinds}
 use Rattle.plan_dsl.proofs.FrameLemmas.{meaning_has_schema}
-
--- what is written with plans' ops alone is its own expansion
-mutual
-  pub written_is_expanded : WrittenIsExpanded
-  written_is_expanded (node op children) = ap (node op) (all_written_expanded children)
-
-  all_written_expanded : (trees : Trees Op) → all_expanded (all_written trees) ≡ trees
-  all_written_expanded no_more = refl
-  all_written_expanded (more child rest) =
-      let first = written_is_expanded child in
-      let later = all_written_expanded rest in
-      λ i. more (first i) (later i)
-
-outputs_written : (trees : List Expression) → map output_of_source (map written trees) ≡ map named trees
-outputs_written [] = refl
-outputs_written (tree ∷ trees) =
-    let first = written_is_expanded tree in
-    let later = outputs_written trees in
-    λ i. named (first i) ∷ later i
+use Rattle.plan_dsl.proofs.DropLemmas.{drop_is_told}
+use Rattle.plan_dsl.proofs.ExpansionLemmas.{all_written_expanded, predicate_written, unexpanded_told, with_kinds_told}
 
 -- a kind scans what it did
-scans_expanded : (kind : PlanKind Source) → own_scans (expanded_kind kind) ≡ own_scans kind
-scans_expanded (ScanKind (Some number) schema) = refl
-scans_expanded (ScanKind None schema) = refl
-scans_expanded (SelectKind sources) = refl
-scans_expanded (FilterKind source) = refl
-scans_expanded (RefusedKind kinds) = refl
+then_scans : {A K : Type 0} (r : Result A K) (change : A → PlanKind (Named Expression)) (found : PlanKind (Named Expression)) → ((x : A) → own_scans (change x) ≡ []) → then_ok r (λ x. Ok (change x)) ≡ Ok found → own_scans found ≡ []
+then_scans (Ok x) change found none h = let same : found ≡ change x = cc in ap own_scans same ∙ none x
+then_scans (Err kinds) change found none h = absurd cc
+
+scans_expanded : (schema : Columns) (kind : PlanKind Source) (found : PlanKind (Named Expression)) → expanded_kind schema kind ≡ Ok found → own_scans found ≡ own_scans kind
+scans_expanded schema (ScanKind (Some number) own) found h = let same : found ≡ ScanKind (Some number) own = cc in ap own_scans same
+scans_expanded schema (ScanKind None own) found h = let same : found ≡ ScanKind None own = cc in ap own_scans same
+scans_expanded schema (SelectKind sources) found h = then_scans (expansions [] schema sources) (λ trees. SelectKind (map named trees)) found (λ trees. refl) h
+scans_expanded schema (HStackKind sources) found h = then_scans (expansions [] schema sources) (λ trees. HStackKind (map named trees)) found (λ trees. refl) h
+scans_expanded schema (FilterKind source) found h = then_scans (with_kinds (predicate_expansion schema source)) (λ tree. FilterKind (named tree)) found (λ tree. refl) h
+scans_expanded schema (SimpleProjectionKind columns) found h = let same : found ≡ SimpleProjectionKind columns = cc in ap own_scans same
+scans_expanded schema (DropKind selectors strict) found h = then_scans (drop_leaves schema selectors strict) SimpleProjectionKind found (λ columns. refl) h
+scans_expanded schema (RefusedKind kinds) found h = let same : found ≡ RefusedKind kinds = cc in ap own_scans same
+
+scans_of_resolved : (kind : PlanKind Source) (inputs : List (Option Columns)) (found : PlanKind (Named Expression)) → resolution kind inputs ≡ Ok found → own_scans found ≡ own_scans kind
+scans_of_resolved kind inputs found h =
+    elim (list_all is_some inputs) as (λ b. cond b (expanded_kind (first_columns inputs) kind) (Err []) ≡ Ok found → own_scans found ≡ own_scans kind) [ true ↦ scans_expanded (first_columns inputs) kind found | false ↦ λ h. absurd cc ] h
+
+-- a node as it is resolved
+abbrev op_of : Result (PlanKind (Named Expression)) (List ErrorKind) → Option Columns → PlanOp (Named Expression)
+op_of found recorded = record { kind = resolved_kind found; recorded = recorded }
+
+-- whatever it breaks, a refused node has no schema
+without_schema : (kinds : List ErrorKind) → where_unbroken kinds None ≡ None
+without_schema [] = refl
+without_schema (kind ∷ kinds) = refl
 
 module _ (registry : Registry) where
   child_resolved : (inputs : Trees (PlanOp Source)) (number : ℕ) → child_at (all_resolved registry inputs) number ≡ option_map (resolved registry) (child_at inputs number)
@@ -57,24 +63,39 @@ module _ (registry : Registry) where
   place_resolved plan (number ∷ place) = ap (λ t. tree_at t place) (step_resolved plan number) ∙ place_resolved (child_of plan number) place
 
   -- a node over one input that has a schema is resolved to its expansion over the resolved input
-  pub resolved_over : (op : PlanOp Source) (input : SourcePlan) (schema : Columns) → schema_of registry (resolved registry input) ≡ Some schema → resolved registry (node op (more input no_more)) ≡ node (record { kind = expanded_kind op.kind; recorded = op.recorded }) (more (resolved registry input) no_more)
+  pub resolved_over : (op : PlanOp Source) (input : SourcePlan) (schema : Columns) → schema_of registry (resolved registry input) ≡ Some schema → resolved registry (node op (more input no_more)) ≡ node (record { kind = resolved_kind (expanded_kind schema op.kind); recorded = op.recorded }) (more (resolved registry input) no_more)
   resolved_over op input schema there = ap (λ s. node (resolved_op op (s ∷ [])) (more (resolved registry input) no_more)) there
 
-  -- the same of a select and of a filter as they are written
+  -- the same of a select, of an hstack and of a filter as they are written
   pub select_resolved : (trees : List Expression) (input : SourcePlan) (schema : Columns) → schema_of registry (resolved registry input) ≡ Some schema → resolved registry (written_select trees input) ≡ node (select_op (map named trees) None) (more (resolved registry input) no_more)
   select_resolved trees input schema there =
-      resolved_over (select_op (map written trees) None) input schema there ∙ ap (λ outputs. node (select_op outputs None) (more (resolved registry input) no_more)) (outputs_written trees)
+      resolved_over (select_op (map written trees) None) input schema there
+      ∙ ap (λ r. node (op_of (then_ok r (λ outputs. Ok (SelectKind (map named outputs)))) None) (more (resolved registry input) no_more)) (all_written_expanded [] schema trees)
+
+  pub hstack_resolved : (trees : List Expression) (input : SourcePlan) (schema : Columns) → schema_of registry (resolved registry input) ≡ Some schema → resolved registry (written_hstack trees input) ≡ node (hstack_op (map named trees) None) (more (resolved registry input) no_more)
+  hstack_resolved trees input schema there =
+      resolved_over (hstack_op (map written trees) None) input schema there
+      ∙ ap (λ r. node (op_of (then_ok r (λ outputs. Ok (HStackKind (map named outputs)))) None) (more (resolved registry input) no_more)) (all_written_expanded [] schema trees)
 
   pub filter_resolved : (tree : Expression) (input : SourcePlan) (schema : Columns) → schema_of registry (resolved registry input) ≡ Some schema → resolved registry (written_filter tree input) ≡ node (filter_op (named tree)) (more (resolved registry input) no_more)
   filter_resolved tree input schema there =
-      resolved_over (filter_op (written tree)) input schema there ∙ ap (λ t. node (filter_op (named t)) (more (resolved registry input) no_more)) (written_is_expanded tree)
+      resolved_over (filter_op (written tree)) input schema there
+      ∙ ap (λ r. node (op_of (then_ok (with_kinds r) (λ found. Ok (FilterKind (named found)))) None) (more (resolved registry input) no_more)) (predicate_written schema tree)
 
-  abbrev op_by : Bool → PlanOp Source → PlanOp (Named Expression)
-  op_by there op = record { kind = resolved_kind (cond there (Ok (expanded_kind op.kind)) (Err [])); recorded = op.recorded }
+  -- a drop over it is resolved to a simple projection of what it leaves, or is refused
+  pub drop_resolved : (selectors : List Source) (strict : Bool) (input : SourcePlan) (schema columns : Columns) → schema_of registry (resolved registry input) ≡ Some schema → drop_leaves schema selectors strict ≡ Ok columns → resolved registry (written_drop selectors strict input) ≡ node (simple_projection_op columns None) (more (resolved registry input) no_more)
+  drop_resolved selectors strict input schema columns there left =
+      resolved_over (drop_op selectors strict) input schema there
+      ∙ ap (λ r. node (op_of (then_ok r (λ own. Ok (SimpleProjectionKind own))) None) (more (resolved registry input) no_more)) left
+
+  pub drop_refused : (selectors : List Source) (strict : Bool) (input : SourcePlan) (schema : Columns) (kinds : List ErrorKind) → schema_of registry (resolved registry input) ≡ Some schema → drop_leaves schema selectors strict ≡ Err kinds → resolved registry (written_drop selectors strict input) ≡ node (op_of (Err kinds) None) (more (resolved registry input) no_more)
+  drop_refused selectors strict input schema kinds there refused =
+      resolved_over (drop_op selectors strict) input schema there
+      ∙ ap (λ r. node (op_of (then_ok r (λ own. Ok (SimpleProjectionKind own))) None) (more (resolved registry input) no_more)) refused
 
   own_scans_stay : (op : PlanOp Source) (inputs : List (Option Columns)) → IsTrue (is_some (plan_rule registry (resolved_op op inputs) inputs)) → own_scans (resolved_op op inputs).kind ≡ own_scans op.kind
   own_scans_stay op inputs h =
-      elim (list_all is_some inputs) as (λ b. IsTrue (is_some (plan_rule registry (op_by b op) inputs)) → own_scans (op_by b op).kind ≡ own_scans op.kind) [ true ↦ λ h. scans_expanded op.kind | false ↦ λ h. absurd cc ] h
+      elim (resolution op.kind inputs) as (λ r. resolution op.kind inputs ≡ r → IsTrue (is_some (plan_rule registry (op_of r op.recorded) inputs)) → own_scans (resolved_kind r) ≡ own_scans op.kind) [ Ok found ↦ λ e h. scans_of_resolved op.kind inputs found e | Err kinds ↦ λ e h. let none = without_schema (broken_kinds registry (op_of (Err kinds) op.recorded) inputs) in let there : IsTrue (is_some {T = Columns} None) = subst (λ s. IsTrue (is_some s)) none h in absurd cc ] refl h
 
   mutual
     scans_stay : (plan : SourcePlan) → IsWellFormed registry (resolved registry plan) → scans_in (resolved registry plan) ≡ scans_in plan
@@ -93,22 +114,41 @@ module _ (registry : Registry) where
 pub places_stay : PlacesStay
 places_stay registry plan place = place_resolved registry (Some plan) place
 
-abbrev resolution_by : Bool → PlanKind Source → Result (PlanKind (Named Expression)) (List ErrorKind)
-resolution_by there kind = cond there (Ok (expanded_kind kind)) (Err [])
-
-breaks_nothing : (registry : Registry) (op : PlanOp Source) (inputs : List (Option Columns)) (schema : Columns) (b : Bool) → plan_rule registry (op_by registry b op) inputs ≡ Some schema → (kind : PlanKind (Named Expression)) × (resolution_by b op.kind ≡ Ok kind) × (broken_kinds registry (op_by registry b op) inputs ≡ [])
-breaks_nothing registry op inputs schema true h = (expanded_kind op.kind, refl, unbroken_kinds (broken_kinds registry (op_by registry true op) inputs) _ schema h)
-breaks_nothing registry op inputs schema false h = absurd cc
+breaks_nothing : (registry : Registry) (recorded : Option Columns) (inputs : List (Option Columns)) (schema : Columns) (r : Result (PlanKind (Named Expression)) (List ErrorKind)) → plan_rule registry (op_of r recorded) inputs ≡ Some schema → (kind : PlanKind (Named Expression)) × (r ≡ Ok kind) × (broken_kinds registry (op_of r recorded) inputs ≡ [])
+breaks_nothing registry recorded inputs schema (Ok kind) h = (kind, refl, unbroken_kinds (broken_kinds registry (op_of (Ok kind) recorded) inputs) _ schema h)
+breaks_nothing registry recorded inputs schema (Err kinds) h = let none = without_schema (broken_kinds registry (op_of (Err kinds) recorded) inputs) in absurd cc
 
 pub resolved_breaks_nothing : ResolvedBreaksNothing
-resolved_breaks_nothing registry op inputs schema h = breaks_nothing registry op inputs schema (list_all is_some inputs) h
+resolved_breaks_nothing registry op inputs schema h = breaks_nothing registry op.recorded inputs schema (resolution op.kind inputs) h
 
-nothing_told : (registry : Registry) (op : PlanOp Source) (inputs : List (Option Columns)) (b : Bool) → b ≡ false → (plan_rule registry (op_by registry b op) inputs ≡ None) × (broken_kinds registry (op_by registry b op) inputs ≡ [])
+nothing_told : (registry : Registry) (op : PlanOp Source) (inputs : List (Option Columns)) (b : Bool) → b ≡ false → let found = op_of (cond b (expanded_kind (first_columns inputs) op.kind) (Err [])) op.recorded in (plan_rule registry found inputs ≡ None) × (broken_kinds registry found inputs ≡ [])
 nothing_told registry op inputs true e = absurd cc
 nothing_told registry op inputs false e = (refl, refl)
 
 pub nothing_is_told : NothingIsToldAboveARefusal
 nothing_is_told registry op inputs h = nothing_told registry op inputs (list_all is_some inputs) h
+
+-- what isn't resolved over inputs that have schemas is refused by some kind
+there_are_schemas : (schemas : List Columns) → list_all is_some (map Some schemas) ≡ true
+there_are_schemas [] = refl
+there_are_schemas (schema ∷ schemas) = there_are_schemas schemas
+
+then_told : {A B : Type 0} (r : Result A (List ErrorKind)) (change : A → B) (kinds : List ErrorKind) → ((others : List ErrorKind) → r ≡ Err others → (told : ErrorKind) × Contains others told) → then_ok r (λ x. Ok (change x)) ≡ Err kinds → (told : ErrorKind) × Contains kinds told
+then_told (Ok x) change kinds told h = absurd cc
+then_told (Err others) change kinds told h = let same : others ≡ kinds = cc in subst (λ l. (first : ErrorKind) × Contains l first) same (told others refl)
+
+kind_is_told : (schema : Columns) (kind : PlanKind Source) (kinds : List ErrorKind) → expanded_kind schema kind ≡ Err kinds → (told : ErrorKind) × Contains kinds told
+kind_is_told schema (ScanKind table own) kinds h = absurd cc
+kind_is_told schema (SelectKind sources) kinds h = then_told (expansions [] schema sources) (λ trees. SelectKind (map named trees)) kinds (unexpanded_told [] schema sources) h
+kind_is_told schema (HStackKind sources) kinds h = then_told (expansions [] schema sources) (λ trees. HStackKind (map named trees)) kinds (unexpanded_told [] schema sources) h
+kind_is_told schema (FilterKind source) kinds h = then_told (with_kinds (predicate_expansion schema source)) (λ tree. FilterKind (named tree)) kinds (with_kinds_told (predicate_expansion schema source)) h
+kind_is_told schema (SimpleProjectionKind columns) kinds h = absurd cc
+kind_is_told schema (DropKind selectors strict) kinds h = then_told (drop_leaves schema selectors strict) SimpleProjectionKind kinds (drop_is_told schema selectors strict) h
+kind_is_told schema (RefusedKind others) kinds h = absurd cc
+
+pub unresolved_is_told : UnresolvedIsTold
+unresolved_is_told kind inputs kinds h =
+    kind_is_told (first_columns (map Some inputs)) kind kinds (ap (λ b. cond b (expanded_kind (first_columns (map Some inputs)) kind) (Err [])) (sym (there_are_schemas inputs)) ∙ h)
 
 pub scans_are_kept : ScansStay
 scans_are_kept registry plan h = scans_stay registry plan h

@@ -1,31 +1,40 @@
 -- Queries' plans, resolved: the plans of which rules, schemas and meaning are asked.
 -- Each node of a query's plan is resolved over the schemas of its inputs. One that can't be is refused by the kinds
--- of rule that it breaks. A node over an input without schema can't be, and breaks none: the input's node tells why.
-use Rattle.std.specs.Prelude.{List, Option, Result, Ok, Err, is_some, if◌then◌else◌, [], map}
+-- of rule that it breaks: those for which its expressions or selectors can't be expanded, or a name of theirs must stand
+-- and doesn't. A node over an input without schema can't be resolved, and breaks none: the input's node tells why.
+use Rattle.std.specs.Prelude.{List, Option, Some, Result, Ok, Err, is_some, if◌then◌else◌, [], ◌∷◌, map}
 use Rattle.std.specs.List.{list_all}
 use Rattle.plan_types.specs.Schemas.{Columns}
 use Rattle.plan_types.specs.declared.error.ErrorKind.{ErrorKind}
 use Rattle.plan_dsl.specs.Registry.{Registry}
 use Rattle.plan_dsl.specs.Trees.{Trees, node, no_more, more}
 use Rattle.plan_dsl.specs.Ops.{Expression}
-use Rattle.plan_dsl.specs.Plans.{PlanKind, ScanKind, SelectKind, FilterKind, RefusedKind, PlanOp, Plan, Named, named, SourcePlan}
-use Rattle.plan_dsl.specs.Sources.{Source, expanded}
+use Rattle.plan_dsl.specs.Plans.{PlanKind, ScanKind, SelectKind, HStackKind, FilterKind, SimpleProjectionKind, DropKind, RefusedKind, PlanOp, Plan, Named, named, SourcePlan}
+use Rattle.plan_dsl.specs.Sources.{Source}
+use Rattle.plan_dsl.specs.Refusals.{then_ok, with_kinds}
+use Rattle.plan_dsl.specs.Expansion.{expansions, predicate_expansion}
+use Rattle.plan_dsl.specs.Drops.{drop_leaves}
 use Rattle.plan_dsl.specs.PlanRules.{schemas_of}
 
--- a source expression, expanded, under its own name
-abbrev pub output_of_source : Source → Named Expression
-output_of_source source = named (expanded source)
+-- a kind with its expressions expanded over a schema, each under its own name, and a drop as a simple projection of what
+-- it leaves; or the kinds by which it is refused
+abbrev pub expanded_kind : Columns → PlanKind Source → Result (PlanKind (Named Expression)) (List ErrorKind)
+expanded_kind schema (ScanKind table own) = Ok (ScanKind table own)
+expanded_kind schema (SelectKind sources) = then_ok (expansions [] schema sources) (λ trees. Ok (SelectKind (map named trees)))
+expanded_kind schema (HStackKind sources) = then_ok (expansions [] schema sources) (λ trees. Ok (HStackKind (map named trees)))
+expanded_kind schema (FilterKind source) = then_ok (with_kinds (predicate_expansion schema source)) (λ tree. Ok (FilterKind (named tree)))
+expanded_kind schema (SimpleProjectionKind columns) = Ok (SimpleProjectionKind columns)
+expanded_kind schema (DropKind selectors strict) = then_ok (drop_leaves schema selectors strict) (λ columns. Ok (SimpleProjectionKind columns))
+expanded_kind schema (RefusedKind kinds) = Ok (RefusedKind kinds)
 
--- a kind with each of its expressions expanded
-abbrev pub expanded_kind : PlanKind Source → PlanKind (Named Expression)
-expanded_kind (ScanKind table schema) = ScanKind table schema
-expanded_kind (SelectKind sources) = SelectKind (map output_of_source sources)
-expanded_kind (FilterKind source) = FilterKind (output_of_source source)
-expanded_kind (RefusedKind kinds) = RefusedKind kinds
+-- the columns of the first input, over which expressions are expanded; there are none where there is no input
+abbrev pub first_columns : List (Option Columns) → Columns
+first_columns (Some schema ∷ inputs) = schema
+first_columns inputs = []
 
 -- a kind over inputs of these schemas: its expressions expanded, or the kinds of rule that expansion breaks
 abbrev pub resolution : PlanKind Source → List (Option Columns) → Result (PlanKind (Named Expression)) (List ErrorKind)
-resolution kind inputs = if list_all is_some inputs then Ok (expanded_kind kind) else Err []
+resolution kind inputs = if list_all is_some inputs then expanded_kind (first_columns inputs) kind else Err []
 
 abbrev pub resolved_kind : Result (PlanKind (Named Expression)) (List ErrorKind) → PlanKind (Named Expression)
 resolved_kind (Ok kind) = kind

@@ -1,0 +1,100 @@
+-- Expansion: of what is written with plans' ops alone, and of lists.
+use Rattle.std.proofs.Common.{◌≡◌, List, [], ◌∷◌, ◌++◌, map, Result, Ok, Err, refl, sym, ap, ◌∙◌, subst}
+use Rattle.std.specs.List.{Contains}
+use Rattle.std.proofs.lemmas.List.{append_assoc}
+use Rattle.std.proofs.lemmas.List.Elements.{Contains-append_left, Contains-push}
+use Rattle.plan_types.specs.Schemas.{Name, Columns}
+use Rattle.plan_types.specs.declared.error.ErrorKind.{ErrorKind}
+use Rattle.plan_dsl.specs.Trees.{Trees, node, no_more, more}
+use Rattle.plan_dsl.specs.Ops.{Op, Expression}
+use Rattle.plan_dsl.specs.Refusals.{then_ok, each_ok, with_kinds, joined, lists_joined}
+use Rattle.plan_dsl.specs.Sources.{Source, written, all_written}
+use Rattle.plan_dsl.specs.Expansion.{markers_in, all_markers_in, repeated_for, plain, all_plain, aliased, expansion, expansions, only_one, predicate_expansion}
+use Rattle.plan_dsl.specs.Laws.{WrittenIsExpanded, ListsAreExpandedApart}
+
+-- ---- what is written with plans' ops alone
+
+mutual
+  no_markers : (tree : Expression) → markers_in (written tree) ≡ []
+  no_markers (node op children) = none_have_markers children
+
+  none_have_markers : (trees : Trees Op) → all_markers_in (all_written trees) ≡ []
+  none_have_markers no_more = refl
+  none_have_markers (more child rest) =
+      let first = no_markers child in
+      let later = none_have_markers rest in
+      λ i. first i ++ later i
+
+mutual
+  written_is_plain : (tree : Expression) → plain (written tree) ≡ Ok tree
+  written_is_plain (node op children) = ap (λ r. then_ok r (λ inputs. Ok (node op inputs))) (all_written_plain children)
+
+  all_written_plain : (trees : Trees Op) → all_plain (all_written trees) ≡ Ok trees
+  all_written_plain no_more = refl
+  all_written_plain (more child rest) =
+      let one = written_is_plain child in
+      let later = all_written_plain rest in
+      λ i. then_ok (one i) (λ first. then_ok (later i) (λ others. Ok (more first others)))
+
+pub written_is_expanded : WrittenIsExpanded
+written_is_expanded keys schema (node op children) =
+    let source : Source = written (node op children) in
+    ap (λ markers. then_ok (repeated_for keys schema source markers) (each_ok aliased)) (no_markers (node op children))
+    ∙ ap (λ r. then_ok r (λ found. Ok (found ∷ []))) (written_is_plain (node op children))
+
+pub all_written_expanded : (keys : List Name) (schema : Columns) (trees : List Expression) → expansions keys schema (map written trees) ≡ Ok trees
+all_written_expanded keys schema [] = refl
+all_written_expanded keys schema (tree ∷ trees) =
+    let first = written_is_expanded keys schema tree in
+    let later = all_written_expanded keys schema trees in
+    λ i. joined (with_kinds (first i)) (later i)
+
+pub predicate_written : (schema : Columns) (tree : Expression) → predicate_expansion schema (written tree) ≡ Ok tree
+predicate_written schema tree = ap (λ r. then_ok r only_one) (written_is_expanded [] schema tree)
+
+-- ---- lists
+
+nothing_joined : {A : Type 0} (r : Result (List A) (List ErrorKind)) → r ≡ joined (Ok []) r
+nothing_joined (Ok items) = refl
+nothing_joined (Err kinds) = refl
+
+joined_apart : {A : Type 0} (x y z : Result (List A) (List ErrorKind)) → joined x (joined y z) ≡ joined (joined x y) z
+joined_apart (Ok xs) (Ok ys) (Ok zs) = ap Ok (sym (append_assoc xs ys zs))
+joined_apart (Err xs) (Err ys) (Err zs) = ap Err (sym (append_assoc xs ys zs))
+joined_apart (Ok xs) (Ok ys) (Err zs) = refl
+joined_apart (Ok xs) (Err ys) (Ok zs) = refl
+joined_apart (Ok xs) (Err ys) (Err zs) = refl
+joined_apart (Err xs) (Ok ys) (Ok zs) = refl
+joined_apart (Err xs) (Ok ys) (Err zs) = refl
+joined_apart (Err xs) (Err ys) (Ok zs) = refl
+
+pub expanded_apart : ListsAreExpandedApart
+expanded_apart keys schema [] others = nothing_joined (expansions keys schema others)
+expanded_apart keys schema (source ∷ sources) others =
+    ap (joined (with_kinds (expansion keys schema source))) (expanded_apart keys schema sources others)
+    ∙ joined_apart (with_kinds (expansion keys schema source)) (expansions keys schema sources) (expansions keys schema others)
+
+-- ---- kinds
+
+-- a refusal of lists is one by some kind
+first_told : (kind : ErrorKind) (kinds others : List ErrorKind) → (kind ∷ kinds) ≡ others → (told : ErrorKind) × Contains others told
+first_told kind kinds others h = (kind, subst (λ l. Contains l kind) h (Contains-append_left (kind ∷ []) kinds kind (Contains-push [] kind)))
+
+-- where the first is refused by a kind, or the rest by some, so are both
+joined_told : {A : Type 0} (first : Result (List A) ErrorKind) (rest : Result (List A) (List ErrorKind)) (kinds : List ErrorKind) → ((others : List ErrorKind) → rest ≡ Err others → (told : ErrorKind) × Contains others told) → joined (with_kinds first) rest ≡ Err kinds → (told : ErrorKind) × Contains kinds told
+joined_told (Err kind) (Err others) kinds later h = first_told kind others kinds cc
+joined_told (Err kind) (Ok items) kinds later h = first_told kind [] kinds cc
+joined_told (Ok found) (Err others) kinds later h = later kinds h
+joined_told (Ok found) (Ok items) kinds later h = absurd cc
+
+-- so lists of which one is refused are refused by some kind
+pub lists_told : {A B : Type 0} (definition : A → Result (List B) ErrorKind) (items : List A) (kinds : List ErrorKind) → lists_joined definition items ≡ Err kinds → (told : ErrorKind) × Contains kinds told
+lists_told definition [] kinds h = absurd cc
+lists_told definition (item ∷ items) kinds h = joined_told (definition item) (lists_joined definition items) kinds (lists_told definition items) h
+
+pub unexpanded_told : (keys : List Name) (schema : Columns) (sources : List Source) (kinds : List ErrorKind) → expansions keys schema sources ≡ Err kinds → (told : ErrorKind) × Contains kinds told
+unexpanded_told keys schema sources kinds h = lists_told (expansion keys schema) sources kinds h
+
+pub with_kinds_told : {A : Type 0} (r : Result A ErrorKind) (kinds : List ErrorKind) → with_kinds r ≡ Err kinds → (told : ErrorKind) × Contains kinds told
+with_kinds_told (Ok found) kinds h = absurd cc
+with_kinds_told (Err kind) kinds h = first_told kind [] kinds cc

@@ -1,0 +1,115 @@
+-- Expansion of expressions.
+-- All markers of an expression must be one, and it is repeated with each name for which they stand, put in place of all
+-- of them. Then a renaming form at its top becomes an alias, and is refused below. What comes out is a list of expressions
+-- of plans' ops alone, by its type.
+-- Two steps come with functions, and are none yet: that the inputs of one that goes over its inputs are expanded in place
+-- before all else, and that a struct's field by its number becomes one by its name, before renaming forms are looked at.
+use Rattle.std.specs.Prelude.{List, [], ◌∷◌, ◌++◌, map, Option, Some, None, Bool, true, false, Result, Ok, Err, if◌then◌else◌}
+use Rattle.std.specs.List.{list_all}
+use Rattle.std.specs.Option.{option_or}
+use Rattle.plan_types.specs.Schemas.{Name, Columns}
+use Rattle.plan_types.specs.declared.error.ErrorKind.{ErrorKind}
+use Rattle.plan_types.specs.declared.error.ErrorKind.TheVariants.{InvalidOperation, ComputeError}
+use Rattle.plan_dsl.specs.Trees.{Trees, node, no_more, more, fold}
+use Rattle.plan_dsl.specs.Ops.{Op, ColumnOp, AliasOp, Expression}
+use Rattle.plan_dsl.specs.Refusals.{then_ok, each_ok, lists_joined}
+use Rattle.plan_dsl.specs.Sources.{Renaming, KeepRoot, AddPrefix, AddSuffix, SetName, SourceOp, Plain, WildcardOp, ColumnsOp, DtypeColumnOp, IndexColumnOp, NthOp, ExcludeOp, SelectorOp, RenameOp, Source, same_source}
+use Rattle.plan_dsl.specs.Markers.{marker_names}
+
+-- ---- a name in place of markers
+
+abbrev pub is_marker : SourceOp → Bool
+is_marker WildcardOp = true
+is_marker (ColumnsOp names) = true
+is_marker (DtypeColumnOp types) = true
+is_marker (IndexColumnOp places) = true
+is_marker (NthOp place) = true
+is_marker (ExcludeOp excluded) = true
+is_marker SelectorOp = true
+is_marker op = false
+
+abbrev mutual
+  -- the markers in an expression; what stands inside one is its own
+  pub markers_in : Source → List Source
+  markers_in (node op children) = if is_marker op then node op children ∷ [] else all_markers_in children
+
+  pub all_markers_in : Trees SourceOp → List Source
+  all_markers_in no_more = []
+  all_markers_in (more child rest) = markers_in child ++ all_markers_in rest
+
+abbrev mutual
+  -- the expression with the column of that name in place of all its markers
+  pub with_column_put : Name → Source → Source
+  with_column_put name (node op children) = if is_marker op then node (Plain (ColumnOp name)) no_more else node op (all_with_column_put name children)
+
+  pub all_with_column_put : Name → Trees SourceOp → Trees SourceOp
+  all_with_column_put name no_more = no_more
+  all_with_column_put name (more child rest) = more (with_column_put name child) (all_with_column_put name rest)
+
+-- the expression, repeated for these markers of it: once as it is, where there are none
+abbrev pub repeated_for : List Name → Columns → Source → List Source → Result (List Source) ErrorKind
+repeated_for keys schema source [] = Ok (source ∷ [])
+repeated_for keys schema source (marker ∷ others) =
+    if list_all (same_source marker) others then then_ok (marker_names keys schema marker) (λ names. Ok (map (λ name. with_column_put name source) names)) else Err InvalidOperation
+
+abbrev pub repeated : List Name → Columns → Source → Result (List Source) ErrorKind
+repeated keys schema source = repeated_for keys schema source (markers_in source)
+
+-- ---- a name in place of a renaming form
+
+abbrev mutual
+  -- an expression with plans' ops alone
+  pub plain : Source → Result Expression ErrorKind
+  plain (node (Plain op) children) = then_ok (all_plain children) (λ inputs. Ok (node op inputs))
+  plain tree = Err InvalidOperation
+
+  pub all_plain : Trees SourceOp → Result (Trees Op) ErrorKind
+  all_plain no_more = Ok no_more
+  all_plain (more child rest) = then_ok (plain child) (λ first. then_ok (all_plain rest) (λ others. Ok (more first others)))
+
+abbrev pub first_root : List (Option Name) → Option Name
+first_root [] = None
+first_root (root ∷ roots) = option_or root (first_root roots)
+
+abbrev pub root_of_node : Op → List (Option Name) → Option Name
+root_of_node (ColumnOp name) roots = Some name
+root_of_node op roots = first_root roots
+
+-- the name of an expression's first column, in the order of children
+abbrev pub root_name : Expression → Option Name
+root_name tree = fold root_of_node tree
+
+-- the name that a renaming form gives, by that of the first column
+abbrev pub name_given : Renaming → Option Name → Result Name ErrorKind
+name_given (SetName text) root = Ok text
+name_given KeepRoot (Some name) = Ok name
+name_given (AddPrefix text) (Some name) = Ok (text ++ name)
+name_given (AddSuffix text) (Some name) = Ok (name ++ text)
+name_given renaming None = Err InvalidOperation
+
+-- an expression under the alias that a renaming form gives it
+abbrev pub under_alias : Renaming → Expression → Result Expression ErrorKind
+under_alias renaming tree = then_ok (name_given renaming (root_name tree)) (λ name. Ok (node (AliasOp name) (more tree no_more)))
+
+-- an expression without markers, with the renaming form at its top made an alias
+abbrev pub aliased : Source → Result Expression ErrorKind
+aliased (node (RenameOp renaming) (more source no_more)) = then_ok (plain source) (under_alias renaming)
+aliased source = plain source
+
+-- ---- expansion
+
+-- what an expression is expanded to
+abbrev pub expansion : List Name → Columns → Source → Result (List Expression) ErrorKind
+expansion keys schema source = then_ok (repeated keys schema source) (each_ok aliased)
+
+-- what expressions are expanded to, or the kinds of all that aren't
+abbrev pub expansions : List Name → Columns → List Source → Result (List Expression) (List ErrorKind)
+expansions keys schema sources = lists_joined (expansion keys schema) sources
+
+abbrev pub only_one : List Expression → Result Expression ErrorKind
+only_one (tree ∷ []) = Ok tree
+only_one trees = Err ComputeError
+
+-- the one expression to which a predicate is expanded
+abbrev pub predicate_expansion : Columns → Source → Result Expression ErrorKind
+predicate_expansion schema source = then_ok (expansion [] schema source) only_one
