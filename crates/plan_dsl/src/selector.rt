@@ -1,0 +1,153 @@
+//! Selectors: of which columns a call is.
+ghost use Rattle.std.specs.Prelude.{◌≡◌, map, IfOk, IfErr};
+ghost use Rattle.std.specs.List.{fold};
+ghost use Rattle.plan_types.specs.Errors.{no_memory};
+ghost use Rattle.plan_dsl.specs.SameExpressions.{tree_writes};
+ghost use Rattle.plan_dsl.specs.Sources.{same_source};
+ghost use Rattle.plan_dsl.specs.Selectors.{selector_tree, selector_trees, source_op_writes};
+
+use crate::expr::Expr;
+use plan_types::error::PlanError;
+use std::alloc::Global;
+use std::hash::{Hash, Hasher};
+
+/// Selectors, in order.
+#[derive(Drop)]
+pub struct Selectors {
+    pub items: Vec<Selector>,
+}
+
+impl Selectors {
+    pub fn try_clone(&self, alloc: Global) -> Result<Selectors, PlanError>
+        ensures ok { IfOk result (λ copy. selector_trees copy ≡ selector_trees self.now) }
+        ensures err { IfErr result (λ error. error ≡ no_memory) }
+    {
+        let mut items = Vec::new(alloc);
+        for selector in self.items.as_slice() {
+            let copy = selector.try_clone(alloc)?;
+            items.push(copy)?;
+        }
+        Ok(Selectors { items })
+    }
+}
+
+/// A selector, which makes a list of names. Contracts see its tree. Two selectors are equal where these are, and each
+/// node is hashed.
+#[derive(Drop)]
+pub enum Selector {
+    /// The name of a column.
+    Root(Box<Expr>),
+    /// The names of the first, and then those that are new in the second.
+    Add(Box<Selector>, Box<Selector>),
+    /// The names of the first that the second lacks.
+    Sub(Box<Selector>, Box<Selector>),
+    /// The names that one has and the other lacks, those of the first before those of the second.
+    ExclusiveOr(Box<Selector>, Box<Selector>),
+    /// The names of the first that the second has.
+    Intersect(Box<Selector>, Box<Selector>),
+}
+
+// A copy of a selector, by its kind: those of two selectors are listed.
+macro_rules! copied {
+    ($selector:expr, $alloc:expr, $($kind:ident)*) => {
+        match $selector {
+            Selector::Root(expr) => {
+                let expr = expr.try_clone($alloc)?;
+                Ok(Selector::Root(Box::new($alloc, expr)?))
+            }
+            $(Selector::$kind(first, second) => {
+                let first = Box::new($alloc, first.try_clone($alloc)?)?;
+                let second = Box::new($alloc, second.try_clone($alloc)?)?;
+                Ok(Selector::$kind(first, second))
+            })*
+        }
+    };
+}
+
+// Whether two selectors are one tree, by their kind.
+macro_rules! compared {
+    ($selector:expr, $other:expr, $($kind:ident)*) => {
+        match ($selector, $other) {
+            (Selector::Root(expr), Selector::Root(own)) => expr.is_same(own),
+            $((Selector::$kind(first, second), Selector::$kind(own, own_second)) => {
+                first.is_same(own) && second.is_same(own_second)
+            })*
+            _ => false,
+        }
+    };
+}
+
+// Feeds each node to the hasher, before those below it, by the kind: of two selectors each is listed with its number.
+macro_rules! fed {
+    ($selector:expr, $state:expr, $($kind:ident $number:literal)*) => {
+        match $selector {
+            Selector::Root(expr) => {
+                $state.write_u8(0);
+                expr.feed($state);
+            }
+            $(Selector::$kind(first, second) => {
+                $state.write_u8($number);
+                first.feed($state);
+                second.feed($state);
+            })*
+        }
+    };
+}
+
+impl Selector {
+    pub fn try_clone(&self, alloc: Global) -> Result<Selector, PlanError>
+        ensures ok { IfOk result (λ copy. selector_tree copy ≡ selector_tree self.now) }
+        ensures err { IfErr result (λ error. error ≡ no_memory) }
+    {
+        copied!(self, alloc, Add Sub ExclusiveOr Intersect)
+    }
+
+    // Whether both are one tree: the same nodes in the same places.
+    fn is_same(&self, other: &Selector) -> bool
+        ensures { result ≡ same_source (selector_tree self.now) (selector_tree other.now) }
+    {
+        compared!(self, other, Add Sub ExclusiveOr Intersect)
+    }
+
+    // Feeds each node to the hasher, before those below it.
+    fn feed<H: Hasher>(&self, state: &mut H)
+        ensures { state.new ≡ fold H.write state.old (tree_writes source_op_writes (selector_tree self.now)) }
+    {
+        fed!(self, state, Add 1 Sub 2 ExclusiveOr 3 Intersect 4);
+    }
+}
+
+impl PartialEq for Selector {
+    ghost use Rattle.std.specs.Cmp.{partial_equiv_from_equiv};
+    ghost use Rattle.plan_dsl.specs.Sources.{same_source};
+    ghost use Rattle.plan_dsl.specs.Selectors.{selector_tree};
+    ghost use Rattle.plan_dsl.specs.SelectorLaws.{same_selector_is_equivalence};
+
+    ghost eq = { λ a b. same_source (selector_tree a) (selector_tree b) };
+
+    ghost laws = { partial_equiv_from_equiv same_selector_is_equivalence };
+
+    fn eq(&self, other: &Selector) -> bool {
+        self.is_same(other)
+    }
+}
+
+impl Eq for Selector {
+    ghost use Rattle.plan_dsl.specs.SelectorLaws.{same_selector_is_equivalence};
+
+    ghost laws = { same_selector_is_equivalence };
+}
+
+impl Hash for Selector {
+    ghost use Rattle.plan_dsl.specs.SameExpressions.{tree_writes};
+    ghost use Rattle.plan_dsl.specs.Selectors.{selector_tree, source_op_writes};
+    ghost use Rattle.plan_dsl.specs.SelectorLaws.{same_selector_hash};
+
+    ghost hash_input = { λ a. tree_writes source_op_writes (selector_tree a) };
+
+    ghost respects_eq = { same_selector_hash };
+
+    fn hash<H: Hasher>(&self, state: &mut H) {
+        self.feed(state);
+    }
+}
