@@ -1,28 +1,33 @@
 -- A plan's node over frames of the schemas of its inputs gives a frame of its own schema.
 use Rattle.std.proofs.Common.{◌≡◌, ℕ, zero, suc, List, [], ◌∷◌, ◌++◌, map, replicate, slice_get, Option, Some, None, Bool, true, false, ◌&&◌, ◌||◌, ◌==◌, length, cond, IsTrue, Result, Ok, Err, refl, sym, ap, ◌∙◌, subst}
-use Rattle.std.specs.List.{AllByRecursion, flat_map}
-use Rattle.plan_types.specs.Types.{Ty}
-use Rattle.plan_types.specs.Schemas.{Name, Columns, HasDistinctNames}
+use Rattle.std.specs.List.{AllByRecursion, flat_map, list_all}
+use Rattle.std.specs.Option.{option_map, option_map_or}
+use Rattle.std.proofs.lemmas.Bool.{or_parts}
+use Rattle.std.proofs.lemmas.Cmp.{nat_list_eq_equiv}
+use Rattle.plan_types.specs.Types.{Ty, same_type}
+use Rattle.plan_types.specs.TypeLaws.{same_type_exact}
+use Rattle.plan_types.specs.Schemas.{Name, Columns, same_name, type_at, with_column, IsNewName, HasDistinctNames, is_among, repeats, names_of}
 use Rattle.plan_types.specs.Values.{Val, fits, all_fit}
 use Rattle.plan_types.specs.Outcomes.{Outcome, Done, Fault, Stuck, then_do, Meets}
-use Rattle.plan_types.specs.Frames.{Row, Frame, RowFits, HasNoRowsWithoutColumns, IsFrame, IsFrameOf, empty_frame, row_numbers}
+use Rattle.plan_types.specs.Frames.{Row, Frame, RowFits, HasNoRowsWithoutColumns, IsFrame, IsFrameOf, value_in, empty_frame, row_numbers}
 use Rattle.plan_types.specs.declared.error.ErrorKind.{ErrorKind}
-use Rattle.plan_types.proofs.ValueLemmas.{meets_then}
+use Rattle.plan_types.proofs.SchemaLemmas.{IsNewName-head, IsNewName-tail, test_from_distinct}
+use Rattle.plan_types.proofs.ValueLemmas.{meets_then, value_in_fits}
 use Rattle.plan_dsl.specs.Registry.{Registry}
 use Rattle.plan_dsl.specs.Trees.{Trees, node, no_more, more, fold_all}
 use Rattle.plan_dsl.specs.Ops.{Expression}
-use Rattle.plan_dsl.specs.Plans.{Named, PlanKind, ScanKind, SelectKind, FilterKind, PlanOp, Plan, Scan, select_op, filter_op, own_scans, scans_in}
+use Rattle.plan_dsl.specs.Plans.{Named, PlanKind, ScanKind, SelectKind, HStackKind, FilterKind, SimpleProjectionKind, PlanOp, Plan, Scan, select_op, filter_op, own_scans, scans_in}
 use Rattle.plan_dsl.specs.Literals.{settled}
 use Rattle.plan_dsl.specs.Typing.{Typed, typing}
 use Rattle.plan_dsl.specs.Meaning.{meaning}
 use Rattle.plan_dsl.specs.Kernels.{stretched, at_length, in_front}
 use Rattle.plan_dsl.specs.Picks.{is_true, where_true}
-use Rattle.plan_dsl.specs.PlanKernels.{Series, series_typed, all_series, shared_length, rows_of, series_columns, framed, selected, table_frame, scanned, frame_by, plan_kernel, kept_rows, filtered_on, filtered}
-use Rattle.plan_dsl.specs.PlanRules.{broken_kinds, scan_kinds, column_before, columns_of, schema_by, plan_rule, schema_of, schemas_of, IsWellFormed, AllWellFormed}
+use Rattle.plan_dsl.specs.PlanKernels.{Series, series_typed, all_series, shared_length, rows_of, series_columns, framed, selected, table_frame, scanned, frame_by, plan_kernel, row_with, rows_with, frame_with_column, stacked, hstacked_on, hstacked, kept_rows, filtered_on, filtered, row_in, projected_on, projected}
+use Rattle.plan_dsl.specs.PlanRules.{broken_kinds, scan_kinds, stands_in, projection_kinds, column_before, columns_of, with_columns, schema_by, plan_rule, schema_of, schemas_of, IsWellFormed, AllWellFormed}
 use Rattle.plan_dsl.specs.PlanMeaning.{by_meaning, source_meaning, HasTable, HasTables, FitsPlan, MeetsWhere}
-use Rattle.plan_dsl.specs.Laws.{AreOf, MeaningHasSchema}
+use Rattle.plan_dsl.specs.Laws.{AreOf, MeaningHasSchema, OwnColumnsGiveTheFrame}
 use Rattle.plan_dsl.proofs.FitLemmas.{meaning_has_type}
-use Rattle.plan_dsl.proofs.RuleLemmas.{unbroken_kinds, unbroken_schema, scan_distinct, selected_distinct, predicate_typed, well_formed_schema}
+use Rattle.plan_dsl.proofs.RuleLemmas.{unbroken_kinds, unbroken_schema, scan_distinct, selected_distinct, projection_stands, projection_distinct, predicate_typed, well_formed_schema}
 
 -- each input has a schema, and gives a frame of it unless there is a fault
 abbrev pub AllMeet : List (Option Columns) → List (Outcome Frame) → Type 0
@@ -173,6 +178,59 @@ empty_meets own schema e distinct = record {
 without_columns : (schema : Columns) → [] ≡ schema → IsFrameOf schema empty_frame
 without_columns schema e = record { schema_is = e; frame_is = record { distinct = tt; fitting = tt; bare = refl } }
 
+-- a column that is put in leaves the names distinct
+other_is_new : (cs : Columns) (name other : Name) (type : Ty) → IsNewName cs other → same_name other name ≡ false → IsNewName (with_column cs name type) other
+other_is_new [] name other type new apart = ap (λ b. cond b (Some type) None) apart
+other_is_new (c ∷ cs) name other type new apart =
+    let head = IsNewName-head c cs other new in
+    let tail = IsNewName-tail c cs other new in
+    elim (same_name name c.0) as (λ b. IsNewName (cond b ((c.0, type) ∷ cs) (c ∷ with_column cs name type)) other) [ true ↦ ap (λ b. cond b (Some type) (type_at cs other)) head ∙ tail | false ↦ ap (λ b. cond b (Some c.1) (type_at (with_column cs name type) other)) head ∙ other_is_new cs name other type tail apart ]
+
+distinct_with : (cs : Columns) (name : Name) (type : Ty) → HasDistinctNames cs → HasDistinctNames (with_column cs name type)
+distinct_with [] name type h = (refl, tt)
+distinct_with (c ∷ cs) name type h =
+    elim (same_name name c.0) as (λ b. same_name name c.0 ≡ b → HasDistinctNames (cond b ((c.0, type) ∷ cs) (c ∷ with_column cs name type))) [ true ↦ λ e. h | false ↦ λ e. (other_is_new cs name c.0 type h.0 (nat_list_eq_equiv.symm c.0 name ∙ e), distinct_with cs name type h.1) ] refl
+
+-- and rows with a fitting value in it fit
+row_with_fits : (cs : Columns) (name : Name) (type : Ty) (value : Val) (row : Row) → IsTrue (fits value type) → RowFits cs row → RowFits (with_column cs name type) (row_with cs name value row)
+row_with_fits [] name type value row h k = (h, tt)
+row_with_fits (c ∷ cs) name type value [] h k = absurd k
+row_with_fits (c ∷ cs) name type value (first ∷ row) h k =
+    elim (same_name name c.0) as (λ b. RowFits (cond b ((c.0, type) ∷ cs) (c ∷ with_column cs name type)) (cond b (value ∷ row) (first ∷ row_with cs name value row))) [ true ↦ (h, k.1) | false ↦ (k.0, row_with_fits cs name type value row h k.1) ]
+
+rows_with_fit : (cs : Columns) (name : Name) (type : Ty) (values : List Val) (rows : List Row) → IsTrue (all_fit values type) → AllByRecursion (RowFits cs) rows → AllByRecursion (RowFits (with_column cs name type)) (rows_with cs name values rows)
+rows_with_fit cs name type [] rows h k = tt
+rows_with_fit cs name type (value ∷ values) [] h k = tt
+rows_with_fit cs name type (value ∷ values) (row ∷ rows) h k =
+    (row_with_fits cs name type value row (first_of_both (fits value type) (all_fit values type) h) k.0, rows_with_fit cs name type values rows (second_of_both (fits value type) (all_fit values type) h) k.1)
+
+has_a_column : (cs : Columns) (name : Name) (type : Ty) (rows : List Row) → HasNoRowsWithoutColumns (with_column cs name type) rows
+has_a_column [] name type rows = tt
+has_a_column (c ∷ cs) name type rows =
+    elim (same_name name c.0) as (λ b. HasNoRowsWithoutColumns (cond b ((c.0, type) ∷ cs) (c ∷ with_column cs name type)) rows) [ true ↦ tt | false ↦ tt ]
+
+column_in_frame : (schema : Columns) (frame : Frame) (name : Name) (type : Ty) (values : List Val) → IsFrameOf schema frame → IsTrue (all_fit values type) → IsFrameOf (with_column schema name type) (frame_with_column frame name type values)
+column_in_frame schema frame name type values h fit = record {
+  schema_is = ap (λ cs. with_column cs name type) h.schema_is;
+  frame_is = record {
+    distinct = distinct_with frame.schema name type h.frame_is.distinct;
+    fitting = rows_with_fit frame.schema name type values frame.rows fit h.frame_is.fitting;
+    bare = has_a_column frame.schema name type (rows_with frame.schema name values frame.rows);
+  };
+}
+
+-- fitting columns that are put into a frame give one of its columns with theirs, or a length is a fault
+stacked_meets : (schema : Columns) (ss : List Series) (frame : Frame) → IsFrameOf schema frame → AllByRecursion FitsSeries ss → Meets (IsFrameOf (with_columns schema (series_columns ss))) (stacked ss frame)
+stacked_meets schema [] frame h k = h
+stacked_meets schema (s ∷ ss) frame h k =
+    let count = length frame.rows in
+    let put = column_in_frame schema frame s.name s.type (stretched count s.values) h (all_fit-stretched count s.values s.type k.0) in
+    elim (length s.values == count || length s.values == 1) as (λ b. Meets (IsFrameOf (with_columns schema (series_columns (s ∷ ss)))) (then_do (cond b (Done (stretched count s.values)) Fault) (λ each. stacked ss (frame_with_column frame s.name s.type each)))) [ true ↦ stacked_meets (with_column schema s.name s.type) ss (frame_with_column frame s.name s.type (stretched count s.values)) put k.1 | false ↦ tt ]
+
+mapped_some : {A B : Type 0} (f : A → B) (o : Option A) (y : B) → option_map f o ≡ Some y → (x : A) × (o ≡ Some x) × (f x ≡ y)
+mapped_some f None y h = absurd cc
+mapped_some f (Some x) y h = (x, refl, some_same (f x) y h)
+
 -- rows that are kept still fit
 kept_fit : (columns : Columns) (values : List Val) (rows : List Row) → AllByRecursion (RowFits columns) rows → AllByRecursion (RowFits columns) (where_true values rows)
 kept_fit columns [] rows h = tt
@@ -205,6 +263,73 @@ kept_meets schema frame values h =
     let count = length frame.rows in
     elim (length values == count || length values == 1) as (λ b. Meets (IsFrameOf schema) (then_do (cond b (Done (stretched count values)) Fault) (λ each. Done (record { schema = frame.schema; rows = where_true each frame.rows })))) [ true ↦ kept_frame schema frame (stretched count values) h | false ↦ tt ]
 
+-- a column that stands with its type is found under its name
+found_type : (column : Name × Ty) (found : Option Ty) → option_map_or (same_type column.1) found false ≡ true → found ≡ Some column.1
+found_type column None h = cc
+found_type column (Some type) h = ap Some (sym (same_type_exact column.1 type h))
+
+-- so a row that fits columns, in others that stand among them, fits these
+row_in_fits : (schema columns : Columns) (row : Row) → list_all (stands_in schema) columns ≡ true → RowFits schema row → RowFits columns (row_in schema columns row)
+row_in_fits schema [] row h k = tt
+row_in_fits schema (c ∷ cs) row h k =
+    let rest = list_all (stands_in schema) cs in
+    let found = found_type c (type_at schema c.0) (first_of_both (stands_in schema c) rest h) in
+    (value_in_fits schema c.0 row c.1 k found, row_in_fits schema cs row (second_of_both (stands_in schema c) rest h) k)
+
+rows_in_fit : (schema columns : Columns) (rows : List Row) → list_all (stands_in schema) columns ≡ true → AllByRecursion (RowFits schema) rows → AllByRecursion (RowFits columns) (map (row_in schema columns) rows)
+rows_in_fit schema columns [] h k = tt
+rows_in_fit schema columns (row ∷ rows) h k = (row_in_fits schema columns row h k.0, rows_in_fit schema columns rows h k.1)
+
+-- a row in its own columns is that row
+row_behind : (c : Name × Ty) (value : Val) (cs xs : Columns) (row : Row) → is_among c.0 (names_of xs) ≡ false → row_in (c ∷ cs) xs (value ∷ row) ≡ row_in cs xs row
+row_behind c value cs [] row apart = refl
+row_behind c value cs (x ∷ xs) row apart =
+    let parts = or_parts (same_name c.0 x.0) _ apart in
+    let first = ap (λ b. cond b value (value_in cs x.0 row)) (nat_list_eq_equiv.symm x.0 c.0 ∙ parts.0) in
+    let later = row_behind c value cs xs row parts.1 in
+    λ i. first i ∷ later i
+
+own_row : (cs : Columns) (row : Row) → repeats (names_of cs) ≡ false → RowFits cs row → row_in cs cs row ≡ row
+own_row [] [] distinct h = refl
+own_row [] (value ∷ row) distinct h = absurd h
+own_row (c ∷ cs) [] distinct h = absurd h
+own_row (c ∷ cs) (value ∷ row) distinct h =
+    let parts = or_parts (is_among c.0 (names_of cs)) _ distinct in
+    let first = ap (λ b. cond b value (value_in cs c.0 row)) (nat_list_eq_equiv.refl c.0) in
+    let later = row_behind c value cs cs row parts.0 ∙ own_row cs row parts.1 h.1 in
+    λ i. first i ∷ later i
+
+own_rows : (cs : Columns) (rows : List Row) → repeats (names_of cs) ≡ false → AllByRecursion (RowFits cs) rows → map (row_in cs cs) rows ≡ rows
+own_rows cs [] distinct h = refl
+own_rows cs (row ∷ rows) distinct h =
+    let first = own_row cs row distinct h.0 in
+    let later = own_rows cs rows distinct h.1 in
+    λ i. first i ∷ later i
+
+abbrev frame_of : Columns → List Row → Frame
+frame_of cs rows = record { schema = cs; rows = rows }
+
+own_columns : (cs : Columns) (rows : List Row) → IsFrame (frame_of cs rows) → projected cs (Done (frame_of cs rows)) ≡ Done (frame_of cs rows)
+own_columns [] rows h = ap (λ each. Done (frame_of [] each)) (sym h.bare)
+own_columns (c ∷ cs) rows h = ap (λ each. Done (frame_of (c ∷ cs) each)) (own_rows (c ∷ cs) rows (test_from_distinct (c ∷ cs) h.distinct) h.fitting)
+
+pub own_columns_give_the_frame : OwnColumnsGiveTheFrame
+own_columns_give_the_frame frame h = own_columns frame.schema frame.rows h
+
+projected_frame : (under : Columns) (c : Name × Ty) (cs : Columns) (frame : Frame) → projection_kinds under (c ∷ cs) ≡ [] → IsFrameOf under frame → IsFrameOf (c ∷ cs) (projected_on (c ∷ cs) frame)
+projected_frame under c cs frame none h =
+    let stand = subst (λ s. list_all (stands_in s) (c ∷ cs) ≡ true) (sym h.schema_is) (projection_stands under (c ∷ cs) none) in
+    record {
+      schema_is = refl;
+      frame_is = record { distinct = projection_distinct under (c ∷ cs) none; fitting = rows_in_fit frame.schema (c ∷ cs) frame.rows stand h.frame_is.fitting; bare = tt };
+    }
+
+-- a simple projection of columns that break no rule
+projection_meets : (own under schema : Columns) (input : Outcome Frame) → Meets (IsFrameOf under) input → projection_kinds under own ≡ [] → own ≡ schema → Meets (IsFrameOf schema) (projected own input)
+projection_meets [] under schema input h none same = without_columns schema same
+projection_meets (c ∷ cs) under schema input h none same =
+    subst (λ s. Meets (IsFrameOf s) (projected (c ∷ cs) input)) same (meets_then (IsFrameOf under) (IsFrameOf (c ∷ cs)) input (λ frame. Done (projected_on (c ∷ cs) frame)) h (λ frame k. projected_frame under c cs frame none k))
+
 module _ (registry : Registry) (frame : Frame) (is_frame : IsFrame frame) (rows : List ℕ) where
   -- expressions that have columns give columns of them
   series_meet : (outputs : List (Named Expression)) (schema : Columns) → columns_of registry frame.schema outputs ≡ Some schema → Meets (AreSeriesOf schema) (all_series rows (map (by_meaning registry frame) outputs))
@@ -229,6 +354,17 @@ module _ (registry : Registry) where
   select_meets (output ∷ outputs) recorded under schema input h none columns =
       meets_then (IsFrameOf under) (IsFrameOf schema) input _ h (λ frame k. outputs_meet output outputs recorded under schema frame k none columns)
 
+  -- an hstack of expressions that have columns
+  stack_meets : (outputs : List (Named Expression)) (under columns : Columns) (frame : Frame) → IsFrameOf under frame → columns_of registry under outputs ≡ Some columns → Meets (IsFrameOf (with_columns under columns)) (hstacked_on (map (by_meaning registry frame) outputs) frame)
+  stack_meets outputs under columns frame h is =
+      let there = subst (λ c. columns_of registry c outputs ≡ Some columns) (sym h.schema_is) is in
+      meets_then (AreSeriesOf columns) (IsFrameOf (with_columns under columns)) _ (λ ss. stacked ss frame) (series_meet registry frame h.frame_is (row_numbers frame) outputs columns there) (λ ss k. subst (λ c. Meets (IsFrameOf (with_columns under c)) (stacked ss frame)) k.columns (stacked_meets under ss frame h k.fitting))
+
+  hstack_meets : (outputs : List (Named Expression)) (under schema : Columns) (input : Outcome Frame) → Meets (IsFrameOf under) input → option_map (with_columns under) (columns_of registry under outputs) ≡ Some schema → Meets (IsFrameOf schema) (hstacked (by_meaning registry) outputs input)
+  hstack_meets outputs under schema input h is =
+      let found = mapped_some (with_columns under) (columns_of registry under outputs) schema is in
+      subst (λ s. Meets (IsFrameOf s) (hstacked (by_meaning registry) outputs input)) found.2 (meets_then (IsFrameOf under) (IsFrameOf (with_columns under found.0)) input _ h (λ frame k. stack_meets outputs under found.0 frame k found.1))
+
   -- a filter by a predicate that breaks no rule
   predicate_meets : (predicate : Named Expression) (schema : Columns) (frame : Frame) → IsFrameOf schema frame → broken_kinds registry (filter_op predicate) (Some schema ∷ []) ≡ [] → Meets (IsFrameOf schema) (filtered_on (by_meaning registry frame predicate) frame)
   predicate_meets predicate schema frame h none =
@@ -251,9 +387,15 @@ module _ (registry : Registry) where
   node_meets (SelectKind outputs) tables recorded (Some under ∷ []) outcomes schema fits none is k =
       let only = only_outcome (Some under) outcomes k in
       subst (λ os. Meets (IsFrameOf schema) (frame_by (SelectKind outputs) tables (by_meaning registry) os)) (sym only.1) (select_meets outputs recorded under schema only.0 only.2 none is)
+  node_meets (HStackKind outputs) tables recorded (Some under ∷ []) outcomes schema fits none is k =
+      let only = only_outcome (Some under) outcomes k in
+      subst (λ os. Meets (IsFrameOf schema) (frame_by (HStackKind outputs) tables (by_meaning registry) os)) (sym only.1) (hstack_meets outputs under schema only.0 only.2 is)
   node_meets (FilterKind predicate) tables recorded (Some under ∷ []) outcomes schema fits none is k =
       let only = only_outcome (Some under) outcomes k in
       subst (λ os. Meets (IsFrameOf schema) (frame_by (FilterKind predicate) tables (by_meaning registry) os)) (sym only.1) (filter_meets predicate under schema only.0 only.2 none (some_same _ _ is))
+  node_meets (SimpleProjectionKind own) tables recorded (Some under ∷ []) outcomes schema fits none is k =
+      let only = only_outcome (Some under) outcomes k in
+      subst (λ os. Meets (IsFrameOf schema) (frame_by (SimpleProjectionKind own) tables (by_meaning registry) os)) (sym only.1) (projection_meets own under schema only.0 only.2 none (some_same _ _ is))
   node_meets kind tables recorded inputs outcomes schema fits none is k = absurd (absurd_none schema is)
 
   -- a node that has a schema gives a frame of it, unless there is a fault

@@ -5,7 +5,7 @@ use Rattle.plan_types.specs.Outcomes.{Outcome, Done, Fault, Stuck, Meets}
 use Rattle.plan_types.specs.Frames.{Row, Frame, IsFrameOf, row_numbers}
 use Rattle.plan_dsl.specs.Ops.{Expression}
 use Rattle.plan_dsl.specs.Plans.{Named}
-use Rattle.plan_dsl.specs.PlanKernels.{Evaluation, selected, selected_on, filtered, filtered_on}
+use Rattle.plan_dsl.specs.PlanKernels.{Evaluation, selected, selected_on, hstacked, hstacked_on, filtered, filtered_on}
 
 -- two evaluations say the same of expressions side by side, on every frame of the columns
 abbrev pub AgreeOn : Columns → Evaluation → Evaluation → List (Named Expression) → List (Named Expression) → Type 0
@@ -27,6 +27,12 @@ selected_agrees e f (x ∷ xs) (y ∷ ys) schema Fault agree meets = refl
 selected_agrees e f (x ∷ xs) (y ∷ ys) schema Stuck agree meets = refl
 selected_agrees e f [] (y ∷ ys) schema input agree meets = let none = agree [] in cc
 selected_agrees e f (x ∷ xs) [] schema input agree meets = let none = agree [] in cc
+
+-- so does an hstack
+pub hstacked_agrees : (e f : Evaluation) (xs ys : List (Named Expression)) (schema : Columns) (input : Outcome Frame) → AgreeOn schema e f xs ys → Meets (IsFrameOf schema) input → hstacked e xs input ≡ hstacked f ys input
+hstacked_agrees e f xs ys schema (Done frame) agree meets = ap (λ es. hstacked_on es frame) (on_frame e f xs ys schema frame meets.schema_is agree)
+hstacked_agrees e f xs ys schema Fault agree meets = refl
+hstacked_agrees e f xs ys schema Stuck agree meets = refl
 
 -- and so does a filter
 pub filtered_agrees : (e f : Evaluation) (x y : Named Expression) (schema : Columns) (input : Outcome Frame) → AgreeOn schema e f (x ∷ []) (y ∷ []) → Meets (IsFrameOf schema) input → filtered e x input ≡ filtered f y input

@@ -5,12 +5,15 @@ pub mod CastLemmas
 pub mod CastMeaningLemmas
 pub mod ColumnLemmas
 pub mod ComparisonLemmas
+pub mod DropLemmas
+pub mod ExpansionLemmas
 pub mod ExprLemmas
 pub mod FitLemmas
 pub mod FrameLemmas
 pub mod KernelLemmas
 pub mod KindLemmas
 pub mod LiteralLemmas
+pub mod MarkerLemmas
 pub mod OpLemmas
 pub mod OperandLemmas
 pub mod OperatorLemmas
@@ -20,6 +23,7 @@ pub mod ResolvingLemmas
 pub mod RuleLemmas
 pub mod RunLemmas
 pub mod SameLemmas
+pub mod SelectorLemmas
 pub mod SortLemmas
 pub mod SignatureLemmas
 pub mod StrictLemmas

@@ -26,7 +26,7 @@ use Rattle.plan_dsl.specs.Kernels.{cast_meaning, cast_values, value_before}
 use Rattle.plan_dsl.specs.Meaning.{meaning, ruled_meaning}
 use Rattle.plan_dsl.specs.Strictness.{IsStrict, is_strict, is_strict_over, are_strict}
 use Rattle.plan_dsl.proofs.TypingLemmas.{TypedParts, by_children, by_no_children, ok_where, ruled_is, typed_parts}
-use Rattle.plan_dsl.proofs.OpLemmas.{HasOwnType, alone_is_some, keeps_rule, of_columns, of_number, of_operand}
+use Rattle.plan_dsl.proofs.OpLemmas.{HasOwnType, keeps_rule, of_columns, of_number, of_operand}
 use Rattle.plan_dsl.proofs.StrictLemmas.{strict_parts}
 
 not_both : (type : Ty) (number : ℤ) → is_known type ≡ true → type ≡ Untyped number → ⊥
@@ -182,14 +182,7 @@ module _ (registry : Registry) (schema : Columns) (P : Typed → Type 0) (column
     by_typings no_more typed h = by_no_children (AllByRecursion P) typed h tt
     by_typings (more tree trees) typed h = by_children (AllByRecursion P) _ _ typed h (λ t ts first rest. (by_typing tree t first, by_typings trees ts rest))
 
--- a typed expression has a type alone
-pub typed_alone : (registry : Registry) (schema : Columns) (tree : Expression) (type : Ty) (many : Bool) → typing registry schema tree ≡ Ok (record { type = type; many = many }) → (own : Ty) × (type_alone type ≡ Some own)
-typed_alone registry schema tree type many h =
-    by_typing registry schema (λ typed. (own : Ty) × (type_alone typed.type ≡ Some own))
-    (λ typed known. (typed.type, alone_itself typed.type known))
-    (λ number typed is some. alone_is_some (type_alone typed.type) (ap (λ t. is_some (type_alone t)) is ∙ some)) tree (record { type = type; many = many }) h
-
--- so its type is one of columns, or a number's own
+-- a typed expression's type is one of columns, or a number's own
 pub typed_known : (registry : Registry) (schema : Columns) (tree : Expression) (type : Ty) (many : Bool) → typing registry schema tree ≡ Ok (record { type = type; many = many }) → ((number : ℤ) → type ≢ Untyped number) → is_known type ≡ true
 typed_known registry schema tree type many h apart =
     by_typing registry schema (λ typed. ((number : ℤ) → typed.type ≢ Untyped number) → is_known typed.type ≡ true)

@@ -1,22 +1,24 @@
--- Rules and what breaks them: of expressions, of a select's expressions, of a predicate, and of plans.
+-- Rules and what breaks them: of expressions, of those of a select and of an hstack, of a predicate, of columns, and of
+-- plans.
 use Rattle.std.proofs.Common.{◌≡◌, ℕ, zero, suc, List, [], ◌∷◌, ◌++◌, map, Option, Some, None, Bool, true, false, not, is_some, Result, Ok, Err, refl, sym, ap, ◌∙◌, subst, arith}
-use Rattle.std.specs.List.{Contains, AllByRecursion}
+use Rattle.std.specs.List.{Contains, AllByRecursion, list_all}
+use Rattle.std.specs.Option.{option_map}
 use Rattle.std.proofs.lemmas.List.{map-append}
 use Rattle.std.proofs.lemmas.List.Elements.{Contains-append_left, Contains-append_right, Contains-push}
 use Rattle.plan_types.specs.Schemas.{Name, Columns, type_at, repeats, names_of, HasDistinctNames, all_known}
 use Rattle.plan_types.specs.Types.{Truth, same_type}
 use Rattle.plan_types.specs.declared.error.ErrorKind.{ErrorKind}
-use Rattle.plan_types.specs.declared.error.ErrorKind.TheVariants.{Duplicate, SchemaMismatch, InvalidOperation}
+use Rattle.plan_types.specs.declared.error.ErrorKind.TheVariants.{Duplicate, SchemaMismatch, InvalidOperation, ComputeError}
 use Rattle.plan_types.proofs.SchemaLemmas.{repeated_test, test_from_distinct, distinct_from_test}
 use Rattle.plan_dsl.specs.Registry.{Registry}
 use Rattle.plan_dsl.specs.Trees.{Trees, node, no_more, more, child_at, child_of, tree_at, tree_count}
 use Rattle.plan_dsl.specs.Ops.{Op, Expression}
-use Rattle.plan_dsl.specs.Plans.{Named, PlanKind, ScanKind, SelectKind, FilterKind, RefusedKind, PlanOp, Plan, scan_op, select_op, filter_op}
+use Rattle.plan_dsl.specs.Plans.{Named, PlanKind, ScanKind, SelectKind, HStackKind, FilterKind, SimpleProjectionKind, DropKind, RefusedKind, PlanOp, Plan, scan_op, select_op, hstack_op, filter_op, simple_projection_op}
 use Rattle.plan_dsl.specs.Literals.{settled}
 use Rattle.plan_dsl.specs.Names.{Label}
 use Rattle.plan_dsl.specs.Signatures.{bare_kinds}
 use Rattle.plan_dsl.specs.Typing.{Typed, typing, typing_all, typing_rule, then_typed, typed_before, kind_of, own_kind, kinds_in, kinds_in_all}
-use Rattle.plan_dsl.specs.PlanRules.{all_kinds, kind_where, name_kinds, scan_kinds, predicate_kinds, broken_kinds, column_before, columns_of, where_unbroken, plan_rule, schema_of, IsWellFormed, AllWellFormed, top_kinds, Breaks}
+use Rattle.plan_dsl.specs.PlanRules.{all_kinds, kind_where, name_kinds, scan_kinds, predicate_kinds, stands_in, projection_kinds, broken_kinds, column_before, columns_of, with_columns, where_unbroken, plan_rule, schema_of, IsWellFormed, AllWellFormed, top_kinds, Breaks}
 use Rattle.plan_dsl.specs.Laws.{NoSchemaIsBroken}
 
 same_kind : {A : Type 0} (r : Result A ErrorKind) (k kind : ErrorKind) → r ≡ Err k → r ≡ Err kind → k ≡ kind
@@ -69,19 +71,30 @@ module _ (registry : Registry) (schema : Columns) where
   pub select_refused_kind : (recorded : Option Columns) (front : List (Named Expression)) (o : Named Expression) (back : List (Named Expression)) (kind : ErrorKind) → typing registry schema (settled o.expression) ≡ Err kind → Contains (broken_kinds registry (select_op (front ++ o ∷ back) recorded) (Some schema ∷ [])) kind
   select_refused_kind recorded front o back kind h = of_expressions (front ++ o ∷ back) _ kind (refused_among front o back kind h)
 
+  -- and so does an hstack
+  pub hstack_refused_kind : (recorded : Option Columns) (front : List (Named Expression)) (o : Named Expression) (back : List (Named Expression)) (kind : ErrorKind) → typing registry schema (settled o.expression) ≡ Err kind → Contains (broken_kinds registry (hstack_op (front ++ o ∷ back) recorded) (Some schema ∷ [])) kind
+  hstack_refused_kind recorded front o back kind h = of_expressions (front ++ o ∷ back) _ kind (refused_among front o back kind h)
+
   abbrev output_names : List (Named Expression) → List Name
   output_names outputs = map (λ o. o.label.name) outputs
 
-  -- a select whose names repeat breaks the rule of distinct names
-  pub select_repeated_kind : (recorded : Option Columns) (outputs : List (Named Expression)) → repeats (output_names outputs) ≡ true → Contains (broken_kinds registry (select_op outputs recorded) (Some schema ∷ [])) Duplicate
-  select_repeated_kind recorded outputs h =
-      Contains-append_right (all_kinds registry schema outputs ++ []) (name_kinds outputs) Duplicate (subst (λ b. Contains (kind_where b Duplicate) Duplicate) (sym h) (Contains-push [] Duplicate))
+  -- expressions whose names repeat break the rule of distinct names
+  repeated_names : (kind : ErrorKind) (outputs : List (Named Expression)) → repeats (output_names outputs) ≡ true → Contains ((all_kinds registry schema outputs ++ []) ++ name_kinds kind outputs) kind
+  repeated_names kind outputs h =
+      Contains-append_right (all_kinds registry schema outputs ++ []) (name_kinds kind outputs) kind (subst (λ b. Contains (kind_where b kind) kind) (sym h) (Contains-push [] kind))
 
-  -- an expression whose name stands among those before it
-  pub select_repeated_name : (recorded : Option Columns) (before : Columns) (front : List (Named Expression)) (o : Named Expression) (back : List (Named Expression)) → names_of before ≡ output_names front → is_some (type_at before o.label.name) ≡ true → Contains (broken_kinds registry (select_op (front ++ o ∷ back) recorded) (Some schema ∷ [])) Duplicate
-  select_repeated_name recorded before front o back names found =
+  -- so does one whose name stands among those before it
+  repeated_name : (kind : ErrorKind) (before : Columns) (front : List (Named Expression)) (o : Named Expression) (back : List (Named Expression)) → names_of before ≡ output_names front → is_some (type_at before o.label.name) ≡ true → Contains ((all_kinds registry schema (front ++ o ∷ back) ++ []) ++ name_kinds kind (front ++ o ∷ back)) kind
+  repeated_name kind before front o back names found =
       let whole = map-append (λ (x : Named Expression). x.label.name) front (o ∷ back) ∙ ap (λ l. l ++ o.label.name ∷ output_names back) (sym names) in
-      select_repeated_kind recorded (front ++ o ∷ back) (ap repeats whole ∙ repeated_test before o.label.name (output_names back) found)
+      repeated_names kind (front ++ o ∷ back) (ap repeats whole ∙ repeated_test before o.label.name (output_names back) found)
+
+  -- in a select, and in an hstack
+  pub select_repeated_name : (recorded : Option Columns) (before : Columns) (front : List (Named Expression)) (o : Named Expression) (back : List (Named Expression)) → names_of before ≡ output_names front → is_some (type_at before o.label.name) ≡ true → Contains (broken_kinds registry (select_op (front ++ o ∷ back) recorded) (Some schema ∷ [])) Duplicate
+  select_repeated_name recorded before front o back names found = repeated_name Duplicate before front o back names found
+
+  pub hstack_repeated_name : (recorded : Option Columns) (before : Columns) (front : List (Named Expression)) (o : Named Expression) (back : List (Named Expression)) → names_of before ≡ output_names front → is_some (type_at before o.label.name) ≡ true → Contains (broken_kinds registry (hstack_op (front ++ o ∷ back) recorded) (Some schema ∷ [])) ComputeError
+  hstack_repeated_name recorded before front o back names found = repeated_name ComputeError before front o back names found
 
   -- a filter breaks the kind for which its predicate is refused
   pub filter_refused_kind : (predicate : Named Expression) (kind : ErrorKind) → typing registry schema (settled predicate.expression) ≡ Err kind → Contains (broken_kinds registry (filter_op predicate) (Some schema ∷ [])) kind
@@ -130,12 +143,21 @@ module _ (registry : Registry) (schema : Columns) where
     names_are [] = refl
     names_are (a ∷ rest) = ap (λ l. (label a).name ∷ l) (names_are rest)
 
-    -- with distinct names a select of them breaks no rule, and has their columns
+    -- under distinct names they break no rule of names
+    no_names_from_distinct : (kind : ErrorKind) (outputs : List A) → HasDistinctNames (map (λ a. ((label a).name, (typed a).type)) outputs) → name_kinds kind (map output outputs) ≡ []
+    no_names_from_distinct kind outputs distinct = ap (λ b. kind_where b kind) (ap repeats (names_are outputs) ∙ test_from_distinct _ distinct)
+
+    -- then a select of them breaks no rule, and has their columns
     pub select_schema : (recorded : Option Columns) (outputs : List A) → AllByRecursion (λ a. typing registry schema (settled (tree a)) ≡ Ok (typed a)) outputs → HasDistinctNames (map (λ a. ((label a).name, (typed a).type)) outputs) → plan_rule registry (select_op (map output outputs) recorded) (Some schema ∷ []) ≡ Some (map (λ a. ((label a).name, (typed a).type)) outputs)
     select_schema recorded outputs h distinct =
-        let test = ap repeats (names_are outputs) ∙ test_from_distinct _ distinct in
-        let unbroken = ap (λ k. (k ++ []) ++ name_kinds (map output outputs)) (no_kinds_from_typed outputs h) ∙ ap (λ b. kind_where b Duplicate) test in
+        let unbroken = ap (λ k. (k ++ []) ++ name_kinds Duplicate (map output outputs)) (no_kinds_from_typed outputs h) ∙ no_names_from_distinct Duplicate outputs distinct in
         ap (λ kinds. where_unbroken kinds (columns_of registry schema (map output outputs))) unbroken ∙ columns_from_typed outputs h
+
+    -- and an hstack of them has the input's with theirs
+    pub hstack_schema : (recorded : Option Columns) (outputs : List A) → AllByRecursion (λ a. typing registry schema (settled (tree a)) ≡ Ok (typed a)) outputs → HasDistinctNames (map (λ a. ((label a).name, (typed a).type)) outputs) → plan_rule registry (hstack_op (map output outputs) recorded) (Some schema ∷ []) ≡ Some (with_columns schema (map (λ a. ((label a).name, (typed a).type)) outputs))
+    hstack_schema recorded outputs h distinct =
+        let unbroken = ap (λ k. (k ++ []) ++ name_kinds ComputeError (map output outputs)) (no_kinds_from_typed outputs h) ∙ no_names_from_distinct ComputeError outputs distinct in
+        ap (λ kinds. where_unbroken kinds (option_map (with_columns schema) (columns_of registry schema (map output outputs)))) unbroken ∙ ap (option_map (with_columns schema)) (columns_from_typed outputs h)
 
 -- a scan of columns with types has its table's schema
 pub scan_schema : (registry : Registry) (table : Option ℕ) (own : Columns) → HasDistinctNames own → all_known own ≡ true → plan_rule registry (scan_op table own) [] ≡ Some own
@@ -147,6 +169,21 @@ scan_schema registry table own distinct known =
 pub scan_unknown_kind : (own : Columns) → all_known own ≡ false → Contains (scan_kinds own) InvalidOperation
 scan_unknown_kind own h =
     Contains-append_left (kind_where (not (all_known own)) InvalidOperation) _ InvalidOperation (subst (λ b. Contains (kind_where (not b) InvalidOperation) InvalidOperation) (sym h) (Contains-push [] InvalidOperation))
+
+-- a simple projection of columns that stand in its input, with distinct names, has them
+pub projection_schema : (registry : Registry) (recorded : Option Columns) (schema own : Columns) → list_all (stands_in schema) own ≡ true → HasDistinctNames own → plan_rule registry (simple_projection_op own recorded) (Some schema ∷ []) ≡ Some own
+projection_schema registry recorded schema own stand distinct =
+    ap (λ b. where_unbroken (kind_where (not b) InvalidOperation ++ kind_where (repeats (names_of own)) Duplicate) (Some own)) stand
+    ∙ ap (λ b. where_unbroken (kind_where b Duplicate) (Some own)) (test_from_distinct own distinct)
+
+-- one of a column that doesn't stand there with its type breaks that rule, and one of repeated names that of names
+pub projection_absent_kind : (registry : Registry) (recorded : Option Columns) (schema own : Columns) → list_all (stands_in schema) own ≡ false → Contains (broken_kinds registry (simple_projection_op own recorded) (Some schema ∷ [])) InvalidOperation
+projection_absent_kind registry recorded schema own h =
+    Contains-append_left (kind_where (not (list_all (stands_in schema) own)) InvalidOperation) _ InvalidOperation (subst (λ b. Contains (kind_where (not b) InvalidOperation) InvalidOperation) (sym h) (Contains-push [] InvalidOperation))
+
+pub projection_repeated_name : (registry : Registry) (recorded : Option Columns) (schema own : Columns) → repeats (names_of own) ≡ true → Contains (broken_kinds registry (simple_projection_op own recorded) (Some schema ∷ [])) Duplicate
+projection_repeated_name registry recorded schema own h =
+    Contains-append_right (kind_where (not (list_all (stands_in schema) own)) InvalidOperation) _ Duplicate (subst (λ b. Contains (kind_where b Duplicate) Duplicate) (sym h) (Contains-push [] Duplicate))
 
 -- a node that breaks a kind of rule has no schema
 broken_has_none : (kinds : List ErrorKind) (kind : ErrorKind) (found : Option Columns) → Contains kinds kind → is_some (where_unbroken kinds found) ≡ false
@@ -169,6 +206,14 @@ no_tail : (kinds tail : List ErrorKind) → kinds ++ tail ≡ [] → tail ≡ []
 no_tail [] tail h = h
 no_tail (k ∷ ks) tail h = cc
 
+no_front : (kinds tail : List ErrorKind) → kinds ++ tail ≡ [] → kinds ≡ []
+no_front [] tail h = refl
+no_front (k ∷ ks) tail h = cc
+
+not_refused : (b : Bool) → kind_where (not b) InvalidOperation ≡ [] → b ≡ true
+not_refused true h = refl
+not_refused false h = cc
+
 not_repeated : (b : Bool) → kind_where b Duplicate ≡ [] → b ≡ false
 not_repeated true h = cc
 not_repeated false h = refl
@@ -176,6 +221,14 @@ not_repeated false h = refl
 -- the columns of a scan that breaks no rule have distinct names
 pub scan_distinct : (own : Columns) → scan_kinds own ≡ [] → HasDistinctNames own
 scan_distinct own none = distinct_from_test own (not_repeated (repeats (names_of own)) (no_tail (kind_where (not (all_known own)) InvalidOperation) _ none))
+
+-- the columns of a simple projection that breaks no rule stand in its input, and have distinct names
+pub projection_stands : (schema own : Columns) → projection_kinds schema own ≡ [] → list_all (stands_in schema) own ≡ true
+projection_stands schema own none = not_refused (list_all (stands_in schema) own) (no_front _ (kind_where (repeats (names_of own)) Duplicate) none)
+
+pub projection_distinct : (schema own : Columns) → projection_kinds schema own ≡ [] → HasDistinctNames own
+projection_distinct schema own none =
+    distinct_from_test own (not_repeated (repeats (names_of own)) (no_tail (kind_where (not (list_all (stands_in schema) own)) InvalidOperation) _ none))
 
 -- the names of expressions are those of their columns
 pub column_names : (registry : Registry) (under : Columns) (os : List (Named Expression)) (schema : Columns) → columns_of registry under os ≡ Some schema → map (λ o. o.label.name) os ≡ names_of schema
@@ -212,13 +265,22 @@ kind_breaks registry (ScanKind table schema) [] known h = some_kind (scan_kinds 
 kind_breaks registry (ScanKind table schema) (under ∷ inputs) known h = some_last [] SchemaMismatch
 kind_breaks registry (SelectKind outputs) [] known h = some_last [] SchemaMismatch
 kind_breaks registry (SelectKind outputs) (under ∷ []) known h =
-    let kinds = (all_kinds registry under outputs ++ []) ++ name_kinds outputs in
-    elim (columns_of registry under outputs) as (λ c. columns_of registry under outputs ≡ c → where_unbroken kinds c ≡ None → (k : ErrorKind) × Contains kinds k) [ Some schema ↦ λ e h. some_kind kinds schema h | None ↦ λ e h. let found = no_column_breaks registry under outputs e in (found.0, of_expressions registry under outputs (name_kinds outputs) found.0 found.1) ] refl h
+    let kinds = (all_kinds registry under outputs ++ []) ++ name_kinds Duplicate outputs in
+    elim (columns_of registry under outputs) as (λ c. columns_of registry under outputs ≡ c → where_unbroken kinds c ≡ None → (k : ErrorKind) × Contains kinds k) [ Some schema ↦ λ e h. some_kind kinds schema h | None ↦ λ e h. let found = no_column_breaks registry under outputs e in (found.0, of_expressions registry under outputs (name_kinds Duplicate outputs) found.0 found.1) ] refl h
 kind_breaks registry (SelectKind outputs) (under ∷ other ∷ inputs) known h = some_last (all_kinds registry under outputs ++ []) SchemaMismatch
+kind_breaks registry (HStackKind outputs) [] known h = some_last [] SchemaMismatch
+kind_breaks registry (HStackKind outputs) (under ∷ []) known h =
+    let kinds = (all_kinds registry under outputs ++ []) ++ name_kinds ComputeError outputs in
+    elim (columns_of registry under outputs) as (λ c. columns_of registry under outputs ≡ c → where_unbroken kinds (option_map (with_columns under) c) ≡ None → (k : ErrorKind) × Contains kinds k) [ Some columns ↦ λ e h. some_kind kinds (with_columns under columns) h | None ↦ λ e h. let found = no_column_breaks registry under outputs e in (found.0, of_expressions registry under outputs (name_kinds ComputeError outputs) found.0 found.1) ] refl h
+kind_breaks registry (HStackKind outputs) (under ∷ other ∷ inputs) known h = some_last (all_kinds registry under outputs ++ []) SchemaMismatch
 kind_breaks registry (FilterKind predicate) [] known h = some_last [] SchemaMismatch
 kind_breaks registry (FilterKind predicate) (under ∷ []) known h =
     some_kind ((all_kinds registry under (predicate ∷ []) ++ []) ++ predicate_kinds (typing registry under (settled predicate.expression))) under h
 kind_breaks registry (FilterKind predicate) (under ∷ other ∷ inputs) known h = some_last (all_kinds registry under (predicate ∷ []) ++ []) SchemaMismatch
+kind_breaks registry (SimpleProjectionKind columns) [] known h = some_last [] SchemaMismatch
+kind_breaks registry (SimpleProjectionKind columns) (under ∷ []) known h = some_kind (projection_kinds under columns) columns h
+kind_breaks registry (SimpleProjectionKind columns) (under ∷ other ∷ inputs) known h = some_last [] SchemaMismatch
+kind_breaks registry (DropKind selectors strict) inputs known h = some_last [] SchemaMismatch
 kind_breaks registry (RefusedKind []) inputs known h = absurd (known refl)
 kind_breaks registry (RefusedKind (kind ∷ kinds)) inputs known h = (kind, Contains-append_left (kind ∷ []) kinds kind (Contains-push [] kind))
 

@@ -1,5 +1,5 @@
 -- Laws of comparing expressions.
-use Rattle.std.specs.Prelude.{◌≡◌, Bool, true, List}
+use Rattle.std.specs.Prelude.{◌≡◌, Bool, true}
 use Rattle.std.specs.Cmp.{IsEquivalence, booleans_Decides}
 use Rattle.std.specs.Cmp.Lexicographic.{pointwise_decides}
 use Rattle.std.proofs.Common.{refl, ap, ◌∙◌}
@@ -71,12 +71,6 @@ same_sort_exact a b h =
 pub same_sort_own : (a : SortOptions) → same_sort a a ≡ true
 same_sort_own a = and_from _ _ ((booleans_Decides a.descending a.descending).1 refl) ((booleans_Decides a.nulls_last a.nulls_last).1 refl)
 
-pub same_flags_exact : (a b : List Bool) → same_flags a b ≡ true → a ≡ b
-same_flags_exact a b h = (pointwise_decides booleans_Decides a b).0 h
-
-pub same_flags_own : (a : List Bool) → same_flags a a ≡ true
-same_flags_own a = (pointwise_decides booleans_Decides a a).1 refl
-
 -- nodes that compare equal do the same
 pub same_op_exact : (a b : Op) → same_op a b ≡ true → a ≡ b
 same_op_exact (ColumnOp name) (ColumnOp other) h = ap ColumnOp ((bytes_eq-Decides name other).0 h)
@@ -95,7 +89,8 @@ same_op_exact FilterOp FilterOp h = refl
 same_op_exact (SortOp options) (SortOp other) h = ap SortOp (same_sort_exact options other h)
 same_op_exact (SortByOp descending nulls_last) (SortByOp other others) h =
     let parts = and_parts (same_flags descending other) (same_flags nulls_last others) h in
-    ap (λ d. SortByOp d nulls_last) (same_flags_exact descending other parts.0) ∙ ap (SortByOp other) (same_flags_exact nulls_last others parts.1)
+    let same = pointwise_decides booleans_Decides in
+    ap (λ d. SortByOp d nulls_last) ((same descending other).0 parts.0) ∙ ap (SortByOp other) ((same nulls_last others).0 parts.1)
 same_op_exact (AliasOp name) (AliasOp other) h = ap AliasOp ((bytes_eq-Decides name other).0 h)
 same_op_exact _ _ h = cc
 
@@ -110,7 +105,7 @@ same_op_own ExplodeOp = refl
 same_op_own (GatherOp returns_scalar) = (booleans_Decides returns_scalar returns_scalar).1 refl
 same_op_own FilterOp = refl
 same_op_own (SortOp options) = same_sort_own options
-same_op_own (SortByOp descending nulls_last) = and_from _ _ (same_flags_own descending) (same_flags_own nulls_last)
+same_op_own (SortByOp descending nulls_last) = and_from _ _ ((pointwise_decides booleans_Decides descending descending).1 refl) ((pointwise_decides booleans_Decides nulls_last nulls_last).1 refl)
 same_op_own (AliasOp name) = (bytes_eq-Decides name name).1 refl
 
 -- trees that compare equal are one where nodes are, and each is equal to itself

@@ -1,18 +1,23 @@
 -- Laws of the definitions, for all expressions and plans.
-use Rattle.std.specs.Prelude.{◌≡◌, ℕ, ℤ, List, [], ◌∷◌, length, map, Option, Some, None, is_some, option_map, Ok, Err, IsTrue, true, false}
+use Rattle.std.specs.Prelude.{◌≡◌, ℕ, ℤ, List, [], ◌∷◌, ◌++◌, length, map, Option, Some, None, is_some, option_map, Ok, Err, IsTrue, Bool, true, false}
+use Rattle.std.specs.Bool.{Decides}
 use Rattle.std.specs.List.{Contains, list_all}
 use Rattle.plan_types.specs.Types.{Ty, Untyped, is_known}
-use Rattle.plan_types.specs.Schemas.{Columns}
+use Rattle.plan_types.specs.Schemas.{Name, Columns, HasDistinctNames, repeats, names_of}
 use Rattle.plan_types.specs.Values.{Val, IntValue, all_fit}
-use Rattle.plan_types.specs.Outcomes.{Meets}
+use Rattle.plan_types.specs.Outcomes.{Done, Meets}
 use Rattle.plan_types.specs.Frames.{Frame, Row, IsFrame, IsFrameOf}
 use Rattle.plan_types.specs.declared.error.ErrorKind.{ErrorKind}
 use Rattle.plan_dsl.specs.Registry.{Registry}
 use Rattle.plan_dsl.specs.Ops.{Op, LiteralOp, BinaryOp, Expression}
 use Rattle.plan_dsl.specs.Aliases.{IsCore, core, renamed}
 use Rattle.plan_dsl.specs.Trees.{Trees, node, no_more, more, tree_at}
-use Rattle.plan_dsl.specs.Plans.{Named, PlanKind, RefusedKind, PlanOp, Plan, SourcePlan, scans_in}
-use Rattle.plan_dsl.specs.Sources.{Source, written, expanded}
+use Rattle.plan_dsl.specs.Plans.{Named, PlanKind, RefusedKind, PlanOp, Plan, SourcePlan, scans_in, drop_op}
+use Rattle.plan_dsl.specs.Sources.{Source, written, ColumnsOp, IndexColumnOp, ExcludeOp, same_source}
+use Rattle.plan_dsl.specs.Refusals.{joined}
+use Rattle.plan_dsl.specs.Markers.{marker_names, names_of_selectors}
+use Rattle.plan_dsl.specs.Expansion.{expansion, expansions}
+use Rattle.plan_dsl.specs.Drops.{drop_leaves}
 use Rattle.plan_dsl.specs.Resolving.{resolution, resolved_op, resolved}
 use Rattle.plan_dsl.specs.Typing.{Typed, Ruling, rule, types_of, typed_to, typing, typing_all, kinds_in}
 use Rattle.plan_dsl.specs.declared.operator.Operator.{Operator}
@@ -23,6 +28,7 @@ use Rattle.plan_dsl.specs.Meaning.{meaning}
 use Rattle.plan_dsl.specs.Strictness.{IsStrict, IsSame, IsStrictOver, as_operands}
 use Rattle.plan_dsl.specs.StrictRun.{strict_run}
 use Rattle.plan_dsl.specs.PlanRules.{broken_kinds, plan_rule, schema_of, IsWellFormed, Breaks}
+use Rattle.plan_dsl.specs.PlanKernels.{projected}
 use Rattle.plan_dsl.specs.PlanMeaning.{source_meaning, HasTables, FitsPlan}
 
 -- operands that were taken to their types are taken as they are
@@ -97,9 +103,44 @@ BrokenIsIllFormed = (registry : Registry) (kind : ErrorKind) (place : List ℕ) 
 abbrev pub MeaningHasSchema : Type 0
 MeaningHasSchema = (registry : Registry) (tables : List Frame) (plan : Plan) (schema : Columns) → FitsPlan tables plan → IsWellFormed registry plan → schema_of registry plan ≡ Some schema → Meets (IsFrameOf schema) (source_meaning registry tables plan)
 
--- an expression that a query writes with plans' ops alone is its own expansion
+-- a simple projection in a frame's own columns gives the frame
+abbrev pub OwnColumnsGiveTheFrame : Type 0
+OwnColumnsGiveTheFrame = (frame : Frame) → IsFrame frame → projected frame.schema (Done frame) ≡ Done frame
+
+-- an expression that a query writes with plans' ops alone is its own expansion: it alone
 abbrev pub WrittenIsExpanded : Type 0
-WrittenIsExpanded = (tree : Expression) → expanded (written tree) ≡ tree
+WrittenIsExpanded = (keys : List Name) (schema : Columns) (tree : Expression) → expansion keys schema (written tree) ≡ Ok (tree ∷ [])
+
+-- source expressions that compare equal are one
+abbrev pub SameSourcesAreOne : Type 0
+SameSourcesAreOne = (tree other : Source) → Decides (same_source tree other) (tree ≡ other)
+
+-- expressions are expanded one by one: those of two lists to what each list is expanded to, one behind the other
+abbrev pub ListsAreExpandedApart : Type 0
+ListsAreExpandedApart = (keys : List Name) (schema : Columns) (sources others : List Source) → expansions keys schema (sources ++ others) ≡ joined (expansions keys schema sources) (expansions keys schema others)
+
+-- whether a marker stands for names as they are listed, or for those at places as they are listed
+abbrev pub is_listed : Source → Bool
+is_listed (node (ColumnsOp names) children) = true
+is_listed (node (IndexColumnOp places) children) = true
+is_listed (node (ExcludeOp excluded) (more marker children)) = is_listed marker
+is_listed tree = false
+
+-- any other marker stands for no name twice
+abbrev pub MarkersNameOnce : Type 0
+MarkersNameOnce = (keys : List Name) (schema : Columns) (marker : Source) (names : List Name) → repeats (names_of schema) ≡ false → is_listed marker ≡ false → marker_names keys schema marker ≡ Ok names → repeats names ≡ false
+
+-- and selectors make none twice
+abbrev pub SelectorsNameOnce : Type 0
+SelectorsNameOnce = (schema : Columns) (selectors : List Source) (names : List Name) → names_of_selectors schema selectors ≡ Ok names → repeats names ≡ false
+
+-- a query's drop that isn't refused breaks no rule, and has the columns that it leaves of its input's
+abbrev pub DropsHaveSchemas : Type 0
+DropsHaveSchemas = (registry : Registry) (selectors : List Source) (strict : Bool) (schema columns : Columns) → HasDistinctNames schema → drop_leaves schema selectors strict ≡ Ok columns → plan_rule registry (resolved_op (drop_op selectors strict) (Some schema ∷ [])) (Some schema ∷ []) ≡ Some columns
+
+-- a query's kind that can't be resolved over inputs that have schemas is refused by some kind of rule
+abbrev pub UnresolvedIsTold : Type 0
+UnresolvedIsTold = (kind : PlanKind Source) (inputs : List Columns) (kinds : List ErrorKind) → resolution kind (map Some inputs) ≡ Err kinds → (told : ErrorKind) × Contains kinds told
 
 -- the node at a place of a query's plan stands, resolved, at that place
 abbrev pub PlacesStay : Type 0

@@ -1,11 +1,14 @@
 -- What the contracts of this crate cite.
 pub mod Aliases
 pub mod Counts
+pub mod Drops
+pub mod Expansion
 pub mod ExpressionLaws
 pub mod Expressions
 pub mod Kernels
 pub mod Laws
 pub mod Literals
+pub mod Markers
 pub mod Meaning
 pub mod Names
 pub mod OperatorTypes
@@ -16,14 +19,18 @@ pub mod PlanKernels
 pub mod PlanMeaning
 pub mod PlanRules
 pub mod Plans
+pub mod Refusals
 pub mod Registry
 pub mod Resolving
 pub mod SameExpressions
 pub mod Samples
+pub mod SelectorLaws
+pub mod Selectors
 pub mod Signatures
 pub mod Slices
 pub mod SortLaws
 pub mod Sorting
+pub mod SourceLaws
 pub mod Sources
 pub mod StrictRun
 pub mod Strictness

@@ -1,16 +1,17 @@
 -- The rules of plans.
 -- A node breaks some kinds of rule, where what they read is there, over inputs that have a schema or none.
 -- Where it breaks none it has a schema. A plan is well formed where each of its nodes has one.
-use Rattle.std.specs.Prelude.{ℕ, zero, suc, List, [], ◌∷◌, ◌++◌, map, Option, Some, None, Bool, not, is_some, IsTrue, Result, Ok, Err, if◌then◌else◌}
-use Rattle.std.specs.List.{Contains, flat_map}
-use Rattle.plan_types.specs.Schemas.{Name, Columns, repeats, names_of, all_known}
-use Rattle.plan_types.specs.Types.{Truth, same_type}
+use Rattle.std.specs.Prelude.{ℕ, zero, suc, List, [], ◌∷◌, ◌++◌, map, Option, Some, None, Bool, false, not, is_some, IsTrue, Result, Ok, Err, if◌then◌else◌}
+use Rattle.std.specs.List.{Contains, flat_map, list_all}
+use Rattle.std.specs.Option.{option_map, option_map_or}
+use Rattle.plan_types.specs.Schemas.{Name, Columns, type_at, with_column, repeats, names_of, all_known}
+use Rattle.plan_types.specs.Types.{Ty, Truth, same_type}
 use Rattle.plan_types.specs.declared.error.ErrorKind.{ErrorKind}
-use Rattle.plan_types.specs.declared.error.ErrorKind.TheVariants.{Duplicate, SchemaMismatch, InvalidOperation}
+use Rattle.plan_types.specs.declared.error.ErrorKind.TheVariants.{Duplicate, SchemaMismatch, InvalidOperation, ComputeError}
 use Rattle.plan_dsl.specs.Registry.{Registry}
 use Rattle.plan_dsl.specs.Trees.{Trees, node, no_more, more, fold, fold_all, tree_at}
 use Rattle.plan_dsl.specs.Ops.{Expression}
-use Rattle.plan_dsl.specs.Plans.{Named, PlanKind, ScanKind, SelectKind, FilterKind, RefusedKind, PlanOp, OverInput, Plan, expressions_of}
+use Rattle.plan_dsl.specs.Plans.{Named, PlanKind, ScanKind, SelectKind, HStackKind, FilterKind, SimpleProjectionKind, RefusedKind, PlanOp, OverInput, Plan, expressions_of}
 use Rattle.plan_dsl.specs.Literals.{settled}
 use Rattle.plan_dsl.specs.Typing.{Typed, typing, kinds_in}
 
@@ -41,23 +42,35 @@ expression_kinds registry inputs expressions = flat_map (λ e. kinds_over regist
 abbrev pub scan_kinds : Columns → List ErrorKind
 scan_kinds own = kind_where (not (all_known own)) InvalidOperation ++ kind_where (repeats (names_of own)) Duplicate
 
--- a select's names are distinct
-abbrev pub name_kinds : List (Named Expression) → List ErrorKind
-name_kinds outputs = kind_where (repeats (map (λ output. output.label.name) outputs)) Duplicate
+-- the names of a node's expressions are distinct, or it breaks the rule of that kind
+abbrev pub name_kinds : ErrorKind → List (Named Expression) → List ErrorKind
+name_kinds kind outputs = kind_where (repeats (map (λ output. output.label.name) outputs)) kind
 
 -- a typed predicate is of the type of truth values: what one that isn't typed breaks, its expression says
 abbrev pub predicate_kinds : Result Typed ErrorKind → List ErrorKind
 predicate_kinds (Err kind) = []
 predicate_kinds (Ok typed) = kind_where (not (same_type typed.type Truth)) InvalidOperation
 
+-- whether a column stands in a schema, with its type
+abbrev pub stands_in : Columns → Name × Ty → Bool
+stands_in schema column = option_map_or (same_type column.1) (type_at schema column.0) false
+
+-- the columns of a simple projection stand in its input's schema, with distinct names
+abbrev pub projection_kinds : Columns → Columns → List ErrorKind
+projection_kinds schema columns = kind_where (not (list_all (stands_in schema) columns)) InvalidOperation ++ kind_where (repeats (names_of columns)) Duplicate
+
 -- The kinds that a node breaks besides those of its expressions, by the schemas of its inputs. Another number of
--- inputs than its own, which no query has, breaks a rule too.
+-- inputs than its own, which no query has, breaks a rule too, and so does a drop, which no resolved plan has.
 abbrev pub own_kinds : Registry → PlanKind (Named Expression) → List (Option Columns) → List ErrorKind
 own_kinds registry (ScanKind table schema) [] = scan_kinds schema
 own_kinds registry (SelectKind outputs) (None ∷ []) = []
-own_kinds registry (SelectKind outputs) (Some schema ∷ []) = name_kinds outputs
+own_kinds registry (SelectKind outputs) (Some schema ∷ []) = name_kinds Duplicate outputs
+own_kinds registry (HStackKind outputs) (None ∷ []) = []
+own_kinds registry (HStackKind outputs) (Some schema ∷ []) = name_kinds ComputeError outputs
 own_kinds registry (FilterKind predicate) (None ∷ []) = []
 own_kinds registry (FilterKind predicate) (Some schema ∷ []) = predicate_kinds (typing registry schema (settled predicate.expression))
+own_kinds registry (SimpleProjectionKind columns) (None ∷ []) = []
+own_kinds registry (SimpleProjectionKind columns) (Some schema ∷ []) = projection_kinds schema columns
 own_kinds registry (RefusedKind kinds) inputs = kinds
 own_kinds registry kind inputs = SchemaMismatch ∷ []
 
@@ -76,11 +89,18 @@ columns_of registry schema [] = Some []
 columns_of registry schema (output ∷ outputs) =
     column_before output.label.name (typing registry schema (settled output.expression)) (columns_of registry schema outputs)
 
+-- the columns with others, in order: each in place of its namesake, else at the end
+abbrev pub with_columns : Columns → Columns → Columns
+with_columns schema [] = schema
+with_columns schema (column ∷ columns) = with_columns (with_column schema column.0 column.1) columns
+
 -- the schema of a node that breaks no rule
 abbrev pub schema_by : Registry → PlanKind (Named Expression) → List (Option Columns) → Option Columns
 schema_by registry (ScanKind table schema) [] = Some schema
 schema_by registry (SelectKind outputs) (Some schema ∷ []) = columns_of registry schema outputs
+schema_by registry (HStackKind outputs) (Some schema ∷ []) = option_map (with_columns schema) (columns_of registry schema outputs)
 schema_by registry (FilterKind predicate) (Some schema ∷ []) = Some schema
+schema_by registry (SimpleProjectionKind columns) (Some schema ∷ []) = Some columns
 schema_by registry kind inputs = None
 
 abbrev pub where_unbroken : List ErrorKind → Option Columns → Option Columns

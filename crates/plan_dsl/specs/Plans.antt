@@ -1,10 +1,12 @@
 -- The tree of a plan.
-use Rattle.std.specs.Prelude.{ℕ, List, [], ◌∷◌, ◌++◌, map, Option, Some, None}
+use Rattle.std.specs.Prelude.{◌≡◌, ℕ, List, [], ◌∷◌, ◌++◌, map, Option, Some, None, Bool}
 use Rattle.std.specs.List.{flat_map}
 use Rattle.plan_types.specs.Schemas.{Columns, columns}
 use Rattle.plan_types.specs.declared.error.ErrorKind.{ErrorKind}
 use Rattle.plan_dsl.specs.declared.plan.DslPlan.{DslPlan}
-use Rattle.plan_dsl.specs.declared.plan.DslPlan.TheVariants.{DataFrameScan, Filter', Select'}
+use Rattle.plan_dsl.specs.declared.plan.DslPlan.TheVariants.{DataFrameScan, Filter', HStack', MapFunction', Select'}
+use Rattle.plan_dsl.specs.declared.function.DslFunction.{DslFunction}
+use Rattle.plan_dsl.specs.declared.function.DslFunction.TheVariants.{Drop}
 use Rattle.plan_dsl.specs.declared.plan.ProjectionOptions.{ProjectionOptions}
 use Rattle.plan_dsl.specs.Aliases.{core}
 use Rattle.plan_dsl.specs.Trees.{Tree, node, no_more, more, fold}
@@ -12,6 +14,7 @@ use Rattle.plan_dsl.specs.Ops.{Expression}
 use Rattle.plan_dsl.specs.Expressions.{tree_of, trees_of}
 use Rattle.plan_dsl.specs.Names.{Label, label_of}
 use Rattle.plan_dsl.specs.Sources.{Source, written}
+use Rattle.plan_dsl.specs.Selectors.{selector_trees}
 
 -- an expression of a node, with its name and what that comes from
 pub record Named (E : Type 0) : Type 0 where
@@ -20,15 +23,19 @@ pub record Named (E : Type 0) : Type 0 where
 
 -- The kind of a plan's node, with its expressions and flags, over what an expression is: a source expression in a
 -- query, a named tree in a plan, a named node in the arena. A node of a query that can't be resolved is refused, by
--- the kinds of rule that it breaks: no query writes such a node, and no arena holds one.
+-- the kinds of rule that it breaks: no query writes such a node, and no arena holds one. Neither does a query write a
+-- simple projection. A drop stands in queries alone, and is resolved to a simple projection of what it leaves.
 pub data PlanKind (E : Type 0) : Type 0 where
   ScanKind : (table : Option ℕ) (schema : Columns) → PlanKind E
   SelectKind : (outputs : List E) → PlanKind E
+  HStackKind : (outputs : List E) → PlanKind E
   FilterKind : (predicate : E) → PlanKind E
+  SimpleProjectionKind : (columns : Columns) → PlanKind E
+  DropKind : (selectors : List E) (strict : Bool) → PlanKind E
   RefusedKind : (kinds : List ErrorKind) → PlanKind E
 
 -- What a node of a plan does: its kind, and the schema of its frame where the node records it. A scan does, and a
--- select of a lowered plan. A select of a query, and a filter, record none.
+-- select, an hstack or a simple projection of a lowered plan. These of a query, a filter and a drop record none.
 pub record PlanOp (E : Type 0) : Type 0 where
   pub kind : PlanKind E
   pub recorded : Option Columns
@@ -41,11 +48,14 @@ pub record OverInput (E : Type 0) : Type 0 where
 abbrev pub over_input : {E : Type 0} → ℕ → List E → OverInput E
 over_input number outputs = record { input = number; outputs = outputs }
 
--- the expressions of a node, in order
+-- the expressions of a node, in order: selectors stand for names, and aren't typed
 abbrev pub expressions_of : {E : Type 0} → PlanKind E → List (OverInput E)
 expressions_of (ScanKind table schema) = []
 expressions_of (SelectKind outputs) = over_input 0 outputs ∷ []
+expressions_of (HStackKind outputs) = over_input 0 outputs ∷ []
 expressions_of (FilterKind predicate) = over_input 0 (predicate ∷ []) ∷ []
+expressions_of (SimpleProjectionKind columns) = []
+expressions_of (DropKind selectors strict) = []
 expressions_of (RefusedKind kinds) = []
 
 abbrev pub Plan : Type 0
@@ -65,21 +75,46 @@ scan_op table schema = record { kind = ScanKind table schema; recorded = Some sc
 abbrev pub select_op : {E : Type 0} → List E → Option Columns → PlanOp E
 select_op outputs recorded = record { kind = SelectKind outputs; recorded = recorded }
 
+abbrev pub hstack_op : {E : Type 0} → List E → Option Columns → PlanOp E
+hstack_op outputs recorded = record { kind = HStackKind outputs; recorded = recorded }
+
 abbrev pub filter_op : {E : Type 0} → E → PlanOp E
 filter_op predicate = record { kind = FilterKind predicate; recorded = None }
 
--- a select and a filter as a query writes them
+abbrev pub simple_projection_op : {E : Type 0} → Columns → Option Columns → PlanOp E
+simple_projection_op columns recorded = record { kind = SimpleProjectionKind columns; recorded = recorded }
+
+abbrev pub drop_op : {E : Type 0} → List E → Bool → PlanOp E
+drop_op selectors strict = record { kind = DropKind selectors strict; recorded = None }
+
+-- a select, an hstack, a filter and a drop as a query writes them
 abbrev pub written_select : List Expression → SourcePlan → SourcePlan
 written_select trees input = node (select_op (map written trees) None) (more input no_more)
 
+abbrev pub written_hstack : List Expression → SourcePlan → SourcePlan
+written_hstack trees input = node (hstack_op (map written trees) None) (more input no_more)
+
 abbrev pub written_filter : Expression → SourcePlan → SourcePlan
 written_filter tree input = node (filter_op (written tree)) (more input no_more)
+
+abbrev pub written_drop : List Source → Bool → SourcePlan → SourcePlan
+written_drop selectors strict input = node (drop_op selectors strict) (more input no_more)
+
+-- a function over a plan
+abbrev pub written_function : DslFunction → SourcePlan → SourcePlan
+written_function (Drop function) input = written_drop (selector_trees function.to_drop) function.strict input
+
+-- two functions do the same over every plan
+abbrev pub IsSameFunction : DslFunction → DslFunction → Type 0
+IsSameFunction function other = (input : SourcePlan) → written_function function input ≡ written_function other input
 
 -- the tree of a plan, as it is written
 abbrev pub plan_tree : DslPlan → SourcePlan
 plan_tree (DataFrameScan table schema) = node (scan_op table (columns schema)) no_more
 plan_tree (Select' expr p input options) = written_select (trees_of expr) (plan_tree input)
+plan_tree (HStack' exprs p input options) = written_hstack (trees_of exprs) (plan_tree input)
 plan_tree (Filter' p input predicate) = written_filter (tree_of predicate) (plan_tree input)
+plan_tree (MapFunction' p input function) = written_function function (plan_tree input)
 
 -- a scan of a table: the table's number, and the schema that it is to have
 pub record Scan : Type 0 where
@@ -95,11 +130,13 @@ own_scans kind = []
 abbrev pub scans_in : {E : Type 0} → Tree (PlanOp E) → List Scan
 scans_in plan = fold (λ op below. own_scans op.kind ++ flat_map (λ scans. scans) below) plan
 
--- the options of a plan's selects, from the top down: its tree has none of them, since they mean nothing
+-- the options of a plan's selects and hstacks, from the top down: its tree has none of them, since they mean nothing
 abbrev pub options_in : DslPlan → List ProjectionOptions
 options_in (DataFrameScan table schema) = []
 options_in (Select' expr p input options) = options ∷ options_in input
+options_in (HStack' exprs p input options) = options ∷ options_in input
 options_in (Filter' p input predicate) = options_in input
+options_in (MapFunction' p input function) = options_in input
 
 -- the empty table without columns
 abbrev pub empty_table : {E : Type 0} → Tree (PlanOp E)

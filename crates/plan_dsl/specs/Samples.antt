@@ -4,7 +4,7 @@ use Rattle.std.specs.Prelude.{◌≡◌, ℕ, ℤ, pos, neg_ℤ, List, [], ◌�
 use Rattle.plan_types.specs.Types.{Ty, NullType, Truth, Integer, TextType, DateType, TimeType, DatetimeType, DurationType, StructType, Untyped, fields_from}
 use Rattle.plan_types.specs.Values.{Val, NullValue, TruthValue, IntValue, TextValue, ListValue, StructValue}
 use Rattle.plan_types.specs.ValueViews.{values_from}
-use Rattle.plan_types.specs.Schemas.{Columns}
+use Rattle.plan_types.specs.Schemas.{Name, Columns}
 use Rattle.plan_types.specs.Frames.{Frame, Row, row_numbers}
 use Rattle.plan_types.specs.Outcomes.{Outcome, Done}
 use Rattle.plan_types.specs.declared.dtype.CastOptions.{CastOptions}
@@ -19,6 +19,7 @@ use Rattle.plan_dsl.specs.declared.sort_options.SortOptions.{SortOptions}
 use Rattle.plan_dsl.specs.Trees.{Tree, node, no_more, more, children_from}
 use Rattle.plan_dsl.specs.Ops.{ColumnOp, LiteralOp, BinaryOp, CastOp, Expression, LenOp, SliceOp, AliasOp, ExplodeOp, GatherOp, FilterOp, SortOp, SortByOp}
 use Rattle.plan_dsl.specs.Expressions.{tree_of}
+use Rattle.plan_dsl.specs.Sources.{Excluded, ExcludedName, ExcludedType, SetRule, Renaming, AddPrefix, AddSuffix, SetName, Plain, WildcardOp, ColumnsOp, DtypeColumnOp, IndexColumnOp, NthOp, ExcludeOp, SelectorOp, RootOp, SetOp, RenameOp, Source}
 use Rattle.plan_dsl.specs.Literals.{is_literal}
 use Rattle.plan_dsl.specs.Typing.{Typed, typing}
 use Rattle.plan_dsl.specs.Operators.{operator_value}
@@ -26,7 +27,7 @@ use Rattle.plan_dsl.specs.OperatorTypes.{Taken, pair_to, operator_types}
 use Rattle.plan_dsl.specs.Meaning.{meaning}
 use Rattle.plan_dsl.specs.Strictness.{as_operand}
 use Rattle.plan_dsl.specs.StrictRun.{strict_run}
-use Rattle.plan_dsl.specs.Plans.{Plan, PlanOp, named, scan_op, select_op, filter_op}
+use Rattle.plan_dsl.specs.Plans.{Plan, SourcePlan, PlanOp, named, scan_op, select_op, hstack_op, filter_op, simple_projection_op}
 use Rattle.plan_dsl.specs.PlanKernels.{Series}
 
 -- ---- tables of cases
@@ -311,6 +312,74 @@ alias name operand = node (AliasOp (codes name)) (more operand no_more)
 abbrev pub nothing : Expression
 nothing = node (LiteralOp NullType NullValue) no_more
 
+-- ---- source expressions
+
+abbrev pub all_names : List String → List Name
+all_names names = map codes names
+
+-- what is found, under these names
+abbrev pub these : List String → Result (List Name) ErrorKind
+these names = Ok (all_names names)
+
+abbrev pub all : Source
+all = node WildcardOp no_more
+
+abbrev pub columns_named : List String → Source
+columns_named names = node (ColumnsOp (all_names names)) no_more
+
+abbrev pub columns_of_type : Ty → Source
+columns_of_type type = node (DtypeColumnOp (type ∷ [])) no_more
+
+abbrev pub columns_at : List ℤ → Source
+columns_at places = node (IndexColumnOp places) no_more
+
+abbrev pub nth : ℤ → Source
+nth place = node (NthOp place) no_more
+
+abbrev pub but : List Excluded → Source → Source
+but excluded marker = node (ExcludeOp excluded) (more marker no_more)
+
+abbrev pub but_named : String → Source → Source
+but_named name marker = but (ExcludedName (codes name) ∷ []) marker
+
+abbrev pub but_of_type : Ty → Source → Source
+but_of_type type marker = but (ExcludedType type ∷ []) marker
+
+abbrev pub selecting : Source → Source
+selecting selector = node SelectorOp (more selector no_more)
+
+abbrev pub root : Source → Source
+root source = node RootOp (more source no_more)
+
+abbrev pub of_both : SetRule → Source → Source → Source
+of_both rule first second = node (SetOp rule) (more first (more second no_more))
+
+-- renaming forms
+abbrev pub form : Renaming → Source → Source
+form renaming source = node (RenameOp renaming) (more source no_more)
+
+abbrev pub prefix : String → Source → Source
+prefix added source = form (AddPrefix (codes added)) source
+
+abbrev pub suffix : String → Source → Source
+suffix added source = form (AddSuffix (codes added)) source
+
+abbrev pub fixed : String → Source → Source
+fixed name source = form (SetName (codes name)) source
+
+-- operators and aliases over source expressions
+abbrev pub source_binary : Operator → Source → Source → Source
+source_binary operator left right = node (Plain (BinaryOp operator)) (more left (more right no_more))
+
+abbrev pub plus : Source → Source → Source
+plus left right = source_binary Plus left right
+
+abbrev pub equals : Source → Source → Source
+equals left right = source_binary Eq left right
+
+abbrev pub source_alias : String → Source → Source
+source_alias name operand = node (Plain (AliasOp (codes name))) (more operand no_more)
+
 -- of each type the first values are those of literals, and the others aren't
 abbrev pub HasLiterals : List (Ty × List Val × List Val) → Type 0
 HasLiterals table =
@@ -450,8 +519,18 @@ empty_scan schema = node (scan_op None schema) no_more
 abbrev pub select : List Expression → Plan → Plan
 select outputs input = node (select_op (map named outputs) None) (more input no_more)
 
+abbrev pub stack : List Expression → Plan → Plan
+stack outputs input = node (hstack_op (map named outputs) None) (more input no_more)
+
 abbrev pub keep : Expression → Plan → Plan
 keep predicate input = node (filter_op (named predicate)) (more input no_more)
+
+abbrev pub project : Columns → Plan → Plan
+project columns input = node (simple_projection_op columns None) (more input no_more)
+
+-- a select of source expressions
+abbrev pub source_select : List Source → SourcePlan → SourcePlan
+source_select sources input = node (select_op sources None) (more input no_more)
 
 -- ---- parts of plans
 
@@ -464,6 +543,14 @@ schema_au = (codes "a", int8) ∷ (codes "u", uint64) ∷ []
 
 abbrev pub schema_abu : Columns
 schema_abu = (codes "a", int8) ∷ (codes "b", int32) ∷ (codes "u", uint64) ∷ []
+
+-- two columns of one type, and a text
+abbrev pub schema_abc : Columns
+schema_abc = (codes "a", int8) ∷ (codes "b", int8) ∷ (codes "c", TextType) ∷ []
+
+-- two rows of them, with nulls
+abbrev pub numbers_and_texts : Frame
+numbers_and_texts = frame_with schema_abc ((number 1 ∷ number 2 ∷ text "x" ∷ []) ∷ (null ∷ number 4 ∷ null ∷ []) ∷ [])
 
 abbrev pub schema_flagged : Columns
 schema_flagged = (codes "a", int8) ∷ (codes "keep", Truth) ∷ []

@@ -1,13 +1,16 @@
 //! Plans that are built call by call.
-ghost use Rattle.std.specs.Prelude.{◌≡◌, ◌∷◌, map, IfOk, IfErr};
+ghost use Rattle.std.specs.Prelude.{◌≡◌, ◌<◌, ◌∷◌, map, vec_len, IfOk, IfErr};
 ghost use Rattle.plan_types.specs.Errors.{no_memory};
 ghost use Rattle.plan_types.specs.Schemas.{columns};
 ghost use Rattle.plan_dsl.specs.Expressions.{tree_of};
-ghost use Rattle.plan_dsl.specs.Plans.{plan_tree, options_in, scan_op, written_filter, written_select};
+ghost use Rattle.plan_dsl.specs.Plans.{plan_tree, options_in, scan_op, written_drop, written_filter, written_hstack, written_select};
+ghost use Rattle.plan_dsl.specs.Selectors.{selector_tree};
 ghost use Rattle.plan_dsl.specs.Trees.{node, no_more};
 
 use crate::expr::{Expr, Exprs};
+use crate::function::{DropFunction, DslFunction};
 use crate::plan::{DslPlan, ProjectionOptions};
+use crate::selector::{Selector, Selectors};
 use plan_types::error::PlanError;
 use plan_types::schema::Schema;
 use std::alloc::Global;
@@ -43,6 +46,30 @@ impl DslBuilder {
         }))
     }
 
+    /// The plan with a column for each expression, in place of its namesake or behind the others: without expressions
+    /// the plan itself.
+    pub fn with_columns(
+        self,
+        alloc: Global,
+        exprs: Vec<Expr>,
+        options: ProjectionOptions,
+    ) -> Result<DslBuilder, PlanError>
+        ensures none { IfOk result (λ built. vec_len exprs ≡ 0 → built ≡ self) }
+        ensures ok { IfOk result (λ built. 0 < vec_len exprs → plan_tree built.0 ≡ written_hstack (map tree_of exprs.items) (plan_tree self.0)) }
+        ensures options { IfOk result (λ built. 0 < vec_len exprs → options_in built.0 ≡ options ∷ options_in self.0) }
+        ensures err { IfErr result (λ error. error ≡ no_memory) }
+    {
+        if exprs.is_empty() {
+            return Ok(self);
+        }
+        let input = Box::new(alloc, self.0)?;
+        Ok(DslBuilder(DslPlan::HStack {
+            exprs: Exprs { items: exprs },
+            input,
+            options,
+        }))
+    }
+
     /// The rows for which the predicate is true.
     pub fn filter(self, alloc: Global, predicate: Expr) -> Result<DslBuilder, PlanError>
         ensures ok { IfOk result (λ built. plan_tree built.0 ≡ written_filter (tree_of predicate) (plan_tree self.0)) }
@@ -51,6 +78,25 @@ impl DslBuilder {
     {
         let input = Box::new(alloc, self.0)?;
         Ok(DslBuilder(DslPlan::Filter { input, predicate }))
+    }
+
+    /// Without the columns that the selectors name. Where it is strict, each of them must stand.
+    pub fn drop(
+        self,
+        alloc: Global,
+        to_drop: Vec<Selector>,
+        strict: bool,
+    ) -> Result<DslBuilder, PlanError>
+        ensures ok { IfOk result (λ built. plan_tree built.0 ≡ written_drop (map selector_tree to_drop.items) strict (plan_tree self.0)) }
+        ensures options { IfOk result (λ built. options_in built.0 ≡ options_in self.0) }
+        ensures err { IfErr result (λ error. error ≡ no_memory) }
+    {
+        let input = Box::new(alloc, self.0)?;
+        let to_drop = Selectors { items: to_drop };
+        Ok(DslBuilder(DslPlan::MapFunction {
+            input,
+            function: DslFunction::Drop(DropFunction { to_drop, strict }),
+        }))
     }
 
     /// The plan.

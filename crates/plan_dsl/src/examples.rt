@@ -3,8 +3,11 @@
 pub mod aliases;
 pub mod arithmetic;
 pub mod bits;
+pub mod drops;
+pub mod expansion;
 pub mod expressions;
 pub mod filters;
+pub mod hstacks;
 pub mod kinds;
 pub mod lists_and_structs;
 pub mod literal_kinds;

@@ -4,11 +4,13 @@
 pub mod builder;
 mod examples;
 pub mod expr;
+pub mod function;
 pub mod laws;
 pub mod literal;
 pub mod operator;
 pub mod plan;
 pub mod plan_laws;
+pub mod selector;
 pub mod signature;
 pub mod sort_options;
 pub mod udfs;

@@ -4,6 +4,7 @@ ghost use Rattle.plan_dsl.specs.Plans.{plan_tree, options_in, empty_table};
 ghost use Rattle.plan_types.specs.Errors.{no_memory};
 
 use crate::expr::{Expr, Exprs};
+use crate::function::DslFunction;
 use plan_types::error::PlanError;
 use plan_types::schema::Schema;
 use std::alloc::Global;
@@ -36,6 +37,17 @@ pub enum DslPlan {
     Filter {
         input: Box<DslPlan>,
         predicate: Expr,
+    },
+    /// The input's frame with a column for each expression, in place of its namesake or behind the others.
+    HStack {
+        exprs: Exprs,
+        input: Box<DslPlan>,
+        options: ProjectionOptions,
+    },
+    /// What a function makes of the input's frame.
+    MapFunction {
+        input: Box<DslPlan>,
+        function: DslFunction,
     },
     /// A frame of a column for each expression.
     Select {
@@ -76,6 +88,28 @@ impl DslPlan {
                 Ok(DslPlan::Filter {
                     input: Box::new(alloc, input)?,
                     predicate,
+                })
+            }
+            DslPlan::HStack {
+                exprs,
+                input,
+                options,
+            } => {
+                let exprs = exprs.try_clone(alloc)?;
+                let input = input.try_clone(alloc)?;
+                let input = Box::new(alloc, input)?;
+                Ok(DslPlan::HStack {
+                    exprs,
+                    input,
+                    options: *options,
+                })
+            }
+            DslPlan::MapFunction { input, function } => {
+                let input = input.try_clone(alloc)?;
+                let function = function.try_clone(alloc)?;
+                Ok(DslPlan::MapFunction {
+                    input: Box::new(alloc, input)?,
+                    function,
                 })
             }
             DslPlan::Select {

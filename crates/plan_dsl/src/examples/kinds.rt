@@ -11,29 +11,23 @@ ghost use Rattle.plan_dsl.specs.Trees.{node, no_more, more};
 ghost use Rattle.plan_dsl.specs.Ops.{LiteralOp, LenOp, SliceOp};
 ghost use Rattle.plan_dsl.specs.Names.{name_of};
 ghost use Rattle.plan_dsl.specs.Slices.{slice_start, slice_values};
-ghost use Rattle.plan_dsl.specs.Signatures.{count_type};
 ghost use Rattle.plan_dsl.specs.Typing.{Typed, Ruling, rule, typing, kinds_in};
 ghost use Rattle.plan_dsl.specs.Meaning.{meaning};
 ghost use Rattle.plan_dsl.specs.Strictness.{as_operands, is_strict};
 ghost use Rattle.plan_dsl.specs.PlanRules.{schema_of};
 ghost use Rattle.plan_dsl.specs.Samples.{Gives, GivesOfTwo, GivesAll, int8, int32, int64, uint32, uint64, null, number, text, a, b, c, count, literal, typed_literal, one, two, five, below, huge, nothing, less, sum, cast_as, slice, one_value, many_values, of_many, of_one, means, runs, alone, one_to_five, scan, schema_ab, select, table};
 
-/// A count is one value of 32 bits without a sign, named `len`, and takes no operand.
-pub fn types_of_counts()
+/// A count is one value of 32 bits without a sign, named `len`, and takes no operand. The rows that it is asked on are
+/// counted, with nulls in them or not. Past 2^32 - 1 the count wraps around.
+pub fn counts()
     ensures types { Gives (typing [] schema_ab) (
-        (count, of_one uint32) ∷ (sum count a, of_many int64) ∷ (sum count (literal (pos 1)), of_one uint32) ∷
-        (node LenOp (more a no_more), Err SchemaMismatch) ∷ []) }
+        (count, of_one uint32) ∷ (sum count a, of_many int64) ∷ (sum count (literal (pos 1)), of_one uint32) ∷ (node LenOp (more a no_more), Err SchemaMismatch) ∷ []) }
     ensures strict { Gives (is_strict [] schema_ab) ((count, true) ∷ (sum count count, true) ∷ (sum count b, false) ∷ []) }
     ensures schema { schema_of [] (select (count ∷ []) (scan schema_ab)) ≡ Some ((codes "len", uint32) ∷ []) }
-{}
-
-/// The rows that it is asked on are counted, with nulls in them or not. Past 2^32 - 1 the count wraps around.
-pub fn values_of_counts()
-    ensures rows { Gives (meaning [] table count) (
-        ([], Done (number 0 ∷ [])) ∷ (2 ∷ [], Done (number 1 ∷ [])) ∷ (0 ∷ 1 ∷ 0 ∷ 2 ∷ [], Done (number 4 ∷ [])) ∷ []) }
+    ensures rows { Gives (meaning [] table count) (([], Done (number 0 ∷ [])) ∷ (2 ∷ [], Done (number 1 ∷ [])) ∷ (0 ∷ 1 ∷ 0 ∷ 2 ∷ [], Done (number 4 ∷ [])) ∷ []) }
     ensures beside { means table (sum count a) ≡ Done (number 4 ∷ null ∷ number 103 ∷ []) }
     ensures runs { runs table (sum count count) ≡ Done (number 6 ∷ []) }
-    ensures wrapped { Gives (wrapped count_type) ((pos 4294967295, pos 4294967295) ∷ (pos 4294967296, pos 0) ∷ (pos 4294967301, pos 5) ∷ []) }
+    ensures wrapped { Gives (wrapped uint32) ((pos 4294967295, pos 4294967295) ∷ (pos 4294967296, pos 0) ∷ (pos 4294967301, pos 5) ∷ []) }
 {}
 
 /// A slice has the name and the type of its input, and maybe another length than one, also where the input has one value.

@@ -1,4 +1,5 @@
-use Rattle.plan_dsl.proofs.ResolvingLemmas.{written_is_expanded, places_stay, resolved_breaks_nothing, nothing_is_told, scans_are_kept, query_has_schema}
+use Rattle.plan_dsl.proofs.ExpansionLemmas.{written_is_expanded}
+use Rattle.plan_dsl.proofs.ResolvingLemmas.{places_stay, resolved_breaks_nothing, nothing_is_told, scans_are_kept, query_has_schema}
 use Rattle.plan_dsl.proofs.plan_laws.query_laws.Goals as goal
 
 pub returns : goal.returns
