@@ -4,10 +4,11 @@ use Rattle.std.specs.Prelude.{◌≡◌, ◌≢◌, ◌≤◌, ℕ, List, [], �
 use Rattle.std.specs.List.{AllByRecursion}
 use Rattle.plan_types.specs.Types.{ty}
 use Rattle.plan_types.specs.Schemas.{columns}
-use Rattle.plan_dsl.specs.Ops.{Op, ColumnOp, BinaryOp, CastOp, LenOp, SliceOp, AliasOp, Expression, ExplodeOp, GatherOp, FilterOp, SortOp, SortByOp}
+use Rattle.plan_dsl.specs.Expressions.{sort_by_op}
+use Rattle.plan_dsl.specs.Ops.{Op, ColumnOp, BinaryOp, CastOp, LenOp, SliceOp, AliasOp, Expression, ExplodeOp, GatherOp, FilterOp, SortOp}
 use Rattle.plan_dsl.specs.Literals.{literal_op}
 use Rattle.plan_dsl.specs.Names.{Label, FromField, FromNothing, alias_label, column_label, literal_label}
-use Rattle.plan_dsl.specs.Plans.{PlanKind, ScanKind, SelectKind, FilterKind, RefusedKind, PlanOp, Plan, Named, scan_op, select_op, filter_op}
+use Rattle.plan_dsl.specs.Plans.{PlanKind, ScanKind, SelectKind, HStackKind, FilterKind, SimpleProjectionKind, DropKind, RefusedKind, PlanOp, Plan, Named, scan_op, select_op, hstack_op, filter_op, simple_projection_op}
 use Rattle.plan_arena.specs.Denotation.{Denotes, DenoteAll, DenotesTree}
 use Rattle.plan_arena.specs.Layers.{Layer, layer, op_of, inputs_of}
 use Rattle.plan_dsl.specs.Trees.{node}
@@ -18,7 +19,7 @@ use Rattle.plan_arena.specs.declared.expr_ir.OutputName.{OutputName}
 use Rattle.plan_arena.specs.declared.expr_ir.OutputName.TheVariants.{None as Unnamed, ColumnLhs, LiteralLhs, Alias as NamedByAlias, Field}
 use Rattle.plan_arena.specs.declared.expr_ir.ExprIR.{ExprIR}
 use Rattle.plan_arena.specs.declared.ir.IR.{IR}
-use Rattle.plan_arena.specs.declared.ir.IR.TheVariants.{DataFrameScan, Filter, Select, Invalid}
+use Rattle.plan_arena.specs.declared.ir.IR.TheVariants.{DataFrameScan, Filter, HStack, Select, SimpleProjection, Invalid}
 use Rattle.plan_arena.specs.declared.plan.IRPlan.{IRPlan}
 
 -- the numbers of nodes
@@ -38,7 +39,7 @@ expression_layer (Explode input) = layer ExplodeOp (input.0 ∷ [])
 expression_layer (Gather expr idx returns_scalar) = layer (GatherOp returns_scalar) (expr.0 ∷ idx.0 ∷ [])
 expression_layer (FilterBy input by) = layer FilterOp (input.0 ∷ by.0 ∷ [])
 expression_layer (Sort expr options) = layer (SortOp options) (expr.0 ∷ [])
-expression_layer (SortBy expr by sort_options) = layer (SortByOp sort_options.descending.items.items sort_options.nulls_last.items.items) (expr.0 ∷ numbers by.items.items)
+expression_layer (SortBy expr by sort_options) = layer (sort_by_op sort_options) (expr.0 ∷ numbers by.items.items)
 
 -- the name of an output, with what it comes from
 abbrev pub output_label : OutputName → Label
@@ -56,14 +57,19 @@ named_node expr = record { label = output_label expr.output_name; expression = e
 abbrev pub plan_layer : IR → Layer (PlanOp (Named ℕ))
 plan_layer (DataFrameScan table schema) = layer (scan_op table (columns schema)) []
 plan_layer (Select expr input schema options) = layer (select_op (map named_node expr.items.items) (Some (columns schema))) (input.0 ∷ [])
+plan_layer (HStack exprs input schema options) = layer (hstack_op (map named_node exprs.items.items) (Some (columns schema))) (input.0 ∷ [])
 plan_layer (Filter input predicate) = layer (filter_op (named_node predicate)) (input.0 ∷ [])
+plan_layer (SimpleProjection input schema) = layer (simple_projection_op (columns schema) (Some (columns schema))) (input.0 ∷ [])
 plan_layer Invalid = layer (record { kind = RefusedKind []; recorded = None }) []
 
--- what a report calls a node of the kind
+-- what a report calls a node of the kind. No item is a drop
 abbrev pub kind_text : {E : Type 0} → PlanKind E → List ℕ
 kind_text (ScanKind table schema) = codes "df"
 kind_text (SelectKind outputs) = codes "projection"
+kind_text (HStackKind outputs) = codes "hstack"
 kind_text (FilterKind predicate) = codes "selection"
+kind_text (SimpleProjectionKind columns) = codes "simple_projection"
+kind_text (DropKind selectors strict) = codes "invalid"
 kind_text (RefusedKind kinds) = codes "invalid"
 
 abbrev pub node_name : IR → List ℕ
@@ -84,13 +90,18 @@ DenoteNamed expressions (n ∷ ns) (e ∷ es) = (n.label ≡ e.label) × Denotes
 DenoteNamed expressions [] (e ∷ es) = ⊥
 DenoteNamed expressions (n ∷ ns) [] = ⊥
 
--- a kind over nodes is a kind over expressions. What is refused, as an item that was taken out, is none
+-- a kind over nodes is a kind over expressions. A drop is none, and neither is what is refused, as an item that was taken
+-- out
 abbrev pub DenotesKind : List AExpr → PlanKind (Named ℕ) → PlanKind (Named Expression) → Type 0
 DenotesKind expressions (ScanKind table schema) kind = kind ≡ ScanKind table schema
 DenotesKind expressions (SelectKind nodes) kind =
     (outputs : List (Named Expression)) × (kind ≡ SelectKind outputs) × DenoteNamed expressions nodes outputs
+DenotesKind expressions (HStackKind nodes) kind =
+    (outputs : List (Named Expression)) × (kind ≡ HStackKind outputs) × DenoteNamed expressions nodes outputs
 DenotesKind expressions (FilterKind flat) kind =
     (predicate : Named Expression) × (kind ≡ FilterKind predicate) × DenoteNamed expressions (flat ∷ []) (predicate ∷ [])
+DenotesKind expressions (SimpleProjectionKind columns) kind = kind ≡ SimpleProjectionKind columns
+DenotesKind expressions (DropKind selectors strict) kind = ⊥
 DenotesKind expressions (RefusedKind kinds) kind = ⊥
 
 -- an op over nodes is an op over expressions

@@ -31,12 +31,24 @@ pub enum IR {
         input: Node,
         predicate: ExprIR,
     },
+    /// The input's frame with a column for each expression, in place of its namesake or behind the others.
+    HStack {
+        exprs: ExprIRs,
+        input: Node,
+        schema: Schema,
+        options: ProjectionOptions,
+    },
     /// A frame of a column for each expression.
     Select {
         expr: ExprIRs,
         input: Node,
         schema: Schema,
         options: ProjectionOptions,
+    },
+    /// The input's frame in some of its columns.
+    SimpleProjection {
+        input: Node,
+        columns: Schema,
     },
     /// No plan: what is left where a node was taken out.
     #[default]
@@ -64,6 +76,21 @@ impl IR {
                     predicate,
                 })
             }
+            IR::HStack {
+                exprs,
+                input,
+                schema,
+                options,
+            } => {
+                let exprs = exprs.try_clone(alloc)?;
+                let schema = schema.try_clone(alloc)?;
+                Ok(IR::HStack {
+                    exprs,
+                    input: *input,
+                    schema,
+                    options: *options,
+                })
+            }
             IR::Select {
                 expr,
                 input,
@@ -79,6 +106,13 @@ impl IR {
                     options: *options,
                 })
             }
+            IR::SimpleProjection { input, columns } => {
+                let columns = columns.try_clone(alloc)?;
+                Ok(IR::SimpleProjection {
+                    input: *input,
+                    columns,
+                })
+            }
             IR::Invalid => Ok(IR::Invalid),
         }
     }
@@ -90,7 +124,9 @@ impl IR {
         match self {
             IR::DataFrameScan { .. } => "df",
             IR::Filter { .. } => "selection",
+            IR::HStack { .. } => "hstack",
             IR::Select { .. } => "projection",
+            IR::SimpleProjection { .. } => "simple_projection",
             IR::Invalid => "invalid",
         }
     }
@@ -131,7 +167,10 @@ impl IR {
         ensures { (op_of (plan_layer self.now)).recorded ≡ Some (columns result.now) }
     {
         match self {
-            IR::DataFrameScan { schema, .. } | IR::Select { schema, .. } => schema,
+            IR::DataFrameScan { schema, .. }
+            | IR::HStack { schema, .. }
+            | IR::Select { schema, .. } => schema,
+            IR::SimpleProjection { columns, .. } => columns,
             IR::Filter { .. } | IR::Invalid => unreachable!(),
         }
     }

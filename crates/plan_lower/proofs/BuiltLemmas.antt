@@ -1,40 +1,40 @@
--- What is built from scans, filters and selects, and why a filter or a select isn't.
-use Rattle.std.proofs.Common.{◌≡◌, ◌⊎◌, inl, inr, ℕ, List, [], ◌∷◌, ◌++◌, map, true, false, is_some, Option, Some, None, Ok, refl, sym, ap, ◌∙◌, subst, ⊎_elim}
+-- What is built from scans, filters, selects and hstacks, and why one of the last three isn't.
+use Rattle.std.proofs.Common.{◌≡◌, ◌⊎◌, inl, inr, ℕ, List, [], ◌∷◌, ◌++◌, map, true, false, is_some, Option, Some, None, Ok, Err, refl, sym, ap, ◌∙◌, subst, ⊎_elim}
 use Rattle.std.specs.List.{AllByRecursion, Contains}
 use Rattle.std.proofs.lemmas.List.{map-append}
 use Rattle.plan_types.specs.Types.{Truth}
-use Rattle.plan_types.specs.Schemas.{Columns, HasDistinctNames, names_of, all_known}
-use Rattle.plan_types.specs.Outcomes.{Meets}
+use Rattle.plan_types.specs.Schemas.{Columns, type_at, HasDistinctNames, names_of, all_known}
+use Rattle.plan_types.specs.Outcomes.{Outcome, Meets}
 use Rattle.plan_types.specs.Frames.{Frame, IsFrameOf}
 use Rattle.plan_types.specs.Errors.{no_memory, at_top, IsMemoryOr}
 use Rattle.plan_types.specs.declared.error.ErrorKind.{ErrorKind}
-use Rattle.plan_types.specs.declared.error.ErrorKind.TheVariants.{Duplicate, InvalidOperation, NoMemory}
+use Rattle.plan_types.specs.declared.error.ErrorKind.TheVariants.{Duplicate, InvalidOperation, ComputeError, NoMemory}
 use Rattle.plan_types.specs.declared.error.PlanError.{PlanError}
 use Rattle.plan_types.proofs.ListLemmas.{map-map}
 use Rattle.plan_dsl.specs.Registry.{Registry}
 use Rattle.plan_dsl.specs.Trees.{node, no_more, more}
 use Rattle.plan_dsl.specs.Ops.{Expression}
 use Rattle.plan_dsl.specs.Names.{Label, label_of, name_of}
-use Rattle.plan_dsl.specs.Plans.{PlanOp, Plan, Named, named, scan_op, select_op, filter_op}
+use Rattle.plan_dsl.specs.Plans.{PlanOp, Plan, Named, named, scan_op, select_op, hstack_op, filter_op, expressions_of, own_scans}
 use Rattle.plan_dsl.specs.Aliases.{IsCore, core}
 use Rattle.plan_dsl.specs.Literals.{settled}
 use Rattle.plan_dsl.specs.Typing.{Typed, typing}
-use Rattle.plan_dsl.specs.PlanRules.{plan_rule, schema_of, broken_kinds, Breaks}
-use Rattle.plan_dsl.specs.PlanKernels.{selected, filtered}
+use Rattle.plan_dsl.specs.PlanRules.{with_columns, plan_rule, schema_of, broken_kinds, Breaks}
+use Rattle.plan_dsl.specs.PlanKernels.{plan_kernel}
 use Rattle.plan_dsl.specs.PlanMeaning.{by_meaning, FitsPlan, MeetsWhere}
 use Rattle.plan_dsl.proofs.FrameLemmas.{fits_input, fits_over}
-use Rattle.plan_dsl.proofs.KernelLemmas.{AgreeOn, selected_agrees, filtered_agrees}
+use Rattle.plan_dsl.proofs.KernelLemmas.{AgreeOn, selected_agrees, hstacked_agrees, filtered_agrees}
 use Rattle.plan_dsl.proofs.LiteralLemmas.{strict_settled, settled_label}
 use Rattle.plan_dsl.proofs.AliasLemmas.{core_label, core_none}
 use Rattle.plan_coerce.proofs.CoercedLemmas.{coerced_core}
 use Rattle.plan_dsl.proofs.RunLemmas.{strict_is_meaning}
-use Rattle.plan_dsl.proofs.RuleLemmas.{scan_schema, scan_unknown_kind, select_schema, select_refused_kind, select_repeated_name, filter_schema, filter_refused_kind, filter_other_type, broken_is_ill_formed}
-use Rattle.plan_arena.specs.Runs.{AreStrictOver, HasOwnName, IsStrictCore, by_running, plan_run}
+use Rattle.plan_dsl.proofs.RuleLemmas.{scan_schema, scan_unknown_kind, select_schema, select_refused_kind, select_repeated_name, hstack_schema, hstack_refused_kind, hstack_repeated_name, filter_schema, filter_refused_kind, filter_other_type, broken_is_ill_formed}
+use Rattle.plan_arena.specs.Runs.{AreStrict, HasOwnName, HasRecorded, HaveOwnNames, IsStrictCore, by_running, plan_run}
 use Rattle.plan_arena.proofs.RunLemmas.{runs_soundly, sound_top}
-use Rattle.plan_lower.specs.Outputs.{Lowered, IsLowered, lowered_named, lowered_column, lowered_select, SelectsTo}
+use Rattle.plan_lower.specs.Outputs.{Lowered, IsLowered, lowered_named, lowered_column, lowered_select, lowered_hstack, SelectsTo}
 use Rattle.plan_lower.specs.Projection.{IsOutputRefusal, no_room, untyped, repeated, IsProjectionRefusal, out_of_memory as no_space, refused}
 use Rattle.plan_lower.specs.Predicates.{FiltersBy, IsPredicateRefusal, without_room, without_type, of_other_type, lowered_filter}
-use Rattle.plan_lower.specs.Lowering.{IsBuilt, IsPlanRefusal, out_of_memory, broken, source_select, source_filter}
+use Rattle.plan_lower.specs.Lowering.{IsBuilt, IsPlanRefusal, out_of_memory, broken, source_select, source_hstack, source_filter}
 
 abbrev output_label : Lowered → Label
 output_label o = label_of o.tree
@@ -89,9 +89,6 @@ module _ (registry : Registry) where
   each_named schema [] each = tt
   each_named schema (o ∷ os) each = (own_named schema o each.0, each_named schema os each.1)
 
-  strict_over : (schema : Columns) (under : Option Columns) (outputs : List (Named Expression)) → under ≡ Some schema → AllByRecursion (λ (o : Named Expression). IsStrictCore registry schema o.expression) outputs → AreStrictOver registry under outputs
-  strict_over schema under outputs is strict = subst (λ u. AreStrictOver registry u outputs) (sym is) strict
-
   -- what stands for an expression gives what the expression means
   agree : (schema : Columns) (outputs : List Lowered) → AllByRecursion (IsLowered registry schema) outputs → AgreeOn schema (by_running registry) (by_meaning registry) (map lowered_named outputs) (map (λ (o : Lowered). named o.tree) outputs)
   agree schema [] each rows = refl
@@ -113,8 +110,28 @@ module _ (registry : Registry) where
   abbrev source_plan : List Lowered → Plan → Plan
   source_plan outputs source = node (select_op (source_outputs outputs) None) (more source no_more)
 
-  over_schema : (op : PlanOp (Named Expression)) (input : Plan) (schema own : Columns) → schema_of registry input ≡ Some schema → plan_rule registry op (Some schema ∷ []) ≡ Some own → schema_of registry (node op (more input no_more)) ≡ Some own
+  pub over_schema : (op : PlanOp (Named Expression)) (input : Plan) (schema own : Columns) → schema_of registry input ≡ Some schema → plan_rule registry op (Some schema ∷ []) ≡ Some own → schema_of registry (node op (more input no_more)) ≡ Some own
   over_schema op input schema own there rule = ap (λ s. plan_rule registry op (s ∷ [])) there ∙ rule
+
+  -- a node over what was built from its input: both have the schema over the input's, and it records that or none; its
+  -- expressions are strict and named, and give over frames of the input's schema what those of the query's node give
+  pub over_built : (before op : PlanOp (Named Expression)) (source lowered : Plan) (schema own : Columns) → IsBuilt registry source lowered schema → plan_rule registry before (Some schema ∷ []) ≡ Some own → plan_rule registry op (Some schema ∷ []) ≡ Some own → HasRecorded op.recorded (Some own) → AreStrict registry (Some schema ∷ []) (expressions_of op.kind) → HaveOwnNames (expressions_of op.kind) → own_scans op.kind ≡ [] → ((tables : List Frame) (input : Outcome Frame) → Meets (IsFrameOf schema) input → plan_kernel tables (by_running registry) op (input ∷ []) ≡ plan_kernel tables (by_meaning registry) before (input ∷ [])) → IsBuilt registry (node before (more source no_more)) (node op (more lowered no_more)) own
+  over_built before op source lowered schema own built rule_before rule_op recorded strict names scans agrees =
+      let there = over_schema before source schema own built.source_schema rule_before in
+      let here = over_schema op lowered schema own built.lowered_schema rule_op in
+      record {
+        well_formed = (ap is_some there, (built.well_formed, tt));
+        source_schema = there;
+        lowered_schema = here;
+        accepted = (subst (HasRecorded op.recorded) (sym here) recorded, (built.accepted, tt));
+        strict = (subst (λ s. AreStrict registry (s ∷ []) (expressions_of op.kind)) (sym built.lowered_schema) strict, (built.strict, tt));
+        names = (names, (built.names, tt));
+        fits = λ tables f. fits_over tables op lowered scans (built.fits tables (fits_input tables before source f));
+        same = λ tables f.
+            let under = fits_input tables before source f in
+            agrees tables (plan_run registry tables lowered) (built_meets source lowered schema tables built under)
+            ∙ ap (λ input. plan_kernel tables (by_meaning registry) before (input ∷ [])) (built.same tables under);
+      }
 
   select_columns : (schema : Columns) (recorded : Option Columns) (outputs : List Lowered) → AllByRecursion (IsLowered registry schema) outputs → HasDistinctNames (map lowered_column outputs) → plan_rule registry (select_op (source_outputs outputs) recorded) (Some schema ∷ []) ≡ Some (map lowered_column outputs)
   select_columns schema recorded outputs each distinct =
@@ -137,22 +154,9 @@ module _ (registry : Registry) where
   built_over source lowered schema built (o ∷ os) each distinct =
       let outputs = o ∷ os in
       let own = map lowered_column outputs in
-      let there = over_schema (select_op (source_outputs outputs) None) source schema own built.source_schema (select_columns schema None outputs each distinct) in
-      let op = select_op (map lowered_named outputs) (Some own) in
-      let here = over_schema op lowered schema own built.lowered_schema (select_schema registry schema output_label (λ (o : Lowered). o.after) output_typed (Some own) outputs (each_after_typed schema outputs each) distinct) in
-      record {
-        well_formed = (ap is_some there, (built.well_formed, tt));
-        source_schema = there;
-        lowered_schema = here;
-        accepted = (here, (built.accepted, tt));
-        strict = ((strict_over schema _ (map lowered_named outputs) built.lowered_schema (each_strict schema outputs each), tt), (built.strict, tt));
-        names = ((each_named schema outputs each, tt), (built.names, tt));
-        fits = λ tables f. fits_over tables op lowered refl (built.fits tables (fits_input tables (select_op (source_outputs outputs) None) source f));
-        same = λ tables f.
-            let under = fits_input tables (select_op (source_outputs outputs) None) source f in
-            selected_agrees (by_running registry) (by_meaning registry) (map lowered_named outputs) (source_outputs outputs) schema (plan_run registry tables lowered) (agree schema outputs each) (built_meets source lowered schema tables built under)
-            ∙ ap (λ input. selected (by_meaning registry) (source_outputs outputs) input) (built.same tables under);
-      }
+      let here = select_schema registry schema output_label (λ (o : Lowered). o.after) output_typed (Some own) outputs (each_after_typed schema outputs each) distinct in
+      over_built (select_op (source_outputs outputs) None) (select_op (map lowered_named outputs) (Some own)) source lowered schema own built (select_columns schema None outputs each distinct) here refl (each_strict schema outputs each, tt) (each_named schema outputs each, tt) refl
+      (λ tables input meets. selected_agrees (by_running registry) (by_meaning registry) (map lowered_named outputs) (source_outputs outputs) schema input (agree schema outputs each) meets)
 
   -- the same of a select of expressions that become the outputs
   pub select_built : (source lowered : Plan) (schema : Columns) (trees : List Expression) (outputs : List Lowered) → IsBuilt registry source lowered schema → SelectsTo registry schema trees outputs → IsBuilt registry (source_select trees source) (lowered_select outputs lowered) (map lowered_column outputs)
@@ -161,26 +165,28 @@ module _ (registry : Registry) where
       let expressions = sym same_outputs ∙ ap (map named) selects.trees_are in
       subst (λ es. IsBuilt registry (node (select_op es None) (more source no_more)) (lowered_select outputs lowered) (map lowered_column outputs)) expressions (built_over source lowered schema built outputs selects.each selects.distinct)
 
+  -- an hstack over what was built from its input
+  stacked_over : (source lowered : Plan) (schema : Columns) → IsBuilt registry source lowered schema → (outputs : List Lowered) → AllByRecursion (IsLowered registry schema) outputs → HasDistinctNames (map lowered_column outputs) → IsBuilt registry (node (hstack_op (source_outputs outputs) None) (more source no_more)) (lowered_hstack schema outputs lowered) (with_columns schema (map lowered_column outputs))
+  stacked_over source lowered schema built outputs each distinct =
+      let own = with_columns schema (map lowered_column outputs) in
+      let there = hstack_schema registry schema output_label (λ (o : Lowered). core o.tree) output_typed None outputs (each_typed schema outputs each) distinct in
+      let here = hstack_schema registry schema output_label (λ (o : Lowered). o.after) output_typed (Some own) outputs (each_after_typed schema outputs each) distinct in
+      over_built (hstack_op (source_outputs outputs) None) (hstack_op (map lowered_named outputs) (Some own)) source lowered schema own built there here refl (each_strict schema outputs each, tt) (each_named schema outputs each, tt) refl
+      (λ tables input meets. hstacked_agrees (by_running registry) (by_meaning registry) (map lowered_named outputs) (source_outputs outputs) schema input (agree schema outputs each) meets)
+
+  -- the same of an hstack of expressions that become the outputs
+  pub hstack_built : (source lowered : Plan) (schema : Columns) (trees : List Expression) (outputs : List Lowered) → IsBuilt registry source lowered schema → SelectsTo registry schema trees outputs → IsBuilt registry (source_hstack trees source) (lowered_hstack schema outputs lowered) (with_columns schema (map lowered_column outputs))
+  hstack_built source lowered schema trees outputs built selects =
+      let expressions = sym (map-map named (λ (o : Lowered). o.tree) outputs) ∙ ap (map named) selects.trees_are in
+      subst (λ es. IsBuilt registry (node (hstack_op es None) (more source no_more)) (lowered_hstack schema outputs lowered) (with_columns schema (map lowered_column outputs))) expressions (stacked_over source lowered schema built outputs selects.each selects.distinct)
+
   -- a filter by one output over what was built from its input
   filter_over : (source lowered : Plan) (schema : Columns) → IsBuilt registry source lowered schema → (o : Lowered) → IsLowered registry schema o → o.typed.type ≡ Truth → IsBuilt registry (source_filter o.tree source) (lowered_filter o lowered) schema
   filter_over source lowered schema built o is truth =
-      let before = filter_op (named o.tree) in
-      let op = filter_op (lowered_named o) in
-      let there = over_schema before source schema schema built.source_schema (filter_schema registry schema (named o.tree) o.typed is.typed truth) in
-      let here = over_schema op lowered schema schema built.lowered_schema (filter_schema registry schema (lowered_named o) o.typed (after_typed schema o is) truth) in
-      record {
-        well_formed = (ap is_some there, (built.well_formed, tt));
-        source_schema = there;
-        lowered_schema = here;
-        accepted = (ap is_some here, (built.accepted, tt));
-        strict = ((strict_over schema _ (lowered_named o ∷ []) built.lowered_schema (strict_core schema o is, tt), tt), (built.strict, tt));
-        names = ((each_named schema (o ∷ []) (is, tt), tt), (built.names, tt));
-        fits = λ tables f. fits_over tables op lowered refl (built.fits tables (fits_input tables before source f));
-        same = λ tables f.
-            let under = fits_input tables before source f in
-            filtered_agrees (by_running registry) (by_meaning registry) (lowered_named o) (named o.tree) schema (plan_run registry tables lowered) (agree schema (o ∷ []) (is, tt)) (built_meets source lowered schema tables built under)
-            ∙ ap (λ input. filtered (by_meaning registry) (named o.tree) input) (built.same tables under);
-      }
+      let there = filter_schema registry schema (named o.tree) o.typed is.typed truth in
+      let here = filter_schema registry schema (lowered_named o) o.typed (after_typed schema o is) truth in
+      over_built (filter_op (named o.tree)) (filter_op (lowered_named o)) source lowered schema schema built there here refl ((strict_core schema o is, tt), tt) (each_named schema (o ∷ []) (is, tt), tt) refl
+      (λ tables input meets. filtered_agrees (by_running registry) (by_meaning registry) (lowered_named o) (named o.tree) schema input (agree schema (o ∷ []) (is, tt)) meets)
 
   -- the same of a filter by an expression that becomes the output
   pub filter_built : (source lowered : Plan) (schema : Columns) (tree : Expression) (output : Lowered) → IsBuilt registry source lowered schema → FiltersBy registry schema tree output → IsBuilt registry (source_filter tree source) (lowered_filter output lowered) schema
@@ -194,7 +200,7 @@ module _ (registry : Registry) where
       broken breaks' (broken_is_ill_formed registry error.kind error.place plan breaks')
 
   -- one of a kind that a node over an input of the schema breaks
-  refused_over : (op : PlanOp (Named Expression)) (source : Plan) (schema : Columns) (kind : ErrorKind) (error : PlanError) → schema_of registry source ≡ Some schema → error ≡ at_top kind → Contains (broken_kinds registry op (Some schema ∷ [])) kind → IsPlanRefusal registry (node op (more source no_more)) error
+  pub refused_over : (op : PlanOp (Named Expression)) (source : Plan) (schema : Columns) (kind : ErrorKind) (error : PlanError) → schema_of registry source ≡ Some schema → error ≡ at_top kind → Contains (broken_kinds registry op (Some schema ∷ [])) kind → IsPlanRefusal registry (node op (more source no_more)) error
   refused_over op source schema kind error there e h =
       refused_top (node op (more source no_more)) kind error e (subst (λ s. Contains (broken_kinds registry op (s ∷ [])) kind) (sym there) h)
 
@@ -203,19 +209,32 @@ module _ (registry : Registry) where
   scan_refused_at table schema error h =
       ⊎_elim (λ e. out_of_memory e) (λ p. refused_top (node (scan_op table schema) no_more) InvalidOperation error p.0 (scan_unknown_kind schema p.1)) h
 
-  -- one of a select's expressions is refused
-  output_refused : (source : Plan) (schema : Columns) (front back : List Expression) (tree : Expression) (before : Columns) (error : PlanError) → schema_of registry source ≡ Some schema → names_of before ≡ map name_of front → IsOutputRefusal registry schema tree before error → IsPlanRefusal registry (node (select_op (map named front ++ named tree ∷ map named back) None) (more source no_more)) error
-  output_refused source schema front back tree before error there names (no_room e) = out_of_memory e
-  output_refused source schema front back tree before error there names (untyped kind e typing) =
-      refused_over (select_op (map named front ++ named tree ∷ map named back) None) source schema kind error there e (select_refused_kind registry schema None (map named front) (named tree) (map named back) kind typing)
-  output_refused source schema front back tree before error there names (repeated e found) =
-      refused_over (select_op (map named front ++ named tree ∷ map named back) None) source schema Duplicate error there e (select_repeated_name registry schema None before (map named front) (named tree) (map named back) (names ∙ sym (map-map (λ (o : Named Expression). o.label.name) named front)) found)
+  -- a node of expressions, which breaks the kind for which one of them is refused, and that of repeated names
+  module _ (source : Plan) (schema : Columns) (there : schema_of registry source ≡ Some schema) (make : List (Named Expression) → PlanOp (Named Expression)) (twice : ErrorKind)
+      (breaks : (front : List (Named Expression)) (o : Named Expression) (back : List (Named Expression)) (kind : ErrorKind) → typing registry schema (settled o.expression) ≡ Err kind → Contains (broken_kinds registry (make (front ++ o ∷ back)) (Some schema ∷ [])) kind)
+      (repeats : (before : Columns) (front : List (Named Expression)) (o : Named Expression) (back : List (Named Expression)) → names_of before ≡ map (λ (x : Named Expression). x.label.name) front → is_some (type_at before o.label.name) ≡ true → Contains (broken_kinds registry (make (front ++ o ∷ back)) (Some schema ∷ [])) twice) where
+    -- one of its expressions is refused
+    output_refused : (front back : List Expression) (tree : Expression) (before : Columns) (error : PlanError) → names_of before ≡ map name_of front → IsOutputRefusal registry schema twice tree before error → IsPlanRefusal registry (node (make (map named front ++ named tree ∷ map named back)) (more source no_more)) error
+    output_refused front back tree before error names (no_room e) = out_of_memory e
+    output_refused front back tree before error names (untyped kind e typing) =
+        refused_over (make (map named front ++ named tree ∷ map named back)) source schema kind error there e (breaks (map named front) (named tree) (map named back) kind typing)
+    output_refused front back tree before error names (repeated e found) =
+        refused_over (make (map named front ++ named tree ∷ map named back)) source schema twice error there e (repeats before (map named front) (named tree) (map named back) (names ∙ sym (map-map (λ (o : Named Expression). o.label.name) named front)) found)
 
-  pub select_refused_at : (source : Plan) (schema : Columns) (trees : List Expression) (error : PlanError) → schema_of registry source ≡ Some schema → IsProjectionRefusal registry schema trees error → IsPlanRefusal registry (source_select trees source) error
-  select_refused_at source schema trees error there (no_space e) = out_of_memory e
-  select_refused_at source schema trees error there (refused r) =
-      let outputs = sym (map-append named r.front (r.tree ∷ r.back)) ∙ ap (map named) (sym r.split) in
-      subst (λ os. IsPlanRefusal registry (node (select_op os None) (more source no_more)) error) outputs (output_refused source schema r.front r.back r.tree r.before error there r.names r.refusal)
+    outputs_refused : (trees : List Expression) (error : PlanError) → IsProjectionRefusal registry schema twice trees error → IsPlanRefusal registry (node (make (map named trees)) (more source no_more)) error
+    outputs_refused trees error (no_space e) = out_of_memory e
+    outputs_refused trees error (refused r) =
+        let outputs = sym (map-append named r.front (r.tree ∷ r.back)) ∙ ap (map named) (sym r.split) in
+        subst (λ os. IsPlanRefusal registry (node (make os) (more source no_more)) error) outputs (output_refused r.front r.back r.tree r.before error r.names r.refusal)
+
+  -- so of a select, and of an hstack
+  pub select_refused_at : (source : Plan) (schema : Columns) (trees : List Expression) (error : PlanError) → schema_of registry source ≡ Some schema → IsProjectionRefusal registry schema Duplicate trees error → IsPlanRefusal registry (source_select trees source) error
+  select_refused_at source schema trees error there r =
+      outputs_refused source schema there (λ os. select_op os None) Duplicate (select_refused_kind registry schema None) (select_repeated_name registry schema None) trees error r
+
+  pub hstack_refused_at : (source : Plan) (schema : Columns) (trees : List Expression) (error : PlanError) → schema_of registry source ≡ Some schema → IsProjectionRefusal registry schema ComputeError trees error → IsPlanRefusal registry (source_hstack trees source) error
+  hstack_refused_at source schema trees error there r =
+      outputs_refused source schema there (λ os. hstack_op os None) ComputeError (hstack_refused_kind registry schema None) (hstack_repeated_name registry schema None) trees error r
 
   -- a filter's predicate is refused
   pub filter_refused_at : (source : Plan) (schema : Columns) (tree : Expression) (error : PlanError) → schema_of registry source ≡ Some schema → IsPredicateRefusal registry schema tree error → IsPlanRefusal registry (source_filter tree source) error

@@ -1,4 +1,5 @@
 pub mod BuiltLemmas
+pub mod DropLemmas
 pub mod ExamplePlanLemmas
 pub mod NodeLemmas
 pub mod PlanLemmas

@@ -1,13 +1,14 @@
 -- Lowering of plans, node by node.
 use Rattle.std.proofs.Common.{◌≡◌, ◌⊎◌, ℕ, ◌<◌, List, [], ◌∷◌, ◌++◌, length, map, true, false, Option, Some, None, slice_get, refl, sym, ap, ◌∙◌, subst, arith}
 use Rattle.plan_types.specs.Schemas.{Columns, HasDistinctNames, all_known}
-use Rattle.plan_types.specs.declared.error.ErrorKind.TheVariants.{InvalidOperation, NoMemory}
+use Rattle.plan_types.specs.declared.error.ErrorKind.TheVariants.{Duplicate, InvalidOperation, ComputeError, NoMemory}
 use Rattle.plan_types.specs.Errors.{no_memory, IsMemoryOr}
 use Rattle.plan_types.specs.declared.error.PlanError.{PlanError}
 use Rattle.plan_dsl.specs.Registry.{Registry}
 use Rattle.plan_dsl.specs.Trees.{node, no_more, more}
 use Rattle.plan_dsl.specs.Ops.{Op, Expression}
-use Rattle.plan_dsl.specs.Plans.{PlanOp, Plan, Named, scan_op, select_op, filter_op, empty_table}
+use Rattle.plan_dsl.specs.Plans.{PlanOp, Plan, Named, scan_op, select_op, hstack_op, filter_op, empty_table}
+use Rattle.plan_dsl.specs.PlanRules.{with_columns}
 use Rattle.plan_arena.specs.declared.aexpr.AExpr.{AExpr}
 use Rattle.plan_arena.specs.declared.ir.IR.{IR}
 use Rattle.plan_arena.specs.declared.plan.IRPlan.{IRPlan}
@@ -17,14 +18,14 @@ use Rattle.plan_arena.specs.Items.{HoldsExpression, HoldsPlan, DenoteNamed, Grow
 use Rattle.plan_arena.proofs.DenotationLemmas.{denotes_one}
 use Rattle.plan_arena.proofs.ItemLemmas.{plan_added, plan_stays, plan_tree_kept, plan_laws}
 use Rattle.plan_arena.proofs.RunLemmas.{runs_soundly}
-use Rattle.plan_lower.specs.Outputs.{Lowered, lowered_named, lowered_column, over, lowered_select, HasOutputs}
+use Rattle.plan_lower.specs.Outputs.{Lowered, lowered_named, lowered_column, over, lowered_select, lowered_hstack, HasOutputs}
 use Rattle.plan_lower.specs.Predicates.{HasPredicate, IsPredicateRefusal, lowered_filter}
 use Rattle.plan_lower.specs.Projection.{IsProjectionRefusal}
-use Rattle.plan_lower.specs.Lowering.{source_select, source_filter, IsBuilt, IsPlanRefusal, IsSelectAt, IsFilterAt, StandsFor, IsEmptyTableAt, IsTyped, IsSound, GivesSameFrame}
-use Rattle.plan_lower.proofs.BuiltLemmas.{scan_built, scan_refused_at, select_built, select_refused_at, filter_built, filter_refused_at, refused_in_input}
+use Rattle.plan_lower.specs.Lowering.{source_select, source_hstack, source_filter, IsBuilt, IsPlanRefusal, IsSelectAt, IsHStackAt, IsFilterAt, StandsFor, IsEmptyTableAt, IsTyped, IsSound, GivesSameFrame}
+use Rattle.plan_lower.proofs.BuiltLemmas.{scan_built, scan_refused_at, select_built, select_refused_at, hstack_built, hstack_refused_at, filter_built, filter_refused_at, refused_in_input}
 
 -- the empty table
-empty_denoted : (items : List AExpr) (plans : List IR) (n : ℕ) → IsEmptyTableAt plans n → Denotes (HoldsPlan items plans) n empty_table
+pub empty_denoted : (items : List AExpr) (plans : List IR) (n : ℕ) → IsEmptyTableAt plans n → Denotes (HoldsPlan items plans) n empty_table
 empty_denoted items plans n h = ([], record { flat = scan_op None []; item = h; denotes = record { same_recorded = refl; kind = refl } }, tt)
 
 as_many : (items : List AExpr) (ns : List (Named ℕ)) (outputs : List Lowered) → DenoteNamed items ns (map lowered_named outputs) → length ns ≡ length outputs
@@ -52,6 +53,11 @@ select_at registry schema items mid new item n input below trees nodes own h not
       something = something;
       item = rw (grown, at) (plan_added mid item ∙ ap Some is);
     }
+
+-- an hstack that was added over its input
+pub hstack_at : (registry : Registry) (schema : Columns) (items : List AExpr) (plans new : List IR) (item : IR) (n input : ℕ) (trees : List Expression) (nodes : List (Named ℕ)) (own whole : Columns) → HasOutputs registry schema items trees nodes own → whole ≡ with_columns schema own → new ≡ plans ++ item ∷ [] → n ≡ length plans → plan_layer item ≡ layer (hstack_op nodes (Some whole)) (input ∷ []) → IsHStackAt registry schema items new n input trees whole
+hstack_at registry schema items plans new item n input trees nodes own whole h with_own grown at is =
+    record { nodes = nodes; own = own; has = h; whole = with_own; item = rw (grown, at) (plan_added plans item ∙ ap Some is) }
 
 -- a filter that was added over its input
 pub filter_at : (registry : Registry) (schema : Columns) (items : List AExpr) (plans new : List IR) (item : IR) (n input : ℕ) (tree : Expression) (predicate : Named ℕ) → HasPredicate registry schema items tree predicate → new ≡ plans ++ item ∷ [] → n ≡ length plans → plan_layer item ≡ layer (filter_op predicate) (input ∷ []) → IsFilterAt registry schema items new n input tree
@@ -90,9 +96,27 @@ module _ (registry : Registry) where
       }
 
   -- a refusal of one of a select's expressions
-  pub select_refused : (items : List AExpr) (plans : List IR) (input : ℕ) (schema : Columns) (trees : List Expression) (source plan : Plan) (error : PlanError) → StandsFor registry items plans input schema source → IsProjectionRefusal registry schema trees error → plan ≡ source_select trees source → IsPlanRefusal registry plan error
+  pub select_refused : (items : List AExpr) (plans : List IR) (input : ℕ) (schema : Columns) (trees : List Expression) (source plan : Plan) (error : PlanError) → StandsFor registry items plans input schema source → IsProjectionRefusal registry schema Duplicate trees error → plan ≡ source_select trees source → IsPlanRefusal registry plan error
   select_refused items plans input schema trees source plan error s r same =
       subst (λ p. IsPlanRefusal registry p error) (sym same) (select_refused_at registry source schema trees error s.built.source_schema r)
+
+  -- an hstack over what its input becomes
+  pub hstack_stands : (items items' : List AExpr) (plans new : List IR) (input n : ℕ) (schema own : Columns) (trees : List Expression) (source plan : Plan) → ((k : ℕ) (op : Op) (inputs : List ℕ) → HoldsExpression items k op inputs → HoldsExpression items' k op inputs) → Grows plans new → StandsFor registry items plans input schema source → IsHStackAt registry schema items' new n input trees own → plan ≡ source_hstack trees source → StandsFor registry items' new n own plan
+  hstack_stands items items' plans new input n schema own trees source plan keeps grows s is same =
+      let outputs = is.has.outputs in
+      let lowered = lowered_hstack schema outputs s.lowered in
+      let columns = is.whole ∙ ap (with_columns schema) is.has.columns_are in
+      let built = hstack_built registry source s.lowered schema trees outputs s.built is.has.selects in
+      record {
+        lowered = lowered;
+        denotes = (input ∷ [], record { flat = hstack_op is.nodes (Some own); item = is.item; denotes = record { same_recorded = ap Some columns; kind = (map lowered_named outputs, refl, is.has.denotes) } }, (plan_tree_kept items items' plans new keeps grows input s.lowered s.denotes, tt));
+        built = subst (λ c. IsBuilt registry plan lowered c) (sym columns) (subst (λ p. IsBuilt registry p lowered (with_columns schema (map lowered_column outputs))) (sym same) built);
+      }
+
+  -- a refusal of one of an hstack's expressions
+  pub hstack_refused : (items : List AExpr) (plans : List IR) (input : ℕ) (schema : Columns) (trees : List Expression) (source plan : Plan) (error : PlanError) → StandsFor registry items plans input schema source → IsProjectionRefusal registry schema ComputeError trees error → plan ≡ source_hstack trees source → IsPlanRefusal registry plan error
+  hstack_refused items plans input schema trees source plan error s r same =
+      subst (λ p. IsPlanRefusal registry p error) (sym same) (hstack_refused_at registry source schema trees error s.built.source_schema r)
 
   -- a filter over what its input becomes
   pub filter_stands : (items items' : List AExpr) (plans new : List IR) (input n : ℕ) (schema own : Columns) (tree : Expression) (source plan : Plan) → ((k : ℕ) (op : Op) (inputs : List ℕ) → HoldsExpression items k op inputs → HoldsExpression items' k op inputs) → Grows plans new → StandsFor registry items plans input schema source → IsFilterAt registry schema items' new n input tree → own ≡ schema → plan ≡ source_filter tree source → StandsFor registry items' new n own plan

@@ -8,6 +8,7 @@ use Rattle.plan_types.specs.Types.{Ty, Truth, same_type, ty}
 use Rattle.plan_types.specs.declared.dtype.DataType.{DataType}
 use Rattle.plan_types.specs.Schemas.{Name, Columns, type_at, with_column, HasDistinctNames}
 use Rattle.plan_types.specs.Errors.{at_top}
+use Rattle.plan_types.specs.declared.error.ErrorKind.{ErrorKind}
 use Rattle.plan_types.specs.declared.error.ErrorKind.TheVariants.{InvalidOperation}
 use Rattle.plan_types.specs.declared.error.PlanError.{PlanError}
 use Rattle.plan_types.proofs.SchemaLemmas.{with_column-new, HasDistinctNames-push}
@@ -40,9 +41,9 @@ use Rattle.plan_infer.specs.Typed.{HasType}
 use Rattle.plan_lower.specs.Predicates.{HasPredicate, IsPredicateRefusal, without_room, without_type, of_other_type}
 use Rattle.plan_lower.specs.Projection.{Output, output_node, output_column, IsOutput, Projects, AddsOutput, IsOutputRefusal, no_room, untyped, IsProjectionRefusal, refused}
 
-pub refused_output : (registry : Registry) (schema : Columns) (tree : Expression) (before : Columns) (error : PlanError) → IsRefusal (typing registry schema (settled (core tree))) error → IsOutputRefusal registry schema tree before error
-refused_output registry schema tree before error (short e) = no_room e
-refused_output registry schema tree before error (broken kind e b) = untyped kind e b
+pub refused_output : (registry : Registry) (schema : Columns) (twice : ErrorKind) (tree : Expression) (before : Columns) (error : PlanError) → IsRefusal (typing registry schema (settled (core tree))) error → IsOutputRefusal registry schema twice tree before error
+refused_output registry schema twice tree before error (short e) = no_room e
+refused_output registry schema twice tree before error (broken kind e b) = untyped kind e b
 
 no_type : (o : Option Ty) → is_some o ≡ false → o ≡ None
 no_type None e = refl
@@ -125,8 +126,8 @@ pub projecting_end : (registry : Registry) (schema : Columns) (first : ℕ) (ite
 projecting_end registry schema first items whole rest nodes columns p none =
     subst (λ t. Projects registry schema first items t nodes columns) (sym (p.split ∙ ap (λ l. p.front ++ l) none ∙ append-nil p.front)) p.projects
 
-pub projecting_refused : (registry : Registry) (schema : Columns) (first : ℕ) (items : List AExpr) (whole before rest : List Expression) (tree : Expression) (nodes : List (Named ℕ)) (columns : Columns) (error : PlanError) → Projecting registry schema first items whole before nodes columns → before ≡ tree ∷ rest → IsOutputRefusal registry schema tree columns error → IsProjectionRefusal registry schema whole error
-projecting_refused registry schema first items whole before rest tree nodes columns error p e r = refused (record {
+pub projecting_refused : (registry : Registry) (schema : Columns) (twice : ErrorKind) (first : ℕ) (items : List AExpr) (whole before rest : List Expression) (tree : Expression) (nodes : List (Named ℕ)) (columns : Columns) (error : PlanError) → Projecting registry schema first items whole before nodes columns → before ≡ tree ∷ rest → IsOutputRefusal registry schema twice tree columns error → IsProjectionRefusal registry schema twice whole error
+projecting_refused registry schema twice first items whole before rest tree nodes columns error p e r = refused (record {
   front = p.front;
   tree = tree;
   back = rest;

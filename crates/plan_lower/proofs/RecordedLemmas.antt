@@ -1,9 +1,12 @@
--- Schemas that items of plans record.
-use Rattle.std.proofs.Common.{◌≡◌, ◌<◌, ℕ, List, [], ◌∷◌, ◌++◌, length, map, Option, Some, None, is_some, unwrap_or, IsTrue, slice_get, refl, sym, ap, ◌∙◌, subst, arith}
-use Rattle.std.proofs.lemmas.Option.{slice_get_within}
+-- Schemas that items of plans record, and columns that are put into one.
+use Rattle.std.proofs.Common.{◌≡◌, ◌<◌, ◌+◌, ℕ, List, [], ◌∷◌, ◌++◌, length, map, drop, Option, Some, None, is_some, unwrap_or, IsTrue, slice_get, refl, sym, ap, ◌∙◌, subst, arith}
+use Rattle.std.proofs.lemmas.Option.{slice_get_within, slice_get-get_or, get_or_from_slice_get}
 use Rattle.std.proofs.lemmas.List.{length-map}
-use Rattle.plan_types.specs.Schemas.{Columns}
+use Rattle.plan_types.specs.Types.{Ty}
+use Rattle.plan_types.specs.Schemas.{Name, Columns, with_column}
+use Rattle.plan_types.proofs.ListLemmas.{item_left}
 use Rattle.plan_dsl.specs.Plans.{Named, PlanOp}
+use Rattle.plan_dsl.specs.PlanRules.{with_columns}
 use Rattle.plan_arena.specs.declared.arena.Node.{Node}
 use Rattle.plan_arena.specs.declared.ir.IR.{IR}
 use Rattle.plan_arena.specs.Layers.{Layer, op_of}
@@ -48,3 +51,14 @@ records_stay plans grown old new g same records =
 pub columns_stay : (plans grown : List IR) (old new : Node) → Grows plans grown → new ≡ old → Records plans old.0 → columns_at grown new.0 ≡ columns_at plans old.0
 columns_stay plans grown old new g same records =
     ap (λ (n : Node). columns_at grown n.0) same ∙ ap (λ recorded. unwrap_or recorded []) (recorded_stays plans grown old.0 g records)
+
+-- one more column is put in
+pub columns_more : (whole new others all : Columns) (i : ℕ) (c : Name × Ty) → slice_get others i ≡ Some c → with_columns whole (drop i others) ≡ all → new ≡ with_column whole c.0 c.1 → with_columns new (drop (i + 1) others) ≡ all
+columns_more whole new others all i c at before put =
+    let left = item_left others i c c (slice_get_within others i c at) (sym (get_or_from_slice_get others i c c at)) in
+    ap (λ w. with_columns w (drop (i + 1) others)) put ∙ ap (with_columns whole) (sym left) ∙ before
+
+-- at a number below theirs there is a column
+pub column_there : (others : Columns) (i : ℕ) → i < length others → slice_get others i ≡ None → ⊥
+column_there [] i within none = omega arith
+column_there (c ∷ others) i within none = let found = slice_get-get_or (c ∷ others) i c within in cc

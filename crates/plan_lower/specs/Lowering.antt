@@ -1,16 +1,21 @@
 -- Lowered plans.
 -- A lowered plan is built from a query's plan where it is accepted, strict and named, has the schema that the
 -- query's plan has, and gives on all fitting tables what the query means. A refusal names a broken rule.
-use Rattle.std.specs.Prelude.{◌≡◌, ◌<◌, ℕ, List, [], ◌∷◌, length, map, Option, Some, None, is_some, unwrap_or, slice_get, IsTrue, Result, Ok, Err}
-use Rattle.plan_types.specs.Schemas.{Columns}
+use Rattle.std.specs.Prelude.{◌≡◌, Bool, ◌<◌, ℕ, List, [], ◌∷◌, length, map, Option, Some, None, is_some, unwrap_or, slice_get, IsTrue, Result, Ok, Err}
+use Rattle.plan_types.specs.Schemas.{Columns, HasDistinctNames}
 use Rattle.plan_types.specs.Frames.{Frame}
 use Rattle.plan_types.specs.Errors.{no_memory}
 use Rattle.plan_types.specs.declared.error.PlanError.{PlanError}
 use Rattle.plan_dsl.specs.Registry.{Registry}
 use Rattle.plan_dsl.specs.Trees.{node, no_more, more}
 use Rattle.plan_dsl.specs.Ops.{Expression}
-use Rattle.plan_dsl.specs.Plans.{Named, PlanOp, Plan, named, scan_op, select_op, filter_op}
-use Rattle.plan_dsl.specs.PlanRules.{schema_of, IsWellFormed, Breaks}
+use Rattle.plan_dsl.specs.Plans.{Named, PlanOp, Plan, named, scan_op, select_op, hstack_op, filter_op, simple_projection_op}
+use Rattle.plan_dsl.specs.Drops.{drop_leaves}
+use Rattle.plan_dsl.specs.Selectors.{selector_trees}
+use Rattle.plan_dsl.specs.Sources.{Source}
+use Rattle.plan_dsl.specs.declared.function.DslFunction.{DslFunction}
+use Rattle.plan_dsl.specs.declared.function.DslFunction.TheVariants.{Drop}
+use Rattle.plan_dsl.specs.PlanRules.{with_columns, schema_of, IsWellFormed, Breaks}
 use Rattle.plan_dsl.specs.PlanMeaning.{source_meaning, FitsPlan}
 use Rattle.plan_arena.specs.declared.aexpr.AExpr.{AExpr}
 use Rattle.plan_arena.specs.declared.ir.IR.{IR}
@@ -19,6 +24,7 @@ use Rattle.plan_arena.specs.Denotation.{Denotes}
 use Rattle.plan_arena.specs.Layers.{Layer, layer, op_of}
 use Rattle.plan_arena.specs.Items.{HoldsPlan, DenotesPlan, plan_layer}
 use Rattle.plan_arena.specs.Runs.{IsAccepted, IsStrictPlan, IsNamedPlan, plan_run, RunsSoundly}
+use Rattle.plan_expand.specs.Refusals.{IsUnexpanded}
 use Rattle.plan_lower.specs.Outputs.{HasOutputs}
 use Rattle.plan_lower.specs.Predicates.{HasPredicate}
 
@@ -84,6 +90,10 @@ pub record IsLoweringOf (registry : Registry) (plan : Plan) (lowering : IRPlan) 
 abbrev pub source_select : List Expression → Plan → Plan
 source_select trees input = node (select_op (map named trees) None) (more input no_more)
 
+-- the tree of an hstack in a query
+abbrev pub source_hstack : List Expression → Plan → Plan
+source_hstack trees input = node (hstack_op (map named trees) None) (more input no_more)
+
 -- the tree of a filter in a query
 abbrev pub source_filter : Expression → Plan → Plan
 source_filter tree input = node (filter_op (named tree)) (more input no_more)
@@ -118,8 +128,35 @@ pub record IsSelectAt (registry : Registry) (schema : Columns) (expressions : Li
   pub something : 0 < length nodes → below ≡ input
   pub item : slice_get (map plan_layer plans) n ≡ Some (layer (select_op nodes (Some columns)) (below ∷ []))
 
+-- the node is an hstack of what stands for the expressions, over an input of the schema. Its frame has the columns: the
+-- input's with theirs
+pub record IsHStackAt (registry : Registry) (schema : Columns) (expressions : List AExpr) (plans : List IR) (n input : ℕ) (trees : List Expression) (columns : Columns) : Type 0 where
+  pub nodes : List (Named ℕ)
+  pub own : Columns
+  pub has : HasOutputs registry schema expressions trees nodes own
+  pub whole : columns ≡ with_columns schema own
+  pub item : slice_get (map plan_layer plans) n ≡ Some (layer (hstack_op nodes (Some columns)) (input ∷ []))
+
 -- the node is a filter by what stands for the expression, over an input of the schema
 pub record IsFilterAt (registry : Registry) (schema : Columns) (expressions : List AExpr) (plans : List IR) (n input : ℕ) (tree : Expression) : Type 0 where
   pub predicate : Named ℕ
   pub has : HasPredicate registry schema expressions tree predicate
   pub item : slice_get (map plan_layer plans) n ≡ Some (layer (filter_op predicate) (input ∷ []))
+
+-- the node is a simple projection of what a drop leaves of the schema, over an input of the schema, or where nothing is
+-- left over the empty table
+pub record IsDropAt (schema : Columns) (selectors : List Source) (strict : Bool) (plans : List IR) (n input : ℕ) (columns : Columns) : Type 0 where
+  pub distinct : HasDistinctNames schema
+  pub left : drop_leaves schema selectors strict ≡ Ok columns
+  pub below : ℕ
+  pub nothing : length columns ≡ 0 → IsEmptyTableAt plans below
+  pub something : 0 < length columns → below ≡ input
+  pub item : slice_get (map plan_layer plans) n ≡ Some (layer (simple_projection_op columns (Some columns)) (below ∷ []))
+
+-- the node is what a function becomes over an input of the schema
+abbrev pub IsFunctionAt : Columns → DslFunction → List IR → ℕ → ℕ → Columns → Type 0
+IsFunctionAt schema (Drop function) plans n input columns = IsDropAt schema (selector_trees function.to_drop) function.strict plans n input columns
+
+-- why a function isn't lowered over an input of the schema
+abbrev pub IsFunctionRefusal : Columns → DslFunction → PlanError → Type 0
+IsFunctionRefusal schema (Drop function) error = IsUnexpanded (drop_leaves schema (selector_trees function.to_drop) function.strict) error

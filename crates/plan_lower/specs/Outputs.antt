@@ -1,4 +1,4 @@
--- A select's outputs: expressions with what lowering makes of them.
+-- The outputs of a select or an hstack: expressions with what lowering makes of them.
 use Rattle.std.specs.Prelude.{◌≡◌, ℕ, List, [], ◌∷◌, map, Some, Ok}
 use Rattle.std.specs.List.{AllByRecursion}
 use Rattle.plan_types.specs.Types.{Ty}
@@ -7,7 +7,8 @@ use Rattle.plan_dsl.specs.Registry.{Registry}
 use Rattle.plan_dsl.specs.Trees.{node, no_more, more}
 use Rattle.plan_dsl.specs.Ops.{Expression}
 use Rattle.plan_dsl.specs.Names.{label_of, name_of}
-use Rattle.plan_dsl.specs.Plans.{Named, Plan, select_op, empty_table}
+use Rattle.plan_dsl.specs.Plans.{Named, Plan, select_op, hstack_op, empty_table}
+use Rattle.plan_dsl.specs.PlanRules.{with_columns}
 use Rattle.plan_dsl.specs.Aliases.{core}
 use Rattle.plan_dsl.specs.Literals.{settled}
 use Rattle.plan_dsl.specs.Typing.{Typed, typing}
@@ -57,3 +58,8 @@ over (output ∷ outputs) input = input
 -- a select of the outputs over a lowered plan
 abbrev pub lowered_select : List Lowered → Plan → Plan
 lowered_select outputs input = node (select_op (map lowered_named outputs) (Some (map lowered_column outputs))) (more (over outputs input) no_more)
+
+-- an hstack of the outputs over a lowered plan of the schema
+abbrev pub lowered_hstack : Columns → List Lowered → Plan → Plan
+lowered_hstack schema outputs input =
+    node (hstack_op (map lowered_named outputs) (Some (with_columns schema (map lowered_column outputs)))) (more input no_more)

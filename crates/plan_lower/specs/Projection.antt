@@ -5,7 +5,6 @@ use Rattle.plan_types.specs.Types.{Ty}
 use Rattle.plan_types.specs.Schemas.{Name, Columns, type_at, IsNewName, HasDistinctNames}
 use Rattle.plan_types.specs.Errors.{no_memory, at_top}
 use Rattle.plan_types.specs.declared.error.ErrorKind.{ErrorKind}
-use Rattle.plan_types.specs.declared.error.ErrorKind.TheVariants.{Duplicate}
 use Rattle.plan_types.specs.declared.error.PlanError.{PlanError}
 use Rattle.plan_dsl.specs.Registry.{Registry}
 use Rattle.plan_dsl.specs.Ops.{Expression}
@@ -53,23 +52,23 @@ pub record AddsOutput (registry : Registry) (schema : Columns) (first : ℕ) (it
   pub new_name : IsNewName old (name_of output.tree)
   pub column_is : new ≡ old ++ output_column output ∷ []
 
--- why an expression can't be added behind these columns
-pub data IsOutputRefusal (registry : Registry) (schema : Columns) (tree : Expression) (before : Columns) (error : PlanError) : Type 0 where
-  no_room : error ≡ no_memory → IsOutputRefusal registry schema tree before error
-  untyped : (kind : ErrorKind) → error ≡ at_top kind → typing registry schema (settled (core tree)) ≡ Err kind → IsOutputRefusal registry schema tree before error
-  repeated : error ≡ at_top Duplicate → is_some (type_at before (name_of tree)) ≡ true → IsOutputRefusal registry schema tree before error
+-- why an expression can't be added behind these columns: a name that stands there breaks that kind of rule
+pub data IsOutputRefusal (registry : Registry) (schema : Columns) (twice : ErrorKind) (tree : Expression) (before : Columns) (error : PlanError) : Type 0 where
+  no_room : error ≡ no_memory → IsOutputRefusal registry schema twice tree before error
+  untyped : (kind : ErrorKind) → error ≡ at_top kind → typing registry schema (settled (core tree)) ≡ Err kind → IsOutputRefusal registry schema twice tree before error
+  repeated : error ≡ at_top twice → is_some (type_at before (name_of tree)) ≡ true → IsOutputRefusal registry schema twice tree before error
 
 -- one of the expressions can't be added behind the columns of those before it
-pub record RefusesOne (registry : Registry) (schema : Columns) (trees : List Expression) (error : PlanError) : Type 0 where
+pub record RefusesOne (registry : Registry) (schema : Columns) (twice : ErrorKind) (trees : List Expression) (error : PlanError) : Type 0 where
   pub front : List Expression
   pub tree : Expression
   pub back : List Expression
   pub split : trees ≡ front ++ tree ∷ back
   pub before : Columns
   pub names : map (λ c. c.0) before ≡ map name_of front
-  pub refusal : IsOutputRefusal registry schema tree before error
+  pub refusal : IsOutputRefusal registry schema twice tree before error
 
 -- why expressions can't be projected
-pub data IsProjectionRefusal (registry : Registry) (schema : Columns) (trees : List Expression) (error : PlanError) : Type 0 where
-  out_of_memory : error ≡ no_memory → IsProjectionRefusal registry schema trees error
-  refused : RefusesOne registry schema trees error → IsProjectionRefusal registry schema trees error
+pub data IsProjectionRefusal (registry : Registry) (schema : Columns) (twice : ErrorKind) (trees : List Expression) (error : PlanError) : Type 0 where
+  out_of_memory : error ≡ no_memory → IsProjectionRefusal registry schema twice trees error
+  refused : RefusesOne registry schema twice trees error → IsProjectionRefusal registry schema twice trees error

@@ -7,7 +7,7 @@ use Rattle.std.proofs.lemmas.List.Sums.{sum_by_more}
 use Rattle.std.proofs.lemmas.Option.{slice_get-map, slice_get-get_or, slice_get_within, get_or_from_slice_get}
 use Rattle.plan_dsl.specs.Trees.{Tree, Trees, node, no_more, more, fold, fold_all}
 use Rattle.plan_dsl.specs.Ops.{Op, Expression}
-use Rattle.plan_dsl.specs.Plans.{Named, PlanKind, ScanKind, SelectKind, FilterKind, PlanOp, Plan}
+use Rattle.plan_dsl.specs.Plans.{Named, PlanKind, ScanKind, SelectKind, HStackKind, FilterKind, SimpleProjectionKind, PlanOp, Plan}
 use Rattle.plan_types.specs.Schemas.{Columns}
 use Rattle.plan_arena.specs.Denotation.{Denotes, DenoteAll, DenotesTree, depth_at}
 use Rattle.plan_arena.specs.Layers.{layer, op_of, inputs_of, shape_of}
@@ -138,12 +138,18 @@ outputs_more items ns i count casts new n at so_far one added es d =
 pub named_tree : (items : List AExpr) (ns : List (Named ℕ)) (es : List (Named Expression)) → DenoteNamed items ns es → (i : ℕ) (n : Named ℕ) → slice_get ns i ≡ Some n → DenotesTree (HoldsExpression items) n.expression
 named_tree items ns es d i n at = let found = named_at items ns es d i n at in record { tree = found.0.expression; denotes = found.2 }
 
--- a scan has no casts, and a select those of its outputs
+-- a scan and a simple projection have no casts, and a select and an hstack those of their outputs
 pub scan_casts : (items : List AExpr) (table : Option ℕ) (schema : Columns) (kind : PlanKind (Named Expression)) → DenotesKind items (ScanKind table schema) kind → 0 ≡ kind_casts kind
 scan_casts items table schema kind d = sym (ap kind_casts d)
 
 pub select_casts : (items : List AExpr) (nodes : List (Named ℕ)) (count : ℕ) → ((es : List (Named Expression)) → DenoteNamed items nodes es → count ≡ outputs_casts es) → (kind : PlanKind (Named Expression)) → DenotesKind items (SelectKind nodes) kind → count ≡ kind_casts kind
 select_casts items nodes count all kind d = let here = all d.0 d.2 in let whole : kind_casts kind ≡ 0 + outputs_casts d.0 = ap kind_casts d.1 in omega (arith, here, whole)
+
+pub hstack_casts : (items : List AExpr) (nodes : List (Named ℕ)) (count : ℕ) → ((es : List (Named Expression)) → DenoteNamed items nodes es → count ≡ outputs_casts es) → (kind : PlanKind (Named Expression)) → DenotesKind items (HStackKind nodes) kind → count ≡ kind_casts kind
+hstack_casts items nodes count all kind d = let here = all d.0 d.2 in let whole : kind_casts kind ≡ 0 + outputs_casts d.0 = ap kind_casts d.1 in omega (arith, here, whole)
+
+pub projection_casts : (items : List AExpr) (columns : Columns) (kind : PlanKind (Named Expression)) → DenotesKind items (SimpleProjectionKind columns) kind → 0 ≡ kind_casts kind
+projection_casts items columns kind d = sym (ap kind_casts d)
 
 -- the only named node denotes an expression
 pub only_named : (items : List AExpr) (n : Named ℕ) (es : List (Named Expression)) → DenoteNamed items (n ∷ []) es → DenotesTree (HoldsExpression items) n.expression

@@ -5,7 +5,7 @@ use Rattle.std.proofs.lemmas.List.{append-nil}
 use Rattle.plan_types.specs.Schemas.{Columns}
 use Rattle.plan_dsl.specs.Trees.{Trees, node, no_more, more}
 use Rattle.plan_dsl.specs.Ops.{Op, Expression}
-use Rattle.plan_dsl.specs.Plans.{Named, PlanKind, ScanKind, SelectKind, FilterKind, RefusedKind, PlanOp, Plan, filter_op}
+use Rattle.plan_dsl.specs.Plans.{Named, PlanKind, ScanKind, SelectKind, HStackKind, FilterKind, SimpleProjectionKind, DropKind, RefusedKind, PlanOp, Plan, filter_op}
 use Rattle.plan_dsl.specs.PlanRules.{schema_of}
 use Rattle.plan_dsl.specs.Registry.{Registry}
 use Rattle.plan_arena.specs.Denotation.{Denotes, DenoteAll, DenotesTree, depth_at}
@@ -66,9 +66,12 @@ module _ (expressions : List AExpr) (plans : List IR) (n : ℕ) (item : IR) (got
   pub node_kind : DenotesTree (HoldsPlan expressions plans) n → DenotesSome expressions flat.kind
   node_kind d = kind_of_node d.tree d.denotes
 
--- the expressions of a select, and of a filter, denote expressions
+-- the expressions of a select, of an hstack, and of a filter, denote expressions
 pub select_outputs : (expressions : List AExpr) (nodes : List (Named ℕ)) → DenotesSome expressions (SelectKind nodes) → DenoteOutputs expressions nodes
 select_outputs expressions nodes d = record { outputs = d.denotes.0; denote = d.denotes.2 }
+
+pub hstack_outputs : (expressions : List AExpr) (nodes : List (Named ℕ)) → DenotesSome expressions (HStackKind nodes) → DenoteOutputs expressions nodes
+hstack_outputs expressions nodes d = record { outputs = d.denotes.0; denote = d.denotes.2 }
 
 pub filter_outputs : (expressions : List AExpr) (n : Named ℕ) → DenotesSome expressions (FilterKind n) → DenoteOutputs expressions (n ∷ [])
 filter_outputs expressions n d = record { outputs = d.denotes.0 ∷ []; denote = d.denotes.2 }
@@ -77,7 +80,10 @@ filter_outputs expressions n d = record { outputs = d.denotes.0 ∷ []; denote =
 same_text : (expressions : List AExpr) (flat : PlanKind (Named ℕ)) (kind : PlanKind (Named Expression)) → DenotesKind expressions flat kind → kind_text flat ≡ kind_text kind
 same_text expressions (ScanKind table schema) kind d = sym (ap kind_text d)
 same_text expressions (SelectKind nodes) kind d = sym (ap kind_text d.1)
+same_text expressions (HStackKind nodes) kind d = sym (ap kind_text d.1)
 same_text expressions (FilterKind n) kind d = sym (ap kind_text d.1)
+same_text expressions (SimpleProjectionKind columns) kind d = sym (ap kind_text d)
+same_text expressions (DropKind selectors strict) kind d = absurd d
 same_text expressions (RefusedKind kinds) kind d = absurd d
 
 -- an item's name is its op's
@@ -124,7 +130,7 @@ module _ (expressions : List AExpr) (plans : List IR) (n : ℕ) (item : IR) (got
     child_accepted : (t u : Plan) → IsAccepted registry t → children_of t ≡ more u no_more → IsAccepted registry u
     child_accepted (node op ts) u accepted only = (subst (AllAccepted registry) only accepted.1).0
 
-    -- the lines of a select, whose child lends its own schema
+    -- the lines of a select or an hstack, whose child lends its own schema
     pub select_lines : (flat : PlanOp (Named ℕ)) (m : ℕ) → plan_layer item ≡ layer flat (m ∷ []) → (lined text deeper : List ℕ) (lent : Columns) → lined ≡ before ++ line_text path (node_name item) cols → deeper ≡ path ++ 0 ∷ [] → ((u : Plan) → Denotes (HoldsPlan expressions plans) m u → IsAccepted registry u → schema_of registry u ≡ Some lent) → ((u : Plan) → Denotes (HoldsPlan expressions plans) m u → IsAccepted registry u → schema_of registry u ≡ Some lent → text ≡ lined ++ plan_lines registry deeper u) → (t : Plan) → Denotes (HoldsPlan expressions plans) n t → IsAccepted registry t → schema_of registry t ≡ Some cols → text ≡ before ++ plan_lines registry path t
     select_lines flat m is lined text deeper lent line step own below t d accepted schema =
         one_lines flat m is lined text deeper line step t d (λ u e only. let there = child_accepted t u accepted only in below u e there (own u e there)) schema

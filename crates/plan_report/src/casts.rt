@@ -84,5 +84,15 @@ pub(crate) fn plan_casts(plan: &IRPlan, node: Node) -> Result<u64, AllocError>
             let count = add(here, below)?;
             Ok(count)
         }
+        IR::HStack { exprs, input, .. } => {
+            let here = outputs_casts(&plan.expr_arena, exprs)?;
+            let below = plan_casts(plan, *input)?;
+            let count = add(here, below)?;
+            Ok(count)
+        }
+        IR::SimpleProjection { input, .. } => {
+            let below = plan_casts(plan, *input)?;
+            Ok(below)
+        }
     }
 }

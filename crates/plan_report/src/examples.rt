@@ -7,7 +7,7 @@ ghost use Rattle.plan_types.specs.Types.{NullType, Truth, Integer, TextType, Dat
 ghost use Rattle.plan_types.specs.declared.dtype.TimeUnit.TheVariants.{Nanoseconds, Microseconds, Milliseconds};
 ghost use Rattle.plan_types.specs.declared.error.ErrorKind.TheVariants.{ColumnNotFound, Duplicate, SchemaMismatch, InvalidOperation, ComputeError, NoMemory};
 ghost use Rattle.plan_dsl.specs.declared.operator.Operator.TheVariants.{Lt, Plus};
-ghost use Rattle.plan_dsl.specs.Plans.{Named, ScanKind, SelectKind, FilterKind, empty_table};
+ghost use Rattle.plan_dsl.specs.Plans.{Named, ScanKind, SelectKind, HStackKind, FilterKind, empty_table};
 ghost use Rattle.plan_arena.specs.declared.aexpr.AExpr.{AExpr};
 ghost use Rattle.plan_arena.specs.declared.aexpr.AExpr.TheVariants.{Column};
 ghost use Rattle.plan_arena.specs.Items.{kind_text};
@@ -68,7 +68,7 @@ pub fn refusal_examples()
 pub fn line_examples()
     ensures top { line_text [] (codes "df") [] ≡ codes ". df ()\n" }
     ensures deep { line_text (0 ∷ 3 ∷ []) (codes "selection") (one_column Truth) ≡ codes ".0.3 selection (\"a\" Boolean)\n" }
-    ensures names { map (kind_text {E = Named ℕ}) (ScanKind (Some 7) [] ∷ SelectKind [] ∷ FilterKind (node_named (codes "a") 0) ∷ []) ≡ map codes ("df" ∷ "projection" ∷ "selection" ∷ []) }
+    ensures names { map (kind_text {E = Named ℕ}) (ScanKind (Some 7) [] ∷ SelectKind [] ∷ HStackKind [] ∷ FilterKind (node_named (codes "a") 0) ∷ []) ≡ map codes ("df" ∷ "projection" ∷ "hstack" ∷ "selection" ∷ []) }
     ensures schemas { map shown (None ∷ Some (one_column Truth) ∷ []) ≡ [] ∷ one_column Truth ∷ [] }
     ensures separators { map separator (0 ∷ 1 ∷ 11 ∷ []) ≡ map codes ("" ∷ ", " ∷ ", " ∷ []) }
     ensures casts { map casts_line (0 ∷ 4096 ∷ []) ≡ map codes ("casts 0\n" ∷ "casts 4096\n" ∷ []) }

@@ -95,6 +95,20 @@ fn push_lines(
             path.pop();
             Ok(())
         }
+        IR::HStack { input, .. } => {
+            let schema = plan.lp_arena.get(*input).schema_ref(&plan.lp_arena);
+            path.push(ONLY_INPUT)?;
+            push_lines(alloc, text, path, plan, *input, schema)?;
+            path.pop();
+            Ok(())
+        }
+        IR::SimpleProjection { input, .. } => {
+            let schema = plan.lp_arena.get(*input).schema_ref(&plan.lp_arena);
+            path.push(ONLY_INPUT)?;
+            push_lines(alloc, text, path, plan, *input, schema)?;
+            path.pop();
+            Ok(())
+        }
     }
 }
 

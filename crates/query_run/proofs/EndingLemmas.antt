@@ -118,6 +118,9 @@ query_of_input registry bytes done text (bad error text' refusal told) = tt
 pub query_not_too_long : (registry : Registry) (bytes : List ℕ) (done : Done) (text : List ℕ) → IsQueryAnswer registry bytes done text → ¬ (done.status ≡ status.TooLong)
 query_not_too_long registry bytes done text answers e = subst IsOfInput e (query_of_input registry bytes done text answers)
 
+pub query_not_read_fault : (registry : Registry) (bytes : List ℕ) (done : Done) (text : List ℕ) → IsQueryAnswer registry bytes done text → ¬ (done.status ≡ status.ReadFault)
+query_not_read_fault registry bytes done text answers e = subst IsOfInput e (query_of_input registry bytes done text answers)
+
 -- ---- the answer that is called for
 
 -- the bytes read are those of an input that is told

@@ -16,8 +16,8 @@ ghost use Rattle.plan_dsl.specs.declared.sort_options.SortMultipleOptions.{SortM
 ghost use Rattle.plan_dsl.specs.Trees.{node, no_more, more};
 ghost use Rattle.plan_dsl.specs.Names.{FromField, FromNothing, alias_label, column_label, literal_label};
 ghost use Rattle.plan_dsl.specs.Ops.{ColumnOp, LiteralOp, BinaryOp, CastOp, LenOp, SliceOp, AliasOp, ExplodeOp, GatherOp, FilterOp, SortOp, SortByOp, Expression};
-ghost use Rattle.plan_dsl.specs.Plans.{FilterKind, Named, RefusedKind, ScanKind, SelectKind, named, scan_op, select_op, filter_op};
-ghost use Rattle.plan_dsl.specs.Samples.{Gives, GivesOfTwo, int8, int32, a, alias, b, cast_as, column, count, keep, literal, slice, sort_by, sum, typed_literal, way};
+ghost use Rattle.plan_dsl.specs.Plans.{FilterKind, HStackKind, Named, RefusedKind, ScanKind, SelectKind, named, scan_op, select_op, hstack_op, simple_projection_op, filter_op, DropKind, SimpleProjectionKind};
+ghost use Rattle.plan_dsl.specs.Samples.{Gives, GivesOfTwo, int8, int32, a, alias, b, cast_as, column, count, keep, literal, slice, sort_by, sum, typed_literal, way, schema_ab};
 ghost use Rattle.plan_arena.specs.declared.aexpr.AExpr.{AExpr};
 ghost use Rattle.plan_arena.specs.declared.aexpr.AExpr.TheVariants.{Column, Literal, BinaryExpr, Cast, Len, Slice, Alias, Explode, Gather, Filter as FilterBy, Sort, SortBy};
 ghost use Rattle.plan_arena.specs.declared.arena.Node.{Node};
@@ -26,11 +26,11 @@ ghost use Rattle.plan_arena.specs.declared.expr_ir.ExprIR.{ExprIR};
 ghost use Rattle.plan_arena.specs.declared.expr_ir.ExprIRs.{ExprIRs};
 ghost use Rattle.plan_arena.specs.declared.expr_ir.OutputName.{OutputName};
 ghost use Rattle.plan_arena.specs.declared.expr_ir.OutputName.TheVariants.{ColumnLhs, LiteralLhs};
-ghost use Rattle.plan_arena.specs.declared.ir.IR.TheVariants.{DataFrameScan, Filter, Select, Invalid};
+ghost use Rattle.plan_arena.specs.declared.ir.IR.TheVariants.{DataFrameScan, Filter, HStack, Select, SimpleProjection, Invalid};
 ghost use Rattle.plan_arena.specs.declared.plan.IRPlan.{IRPlan};
 ghost use Rattle.plan_arena.specs.Layers.{layer, op_of, inputs_of, shape_of};
 ghost use Rattle.plan_arena.specs.Denotation.{Denotes, DenotesTree, depth_at, greatest, inputs_at};
-ghost use Rattle.plan_arena.specs.Items.{expression_layer, output_label, named_node, node_name, plan_layer, DenoteNamed, DenotesItem, DenotesKind, DenotesPlan, Grows, HasInputs, HoldsExpression, HoldsFrom, HoldsPlan, Rewired};
+ghost use Rattle.plan_arena.specs.Items.{expression_layer, kind_text, output_label, named_node, node_name, plan_layer, DenoteNamed, DenotesItem, DenotesKind, DenotesPlan, Grows, HasInputs, HoldsExpression, HoldsFrom, HoldsPlan, Rewired};
 ghost use Rattle.plan_arena.specs.NamedNodes.{same_named};
 ghost use Rattle.plan_arena.specs.Samples.{a_at, circle, literal_at, named_at, node_at, strict_sum, sum_items, wide_a};
 
@@ -46,19 +46,22 @@ pub fn layers_of_items()
         ∷ (Explode (node_at 4), layer ExplodeOp (4 ∷ [])) ∷ (FilterBy (node_at 4) (node_at 2), layer FilterOp (4 ∷ 2 ∷ [])) ∷ (Sort (node_at 4) (way true false), layer (SortOp (way true false)) (4 ∷ []))
         ∷ (Gather (node_at 4) (node_at 2) false, layer (GatherOp false) (4 ∷ 2 ∷ [])) ∷ (Gather (node_at 4) (node_at 2) true, layer (GatherOp true) (4 ∷ 2 ∷ [])) ∷ []) }
     ensures sort_by { (by : NodeList) (options : SortMultipleOptions) → by.items.items ≡ node_at 2 ∷ node_at 7 ∷ [] →
-        options.descending.items.items ≡ true ∷ false ∷ [] → options.nulls_last.items.items ≡ true ∷ [] →
+        options.descending.items.value.items ≡ true ∷ false ∷ [] → options.nulls_last.items.value.items ≡ true ∷ [] →
         expression_layer (SortBy (node_at 4) by options) ≡ layer (SortByOp (true ∷ false ∷ []) (true ∷ [])) (4 ∷ 2 ∷ 7 ∷ []) }
     ensures sort_by_nothing { (by : NodeList) (options : SortMultipleOptions) → by.items.items ≡ [] →
         inputs_of (expression_layer (SortBy (node_at 4) by options)) ≡ 4 ∷ [] }
     ensures plans { (schema : Schema) → Gives plan_layer ((DataFrameScan (Some 2) schema, layer (scan_op (Some 2) (columns schema)) [])
         ∷ (DataFrameScan None schema, layer (scan_op None (columns schema)) []) ∷ (Filter (node_at 5) (a_at 3), layer (filter_op (named_at "a" 3)) (5 ∷ []))
+        ∷ (SimpleProjection (node_at 5) schema, layer (simple_projection_op (columns schema) (Some (columns schema))) (5 ∷ []))
         ∷ (Invalid, layer (record { kind = RefusedKind []; recorded = None }) []) ∷ []) }
     ensures select { (exprs : ExprIRs) (schema : Schema) (options : ProjectionOptions) →
         let number : ExprIR = record { node = node_at 4; output_name = LiteralLhs (codes "literal") } in exprs.items.items ≡ a_at 3 ∷ number ∷ [] →
         plan_layer (Select exprs (node_at 5) schema options) ≡ layer (select_op (named_at "a" 3 ∷ literal_at 4 ∷ []) (Some (columns schema))) (5 ∷ []) }
+    ensures hstack { (exprs : ExprIRs) (schema : Schema) (options : ProjectionOptions) → exprs.items.items ≡ a_at 3 ∷ [] →
+        plan_layer (HStack exprs (node_at 5) schema options) ≡ layer (hstack_op (named_at "a" 3 ∷ []) (Some (columns schema))) (5 ∷ []) }
     ensures names { (schema : Schema) (input : Node) (predicate : ExprIR) (exprs : ExprIRs) (options : ProjectionOptions) → Gives node_name
         ((DataFrameScan (Some 0) schema, codes "df") ∷ (DataFrameScan None schema, codes "df") ∷ (Filter input predicate, codes "selection")
-        ∷ (Select exprs input schema options, codes "projection") ∷ (Invalid, codes "invalid") ∷ []) }
+        ∷ (HStack exprs input schema options, codes "hstack") ∷ (Select exprs input schema options, codes "projection") ∷ (SimpleProjection input schema, codes "simple_projection") ∷ (Invalid, codes "invalid") ∷ []) }
 {}
 
 /// The name that an item keeps, with what it comes from.
@@ -87,10 +90,10 @@ pub fn expressions_of_nodes()
     ensures alias { Denotes (HoldsExpression (Column (codes "a") ∷ Alias (node_at 0) (codes "x") ∷ [])) 1 (alias "x" a) }
     ensures sort_by { (by : NodeList) (options : SortMultipleOptions) → by.items.items ≡ node_at 1 ∷ node_at 0 ∷ [] →
         Denotes (HoldsExpression (Column (codes "a") ∷ Len ∷ SortBy (node_at 0) by options ∷ [])) 2
-        (sort_by options.descending.items.items options.nulls_last.items.items (count ∷ a ∷ []) a) }
+        (sort_by options.descending.items.value.items options.nulls_last.items.value.items (count ∷ a ∷ []) a) }
     ensures other_keys { (by : NodeList) (options : SortMultipleOptions) → by.items.items ≡ node_at 1 ∷ node_at 0 ∷ [] →
         AllByRecursion {X = List Expression} (λ keys. ¬ (Denotes (HoldsExpression (Column (codes "a") ∷ Len ∷ SortBy (node_at 0) by options ∷ [])) 2
-        (sort_by options.descending.items.items options.nulls_last.items.items keys a))) ((a ∷ count ∷ []) ∷ (count ∷ []) ∷ (count ∷ a ∷ a ∷ []) ∷ []) }
+        (sort_by options.descending.items.value.items options.nulls_last.items.value.items keys a))) ((a ∷ count ∷ []) ∷ (count ∷ []) ∷ (count ∷ a ∷ a ∷ []) ∷ []) }
     ensures others { AllByRecursion {X = ℕ × Expression} (λ c. ¬ (Denotes (HoldsExpression sum_items) c.0 c.1)) ((1, a) ∷ (3, sum a b) ∷ (3, sum b wide_a) ∷ (4, a) ∷ []) }
     ensures circle { ¬ (DenotesTree (HoldsExpression circle) 0) }
 {}
@@ -151,9 +154,15 @@ pub fn kinds_of_plans()
     ensures other_table { ¬ (DenotesKind [] (ScanKind (Some 0) []) (ScanKind (Some 1) [])) }
     ensures select { DenotesKind sum_items (SelectKind (named_at "a" 3 ∷ named_at "b" 1 ∷ [])) (SelectKind (named strict_sum ∷ named b ∷ [])) }
     ensures turned { ¬ (DenotesKind sum_items (SelectKind (named_at "b" 1 ∷ named_at "a" 3 ∷ [])) (SelectKind (named strict_sum ∷ named b ∷ []))) }
+    ensures hstack { DenotesKind sum_items (HStackKind (named_at "b" 1 ∷ [])) (HStackKind (named b ∷ [])) }
+    ensures no_select { ¬ (DenotesKind sum_items (HStackKind (named_at "b" 1 ∷ [])) (SelectKind (named b ∷ []))) }
     ensures filter { DenotesKind sum_items (FilterKind (named_at "a" 0)) (FilterKind (named a)) }
     ensures other_node { ¬ (DenotesKind sum_items (FilterKind (named_at "a" 1)) (FilterKind (named a))) }
+    ensures simple_projection { DenotesKind [] (SimpleProjectionKind schema_ab) (SimpleProjectionKind schema_ab) }
+    ensures other_columns { ¬ (DenotesKind [] (SimpleProjectionKind schema_ab) (SimpleProjectionKind [])) }
+    ensures drop { ¬ (DenotesKind [] (DropKind [] true) (DropKind [] true)) }
     ensures refused { ¬ (DenotesKind sum_items (RefusedKind []) (RefusedKind [])) }
+    ensures texts { Gives (kind_text {E = Named Expression}) ((SimpleProjectionKind schema_ab, codes "simple_projection") ∷ (DropKind [] true, codes "invalid") ∷ []) }
 {}
 
 /// The inputs of a plan's item denote plans, and lead into no circle.

@@ -1,6 +1,6 @@
 //! Worked examples on lowered plans: which are accepted and strict, what they give, and which run soundly.
 
-ghost use Rattle.std.specs.Prelude.{◌≡◌, [], ◌∷◌, pos, codes, true, Option, Some, None};
+ghost use Rattle.std.specs.Prelude.{◌≡◌, [], ◌∷◌, pos, codes, true, false, Option, Some, None};
 ghost use Rattle.std.specs.List.{AllByRecursion};
 ghost use Rattle.plan_types.specs.Schemas.{Columns};
 ghost use Rattle.plan_types.specs.Types.{Truth};
@@ -10,11 +10,11 @@ ghost use Rattle.plan_types.specs.declared.dtype.CastOptions.TheVariants.{Strict
 ghost use Rattle.plan_dsl.specs.Trees.{node, no_more, more};
 ghost use Rattle.plan_dsl.specs.Ops.{Expression};
 ghost use Rattle.plan_dsl.specs.Names.{Label, alias_label, column_label, literal_label};
-ghost use Rattle.plan_dsl.specs.Plans.{empty_table, select_op, filter_op};
+ghost use Rattle.plan_dsl.specs.Plans.{drop_op, empty_table, select_op, filter_op, simple_projection_op};
 ghost use Rattle.plan_dsl.specs.PlanMeaning.{source_meaning};
-ghost use Rattle.plan_dsl.specs.Samples.{Gives, GivesOfTwo, int8, int16, int32, int64, number, null, yes, a, alias, b, cast_as, column, empty_scan, frame_with, keep, less, literal, scan, scan_of, schema_ab, schema_flagged, select, sum, table, typed_literal};
+ghost use Rattle.plan_dsl.specs.Samples.{Gives, GivesOfTwo, int8, int16, int32, int64, number, null, yes, a, alias, b, cast_as, column, empty_scan, frame_with, keep, less, literal, scan, scan_of, schema_ab, schema_flagged, select, stack, sum, table, typed_literal, project};
 ghost use Rattle.plan_arena.specs.Runs.{own_schema, HasRecorded, IsAccepted, IsStrictPlan, IsNamedPlan, plan_run, RunsSoundly};
-ghost use Rattle.plan_arena.specs.Samples.{lowered_number, lowered_select, lowered_sum, narrowed, schema_of_one, sums, three_flagged, three_numbers};
+ghost use Rattle.plan_arena.specs.Samples.{lowered_hstack, lowered_number, lowered_select, lowered_sum, narrowed, schema_of_one, strict_sum, sums, three_flagged, three_numbers, lowered_projection};
 
 /// A lowered plan runs by its written casts alone, and gives what the query means.
 pub fn plans_run_as_written()
@@ -38,6 +38,31 @@ pub fn filters_run_as_written()
         ≡ source_meaning [] (three_flagged ∷ []) (keep (column "keep") (scan schema_flagged)) }
     ensures comparisons { Gives (λ five. plan_run [] (three_numbers ∷ []) (keep (less a five) (scan (schema_of_one "a" int8))))
         ((typed_literal int8 (pos 5), Done (frame_with (schema_of_one "a" int8) ((number 1 ∷ []) ∷ []))) ∷ (literal (pos 5), Stuck) ∷ []) }
+{}
+
+/// A lowered hstack gives what the query's means, and records the columns of its input with its own.
+pub fn hstacks_run_as_written()
+    ensures runs { let sums_in_place = (codes "a", int32) ∷ (codes "b", int32) ∷ [] in
+        Gives (plan_run [] (table ∷ [])) (
+        (lowered_hstack sums_in_place (strict_sum ∷ []) (scan schema_ab), Done (frame_with sums_in_place ((number 11 ∷ number 10 ∷ []) ∷ (null ∷ number 20 ∷ []) ∷ (number 300 ∷ number 200 ∷ []) ∷ []))) ∷
+        (stack (sum a b ∷ []) (scan schema_ab), Stuck) ∷ []) }
+    ensures accepted { IsAccepted [] (lowered_hstack ((codes "a", int32) ∷ (codes "b", int32) ∷ []) (strict_sum ∷ []) (scan schema_ab)) }
+    ensures other_schema { ¬ (IsAccepted [] (lowered_hstack (schema_of_one "a" int32) (strict_sum ∷ []) (scan schema_ab))) }
+    ensures strict { IsStrictPlan [] (stack (strict_sum ∷ []) (scan schema_ab)) × ¬ (IsStrictPlan [] (stack (sum a b ∷ []) (scan schema_ab))) }
+    ensures sound { RunsSoundly [] (table ∷ []) (lowered_hstack ((codes "a", int32) ∷ (codes "b", int32) ∷ []) (strict_sum ∷ []) (scan schema_ab)) }
+    ensures stuck { ¬ (RunsSoundly [] (table ∷ []) (stack (sum a b ∷ []) (scan schema_ab))) }
+{}
+
+/// A lowered simple projection gives its input's rows in its columns, which stand there, and nothing where it has none.
+pub fn simple_projections_run_as_written()
+    ensures runs { Gives (plan_run [] (table ∷ []))
+        ((lowered_projection (schema_of_one "b" int32) (scan schema_ab), Done (frame_with (schema_of_one "b" int32) ((number 10 ∷ []) ∷ (number 20 ∷ []) ∷ (number 200 ∷ []) ∷ [])))
+        ∷ (lowered_projection (schema_of_one "b" int8) narrowed, Fault) ∷ (lowered_projection [] narrowed, Done empty_frame) ∷ []) }
+    ensures accepted { AllByRecursion (IsAccepted []) (lowered_projection (schema_of_one "b" int32) (scan schema_ab) ∷ lowered_projection [] narrowed ∷ project schema_ab (scan schema_ab) ∷ []) }
+    ensures others { AllByRecursion (λ plan. ¬ (IsAccepted [] plan)) (lowered_projection (schema_of_one "b" int8) (scan schema_ab)
+        ∷ node (simple_projection_op (schema_of_one "b" int32) (Some schema_ab)) (more (scan schema_ab) no_more) ∷ node (drop_op [] false) (more (scan schema_ab) no_more) ∷ []) }
+    ensures strict { IsStrictPlan [] (lowered_projection (schema_of_one "b" int32) (scan schema_ab)) }
+    ensures sound { AllByRecursion (RunsSoundly [] (table ∷ [])) (lowered_projection (schema_of_one "b" int32) (scan schema_ab) ∷ lowered_projection [] narrowed ∷ []) }
 {}
 
 /// A plan is accepted where each node has a schema by the rules, and a schema that is recorded is that one: a filter has that of its input.

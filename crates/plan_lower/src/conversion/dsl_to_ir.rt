@@ -1,18 +1,24 @@
 //! Plans to nodes of an arena.
 ghost use Rattle.std.specs.Prelude.{◌≡◌, ◌<◌, ◌⊎◌, ℕ, true, false, List, [], ◌∷◌, length, map, slice_get, Some, OnOk, IfOk, IfErr};
 ghost use Rattle.plan_types.specs.Errors.{no_memory, IsMemoryOr};
-ghost use Rattle.plan_types.specs.Schemas.{columns, all_known};
+ghost use Rattle.plan_types.specs.Schemas.{columns, all_known, with_column};
+ghost use Rattle.plan_types.specs.Types.{ty};
+ghost use Rattle.plan_dsl.specs.Drops.{drop_leaves};
+ghost use Rattle.plan_dsl.specs.Selectors.{selector_trees};
+ghost use Rattle.plan_expand.specs.Refusals.{IsUnexpanded};
 ghost use Rattle.plan_dsl.specs.Expressions.{tree_of, trees_of};
 ghost use Rattle.plan_dsl.specs.Ops.{Op};
 ghost use Rattle.plan_dsl.specs.Plans.{SourcePlan, plan_tree, scan_op};
+ghost use Rattle.plan_dsl.specs.PlanRules.{with_columns};
 ghost use Rattle.plan_dsl.specs.Registry.{registry};
 ghost use Rattle.plan_dsl.specs.Resolving.{resolved};
 ghost use Rattle.plan_arena.specs.Items.{HoldsExpression, Grows, plan_layer};
 ghost use Rattle.plan_arena.specs.Layers.{layer};
-ghost use Rattle.plan_lower.specs.Lowering.{IsFilterAt, IsSelectAt, StandsFor, IsPlanRefusal, IsEmptyTableAt, Records, recorded_at, columns_at, Answers, IsTyped, IsSound, GivesSameFrame};
+ghost use Rattle.plan_lower.specs.Lowering.{IsDropAt, IsFunctionAt, IsFunctionRefusal, IsFilterAt, IsHStackAt, IsSelectAt, StandsFor, IsPlanRefusal, IsEmptyTableAt, Records, recorded_at, columns_at, Answers, IsTyped, IsSound, GivesSameFrame};
 ghost use Rattle.plan_lower.specs.Predicates.{IsPredicateRefusal};
 ghost use Rattle.plan_lower.specs.Projection.{IsProjectionRefusal};
 
+use crate::conversion::drops::columns_left;
 use crate::conversion::predicate::lower_predicate;
 use crate::conversion::projection::project_strictly;
 use plan_arena::aexpr::AExpr;
@@ -21,10 +27,13 @@ use plan_arena::expr_ir::ExprIRs;
 use plan_arena::ir::IR;
 use plan_arena::plan::IRPlan;
 use plan_dsl::expr::{Expr, Exprs};
+use plan_dsl::function::{DropFunction, DslFunction};
 use plan_dsl::plan::{DslPlan, ProjectionOptions};
 use plan_dsl::udfs::Udfs;
+use plan_types::dtype::DataType;
 use plan_types::error::{ErrorKind, PlanError};
 use plan_types::schema::Schema;
+use plan_types::text::PlSmallStr;
 use std::alloc::Global;
 
 /// Lowering of a query's plan.
@@ -106,6 +115,26 @@ fn lower(
             }
             Err(error) => Err(below(lp_arena.allocator(), error)),
         },
+        DslPlan::HStack {
+            exprs,
+            input,
+            options,
+        } => match lower(Box::into_inner(input), expr_arena, lp_arena, udfs) {
+            Ok(input) => {
+                let lowered = lower_hstack(exprs, input, options, expr_arena, lp_arena, udfs)?;
+                Ok(lowered)
+            }
+            Err(error) => Err(below(lp_arena.allocator(), error)),
+        },
+        DslPlan::MapFunction { input, function } => {
+            match lower(Box::into_inner(input), expr_arena, lp_arena, udfs) {
+                Ok(input) => {
+                    let lowered = lower_function(input, function, lp_arena)?;
+                    Ok(lowered)
+                }
+                Err(error) => Err(below(lp_arena.allocator(), error)),
+            }
+        }
     }
 }
 
@@ -187,13 +216,13 @@ fn lower_select(
     ensures ok { IfOk result (λ lowered. IsSelectAt (registry udfs.now) (columns_at lp_arena.old input.schema_node.0) expr_arena.new lp_arena.new
         lowered.node.0 input.node.0 (trees_of expr) (columns_at lp_arena.new lowered.schema_node.0)) }
     ensures recorded { IfOk result (λ lowered. Records lp_arena.new lowered.schema_node.0) }
-    ensures err { IfErr result (IsProjectionRefusal (registry udfs.now) (columns_at lp_arena.old input.schema_node.0) (trees_of expr)) }
+    ensures err { IfErr result (IsProjectionRefusal (registry udfs.now) (columns_at lp_arena.old input.schema_node.0) ErrorKind.Duplicate (trees_of expr)) }
     ensures kept { (n : ℕ) (op : Op) (inputs : List ℕ) →
         HoldsExpression expr_arena.old n op inputs → HoldsExpression expr_arena.new n op inputs }
     ensures grows { Grows lp_arena.old lp_arena.new }
 {
     let schema = recorded_schema(lp_arena, input.schema_node);
-    let projection = project_strictly(expr, schema, expr_arena, udfs)?;
+    let projection = project_strictly(expr, schema, expr_arena, udfs, ErrorKind::Duplicate)?;
     let input = input_of(&projection.expr, input.node, lp_arena)?;
     let node = lp_arena.add(IR::Select {
         expr: projection.expr,
@@ -207,6 +236,113 @@ fn lower_select(
     })
 }
 
+// Adds an hstack over a lowered input.
+fn lower_hstack(
+    exprs: Exprs,
+    input: LoweredNode,
+    options: ProjectionOptions,
+    expr_arena: &mut Arena<AExpr>,
+    lp_arena: &mut Arena<IR>,
+    udfs: &Udfs,
+) -> Result<LoweredNode, PlanError>
+    requires { Records lp_arena.old input.schema_node.0 }
+    ensures ok { IfOk result (λ lowered. IsHStackAt (registry udfs.now) (columns_at lp_arena.old input.schema_node.0) expr_arena.new lp_arena.new
+        lowered.node.0 input.node.0 (trees_of exprs) (columns_at lp_arena.new lowered.schema_node.0)) }
+    ensures recorded { IfOk result (λ lowered. Records lp_arena.new lowered.schema_node.0) }
+    ensures err { IfErr result (IsProjectionRefusal (registry udfs.now) (columns_at lp_arena.old input.schema_node.0) ErrorKind.ComputeError (trees_of exprs)) }
+    ensures kept { (n : ℕ) (op : Op) (inputs : List ℕ) →
+        HoldsExpression expr_arena.old n op inputs → HoldsExpression expr_arena.new n op inputs }
+    ensures grows { Grows lp_arena.old lp_arena.new }
+{
+    let before = recorded_schema(lp_arena, input.schema_node);
+    let projection = project_strictly(exprs, before, expr_arena, udfs, ErrorKind::ComputeError)?;
+    let schema = schema_with(before, &projection.schema, expr_arena.allocator())?;
+    let node = lp_arena.add(IR::HStack {
+        exprs: projection.expr,
+        input: input.node,
+        schema,
+        options,
+    })?;
+    Ok(LoweredNode {
+        node,
+        schema_node: node,
+    })
+}
+
+// Adds a function over a lowered input.
+fn lower_function(
+    input: LoweredNode,
+    function: DslFunction,
+    lp_arena: &mut Arena<IR>,
+) -> Result<LoweredNode, PlanError>
+    requires { Records lp_arena.old input.schema_node.0 }
+    ensures ok { IfOk result (λ lowered. IsFunctionAt (columns_at lp_arena.old input.schema_node.0) function lp_arena.new
+        lowered.node.0 input.node.0 (columns_at lp_arena.new lowered.schema_node.0)) }
+    ensures recorded { IfOk result (λ lowered. Records lp_arena.new lowered.schema_node.0) }
+    ensures err { IfErr result (IsFunctionRefusal (columns_at lp_arena.old input.schema_node.0) function) }
+    ensures grows { Grows lp_arena.old lp_arena.new }
+{
+    match function {
+        DslFunction::Drop(function) => lower_drop(input, function, lp_arena),
+    }
+}
+
+// Adds a drop over a lowered input: a simple projection of what it leaves.
+fn lower_drop(
+    input: LoweredNode,
+    function: DropFunction,
+    lp_arena: &mut Arena<IR>,
+) -> Result<LoweredNode, PlanError>
+    requires { Records lp_arena.old input.schema_node.0 }
+    ensures ok { IfOk result (λ lowered. IsDropAt (columns_at lp_arena.old input.schema_node.0) (selector_trees function.to_drop) function.strict lp_arena.new
+        lowered.node.0 input.node.0 (columns_at lp_arena.new lowered.schema_node.0)) }
+    ensures recorded { IfOk result (λ lowered. Records lp_arena.new lowered.schema_node.0) }
+    ensures err { IfErr result (IsUnexpanded (drop_leaves (columns_at lp_arena.old input.schema_node.0) (selector_trees function.to_drop) function.strict)) }
+    ensures grows { Grows lp_arena.old lp_arena.new }
+{
+    let schema = recorded_schema(lp_arena, input.schema_node);
+    let columns = columns_left(lp_arena.allocator(), function, schema)?;
+    let under = input_under(&columns, input.node, lp_arena)?;
+    let node = lp_arena.add(IR::SimpleProjection {
+        input: under,
+        columns,
+    })?;
+    Ok(LoweredNode {
+        node,
+        schema_node: node,
+    })
+}
+
+// A copy of the schema with the columns of another.
+fn schema_with(schema: &Schema, others: &Schema, alloc: Global) -> Result<Schema, PlanError>
+    ensures ok { IfOk result (λ whole. columns whole ≡ with_columns (columns schema.now) (columns others.now)) }
+    ensures err { IfErr result (λ error. error ≡ no_memory) }
+{
+    let mut whole = schema.try_clone(alloc)?;
+    for index in 0..others.len() {
+        if let Some((name, dtype)) = others.get_at_index(index) {
+            put_copy(&mut whole, name, dtype, alloc)?;
+        }
+    }
+    Ok(whole)
+}
+
+// Puts a copy of a column into the schema: in place of its namesake, or behind the others.
+pub(crate) fn put_copy(
+    schema: &mut Schema,
+    name: &PlSmallStr,
+    dtype: &DataType,
+    alloc: Global,
+) -> Result<(), PlanError>
+    ensures ok { OnOk result (columns schema.new ≡ with_column (columns schema.old) name.now (ty dtype.now)) }
+    ensures err { IfErr result (λ error. error ≡ no_memory) }
+{
+    let name = name.try_clone(alloc)?;
+    let dtype = dtype.try_clone(alloc)?;
+    let _before = schema.with_column(name, dtype)?;
+    Ok(())
+}
+
 // The input of a select: the empty table where nothing is selected.
 fn input_of(exprs: &ExprIRs, input: Node, lp_arena: &mut Arena<IR>) -> Result<Node, PlanError>
     ensures nothing { IfOk result (λ node. length exprs.now.items.items ≡ 0 → IsEmptyTableAt lp_arena.new node.0) }
@@ -215,6 +351,20 @@ fn input_of(exprs: &ExprIRs, input: Node, lp_arena: &mut Arena<IR>) -> Result<No
     ensures err { IfErr result (λ error. error ≡ no_memory) }
 {
     if exprs.items.is_empty() {
+        let node = add_empty_table(lp_arena)?;
+        return Ok(node);
+    }
+    Ok(input)
+}
+
+// The input of a simple projection: the empty table where there are no columns.
+fn input_under(own: &Schema, input: Node, lp_arena: &mut Arena<IR>) -> Result<Node, PlanError>
+    ensures nothing { IfOk result (λ node. length (columns own.now) ≡ 0 → IsEmptyTableAt lp_arena.new node.0) }
+    ensures something { IfOk result (λ node. 0 < length (columns own.now) → node.0 ≡ input.0) }
+    ensures grows { Grows lp_arena.old lp_arena.new }
+    ensures err { IfErr result (λ error. error ≡ no_memory) }
+{
+    if own.len() == 0 {
         let node = add_empty_table(lp_arena)?;
         return Ok(node);
     }

@@ -40,21 +40,23 @@ pub(crate) struct Projection {
     pub(crate) schema: Schema,
 }
 
-/// Adds the expressions' nodes, types them over a frame of the schema, and puts casts round their operands.
+/// Adds the expressions' nodes, types them over a frame of the schema, and puts casts round their operands. A name that
+/// comes twice breaks that kind of rule.
 pub(crate) fn project_strictly(
     exprs: Exprs,
     schema: &Schema,
     arena: &mut Arena<AExpr>,
     udfs: &Udfs,
+    twice: ErrorKind,
 ) -> Result<Projection, PlanError>
     ensures ok { IfOk result (λ projection. HasOutputs (registry udfs.now) (columns schema.now) arena.new
         (trees_of exprs) (map named_node projection.expr.items.items) (columns projection.schema)) }
     ensures kept { (n : ℕ) (op : Op) (inputs : List ℕ) →
         HoldsExpression arena.old n op inputs → HoldsExpression arena.new n op inputs }
-    ensures err { IfErr result (IsProjectionRefusal (registry udfs.now) (columns schema.now) (trees_of exprs)) }
+    ensures err { IfErr result (IsProjectionRefusal (registry udfs.now) (columns schema.now) twice (trees_of exprs)) }
 {
     let types = room_for(exprs.items.len(), arena)?;
-    let projection = project_in(exprs, schema, arena, udfs, types)?;
+    let projection = project_in(exprs, schema, arena, udfs, twice, types)?;
     Ok(projection)
 }
 
@@ -76,6 +78,7 @@ fn project_in(
     schema: &Schema,
     arena: &mut Arena<AExpr>,
     udfs: &Udfs,
+    twice: ErrorKind,
     types: TypeTable,
 ) -> Result<Projection, PlanError>
     requires empty { (n : ℕ) → ¬ (IsKept types n) }
@@ -83,10 +86,10 @@ fn project_in(
         (trees_of exprs) (map named_node projection.expr.items.items) (columns projection.schema)) }
     ensures kept { (n : ℕ) (op : Op) (inputs : List ℕ) →
         HoldsExpression arena.old n op inputs → HoldsExpression arena.new n op inputs }
-    ensures err { IfErr result (IsProjectionRefusal (registry udfs.now) (columns schema.now) (trees_of exprs)) }
+    ensures err { IfErr result (IsProjectionRefusal (registry udfs.now) (columns schema.now) twice (trees_of exprs)) }
 {
     let mut types = types;
-    let projection = project(exprs, schema, arena, udfs, &mut types)?;
+    let projection = project(exprs, schema, arena, udfs, twice, &mut types)?;
     let mut stack = roots_of(&projection.expr, arena.allocator())?;
     coerce_types(&mut stack, arena, &mut types)?;
     Ok(projection)
@@ -110,6 +113,7 @@ pub(crate) fn project(
     schema: &Schema,
     arena: &mut Arena<AExpr>,
     udfs: &Udfs,
+    twice: ErrorKind,
     types: &mut TypeTable,
 ) -> Result<Projection, PlanError>
     requires right { IsRight (registry udfs.now) (columns schema.now) arena.old types.old }
@@ -119,13 +123,13 @@ pub(crate) fn project(
     ensures kept { IfOk result (λ projection. AllByRecursion (IsKept types.new)
         (map (λ e. (named_node e).expression) projection.expr.items.items)) }
     ensures right { OnOk result (IsRight (registry udfs.now) (columns schema.now) arena.new types.new) }
-    ensures err { IfErr result (IsProjectionRefusal (registry udfs.now) (columns schema.now) (trees_of exprs)) }
+    ensures err { IfErr result (IsProjectionRefusal (registry udfs.now) (columns schema.now) twice (trees_of exprs)) }
 {
     let alloc = arena.allocator();
     let mut items = Vec::with_capacity(alloc, exprs.items.len())?;
     let mut output = Schema::with_capacity(alloc, exprs.items.len())?;
     for expr in exprs.items {
-        let expr_ir = project_one(expr, schema, arena, udfs, types, &mut output)?;
+        let expr_ir = project_one(expr, schema, arena, udfs, twice, types, &mut output)?;
         items.push(expr_ir)?;
     }
     Ok(Projection {
@@ -140,6 +144,7 @@ fn project_one(
     schema: &Schema,
     arena: &mut Arena<AExpr>,
     udfs: &Udfs,
+    twice: ErrorKind,
     types: &mut TypeTable,
     output: &mut Schema,
 ) -> Result<ExprIR, PlanError>
@@ -150,7 +155,7 @@ fn project_one(
     ensures kept { IfOk result (λ expr_ir. IsKept types.new (named_node expr_ir).expression) }
     ensures right { OnOk result (IsRight (registry udfs.now) (columns schema.now) arena.new types.new) }
     ensures extends { OnOk result (Extends types.old types.new) }
-    ensures err { IfErr result (IsOutputRefusal (registry udfs.now) (columns schema.now) (tree_of expr) (columns output.old)) }
+    ensures err { IfErr result (IsOutputRefusal (registry udfs.now) (columns schema.now) twice (tree_of expr) (columns output.old)) }
 {
     let expr_ir = add_typed(expr, schema, arena, udfs, types)?;
     let name = expr_ir.output_name().try_clone(arena.allocator())?;
@@ -160,7 +165,7 @@ fn project_one(
         .try_clone(arena.allocator())?;
     let before = output.with_column(name, dtype)?;
     if before.is_some() {
-        return Err(PlanError::at_top(ErrorKind::Duplicate));
+        return Err(PlanError::at_top(twice));
     }
     Ok(expr_ir)
 }

@@ -5,16 +5,16 @@ ghost use Rattle.plan_types.specs.Types.{Truth};
 ghost use Rattle.plan_types.specs.Errors.{no_memory, at_top};
 ghost use Rattle.plan_types.specs.declared.dtype.CastOptions.TheVariants.{NonStrict};
 ghost use Rattle.plan_types.specs.declared.dtype.DataType.TheVariants.{Int16 as HalfWide, Int32 as Wide};
-ghost use Rattle.plan_types.specs.declared.error.ErrorKind.TheVariants.{ColumnNotFound, Duplicate, InvalidOperation};
+ghost use Rattle.plan_types.specs.declared.error.ErrorKind.TheVariants.{ColumnNotFound, Duplicate, InvalidOperation, ComputeError};
 ghost use Rattle.plan_dsl.specs.declared.literal.LiteralValue.TheVariants.{Int, Int32};
 ghost use Rattle.plan_dsl.specs.Names.{column_label};
 ghost use Rattle.plan_dsl.specs.Ops.{CastOp};
 ghost use Rattle.plan_dsl.specs.Trees.{node, no_more, more};
-ghost use Rattle.plan_dsl.specs.Plans.{empty_table, select_op};
+ghost use Rattle.plan_dsl.specs.Plans.{empty_table, named, select_op, hstack_op};
 ghost use Rattle.plan_arena.specs.declared.aexpr.AExpr.TheVariants.{Cast, Column, Literal};
 ghost use Rattle.plan_arena.specs.Samples.{node_at};
 ghost use Rattle.plan_lower.specs.Nodes.{IsItemOf};
-ghost use Rattle.plan_lower.specs.Outputs.{IsLowered, SelectsTo, HasOutputs, lowered_named, lowered_column, over, lowered_select};
+ghost use Rattle.plan_lower.specs.Outputs.{IsLowered, SelectsTo, HasOutputs, lowered_named, lowered_column, over, lowered_select, lowered_hstack};
 ghost use Rattle.plan_lower.specs.Predicates.{FiltersBy, HasPredicate, IsPredicateRefusal, lowered_filter};
 ghost use Rattle.plan_lower.specs.Projection.{IsOutput, Projects, AddsOutput, IsOutputRefusal, RefusesOne, IsProjectionRefusal, output_node, output_column};
 ghost use Rattle.plan_infer.specs.Samples.{int8, int16, int32, one_column, columns_of, two_columns, of_type, of_one, a, b, c, five, sum, columns_and, a_items};
@@ -53,18 +53,20 @@ pub fn projections()
     ensures one_more_of_the_name { ¬ (AddsOutput [] (one_column int8) 0 a_items a (node_named (codes "a") 0) (one_column int8) ((codes "a", int8) ∷ (codes "a", int8) ∷ [])) }
 {}
 
-/// Why expressions can't be projected: one has no type, or its name stands before it.
+/// Why expressions can't be projected: one has no type, or its name stands before it, which is told as the kind that is asked for.
 pub fn refusals_of_projections()
-    ensures memory { IsOutputRefusal [] [] a [] no_memory }
-    ensures no_such_column { IsOutputRefusal [] [] a [] (at_top ColumnNotFound) }
-    ensures name_before_it { IsOutputRefusal [] (one_column int8) a (one_column int16) (at_top Duplicate) }
-    ensures new_name { ¬ (IsOutputRefusal [] (one_column int8) a ((codes "b", int16) ∷ []) (at_top Duplicate)) }
-    ensures typed { ¬ (IsOutputRefusal [] (one_column int8) a [] (at_top ColumnNotFound)) }
-    ensures second { RefusesOne [] (one_column int8) (a ∷ a ∷ []) (at_top Duplicate) }
-    ensures first { IsProjectionRefusal [] [] (c ∷ []) (at_top ColumnNotFound) }
-    ensures projection_without_memory { IsProjectionRefusal [] [] [] no_memory }
-    ensures of_nothing { ¬ (RefusesOne [] [] [] (at_top Duplicate)) }
-    ensures projection_of_nothing { ¬ (IsProjectionRefusal [] [] [] (at_top Duplicate)) }
+    ensures memory { IsOutputRefusal [] [] Duplicate a [] no_memory }
+    ensures no_such_column { IsOutputRefusal [] [] Duplicate a [] (at_top ColumnNotFound) }
+    ensures name_before_it { IsOutputRefusal [] (one_column int8) Duplicate a (one_column int16) (at_top Duplicate) }
+    ensures name_told_as_another_kind { IsOutputRefusal [] (one_column int8) ComputeError a (one_column int16) (at_top ComputeError) }
+    ensures kind_that_is_not_asked_for { ¬ (IsOutputRefusal [] (one_column int8) ComputeError a (one_column int16) (at_top Duplicate)) }
+    ensures new_name { ¬ (IsOutputRefusal [] (one_column int8) Duplicate a ((codes "b", int16) ∷ []) (at_top Duplicate)) }
+    ensures typed { ¬ (IsOutputRefusal [] (one_column int8) Duplicate a [] (at_top ColumnNotFound)) }
+    ensures second { RefusesOne [] (one_column int8) Duplicate (a ∷ a ∷ []) (at_top Duplicate) }
+    ensures first { IsProjectionRefusal [] [] Duplicate (c ∷ []) (at_top ColumnNotFound) }
+    ensures projection_without_memory { IsProjectionRefusal [] [] Duplicate [] no_memory }
+    ensures of_nothing { ¬ (RefusesOne [] [] Duplicate [] (at_top Duplicate)) }
+    ensures projection_of_nothing { ¬ (IsProjectionRefusal [] [] Duplicate [] (at_top Duplicate)) }
 {}
 
 /// What stands for an expression says the same and is strict, with casts only where they change the type.
@@ -87,6 +89,13 @@ pub fn lowered_selects()
     ensures over_an_input { lowered_select (as_it_is a int8 ∷ []) (scan_of (one_column int8)) ≡ select_over (scan_of (one_column int8)) a (one_column int8) }
     ensures of_nothing { lowered_select [] (scan_of (one_column int8)) ≡ node (select_op [] (Some [])) (more empty_table no_more) }
     ensures over_nothing { over [] (scan_of (one_column int8)) ≡ empty_table }
+{}
+
+/// An hstack of outputs records the columns of its input with theirs, and of none those of its input.
+pub fn lowered_hstacks()
+    ensures over_an_input { lowered_hstack two_columns (as_it_is a int32 ∷ as_it_is c Truth ∷ []) (scan_of two_columns)
+        ≡ node (hstack_op (named a ∷ named c ∷ []) (Some ((codes "a", int32) ∷ (codes "b", int32) ∷ (codes "c", Truth) ∷ []))) (more (scan_of two_columns) no_more) }
+    ensures of_nothing { lowered_hstack two_columns [] (scan_of two_columns) ≡ node (hstack_op [] (Some two_columns)) (more (scan_of two_columns) no_more) }
 {}
 
 /// A predicate is of the type of truth values, and what stands for it says the same.

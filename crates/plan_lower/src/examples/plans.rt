@@ -5,12 +5,12 @@ ghost use Rattle.plan_types.specs.Types.{Truth};
 ghost use Rattle.plan_types.specs.Errors.{no_memory};
 ghost use Rattle.plan_types.specs.declared.error.ErrorKind.TheVariants.{ColumnNotFound, Duplicate};
 ghost use Rattle.plan_dsl.specs.Trees.{node, no_more, more};
-ghost use Rattle.plan_dsl.specs.Plans.{empty_table, named, scan_op, select_op, filter_op};
+ghost use Rattle.plan_dsl.specs.Plans.{empty_table, named, scan_op, select_op, hstack_op, filter_op};
 ghost use Rattle.plan_arena.specs.declared.aexpr.AExpr.TheVariants.{Column};
 ghost use Rattle.plan_arena.specs.declared.ir.IR.{IR};
 ghost use Rattle.plan_arena.specs.declared.plan.IRPlan.{IRPlan};
 ghost use Rattle.plan_arena.specs.Layers.{layer};
-ghost use Rattle.plan_lower.specs.Lowering.{IsBuilt, StandsFor, IsPlanRefusal, Answers, IsTyped, IsSound, GivesSameFrame, IsLoweringOf, source_select, source_filter, IsSelectAt, IsFilterAt, IsEmptyTableAt, recorded_in, recorded_at, columns_at, Records};
+ghost use Rattle.plan_lower.specs.Lowering.{IsBuilt, StandsFor, IsPlanRefusal, Answers, IsTyped, IsSound, GivesSameFrame, IsLoweringOf, source_select, source_hstack, source_filter, IsSelectAt, IsHStackAt, IsFilterAt, IsEmptyTableAt, recorded_in, recorded_at, columns_at, Records};
 ghost use Rattle.plan_infer.specs.Samples.{int8, int32, one_column, two_columns, a, c, sum, a_items, refused};
 ghost use Rattle.plan_lower.specs.Samples.{truths, keep, keep_items, node_named, scan_of, select_over, filter_over, query, lowered_query, scan_layer, select_layer, ForPlans, ForScan, ForSum};
 
@@ -35,9 +35,10 @@ pub fn lowering_of_a_sum()
     ensures all { ForSum (λ lowering. IsLoweringOf [] query lowering lowered_query) }
 {}
 
-/// A select and a filter of a query: of expressions under their own names.
+/// A select, an hstack and a filter of a query: of expressions under their own names.
 pub fn trees_of_queries()
     ensures select { source_select (a ∷ []) (scan_of (one_column Truth)) ≡ node (select_op (named a ∷ []) None) (more (scan_of (one_column Truth)) no_more) }
+    ensures hstack { source_hstack (a ∷ []) (scan_of (one_column Truth)) ≡ node (hstack_op (named a ∷ []) None) (more (scan_of (one_column Truth)) no_more) }
     ensures filter { source_filter a (scan_of (one_column Truth)) ≡ filter_over (scan_of (one_column Truth)) a }
 {}
 
@@ -57,6 +58,8 @@ pub fn nodes_that_stand_for_plans()
         IsFilterAt [] truths keep_items plans 1 0 keep) }
     ensures select { ForPlans (scan_layer (Some 0) (one_column Truth) ∷ select_layer 0 (one_column Truth) ∷ []) (λ plans.
         IsSelectAt [] (one_column Truth) a_items plans 1 0 (a ∷ []) (one_column Truth)) }
+    ensures hstack { ForPlans (scan_layer (Some 0) (one_column Truth) ∷ layer (hstack_op (node_named (codes "a") 0 ∷ []) (Some (one_column Truth))) (0 ∷ []) ∷ []) (λ plans.
+        IsHStackAt [] (one_column Truth) a_items plans 1 0 (a ∷ []) (one_column Truth)) }
     ensures scan { ForPlans (scan_layer None [] ∷ []) (λ plans. StandsFor [] [] plans 0 [] empty_table) }
     ensures other_schema { ForPlans (scan_layer None [] ∷ []) (λ plans. ¬ (StandsFor [] [] plans 0 (one_column Truth) empty_table)) }
     ensures empty_table { ForPlans (scan_layer None [] ∷ []) (λ plans. IsEmptyTableAt plans 0) }

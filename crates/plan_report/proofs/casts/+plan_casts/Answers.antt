@@ -1,8 +1,8 @@
 use Rattle.std.proofs.Common.{[], ◌∷◌, ap, arith}
 use Rattle.plan_arena.specs.Items.{named_node, plan_layer}
 use Rattle.plan_arena.proofs.ItemLemmas.{item_inputs, plan_within}
-use Rattle.plan_report.proofs.NodeLemmas.{plan_inputs, node_kind, select_outputs, filter_outputs}
-use Rattle.plan_report.proofs.CastLemmas.{only_named, scan_casts, select_casts, filter_casts, plan_counted}
+use Rattle.plan_report.proofs.NodeLemmas.{plan_inputs, node_kind, select_outputs, hstack_outputs, filter_outputs}
+use Rattle.plan_report.proofs.CastLemmas.{only_named, scan_casts, select_casts, hstack_casts, projection_casts, filter_casts, plan_counted}
 use Rattle.plan_report.proofs.casts.+plan_casts.Goals as goal
 
 pub get-item-requires : goal.get-item-requires
@@ -45,3 +45,27 @@ pub returns-in_ok-count-in-Select : goal.returns-in_ok-count-in-Select
 returns-in_ok-count-in-Select t c tree d =
     let counted = plan_counted c.args.plan.now.expr_arena c.args.plan.now.lp_arena c.args.node.0 c.get-item.result.now c.get-item.ensures _ _ c.in_ok-here-in-Select.here (c.in_ok-below-in-Select.below ∷ []) (ap plan_layer c.in-Select.is) (select_casts c.args.plan.now.expr_arena _ c.in_ok-here-in-Select.here c.in_ok-here-in-Select.ensures) (c.in_ok-below-in-Select.ensures, tt) tree d in
     omega (arith, c.in_ok-count-in-Select.ensures)
+
+pub outputs_casts-requires-in-HStack : goal.outputs_casts-requires-in-HStack
+outputs_casts-requires-in-HStack t c =
+    hstack_outputs c.args.plan.now.expr_arena _ (node_kind c.args.plan.now.expr_arena c.args.plan.now.lp_arena c.args.node.0 c.get-item.result.now c.get-item.ensures _ _ (ap plan_layer c.in-HStack.is) c.requires)
+
+pub plan_casts-requires-in-HStack : goal.plan_casts-requires-in-HStack
+plan_casts-requires-in-HStack t c =
+    let inputs = plan_inputs c.args.plan.now.expr_arena c.args.plan.now.lp_arena c.args.node.0 c.get-item.result.now c.get-item.ensures _ _ (ap plan_layer c.in-HStack.is) c.requires in
+    (omega (arith, c.decreases, inputs.0.1), inputs.0.0)
+
+pub returns-in_ok-count-in-HStack : goal.returns-in_ok-count-in-HStack
+returns-in_ok-count-in-HStack t c tree d =
+    let counted = plan_counted c.args.plan.now.expr_arena c.args.plan.now.lp_arena c.args.node.0 c.get-item.result.now c.get-item.ensures _ _ c.in_ok-here-in-HStack.here (c.in_ok-below-in-HStack.below ∷ []) (ap plan_layer c.in-HStack.is) (hstack_casts c.args.plan.now.expr_arena _ c.in_ok-here-in-HStack.here c.in_ok-here-in-HStack.ensures) (c.in_ok-below-in-HStack.ensures, tt) tree d in
+    omega (arith, c.in_ok-count-in-HStack.ensures)
+
+pub plan_casts-requires-in-SimpleProjection : goal.plan_casts-requires-in-SimpleProjection
+plan_casts-requires-in-SimpleProjection t c =
+    let inputs = plan_inputs c.args.plan.now.expr_arena c.args.plan.now.lp_arena c.args.node.0 c.get-item.result.now c.get-item.ensures _ _ (ap plan_layer c.in-SimpleProjection.is) c.requires in
+    (omega (arith, c.decreases, inputs.0.1), inputs.0.0)
+
+pub returns-in_ok-below-in-SimpleProjection : goal.returns-in_ok-below-in-SimpleProjection
+returns-in_ok-below-in-SimpleProjection t c tree d =
+    let counted = plan_counted c.args.plan.now.expr_arena c.args.plan.now.lp_arena c.args.node.0 c.get-item.result.now c.get-item.ensures _ _ 0 (c.in_ok-below-in-SimpleProjection.below ∷ []) (ap plan_layer c.in-SimpleProjection.is) (projection_casts c.args.plan.now.expr_arena _) (c.in_ok-below-in-SimpleProjection.ensures, tt) tree d in
+    omega arith

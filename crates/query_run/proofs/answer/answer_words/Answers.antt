@@ -3,7 +3,7 @@ use Rattle.plan_dsl.specs.Registry.{registry}
 use Rattle.query_run.specs.Answers.{IsAnswer, IsQueryAnswer, usage, read, too_long, read_fault}
 use Rattle.query_run.specs.declared.status.Status.TheVariants.{Usage, TooLong, ReadFault}
 use Rattle.query_run.proofs.AnswerLemmas.{of_answer, denied}
-use Rattle.query_run.proofs.EndingLemmas.{query_not_too_long}
+use Rattle.query_run.proofs.EndingLemmas.{query_not_read_fault, query_not_too_long}
 use Rattle.query_run.proofs.answer.answer_words.Goals as goal
 
 pub returns-then-not-asks_lower-clause-answers : goal.returns-then-not-asks_lower-clause-answers
@@ -27,3 +27,7 @@ returns-in_ok-text-in-TooLong-clause-answers g c =
 pub returns-in_ok-answer-in-Bytes-clause-past : goal.returns-in_ok-answer-in-Bytes-clause-past
 returns-in_ok-answer-in-Bytes-clause-past g c e =
     absurd (query_not_too_long (registry c.args.udfs.now) c.as_slice.result.now c.in_ok-answer-in-Bytes.answer.done (string_bytes c.in_ok-answer-in-Bytes.answer.text) c.in_ok-answer-in-Bytes.ensures e)
+
+pub returns-in_ok-answer-in-Bytes-clause-fault : goal.returns-in_ok-answer-in-Bytes-clause-fault
+returns-in_ok-answer-in-Bytes-clause-fault g c e =
+    absurd (query_not_read_fault (registry c.args.udfs.now) c.as_slice.result.now c.in_ok-answer-in-Bytes.answer.done (string_bytes c.in_ok-answer-in-Bytes.answer.text) c.in_ok-answer-in-Bytes.ensures e)

@@ -45,7 +45,7 @@ returns-clause-alias c = (0 ∷ [], refl, (([], refl, tt), tt))
 pub returns-clause-sort_by : goal.returns-clause-sort_by
 returns-clause-sort_by c = λ by options is. (
   0 ∷ 1 ∷ 0 ∷ [],
-  ap (λ nodes. Some (layer (SortByOp options.descending.items.items options.nulls_last.items.items) (0 ∷ numbers nodes))) is,
+  ap (λ nodes. Some (layer (SortByOp options.descending.items.value.items options.nulls_last.items.value.items) (0 ∷ numbers nodes))) is,
   (([], refl, tt), (([], refl, tt), (([], refl, tt), tt))),
 )
 
@@ -59,6 +59,6 @@ count_isnt_a rest d = cc
 pub returns-clause-other_keys : goal.returns-clause-other_keys
 returns-clause-other_keys c = λ by options is.
     let items : List AExpr = Column (codes "a") ∷ Len ∷ SortBy (node_at 0) by options ∷ [] in
-    let under : (keys : List Expression) → Denotes (HoldsExpression items) 2 (sort_by options.descending.items.items options.nulls_last.items.items keys a) → DenoteAll (HoldsExpression items) (0 ∷ 1 ∷ 0 ∷ []) (more a (children_from keys))
+    let under : (keys : List Expression) → Denotes (HoldsExpression items) 2 (sort_by options.descending.items.value.items options.nulls_last.items.value.items keys a) → DenoteAll (HoldsExpression items) (0 ∷ 1 ∷ 0 ∷ []) (more a (children_from keys))
     = λ keys d. subst (λ inputs. DenoteAll (HoldsExpression items) inputs (more a (children_from keys))) (sym (keys_are by options is _ d.0 d.1)) d.2 in
     (λ d. count_isnt_a (SortBy (node_at 0) by options ∷ []) (under (a ∷ count ∷ []) d).1.0, (λ d. (under (count ∷ []) d).1.1, (λ d. (under (count ∷ a ∷ a ∷ []) d).1.1.1, tt)))

@@ -3,14 +3,15 @@ use Rattle.plan_types.specs.Schemas.{columns}
 use Rattle.plan_types.proofs.ResultLemmas.{passed_on}
 use Rattle.plan_types.proofs.SchemaLemmas.{schema_has_distinct_names}
 use Rattle.plan_dsl.specs.Expressions.{tree_of, trees_of}
-use Rattle.plan_dsl.specs.Plans.{plan_tree, filter_op, select_op, written_filter, written_select}
+use Rattle.plan_dsl.specs.Plans.{plan_tree, filter_op, select_op, hstack_op, written_filter, written_select, written_hstack, written_function}
 use Rattle.plan_dsl.specs.Sources.{written}
 use Rattle.plan_dsl.specs.PlanRules.{schema_of}
 use Rattle.plan_dsl.specs.Registry.{registry}
 use Rattle.plan_dsl.specs.Resolving.{resolved_op, resolved}
-use Rattle.plan_dsl.proofs.ResolvingLemmas.{filter_resolved, select_resolved}
+use Rattle.plan_dsl.proofs.ResolvingLemmas.{filter_resolved, select_resolved, hstack_resolved}
 use Rattle.plan_lower.specs.Lowering.{columns_at}
-use Rattle.plan_lower.proofs.PlanLemmas.{scan_stands, scan_refused, filter_stands, filter_refused, select_stands, select_refused, refused_below}
+use Rattle.plan_lower.proofs.DropLemmas.{function_stands, function_refused, function_below}
+use Rattle.plan_lower.proofs.PlanLemmas.{scan_stands, scan_refused, filter_stands, filter_refused, select_stands, select_refused, hstack_stands, hstack_refused, refused_below}
 use Rattle.plan_lower.proofs.RecordedLemmas.{columns_of_recorded, columns_stay, records_stay}
 use Rattle.plan_lower.proofs.conversion.dsl_to_ir.+lower.Goals as goal
 
@@ -83,3 +84,51 @@ returns-in-Err-lower-clause-err t c =
     let source = resolved r (plan_tree c.into_inner-in-Select.result) in
     let same = ap (resolved r) written_as in
     refused_below r (resolved_op (select_op (map written (trees_of c.in-Select.expr)) None) (schema_of r source ∷ [])) source (resolved r (plan_tree c.args.plan)) c.in-Err-lower.error c.below-in-Err-lower.result c.in-Err-lower.ensures.err c.below-in-Err-lower.ensures same
+
+pub returns-in_err-lowered-in-Ok-lower-2-clause-err :
+    goal.returns-in_err-lowered-in-Ok-lower-2-clause-err
+returns-in_err-lowered-in-Ok-lower-2-clause-err t c =
+    let r = registry c.args.udfs.now in
+    let written_as = ap plan_tree c.in-HStack.is ∙ ap (λ p. written_hstack (trees_of c.in-HStack.exprs) (plan_tree p)) (sym c.into_inner-in-HStack.ensures) in
+    let source = resolved r (plan_tree c.into_inner-in-HStack.result) in
+    let same = ap (resolved r) written_as ∙ hstack_resolved r (trees_of c.in-HStack.exprs) (plan_tree c.into_inner-in-HStack.result) _ c.in-Ok-lower-2.ensures.ok.built.source_schema in
+    passed_on c.from_residual-in_err-lowered-in-Ok-lower-2.result c.in_err-lowered-in-Ok-lower-2.field-0.0 _ c.from_residual-in_err-lowered-in-Ok-lower-2.ensures.1 (hstack_refused r c.lower-in-HStack.new.expr_arena c.lower-in-HStack.new.lp_arena c.in-Ok-lower-2.input.node.0 (columns_at c.lower-in-HStack.new.lp_arena c.in-Ok-lower-2.input.schema_node.0) (trees_of c.in-HStack.exprs) source (resolved r (plan_tree c.args.plan)) _ c.in-Ok-lower-2.ensures.ok c.in_err-lowered-in-Ok-lower-2.ensures.err same)
+
+pub returns-in_ok-lowered-in-Ok-lower-2-clause-ok :
+    goal.returns-in_ok-lowered-in-Ok-lower-2-clause-ok
+returns-in_ok-lowered-in-Ok-lower-2-clause-ok t c =
+    let r = registry c.args.udfs.now in
+    let written_as = ap plan_tree c.in-HStack.is ∙ ap (λ p. written_hstack (trees_of c.in-HStack.exprs) (plan_tree p)) (sym c.into_inner-in-HStack.ensures) in
+    let source = resolved r (plan_tree c.into_inner-in-HStack.result) in
+    let same = ap (resolved r) written_as ∙ hstack_resolved r (trees_of c.in-HStack.exprs) (plan_tree c.into_inner-in-HStack.result) _ c.in-Ok-lower-2.ensures.ok.built.source_schema in
+    let lowered = c.in_ok-lowered-in-Ok-lower-2.lowered in
+    hstack_stands r c.lower-in-HStack.new.expr_arena c.lower_hstack.new.expr_arena c.lower-in-HStack.new.lp_arena c.lower_hstack.new.lp_arena c.in-Ok-lower-2.input.node.0 lowered.node.0 (columns_at c.lower-in-HStack.new.lp_arena c.in-Ok-lower-2.input.schema_node.0) (columns_at c.lower_hstack.new.lp_arena lowered.schema_node.0) (trees_of c.in-HStack.exprs) source (resolved r (plan_tree c.args.plan)) c.in_ok-lowered-in-Ok-lower-2.ensures.kept c.in_ok-lowered-in-Ok-lower-2.ensures.grows c.in-Ok-lower-2.ensures.ok c.in_ok-lowered-in-Ok-lower-2.ensures.ok same
+
+pub returns-in-Err-lower-2-clause-err : goal.returns-in-Err-lower-2-clause-err
+returns-in-Err-lower-2-clause-err t c =
+    let r = registry c.args.udfs.now in
+    let written_as = ap plan_tree c.in-HStack.is ∙ ap (λ p. written_hstack (trees_of c.in-HStack.exprs) (plan_tree p)) (sym c.into_inner-in-HStack.ensures) in
+    let source = resolved r (plan_tree c.into_inner-in-HStack.result) in
+    let same = ap (resolved r) written_as in
+    refused_below r (resolved_op (hstack_op (map written (trees_of c.in-HStack.exprs)) None) (schema_of r source ∷ [])) source (resolved r (plan_tree c.args.plan)) c.in-Err-lower-2.error c.below-in-Err-lower-2.result c.in-Err-lower-2.ensures.err c.below-in-Err-lower-2.ensures same
+
+pub returns-in_err-lowered-in-Ok-lower-3-clause-err :
+    goal.returns-in_err-lowered-in-Ok-lower-3-clause-err
+returns-in_err-lowered-in-Ok-lower-3-clause-err t c =
+    let r = registry c.args.udfs.now in
+    let written_as = ap plan_tree c.in-MapFunction.is ∙ ap (λ p. written_function c.in-MapFunction.function (plan_tree p)) (sym c.into_inner-in-MapFunction.ensures) in
+    passed_on c.from_residual-in_err-lowered-in-Ok-lower-3.result c.in_err-lowered-in-Ok-lower-3.field-0.0 _ c.from_residual-in_err-lowered-in-Ok-lower-3.ensures.1 (function_refused r c.lower-in-MapFunction.new.expr_arena c.lower-in-MapFunction.new.lp_arena c.in-Ok-lower-3.input.node.0 (columns_at c.lower-in-MapFunction.new.lp_arena c.in-Ok-lower-3.input.schema_node.0) c.in-MapFunction.function (plan_tree c.into_inner-in-MapFunction.result) (resolved r (plan_tree c.args.plan)) _ c.in-Ok-lower-3.ensures.ok c.in_err-lowered-in-Ok-lower-3.ensures.err (ap (resolved r) written_as))
+
+pub returns-in_ok-lowered-in-Ok-lower-3-clause-ok :
+    goal.returns-in_ok-lowered-in-Ok-lower-3-clause-ok
+returns-in_ok-lowered-in-Ok-lower-3-clause-ok t c =
+    let r = registry c.args.udfs.now in
+    let written_as = ap plan_tree c.in-MapFunction.is ∙ ap (λ p. written_function c.in-MapFunction.function (plan_tree p)) (sym c.into_inner-in-MapFunction.ensures) in
+    let lowered = c.in_ok-lowered-in-Ok-lower-3.lowered in
+    function_stands r c.lower-in-MapFunction.new.expr_arena c.lower-in-MapFunction.new.lp_arena c.lower_function.new.lp_arena c.in-Ok-lower-3.input.node.0 lowered.node.0 (columns_at c.lower-in-MapFunction.new.lp_arena c.in-Ok-lower-3.input.schema_node.0) (columns_at c.lower_function.new.lp_arena lowered.schema_node.0) c.in-MapFunction.function (plan_tree c.into_inner-in-MapFunction.result) (resolved r (plan_tree c.args.plan)) c.in_ok-lowered-in-Ok-lower-3.ensures.grows c.in-Ok-lower-3.ensures.ok c.in_ok-lowered-in-Ok-lower-3.ensures.ok (ap (resolved r) written_as)
+
+pub returns-in-Err-lower-3-clause-err : goal.returns-in-Err-lower-3-clause-err
+returns-in-Err-lower-3-clause-err t c =
+    let r = registry c.args.udfs.now in
+    let written_as = ap plan_tree c.in-MapFunction.is ∙ ap (λ p. written_function c.in-MapFunction.function (plan_tree p)) (sym c.into_inner-in-MapFunction.ensures) in
+    function_below r c.in-MapFunction.function (plan_tree c.into_inner-in-MapFunction.result) (resolved r (plan_tree c.args.plan)) c.in-Err-lower-3.error c.below-in-Err-lower-3.result c.in-Err-lower-3.ensures.err c.below-in-Err-lower-3.ensures (ap (resolved r) written_as)

@@ -1,10 +1,10 @@
 use Rattle.std.proofs.Common.{length, map, refl, subst, sym, ap, ◌∙◌}
 use Rattle.std.specs.Vec.Iter.{into_iter_items}
 use Rattle.plan_dsl.specs.Aliases.{all_pruned, inputs_pruned, prune_node, pruned}
-use Rattle.plan_dsl.specs.Expressions.{tree_of, trees_of}
+use Rattle.plan_dsl.specs.Expressions.{sort_by_op, tree_of, trees_of}
 use Rattle.plan_dsl.specs.Ops.{AliasOp}
 use Rattle.plan_dsl.specs.Trees.{node, no_more, more, children_from}
-use Rattle.plan_dsl.proofs.ExprLemmas.{sort_by_op, sort_by_tree}
+use Rattle.plan_dsl.proofs.ExprLemmas.{sort_by_listed}
 use Rattle.plan_arena.specs.declared.aexpr.AExpr.TheVariants.{Alias, SortBy}
 use Rattle.plan_arena.specs.Denotation.{Denotes}
 use Rattle.plan_arena.specs.Items.{HoldsFrom}
@@ -68,7 +68,7 @@ add_inputs-returns-in_ok-by-in-SortBy-clause-ok t c =
     let first = c.in_ok-expr-in-SortBy.ensures in
     let rest = c.in_ok-by-in-SortBy.ensures in
     let keys = all_pruned c.args.keep (children_from (trees_of kind.by)) in
-    let whole = ap (inputs_pruned c.args.keep) (ap tree_of kind.is ∙ sort_by_tree kind.expr kind.by kind.sort_options) in
+    let whole = ap (inputs_pruned c.args.keep) (sort_by_listed c.args.expr kind.expr kind.by kind.sort_options kind.is).is in
     let tree = whole ∙ ap (λ e. node (sort_by_op kind.sort_options) (more (pruned c.args.keep (tree_of e)) keys)) (sym c.into_inner-in-SortBy.ensures) in
     over_listed c.args.arena.now c.add_nodes-in-SortBy.new.arena c.add_each.new.arena _ (SortBy c.in_ok-expr-in-SortBy.expr c.in_ok-by-in-SortBy.by kind.sort_options) _ _ _ keys tree refl first.denotes first.grows rest.ok rest.grows
 

@@ -16,11 +16,11 @@ use Rattle.plan_lower.proofs.conversion.projection.project.Goals as goal
 
 pub returns-in_err-expr_ir-clause-err : goal.returns-in_err-expr_ir-clause-err
 returns-in_err-expr_ir-clause-err c =
-    passed_on c.from_residual-in_err-expr_ir.result c.in_err-expr_ir.field-0.0 _ c.from_residual-in_err-expr_ir.ensures.1 (projecting_refused _ _ _ _ _ _ (map tree_of (into_iter_items c.next.new.self)) (tree_of c.in-Some.expr) _ _ _ c.loop-expr.invariant.so_far (ap (map tree_of) c.in-Some.ensures.steps.0) c.in_err-expr_ir.ensures.err)
+    passed_on c.from_residual-in_err-expr_ir.result c.in_err-expr_ir.field-0.0 _ c.from_residual-in_err-expr_ir.ensures.1 (projecting_refused _ _ c.args.twice _ _ _ _ (map tree_of (into_iter_items c.next.new.self)) (tree_of c.in-Some.expr) _ _ _ c.loop-expr.invariant.so_far (ap (map tree_of) c.in-Some.ensures.steps.0) c.in_err-expr_ir.ensures.err)
 
 pub returns-in_err-push-clause-err : goal.returns-in_err-push-clause-err
 returns-in_err-push-clause-err c =
-    passed_on c.from_residual-in_err-push.result no_memory _ c.from_residual-in_err-push.ensures.1 (projecting_refused _ _ _ _ _ _ (map tree_of (into_iter_items c.next.new.self)) (tree_of c.in-Some.expr) _ _ _ c.loop-expr.invariant.so_far (ap (map tree_of) c.in-Some.ensures.steps.0) (no_room refl))
+    passed_on c.from_residual-in_err-push.result no_memory _ c.from_residual-in_err-push.ensures.1 (projecting_refused _ _ c.args.twice _ _ _ _ (map tree_of (into_iter_items c.next.new.self)) (tree_of c.in-Some.expr) _ _ _ c.loop-expr.invariant.so_far (ap (map tree_of) c.in-Some.ensures.steps.0) (no_room refl))
 
 pub loop-expr-init : goal.loop-expr-init
 loop-expr-init c = record {

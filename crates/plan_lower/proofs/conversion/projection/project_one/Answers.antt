@@ -14,7 +14,7 @@ use Rattle.plan_lower.proofs.conversion.projection.project_one.Goals as goal
 
 pub returns-in_err-expr_ir-clause-err : goal.returns-in_err-expr_ir-clause-err
 returns-in_err-expr_ir-clause-err c =
-    passed_on c.from_residual.result c.in_err-expr_ir.field-0.0 _ c.from_residual.ensures.1 (refused_output (registry c.args.udfs.now) (columns c.args.schema.now) (tree_of c.args.expr) (columns c.args.output.now) _ c.in_err-expr_ir.ensures.err)
+    passed_on c.from_residual.result c.in_err-expr_ir.field-0.0 _ c.from_residual.ensures.1 (refused_output (registry c.args.udfs.now) (columns c.args.schema.now) c.args.twice (tree_of c.args.expr) (columns c.args.output.now) _ c.in_err-expr_ir.ensures.err)
 
 pub returns-clause-ok : goal.returns-clause-ok
 returns-clause-ok c =

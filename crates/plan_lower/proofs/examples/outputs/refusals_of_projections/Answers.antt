@@ -36,13 +36,13 @@ no_split : (front back : List Expression) (tree : Expression) → [] ≡ front +
 no_split [] back tree e = cc
 no_split (first ∷ front) back tree e = cc
 
-none_refused : (error : PlanError) → RefusesOne [] [] [] error → ⊥
+none_refused : (error : PlanError) → RefusesOne [] [] Duplicate [] error → ⊥
 none_refused error r = no_split r.front r.back r.tree r.split
 
 no_memory_else : at_top Duplicate ≡ no_memory → ⊥
 no_memory_else e = let differs : Duplicate ≡ NoMemory = ap (λ error. error.kind) e in cc
 
-no_refusal : IsProjectionRefusal [] [] [] (at_top Duplicate) → ⊥
+no_refusal : IsProjectionRefusal [] [] Duplicate [] (at_top Duplicate) → ⊥
 no_refusal (out_of_memory e) = no_memory_else e
 no_refusal (refused r) = none_refused (at_top Duplicate) r
 

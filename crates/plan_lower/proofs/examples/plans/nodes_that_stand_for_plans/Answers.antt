@@ -46,6 +46,20 @@ returns-clause-select c = λ plans is. record {
   item = item_at plans _ 1 _ is refl;
 }
 
+pub returns-clause-hstack : goal.returns-clause-hstack
+returns-clause-hstack c = λ plans is. record {
+  nodes = node_named (codes "a") 0 ∷ [];
+  own = truths (codes "a");
+  has = record {
+    outputs = output (codes "a") ∷ [];
+    selects = record { trees_are = refl; each = (a_lowered, tt); distinct = (refl, tt) };
+    denotes = (refl, ([], refl, tt), tt);
+    columns_are = refl;
+  };
+  whole = refl;
+  item = item_at plans _ 1 _ is refl;
+}
+
 pub returns-clause-scan : goal.returns-clause-scan
 returns-clause-scan c = λ plans is. record {
   lowered = node (scan_op None []) no_more;
