@@ -5,7 +5,9 @@ use Rattle.plan_types.specs.Schemas.{Name, Columns}
 use Rattle.plan_types.specs.Types.{Ty}
 use Rattle.plan_types.specs.declared.dtype.CastOptions.{CastOptions}
 use Rattle.plan_dsl.specs.Ops.{Op, ColumnOp, BinaryOp, CastOp, LenOp, SliceOp, ExplodeOp, GatherOp, FilterOp, SortOp, SortByOp, AliasOp, Expression}
-use Rattle.plan_dsl.specs.Plans.{SourcePlan, scan_op, written_select, written_filter}
+use Rattle.plan_dsl.specs.Plans.{SourcePlan, scan_op, written_select, written_hstack, written_filter, written_drop}
+use Rattle.plan_dsl.specs.Selectors.{of_two}
+use Rattle.plan_dsl.specs.Sources.{Source, Add, Sub, Intersect, ExclusiveOr, RootOp, written}
 use Rattle.plan_dsl.specs.Trees.{node, no_more, more, children_from}
 use Rattle.plan_dsl.specs.declared.operator.Operator.{Operator}
 use Rattle.plan_json.specs.declared.forms.Kind.{Kind}
@@ -20,6 +22,8 @@ use Rattle.plan_json.specs.declared.forms.Key.{Key}
 use Rattle.plan_json.specs.declared.forms.Key.TheVariants as keys
 use Rattle.plan_json.specs.declared.forms.ExpressionKey.{ExpressionKey}
 use Rattle.plan_json.specs.declared.forms.ExpressionKey.TheVariants as of
+use Rattle.plan_json.specs.declared.forms.SelectorKey.{SelectorKey}
+use Rattle.plan_json.specs.declared.forms.SelectorKey.TheVariants as from
 use Rattle.plan_json.specs.declared.forms.PlanKey.{PlanKey}
 use Rattle.plan_json.specs.declared.forms.PlanKey.TheVariants as by
 use Rattle.plan_json.specs.declared.forms.TypeKey.{TypeKey}
@@ -43,6 +47,9 @@ pub data Places : Type 0 where
 
 abbrev pub expression : Asked
 expression = a_form kinds.Expression
+
+abbrev pub selector : Asked
+selector = a_form kinds.Selector
 
 abbrev pub plan : Asked
 plan = a_form kinds.Plan
@@ -84,6 +91,25 @@ expression_asks of.Sort = listed (expression ∷ leaf leaves.Flag ∷ leaf leave
 expression_asks of.SortBy = listed (expression ∷ many expression ∷ many (leaf leaves.Flag) ∷ many (leaf leaves.Flag) ∷ [])
 expression_asks of.Alias = listed (expression ∷ leaf leaves.Name ∷ [])
 
+-- ---- selectors
+
+-- the keys of selectors
+abbrev pub selector_rows : List (List ℕ × SelectorKey)
+selector_rows =
+    (codes "root", from.Root) ∷
+    (codes "add", from.Add) ∷
+    (codes "sub", from.Sub) ∷
+    (codes "and", from.And) ∷
+    (codes "xor", from.Xor) ∷ []
+
+-- what each asks of its value
+abbrev pub selector_asks : SelectorKey → Places
+selector_asks from.Root = single expression
+selector_asks from.Add = listed (selector ∷ selector ∷ [])
+selector_asks from.Sub = listed (selector ∷ selector ∷ [])
+selector_asks from.And = listed (selector ∷ selector ∷ [])
+selector_asks from.Xor = listed (selector ∷ selector ∷ [])
+
 -- ---- plans
 
 -- the keys of plans
@@ -92,7 +118,9 @@ plan_rows =
     (codes "scan", by.Scan) ∷
     (codes "empty", by.Empty) ∷
     (codes "filter", by.Filter) ∷
-    (codes "select", by.Select) ∷ []
+    (codes "select", by.Select) ∷
+    (codes "with_columns", by.WithColumns) ∷
+    (codes "drop", by.Drop) ∷ []
 
 -- what each asks of its value
 abbrev pub plan_asks : PlanKey → Places
@@ -100,6 +128,8 @@ plan_asks by.Scan = single (leaf leaves.Table)
 plan_asks by.Empty = single (leaf leaves.Columns)
 plan_asks by.Filter = listed (plan ∷ expression ∷ [])
 plan_asks by.Select = listed (plan ∷ many expression ∷ [])
+plan_asks by.WithColumns = listed (plan ∷ many expression ∷ [])
+plan_asks by.Drop = listed (plan ∷ many selector ∷ leaf leaves.Flag ∷ [])
 
 -- ---- types
 
@@ -126,8 +156,11 @@ mutual
     nothing_read : Read
     flag_read : Bool → Read
     expression_read : Expression → Read
+    selector_read : Source → Read
     plan_read : SourcePlan → Read
     many_read : Reads → Read
+    -- of a list of selectors
+    chosen_read : Reads → Read
     -- of a list of what has no forms
     leaves_read : Reads → Read
     -- a plan that no query can write
@@ -144,6 +177,7 @@ reads_of (r ∷ rs) = more_read r (reads_of rs)
 -- what is read of a list of these
 abbrev pub list_read : Asked → Reads → Read
 list_read (leaf which) rs = leaves_read rs
+list_read (a_form kinds.Selector) rs = chosen_read rs
 list_read _ rs = many_read rs
 
 -- the expressions among them
@@ -151,6 +185,12 @@ abbrev pub expressions_in : Reads → List Expression
 expressions_in no_read = []
 expressions_in (more_read (expression_read tree) rs) = tree ∷ expressions_in rs
 expressions_in (more_read _ rs) = expressions_in rs
+
+-- the selectors among them
+abbrev pub selectors_in : Reads → List Source
+selectors_in no_read = []
+selectors_in (more_read (selector_read tree) rs) = tree ∷ selectors_in rs
+selectors_in (more_read _ rs) = selectors_in rs
 
 -- the flags among them
 abbrev pub flags_in : Reads → List Bool
@@ -181,6 +221,14 @@ expression_says of.SortBy (expression_read input ∷ many_read keys ∷ leaves_r
 expression_says of.Alias (expression_read operand ∷ name_read name ∷ []) = Some (node (AliasOp name) (more operand no_more))
 expression_says _ _ = None
 
+abbrev pub selector_says : SelectorKey → List Read → Option Source
+selector_says from.Root (expression_read tree ∷ []) = Some (node RootOp (more (written tree) no_more))
+selector_says from.Add (selector_read first ∷ selector_read second ∷ []) = Some (of_two Add first second)
+selector_says from.Sub (selector_read first ∷ selector_read second ∷ []) = Some (of_two Sub first second)
+selector_says from.And (selector_read first ∷ selector_read second ∷ []) = Some (of_two Intersect first second)
+selector_says from.Xor (selector_read first ∷ selector_read second ∷ []) = Some (of_two ExclusiveOr first second)
+selector_says _ _ = None
+
 abbrev pub plan_says : PlanKey → List Read → Option SourcePlan
 plan_says by.Scan (table_read number columns ∷ []) = Some (node (scan_op (Some number) columns) no_more)
 plan_says by.Empty (columns_read columns ∷ []) = Some (node (scan_op None columns) no_more)
@@ -188,6 +236,10 @@ plan_says by.Filter (plan_read input ∷ expression_read predicate ∷ []) =
     Some (written_filter predicate input)
 plan_says by.Select (plan_read input ∷ many_read outputs ∷ []) =
     Some (written_select (expressions_in outputs) input)
+plan_says by.WithColumns (plan_read input ∷ many_read outputs ∷ []) =
+    Some (written_hstack (expressions_in outputs) input)
+plan_says by.Drop (plan_read input ∷ chosen_read selectors ∷ flag_read strict ∷ []) =
+    Some (written_drop (selectors_in selectors) strict input)
 plan_says _ _ = None
 
 -- ---- keys of any kind
@@ -198,18 +250,22 @@ row_named (row ∷ rows) word = if bytes_eq row.0 word then Some row else row_na
 
 abbrev pub key_named : Kind → List ℕ → Option (List ℕ × Key)
 key_named kinds.Expression word = option_map (λ row. (row.0, keys.Expression row.1)) (row_named expression_rows word)
+key_named kinds.Selector word = option_map (λ row. (row.0, keys.Selector row.1)) (row_named selector_rows word)
 key_named kinds.Plan word = option_map (λ row. (row.0, keys.Plan row.1)) (row_named plan_rows word)
 
 abbrev pub kind_of : Key → Kind
 kind_of (keys.Expression key) = kinds.Expression
+kind_of (keys.Selector key) = kinds.Selector
 kind_of (keys.Plan key) = kinds.Plan
 
 abbrev pub asks : Key → Places
 asks (keys.Expression key) = expression_asks key
+asks (keys.Selector key) = selector_asks key
 asks (keys.Plan key) = plan_asks key
 
 abbrev pub says : Key → List Read → Option Read
 says (keys.Expression key) found = option_map expression_read (expression_says key found)
+says (keys.Selector key) found = option_map selector_read (selector_says key found)
 says (keys.Plan key) found = option_map plan_read (plan_says key found)
 
 -- ---- what is read is what was asked for
@@ -217,6 +273,7 @@ says (keys.Plan key) found = option_map plan_read (plan_says key found)
 abbrev mutual
   pub fits : Asked → Read → Bool
   fits (a_form kinds.Expression) (expression_read tree) = true
+  fits (a_form kinds.Selector) (selector_read tree) = true
   fits (a_form kinds.Plan) (plan_read tree) = true
   fits (leaf leaves.Name) (name_read name) = true
   fits (leaf leaves.Value) (literal_read op) = true
@@ -230,7 +287,9 @@ abbrev mutual
   fits (leaf leaves.Nothing) nothing_read = true
   fits (leaf leaves.Flag) (flag_read flag) = true
   fits (many (leaf which)) (leaves_read rs) = all_fit (leaf which) rs
-  fits (many (a_form kind)) (many_read rs) = all_fit (a_form kind) rs
+  fits (many (a_form kinds.Expression)) (many_read rs) = all_fit expression rs
+  fits (many (a_form kinds.Selector)) (chosen_read rs) = all_fit selector rs
+  fits (many (a_form kinds.Plan)) (many_read rs) = all_fit plan rs
   fits (many (many a)) (many_read rs) = all_fit (many a) rs
   fits _ _ = false
 
@@ -262,6 +321,7 @@ abbrev pub place_view : Place → Asked
 place_view (places.Form kind) = a_form kind
 place_view (places.Leaf which) = leaf which
 place_view places.Expressions = many expression
+place_view places.Selectors = many selector
 place_view places.Flags = many (leaf leaves.Flag)
 
 abbrev pub places_view : CodePlaces → Places

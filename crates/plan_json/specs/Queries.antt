@@ -4,7 +4,7 @@ use Rattle.serde_json.specs.Find.{as_bool, as_null, get_item}
 use Rattle.serde_json.specs.Data.{Data, array, object, Items, no_items, item, no_members, member}
 use Rattle.plan_dsl.specs.Plans.{SourcePlan, plan_tree}
 use Rattle.plan_dsl.specs.declared.plan.DslPlan.{DslPlan}
-use Rattle.plan_dsl.specs.declared.plan.DslPlan.TheVariants.{DataFrameScan, Filter', Select'}
+use Rattle.plan_dsl.specs.declared.plan.DslPlan.TheVariants.{DataFrameScan, Filter', HStack', MapFunction', Select'}
 use Rattle.plan_json.specs.Forms.{Asked, a_form, leaf, many, Places, single, listed, plan, Read, name_read, literal_read, operator_read, type_read, mode_read, table_read, columns_read, plan_read, many_read, list_read, reads_of, key_named, asks, says, nothing_read, flag_read, Fits}
 use Rattle.plan_json.specs.Leaves.{text_of, literal_of, number_text_of, typed_of, operator_of, type_of, mode_of, table_at, columns_of, tables_of}
 use Rattle.plan_json.specs.Looking.{both, two_members}
@@ -97,11 +97,13 @@ query_from parts =
 abbrev pub query_of : Data → Option QueryModel
 query_of d = option_and_then query_from (two_members (codes "tables") (codes "plan") d)
 
--- whether some select of the plan has its option set, which no query can write
+-- whether some select or hstack of the plan has its option set, which no query can write
 abbrev pub has_flags : DslPlan → Bool
 has_flags (DataFrameScan table schema) = false
 has_flags (Select' expr p input options) = options.duplicate_check || has_flags input
+has_flags (HStack' exprs p input options) = options.duplicate_check || has_flags input
 has_flags (Filter' p input predicate) = has_flags input
+has_flags (MapFunction' p input function) = has_flags input
 
 -- the value is the query
 abbrev pub IsQueryOf : Data → QueryModel → Type 0

@@ -3,10 +3,11 @@ ghost use Rattle.std.specs.Prelude.{◌≡◌, ◌∷◌, [], false, length, map
 ghost use Rattle.plan_dsl.specs.Expressions.{tree_of, trees_of};
 ghost use Rattle.plan_dsl.specs.Literals.{literal_op};
 ghost use Rattle.plan_dsl.specs.Plans.{plan_tree};
+ghost use Rattle.plan_dsl.specs.Selectors.{selector_tree, selector_trees};
 ghost use Rattle.plan_types.specs.Schemas.{columns};
 ghost use Rattle.plan_types.specs.Types.{ty};
 ghost use Rattle.plan_json.specs.Arguments.{arg_view, args_view};
-ghost use Rattle.plan_json.specs.Forms.{AllFit, Asked, Fits, columns_read, expression, expression_read, leaf, leaves_read, literal_read, many, many_read, mode_read, name_read, operator_read, plan, plan_read, reads_of, table_read, type_read, nothing_read, flag_read};
+ghost use Rattle.plan_json.specs.Forms.{AllFit, Asked, Fits, chosen_read, columns_read, expression, expression_read, leaf, leaves_read, literal_read, many, many_read, mode_read, name_read, operator_read, plan, plan_read, reads_of, selector, selector_read, table_read, type_read, nothing_read, flag_read};
 ghost use Rattle.plan_json.specs.Queries.{has_flags};
 ghost use Rattle.plan_json.specs.declared.forms.Leaf.TheVariants as leaves;
 
@@ -14,6 +15,8 @@ use plan_dsl::expr::{Expr, Exprs};
 use plan_dsl::literal::LiteralValue;
 use plan_dsl::operator::Operator;
 use plan_dsl::plan::DslPlan;
+use plan_dsl::selector::{Selector, Selectors};
+use plan_dsl::sort_options::Flags;
 use plan_types::dtype::{CastOptions, DataType};
 use plan_types::schema::Schema;
 use plan_types::text::PlSmallStr;
@@ -31,8 +34,10 @@ pub(crate) enum Arg {
     Nothing,
     Flag(bool),
     Expression(Box<Expr>),
+    Selector(Box<Selector>),
     Plan(Box<DslPlan>),
     Expressions(Box<Exprs>),
+    Selectors(Box<Selectors>),
     Flags(Box<Vec<bool>>),
 }
 
@@ -284,6 +289,16 @@ pub(crate) fn expression(arg: Arg) -> Box<Expr>
     }
 }
 
+pub(crate) fn selector(arg: Arg) -> Box<Selector>
+    requires { Fits selector (arg_view arg) }
+    ensures { arg_view arg ≡ selector_read (selector_tree result.value) }
+{
+    match arg {
+        Arg::Selector(selector) => selector,
+        _ => unreachable!(),
+    }
+}
+
 pub(crate) fn plan(arg: Arg) -> Box<DslPlan>
     requires { Fits plan (arg_view arg) }
     ensures tree { arg_view arg ≡ plan_read (plan_tree result.value) }
@@ -306,13 +321,24 @@ pub(crate) fn expressions(arg: Arg) -> Exprs
     }
 }
 
-// A list of truth values.
-pub(crate) fn flags(arg: Arg) -> Vec<bool>
-    requires { Fits (many (leaf leaves.Flag)) (arg_view arg) }
-    ensures { arg_view arg ≡ leaves_read (reads_of (map flag_read result.items)) }
+// A list of selectors.
+pub(crate) fn selectors(arg: Arg) -> Selectors
+    requires { Fits (many selector) (arg_view arg) }
+    ensures { arg_view arg ≡ chosen_read (reads_of (map selector_read (selector_trees result))) }
 {
     match arg {
-        Arg::Flags(flags) => Box::into_inner(flags),
+        Arg::Selectors(selectors) => Box::into_inner(selectors),
+        _ => unreachable!(),
+    }
+}
+
+// A list of truth values, in the box in which it was read.
+pub(crate) fn flags(arg: Arg) -> Flags
+    requires { Fits (many (leaf leaves.Flag)) (arg_view arg) }
+    ensures { arg_view arg ≡ leaves_read (reads_of (map flag_read result.items.value.items)) }
+{
+    match arg {
+        Arg::Flags(items) => Flags { items },
         _ => unreachable!(),
     }
 }

@@ -8,7 +8,7 @@ ghost use Rattle.std.specs.Prelude.{◌≡◌, pos, [], ◌∷◌, Some, None, c
 ghost use Rattle.plan_types.specs.Types.{NullType, Truth, Integer, TextType, DateType, TimeType, DatetimeType, DurationType, ListType, StructType, no_field, with_field, Untyped};
 ghost use Rattle.plan_types.specs.declared.dtype.CastOptions.TheVariants.{Strict, NonStrict, Overflowing};
 ghost use Rattle.plan_types.specs.declared.dtype.TimeUnit.TheVariants.{Nanoseconds, Microseconds, Milliseconds};
-ghost use Rattle.plan_dsl.specs.Plans.{empty_table};
+ghost use Rattle.plan_dsl.specs.Plans.{empty_table, written_hstack};
 ghost use Rattle.plan_dsl.specs.declared.operator.Operator.TheVariants.{Lt, GtEq, Plus, Eq, EqValidity, NotEq, NotEqValidity, LtEq, Gt, Minus, Multiply, Divide, FloorDivide, Modulus, And, Or, Xor, LogicalAnd, LogicalOr};
 ghost use Rattle.serde_json.specs.Data.{Items, array, boolean, member, no_members, null, object, float, negative, number, string, unsigned};
 ghost use Rattle.serde_json.specs.Events.{items_len};
@@ -33,7 +33,7 @@ pub fn declaration_examples()
     ensures no_queries { let t = table_value "t" (list []) in let twice = list (column_value "a" "Int8" ∷ column_value "a" "Int8" ∷ []) in
         GivesAll query_of None (object (member (codes "plan") empty_value (member (codes "tables") (list []) (member (codes "x") null no_members))) ∷
         keyed "tables" (list []) ∷ keyed_twice "plans" empty_value "tables" (list []) ∷ boolean true ∷
-        query_value [] (keyed "drop" (list [])) ∷ query_value [] (scan_value "t") ∷ query_value (t ∷ t ∷ []) (scan_value "t") ∷ query_value [] (keyed "empty" twice) ∷ []) }
+        query_value [] (keyed "sink" (list [])) ∷ query_value [] (scan_value "t") ∷ query_value (t ∷ t ∷ []) (scan_value "t") ∷ query_value [] (keyed "empty" twice) ∷ []) }
     ensures tables { let s = table_value "s" (list []) in let t = table_value "t" (list []) in
         Gives tables_of ((list [], Some []) ∷ (list (table_value "t" (list (column_value "a" "Int8" ∷ [])) ∷ []), Some ((codes "t", (codes "a", int8) ∷ []) ∷ [])) ∷
         (list (t ∷ s ∷ []), Some ((codes "t", []) ∷ (codes "s", []) ∷ [])) ∷ []) }
@@ -72,7 +72,7 @@ pub fn type_examples()
         keyed "Struct" (list (known ∷ column_value "a" "int8" ∷ [])) ∷ []) }
 {}
 
-/// A scan names a declared table, and the empty table has the columns that are written. A filter has its input and a predicate, a select its input and a list.
+/// A scan names a declared table, and the empty table has the columns that are written. A filter has its input and a predicate, a select and an hstack their input and a list.
 pub fn plan_examples()
     ensures over_two { let a = (codes "a", Truth) ∷ [] in
         Gives (plan_of ((codes "t", a) ∷ (codes "s", []) ∷ [])) ((scan_value "t", Some (scan (Some 0) a)) ∷ (scan_value "s", Some (scan (Some 1) [])) ∷ []) }
@@ -87,6 +87,10 @@ pub fn plan_examples()
         (select_value (empty_value ∷ list (col "b" ∷ col "a" ∷ []) ∷ []), Some (select (column "b" ∷ column "a" ∷ []) empty_table)) ∷
         (select_value (empty_value ∷ []), None) ∷ (select_value (empty_value ∷ list [] ∷ list [] ∷ []), None) ∷
         (select_value (empty_value ∷ col "a" ∷ []), None) ∷ (select_value (list [] ∷ empty_value ∷ []), None) ∷ []) }
+    ensures hstacks { Gives (λ items. plan_of [] (keyed "with_columns" (list items))) (
+        (empty_value ∷ list [] ∷ [], Some (written_hstack [] empty_table)) ∷
+        (empty_value ∷ list (col "b" ∷ col "a" ∷ []) ∷ [], Some (written_hstack (column "b" ∷ column "a" ∷ []) empty_table)) ∷
+        (empty_value ∷ [], None) ∷ (empty_value ∷ col "a" ∷ [], None) ∷ (empty_value ∷ list [] ∷ list [] ∷ [], None) ∷ []) }
 {}
 
 /// An expression: an object of one key, which names its form. An operator is written by its name.
@@ -155,7 +159,7 @@ pub fn text_examples()
         ("{\"tables\":[],\"plan\":{\"filter\":[{\"empty\":[]},{\"lit\":-9223372036854775808}]}}", query [] (filter (untyped (negsuc 9223372036854775807)) empty_table)) ∷
         ("{\"tables\":[],\"plan\":{\"filter\":[{\"empty\":[]},{\"lit\":18446744073709551615}]}}", query [] (filter (untyped (pos 18446744073709551615)) empty_table)) ∷
         ("{\"tables\":1,\"plan\":2,\"tables\":[],\"plan\":{\"empty\":[]}}", query [] empty_table) ∷ []) }
-    ensures refused { Each Refused (("{\"tables\":[],\"plan\":{\"drop\":[]}}", BadShape, "/plan") ∷
+    ensures refused { Each Refused (("{\"tables\":[],\"plan\":{\"sink\":[]}}", BadShape, "/plan") ∷
         ("{\"tables\":[],\"plan\":{\"empty\":[[\"a\",{\"Datetime\":\"s\"}]]}}", BadShape, "/plan/empty/0/1/Datetime") ∷
         ("{\"tables\":[],\"plan\":{\"scan\":\"t\"}}", BadName, "/plan/scan") ∷ ("{\"tables\":[],\"plan\":{\"filter\":[{\"empty\":[]},{\"lit\":1.5}]}}", BadFloat, "/plan/filter/1/lit") ∷
         ("{\"tables\":[],\"plan\":{\"scan\":18446744073709551616}}", BadFloat, "/plan/scan") ∷ ("{\"tables\":[],\"plan\":{\"scan\":-9223372036854775809}}", BadFloat, "/plan/scan") ∷

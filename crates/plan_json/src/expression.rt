@@ -11,7 +11,7 @@ use super::arguments::{
 };
 use super::forms::ExpressionKey;
 use plan_dsl::expr::Expr;
-use plan_dsl::sort_options::{Flags, SortMultipleOptions, SortOptions};
+use plan_dsl::sort_options::{SortMultipleOptions, SortOptions};
 
 // The expression of that key.
 pub(crate) fn assemble_expression(key: ExpressionKey, args: Args) -> Expr
@@ -156,12 +156,8 @@ fn sort_by(args: Args) -> Expr
         expr: expression(input),
         by: expressions(keys),
         sort_options: SortMultipleOptions {
-            descending: Flags {
-                items: flags(descending),
-            },
-            nulls_last: Flags {
-                items: flags(nulls_last),
-            },
+            descending: flags(descending),
+            nulls_last: flags(nulls_last),
         },
     }
 }

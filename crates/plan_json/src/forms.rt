@@ -2,12 +2,13 @@
 ghost use Rattle.std.specs.Prelude.{◌≡◌, ◌≤◌, IfSome, length, map};
 ghost use Rattle.std.specs.Option.{option_map};
 ghost use Rattle.plan_json.specs.Errors.{escaped};
-ghost use Rattle.plan_json.specs.Forms.{asked_in, asks, expression_asks, expression_rows, key_named, kind_of, places_view, plan_asks, plan_rows, row_named, type_rows};
+ghost use Rattle.plan_json.specs.Forms.{asked_in, asks, expression_asks, expression_rows, key_named, kind_of, places_view, plan_asks, plan_rows, row_named, selector_asks, selector_rows, type_rows};
 
 // What an object of one key can be.
 #[derive(Clone, Copy)]
 pub(crate) enum Kind {
     Expression,
+    Selector,
     Plan,
 }
 
@@ -44,6 +45,8 @@ pub(crate) enum Place {
     Leaf(Leaf),
     // A list of any number of expressions.
     Expressions,
+    // A list of any number of selectors.
+    Selectors,
     // A list of any number of truth values.
     Flags,
 }
@@ -74,11 +77,22 @@ pub(crate) enum ExpressionKey {
 }
 
 #[derive(Clone, Copy)]
+pub(crate) enum SelectorKey {
+    Root,
+    Add,
+    Sub,
+    And,
+    Xor,
+}
+
+#[derive(Clone, Copy)]
 pub(crate) enum PlanKey {
     Scan,
     Empty,
     Filter,
     Select,
+    WithColumns,
+    Drop,
 }
 
 // The keys of types that have parts.
@@ -93,12 +107,17 @@ pub(crate) enum TypeKey {
 #[derive(Clone, Copy)]
 pub(crate) enum Key {
     Expression(ExpressionKey),
+    Selector(SelectorKey),
     Plan(PlanKey),
 }
 
 const EXPRESSION: Place = Place::Form(Kind::Expression);
 
 const EXPRESSIONS: Place = Place::Expressions;
+
+const SELECTOR: Place = Place::Form(Kind::Selector);
+
+const SELECTORS: Place = Place::Selectors;
 
 const FLAGS: Place = Place::Flags;
 
@@ -144,11 +163,21 @@ const EXPRESSION_ROWS: [(&'static str, ExpressionKey); 14] = [
     ("alias", ExpressionKey::Alias),
 ];
 
-const PLAN_ROWS: [(&'static str, PlanKey); 4] = [
+const SELECTOR_ROWS: [(&'static str, SelectorKey); 5] = [
+    ("root", SelectorKey::Root),
+    ("add", SelectorKey::Add),
+    ("sub", SelectorKey::Sub),
+    ("and", SelectorKey::And),
+    ("xor", SelectorKey::Xor),
+];
+
+const PLAN_ROWS: [(&'static str, PlanKey); 6] = [
     ("scan", PlanKey::Scan),
     ("empty", PlanKey::Empty),
     ("filter", PlanKey::Filter),
     ("select", PlanKey::Select),
+    ("with_columns", PlanKey::WithColumns),
+    ("drop", PlanKey::Drop),
 ];
 
 const TYPE_ROWS: [(&'static str, TypeKey); 4] = [
@@ -163,6 +192,13 @@ fn expression_table() -> &'static [(&'static str, ExpressionKey)]
     ensures { map (λ row. (row.0.now, row.1)) result.now ≡ expression_rows }
 {
     &EXPRESSION_ROWS
+}
+
+// The keys of selectors.
+fn selector_table() -> &'static [(&'static str, SelectorKey)]
+    ensures { map (λ row. (row.0.now, row.1)) result.now ≡ selector_rows }
+{
+    &SELECTOR_ROWS
 }
 
 // The keys of plans.
@@ -209,6 +245,10 @@ pub(crate) fn find_key(kind: Kind, word: &str) -> Option<(&'static str, Key)>
             None => None,
             Some((word, key)) => Some((word, Key::Plan(key))),
         },
+        Kind::Selector => match find(selector_table(), word) {
+            None => None,
+            Some((word, key)) => Some((word, Key::Selector(key))),
+        },
     }
 }
 
@@ -232,6 +272,7 @@ pub(crate) fn places_of(key: Key) -> Places
     match key {
         Key::Expression(key) => expression_places(key),
         Key::Plan(key) => plan_places(key),
+        Key::Selector(key) => selector_places(key),
     }
 }
 
@@ -266,5 +307,19 @@ fn plan_places(key: PlanKey) -> Places
         PlanKey::Empty => Places::One(COLUMNS),
         PlanKey::Filter => Places::Listed(&[PLAN, EXPRESSION]),
         PlanKey::Select => Places::Listed(&[PLAN, EXPRESSIONS]),
+        PlanKey::WithColumns => Places::Listed(&[PLAN, EXPRESSIONS]),
+        PlanKey::Drop => Places::Listed(&[PLAN, SELECTORS, FLAG]),
+    }
+}
+
+fn selector_places(key: SelectorKey) -> Places
+    ensures asks { places_view result ≡ selector_asks key }
+    ensures short { length (asked_in (places_view result)) ≤ 4 }
+{
+    match key {
+        SelectorKey::Root => Places::One(EXPRESSION),
+        SelectorKey::Add | SelectorKey::Sub | SelectorKey::And | SelectorKey::Xor => {
+            Places::Listed(&[SELECTOR, SELECTOR])
+        }
     }
 }

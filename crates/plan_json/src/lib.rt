@@ -18,5 +18,6 @@ mod operator;
 mod places;
 mod plan;
 pub mod read;
+mod selector;
 pub mod tables;
 mod value;

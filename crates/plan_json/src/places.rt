@@ -4,17 +4,18 @@ ghost use Rattle.serde_json.specs.Data.{array};
 ghost use Rattle.serde_json.specs.Find.{as_bool};
 ghost use Rattle.serde_json.specs.View.{view, items_view};
 ghost use Rattle.plan_dsl.specs.Expressions.{trees_of};
+ghost use Rattle.plan_dsl.specs.Selectors.{selector_trees};
 ghost use Rattle.plan_types.specs.Schemas.{Name, columns, names_of};
 ghost use Rattle.plan_json.specs.Arguments.{arg_view, args_view, items_seen};
 ghost use Rattle.plan_json.specs.Errors.{IsErrorOf};
 ghost use Rattle.plan_json.specs.Faults.{asked_form, a_scan, items_of, keyed_form, leaf_form, list_of, places_form, nothing_form, flag_form};
-ghost use Rattle.plan_json.specs.Forms.{AllFit, Fits, a_form, asked_in, asks, expression, expression_read, kind_of, leaf, leaves_read, many, many_read, place_view, places_view, reads_of, says, nothing_read, flag_read};
+ghost use Rattle.plan_json.specs.Forms.{AllFit, Fits, a_form, asked_in, asks, expression, expression_read, kind_of, leaf, leaves_read, chosen_read, many, many_read, place_view, places_view, reads_of, says, selector, selector_read, nothing_read, flag_read};
 ghost use Rattle.plan_json.specs.Leaves.{table_at, text_of};
 ghost use Rattle.plan_json.specs.Queries.{IsItem, leaf_of, list_as, places_as, read_as, these_as, nothing_of};
 ghost use Rattle.plan_json.specs.Tables.{Declared, declared};
 ghost use Rattle.plan_json.specs.declared.forms.Leaf.TheVariants as leaves;
 
-use super::arguments::{Arg, Args, Items, discard, expression};
+use super::arguments::{Arg, Args, Items, discard, expression, selector};
 use super::columns::read_columns;
 use super::dtype::{read_text, read_type};
 use super::error::{JsonError, Step};
@@ -23,9 +24,11 @@ use super::forms::{ExpressionKey, Key, Kind, Leaf, Place, Places, find_key, plac
 use super::literal::{read_literal, read_number_text, read_typed};
 use super::operator::{read_mode, read_operator};
 use super::plan::assemble_plan;
+use super::selector::assemble_selector;
 use super::tables::Tables;
 use super::value::{items, only_member};
 use plan_dsl::expr::{Expr, Exprs};
+use plan_dsl::selector::Selectors;
 use plan_types::schema::Schema;
 use serde_json::Value;
 use std::alloc::Global;
@@ -73,7 +76,7 @@ fn read_keyed(alloc: Global, tables: &Tables, key: Key, value: &Value) -> Result
                 Ok(Arg::Expression(expr))
             }
         },
-        Key::Expression(_) | Key::Plan(_) => {
+        Key::Expression(_) | Key::Selector(_) | Key::Plan(_) => {
             match read_places(alloc, tables, places_of(key), value) {
                 Err(error) => Err(error),
                 Ok(args) => {
@@ -269,6 +272,7 @@ fn read_place(alloc: Global, tables: &Tables, place: Place, value: &Value) -> Re
                 Arg::Expressions
             )
         }
+        Place::Selectors => { boxed!(alloc, read_selectors(alloc, tables, value), Arg::Selectors) }
         Place::Flags => boxed!(alloc, read_flags(alloc, value), Arg::Flags),
     }
 }
@@ -293,6 +297,30 @@ fn read_expressions(alloc: Global, tables: &Tables, value: &Value) -> Result<Exp
                 }
             }
             Ok(Exprs { items })
+        }
+    }
+}
+
+// A list of any number of selectors.
+#[cycle(forms)]
+#[inline(never)]
+#[tactic(auto, using(crate::proofs::Lemmas::less_deep))]
+fn read_selectors(alloc: Global, tables: &Tables, value: &Value) -> Result<Selectors, JsonError>
+    ensures ok { IfOk result (λ selectors. read_as (declared tables.now) (many selector) (view value.now)
+        ≡ Some (chosen_read (reads_of (map selector_read (selector_trees selectors))))) }
+    ensures err { IfErr result (IsErrorOf (asked_form (names_of (declared tables.now)) (many selector)) (view value.now)) }
+{
+    match items(value) {
+        None => Err(JsonError::shape(alloc, value)),
+        Some(values) => {
+            let mut items = Vec::with_capacity(alloc, values.len())?;
+            for (number, value) in values.iter().enumerate() {
+                match read_form(alloc, tables, Kind::Selector, value) {
+                    Ok(arg) => items.push(Box::into_inner(selector(arg)))?,
+                    Err(error) => return Err(error.below(alloc, Step::Item(number))),
+                }
+            }
+            Ok(Selectors { items })
         }
     }
 }
@@ -406,6 +434,10 @@ fn assemble(alloc: Global, key: Key, args: Args) -> Result<Arg, JsonError>
         Key::Expression(key) => {
             let expr = Box::new(alloc, assemble_expression(key, args))?;
             Ok(Arg::Expression(expr))
+        }
+        Key::Selector(key) => {
+            let selector = Box::new(alloc, assemble_selector(key, args))?;
+            Ok(Arg::Selector(selector))
         }
         Key::Plan(key) => {
             let plan = Box::new(alloc, assemble_plan(key, args))?;

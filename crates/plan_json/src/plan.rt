@@ -8,8 +8,11 @@ ghost use Rattle.plan_json.specs.Forms.{AllFit, asked_in, plan_asks, plan_says};
 ghost use Rattle.plan_json.specs.Queries.{has_flags};
 ghost use Rattle.plan_json.specs.declared.forms.PlanKey.TheVariants as by;
 
-use super::arguments::{Args, columns, expression, expressions, one, plan, table, two};
+use super::arguments::{
+    Args, columns, expression, expressions, flag, one, plan, selectors, table, three, two,
+};
 use super::forms::PlanKey;
+use plan_dsl::function::{DropFunction, DslFunction};
 use plan_dsl::plan::{DslPlan, ProjectionOptions};
 
 // The plan of that key.
@@ -23,6 +26,8 @@ pub(crate) fn assemble_plan(key: PlanKey, args: Args) -> DslPlan
         PlanKey::Empty => empty(args),
         PlanKey::Filter => filter(args),
         PlanKey::Select => select(args),
+        PlanKey::WithColumns => with_columns(args),
+        PlanKey::Drop => drop_columns(args),
     }
 }
 
@@ -73,5 +78,36 @@ fn select(args: Args) -> DslPlan
         options: ProjectionOptions {
             duplicate_check: false,
         },
+    }
+}
+
+fn with_columns(args: Args) -> DslPlan
+    requires { AllFit (asked_in (plan_asks by.WithColumns)) (args_view args) }
+    ensures says { plan_says by.WithColumns (args_view args) ≡ Some (plan_tree result) }
+    ensures flags { has_flags result ≡ false }
+{
+    let (input, outputs) = two(args);
+    DslPlan::HStack {
+        exprs: expressions(outputs),
+        input: plan(input),
+        options: ProjectionOptions {
+            duplicate_check: false,
+        },
+    }
+}
+
+#[tactic(auto, using(crate::proofs::FormLemmas::selectors_read))]
+fn drop_columns(args: Args) -> DslPlan
+    requires { AllFit (asked_in (plan_asks by.Drop)) (args_view args) }
+    ensures says { plan_says by.Drop (args_view args) ≡ Some (plan_tree result) }
+    ensures flags { has_flags result ≡ false }
+{
+    let (input, to_drop, strict) = three(args);
+    DslPlan::MapFunction {
+        input: plan(input),
+        function: DslFunction::Drop(DropFunction {
+            to_drop: selectors(to_drop),
+            strict: flag(strict),
+        }),
     }
 }

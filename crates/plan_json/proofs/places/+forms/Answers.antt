@@ -1,4 +1,6 @@
 use Rattle.plan_json.proofs.Names.{Some, ap, arith, false, map, refl, subst, sym, true, ◌<◌, ◌∙◌, asked_form, key, list_of, number, places_form, all_of, items_view, view, names_of, array, declared, asks, expression, expression_read, place_view, read_as, IsErrorOf, map-append, tree_of}
+use Rattle.plan_dsl.specs.Selectors.{selector_tree}
+use Rattle.plan_json.specs.Forms.{selector, selector_read}
 use Rattle.plan_json.proofs.Lemmas.{IsErrorOf-own, item_in, form_read, key_part, item_part_at, other_count, each_read, all_of-more, all_taken, depth-item}
 use Rattle.plan_json.proofs.places.+forms.Goals as goal
 
@@ -41,6 +43,19 @@ read_expressions-returns-after-loop-number-clause-ok t c =
     let tables = declared c.args.tables.now in
     each_read tables expression _ _ _ c.in-Some.ensures (sym (all_taken (all_of (read_as tables expression)) c.in-Some.values.now c.loop-number.number (omega arith)) ∙ c.loop-number.invariant)
 
+-- ---- a list of selectors
+
+pub read_selectors-loop-number-preserved : goal.read_selectors-loop-number-preserved
+read_selectors-loop-number-preserved t c =
+    let items = c.loop-number.items.items in
+    all_of-more (read_as (declared c.args.tables.now) selector) c.in-Some.values.now c.loop-number.number _ _ _ c.loop-number-test.true c.index-values-number.is c.loop-number.invariant (c.in-Ok.ensures.ok ∙ ap Some c.selector.ensures ∙ ap (λ x. Some (selector_read (selector_tree x))) (sym c.into_inner.ensures))
+    ∙ ap Some (sym (ap (λ l. map selector_read (map selector_tree l)) c.in_ok-push-in-Ok.ensures.items ∙ ap (map selector_read) (map-append selector_tree items _) ∙ map-append selector_read (map selector_tree items) _))
+
+pub read_selectors-returns-after-loop-number-clause-ok : goal.read_selectors-returns-after-loop-number-clause-ok
+read_selectors-returns-after-loop-number-clause-ok t c =
+    let tables = declared c.args.tables.now in
+    each_read tables selector _ _ _ c.in-Some.ensures (sym (all_taken (all_of (read_as tables selector)) c.in-Some.values.now c.loop-number.number (omega arith)) ∙ c.loop-number.invariant)
+
 -- ---- errors of parts
 
 pub read_form-returns-in-Err-clause-err : goal.read_form-returns-in-Err-clause-err
@@ -52,6 +67,12 @@ pub read_expressions-returns-in-Err-clause-err : goal.read_expressions-returns-i
 read_expressions-returns-in-Err-clause-err t c =
     let asked = asked_form (names_of (declared c.args.tables.now)) expression in
     c.below.ensures (list_of (names_of (declared c.args.tables.now)) expression) asked _ _
+    (item_in asked _ c.in-Some.values.now c.loop-number.number _ c.in-Some.ensures c.loop-number-test.true c.index-values-number.is) c.in-Err.ensures.err
+
+pub read_selectors-returns-in-Err-clause-err : goal.read_selectors-returns-in-Err-clause-err
+read_selectors-returns-in-Err-clause-err t c =
+    let asked = asked_form (names_of (declared c.args.tables.now)) selector in
+    c.below.ensures (list_of (names_of (declared c.args.tables.now)) selector) asked _ _
     (item_in asked _ c.in-Some.values.now c.loop-number.number _ c.in-Some.ensures c.loop-number-test.true c.index-values-number.is) c.in-Err.ensures.err
 
 pub read_keyed-returns-in-Err-read_places-clause-err : goal.read_keyed-returns-in-Err-read_places-clause-err

@@ -1,4 +1,6 @@
 use Rattle.plan_json.proofs.Names.{Some, map, take, ◌*◌, ◌+◌, ◌≡◌, number, all_of, items_view, view, array, depth, declared, expression, expression_read, read_as, tree_of}
+use Rattle.plan_dsl.specs.Selectors.{selector_tree}
+use Rattle.plan_json.specs.Forms.{selector, selector_read}
 use Rattle.plan_json.proofs.places.+forms.Given as goal
 
 abbrev pub decreases-read_form : goal.decreases-read_form
@@ -28,3 +30,10 @@ decreases-read_places l = 5 * depth (view l.value.now) + 3
 abbrev pub invariant-read_expressions-loop-number : goal.invariant-read_expressions-loop-number
 invariant-read_expressions-loop-number l =
     all_of (read_as (declared l.tables) expression) (items_view (take l.number l.values)) ≡ Some (map expression_read (map tree_of l.items.items))
+
+abbrev pub decreases-read_selectors : goal.decreases-read_selectors
+decreases-read_selectors l = 5 * depth (view l.value.now) + 1
+
+abbrev pub invariant-read_selectors-loop-number : goal.invariant-read_selectors-loop-number
+invariant-read_selectors-loop-number l =
+    all_of (read_as (declared l.tables) selector) (items_view (take l.number l.values)) ≡ Some (map selector_read (map selector_tree l.items.items))
