@@ -16,7 +16,7 @@ fn numbers_below(rt: &impl Abort, alloc: Global, count: usize) -> Arena<usize> {
     let mut arena = Arena::new(alloc);
     for number in 0..count {
         let node = arena.add(number).expect(rt, NO_MEMORY);
-        assert_eq!(rt; node, Node(number));
+        assert!(rt; node == Node(number));
     }
     arena
 }
@@ -38,13 +38,13 @@ fn last_items_are_taken_away(rt: HostRuntime) {
 fn change(rt: &impl Abort, arena: &mut Arena<usize>, number: usize) {
     assert!(rt; number < arena.len());
     let before = arena.replace(Node(number), 5);
-    assert_eq!(rt; before, number);
+    assert!(rt; before == number);
     assert!(rt; number < arena.len());
     let taken = arena.take(Node(number));
-    assert_eq!(rt; taken, 5);
+    assert!(rt; taken == 5);
     assert!(rt; number < arena.len());
     let item = arena.get_mut(Node(number));
-    assert_eq!(rt; *item, 0);
+    assert!(rt; *item == 0);
     *item = 7;
 }
 
@@ -69,8 +69,9 @@ fn inputs_are_appended_in_reverse(rt: HostRuntime) {
         offset: Node(2),
         length: Node(3),
     };
+    let length = AExpr::Len;
     for count in COUNTS {
-        let mut nodes = AExpr::Len.inputs(rt.alloc()).expect(&rt, NO_MEMORY);
+        let mut nodes = length.inputs(rt.alloc()).expect(&rt, NO_MEMORY);
         for _ in 0..count {
             slice.inputs_rev(&mut nodes).expect(&rt, NO_MEMORY);
         }
@@ -80,15 +81,27 @@ fn inputs_are_appended_in_reverse(rt: HostRuntime) {
             .repeat(rt.alloc(), count)
             .expect(&rt, NO_MEMORY);
         assert!(rt; nodes.as_slice() == want.as_slice());
+        drop(nodes);
+        drop(want);
     }
+    drop(length);
+    drop(slice);
 }
 
 // The expression is copied, and a copy that keeps a type is copied with it.
-fn assert_copied(rt: &impl Abort, alloc: Global, expr_ir: &ExprIR) {
+fn assert_copied(rt: &impl Abort, alloc: Global, expr_ir: ExprIR) {
     let copy = expr_ir.try_clone(alloc).expect(rt, NO_MEMORY);
     let typed = copy.with_dtype(DataType::Int8);
     let copy = typed.try_clone(alloc).expect(rt, NO_MEMORY);
-    assert!(rt; copy == *expr_ir);
+    drop(typed);
+    assert_same(rt, &copy, &expr_ir);
+    drop(copy);
+    drop(expr_ir);
+}
+
+// Both are the same, at the fourth node.
+fn assert_same(rt: &impl Abort, copy: &ExprIR, expr_ir: &ExprIR) {
+    assert!(rt; *copy == *expr_ir);
     assert!(rt; Node::from(copy.as_ref()) == Node(3));
 }
 
@@ -96,16 +109,15 @@ fn assert_copied(rt: &impl Abort, alloc: Global, expr_ir: &ExprIR) {
 fn expressions_are_copied(rt: HostRuntime) {
     for length in LENGTHS {
         let name = OutputName::LiteralLhs(long_name(&rt, rt.alloc(), length));
-        assert_copied(&rt, rt.alloc(), &ExprIR::new(Node(3), name));
+        assert_copied(&rt, rt.alloc(), ExprIR::new(Node(3), name));
         let name = OutputName::ColumnLhs(long_name(&rt, rt.alloc(), length));
-        assert_copied(&rt, rt.alloc(), &ExprIR::new(Node(3), name));
+        assert_copied(&rt, rt.alloc(), ExprIR::new(Node(3), name));
         let name = OutputName::Alias(long_name(&rt, rt.alloc(), length));
-        assert_copied(&rt, rt.alloc(), &ExprIR::new(Node(3), name));
+        assert_copied(&rt, rt.alloc(), ExprIR::new(Node(3), name));
         let name = OutputName::Field(long_name(&rt, rt.alloc(), length));
-        assert_copied(&rt, rt.alloc(), &ExprIR::new(Node(3), name));
+        assert_copied(&rt, rt.alloc(), ExprIR::new(Node(3), name));
     }
-    OutputName::None
-        .try_clone(rt.alloc())
-        .expect(&rt, NO_MEMORY);
+    let none = OutputName::None.try_clone(rt.alloc());
+    drop(none.expect(&rt, NO_MEMORY));
     assert!(rt; Node::from(ColumnNode(Node(3))) == Node(3));
 }

@@ -25,9 +25,11 @@ fn assert_one_cast(
 ) {
     assert!(rt; can_cast(from, to));
     assert!(rt; value.fits(from));
-    let answer = cast_value(alloc, value, from, to, options);
-    match &answer {
-        Ok(found) => assert!(rt; want == Some(found)),
+    match cast_value(alloc, value, from, to, options) {
+        Ok(found) => {
+            assert!(rt; want == Some(&found));
+            drop(found);
+        }
         Err(CastError::Failing) => assert!(rt; want.is_none()),
         Err(CastError::NoMemory) => panic!(rt; "there is memory"),
     }
@@ -49,6 +51,31 @@ fn assert_cast(
     ] {
         assert_one_cast(rt, alloc, value, from, to, options, Some(want));
     }
+}
+
+// The strict cast fails.
+fn assert_failing(rt: &impl Abort, alloc: Global, value: &Value, from: &DataType, to: &DataType) {
+    assert_one_cast(rt, alloc, value, from, to, CastOptions::Strict, None);
+}
+
+// The cast that isn't strict gives this value.
+fn assert_nulled(
+    rt: &impl Abort,
+    alloc: Global,
+    value: &Value,
+    from: &DataType,
+    to: &DataType,
+    want: &Value,
+) {
+    assert_one_cast(
+        rt,
+        alloc,
+        value,
+        from,
+        to,
+        CastOptions::NonStrict,
+        Some(want),
+    );
 }
 
 #[test]
@@ -83,7 +110,9 @@ fn values_without_parts_are_cast(rt: HostRuntime) {
 // Each way to cast the value to the type of texts gives that text.
 fn assert_written(rt: &impl Abort, alloc: Global, value: &Value, from: &DataType, want: &str) {
     let text = PlSmallStr::new(alloc, want).expect(rt, NO_MEMORY);
-    assert_cast(rt, alloc, value, from, &Text, &Value::Text(text));
+    let want = Value::Text(text);
+    assert_cast(rt, alloc, value, from, &Text, &want);
+    drop(want);
 }
 
 #[test]
@@ -107,6 +136,7 @@ fn texts_of_any_length_stay_texts(rt: HostRuntime) {
     for length in LENGTHS {
         let value = Value::Text(long_name(&rt, rt.alloc(), length));
         assert_cast(&rt, rt.alloc(), &value, &Text, &Text, &value);
+        drop(value);
     }
 }
 
@@ -121,6 +151,7 @@ fn texts_of_any_length_are_read_as_numbers(rt: HostRuntime) {
     for count in [1, 2, 1_001, 100_000] {
         let value = zeros(&rt, rt.alloc(), count);
         assert_cast(&rt, rt.alloc(), &value, &Text, &Int8, &Value::Int(0));
+        drop(value);
     }
 }
 
@@ -132,7 +163,11 @@ fn lists_of_any_size_are_cast(rt: HostRuntime) {
         let value = Value::List(parts_of(&rt, rt.alloc(), count, &Value::Int(5)));
         let want = Value::List(parts_of(&rt, rt.alloc(), count, &Value::Boolean(true)));
         assert_cast(&rt, rt.alloc(), &value, &from, &to, &want);
+        drop(value);
+        drop(want);
     }
+    drop(from);
+    drop(to);
 }
 
 #[test]
@@ -143,6 +178,10 @@ fn structs_of_any_size_are_cast(rt: HostRuntime) {
         let value = Value::Struct(parts_of(&rt, rt.alloc(), count, &Value::Int(5)));
         let want = Value::Struct(parts_of(&rt, rt.alloc(), count, &Value::Boolean(true)));
         assert_cast(&rt, rt.alloc(), &value, &from, &to, &want);
+        drop(value);
+        drop(want);
+        drop(from);
+        drop(to);
     }
 }
 
@@ -153,16 +192,12 @@ fn lists_of_any_depth_are_cast(rt: HostRuntime) {
         let to = deep_type(&rt, rt.alloc(), levels, &UInt8);
         let value = deep_value(&rt, rt.alloc(), levels, 5);
         assert_cast(&rt, rt.alloc(), &value, &from, &to, &value);
+        drop(value);
         let value = deep_value(&rt, rt.alloc(), levels, 300);
-        assert_one_cast(
-            &rt,
-            rt.alloc(),
-            &value,
-            &from,
-            &to,
-            CastOptions::Strict,
-            None,
-        );
+        assert_failing(&rt, rt.alloc(), &value, &from, &to);
+        drop(value);
+        drop(from);
+        drop(to);
     }
 }
 
@@ -179,24 +214,12 @@ fn a_cast_fails_at_the_last_of_any_items(rt: HostRuntime) {
     let to = deep_type(&rt, rt.alloc(), 1, &Int8);
     for others in [0, 1, 2, 300, 100_000] {
         let value = with_last(&rt, rt.alloc(), others, Value::Int(300));
-        assert_one_cast(
-            &rt,
-            rt.alloc(),
-            &value,
-            &from,
-            &to,
-            CastOptions::Strict,
-            None,
-        );
+        assert_failing(&rt, rt.alloc(), &value, &from, &to);
         let want = with_last(&rt, rt.alloc(), others, Value::Null);
-        assert_one_cast(
-            &rt,
-            rt.alloc(),
-            &value,
-            &from,
-            &to,
-            CastOptions::NonStrict,
-            Some(&want),
-        );
+        assert_nulled(&rt, rt.alloc(), &value, &from, &to, &want);
+        drop(value);
+        drop(want);
     }
+    drop(from);
+    drop(to);
 }

@@ -1,7 +1,7 @@
 //! Expressions that become nodes, with their aliases and without.
 
 use crate::expressions::{Kind, nested};
-use crate::fixtures::{NO_MEMORY, column};
+use crate::fixtures::{NO_MEMORY, assert_number, assert_text, column};
 use crate::sums::sum_of;
 use plan_arena::aexpr::AExpr;
 use plan_arena::arena::{Arena, Node};
@@ -28,6 +28,8 @@ fn sums_of_any_length_are_named(rt: HostRuntime) {
         let expr_ir = to_expr_ir(sum, &mut arena).expect(&rt, NO_MEMORY);
         assert!(rt; expr_ir.output_name().as_str() == "a");
         assert!(rt; arena.last_node() == Some(expr_ir.node()));
+        drop(expr_ir);
+        drop(arena);
     }
 }
 
@@ -52,18 +54,28 @@ fn aliased_sum(rt: &impl Abort, alloc: Global, aliases: usize) -> Expr {
 fn assert_alias(rt: &impl Abort, arena: &Arena<AExpr>, number: usize) {
     assert!(rt; number < arena.len());
     match arena.get(Node(number)) {
-        AExpr::Alias(_, name) => assert_eq!(rt; name.as_str(), "x"),
+        AExpr::Alias(_, name) => assert_text(rt, name.as_str(), "x"),
         _ => panic!(rt; "it is an alias"),
     }
 }
 
-// The third node is the sum of the first two.
-fn assert_sum(rt: &impl Abort, arena: &Arena<AExpr>) {
+// All nodes from that number on are aliases x.
+fn assert_aliases(rt: &impl Abort, arena: &Arena<AExpr>, first: usize) {
+    for number in first..arena.len() {
+        assert_alias(rt, arena, number);
+    }
+}
+
+// The third of so many nodes is the sum of the first two.
+fn assert_sum(rt: &impl Abort, arena: &Arena<AExpr>, nodes: usize) {
+    assert_number(rt, arena.len(), nodes);
     assert!(rt; 2 < arena.len());
     match arena.get(Node(2)) {
-        AExpr::BinaryExpr { left, op, right } => {
-            assert!(rt; *left == Node(0) && *op == Operator::Plus && *right == Node(1));
-        }
+        AExpr::BinaryExpr {
+            left: Node(0),
+            op: Operator::Plus,
+            right: Node(1),
+        } => (),
         _ => panic!(rt; "it is a sum"),
     }
 }
@@ -74,10 +86,11 @@ fn aliases_of_any_number_give_the_name_alone(rt: HostRuntime) {
         let mut arena = Arena::new(rt.alloc());
         let expr = aliased_sum(&rt, rt.alloc(), aliases);
         let expr_ir = to_expr_ir(expr, &mut arena).expect(&rt, NO_MEMORY);
-        assert_eq!(rt; expr_ir.get_alias().is_some(), aliases > 0);
+        assert!(rt; expr_ir.get_alias().is_some() == (aliases > 0));
         assert!(rt; aliases == 0 || expr_ir.output_name().as_str() == "x");
-        assert_eq!(rt; arena.len(), 3);
-        assert_sum(&rt, &arena);
+        drop(expr_ir);
+        assert_sum(&rt, &arena, 3);
+        drop(arena);
     }
 }
 
@@ -88,9 +101,10 @@ fn aliases_of_any_number_are_left_out(rt: HostRuntime) {
         let expr = aliased_sum(&rt, rt.alloc(), aliases);
         let expr_ir = to_expr_ir_ignore_alias(expr, &mut arena).expect(&rt, NO_MEMORY);
         assert!(rt; matches!(expr_ir.output_name_inner(), OutputName::ColumnLhs(_)));
-        assert_eq!(rt; expr_ir.output_name().as_str(), "a");
-        assert_eq!(rt; arena.len(), 3);
-        assert_sum(&rt, &arena);
+        assert!(rt; expr_ir.output_name().as_str() == "a");
+        drop(expr_ir);
+        assert_sum(&rt, &arena, 3);
+        drop(arena);
     }
 }
 
@@ -101,16 +115,15 @@ fn aliases_of_any_number_become_nodes(rt: HostRuntime) {
         let expr = aliased_sum(&rt, rt.alloc(), aliases);
         let top = to_aexpr(expr, &mut arena).expect(&rt, NO_MEMORY);
         assert!(rt; arena.last_node() == Some(top));
-        assert_eq!(rt; arena.len(), nodes);
-        assert_sum(&rt, &arena);
-        for number in 3..nodes {
-            assert_alias(&rt, &arena, number);
-        }
+        assert_sum(&rt, &arena, nodes);
+        assert_aliases(&rt, &arena, 3);
+        drop(arena);
     }
 }
 
-// The first node is the literal.
-fn assert_literal(rt: &impl Abort, arena: &Arena<AExpr>, value: &LiteralValue) {
+// The first of so many nodes is the literal.
+fn assert_literal(rt: &impl Abort, arena: &Arena<AExpr>, nodes: usize, value: &LiteralValue) {
+    assert_number(rt, arena.len(), nodes);
     assert!(rt; 0 < arena.len());
     match arena.get(Node(0)) {
         AExpr::Literal(found) => assert!(rt; *found == *value),
@@ -128,9 +141,11 @@ fn aliased_number(rt: &impl Abort, alloc: Global, number: i128, aliases: usize) 
 fn assert_untyped(rt: &impl Abort, alloc: Global, number: i128, aliases: usize) {
     let mut arena = Arena::new(alloc);
     let expr = aliased_number(rt, alloc, number, aliases);
-    to_expr_ir(expr, &mut arena).expect(rt, NO_MEMORY);
-    assert_eq!(rt; arena.len(), 1);
-    assert_literal(rt, &arena, &LiteralValue::Int(number));
+    drop(to_expr_ir(expr, &mut arena).expect(rt, NO_MEMORY));
+    let value = LiteralValue::Int(number);
+    assert_literal(rt, &arena, 1, &value);
+    drop(value);
+    drop(arena);
 }
 
 #[test]
@@ -146,9 +161,9 @@ fn a_number_gets_a_type_without_its_aliases(rt: HostRuntime) {
     for (aliases, _) in ALIASES {
         let mut arena = Arena::new(rt.alloc());
         let expr = aliased_number(&rt, rt.alloc(), 7, aliases);
-        to_expr_ir_ignore_alias(expr, &mut arena).expect(&rt, NO_MEMORY);
-        assert_eq!(rt; arena.len(), 1);
-        assert_literal(&rt, &arena, &LiteralValue::Int32(7));
+        drop(to_expr_ir_ignore_alias(expr, &mut arena).expect(&rt, NO_MEMORY));
+        assert_literal(&rt, &arena, 1, &LiteralValue::Int32(7));
+        drop(arena);
     }
 }
 
@@ -158,11 +173,9 @@ fn a_number_gets_a_type_under_its_aliases(rt: HostRuntime) {
         let mut arena = Arena::new(rt.alloc());
         let expr = aliased_number(&rt, rt.alloc(), 7, aliases);
         to_aexpr(expr, &mut arena).expect(&rt, NO_MEMORY);
-        assert_eq!(rt; arena.len(), nodes);
-        assert_literal(&rt, &arena, &LiteralValue::Int32(7));
-        for number in 1..nodes {
-            assert_alias(&rt, &arena, number);
-        }
+        assert_literal(&rt, &arena, nodes, &LiteralValue::Int32(7));
+        assert_aliases(&rt, &arena, 1);
+        drop(arena);
     }
 }
 
@@ -170,7 +183,7 @@ fn a_number_gets_a_type_under_its_aliases(rt: HostRuntime) {
 fn assert_invalid<T: Drop>(rt: &impl Abort, answer: Result<T, PlanError>) {
     match answer {
         Ok(_) => panic!(rt; "it is refused"),
-        Err(error) => assert_eq!(rt; error.kind, ErrorKind::InvalidOperation),
+        Err(error) => assert!(rt; error.kind == ErrorKind::InvalidOperation),
     }
 }
 
@@ -182,6 +195,7 @@ fn a_number_past_each_type_is_refused(rt: HostRuntime) {
         assert_invalid(&rt, to_expr_ir_ignore_alias(expr, &mut arena));
         let expr = aliased_number(&rt, rt.alloc(), PAST, aliases);
         assert_invalid(&rt, to_aexpr(expr, &mut arena));
+        drop(arena);
     }
 }
 
@@ -191,6 +205,8 @@ fn a_count_of_rows_names_a_sum(rt: HostRuntime) {
     let sum = plus_b(&rt, rt.alloc(), Expr::Len);
     let expr_ir = to_expr_ir_ignore_alias(sum, &mut arena).expect(&rt, NO_MEMORY);
     assert!(rt; matches!(expr_ir.output_name_inner(), OutputName::LiteralLhs(_)));
-    assert_eq!(rt; expr_ir.output_name().as_str(), "len");
-    assert_sum(&rt, &arena);
+    assert!(rt; expr_ir.output_name().as_str() == "len");
+    drop(expr_ir);
+    assert_sum(&rt, &arena, 3);
+    drop(arena);
 }

@@ -1,6 +1,6 @@
 //! Literals, operators and expressions.
 
-use crate::fixtures::{LENGTHS, NO_MEMORY, assert_alike, column, long_name};
+use crate::fixtures::{LENGTHS, NO_MEMORY, assert_alike, assert_text, column, long_name};
 use plan_dsl::expr::Expr;
 use plan_dsl::literal::LiteralValue;
 use plan_dsl::operator::Operator;
@@ -13,7 +13,7 @@ use std::process::Abort;
 
 fn assert_literal(rt: &impl Abort, alloc: Global, value: &LiteralValue) {
     let copy = value.try_clone(alloc).expect(rt, NO_MEMORY);
-    assert_alike(rt, &copy, value);
+    assert_alike(rt, copy, value);
 }
 
 #[test]
@@ -43,7 +43,7 @@ fn literals_of_each_kind_are_copied(rt: HostRuntime) {
 // The operator is written as the sign.
 fn assert_sign(rt: &impl Abort, alloc: Global, operator: Operator, sign: &str) {
     let text = operator.to_string(alloc).expect(rt, NO_MEMORY);
-    assert_eq!(rt; text.as_str(), sign);
+    assert_text(rt, text.as_str(), sign);
 }
 
 #[test]
@@ -169,18 +169,19 @@ pub(crate) fn nested(
     expr
 }
 
-fn assert_copied(rt: &impl Abort, alloc: Global, expr: &Expr) {
+fn assert_copied(rt: &impl Abort, alloc: Global, expr: Expr) {
     let copy = expr.try_clone(alloc).expect(rt, NO_MEMORY);
-    assert_alike(rt, &copy, expr);
+    assert_alike(rt, copy, &expr);
+    drop(expr);
 }
 
 #[test]
 fn columns_and_literals_of_any_length_are_copied(rt: HostRuntime) {
     for length in LENGTHS {
         let expr = Expr::Column(long_name(&rt, rt.alloc(), length));
-        assert_copied(&rt, rt.alloc(), &expr);
+        assert_copied(&rt, rt.alloc(), expr);
         let expr = Expr::Literal(LiteralValue::String(long_name(&rt, rt.alloc(), length)));
-        assert_copied(&rt, rt.alloc(), &expr);
+        assert_copied(&rt, rt.alloc(), expr);
     }
 }
 
@@ -188,7 +189,7 @@ fn columns_and_literals_of_any_length_are_copied(rt: HostRuntime) {
 fn assert_nested(rt: &impl Abort, alloc: Global, kind: Kind, levels: usize) {
     let lowest = column(rt, alloc, "a");
     let expr = nested(rt, alloc, kind, levels, lowest);
-    assert_copied(rt, alloc, &expr);
+    assert_copied(rt, alloc, expr);
 }
 
 #[test]

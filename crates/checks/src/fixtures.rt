@@ -29,9 +29,19 @@ pub(crate) fn hash_of<T: Hash>(value: &T) -> u64 {
 }
 
 /// Both are equal and hashed alike.
-pub(crate) fn assert_alike<T: Eq + Hash>(rt: &impl Abort, copy: &T, value: &T) {
-    assert!(rt; copy == value);
-    assert_eq!(rt; hash_of(copy), hash_of(value));
+pub(crate) fn assert_alike<T: Eq + Hash + Drop>(rt: &impl Abort, copy: T, value: &T) {
+    assert!(rt; copy == *value);
+    assert!(rt; hash_of(&copy) == hash_of(value));
+}
+
+/// The text is the one that is wanted.
+pub(crate) fn assert_text(rt: &impl Abort, found: &str, want: &str) {
+    assert_eq!(rt; found, want);
+}
+
+/// The number is the one that is wanted.
+pub(crate) fn assert_number(rt: &impl Abort, found: usize, want: usize) {
+    assert_eq!(rt; found, want);
 }
 
 /// The name of the part of that number.
@@ -120,8 +130,8 @@ pub(crate) fn assert_refused<T: Drop>(
     match answer {
         Ok(_) => panic!(rt; "it is refused"),
         Err(error) => {
-            assert_eq!(rt; error.kind, kind);
-            assert_eq!(rt; error.place.depth(), 0);
+            assert!(rt; error.kind == kind);
+            assert!(rt; error.place.depth() == 0);
         }
     }
 }

@@ -1,6 +1,6 @@
 //! Frames of any number of columns and rows, and their faults.
 
-use crate::fixtures::{LENGTHS, NO_MEMORY, long_name, numbered};
+use crate::fixtures::{LENGTHS, NO_MEMORY, assert_number, assert_text, long_name, numbered};
 use crate::schemas::assert_columns;
 use crate::values::parts_of;
 use plan_types::column::{Column, Values};
@@ -34,10 +34,11 @@ fn columns_of(rt: &impl Abort, alloc: Global, count: usize, rows: usize) -> Vec<
 
 // The frame has so many columns and rows.
 fn assert_frame(rt: &impl Abort, alloc: Global, frame: &Frame, count: usize, rows: usize) {
-    assert_eq!(rt; frame.width(), count);
-    assert_eq!(rt; frame.height(), rows);
+    assert_number(rt, frame.width(), count);
+    assert_number(rt, frame.height(), rows);
     let schema = frame.schema(alloc).expect(rt, NO_MEMORY);
     assert_columns(rt, alloc, &schema, count, &DataType::Int8);
+    drop(schema);
 }
 
 // So many columns of so many rows are a frame, and a copy of it is one.
@@ -47,6 +48,8 @@ fn assert_made(rt: &impl Abort, alloc: Global, count: usize, rows: usize) {
     assert_frame(rt, alloc, &frame, count, rows);
     let copy = frame.try_clone(alloc).expect(rt, NO_MEMORY);
     assert_frame(rt, alloc, &copy, count, rows);
+    drop(copy);
+    drop(frame);
 }
 
 #[test]
@@ -61,15 +64,24 @@ fn columns_of_long_names_are_copied(rt: HostRuntime) {
     for length in LENGTHS {
         let name = long_name(&rt, rt.alloc(), length);
         let column = column_of(&rt, rt.alloc(), name, 1);
-        column.try_clone(rt.alloc()).expect(&rt, NO_MEMORY);
+        let copy = column.try_clone(rt.alloc()).expect(&rt, NO_MEMORY);
+        drop(copy);
+        drop(column);
     }
 }
 
 // What is told of the columns, which are no frame.
 fn fault_text(rt: &impl Abort, alloc: Global, columns: Vec<Column>) -> String {
     match Frame::new(alloc, columns) {
-        Ok(_) => String::from_str(alloc, "a frame").expect(rt, NO_MEMORY),
-        Err(error) => error.to_string(alloc).expect(rt, NO_MEMORY),
+        Ok(frame) => {
+            drop(frame);
+            String::from_str(alloc, "a frame").expect(rt, NO_MEMORY)
+        }
+        Err(error) => {
+            let text = error.to_string(alloc).expect(rt, NO_MEMORY);
+            drop(error);
+            text
+        }
     }
 }
 
@@ -85,7 +97,7 @@ fn assert_fault(
     let mut columns = columns_of(rt, alloc, count, rows);
     columns.push(last).expect(rt, NO_MEMORY);
     let found = fault_text(rt, alloc, columns);
-    assert_eq!(rt; found.as_str(), want);
+    assert_text(rt, found.as_str(), want);
 }
 
 #[test]

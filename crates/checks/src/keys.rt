@@ -1,6 +1,6 @@
 //! Sorts by keys, and nodes with lists.
 
-use crate::fixtures::{NO_MEMORY, SIZES, assert_alike};
+use crate::fixtures::{NO_MEMORY, SIZES, assert_alike, assert_number};
 use plan_arena::aexpr::AExpr;
 use plan_arena::arena::Node;
 use plan_arena::expr_ir::{ExprIR, ExprIRs, OutputName};
@@ -21,7 +21,9 @@ fn flags(rt: &impl Abort, alloc: Global, count: usize) -> Flags {
     for number in 0..count {
         items.push(number % 2 == 0).expect(rt, NO_MEMORY);
     }
-    Flags { items }
+    Flags {
+        items: Box::new(alloc, items).expect(rt, NO_MEMORY),
+    }
 }
 
 // Null sorted by so many numbers, of which the last is that one, with a flag for each.
@@ -51,9 +53,11 @@ fn sorts_by_any_number_of_keys_are_copied(rt: HostRuntime) {
     for count in SIZES {
         let expr = sorted_by(&rt, rt.alloc(), count, 5);
         let copy = expr.try_clone(rt.alloc()).expect(&rt, NO_MEMORY);
-        assert_alike(&rt, &copy, &expr);
+        assert_alike(&rt, copy, &expr);
         let other = sorted_by(&rt, rt.alloc(), count, 6);
-        assert_eq!(&rt; other == expr, count == 0);
+        assert!(&rt; (other == expr) == (count == 0));
+        drop(other);
+        drop(expr);
     }
 }
 
@@ -83,6 +87,10 @@ fn nodes_of_any_number_of_inputs_are_copied(rt: HostRuntime) {
         let inputs = copy.inputs(rt.alloc()).expect(&rt, NO_MEMORY);
         let own = item.inputs(rt.alloc()).expect(&rt, NO_MEMORY);
         assert!(rt; inputs.as_slice() == own.as_slice());
+        drop(inputs);
+        drop(own);
+        drop(copy);
+        drop(item);
     }
 }
 
@@ -115,6 +123,8 @@ fn selects_of_any_number_of_outputs_are_copied(rt: HostRuntime) {
     for count in SIZES {
         let item = select_of(&rt, rt.alloc(), count);
         let copy = item.try_clone(rt.alloc()).expect(&rt, NO_MEMORY);
-        assert_eq!(rt; output_count(&copy), count);
+        assert_number(&rt, output_count(&copy), count);
+        drop(copy);
+        drop(item);
     }
 }

@@ -2,6 +2,9 @@
 //!
 //! A contract lets want of memory stand in place of any answer. So each call that takes memory is made here, with no
 //! part, with one, two and many, unless the cases of the program reach it so.
+//!
+//! A value of many variants ends in a call that takes it, `drop` where no other does: at the end of a block each variant
+//! would be proved anew.
 #![tactic(auto)]
 
 #[cfg(test)]
@@ -30,6 +33,8 @@ mod refusals;
 mod runs;
 #[cfg(test)]
 mod schemas;
+#[cfg(test)]
+mod selectors;
 #[cfg(test)]
 mod streams;
 pub mod sums;

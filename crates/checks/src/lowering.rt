@@ -1,7 +1,7 @@
 //! Lowering and reports of plans of any depth, and refusals below any number of levels.
 
 use crate::expressions::{Kind, nested};
-use crate::fixtures::{NO_MEMORY, column};
+use crate::fixtures::{NO_MEMORY, assert_text, column};
 use crate::plans::{filters_over, scan_of, select_of};
 use plan_arena::arena::Node;
 use plan_arena::plan::IRPlan;
@@ -34,7 +34,7 @@ fn assert_nested(rt: &impl Abort, alloc: Global, kind: Kind, levels: usize, want
     let expr = nested(rt, alloc, kind, levels, lowest);
     let scan = scan_of(rt, alloc, None, 1, &DataType::Int8);
     let found = answer(alloc, select(rt, alloc, expr, scan)).expect(rt, NO_MEMORY);
-    assert_eq!(rt; found.as_str(), want);
+    assert_text(rt, found.as_str(), want);
 }
 
 #[test]
@@ -83,6 +83,7 @@ fn assert_filters(rt: &impl Abort, alloc: Global, filters: usize) {
     let scan = scan_of(rt, alloc, Some(3), 1, &DataType::Boolean);
     let plan = filters_over(rt, alloc, scan, filters);
     let copy = plan.try_clone(alloc).expect(rt, NO_MEMORY);
+    drop(plan);
     let found = answer(alloc, copy).expect(rt, NO_MEMORY);
     assert!(rt;
         found
@@ -128,9 +129,10 @@ fn a_lowered_plan_is_lent_from_any_node(rt: HostRuntime) {
     let udfs = Udfs::new(rt.alloc());
     let lowered = plan.to_alp(rt.alloc(), &udfs).expect(&rt, NO_MEMORY);
     assert!(rt; lowered.lp_top.0 < lowered.lp_arena.len());
-    assert_eq!(rt; lowered.root().name(), "selection");
-    assert_eq!(rt; name_at(&rt, &lowered, 0), "df");
+    assert_text(&rt, lowered.root().name(), "selection");
+    assert_text(&rt, name_at(&rt, &lowered, 0), "df");
     for number in 1..lowered.lp_arena.len() {
-        assert_eq!(rt; name_at(&rt, &lowered, number), "selection");
+        assert_text(&rt, name_at(&rt, &lowered, number), "selection");
     }
+    drop(lowered);
 }

@@ -53,7 +53,8 @@ pub(crate) fn select_of(
 // A scan of that table and of so many columns is copied.
 fn assert_scan(rt: &impl Abort, alloc: Global, table: Option<u32>, count: usize) {
     let scan = scan_of(rt, alloc, table, count, &DataType::Boolean);
-    scan.try_clone(alloc).expect(rt, NO_MEMORY);
+    drop(scan.try_clone(alloc).expect(rt, NO_MEMORY));
+    drop(scan);
 }
 
 #[test]
@@ -79,12 +80,30 @@ fn columns_of(rt: &impl Abort, alloc: Global, count: usize) -> Vec<Expr> {
 fn assert_select(rt: &impl Abort, alloc: Global, count: usize) {
     let input = DslPlan::default(alloc).expect(rt, NO_MEMORY);
     let plan = select_of(rt, alloc, columns_of(rt, alloc, count), input);
-    plan.try_clone(alloc).expect(rt, NO_MEMORY);
+    drop(plan.try_clone(alloc).expect(rt, NO_MEMORY));
+    drop(plan);
 }
 
 #[test]
 fn selects_of_any_size_are_copied(rt: HostRuntime) {
     for count in SIZES {
         assert_select(&rt, rt.alloc(), count);
+    }
+}
+
+// An hstack of so many columns is copied, over the default plan.
+fn assert_hstack(rt: &impl Abort, alloc: Global, count: usize) {
+    let input = DslPlan::default(alloc).expect(rt, NO_MEMORY);
+    let columns = columns_of(rt, alloc, count);
+    let options = ProjectionOptions::default();
+    let built = DslBuilder::from(input).with_columns(alloc, columns, options);
+    let plan = built.expect(rt, NO_MEMORY).build();
+    plan.try_clone(alloc).expect(rt, NO_MEMORY);
+}
+
+#[test]
+fn hstacks_of_any_size_are_copied(rt: HostRuntime) {
+    for count in SIZES {
+        assert_hstack(&rt, rt.alloc(), count);
     }
 }

@@ -1,6 +1,6 @@
 //! Queries that are read, of many parts and of many levels.
 
-use crate::fixtures::NO_MEMORY;
+use crate::fixtures::{NO_MEMORY, assert_text};
 use plan_json::error::JsonError;
 use plan_json::read::read_query;
 use std::alloc::Global;
@@ -25,14 +25,18 @@ fn repeated(rt: &impl Abort, alloc: Global, text: &str, times: usize, last: &str
 }
 
 fn assert_read(rt: &impl Abort, alloc: Global, text: &str) {
-    assert!(rt; read_query(alloc, text.as_bytes()).is_ok());
+    let answer = read_query(alloc, text.as_bytes());
+    assert!(rt; answer.is_ok());
+    drop(answer);
 }
 
 fn assert_shape_at(rt: &impl Abort, alloc: Global, text: &str, pointer: &str) {
-    match read_query(alloc, text.as_bytes()) {
-        Err(JsonError::Shape { path }) => assert_eq!(rt; path.as_str(), pointer),
+    let answer = read_query(alloc, text.as_bytes());
+    match &answer {
+        Err(JsonError::Shape { path }) => assert_text(rt, path.as_str(), pointer),
         _ => panic!(rt; "the query is at fault there"),
     }
+    drop(answer);
 }
 
 #[test]

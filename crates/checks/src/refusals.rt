@@ -1,6 +1,6 @@
 //! What is told of each refusal.
 
-use crate::fixtures::NO_MEMORY;
+use crate::fixtures::{NO_MEMORY, assert_text};
 use plan_types::error::{ErrorKind, Place, PlanError};
 use plan_types::frame::FrameError;
 use std::alloc::Global;
@@ -19,7 +19,8 @@ fn assert_told(rt: &impl Abort, alloc: Global, kind: ErrorKind, depth: usize, wa
     let place = place_of(rt, alloc, depth);
     let error = PlanError { kind, place };
     let text = error.to_string(alloc).expect(rt, NO_MEMORY);
-    assert_eq!(rt; text.as_str(), want);
+    assert_text(rt, text.as_str(), want);
+    drop(error);
 }
 
 #[test]
@@ -48,8 +49,8 @@ fn a_deep_place_is_told(rt: HostRuntime) {
 
 #[test]
 fn want_of_memory_is_told_of_frames(rt: HostRuntime) {
-    let text = FrameError::NoMemory
-        .to_string(rt.alloc())
-        .expect(&rt, NO_MEMORY);
-    assert_eq!(rt; text.as_str(), "no memory");
+    let error = FrameError::NoMemory;
+    let text = error.to_string(rt.alloc()).expect(&rt, NO_MEMORY);
+    assert_text(&rt, text.as_str(), "no memory");
+    drop(error);
 }

@@ -23,8 +23,12 @@ fn run_over<S: Source, K: Sink>(
     sink: &mut K,
 ) -> u8 {
     let word = PlSmallStr::new(alloc, "lower").expect(rt, NO_MEMORY);
-    let done = run(alloc, &[word], source, sink, &Udfs::new(alloc));
-    done.status.number()
+    let udfs = Udfs::new(alloc);
+    let done = run(alloc, &[word], source, sink, &udfs);
+    let number = done.status.number();
+    drop(done);
+    drop(udfs);
+    number
 }
 
 // The query, with blanks behind it up to that length, ends with that status and text.
@@ -32,14 +36,11 @@ fn assert_padded(rt: &impl Abort, alloc: Global, length: usize, number: u8, text
     let mut query = EMPTY.to_vec(alloc).expect(rt, NO_MEMORY);
     query.resize(length, b' ').expect(rt, NO_MEMORY);
     let mut sink = PlainSink::new(alloc, 100).expect(rt, NO_MEMORY);
-    let found = run_over(
-        rt,
-        alloc,
-        &mut PlainSource::new(query.as_slice()),
-        &mut sink,
-    );
-    assert_eq!(rt; found, number);
+    let mut source = PlainSource::new(query.as_slice());
+    let found = run_over(rt, alloc, &mut source, &mut sink);
+    assert!(rt; found == number);
     assert!(rt; sink.written() == text);
+    drop(sink);
 }
 
 #[test]
@@ -55,9 +56,11 @@ fn assert_read(rt: &impl Abort, alloc: Global, failing: u64, number: u8, text: &
     let mut source = MemSource::new(EMPTY, failing).in_steps(7);
     let mut sink = PlainSink::new(alloc, 100).expect(rt, NO_MEMORY);
     let found = run_over(rt, alloc, &mut source, &mut sink);
-    assert_eq!(rt; found, number);
+    assert!(rt; found == number);
     assert!(rt; sink.written() == text);
-    assert_eq!(rt; source.faults() > 0, number == 4);
+    drop(sink);
+    assert!(rt; (source.faults() > 0) == (number == 4));
+    drop(source);
 }
 
 // Reads 0 to 4 take the 34 bytes. Read 5 finds the end.
@@ -76,10 +79,11 @@ fn assert_front(rt: &impl Abort, alloc: Global, query: &[u8], text: &[u8], faili
         .expect(rt, NO_MEMORY)
         .in_steps(1);
     let found = run_over(rt, alloc, &mut PlainSource::new(query), &mut sink);
-    assert_eq!(rt; found, 5);
-    assert_eq!(rt; sink.faults(), 1);
+    assert!(rt; found == 5);
+    assert!(rt; sink.faults() == 1);
     assert!(rt; failing <= text.len());
     assert!(rt; sink.written() == &text[..failing]);
+    drop(sink);
 }
 
 #[test]

@@ -33,6 +33,7 @@ pub(crate) fn assert_columns(
 ) {
     let want = schema_of(rt, alloc, count, dtype);
     schema.matches_schema(&want).expect(rt, NO_MEMORY);
+    drop(want);
 }
 
 #[test]
@@ -43,6 +44,8 @@ fn columns_of_any_number_are_copied_and_replaced(rt: HostRuntime) {
         assert_columns(&rt, rt.alloc(), &copy, count, &Int8);
         put(&rt, rt.alloc(), &mut copy, count, &UInt8);
         assert_columns(&rt, rt.alloc(), &copy, count, &UInt8);
+        drop(copy);
+        drop(schema);
     }
 }
 
@@ -61,6 +64,7 @@ fn columns_are_put_in_front(rt: HostRuntime) {
             put_in_front(&rt, rt.alloc(), &mut schema, number);
         }
         assert_columns(&rt, rt.alloc(), &schema, count, &Int8);
+        drop(schema);
     }
 }
 
@@ -71,6 +75,7 @@ fn a_name_that_stands_is_not_put_in(rt: HostRuntime) {
     assert!(rt; 0 <= schema.len());
     let answer = schema.insert_at_index(0, name, UInt8);
     assert_refused(&rt, answer, ErrorKind::Duplicate);
+    drop(schema);
 }
 
 // So many columns of the first type, beside as many of the second, get the common types.
@@ -84,7 +89,9 @@ fn assert_common(
     let mut schema = schema_of(rt, alloc, count, first);
     let other = schema_of(rt, alloc, count, second);
     schema.to_supertype(&other).expect(rt, NO_MEMORY);
-    assert_columns(rt, alloc, &schema, count, &Int16)
+    drop(other);
+    assert_columns(rt, alloc, &schema, count, &Int16);
+    drop(schema);
 }
 
 #[test]
@@ -105,6 +112,8 @@ fn columns_without_common_types_are_refused(rt: HostRuntime) {
     other.with_column(last, Date).expect(&rt, NO_MEMORY);
     let answer = schema.to_supertype(&other);
     assert_refused(&rt, answer, ErrorKind::SchemaMismatch);
+    drop(schema);
+    drop(other);
 }
 
 // A schema of a column of so long a name is copied.
@@ -114,6 +123,8 @@ fn assert_long(rt: &impl Abort, alloc: Global, length: usize) {
     schema.with_column(name, Int8).expect(rt, NO_MEMORY);
     let copy = schema.try_clone(alloc).expect(rt, NO_MEMORY);
     schema.matches_schema(&copy).expect(rt, NO_MEMORY);
+    drop(copy);
+    drop(schema);
 }
 
 #[test]

@@ -26,6 +26,7 @@ fn assert_read(rt: &impl Abort, alloc: Global, count: usize, step: usize) {
     let mut source = MemSource::new(&text, Vec::new(alloc)).in_steps(step);
     let outcome = read_all(alloc, &mut source);
     assert_bytes(rt, &outcome, text.as_slice());
+    drop(outcome);
 }
 
 #[test]
@@ -68,13 +69,14 @@ fn assert_reads(rt: &impl Abort, alloc: Global, failing: u64, reads: u64, faults
     };
     let mut adapter = ReadAdapter::new(&mut reader);
     let outcome = read_all(alloc, &mut adapter);
-    assert_eq!(rt; adapter.faults(), faults);
+    assert!(rt; adapter.faults() == faults);
     if faults == 0 {
         assert_bytes(rt, &outcome, TEXT);
     } else {
-        assert!(rt; outcome == ReadOutcome::Fault);
+        assert!(rt; matches!(&outcome, ReadOutcome::Fault));
     }
-    assert_eq!(rt; reader.reads, reads);
+    drop(outcome);
+    assert!(rt; reader.reads == reads);
 }
 
 #[test]
@@ -120,10 +122,10 @@ fn assert_writes(rt: &impl Abort, failing: u64, writes: u64, taken: usize, fault
     };
     let mut adapter = WriteAdapter::new(&mut writer);
     let answer = write_all(&mut adapter, TEXT);
-    assert_eq!(rt; adapter.faults(), faults);
-    assert_eq!(rt; answer.is_ok(), faults == 0);
-    assert_eq!(rt; writer.writes, writes);
-    assert_eq!(rt; writer.taken, taken);
+    assert!(rt; adapter.faults() == faults);
+    assert!(rt; answer.is_ok() == (faults == 0));
+    assert!(rt; writer.writes == writes);
+    assert!(rt; writer.taken == taken);
 }
 
 #[test]
@@ -137,7 +139,7 @@ fn an_adapter_asks_its_writer(rt: HostRuntime) {
 fn a_full_page_takes_no_more(rt: HostRuntime) {
     let mut page = [0u8; 4];
     let mut writer = WriteAdapter::new(&mut page[..]);
-    assert_eq!(rt; write_all(&mut writer, b"sca"), Ok(()));
-    assert_eq!(rt; write_all(&mut writer, b"n t"), Err(Failed));
-    assert_eq!(rt; writer.faults(), 1);
+    assert!(rt; write_all(&mut writer, b"sca") == Ok(()));
+    assert!(rt; write_all(&mut writer, b"n t") == Err(Failed));
+    assert!(rt; writer.faults() == 1);
 }

@@ -11,7 +11,7 @@ use std::process::Abort;
 
 fn assert_copied(rt: &impl Abort, alloc: Global, dtype: &DataType) {
     let copy = dtype.try_clone(alloc).expect(rt, NO_MEMORY);
-    assert_alike(rt, &copy, dtype);
+    assert_alike(rt, copy, dtype);
 }
 
 #[test]
@@ -26,6 +26,7 @@ fn structs_of_any_size_are_copied(rt: HostRuntime) {
     for count in SIZES {
         let dtype = struct_type(&rt, rt.alloc(), count, &DataType::Int8);
         assert_copied(&rt, rt.alloc(), &dtype);
+        drop(dtype);
     }
 }
 
@@ -34,6 +35,7 @@ fn lists_of_any_depth_are_copied(rt: HostRuntime) {
     for levels in LEVELS {
         let dtype = deep_type(&rt, rt.alloc(), levels, &DataType::Int8);
         assert_copied(&rt, rt.alloc(), &dtype);
+        drop(dtype);
     }
 }
 
@@ -41,7 +43,8 @@ fn lists_of_any_depth_are_copied(rt: HostRuntime) {
 fn assert_copied_field(rt: &impl Abort, alloc: Global, length: usize) {
     let field = Field::new(long_name(rt, alloc, length), DataType::Int8);
     let copy = field.try_clone(alloc).expect(rt, NO_MEMORY);
-    assert_alike(rt, &copy, &field);
+    assert_alike(rt, copy, &field);
+    drop(field);
 }
 
 #[test]
@@ -52,16 +55,20 @@ fn fields_of_long_names_are_copied(rt: HostRuntime) {
 }
 
 fn assert_common(rt: &impl Abort, alloc: Global, left: &DataType, right: &DataType) {
-    try_get_common_type(alloc, left, right).expect(rt, NO_MEMORY);
+    let common = try_get_common_type(alloc, left, right).expect(rt, NO_MEMORY);
+    drop(common);
 }
 
 #[test]
 fn operands_of_any_size_have_a_common_type(rt: HostRuntime) {
     let number = DataType::Unknown(UnknownKind::Int(5));
     assert_common(&rt, rt.alloc(), &number, &number);
+    drop(number);
     for count in SIZES {
         let left = struct_type(&rt, rt.alloc(), count, &DataType::Int8);
         let right = struct_type(&rt, rt.alloc(), count, &DataType::UInt8);
         assert_common(&rt, rt.alloc(), &left, &right);
+        drop(left);
+        drop(right);
     }
 }

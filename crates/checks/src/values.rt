@@ -28,7 +28,7 @@ pub(crate) fn deep_value(rt: &impl Abort, alloc: Global, levels: usize, number: 
 
 fn assert_copied(rt: &impl Abort, alloc: Global, value: &Value) {
     let copy = value.try_clone(alloc).expect(rt, NO_MEMORY);
-    assert_alike(rt, &copy, value);
+    assert_alike(rt, copy, value);
 }
 
 #[test]
@@ -49,6 +49,7 @@ fn texts_of_any_length_are_copied(rt: HostRuntime) {
     for length in LENGTHS {
         let value = Value::Text(long_name(&rt, rt.alloc(), length));
         assert_copied(&rt, rt.alloc(), &value);
+        drop(value);
     }
 }
 
@@ -59,6 +60,8 @@ fn lists_and_structs_of_any_size_are_copied(rt: HostRuntime) {
         assert_copied(&rt, rt.alloc(), &list);
         let record = Value::Struct(parts_of(&rt, rt.alloc(), count, &list));
         assert_copied(&rt, rt.alloc(), &record);
+        drop(list);
+        drop(record);
     }
 }
 
@@ -67,5 +70,6 @@ fn values_of_any_depth_are_copied(rt: HostRuntime) {
     for levels in LEVELS {
         let value = deep_value(&rt, rt.alloc(), levels, 127);
         assert_copied(&rt, rt.alloc(), &value);
+        drop(value);
     }
 }
