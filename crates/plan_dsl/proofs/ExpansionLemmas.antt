@@ -1,6 +1,8 @@
 -- Expansion: of what is written with plans' ops alone, and of lists.
-use Rattle.std.proofs.Common.{◌≡◌, List, [], ◌∷◌, ◌++◌, map, Result, Ok, Err, refl, sym, ap, ◌∙◌, subst}
+use Rattle.std.proofs.Common.{◌≡◌, ◌⊎◌, inl, inr, true, false, ◌&&◌, List, [], ◌∷◌, ◌++◌, map, Result, Ok, Err, refl, sym, ap, ◌∙◌, subst}
 use Rattle.std.specs.List.{Contains}
+use Rattle.std.proofs.lemmas.Bool.{and_parts, and_from}
+use Rattle.plan_types.specs.declared.error.ErrorKind.TheVariants.{InvalidOperation}
 use Rattle.std.proofs.lemmas.List.{append_assoc}
 use Rattle.std.proofs.lemmas.List.Elements.{Contains-append_left, Contains-push}
 use Rattle.plan_types.specs.Schemas.{Name, Columns}
@@ -8,9 +10,9 @@ use Rattle.plan_types.specs.declared.error.ErrorKind.{ErrorKind}
 use Rattle.plan_dsl.specs.Trees.{Trees, node, no_more, more}
 use Rattle.plan_dsl.specs.Ops.{Op, Expression}
 use Rattle.plan_dsl.specs.Refusals.{then_ok, each_ok, with_kinds, joined, lists_joined}
-use Rattle.plan_dsl.specs.Sources.{Source, written, all_written}
+use Rattle.plan_dsl.specs.Sources.{SourceOp, Plain, WildcardOp, ColumnsOp, DtypeColumnOp, IndexColumnOp, NthOp, ExcludeOp, SelectorOp, RootOp, SetOp, RenameOp, Source, written, all_written, is_plain, all_are_plain, unwritten, all_unwritten}
 use Rattle.plan_dsl.specs.Expansion.{markers_in, all_markers_in, repeated_for, plain, all_plain, aliased, expansion, expansions, only_one, predicate_expansion}
-use Rattle.plan_dsl.specs.Laws.{WrittenIsExpanded, ListsAreExpandedApart}
+use Rattle.plan_dsl.specs.Laws.{WrittenIsExpanded, PlainIsWritten, WrittenIsPlain, ListsAreExpandedApart}
 
 -- ---- what is written with plans' ops alone
 
@@ -26,7 +28,7 @@ mutual
       λ i. first i ++ later i
 
 mutual
-  written_is_plain : (tree : Expression) → plain (written tree) ≡ Ok tree
+  pub written_is_plain : (tree : Expression) → plain (written tree) ≡ Ok tree
   written_is_plain (node op children) = ap (λ r. then_ok r (λ inputs. Ok (node op inputs))) (all_written_plain children)
 
   all_written_plain : (trees : Trees Op) → all_plain (all_written trees) ≡ Ok trees
@@ -35,6 +37,66 @@ mutual
       let one = written_is_plain child in
       let later = all_written_plain rest in
       λ i. then_ok (one i) (λ first. then_ok (later i) (λ others. Ok (more first others)))
+
+mutual
+  pub written_has_plain_ops : (tree : Expression) → is_plain (written tree) ≡ true
+  written_has_plain_ops (node op children) = all_have_plain_ops children
+
+  all_have_plain_ops : (trees : Trees Op) → all_are_plain (all_written trees) ≡ true
+  all_have_plain_ops no_more = refl
+  all_have_plain_ops (more child rest) = and_from _ _ (written_has_plain_ops child) (all_have_plain_ops rest)
+
+mutual
+  pub unwritten_written : (tree : Expression) → unwritten (written tree) ≡ tree
+  unwritten_written (node op children) = ap (node op) (all_unwritten_written children)
+
+  all_unwritten_written : (trees : Trees Op) → all_unwritten (all_written trees) ≡ trees
+  all_unwritten_written no_more = refl
+  all_unwritten_written (more child rest) = λ i. more (unwritten_written child i) (all_unwritten_written rest i)
+
+mutual
+  pub plain_is_written : (source : Source) → is_plain source ≡ true → written (unwritten source) ≡ source
+  plain_is_written (node (Plain op) children) h = ap (node (Plain op)) (all_plain_are_written children h)
+  plain_is_written _ h = cc
+
+  all_plain_are_written : (sources : Trees SourceOp) → all_are_plain sources ≡ true → all_written (all_unwritten sources) ≡ sources
+  all_plain_are_written no_more h = refl
+  all_plain_are_written (more child rest) h =
+      let parts = and_parts (is_plain child) (all_are_plain rest) h in
+      λ i. more (plain_is_written child parts.0 i) (all_plain_are_written rest parts.1 i)
+
+-- so it comes to its expression, and all else to none
+pub plain_found : (source : Source) → is_plain source ≡ true → plain source ≡ Ok (unwritten source)
+plain_found source h = ap plain (sym (plain_is_written source h)) ∙ written_is_plain (unwritten source)
+
+all_refused : (first : Result Expression ErrorKind) (rest : Result (Trees Op) ErrorKind) → (first ≡ Err InvalidOperation) ⊎ ((tree : Expression) × (first ≡ Ok tree) × (rest ≡ Err InvalidOperation)) → then_ok first (λ tree. then_ok rest (λ others. Ok (more tree others))) ≡ Err InvalidOperation
+all_refused first rest (inl refused) = ap (λ r. then_ok r (λ tree. then_ok rest (λ others. Ok (more tree others)))) refused
+all_refused first rest (inr (tree, found, refused)) = (λ i. then_ok (found i) (λ tree. then_ok (refused i) (λ others. Ok (more tree others))))
+
+mutual
+  pub others_are_refused : (source : Source) → is_plain source ≡ false → plain source ≡ Err InvalidOperation
+  others_are_refused (node (Plain op) children) h = ap (λ r. then_ok r (λ inputs. Ok (node op inputs))) (all_others_refused children h)
+  others_are_refused (node WildcardOp children) h = refl
+  others_are_refused (node (ColumnsOp names) children) h = refl
+  others_are_refused (node (DtypeColumnOp types) children) h = refl
+  others_are_refused (node (IndexColumnOp places) children) h = refl
+  others_are_refused (node (NthOp place) children) h = refl
+  others_are_refused (node (ExcludeOp excluded) children) h = refl
+  others_are_refused (node SelectorOp children) h = refl
+  others_are_refused (node RootOp children) h = refl
+  others_are_refused (node (SetOp rule) children) h = refl
+  others_are_refused (node (RenameOp renaming) children) h = refl
+
+  all_others_refused : (sources : Trees SourceOp) → all_are_plain sources ≡ false → all_plain sources ≡ Err InvalidOperation
+  all_others_refused no_more h = absurd cc
+  all_others_refused (more child rest) h =
+      elim (is_plain child) as (λ b. is_plain child ≡ b → (b && all_are_plain rest) ≡ false → all_plain (more child rest) ≡ Err InvalidOperation) [ true ↦ λ e later. all_refused (plain child) (all_plain rest) (inr (unwritten child, plain_found child e, all_others_refused rest later)) | false ↦ λ e later. all_refused (plain child) (all_plain rest) (inl (others_are_refused child e)) ] refl h
+
+pub what_is_plain : PlainIsWritten
+what_is_plain source = record { written_so = λ h. plain_is_written source h; found = plain_found source; refused = others_are_refused source }
+
+pub what_is_written : WrittenIsPlain
+what_is_written tree = (written_has_plain_ops tree, unwritten_written tree)
 
 pub written_is_expanded : WrittenIsExpanded
 written_is_expanded keys schema (node op children) =

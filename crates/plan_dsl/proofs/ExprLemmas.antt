@@ -1,15 +1,24 @@
 -- The expressions of a node, as the row that it keeps and as a list.
 use Rattle.std.proofs.Common.{◌≡◌, ◌≢◌, ℕ, suc, Bool, true, false, ◌&&◌, List, [], ◌∷◌, ◌++◌, map, length, refl, sym, ap, ◌∙◌}
-use Rattle.std.proofs.Math.Bool.{and-false}
-use Rattle.std.specs.Global.{Box}
+use Rattle.std.proofs.Math.Bool.{and-true, and-false}
+use Rattle.std.specs.Global.{Box, Vec}
+use Rattle.std.specs.Cmp.Derive.Mapped.{items_map, pointwise-map}
+use Rattle.std.specs.Cmp.Lexicographic.{pointwise}
+use Rattle.std.specs.Hash as fed
 use Rattle.std.specs.Hash.{fed_then}
-use Rattle.std.specs.List.{fold}
+use Rattle.std.specs.List.{fold, list_all}
 use mathlib.Core.Former.{Count}
 use Rattle.plan_dsl.specs.Trees.{node, more, children_from, top_op}
-use Rattle.plan_dsl.specs.Ops.{Op, Expression}
-use Rattle.plan_dsl.specs.Expressions.{tree_of, row_trees, sort_by_op, trees_of}
-use Rattle.plan_dsl.specs.SameExpressions.{same_op, same_tree, same_trees, op_writes, tree_writes, trees_writes}
-use Rattle.plan_dsl.specs.declared.expr.Expr.{Expr, SortBy, SortBy', Row_of-Expr, end_of-Expr, more_of-Expr, items-the_row-Expr, items_hidden-the_row-Expr-0}
+use Rattle.plan_types.specs.Schemas.{Name}
+use Rattle.plan_types.specs.Types.{ty, same_type}
+use Rattle.plan_types.specs.declared.dtype.DataType.{DataType}
+use Rattle.plan_dsl.specs.declared.marker.Excluded.{Excluded}
+use Rattle.plan_dsl.specs.Ops.{Op}
+use Rattle.plan_dsl.specs.Expansion.{all_with_column_put, with_column_put}
+use Rattle.plan_dsl.specs.Expressions.{excluded_of, tree_of, row_trees, sort_by_op, trees_of}
+use Rattle.plan_dsl.specs.SameExpressions.{same_trees, trees_writes}
+use Rattle.plan_dsl.specs.Sources.{is_plain, all_are_plain, excluded_writes, same_excluded, SourceOp, Plain, Source, same_source_op, same_source, source_op_writes, source_writes}
+use Rattle.plan_dsl.specs.declared.expr.Expr.{Expr, DtypeColumn, Exclude, SortBy, SortBy', Row_of-Expr, end_of-Expr, more_of-Expr, items-the_row-Expr, items_hidden-the_row-Expr-0}
 use Rattle.plan_dsl.specs.declared.expr.Exprs.{Exprs}
 use Rattle.plan_dsl.specs.declared.sort_options.SortMultipleOptions.{SortMultipleOptions}
 
@@ -20,38 +29,55 @@ row_children n (more_of-Expr first rest) = ap (more (tree_of first)) (row_childr
 -- ---- one operand and a list, of any kind
 
 -- a tree of an op over one operand and a list
-pub record IsListed (tree : Expression) (op : Op) (first : Expression) (rest : List Expression) : Type 0 where
+pub record IsListed (tree : Source) (op : SourceOp) (first : Source) (rest : List Source) : Type 0 where
   pub is : tree ≡ node op (more first (children_from rest))
 
 -- of a value that keeps a row, over the items of that row
-row_listed : (value : Expr) (op : Op) (first : Expression) (row : (n : Count) × Row_of-Expr n) (items : List Expr) → tree_of value ≡ node op (more first (row_trees row.1)) → items-the_row-Expr row.0 row.1 ≡ items → IsListed (tree_of value) op first (map tree_of items)
+row_listed : (value : Expr) (op : SourceOp) (first : Source) (row : (n : Count) × Row_of-Expr n) (items : List Expr) → tree_of value ≡ node op (more first (row_trees row.1)) → items-the_row-Expr row.0 row.1 ≡ items → IsListed (tree_of value) op first (map tree_of items)
 row_listed value op first row items is shown = record {
   is = is ∙ ap (λ rest. node op (more first rest)) (row_children row.0 row.1 ∙ ap (λ items. children_from (map tree_of items)) shown);
 }
 
 -- one of the same parts
-pub listed_copied : {tree copy : Expression} {op own : Op} {first other : Expression} {rest others : List Expression} → IsListed tree op first rest → IsListed copy own other others → own ≡ op → other ≡ first → others ≡ rest → copy ≡ tree
+pub listed_copied : {tree copy : Source} {op own : SourceOp} {first other : Source} {rest others : List Source} → IsListed tree op first rest → IsListed copy own other others → own ≡ op → other ≡ first → others ≡ rest → copy ≡ tree
 listed_copied listed copied ops firsts rests = copied.is ∙ (λ i. node (ops i) (more (firsts i) (children_from (rests i)))) ∙ sym listed.is
 
 -- compared
-pub listed_compared : {a b : Expression} {op own : Op} {first other : Expression} {rest others : List Expression} {result : Bool} → IsListed a op first rest → IsListed b own other others → true ≡ same_op op own → true ≡ same_tree same_op first other → result ≡ same_trees same_op (children_from rest) (children_from others) → result ≡ same_tree same_op a b
-listed_compared left right ops firsts rests = (λ i. ops i && (firsts i && rests i)) ∙ sym (λ i. same_tree same_op (left.is i) (right.is i))
+pub listed_compared : {a b : Source} {op own : SourceOp} {first other : Source} {rest others : List Source} {result : Bool} → IsListed a op first rest → IsListed b own other others → true ≡ same_source_op op own → true ≡ same_source first other → result ≡ same_trees same_source_op (children_from rest) (children_from others) → result ≡ same_source a b
+listed_compared left right ops firsts rests = (λ i. ops i && (firsts i && rests i)) ∙ sym (λ i. same_source (left.is i) (right.is i))
+
+-- copied with a column in place of markers
+pub listed_put : (name : Name) {tree copy : Source} {op : Op} {own : SourceOp} {first other : Source} {rest others : List Source} → IsListed tree (Plain op) first rest → IsListed copy own other others → own ≡ Plain op → other ≡ with_column_put name first → children_from others ≡ all_with_column_put name (children_from rest) → copy ≡ with_column_put name tree
+listed_put name listed copied ops firsts rests = copied.is ∙ (λ i. node (ops i) (more (firsts i) (rests i))) ∙ sym (ap (with_column_put name) listed.is)
+
+-- and so are all of a list
+pub put_each : (name : Name) (exprs : List Expr) → children_from (map (λ expr. with_column_put name (tree_of expr)) exprs) ≡ all_with_column_put name (children_from (map tree_of exprs))
+put_each name [] = refl
+put_each name (expr ∷ exprs) = ap (more (with_column_put name (tree_of expr))) (put_each name exprs)
+
+-- with plans' ops alone
+each_is_plain : (sources : List Source) → all_are_plain (children_from sources) ≡ list_all is_plain sources
+each_is_plain [] = refl
+each_is_plain (source ∷ sources) = ap (λ b. is_plain source && b) (each_is_plain sources)
+
+pub listed_plain : {tree : Source} {op : Op} {first : Source} {rest : List Source} → IsListed tree (Plain op) first rest → is_plain tree ≡ (is_plain first && list_all is_plain rest)
+listed_plain {tree} {op} {first} {rest} listed = ap is_plain listed.is ∙ ap (λ b. is_plain first && b) (each_is_plain rest)
 
 -- lists of other lengths aren't the same
-pub exprs_apart : (left right : List Expr) → length left ≢ length right → false ≡ same_trees same_op (children_from (map tree_of left)) (children_from (map tree_of right))
+pub exprs_apart : (left right : List Expr) → length left ≢ length right → false ≡ same_trees same_source_op (children_from (map tree_of left)) (children_from (map tree_of right))
 exprs_apart [] [] n = absurd (n refl)
 exprs_apart [] (y ∷ ys) n = refl
 exprs_apart (x ∷ xs) [] n = refl
 exprs_apart (x ∷ xs) (y ∷ ys) n =
-    sym (and-false (same_tree same_op (tree_of x) (tree_of y))) ∙ ap (λ b. same_tree same_op (tree_of x) (tree_of y) && b) (exprs_apart xs ys (λ e. n (ap suc e)))
+    sym (and-false (same_source (tree_of x) (tree_of y))) ∙ ap (λ b. same_source (tree_of x) (tree_of y) && b) (exprs_apart xs ys (λ e. n (ap suc e)))
 
 -- fed to a hasher
-pub listed_fed : {S : Type 0} (write : S → List ℕ → S) (s : S) {t u v : S} {tree : Expression} {op : Op} {first : Expression} {rest : List Expression} → IsListed tree op first rest
-    → t ≡ fold write s (op_writes (top_op tree)) → u ≡ fold write t (tree_writes op_writes first) → v ≡ fold write u (trees_writes op_writes (children_from rest)) → v ≡ fold write s (tree_writes op_writes tree)
+pub listed_fed : {S : Type 0} (write : S → List ℕ → S) (s : S) {t u v : S} {tree : Source} {op : SourceOp} {first : Source} {rest : List Source} → IsListed tree op first rest
+    → t ≡ fold write s (source_op_writes (top_op tree)) → u ≡ fold write t (source_writes first) → v ≡ fold write u (trees_writes source_op_writes (children_from rest)) → v ≡ fold write s (source_writes tree)
 listed_fed write s {t} {u} {v} {tree} {op} {first} {rest} listed own each others =
-    let values = tree_writes op_writes first in
-    let keys = trees_writes op_writes (children_from rest) in
-    fed_then write s t v (op_writes op) (values ++ keys) (own ∙ ap (λ x. fold write s (op_writes (top_op x))) listed.is) (fed_then write t u v values keys each others) ∙ ap (λ x. fold write s (tree_writes op_writes x)) (sym listed.is)
+    let values = source_writes first in
+    let keys = trees_writes source_op_writes (children_from rest) in
+    fed_then write s t v (source_op_writes op) (values ++ keys) (own ∙ ap (λ x. fold write s (source_op_writes (top_op x))) listed.is) (fed_then write t u v values keys each others) ∙ ap (λ x. fold write s (source_writes x)) (sym listed.is)
 
 -- ---- the kinds with a list
 
@@ -59,5 +85,28 @@ abbrev row_of : Expr → (n : Count) × Row_of-Expr n
 row_of (SortBy' p expr _ row options) = (_, row)
 row_of _ = (_, end_of-Expr)
 
-pub sort_by_listed : (value : Expr) (expr : Box Expr) (by : Exprs) (options : SortMultipleOptions) → value ≡ SortBy expr by options → IsListed (tree_of value) (sort_by_op options) (tree_of expr.value) (trees_of by)
-sort_by_listed value expr by options is = row_listed value (sort_by_op options) (tree_of expr.value) (row_of (SortBy expr by options)) by.items.items (ap tree_of is) (items_hidden-the_row-Expr-0 by.items)
+pub sort_by_listed : (value : Expr) (expr : Box Expr) (by : Exprs) (options : SortMultipleOptions) → value ≡ SortBy expr by options → IsListed (tree_of value) (Plain (sort_by_op options)) (tree_of expr.value) (trees_of by)
+sort_by_listed value expr by options is = row_listed value (Plain (sort_by_op options)) (tree_of expr.value) (row_of (SortBy expr by options)) by.items.items (ap tree_of is) (items_hidden-the_row-Expr-0 by.items)
+
+-- ---- markers that hold lists
+
+pub types_compared : {a b : Expr} (types own : Vec DataType) {result : Bool} → a ≡ DtypeColumn types → b ≡ DtypeColumn own → result ≡ pointwise (λ x y. same_type (ty x) (ty y)) types.items own.items → result ≡ same_source (tree_of a) (tree_of b)
+types_compared types own left right compared =
+    compared ∙ sym (pointwise-map ty same_type types.items own.items) ∙ sym (and-true (pointwise same_type (map ty types.items) (map ty own.items))) ∙ sym (λ i. same_source (tree_of (left i)) (tree_of (right i)))
+
+same_excludes : (marker other : Box Expr) (excluded own : Vec Excluded) → same_source (tree_of (Exclude marker excluded)) (tree_of (Exclude other own)) ≡ (pointwise (λ x y. same_excluded (excluded_of x) (excluded_of y)) excluded.items own.items && same_source (tree_of marker.value) (tree_of other.value))
+same_excludes marker other excluded own = λ i. pointwise-map excluded_of same_excluded excluded.items own.items i && and-true (same_source (tree_of marker.value) (tree_of other.value)) i
+
+pub excludes_compared : {a b : Expr} (marker other : Box Expr) (excluded own : Vec Excluded) {result : Bool} → a ≡ Exclude marker excluded → b ≡ Exclude other own → true ≡ pointwise (λ x y. same_excluded (excluded_of x) (excluded_of y)) excluded.items own.items → result ≡ same_source (tree_of marker.value) (tree_of other.value) → result ≡ same_source (tree_of a) (tree_of b)
+excludes_compared marker other excluded own left right lists markers =
+    (λ i. lists i && markers i) ∙ sym (same_excludes marker other excluded own) ∙ sym (λ i. same_source (tree_of (left i)) (tree_of (right i)))
+
+pub excludes_apart : {a b : Expr} (marker other : Box Expr) (excluded own : Vec Excluded) → a ≡ Exclude marker excluded → b ≡ Exclude other own → false ≡ pointwise (λ x y. same_excluded (excluded_of x) (excluded_of y)) excluded.items own.items → false ≡ same_source (tree_of a) (tree_of b)
+excludes_apart marker other excluded own left right lists =
+    (λ i. lists i && same_source (tree_of marker.value) (tree_of other.value)) ∙ sym (same_excludes marker other excluded own) ∙ sym (λ i. same_source (tree_of (left i)) (tree_of (right i)))
+
+pub exclude_fed : {S : Type 0} (write : S → List ℕ → S) (s : S) {t u : S} {expr : Expr} (marker : Box Expr) (excluded : Vec Excluded) → expr ≡ Exclude marker excluded
+    → t ≡ fold write s (fed.u8 16) → u ≡ fold write t (fed.slice (λ x. excluded_writes (excluded_of x)) excluded.items) → u ≡ fold write s (source_op_writes (top_op (tree_of expr)))
+exclude_fed write s {t} {u} marker excluded is own each =
+    fed_then write s t u (fed.u8 16) (fed.slice (λ x. excluded_writes (excluded_of x)) excluded.items) own each
+    ∙ ap (λ x. fold write s (fed.u8 16 ++ x)) (sym (items_map excluded_of excluded_writes excluded.items)) ∙ sym (ap (λ x. fold write s (source_op_writes (top_op (tree_of x)))) is)

@@ -23,7 +23,6 @@ pub mod ResolvingLemmas
 pub mod RuleLemmas
 pub mod RunLemmas
 pub mod SameLemmas
-pub mod SelectorLemmas
 pub mod SortLemmas
 pub mod SignatureLemmas
 pub mod StrictLemmas

@@ -6,8 +6,8 @@ use Rattle.plan_types.specs.declared.error.ErrorKind.{ErrorKind}
 use Rattle.plan_dsl.specs.Registry.{Registry}
 use Rattle.plan_dsl.specs.Trees.{Trees, node, no_more, more, fold_all, child_at, child_of, tree_at}
 use Rattle.plan_dsl.specs.Ops.{Expression}
-use Rattle.plan_dsl.specs.Plans.{PlanKind, ScanKind, SelectKind, HStackKind, FilterKind, SimpleProjectionKind, DropKind, RefusedKind, PlanOp, Named, named, select_op, hstack_op, filter_op, simple_projection_op, drop_op, written_select, written_hstack, written_filter, written_drop, SourcePlan, own_scans, scans_in}
-use Rattle.plan_dsl.specs.Sources.{Source, written}
+use Rattle.plan_dsl.specs.Plans.{PlanKind, ScanKind, SelectKind, HStackKind, FilterKind, SimpleProjectionKind, DropKind, RefusedKind, PlanOp, Named, named, select_op, hstack_op, filter_op, simple_projection_op, drop_op, source_select, source_hstack, source_filter, source_drop, SourcePlan, own_scans, scans_in}
+use Rattle.plan_dsl.specs.Sources.{Source}
 use Rattle.plan_dsl.specs.Refusals.{then_ok, with_kinds}
 use Rattle.plan_dsl.specs.Expansion.{expansions, predicate_expansion}
 use Rattle.plan_dsl.specs.Drops.{drop_leaves}
@@ -18,7 +18,7 @@ use Rattle.plan_dsl.specs.Laws.{UnresolvedIsTold, PlacesStay, ResolvedBreaksNoth
 use Rattle.plan_dsl.proofs.RuleLemmas.{unbroken_kinds}
 use Rattle.plan_dsl.proofs.FrameLemmas.{meaning_has_schema}
 use Rattle.plan_dsl.proofs.DropLemmas.{drop_is_told}
-use Rattle.plan_dsl.proofs.ExpansionLemmas.{all_written_expanded, predicate_written, unexpanded_told, with_kinds_told}
+use Rattle.plan_dsl.proofs.ExpansionLemmas.{unexpanded_told, with_kinds_told}
 
 -- a kind scans what it did
 then_scans : {A K : Type 0} (r : Result A K) (change : A → PlanKind (Named Expression)) (found : PlanKind (Named Expression)) → ((x : A) → own_scans (change x) ≡ []) → then_ok r (λ x. Ok (change x)) ≡ Ok found → own_scans found ≡ []
@@ -66,32 +66,44 @@ module _ (registry : Registry) where
   pub resolved_over : (op : PlanOp Source) (input : SourcePlan) (schema : Columns) → schema_of registry (resolved registry input) ≡ Some schema → resolved registry (node op (more input no_more)) ≡ node (record { kind = resolved_kind (expanded_kind schema op.kind); recorded = op.recorded }) (more (resolved registry input) no_more)
   resolved_over op input schema there = ap (λ s. node (resolved_op op (s ∷ [])) (more (resolved registry input) no_more)) there
 
-  -- the same of a select, of an hstack and of a filter as they are written
-  pub select_resolved : (trees : List Expression) (input : SourcePlan) (schema : Columns) → schema_of registry (resolved registry input) ≡ Some schema → resolved registry (written_select trees input) ≡ node (select_op (map named trees) None) (more (resolved registry input) no_more)
-  select_resolved trees input schema there =
-      resolved_over (select_op (map written trees) None) input schema there
-      ∙ ap (λ r. node (op_of (then_ok r (λ outputs. Ok (SelectKind (map named outputs)))) None) (more (resolved registry input) no_more)) (all_written_expanded [] schema trees)
+  -- a node over it is resolved to what its kind expands to, or is refused
+  pub resolved_as : (op : PlanOp Source) (input : SourcePlan) (schema : Columns) (found : Result (PlanKind (Named Expression)) (List ErrorKind)) → schema_of registry (resolved registry input) ≡ Some schema → expanded_kind schema op.kind ≡ found → resolved registry (node op (more input no_more)) ≡ node (op_of found op.recorded) (more (resolved registry input) no_more)
+  resolved_as op input schema found there is =
+      resolved_over op input schema there ∙ ap (λ r. node (op_of r op.recorded) (more (resolved registry input) no_more)) is
 
-  pub hstack_resolved : (trees : List Expression) (input : SourcePlan) (schema : Columns) → schema_of registry (resolved registry input) ≡ Some schema → resolved registry (written_hstack trees input) ≡ node (hstack_op (map named trees) None) (more (resolved registry input) no_more)
-  hstack_resolved trees input schema there =
-      resolved_over (hstack_op (map written trees) None) input schema there
-      ∙ ap (λ r. node (op_of (then_ok r (λ outputs. Ok (HStackKind (map named outputs)))) None) (more (resolved registry input) no_more)) (all_written_expanded [] schema trees)
+  -- a select, an hstack, a filter and a drop over it
+  pub select_resolved : (sources : List Source) (trees : List Expression) (input : SourcePlan) (schema : Columns) → schema_of registry (resolved registry input) ≡ Some schema → expansions [] schema sources ≡ Ok trees → resolved registry (source_select sources input) ≡ node (select_op (map named trees) None) (more (resolved registry input) no_more)
+  select_resolved sources trees input schema there is =
+      resolved_as (select_op sources None) input schema (Ok (SelectKind (map named trees))) there (ap (λ r. then_ok r (λ outputs. Ok (SelectKind (map named outputs)))) is)
 
-  pub filter_resolved : (tree : Expression) (input : SourcePlan) (schema : Columns) → schema_of registry (resolved registry input) ≡ Some schema → resolved registry (written_filter tree input) ≡ node (filter_op (named tree)) (more (resolved registry input) no_more)
-  filter_resolved tree input schema there =
-      resolved_over (filter_op (written tree)) input schema there
-      ∙ ap (λ r. node (op_of (then_ok (with_kinds r) (λ found. Ok (FilterKind (named found)))) None) (more (resolved registry input) no_more)) (predicate_written schema tree)
+  pub hstack_resolved : (sources : List Source) (trees : List Expression) (input : SourcePlan) (schema : Columns) → schema_of registry (resolved registry input) ≡ Some schema → expansions [] schema sources ≡ Ok trees → resolved registry (source_hstack sources input) ≡ node (hstack_op (map named trees) None) (more (resolved registry input) no_more)
+  hstack_resolved sources trees input schema there is =
+      resolved_as (hstack_op sources None) input schema (Ok (HStackKind (map named trees))) there (ap (λ r. then_ok r (λ outputs. Ok (HStackKind (map named outputs)))) is)
 
-  -- a drop over it is resolved to a simple projection of what it leaves, or is refused
-  pub drop_resolved : (selectors : List Source) (strict : Bool) (input : SourcePlan) (schema columns : Columns) → schema_of registry (resolved registry input) ≡ Some schema → drop_leaves schema selectors strict ≡ Ok columns → resolved registry (written_drop selectors strict input) ≡ node (simple_projection_op columns None) (more (resolved registry input) no_more)
-  drop_resolved selectors strict input schema columns there left =
-      resolved_over (drop_op selectors strict) input schema there
-      ∙ ap (λ r. node (op_of (then_ok r (λ own. Ok (SimpleProjectionKind own))) None) (more (resolved registry input) no_more)) left
+  pub filter_resolved : (source : Source) (tree : Expression) (input : SourcePlan) (schema : Columns) → schema_of registry (resolved registry input) ≡ Some schema → predicate_expansion schema source ≡ Ok tree → resolved registry (source_filter source input) ≡ node (filter_op (named tree)) (more (resolved registry input) no_more)
+  filter_resolved source tree input schema there is =
+      resolved_as (filter_op source) input schema (Ok (FilterKind (named tree))) there (ap (λ r. then_ok (with_kinds r) (λ found. Ok (FilterKind (named found)))) is)
 
-  pub drop_refused : (selectors : List Source) (strict : Bool) (input : SourcePlan) (schema : Columns) (kinds : List ErrorKind) → schema_of registry (resolved registry input) ≡ Some schema → drop_leaves schema selectors strict ≡ Err kinds → resolved registry (written_drop selectors strict input) ≡ node (op_of (Err kinds) None) (more (resolved registry input) no_more)
-  drop_refused selectors strict input schema kinds there refused =
-      resolved_over (drop_op selectors strict) input schema there
-      ∙ ap (λ r. node (op_of (then_ok r (λ own. Ok (SimpleProjectionKind own))) None) (more (resolved registry input) no_more)) refused
+  pub drop_resolved : (selectors : List Source) (strict : Bool) (input : SourcePlan) (schema columns : Columns) → schema_of registry (resolved registry input) ≡ Some schema → drop_leaves schema selectors strict ≡ Ok columns → resolved registry (source_drop selectors strict input) ≡ node (simple_projection_op columns None) (more (resolved registry input) no_more)
+  drop_resolved selectors strict input schema columns there is =
+      resolved_as (drop_op selectors strict) input schema (Ok (SimpleProjectionKind columns)) there (ap (λ r. then_ok r (λ own. Ok (SimpleProjectionKind own))) is)
+
+  -- the same where they are refused
+  pub select_unresolved : (sources : List Source) (input : SourcePlan) (schema : Columns) (kinds : List ErrorKind) → schema_of registry (resolved registry input) ≡ Some schema → expansions [] schema sources ≡ Err kinds → resolved registry (source_select sources input) ≡ node (op_of (Err kinds) None) (more (resolved registry input) no_more)
+  select_unresolved sources input schema kinds there is =
+      resolved_as (select_op sources None) input schema (Err kinds) there (ap (λ r. then_ok r (λ outputs. Ok (SelectKind (map named outputs)))) is)
+
+  pub hstack_unresolved : (sources : List Source) (input : SourcePlan) (schema : Columns) (kinds : List ErrorKind) → schema_of registry (resolved registry input) ≡ Some schema → expansions [] schema sources ≡ Err kinds → resolved registry (source_hstack sources input) ≡ node (op_of (Err kinds) None) (more (resolved registry input) no_more)
+  hstack_unresolved sources input schema kinds there is =
+      resolved_as (hstack_op sources None) input schema (Err kinds) there (ap (λ r. then_ok r (λ outputs. Ok (HStackKind (map named outputs)))) is)
+
+  pub filter_unresolved : (source : Source) (input : SourcePlan) (schema : Columns) (kind : ErrorKind) → schema_of registry (resolved registry input) ≡ Some schema → predicate_expansion schema source ≡ Err kind → resolved registry (source_filter source input) ≡ node (op_of (Err (kind ∷ [])) None) (more (resolved registry input) no_more)
+  filter_unresolved source input schema kind there is =
+      resolved_as (filter_op source) input schema (Err (kind ∷ [])) there (ap (λ r. then_ok (with_kinds r) (λ found. Ok (FilterKind (named found)))) is)
+
+  pub drop_refused : (selectors : List Source) (strict : Bool) (input : SourcePlan) (schema : Columns) (kinds : List ErrorKind) → schema_of registry (resolved registry input) ≡ Some schema → drop_leaves schema selectors strict ≡ Err kinds → resolved registry (source_drop selectors strict input) ≡ node (op_of (Err kinds) None) (more (resolved registry input) no_more)
+  drop_refused selectors strict input schema kinds there is =
+      resolved_as (drop_op selectors strict) input schema (Err kinds) there (ap (λ r. then_ok r (λ own. Ok (SimpleProjectionKind own))) is)
 
   own_scans_stay : (op : PlanOp Source) (inputs : List (Option Columns)) → IsTrue (is_some (plan_rule registry (resolved_op op inputs) inputs)) → own_scans (resolved_op op inputs).kind ≡ own_scans op.kind
   own_scans_stay op inputs h =

@@ -5,7 +5,7 @@
 -- Two steps come with functions, and are none yet: that the inputs of one that goes over its inputs are expanded in place
 -- before all else, and that a struct's field by its number becomes one by its name, before renaming forms are looked at.
 use Rattle.std.specs.Prelude.{List, [], ◌∷◌, ◌++◌, map, Option, Some, None, Bool, true, false, Result, Ok, Err, if◌then◌else◌}
-use Rattle.std.specs.List.{list_all}
+use Rattle.std.specs.List.{flat_map, list_all}
 use Rattle.std.specs.Option.{option_or}
 use Rattle.plan_types.specs.Schemas.{Name, Columns}
 use Rattle.plan_types.specs.declared.error.ErrorKind.{ErrorKind}
@@ -97,6 +97,14 @@ aliased (node (RenameOp renaming) (more source no_more)) = then_ok (plain source
 aliased source = plain source
 
 -- ---- expansion
+
+-- the names of keys: of those that are plain columns
+abbrev pub key_name : Source → List Name
+key_name (node (Plain (ColumnOp name)) no_more) = name ∷ []
+key_name key = []
+
+abbrev pub key_names : List Source → List Name
+key_names keys = flat_map key_name keys
 
 -- what an expression is expanded to
 abbrev pub expansion : List Name → Columns → Source → Result (List Expression) ErrorKind

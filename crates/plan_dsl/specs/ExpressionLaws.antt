@@ -15,16 +15,14 @@ use Rattle.plan_types.specs.Values.{same_value}
 use Rattle.plan_types.specs.ValueLaws.{same_value_exact, same_value_own}
 use Rattle.plan_types.specs.declared.dtype.CastOptions.{CastOptions}
 use Rattle.plan_types.specs.declared.dtype.CastOptions.TheVariants.{Strict, NonStrict, Overflowing}
-use Rattle.plan_dsl.specs.declared.expr.Expr.{Expr}
 use Rattle.plan_dsl.specs.declared.literal.LiteralValue.{LiteralValue}
 use Rattle.plan_dsl.specs.declared.operator.Operator.{Operator}
 use Rattle.plan_dsl.specs.declared.operator.Operator.TheVariants.{Eq, EqValidity, NotEq, NotEqValidity, Lt, LtEq, Gt, GtEq, Plus, Minus, Multiply, Divide, FloorDivide, Modulus, And, Or, Xor, LogicalAnd, LogicalOr}
 use Rattle.plan_dsl.specs.declared.sort_options.SortOptions.{SortOptions}
 use Rattle.plan_dsl.specs.Trees.{Tree, Trees, node, no_more, more}
 use Rattle.plan_dsl.specs.Ops.{Op, ColumnOp, LiteralOp, BinaryOp, CastOp, LenOp, SliceOp, AliasOp, Expression, ExplodeOp, GatherOp, FilterOp, SortOp, SortByOp}
-use Rattle.plan_dsl.specs.Expressions.{tree_of}
 use Rattle.plan_dsl.specs.Literals.{literal_type, literal_value, literal_op}
-use Rattle.plan_dsl.specs.SameExpressions.{operator_rank, same_operator, options_rank, same_options, same_sort, same_flags, same_literal, same_op, same_tree, same_trees, literal_writes, op_writes, tree_writes}
+use Rattle.plan_dsl.specs.SameExpressions.{operator_rank, same_operator, options_rank, same_options, same_sort, same_flags, same_literal, same_op, same_tree, same_trees, literal_writes}
 
 -- operators and ways to cast that compare equal are one
 pub same_operator_exact : (a b : Operator) → same_operator a b ≡ true → a ≡ b
@@ -147,15 +145,3 @@ same_literal_hash a b h =
     let parts = and_parts (same_type (literal_type a) (literal_type b)) (same_value (literal_value a) (literal_value b)) h in
     ap (λ t. literal_writes t (literal_value a)) (same_type_exact (literal_type a) (literal_type b) parts.0)
     ∙ ap (literal_writes (literal_type b)) (same_value_exact (literal_value a) (literal_value b) parts.1)
-
--- ---- expressions
-
-pub same_expression_exact : (t u : Expression) → same_tree same_op t u ≡ true → t ≡ u
-same_expression_exact = same_tree_exact same_op same_op_exact
-
-pub same_expression_is_equivalence : IsEquivalence (on tree_of (same_tree same_op))
-same_expression_is_equivalence = on_equiv tree_of (equivalence_from_exact (same_tree same_op) same_expression_exact (same_tree_own same_op same_op_own))
-
--- equal expressions are hashed alike
-pub same_expression_hash : (a b : Expr) → same_tree same_op (tree_of a) (tree_of b) ≡ true → tree_writes op_writes (tree_of a) ≡ tree_writes op_writes (tree_of b)
-same_expression_hash a b h = ap (tree_writes op_writes) (same_expression_exact (tree_of a) (tree_of b) h)

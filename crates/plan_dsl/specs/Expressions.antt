@@ -1,37 +1,82 @@
--- The tree of an expression.
+-- The trees of expressions and of selectors, as queries write them.
 use Rattle.std.specs.Prelude.{List, map}
 use Rattle.plan_types.specs.Types.{ty}
 use Rattle.plan_dsl.specs.declared.expr.Expr.{Expr, Row_of-Expr, end_of-Expr, more_of-Expr}
+use Rattle.plan_dsl.specs.declared.expr.Expr.TheVariants.{Column, Columns, DtypeColumn, IndexColumn, Literal, BinaryExpr', Cast', Len, Slice', Alias', Explode', Gather', Filter', Sort', SortBy', Wildcard, Exclude', KeepName', Nth, RenameAlias', Selector as Selecting}
 use Rattle.plan_dsl.specs.declared.expr.Exprs.{Exprs}
-use Rattle.plan_dsl.specs.declared.expr.Expr.TheVariants.{Column, Literal, BinaryExpr', Cast', Len, Slice', Alias', Explode', Gather', Filter', Sort', SortBy'}
+use Rattle.plan_dsl.specs.declared.marker.Excluded.{Excluded as ExcludedValue}
+use Rattle.plan_dsl.specs.declared.marker.Excluded.TheVariants.{Name, Dtype}
+use Rattle.plan_dsl.specs.declared.marker.RenameAliasFn.{RenameAliasFn}
+use Rattle.plan_dsl.specs.declared.marker.RenameAliasFn.TheVariants.{Prefix, Suffix, Fixed}
+use Rattle.plan_dsl.specs.declared.selector.Selector.{Selector}
+use Rattle.plan_dsl.specs.declared.selector.Selector.TheVariants.{Root', Add', Sub', ExclusiveOr', Intersect'}
+use Rattle.plan_dsl.specs.declared.selector.Selectors.{Selectors}
 use Rattle.plan_dsl.specs.declared.sort_options.SortMultipleOptions.{SortMultipleOptions}
 use Rattle.plan_dsl.specs.Trees.{Trees, node, no_more, more}
 use Rattle.plan_dsl.specs.Literals.{literal_op}
-use Rattle.plan_dsl.specs.Ops.{Op, ColumnOp, BinaryOp, CastOp, LenOp, SliceOp, AliasOp, Expression, ExplodeOp, GatherOp, FilterOp, SortOp, SortByOp}
+use Rattle.plan_dsl.specs.Ops.{Op, ColumnOp, BinaryOp, CastOp, LenOp, SliceOp, AliasOp, ExplodeOp, GatherOp, FilterOp, SortOp, SortByOp, Expression}
+use Rattle.plan_dsl.specs.Sources.{Excluded, ExcludedName, ExcludedType, Renaming, KeepRoot, AddPrefix, AddSuffix, SetName, Add, Sub, Intersect, ExclusiveOr, SourceOp, Plain, WildcardOp, ColumnsOp, DtypeColumnOp, IndexColumnOp, NthOp, ExcludeOp, SelectorOp, RootOp, RenameOp, Source, unwritten, of_two}
 
 abbrev pub sort_by_op : SortMultipleOptions → Op
 sort_by_op options = SortByOp options.descending.items.value.items options.nulls_last.items.value.items
 
+-- what an exclude leaves out
+abbrev pub excluded_of : ExcludedValue → Excluded
+excluded_of (Name name) = ExcludedName name
+excluded_of (Dtype dtype) = ExcludedType (ty dtype)
+
+-- what a renaming form makes of a name
+abbrev pub renaming_of : RenameAliasFn → Renaming
+renaming_of (Prefix text) = AddPrefix text
+renaming_of (Suffix text) = AddSuffix text
+renaming_of (Fixed text) = SetName text
+
 abbrev mutual
-  pub tree_of : Expr → Expression
-  tree_of (Column name) = node (ColumnOp name) no_more
-  tree_of (Literal value) = node (literal_op value) no_more
-  tree_of (BinaryExpr' p left operator q right) = node (BinaryOp operator) (more (tree_of left) (more (tree_of right) no_more))
-  tree_of (Cast' p expr dtype options) = node (CastOp (ty dtype) options) (more (tree_of expr) no_more)
-  tree_of Len = node LenOp no_more
-  tree_of (Slice' p input q offset r length) = node SliceOp (more (tree_of input) (more (tree_of offset) (more (tree_of length) no_more)))
-  tree_of (Explode' p input) = node ExplodeOp (more (tree_of input) no_more)
-  tree_of (Gather' p expr q idx returns_scalar) = node (GatherOp returns_scalar) (more (tree_of expr) (more (tree_of idx) no_more))
-  tree_of (Filter' p input q by) = node FilterOp (more (tree_of input) (more (tree_of by) no_more))
-  tree_of (Sort' p expr options) = node (SortOp options) (more (tree_of expr) no_more)
-  tree_of (SortBy' p expr shape by sort_options) = node (sort_by_op sort_options) (more (tree_of expr) (row_trees by))
-  tree_of (Alias' p expr name) = node (AliasOp name) (more (tree_of expr) no_more)
+  pub tree_of : Expr → Source
+  tree_of (Column name) = node (Plain (ColumnOp name)) no_more
+  tree_of (Columns names) = node (ColumnsOp names.items) no_more
+  tree_of (DtypeColumn types) = node (DtypeColumnOp (map ty types.items)) no_more
+  tree_of (IndexColumn places) = node (IndexColumnOp places.items) no_more
+  tree_of (Literal value) = node (Plain (literal_op value)) no_more
+  tree_of (BinaryExpr' p left operator q right) = node (Plain (BinaryOp operator)) (more (tree_of left) (more (tree_of right) no_more))
+  tree_of (Cast' p expr dtype options) = node (Plain (CastOp (ty dtype) options)) (more (tree_of expr) no_more)
+  tree_of Len = node (Plain LenOp) no_more
+  tree_of (Slice' p input q offset r length) = node (Plain SliceOp) (more (tree_of input) (more (tree_of offset) (more (tree_of length) no_more)))
+  tree_of (Explode' p input) = node (Plain ExplodeOp) (more (tree_of input) no_more)
+  tree_of (Gather' p expr q idx returns_scalar) = node (Plain (GatherOp returns_scalar)) (more (tree_of expr) (more (tree_of idx) no_more))
+  tree_of (Filter' p input q by) = node (Plain FilterOp) (more (tree_of input) (more (tree_of by) no_more))
+  tree_of (Sort' p expr options) = node (Plain (SortOp options)) (more (tree_of expr) no_more)
+  tree_of (SortBy' p expr shape by sort_options) = node (Plain (sort_by_op sort_options)) (more (tree_of expr) (row_trees by))
+  tree_of (Alias' p expr name) = node (Plain (AliasOp name)) (more (tree_of expr) no_more)
+  tree_of Wildcard = node WildcardOp no_more
+  tree_of (Exclude' p marker excluded) = node (ExcludeOp (map excluded_of excluded.items)) (more (tree_of marker) no_more)
+  tree_of (KeepName' p expr) = node (RenameOp KeepRoot) (more (tree_of expr) no_more)
+  tree_of (Nth place) = node (NthOp place) no_more
+  tree_of (RenameAlias' function p expr) = node (RenameOp (renaming_of function)) (more (tree_of expr) no_more)
+  tree_of (Selecting selector) = node SelectorOp (more (selector_tree selector) no_more)
+
+  pub selector_tree : Selector → Source
+  selector_tree (Root' p expr) = node RootOp (more (tree_of expr) no_more)
+  selector_tree (Add' p first q second) = of_two Add (selector_tree first) (selector_tree second)
+  selector_tree (Sub' p first q second) = of_two Sub (selector_tree first) (selector_tree second)
+  selector_tree (ExclusiveOr' p first q second) = of_two ExclusiveOr (selector_tree first) (selector_tree second)
+  selector_tree (Intersect' p first q second) = of_two Intersect (selector_tree first) (selector_tree second)
 
   -- the trees of a row
-  pub row_trees : {n : _} → Row_of-Expr n → Trees Op
+  pub row_trees : {n : _} → Row_of-Expr n → Trees SourceOp
   row_trees end_of-Expr = no_more
   row_trees (more_of-Expr first rest) = more (tree_of first) (row_trees rest)
 
--- the trees of expressions
-abbrev pub trees_of : Exprs → List Expression
+-- the trees of expressions, and of selectors
+abbrev pub trees_of : Exprs → List Source
 trees_of exprs = map tree_of exprs.items.items
+
+abbrev pub selector_trees : Selectors → List Source
+selector_trees selectors = map selector_tree selectors.items.items
+
+-- the expression of one that has plans' ops alone
+abbrev pub plain_tree : Expr → Expression
+plain_tree expr = unwritten (tree_of expr)
+
+abbrev pub plain_trees : Exprs → List Expression
+plain_trees exprs = map plain_tree exprs.items.items

@@ -8,15 +8,16 @@ use Rattle.plan_types.specs.Values.{Val, IntValue, all_fit}
 use Rattle.plan_types.specs.Outcomes.{Done, Meets}
 use Rattle.plan_types.specs.Frames.{Frame, Row, IsFrame, IsFrameOf}
 use Rattle.plan_types.specs.declared.error.ErrorKind.{ErrorKind}
+use Rattle.plan_types.specs.declared.error.ErrorKind.TheVariants.{InvalidOperation}
 use Rattle.plan_dsl.specs.Registry.{Registry}
 use Rattle.plan_dsl.specs.Ops.{Op, LiteralOp, BinaryOp, Expression}
 use Rattle.plan_dsl.specs.Aliases.{IsCore, core, renamed}
 use Rattle.plan_dsl.specs.Trees.{Trees, node, no_more, more, tree_at}
 use Rattle.plan_dsl.specs.Plans.{Named, PlanKind, RefusedKind, PlanOp, Plan, SourcePlan, scans_in, drop_op}
-use Rattle.plan_dsl.specs.Sources.{Source, written, ColumnsOp, IndexColumnOp, ExcludeOp, same_source}
+use Rattle.plan_dsl.specs.Sources.{Source, written, unwritten, is_plain, ColumnsOp, IndexColumnOp, ExcludeOp, same_source}
 use Rattle.plan_dsl.specs.Refusals.{joined}
 use Rattle.plan_dsl.specs.Markers.{marker_names, names_of_selectors}
-use Rattle.plan_dsl.specs.Expansion.{expansion, expansions}
+use Rattle.plan_dsl.specs.Expansion.{plain, expansion, expansions}
 use Rattle.plan_dsl.specs.Drops.{drop_leaves}
 use Rattle.plan_dsl.specs.Resolving.{resolution, resolved_op, resolved}
 use Rattle.plan_dsl.specs.Typing.{Typed, Ruling, rule, types_of, typed_to, typing, typing_all, kinds_in}
@@ -106,6 +107,19 @@ MeaningHasSchema = (registry : Registry) (tables : List Frame) (plan : Plan) (sc
 -- a simple projection in a frame's own columns gives the frame
 abbrev pub OwnColumnsGiveTheFrame : Type 0
 OwnColumnsGiveTheFrame = (frame : Frame) → IsFrame frame → projected frame.schema (Done frame) ≡ Done frame
+
+-- what has plans' ops alone is the expression that is written so, and comes to it; all else comes to none
+pub record HasPlainOps (source : Source) : Type 0 where
+  pub written_so : is_plain source ≡ true → written (unwritten source) ≡ source
+  pub found : is_plain source ≡ true → plain source ≡ Ok (unwritten source)
+  pub refused : is_plain source ≡ false → plain source ≡ Err InvalidOperation
+
+abbrev pub PlainIsWritten : Type 0
+PlainIsWritten = (source : Source) → HasPlainOps source
+
+-- and what is written so has these alone, and is written of that expression
+abbrev pub WrittenIsPlain : Type 0
+WrittenIsPlain = (tree : Expression) → (is_plain (written tree) ≡ true) × (unwritten (written tree) ≡ tree)
 
 -- an expression that a query writes with plans' ops alone is its own expansion: it alone
 abbrev pub WrittenIsExpanded : Type 0

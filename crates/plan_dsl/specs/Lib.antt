@@ -24,8 +24,6 @@ pub mod Registry
 pub mod Resolving
 pub mod SameExpressions
 pub mod Samples
-pub mod SelectorLaws
-pub mod Selectors
 pub mod Signatures
 pub mod Slices
 pub mod SortLaws
@@ -36,3 +34,4 @@ pub mod StrictRun
 pub mod Strictness
 pub mod Trees
 pub mod Typing
+pub mod ViewLaws

@@ -1,5 +1,5 @@
 -- The tree of a plan.
-use Rattle.std.specs.Prelude.{◌≡◌, ℕ, List, [], ◌∷◌, ◌++◌, map, Option, Some, None, Bool}
+use Rattle.std.specs.Prelude.{◌≡◌, ℕ, List, [], ◌∷◌, ◌++◌, Option, Some, None, Bool}
 use Rattle.std.specs.List.{flat_map}
 use Rattle.plan_types.specs.Schemas.{Columns, columns}
 use Rattle.plan_types.specs.declared.error.ErrorKind.{ErrorKind}
@@ -11,10 +11,9 @@ use Rattle.plan_dsl.specs.declared.plan.ProjectionOptions.{ProjectionOptions}
 use Rattle.plan_dsl.specs.Aliases.{core}
 use Rattle.plan_dsl.specs.Trees.{Tree, node, no_more, more, fold}
 use Rattle.plan_dsl.specs.Ops.{Expression}
-use Rattle.plan_dsl.specs.Expressions.{tree_of, trees_of}
+use Rattle.plan_dsl.specs.Expressions.{tree_of, trees_of, selector_trees}
 use Rattle.plan_dsl.specs.Names.{Label, label_of}
-use Rattle.plan_dsl.specs.Sources.{Source, written}
-use Rattle.plan_dsl.specs.Selectors.{selector_trees}
+use Rattle.plan_dsl.specs.Sources.{Source}
 
 -- an expression of a node, with its name and what that comes from
 pub record Named (E : Type 0) : Type 0 where
@@ -87,34 +86,34 @@ simple_projection_op columns recorded = record { kind = SimpleProjectionKind col
 abbrev pub drop_op : {E : Type 0} → List E → Bool → PlanOp E
 drop_op selectors strict = record { kind = DropKind selectors strict; recorded = None }
 
--- a select, an hstack, a filter and a drop as a query writes them
-abbrev pub written_select : List Expression → SourcePlan → SourcePlan
-written_select trees input = node (select_op (map written trees) None) (more input no_more)
+-- a select, an hstack, a filter and a drop in a query
+abbrev pub source_select : List Source → SourcePlan → SourcePlan
+source_select sources input = node (select_op sources None) (more input no_more)
 
-abbrev pub written_hstack : List Expression → SourcePlan → SourcePlan
-written_hstack trees input = node (hstack_op (map written trees) None) (more input no_more)
+abbrev pub source_hstack : List Source → SourcePlan → SourcePlan
+source_hstack sources input = node (hstack_op sources None) (more input no_more)
 
-abbrev pub written_filter : Expression → SourcePlan → SourcePlan
-written_filter tree input = node (filter_op (written tree)) (more input no_more)
+abbrev pub source_filter : Source → SourcePlan → SourcePlan
+source_filter source input = node (filter_op source) (more input no_more)
 
-abbrev pub written_drop : List Source → Bool → SourcePlan → SourcePlan
-written_drop selectors strict input = node (drop_op selectors strict) (more input no_more)
+abbrev pub source_drop : List Source → Bool → SourcePlan → SourcePlan
+source_drop selectors strict input = node (drop_op selectors strict) (more input no_more)
 
 -- a function over a plan
-abbrev pub written_function : DslFunction → SourcePlan → SourcePlan
-written_function (Drop function) input = written_drop (selector_trees function.to_drop) function.strict input
+abbrev pub source_function : DslFunction → SourcePlan → SourcePlan
+source_function (Drop function) input = source_drop (selector_trees function.to_drop) function.strict input
 
 -- two functions do the same over every plan
 abbrev pub IsSameFunction : DslFunction → DslFunction → Type 0
-IsSameFunction function other = (input : SourcePlan) → written_function function input ≡ written_function other input
+IsSameFunction function other = (input : SourcePlan) → source_function function input ≡ source_function other input
 
 -- the tree of a plan, as it is written
 abbrev pub plan_tree : DslPlan → SourcePlan
 plan_tree (DataFrameScan table schema) = node (scan_op table (columns schema)) no_more
-plan_tree (Select' expr p input options) = written_select (trees_of expr) (plan_tree input)
-plan_tree (HStack' exprs p input options) = written_hstack (trees_of exprs) (plan_tree input)
-plan_tree (Filter' p input predicate) = written_filter (tree_of predicate) (plan_tree input)
-plan_tree (MapFunction' p input function) = written_function function (plan_tree input)
+plan_tree (Select' expr p input options) = source_select (trees_of expr) (plan_tree input)
+plan_tree (HStack' exprs p input options) = source_hstack (trees_of exprs) (plan_tree input)
+plan_tree (Filter' p input predicate) = source_filter (tree_of predicate) (plan_tree input)
+plan_tree (MapFunction' p input function) = source_function function (plan_tree input)
 
 -- a scan of a table: the table's number, and the schema that it is to have
 pub record Scan : Type 0 where

@@ -18,8 +18,8 @@ use Rattle.plan_dsl.specs.declared.operator.Operator.TheVariants.{Eq, EqValidity
 use Rattle.plan_dsl.specs.declared.sort_options.SortOptions.{SortOptions}
 use Rattle.plan_dsl.specs.Trees.{Tree, node, no_more, more, children_from}
 use Rattle.plan_dsl.specs.Ops.{ColumnOp, LiteralOp, BinaryOp, CastOp, Expression, LenOp, SliceOp, AliasOp, ExplodeOp, GatherOp, FilterOp, SortOp, SortByOp}
-use Rattle.plan_dsl.specs.Expressions.{tree_of}
-use Rattle.plan_dsl.specs.Sources.{Excluded, ExcludedName, ExcludedType, SetRule, Renaming, AddPrefix, AddSuffix, SetName, Plain, WildcardOp, ColumnsOp, DtypeColumnOp, IndexColumnOp, NthOp, ExcludeOp, SelectorOp, RootOp, SetOp, RenameOp, Source}
+use Rattle.plan_dsl.specs.Sources.{Excluded, ExcludedName, ExcludedType, Renaming, AddPrefix, AddSuffix, SetName, Plain, WildcardOp, ColumnsOp, DtypeColumnOp, IndexColumnOp, NthOp, ExcludeOp, SelectorOp, RootOp, RenameOp, Source, written}
+use Rattle.plan_dsl.specs.Expressions.{plain_tree}
 use Rattle.plan_dsl.specs.Literals.{is_literal}
 use Rattle.plan_dsl.specs.Typing.{Typed, typing}
 use Rattle.plan_dsl.specs.Operators.{operator_value}
@@ -27,7 +27,7 @@ use Rattle.plan_dsl.specs.OperatorTypes.{Taken, pair_to, operator_types}
 use Rattle.plan_dsl.specs.Meaning.{meaning}
 use Rattle.plan_dsl.specs.Strictness.{as_operand}
 use Rattle.plan_dsl.specs.StrictRun.{strict_run}
-use Rattle.plan_dsl.specs.Plans.{Plan, SourcePlan, PlanOp, named, scan_op, select_op, hstack_op, filter_op, simple_projection_op}
+use Rattle.plan_dsl.specs.Plans.{Plan, SourcePlan, PlanOp, named, scan_op, select_op, hstack_op, filter_op, simple_projection_op, source_select, source_hstack, source_filter}
 use Rattle.plan_dsl.specs.PlanKernels.{Series}
 
 -- ---- tables of cases
@@ -252,8 +252,8 @@ abbrev pub huge : Expression
 huge = literal (pos 18446744073709551616)
 
 -- a literal as it is written
-abbrev pub written : LiteralValue → Expression
-written value = tree_of (Literal value)
+abbrev pub written_literal : LiteralValue → Expression
+written_literal value = plain_tree (Literal value)
 
 abbrev pub binary : Operator → Expression → Expression → Expression
 binary operator left right = node (BinaryOp operator) (more left (more right no_more))
@@ -350,9 +350,6 @@ selecting selector = node SelectorOp (more selector no_more)
 
 abbrev pub root : Source → Source
 root source = node RootOp (more source no_more)
-
-abbrev pub of_both : SetRule → Source → Source → Source
-of_both rule first second = node (SetOp rule) (more first (more second no_more))
 
 -- renaming forms
 abbrev pub form : Renaming → Source → Source
@@ -528,9 +525,15 @@ keep predicate input = node (filter_op (named predicate)) (more input no_more)
 abbrev pub project : Columns → Plan → Plan
 project columns input = node (simple_projection_op columns None) (more input no_more)
 
--- a select of source expressions
-abbrev pub source_select : List Source → SourcePlan → SourcePlan
-source_select sources input = node (select_op sources None) (more input no_more)
+-- a select, an hstack and a filter in a query, with plans' ops alone
+abbrev pub written_select : List Expression → SourcePlan → SourcePlan
+written_select trees input = source_select (map written trees) input
+
+abbrev pub written_hstack : List Expression → SourcePlan → SourcePlan
+written_hstack trees input = source_hstack (map written trees) input
+
+abbrev pub written_filter : Expression → SourcePlan → SourcePlan
+written_filter tree input = source_filter (written tree) input
 
 -- ---- parts of plans
 

@@ -17,12 +17,12 @@ decided test exact own a b = (exact a b, λ e. subst (λ x. test a x ≡ true) e
 types_decided : (a b : Ty) → Decides (same_type a b) (a ≡ b)
 types_decided = decided same_type same_type_exact same_type_own
 
-same_excluded_exact : (a b : Excluded) → same_excluded a b ≡ true → a ≡ b
+pub same_excluded_exact : (a b : Excluded) → same_excluded a b ≡ true → a ≡ b
 same_excluded_exact (ExcludedName name) (ExcludedName other) h = ap ExcludedName ((bytes_eq-Decides name other).0 h)
 same_excluded_exact (ExcludedType type) (ExcludedType other) h = ap ExcludedType (same_type_exact type other h)
 same_excluded_exact _ _ h = cc
 
-same_excluded_own : (a : Excluded) → same_excluded a a ≡ true
+pub same_excluded_own : (a : Excluded) → same_excluded a a ≡ true
 same_excluded_own (ExcludedName name) = (bytes_eq-Decides name name).1 refl
 same_excluded_own (ExcludedType type) = same_type_own type
 
@@ -42,14 +42,14 @@ same_rule_own Sub = refl
 same_rule_own Intersect = refl
 same_rule_own ExclusiveOr = refl
 
-same_renaming_exact : (a b : Renaming) → same_renaming a b ≡ true → a ≡ b
+pub same_renaming_exact : (a b : Renaming) → same_renaming a b ≡ true → a ≡ b
 same_renaming_exact KeepRoot KeepRoot h = refl
 same_renaming_exact (AddPrefix text) (AddPrefix other) h = ap AddPrefix ((bytes_eq-Decides text other).0 h)
 same_renaming_exact (AddSuffix text) (AddSuffix other) h = ap AddSuffix ((bytes_eq-Decides text other).0 h)
 same_renaming_exact (SetName text) (SetName other) h = ap SetName ((bytes_eq-Decides text other).0 h)
 same_renaming_exact _ _ h = cc
 
-same_renaming_own : (a : Renaming) → same_renaming a a ≡ true
+pub same_renaming_own : (a : Renaming) → same_renaming a a ≡ true
 same_renaming_own KeepRoot = refl
 same_renaming_own (AddPrefix text) = (bytes_eq-Decides text text).1 refl
 same_renaming_own (AddSuffix text) = (bytes_eq-Decides text text).1 refl

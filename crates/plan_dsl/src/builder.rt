@@ -2,9 +2,8 @@
 ghost use Rattle.std.specs.Prelude.{◌≡◌, ◌<◌, ◌∷◌, map, vec_len, IfOk, IfErr};
 ghost use Rattle.plan_types.specs.Errors.{no_memory};
 ghost use Rattle.plan_types.specs.Schemas.{columns};
-ghost use Rattle.plan_dsl.specs.Expressions.{tree_of};
-ghost use Rattle.plan_dsl.specs.Plans.{plan_tree, options_in, scan_op, written_drop, written_filter, written_hstack, written_select};
-ghost use Rattle.plan_dsl.specs.Selectors.{selector_tree};
+ghost use Rattle.plan_dsl.specs.Expressions.{selector_tree, tree_of};
+ghost use Rattle.plan_dsl.specs.Plans.{plan_tree, options_in, scan_op, source_drop, source_filter, source_hstack, source_select};
 ghost use Rattle.plan_dsl.specs.Trees.{node, no_more};
 
 use crate::expr::{Expr, Exprs};
@@ -34,7 +33,7 @@ impl DslBuilder {
         exprs: Vec<Expr>,
         options: ProjectionOptions,
     ) -> Result<DslBuilder, PlanError>
-        ensures ok { IfOk result (λ built. plan_tree built.0 ≡ written_select (map tree_of exprs.items) (plan_tree self.0)) }
+        ensures ok { IfOk result (λ built. plan_tree built.0 ≡ source_select (map tree_of exprs.items) (plan_tree self.0)) }
         ensures options { IfOk result (λ built. options_in built.0 ≡ options ∷ options_in self.0) }
         ensures err { IfErr result (λ error. error ≡ no_memory) }
     {
@@ -55,7 +54,7 @@ impl DslBuilder {
         options: ProjectionOptions,
     ) -> Result<DslBuilder, PlanError>
         ensures none { IfOk result (λ built. vec_len exprs ≡ 0 → built ≡ self) }
-        ensures ok { IfOk result (λ built. 0 < vec_len exprs → plan_tree built.0 ≡ written_hstack (map tree_of exprs.items) (plan_tree self.0)) }
+        ensures ok { IfOk result (λ built. 0 < vec_len exprs → plan_tree built.0 ≡ source_hstack (map tree_of exprs.items) (plan_tree self.0)) }
         ensures options { IfOk result (λ built. 0 < vec_len exprs → options_in built.0 ≡ options ∷ options_in self.0) }
         ensures err { IfErr result (λ error. error ≡ no_memory) }
     {
@@ -72,7 +71,7 @@ impl DslBuilder {
 
     /// The rows for which the predicate is true.
     pub fn filter(self, alloc: Global, predicate: Expr) -> Result<DslBuilder, PlanError>
-        ensures ok { IfOk result (λ built. plan_tree built.0 ≡ written_filter (tree_of predicate) (plan_tree self.0)) }
+        ensures ok { IfOk result (λ built. plan_tree built.0 ≡ source_filter (tree_of predicate) (plan_tree self.0)) }
         ensures options { IfOk result (λ built. options_in built.0 ≡ options_in self.0) }
         ensures err { IfErr result (λ error. error ≡ no_memory) }
     {
@@ -87,7 +86,7 @@ impl DslBuilder {
         to_drop: Vec<Selector>,
         strict: bool,
     ) -> Result<DslBuilder, PlanError>
-        ensures ok { IfOk result (λ built. plan_tree built.0 ≡ written_drop (map selector_tree to_drop.items) strict (plan_tree self.0)) }
+        ensures ok { IfOk result (λ built. plan_tree built.0 ≡ source_drop (map selector_tree to_drop.items) strict (plan_tree self.0)) }
         ensures options { IfOk result (λ built. options_in built.0 ≡ options_in self.0) }
         ensures err { IfErr result (λ error. error ≡ no_memory) }
     {

@@ -22,6 +22,7 @@ pub mod resolved;
 pub mod same_expressions;
 pub mod signatures;
 pub mod sorts;
+pub mod sources;
 pub mod strictness;
 pub mod texts_and_times;
 pub mod time_arithmetic;

@@ -1,13 +1,17 @@
 //! Expressions over the columns of a frame.
 ghost use Rattle.std.specs.Prelude.{◌≡◌, IfOk, IfErr};
-ghost use Rattle.std.specs.List.{fold};
+ghost use Rattle.std.specs.List.{fold, list_all};
 ghost use Rattle.plan_dsl.specs.Trees.{children_from, top_op};
 ghost use Rattle.plan_dsl.specs.Expressions.{tree_of, trees_of};
-ghost use Rattle.plan_dsl.specs.SameExpressions.{operator_rank, options_rank, same_op, same_tree, same_trees, op_writes, tree_writes, trees_writes};
+ghost use Rattle.plan_dsl.specs.Expansion.{all_with_column_put, with_column_put};
+ghost use Rattle.plan_dsl.specs.SameExpressions.{operator_rank, options_rank, same_trees, trees_writes};
+ghost use Rattle.plan_dsl.specs.Sources.{is_plain, same_source, same_source_op, source_op_writes, source_writes};
 ghost use Rattle.plan_types.specs.Errors.{no_memory};
 
 use crate::literal::LiteralValue;
+use crate::marker::{Excluded, RenameAliasFn, excluded_copied, names_copied, types_copied};
 use crate::operator::Operator;
+use crate::selector::Selector;
 use crate::sort_options::{SortMultipleOptions, SortOptions};
 use plan_types::dtype::{CastOptions, DataType};
 use plan_types::error::PlanError;
@@ -36,10 +40,37 @@ impl Exprs {
         Ok(Exprs { items })
     }
 
+    // A copy with the column of that name in place of all markers.
+    #[cycle(columns_put)]
+    fn with_column(&self, name: &PlSmallStr, alloc: Global) -> Result<Exprs, PlanError>
+        ensures ok { IfOk result (λ copy. children_from (trees_of copy) ≡ all_with_column_put name.now (children_from (trees_of self.now))) }
+        ensures err { IfErr result (λ error. error ≡ no_memory) }
+    {
+        let mut items = Vec::with_capacity(alloc, self.items.len())?;
+        for expr in self.items.as_slice() {
+            let copy = expr.with_column(name, alloc)?;
+            items.push(copy)?;
+        }
+        Ok(Exprs { items })
+    }
+
+    // Whether none has a marker or a renaming form.
+    #[cycle(plain_exprs)]
+    fn are_plain(&self) -> bool
+        ensures { result ≡ list_all is_plain (trees_of self.now) }
+    {
+        for expr in self.items.as_slice() {
+            if !expr.is_plain() {
+                return false;
+            }
+        }
+        true
+    }
+
     // Whether both have the same expressions, in the same order.
     #[cycle(same_exprs)]
     fn is_same(&self, other: &Exprs) -> bool
-        ensures { result ≡ same_trees same_op (children_from (trees_of self.now)) (children_from (trees_of other.now)) }
+        ensures { result ≡ same_trees same_source_op (children_from (trees_of self.now)) (children_from (trees_of other.now)) }
     {
         let (left, right) = (self.items.as_slice(), other.items.as_slice());
         if left.len() != right.len() {
@@ -56,7 +87,7 @@ impl Exprs {
     // Feeds each expression to the hasher, in order.
     #[cycle(expr_hashes)]
     fn feed<H: Hasher>(&self, state: &mut H)
-        ensures { state.new ≡ fold H.write state.old (trees_writes op_writes (children_from (trees_of self.now))) }
+        ensures { state.new ≡ fold H.write state.old (trees_writes source_op_writes (children_from (trees_of self.now))) }
     {
         for expr in self.items.as_slice() {
             expr.feed(state);
@@ -122,29 +153,59 @@ pub enum Expr {
     },
     /// The same under another name.
     Alias(Box<Expr>, PlSmallStr),
+    /// A marker: the columns of these names, whether they stand or not.
+    Columns(Vec<PlSmallStr>),
+    /// A marker: the columns of one of these types.
+    DtypeColumn(Vec<DataType>),
+    /// A marker: the columns at these places. A number below 0 counts from the end.
+    IndexColumn(Vec<i64>),
+    /// A marker: the column at that place. A number below 0 counts from the end.
+    Nth(i64),
+    /// A marker: all columns.
+    Wildcard,
+    /// A marker: the columns of another marker but some.
+    Exclude(Box<Expr>, Vec<Excluded>),
+    /// A marker: the columns that the selector names.
+    Selector(Selector),
+    /// The same under the name of its first column.
+    KeepName(Box<Expr>),
+    /// The same under a name made of that of its first column.
+    RenameAlias {
+        function: RenameAliasFn,
+        expr: Box<Expr>,
+    },
 }
 
-// A copy of an expression, by its kind: of those that are listed the operands, the fields that are copied, and those
-// that take memory.
+// A copy of an expression, by its kind, whose operands are copied by that call: of those that are listed the operands, a
+// list of operands, the fields that are copied, and those that take memory. What becomes of markers is given.
 macro_rules! copied {
-    ($expr:expr, $alloc:expr, $($kind:ident { $($input:ident),* } [$($copied:ident),*] [$($cloned:ident),*])*) => {
+    (
+        $expr:expr, $alloc:ident, $copy:ident $args:tt, [$($marker:pat => $made:expr),*],
+        $($kind:ident { $($input:ident),* } [$($list:ident),*] [$($copied:ident),*] [$($cloned:ident),*])*
+    ) => {
         match $expr {
+            $($marker => $made,)*
             Expr::Column(name) => Ok(Expr::Column(name.try_clone($alloc)?)),
             Expr::Literal(value) => Ok(Expr::Literal(value.try_clone($alloc)?)),
             Expr::Len => Ok(Expr::Len),
-            $(Expr::$kind { $($input,)* $($copied,)* $($cloned),* } => Ok(Expr::$kind {
-                $($input: Box::new($alloc, $input.try_clone($alloc)?)?,)*
+            $(Expr::$kind { $($input,)* $($list,)* $($copied,)* $($cloned),* } => Ok(Expr::$kind {
+                $($input: Box::new($alloc, $input.$copy $args?)?,)*
+                $($list: $list.$copy $args?,)*
                 $($copied: *$copied,)*
                 $($cloned: $cloned.try_clone($alloc)?),*
             }),)*
             Expr::Explode(input) => {
-                let input = input.try_clone($alloc)?;
+                let input = input.$copy $args?;
                 Ok(Expr::Explode(Box::new($alloc, input)?))
             }
             Expr::Alias(expr, name) => {
-                let expr = Box::new($alloc, expr.try_clone($alloc)?)?;
+                let expr = Box::new($alloc, expr.$copy $args?)?;
                 let name = name.try_clone($alloc)?;
                 Ok(Expr::Alias(expr, name))
+            }
+            Expr::KeepName(expr) => {
+                let expr = expr.$copy $args?;
+                Ok(Expr::KeepName(Box::new($alloc, expr)?))
             }
         }
     };
@@ -157,14 +218,40 @@ macro_rules! compared {
         match ($expr, $other) {
             (Expr::Column(name), Expr::Column(own)) => *name == *own,
             (Expr::Literal(value), Expr::Literal(own)) => value.is_same(own),
-            (Expr::Len, Expr::Len) => true,
+            (Expr::Len, Expr::Len) | (Expr::Wildcard, Expr::Wildcard) => true,
             $((
                 Expr::$kind { $($input,)* $($field),* },
                 Expr::$kind { $($input: $own,)* $($field: $own_field),* },
             ) => $(*$field == *$own_field &&)* $($input.is_same($own))&&*,)*
             (Expr::Explode(input), Expr::Explode(own)) => input.is_same(own),
             (Expr::Alias(expr, name), Expr::Alias(own, own_name)) => *name == *own_name && expr.is_same(own),
+            (Expr::Columns(names), Expr::Columns(own)) => *names == *own,
+            (Expr::DtypeColumn(types), Expr::DtypeColumn(own)) => *types == *own,
+            (Expr::IndexColumn(places), Expr::IndexColumn(own)) => *places == *own,
+            (Expr::Nth(place), Expr::Nth(own)) => *place == *own,
+            (Expr::Exclude(marker, excluded), Expr::Exclude(own, own_excluded)) => {
+                *excluded == *own_excluded && marker.is_same(own)
+            }
+            (Expr::Selector(selector), Expr::Selector(own)) => selector.is_same(own),
+            (Expr::KeepName(expr), Expr::KeepName(own)) => expr.is_same(own),
             _ => false,
+        }
+    };
+}
+
+// Feeds what a node does to the hasher, by its kind: of those that are listed a number of their own, and fields. What is
+// fed of others is given.
+macro_rules! fed_own {
+    (
+        $expr:expr, $state:expr, [$($own:pat => $feed:expr),*],
+        $($kind:pat => $number:literal [$($field:ident),*])*
+    ) => {
+        match $expr {
+            $($own => $feed,)*
+            $($kind => {
+                $state.write_u8($number);
+                $($field.hash($state);)*
+            })*
         }
     };
 }
@@ -173,12 +260,22 @@ macro_rules! compared {
 macro_rules! feed_operands {
     ($expr:expr, $state:expr, $($kind:ident { $($input:ident),* })*) => {
         match $expr {
-            Expr::Column(_) | Expr::Literal(_) | Expr::Len => {}
+            Expr::Column(_)
+            | Expr::Literal(_)
+            | Expr::Len
+            | Expr::Columns(_)
+            | Expr::DtypeColumn(_)
+            | Expr::IndexColumn(_)
+            | Expr::Nth(_)
+            | Expr::Wildcard => {}
             $(Expr::$kind { $($input,)* .. } => {
                 $($input.feed($state);)*
             })*
             Expr::Explode(input) => input.feed($state),
             Expr::Alias(expr, _) => expr.feed($state),
+            Expr::Exclude(marker, _) => marker.feed($state),
+            Expr::Selector(selector) => selector.feed($state),
+            Expr::KeepName(expr) => expr.feed($state),
         }
     };
 }
@@ -189,21 +286,90 @@ impl Expr {
         ensures ok { IfOk result (λ copy. tree_of copy ≡ tree_of self.now) }
         ensures err { IfErr result (λ error. error ≡ no_memory) }
     {
-        copied!(self, alloc,
-            BinaryExpr { left, right } [op] []
-            Cast { expr } [options] [dtype]
-            Slice { input, offset, length } [] []
-            Gather { expr, idx } [returns_scalar] []
-            Filter { input, by } [] []
-            Sort { expr } [options] []
-            SortBy { expr } [] [by, sort_options]
+        copied!(self, alloc, try_clone(alloc), [
+                Expr::Columns(names) => Ok(Expr::Columns(names_copied(names, alloc)?)),
+                Expr::DtypeColumn(types) => Ok(Expr::DtypeColumn(types_copied(types, alloc)?)),
+                Expr::IndexColumn(places) => Ok(Expr::IndexColumn(Vec::from_slice(alloc, places)?)),
+                Expr::Nth(place) => Ok(Expr::Nth(*place)),
+                Expr::Wildcard => Ok(Expr::Wildcard),
+                Expr::Exclude(marker, excluded) => {
+                    let marker = Box::new(alloc, marker.try_clone(alloc)?)?;
+                    Ok(Expr::Exclude(marker, excluded_copied(excluded, alloc)?))
+                },
+                Expr::Selector(selector) => Ok(Expr::Selector(selector.try_clone(alloc)?))
+            ],
+            BinaryExpr { left, right } [] [op] []
+            Cast { expr } [] [options] [dtype]
+            Slice { input, offset, length } [] [] []
+            Gather { expr, idx } [] [returns_scalar] []
+            Filter { input, by } [] [] []
+            Sort { expr } [] [options] []
+            SortBy { expr } [by] [] [sort_options]
+            RenameAlias { expr } [] [] [function]
         )
+    }
+
+    /// A copy with the column of that name in place of all markers.
+    #[cycle(columns_put)]
+    pub fn with_column(&self, name: &PlSmallStr, alloc: Global) -> Result<Expr, PlanError>
+        ensures ok { IfOk result (λ copy. tree_of copy ≡ with_column_put name.now (tree_of self.now)) }
+        ensures err { IfErr result (λ error. error ≡ no_memory) }
+    {
+        copied!(self, alloc, with_column(name, alloc), [
+                Expr::Columns(_)
+                | Expr::DtypeColumn(_)
+                | Expr::IndexColumn(_)
+                | Expr::Nth(_)
+                | Expr::Wildcard
+                | Expr::Exclude(_, _)
+                | Expr::Selector(_) => Ok(Expr::Column(name.try_clone(alloc)?))
+            ],
+            BinaryExpr { left, right } [] [op] []
+            Cast { expr } [] [options] [dtype]
+            Slice { input, offset, length } [] [] []
+            Gather { expr, idx } [] [returns_scalar] []
+            Filter { input, by } [] [] []
+            Sort { expr } [] [options] []
+            SortBy { expr } [by] [] [sort_options]
+            RenameAlias { expr } [] [] [function]
+        )
+    }
+
+    /// Whether it has neither a marker nor a renaming form.
+    #[cycle(plain_exprs)]
+    pub fn is_plain(&self) -> bool
+        ensures { result ≡ is_plain (tree_of self.now) }
+    {
+        match self {
+            Expr::Column(_) | Expr::Literal(_) | Expr::Len => true,
+            Expr::BinaryExpr { left, right, .. } => left.is_plain() && right.is_plain(),
+            Expr::Cast { expr, .. } | Expr::Sort { expr, .. } => expr.is_plain(),
+            Expr::Slice {
+                input,
+                offset,
+                length,
+            } => input.is_plain() && offset.is_plain() && length.is_plain(),
+            Expr::Explode(input) => input.is_plain(),
+            Expr::Gather { expr, idx, .. } => expr.is_plain() && idx.is_plain(),
+            Expr::Filter { input, by } => input.is_plain() && by.is_plain(),
+            Expr::SortBy { expr, by, .. } => expr.is_plain() && by.are_plain(),
+            Expr::Alias(expr, _) => expr.is_plain(),
+            Expr::Columns(_)
+            | Expr::DtypeColumn(_)
+            | Expr::IndexColumn(_)
+            | Expr::Nth(_)
+            | Expr::Wildcard
+            | Expr::Exclude(_, _)
+            | Expr::Selector(_)
+            | Expr::KeepName(_)
+            | Expr::RenameAlias { .. } => false,
+        }
     }
 
     // Whether both are one tree: the same nodes in the same places.
     #[cycle(same_exprs)]
     pub(crate) fn is_same(&self, other: &Expr) -> bool
-        ensures { result ≡ same_tree same_op (tree_of self.now) (tree_of other.now) }
+        ensures { result ≡ same_source (tree_of self.now) (tree_of other.now) }
     {
         compared!(self, other,
             BinaryExpr { left own_left, right own_right } [op own_op]
@@ -213,13 +379,14 @@ impl Expr {
             Filter { input own_input, by own_by } []
             Sort { expr own_expr } [options own_options]
             SortBy { expr own_expr, by own_by } [sort_options own_options]
+            RenameAlias { expr own_expr } [function own_function]
         )
     }
 
     // Feeds each node to the hasher, before its operands.
     #[cycle(expr_hashes)]
     pub(crate) fn feed<H: Hasher>(&self, state: &mut H)
-        ensures { state.new ≡ fold H.write state.old (tree_writes op_writes (tree_of self.now)) }
+        ensures { state.new ≡ fold H.write state.old (source_writes (tree_of self.now)) }
     {
         self.feed_own(state);
         feed_operands!(self, state,
@@ -230,52 +397,45 @@ impl Expr {
             Filter { input, by }
             Sort { expr }
             SortBy { expr, by }
+            RenameAlias { expr }
         )
     }
 
     // Feeds what the node does, without its operands.
     fn feed_own<H: Hasher>(&self, state: &mut H)
-        ensures { state.new ≡ fold H.write state.old (op_writes (top_op (tree_of self.now))) }
+        ensures { state.new ≡ fold H.write state.old (source_op_writes (top_op (tree_of self.now))) }
     {
-        match self {
-            Expr::Column(name) => {
-                state.write_u8(0);
-                name.hash(state);
-            }
-            Expr::Literal(value) => {
-                state.write_u8(1);
-                value.hash(state);
-            }
-            Expr::BinaryExpr { op, .. } => {
-                state.write_u8(2);
-                state.write_u8(operator_rank(*op));
-            }
-            Expr::Cast { dtype, options, .. } => {
-                state.write_u8(3);
-                dtype.hash(state);
-                state.write_u8(options_rank(*options));
-            }
-            Expr::Len => state.write_u8(4),
-            Expr::Slice { .. } => state.write_u8(5),
-            Expr::Explode(_) => state.write_u8(6),
-            Expr::Gather { returns_scalar, .. } => {
-                state.write_u8(7);
-                returns_scalar.hash(state);
-            }
-            Expr::Filter { .. } => state.write_u8(8),
-            Expr::Sort { options, .. } => {
-                state.write_u8(9);
-                options.hash(state);
-            }
-            Expr::Alias(_, name) => {
-                state.write_u8(10);
-                name.hash(state);
-            }
-            Expr::SortBy { sort_options, .. } => {
-                state.write_u8(11);
-                sort_options.hash(state);
-            }
-        }
+        fed_own!(self, state, [
+                Expr::BinaryExpr { op, .. } => {
+                    state.write_u8(2);
+                    state.write_u8(operator_rank(*op));
+                },
+                Expr::Cast { dtype, options, .. } => {
+                    state.write_u8(3);
+                    dtype.hash(state);
+                    state.write_u8(options_rank(*options));
+                },
+                Expr::RenameAlias { function, .. } => function.hash(state)
+            ],
+            Expr::Column(name) => 0 [name]
+            Expr::Literal(value) => 1 [value]
+            Expr::Len => 4 []
+            Expr::Slice { .. } => 5 []
+            Expr::Explode(_) => 6 []
+            Expr::Gather { returns_scalar, .. } => 7 [returns_scalar]
+            Expr::Filter { .. } => 8 []
+            Expr::Sort { options, .. } => 9 [options]
+            Expr::Alias(_, name) => 10 [name]
+            Expr::SortBy { sort_options, .. } => 11 [sort_options]
+            Expr::Columns(names) => 12 [names]
+            Expr::DtypeColumn(types) => 13 [types]
+            Expr::IndexColumn(places) => 14 [places]
+            Expr::Wildcard => 15 []
+            Expr::Exclude(_, excluded) => 16 [excluded]
+            Expr::KeepName(_) => 17 []
+            Expr::Nth(place) => 18 [place]
+            Expr::Selector(_) => 20 []
+        )
     }
 }
 
@@ -296,10 +456,10 @@ fn options_rank(options: CastOptions) -> u8
 impl PartialEq for Expr {
     ghost use Rattle.std.specs.Cmp.{partial_equiv_from_equiv};
     ghost use Rattle.plan_dsl.specs.Expressions.{tree_of};
-    ghost use Rattle.plan_dsl.specs.SameExpressions.{same_op, same_tree};
-    ghost use Rattle.plan_dsl.specs.ExpressionLaws.{same_expression_is_equivalence};
+    ghost use Rattle.plan_dsl.specs.Sources.{same_source};
+    ghost use Rattle.plan_dsl.specs.ViewLaws.{same_expression_is_equivalence};
 
-    ghost eq = { λ a b. same_tree same_op (tree_of a) (tree_of b) };
+    ghost eq = { λ a b. same_source (tree_of a) (tree_of b) };
 
     ghost laws = { partial_equiv_from_equiv same_expression_is_equivalence };
 
@@ -309,17 +469,17 @@ impl PartialEq for Expr {
 }
 
 impl Eq for Expr {
-    ghost use Rattle.plan_dsl.specs.ExpressionLaws.{same_expression_is_equivalence};
+    ghost use Rattle.plan_dsl.specs.ViewLaws.{same_expression_is_equivalence};
 
     ghost laws = { same_expression_is_equivalence };
 }
 
 impl Hash for Expr {
     ghost use Rattle.plan_dsl.specs.Expressions.{tree_of};
-    ghost use Rattle.plan_dsl.specs.SameExpressions.{op_writes, tree_writes};
-    ghost use Rattle.plan_dsl.specs.ExpressionLaws.{same_expression_hash};
+    ghost use Rattle.plan_dsl.specs.Sources.{source_writes};
+    ghost use Rattle.plan_dsl.specs.ViewLaws.{same_expression_hash};
 
-    ghost hash_input = { λ a. tree_writes op_writes (tree_of a) };
+    ghost hash_input = { λ a. source_writes (tree_of a) };
 
     ghost respects_eq = { same_expression_hash };
 
@@ -334,9 +494,10 @@ impl Default for Expr {
     ghost use Rattle.plan_types.specs.Values.{NullValue};
     ghost use Rattle.plan_dsl.specs.Expressions.{tree_of};
     ghost use Rattle.plan_dsl.specs.Ops.{LiteralOp};
+    ghost use Rattle.plan_dsl.specs.Sources.{Plain};
     ghost use Rattle.plan_dsl.specs.Trees.{node, no_more};
 
-    ghost is_default = { λ expr. tree_of expr ≡ node (LiteralOp NullType NullValue) no_more };
+    ghost is_default = { λ expr. tree_of expr ≡ node (Plain (LiteralOp NullType NullValue)) no_more };
 
     /// The literal of no value.
     fn default() -> Self {

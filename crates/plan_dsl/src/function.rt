@@ -1,7 +1,7 @@
 //! Functions from a frame to a frame.
 ghost use Rattle.std.specs.Prelude.{◌≡◌, IfOk, IfErr};
 ghost use Rattle.plan_types.specs.Errors.{no_memory};
-ghost use Rattle.plan_dsl.specs.Selectors.{selector_trees};
+ghost use Rattle.plan_dsl.specs.Expressions.{selector_trees};
 ghost use Rattle.plan_dsl.specs.Plans.{IsSameFunction};
 
 use crate::selector::Selectors;

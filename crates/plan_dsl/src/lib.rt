@@ -7,6 +7,7 @@ pub mod expr;
 pub mod function;
 pub mod laws;
 pub mod literal;
+pub mod marker;
 pub mod operator;
 pub mod plan;
 pub mod plan_laws;

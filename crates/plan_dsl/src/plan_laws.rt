@@ -1,5 +1,5 @@
 //! Laws of plans. The functions do nothing: their clauses are the laws.
-ghost use Rattle.plan_dsl.specs.Laws.{TypedBreaksNothing, RefusalIsBroken, BrokenIsIllFormed, NoSchemaIsBroken, MeaningHasSchema, WrittenIsExpanded, SameSourcesAreOne, ListsAreExpandedApart, MarkersNameOnce, SelectorsNameOnce, UnresolvedIsTold, PlacesStay, ResolvedBreaksNothing, NothingIsToldAboveARefusal, ScansStay, QueryHasSchema, OwnColumnsGiveTheFrame, DropsHaveSchemas};
+ghost use Rattle.plan_dsl.specs.Laws.{TypedBreaksNothing, RefusalIsBroken, BrokenIsIllFormed, NoSchemaIsBroken, MeaningHasSchema, WrittenIsExpanded, PlainIsWritten, WrittenIsPlain, SameSourcesAreOne, ListsAreExpandedApart, MarkersNameOnce, SelectorsNameOnce, UnresolvedIsTold, PlacesStay, ResolvedBreaksNothing, NothingIsToldAboveARefusal, ScansStay, QueryHasSchema, OwnColumnsGiveTheFrame, DropsHaveSchemas};
 
 /// What is typed breaks no rule, what is refused breaks the rule that the refusal names, and a plan in
 /// which a rule is broken at some place is not well formed. A node without a schema, whose inputs have one,
@@ -30,10 +30,13 @@ pub fn expansion_laws()
     ensures told { UnresolvedIsTold }
 {}
 
-/// An expression with nothing to expand is its own expansion. A query's plan keeps its places when it is resolved. A
+/// What has plans' ops alone is the expression that is written so, and no other source expression is one. An expression
+/// with nothing to expand is its own expansion. A query's plan keeps its places when it is resolved. A
 /// node of it that has a schema breaks no rule, and one over an input without schema has none and breaks none. A
 /// well-formed query scans the same tables, and means on them a frame of its schema, or a data fault.
 pub fn query_laws()
+    ensures plain { PlainIsWritten }
+    ensures writing { WrittenIsPlain }
     ensures written { WrittenIsExpanded }
     ensures places { PlacesStay }
     ensures resolved { ResolvedBreaksNothing }

@@ -2,9 +2,8 @@
 ghost use Rattle.std.specs.Prelude.{◌≡◌, map, IfOk, IfErr};
 ghost use Rattle.std.specs.List.{fold};
 ghost use Rattle.plan_types.specs.Errors.{no_memory};
-ghost use Rattle.plan_dsl.specs.SameExpressions.{tree_writes};
-ghost use Rattle.plan_dsl.specs.Sources.{same_source};
-ghost use Rattle.plan_dsl.specs.Selectors.{selector_tree, selector_trees, source_op_writes};
+ghost use Rattle.plan_dsl.specs.Expressions.{selector_tree, selector_trees};
+ghost use Rattle.plan_dsl.specs.Sources.{same_source, source_writes};
 
 use crate::expr::Expr;
 use plan_types::error::PlanError;
@@ -34,8 +33,9 @@ impl Selectors {
 /// A selector, which makes a list of names. Contracts see its tree. Two selectors are equal where these are, and each
 /// node is hashed.
 #[derive(Drop)]
+#[cycle(expr)]
 pub enum Selector {
-    /// The name of a column.
+    /// The names of a column or a marker.
     Root(Box<Expr>),
     /// The names of the first, and then those that are new in the second.
     Add(Box<Selector>, Box<Selector>),
@@ -95,6 +95,7 @@ macro_rules! fed {
 }
 
 impl Selector {
+    #[cycle(expr_copies)]
     pub fn try_clone(&self, alloc: Global) -> Result<Selector, PlanError>
         ensures ok { IfOk result (λ copy. selector_tree copy ≡ selector_tree self.now) }
         ensures err { IfErr result (λ error. error ≡ no_memory) }
@@ -103,15 +104,17 @@ impl Selector {
     }
 
     // Whether both are one tree: the same nodes in the same places.
-    fn is_same(&self, other: &Selector) -> bool
+    #[cycle(same_exprs)]
+    pub(crate) fn is_same(&self, other: &Selector) -> bool
         ensures { result ≡ same_source (selector_tree self.now) (selector_tree other.now) }
     {
         compared!(self, other, Add Sub ExclusiveOr Intersect)
     }
 
     // Feeds each node to the hasher, before those below it.
-    fn feed<H: Hasher>(&self, state: &mut H)
-        ensures { state.new ≡ fold H.write state.old (tree_writes source_op_writes (selector_tree self.now)) }
+    #[cycle(expr_hashes)]
+    pub(crate) fn feed<H: Hasher>(&self, state: &mut H)
+        ensures { state.new ≡ fold H.write state.old (source_writes (selector_tree self.now)) }
     {
         fed!(self, state, Add 1 Sub 2 ExclusiveOr 3 Intersect 4);
     }
@@ -120,8 +123,8 @@ impl Selector {
 impl PartialEq for Selector {
     ghost use Rattle.std.specs.Cmp.{partial_equiv_from_equiv};
     ghost use Rattle.plan_dsl.specs.Sources.{same_source};
-    ghost use Rattle.plan_dsl.specs.Selectors.{selector_tree};
-    ghost use Rattle.plan_dsl.specs.SelectorLaws.{same_selector_is_equivalence};
+    ghost use Rattle.plan_dsl.specs.Expressions.{selector_tree};
+    ghost use Rattle.plan_dsl.specs.ViewLaws.{same_selector_is_equivalence};
 
     ghost eq = { λ a b. same_source (selector_tree a) (selector_tree b) };
 
@@ -133,17 +136,17 @@ impl PartialEq for Selector {
 }
 
 impl Eq for Selector {
-    ghost use Rattle.plan_dsl.specs.SelectorLaws.{same_selector_is_equivalence};
+    ghost use Rattle.plan_dsl.specs.ViewLaws.{same_selector_is_equivalence};
 
     ghost laws = { same_selector_is_equivalence };
 }
 
 impl Hash for Selector {
-    ghost use Rattle.plan_dsl.specs.SameExpressions.{tree_writes};
-    ghost use Rattle.plan_dsl.specs.Selectors.{selector_tree, source_op_writes};
-    ghost use Rattle.plan_dsl.specs.SelectorLaws.{same_selector_hash};
+    ghost use Rattle.plan_dsl.specs.Expressions.{selector_tree};
+    ghost use Rattle.plan_dsl.specs.Sources.{source_writes};
+    ghost use Rattle.plan_dsl.specs.ViewLaws.{same_selector_hash};
 
-    ghost hash_input = { λ a. tree_writes source_op_writes (selector_tree a) };
+    ghost hash_input = { λ a. source_writes (selector_tree a) };
 
     ghost respects_eq = { same_selector_hash };
 

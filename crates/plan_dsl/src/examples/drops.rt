@@ -11,15 +11,15 @@ ghost use Rattle.plan_types.specs.declared.error.ErrorKind.{ErrorKind};
 ghost use Rattle.plan_types.specs.declared.error.ErrorKind.TheVariants.{ColumnNotFound, Duplicate, SchemaMismatch, InvalidOperation};
 ghost use Rattle.plan_dsl.specs.Trees.{node, no_more, more};
 ghost use Rattle.plan_dsl.specs.Ops.{Expression};
-ghost use Rattle.plan_dsl.specs.Plans.{SimpleProjectionKind, DropKind, RefusedKind, PlanOp, Named, expressions_of, simple_projection_op, drop_op, written_select, written_drop, scans_in};
-ghost use Rattle.plan_dsl.specs.Sources.{written, Sub};
+ghost use Rattle.plan_dsl.specs.Plans.{SimpleProjectionKind, DropKind, RefusedKind, PlanOp, Named, expressions_of, simple_projection_op, drop_op, source_drop, scans_in};
+ghost use Rattle.plan_dsl.specs.Sources.{written, Sub, of_two};
 ghost use Rattle.plan_dsl.specs.Drops.{have_names, columns_but, left_but, drop_leaves};
 ghost use Rattle.plan_dsl.specs.PlanRules.{stands_in, broken_kinds, plan_rule, schema_of, IsWellFormed, Breaks};
 ghost use Rattle.plan_dsl.specs.PlanKernels.{row_in, plan_kernel};
 ghost use Rattle.plan_dsl.specs.PlanMeaning.{by_meaning, source_meaning, FitsPlan};
 ghost use Rattle.plan_dsl.specs.Resolving.{resolution, resolved};
 ghost use Rattle.plan_dsl.specs.Counts.{cast_count, node_count};
-ghost use Rattle.plan_dsl.specs.Samples.{Gives, GivesOfTwo, GivesAll, int8, int16, int32, null, number, text, column, a, b, c, one, cast_as, all_names, all, columns_named, columns_of_type, nth, root, of_both, frame_with, table, schema_ab, schema_abc, numbers_and_texts, scan, select, project};
+ghost use Rattle.plan_dsl.specs.Samples.{Gives, GivesOfTwo, GivesAll, int8, int16, int32, null, number, text, column, a, b, c, one, cast_as, all_names, all, columns_named, columns_of_type, nth, root, frame_with, table, schema_ab, schema_abc, numbers_and_texts, scan, select, project, written_select};
 
 /// A drop leaves the columns that its selectors don't name, in order, whether it is strict or not.
 pub fn columns_that_are_left()
@@ -32,7 +32,7 @@ pub fn columns_that_are_left()
         (root (columns_of_type int8) ∷ [], both ((codes "c", TextType) ∷ [])) ∷
         (root (columns_of_type int16) ∷ [], both schema_abc) ∷
         (root (nth (neg_ℤ (pos 1))) ∷ [], both ((codes "a", int8) ∷ (codes "b", int8) ∷ [])) ∷
-        (of_both Sub (root all) (root (written b)) ∷ [], both ((codes "b", int8) ∷ [])) ∷
+        (of_two Sub (root all) (root (written b)) ∷ [], both ((codes "b", int8) ∷ [])) ∷
         (root all ∷ [], both []) ∷ []) }
     ensures absent { GivesOfTwo (drop_leaves schema_abc) (
         (root (written (column "z")) ∷ [], true, Err (ColumnNotFound ∷ [])) ∷
@@ -71,35 +71,35 @@ pub fn drops_that_are_resolved()
         (DropKind (root (written one) ∷ []) true, None ∷ [], Err []) ∷
         (SimpleProjectionKind schema_ab, Some schema_abc ∷ [], Ok (SimpleProjectionKind schema_ab)) ∷ []) }
     ensures plans { let left = (codes "a", int8) ∷ (codes "c", TextType) ∷ [] in
-        resolved [] (written_drop (root (written b) ∷ []) true (scan schema_abc)) ≡ project left (scan schema_abc) }
-    ensures refused { resolved [] (written_drop (root (written (column "z")) ∷ []) true (scan schema_abc))
+        resolved [] (source_drop (root (written b) ∷ []) true (scan schema_abc)) ≡ project left (scan schema_abc) }
+    ensures refused { resolved [] (source_drop (root (written (column "z")) ∷ []) true (scan schema_abc))
         ≡ node (record { kind = RefusedKind (ColumnNotFound ∷ []); recorded = None }) (more (scan schema_abc) no_more) }
     ensures schemas { Gives (λ query. schema_of [] (resolved [] query)) (
-        (written_drop (root (written b) ∷ []) true (scan schema_abc), Some ((codes "a", int8) ∷ (codes "c", TextType) ∷ [])) ∷
-        (written_drop (root (nth (pos 0)) ∷ []) true (written_drop (root (written b) ∷ []) false (scan schema_abc)), Some ((codes "c", TextType) ∷ [])) ∷
-        (written_drop (root all ∷ []) true (scan schema_abc), Some []) ∷
-        (written_drop (root all ∷ []) true (written_drop (root all ∷ []) true (scan schema_abc)), Some []) ∷
-        (written_drop (root (written (column "z")) ∷ []) false (scan schema_abc), Some schema_abc) ∷
-        (written_drop (root (written (column "z")) ∷ []) true (scan schema_abc), None) ∷
-        (written_drop [] false (written_drop (root (written one) ∷ []) false (scan schema_abc)), None) ∷ []) }
-    ensures broken { let below = written_drop (root (written one) ∷ root (nth (pos 3)) ∷ []) true (scan schema_abc) in
-        let query = resolved [] (written_drop (root (written one) ∷ []) true below) in
+        (source_drop (root (written b) ∷ []) true (scan schema_abc), Some ((codes "a", int8) ∷ (codes "c", TextType) ∷ [])) ∷
+        (source_drop (root (nth (pos 0)) ∷ []) true (source_drop (root (written b) ∷ []) false (scan schema_abc)), Some ((codes "c", TextType) ∷ [])) ∷
+        (source_drop (root all ∷ []) true (scan schema_abc), Some []) ∷
+        (source_drop (root all ∷ []) true (source_drop (root all ∷ []) true (scan schema_abc)), Some []) ∷
+        (source_drop (root (written (column "z")) ∷ []) false (scan schema_abc), Some schema_abc) ∷
+        (source_drop (root (written (column "z")) ∷ []) true (scan schema_abc), None) ∷
+        (source_drop [] false (source_drop (root (written one) ∷ []) false (scan schema_abc)), None) ∷ []) }
+    ensures broken { let below = source_drop (root (written one) ∷ root (nth (pos 3)) ∷ []) true (scan schema_abc) in
+        let query = resolved [] (source_drop (root (written one) ∷ []) true below) in
         Breaks [] InvalidOperation (0 ∷ []) query × Breaks [] ColumnNotFound (0 ∷ []) query × ¬ (Breaks [] InvalidOperation [] query) × ¬ (IsWellFormed [] query) }
-    ensures well_formed { IsWellFormed [] (resolved [] (written_drop (root (written b) ∷ []) true (written_select (b ∷ a ∷ []) (scan schema_ab)))) }
+    ensures well_formed { IsWellFormed [] (resolved [] (source_drop (root (written b) ∷ []) true (written_select (b ∷ a ∷ []) (scan schema_ab)))) }
 {}
 
 /// What queries' drops mean: rows without the columns, or none where no column is left, even over an input that faults.
 pub fn frames_of_drops()
-    ensures frames { Gives (λ selectors. source_meaning [] (numbers_and_texts ∷ []) (resolved [] (written_drop selectors true (scan schema_abc)))) (
+    ensures frames { Gives (λ selectors. source_meaning [] (numbers_and_texts ∷ []) (resolved [] (source_drop selectors true (scan schema_abc)))) (
         (root (written b) ∷ [], Done (frame_with ((codes "a", int8) ∷ (codes "c", TextType) ∷ []) ((number 1 ∷ text "x" ∷ []) ∷ (null ∷ null ∷ []) ∷ []))) ∷
         (root (columns_named ("c" ∷ "a" ∷ [])) ∷ [], Done (frame_with ((codes "b", int8) ∷ []) ((number 2 ∷ []) ∷ (number 4 ∷ []) ∷ []))) ∷
         ([], Done numbers_and_texts) ∷
         (root all ∷ [], Done empty_frame) ∷
         (root (written (column "z")) ∷ [], Stuck) ∷ []) }
-    ensures passed_over { source_meaning [] (numbers_and_texts ∷ []) (resolved [] (written_drop (root (columns_named ("z" ∷ "b" ∷ "a" ∷ [])) ∷ []) false (scan schema_abc)))
+    ensures passed_over { source_meaning [] (numbers_and_texts ∷ []) (resolved [] (source_drop (root (columns_named ("z" ∷ "b" ∷ "a" ∷ [])) ∷ []) false (scan schema_abc)))
         ≡ Done (frame_with ((codes "c", TextType) ∷ []) ((text "x" ∷ []) ∷ (null ∷ []) ∷ [])) }
     ensures over_faults { let faults = written_select (a ∷ cast_as Strict int8 b ∷ []) (scan schema_ab) in
-        Gives (λ selectors. source_meaning [] (table ∷ []) (resolved [] (written_drop selectors true faults))) (
+        Gives (λ selectors. source_meaning [] (table ∷ []) (resolved [] (source_drop selectors true faults))) (
         (root (written b) ∷ [], Fault) ∷ ([], Fault) ∷ (root all ∷ [], Done empty_frame) ∷ (root (written b) ∷ root (written a) ∷ [], Done empty_frame) ∷ []) }
 {}
 
@@ -146,7 +146,7 @@ pub fn drops_in_plans()
 
 /// Neither a drop nor a simple projection has expressions that are typed or tables of its own.
 pub fn parts_of_drops()
-    ensures trees { written_drop (root all ∷ []) true (scan schema_ab) ≡ node (record { kind = DropKind (root all ∷ []) true; recorded = None }) (more (scan schema_ab) no_more) }
+    ensures trees { source_drop (root all ∷ []) true (scan schema_ab) ≡ node (record { kind = DropKind (root all ∷ []) true; recorded = None }) (more (scan schema_ab) no_more) }
     ensures expressions { GivesAll (expressions_of {E = Named Expression}) [] (SimpleProjectionKind schema_ab ∷ DropKind [] true ∷ []) }
     ensures casts { cast_count (project [] (select (cast_as Strict int8 b ∷ []) (scan schema_ab))) ≡ 1 }
     ensures nodes { node_count (project [] (project schema_ab (scan schema_ab))) ≡ 3 }

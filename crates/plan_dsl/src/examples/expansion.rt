@@ -6,10 +6,10 @@ ghost use Rattle.plan_types.specs.declared.error.ErrorKind.TheVariants.{ColumnNo
 ghost use Rattle.plan_dsl.specs.Trees.{node, no_more, more};
 ghost use Rattle.plan_dsl.specs.Names.{name_of};
 ghost use Rattle.plan_dsl.specs.Refusals.{joined};
-ghost use Rattle.plan_dsl.specs.Sources.{written, ExcludedName, ExcludedType, KeepRoot, AddPrefix, AddSuffix, SetName, Add, Sub, Intersect, ExclusiveOr, WildcardOp, SetOp, same_source};
+ghost use Rattle.plan_dsl.specs.Sources.{written, ExcludedName, ExcludedType, KeepRoot, AddPrefix, AddSuffix, SetName, Add, Sub, Intersect, ExclusiveOr, WildcardOp, SetOp, same_source, of_two};
 ghost use Rattle.plan_dsl.specs.Markers.{without, once, set_of, marker_names, names_of_selectors};
 ghost use Rattle.plan_dsl.specs.Expansion.{markers_in, root_name, name_given, expansion, expansions, predicate_expansion};
-ghost use Rattle.plan_dsl.specs.Samples.{Gives, GivesAll, GivesOfTwo, int8, int16, a, b, c, x, one, five, below, count, sum, equal, alias, column, slice, schema_abc, all_names, these, all, columns_named, columns_of_type, columns_at, nth, but, but_named, but_of_type, selecting, root, of_both, form, prefix, suffix, fixed, plus, equals, source_alias};
+ghost use Rattle.plan_dsl.specs.Samples.{Gives, GivesAll, GivesOfTwo, int8, int16, a, b, c, x, one, five, below, count, sum, equal, alias, column, slice, schema_abc, all_names, these, all, columns_named, columns_of_type, columns_at, nth, but, but_named, but_of_type, selecting, root, form, prefix, suffix, fixed, plus, equals, source_alias};
 
 /// Lists of names: without others, each once, and one of two.
 pub fn lists_of_names()
@@ -79,17 +79,17 @@ pub fn names_of_excludes()
 
 /// Selectors make one list of names of two, each once, at its first place.
 pub fn names_of_selectors_by_rule()
-    ensures rules { Gives (λ rule. marker_names [] schema_abc (selecting (of_both rule (root (columns_named ("c" ∷ "a" ∷ "c" ∷ []))) (root (columns_named ("b" ∷ "a" ∷ "b" ∷ [])))))) (
+    ensures rules { Gives (λ rule. marker_names [] schema_abc (selecting (of_two rule (root (columns_named ("c" ∷ "a" ∷ "c" ∷ []))) (root (columns_named ("b" ∷ "a" ∷ "b" ∷ [])))))) (
         (Add, these ("c" ∷ "a" ∷ "b" ∷ [])) ∷
         (Sub, these ("c" ∷ [])) ∷
         (Intersect, these ("a" ∷ [])) ∷
         (ExclusiveOr, these ("c" ∷ "b" ∷ [])) ∷ []) }
-    ensures of_all { Gives (λ rule. marker_names [] schema_abc (selecting (of_both rule (root all) (root (written b))))) (
+    ensures of_all { Gives (λ rule. marker_names [] schema_abc (selecting (of_two rule (root all) (root (written b))))) (
         (Add, these ("a" ∷ "b" ∷ "c" ∷ [])) ∷
         (Sub, these ("a" ∷ "c" ∷ [])) ∷
         (Intersect, these ("b" ∷ [])) ∷
         (ExclusiveOr, these ("a" ∷ "c" ∷ [])) ∷ []) }
-    ensures from_the_right { Gives (λ rule. marker_names [] schema_abc (selecting (of_both rule (root (written b)) (root all)))) (
+    ensures from_the_right { Gives (λ rule. marker_names [] schema_abc (selecting (of_two rule (root (written b)) (root all)))) (
         (Add, these ("b" ∷ "a" ∷ "c" ∷ [])) ∷
         (Sub, these []) ∷
         (Intersect, these ("b" ∷ [])) ∷
@@ -103,7 +103,7 @@ pub fn names_of_selectors_by_rule()
     ensures refused { GivesAll (λ source. marker_names [] schema_abc (selecting (root source))) (Err InvalidOperation) (
         written one ∷ written (sum a b) ∷ written (alias "x" a) ∷ plus all all ∷ form KeepRoot all ∷ root all ∷ []) }
     ensures no_selectors { GivesAll (λ selector. marker_names [] schema_abc (selecting selector)) (Err InvalidOperation) (
-        all ∷ written a ∷ of_both Add (root all) all ∷ of_both Add (written a) (root all) ∷ node (SetOp Add) (more (root all) no_more) ∷ []) }
+        all ∷ written a ∷ of_two Add (root all) all ∷ of_two Add (written a) (root all) ∷ node (SetOp Add) (more (root all) no_more) ∷ []) }
 {}
 
 /// Names of several selectors are joined, each once. All that are refused tell their kinds.
@@ -112,10 +112,10 @@ pub fn names_of_many_selectors()
         ([], Ok []) ∷
         (root (written c) ∷ root all ∷ [], Ok (all_names ("c" ∷ "a" ∷ "b" ∷ []))) ∷
         (root (written (column "z")) ∷ root (columns_named ("z" ∷ "y" ∷ [])) ∷ [], Ok (all_names ("z" ∷ "y" ∷ []))) ∷
-        (of_both Sub (root all) (root (written a)) ∷ root (written a) ∷ [], Ok (all_names ("b" ∷ "c" ∷ "a" ∷ []))) ∷ []) }
+        (of_two Sub (root all) (root (written a)) ∷ root (written a) ∷ [], Ok (all_names ("b" ∷ "c" ∷ "a" ∷ []))) ∷ []) }
     ensures refused { Gives (names_of_selectors schema_abc) (
         (root (nth (pos 3)) ∷ root all ∷ root (written one) ∷ [], Err (ColumnNotFound ∷ InvalidOperation ∷ [])) ∷
-        (of_both Add (root (nth (pos 3))) (root (written one)) ∷ [], Err (ColumnNotFound ∷ [])) ∷ []) }
+        (of_two Add (root (nth (pos 3))) (root (written one)) ∷ [], Err (ColumnNotFound ∷ [])) ∷ []) }
 {}
 
 /// Keys of a group_by are left out of markers, but not of written names and places.
@@ -139,13 +139,13 @@ pub fn names_beside_keys()
 pub fn markers_that_are_one()
     ensures same { GivesAll (λ source. same_source source source) true (
         all ∷ columns_named ("a" ∷ "b" ∷ []) ∷ columns_of_type int8 ∷ columns_at (pos 1 ∷ neg_ℤ (pos 1) ∷ []) ∷ nth (neg_ℤ (pos 2)) ∷ but (ExcludedName (codes "a") ∷ ExcludedType int8 ∷ []) all ∷
-        selecting (of_both ExclusiveOr (root all) (root (written a))) ∷ prefix "p" (written a) ∷ suffix "p" all ∷ fixed "p" all ∷ form KeepRoot all ∷ written (sum a one) ∷ []) }
+        selecting (of_two ExclusiveOr (root all) (root (written a))) ∷ prefix "p" (written a) ∷ suffix "p" all ∷ fixed "p" all ∷ form KeepRoot all ∷ written (sum a one) ∷ []) }
     ensures others { GivesOfTwo same_source (
         (all, columns_named ("a" ∷ "b" ∷ "c" ∷ []), false) ∷ (nth (pos 0), columns_at (pos 0 ∷ []), false) ∷ (nth (pos 2), nth (neg_ℤ (pos 1)), false) ∷
         (columns_named ("a" ∷ "b" ∷ []), columns_named ("b" ∷ "a" ∷ []), false) ∷ (columns_named ("a" ∷ []), columns_named ("a" ∷ "a" ∷ []), false) ∷
         (columns_of_type int8, columns_of_type int16, false) ∷ (but_named "a" all, all, false) ∷ (but_named "a" all, but_named "b" all, false) ∷
         (but_named "a" all, but_of_type int8 all, false) ∷ (but_of_type int8 all, but_of_type int16 all, false) ∷
-        (selecting (of_both Add (root all) (root all)), selecting (of_both Sub (root all) (root all)), false) ∷
+        (selecting (of_two Add (root all) (root all)), selecting (of_two Sub (root all) (root all)), false) ∷
         (selecting (root all), selecting (root (written a)), false) ∷ (written a, written b, false) ∷
         (prefix "p" all, suffix "p" all, false) ∷ (fixed "p" all, fixed "q" all, false) ∷ (form KeepRoot all, all, false) ∷ []) }
     ensures inside { Gives markers_in (
@@ -164,7 +164,7 @@ pub fn expressions_that_are_repeated()
         (plus (columns_named ("a" ∷ "a" ∷ [])) (written one), Ok (sum a one ∷ sum a one ∷ [])) ∷
         (columns_named ("z" ∷ []), Ok (column "z" ∷ [])) ∷
         (nth (neg_ℤ (pos 1)), Ok (c ∷ [])) ∷
-        (source_alias "x" (selecting (of_both Sub (root all) (root (written a)))), Ok (alias "x" b ∷ alias "x" c ∷ [])) ∷ []) }
+        (source_alias "x" (selecting (of_two Sub (root all) (root (written a)))), Ok (alias "x" b ∷ alias "x" c ∷ [])) ∷ []) }
     ensures names { map name_of (sum a one ∷ sum b one ∷ []) ≡ all_names ("a" ∷ "b" ∷ []) }
     ensures once { Gives (expansion [] schema_abc) ((written (sum a b), Ok (sum a b ∷ [])) ∷ (written one, Ok (one ∷ [])) ∷ (written (column "z"), Ok (column "z" ∷ [])) ∷ []) }
     ensures others { GivesAll (expansion [] schema_abc) (Err InvalidOperation) (

@@ -12,7 +12,7 @@ ghost use Rattle.plan_dsl.specs.declared.expr.Exprs.{Exprs};
 ghost use Rattle.plan_dsl.specs.declared.plan.DslPlan.TheVariants.{DataFrameScan, HStack'};
 ghost use Rattle.plan_dsl.specs.declared.plan.ProjectionOptions.{ProjectionOptions};
 ghost use Rattle.plan_dsl.specs.Expressions.{trees_of};
-ghost use Rattle.plan_dsl.specs.Plans.{HStackKind, Named, named, empty_table, expressions_of, hstack_op, plan_tree, options_in, written_hstack, scans_in};
+ghost use Rattle.plan_dsl.specs.Plans.{HStackKind, Named, named, empty_table, expressions_of, hstack_op, plan_tree, options_in, source_hstack, scans_in};
 ghost use Rattle.plan_dsl.specs.Ops.{Expression};
 ghost use Rattle.plan_dsl.specs.Sources.{written};
 ghost use Rattle.plan_dsl.specs.PlanRules.{with_columns, schema_of, schema_by, schema_at, own_kinds, broken_kinds, IsWellFormed, Breaks};
@@ -20,7 +20,7 @@ ghost use Rattle.plan_dsl.specs.PlanKernels.{row_with, rows_with, stacked, plan_
 ghost use Rattle.plan_dsl.specs.PlanMeaning.{by_meaning, source_meaning, FitsPlan};
 ghost use Rattle.plan_dsl.specs.Resolving.{resolution, resolved};
 ghost use Rattle.plan_dsl.specs.Counts.{cast_count, node_count};
-ghost use Rattle.plan_dsl.specs.Samples.{Gives, GivesOfTwo, GivesAll, int8, int16, int32, null, yes, no, number, a, b, c, u, one, two, literal, typed_literal, alias, sum, less, cast_as, slice, frame_with, table, schema_ab, schema_au, scan, empty_scan, select, stack, keep, series};
+ghost use Rattle.plan_dsl.specs.Samples.{Gives, GivesOfTwo, GivesAll, int8, int16, int32, null, yes, no, number, a, b, c, u, one, two, literal, typed_literal, alias, sum, less, cast_as, slice, frame_with, table, schema_ab, schema_au, scan, empty_scan, select, stack, keep, series, written_hstack};
 
 /// An hstack puts a column in place of its namesake, or behind the others. Each expression sees the columns of the input.
 pub fn frames_of_hstacks()
@@ -111,7 +111,7 @@ pub fn kinds_that_hstacks_break()
 /// An hstack's tree and options, its expressions, its schema at a place, its casts, nodes and tables, and what a query's is resolved to.
 pub fn parts_of_hstacks()
     ensures tree { (p : _) (exprs : Exprs) (schema : Schema) (options : ProjectionOptions) → let plan = HStack' exprs p (DataFrameScan (Some 0) schema) options in
-        (plan_tree plan ≡ written_hstack (trees_of exprs) (scan (columns schema))) × (options_in plan ≡ options ∷ []) }
+        (plan_tree plan ≡ source_hstack (trees_of exprs) (scan (columns schema))) × (options_in plan ≡ options ∷ []) }
     ensures expressions { expressions_of {E = Named Expression} (HStackKind (named a ∷ named b ∷ [])) ≡ record { input = 0; outputs = named a ∷ named b ∷ [] } ∷ [] }
     ensures schemas { Gives (schema_at [] (stack (alias "a" b ∷ []) (scan schema_ab))) (([], Some ((codes "a", int32) ∷ (codes "b", int32) ∷ [])) ∷ (0 ∷ [], Some schema_ab) ∷ []) }
     ensures casts { cast_count (stack (cast_as NonStrict int32 a ∷ b ∷ []) (stack (cast_as Strict int8 b ∷ []) (scan schema_ab))) ≡ 2 }

@@ -16,7 +16,7 @@ ghost use Rattle.plan_dsl.specs.Typing.{typing, kinds_in};
 ghost use Rattle.plan_dsl.specs.Meaning.{meaning};
 ghost use Rattle.plan_dsl.specs.StrictRun.{strict_run};
 ghost use Rattle.plan_dsl.specs.PlanRules.{schema_of};
-ghost use Rattle.plan_dsl.specs.Samples.{Gives, GivesAll, HasLiterals, logical, int8, int16, int32, int64, uint8, uint16, uint32, uint64, moment, null, yes, no, number, negative, text, written, a, binary, sum, equal, of_one, of_many, means, alone, scan, select, keep};
+ghost use Rattle.plan_dsl.specs.Samples.{Gives, GivesAll, HasLiterals, logical, int8, int16, int32, int64, uint8, uint16, uint32, uint64, moment, null, yes, no, number, negative, text, written_literal, a, binary, sum, equal, of_one, of_many, means, alone, scan, select, keep};
 
 /// Each literal is of the type of its kind, and has its value.
 pub fn ops_of_literals()
@@ -37,47 +37,47 @@ pub fn null_literals()
     ensures types { HasLiterals (
         (NullType, null ∷ [], []) ∷ (Truth, [], null ∷ []) ∷ (int8, [], null ∷ []) ∷
         (TextType, [], null ∷ []) ∷ (DateType, [], null ∷ []) ∷ (Untyped (pos 0), [], null ∷ []) ∷ []) }
-    ensures typed { Gives (typing [] []) ((written Null, of_one NullType) ∷ (node (LiteralOp TextType null) no_more, Err InvalidOperation) ∷ []) }
-    ensures name { name_of (written Null) ≡ codes "literal" }
-    ensures settled { settled (written Null) ≡ written Null }
-    ensures meaning { Gives (meaning [] (alone Truth (yes ∷ no ∷ [])) (written Null)) (
+    ensures typed { Gives (typing [] []) ((written_literal Null, of_one NullType) ∷ (node (LiteralOp TextType null) no_more, Err InvalidOperation) ∷ []) }
+    ensures name { name_of (written_literal Null) ≡ codes "literal" }
+    ensures settled { settled (written_literal Null) ≡ written_literal Null }
+    ensures meaning { Gives (meaning [] (alone Truth (yes ∷ no ∷ [])) (written_literal Null)) (
         (0 ∷ 1 ∷ [], Done (null ∷ [])) ∷ ([], Done (null ∷ [])) ∷ []) }
-    ensures run { strict_run [] (alone Truth (yes ∷ no ∷ [])) (written Null) (0 ∷ 1 ∷ []) ≡ Done (null ∷ []) }
-    ensures selected { schema_of [] (select (written Null ∷ []) (scan ((codes "t", Truth) ∷ []))) ≡ Some ((codes "literal", NullType) ∷ []) }
+    ensures run { strict_run [] (alone Truth (yes ∷ no ∷ [])) (written_literal Null) (0 ∷ 1 ∷ []) ≡ Done (null ∷ []) }
+    ensures selected { schema_of [] (select (written_literal Null ∷ []) (scan ((codes "t", Truth) ∷ []))) ≡ Some ((codes "literal", NullType) ∷ []) }
 {}
 
 /// A time of day that no day has isn't typed, alone or in an operand.
 pub fn times_past_the_day()
     ensures typed { Gives (typing [] []) (
-        (written (Time (neg_ℤ (pos 1))), Err InvalidOperation) ∷ (written (Time (pos 0)), of_one TimeType) ∷
-        (written (Time (pos 86399999999999)), of_one TimeType) ∷ (written (Time (pos 86400000000000)), Err InvalidOperation) ∷ []) }
-    ensures compared { typing [] ((codes "a", TimeType) ∷ []) (equal a (written (Time (pos 86400000000000)))) ≡ Err InvalidOperation }
-    ensures kinds { kinds_in [] [] (written (Time (pos 86400000000000))) ≡ InvalidOperation ∷ [] }
-    ensures meaning { meaning [] empty_frame (written (Time (pos 86400000000000))) [] ≡ Stuck }
+        (written_literal (Time (neg_ℤ (pos 1))), Err InvalidOperation) ∷ (written_literal (Time (pos 0)), of_one TimeType) ∷
+        (written_literal (Time (pos 86399999999999)), of_one TimeType) ∷ (written_literal (Time (pos 86400000000000)), Err InvalidOperation) ∷ []) }
+    ensures compared { typing [] ((codes "a", TimeType) ∷ []) (equal a (written_literal (Time (pos 86400000000000)))) ≡ Err InvalidOperation }
+    ensures kinds { kinds_in [] [] (written_literal (Time (pos 86400000000000))) ≡ InvalidOperation ∷ [] }
+    ensures meaning { meaning [] empty_frame (written_literal (Time (pos 86400000000000))) [] ≡ Stuck }
 {}
 
 /// Null is of the type of what stands beside it.
 pub fn types_of_null_beside_columns()
     ensures number { Gives (typing [] ((codes "a", int8) ∷ [])) (
-        (sum a (written Null), of_many int8) ∷ (sum (written Null) a, of_many int8) ∷ (binary LogicalAnd a (written Null), Err InvalidOperation) ∷ []) }
-    ensures literals { Gives (typing [] []) ((sum (written Null) (written (Int (pos 5))), of_one int32) ∷ (sum (written Null) (written Null), of_one NullType) ∷ []) }
-    ensures text { typing [] ((codes "a", TextType) ∷ []) (sum a (written Null)) ≡ of_many TextType }
-    ensures truth { GivesAll (λ operator. typing [] ((codes "a", Truth) ∷ []) (binary operator a (written Null))) (of_many Truth) (Eq ∷ logical) }
+        (sum a (written_literal Null), of_many int8) ∷ (sum (written_literal Null) a, of_many int8) ∷ (binary LogicalAnd a (written_literal Null), Err InvalidOperation) ∷ []) }
+    ensures literals { Gives (typing [] []) ((sum (written_literal Null) (written_literal (Int (pos 5))), of_one int32) ∷ (sum (written_literal Null) (written_literal Null), of_one NullType) ∷ []) }
+    ensures text { typing [] ((codes "a", TextType) ∷ []) (sum a (written_literal Null)) ≡ of_many TextType }
+    ensures truth { GivesAll (λ operator. typing [] ((codes "a", Truth) ∷ []) (binary operator a (written_literal Null))) (of_many Truth) (Eq ∷ logical) }
 {}
 
 /// What an operator gives beside null is null, but where a truth value settles it, or where nulls are compared too.
 pub fn meanings_of_null_beside_columns()
-    ensures number { Gives (λ operator. means (alone int8 (number 1 ∷ null ∷ [])) (binary operator a (written Null))) (
+    ensures number { Gives (λ operator. means (alone int8 (number 1 ∷ null ∷ [])) (binary operator a (written_literal Null))) (
         (Plus, Done (null ∷ null ∷ [])) ∷ (Eq, Done (null ∷ null ∷ [])) ∷ (EqValidity, Done (no ∷ yes ∷ [])) ∷ []) }
-    ensures text { means (alone TextType (text "b" ∷ null ∷ [])) (sum a (written Null)) ≡ Done (null ∷ null ∷ []) }
-    ensures truth { Gives (λ operator. means (alone Truth (yes ∷ no ∷ null ∷ [])) (binary operator a (written Null))) (
+    ensures text { means (alone TextType (text "b" ∷ null ∷ [])) (sum a (written_literal Null)) ≡ Done (null ∷ null ∷ []) }
+    ensures truth { Gives (λ operator. means (alone Truth (yes ∷ no ∷ null ∷ [])) (binary operator a (written_literal Null))) (
         (LogicalAnd, Done (null ∷ no ∷ null ∷ [])) ∷ (LogicalOr, Done (yes ∷ null ∷ null ∷ [])) ∷ []) }
 {}
 
 /// Literals of truth, of texts and of times beside columns.
 pub fn other_literals_beside_columns()
-    ensures kept_rows { schema_of [] (keep (written (Boolean true)) (scan ((codes "a", int8) ∷ []))) ≡ Some ((codes "a", int8) ∷ []) }
-    ensures text { means (alone TextType (text "b" ∷ null ∷ [])) (sum a (written (String (codes "!")))) ≡ Done (text "b!" ∷ null ∷ []) }
-    ensures later { means (alone moment (number 1 ∷ null ∷ [])) (sum a (written (Duration (pos 5) Microseconds))) ≡ Done (number 6 ∷ null ∷ []) }
-    ensures day { means (alone DateType (number 1 ∷ number 2 ∷ [])) (equal a (written (Date (pos 2)))) ≡ Done (no ∷ yes ∷ []) }
+    ensures kept_rows { schema_of [] (keep (written_literal (Boolean true)) (scan ((codes "a", int8) ∷ []))) ≡ Some ((codes "a", int8) ∷ []) }
+    ensures text { means (alone TextType (text "b" ∷ null ∷ [])) (sum a (written_literal (String (codes "!")))) ≡ Done (text "b!" ∷ null ∷ []) }
+    ensures later { means (alone moment (number 1 ∷ null ∷ [])) (sum a (written_literal (Duration (pos 5) Microseconds))) ≡ Done (number 6 ∷ null ∷ []) }
+    ensures day { means (alone DateType (number 1 ∷ number 2 ∷ [])) (equal a (written_literal (Date (pos 2)))) ≡ Done (no ∷ yes ∷ []) }
 {}

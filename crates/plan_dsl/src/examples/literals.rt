@@ -17,7 +17,7 @@ ghost use Rattle.plan_dsl.specs.StrictRun.{strict_run};
 ghost use Rattle.plan_dsl.specs.Plans.{named, scan_op, select_op, filter_op};
 ghost use Rattle.plan_dsl.specs.PlanRules.{schema_of, broken_kinds, IsWellFormed, Breaks};
 ghost use Rattle.plan_dsl.specs.PlanMeaning.{source_meaning};
-ghost use Rattle.plan_dsl.specs.Samples.{Gives, GivesAll, HasLiterals, AreOperands, int8, int16, int32, int64, uint8, uint16, uint64, null, yes, no, number, negative, written, a, c, n, t, u, w, literal, typed_literal, one, two, five, below, wide, two_hundred, widest, huge, sum, less, cast_as, of_one, of_many, means, runs, frame_with, alone, table, signs_and_truths, schema_ab, scan, empty_scan, select, keep};
+ghost use Rattle.plan_dsl.specs.Samples.{Gives, GivesAll, HasLiterals, AreOperands, int8, int16, int32, int64, uint8, uint16, uint64, null, yes, no, number, negative, written_literal, a, c, n, t, u, w, literal, typed_literal, one, two, five, below, wide, two_hundred, widest, huge, sum, less, cast_as, of_one, of_many, means, runs, frame_with, alone, table, signs_and_truths, schema_ab, scan, empty_scan, select, keep};
 
 /// A literal is a value of a type, and null of its own type alone. A number without a type is one of Int64 or UInt64. A literal
 /// is named `literal`, and so is what has one at its left end.
@@ -26,7 +26,7 @@ pub fn values_and_names_of_literals()
         (Int (neg_ℤ (pos 5)), LiteralOp (Untyped (neg_ℤ (pos 5))) (negative 5)) ∷
         (Int8 (neg_ℤ (pos 128)), LiteralOp int8 (negative 128)) ∷ (Int64 (pos 1), LiteralOp int64 (number 1)) ∷
         (UInt8 255, LiteralOp uint8 (number 255)) ∷ (UInt64 18446744073709551615, LiteralOp uint64 (number 18446744073709551615)) ∷ []) }
-    ensures tree { written (Int (pos 1)) ≡ one }
+    ensures tree { written_literal (Int (pos 1)) ≡ one }
     ensures typed { HasLiterals (
         (int8, negative 128 ∷ number 127 ∷ [], negative 129 ∷ number 128 ∷ yes ∷ null ∷ []) ∷
         (Truth, yes ∷ [], number 1 ∷ null ∷ []) ∷ []) }
@@ -116,7 +116,7 @@ pub fn meanings_of_literals()
         (sum a (cast_as Strict int8 two_hundred), Fault) ∷ []) }
 {}
 
-/// As it is written a number without a type is stuck, and a literal of a type gives its value.
+/// As it is written_literal a number without a type is stuck, and a literal of a type gives its value.
 pub fn literals_run_as_written()
     ensures untyped { GivesAll (runs signs_and_truths) Stuck (five ∷ sum a one ∷ sum one one ∷ cast_as Strict int8 five ∷ []) }
     ensures typed { Gives (runs signs_and_truths) (

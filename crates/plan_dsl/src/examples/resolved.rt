@@ -6,14 +6,14 @@ ghost use Rattle.plan_types.specs.Outcomes.{Done, Stuck};
 ghost use Rattle.plan_types.specs.Frames.{empty_frame};
 ghost use Rattle.plan_types.specs.declared.error.ErrorKind.TheVariants.{ColumnNotFound, Duplicate, InvalidOperation, ComputeError};
 ghost use Rattle.plan_dsl.specs.Trees.{node, no_more, more};
-ghost use Rattle.plan_dsl.specs.Plans.{ScanKind, SelectKind, FilterKind, RefusedKind, PlanOp, Named, named, select_op, filter_op, written_select, written_filter, scans_in};
+ghost use Rattle.plan_dsl.specs.Plans.{ScanKind, SelectKind, FilterKind, RefusedKind, PlanOp, Named, named, select_op, filter_op, scans_in, source_select};
 ghost use Rattle.plan_dsl.specs.Ops.{Expression};
 ghost use Rattle.plan_dsl.specs.Sources.{written, KeepRoot};
 ghost use Rattle.plan_dsl.specs.PlanRules.{plan_rule, schema_of, broken_kinds, IsWellFormed, Breaks};
 ghost use Rattle.plan_dsl.specs.PlanKernels.{plan_kernel};
 ghost use Rattle.plan_dsl.specs.PlanMeaning.{by_meaning, source_meaning};
 ghost use Rattle.plan_dsl.specs.Resolving.{resolution, resolved_kind, resolved_op, resolved};
-ghost use Rattle.plan_dsl.specs.Samples.{Gives, GivesOfTwo, int8, int32, a, b, c, one, sum, less, equal, alias, schema_ab, schema_abc, scan, select, keep, source_select, all, columns_named, columns_of_type, nth, but_named, form, prefix, plus, equals, table};
+ghost use Rattle.plan_dsl.specs.Samples.{Gives, GivesOfTwo, int8, int32, a, b, c, one, sum, less, equal, alias, schema_ab, schema_abc, scan, select, keep, all, columns_named, columns_of_type, nth, but_named, form, prefix, plus, equals, table, written_select, written_filter};
 
 /// A kind over inputs that have schemas has its expressions expanded, and one over an input without schema is refused by no kind.
 pub fn kinds_that_are_resolved()

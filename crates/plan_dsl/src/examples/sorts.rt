@@ -11,6 +11,7 @@ ghost use Rattle.plan_dsl.specs.declared.expr.Exprs.{Exprs};
 ghost use Rattle.plan_dsl.specs.declared.sort_options.SortMultipleOptions.{SortMultipleOptions};
 ghost use Rattle.plan_dsl.specs.Aliases.{core};
 ghost use Rattle.plan_dsl.specs.Expressions.{tree_of, trees_of};
+ghost use Rattle.plan_dsl.specs.Sources.{Plain};
 ghost use Rattle.plan_dsl.specs.SortLaws.{IsInOrder, IsSortByKeys, IsSortOf, columns_fit, keys_fit};
 ghost use Rattle.plan_dsl.specs.Trees.{children_from, more, node, no_more, tree_count};
 ghost use Rattle.plan_dsl.specs.Ops.{Expression, SortOp, SortByOp};
@@ -134,7 +135,7 @@ pub fn meanings_of_columns_sorted_by_keys()
 /// A sort by keys has its input as the first child, and the keys behind it, in order. Its flags are lists.
 pub fn trees_of_sorts_by_keys()
     ensures tree { (expr : Box Expr) (by : Exprs) (options : SortMultipleOptions) → tree_of (SortBy expr by options)
-        ≡ node (SortByOp options.descending.items.value.items options.nulls_last.items.value.items) (more (tree_of expr.value) (children_from (trees_of by))) }
+        ≡ node (Plain (SortByOp options.descending.items.value.items options.nulls_last.items.value.items)) (more (tree_of expr.value) (children_from (trees_of by))) }
     ensures children { Gives {Case = List Expression} children_from (([], no_more) ∷ (a ∷ [], more a no_more) ∷ (a ∷ b ∷ [], more a (more b no_more)) ∷ []) }
     ensures counts { Gives {Case = List Expression} (λ trees. tree_count (children_from trees)) (([], 0) ∷ (a ∷ [], 1) ∷ (a ∷ b ∷ a ∷ [], 3) ∷ []) }
     ensures without_aliases { Gives core ((rising_by (alias "k" b ∷ a ∷ []) (alias "x" a), rising_by (b ∷ a ∷ []) a) ∷ []) }

@@ -1,5 +1,5 @@
 use Rattle.std.proofs.Common.{◌≡◌, map, take}
-use Rattle.plan_dsl.specs.Selectors.{selector_tree}
+use Rattle.plan_dsl.specs.Expressions.{selector_tree}
 use Rattle.plan_dsl.proofs.selector.Selectors.try_clone.Given as goal
 
 abbrev pub invariant-loop-selector : goal.invariant-loop-selector
