@@ -1,1 +1,6 @@
+pub mod EachLemmas
+pub mod ExpansionLemmas
+pub mod MarkerLemmas
 pub mod NameLemmas
+pub mod OnceLemmas
+pub mod WalkLemmas

@@ -1,5 +1,5 @@
 -- Lists of names that are put into sets one by one, and selectors whose names are gathered.
-use Rattle.std.proofs.Common.{◌≡◌, ◌≢◌, List, [], ◌∷◌, ◌++◌, Bool, true, false, cond, not, ◌&&◌, ◌||◌, Result, Ok, Err, refl, sym, ap, ◌∙◌, append_assoc, append-nil}
+use Rattle.std.proofs.Common.{◌≡◌, ◌≢◌, List, [], ◌∷◌, ◌++◌, Bool, true, false, cond, not, ◌&&◌, ◌||◌, Result, Ok, Err, refl, sym, ap, ◌∙◌, append_assoc, append-nil, subst}
 use Rattle.std.proofs.Math.Bool.{and-true, and-false}
 use Rattle.std.specs.List.{AllByRecursion, IsDistinct, filter}
 use Rattle.std.proofs.lemmas.Bool.{or_parts, or_from}
@@ -19,11 +19,12 @@ use Rattle.plan_dsl.specs.Refusals.{then_ok, with_kinds, joined, lists_joined}
 use Rattle.plan_dsl.specs.Sources.{Source, RootOp, written}
 use Rattle.plan_dsl.specs.Trees.{node, no_more, more}
 use Rattle.plan_dsl.specs.declared.expr.Expr.{Expr, Column}
+use Rattle.plan_expand.specs.Names.{selected}
 use Rattle.plan_expand.specs.Refusals.{IsUnexpanded, no_room, unexpanded}
 
 -- ---- names in sets
 
-both_tests : (p q : Name → Bool) (names : List Name) → filter p (filter q names) ≡ filter (λ name. q name && p name) names
+pub both_tests : (p q : Name → Bool) (names : List Name) → filter p (filter q names) ≡ filter (λ name. q name && p name) names
 both_tests p q [] = refl
 both_tests p q (name ∷ names) =
     let later = both_tests p q names in
@@ -50,7 +51,7 @@ without_again left_out there names h =
     filter_agree _ _ (λ name. not_among_there there left_out name h) names ∙ sym (both_tests (λ name. not (is_among name left_out)) (λ name. not (is_among name (there ∷ []))) names)
 
 -- what is put into a set stands behind what was there, each once
-put_behind : (names : List Name) (added : List Name) → insert_all same_name names added ≡ names ++ without names (once added)
+pub put_behind : (names : List Name) (added : List Name) → insert_all same_name names added ≡ names ++ without names (once added)
 put_behind names [] = sym (append-nil names)
 put_behind names (name ∷ added) =
     let later = without names (without (name ∷ []) (once added)) in
@@ -90,9 +91,18 @@ put_keeps names [] none = none
 put_keeps names (name ∷ added) none =
     put_keeps (cond (is_among name names) names (names ++ name ∷ [])) added (elim (is_among name names) as (λ b. is_among name names ≡ b → repeats (cond b names (names ++ name ∷ [])) ≡ false) [ true ↦ λ e. none | false ↦ λ e. repeats-push names name none e ] refl)
 
-put_apart : (names added others : List Name) → insert_all same_name names (added ++ others) ≡ insert_all same_name (insert_all same_name names added) others
+pub put_apart : (names added others : List Name) → insert_all same_name names (added ++ others) ≡ insert_all same_name (insert_all same_name names added) others
 put_apart names [] others = refl
 put_apart names (name ∷ added) others = put_apart (cond (is_among name names) names (names ++ name ∷ [])) added others
+
+-- each name once is a list of distinct names
+pub once_distinct : (names : List Name) → repeats (once names) ≡ false
+once_distinct names = subst (λ l. repeats l ≡ false) (put_once names) (put_keeps [] names refl)
+
+-- names that are put into a set once are put there
+put_again : (names added : List Name) → insert_all same_name names added ≡ insert_all same_name names (once added)
+put_again names added =
+    put_behind names added ∙ ap (λ l. names ++ without names l) (sym (distinct_once (once added) (once_distinct added))) ∙ sym (put_behind names (once added))
 
 none_among : (name : Name) (names : List Name) → AllByRecursion (λ other. same_name name other ≡ false) names → is_among name names ≡ false
 none_among name [] h = refl
@@ -106,13 +116,6 @@ set_distinct (name ∷ names) h = or_from (is_among name names) _ (none_among na
 
 -- ---- selectors
 
-abbrev root_of : Expr → Source
-root_of expr = node RootOp (more (written (tree_of expr)) no_more)
-
-pub no_column : (schema : Columns) (expr : Expr) → ((name : Name) → expr ≢ Column name) → selector_names [] schema (root_of expr) ≡ Err InvalidOperation
-no_column schema (Column name) n = absurd (n name refl)
-no_column schema _ n = refl
-
 -- the names so far, and then those of the selectors that are left
 abbrev pub gathered : Columns → List Name → List Source → Result (List Name) (List ErrorKind)
 gathered schema names rest = then_ok (lists_joined (selector_names [] schema) rest) (λ added. Ok (insert_all same_name names added))
@@ -120,10 +123,17 @@ gathered schema names rest = then_ok (lists_joined (selector_names [] schema) re
 pub gathered_start : (schema : Columns) (selectors : List Source) → names_of_selectors schema selectors ≡ gathered schema [] selectors
 gathered_start schema selectors = elim (lists_joined (selector_names [] schema) selectors) as (λ r. then_ok r (λ names. Ok (once names)) ≡ then_ok r (λ added. Ok (insert_all same_name [] added))) [ Ok names ↦ ap Ok (sym (put_once names)) | Err kinds ↦ refl ]
 
-pub gathered_step : (schema : Columns) (names : List Name) (selector : Source) (rest : List Source) (found : List Name) → selector_names [] schema selector ≡ Ok found → gathered schema names (selector ∷ rest) ≡ gathered schema (insert_all same_name names found) rest
-gathered_step schema names selector rest found h =
-    ap (λ r. then_ok (joined (with_kinds r) (lists_joined (selector_names [] schema) rest)) (λ added. Ok (insert_all same_name names added))) h
-    ∙ elim (lists_joined (selector_names [] schema) rest) as (λ r. then_ok (joined (Ok found) r) (λ added. Ok (insert_all same_name names added)) ≡ then_ok r (λ added. Ok (insert_all same_name (insert_all same_name names found) added))) [ Ok others ↦ ap Ok (put_apart names found others) | Err kinds ↦ refl ]
+pub gathered_step : (schema : Columns) (names : List Name) (selector : Source) (rest : List Source) (found : List Name) → selected [] schema selector ≡ Ok found → gathered schema names (selector ∷ rest) ≡ gathered schema (insert_all same_name names found) rest
+gathered_step schema names selector rest found h = one (selector_names [] schema selector) h
+  where
+    both : (all others : List Name) → once all ≡ found → insert_all same_name names (all ++ others) ≡ insert_all same_name (insert_all same_name names found) others
+    both all others same = put_apart names all others ∙ ap (λ l. insert_all same_name l others) (put_again names all ∙ ap (insert_all same_name names) same)
+
+    one : (r : Result (List Name) ErrorKind) → then_ok r (λ all. Ok (once all)) ≡ Ok found → then_ok (joined (with_kinds r) (lists_joined (selector_names [] schema) rest)) (λ added. Ok (insert_all same_name names added)) ≡ gathered schema (insert_all same_name names found) rest
+    one (Ok all) e =
+        let same : once all ≡ found = cc in
+        elim (lists_joined (selector_names [] schema) rest) as (λ r. then_ok (joined (Ok all) r) (λ added. Ok (insert_all same_name names added)) ≡ then_ok r (λ added. Ok (insert_all same_name (insert_all same_name names found) added))) [ Ok others ↦ ap Ok (both all others same) | Err kinds ↦ refl ]
+    one (Err kind) e = absurd cc
 
 first_told : (kind : ErrorKind) (names : List Name) (error : PlanError) (answer : Result (List Name) (List ErrorKind)) (rest : Result (List Name) (List ErrorKind)) → error ≡ at_top kind
     → answer ≡ then_ok (joined (Err (kind ∷ [])) rest) (λ added. Ok (insert_all same_name names added)) → IsUnexpanded answer error

@@ -1,2 +1,4 @@
 -- What the contracts of this crate cite.
+pub mod Names
 pub mod Refusals
+pub mod Walks

@@ -2,4 +2,7 @@
 #![tactic(auto)]
 
 mod examples;
+pub mod expr_expansion;
+mod markers;
 pub mod selectors;
+mod walks;

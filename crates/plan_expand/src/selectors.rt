@@ -3,13 +3,14 @@ ghost use Rattle.std.specs.Prelude.{◌≡◌, [], ◌∷◌, map, false, Ok, Er
 ghost use Rattle.plan_types.specs.Errors.{at_top, no_memory, IsRefusal};
 ghost use Rattle.plan_types.specs.Schemas.{columns, repeats};
 ghost use Rattle.plan_types.specs.declared.error.ErrorKind.TheVariants.{InvalidOperation};
-ghost use Rattle.plan_dsl.specs.Expressions.{tree_of};
-ghost use Rattle.plan_dsl.specs.Markers.{set_of, selector_names, names_of_selectors};
-ghost use Rattle.plan_dsl.specs.Selectors.{selector_tree};
-ghost use Rattle.plan_dsl.specs.Sources.{Add, Sub, Intersect, ExclusiveOr, RootOp, written};
+ghost use Rattle.plan_dsl.specs.Expressions.{selector_tree, tree_of};
+ghost use Rattle.plan_dsl.specs.Markers.{once, set_of, selector_names, names_of_selectors};
+ghost use Rattle.plan_dsl.specs.Sources.{Add, Sub, Intersect, ExclusiveOr, RootOp};
 ghost use Rattle.plan_dsl.specs.Trees.{node, no_more, more};
+ghost use Rattle.plan_expand.specs.Names.{selected};
 ghost use Rattle.plan_expand.specs.Refusals.{IsUnexpanded};
 
+use crate::markers::marker_names;
 use indexmap::IndexSet;
 use plan_dsl::expr::Expr;
 use plan_dsl::selector::Selector;
@@ -42,16 +43,20 @@ pub fn selected_names(
     ensures ok { IfOk result (λ names. names_of_selectors (columns schema.now) (map selector_tree selectors.items) ≡ Ok names.keys) }
     ensures err { IfErr result (IsUnexpanded (names_of_selectors (columns schema.now) (map selector_tree selectors.items))) }
 {
+    let keys = IndexSet::new(alloc);
     let mut names = IndexSet::new(alloc);
-    for selector in selectors {
-        let mut more = selected(alloc, selector, schema)?;
+    for selector in selectors.as_slice() {
+        let mut more = selected(alloc, selector, schema, &keys)?;
         names.append(&mut more)?;
     }
     Ok(names)
 }
 
 // The names of a set, in order.
-fn listed(alloc: Global, names: IndexSet<PlSmallStr>) -> Result<Vec<PlSmallStr>, PlanError>
+pub(crate) fn listed(
+    alloc: Global,
+    names: IndexSet<PlSmallStr>,
+) -> Result<Vec<PlSmallStr>, PlanError>
     ensures ok { IfOk result (λ list. list.items ≡ names.keys) }
     ensures err { IfErr result (λ error. error ≡ no_memory) }
 {
@@ -62,59 +67,83 @@ fn listed(alloc: Global, names: IndexSet<PlSmallStr>) -> Result<Vec<PlSmallStr>,
     Ok(list)
 }
 
-// The names that a selector makes, each once.
-fn selected(
+// The names of two selectors.
+macro_rules! both_selected {
+    ($alloc:ident, $first:ident, $second:ident, $schema:ident, $keys:ident) => {{
+        let names = selected($alloc, $first, $schema, $keys)?;
+        let others = selected($alloc, $second, $schema, $keys)?;
+        (names, others)
+    }};
+}
+
+// The names that a selector makes, each once. Markers pass over the columns that are keys, but for lists of names and
+// places.
+#[cycle(names)]
+pub(crate) fn selected(
     alloc: Global,
-    selector: Selector,
+    selector: &Selector,
     schema: &Schema,
+    keys: &IndexSet<PlSmallStr>,
 ) -> Result<IndexSet<PlSmallStr>, PlanError>
-    ensures ok { IfOk result (λ names. selector_names [] (columns schema.now) (selector_tree selector) ≡ Ok names.keys) }
+    ensures ok { IfOk result (λ names. selected keys.now.keys (columns schema.now) (selector_tree selector.now) ≡ Ok names.keys) }
     ensures once { IfOk result (λ names. repeats names.keys ≡ false) }
-    ensures err { IfErr result (IsRefusal (selector_names [] (columns schema.now) (selector_tree selector))) }
+    ensures err { IfErr result (IsRefusal (selector_names keys.now.keys (columns schema.now) (selector_tree selector.now))) }
 {
     match selector {
-        Selector::Root(expr) => column_named(alloc, Box::into_inner(expr), schema),
+        Selector::Root(expr) => Ok(rooted(alloc, expr, schema, keys)?),
         Selector::Add(first, second) => {
-            let names = selected(alloc, Box::into_inner(first), schema)?;
-            let others = selected(alloc, Box::into_inner(second), schema)?;
-            added(names, others)
+            let (names, others) = both_selected!(alloc, first, second, schema, keys);
+            let joined = added(names, others)?;
+            Ok(joined)
         }
         Selector::Sub(first, second) => {
-            let names = selected(alloc, Box::into_inner(first), schema)?;
-            let others = selected(alloc, Box::into_inner(second), schema)?;
+            let (names, others) = both_selected!(alloc, first, second, schema, keys);
             Ok(lacking(names, &others))
         }
         Selector::ExclusiveOr(first, second) => {
-            let names = selected(alloc, Box::into_inner(first), schema)?;
-            let others = selected(alloc, Box::into_inner(second), schema)?;
-            in_one(alloc, &names, &others)
+            let (names, others) = both_selected!(alloc, first, second, schema, keys);
+            let apart = in_one(alloc, &names, &others)?;
+            Ok(apart)
         }
         Selector::Intersect(first, second) => {
-            let names = selected(alloc, Box::into_inner(first), schema)?;
-            let others = selected(alloc, Box::into_inner(second), schema)?;
+            let (names, others) = both_selected!(alloc, first, second, schema, keys);
             Ok(in_both(names, &others))
         }
     }
 }
 
-// The name of an expression that is a column.
-fn column_named(
+// The names of a column or a marker, each once.
+#[cycle(names)]
+fn rooted(
     alloc: Global,
-    expr: Expr,
-    _schema: &Schema,
+    expr: &Expr,
+    schema: &Schema,
+    keys: &IndexSet<PlSmallStr>,
 ) -> Result<IndexSet<PlSmallStr>, PlanError>
-    ensures ok { IfOk result (λ names. selector_names [] (columns _schema.now) (node RootOp (more (written (tree_of expr)) no_more)) ≡ Ok names.keys) }
+    ensures ok { IfOk result (λ names. selected keys.now.keys (columns schema.now) (node RootOp (more (tree_of expr.now) no_more)) ≡ Ok names.keys) }
     ensures once { IfOk result (λ names. repeats names.keys ≡ false) }
-    ensures err { IfErr result (IsRefusal (selector_names [] (columns _schema.now) (node RootOp (more (written (tree_of expr)) no_more)))) }
+    ensures err { IfErr result (IsRefusal (selector_names keys.now.keys (columns schema.now) (node RootOp (more (tree_of expr.now) no_more)))) }
 {
-    match expr {
-        Expr::Column(name) => {
-            let mut names = IndexSet::new(alloc);
-            names.insert(name)?;
-            Ok(names)
-        }
-        _ => Err(PlanError::at_top(ErrorKind::InvalidOperation)),
+    if let Expr::Column(name) = expr {
+        let mut names = IndexSet::new(alloc);
+        names.insert(name.try_clone(alloc)?)?;
+        return Ok(names);
     }
+    let listed = marker_names(alloc, expr, schema, keys)?;
+    let names = distinct(alloc, listed)?;
+    Ok(names)
+}
+
+// The names of a list, each once.
+fn distinct(alloc: Global, list: Vec<PlSmallStr>) -> Result<IndexSet<PlSmallStr>, PlanError>
+    ensures ok { IfOk result (λ names. names.keys ≡ once list.items) }
+    ensures err { IfErr result (λ error. error ≡ no_memory) }
+{
+    let mut names = IndexSet::with_capacity(alloc, list.len())?;
+    for name in list {
+        names.insert(name)?;
+    }
+    Ok(names)
 }
 
 // The names of the first, and then those that are new in the second.
@@ -133,7 +162,10 @@ fn added(
 }
 
 // The names of the first that the second lacks.
-fn lacking(mut names: IndexSet<PlSmallStr>, others: &IndexSet<PlSmallStr>) -> IndexSet<PlSmallStr>
+pub(crate) fn lacking(
+    mut names: IndexSet<PlSmallStr>,
+    others: &IndexSet<PlSmallStr>,
+) -> IndexSet<PlSmallStr>
     ensures names { result.keys ≡ set_of Sub names.keys others.now.keys }
     ensures once { repeats result.keys ≡ false }
 {

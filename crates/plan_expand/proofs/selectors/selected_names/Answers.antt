@@ -1,34 +1,40 @@
-use Rattle.std.proofs.Common.{map, sym, ap, ◌∙◌}
-use Rattle.std.specs.Vec.Iter.{into_iter_items}
+use Rattle.std.proofs.Common.{◌≡◌, ◌+◌, Ok, map, drop, sym, ap, ◌∙◌, subst, arith}
+use Rattle.plan_types.specs.Errors.{IsRefusal}
 use Rattle.plan_types.specs.Schemas.{columns}
+use Rattle.plan_types.proofs.ListLemmas.{drop_item}
 use Rattle.plan_types.proofs.ResultLemmas.{passed_on}
-use Rattle.plan_dsl.specs.Selectors.{selector_tree}
+use Rattle.plan_dsl.specs.Expressions.{selector_tree}
+use Rattle.plan_dsl.specs.Markers.{names_of_selectors, selector_names}
+use Rattle.plan_expand.specs.Names.{selected}
+use Rattle.plan_expand.specs.Refusals.{IsUnexpanded}
 use Rattle.plan_expand.proofs.NameLemmas.{gathered, gathered_start, gathered_step, gathered_refused}
 use Rattle.plan_expand.proofs.selectors.selected_names.Goals as goal
 
 pub loop-selector-init : goal.loop-selector-init
 loop-selector-init c =
     let schema = columns c.args.schema.now in
-    record {
-      can = tt;
-      finite = tt;
-      so_far = gathered_start schema (map selector_tree c.args.selectors.items) ∙ ap (λ l. gathered schema l (map selector_tree c.args.selectors.items)) (sym c.new-names.ensures.empty) ∙ ap (λ l. gathered schema c.new-names.result.keys (map selector_tree l)) (sym c.into_iter-selector-iterator.ensures.into_iter_gives.0);
-    }
+    let items = map selector_tree c.as_slice-selector-items.result.now in
+    gathered_start schema items ∙ ap (λ l. gathered schema l items) (sym c.new-names.ensures.empty)
 
 pub returns-in_err-more-clause-err : goal.returns-in_err-more-clause-err
 returns-in_err-more-clause-err c =
     let schema = columns c.args.schema.now in
-    let left = c.loop-selector.invariant.so_far ∙ ap (λ l. gathered schema c.loop-selector.names.keys (map selector_tree l)) c.in-Some.ensures.steps.0 in
-    passed_on c.from_residual.result c.in_err-more.field-0.0 _ c.from_residual.ensures.1 (gathered_refused schema c.loop-selector.names.keys (selector_tree c.in-Some.selector) (map selector_tree (into_iter_items c.next.new.self)) _ _ left c.in_err-more.ensures.err)
+    let items = c.as_slice-selector-items.result.now in
+    let index = c.loop-selector.selector-index in
+    let item = c.selector-item.result in
+    let whole = sym (ap (λ l. names_of_selectors schema (map selector_tree l)) c.as_slice-selector-items.ensures.value) in
+    let left = whole ∙ c.loop-selector.invariant ∙ ap (λ l. gathered schema c.loop-selector.names.keys (map selector_tree l)) (drop_item items index (index + 1) item c.loop-selector-test.true c.selector-item.is (omega arith)) in
+    let refused = subst (λ keys. IsRefusal (selector_names keys schema (selector_tree item)) c.in_err-more.field-0.0) c.new-keys.ensures.empty c.in_err-more.ensures.err in
+    passed_on c.from_residual.result c.in_err-more.field-0.0 _ c.from_residual.ensures.1 (gathered_refused schema c.loop-selector.names.keys (selector_tree item) (map selector_tree (drop (index + 1) items)) _ _ left refused)
 
 pub loop-selector-preserved : goal.loop-selector-preserved
 loop-selector-preserved c =
     let schema = columns c.args.schema.now in
     let names = c.loop-selector.names.keys in
-    let rest = map selector_tree (into_iter_items c.next.new.self) in
-    let left = c.loop-selector.invariant.so_far ∙ ap (λ l. gathered schema names (map selector_tree l)) c.in-Some.ensures.steps.0 in
-    record {
-      can = tt;
-      finite = tt;
-      so_far = left ∙ gathered_step schema names (selector_tree c.in-Some.selector) rest c.in_ok-more.more.keys c.in_ok-more.ensures.ok ∙ ap (λ l. gathered schema l rest) (sym c.in_ok-append.ensures.keys);
-    }
+    let items = c.as_slice-selector-items.result.now in
+    let index = c.loop-selector.selector-index in
+    let item = c.selector-item.result in
+    let rest = map selector_tree (drop (index + 1) items) in
+    let left = c.loop-selector.invariant ∙ ap (λ l. gathered schema names (map selector_tree l)) (drop_item items index (index + 1) item c.loop-selector-test.true c.selector-item.is (omega arith)) in
+    let found = subst (λ keys. selected keys schema (selector_tree item) ≡ Ok c.in_ok-more.more.keys) c.new-keys.ensures.empty c.in_ok-more.ensures.ok in
+    left ∙ gathered_step schema names (selector_tree item) rest c.in_ok-more.more.keys found ∙ ap (λ l. gathered schema l rest) (sym c.in_ok-append.ensures.keys)
