@@ -1,14 +1,18 @@
 -- What is read by the table of forms.
-use Rattle.plan_json.proofs.Names.{Bool, List, None, Some, [], ap, arith, bytes_eq, cond, false, get_or, length, map, ne_eqb, option_and_then, option_map, refl, slice_get, subst, suc, sym, take, true, zero, ℕ, ◌&&◌, ◌<◌, ◌==◌, ◌∙◌, ◌∷◌, ◌≡◌, ◌≤◌, asked_form, items_of, key, key_form, keyed_form, number, own_fault, part, part_of, places_form, shape_fault, unless, all_of, both, only_member, items_view, view, Name, Data, Items, array, item, no_items, Declared, as_array, at, get_item, AllFit, Asked, Fits, Read, a_form, all_fit, asks, expression_read, expressions_in, fits, flag_read, flags_in, key_named, leaves_read, list_read, many, many_read, place_view, reads_of, row_named, says, IsItem, each_as, front, places_as, read_as, these_as, option_map_or, escaped, Value, items_len-items_view, eq-eqb, length-map, items_len, Expression, bytes_eq-Decides, Kind, Key, tree_of, slice_get-map, slice_get-get_or, trees_of, SortByOp, expression_says, same_Some, and_parts, Box, Global}
+use Rattle.plan_json.proofs.Names.{Bool, List, None, Some, [], ap, arith, bytes_eq, cond, false, get_or, length, map, ne_eqb, option_and_then, option_map, refl, slice_get, subst, suc, sym, take, true, zero, ℕ, ◌&&◌, ◌<◌, ◌==◌, ◌∙◌, ◌∷◌, ◌≡◌, ◌≤◌, asked_form, items_of, key, key_form, keyed_form, number, own_fault, part, part_of, places_form, shape_fault, unless, all_of, both, only_member, items_view, view, Name, Data, Items, array, item, no_items, Declared, as_array, at, get_item, AllFit, Asked, Fits, Read, a_form, all_fit, asks, expression_read, expressions_in, fits, flag_read, flags_in, key_named, leaves_read, list_read, many, many_read, name_read, place_view, ty, type_read, ℤ, reads_of, row_named, says, IsItem, each_as, front, places_as, read_as, these_as, option_map_or, escaped, Value, items_len-items_view, eq-eqb, length-map, items_len, bytes_eq-Decides, Kind, Key, tree_of, slice_get-map, slice_get-get_or, trees_of, SortByOp, expression_says, same_Some, and_parts, Box, Global}
 use Rattle.plan_json.specs.declared.forms.Place.{Place}
-use Rattle.plan_dsl.specs.Sources.{Source}
-use Rattle.plan_json.specs.Forms.{selector_read, selectors_in}
+use Rattle.plan_dsl.specs.Expressions.{excluded_of}
+use Rattle.plan_dsl.specs.Sources.{Plain, Source}
+use Rattle.plan_dsl.specs.declared.marker.Excluded.{Excluded}
+use Rattle.plan_types.specs.declared.dtype.DataType.{DataType}
+use Rattle.plan_json.specs.Forms.{excluded_in, excluded_read, index_read, indexes_in, names_in, selector_read, selectors_in, types_in}
 use Rattle.plan_dsl.specs.Trees.{node, more, children_from}
 use Rattle.plan_dsl.specs.declared.expr.Expr.{Expr, SortBy}
 use Rattle.plan_dsl.specs.declared.expr.Exprs.{Exprs}
 use Rattle.plan_dsl.specs.declared.sort_options.SortMultipleOptions.{SortMultipleOptions}
 use Rattle.plan_dsl.proofs.ExprLemmas.{sort_by_listed}
 use Rattle.plan_json.specs.declared.forms.ExpressionKey.TheVariants as of
+use Rattle.plan_json.specs.declared.forms.Leaf.TheVariants as leaves
 use Rattle.plan_json.proofs.FaultLemmas.{key_in}
 use Rattle.plan_json.proofs.ItemLemmas.{item_at}
 use Rattle.plan_json.proofs.LookingLemmas.{array-from_as_array, object-from_only_member}
@@ -48,7 +52,7 @@ each_as-all_of tables a no_items = refl
 each_as-all_of tables a (item d ds) = ap (front (read_as tables a d)) (each_as-all_of tables a ds)
 
 -- the expressions that were read
-pub expressions_read : (trees : List Expression) → expressions_in (reads_of (map expression_read trees)) ≡ trees
+pub expressions_read : (trees : List Source) → expressions_in (reads_of (map expression_read trees)) ≡ trees
 expressions_read [] = refl
 expressions_read (tree ∷ trees) = ap (λ l. tree ∷ l) (expressions_read trees)
 
@@ -61,10 +65,26 @@ flags_read : (flags : List Bool) → flags_in (reads_of (map flag_read flags)) �
 flags_read [] = refl
 flags_read (flag ∷ flags) = ap (λ l. flag ∷ l) (flags_read flags)
 
+pub names_read : (names : List Name) → names_in (reads_of (map name_read names)) ≡ names
+names_read [] = refl
+names_read (name ∷ names) = ap (λ l. name ∷ l) (names_read names)
+
+pub types_read : (types : List DataType) → types_in (reads_of (map (λ dtype. type_read (ty dtype)) types)) ≡ map ty types
+types_read [] = refl
+types_read (dtype ∷ types) = ap (λ l. ty dtype ∷ l) (types_read types)
+
+pub indexes_read : (indexes : List ℤ) → indexes_in (reads_of (map index_read indexes)) ≡ indexes
+indexes_read [] = refl
+indexes_read (index ∷ indexes) = ap (λ l. index ∷ l) (indexes_read indexes)
+
+pub all_excluded_read : (xs : List Excluded) → excluded_in (reads_of (map (λ x. excluded_read (excluded_of x)) xs)) ≡ map excluded_of xs
+all_excluded_read [] = refl
+all_excluded_read (x ∷ xs) = ap (λ l. excluded_of x ∷ l) (all_excluded_read xs)
+
 pub sort_by_said : (expr : Box Expr Global) (by : Exprs) (options : SortMultipleOptions)
-    → expression_says of.SortBy (expression_read (tree_of expr.value) ∷ many_read (reads_of (map expression_read (trees_of by))) ∷ leaves_read (reads_of (map flag_read options.descending.items.value.items)) ∷ leaves_read (reads_of (map flag_read options.nulls_last.items.value.items)) ∷ []) ≡ Some (tree_of (SortBy expr by options))
+    → expression_says of.SortBy (expression_read (tree_of expr.value) ∷ many_read (reads_of (map expression_read (trees_of by))) ∷ leaves_read leaves.Flag (reads_of (map flag_read options.descending.items.value.items)) ∷ leaves_read leaves.Flag (reads_of (map flag_read options.nulls_last.items.value.items)) ∷ []) ≡ Some (tree_of (SortBy expr by options))
 sort_by_said expr by options =
-    (λ i. Some (node (SortByOp (flags_read options.descending.items.value.items i) (flags_read options.nulls_last.items.value.items i)) (more (tree_of expr.value) (children_from (expressions_read (trees_of by) i)))))
+    (λ i. Some (node (Plain (SortByOp (flags_read options.descending.items.value.items i) (flags_read options.nulls_last.items.value.items i))) (more (tree_of expr.value) (children_from (expressions_read (trees_of by) i)))))
     ∙ ap (λ tree. Some tree) (sym (sort_by_listed (SortBy expr by options) expr by options refl).is)
 
 -- ---- a form by its key

@@ -1,7 +1,12 @@
 -- A value that is a query has no fault, along any path, and bytes that write one are refused for want of memory alone: what is of its form has no fault of its own, and each part of it is of the
 -- form that its place asks for.
-use Rattle.plan_json.proofs.Names.{Bool, List, None, Option, Some, [], ap, bytes_eq, codes, cond, false, is_some, length, nat_lt, not, option_and_then, option_map, refl, slice_get, subst, suc, sym, true, zero, ℕ, ◌&&◌, ◌==◌, ◌||◌, ◌∙◌, ◌∷◌, ◌≡◌, Form, Part, Path, Step, a_column, a_counted_type, a_new_name, a_number_of, a_plan, a_query, a_scan, a_table, a_text, a_type, a_typed_literal, asked_form, column_list, declared_names, either_part, fault_at, field_list, has_shape, has_type_shape, items_of, key, key_form, keyed_form, keyed_part, list_of, number, own_fault, part, part_if, part_of, places_form, query_part, shape_fault, table_list, table_part, type_form, type_key_form, typed_part, unless, all_of, both, first_items, some_of, two_items, two_members, Columns, Name, is_among, names_of, repeats, Data, Items, array, item, member, no_items, no_members, object, string, Declared, column_name, column_of, columns_of, counted, counted_of, each_column, number_of, struct_of, table_at, table_limit, table_name, table_of, tables_of, text_of, type_of, type_says, typed_from, typed_of, unit_of, at, get_item, Asked, Places, Read, a_form, asks, columns_read, key_named, leaf, list_read, listed, literal_read, many, reads_of, row_named, says, single, table_read, type_read, type_rows, IsQueryOf, QueryModel, each_as, list_as, places_as, plan_in, plan_of, query_from, query_of, read_as, these_as, option_map_or, ListType, StructType, Ty, fields_from, is_counted, IsErrorOf, and_from, and_parts, eq-eqb, JsonError, items_len, repeats-apart, Key, NoMemory, NotJson, IsRefusalOf, WritesQuery, TypeKey, plan_asked, not-true, same_Some, none-some}
+use Rattle.plan_json.proofs.Names.{Bool, List, None, Option, Some, [], ap, bytes_eq, codes, cond, false, is_some, length, nat_lt, not, option_and_then, option_map, refl, slice_get, subst, suc, sym, true, zero, ℕ, ◌&&◌, ◌==◌, ◌||◌, ◌∙◌, ◌∷◌, ◌≡◌, Form, Part, Path, Step, an_excluded, excluded_form, excluded_key_form, a_column, a_counted_type, a_new_name, a_number_of, a_plan, a_query, a_scan, a_table, a_text, a_type, a_typed_literal, asked_form, column_list, declared_names, either_part, fault_at, field_list, has_shape, has_type_shape, items_of, key, key_form, keyed_form, keyed_part, list_of, number, own_fault, part, part_if, part_of, places_form, query_part, shape_fault, table_list, table_part, type_form, type_key_form, typed_part, unless, all_of, both, first_items, some_of, two_items, two_members, Columns, Name, is_among, names_of, repeats, Data, Items, array, item, member, no_items, no_members, object, string, Declared, column_name, column_of, columns_of, counted, counted_of, each_column, number_of, struct_of, table_at, table_limit, table_name, table_of, tables_of, text_of, type_of, type_says, typed_from, typed_of, unit_of, at, get_item, Asked, Places, Read, a_form, asks, columns_read, key_named, leaf, list_read, listed, literal_read, many, reads_of, row_named, says, single, table_read, type_read, type_rows, IsQueryOf, QueryModel, each_as, list_as, places_as, plan_in, plan_of, query_from, query_of, read_as, these_as, option_map_or, ListType, StructType, Ty, fields_from, is_counted, IsErrorOf, and_from, and_parts, eq-eqb, JsonError, items_len, repeats-apart, Key, NoMemory, NotJson, IsRefusalOf, WritesQuery, TypeKey, plan_asked, not-true, same_Some, none-some}
 use Rattle.plan_json.specs.declared.forms.TypeKey.TheVariants as types
+use Rattle.plan_json.specs.declared.forms.ExcludedKey.{ExcludedKey}
+use Rattle.plan_json.specs.declared.forms.ExcludedKey.TheVariants as excludes
+use Rattle.plan_dsl.specs.Sources.{Excluded, ExcludedName, ExcludedType}
+use Rattle.plan_json.specs.Forms.{excluded_read, excluded_rows}
+use Rattle.plan_json.specs.Leaves.{excluded_item, keyed_excluded}
 use Rattle.plan_json.specs.declared.forms.Leaf.TheVariants as leaves
 use Rattle.plan_json.proofs.DeclarationLemmas.{is_some-table_at, each_column-all_of, table_name-read, declared_names-read}
 use Rattle.plan_json.proofs.FaultLemmas.{name_fault-tested}
@@ -22,6 +27,7 @@ IsOf (a_new_name before) d = (n : (name : Name) × (is_among name before ≡ fal
 IsOf (a_scan names) d = (n : (name : Name) × (is_among name names ≡ true)) × (text_of d ≡ Some n.0)
 IsOf a_typed_literal d = Present (typed_of d)
 IsOf a_counted_type d = Present (counted_of d)
+IsOf an_excluded d = Present (excluded_item d)
 IsOf (keyed_form names kind) d = (r : (tables : Declared) × (names_of tables ≡ names) × Read) × (read_as r.0 (a_form kind) d ≡ Some r.2)
 IsOf (list_of names a) d = (r : (tables : Declared) × (names_of tables ≡ names) × Read) × (read_as r.0 (many a) d ≡ Some r.2)
 IsOf (items_of names ps) d = (r : (tables : Declared) × (names_of tables ≡ names) × List Read) × (list_as r.0 ps d ≡ Some r.2)
@@ -50,6 +56,9 @@ type_shape (object (member word value no_members)) t e =
     let row = type_row word value t e in keyed type_key_form word value (type_form row.0.1, ap (option_map (λ (r : List ℕ × TypeKey). type_form r.1)) row.1)
 type_shape _ t e = cc
 
+excluded_row : (word : List ℕ) (value : Data) (x : Excluded) → excluded_item (object (member word value no_members)) ≡ Some x → (row : List ℕ × ExcludedKey) × (row_named excluded_rows word ≡ Some row) × (keyed_excluded row.1 value ≡ Some x)
+excluded_row word value x e = chained (λ row. keyed_excluded row.1 value) (row_named excluded_rows word) x e
+
 these_count : (tables : Declared) (ps : List Asked) (ds : Items) (rs : List Read) → these_as tables ps ds ≡ Some rs → items_len ds ≡ length ps
 these_count tables [] no_items rs e = refl
 these_count tables (a ∷ ps) (item d ds) rs e = let parts = opened (read_as tables a d) (these_as tables ps ds) rs e in ap suc (these_count tables ps ds parts.1 parts.3)
@@ -69,6 +78,9 @@ shape a_typed_literal d (op, e) = ap is_some (chained typed_from (two_items d) o
 shape a_counted_type d (t, e) =
     let found = chained counted (type_of d) t e in
     and_from _ _ (type_shape d found.0 found.1) (ap (λ o. option_map_or is_counted o true) found.1 ∙ (kept (is_counted found.0) (Some found.0) t found.2).0)
+shape an_excluded (object (member word value no_members)) (x, e) =
+    let row = excluded_row word value x e in
+    keyed excluded_key_form word value (excluded_form row.0.1, ap (option_map (λ (r : List ℕ × ExcludedKey). excluded_form r.1)) row.1)
 shape (keyed_form names kind) (object (member word value no_members)) ((tables, same, r), e) =
     let row = chained (λ row. option_and_then (says row.1) (places_as tables (asks row.1) value)) (key_named kind word) r e in
     keyed (key_form names kind) word value (places_form names (asks row.0.1), ap (option_map (λ (r : List ℕ × Key). places_form names (asks r.1))) row.1)
@@ -90,6 +102,7 @@ asked_is names tables same (leaf leaves.Table) d (r, e) =
     let table = mapped (λ table. table_read table.0 table.1) (option_and_then (table_at tables) (text_of d)) r e in
     let at = chained (table_at tables) (text_of d) table.0 table.1 in
     ((at.0, ap (is_among at.0) (sym same) ∙ sym (is_some-table_at tables at.0) ∙ ap is_some at.2), at.1)
+asked_is names tables same (leaf leaves.Excluded) d (r, e) = made excluded_read (excluded_item d) r e
 asked_is names tables same (leaf leaves.Columns) d (r, e) = made columns_read (columns_of d) r e
 asked_is names tables same (leaf which) d (r, e) = shown _ _ r e
 asked_is names tables same _ d (r, e) = ((tables, same, r), e)
@@ -110,6 +123,10 @@ type_key_is : (k : TypeKey) (value : Data) (t : Ty) → type_says k (unit_of val
 type_key_is types.List value t e = made (λ u. ListType u) (type_of value) t e
 type_key_is types.Struct value t e = made (λ fs. StructType fs) (struct_of value) t e
 type_key_is _ value t e = shown _ (unit_of value) t e
+
+excluded_key_is : (k : ExcludedKey) (value : Data) (x : Excluded) → keyed_excluded k value ≡ Some x → IsOf (excluded_form k) value
+excluded_key_is excludes.Name value x e = shown (λ name. ExcludedName name) (text_of value) x e
+excluded_key_is excludes.Dtype value x e = made (λ type. ExcludedType type) (type_of value) x e
 
 -- ---- parts
 
@@ -178,6 +195,9 @@ parts (a_table before) (key word) d ((t, new), e) p here =
     either_holds (bytes_eq word (codes "name")) (bytes_eq word (codes "columns")) (part (a_new_name before) pair.0.0) (part column_list pair.0.1) p
     ((t.0, new), are.0) (t.1, are.1) (sym (ap (option_and_then (table_part before word)) pair.1) ∙ here)
 parts a_counted_type (key word) d (t, e) p here = let found = chained counted (type_of d) t e in type_part d found.0 found.1 word p here
+parts an_excluded (key at) (object (member word value no_members)) (x, e) p here =
+    let row = excluded_row word value x e in
+    key_holds excluded_key_form word value (excluded_form row.0.1) (ap (option_map (λ (r : List ℕ × ExcludedKey). excluded_form r.1)) row.1) (excluded_key_is row.0.1 value x row.2) at p here
 parts (keyed_form names kind) (key at) (object (member word value no_members)) ((tables, same, r), e) p here =
     let row = chained (λ row. option_and_then (says row.1) (places_as tables (asks row.1) value)) (key_named kind word) r e in
     let args = chained (says row.0.1) (places_as tables (asks row.0.1) value) r row.2 in

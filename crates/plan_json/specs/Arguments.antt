@@ -2,16 +2,16 @@
 use Rattle.std.specs.Prelude.{List, [], ◌∷◌, map, take, if◌then◌else◌}
 use Rattle.plan_types.specs.Schemas.{columns}
 use Rattle.plan_types.specs.Types.{ty}
-use Rattle.plan_dsl.specs.Expressions.{tree_of, trees_of}
+use Rattle.plan_dsl.specs.Expressions.{excluded_of, selector_tree, selector_trees, tree_of, trees_of}
 use Rattle.plan_dsl.specs.Literals.{literal_op}
 use Rattle.plan_dsl.specs.Plans.{plan_tree}
-use Rattle.plan_dsl.specs.Selectors.{selector_tree, selector_trees}
 use Rattle.plan_dsl.specs.declared.plan.DslPlan.{DslPlan}
-use Rattle.plan_json.specs.Forms.{Read, name_read, literal_read, operator_read, type_read, mode_read, table_read, columns_read, expression_read, selector_read, plan_read, many_read, chosen_read, leaves_read, reads_of, other_read, nothing_read, flag_read}
+use Rattle.plan_json.specs.Forms.{Read, name_read, literal_read, operator_read, type_read, mode_read, table_read, columns_read, expression_read, selector_read, plan_read, many_read, chosen_read, leaves_read, reads_of, other_read, nothing_read, flag_read, index_read, excluded_read}
 use Rattle.plan_json.specs.Queries.{has_flags}
 use Rattle.plan_json.specs.declared.arguments.Arg.{Arg}
-use Rattle.plan_json.specs.declared.arguments.Arg.TheVariants.{Name, Literal, Operator, Dtype, Mode, Table, Columns, Nothing, Flag, Expression, Selector, Plan, Expressions, Selectors, Flags}
+use Rattle.plan_json.specs.declared.arguments.Arg.TheVariants.{Name, Literal, Operator, Dtype, Mode, Table, Columns, Nothing, Flag, Index, Excluded, Expression, Selector, Plan, Expressions, Selectors, Names, Dtypes, Flags, Indexes, AllExcluded}
 use Rattle.plan_json.specs.declared.arguments.Items.{Items}
+use Rattle.plan_json.specs.declared.forms.Leaf.TheVariants as leaves
 use Rattle.plan_json.specs.declared.arguments.Args.{Args}
 use Rattle.plan_json.specs.declared.arguments.Args.TheVariants as args
 
@@ -28,12 +28,18 @@ arg_view (Table number schema) = table_read number (columns schema.value)
 arg_view (Columns schema) = columns_read (columns schema.value)
 arg_view Nothing = nothing_read
 arg_view (Flag flag) = flag_read flag
+arg_view (Index index) = index_read index
+arg_view (Excluded excluded) = excluded_read (excluded_of excluded.value)
 arg_view (Expression expr) = expression_read (tree_of expr.value)
 arg_view (Selector selector) = selector_read (selector_tree selector.value)
 arg_view (Plan plan) = plan_seen plan.value
 arg_view (Expressions exprs) = many_read (reads_of (map expression_read (trees_of exprs.value)))
 arg_view (Selectors selectors) = chosen_read (reads_of (map selector_read (selector_trees selectors.value)))
-arg_view (Flags flags) = leaves_read (reads_of (map flag_read flags.value.items))
+arg_view (Names names) = leaves_read leaves.Name (reads_of (map name_read names.value.items))
+arg_view (Dtypes types) = leaves_read leaves.Dtype (reads_of (map (λ dtype. type_read (ty dtype)) types.value.items))
+arg_view (Flags flags) = leaves_read leaves.Flag (reads_of (map flag_read flags.value.items))
+arg_view (Indexes indexes) = leaves_read leaves.Index (reads_of (map index_read indexes.value.items))
+arg_view (AllExcluded excluded) = leaves_read leaves.Excluded (reads_of (map (λ item. excluded_read (excluded_of item)) excluded.value.items))
 
 abbrev pub items_seen : Items → List Read
 items_seen items = take items.count (arg_view items.first ∷ arg_view items.second ∷ arg_view items.third ∷ arg_view items.fourth ∷ [])

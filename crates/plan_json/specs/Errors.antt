@@ -1,7 +1,10 @@
 -- Errors, and the faults that they tell.
 use Rattle.std.specs.Prelude.{◌≡◌, ℕ, ◌==◌, List, [], ◌∷◌, ◌++◌, decimal, string_bytes, if◌then◌else◌}
 use Rattle.serde_json.specs.Data.{Data}
-use Rattle.plan_json.specs.Faults.{FaultKind, BadShape, BadFloat, BadName, Step, key, number, Path, Form, IsBadAt}
+use Rattle.plan_types.specs.Schemas.{Name as Text}
+use Rattle.plan_json.specs.Faults.{FaultKind, BadShape, BadFloat, BadName, Step, key, number, Path, Form, IsBadAt, list_of}
+use Rattle.plan_json.specs.Forms.{leaf}
+use Rattle.plan_json.specs.declared.forms.Leaf.{Leaf}
 use Rattle.plan_json.specs.declared.error.JsonError.{JsonError}
 use Rattle.plan_json.specs.declared.error.JsonError.TheVariants.{NotJson, Shape, Float, Name, NoMemory}
 use Rattle.plan_json.specs.declared.error.Step.{Step as CodeStep}
@@ -46,6 +49,10 @@ IsErrorOf form d (Shape path) = IsBadAtPointer form d BadShape (string_bytes pat
 IsErrorOf form d (Float path) = IsBadAtPointer form d BadFloat (string_bytes path)
 IsErrorOf form d (Name path) = IsBadAtPointer form d BadName (string_bytes path)
 IsErrorOf form d NoMemory = Unit {0}
+
+-- it tells a fault of a value that is to be a list of these, whatever tables there are
+pub record IsListErrorOf (which : Leaf) (d : Data) (error : JsonError) : Type 0 where
+  pub told : (names : List Text) → IsErrorOf (list_of names (leaf which)) d error
 
 -- the error tells that the value itself is at fault in this way
 abbrev pub IsOwn : FaultKind → JsonError → Type 0

@@ -9,8 +9,8 @@ use Rattle.serde_json.specs.Events.{items_len}
 use Rattle.serde_json.specs.Find.{as_str, as_array, as_bool, as_null, at, get_item}
 use Rattle.plan_types.specs.Schemas.{Name, is_among, repeats}
 use Rattle.plan_types.specs.Types.{Ty, is_counted}
-use Rattle.plan_json.specs.Forms.{Asked, a_form, leaf, many, Places, single, listed, asks, key_named, row_named, type_rows}
-use Rattle.plan_json.specs.Leaves.{text_of, type_named, type_of, unit_of, literal_of, number_text_of, counted_of, number_of, operator_of, mode_of, column_name, table_name, table_limit}
+use Rattle.plan_json.specs.Forms.{Asked, a_form, leaf, many, Places, single, listed, asks, key_named, row_named, type_rows, excluded_rows}
+use Rattle.plan_json.specs.Leaves.{index_of, text_of, type_named, type_of, unit_of, literal_of, number_text_of, counted_of, number_of, operator_of, mode_of, column_name, table_name, table_limit}
 use Rattle.plan_json.specs.Looking.{both, is_float, only_member, two_members, two_items, some_of, first_items}
 use Rattle.plan_json.specs.declared.forms.Kind.{Kind}
 use Rattle.plan_json.specs.declared.forms.Kind.TheVariants as kinds
@@ -18,6 +18,8 @@ use Rattle.plan_json.specs.declared.forms.Leaf.{Leaf}
 use Rattle.plan_json.specs.declared.forms.Leaf.TheVariants as leaves
 use Rattle.plan_json.specs.declared.forms.TypeKey.{TypeKey}
 use Rattle.plan_json.specs.declared.forms.TypeKey.TheVariants as types
+use Rattle.plan_json.specs.declared.forms.ExcludedKey.{ExcludedKey}
+use Rattle.plan_json.specs.declared.forms.ExcludedKey.TheVariants as excludes
 
 pub data FaultKind : Type 0 where
   -- the value breaks the form
@@ -42,7 +44,7 @@ Path = List Step
 pub data Form : Type 0 where
   a_query table_list column_list field_list a_column a_type a_unit a_text : Form
   a_table a_new_name a_scan : List Name → Form
-  a_literal a_number_text a_typed_literal a_counted_type an_operator a_mode nothing_form flag_form : Form
+  a_literal a_number_text a_typed_literal a_counted_type an_operator a_mode nothing_form flag_form an_index an_excluded : Form
   a_number_of : Ty → Form
   -- an object of one key, which names a form of the kind
   keyed_form : List Name → Kind → Form
@@ -71,6 +73,14 @@ type_form types.Struct = field_list
 abbrev pub type_key_form : List ℕ → Option Form
 type_key_form word = option_map (λ row. type_form row.1) (row_named type_rows word)
 
+-- what the key asks of its value, of what an exclude leaves out
+abbrev pub excluded_form : ExcludedKey → Form
+excluded_form excludes.Name = a_text
+excluded_form excludes.Dtype = a_type
+
+abbrev pub excluded_key_form : List ℕ → Option Form
+excluded_key_form word = option_map (λ row. excluded_form row.1) (row_named excluded_rows word)
+
 -- what has no forms
 abbrev pub leaf_form : List Name → Leaf → Form
 leaf_form names leaves.Name = a_text
@@ -84,6 +94,8 @@ leaf_form names leaves.Table = a_scan names
 leaf_form names leaves.Columns = column_list
 leaf_form names leaves.Nothing = nothing_form
 leaf_form names leaves.Flag = flag_form
+leaf_form names leaves.Index = an_index
+leaf_form names leaves.Excluded = an_excluded
 
 abbrev pub asked_form : List Name → Asked → Form
 asked_form names (a_form kind) = keyed_form names kind
@@ -160,6 +172,8 @@ has_shape an_operator d = is_some (operator_of d)
 has_shape a_mode d = is_some (mode_of d)
 has_shape nothing_form d = is_some (as_null d)
 has_shape flag_form d = is_some (as_bool d)
+has_shape an_index d = is_some (index_of d)
+has_shape an_excluded d = is_some (keyed_part excluded_key_form d)
 has_shape (keyed_form names kind) d = is_some (keyed_part (key_form names kind) d)
 has_shape (list_of names a) d = is_list (λ items. true) d
 has_shape (items_of names ps) d = is_list (λ items. items_len items == length ps) d
@@ -221,6 +235,7 @@ part_of a_type (key word) d = option_and_then (part_if word) (keyed_part type_ke
 part_of (a_table before) (key word) d = option_and_then (table_part before word) (two_members (codes "name") (codes "columns") d)
 part_of a_typed_literal (number n) d = option_and_then (typed_part n) (two_items d)
 part_of a_counted_type (key word) d = option_and_then (part_if word) (keyed_part type_key_form d)
+part_of an_excluded (key word) d = option_and_then (part_if word) (keyed_part excluded_key_form d)
 part_of (keyed_form names kind) (key word) d = option_and_then (part_if word) (keyed_part (key_form names kind) d)
 part_of (list_of names a) (number n) d = option_map (part (asked_form names a)) (at n d)
 part_of (items_of names ps) (number n) d = option_and_then (item_part names ps n) (as_array d)

@@ -1,19 +1,20 @@
 -- The table of forms: the keys of an object of one key, what each asks of its value, and what it says.
-use Rattle.std.specs.Prelude.{◌≡◌, ℕ, List, [], ◌∷◌, Option, Some, None, Bool, ◌&&◌, true, false, option_map, codes, length, map, if◌then◌else◌}
+use Rattle.std.specs.Prelude.{◌≡◌, ℕ, List, [], ◌∷◌, Option, Some, None, Bool, ◌&&◌, ℤ, true, false, option_map, codes, length, map, if◌then◌else◌}
 use Rattle.std.specs.Str.{bytes_eq}
 use Rattle.plan_types.specs.Schemas.{Name, Columns}
 use Rattle.plan_types.specs.Types.{Ty}
 use Rattle.plan_types.specs.declared.dtype.CastOptions.{CastOptions}
-use Rattle.plan_dsl.specs.Ops.{Op, ColumnOp, BinaryOp, CastOp, LenOp, SliceOp, ExplodeOp, GatherOp, FilterOp, SortOp, SortByOp, AliasOp, Expression}
-use Rattle.plan_dsl.specs.Plans.{SourcePlan, scan_op, written_select, written_hstack, written_filter, written_drop}
-use Rattle.plan_dsl.specs.Selectors.{of_two}
-use Rattle.plan_dsl.specs.Sources.{Source, Add, Sub, Intersect, ExclusiveOr, RootOp, written}
+use Rattle.plan_dsl.specs.Ops.{Op, ColumnOp, BinaryOp, CastOp, LenOp, SliceOp, ExplodeOp, GatherOp, FilterOp, SortOp, SortByOp, AliasOp}
+use Rattle.plan_dsl.specs.Plans.{SourcePlan, scan_op, source_select, source_hstack, source_filter, source_drop}
+use Rattle.plan_dsl.specs.Sources.{Excluded, Source, Plain, WildcardOp, ColumnsOp, DtypeColumnOp, IndexColumnOp, NthOp, ExcludeOp, SelectorOp, RootOp, RenameOp, KeepRoot, AddPrefix, AddSuffix, SetName, Add, Sub, Intersect, ExclusiveOr, of_two}
 use Rattle.plan_dsl.specs.Trees.{node, no_more, more, children_from}
 use Rattle.plan_dsl.specs.declared.operator.Operator.{Operator}
 use Rattle.plan_json.specs.declared.forms.Kind.{Kind}
 use Rattle.plan_json.specs.declared.forms.Kind.TheVariants as kinds
 use Rattle.plan_json.specs.declared.forms.Leaf.{Leaf}
 use Rattle.plan_json.specs.declared.forms.Leaf.TheVariants as leaves
+use Rattle.plan_json.specs.declared.forms.ListLeaf.{ListLeaf}
+use Rattle.plan_json.specs.declared.forms.ListLeaf.TheVariants as lists
 use Rattle.plan_json.specs.declared.forms.Place.{Place}
 use Rattle.plan_json.specs.declared.forms.Place.TheVariants as places
 use Rattle.plan_json.specs.declared.forms.Places.{Places as CodePlaces}
@@ -28,6 +29,8 @@ use Rattle.plan_json.specs.declared.forms.PlanKey.{PlanKey}
 use Rattle.plan_json.specs.declared.forms.PlanKey.TheVariants as by
 use Rattle.plan_json.specs.declared.forms.TypeKey.{TypeKey}
 use Rattle.plan_json.specs.declared.forms.TypeKey.TheVariants as types
+use Rattle.plan_json.specs.declared.forms.ExcludedKey.{ExcludedKey}
+use Rattle.plan_json.specs.declared.forms.ExcludedKey.TheVariants as excludes
 
 -- ---- what a place asks for
 
@@ -72,7 +75,18 @@ expression_rows =
     (codes "filter", of.Filter) ∷
     (codes "sort", of.Sort) ∷
     (codes "sort_by", of.SortBy) ∷
-    (codes "alias", of.Alias) ∷ []
+    (codes "alias", of.Alias) ∷
+    (codes "cols", of.Cols) ∷
+    (codes "dtypes", of.Dtypes) ∷
+    (codes "at", of.At) ∷
+    (codes "nth", of.Nth) ∷
+    (codes "all", of.All) ∷
+    (codes "exclude", of.Exclude) ∷
+    (codes "selector", of.Selector) ∷
+    (codes "keep_name", of.KeepName) ∷
+    (codes "prefix", of.Prefix) ∷
+    (codes "suffix", of.Suffix) ∷
+    (codes "fixed", of.Fixed) ∷ []
 
 -- what each asks of its value
 abbrev pub expression_asks : ExpressionKey → Places
@@ -90,6 +104,17 @@ expression_asks of.Filter = listed (expression ∷ expression ∷ [])
 expression_asks of.Sort = listed (expression ∷ leaf leaves.Flag ∷ leaf leaves.Flag ∷ [])
 expression_asks of.SortBy = listed (expression ∷ many expression ∷ many (leaf leaves.Flag) ∷ many (leaf leaves.Flag) ∷ [])
 expression_asks of.Alias = listed (expression ∷ leaf leaves.Name ∷ [])
+expression_asks of.Cols = single (many (leaf leaves.Name))
+expression_asks of.Dtypes = single (many (leaf leaves.Dtype))
+expression_asks of.At = single (many (leaf leaves.Index))
+expression_asks of.Nth = single (leaf leaves.Index)
+expression_asks of.All = single (leaf leaves.Nothing)
+expression_asks of.Exclude = listed (expression ∷ many (leaf leaves.Excluded) ∷ [])
+expression_asks of.Selector = single selector
+expression_asks of.KeepName = single expression
+expression_asks of.Prefix = listed (expression ∷ leaf leaves.Name ∷ [])
+expression_asks of.Suffix = listed (expression ∷ leaf leaves.Name ∷ [])
+expression_asks of.Fixed = listed (expression ∷ leaf leaves.Name ∷ [])
 
 -- ---- selectors
 
@@ -141,6 +166,14 @@ type_rows =
     (codes "List", types.List) ∷
     (codes "Struct", types.Struct) ∷ []
 
+-- ---- what an exclude leaves out
+
+-- its keys
+abbrev pub excluded_rows : List (List ℕ × ExcludedKey)
+excluded_rows =
+    (codes "name", excludes.Name) ∷
+    (codes "dtype", excludes.Dtype) ∷ []
+
 -- ---- what a value says
 
 -- what is read of an item, and of a list of them
@@ -155,14 +188,16 @@ mutual
     columns_read : Columns → Read
     nothing_read : Read
     flag_read : Bool → Read
-    expression_read : Expression → Read
+    index_read : ℤ → Read
+    excluded_read : Excluded → Read
+    expression_read : Source → Read
     selector_read : Source → Read
     plan_read : SourcePlan → Read
     many_read : Reads → Read
     -- of a list of selectors
     chosen_read : Reads → Read
     -- of a list of what has no forms
-    leaves_read : Reads → Read
+    leaves_read : Leaf → Reads → Read
     -- a plan that no query can write
     other_read : Read
 
@@ -176,12 +211,12 @@ reads_of (r ∷ rs) = more_read r (reads_of rs)
 
 -- what is read of a list of these
 abbrev pub list_read : Asked → Reads → Read
-list_read (leaf which) rs = leaves_read rs
+list_read (leaf which) rs = leaves_read which rs
 list_read (a_form kinds.Selector) rs = chosen_read rs
 list_read _ rs = many_read rs
 
 -- the expressions among them
-abbrev pub expressions_in : Reads → List Expression
+abbrev pub expressions_in : Reads → List Source
 expressions_in no_read = []
 expressions_in (more_read (expression_read tree) rs) = tree ∷ expressions_in rs
 expressions_in (more_read _ rs) = expressions_in rs
@@ -198,31 +233,66 @@ flags_in no_read = []
 flags_in (more_read (flag_read flag) rs) = flag ∷ flags_in rs
 flags_in (more_read _ rs) = flags_in rs
 
-abbrev pub expression_says : ExpressionKey → List Read → Option Expression
-expression_says of.Col (name_read name ∷ []) = Some (node (ColumnOp name) no_more)
-expression_says of.Lit (literal_read op ∷ []) = Some (node op no_more)
-expression_says of.Int (literal_read op ∷ []) = Some (node op no_more)
-expression_says of.Typed (literal_read op ∷ []) = Some (node op no_more)
+-- the names among them
+abbrev pub names_in : Reads → List Name
+names_in no_read = []
+names_in (more_read (name_read name) rs) = name ∷ names_in rs
+names_in (more_read _ rs) = names_in rs
+
+-- the types among them
+abbrev pub types_in : Reads → List Ty
+types_in no_read = []
+types_in (more_read (type_read type) rs) = type ∷ types_in rs
+types_in (more_read _ rs) = types_in rs
+
+-- the numbers among them
+abbrev pub indexes_in : Reads → List ℤ
+indexes_in no_read = []
+indexes_in (more_read (index_read index) rs) = index ∷ indexes_in rs
+indexes_in (more_read _ rs) = indexes_in rs
+
+-- what is left out among them
+abbrev pub excluded_in : Reads → List Excluded
+excluded_in no_read = []
+excluded_in (more_read (excluded_read excluded) rs) = excluded ∷ excluded_in rs
+excluded_in (more_read _ rs) = excluded_in rs
+
+abbrev pub expression_says : ExpressionKey → List Read → Option Source
+expression_says of.Col (name_read name ∷ []) = Some (node (Plain (ColumnOp name)) no_more)
+expression_says of.Lit (literal_read op ∷ []) = Some (node (Plain op) no_more)
+expression_says of.Int (literal_read op ∷ []) = Some (node (Plain op) no_more)
+expression_says of.Typed (literal_read op ∷ []) = Some (node (Plain op) no_more)
 expression_says of.Bin (operator_read op ∷ expression_read left ∷ expression_read right ∷ []) =
-    Some (node (BinaryOp op) (more left (more right no_more)))
+    Some (node (Plain (BinaryOp op)) (more left (more right no_more)))
 expression_says of.Cast (expression_read operand ∷ type_read type ∷ mode_read mode ∷ []) =
-    Some (node (CastOp type mode) (more operand no_more))
-expression_says of.Len (nothing_read ∷ []) = Some (node LenOp no_more)
+    Some (node (Plain (CastOp type mode)) (more operand no_more))
+expression_says of.Len (nothing_read ∷ []) = Some (node (Plain LenOp) no_more)
 expression_says of.Slice (expression_read input ∷ expression_read offset ∷ expression_read count ∷ []) =
-    Some (node SliceOp (more input (more offset (more count no_more))))
-expression_says of.Explode (expression_read input ∷ []) = Some (node ExplodeOp (more input no_more))
+    Some (node (Plain SliceOp) (more input (more offset (more count no_more))))
+expression_says of.Explode (expression_read input ∷ []) = Some (node (Plain ExplodeOp) (more input no_more))
 expression_says of.Gather (expression_read input ∷ expression_read index ∷ flag_read returns_scalar ∷ []) =
-    Some (node (GatherOp returns_scalar) (more input (more index no_more)))
-expression_says of.Filter (expression_read input ∷ expression_read truth ∷ []) = Some (node FilterOp (more input (more truth no_more)))
+    Some (node (Plain (GatherOp returns_scalar)) (more input (more index no_more)))
+expression_says of.Filter (expression_read input ∷ expression_read truth ∷ []) = Some (node (Plain FilterOp) (more input (more truth no_more)))
 expression_says of.Sort (expression_read input ∷ flag_read descending ∷ flag_read nulls_last ∷ []) =
-    Some (node (SortOp (record { descending = descending; nulls_last = nulls_last })) (more input no_more))
-expression_says of.SortBy (expression_read input ∷ many_read keys ∷ leaves_read descending ∷ leaves_read nulls_last ∷ []) =
-    Some (node (SortByOp (flags_in descending) (flags_in nulls_last)) (more input (children_from (expressions_in keys))))
-expression_says of.Alias (expression_read operand ∷ name_read name ∷ []) = Some (node (AliasOp name) (more operand no_more))
+    Some (node (Plain (SortOp (record { descending = descending; nulls_last = nulls_last }))) (more input no_more))
+expression_says of.SortBy (expression_read input ∷ many_read keys ∷ leaves_read _ descending ∷ leaves_read _ nulls_last ∷ []) =
+    Some (node (Plain (SortByOp (flags_in descending) (flags_in nulls_last))) (more input (children_from (expressions_in keys))))
+expression_says of.Alias (expression_read operand ∷ name_read name ∷ []) = Some (node (Plain (AliasOp name)) (more operand no_more))
+expression_says of.Cols (leaves_read _ names ∷ []) = Some (node (ColumnsOp (names_in names)) no_more)
+expression_says of.Dtypes (leaves_read _ types ∷ []) = Some (node (DtypeColumnOp (types_in types)) no_more)
+expression_says of.At (leaves_read _ places ∷ []) = Some (node (IndexColumnOp (indexes_in places)) no_more)
+expression_says of.Nth (index_read place ∷ []) = Some (node (NthOp place) no_more)
+expression_says of.All (nothing_read ∷ []) = Some (node WildcardOp no_more)
+expression_says of.Exclude (expression_read marker ∷ leaves_read _ excluded ∷ []) = Some (node (ExcludeOp (excluded_in excluded)) (more marker no_more))
+expression_says of.Selector (selector_read selector ∷ []) = Some (node SelectorOp (more selector no_more))
+expression_says of.KeepName (expression_read operand ∷ []) = Some (node (RenameOp KeepRoot) (more operand no_more))
+expression_says of.Prefix (expression_read operand ∷ name_read text ∷ []) = Some (node (RenameOp (AddPrefix text)) (more operand no_more))
+expression_says of.Suffix (expression_read operand ∷ name_read text ∷ []) = Some (node (RenameOp (AddSuffix text)) (more operand no_more))
+expression_says of.Fixed (expression_read operand ∷ name_read text ∷ []) = Some (node (RenameOp (SetName text)) (more operand no_more))
 expression_says _ _ = None
 
 abbrev pub selector_says : SelectorKey → List Read → Option Source
-selector_says from.Root (expression_read tree ∷ []) = Some (node RootOp (more (written tree) no_more))
+selector_says from.Root (expression_read tree ∷ []) = Some (node RootOp (more tree no_more))
 selector_says from.Add (selector_read first ∷ selector_read second ∷ []) = Some (of_two Add first second)
 selector_says from.Sub (selector_read first ∷ selector_read second ∷ []) = Some (of_two Sub first second)
 selector_says from.And (selector_read first ∷ selector_read second ∷ []) = Some (of_two Intersect first second)
@@ -233,13 +303,13 @@ abbrev pub plan_says : PlanKey → List Read → Option SourcePlan
 plan_says by.Scan (table_read number columns ∷ []) = Some (node (scan_op (Some number) columns) no_more)
 plan_says by.Empty (columns_read columns ∷ []) = Some (node (scan_op None columns) no_more)
 plan_says by.Filter (plan_read input ∷ expression_read predicate ∷ []) =
-    Some (written_filter predicate input)
+    Some (source_filter predicate input)
 plan_says by.Select (plan_read input ∷ many_read outputs ∷ []) =
-    Some (written_select (expressions_in outputs) input)
+    Some (source_select (expressions_in outputs) input)
 plan_says by.WithColumns (plan_read input ∷ many_read outputs ∷ []) =
-    Some (written_hstack (expressions_in outputs) input)
+    Some (source_hstack (expressions_in outputs) input)
 plan_says by.Drop (plan_read input ∷ chosen_read selectors ∷ flag_read strict ∷ []) =
-    Some (written_drop (selectors_in selectors) strict input)
+    Some (source_drop (selectors_in selectors) strict input)
 plan_says _ _ = None
 
 -- ---- keys of any kind
@@ -286,7 +356,13 @@ abbrev mutual
   fits (leaf leaves.Columns) (columns_read columns) = true
   fits (leaf leaves.Nothing) nothing_read = true
   fits (leaf leaves.Flag) (flag_read flag) = true
-  fits (many (leaf which)) (leaves_read rs) = all_fit (leaf which) rs
+  fits (leaf leaves.Index) (index_read index) = true
+  fits (leaf leaves.Excluded) (excluded_read excluded) = true
+  fits (many (leaf leaves.Name)) (leaves_read leaves.Name rs) = all_fit (leaf leaves.Name) rs
+  fits (many (leaf leaves.Dtype)) (leaves_read leaves.Dtype rs) = all_fit (leaf leaves.Dtype) rs
+  fits (many (leaf leaves.Flag)) (leaves_read leaves.Flag rs) = all_fit (leaf leaves.Flag) rs
+  fits (many (leaf leaves.Index)) (leaves_read leaves.Index rs) = all_fit (leaf leaves.Index) rs
+  fits (many (leaf leaves.Excluded)) (leaves_read leaves.Excluded rs) = all_fit (leaf leaves.Excluded) rs
   fits (many (a_form kinds.Expression)) (many_read rs) = all_fit expression rs
   fits (many (a_form kinds.Selector)) (chosen_read rs) = all_fit selector rs
   fits (many (a_form kinds.Plan)) (many_read rs) = all_fit plan rs
@@ -317,12 +393,19 @@ pub record AllFit (asked : List Asked) (found : List Read) : Type 0 where
 
 -- ---- the code's table
 
+abbrev pub listed_leaf : ListLeaf → Leaf
+listed_leaf lists.Name = leaves.Name
+listed_leaf lists.Dtype = leaves.Dtype
+listed_leaf lists.Flag = leaves.Flag
+listed_leaf lists.Index = leaves.Index
+listed_leaf lists.Excluded = leaves.Excluded
+
 abbrev pub place_view : Place → Asked
 place_view (places.Form kind) = a_form kind
 place_view (places.Leaf which) = leaf which
 place_view places.Expressions = many expression
 place_view places.Selectors = many selector
-place_view places.Flags = many (leaf leaves.Flag)
+place_view (places.Leaves which) = many (leaf (listed_leaf which))
 
 abbrev pub places_view : CodePlaces → Places
 places_view (counts.One p) = single (place_view p)

@@ -6,7 +6,7 @@ use Rattle.std.specs.Option.{option_or}
 use Rattle.std.specs.Str.{chars, bytes_eq}
 use Rattle.serde_json.specs.Data.{Data, null, boolean, number as numeral, string, array, object, Items, no_items, item, no_members, member}
 use Rattle.serde_json.specs.Events.{items_len}
-use Rattle.serde_json.specs.Find.{get, as_str, as_array}
+use Rattle.serde_json.specs.Find.{get, as_str, as_array, as_number, as_i64}
 use Rattle.plan_types.specs.Schemas.{Name, Columns, same_name, names_of, repeats}
 use Rattle.plan_types.specs.Casts.{number_in}
 use Rattle.plan_types.specs.Types.{Ty, NullType, Truth, Integer, TextType, DateType, TimeType, DatetimeType, DurationType, ListType, StructType, Untyped, Fields, fields_from, is_counted}
@@ -16,13 +16,16 @@ use Rattle.plan_types.specs.declared.dtype.CastOptions.TheVariants.{Strict, NonS
 use Rattle.plan_types.specs.declared.dtype.TimeUnit.{TimeUnit}
 use Rattle.plan_types.specs.declared.dtype.TimeUnit.TheVariants.{Nanoseconds, Microseconds, Milliseconds}
 use Rattle.plan_dsl.specs.Ops.{Op, LiteralOp}
+use Rattle.plan_dsl.specs.Sources.{Excluded, ExcludedName, ExcludedType}
 use Rattle.plan_dsl.specs.declared.operator.Operator.{Operator}
 use Rattle.plan_dsl.specs.declared.operator.Operator.TheVariants.{Eq, EqValidity, NotEq, NotEqValidity, Lt, LtEq, Gt, GtEq, Plus, Minus, Multiply, Divide, FloorDivide, Modulus, And, Or, Xor, LogicalAnd, LogicalOr}
-use Rattle.plan_json.specs.Forms.{row_named, type_rows}
-use Rattle.plan_json.specs.Looking.{both, whole_number, two_members, two_items, all_of, some_of}
+use Rattle.plan_json.specs.Forms.{row_named, type_rows, excluded_rows}
+use Rattle.plan_json.specs.Looking.{both, whole_number, only_member, two_members, two_items, all_of, some_of}
 use Rattle.plan_json.specs.Tables.{Declared}
 use Rattle.plan_json.specs.declared.forms.TypeKey.{TypeKey}
 use Rattle.plan_json.specs.declared.forms.TypeKey.TheVariants as types
+use Rattle.plan_json.specs.declared.forms.ExcludedKey.{ExcludedKey}
+use Rattle.plan_json.specs.declared.forms.ExcludedKey.TheVariants as excludes
 
 -- ---- names and types
 
@@ -139,6 +142,21 @@ mode_named name =
 
 abbrev pub mode_of : Data → Option CastOptions
 mode_of d = option_and_then mode_named (as_str d)
+
+-- ---- places of columns, and what an exclude leaves out
+
+-- a whole number of 64 bits with a sign
+abbrev pub index_of : Data → Option ℤ
+index_of d = option_and_then as_i64 (as_number d)
+
+-- what its key says of its value
+abbrev pub keyed_excluded : ExcludedKey → Data → Option Excluded
+keyed_excluded excludes.Name d = option_map ExcludedName (text_of d)
+keyed_excluded excludes.Dtype d = option_map ExcludedType (type_of d)
+
+-- an object of one key: `{"name": name}` or `{"dtype": type}`
+abbrev pub excluded_item : Data → Option Excluded
+excluded_item d = option_and_then (λ m. option_and_then (λ row. keyed_excluded row.1 m.1) (row_named excluded_rows m.0)) (only_member d)
 
 -- ---- columns
 

@@ -5,8 +5,8 @@ use Rattle.serde_json.specs.Data.{Data, array, object, Items, no_items, item, no
 use Rattle.plan_dsl.specs.Plans.{SourcePlan, plan_tree}
 use Rattle.plan_dsl.specs.declared.plan.DslPlan.{DslPlan}
 use Rattle.plan_dsl.specs.declared.plan.DslPlan.TheVariants.{DataFrameScan, Filter', HStack', MapFunction', Select'}
-use Rattle.plan_json.specs.Forms.{Asked, a_form, leaf, many, Places, single, listed, plan, Read, name_read, literal_read, operator_read, type_read, mode_read, table_read, columns_read, plan_read, many_read, list_read, reads_of, key_named, asks, says, nothing_read, flag_read, Fits}
-use Rattle.plan_json.specs.Leaves.{text_of, literal_of, number_text_of, typed_of, operator_of, type_of, mode_of, table_at, columns_of, tables_of}
+use Rattle.plan_json.specs.Forms.{Asked, a_form, leaf, many, Places, single, listed, plan, Read, name_read, literal_read, operator_read, type_read, mode_read, table_read, columns_read, plan_read, list_read, reads_of, key_named, asks, says, nothing_read, flag_read, index_read, excluded_read, Fits}
+use Rattle.plan_json.specs.Leaves.{excluded_item, index_of, text_of, literal_of, number_text_of, typed_of, operator_of, type_of, mode_of, table_at, columns_of, tables_of}
 use Rattle.plan_json.specs.Looking.{both, two_members}
 use Rattle.plan_json.specs.Tables.{Declared, declared}
 use Rattle.plan_json.specs.declared.forms.Leaf.{Leaf}
@@ -39,6 +39,8 @@ leaf_of tables leaves.Table d = option_map (λ table. table_read table.0 table.1
 leaf_of tables leaves.Columns d = option_map columns_read (columns_of d)
 leaf_of tables leaves.Nothing d = nothing_of d
 leaf_of tables leaves.Flag d = option_map flag_read (as_bool d)
+leaf_of tables leaves.Index d = option_map index_read (index_of d)
+leaf_of tables leaves.Excluded d = option_map excluded_read (excluded_item d)
 
 -- the first of these, and the others
 abbrev pub front : Option Read → Option (List Read) → Option (List Read)

@@ -3,20 +3,23 @@ use Prim.Native.String.{String as Literal}
 use Rattle.std.specs.Prelude.{◌≡◌, ◌+◌, ℕ, ℤ, negsuc, List, [], ◌∷◌, map, codes, ⊤, true, Option, Some, None, option_and_then, String, string_bytes}
 use Rattle.std.specs.Global.{Global}
 use Rattle.std.specs.Option.{option_map_or}
-use Rattle.serde_json.specs.Data.{Data, Items, Members, array, no_items, item, no_members, member, negative, number, object, string, unsigned}
+use Rattle.serde_json.specs.Data.{Data, Items, Members, array, no_items, item, no_members, member, negative, null, number, object, string, unsigned}
 use Rattle.plan_types.specs.Schemas.{Columns, Name as Text}
 use Rattle.plan_types.specs.Types.{Ty, Integer, Untyped}
 use Rattle.plan_types.specs.Values.{IntValue}
 use Rattle.plan_types.specs.declared.dtype.CastOptions.{CastOptions}
 use Rattle.plan_dsl.specs.declared.operator.Operator.{Operator}
 use Rattle.plan_dsl.specs.Ops.{ColumnOp, LiteralOp, BinaryOp, CastOp, Expression, Op}
-use Rattle.plan_dsl.specs.Plans.{SourcePlan, scan_op, written_select, written_filter}
+use Rattle.plan_dsl.specs.Plans.{SourcePlan, scan_op}
+use Rattle.plan_dsl.specs.Sources.{Source, written}
+use Rattle.plan_dsl.specs.Samples.{written_select, written_filter}
 use Rattle.plan_dsl.specs.Trees.{node, no_more, more}
 use Rattle.plan_json.specs.Bytes.{IsRefusalOf, WritesQuery}
 use Rattle.plan_json.specs.Faults.{FaultKind, BadShape, BadFloat, BadName, Form, Part, Path, Step, fault_at, key, number as at_number, own_fault, part, part_of, keyed_form, list_of, places_form}
-use Rattle.plan_json.specs.Forms.{Read, expression, expression_read, asks}
+use Rattle.plan_json.specs.Forms.{Read, expression, expression_read, selector, selector_read, asks, leaf as leaf_of_form}
 use Rattle.plan_json.specs.Queries.{QueryModel, read_as}
 use Rattle.plan_json.specs.declared.forms.Kind.TheVariants as kinds
+use Rattle.plan_json.specs.declared.forms.Leaf.{Leaf}
 use Rattle.plan_json.specs.declared.forms.Key.TheVariants as keys
 use Rattle.plan_json.specs.declared.forms.ExpressionKey.TheVariants as of
 use Rattle.plan_json.specs.declared.forms.PlanKey.TheVariants as by
@@ -91,6 +94,9 @@ bin parts = keyed "bin" (list parts)
 
 abbrev pub cast_value : List Data → Data
 cast_value parts = keyed "cast" (list parts)
+
+abbrev pub every_column : Data
+every_column = keyed "all" null
 
 abbrev pub scan_value : Literal → Data
 scan_value table = keyed "scan" (word table)
@@ -207,16 +213,32 @@ NoJson text = IsRefusalOf (codes text) NotJson
 
 -- ---- forms
 
-abbrev pub expression_in : Read → Option Expression
+abbrev pub expression_in : Read → Option Source
 expression_in (expression_read tree) = Some tree
 expression_in _ = None
 
 -- the expression that a value is
-abbrev pub expression_of : Data → Option Expression
+abbrev pub expression_of : Data → Option Source
 expression_of d = option_and_then expression_in (read_as [] expression d)
+
+-- each value reads to the expression that stands beside it, which has plans' ops alone
+abbrev pub ReadAs : List (Data × Expression) → Type 0
+ReadAs table = map (λ row. expression_of row.0) table ≡ map (λ row. Some (written row.1)) table
+
+abbrev pub selector_in : Read → Option Source
+selector_in (selector_read tree) = Some tree
+selector_in _ = None
+
+-- the selector that a value is
+abbrev pub selector_of : Data → Option Source
+selector_of d = option_and_then selector_in (read_as [] selector d)
 
 abbrev pub expression_over : List Text → Form
 expression_over names = keyed_form names kinds.Expression
+
+-- a list of what has no forms
+abbrev pub leaf_list : Leaf → Form
+leaf_list which = list_of [] (leaf_of_form which)
 
 abbrev pub expression_list : List Text → Form
 expression_list names = list_of names expression
@@ -226,6 +248,9 @@ operands = places_form [] (asks (keys.Expression of.Bin))
 
 abbrev pub a_cast : Form
 a_cast = places_form [] (asks (keys.Expression of.Cast))
+
+abbrev pub an_exclude : Form
+an_exclude = places_form [] (asks (keys.Expression of.Exclude))
 
 abbrev pub a_filter : List Text → Form
 a_filter names = places_form names (asks (keys.Plan by.Filter))

@@ -1,18 +1,18 @@
 //! What is read of a key's value, item by item, and taking it apart again.
 ghost use Rattle.std.specs.Prelude.{◌≡◌, ◌∷◌, [], false, length, map};
-ghost use Rattle.plan_dsl.specs.Expressions.{tree_of, trees_of};
+ghost use Rattle.plan_dsl.specs.Expressions.{excluded_of, selector_tree, selector_trees, tree_of, trees_of};
 ghost use Rattle.plan_dsl.specs.Literals.{literal_op};
 ghost use Rattle.plan_dsl.specs.Plans.{plan_tree};
-ghost use Rattle.plan_dsl.specs.Selectors.{selector_tree, selector_trees};
 ghost use Rattle.plan_types.specs.Schemas.{columns};
 ghost use Rattle.plan_types.specs.Types.{ty};
 ghost use Rattle.plan_json.specs.Arguments.{arg_view, args_view};
-ghost use Rattle.plan_json.specs.Forms.{AllFit, Asked, Fits, chosen_read, columns_read, expression, expression_read, leaf, leaves_read, literal_read, many, many_read, mode_read, name_read, operator_read, plan, plan_read, reads_of, selector, selector_read, table_read, type_read, nothing_read, flag_read};
+ghost use Rattle.plan_json.specs.Forms.{AllFit, Asked, Fits, chosen_read, columns_read, expression, expression_read, leaf, leaves_read, literal_read, many, many_read, mode_read, name_read, operator_read, plan, plan_read, reads_of, selector, selector_read, table_read, type_read, nothing_read, flag_read, index_read, excluded_read};
 ghost use Rattle.plan_json.specs.Queries.{has_flags};
 ghost use Rattle.plan_json.specs.declared.forms.Leaf.TheVariants as leaves;
 
 use plan_dsl::expr::{Expr, Exprs};
 use plan_dsl::literal::LiteralValue;
+use plan_dsl::marker::Excluded;
 use plan_dsl::operator::Operator;
 use plan_dsl::plan::DslPlan;
 use plan_dsl::selector::{Selector, Selectors};
@@ -33,12 +33,18 @@ pub(crate) enum Arg {
     Columns(Box<Schema>),
     Nothing,
     Flag(bool),
+    Index(i64),
+    Excluded(Box<Excluded>),
     Expression(Box<Expr>),
     Selector(Box<Selector>),
     Plan(Box<DslPlan>),
     Expressions(Box<Exprs>),
     Selectors(Box<Selectors>),
+    Names(Box<Vec<PlSmallStr>>),
+    Dtypes(Box<Vec<DataType>>),
     Flags(Box<Vec<bool>>),
+    Indexes(Box<Vec<i64>>),
+    AllExcluded(Box<Vec<Excluded>>),
 }
 
 // What is read of the items of a list, in order: so many, and nothing behind them. They stand in place.
@@ -279,6 +285,16 @@ pub(crate) fn flag(arg: Arg) -> bool
     }
 }
 
+pub(crate) fn index(arg: Arg) -> i64
+    requires { Fits (leaf leaves.Index) (arg_view arg) }
+    ensures { arg_view arg ≡ index_read result }
+{
+    match arg {
+        Arg::Index(index) => index,
+        _ => unreachable!(),
+    }
+}
+
 pub(crate) fn expression(arg: Arg) -> Box<Expr>
     requires { Fits expression (arg_view arg) }
     ensures { arg_view arg ≡ expression_read (tree_of result.value) }
@@ -335,10 +351,54 @@ pub(crate) fn selectors(arg: Arg) -> Selectors
 // A list of truth values, in the box in which it was read.
 pub(crate) fn flags(arg: Arg) -> Flags
     requires { Fits (many (leaf leaves.Flag)) (arg_view arg) }
-    ensures { arg_view arg ≡ leaves_read (reads_of (map flag_read result.items.value.items)) }
+    ensures { arg_view arg ≡ leaves_read leaves.Flag (reads_of (map flag_read result.items.value.items)) }
 {
     match arg {
         Arg::Flags(items) => Flags { items },
+        _ => unreachable!(),
+    }
+}
+
+// A list of names.
+pub(crate) fn names(arg: Arg) -> Vec<PlSmallStr>
+    requires { Fits (many (leaf leaves.Name)) (arg_view arg) }
+    ensures { arg_view arg ≡ leaves_read leaves.Name (reads_of (map name_read result.items)) }
+{
+    match arg {
+        Arg::Names(names) => Box::into_inner(names),
+        _ => unreachable!(),
+    }
+}
+
+// A list of types.
+pub(crate) fn dtypes(arg: Arg) -> Vec<DataType>
+    requires { Fits (many (leaf leaves.Dtype)) (arg_view arg) }
+    ensures { arg_view arg ≡ leaves_read leaves.Dtype (reads_of (map (λ dtype. type_read (ty dtype)) result.items)) }
+{
+    match arg {
+        Arg::Dtypes(dtypes) => Box::into_inner(dtypes),
+        _ => unreachable!(),
+    }
+}
+
+// A list of whole numbers.
+pub(crate) fn indexes(arg: Arg) -> Vec<i64>
+    requires { Fits (many (leaf leaves.Index)) (arg_view arg) }
+    ensures { arg_view arg ≡ leaves_read leaves.Index (reads_of (map index_read result.items)) }
+{
+    match arg {
+        Arg::Indexes(indexes) => Box::into_inner(indexes),
+        _ => unreachable!(),
+    }
+}
+
+// A list of what an exclude leaves out.
+pub(crate) fn excluded(arg: Arg) -> Vec<Excluded>
+    requires { Fits (many (leaf leaves.Excluded)) (arg_view arg) }
+    ensures { arg_view arg ≡ leaves_read leaves.Excluded (reads_of (map (λ item. excluded_read (excluded_of item)) result.items)) }
+{
+    match arg {
+        Arg::AllExcluded(excluded) => Box::into_inner(excluded),
         _ => unreachable!(),
     }
 }

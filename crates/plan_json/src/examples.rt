@@ -3,19 +3,23 @@
 
 pub mod errors;
 pub mod faults;
+pub mod markers;
 
 ghost use Rattle.std.specs.Prelude.{◌≡◌, pos, [], ◌∷◌, Some, None, codes, nat_lt, true, false, ℕ, ℤ, negsuc, Float, List};
 ghost use Rattle.plan_types.specs.Types.{NullType, Truth, Integer, TextType, DateType, TimeType, DatetimeType, DurationType, ListType, StructType, no_field, with_field, Untyped};
 ghost use Rattle.plan_types.specs.declared.dtype.CastOptions.TheVariants.{Strict, NonStrict, Overflowing};
 ghost use Rattle.plan_types.specs.declared.dtype.TimeUnit.TheVariants.{Nanoseconds, Microseconds, Milliseconds};
-ghost use Rattle.plan_dsl.specs.Plans.{empty_table, written_hstack};
+ghost use Rattle.plan_dsl.specs.Plans.{empty_table, source_select};
 ghost use Rattle.plan_dsl.specs.declared.operator.Operator.TheVariants.{Lt, GtEq, Plus, Eq, EqValidity, NotEq, NotEqValidity, LtEq, Gt, Minus, Multiply, Divide, FloorDivide, Modulus, And, Or, Xor, LogicalAnd, LogicalOr};
 ghost use Rattle.serde_json.specs.Data.{Items, array, boolean, member, no_members, null, object, float, negative, number, string, unsigned};
 ghost use Rattle.serde_json.specs.Events.{items_len};
 ghost use Rattle.plan_json.specs.Leaves.{columns_of, table_limit, tables_of, type_of, unit_of, literal_of, number_text_of, number_written, operator_of, typed_of};
-ghost use Rattle.plan_json.specs.Queries.{plan_of, query_of, QueryModel};
-ghost use Rattle.plan_dsl.specs.Samples.{alias, count, explode, gather_one, keep_where, slice, sort_as, sort_by, way};
-ghost use Rattle.plan_json.specs.Samples.{expression_of, Gives, GivesAll, bin, binary, cast_to, cast_value, col, column, column_value, empty_value, filter, filter_value, int8, int64, keyed, keyed_twice, list, moments, query, query_value, scan, scan_value, select, select_value, spans, table_value, untyped, whole, word, below_zero, leaf, typed, Each, Refused, Writes, NoJson};
+ghost use Rattle.plan_json.specs.Forms.{Read, flag_read, leaf as one};
+ghost use Rattle.plan_json.specs.Queries.{IsItem, plan_of, query_of, QueryModel};
+ghost use Rattle.plan_json.specs.declared.forms.Leaf.TheVariants as leaves;
+ghost use Rattle.plan_dsl.specs.Samples.{alias, all, count, explode, form, gather_one, keep_where, nth, slice, sort_as, sort_by, way, written_hstack};
+ghost use Rattle.plan_dsl.specs.Sources.{AddSuffix};
+ghost use Rattle.plan_json.specs.Samples.{ReadAs, items_of, expression_of, Gives, GivesAll, bin, binary, cast_to, cast_value, col, column, column_value, empty_value, filter, filter_value, int8, int64, keyed, keyed_twice, list, moments, query, query_value, scan, scan_value, select, select_value, spans, table_value, untyped, whole, word, below_zero, leaf, typed, Each, Refused, Writes, NoJson};
 ghost use Rattle.plan_types.specs.Values.{NullValue, TruthValue, TextValue};
 ghost use Rattle.plan_dsl.specs.Ops.{LiteralOp};
 ghost use Rattle.plan_json.specs.Bytes.{IsRefusalOf, WritesQuery};
@@ -96,15 +100,15 @@ pub fn plan_examples()
 /// An expression: an object of one key, which names its form. An operator is written by its name.
 pub fn expression_examples()
     ensures read { let strict = cast_value (col "a" ∷ word "Int64" ∷ word "Strict" ∷ []) in let strictly = cast_to int64 Strict (column "a") in
-        Gives expression_of ((col "a", Some (column "a")) ∷ (col "", Some (column "")) ∷ (bin (word "GtEq" ∷ col "a" ∷ col "b" ∷ []), Some (binary GtEq (column "a") (column "b"))) ∷
-        (cast_value (col "a" ∷ word "Boolean" ∷ word "NonStrict" ∷ []), Some (cast_to Truth NonStrict (column "a"))) ∷
-        (cast_value (strict ∷ word "UInt8" ∷ word "Overflowing" ∷ []), Some (cast_to (Integer false 8) Overflowing strictly)) ∷
-        (bin (word "Lt" ∷ strict ∷ col "b" ∷ []), Some (binary Lt strictly (column "b"))) ∷
-        (cast_value (col "a" ∷ moments "ms" ∷ word "Strict" ∷ []), Some (cast_to (DatetimeType Milliseconds) Strict (column "a"))) ∷ (keyed "len" null, Some count) ∷ (keyed "slice" (list (col "a" ∷ keyed "lit" (whole 1) ∷ keyed "len" null ∷ [])), Some (slice (column "a") (untyped (pos 1)) count)) ∷
-        (keyed "explode" (col "a"), Some (explode (column "a"))) ∷ (keyed "gather" (list (col "a" ∷ col "b" ∷ boolean true ∷ [])), Some (gather_one (column "a") (column "b"))) ∷
-        (keyed "filter" (list (col "a" ∷ col "b" ∷ [])), Some (keep_where (column "a") (column "b"))) ∷ (keyed "sort" (list (col "a" ∷ boolean true ∷ boolean false ∷ [])), Some (sort_as (way true false) (column "a"))) ∷
-        (keyed "sort_by" (list (col "a" ∷ list (col "b" ∷ col "a" ∷ []) ∷ list (boolean true ∷ []) ∷ list (boolean false ∷ boolean true ∷ []) ∷ [])), Some (sort_by (true ∷ []) (false ∷ true ∷ []) (column "b" ∷ column "a" ∷ []) (column "a"))) ∷
-        (keyed "alias" (list (col "a" ∷ word "x" ∷ [])), Some (alias "x" (column "a"))) ∷ []) }
+        ReadAs ((col "a", column "a") ∷ (col "", column "") ∷ (bin (word "GtEq" ∷ col "a" ∷ col "b" ∷ []), binary GtEq (column "a") (column "b")) ∷
+        (cast_value (col "a" ∷ word "Boolean" ∷ word "NonStrict" ∷ []), cast_to Truth NonStrict (column "a")) ∷
+        (cast_value (strict ∷ word "UInt8" ∷ word "Overflowing" ∷ []), cast_to (Integer false 8) Overflowing strictly) ∷
+        (bin (word "Lt" ∷ strict ∷ col "b" ∷ []), binary Lt strictly (column "b")) ∷
+        (cast_value (col "a" ∷ moments "ms" ∷ word "Strict" ∷ []), cast_to (DatetimeType Milliseconds) Strict (column "a")) ∷ (keyed "len" null, count) ∷ (keyed "slice" (list (col "a" ∷ keyed "lit" (whole 1) ∷ keyed "len" null ∷ [])), slice (column "a") (untyped (pos 1)) count) ∷
+        (keyed "explode" (col "a"), explode (column "a")) ∷ (keyed "gather" (list (col "a" ∷ col "b" ∷ boolean true ∷ [])), gather_one (column "a") (column "b")) ∷
+        (keyed "filter" (list (col "a" ∷ col "b" ∷ [])), keep_where (column "a") (column "b")) ∷ (keyed "sort" (list (col "a" ∷ boolean true ∷ boolean false ∷ [])), sort_as (way true false) (column "a")) ∷
+        (keyed "sort_by" (list (col "a" ∷ list (col "b" ∷ col "a" ∷ []) ∷ list (boolean true ∷ []) ∷ list (boolean false ∷ boolean true ∷ []) ∷ [])), sort_by (true ∷ []) (false ∷ true ∷ []) (column "b" ∷ column "a" ∷ []) (column "a")) ∷
+        (keyed "alias" (list (col "a" ∷ word "x" ∷ [])), alias "x" (column "a")) ∷ []) }
     ensures unread { let a = col "a" in
         GivesAll expression_of None (cast_value (a ∷ word "Int64" ∷ word "strict" ∷ []) ∷ cast_value (a ∷ word "Int64" ∷ []) ∷ cast_value (null ∷ word "Int64" ∷ word "Strict" ∷ []) ∷
         cast_value (a ∷ word "Int64" ∷ word "Strict" ∷ null ∷ []) ∷ keyed "col" (whole 0) ∷ bin (word "plus" ∷ a ∷ a ∷ []) ∷ bin (word "Plus" ∷ a ∷ []) ∷
@@ -127,15 +131,15 @@ pub fn literal_examples()
         (boolean false, Some (LiteralOp Truth (TruthValue false))) ∷ (word "1", Some (LiteralOp TextType (TextValue (codes "1")))) ∷
         (string (0xc3 ∷ 0xa9 ∷ []), Some (LiteralOp TextType (TextValue (0xe9 ∷ [])))) ∷ (list (whole 1 ∷ []), None) ∷ (object no_members, None) ∷ []) }
     ensures expressions { let greatest : ℕ = 18446744073709551615 in let sum = binary Plus (untyped (pos greatest)) (column "a") in
-        Gives expression_of ((keyed "lit" (below_zero 299), Some (untyped (negsuc 299))) ∷
-        (bin (word "Plus" ∷ keyed "lit" (whole greatest) ∷ col "a" ∷ []), Some sum) ∷ (keyed_twice "col" (word "a") "lit" (whole 1), None) ∷ []) }
+        ReadAs ((keyed "lit" (below_zero 299), untyped (negsuc 299)) ∷ (bin (word "Plus" ∷ keyed "lit" (whole greatest) ∷ col "a" ∷ []), sum) ∷
+        (keyed "int" (word "-1"), untyped (negsuc 0)) ∷ (keyed "typed" (list (word "UInt8" ∷ whole 255 ∷ [])), leaf (typed (Integer false 8) (pos 255))) ∷ []) }
+    ensures two_keys { expression_of (keyed_twice "col" (word "a") "lit" (whole 1)) ≡ None }
     ensures numbers { Gives (λ text. number_written (codes text)) (("300", Some (pos 300)) ∷ ("-300", Some (negsuc 299)) ∷ ("007", Some (pos 7)) ∷ ("-0", Some (pos 0)) ∷
         ("170141183460469231731687303715884105727", Some (pos 170141183460469231731687303715884105727)) ∷
         ("-170141183460469231731687303715884105728", Some (negsuc 170141183460469231731687303715884105727)) ∷ []) }
     ensures no_number_texts { GivesAll (λ text. number_written (codes text)) None (
         "170141183460469231731687303715884105728" ∷ "-170141183460469231731687303715884105729" ∷ "+5" ∷ "" ∷ "-" ∷ "-+5" ∷ "1x" ∷ " 1" ∷ "1.0" ∷ []) }
     ensures no_text { number_text_of (whole 1) ≡ None }
-    ensures number_text { expression_of (keyed "int" (word "-1")) ≡ Some (untyped (negsuc 0)) }
     ensures in_range { Gives typed_of ((list (word "Int8" ∷ whole 127 ∷ []), Some (typed int8 (pos 127))) ∷ (list (word "Int8" ∷ below_zero 127 ∷ []), Some (typed int8 (negsuc 127))) ∷
         (list (word "UInt64" ∷ whole 18446744073709551615 ∷ []), Some (typed (Integer false 64) (pos 18446744073709551615))) ∷
         (list (word "Date" ∷ whole 10957 ∷ []), Some (typed DateType (pos 10957))) ∷ (list (word "Time" ∷ whole 86399999999999 ∷ []), Some (typed TimeType (pos 86399999999999))) ∷
@@ -146,7 +150,14 @@ pub fn literal_examples()
         list (spans "ns" ∷ whole 9223372036854775808 ∷ []) ∷ list (word "String" ∷ whole 1 ∷ []) ∷ list (word "Boolean" ∷ whole 1 ∷ []) ∷
         list (keyed "List" (word "Int8") ∷ whole 1 ∷ []) ∷ list (word "Int8" ∷ []) ∷ list (word "Int8" ∷ whole 1 ∷ null ∷ []) ∷ []) }
     ensures typed_float { (x : Float) → typed_of (list (word "Int8" ∷ number (float x) ∷ [])) ≡ None }
-    ensures typed_literal { expression_of (keyed "typed" (list (word "UInt8" ∷ whole 255 ∷ []))) ≡ Some (leaf (typed (Integer false 8) (pos 255))) }
+{}
+
+/// What is read of the item of a number: what its place says of it. Behind the last item nothing is asked.
+pub fn item_examples()
+    ensures first { IsItem [] (one leaves.Flag ∷ []) (items_of (boolean true ∷ [])) 0 (flag_read true) }
+    ensures second { IsItem [] (one leaves.Nothing ∷ one leaves.Flag ∷ []) (items_of (null ∷ boolean false ∷ [])) 1 (flag_read false) }
+    ensures behind_the_last { (r : Read) → IsItem [] (one leaves.Flag ∷ []) (items_of (boolean true ∷ [])) 1 r }
+    ensures other { ¬ (IsItem [] (one leaves.Flag ∷ []) (items_of (boolean true ∷ [])) 0 (flag_read false)) }
 {}
 
 /// Bytes that write a query, and bytes that write none.
@@ -158,11 +169,13 @@ pub fn text_examples()
         ("{\"tables\":[],\"plan\":{\"filter\":[{\"empty\":[]},{\"lit\":-7}]}}", query [] (filter (untyped (negsuc 6)) empty_table)) ∷
         ("{\"tables\":[],\"plan\":{\"filter\":[{\"empty\":[]},{\"lit\":-9223372036854775808}]}}", query [] (filter (untyped (negsuc 9223372036854775807)) empty_table)) ∷
         ("{\"tables\":[],\"plan\":{\"filter\":[{\"empty\":[]},{\"lit\":18446744073709551615}]}}", query [] (filter (untyped (pos 18446744073709551615)) empty_table)) ∷
+        ("{\"tables\":[],\"plan\":{\"select\":[{\"empty\":[]},[{\"nth\":-1},{\"suffix\":[{\"all\":null},\"\\u00e9\"]}]]}}", query [] (source_select (nth (negsuc 0) ∷ form (AddSuffix (0xe9 ∷ [])) all ∷ []) empty_table)) ∷
         ("{\"tables\":1,\"plan\":2,\"tables\":[],\"plan\":{\"empty\":[]}}", query [] empty_table) ∷ []) }
     ensures refused { Each Refused (("{\"tables\":[],\"plan\":{\"sink\":[]}}", BadShape, "/plan") ∷
         ("{\"tables\":[],\"plan\":{\"empty\":[[\"a\",{\"Datetime\":\"s\"}]]}}", BadShape, "/plan/empty/0/1/Datetime") ∷
         ("{\"tables\":[],\"plan\":{\"scan\":\"t\"}}", BadName, "/plan/scan") ∷ ("{\"tables\":[],\"plan\":{\"filter\":[{\"empty\":[]},{\"lit\":1.5}]}}", BadFloat, "/plan/filter/1/lit") ∷
         ("{\"tables\":[],\"plan\":{\"scan\":18446744073709551616}}", BadFloat, "/plan/scan") ∷ ("{\"tables\":[],\"plan\":{\"scan\":-9223372036854775809}}", BadFloat, "/plan/scan") ∷
+        ("{\"tables\":[],\"plan\":{\"filter\":[{\"empty\":[]},{\"exclude\":[{\"all\":null},[{\"name\":null}]]}]}}", BadShape, "/plan/filter/1/exclude/1/0/name") ∷
         ("{\"tables\":[],\"plan\":{\"scan\":-0}}", BadFloat, "/plan/scan") ∷ ("{\"tables\":[],\"plan\":{\"scan\":0}}", BadShape, "/plan/scan") ∷ []) }
     ensures no_json { Each NoJson ("{\"tables\":[" ∷ "{\"tables\":[],\"plan\":{\"scan\":1e400}}" ∷ "" ∷ "{\"tables\":[],\"plan\":{\"empty\":[]}}," ∷ []) }
     ensures other_value { (query : QueryModel) → ¬ (WritesQuery (codes "[]") query) }

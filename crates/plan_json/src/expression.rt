@@ -6,11 +6,12 @@ ghost use Rattle.plan_json.specs.Forms.{AllFit, asked_in, expression_asks, expre
 ghost use Rattle.plan_json.specs.declared.forms.ExpressionKey.TheVariants as of;
 
 use super::arguments::{
-    Args, digits, dtype, expression, expressions, flag, flags, four, mode, name, nothing, one,
-    operator, three, two, typed, value,
+    Args, digits, dtype, dtypes, excluded, expression, expressions, flag, flags, four, index,
+    indexes, mode, name, names, nothing, one, operator, selector, three, two, typed, value,
 };
 use super::forms::ExpressionKey;
 use plan_dsl::expr::Expr;
+use plan_dsl::marker::RenameAliasFn;
 use plan_dsl::sort_options::{SortMultipleOptions, SortOptions};
 
 // The expression of that key.
@@ -36,6 +37,20 @@ pub(crate) fn assemble_expression(key: ExpressionKey, args: Args) -> Expr
         ExpressionKey::Sort => sort(args),
         ExpressionKey::SortBy => sort_by(args),
         ExpressionKey::Alias => alias(args),
+        ExpressionKey::Cols => cols(args),
+        ExpressionKey::Dtypes => dtype_columns(args),
+        ExpressionKey::At => at(args),
+        ExpressionKey::Nth => nth(args),
+        ExpressionKey::All => {
+            nothing(one(args));
+            Expr::Wildcard
+        }
+        ExpressionKey::Exclude => exclude(args),
+        ExpressionKey::Selector => selecting(args),
+        ExpressionKey::KeepName => keep_name(args),
+        ExpressionKey::Prefix => prefix(args),
+        ExpressionKey::Suffix => suffix(args),
+        ExpressionKey::Fixed => fixed(args),
     }
 }
 
@@ -168,4 +183,91 @@ fn alias(args: Args) -> Expr
 {
     let (operand, called) = two(args);
     Expr::Alias(expression(operand), name(called))
+}
+
+#[tactic(auto, using(crate::proofs::FormLemmas::names_read))]
+fn cols(args: Args) -> Expr
+    requires { AllFit (asked_in (expression_asks of.Cols)) (args_view args) }
+    ensures { expression_says of.Cols (args_view args) ≡ Some (tree_of result) }
+{
+    Expr::Columns(names(one(args)))
+}
+
+#[tactic(auto, using(crate::proofs::FormLemmas::types_read))]
+fn dtype_columns(args: Args) -> Expr
+    requires { AllFit (asked_in (expression_asks of.Dtypes)) (args_view args) }
+    ensures { expression_says of.Dtypes (args_view args) ≡ Some (tree_of result) }
+{
+    Expr::DtypeColumn(dtypes(one(args)))
+}
+
+#[tactic(auto, using(crate::proofs::FormLemmas::indexes_read))]
+fn at(args: Args) -> Expr
+    requires { AllFit (asked_in (expression_asks of.At)) (args_view args) }
+    ensures { expression_says of.At (args_view args) ≡ Some (tree_of result) }
+{
+    Expr::IndexColumn(indexes(one(args)))
+}
+
+fn nth(args: Args) -> Expr
+    requires { AllFit (asked_in (expression_asks of.Nth)) (args_view args) }
+    ensures { expression_says of.Nth (args_view args) ≡ Some (tree_of result) }
+{
+    Expr::Nth(index(one(args)))
+}
+
+#[tactic(auto, using(crate::proofs::FormLemmas::all_excluded_read))]
+fn exclude(args: Args) -> Expr
+    requires { AllFit (asked_in (expression_asks of.Exclude)) (args_view args) }
+    ensures { expression_says of.Exclude (args_view args) ≡ Some (tree_of result) }
+{
+    let (marker, left_out) = two(args);
+    Expr::Exclude(expression(marker), excluded(left_out))
+}
+
+fn selecting(args: Args) -> Expr
+    requires { AllFit (asked_in (expression_asks of.Selector)) (args_view args) }
+    ensures { expression_says of.Selector (args_view args) ≡ Some (tree_of result) }
+{
+    Expr::Selector(Box::into_inner(selector(one(args))))
+}
+
+fn keep_name(args: Args) -> Expr
+    requires { AllFit (asked_in (expression_asks of.KeepName)) (args_view args) }
+    ensures { expression_says of.KeepName (args_view args) ≡ Some (tree_of result) }
+{
+    Expr::KeepName(expression(one(args)))
+}
+
+fn prefix(args: Args) -> Expr
+    requires { AllFit (asked_in (expression_asks of.Prefix)) (args_view args) }
+    ensures { expression_says of.Prefix (args_view args) ≡ Some (tree_of result) }
+{
+    let (operand, text) = two(args);
+    Expr::RenameAlias {
+        function: RenameAliasFn::Prefix(name(text)),
+        expr: expression(operand),
+    }
+}
+
+fn suffix(args: Args) -> Expr
+    requires { AllFit (asked_in (expression_asks of.Suffix)) (args_view args) }
+    ensures { expression_says of.Suffix (args_view args) ≡ Some (tree_of result) }
+{
+    let (operand, text) = two(args);
+    Expr::RenameAlias {
+        function: RenameAliasFn::Suffix(name(text)),
+        expr: expression(operand),
+    }
+}
+
+fn fixed(args: Args) -> Expr
+    requires { AllFit (asked_in (expression_asks of.Fixed)) (args_view args) }
+    ensures { expression_says of.Fixed (args_view args) ≡ Some (tree_of result) }
+{
+    let (operand, text) = two(args);
+    Expr::RenameAlias {
+        function: RenameAliasFn::Fixed(name(text)),
+        expr: expression(operand),
+    }
 }

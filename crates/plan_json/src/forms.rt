@@ -2,7 +2,7 @@
 ghost use Rattle.std.specs.Prelude.{◌≡◌, ◌≤◌, IfSome, length, map};
 ghost use Rattle.std.specs.Option.{option_map};
 ghost use Rattle.plan_json.specs.Errors.{escaped};
-ghost use Rattle.plan_json.specs.Forms.{asked_in, asks, expression_asks, expression_rows, key_named, kind_of, places_view, plan_asks, plan_rows, row_named, selector_asks, selector_rows, type_rows};
+ghost use Rattle.plan_json.specs.Forms.{asked_in, asks, excluded_rows, expression_asks, expression_rows, key_named, kind_of, places_view, plan_asks, plan_rows, row_named, selector_asks, selector_rows, type_rows};
 
 // What an object of one key can be.
 #[derive(Clone, Copy)]
@@ -36,6 +36,20 @@ pub(crate) enum Leaf {
     Nothing,
     // True or false.
     Flag,
+    // A whole number of 64 bits with a sign.
+    Index,
+    // What an exclude leaves out.
+    Excluded,
+}
+
+// What has no forms and stands in lists.
+#[derive(Clone, Copy)]
+pub(crate) enum ListLeaf {
+    Name,
+    Dtype,
+    Flag,
+    Index,
+    Excluded,
 }
 
 // What is asked for at one place.
@@ -47,8 +61,8 @@ pub(crate) enum Place {
     Expressions,
     // A list of any number of selectors.
     Selectors,
-    // A list of any number of truth values.
-    Flags,
+    // A list of any number of these.
+    Leaves(ListLeaf),
 }
 
 // What a key asks of its value: one thing, or a list of exactly these, of which there are four at most.
@@ -74,6 +88,17 @@ pub(crate) enum ExpressionKey {
     Sort,
     SortBy,
     Alias,
+    Cols,
+    Dtypes,
+    At,
+    Nth,
+    All,
+    Exclude,
+    Selector,
+    KeepName,
+    Prefix,
+    Suffix,
+    Fixed,
 }
 
 #[derive(Clone, Copy)]
@@ -104,6 +129,13 @@ pub(crate) enum TypeKey {
     Struct,
 }
 
+// The keys of what an exclude leaves out.
+#[derive(Clone, Copy)]
+pub(crate) enum ExcludedKey {
+    Name,
+    Dtype,
+}
+
 #[derive(Clone, Copy)]
 pub(crate) enum Key {
     Expression(ExpressionKey),
@@ -119,7 +151,15 @@ const SELECTOR: Place = Place::Form(Kind::Selector);
 
 const SELECTORS: Place = Place::Selectors;
 
-const FLAGS: Place = Place::Flags;
+const NAMES: Place = Place::Leaves(ListLeaf::Name);
+
+const DTYPES: Place = Place::Leaves(ListLeaf::Dtype);
+
+const FLAGS: Place = Place::Leaves(ListLeaf::Flag);
+
+const INDEXES: Place = Place::Leaves(ListLeaf::Index);
+
+const EXCLUDED: Place = Place::Leaves(ListLeaf::Excluded);
 
 const PLAN: Place = Place::Form(Kind::Plan);
 
@@ -145,8 +185,10 @@ const NOTHING: Place = Place::Leaf(Leaf::Nothing);
 
 const FLAG: Place = Place::Leaf(Leaf::Flag);
 
+const INDEX: Place = Place::Leaf(Leaf::Index);
+
 // A word is looked for from the first row on, so common ones stand in front.
-const EXPRESSION_ROWS: [(&'static str, ExpressionKey); 14] = [
+const EXPRESSION_ROWS: [(&'static str, ExpressionKey); 25] = [
     ("col", ExpressionKey::Col),
     ("bin", ExpressionKey::Bin),
     ("lit", ExpressionKey::Lit),
@@ -161,6 +203,17 @@ const EXPRESSION_ROWS: [(&'static str, ExpressionKey); 14] = [
     ("sort", ExpressionKey::Sort),
     ("sort_by", ExpressionKey::SortBy),
     ("alias", ExpressionKey::Alias),
+    ("cols", ExpressionKey::Cols),
+    ("dtypes", ExpressionKey::Dtypes),
+    ("at", ExpressionKey::At),
+    ("nth", ExpressionKey::Nth),
+    ("all", ExpressionKey::All),
+    ("exclude", ExpressionKey::Exclude),
+    ("selector", ExpressionKey::Selector),
+    ("keep_name", ExpressionKey::KeepName),
+    ("prefix", ExpressionKey::Prefix),
+    ("suffix", ExpressionKey::Suffix),
+    ("fixed", ExpressionKey::Fixed),
 ];
 
 const SELECTOR_ROWS: [(&'static str, SelectorKey); 5] = [
@@ -185,6 +238,11 @@ const TYPE_ROWS: [(&'static str, TypeKey); 4] = [
     ("Duration", TypeKey::Duration),
     ("List", TypeKey::List),
     ("Struct", TypeKey::Struct),
+];
+
+const EXCLUDED_ROWS: [(&'static str, ExcludedKey); 2] = [
+    ("name", ExcludedKey::Name),
+    ("dtype", ExcludedKey::Dtype),
 ];
 
 // The keys of expressions.
@@ -213,6 +271,13 @@ fn type_table() -> &'static [(&'static str, TypeKey)]
     ensures { map (λ row. (row.0.now, row.1)) result.now ≡ type_rows }
 {
     &TYPE_ROWS
+}
+
+// The keys of what an exclude leaves out.
+fn excluded_table() -> &'static [(&'static str, ExcludedKey)]
+    ensures { map (λ row. (row.0.now, row.1)) result.now ≡ excluded_rows }
+{
+    &EXCLUDED_ROWS
 }
 
 // The first row of that word.
@@ -264,6 +329,18 @@ pub(crate) fn find_type(word: &str) -> Option<(&'static str, TypeKey)>
     }
 }
 
+// The key of that word, of what an exclude leaves out.
+pub(crate) fn find_excluded(word: &str) -> Option<(&'static str, ExcludedKey)>
+    ensures row { option_map (λ row. (row.0.now, row.1)) result ≡ row_named excluded_rows word.now }
+    ensures word { IfSome result (λ row. row.0.now ≡ word.now) }
+    ensures plain { IfSome result (λ row. escaped row.0.now ≡ row.0.now) }
+{
+    match find(excluded_table(), word) {
+        None => None,
+        Some((word, key)) => Some((word, key)),
+    }
+}
+
 // What the key asks of its value.
 pub(crate) fn places_of(key: Key) -> Places
     ensures asks { places_view result ≡ asks key }
@@ -295,6 +372,17 @@ fn expression_places(key: ExpressionKey) -> Places
         ExpressionKey::Sort => Places::Listed(&[EXPRESSION, FLAG, FLAG]),
         ExpressionKey::SortBy => Places::Listed(&[EXPRESSION, EXPRESSIONS, FLAGS, FLAGS]),
         ExpressionKey::Alias => Places::Listed(&[EXPRESSION, NAME]),
+        ExpressionKey::Cols => Places::One(NAMES),
+        ExpressionKey::Dtypes => Places::One(DTYPES),
+        ExpressionKey::At => Places::One(INDEXES),
+        ExpressionKey::Nth => Places::One(INDEX),
+        ExpressionKey::All => Places::One(NOTHING),
+        ExpressionKey::Exclude => Places::Listed(&[EXPRESSION, EXCLUDED]),
+        ExpressionKey::Selector => Places::One(SELECTOR),
+        ExpressionKey::KeepName => Places::One(EXPRESSION),
+        ExpressionKey::Prefix => Places::Listed(&[EXPRESSION, NAME]),
+        ExpressionKey::Suffix => Places::Listed(&[EXPRESSION, NAME]),
+        ExpressionKey::Fixed => Places::Listed(&[EXPRESSION, NAME]),
     }
 }
 

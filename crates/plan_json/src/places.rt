@@ -1,26 +1,25 @@
 //! Reading what a place asks for, by the table of forms.
-ghost use Rattle.std.specs.Prelude.{◌≡◌, ◌≤◌, List, Some, length, map, option_and_then, IfOk, IfErr};
+ghost use Rattle.std.specs.Prelude.{◌≡◌, ◌≤◌, Some, length, map, option_and_then, IfOk, IfErr};
 ghost use Rattle.serde_json.specs.Data.{array};
-ghost use Rattle.serde_json.specs.Find.{as_bool};
 ghost use Rattle.serde_json.specs.View.{view, items_view};
-ghost use Rattle.plan_dsl.specs.Expressions.{trees_of};
-ghost use Rattle.plan_dsl.specs.Selectors.{selector_trees};
-ghost use Rattle.plan_types.specs.Schemas.{Name, columns, names_of};
+ghost use Rattle.plan_dsl.specs.Expressions.{selector_trees, trees_of};
+ghost use Rattle.plan_types.specs.Schemas.{columns, names_of};
 ghost use Rattle.plan_json.specs.Arguments.{arg_view, args_view, items_seen};
-ghost use Rattle.plan_json.specs.Errors.{IsErrorOf};
-ghost use Rattle.plan_json.specs.Faults.{asked_form, a_scan, items_of, keyed_form, leaf_form, list_of, places_form, nothing_form, flag_form};
-ghost use Rattle.plan_json.specs.Forms.{AllFit, Fits, a_form, asked_in, asks, expression, expression_read, kind_of, leaf, leaves_read, chosen_read, many, many_read, place_view, places_view, reads_of, says, selector, selector_read, nothing_read, flag_read};
+ghost use Rattle.plan_json.specs.Errors.{IsErrorOf, IsListErrorOf};
+ghost use Rattle.plan_json.specs.Faults.{asked_form, a_scan, items_of, keyed_form, leaf_form, places_form, nothing_form};
+ghost use Rattle.plan_json.specs.Forms.{AllFit, Fits, a_form, asked_in, asks, expression, expression_read, kind_of, leaf, listed_leaf, chosen_read, many, many_read, place_view, places_view, reads_of, says, selector, selector_read, nothing_read};
 ghost use Rattle.plan_json.specs.Leaves.{table_at, text_of};
 ghost use Rattle.plan_json.specs.Queries.{IsItem, leaf_of, list_as, places_as, read_as, these_as, nothing_of};
 ghost use Rattle.plan_json.specs.Tables.{Declared, declared};
-ghost use Rattle.plan_json.specs.declared.forms.Leaf.TheVariants as leaves;
 
 use super::arguments::{Arg, Args, Items, discard, expression, selector};
 use super::columns::read_columns;
 use super::dtype::{read_text, read_type};
 use super::error::{JsonError, Step};
+use super::excluded::read_excluded;
 use super::expression::assemble_expression;
-use super::forms::{ExpressionKey, Key, Kind, Leaf, Place, Places, find_key, places_of};
+use super::forms::{ExpressionKey, Key, Kind, Leaf, ListLeaf, Place, Places, find_key, places_of};
+use super::lists::{read_flag, read_index, read_list};
 use super::literal::{read_literal, read_number_text, read_typed};
 use super::operator::{read_mode, read_operator};
 use super::plan::assemble_plan;
@@ -273,7 +272,27 @@ fn read_place(alloc: Global, tables: &Tables, place: Place, value: &Value) -> Re
             )
         }
         Place::Selectors => { boxed!(alloc, read_selectors(alloc, tables, value), Arg::Selectors) }
-        Place::Flags => boxed!(alloc, read_flags(alloc, value), Arg::Flags),
+        Place::Leaves(which) => match read_leaves(alloc, which, value) {
+            Ok(arg) => Ok(arg),
+            Err(error) => Err(error),
+        },
+    }
+}
+
+// A list of any number of what has no forms.
+#[tactic(auto, using(crate::proofs::FormLemmas::many_fit))]
+fn read_leaves(alloc: Global, which: ListLeaf, value: &Value) -> Result<Arg, JsonError>
+    ensures ok { (tables : Declared) → IfOk result (λ arg. read_as tables (many (leaf (listed_leaf which))) (view value.now)
+        ≡ Some (arg_view arg)) }
+    ensures fit { IfOk result (λ arg. Fits (many (leaf (listed_leaf which))) (arg_view arg)) }
+    ensures err { IfErr result (IsListErrorOf (listed_leaf which) (view value.now)) }
+{
+    match which {
+        ListLeaf::Name => boxed!(alloc, read_list(alloc, value), Arg::Names),
+        ListLeaf::Dtype => boxed!(alloc, read_list(alloc, value), Arg::Dtypes),
+        ListLeaf::Flag => boxed!(alloc, read_list(alloc, value), Arg::Flags),
+        ListLeaf::Index => boxed!(alloc, read_list(alloc, value), Arg::Indexes),
+        ListLeaf::Excluded => boxed!(alloc, read_list(alloc, value), Arg::AllExcluded),
     }
 }
 
@@ -325,40 +344,6 @@ fn read_selectors(alloc: Global, tables: &Tables, value: &Value) -> Result<Selec
     }
 }
 
-// A list of any number of truth values.
-#[inline(never)]
-#[tactic(auto, using(crate::proofs::Lemmas::growing))]
-fn read_flags(alloc: Global, value: &Value) -> Result<Vec<bool>, JsonError>
-    ensures ok { (tables : Declared) → IfOk result (λ flags. read_as tables (many (leaf leaves.Flag)) (view value.now)
-        ≡ Some (leaves_read (reads_of (map flag_read flags.items)))) }
-    ensures err { (names : List Name) → IfErr result (IsErrorOf (list_of names (leaf leaves.Flag)) (view value.now)) }
-{
-    match items(value) {
-        None => Err(JsonError::shape(alloc, value)),
-        Some(values) => {
-            let mut flags = Vec::with_capacity(alloc, values.len())?;
-            for (number, value) in values.iter().enumerate() {
-                match read_flag(alloc, value) {
-                    Ok(flag) => flags.push(flag)?,
-                    Err(error) => return Err(error.below(alloc, Step::Item(number))),
-                }
-            }
-            Ok(flags)
-        }
-    }
-}
-
-// True or false.
-fn read_flag(alloc: Global, value: &Value) -> Result<bool, JsonError>
-    ensures ok { IfOk result (λ flag. as_bool (view value.now) ≡ Some flag) }
-    ensures err { IfErr result (IsErrorOf flag_form (view value.now)) }
-{
-    match value.as_bool() {
-        None => Err(JsonError::shape(alloc, value)),
-        Some(flag) => Ok(flag),
-    }
-}
-
 // What has no forms.
 fn read_leaf(alloc: Global, tables: &Tables, which: Leaf, value: &Value) -> Result<Arg, JsonError>
     ensures ok { IfOk result (λ arg. leaf_of (declared tables.now) which (view value.now) ≡ Some (arg_view arg)) }
@@ -383,6 +368,8 @@ fn read_leaf(alloc: Global, tables: &Tables, which: Leaf, value: &Value) -> Resu
             Err(error) => Err(error),
         },
         Leaf::Flag => plain!(read_flag(alloc, value), Arg::Flag),
+        Leaf::Index => plain!(read_index(alloc, value), Arg::Index),
+        Leaf::Excluded => boxed!(alloc, read_excluded(alloc, value), Arg::Excluded),
     }
 }
 

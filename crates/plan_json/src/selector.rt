@@ -1,6 +1,6 @@
 //! Selectors, from what was read of a key's value.
 ghost use Rattle.std.specs.Prelude.{◌≡◌, Some};
-ghost use Rattle.plan_dsl.specs.Selectors.{selector_tree};
+ghost use Rattle.plan_dsl.specs.Expressions.{selector_tree};
 ghost use Rattle.plan_json.specs.Arguments.{args_view};
 ghost use Rattle.plan_json.specs.Forms.{AllFit, asked_in, selector_asks, selector_says};
 ghost use Rattle.plan_json.specs.declared.forms.SelectorKey.TheVariants as from;

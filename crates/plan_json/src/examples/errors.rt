@@ -10,7 +10,7 @@ ghost use Rattle.plan_dsl.specs.declared.plan.DslPlan.TheVariants.{DataFrameScan
 ghost use Rattle.plan_dsl.specs.declared.expr.Exprs.{Exprs};
 ghost use Rattle.plan_dsl.specs.declared.plan.ProjectionOptions.{ProjectionOptions};
 ghost use Rattle.serde_json.specs.Data.{null};
-ghost use Rattle.plan_json.specs.Errors.{IsBelow, IsErrorOf, IsOwn, IsPlain, escaped, pointer_text, step_of};
+ghost use Rattle.plan_json.specs.Errors.{IsBelow, IsErrorOf, IsListErrorOf, IsOwn, IsPlain, escaped, pointer_text, step_of};
 ghost use Rattle.plan_json.specs.Faults.{BadFloat, BadName, BadShape, a_column, a_text, key, number};
 ghost use Rattle.plan_json.specs.Queries.{has_flags, query_model};
 ghost use Rattle.plan_json.specs.Samples.{Gives, list, query, to, word};
@@ -18,6 +18,7 @@ ghost use Rattle.plan_json.specs.Tables.{declared};
 ghost use Rattle.plan_json.specs.declared.error.JsonError.{JsonError};
 ghost use Rattle.plan_json.specs.declared.error.JsonError.TheVariants.{NotJson, Shape, Float, Name, NoMemory};
 ghost use Rattle.plan_json.specs.declared.error.Step.TheVariants.{Item, Key};
+ghost use Rattle.plan_json.specs.declared.forms.Leaf.TheVariants as leaves;
 ghost use Rattle.plan_json.specs.declared.read.Query.{Query};
 
 /// An error of a value itself has the empty path, and the name of its kind. An error tells a fault of the value by kind and pointer, want of memory tells none.
@@ -27,6 +28,7 @@ pub fn errors_of_values()
     ensures of_a_part { (path : String Global) → string_bytes path ≡ codes "/1" → ¬ (IsOwn BadShape (Shape path)) }
     ensures not_own { ¬ (IsOwn BadShape NotJson) × ¬ (IsOwn BadShape NoMemory) }
     ensures told { (path : String Global) → string_bytes path ≡ codes "/0" → IsErrorOf a_column (list (null ∷ word "Int8" ∷ [])) (Shape path) }
+    ensures of_a_list { (path : String Global) → string_bytes path ≡ codes "/0" → IsListErrorOf leaves.Flag (list (null ∷ [])) (Shape path) }
     ensures not_told { (path : String Global) → ¬ (IsErrorOf a_text (word "a") (Shape path)) }
     ensures memory { IsErrorOf a_text (word "a") NoMemory × ¬ (IsErrorOf a_text null NotJson) }
 {}

@@ -7,9 +7,10 @@ ghost use Rattle.plan_types.specs.Schemas.{Name};
 ghost use Rattle.serde_json.specs.Data.{Data, Items, array, float, member, no_members, null, number, object};
 ghost use Rattle.serde_json.specs.Events.{items_len};
 ghost use Rattle.plan_json.specs.Faults.{BadFloat, BadName, BadShape, Path, key, own_fault, part};
-ghost use Rattle.plan_json.specs.Samples.{a_cast, a_filter, a_selection, expression_list, expression_over, operands, GivesAll, fault_along, below_zero, bin, cast_value, col, column_value, fault_in, int8, keyed, keyed_twice, list, moments, query_value, scan_value, select_value, table_value, to, whole, word, Gives, in_turn, parts_in, under};
+ghost use Rattle.plan_json.specs.Samples.{a_cast, a_filter, a_selection, an_exclude, leaf_list, expression_list, expression_over, operands, GivesAll, fault_along, below_zero, bin, cast_value, col, column_value, fault_in, int8, keyed, keyed_twice, list, moments, query_value, scan_value, select_value, table_value, to, whole, word, Gives, in_turn, parts_in, under};
 ghost use Rattle.plan_json.specs.Leaves.{table_limit};
 ghost use Rattle.plan_json.specs.Faults as fault;
+ghost use Rattle.plan_json.specs.declared.forms.Leaf.TheVariants as leaves;
 
 /// A value that breaks its form itself, and one that doesn't, whatever its parts are. A number that is held as a float is one in place of anything else.
 pub fn fault_examples()
@@ -19,6 +20,7 @@ pub fn fault_examples()
         (fault.a_unit, word "ns") ∷ (fault.field_list, list (a ∷ a ∷ [])) ∷ (fault.column_list, list (a ∷ big_a ∷ [])) ∷
         (fault.a_new_name (codes "s" ∷ []), word "t") ∷ (fault.a_scan (codes "s" ∷ codes "t" ∷ []), word "t") ∷ (fault.a_plan [], keyed "scan" null) ∷
         (fault.an_expression, keyed "bin" null) ∷ (fault.an_operator, word "NotEq") ∷ (a_cast, list (null ∷ null ∷ null ∷ [])) ∷
+        (fault.an_index, below_zero 9223372036854775807) ∷ (fault.an_excluded, keyed "name" null) ∷ (fault.an_excluded, keyed "dtype" null) ∷ (leaf_list leaves.Index, list (null ∷ [])) ∷
         (fault.a_mode, word "Overflowing") ∷ (expression_list [], list []) ∷ (a_filter [], list (null ∷ null ∷ [])) ∷ []) }
     ensures shape { let a = list (word "a" ∷ null ∷ []) in
         GivesAll fault_in (Some BadShape) ((fault.a_query, object (member (codes "plan") null (member (codes "tables") null (member (codes "x") null no_members)))) ∷
@@ -28,6 +30,8 @@ pub fn fault_examples()
         (fault.a_column, list (null ∷ [])) ∷ (fault.column_list, list (a ∷ null ∷ a ∷ [])) ∷ (fault.a_new_name (codes "s" ∷ []), null) ∷
         (fault.a_plan [], keyed "sink" null) ∷ (fault.a_plan [], keyed_twice "empty" null "scan" null) ∷ (fault.an_expression, keyed "neg" (whole 1)) ∷
         (fault.an_operator, word "Power") ∷ (fault.an_operator, below_zero 0) ∷ (a_cast, list (null ∷ word "Int8" ∷ [])) ∷ (fault.a_mode, word "strict") ∷
+        (fault.an_index, whole 9223372036854775808) ∷ (fault.an_index, null) ∷ (fault.an_excluded, keyed "col" null) ∷ (fault.an_excluded, keyed_twice "dtype" null "name" null) ∷
+        (fault.an_excluded, word "a") ∷ (leaf_list leaves.Name, word "a") ∷ (leaf_list leaves.Excluded, keyed "name" null) ∷
         (operands, list (word "Plus" ∷ null ∷ [])) ∷ (a_filter [], list (null ∷ [])) ∷ (a_filter [], list (null ∷ null ∷ null ∷ [])) ∷
         (fault.table_list, object no_members) ∷ []) }
     ensures name { GivesAll fault_in (Some BadName) ((fault.a_new_name (codes "s" ∷ codes "t" ∷ []), word "t") ∷ (fault.a_scan (codes "s" ∷ []), word "t") ∷ []) }
@@ -83,6 +87,12 @@ pub fn part_examples()
         ((fault.an_expression, keyed "bin" d), under "bin" operands d) ∷ ((fault.an_expression, keyed "cast" d), under "cast" a_cast d) ∷
         ((operands, list (d ∷ e ∷ f ∷ [])), in_turn ((fault.an_operator, d) ∷ (fault.an_expression, e) ∷ (fault.an_expression, f) ∷ [])) ∷
         ((a_cast, list (d ∷ e ∷ f ∷ [])), in_turn ((fault.an_expression, d) ∷ (fault.a_type, e) ∷ (fault.a_mode, f) ∷ [])) ∷ []) }
+    ensures markers { (d e : Data) → Gives parts_in (
+        ((fault.an_expression, keyed "cols" d), under "cols" (leaf_list leaves.Name) d) ∷ ((fault.an_expression, keyed "dtypes" d), under "dtypes" (leaf_list leaves.Dtype) d) ∷
+        ((fault.an_expression, keyed "at" d), under "at" (leaf_list leaves.Index) d) ∷ ((fault.an_expression, keyed "nth" d), under "nth" fault.an_index d) ∷
+        ((fault.an_expression, keyed "exclude" d), under "exclude" an_exclude d) ∷ ((an_exclude, list (d ∷ e ∷ [])), in_turn ((fault.an_expression, d) ∷ (leaf_list leaves.Excluded, e) ∷ [])) ∷
+        ((leaf_list leaves.Dtype, list (d ∷ e ∷ [])), in_turn ((fault.a_type, d) ∷ (fault.a_type, e) ∷ [])) ∷ ((leaf_list leaves.Excluded, list (d ∷ [])), in_turn ((fault.an_excluded, d) ∷ [])) ∷
+        ((fault.an_excluded, keyed "name" d), under "name" fault.a_text d) ∷ ((fault.an_excluded, keyed "dtype" d), under "dtype" fault.a_type d) ∷ ((fault.an_excluded, keyed "col" d), []) ∷ []) }
     ensures no_expressions { (d : Data) → GivesAll parts_in [] ((fault.an_expression, keyed "neg" d) ∷ (fault.a_literal, list (d ∷ [])) ∷ []) }
     ensures typed_literals { (d : Data) → Gives parts_in (
         ((fault.a_typed_literal, list (word "Date" ∷ d ∷ [])), in_turn ((fault.a_counted_type, word "Date") ∷ (fault.a_number_of DateType, d) ∷ [])) ∷
@@ -108,6 +118,14 @@ pub fn place_examples()
         ((fault.an_expression, keyed "typed" (list (word "Int8" ∷ number (float x) ∷ [])), to "typed" (fault.number 1 ∷ [])), Some BadFloat) ∷
         ((fault.an_expression, keyed "typed" (list (word "String" ∷ whole 1 ∷ [])), to "typed" (fault.number 0 ∷ [])), Some BadShape) ∷
         ((fault.an_expression, keyed "typed" (list (moments "s" ∷ whole 1 ∷ [])), to "typed" (fault.number 0 ∷ to "Datetime" [])), Some BadShape) ∷ []) }
+    ensures markers { (x : Float) → let left_out : Data → Data = λ item. keyed "exclude" (list (null ∷ list (item ∷ []) ∷ [])) in
+        Gives fault_along (((fault.an_expression, keyed "nth" (whole 9223372036854775808), to "nth" []), Some BadShape) ∷ ((fault.an_expression, keyed "nth" (number (float x)), to "nth" []), Some BadFloat) ∷
+        ((fault.an_expression, keyed "at" (list (whole 0 ∷ number (float x) ∷ [])), to "at" (fault.number 1 ∷ [])), Some BadFloat) ∷ ((fault.an_expression, keyed "cols" (list (null ∷ [])), to "cols" (fault.number 0 ∷ [])), Some BadShape) ∷
+        ((fault.an_expression, keyed "dtypes" (list (keyed "List" (moments "s") ∷ [])), to "dtypes" (fault.number 0 ∷ to "List" (to "Datetime" []))), Some BadShape) ∷
+        ((fault.an_expression, left_out (keyed "type" null), to "exclude" (fault.number 1 ∷ fault.number 0 ∷ [])), Some BadShape) ∷ ((fault.an_expression, left_out (keyed "name" null), to "exclude" (fault.number 1 ∷ fault.number 0 ∷ to "name" [])), Some BadShape) ∷
+        ((fault.an_expression, left_out (keyed "dtype" (moments "s")), to "exclude" (fault.number 1 ∷ fault.number 0 ∷ to "dtype" (to "Datetime" []))), Some BadShape) ∷
+        ((fault.an_expression, keyed "selector" (keyed "root" (keyed "neg" null)), to "selector" (to "root" [])), Some BadShape) ∷
+        ((fault.an_expression, keyed "prefix" (list (null ∷ number (float x) ∷ [])), to "prefix" (fault.number 1 ∷ [])), Some BadFloat) ∷ []) }
     ensures types { (x : Float) → let field = list (null ∷ keyed "List" null ∷ []) in
         Gives fault_along (((fault.column_list, list (list (null ∷ keyed "Duration" (number (float x)) ∷ []) ∷ []), fault.number 0 ∷ fault.number 1 ∷ to "Duration" []), Some BadFloat) ∷
         ((fault.a_type, keyed "List" (word "int8"), to "List" []), Some BadShape) ∷ ((fault.a_type, keyed "List" (moments "s"), to "List" (to "Datetime" [])), Some BadShape) ∷

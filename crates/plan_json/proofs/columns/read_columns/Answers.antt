@@ -1,4 +1,4 @@
-use Rattle.plan_json.proofs.Names.{Some, ap, arith, false, is_some, sym, true, ◌∙◌, a_column, column_list, number, all_of, columns, names_of, repeats, column_of, ty, IsNewName-test, is_among-type_at, is_some-option_map, with_column-new}
+use Rattle.plan_json.proofs.Names.{Some, ap, arith, is_some, sym, ◌∙◌, a_column, column_list, all_of, columns, names_of, repeats, column_of, ty, IsNewName-test, is_among-type_at, is_some-option_map, with_column-new}
 use Rattle.plan_json.proofs.Lemmas.{columns_all, column_repeated, IsErrorOf-own, item_in, all_of-more, all_taken, names_apart}
 use Rattle.plan_json.proofs.columns.read_columns.Goals as goal
 

@@ -1,4 +1,4 @@
-use Rattle.plan_json.proofs.Names.{Some, false, take, ◌≡◌, number, all_of, items_view, columns, names_of, repeats, column_of}
+use Rattle.plan_json.proofs.Names.{Some, false, take, ◌≡◌, all_of, items_view, columns, names_of, repeats, column_of}
 use Rattle.plan_json.proofs.columns.read_columns.Given as goal
 
 pub record ColumnsRead (l : goal.Live-loop-number) : Type 0 where

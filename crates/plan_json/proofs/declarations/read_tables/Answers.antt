@@ -1,4 +1,4 @@
-use Rattle.plan_json.proofs.Names.{Some, ap, arith, false, length, length-append, sym, true, ◌+◌, ◌∙◌, a_table, number, table_list, all_of, names_of, repeats, declared, table_of}
+use Rattle.plan_json.proofs.Names.{Some, ap, arith, length, length-append, sym, ◌+◌, ◌∙◌, a_table, table_list, all_of, names_of, repeats, declared, table_of}
 use Rattle.plan_json.proofs.Lemmas.{tables_too_many, tables_all, table_next, IsErrorOf-own, all_of-more, all_taken, names_apart}
 use Rattle.plan_json.proofs.declarations.read_tables.Goals as goal
 

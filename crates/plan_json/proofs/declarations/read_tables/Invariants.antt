@@ -1,4 +1,4 @@
-use Rattle.plan_json.proofs.Names.{Some, false, length, take, ◌≡◌, number, all_of, items_view, names_of, repeats, declared, table_of}
+use Rattle.plan_json.proofs.Names.{Some, false, length, take, ◌≡◌, all_of, items_view, names_of, repeats, declared, table_of}
 use Rattle.plan_json.proofs.declarations.read_tables.Given as goal
 
 pub record TablesRead (l : goal.Live-loop-number) : Type 0 where

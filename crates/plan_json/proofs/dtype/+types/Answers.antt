@@ -1,4 +1,4 @@
-use Rattle.plan_json.proofs.Names.{Some, ap, arith, map, option_map, refl, sym, true, ◌∙◌, a_column, a_text, a_type, column_part, field_list, key, number, type_form, type_key_form, all_of, view, column_of, field_of, map-append}
+use Rattle.plan_json.proofs.Names.{Some, ap, arith, map, option_map, refl, sym, ◌∙◌, a_column, a_text, a_type, column_part, field_list, type_form, type_key_form, all_of, view, column_of, field_of, map-append}
 use Rattle.plan_json.proofs.Lemmas.{type_by_key, struct_all, part_in, item_in, key_in, all_of-more, all_taken}
 use Rattle.plan_json.proofs.dtype.+types.Goals as goal
 

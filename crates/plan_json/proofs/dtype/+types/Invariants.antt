@@ -1,4 +1,4 @@
-use Rattle.plan_json.proofs.Names.{Some, map, take, ◌*◌, ◌+◌, ◌≡◌, number, all_of, items_view, view, depth, column_of, field_of}
+use Rattle.plan_json.proofs.Names.{Some, map, take, ◌*◌, ◌+◌, ◌≡◌, all_of, items_view, view, depth, column_of, field_of}
 use Rattle.plan_json.proofs.dtype.+types.Given as goal
 
 abbrev pub decreases-read_type : goal.decreases-read_type

@@ -1,4 +1,4 @@
-use Rattle.plan_json.proofs.Names.{[], ap, ◌∙◌, ◌∷◌, expression}
+use Rattle.plan_json.proofs.Names.{[], ap, ◌∙◌, ◌∷◌}
 use Rattle.plan_json.specs.Forms.{expression_says}
 use Rattle.plan_json.specs.declared.forms.ExpressionKey.TheVariants as of
 use Rattle.plan_json.proofs.FormLemmas.{sort_by_said}

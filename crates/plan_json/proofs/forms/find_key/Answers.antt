@@ -1,4 +1,4 @@
-use Rattle.plan_json.proofs.Names.{ap, refl, ◌∙◌, key, expression_rows, plan_rows, row_named}
+use Rattle.plan_json.proofs.Names.{ap, refl, ◌∙◌, expression_rows, plan_rows, row_named}
 use Rattle.plan_json.specs.Forms.{selector_rows}
 use Rattle.plan_json.proofs.FormLemmas.{named_plain}
 use Rattle.plan_json.proofs.forms.find_key.Goals as goal

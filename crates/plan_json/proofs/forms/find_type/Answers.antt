@@ -1,4 +1,4 @@
-use Rattle.plan_json.proofs.Names.{ap, refl, ◌∙◌, key, row_named, type_rows}
+use Rattle.plan_json.proofs.Names.{ap, refl, ◌∙◌, row_named, type_rows}
 use Rattle.plan_json.proofs.FormLemmas.{named_plain}
 use Rattle.plan_json.proofs.forms.find_type.Goals as goal
 

@@ -1,4 +1,4 @@
-use Rattle.plan_json.proofs.Names.{Some, ap, false, slice_index, sym, ◌==◌, ◌∙◌, number, fits, w128, to_z-of_z, read_fits}
+use Rattle.plan_json.proofs.Names.{Some, ap, slice_index, sym, ◌==◌, ◌∙◌, w128, to_z-of_z, read_fits}
 use Rattle.plan_json.proofs.LiteralLemmas.{written, unwritten}
 use Rattle.plan_json.proofs.literal.number_written.Goals as goal
 

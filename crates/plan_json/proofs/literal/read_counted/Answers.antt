@@ -1,4 +1,4 @@
-use Rattle.plan_json.proofs.Names.{sym, true, ◌∙◌, a_counted_type, is_counted}
+use Rattle.plan_json.proofs.Names.{sym, ◌∙◌, a_counted_type}
 use Rattle.plan_json.proofs.Lemmas.{IsErrorOf-own, other_kind}
 use Rattle.plan_json.proofs.literal.read_counted.Goals as goal
 

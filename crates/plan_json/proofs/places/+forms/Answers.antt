@@ -1,5 +1,5 @@
-use Rattle.plan_json.proofs.Names.{Some, ap, arith, false, map, refl, subst, sym, true, ◌<◌, ◌∙◌, asked_form, key, list_of, number, places_form, all_of, items_view, view, names_of, array, declared, asks, expression, expression_read, place_view, read_as, IsErrorOf, map-append, tree_of}
-use Rattle.plan_dsl.specs.Selectors.{selector_tree}
+use Rattle.plan_json.proofs.Names.{Some, ap, arith, map, refl, subst, sym, ◌<◌, ◌∙◌, asked_form, list_of, places_form, all_of, items_view, view, names_of, array, declared, expression, expression_read, place_view, read_as, IsErrorOf, map-append, tree_of}
+use Rattle.plan_dsl.specs.Expressions.{selector_tree}
 use Rattle.plan_json.specs.Forms.{selector, selector_read}
 use Rattle.plan_json.proofs.Lemmas.{IsErrorOf-own, item_in, form_read, key_part, item_part_at, other_count, each_read, all_of-more, all_taken, depth-item}
 use Rattle.plan_json.proofs.places.+forms.Goals as goal
@@ -25,10 +25,10 @@ pub read_item-returns-in-Err-clause-err : goal.read_item-returns-in-Err-clause-e
 read_item-returns-in-Err-clause-err t c =
     c.below.ensures _ _ _ _ (item_part_at (names_of (declared c.args.tables.now)) c.args.places.now c.args.values.now c.args.number _ c.index-values-number.result c.requires c.if-number-places.false c.index-values-number.is) c.in-Err.ensures.err
 
-pub read_place-returns-in-Err-read_flags-clause-err : goal.read_place-returns-in-Err-read_flags-clause-err
-read_place-returns-in-Err-read_flags-clause-err t c =
+pub read_place-returns-in-Err-read_leaves-clause-err : goal.read_place-returns-in-Err-read_leaves-clause-err
+read_place-returns-in-Err-read_leaves-clause-err t c =
     let names = names_of (declared c.args.tables.now) in
-    subst (λ p. IsErrorOf (asked_form names (place_view p)) (view c.args.value.now) c.in-Err-read_flags.error) (sym c.in-Flags.is) (c.in-Err-read_flags.ensures.err names)
+    subst (λ p. IsErrorOf (asked_form names (place_view p)) (view c.args.value.now) c.in-Err-read_leaves.error) (sym c.in-Leaves.is) (c.in-Err-read_leaves.ensures.err.told names)
 
 -- ---- a list of expressions
 

@@ -1,5 +1,5 @@
-use Rattle.plan_json.proofs.Names.{Some, map, take, ◌*◌, ◌+◌, ◌≡◌, number, all_of, items_view, view, array, depth, declared, expression, expression_read, read_as, tree_of}
-use Rattle.plan_dsl.specs.Selectors.{selector_tree}
+use Rattle.plan_json.proofs.Names.{Some, map, take, ◌*◌, ◌+◌, ◌≡◌, all_of, items_view, view, array, depth, declared, expression, expression_read, read_as, tree_of}
+use Rattle.plan_dsl.specs.Expressions.{selector_tree}
 use Rattle.plan_json.specs.Forms.{selector, selector_read}
 use Rattle.plan_json.proofs.places.+forms.Given as goal
 

@@ -7,6 +7,10 @@ pub returns-clause-told : goal.returns-clause-told
 unfolding values_on_literals
 returns-clause-told c path is = (number 0 ∷ [], is, refl)
 
+pub returns-clause-of_a_list : goal.returns-clause-of_a_list
+unfolding values_on_literals
+returns-clause-of_a_list c path is = record { told = λ names. (number 0 ∷ [], is, refl) }
+
 text_stands : (path : Path) → ¬ (IsBadAt a_text (word "a") BadShape path)
 unfolding values_on_literals
 text_stands [] bad = cc
