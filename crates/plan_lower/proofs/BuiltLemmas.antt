@@ -1,12 +1,13 @@
 -- What is built from scans, filters, selects and hstacks, and why one of the last three isn't.
-use Rattle.std.proofs.Common.{◌≡◌, ◌⊎◌, inl, inr, ℕ, List, [], ◌∷◌, ◌++◌, map, true, false, is_some, Option, Some, None, Ok, Err, refl, sym, ap, ◌∙◌, subst, ⊎_elim}
+use Rattle.std.proofs.Common.{◌≡◌, ◌⊎◌, inl, inr, ℕ, List, [], ◌∷◌, ◌++◌, map, true, false, is_some, Option, Some, None, Result, Ok, Err, refl, sym, ap, ◌∙◌, subst, ⊎_elim}
 use Rattle.std.specs.List.{AllByRecursion, Contains}
 use Rattle.std.proofs.lemmas.List.{map-append}
+use Rattle.std.proofs.lemmas.List.Elements.{Contains-push}
 use Rattle.plan_types.specs.Types.{Truth}
 use Rattle.plan_types.specs.Schemas.{Columns, type_at, HasDistinctNames, names_of, all_known}
 use Rattle.plan_types.specs.Outcomes.{Outcome, Meets}
 use Rattle.plan_types.specs.Frames.{Frame, IsFrameOf}
-use Rattle.plan_types.specs.Errors.{no_memory, at_top, IsMemoryOr}
+use Rattle.plan_types.specs.Errors.{no_memory, at_top, IsMemoryOr, IsRefusal, no_room as short, broken as refused_by}
 use Rattle.plan_types.specs.declared.error.ErrorKind.{ErrorKind}
 use Rattle.plan_types.specs.declared.error.ErrorKind.TheVariants.{Duplicate, InvalidOperation, ComputeError, NoMemory}
 use Rattle.plan_types.specs.declared.error.PlanError.{PlanError}
@@ -15,13 +16,17 @@ use Rattle.plan_dsl.specs.Registry.{Registry}
 use Rattle.plan_dsl.specs.Trees.{node, no_more, more}
 use Rattle.plan_dsl.specs.Ops.{Expression}
 use Rattle.plan_dsl.specs.Names.{Label, label_of, name_of}
-use Rattle.plan_dsl.specs.Plans.{PlanOp, Plan, Named, named, scan_op, select_op, hstack_op, filter_op, expressions_of, own_scans}
+use Rattle.plan_dsl.specs.Plans.{PlanOp, Plan, SourcePlan, Named, named, RefusedKind, scan_op, select_op, hstack_op, filter_op, expressions_of, own_scans}
+use Rattle.plan_dsl.specs.Sources.{Source}
+use Rattle.plan_dsl.specs.Refusals.{then_ok, with_kinds}
+use Rattle.plan_dsl.specs.Resolving.{expanded_kind, resolved}
 use Rattle.plan_dsl.specs.Aliases.{IsCore, core}
 use Rattle.plan_dsl.specs.Literals.{settled}
 use Rattle.plan_dsl.specs.Typing.{Typed, typing}
 use Rattle.plan_dsl.specs.PlanRules.{with_columns, plan_rule, schema_of, broken_kinds, Breaks}
 use Rattle.plan_dsl.specs.PlanKernels.{plan_kernel}
 use Rattle.plan_dsl.specs.PlanMeaning.{by_meaning, FitsPlan, MeetsWhere}
+use Rattle.plan_dsl.proofs.ResolvingLemmas.{resolved_as}
 use Rattle.plan_dsl.proofs.FrameLemmas.{fits_input, fits_over}
 use Rattle.plan_dsl.proofs.KernelLemmas.{AgreeOn, selected_agrees, hstacked_agrees, filtered_agrees}
 use Rattle.plan_dsl.proofs.LiteralLemmas.{strict_settled, settled_label}
@@ -31,16 +36,26 @@ use Rattle.plan_dsl.proofs.RunLemmas.{strict_is_meaning}
 use Rattle.plan_dsl.proofs.RuleLemmas.{scan_schema, scan_unknown_kind, select_schema, select_refused_kind, select_repeated_name, hstack_schema, hstack_refused_kind, hstack_repeated_name, filter_schema, filter_refused_kind, filter_other_type, broken_is_ill_formed}
 use Rattle.plan_arena.specs.Runs.{AreStrict, HasOwnName, HasRecorded, HaveOwnNames, IsStrictCore, by_running, plan_run}
 use Rattle.plan_arena.proofs.RunLemmas.{runs_soundly, sound_top}
+use Rattle.plan_expand.specs.Refusals.{IsUnexpanded, no_room as no_place, unexpanded}
 use Rattle.plan_lower.specs.Outputs.{Lowered, IsLowered, lowered_named, lowered_column, lowered_select, lowered_hstack, SelectsTo}
 use Rattle.plan_lower.specs.Projection.{IsOutputRefusal, no_room, untyped, repeated, IsProjectionRefusal, out_of_memory as no_space, refused}
 use Rattle.plan_lower.specs.Predicates.{FiltersBy, IsPredicateRefusal, without_room, without_type, of_other_type, lowered_filter}
-use Rattle.plan_lower.specs.Lowering.{IsBuilt, IsPlanRefusal, out_of_memory, broken, source_select, source_hstack, source_filter}
+use Rattle.plan_lower.specs.Lowering.{IsBuilt, IsPlanRefusal, out_of_memory, broken, resolved_select, resolved_hstack, resolved_filter}
 
 abbrev output_label : Lowered → Label
 output_label o = label_of o.tree
 
 abbrev output_typed : Lowered → Typed
 output_typed o = o.typed
+
+-- what goes on with something unexpanded, or takes a refusal by one kind, is unexpanded
+pub unexpanded_then : {A B : Type 0} (r : Result A (List ErrorKind)) (next : A → Result B (List ErrorKind)) (error : PlanError) → IsUnexpanded r error → IsUnexpanded (then_ok r next) error
+unexpanded_then r next error (no_place e) = no_place e
+unexpanded_then r next error (unexpanded kinds kind told by there) = unexpanded kinds kind told (ap (λ x. then_ok x next) by) there
+
+pub unexpanded_kind : {A : Type 0} (r : Result A ErrorKind) (error : PlanError) → IsRefusal r error → IsUnexpanded (with_kinds r) error
+unexpanded_kind r error (short e) = no_place e
+unexpanded_kind r error (refused_by kind told by) = unexpanded (kind ∷ []) kind told (ap with_kinds by) (Contains-push [] kind)
 
 module _ (registry : Registry) where
   -- a scan is built from itself
@@ -159,7 +174,7 @@ module _ (registry : Registry) where
       (λ tables input meets. selected_agrees (by_running registry) (by_meaning registry) (map lowered_named outputs) (source_outputs outputs) schema input (agree schema outputs each) meets)
 
   -- the same of a select of expressions that become the outputs
-  pub select_built : (source lowered : Plan) (schema : Columns) (trees : List Expression) (outputs : List Lowered) → IsBuilt registry source lowered schema → SelectsTo registry schema trees outputs → IsBuilt registry (source_select trees source) (lowered_select outputs lowered) (map lowered_column outputs)
+  pub select_built : (source lowered : Plan) (schema : Columns) (trees : List Expression) (outputs : List Lowered) → IsBuilt registry source lowered schema → SelectsTo registry schema trees outputs → IsBuilt registry (resolved_select trees source) (lowered_select outputs lowered) (map lowered_column outputs)
   select_built source lowered schema trees outputs built selects =
       let same_outputs = map-map named (λ (o : Lowered). o.tree) outputs in
       let expressions = sym same_outputs ∙ ap (map named) selects.trees_are in
@@ -175,13 +190,13 @@ module _ (registry : Registry) where
       (λ tables input meets. hstacked_agrees (by_running registry) (by_meaning registry) (map lowered_named outputs) (source_outputs outputs) schema input (agree schema outputs each) meets)
 
   -- the same of an hstack of expressions that become the outputs
-  pub hstack_built : (source lowered : Plan) (schema : Columns) (trees : List Expression) (outputs : List Lowered) → IsBuilt registry source lowered schema → SelectsTo registry schema trees outputs → IsBuilt registry (source_hstack trees source) (lowered_hstack schema outputs lowered) (with_columns schema (map lowered_column outputs))
+  pub hstack_built : (source lowered : Plan) (schema : Columns) (trees : List Expression) (outputs : List Lowered) → IsBuilt registry source lowered schema → SelectsTo registry schema trees outputs → IsBuilt registry (resolved_hstack trees source) (lowered_hstack schema outputs lowered) (with_columns schema (map lowered_column outputs))
   hstack_built source lowered schema trees outputs built selects =
       let expressions = sym (map-map named (λ (o : Lowered). o.tree) outputs) ∙ ap (map named) selects.trees_are in
       subst (λ es. IsBuilt registry (node (hstack_op es None) (more source no_more)) (lowered_hstack schema outputs lowered) (with_columns schema (map lowered_column outputs))) expressions (stacked_over source lowered schema built outputs selects.each selects.distinct)
 
   -- a filter by one output over what was built from its input
-  filter_over : (source lowered : Plan) (schema : Columns) → IsBuilt registry source lowered schema → (o : Lowered) → IsLowered registry schema o → o.typed.type ≡ Truth → IsBuilt registry (source_filter o.tree source) (lowered_filter o lowered) schema
+  filter_over : (source lowered : Plan) (schema : Columns) → IsBuilt registry source lowered schema → (o : Lowered) → IsLowered registry schema o → o.typed.type ≡ Truth → IsBuilt registry (resolved_filter o.tree source) (lowered_filter o lowered) schema
   filter_over source lowered schema built o is truth =
       let there = filter_schema registry schema (named o.tree) o.typed is.typed truth in
       let here = filter_schema registry schema (lowered_named o) o.typed (after_typed schema o is) truth in
@@ -189,9 +204,9 @@ module _ (registry : Registry) where
       (λ tables input meets. filtered_agrees (by_running registry) (by_meaning registry) (lowered_named o) (named o.tree) schema input (agree schema (o ∷ []) (is, tt)) meets)
 
   -- the same of a filter by an expression that becomes the output
-  pub filter_built : (source lowered : Plan) (schema : Columns) (tree : Expression) (output : Lowered) → IsBuilt registry source lowered schema → FiltersBy registry schema tree output → IsBuilt registry (source_filter tree source) (lowered_filter output lowered) schema
+  pub filter_built : (source lowered : Plan) (schema : Columns) (tree : Expression) (output : Lowered) → IsBuilt registry source lowered schema → FiltersBy registry schema tree output → IsBuilt registry (resolved_filter tree source) (lowered_filter output lowered) schema
   filter_built source lowered schema tree output built filters =
-      subst (λ t. IsBuilt registry (source_filter t source) (lowered_filter output lowered) schema) filters.tree_is (filter_over source lowered schema built output filters.is filters.truth)
+      subst (λ t. IsBuilt registry (resolved_filter t source) (lowered_filter output lowered) schema) filters.tree_is (filter_over source lowered schema built output filters.is filters.truth)
 
   -- a refusal that names a kind that is broken at the top
   refused_top : (plan : Plan) (kind : ErrorKind) (error : PlanError) → error ≡ at_top kind → Breaks registry kind [] plan → IsPlanRefusal registry plan error
@@ -203,6 +218,13 @@ module _ (registry : Registry) where
   pub refused_over : (op : PlanOp (Named Expression)) (source : Plan) (schema : Columns) (kind : ErrorKind) (error : PlanError) → schema_of registry source ≡ Some schema → error ≡ at_top kind → Contains (broken_kinds registry op (Some schema ∷ [])) kind → IsPlanRefusal registry (node op (more source no_more)) error
   refused_over op source schema kind error there e h =
       refused_top (node op (more source no_more)) kind error e (subst (λ s. Contains (broken_kinds registry op (s ∷ [])) kind) (sym there) h)
+
+  -- a node of a query that can't be resolved over its input is refused, whatever its kind
+  pub unresolved_refused : (op : PlanOp Source) (source : SourcePlan) (schema : Columns) (plan : Plan) (error : PlanError) → schema_of registry (resolved registry source) ≡ Some schema → IsUnexpanded (expanded_kind schema op.kind) error → plan ≡ resolved registry (node op (more source no_more)) → IsPlanRefusal registry plan error
+  unresolved_refused op source schema plan error there (no_place e) same = out_of_memory e
+  unresolved_refused op source schema plan error there (unexpanded kinds kind told by told_there) same =
+      let refused = same ∙ resolved_as registry op source schema (Err kinds) there by in
+      subst (λ p. IsPlanRefusal registry p error) (sym refused) (refused_over (record { kind = RefusedKind kinds; recorded = op.recorded }) (resolved registry source) schema kind error there told told_there)
 
   -- a scan of a column whose type isn't known is refused
   pub scan_refused_at : (table : Option ℕ) (schema : Columns) (error : PlanError) → IsMemoryOr InvalidOperation (all_known schema ≡ false) error → IsPlanRefusal registry (node (scan_op table schema) no_more) error
@@ -228,16 +250,16 @@ module _ (registry : Registry) where
         subst (λ os. IsPlanRefusal registry (node (make os) (more source no_more)) error) outputs (output_refused r.front r.back r.tree r.before error r.names r.refusal)
 
   -- so of a select, and of an hstack
-  pub select_refused_at : (source : Plan) (schema : Columns) (trees : List Expression) (error : PlanError) → schema_of registry source ≡ Some schema → IsProjectionRefusal registry schema Duplicate trees error → IsPlanRefusal registry (source_select trees source) error
+  pub select_refused_at : (source : Plan) (schema : Columns) (trees : List Expression) (error : PlanError) → schema_of registry source ≡ Some schema → IsProjectionRefusal registry schema Duplicate trees error → IsPlanRefusal registry (resolved_select trees source) error
   select_refused_at source schema trees error there r =
       outputs_refused source schema there (λ os. select_op os None) Duplicate (select_refused_kind registry schema None) (select_repeated_name registry schema None) trees error r
 
-  pub hstack_refused_at : (source : Plan) (schema : Columns) (trees : List Expression) (error : PlanError) → schema_of registry source ≡ Some schema → IsProjectionRefusal registry schema ComputeError trees error → IsPlanRefusal registry (source_hstack trees source) error
+  pub hstack_refused_at : (source : Plan) (schema : Columns) (trees : List Expression) (error : PlanError) → schema_of registry source ≡ Some schema → IsProjectionRefusal registry schema ComputeError trees error → IsPlanRefusal registry (resolved_hstack trees source) error
   hstack_refused_at source schema trees error there r =
       outputs_refused source schema there (λ os. hstack_op os None) ComputeError (hstack_refused_kind registry schema None) (hstack_repeated_name registry schema None) trees error r
 
   -- a filter's predicate is refused
-  pub filter_refused_at : (source : Plan) (schema : Columns) (tree : Expression) (error : PlanError) → schema_of registry source ≡ Some schema → IsPredicateRefusal registry schema tree error → IsPlanRefusal registry (source_filter tree source) error
+  pub filter_refused_at : (source : Plan) (schema : Columns) (tree : Expression) (error : PlanError) → schema_of registry source ≡ Some schema → IsPredicateRefusal registry schema tree error → IsPlanRefusal registry (resolved_filter tree source) error
   filter_refused_at source schema tree error there (without_room e) = out_of_memory e
   filter_refused_at source schema tree error there (without_type kind e typing) =
       refused_over (filter_op (named tree)) source schema kind error there e (filter_refused_kind registry schema (named tree) kind typing)

@@ -1,21 +1,21 @@
 -- What drops leave as lists that are made one by one, and simple projections of it over what was built.
-use Rattle.std.proofs.Common.{◌≡◌, ◌⊎◌, ◌<◌, ◌+◌, ℕ, List, [], ◌∷◌, ◌++◌, drop, slice_get, length, Bool, true, false, cond, not, ◌&&◌, ◌||◌, is_some, Some, None, Ok, Err, refl, sym, ap, ◌∙◌, subst, arith}
+use Rattle.std.proofs.Common.{◌≡◌, ◌<◌, ◌+◌, ℕ, List, [], ◌∷◌, ◌++◌, drop, slice_get, length, Bool, true, false, cond, not, ◌&&◌, ◌||◌, is_some, Some, None, Ok, Err, refl, sym, ap, ◌∙◌, subst, arith}
 use Rattle.std.proofs.lemmas.List.Elements.{Contains-push}
 use Rattle.std.proofs.lemmas.Option.{slice_get_within, get_or_from_slice_get}
 use Rattle.plan_types.specs.Types.{Ty}
 use Rattle.plan_types.proofs.ListLemmas.{item_left}
 use Rattle.plan_types.specs.Schemas.{Name, Columns, same_name, type_at, with_column, is_among, names_of, HasDistinctNames}
-use Rattle.plan_types.specs.Errors.{at_top, no_memory}
-use Rattle.plan_types.specs.declared.error.ErrorKind.TheVariants.{ColumnNotFound, NoMemory}
+use Rattle.plan_types.specs.Errors.{at_top}
+use Rattle.plan_types.specs.declared.error.ErrorKind.TheVariants.{ColumnNotFound}
 use Rattle.plan_types.specs.declared.error.PlanError.{PlanError}
 use Rattle.plan_types.proofs.SchemaLemmas.{copied_more, test_from_distinct, distinct_from_test}
 use Rattle.plan_dsl.specs.Registry.{Registry}
 use Rattle.plan_dsl.specs.Trees.{node, no_more, more}
-use Rattle.plan_dsl.specs.Plans.{Plan, SourcePlan, SimpleProjectionKind, RefusedKind, simple_projection_op, empty_table, drop_op, written_drop, written_function}
-use Rattle.plan_dsl.specs.PlanRules.{plan_rule, schema_of}
+use Rattle.plan_dsl.specs.Plans.{Plan, PlanOp, SourcePlan, SimpleProjectionKind, simple_projection_op, empty_table, drop_op, source_drop, source_function}
+use Rattle.plan_dsl.specs.PlanRules.{plan_rule}
 use Rattle.plan_dsl.specs.Refusals.{then_ok}
-use Rattle.plan_dsl.specs.Resolving.{resolved, resolved_kind, resolved_op}
-use Rattle.plan_dsl.specs.Selectors.{selector_trees}
+use Rattle.plan_dsl.specs.Resolving.{resolved, resolved_kind}
+use Rattle.plan_dsl.specs.Expressions.{selector_trees}
 use Rattle.plan_dsl.specs.declared.function.DslFunction.{DslFunction}
 use Rattle.plan_dsl.specs.declared.function.DslFunction.TheVariants.{Drop}
 use Rattle.plan_dsl.specs.Sources.{Source}
@@ -23,17 +23,17 @@ use Rattle.plan_dsl.specs.Markers.{names_of_selectors}
 use Rattle.plan_dsl.specs.Drops.{have_names, columns_but, left_but, drop_leaves}
 use Rattle.plan_dsl.proofs.DropLemmas.{drops_have_schemas}
 use Rattle.plan_dsl.proofs.MarkerLemmas.{distinct_kept}
-use Rattle.plan_dsl.proofs.ResolvingLemmas.{drop_resolved, drop_refused}
-use Rattle.plan_expand.specs.Refusals.{IsUnexpanded, no_room, unexpanded}
+use Rattle.plan_dsl.proofs.ResolvingLemmas.{drop_resolved}
+use Rattle.plan_expand.specs.Refusals.{IsUnexpanded, unexpanded}
 use Rattle.plan_arena.specs.declared.aexpr.AExpr.{AExpr}
 use Rattle.plan_arena.specs.declared.ir.IR.{IR}
 use Rattle.plan_arena.specs.Denotation.{Denotes}
 use Rattle.plan_arena.specs.Items.{HoldsPlan, Grows, plan_layer}
 use Rattle.plan_arena.specs.Layers.{layer}
 use Rattle.plan_arena.proofs.ItemLemmas.{plan_added, plan_stays, plan_tree_kept}
-use Rattle.plan_lower.specs.Lowering.{IsBuilt, IsPlanRefusal, out_of_memory, StandsFor, IsDropAt, IsFunctionAt, IsFunctionRefusal, IsEmptyTableAt}
-use Rattle.plan_lower.proofs.BuiltLemmas.{over_schema, over_built, refused_over}
-use Rattle.plan_lower.proofs.PlanLemmas.{empty_denoted, refused_below}
+use Rattle.plan_lower.specs.Lowering.{IsBuilt, IsPlanRefusal, StandsFor, IsDropAt, IsFunctionAt, IsFunctionRefusal, IsEmptyTableAt}
+use Rattle.plan_lower.proofs.BuiltLemmas.{over_schema, over_built, unexpanded_then, unresolved_refused}
+use Rattle.plan_lower.proofs.PlanLemmas.{empty_denoted}
 
 -- ---- columns one by one
 
@@ -72,10 +72,6 @@ left_found schema selectors strict lacks names own found is none left =
 pub left_lacking : (schema : Columns) (selectors : List Source) (strict lacks : Bool) (names : List Name) (error : PlanError) → names_of_selectors schema selectors ≡ Ok names → lacks ≡ (strict && not (have_names schema names)) → lacks ≡ true → error ≡ at_top ColumnNotFound → IsUnexpanded (drop_leaves schema selectors strict) error
 left_lacking schema selectors strict lacks names error found is some told =
     unexpanded (ColumnNotFound ∷ []) ColumnNotFound told (ap (λ r. then_ok r (left_but strict schema)) found ∙ ap (λ b. cond b (Err (ColumnNotFound ∷ [])) (Ok (columns_but names schema))) (sym is ∙ some)) (Contains-push [] ColumnNotFound)
-
-pub left_unnamed : (schema : Columns) (selectors : List Source) (strict : Bool) (error : PlanError) → IsUnexpanded (names_of_selectors schema selectors) error → IsUnexpanded (drop_leaves schema selectors strict) error
-left_unnamed schema selectors strict error (no_room e) = no_room e
-left_unnamed schema selectors strict error (unexpanded kinds kind told by there) = unexpanded kinds kind told (ap (λ r. then_ok r (left_but strict schema)) by) there
 
 -- ---- what is built
 
@@ -116,7 +112,7 @@ module _ (registry : Registry) where
       subst (λ k. Denotes (HoldsPlan items plans) k t) (sym (something positive)) d
 
   -- a drop over what its input becomes
-  pub drop_stands : (items : List AExpr) (plans new : List IR) (input n : ℕ) (schema own : Columns) (selectors : List Source) (strict : Bool) (source : SourcePlan) (plan : Plan) → Grows plans new → StandsFor registry items plans input schema (resolved registry source) → IsDropAt schema selectors strict new n input own → plan ≡ resolved registry (written_drop selectors strict source) → StandsFor registry items new n own plan
+  pub drop_stands : (items : List AExpr) (plans new : List IR) (input n : ℕ) (schema own : Columns) (selectors : List Source) (strict : Bool) (source : SourcePlan) (plan : Plan) → Grows plans new → StandsFor registry items plans input schema (resolved registry source) → IsDropAt schema selectors strict new n input own → plan ≡ resolved registry (source_drop selectors strict source) → StandsFor registry items new n own plan
   drop_stands items plans new input n schema own selectors strict source plan grows s is same =
       let kept = plan_tree_kept items items plans new (λ k op inputs h. h) grows input s.lowered s.denotes in
       let rule = drop_rule selectors strict schema own is.distinct is.left in
@@ -128,25 +124,23 @@ module _ (registry : Registry) where
       }
 
   -- a drop that is refused
-  pub dropped_refused : (items : List AExpr) (plans : List IR) (input : ℕ) (schema : Columns) (selectors : List Source) (strict : Bool) (source : SourcePlan) (plan : Plan) (error : PlanError) → StandsFor registry items plans input schema (resolved registry source) → IsUnexpanded (drop_leaves schema selectors strict) error → plan ≡ resolved registry (written_drop selectors strict source) → IsPlanRefusal registry plan error
-  dropped_refused items plans input schema selectors strict source plan error s (no_room e) same = out_of_memory e
-  dropped_refused items plans input schema selectors strict source plan error s (unexpanded kinds kind told by there) same =
-      let refused = same ∙ drop_refused registry selectors strict source schema kinds s.built.source_schema by in
-      subst (λ p. IsPlanRefusal registry p error) (sym refused) (refused_over registry (record { kind = RefusedKind kinds; recorded = None }) (resolved registry source) schema kind error s.built.source_schema told there)
+  pub dropped_refused : (items : List AExpr) (plans : List IR) (input : ℕ) (schema : Columns) (selectors : List Source) (strict : Bool) (source : SourcePlan) (plan : Plan) (error : PlanError) → StandsFor registry items plans input schema (resolved registry source) → IsUnexpanded (drop_leaves schema selectors strict) error → plan ≡ resolved registry (source_drop selectors strict source) → IsPlanRefusal registry plan error
+  dropped_refused items plans input schema selectors strict source plan error s refused same =
+      unresolved_refused registry (drop_op selectors strict) source schema plan error s.built.source_schema (unexpanded_then (drop_leaves schema selectors strict) (λ own. Ok (SimpleProjectionKind own)) error refused) same
 
   -- the same of any function
-  pub function_stands : (items : List AExpr) (plans new : List IR) (input n : ℕ) (schema own : Columns) (function : DslFunction) (source : SourcePlan) (plan : Plan) → Grows plans new → StandsFor registry items plans input schema (resolved registry source) → IsFunctionAt schema function new n input own → plan ≡ resolved registry (written_function function source) → StandsFor registry items new n own plan
+  pub function_stands : (items : List AExpr) (plans new : List IR) (input n : ℕ) (schema own : Columns) (function : DslFunction) (source : SourcePlan) (plan : Plan) → Grows plans new → StandsFor registry items plans input schema (resolved registry source) → IsFunctionAt schema function new n input own → plan ≡ resolved registry (source_function function source) → StandsFor registry items new n own plan
   function_stands items plans new input n schema own (Drop function) source plan grows s is same =
       drop_stands items plans new input n schema own (selector_trees function.to_drop) function.strict source plan grows s is same
 
-  pub function_refused : (items : List AExpr) (plans : List IR) (input : ℕ) (schema : Columns) (function : DslFunction) (source : SourcePlan) (plan : Plan) (error : PlanError) → StandsFor registry items plans input schema (resolved registry source) → IsFunctionRefusal schema function error → plan ≡ resolved registry (written_function function source) → IsPlanRefusal registry plan error
+  pub function_refused : (items : List AExpr) (plans : List IR) (input : ℕ) (schema : Columns) (function : DslFunction) (source : SourcePlan) (plan : Plan) (error : PlanError) → StandsFor registry items plans input schema (resolved registry source) → IsFunctionRefusal schema function error → plan ≡ resolved registry (source_function function source) → IsPlanRefusal registry plan error
   function_refused items plans input schema (Drop function) source plan error s refused same =
       dropped_refused items plans input schema (selector_trees function.to_drop) function.strict source plan error s refused same
 
   -- a refusal of a function's input
-  pub function_below : (function : DslFunction) (source : SourcePlan) (plan : Plan) (inner error : PlanError) → IsPlanRefusal registry (resolved registry source) inner → (error ≡ no_memory) ⊎ (¬ (inner.kind ≡ NoMemory) × (error ≡ record { kind = inner.kind; place = 0 ∷ inner.place })) → plan ≡ resolved registry (written_function function source) → IsPlanRefusal registry plan error
-  function_below (Drop function) source plan inner error r below same =
-      refused_below registry (resolved_op (drop_op (selector_trees function.to_drop) function.strict) (schema_of registry (resolved registry source) ∷ [])) (resolved registry source) plan inner error r below same
+  pub function_below : (function : DslFunction) (source : SourcePlan) (plan : Plan) (error : PlanError) → ((op : PlanOp Source) → IsPlanRefusal registry (resolved registry (node op (more source no_more))) error) → plan ≡ resolved registry (source_function function source) → IsPlanRefusal registry plan error
+  function_below (Drop function) source plan error below same =
+      subst (λ p. IsPlanRefusal registry p error) (sym same) (below (drop_op (selector_trees function.to_drop) function.strict))
 
 -- a simple projection that was added over its input
 pub drop_at : (schema : Columns) (selectors : List Source) (strict : Bool) (mid new : List IR) (item : IR) (n input below : ℕ) (own : Columns) → HasDistinctNames schema → drop_leaves schema selectors strict ≡ Ok own → (length own ≡ 0 → IsEmptyTableAt mid below) → (0 < length own → below ≡ input) → new ≡ mid ++ item ∷ [] → n ≡ length mid → plan_layer item ≡ layer (simple_projection_op own (Some own)) (below ∷ []) → IsDropAt schema selectors strict new n input own

@@ -1,8 +1,13 @@
 -- Nodes that lowering adds.
-use Rattle.std.proofs.Common.{◌≡◌, ◌≢◌, ℕ, Bool, refl, ◌≤◌, List, [], ◌∷◌, ◌++◌, length, sym, ap, ◌∙◌, subst, arith, append-nil, append_assoc}
+use Rattle.std.proofs.Common.{◌≡◌, ◌≢◌, ℕ, Bool, true, refl, ◌≤◌, List, [], ◌∷◌, ◌++◌, length, map, sym, ap, ◌∙◌, subst, arith, append-nil, append_assoc}
+use Rattle.std.specs.List.{AllByRecursion, list_all}
+use Rattle.std.proofs.lemmas.Bool.{and_parts}
 use Rattle.std.proofs.lemmas.List.{map-append}
 use Rattle.plan_dsl.specs.Aliases.{all_pruned, inputs_pruned, pruned}
-use Rattle.plan_dsl.specs.Expressions.{tree_of}
+use Rattle.plan_dsl.specs.Expressions.{plain_tree, tree_of}
+use Rattle.plan_dsl.specs.Sources.{Plain, SourceOp, Source, all_are_plain, all_unwritten, is_plain, unwritten}
+use Rattle.plan_dsl.proofs.ExprLemmas.{IsListed, listed_plain}
+use Rattle.plan_types.proofs.ListLemmas.{map-map}
 use Rattle.plan_dsl.specs.declared.expr.Expr.{Expr}
 use Rattle.plan_dsl.specs.declared.expr.Expr.TheVariants.{Alias, Alias', Literal}
 use Rattle.plan_dsl.specs.Literals.{settled}
@@ -24,7 +29,7 @@ AreAdded old last (n ∷ ns) (more t ts) =
 AreAdded old last [] (more t ts) = ⊥
 AreAdded old last (n ∷ ns) no_more = ⊥
 
-nothing_added : (items : List AExpr) → Grows items items
+pub nothing_added : (items : List AExpr) → Grows items items
 nothing_added items = record { added = []; longer = sym (append-nil items) }
 
 all_grow : (old last : List AExpr) (ns : List ℕ) (ts : Trees Op) → AreAdded old last ns ts → Grows old last
@@ -66,17 +71,49 @@ item_denotes first last new tree item n le of grown at =
     subst (Denotes (HoldsFrom first new) n) (sym of.is) (added_denotes first last new item n (op_of l) (inputs_of l) of.operands le grown at (layer_parts l) operands)
 
 -- an expression that is no alias is what it is over its inputs
-pub pruned_item : (keep : Bool) (expr : Expr) → ((below : _) (name : _) → expr ≢ Alias below name) → inputs_pruned keep (tree_of expr) ≡ pruned keep (tree_of expr)
+pub pruned_item : (keep : Bool) (expr : Expr) → ((below : _) (name : _) → expr ≢ Alias below name) → inputs_pruned keep (plain_tree expr) ≡ pruned keep (plain_tree expr)
 pruned_item keep (Alias' p below name) apart = absurd (apart _ name refl)
 pruned_item keep _ apart = refl
 
 -- what is neither a literal nor an alias stays as it is
-pub settled_item : (expr : Expr) → ((value : _) → expr ≢ Literal value) → ((below : _) (name : _) → expr ≢ Alias below name) → tree_of expr ≡ settled (tree_of expr)
+pub settled_item : (expr : Expr) → ((value : _) → expr ≢ Literal value) → ((below : _) (name : _) → expr ≢ Alias below name) → plain_tree expr ≡ settled (plain_tree expr)
 settled_item (Literal value) literal alias = absurd (literal value refl)
 settled_item (Alias' p below name) literal alias = absurd (alias _ name refl)
 settled_item _ literal alias = refl
 
+-- the second and the third operand of what has plans' ops alone
+pub second_plain : (expr : Expr) (op : Op) (first second : Source) (rest : Trees SourceOp) → tree_of expr ≡ node (Plain op) (more first (more second rest)) → is_plain (tree_of expr) ≡ true → is_plain second ≡ true
+second_plain expr op first second rest is plain =
+    let parts = and_parts (is_plain first) (all_are_plain (more second rest)) (sym (ap is_plain is) ∙ plain) in
+    (and_parts (is_plain second) (all_are_plain rest) parts.1).0
+
+pub third_plain : (expr : Expr) (op : Op) (first second third : Source) (rest : Trees SourceOp) → tree_of expr ≡ node (Plain op) (more first (more second (more third rest))) → is_plain (tree_of expr) ≡ true → is_plain third ≡ true
+third_plain expr op first second third rest is plain =
+    let parts = and_parts (is_plain first) (all_are_plain (more second (more third rest))) (sym (ap is_plain is) ∙ plain) in
+    let others = and_parts (is_plain second) (all_are_plain (more third rest)) parts.1 in
+    (and_parts (is_plain third) (all_are_plain rest) others.1).0
+
+-- of one operand and a list, the list; and what it is an expression of
+pub rest_plain : {tree : Source} {op : Op} {first : Source} {rest : List Source} → IsListed tree (Plain op) first rest → is_plain tree ≡ true → list_all is_plain rest ≡ true
+rest_plain {tree} {op} {first} {rest} listed plain = (and_parts (is_plain first) (list_all is_plain rest) (sym (listed_plain listed) ∙ plain)).1
+
+all_unwritten_from : (sources : List Source) → all_unwritten (children_from sources) ≡ children_from (map unwritten sources)
+all_unwritten_from [] = refl
+all_unwritten_from (source ∷ sources) = ap (more (unwritten source)) (all_unwritten_from sources)
+
+pub unwritten_listed : {tree : Source} {op : Op} {first : Source} (exprs : List Expr) → IsListed tree (Plain op) first (map tree_of exprs) → unwritten tree ≡ node op (more (unwritten first) (children_from (map plain_tree exprs)))
+unwritten_listed {tree} {op} {first} exprs listed =
+    let rest = all_unwritten_from (map tree_of exprs) ∙ ap children_from (map-map unwritten tree_of exprs) in
+    ap unwritten listed.is ∙ ap (λ others. node op (more (unwritten first) others)) rest
+
 -- ---- expressions that are added one after the other
+
+-- each of some that have plans' ops alone has
+pub each_plain : (exprs : List Expr) → list_all is_plain (map tree_of exprs) ≡ true → AllByRecursion (λ expr. is_plain (tree_of expr) ≡ true) exprs
+each_plain [] plain = tt
+each_plain (expr ∷ exprs) plain =
+    let parts = and_parts (is_plain (tree_of expr)) (list_all is_plain (map tree_of exprs)) plain in
+    (parts.0, each_plain exprs parts.1)
 
 -- nodes from a number on denote the expressions in front of those that are left, with their aliases or without
 pub record Adding (first : ℕ) (keep : Bool) (items : List AExpr) (all left : List Expression) (nodes : List Node) : Type 0 where

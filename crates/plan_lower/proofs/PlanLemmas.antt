@@ -1,5 +1,5 @@
 -- Lowering of plans, node by node.
-use Rattle.std.proofs.Common.{◌≡◌, ◌⊎◌, ℕ, ◌<◌, List, [], ◌∷◌, ◌++◌, length, map, true, false, Option, Some, None, slice_get, refl, sym, ap, ◌∙◌, subst, arith}
+use Rattle.std.proofs.Common.{◌≡◌, ◌⊎◌, ℕ, ◌<◌, List, [], ◌∷◌, ◌++◌, length, map, true, false, Option, Some, None, Ok, slice_get, refl, sym, ap, ◌∙◌, subst, arith}
 use Rattle.plan_types.specs.Schemas.{Columns, HasDistinctNames, all_known}
 use Rattle.plan_types.specs.declared.error.ErrorKind.TheVariants.{Duplicate, InvalidOperation, ComputeError, NoMemory}
 use Rattle.plan_types.specs.Errors.{no_memory, IsMemoryOr}
@@ -7,8 +7,13 @@ use Rattle.plan_types.specs.declared.error.PlanError.{PlanError}
 use Rattle.plan_dsl.specs.Registry.{Registry}
 use Rattle.plan_dsl.specs.Trees.{node, no_more, more}
 use Rattle.plan_dsl.specs.Ops.{Op, Expression}
-use Rattle.plan_dsl.specs.Plans.{PlanOp, Plan, Named, scan_op, select_op, hstack_op, filter_op, empty_table}
+use Rattle.plan_dsl.specs.Plans.{PlanOp, Plan, SourcePlan, Named, named, SelectKind, HStackKind, FilterKind, source_select, source_hstack, source_filter, scan_op, select_op, hstack_op, filter_op, empty_table}
 use Rattle.plan_dsl.specs.PlanRules.{with_columns}
+use Rattle.plan_dsl.specs.Sources.{Source}
+use Rattle.plan_dsl.specs.Refusals.{with_kinds}
+use Rattle.plan_dsl.specs.Expansion.{expansions, predicate_expansion}
+use Rattle.plan_dsl.specs.Resolving.{resolved}
+use Rattle.plan_dsl.proofs.ResolvingLemmas.{select_resolved, hstack_resolved, filter_resolved}
 use Rattle.plan_arena.specs.declared.aexpr.AExpr.{AExpr}
 use Rattle.plan_arena.specs.declared.ir.IR.{IR}
 use Rattle.plan_arena.specs.declared.plan.IRPlan.{IRPlan}
@@ -18,11 +23,11 @@ use Rattle.plan_arena.specs.Items.{HoldsExpression, HoldsPlan, DenoteNamed, Grow
 use Rattle.plan_arena.proofs.DenotationLemmas.{denotes_one}
 use Rattle.plan_arena.proofs.ItemLemmas.{plan_added, plan_stays, plan_tree_kept, plan_laws}
 use Rattle.plan_arena.proofs.RunLemmas.{runs_soundly}
-use Rattle.plan_lower.specs.Outputs.{Lowered, lowered_named, lowered_column, over, lowered_select, lowered_hstack, HasOutputs}
-use Rattle.plan_lower.specs.Predicates.{HasPredicate, IsPredicateRefusal, lowered_filter}
-use Rattle.plan_lower.specs.Projection.{IsProjectionRefusal}
-use Rattle.plan_lower.specs.Lowering.{source_select, source_hstack, source_filter, IsBuilt, IsPlanRefusal, IsSelectAt, IsHStackAt, IsFilterAt, StandsFor, IsEmptyTableAt, IsTyped, IsSound, GivesSameFrame}
-use Rattle.plan_lower.proofs.BuiltLemmas.{scan_built, scan_refused_at, select_built, select_refused_at, hstack_built, hstack_refused_at, filter_built, filter_refused_at, refused_in_input}
+use Rattle.plan_lower.specs.Outputs.{Lowered, lowered_named, lowered_column, over, lowered_select, lowered_hstack, HasExpandedOutputs}
+use Rattle.plan_lower.specs.Predicates.{HasExpandedPredicate, IsUnfiltered, not_expanded as unreduced, no_predicate, lowered_filter}
+use Rattle.plan_lower.specs.Projection.{IsUnprojected, not_expanded, not_projected}
+use Rattle.plan_lower.specs.Lowering.{IsBuilt, IsPlanRefusal, IsSelectAt, IsHStackAt, IsFilterAt, StandsFor, IsEmptyTableAt, IsTyped, IsSound, GivesSameFrame}
+use Rattle.plan_lower.proofs.BuiltLemmas.{unexpanded_then, unexpanded_kind, unresolved_refused, scan_built, scan_refused_at, select_built, select_refused_at, hstack_built, hstack_refused_at, filter_built, filter_refused_at, refused_in_input}
 
 -- the empty table
 pub empty_denoted : (items : List AExpr) (plans : List IR) (n : ℕ) → IsEmptyTableAt plans n → Denotes (HoldsPlan items plans) n empty_table
@@ -42,8 +47,8 @@ over_denoted items plans n input (o ∷ os) t nothing something d =
     subst (λ k. Denotes (HoldsPlan items plans) k t) (sym (something positive)) d
 
 -- a select that was added over its input
-pub select_at : (registry : Registry) (schema : Columns) (items : List AExpr) (mid new : List IR) (item : IR) (n input below : ℕ) (trees : List Expression) (nodes : List (Named ℕ)) (own : Columns) → HasOutputs registry schema items trees nodes own → (length nodes ≡ 0 → IsEmptyTableAt mid below) → (0 < length nodes → below ≡ input) → new ≡ mid ++ item ∷ [] → n ≡ length mid → plan_layer item ≡ layer (select_op nodes (Some own)) (below ∷ []) → IsSelectAt registry schema items new n input trees own
-select_at registry schema items mid new item n input below trees nodes own h nothing something grown at is =
+pub select_at : (registry : Registry) (schema : Columns) (items : List AExpr) (mid new : List IR) (item : IR) (n input below : ℕ) (sources : List Source) (nodes : List (Named ℕ)) (own : Columns) → HasExpandedOutputs registry schema items sources nodes own → (length nodes ≡ 0 → IsEmptyTableAt mid below) → (0 < length nodes → below ≡ input) → new ≡ mid ++ item ∷ [] → n ≡ length mid → plan_layer item ≡ layer (select_op nodes (Some own)) (below ∷ []) → IsSelectAt registry schema items new n input sources own
+select_at registry schema items mid new item n input below sources nodes own h nothing something grown at is =
     let g : Grows mid new = record { added = item ∷ []; longer = grown } in
     record {
       nodes = nodes;
@@ -55,13 +60,13 @@ select_at registry schema items mid new item n input below trees nodes own h not
     }
 
 -- an hstack that was added over its input
-pub hstack_at : (registry : Registry) (schema : Columns) (items : List AExpr) (plans new : List IR) (item : IR) (n input : ℕ) (trees : List Expression) (nodes : List (Named ℕ)) (own whole : Columns) → HasOutputs registry schema items trees nodes own → whole ≡ with_columns schema own → new ≡ plans ++ item ∷ [] → n ≡ length plans → plan_layer item ≡ layer (hstack_op nodes (Some whole)) (input ∷ []) → IsHStackAt registry schema items new n input trees whole
-hstack_at registry schema items plans new item n input trees nodes own whole h with_own grown at is =
+pub hstack_at : (registry : Registry) (schema : Columns) (items : List AExpr) (plans new : List IR) (item : IR) (n input : ℕ) (sources : List Source) (nodes : List (Named ℕ)) (own whole : Columns) → HasExpandedOutputs registry schema items sources nodes own → whole ≡ with_columns schema own → new ≡ plans ++ item ∷ [] → n ≡ length plans → plan_layer item ≡ layer (hstack_op nodes (Some whole)) (input ∷ []) → IsHStackAt registry schema items new n input sources whole
+hstack_at registry schema items plans new item n input sources nodes own whole h with_own grown at is =
     record { nodes = nodes; own = own; has = h; whole = with_own; item = rw (grown, at) (plan_added plans item ∙ ap Some is) }
 
 -- a filter that was added over its input
-pub filter_at : (registry : Registry) (schema : Columns) (items : List AExpr) (plans new : List IR) (item : IR) (n input : ℕ) (tree : Expression) (predicate : Named ℕ) → HasPredicate registry schema items tree predicate → new ≡ plans ++ item ∷ [] → n ≡ length plans → plan_layer item ≡ layer (filter_op predicate) (input ∷ []) → IsFilterAt registry schema items new n input tree
-filter_at registry schema items plans new item n input tree predicate h grown at is =
+pub filter_at : (registry : Registry) (schema : Columns) (items : List AExpr) (plans new : List IR) (item : IR) (n input : ℕ) (source : Source) (predicate : Named ℕ) → HasExpandedPredicate registry schema items source predicate → new ≡ plans ++ item ∷ [] → n ≡ length plans → plan_layer item ≡ layer (filter_op predicate) (input ∷ []) → IsFilterAt registry schema items new n input source
+filter_at registry schema items plans new item n input source predicate h grown at is =
     record { predicate = predicate; has = h; item = rw (grown, at) (plan_added plans item ∙ ap Some is) }
 
 module _ (registry : Registry) where
@@ -81,59 +86,74 @@ module _ (registry : Registry) where
       subst (λ p. IsPlanRefusal registry p error) (sym same) (scan_refused_at registry table schema error h)
 
   -- a select over what its input becomes
-  pub select_stands : (items items' : List AExpr) (plans new : List IR) (input n : ℕ) (schema own : Columns) (trees : List Expression) (source plan : Plan) → ((k : ℕ) (op : Op) (inputs : List ℕ) → HoldsExpression items k op inputs → HoldsExpression items' k op inputs) → Grows plans new → StandsFor registry items plans input schema source → IsSelectAt registry schema items' new n input trees own → plan ≡ source_select trees source → StandsFor registry items' new n own plan
-  select_stands items items' plans new input n schema own trees source plan keeps grows s is same =
-      let outputs = is.has.outputs in
-      let many = as_many items' is.nodes outputs is.has.denotes in
+  pub select_stands : (items items' : List AExpr) (plans new : List IR) (input n : ℕ) (schema own : Columns) (sources : List Source) (source : SourcePlan) (plan : Plan) → ((k : ℕ) (op : Op) (inputs : List ℕ) → HoldsExpression items k op inputs → HoldsExpression items' k op inputs) → Grows plans new → StandsFor registry items plans input schema (resolved registry source) → IsSelectAt registry schema items' new n input sources own → plan ≡ resolved registry (source_select sources source) → StandsFor registry items' new n own plan
+  select_stands items items' plans new input n schema own sources source plan keeps grows s is same =
+      let has = is.has.lowered in
+      let outputs = has.outputs in
+      let many = as_many items' is.nodes outputs has.denotes in
       let kept = plan_tree_kept items items' plans new keeps grows input s.lowered s.denotes in
       let child = over_denoted items' new is.below input outputs s.lowered (λ e. is.nothing (omega (arith, many, e))) (λ p. is.something (omega (arith, many, p))) kept in
       let lowered = lowered_select outputs s.lowered in
-      let built = select_built registry source s.lowered schema trees outputs s.built is.has.selects in
+      let there = same ∙ select_resolved registry sources is.has.trees source schema s.built.source_schema is.has.expanded in
+      let built = select_built registry (resolved registry source) s.lowered schema is.has.trees outputs s.built has.selects in
       record {
         lowered = lowered;
-        denotes = (is.below ∷ [], record { flat = select_op is.nodes (Some own); item = is.item; denotes = record { same_recorded = ap Some is.has.columns_are; kind = (map lowered_named outputs, refl, is.has.denotes) } }, (child, tt));
-        built = subst (λ c. IsBuilt registry plan lowered c) (sym is.has.columns_are) (subst (λ p. IsBuilt registry p lowered (map lowered_column outputs)) (sym same) built);
+        denotes = (is.below ∷ [], record { flat = select_op is.nodes (Some own); item = is.item; denotes = record { same_recorded = ap Some has.columns_are; kind = (map lowered_named outputs, refl, has.denotes) } }, (child, tt));
+        built = subst (λ c. IsBuilt registry plan lowered c) (sym has.columns_are) (subst (λ p. IsBuilt registry p lowered (map lowered_column outputs)) (sym there) built);
       }
 
   -- a refusal of one of a select's expressions
-  pub select_refused : (items : List AExpr) (plans : List IR) (input : ℕ) (schema : Columns) (trees : List Expression) (source plan : Plan) (error : PlanError) → StandsFor registry items plans input schema source → IsProjectionRefusal registry schema Duplicate trees error → plan ≡ source_select trees source → IsPlanRefusal registry plan error
-  select_refused items plans input schema trees source plan error s r same =
-      subst (λ p. IsPlanRefusal registry p error) (sym same) (select_refused_at registry source schema trees error s.built.source_schema r)
+  pub select_refused : (items : List AExpr) (plans : List IR) (input : ℕ) (schema : Columns) (sources : List Source) (source : SourcePlan) (plan : Plan) (error : PlanError) → StandsFor registry items plans input schema (resolved registry source) → IsUnprojected registry schema Duplicate sources error → plan ≡ resolved registry (source_select sources source) → IsPlanRefusal registry plan error
+  select_refused items plans input schema sources source plan error s (not_expanded r) same =
+      unresolved_refused registry (select_op sources None) source schema plan error s.built.source_schema (unexpanded_then (expansions [] schema sources) (λ trees. Ok (SelectKind (map named trees))) error r) same
+  select_refused items plans input schema sources source plan error s (not_projected trees is r) same =
+      let there = same ∙ select_resolved registry sources trees source schema s.built.source_schema is in
+      subst (λ p. IsPlanRefusal registry p error) (sym there) (select_refused_at registry (resolved registry source) schema trees error s.built.source_schema r)
 
   -- an hstack over what its input becomes
-  pub hstack_stands : (items items' : List AExpr) (plans new : List IR) (input n : ℕ) (schema own : Columns) (trees : List Expression) (source plan : Plan) → ((k : ℕ) (op : Op) (inputs : List ℕ) → HoldsExpression items k op inputs → HoldsExpression items' k op inputs) → Grows plans new → StandsFor registry items plans input schema source → IsHStackAt registry schema items' new n input trees own → plan ≡ source_hstack trees source → StandsFor registry items' new n own plan
-  hstack_stands items items' plans new input n schema own trees source plan keeps grows s is same =
-      let outputs = is.has.outputs in
+  pub hstack_stands : (items items' : List AExpr) (plans new : List IR) (input n : ℕ) (schema own : Columns) (sources : List Source) (source : SourcePlan) (plan : Plan) → ((k : ℕ) (op : Op) (inputs : List ℕ) → HoldsExpression items k op inputs → HoldsExpression items' k op inputs) → Grows plans new → StandsFor registry items plans input schema (resolved registry source) → IsHStackAt registry schema items' new n input sources own → plan ≡ resolved registry (source_hstack sources source) → StandsFor registry items' new n own plan
+  hstack_stands items items' plans new input n schema own sources source plan keeps grows s is same =
+      let has = is.has.lowered in
+      let outputs = has.outputs in
       let lowered = lowered_hstack schema outputs s.lowered in
-      let columns = is.whole ∙ ap (with_columns schema) is.has.columns_are in
-      let built = hstack_built registry source s.lowered schema trees outputs s.built is.has.selects in
+      let columns = is.whole ∙ ap (with_columns schema) has.columns_are in
+      let there = same ∙ hstack_resolved registry sources is.has.trees source schema s.built.source_schema is.has.expanded in
+      let built = hstack_built registry (resolved registry source) s.lowered schema is.has.trees outputs s.built has.selects in
       record {
         lowered = lowered;
-        denotes = (input ∷ [], record { flat = hstack_op is.nodes (Some own); item = is.item; denotes = record { same_recorded = ap Some columns; kind = (map lowered_named outputs, refl, is.has.denotes) } }, (plan_tree_kept items items' plans new keeps grows input s.lowered s.denotes, tt));
-        built = subst (λ c. IsBuilt registry plan lowered c) (sym columns) (subst (λ p. IsBuilt registry p lowered (with_columns schema (map lowered_column outputs))) (sym same) built);
+        denotes = (input ∷ [], record { flat = hstack_op is.nodes (Some own); item = is.item; denotes = record { same_recorded = ap Some columns; kind = (map lowered_named outputs, refl, has.denotes) } }, (plan_tree_kept items items' plans new keeps grows input s.lowered s.denotes, tt));
+        built = subst (λ c. IsBuilt registry plan lowered c) (sym columns) (subst (λ p. IsBuilt registry p lowered (with_columns schema (map lowered_column outputs))) (sym there) built);
       }
 
   -- a refusal of one of an hstack's expressions
-  pub hstack_refused : (items : List AExpr) (plans : List IR) (input : ℕ) (schema : Columns) (trees : List Expression) (source plan : Plan) (error : PlanError) → StandsFor registry items plans input schema source → IsProjectionRefusal registry schema ComputeError trees error → plan ≡ source_hstack trees source → IsPlanRefusal registry plan error
-  hstack_refused items plans input schema trees source plan error s r same =
-      subst (λ p. IsPlanRefusal registry p error) (sym same) (hstack_refused_at registry source schema trees error s.built.source_schema r)
+  pub hstack_refused : (items : List AExpr) (plans : List IR) (input : ℕ) (schema : Columns) (sources : List Source) (source : SourcePlan) (plan : Plan) (error : PlanError) → StandsFor registry items plans input schema (resolved registry source) → IsUnprojected registry schema ComputeError sources error → plan ≡ resolved registry (source_hstack sources source) → IsPlanRefusal registry plan error
+  hstack_refused items plans input schema sources source plan error s (not_expanded r) same =
+      unresolved_refused registry (hstack_op sources None) source schema plan error s.built.source_schema (unexpanded_then (expansions [] schema sources) (λ trees. Ok (HStackKind (map named trees))) error r) same
+  hstack_refused items plans input schema sources source plan error s (not_projected trees is r) same =
+      let there = same ∙ hstack_resolved registry sources trees source schema s.built.source_schema is in
+      subst (λ p. IsPlanRefusal registry p error) (sym there) (hstack_refused_at registry (resolved registry source) schema trees error s.built.source_schema r)
 
   -- a filter over what its input becomes
-  pub filter_stands : (items items' : List AExpr) (plans new : List IR) (input n : ℕ) (schema own : Columns) (tree : Expression) (source plan : Plan) → ((k : ℕ) (op : Op) (inputs : List ℕ) → HoldsExpression items k op inputs → HoldsExpression items' k op inputs) → Grows plans new → StandsFor registry items plans input schema source → IsFilterAt registry schema items' new n input tree → own ≡ schema → plan ≡ source_filter tree source → StandsFor registry items' new n own plan
-  filter_stands items items' plans new input n schema own tree source plan keeps grows s is copy same =
-      let output = is.has.output in
+  pub filter_stands : (items items' : List AExpr) (plans new : List IR) (input n : ℕ) (schema own : Columns) (predicate : Source) (source : SourcePlan) (plan : Plan) → ((k : ℕ) (op : Op) (inputs : List ℕ) → HoldsExpression items k op inputs → HoldsExpression items' k op inputs) → Grows plans new → StandsFor registry items plans input schema (resolved registry source) → IsFilterAt registry schema items' new n input predicate → own ≡ schema → plan ≡ resolved registry (source_filter predicate source) → StandsFor registry items' new n own plan
+  filter_stands items items' plans new input n schema own predicate source plan keeps grows s is copy same =
+      let has = is.has.lowered in
+      let output = has.output in
       let lowered = lowered_filter output s.lowered in
-      let built = filter_built registry source s.lowered schema tree output s.built is.has.filters in
+      let there = same ∙ filter_resolved registry predicate is.has.tree source schema s.built.source_schema is.has.expanded in
+      let built = filter_built registry (resolved registry source) s.lowered schema is.has.tree output s.built has.filters in
       record {
         lowered = lowered;
-        denotes = (input ∷ [], record { flat = filter_op is.predicate; item = is.item; denotes = record { same_recorded = refl; kind = (lowered_named output, refl, is.has.denotes) } }, (plan_tree_kept items items' plans new keeps grows input s.lowered s.denotes, tt));
-        built = subst (λ c. IsBuilt registry plan lowered c) (sym copy) (subst (λ p. IsBuilt registry p lowered schema) (sym same) built);
+        denotes = (input ∷ [], record { flat = filter_op is.predicate; item = is.item; denotes = record { same_recorded = refl; kind = (lowered_named output, refl, has.denotes) } }, (plan_tree_kept items items' plans new keeps grows input s.lowered s.denotes, tt));
+        built = subst (λ c. IsBuilt registry plan lowered c) (sym copy) (subst (λ p. IsBuilt registry p lowered schema) (sym there) built);
       }
 
   -- a refusal of a filter's predicate
-  pub filter_refused : (items : List AExpr) (plans : List IR) (input : ℕ) (schema : Columns) (tree : Expression) (source plan : Plan) (error : PlanError) → StandsFor registry items plans input schema source → IsPredicateRefusal registry schema tree error → plan ≡ source_filter tree source → IsPlanRefusal registry plan error
-  filter_refused items plans input schema tree source plan error s r same =
-      subst (λ p. IsPlanRefusal registry p error) (sym same) (filter_refused_at registry source schema tree error s.built.source_schema r)
+  pub filter_refused : (items : List AExpr) (plans : List IR) (input : ℕ) (schema : Columns) (predicate : Source) (source : SourcePlan) (plan : Plan) (error : PlanError) → StandsFor registry items plans input schema (resolved registry source) → IsUnfiltered registry schema predicate error → plan ≡ resolved registry (source_filter predicate source) → IsPlanRefusal registry plan error
+  filter_refused items plans input schema predicate source plan error s (unreduced r) same =
+      unresolved_refused registry (filter_op predicate) source schema plan error s.built.source_schema (unexpanded_then (with_kinds (predicate_expansion schema predicate)) (λ tree. Ok (FilterKind (named tree))) error (unexpanded_kind (predicate_expansion schema predicate) error r)) same
+  filter_refused items plans input schema predicate source plan error s (no_predicate tree is r) same =
+      let there = same ∙ filter_resolved registry predicate tree source schema s.built.source_schema is in
+      subst (λ p. IsPlanRefusal registry p error) (sym there) (filter_refused_at registry (resolved registry source) schema tree error s.built.source_schema r)
 
   -- a refusal of a node's only input
   pub refused_below : (op : PlanOp (Named Expression)) (source plan : Plan) (inner error : PlanError) → IsPlanRefusal registry source inner → (error ≡ no_memory) ⊎ (¬ (inner.kind ≡ NoMemory) × (error ≡ record { kind = inner.kind; place = 0 ∷ inner.place })) → plan ≡ node op (more source no_more) → IsPlanRefusal registry plan error

@@ -11,7 +11,7 @@ use Rattle.plan_dsl.specs.Trees.{node, no_more, more}
 use Rattle.plan_dsl.specs.Ops.{Expression}
 use Rattle.plan_dsl.specs.Plans.{Named, PlanOp, Plan, named, scan_op, select_op, hstack_op, filter_op, simple_projection_op}
 use Rattle.plan_dsl.specs.Drops.{drop_leaves}
-use Rattle.plan_dsl.specs.Selectors.{selector_trees}
+use Rattle.plan_dsl.specs.Expressions.{selector_trees}
 use Rattle.plan_dsl.specs.Sources.{Source}
 use Rattle.plan_dsl.specs.declared.function.DslFunction.{DslFunction}
 use Rattle.plan_dsl.specs.declared.function.DslFunction.TheVariants.{Drop}
@@ -25,8 +25,8 @@ use Rattle.plan_arena.specs.Layers.{Layer, layer, op_of}
 use Rattle.plan_arena.specs.Items.{HoldsPlan, DenotesPlan, plan_layer}
 use Rattle.plan_arena.specs.Runs.{IsAccepted, IsStrictPlan, IsNamedPlan, plan_run, RunsSoundly}
 use Rattle.plan_expand.specs.Refusals.{IsUnexpanded}
-use Rattle.plan_lower.specs.Outputs.{HasOutputs}
-use Rattle.plan_lower.specs.Predicates.{HasPredicate}
+use Rattle.plan_lower.specs.Outputs.{HasExpandedOutputs}
+use Rattle.plan_lower.specs.Predicates.{HasExpandedPredicate}
 
 -- what is built from a well-formed plan, and the schema of both
 pub record IsBuilt (registry : Registry) (source lowered : Plan) (schema : Columns) : Type 0 where
@@ -86,17 +86,17 @@ pub record IsLoweringOf (registry : Registry) (plan : Plan) (lowering : IRPlan) 
   pub sound : (tables : List Frame) → FitsPlan tables plan → RunsSoundly registry tables tree
   pub same_frame : (tables : List Frame) → FitsPlan tables plan → plan_run registry tables tree ≡ source_meaning registry tables plan
 
--- the tree of a select in a query
-abbrev pub source_select : List Expression → Plan → Plan
-source_select trees input = node (select_op (map named trees) None) (more input no_more)
+-- a select in a query, resolved
+abbrev pub resolved_select : List Expression → Plan → Plan
+resolved_select trees input = node (select_op (map named trees) None) (more input no_more)
 
--- the tree of an hstack in a query
-abbrev pub source_hstack : List Expression → Plan → Plan
-source_hstack trees input = node (hstack_op (map named trees) None) (more input no_more)
+-- an hstack in a query, resolved
+abbrev pub resolved_hstack : List Expression → Plan → Plan
+resolved_hstack trees input = node (hstack_op (map named trees) None) (more input no_more)
 
--- the tree of a filter in a query
-abbrev pub source_filter : Expression → Plan → Plan
-source_filter tree input = node (filter_op (named tree)) (more input no_more)
+-- a filter in a query, resolved
+abbrev pub resolved_filter : Expression → Plan → Plan
+resolved_filter tree input = node (filter_op (named tree)) (more input no_more)
 
 -- the node is the empty table
 abbrev pub IsEmptyTableAt : List IR → ℕ → Type 0
@@ -118,29 +118,29 @@ Records plans n = IsTrue (is_some (recorded_at plans n))
 abbrev pub columns_at : List IR → ℕ → Columns
 columns_at plans n = unwrap_or (recorded_at plans n) []
 
--- the node is a select of what stands for the expressions, over an input of the schema, or where nothing is
+-- the node is a select of what stands for the source expressions, over an input of the schema, or where nothing is
 -- selected over the empty table. Its frame has the columns
-pub record IsSelectAt (registry : Registry) (schema : Columns) (expressions : List AExpr) (plans : List IR) (n input : ℕ) (trees : List Expression) (columns : Columns) : Type 0 where
+pub record IsSelectAt (registry : Registry) (schema : Columns) (expressions : List AExpr) (plans : List IR) (n input : ℕ) (sources : List Source) (columns : Columns) : Type 0 where
   pub nodes : List (Named ℕ)
-  pub has : HasOutputs registry schema expressions trees nodes columns
+  pub has : HasExpandedOutputs registry schema expressions sources nodes columns
   pub below : ℕ
   pub nothing : length nodes ≡ 0 → IsEmptyTableAt plans below
   pub something : 0 < length nodes → below ≡ input
   pub item : slice_get (map plan_layer plans) n ≡ Some (layer (select_op nodes (Some columns)) (below ∷ []))
 
--- the node is an hstack of what stands for the expressions, over an input of the schema. Its frame has the columns: the
--- input's with theirs
-pub record IsHStackAt (registry : Registry) (schema : Columns) (expressions : List AExpr) (plans : List IR) (n input : ℕ) (trees : List Expression) (columns : Columns) : Type 0 where
+-- the node is an hstack of what stands for the source expressions, over an input of the schema. Its frame has the
+-- columns: the input's with theirs
+pub record IsHStackAt (registry : Registry) (schema : Columns) (expressions : List AExpr) (plans : List IR) (n input : ℕ) (sources : List Source) (columns : Columns) : Type 0 where
   pub nodes : List (Named ℕ)
   pub own : Columns
-  pub has : HasOutputs registry schema expressions trees nodes own
+  pub has : HasExpandedOutputs registry schema expressions sources nodes own
   pub whole : columns ≡ with_columns schema own
   pub item : slice_get (map plan_layer plans) n ≡ Some (layer (hstack_op nodes (Some columns)) (input ∷ []))
 
--- the node is a filter by what stands for the expression, over an input of the schema
-pub record IsFilterAt (registry : Registry) (schema : Columns) (expressions : List AExpr) (plans : List IR) (n input : ℕ) (tree : Expression) : Type 0 where
+-- the node is a filter by what stands for the source expression, over an input of the schema
+pub record IsFilterAt (registry : Registry) (schema : Columns) (expressions : List AExpr) (plans : List IR) (n input : ℕ) (source : Source) : Type 0 where
   pub predicate : Named ℕ
-  pub has : HasPredicate registry schema expressions tree predicate
+  pub has : HasExpandedPredicate registry schema expressions source predicate
   pub item : slice_get (map plan_layer plans) n ≡ Some (layer (filter_op predicate) (input ∷ []))
 
 -- the node is a simple projection of what a drop leaves of the schema, over an input of the schema, or where nothing is

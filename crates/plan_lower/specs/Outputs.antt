@@ -6,6 +6,8 @@ use Rattle.plan_types.specs.Schemas.{Name, Columns, HasDistinctNames}
 use Rattle.plan_dsl.specs.Registry.{Registry}
 use Rattle.plan_dsl.specs.Trees.{node, no_more, more}
 use Rattle.plan_dsl.specs.Ops.{Expression}
+use Rattle.plan_dsl.specs.Sources.{Source}
+use Rattle.plan_dsl.specs.Expansion.{expansions}
 use Rattle.plan_dsl.specs.Names.{label_of, name_of}
 use Rattle.plan_dsl.specs.Plans.{Named, Plan, select_op, hstack_op, empty_table}
 use Rattle.plan_dsl.specs.PlanRules.{with_columns}
@@ -49,6 +51,12 @@ pub record HasOutputs (registry : Registry) (schema : Columns) (items : List AEx
   pub selects : SelectsTo registry schema trees outputs
   pub denotes : DenoteNamed items nodes (map lowered_named outputs)
   pub columns_are : columns ≡ map lowered_column outputs
+
+-- source expressions are expanded over the schema, and the nodes stand for what they are expanded to
+pub record HasExpandedOutputs (registry : Registry) (schema : Columns) (items : List AExpr) (sources : List Source) (nodes : List (Named ℕ)) (columns : Columns) : Type 0 where
+  pub trees : List Expression
+  pub expanded : expansions [] schema sources ≡ Ok trees
+  pub lowered : HasOutputs registry schema items trees nodes columns
 
 -- a select of nothing stands over the empty table
 abbrev pub over : List Lowered → Plan → Plan

@@ -2,13 +2,15 @@
 use Rattle.std.specs.Prelude.{◌≡◌, ℕ, List, [], ◌∷◌, false, Ok, Err}
 use Rattle.plan_types.specs.Types.{Truth, same_type}
 use Rattle.plan_types.specs.Schemas.{Columns}
-use Rattle.plan_types.specs.Errors.{no_memory, at_top}
+use Rattle.plan_types.specs.Errors.{no_memory, at_top, IsRefusal}
 use Rattle.plan_types.specs.declared.error.ErrorKind.{ErrorKind}
 use Rattle.plan_types.specs.declared.error.ErrorKind.TheVariants.{InvalidOperation}
 use Rattle.plan_types.specs.declared.error.PlanError.{PlanError}
 use Rattle.plan_dsl.specs.Registry.{Registry}
 use Rattle.plan_dsl.specs.Trees.{node, no_more, more}
 use Rattle.plan_dsl.specs.Ops.{Expression}
+use Rattle.plan_dsl.specs.Sources.{Source}
+use Rattle.plan_dsl.specs.Expansion.{predicate_expansion}
 use Rattle.plan_dsl.specs.Plans.{Named, Plan, filter_op}
 use Rattle.plan_dsl.specs.Aliases.{core}
 use Rattle.plan_dsl.specs.Literals.{settled}
@@ -34,6 +36,17 @@ pub data IsPredicateRefusal (registry : Registry) (schema : Columns) (tree : Exp
   without_room : error ≡ no_memory → IsPredicateRefusal registry schema tree error
   without_type : (kind : ErrorKind) → error ≡ at_top kind → typing registry schema (settled (core tree)) ≡ Err kind → IsPredicateRefusal registry schema tree error
   of_other_type : (typed : Typed) → error ≡ at_top InvalidOperation → typing registry schema (settled (core tree)) ≡ Ok typed → same_type typed.type Truth ≡ false → IsPredicateRefusal registry schema tree error
+
+-- a source expression is expanded over the schema to one, and the node stands for that
+pub record HasExpandedPredicate (registry : Registry) (schema : Columns) (items : List AExpr) (source : Source) (node : Named ℕ) : Type 0 where
+  pub tree : Expression
+  pub expanded : predicate_expansion schema source ≡ Ok tree
+  pub lowered : HasPredicate registry schema items tree node
+
+-- why a source expression can't be a predicate: it isn't expanded to one, or that can't be one
+pub data IsUnfiltered (registry : Registry) (schema : Columns) (source : Source) (error : PlanError) : Type 0 where
+  not_expanded : IsRefusal (predicate_expansion schema source) error → IsUnfiltered registry schema source error
+  no_predicate : (tree : Expression) → predicate_expansion schema source ≡ Ok tree → IsPredicateRefusal registry schema tree error → IsUnfiltered registry schema source error
 
 -- a filter by the output over a lowered plan
 abbrev pub lowered_filter : Lowered → Plan → Plan

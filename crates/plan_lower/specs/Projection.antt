@@ -8,6 +8,8 @@ use Rattle.plan_types.specs.declared.error.ErrorKind.{ErrorKind}
 use Rattle.plan_types.specs.declared.error.PlanError.{PlanError}
 use Rattle.plan_dsl.specs.Registry.{Registry}
 use Rattle.plan_dsl.specs.Ops.{Expression}
+use Rattle.plan_dsl.specs.Sources.{Source}
+use Rattle.plan_dsl.specs.Expansion.{expansions}
 use Rattle.plan_dsl.specs.Names.{label_of, name_of}
 use Rattle.plan_dsl.specs.Plans.{Named}
 use Rattle.plan_dsl.specs.Aliases.{core}
@@ -16,6 +18,7 @@ use Rattle.plan_dsl.specs.Typing.{Typed, typing}
 use Rattle.plan_arena.specs.declared.aexpr.AExpr.{AExpr}
 use Rattle.plan_arena.specs.Denotation.{Denotes}
 use Rattle.plan_arena.specs.Items.{HoldsFrom}
+use Rattle.plan_expand.specs.Refusals.{IsUnexpanded}
 
 -- an expression, its node and its type
 pub record Output : Type 0 where
@@ -72,3 +75,9 @@ pub record RefusesOne (registry : Registry) (schema : Columns) (twice : ErrorKin
 pub data IsProjectionRefusal (registry : Registry) (schema : Columns) (twice : ErrorKind) (trees : List Expression) (error : PlanError) : Type 0 where
   out_of_memory : error ≡ no_memory → IsProjectionRefusal registry schema twice trees error
   refused : RefusesOne registry schema twice trees error → IsProjectionRefusal registry schema twice trees error
+
+-- why source expressions can't be projected: they can't be expanded over the schema, or what they are expanded to can't be
+-- projected
+pub data IsUnprojected (registry : Registry) (schema : Columns) (twice : ErrorKind) (sources : List Source) (error : PlanError) : Type 0 where
+  not_expanded : IsUnexpanded (expansions [] schema sources) error → IsUnprojected registry schema twice sources error
+  not_projected : (trees : List Expression) → expansions [] schema sources ≡ Ok trees → IsProjectionRefusal registry schema twice trees error → IsUnprojected registry schema twice sources error

@@ -13,7 +13,7 @@ use Rattle.plan_arena.specs.declared.aexpr.AExpr.{AExpr}
 use Rattle.plan_arena.specs.declared.aexpr.AExpr.TheVariants.{Column}
 use Rattle.plan_arena.specs.declared.ir.IR.{IR}
 use Rattle.plan_arena.specs.declared.plan.IRPlan.{IRPlan}
-use Rattle.plan_lower.specs.Lowering.{source_select}
+use Rattle.plan_lower.specs.Lowering.{resolved_select}
 use Rattle.plan_lower.specs.Outputs.{Lowered}
 use Rattle.plan_lower.specs.Projection.{Output}
 use Rattle.plan_infer.specs.Samples.{int32, one_column, two_columns, of_type, column, sum}
@@ -56,7 +56,7 @@ abbrev pub filter_over : Plan → Expression → Plan
 filter_over input tree = node (filter_op (named tree)) (more input no_more)
 
 abbrev pub query : Plan
-query = source_select (sum ∷ []) (scan_of two_columns)
+query = resolved_select (sum ∷ []) (scan_of two_columns)
 
 abbrev pub lowered_query : Plan
 lowered_query = select_over (scan_of two_columns) strict_sum (one_column int32)

@@ -5,3 +5,4 @@ pub mod dsl_to_ir;
 pub mod expr_to_ir;
 mod predicate;
 mod projection;
+mod put_copy;

@@ -4,10 +4,10 @@ ghost use Rattle.plan_types.specs.Errors.{no_memory};
 ghost use Rattle.plan_types.specs.Schemas.{columns, is_among, with_column};
 ghost use Rattle.plan_types.specs.Types.{ty};
 ghost use Rattle.plan_dsl.specs.Drops.{columns_but, drop_leaves, have_names};
-ghost use Rattle.plan_dsl.specs.Selectors.{selector_trees};
+ghost use Rattle.plan_dsl.specs.Expressions.{selector_trees};
 ghost use Rattle.plan_expand.specs.Refusals.{IsUnexpanded};
 
-use crate::conversion::dsl_to_ir::put_copy;
+use crate::conversion::put_copy::put_copy;
 use indexmap::IndexSet;
 use plan_dsl::function::DropFunction;
 use plan_expand::selectors::selected_names;
@@ -63,7 +63,7 @@ fn schema_without(
     ensures ok { IfOk result (λ own. columns own ≡ columns_but names.now.keys (columns schema.now)) }
     ensures err { IfErr result (λ error. error ≡ no_memory) }
 {
-    let mut own = Schema::new(alloc);
+    let mut own = Schema::with_capacity(alloc, schema.len())?;
     for index in 0..schema.len() {
         if let Some((name, dtype)) = schema.get_at_index(index) {
             put_unless(&mut own, names, name, dtype, alloc)?;

@@ -1,39 +1,37 @@
 //! Plans to nodes of an arena.
-ghost use Rattle.std.specs.Prelude.{◌≡◌, ◌<◌, ◌⊎◌, ℕ, true, false, List, [], ◌∷◌, length, map, slice_get, Some, OnOk, IfOk, IfErr};
+ghost use Rattle.std.specs.Prelude.{◌≡◌, ◌<◌, ◌⊎◌, ℕ, true, false, List, [], ◌∷◌, map, slice_get, Some, OnOk, IfOk, IfErr};
 ghost use Rattle.plan_types.specs.Errors.{no_memory, IsMemoryOr};
-ghost use Rattle.plan_types.specs.Schemas.{columns, all_known, with_column};
-ghost use Rattle.plan_types.specs.Types.{ty};
+ghost use Rattle.plan_types.specs.Schemas.{columns, all_known};
 ghost use Rattle.plan_dsl.specs.Drops.{drop_leaves};
-ghost use Rattle.plan_dsl.specs.Selectors.{selector_trees};
-ghost use Rattle.plan_expand.specs.Refusals.{IsUnexpanded};
-ghost use Rattle.plan_dsl.specs.Expressions.{tree_of, trees_of};
+ghost use Rattle.plan_dsl.specs.Expressions.{selector_trees, tree_of, trees_of};
 ghost use Rattle.plan_dsl.specs.Ops.{Op};
-ghost use Rattle.plan_dsl.specs.Plans.{SourcePlan, plan_tree, scan_op};
+ghost use Rattle.plan_dsl.specs.Plans.{PlanOp, SourcePlan, plan_tree, scan_op};
 ghost use Rattle.plan_dsl.specs.PlanRules.{with_columns};
 ghost use Rattle.plan_dsl.specs.Registry.{registry};
 ghost use Rattle.plan_dsl.specs.Resolving.{resolved};
+ghost use Rattle.plan_dsl.specs.Sources.{Source};
+ghost use Rattle.plan_dsl.specs.Trees.{node, no_more, more};
 ghost use Rattle.plan_arena.specs.Items.{HoldsExpression, Grows, plan_layer};
 ghost use Rattle.plan_arena.specs.Layers.{layer};
+ghost use Rattle.plan_expand.specs.Refusals.{IsUnexpanded};
 ghost use Rattle.plan_lower.specs.Lowering.{IsDropAt, IsFunctionAt, IsFunctionRefusal, IsFilterAt, IsHStackAt, IsSelectAt, StandsFor, IsPlanRefusal, IsEmptyTableAt, Records, recorded_at, columns_at, Answers, IsTyped, IsSound, GivesSameFrame};
-ghost use Rattle.plan_lower.specs.Predicates.{IsPredicateRefusal};
-ghost use Rattle.plan_lower.specs.Projection.{IsProjectionRefusal};
+ghost use Rattle.plan_lower.specs.Predicates.{IsUnfiltered};
+ghost use Rattle.plan_lower.specs.Projection.{IsUnprojected};
 
 use crate::conversion::drops::columns_left;
 use crate::conversion::predicate::lower_predicate;
 use crate::conversion::projection::project_strictly;
+use crate::conversion::put_copy::put_copy;
 use plan_arena::aexpr::AExpr;
 use plan_arena::arena::{Arena, Node};
-use plan_arena::expr_ir::ExprIRs;
 use plan_arena::ir::IR;
 use plan_arena::plan::IRPlan;
 use plan_dsl::expr::{Expr, Exprs};
 use plan_dsl::function::{DropFunction, DslFunction};
 use plan_dsl::plan::{DslPlan, ProjectionOptions};
 use plan_dsl::udfs::Udfs;
-use plan_types::dtype::DataType;
 use plan_types::error::{ErrorKind, PlanError};
 use plan_types::schema::Schema;
-use plan_types::text::PlSmallStr;
 use std::alloc::Global;
 
 /// Lowering of a query's plan.
@@ -77,6 +75,7 @@ fn recorded_schema(lp_arena: &Arena<IR>, node: Node) -> &Schema
 }
 
 // Adds a plan's nodes, its input first.
+#[cycle(plans)]
 fn lower(
     plan: DslPlan,
     expr_arena: &mut Arena<AExpr>,
@@ -96,45 +95,54 @@ fn lower(
             Ok(lowered)
         }
         DslPlan::Filter { input, predicate } => {
-            match lower(Box::into_inner(input), expr_arena, lp_arena, udfs) {
-                Ok(input) => {
-                    let lowered = lower_filter(input, predicate, expr_arena, lp_arena, udfs)?;
-                    Ok(lowered)
-                }
-                Err(error) => Err(below(lp_arena.allocator(), error)),
-            }
+            let input = lower_input(input, expr_arena, lp_arena, udfs)?;
+            let lowered = lower_filter(input, predicate, expr_arena, lp_arena, udfs)?;
+            Ok(lowered)
         }
         DslPlan::Select {
             expr,
             input,
             options,
-        } => match lower(Box::into_inner(input), expr_arena, lp_arena, udfs) {
-            Ok(input) => {
-                let lowered = lower_select(expr, input, options, expr_arena, lp_arena, udfs)?;
-                Ok(lowered)
-            }
-            Err(error) => Err(below(lp_arena.allocator(), error)),
-        },
+        } => {
+            let input = lower_input(input, expr_arena, lp_arena, udfs)?;
+            let lowered = lower_select(expr, input, options, expr_arena, lp_arena, udfs)?;
+            Ok(lowered)
+        }
         DslPlan::HStack {
             exprs,
             input,
             options,
-        } => match lower(Box::into_inner(input), expr_arena, lp_arena, udfs) {
-            Ok(input) => {
-                let lowered = lower_hstack(exprs, input, options, expr_arena, lp_arena, udfs)?;
-                Ok(lowered)
-            }
-            Err(error) => Err(below(lp_arena.allocator(), error)),
-        },
-        DslPlan::MapFunction { input, function } => {
-            match lower(Box::into_inner(input), expr_arena, lp_arena, udfs) {
-                Ok(input) => {
-                    let lowered = lower_function(input, function, lp_arena)?;
-                    Ok(lowered)
-                }
-                Err(error) => Err(below(lp_arena.allocator(), error)),
-            }
+        } => {
+            let input = lower_input(input, expr_arena, lp_arena, udfs)?;
+            let lowered = lower_hstack(exprs, input, options, expr_arena, lp_arena, udfs)?;
+            Ok(lowered)
         }
+        DslPlan::MapFunction { input, function } => {
+            let input = lower_input(input, expr_arena, lp_arena, udfs)?;
+            let lowered = lower_function(input, function, lp_arena)?;
+            Ok(lowered)
+        }
+    }
+}
+
+// Adds the nodes of a node's only input. Its refusal is told as the node sees it, whatever that does.
+#[cycle(plans)]
+fn lower_input(
+    input: Box<DslPlan>,
+    expr_arena: &mut Arena<AExpr>,
+    lp_arena: &mut Arena<IR>,
+    udfs: &Udfs,
+) -> Result<LoweredNode, PlanError>
+    ensures ok { IfOk result (λ lowered. StandsFor (registry udfs.now) expr_arena.new lp_arena.new lowered.node.0 (columns_at lp_arena.new lowered.schema_node.0) (resolved (registry udfs.now) (plan_tree input.value))) }
+    ensures recorded { IfOk result (λ lowered. Records lp_arena.new lowered.schema_node.0) }
+    ensures err { IfErr result (λ error. (op : PlanOp Source) → IsPlanRefusal (registry udfs.now) (resolved (registry udfs.now) (node op (more (plan_tree input.value) no_more))) error) }
+    ensures kept { (n : ℕ) (op : Op) (inputs : List ℕ) →
+        HoldsExpression expr_arena.old n op inputs → HoldsExpression expr_arena.new n op inputs }
+    ensures grows { Grows lp_arena.old lp_arena.new }
+{
+    match lower(Box::into_inner(input), expr_arena, lp_arena, udfs) {
+        Ok(lowered) => Ok(lowered),
+        Err(error) => Err(below(lp_arena.allocator(), error)),
     }
 }
 
@@ -186,7 +194,7 @@ fn lower_filter(
     ensures ok { IfOk result (λ lowered. IsFilterAt (registry udfs.now) (columns_at lp_arena.old input.schema_node.0) expr_arena.new lp_arena.new
         lowered.node.0 input.node.0 (tree_of predicate)) }
     ensures schema { IfOk result (λ lowered. lowered.schema_node ≡ input.schema_node) }
-    ensures err { IfErr result (IsPredicateRefusal (registry udfs.now) (columns_at lp_arena.old input.schema_node.0) (tree_of predicate)) }
+    ensures err { IfErr result (IsUnfiltered (registry udfs.now) (columns_at lp_arena.old input.schema_node.0) (tree_of predicate)) }
     ensures kept { (n : ℕ) (op : Op) (inputs : List ℕ) →
         HoldsExpression expr_arena.old n op inputs → HoldsExpression expr_arena.new n op inputs }
     ensures grows { Grows lp_arena.old lp_arena.new }
@@ -216,14 +224,14 @@ fn lower_select(
     ensures ok { IfOk result (λ lowered. IsSelectAt (registry udfs.now) (columns_at lp_arena.old input.schema_node.0) expr_arena.new lp_arena.new
         lowered.node.0 input.node.0 (trees_of expr) (columns_at lp_arena.new lowered.schema_node.0)) }
     ensures recorded { IfOk result (λ lowered. Records lp_arena.new lowered.schema_node.0) }
-    ensures err { IfErr result (IsProjectionRefusal (registry udfs.now) (columns_at lp_arena.old input.schema_node.0) ErrorKind.Duplicate (trees_of expr)) }
+    ensures err { IfErr result (IsUnprojected (registry udfs.now) (columns_at lp_arena.old input.schema_node.0) ErrorKind.Duplicate (trees_of expr)) }
     ensures kept { (n : ℕ) (op : Op) (inputs : List ℕ) →
         HoldsExpression expr_arena.old n op inputs → HoldsExpression expr_arena.new n op inputs }
     ensures grows { Grows lp_arena.old lp_arena.new }
 {
     let schema = recorded_schema(lp_arena, input.schema_node);
     let projection = project_strictly(expr, schema, expr_arena, udfs, ErrorKind::Duplicate)?;
-    let input = input_of(&projection.expr, input.node, lp_arena)?;
+    let input = input_of(projection.expr.items.len(), input.node, lp_arena)?;
     let node = lp_arena.add(IR::Select {
         expr: projection.expr,
         input,
@@ -249,7 +257,7 @@ fn lower_hstack(
     ensures ok { IfOk result (λ lowered. IsHStackAt (registry udfs.now) (columns_at lp_arena.old input.schema_node.0) expr_arena.new lp_arena.new
         lowered.node.0 input.node.0 (trees_of exprs) (columns_at lp_arena.new lowered.schema_node.0)) }
     ensures recorded { IfOk result (λ lowered. Records lp_arena.new lowered.schema_node.0) }
-    ensures err { IfErr result (IsProjectionRefusal (registry udfs.now) (columns_at lp_arena.old input.schema_node.0) ErrorKind.ComputeError (trees_of exprs)) }
+    ensures err { IfErr result (IsUnprojected (registry udfs.now) (columns_at lp_arena.old input.schema_node.0) ErrorKind.ComputeError (trees_of exprs)) }
     ensures kept { (n : ℕ) (op : Op) (inputs : List ℕ) →
         HoldsExpression expr_arena.old n op inputs → HoldsExpression expr_arena.new n op inputs }
     ensures grows { Grows lp_arena.old lp_arena.new }
@@ -302,7 +310,7 @@ fn lower_drop(
 {
     let schema = recorded_schema(lp_arena, input.schema_node);
     let columns = columns_left(lp_arena.allocator(), function, schema)?;
-    let under = input_under(&columns, input.node, lp_arena)?;
+    let under = input_of(columns.len(), input.node, lp_arena)?;
     let node = lp_arena.add(IR::SimpleProjection {
         input: under,
         columns,
@@ -327,44 +335,14 @@ fn schema_with(schema: &Schema, others: &Schema, alloc: Global) -> Result<Schema
     Ok(whole)
 }
 
-// Puts a copy of a column into the schema: in place of its namesake, or behind the others.
-pub(crate) fn put_copy(
-    schema: &mut Schema,
-    name: &PlSmallStr,
-    dtype: &DataType,
-    alloc: Global,
-) -> Result<(), PlanError>
-    ensures ok { OnOk result (columns schema.new ≡ with_column (columns schema.old) name.now (ty dtype.now)) }
-    ensures err { IfErr result (λ error. error ≡ no_memory) }
-{
-    let name = name.try_clone(alloc)?;
-    let dtype = dtype.try_clone(alloc)?;
-    let _before = schema.with_column(name, dtype)?;
-    Ok(())
-}
-
-// The input of a select: the empty table where nothing is selected.
-fn input_of(exprs: &ExprIRs, input: Node, lp_arena: &mut Arena<IR>) -> Result<Node, PlanError>
-    ensures nothing { IfOk result (λ node. length exprs.now.items.items ≡ 0 → IsEmptyTableAt lp_arena.new node.0) }
-    ensures something { IfOk result (λ node. 0 < length exprs.now.items.items → node.0 ≡ input.0) }
+// The input of a node of so many columns: the empty table where there are none.
+fn input_of(width: usize, input: Node, lp_arena: &mut Arena<IR>) -> Result<Node, PlanError>
+    ensures nothing { IfOk result (λ node. width ≡ 0 → IsEmptyTableAt lp_arena.new node.0) }
+    ensures something { IfOk result (λ node. 0 < width → node.0 ≡ input.0) }
     ensures grows { Grows lp_arena.old lp_arena.new }
     ensures err { IfErr result (λ error. error ≡ no_memory) }
 {
-    if exprs.items.is_empty() {
-        let node = add_empty_table(lp_arena)?;
-        return Ok(node);
-    }
-    Ok(input)
-}
-
-// The input of a simple projection: the empty table where there are no columns.
-fn input_under(own: &Schema, input: Node, lp_arena: &mut Arena<IR>) -> Result<Node, PlanError>
-    ensures nothing { IfOk result (λ node. length (columns own.now) ≡ 0 → IsEmptyTableAt lp_arena.new node.0) }
-    ensures something { IfOk result (λ node. 0 < length (columns own.now) → node.0 ≡ input.0) }
-    ensures grows { Grows lp_arena.old lp_arena.new }
-    ensures err { IfErr result (λ error. error ≡ no_memory) }
-{
-    if own.len() == 0 {
+    if width == 0 {
         let node = add_empty_table(lp_arena)?;
         return Ok(node);
     }

@@ -1,12 +1,14 @@
 //! Expressions to nodes of an arena.
-ghost use Rattle.std.specs.Prelude.{◌≡◌, ◌≢◌, length, false, true, IfOk, IfErr, IfSome, MatchOption, OnOk};
+ghost use Rattle.std.specs.Prelude.{◌≡◌, ◌≢◌, ◌⊎◌, length, false, true, IfOk, IfErr, IfSome, MatchOption, OnOk};
+ghost use Rattle.std.specs.List.{list_all};
 ghost use Rattle.std.specs.Option.{option_map_or};
 ghost use Rattle.plan_types.specs.Errors.{IsMemoryOr, no_memory};
 ghost use Rattle.plan_dsl.specs.Aliases.{all_pruned, core, inputs_pruned, pruned};
-ghost use Rattle.plan_dsl.specs.Expressions.{tree_of, trees_of};
+ghost use Rattle.plan_dsl.specs.Expressions.{plain_tree, plain_trees, tree_of, trees_of};
 ghost use Rattle.plan_dsl.specs.Literals.{literal_op, settled, settled_op, settles};
 ghost use Rattle.plan_dsl.specs.Names.{alias_label, label_of};
 ghost use Rattle.plan_dsl.specs.Ops.{Expression};
+ghost use Rattle.plan_dsl.specs.Sources.{is_plain};
 ghost use Rattle.plan_dsl.specs.Trees.{children_from};
 ghost use Rattle.plan_arena.specs.Denotation.{Denotes, DenoteAll, DenotesTree};
 ghost use Rattle.plan_arena.specs.Items.{named_node, numbers, output_label, HoldsExpression, HoldsFrom, Grows};
@@ -24,13 +26,17 @@ use plan_types::text::PlSmallStr;
 use std::alloc::Global;
 
 /// Adds an expression's nodes without its aliases, and answers the top one with the expression's name. A number
-/// without a type at the top stays one.
+/// without a type at the top stays one. A marker or a renaming form has no node.
 pub fn to_expr_ir(expr: Expr, arena: &mut Arena<AExpr>) -> Result<ExprIR, PlanError>
-    ensures name { IfOk result (λ expr_ir. (named_node expr_ir).label ≡ label_of (tree_of expr)) }
-    ensures denotes { IfOk result (λ expr_ir. Denotes (HoldsFrom (length arena.old) arena.new) (named_node expr_ir).expression (core (tree_of expr))) }
+    ensures name { IfOk result (λ expr_ir. (named_node expr_ir).label ≡ label_of (plain_tree expr)) }
+    ensures denotes { IfOk result (λ expr_ir. Denotes (HoldsFrom (length arena.old) arena.new) (named_node expr_ir).expression (core (plain_tree expr))) }
     ensures grows { Grows arena.old arena.new }
-    ensures err { IfErr result (λ error. error ≡ no_memory) }
+    ensures plain { OnOk result (is_plain (tree_of expr) ≡ true) }
+    ensures err { IfErr result (IsMemoryOr ErrorKind.InvalidOperation (is_plain (tree_of expr) ≡ false)) }
 {
+    if !expr.is_plain() {
+        return Err(PlanError::at_top(ErrorKind::InvalidOperation));
+    }
     let alias = alias_name(&expr, arena.allocator())?;
     let node = add_nodes(expr, false, arena)?;
     let expr_ir = under_name(node, alias, arena)?;
@@ -39,11 +45,12 @@ pub fn to_expr_ir(expr: Expr, arena: &mut Arena<AExpr>) -> Result<ExprIR, PlanEr
 
 /// The same without names of aliases. A number without a type at the top gets the one that it has alone.
 pub fn to_expr_ir_ignore_alias(expr: Expr, arena: &mut Arena<AExpr>) -> Result<ExprIR, PlanError>
-    ensures name { IfOk result (λ expr_ir. (named_node expr_ir).label ≡ label_of (core (tree_of expr))) }
-    ensures denotes { IfOk result (λ expr_ir. Denotes (HoldsFrom (length arena.old) arena.new) (named_node expr_ir).expression (settled (core (tree_of expr)))) }
+    ensures name { IfOk result (λ expr_ir. (named_node expr_ir).label ≡ label_of (core (plain_tree expr))) }
+    ensures denotes { IfOk result (λ expr_ir. Denotes (HoldsFrom (length arena.old) arena.new) (named_node expr_ir).expression (settled (core (plain_tree expr)))) }
     ensures grows { Grows arena.old arena.new }
-    ensures typed { OnOk result (settles (tree_of expr) ≡ true) }
-    ensures err { IfErr result (IsMemoryOr ErrorKind.InvalidOperation (settles (tree_of expr) ≡ false)) }
+    ensures plain { OnOk result (is_plain (tree_of expr) ≡ true) }
+    ensures typed { OnOk result (settles (plain_tree expr) ≡ true) }
+    ensures err { IfErr result (IsMemoryOr ErrorKind.InvalidOperation ((is_plain (tree_of expr) ≡ false) ⊎ (settles (plain_tree expr) ≡ false))) }
 {
     let node = add_settled(expr, false, arena)?;
     let expr_ir = ExprIR::from_node(arena.allocator(), node, arena)?;
@@ -51,12 +58,13 @@ pub fn to_expr_ir_ignore_alias(expr: Expr, arena: &mut Arena<AExpr>) -> Result<E
 }
 
 /// Adds an expression's nodes with its aliases. A number without a type at the top, maybe under aliases, gets the one
-/// that it has alone.
+/// that it has alone. A marker or a renaming form has no node.
 pub fn to_aexpr(expr: Expr, arena: &mut Arena<AExpr>) -> Result<Node, PlanError>
-    ensures denotes { IfOk result (λ node. Denotes (HoldsFrom (length arena.old) arena.new) node.0 (settled (tree_of expr))) }
+    ensures denotes { IfOk result (λ node. Denotes (HoldsFrom (length arena.old) arena.new) node.0 (settled (plain_tree expr))) }
     ensures grows { Grows arena.old arena.new }
-    ensures typed { OnOk result (settles (tree_of expr) ≡ true) }
-    ensures err { IfErr result (IsMemoryOr ErrorKind.InvalidOperation (settles (tree_of expr) ≡ false)) }
+    ensures plain { OnOk result (is_plain (tree_of expr) ≡ true) }
+    ensures typed { OnOk result (settles (plain_tree expr) ≡ true) }
+    ensures err { IfErr result (IsMemoryOr ErrorKind.InvalidOperation ((is_plain (tree_of expr) ≡ false) ⊎ (settles (plain_tree expr) ≡ false))) }
 {
     let node = add_settled(expr, true, arena)?;
     Ok(node)
@@ -64,11 +72,15 @@ pub fn to_aexpr(expr: Expr, arena: &mut Arena<AExpr>) -> Result<Node, PlanError>
 
 // Adds the nodes of an expression as a plan takes it, with its aliases or without.
 fn add_settled(expr: Expr, keep: bool, arena: &mut Arena<AExpr>) -> Result<Node, PlanError>
-    ensures denotes { IfOk result (λ node. Denotes (HoldsFrom (length arena.old) arena.new) node.0 (pruned keep (settled (tree_of expr)))) }
+    ensures denotes { IfOk result (λ node. Denotes (HoldsFrom (length arena.old) arena.new) node.0 (pruned keep (settled (plain_tree expr)))) }
     ensures grows { Grows arena.old arena.new }
-    ensures typed { OnOk result (settles (tree_of expr) ≡ true) }
-    ensures err { IfErr result (IsMemoryOr ErrorKind.InvalidOperation (settles (tree_of expr) ≡ false)) }
+    ensures plain { OnOk result (is_plain (tree_of expr) ≡ true) }
+    ensures typed { OnOk result (settles (plain_tree expr) ≡ true) }
+    ensures err { IfErr result (IsMemoryOr ErrorKind.InvalidOperation ((is_plain (tree_of expr) ≡ false) ⊎ (settles (plain_tree expr) ≡ false))) }
 {
+    if !expr.is_plain() {
+        return Err(PlanError::at_top(ErrorKind::InvalidOperation));
+    }
     if !settles(&expr) {
         return Err(PlanError::at_top(ErrorKind::InvalidOperation));
     }
@@ -102,7 +114,7 @@ fn under_name(
 
 /// The alias that names an expression. One without has the name that it has without aliases.
 pub(crate) fn alias_name(expr: &Expr, alloc: Global) -> Result<Option<OutputName>, PlanError>
-    ensures ok { IfOk result (λ alias. label_of (tree_of expr.now) ≡ option_map_or output_label alias (label_of (core (tree_of expr.now)))) }
+    ensures ok { IfOk result (λ alias. label_of (plain_tree expr.now) ≡ option_map_or output_label alias (label_of (core (plain_tree expr.now)))) }
     ensures set { IfOk result (λ alias. IfSome alias (λ name. name ≢ OutputName.None)) }
     ensures err { IfErr result (λ error. error ≡ no_memory) }
 {
@@ -117,11 +129,10 @@ pub(crate) fn alias_name(expr: &Expr, alloc: Global) -> Result<Option<OutputName
 
 // The topmost alias on the way down first operands.
 fn first_alias(expr: &Expr) -> Option<&PlSmallStr>
-    ensures { MatchOption result (label_of (tree_of expr.now) ≡ label_of (core (tree_of expr.now))) (λ name. label_of (tree_of expr.now) ≡ alias_label name.now) }
+    ensures { MatchOption result (label_of (plain_tree expr.now) ≡ label_of (core (plain_tree expr.now))) (λ name. label_of (plain_tree expr.now) ≡ alias_label name.now) }
 {
     match expr {
         Expr::Alias(_, name) => Some(name),
-        Expr::Column(_) | Expr::Literal(_) | Expr::Len => None,
         Expr::BinaryExpr { left, .. } => first_alias(left),
         Expr::Cast { expr, .. }
         | Expr::Gather { expr, .. }
@@ -130,12 +141,24 @@ fn first_alias(expr: &Expr) -> Option<&PlSmallStr>
         Expr::Explode(input) | Expr::Slice { input, .. } | Expr::Filter { input, .. } => {
             first_alias(input)
         }
+        Expr::Column(_)
+        | Expr::Literal(_)
+        | Expr::Len
+        | Expr::Columns(_)
+        | Expr::DtypeColumn(_)
+        | Expr::IndexColumn(_)
+        | Expr::Nth(_)
+        | Expr::Wildcard
+        | Expr::Exclude(_, _)
+        | Expr::Selector(_)
+        | Expr::KeepName(_)
+        | Expr::RenameAlias { .. } => None,
     }
 }
 
 // Whether a number without a type at the top, maybe under aliases, has one alone.
 fn settles(expr: &Expr) -> bool
-    ensures { result ≡ settles (tree_of expr.now) }
+    ensures { result ≡ settles (plain_tree expr.now) }
 {
     match expr {
         Expr::Alias(expr, _) => settles(expr),
@@ -147,7 +170,8 @@ fn settles(expr: &Expr) -> bool
 /// Makes of an expression what a plan's node takes: a number without a type at its top, maybe under aliases, gets the
 /// one that it has alone.
 pub(crate) fn settle(expr: &mut Expr)
-    ensures { tree_of expr.new ≡ settled (tree_of expr.old) }
+    ensures settled { plain_tree expr.new ≡ settled (plain_tree expr.old) }
+    ensures plain { is_plain (tree_of expr.new) ≡ is_plain (tree_of expr.old) }
 {
     match expr {
         Expr::Alias(expr, _) => settle(expr),
@@ -175,7 +199,8 @@ fn settle_literal(value: &mut LiteralValue)
 /// Adds an expression's nodes, inputs first, with its aliases or without.
 #[cycle(nodes)]
 pub(crate) fn add_nodes(expr: Expr, keep: bool, arena: &mut Arena<AExpr>) -> Result<Node, PlanError>
-    ensures denotes { IfOk result (λ node. Denotes (HoldsFrom (length arena.old) arena.new) node.0 (pruned keep (tree_of expr))) }
+    requires plain { is_plain (tree_of expr) ≡ true }
+    ensures denotes { IfOk result (λ node. Denotes (HoldsFrom (length arena.old) arena.new) node.0 (pruned keep (plain_tree expr))) }
     ensures grows { Grows arena.old arena.new }
     ensures err { IfErr result (λ error. error ≡ no_memory) }
 {
@@ -196,7 +221,8 @@ pub(crate) fn add_nodes(expr: Expr, keep: bool, arena: &mut Arena<AExpr>) -> Res
     }
 }
 
-// The item of an expression by its kind: of those that are listed its inputs are added, and its other fields kept.
+// The item of an expression by its kind: of those that are listed its inputs are added, and its other fields kept. A
+// marker or a renaming form has none.
 macro_rules! item_over {
     ($expr:ident, $arena:ident, $keep:ident, $($kind:ident { $($input:ident),* } [$($other:ident),*])*) => {
         match $expr {
@@ -220,6 +246,15 @@ macro_rules! item_over {
                 let input = add_nodes(Box::into_inner(input), $keep, $arena)?;
                 Ok(AExpr::Alias(input, name))
             }
+            Expr::Columns(_)
+            | Expr::DtypeColumn(_)
+            | Expr::IndexColumn(_)
+            | Expr::Nth(_)
+            | Expr::Wildcard
+            | Expr::Exclude(_, _)
+            | Expr::Selector(_)
+            | Expr::KeepName(_)
+            | Expr::RenameAlias { .. } => Err(PlanError::at_top(ErrorKind::InvalidOperation)),
         }
     };
 }
@@ -227,7 +262,8 @@ macro_rules! item_over {
 // Adds the nodes of an expression's inputs, and answers its item over them.
 #[cycle(nodes)]
 fn add_inputs(expr: Expr, keep: bool, arena: &mut Arena<AExpr>) -> Result<AExpr, PlanError>
-    ensures ok { IfOk result (IsItemOf (length arena.old) arena.new (inputs_pruned keep (tree_of expr))) }
+    requires plain { is_plain (tree_of expr) ≡ true }
+    ensures ok { IfOk result (IsItemOf (length arena.old) arena.new (inputs_pruned keep (plain_tree expr))) }
     ensures grows { Grows arena.old arena.new }
     ensures err { IfErr result (λ error. error ≡ no_memory) }
 {
@@ -244,7 +280,8 @@ fn add_inputs(expr: Expr, keep: bool, arena: &mut Arena<AExpr>) -> Result<AExpr,
 // Adds the nodes of expressions, one after the other.
 #[cycle(nodes)]
 fn add_each(exprs: Exprs, keep: bool, arena: &mut Arena<AExpr>) -> Result<NodeList, PlanError>
-    ensures ok { IfOk result (λ nodes. DenoteAll (HoldsFrom (length arena.old) arena.new) (numbers nodes.items.items) (all_pruned keep (children_from (trees_of exprs)))) }
+    requires plain { list_all is_plain (trees_of exprs) ≡ true }
+    ensures ok { IfOk result (λ nodes. DenoteAll (HoldsFrom (length arena.old) arena.new) (numbers nodes.items.items) (all_pruned keep (children_from (plain_trees exprs)))) }
     ensures grows { Grows arena.old arena.new }
     ensures err { IfErr result (λ error. error ≡ no_memory) }
 {

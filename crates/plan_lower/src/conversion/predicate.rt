@@ -1,11 +1,12 @@
 //! The predicate of a filter.
-ghost use Rattle.std.specs.Prelude.{ℕ, List, IfOk, IfErr};
+ghost use Rattle.std.specs.Prelude.{◌≡◌, ℕ, List, true, IfOk, IfErr};
 ghost use Rattle.plan_types.specs.Schemas.{columns};
-ghost use Rattle.plan_dsl.specs.Expressions.{tree_of};
+ghost use Rattle.plan_dsl.specs.Expressions.{plain_tree, tree_of};
 ghost use Rattle.plan_dsl.specs.Ops.{Op};
 ghost use Rattle.plan_dsl.specs.Registry.{registry};
+ghost use Rattle.plan_dsl.specs.Sources.{is_plain};
 ghost use Rattle.plan_arena.specs.Items.{named_node, HoldsExpression};
-ghost use Rattle.plan_lower.specs.Predicates.{HasPredicate, IsPredicateRefusal};
+ghost use Rattle.plan_lower.specs.Predicates.{HasExpandedPredicate, HasPredicate, IsPredicateRefusal, IsUnfiltered};
 
 use crate::conversion::projection::add_typed;
 use plan_arena::aexpr::AExpr;
@@ -14,25 +15,45 @@ use plan_arena::expr_ir::ExprIR;
 use plan_coerce::stack_opt::coerce_types;
 use plan_dsl::expr::Expr;
 use plan_dsl::udfs::Udfs;
+use plan_expand::expr_expansion::expand_filter;
 use plan_infer::type_table::TypeTable;
 use plan_types::dtype::DataType;
 use plan_types::error::{ErrorKind, PlanError};
 use plan_types::schema::Schema;
 use smallvec::SmallVec;
 
-/// Adds a predicate's nodes, types them over a frame of the schema, asks that it is of the type of truth
-/// values, and puts casts round operands.
+/// Expands a predicate over the schema, adds its nodes, types them over a frame of the schema, asks that it is of the
+/// type of truth values, and puts casts round operands.
 pub(crate) fn lower_predicate(
     predicate: Expr,
     schema: &Schema,
     arena: &mut Arena<AExpr>,
     udfs: &Udfs,
 ) -> Result<ExprIR, PlanError>
-    ensures ok { IfOk result (λ expr_ir. HasPredicate (registry udfs.now) (columns schema.now) arena.new
+    ensures ok { IfOk result (λ expr_ir. HasExpandedPredicate (registry udfs.now) (columns schema.now) arena.new
         (tree_of predicate) (named_node expr_ir)) }
     ensures kept { (n : ℕ) (op : Op) (inputs : List ℕ) →
         HoldsExpression arena.old n op inputs → HoldsExpression arena.new n op inputs }
-    ensures err { IfErr result (IsPredicateRefusal (registry udfs.now) (columns schema.now) (tree_of predicate)) }
+    ensures err { IfErr result (IsUnfiltered (registry udfs.now) (columns schema.now) (tree_of predicate)) }
+{
+    let expanded = expand_filter(arena.allocator(), predicate, schema, udfs)?;
+    let expr_ir = lower_plain(expanded, schema, arena, udfs)?;
+    Ok(expr_ir)
+}
+
+// The same of a predicate that is expanded.
+fn lower_plain(
+    predicate: Expr,
+    schema: &Schema,
+    arena: &mut Arena<AExpr>,
+    udfs: &Udfs,
+) -> Result<ExprIR, PlanError>
+    requires plain { is_plain (tree_of predicate) ≡ true }
+    ensures ok { IfOk result (λ expr_ir. HasPredicate (registry udfs.now) (columns schema.now) arena.new
+        (plain_tree predicate) (named_node expr_ir)) }
+    ensures kept { (n : ℕ) (op : Op) (inputs : List ℕ) →
+        HoldsExpression arena.old n op inputs → HoldsExpression arena.new n op inputs }
+    ensures err { IfErr result (IsPredicateRefusal (registry udfs.now) (columns schema.now) (plain_tree predicate)) }
 {
     let mut types = TypeTable::new(arena.allocator());
     let expr_ir = add_typed(predicate, schema, arena, udfs, &mut types)?;

@@ -1,21 +1,24 @@
 //! The expressions of one node, lowered together.
-ghost use Rattle.std.specs.Prelude.{◌≡◌, ◌≢◌, ◌≤◌, ℕ, List, OnOk, IfOk, IfErr, IfSome, length, map};
-ghost use Rattle.std.specs.List.{AllByRecursion};
+ghost use Rattle.std.specs.Prelude.{◌≡◌, ◌≢◌, ◌≤◌, ℕ, List, [], true, Ok, OnOk, IfOk, IfErr, IfSome, length, map};
+ghost use Rattle.std.specs.List.{AllByRecursion, list_all};
 ghost use Rattle.std.specs.Option.{option_map_or};
 ghost use Rattle.plan_types.specs.Errors.{no_memory, IsRefusal};
 ghost use Rattle.plan_types.specs.Schemas.{columns};
 ghost use Rattle.plan_dsl.specs.Aliases.{core};
-ghost use Rattle.plan_dsl.specs.Expressions.{tree_of, trees_of};
+ghost use Rattle.plan_dsl.specs.Expansion.{expansions};
+ghost use Rattle.plan_dsl.specs.Expressions.{plain_tree, plain_trees, tree_of, trees_of};
 ghost use Rattle.plan_dsl.specs.Literals.{settled};
 ghost use Rattle.plan_dsl.specs.Names.{label_of};
 ghost use Rattle.plan_dsl.specs.Ops.{Expression, Op};
 ghost use Rattle.plan_dsl.specs.Registry.{registry};
+ghost use Rattle.plan_dsl.specs.Sources.{is_plain};
 ghost use Rattle.plan_dsl.specs.Typing.{typing};
 ghost use Rattle.plan_arena.specs.Denotation.{Denotes};
 ghost use Rattle.plan_arena.specs.Items.{named_node, numbers, output_label, Grows, HoldsExpression, HoldsFrom};
 ghost use Rattle.plan_infer.specs.KeptTypes.{Extends, HasRightTypes, IsKept, IsRight};
-ghost use Rattle.plan_lower.specs.Outputs.{HasOutputs};
-ghost use Rattle.plan_lower.specs.Projection.{Projects, AddsOutput, IsOutputRefusal, IsProjectionRefusal};
+ghost use Rattle.plan_expand.specs.Refusals.{IsUnexpanded};
+ghost use Rattle.plan_lower.specs.Outputs.{HasExpandedOutputs, HasOutputs};
+ghost use Rattle.plan_lower.specs.Projection.{Projects, AddsOutput, IsOutputRefusal, IsProjectionRefusal, IsUnprojected};
 
 use crate::conversion::expr_to_ir::{add_nodes, alias_name, settle};
 use plan_arena::aexpr::{AExpr, Nodes};
@@ -24,6 +27,7 @@ use plan_arena::expr_ir::{ExprIR, ExprIRs, OutputName};
 use plan_coerce::stack_opt::coerce_types;
 use plan_dsl::expr::{Expr, Exprs};
 use plan_dsl::udfs::Udfs;
+use plan_expand::expr_expansion::rewrite_projections;
 use plan_infer::type_table::TypeTable;
 use plan_types::error::{ErrorKind, PlanError};
 use plan_types::schema::Schema;
@@ -40,8 +44,8 @@ pub(crate) struct Projection {
     pub(crate) schema: Schema,
 }
 
-/// Adds the expressions' nodes, types them over a frame of the schema, and puts casts round their operands. A name that
-/// comes twice breaks that kind of rule.
+/// Expands the expressions over the schema, adds the nodes of what comes out, types them over a frame of the schema, and
+/// puts casts round their operands. A name that comes twice breaks that kind of rule.
 pub(crate) fn project_strictly(
     exprs: Exprs,
     schema: &Schema,
@@ -49,15 +53,26 @@ pub(crate) fn project_strictly(
     udfs: &Udfs,
     twice: ErrorKind,
 ) -> Result<Projection, PlanError>
-    ensures ok { IfOk result (λ projection. HasOutputs (registry udfs.now) (columns schema.now) arena.new
+    ensures ok { IfOk result (λ projection. HasExpandedOutputs (registry udfs.now) (columns schema.now) arena.new
         (trees_of exprs) (map named_node projection.expr.items.items) (columns projection.schema)) }
     ensures kept { (n : ℕ) (op : Op) (inputs : List ℕ) →
         HoldsExpression arena.old n op inputs → HoldsExpression arena.new n op inputs }
-    ensures err { IfErr result (IsProjectionRefusal (registry udfs.now) (columns schema.now) twice (trees_of exprs)) }
+    ensures err { IfErr result (IsUnprojected (registry udfs.now) (columns schema.now) twice (trees_of exprs)) }
 {
+    let exprs = expanded(exprs, schema, udfs, arena.allocator())?;
     let types = room_for(exprs.items.len(), arena)?;
     let projection = project_in(exprs, schema, arena, udfs, twice, types)?;
     Ok(projection)
+}
+
+// What the expressions are expanded to over the schema, of which no column is a key.
+fn expanded(exprs: Exprs, schema: &Schema, udfs: &Udfs, alloc: Global) -> Result<Exprs, PlanError>
+    ensures ok { IfOk result (λ others. expansions [] (columns schema.now) (trees_of exprs) ≡ Ok (plain_trees others)) }
+    ensures plain { IfOk result (λ others. list_all is_plain (trees_of others) ≡ true) }
+    ensures err { IfErr result (IsUnexpanded (expansions [] (columns schema.now) (trees_of exprs))) }
+{
+    let items = rewrite_projections(alloc, exprs.items, schema, &[], udfs)?;
+    Ok(Exprs { items })
 }
 
 // Makes room for the nodes of so many expressions, and a table for their types.
@@ -81,12 +96,13 @@ fn project_in(
     twice: ErrorKind,
     types: TypeTable,
 ) -> Result<Projection, PlanError>
+    requires plain { list_all is_plain (trees_of exprs) ≡ true }
     requires empty { (n : ℕ) → ¬ (IsKept types n) }
     ensures ok { IfOk result (λ projection. HasOutputs (registry udfs.now) (columns schema.now) arena.new
-        (trees_of exprs) (map named_node projection.expr.items.items) (columns projection.schema)) }
+        (plain_trees exprs) (map named_node projection.expr.items.items) (columns projection.schema)) }
     ensures kept { (n : ℕ) (op : Op) (inputs : List ℕ) →
         HoldsExpression arena.old n op inputs → HoldsExpression arena.new n op inputs }
-    ensures err { IfErr result (IsProjectionRefusal (registry udfs.now) (columns schema.now) twice (trees_of exprs)) }
+    ensures err { IfErr result (IsProjectionRefusal (registry udfs.now) (columns schema.now) twice (plain_trees exprs)) }
 {
     let mut types = types;
     let projection = project(exprs, schema, arena, udfs, twice, &mut types)?;
@@ -116,14 +132,15 @@ pub(crate) fn project(
     twice: ErrorKind,
     types: &mut TypeTable,
 ) -> Result<Projection, PlanError>
+    requires plain { list_all is_plain (trees_of exprs) ≡ true }
     requires right { IsRight (registry udfs.now) (columns schema.now) arena.old types.old }
     ensures ok { IfOk result (λ projection. Projects (registry udfs.now) (columns schema.now) (length arena.old) arena.new
-        (trees_of exprs) (map named_node projection.expr.items.items) (columns projection.schema)) }
+        (plain_trees exprs) (map named_node projection.expr.items.items) (columns projection.schema)) }
     ensures grows { Grows arena.old arena.new }
     ensures kept { IfOk result (λ projection. AllByRecursion (IsKept types.new)
         (map (λ e. (named_node e).expression) projection.expr.items.items)) }
     ensures right { OnOk result (IsRight (registry udfs.now) (columns schema.now) arena.new types.new) }
-    ensures err { IfErr result (IsProjectionRefusal (registry udfs.now) (columns schema.now) twice (trees_of exprs)) }
+    ensures err { IfErr result (IsProjectionRefusal (registry udfs.now) (columns schema.now) twice (plain_trees exprs)) }
 {
     let alloc = arena.allocator();
     let mut items = Vec::with_capacity(alloc, exprs.items.len())?;
@@ -148,14 +165,15 @@ fn project_one(
     types: &mut TypeTable,
     output: &mut Schema,
 ) -> Result<ExprIR, PlanError>
+    requires plain { is_plain (tree_of expr) ≡ true }
     requires right { IsRight (registry udfs.now) (columns schema.now) arena.old types.old }
     ensures ok { IfOk result (λ expr_ir. AddsOutput (registry udfs.now) (columns schema.now) (length arena.old) arena.new
-        (tree_of expr) (named_node expr_ir) (columns output.old) (columns output.new)) }
+        (plain_tree expr) (named_node expr_ir) (columns output.old) (columns output.new)) }
     ensures grows { Grows arena.old arena.new }
     ensures kept { IfOk result (λ expr_ir. IsKept types.new (named_node expr_ir).expression) }
     ensures right { OnOk result (IsRight (registry udfs.now) (columns schema.now) arena.new types.new) }
     ensures extends { OnOk result (Extends types.old types.new) }
-    ensures err { IfErr result (IsOutputRefusal (registry udfs.now) (columns schema.now) twice (tree_of expr) (columns output.old)) }
+    ensures err { IfErr result (IsOutputRefusal (registry udfs.now) (columns schema.now) twice (plain_tree expr) (columns output.old)) }
 {
     let expr_ir = add_typed(expr, schema, arena, udfs, types)?;
     let name = expr_ir.output_name().try_clone(arena.allocator())?;
@@ -179,14 +197,15 @@ pub(crate) fn add_typed(
     udfs: &Udfs,
     types: &mut TypeTable,
 ) -> Result<ExprIR, PlanError>
+    requires plain { is_plain (tree_of expr) ≡ true }
     requires right { IsRight (registry udfs.now) (columns schema.now) arena.old types.old }
-    ensures name { IfOk result (λ expr_ir. (named_node expr_ir).label ≡ label_of (tree_of expr)) }
-    ensures denotes { IfOk result (λ expr_ir. Denotes (HoldsFrom (length arena.old) arena.new) (named_node expr_ir).expression (settled (core (tree_of expr)))) }
+    ensures name { IfOk result (λ expr_ir. (named_node expr_ir).label ≡ label_of (plain_tree expr)) }
+    ensures denotes { IfOk result (λ expr_ir. Denotes (HoldsFrom (length arena.old) arena.new) (named_node expr_ir).expression (settled (core (plain_tree expr)))) }
     ensures grows { Grows arena.old arena.new }
     ensures kept { IfOk result (λ expr_ir. IsKept types.new (named_node expr_ir).expression) }
     ensures right { OnOk result (IsRight (registry udfs.now) (columns schema.now) arena.new types.new) }
     ensures extends { OnOk result (Extends types.old types.new) }
-    ensures err { IfErr result (IsRefusal (typing (registry udfs.now) (columns schema.now) (settled (core (tree_of expr))))) }
+    ensures err { IfErr result (IsRefusal (typing (registry udfs.now) (columns schema.now) (settled (core (plain_tree expr))))) }
 {
     let mut expr = expr;
     let alias = alias_name(&expr, arena.allocator())?;

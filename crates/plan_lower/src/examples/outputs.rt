@@ -8,15 +8,16 @@ ghost use Rattle.plan_types.specs.declared.dtype.DataType.TheVariants.{Int16 as 
 ghost use Rattle.plan_types.specs.declared.error.ErrorKind.TheVariants.{ColumnNotFound, Duplicate, InvalidOperation, ComputeError};
 ghost use Rattle.plan_dsl.specs.declared.literal.LiteralValue.TheVariants.{Int, Int32};
 ghost use Rattle.plan_dsl.specs.Names.{column_label};
+ghost use Rattle.plan_dsl.specs.Samples.{all, nth};
 ghost use Rattle.plan_dsl.specs.Ops.{CastOp};
 ghost use Rattle.plan_dsl.specs.Trees.{node, no_more, more};
 ghost use Rattle.plan_dsl.specs.Plans.{empty_table, named, select_op, hstack_op};
 ghost use Rattle.plan_arena.specs.declared.aexpr.AExpr.TheVariants.{Cast, Column, Literal};
 ghost use Rattle.plan_arena.specs.Samples.{node_at};
 ghost use Rattle.plan_lower.specs.Nodes.{IsItemOf};
-ghost use Rattle.plan_lower.specs.Outputs.{IsLowered, SelectsTo, HasOutputs, lowered_named, lowered_column, over, lowered_select, lowered_hstack};
-ghost use Rattle.plan_lower.specs.Predicates.{FiltersBy, HasPredicate, IsPredicateRefusal, lowered_filter};
-ghost use Rattle.plan_lower.specs.Projection.{IsOutput, Projects, AddsOutput, IsOutputRefusal, RefusesOne, IsProjectionRefusal, output_node, output_column};
+ghost use Rattle.plan_lower.specs.Outputs.{IsLowered, SelectsTo, HasOutputs, HasExpandedOutputs, lowered_named, lowered_column, over, lowered_select, lowered_hstack};
+ghost use Rattle.plan_lower.specs.Predicates.{FiltersBy, HasPredicate, IsPredicateRefusal, HasExpandedPredicate, IsUnfiltered, lowered_filter};
+ghost use Rattle.plan_lower.specs.Projection.{IsOutput, Projects, AddsOutput, IsOutputRefusal, RefusesOne, IsProjectionRefusal, IsUnprojected, output_node, output_column};
 ghost use Rattle.plan_infer.specs.Samples.{int8, int16, int32, one_column, columns_of, two_columns, of_type, of_one, a, b, c, five, sum, columns_and, a_items};
 ghost use Rattle.plan_coerce.specs.Samples.{strict_sum, wide};
 ghost use Rattle.plan_lower.specs.Samples.{truths, keep, keep_items, node_named, output, lowered_to, as_it_is, scan_of, select_over, filter_over};
@@ -91,6 +92,15 @@ pub fn lowered_selects()
     ensures over_nothing { over [] (scan_of (one_column int8)) ≡ empty_table }
 {}
 
+/// Source expressions are expanded over the schema, and nodes stand for what comes out.
+pub fn expanded_sources()
+    ensures outputs { HasExpandedOutputs [] (one_column int8) a_items (all ∷ []) (node_named (codes "a") 0 ∷ []) (one_column int8) }
+    ensures outputs_of_nothing { HasExpandedOutputs [] [] [] (all ∷ []) [] [] }
+    ensures no_outputs { ¬ (HasExpandedOutputs [] (one_column int8) a_items (nth (pos 1) ∷ []) [] []) }
+    ensures predicate { HasExpandedPredicate [] truths keep_items all (node_named (codes "keep") 0) }
+    ensures no_predicate { ¬ (HasExpandedPredicate [] two_columns a_items all (node_named (codes "a") 0)) }
+{}
+
 /// An hstack of outputs records the columns of its input with theirs, and of none those of its input.
 pub fn lowered_hstacks()
     ensures over_an_input { lowered_hstack two_columns (as_it_is a int32 ∷ as_it_is c Truth ∷ []) (scan_of two_columns)
@@ -114,4 +124,14 @@ pub fn refusals_of_predicates()
     ensures number { IsPredicateRefusal [] (one_column int8) a (at_top InvalidOperation) }
     ensures other_kind { ¬ (IsPredicateRefusal [] (one_column int8) a (at_top ColumnNotFound)) }
     ensures predicate { ¬ (IsPredicateRefusal [] truths keep (at_top InvalidOperation)) }
+{}
+
+/// Why source expressions aren't projected or don't filter: they aren't expanded, or what comes out is refused.
+pub fn refusals_of_sources()
+    ensures place_beyond_the_columns { IsUnprojected [] (one_column int8) Duplicate (nth (pos 1) ∷ []) (at_top ColumnNotFound) }
+    ensures name_twice { IsUnprojected [] (one_column int8) Duplicate (all ∷ all ∷ []) (at_top Duplicate) }
+    ensures projected { ¬ (IsUnprojected [] [] Duplicate (all ∷ []) (at_top Duplicate)) }
+    ensures two_predicates { IsUnfiltered [] two_columns all (at_top ComputeError) }
+    ensures number { IsUnfiltered [] (one_column int8) all (at_top InvalidOperation) }
+    ensures predicate { ¬ (IsUnfiltered [] truths all (at_top InvalidOperation)) }
 {}

@@ -6,19 +6,21 @@ ghost use Rattle.plan_types.specs.Errors.{no_memory};
 ghost use Rattle.plan_types.specs.declared.error.ErrorKind.TheVariants.{ColumnNotFound, Duplicate};
 ghost use Rattle.plan_dsl.specs.Trees.{node, no_more, more};
 ghost use Rattle.plan_dsl.specs.Plans.{empty_table, named, scan_op, select_op, hstack_op, filter_op};
+ghost use Rattle.plan_dsl.specs.Samples.{all};
+ghost use Rattle.plan_dsl.specs.Sources.{written};
 ghost use Rattle.plan_arena.specs.declared.aexpr.AExpr.TheVariants.{Column};
 ghost use Rattle.plan_arena.specs.declared.ir.IR.{IR};
 ghost use Rattle.plan_arena.specs.declared.plan.IRPlan.{IRPlan};
 ghost use Rattle.plan_arena.specs.Layers.{layer};
-ghost use Rattle.plan_lower.specs.Lowering.{IsBuilt, StandsFor, IsPlanRefusal, Answers, IsTyped, IsSound, GivesSameFrame, IsLoweringOf, source_select, source_hstack, source_filter, IsSelectAt, IsHStackAt, IsFilterAt, IsEmptyTableAt, recorded_in, recorded_at, columns_at, Records};
+ghost use Rattle.plan_lower.specs.Lowering.{IsBuilt, StandsFor, IsPlanRefusal, Answers, IsTyped, IsSound, GivesSameFrame, IsLoweringOf, resolved_select, resolved_hstack, resolved_filter, IsSelectAt, IsHStackAt, IsFilterAt, IsEmptyTableAt, recorded_in, recorded_at, columns_at, Records};
 ghost use Rattle.plan_infer.specs.Samples.{int8, int32, one_column, two_columns, a, c, sum, a_items, refused};
 ghost use Rattle.plan_lower.specs.Samples.{truths, keep, keep_items, node_named, scan_of, select_over, filter_over, query, lowered_query, scan_layer, select_layer, ForPlans, ForScan, ForSum};
 
 /// A plan is refused by a kind of rule that is broken at a place, or for want of memory.
 pub fn refusals_of_plans()
     ensures memory { IsPlanRefusal [] (scan_of (one_column int8)) no_memory }
-    ensures below { IsPlanRefusal [] (filter_over (source_select (c ∷ []) (scan_of (one_column int8))) c) (refused ColumnNotFound (0 ∷ [])) }
-    ensures other_place { ¬ (IsPlanRefusal [] (filter_over (source_select (c ∷ []) (scan_of (one_column int8))) c) (refused ColumnNotFound [])) }
+    ensures below { IsPlanRefusal [] (filter_over (resolved_select (c ∷ []) (scan_of (one_column int8))) c) (refused ColumnNotFound (0 ∷ [])) }
+    ensures other_place { ¬ (IsPlanRefusal [] (filter_over (resolved_select (c ∷ []) (scan_of (one_column int8))) c) (refused ColumnNotFound [])) }
     ensures other_kind { ¬ (IsPlanRefusal [] (filter_over (scan_of (one_column int8)) c) (refused Duplicate [])) }
     ensures well_formed { ¬ (IsPlanRefusal [] (scan_of (one_column int8)) (refused Duplicate [])) }
     ensures answer { (lowering : IRPlan) → Answers [] (scan_of (one_column int8)) (Ok lowering) }
@@ -37,16 +39,16 @@ pub fn lowering_of_a_sum()
 
 /// A select, an hstack and a filter of a query: of expressions under their own names.
 pub fn trees_of_queries()
-    ensures select { source_select (a ∷ []) (scan_of (one_column Truth)) ≡ node (select_op (named a ∷ []) None) (more (scan_of (one_column Truth)) no_more) }
-    ensures hstack { source_hstack (a ∷ []) (scan_of (one_column Truth)) ≡ node (hstack_op (named a ∷ []) None) (more (scan_of (one_column Truth)) no_more) }
-    ensures filter { source_filter a (scan_of (one_column Truth)) ≡ filter_over (scan_of (one_column Truth)) a }
+    ensures select { resolved_select (a ∷ []) (scan_of (one_column Truth)) ≡ node (select_op (named a ∷ []) None) (more (scan_of (one_column Truth)) no_more) }
+    ensures hstack { resolved_hstack (a ∷ []) (scan_of (one_column Truth)) ≡ node (hstack_op (named a ∷ []) None) (more (scan_of (one_column Truth)) no_more) }
+    ensures filter { resolved_filter a (scan_of (one_column Truth)) ≡ filter_over (scan_of (one_column Truth)) a }
 {}
 
 /// What isn't a lowering of a query: one of another schema, one that gives another frame, one that is stuck.
 pub fn no_lowerings()
-    ensures other_schema { ForScan (Some 0) two_columns (λ lowering. ¬ (IsTyped [] (source_select (a ∷ []) (scan_of two_columns)) lowering)) }
+    ensures other_schema { ForScan (Some 0) two_columns (λ lowering. ¬ (IsTyped [] (resolved_select (a ∷ []) (scan_of two_columns)) lowering)) }
     ensures other_frame { ForScan None two_columns (λ lowering.
-        ¬ (GivesSameFrame [] (source_select (a ∷ []) (node (scan_op None two_columns) no_more)) lowering)) }
+        ¬ (GivesSameFrame [] (resolved_select (a ∷ []) (node (scan_op None two_columns) no_more)) lowering)) }
     ensures stuck { ForScan (Some 0) [] (λ lowering. ¬ (IsSound [] empty_table lowering)) }
 {}
 
@@ -55,11 +57,11 @@ pub fn nodes_that_stand_for_plans()
     ensures built { IsBuilt [] query lowered_query (one_column int32) }
     ensures not_built { ¬ (IsBuilt [] query (select_over (scan_of two_columns) sum (one_column int32)) (one_column int32)) }
     ensures filter { ForPlans (scan_layer (Some 0) truths ∷ layer (filter_op (node_named (codes "keep") 0)) (0 ∷ []) ∷ []) (λ plans.
-        IsFilterAt [] truths keep_items plans 1 0 keep) }
+        IsFilterAt [] truths keep_items plans 1 0 all) }
     ensures select { ForPlans (scan_layer (Some 0) (one_column Truth) ∷ select_layer 0 (one_column Truth) ∷ []) (λ plans.
-        IsSelectAt [] (one_column Truth) a_items plans 1 0 (a ∷ []) (one_column Truth)) }
+        IsSelectAt [] (one_column Truth) a_items plans 1 0 (all ∷ []) (one_column Truth)) }
     ensures hstack { ForPlans (scan_layer (Some 0) (one_column Truth) ∷ layer (hstack_op (node_named (codes "a") 0 ∷ []) (Some (one_column Truth))) (0 ∷ []) ∷ []) (λ plans.
-        IsHStackAt [] (one_column Truth) a_items plans 1 0 (a ∷ []) (one_column Truth)) }
+        IsHStackAt [] (one_column Truth) a_items plans 1 0 (written a ∷ []) (one_column Truth)) }
     ensures scan { ForPlans (scan_layer None [] ∷ []) (λ plans. StandsFor [] [] plans 0 [] empty_table) }
     ensures other_schema { ForPlans (scan_layer None [] ∷ []) (λ plans. ¬ (StandsFor [] [] plans 0 (one_column Truth) empty_table)) }
     ensures empty_table { ForPlans (scan_layer None [] ∷ []) (λ plans. IsEmptyTableAt plans 0) }
@@ -80,7 +82,7 @@ pub fn recorded_schemas()
 /// What no node stands for, whatever the arenas hold.
 pub fn no_nodes_for_plans()
     ensures not_strict { (lowering : IRPlan) → ¬ (IsLoweringOf [] query lowering (select_over (scan_of two_columns) sum (one_column int32))) }
-    ensures ill_formed { (plans : List IR) → ¬ (StandsFor [] [] plans 0 (one_column Truth) (source_select (c ∷ []) (scan_of (one_column Truth)))) }
-    ensures filter_by_a_number { (plans : List IR) → ¬ (IsFilterAt [] (one_column int8) a_items plans 1 0 a) }
-    ensures select_of_no_column { (plans : List IR) → ¬ (IsSelectAt [] (one_column Truth) (Column (codes "c") ∷ []) plans 1 0 (c ∷ []) (one_column Truth)) }
+    ensures ill_formed { (plans : List IR) → ¬ (StandsFor [] [] plans 0 (one_column Truth) (resolved_select (c ∷ []) (scan_of (one_column Truth)))) }
+    ensures filter_by_a_number { (plans : List IR) → ¬ (IsFilterAt [] (one_column int8) a_items plans 1 0 all) }
+    ensures select_of_no_column { (plans : List IR) → ¬ (IsSelectAt [] (one_column Truth) (Column (codes "c") ∷ []) plans 1 0 (written c ∷ []) (one_column Truth)) }
 {}

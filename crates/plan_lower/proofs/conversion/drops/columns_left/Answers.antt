@@ -1,7 +1,10 @@
 use Rattle.plan_types.specs.Schemas.{columns}
 use Rattle.plan_types.proofs.ResultLemmas.{passed_on}
-use Rattle.plan_dsl.specs.Selectors.{selector_trees}
-use Rattle.plan_lower.proofs.DropLemmas.{left_found, left_lacking, left_unnamed}
+use Rattle.plan_dsl.specs.Expressions.{selector_trees}
+use Rattle.plan_dsl.specs.Drops.{left_but}
+use Rattle.plan_dsl.specs.Markers.{names_of_selectors}
+use Rattle.plan_lower.proofs.BuiltLemmas.{unexpanded_then}
+use Rattle.plan_lower.proofs.DropLemmas.{left_found, left_lacking}
 use Rattle.plan_lower.proofs.conversion.drops.columns_left.Goals as goal
 
 pub returns-clause-ok : goal.returns-clause-ok
@@ -10,7 +13,7 @@ returns-clause-ok c =
 
 pub returns-in_err-names-clause-err : goal.returns-in_err-names-clause-err
 returns-in_err-names-clause-err c =
-    passed_on c.from_residual.result c.in_err-names.field-0.0 _ c.from_residual.ensures.1 (left_unnamed (columns c.args.schema.now) (selector_trees c.args.function.to_drop) c.args.function.strict _ c.in_err-names.ensures.err)
+    passed_on c.from_residual.result c.in_err-names.field-0.0 _ c.from_residual.ensures.1 (unexpanded_then (names_of_selectors (columns c.args.schema.now) (selector_trees c.args.function.to_drop)) (left_but c.args.function.strict (columns c.args.schema.now)) _ c.in_err-names.ensures.err)
 
 pub returns-then-lacks_some-clause-err : goal.returns-then-lacks_some-clause-err
 returns-then-lacks_some-clause-err c =

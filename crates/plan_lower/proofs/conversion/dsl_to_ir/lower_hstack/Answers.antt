@@ -5,7 +5,7 @@ use Rattle.plan_dsl.specs.PlanRules.{with_columns}
 use Rattle.plan_dsl.specs.Registry.{registry}
 use Rattle.plan_arena.specs.Items.{named_node}
 use Rattle.plan_lower.specs.Lowering.{IsHStackAt, columns_at}
-use Rattle.plan_lower.specs.Outputs.{HasOutputs}
+use Rattle.plan_lower.specs.Outputs.{HasExpandedOutputs}
 use Rattle.plan_lower.proofs.PlanLemmas.{hstack_at}
 use Rattle.plan_lower.proofs.RecordedLemmas.{recorded_added, columns_of_recorded}
 use Rattle.plan_lower.proofs.conversion.dsl_to_ir.lower_hstack.Goals as goal
@@ -20,7 +20,7 @@ returns-clause-ok c =
     let n = c.in_ok-node.node.0 in
     let input = c.args.input.node.0 in
     let items = c.project_strictly.new.arena in
-    let has = subst (λ (s : Columns). HasOutputs r s items (trees_of c.args.exprs) nodes own) c.recorded_schema-before.ensures c.in_ok-projection.ensures.ok in
+    let has = subst (λ (s : Columns). HasExpandedOutputs r s items (trees_of c.args.exprs) nodes own) c.recorded_schema-before.ensures c.in_ok-projection.ensures.ok in
     let with_own = c.in_ok-schema.ensures.ok ∙ ap (λ s. with_columns s own) c.recorded_schema-before.ensures in
     let at = hstack_at r schema items c.args.lp_arena.now c.add.new.self _ n input (trees_of c.args.exprs) nodes own whole has with_own c.in_ok-node.ensures.ok c.in_ok-node.ensures.node refl in
     let recorded = recorded_added c.args.lp_arena.now c.add.new.self _ n whole c.in_ok-node.ensures.ok c.in_ok-node.ensures.node refl in

@@ -1,11 +1,11 @@
-use Rattle.std.proofs.Common.{is_some, map, sym, ap, refl, subst, ◌∙◌, arith}
+use Rattle.std.proofs.Common.{is_some, map, sym, ap, refl, subst, arith}
 use Rattle.std.proofs.lemmas.List.{length-map}
 use Rattle.plan_types.specs.Schemas.{Columns, columns}
 use Rattle.plan_dsl.specs.Expressions.{trees_of}
 use Rattle.plan_dsl.specs.Registry.{registry}
 use Rattle.plan_arena.specs.Items.{named_node}
 use Rattle.plan_lower.specs.Lowering.{IsSelectAt, columns_at}
-use Rattle.plan_lower.specs.Outputs.{HasOutputs}
+use Rattle.plan_lower.specs.Outputs.{HasExpandedOutputs}
 use Rattle.plan_lower.proofs.PlanLemmas.{select_at}
 use Rattle.plan_lower.proofs.RecordedLemmas.{recorded_added, columns_of_recorded}
 use Rattle.plan_lower.proofs.conversion.dsl_to_ir.lower_select.Goals as goal
@@ -19,8 +19,8 @@ returns-clause-ok c =
     let n = c.in_ok-node.node.0 in
     let input = c.args.input.node.0 in
     let long = length-map exprs named_node in
-    let has = subst (λ (s : Columns). HasOutputs r s c.project_strictly.new.arena (trees_of c.args.expr) (map named_node exprs) own) c.recorded_schema-schema.ensures c.in_ok-projection.ensures.ok in
-    let at = select_at r schema c.project_strictly.new.arena c.input_of.new.lp_arena c.add.new.self _ n input c.in_ok-input.input.0 (trees_of c.args.expr) (map named_node exprs) own has (λ e. c.in_ok-input.ensures.nothing (sym long ∙ e)) (λ p. c.in_ok-input.ensures.something (omega (arith, long, p))) c.in_ok-node.ensures.ok c.in_ok-node.ensures.node refl in
+    let has = subst (λ (s : Columns). HasExpandedOutputs r s c.project_strictly.new.arena (trees_of c.args.expr) (map named_node exprs) own) c.recorded_schema-schema.ensures c.in_ok-projection.ensures.ok in
+    let at = select_at r schema c.project_strictly.new.arena c.input_of.new.lp_arena c.add.new.self _ n input c.in_ok-input.input.0 (trees_of c.args.expr) (map named_node exprs) own has (λ e. c.in_ok-input.ensures.nothing (omega (arith, long, c.len.ensures, e))) (λ p. c.in_ok-input.ensures.something (omega (arith, long, c.len.ensures, p))) c.in_ok-node.ensures.ok c.in_ok-node.ensures.node refl in
     let recorded = recorded_added c.input_of.new.lp_arena c.add.new.self _ n own c.in_ok-node.ensures.ok c.in_ok-node.ensures.node refl in
     subst (IsSelectAt r schema c.project_strictly.new.arena c.add.new.self n input (trees_of c.args.expr)) (sym (columns_of_recorded c.add.new.self n own recorded)) at
 

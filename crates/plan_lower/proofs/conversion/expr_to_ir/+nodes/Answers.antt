@@ -1,7 +1,10 @@
-use Rattle.std.proofs.Common.{length, map, refl, subst, sym, ap, ◌∙◌}
+use Rattle.std.proofs.Common.{◌≡◌, true, arith, length, map, refl, subst, sym, ap, ◌∙◌}
+use Rattle.std.specs.List.{AllByRecursion}
+use Rattle.plan_dsl.specs.Sources.{is_plain}
 use Rattle.std.specs.Vec.Iter.{into_iter_items}
 use Rattle.plan_dsl.specs.Aliases.{all_pruned, inputs_pruned, prune_node, pruned}
-use Rattle.plan_dsl.specs.Expressions.{sort_by_op, tree_of, trees_of}
+use Rattle.plan_dsl.specs.Expressions.{plain_tree, plain_trees, sort_by_op, tree_of}
+use Rattle.plan_dsl.specs.declared.expr.Expr.TheViews.{size-Expr, sized-BinaryExpr, sized-Filter, sized-Gather, sized-Slice, sized-SortBy}
 use Rattle.plan_dsl.specs.Ops.{AliasOp}
 use Rattle.plan_dsl.specs.Trees.{node, no_more, more, children_from}
 use Rattle.plan_dsl.proofs.ExprLemmas.{sort_by_listed}
@@ -10,14 +13,14 @@ use Rattle.plan_arena.specs.Denotation.{Denotes}
 use Rattle.plan_arena.specs.Items.{HoldsFrom}
 use Rattle.plan_lower.specs.Nodes.{IsItemOf}
 use Rattle.plan_arena.proofs.ItemLemmas.{grows_then, length-grown}
-use Rattle.plan_lower.proofs.NodeLemmas.{adding_step, item_denotes, over_added, over_listed, pruned_item}
+use Rattle.plan_lower.proofs.NodeLemmas.{Adding, adding_start, adding_step, each_plain, item_denotes, nothing_added, over_added, over_listed, pruned_item, rest_plain, second_plain, third_plain, unwritten_listed}
 use Rattle.plan_lower.proofs.conversion.expr_to_ir.+nodes.Goals as goal
 
 pub add_nodes-returns-in_ok-node-in-Alias-clause-denotes : goal.add_nodes-returns-in_ok-node-in-Alias-clause-denotes
 add_nodes-returns-in_ok-node-in-Alias-clause-denotes t c =
     let below = c.in_ok-below-in-Alias.ensures in
     let top = c.in_ok-node-in-Alias in
-    let tree = pruned c.args.keep (tree_of c.into_inner.result) in
+    let tree = pruned c.args.keep (plain_tree c.into_inner.result) in
     let item : IsItemOf (length c.args.arena.now) c.add_nodes.new.arena (node (AliasOp c.in-Alias.name) (more tree no_more)) (Alias c.in_ok-below-in-Alias.below c.in-Alias.name) = record { operands = more tree no_more; is = refl; denote = (below.denotes, tt) } in
     let added = item_denotes _ c.add_nodes.new.arena _ _ _ top.node.0 (length-grown c.args.arena.now c.add_nodes.new.arena below.grows) item top.ensures.ok top.ensures.node in
     let kept = subst (λ keep. Denotes (HoldsFrom (length c.args.arena.now) c.add.new.self) top.node.0 (prune_node keep (AliasOp c.in-Alias.name) (more tree no_more))) (sym c.if-not-keep.false) added in
@@ -30,47 +33,101 @@ add_nodes-returns-in_ok-node-in_default-clause-denotes t c =
     let added = item_denotes _ c.add_inputs.new.arena _ _ c.in_ok-item-in_default.item top.node.0 (length-grown c.args.arena.now c.add_inputs.new.arena item.grows) item.ok top.ensures.ok top.ensures.node in
     subst (Denotes (HoldsFrom (length c.args.arena.now) c.add-in_default.new.self) top.node.0) (pruned_item c.args.keep c.args.expr c.in_default.not-Alias) added
 
+-- the operands behind the first are less deep, and have plans' ops alone
+pub add_inputs-add_nodes-requires-in-BinaryExpr : goal.add_inputs-add_nodes-requires-in-BinaryExpr
+add_inputs-add_nodes-requires-in-BinaryExpr t c =
+    let size = ap size-Expr c.in-BinaryExpr.is ∙ sized-BinaryExpr _ _ _ in (
+      omega (arith, c.decreases, size, ap size-Expr c.into_inner-in-BinaryExpr.ensures),
+      rw (c.into_inner-in-BinaryExpr.ensures) (second_plain c.args.expr _ _ _ _ (ap tree_of c.in-BinaryExpr.is) c.requires.plain),
+    )
+
+pub add_inputs-add_nodes-requires-in-Slice-2 : goal.add_inputs-add_nodes-requires-in-Slice-2
+add_inputs-add_nodes-requires-in-Slice-2 t c =
+    let size = ap size-Expr c.in-Slice.is ∙ sized-Slice _ _ _ in (
+      omega (arith, c.decreases, size, ap size-Expr c.into_inner-in-Slice-2.ensures),
+      rw (c.into_inner-in-Slice-2.ensures) (second_plain c.args.expr _ _ _ _ (ap tree_of c.in-Slice.is) c.requires.plain),
+    )
+
+pub add_inputs-add_nodes-requires-in-Slice-3 : goal.add_inputs-add_nodes-requires-in-Slice-3
+add_inputs-add_nodes-requires-in-Slice-3 t c =
+    let size = ap size-Expr c.in-Slice.is ∙ sized-Slice _ _ _ in (
+      omega (arith, c.decreases, size, ap size-Expr c.into_inner-in-Slice-3.ensures),
+      rw (c.into_inner-in-Slice-3.ensures) (third_plain c.args.expr _ _ _ _ _ (ap tree_of c.in-Slice.is) c.requires.plain),
+    )
+
+pub add_inputs-add_nodes-requires-in-Gather-2 : goal.add_inputs-add_nodes-requires-in-Gather-2
+add_inputs-add_nodes-requires-in-Gather-2 t c =
+    let size = ap size-Expr c.in-Gather.is ∙ sized-Gather _ _ _ in (
+      omega (arith, c.decreases, size, ap size-Expr c.into_inner-in-Gather-2.ensures),
+      rw (c.into_inner-in-Gather-2.ensures) (second_plain c.args.expr _ _ _ _ (ap tree_of c.in-Gather.is) c.requires.plain),
+    )
+
+pub add_inputs-add_nodes-requires-in-Filter-2 : goal.add_inputs-add_nodes-requires-in-Filter-2
+add_inputs-add_nodes-requires-in-Filter-2 t c =
+    let size = ap size-Expr c.in-Filter.is ∙ sized-Filter _ _ in (
+      omega (arith, c.decreases, size, ap size-Expr c.into_inner-in-Filter-2.ensures),
+      rw (c.into_inner-in-Filter-2.ensures) (second_plain c.args.expr _ _ _ _ (ap tree_of c.in-Filter.is) c.requires.plain),
+    )
+
+pub add_inputs-add_each-requires : goal.add_inputs-add_each-requires
+add_inputs-add_each-requires t c =
+    let kind = c.in-SortBy in
+    let size = ap size-Expr kind.is ∙ sized-SortBy _ _ _ in
+    (omega (arith, c.decreases, size), rest_plain (sort_by_listed c.args.expr kind.expr kind.by kind.sort_options kind.is) c.requires.plain)
+
 -- an item over two inputs or more, of which each was added behind those before it
-pub add_inputs-returns-in_ok-right-in-BinaryExpr-clause-ok :
-    goal.add_inputs-returns-in_ok-right-in-BinaryExpr-clause-ok
-add_inputs-returns-in_ok-right-in-BinaryExpr-clause-ok t c =
+pub add_inputs-returns-in-BinaryExpr-clause-ok :
+    goal.add_inputs-returns-in-BinaryExpr-clause-ok
+add_inputs-returns-in-BinaryExpr-clause-ok t c =
     let left = c.in_ok-left-in-BinaryExpr.ensures in
     let right = c.in_ok-right-in-BinaryExpr.ensures in
     rw (c.in-BinaryExpr.is, ← c.into_inner.ensures, ← c.into_inner-in-BinaryExpr.ensures) (over_added _ _ _ _ (more _ (more _ no_more)) refl (_, left.denotes, left.grows, (_, right.denotes, right.grows, refl)))
 
-pub add_inputs-returns-in_ok-length-in-Slice-clause-ok :
-    goal.add_inputs-returns-in_ok-length-in-Slice-clause-ok
-add_inputs-returns-in_ok-length-in-Slice-clause-ok t c =
+pub add_inputs-returns-in-Slice-clause-ok :
+    goal.add_inputs-returns-in-Slice-clause-ok
+add_inputs-returns-in-Slice-clause-ok t c =
     let input = c.in_ok-input-in-Slice.ensures in
     let offset = c.in_ok-offset-in-Slice.ensures in
     let length = c.in_ok-length-in-Slice.ensures in
     rw (c.in-Slice.is, ← c.into_inner-in-Slice.ensures, ← c.into_inner-in-Slice-2.ensures, ← c.into_inner-in-Slice-3.ensures) (over_added _ _ _ _ (more _ (more _ (more _ no_more))) refl (_, input.denotes, input.grows, (_, offset.denotes, offset.grows, (_, length.denotes, length.grows, refl))))
 
-pub add_inputs-returns-in_ok-idx-in-Gather-clause-ok :
-    goal.add_inputs-returns-in_ok-idx-in-Gather-clause-ok
-add_inputs-returns-in_ok-idx-in-Gather-clause-ok t c =
+pub add_inputs-returns-in-Gather-clause-ok :
+    goal.add_inputs-returns-in-Gather-clause-ok
+add_inputs-returns-in-Gather-clause-ok t c =
     let expr = c.in_ok-expr-in-Gather.ensures in
     let idx = c.in_ok-idx-in-Gather.ensures in
     rw (c.in-Gather.is, ← c.into_inner-in-Gather.ensures, ← c.into_inner-in-Gather-2.ensures) (over_added _ _ _ _ (more _ (more _ no_more)) refl (_, expr.denotes, expr.grows, (_, idx.denotes, idx.grows, refl)))
 
-pub add_inputs-returns-in_ok-by-in-Filter-clause-ok :
-    goal.add_inputs-returns-in_ok-by-in-Filter-clause-ok
-add_inputs-returns-in_ok-by-in-Filter-clause-ok t c =
+pub add_inputs-returns-in-Filter-clause-ok :
+    goal.add_inputs-returns-in-Filter-clause-ok
+add_inputs-returns-in-Filter-clause-ok t c =
     let input = c.in_ok-input-in-Filter.ensures in
     let by = c.in_ok-by-in-Filter.ensures in
     rw (c.in-Filter.is, ← c.into_inner-in-Filter.ensures, ← c.into_inner-in-Filter-2.ensures) (over_added _ _ _ _ (more _ (more _ no_more)) refl (_, input.denotes, input.grows, (_, by.denotes, by.grows, refl)))
 
 -- one over an input and a list, which was added behind it
-pub add_inputs-returns-in_ok-by-in-SortBy-clause-ok :
-    goal.add_inputs-returns-in_ok-by-in-SortBy-clause-ok
-add_inputs-returns-in_ok-by-in-SortBy-clause-ok t c =
+pub add_inputs-returns-in-SortBy-clause-ok :
+    goal.add_inputs-returns-in-SortBy-clause-ok
+add_inputs-returns-in-SortBy-clause-ok t c =
     let kind = c.in-SortBy in
     let first = c.in_ok-expr-in-SortBy.ensures in
     let rest = c.in_ok-by-in-SortBy.ensures in
-    let keys = all_pruned c.args.keep (children_from (trees_of kind.by)) in
-    let whole = ap (inputs_pruned c.args.keep) (sort_by_listed c.args.expr kind.expr kind.by kind.sort_options kind.is).is in
-    let tree = whole ∙ ap (λ e. node (sort_by_op kind.sort_options) (more (pruned c.args.keep (tree_of e)) keys)) (sym c.into_inner-in-SortBy.ensures) in
+    let keys = all_pruned c.args.keep (children_from (plain_trees kind.by)) in
+    let whole = ap (inputs_pruned c.args.keep) (unwritten_listed kind.by.items.items (sort_by_listed c.args.expr kind.expr kind.by kind.sort_options kind.is)) in
+    let tree = whole ∙ ap (λ e. node (sort_by_op kind.sort_options) (more (pruned c.args.keep (plain_tree e)) keys)) (sym c.into_inner-in-SortBy.ensures) in
     over_listed c.args.arena.now c.add_nodes-in-SortBy.new.arena c.add_each.new.arena _ (SortBy c.in_ok-expr-in-SortBy.expr c.in_ok-by-in-SortBy.by kind.sort_options) _ _ _ keys tree refl first.denotes first.grows rest.ok rest.grows
+
+pub add_each-loop-expr-init : goal.add_each-loop-expr-init
+add_each-loop-expr-init t c =
+    let exprs = c.args.exprs.items.items in
+    let start = c.into_iter-expr-iterator.ensures.into_iter_gives.0 in
+    record {
+      can = tt;
+      finite = tt;
+      plain = subst (AllByRecursion (λ e. is_plain (tree_of e) ≡ true)) (sym start) (each_plain exprs c.requires.plain);
+      grows = nothing_added c.args.arena.now;
+      so_far = subst (λ left. Adding (length c.args.arena.now) c.args.keep c.args.arena.now (plain_trees c.args.exprs) (map plain_tree left) c.new-items.result.items) (sym start) (adding_start (length c.args.arena.now) c.args.keep c.args.arena.now (plain_trees c.args.exprs) c.new-items.result.items c.new-items.ensures.items);
+    }
 
 pub add_each-loop-expr-preserved : goal.add_each-loop-expr-preserved
 add_each-loop-expr-preserved t c =
@@ -79,6 +136,7 @@ add_each-loop-expr-preserved t c =
     record {
       can = tt;
       finite = tt;
+      plain = (subst (AllByRecursion (λ e. is_plain (tree_of e) ≡ true)) c.in-Some.ensures.steps.0 before.plain).1;
       grows = grows_then _ _ _ before.grows node.grows;
-      so_far = adding_step _ _ _ _ _ _ (map tree_of (into_iter_items c.next.new.self)) _ _ (tree_of c.in-Some.expr) c.in_ok-node.node before.so_far (ap (map tree_of) c.in-Some.ensures.steps.0) (length-grown _ _ before.grows) node.grows node.denotes c.in_ok-push.ensures.items;
+      so_far = adding_step _ _ _ _ _ _ (map plain_tree (into_iter_items c.next.new.self)) _ _ (plain_tree c.in-Some.expr) c.in_ok-node.node before.so_far (ap (map plain_tree) c.in-Some.ensures.steps.0) (length-grown _ _ before.grows) node.grows node.denotes c.in_ok-push.ensures.items;
     }

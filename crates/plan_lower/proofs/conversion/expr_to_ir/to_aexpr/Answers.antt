@@ -1,5 +1,5 @@
 use Rattle.std.proofs.Common.{length, subst}
-use Rattle.plan_dsl.specs.Expressions.{tree_of}
+use Rattle.plan_dsl.specs.Expressions.{plain_tree}
 use Rattle.plan_dsl.specs.Literals.{settled}
 use Rattle.plan_dsl.proofs.AliasLemmas.{kept_pruned}
 use Rattle.plan_arena.specs.Denotation.{Denotes}
@@ -8,4 +8,4 @@ use Rattle.plan_lower.proofs.conversion.expr_to_ir.to_aexpr.Goals as goal
 
 pub returns-clause-denotes : goal.returns-clause-denotes
 returns-clause-denotes c =
-    subst (Denotes (HoldsFrom (length c.args.arena.now) c.add_settled.new.arena) c.in_ok-node.node.0) (kept_pruned (settled (tree_of c.args.expr))) c.in_ok-node.ensures.denotes
+    subst (Denotes (HoldsFrom (length c.args.arena.now) c.add_settled.new.arena) c.in_ok-node.node.0) (kept_pruned (settled (plain_tree c.args.expr))) c.in_ok-node.ensures.denotes

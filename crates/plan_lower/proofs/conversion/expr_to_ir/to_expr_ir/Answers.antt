@@ -1,6 +1,6 @@
 use Rattle.std.proofs.Common.{length, subst, sym, ◌∙◌}
 use Rattle.plan_dsl.specs.Aliases.{core}
-use Rattle.plan_dsl.specs.Expressions.{tree_of}
+use Rattle.plan_dsl.specs.Expressions.{plain_tree}
 use Rattle.plan_arena.specs.Denotation.{Denotes}
 use Rattle.plan_arena.specs.Items.{HoldsFrom}
 use Rattle.plan_arena.proofs.ItemLemmas.{any_node}
@@ -8,12 +8,12 @@ use Rattle.plan_lower.proofs.conversion.expr_to_ir.to_expr_ir.Goals as goal
 
 pub under_name-requires-clause-tree : goal.under_name-requires-clause-tree
 under_name-requires-clause-tree c =
-    record { tree = core (tree_of c.args.expr); denotes = any_node (length c.args.arena.now) c.add_nodes.new.arena c.in_ok-node.node.0 (core (tree_of c.args.expr)) c.in_ok-node.ensures.denotes }
+    record { tree = core (plain_tree c.args.expr); denotes = any_node (length c.args.arena.now) c.add_nodes.new.arena c.in_ok-node.node.0 (core (plain_tree c.args.expr)) c.in_ok-node.ensures.denotes }
 
 pub returns-clause-name : goal.returns-clause-name
 returns-clause-name c =
-    c.in_ok-expr_ir.ensures.name (core (tree_of c.args.expr)) (any_node (length c.args.arena.now) c.add_nodes.new.arena c.in_ok-node.node.0 (core (tree_of c.args.expr)) c.in_ok-node.ensures.denotes) ∙ sym c.in_ok-alias.ensures.ok
+    c.in_ok-expr_ir.ensures.name (core (plain_tree c.args.expr)) (any_node (length c.args.arena.now) c.add_nodes.new.arena c.in_ok-node.node.0 (core (plain_tree c.args.expr)) c.in_ok-node.ensures.denotes) ∙ sym c.in_ok-alias.ensures.ok
 
 pub returns-clause-denotes : goal.returns-clause-denotes
 returns-clause-denotes c =
-    subst (λ n. Denotes (HoldsFrom (length c.args.arena.now) c.add_nodes.new.arena) n (core (tree_of c.args.expr))) (sym c.in_ok-expr_ir.ensures.node) c.in_ok-node.ensures.denotes
+    subst (λ n. Denotes (HoldsFrom (length c.args.arena.now) c.add_nodes.new.arena) n (core (plain_tree c.args.expr))) (sym c.in_ok-expr_ir.ensures.node) c.in_ok-node.ensures.denotes

@@ -12,6 +12,7 @@ use Rattle.plan_lower.proofs.conversion.projection.project_in.Goals as goal
 
 pub project-requires : goal.project-requires
 project-requires c = record {
+  plain = c.requires.plain;
   right = right_start (registry c.args.udfs.now) (columns c.args.schema.now) c.args.arena.now c.args.types c.requires.empty;
 }
 

@@ -4,7 +4,7 @@ use Rattle.plan_dsl.specs.Names.{Label}
 use Rattle.plan_lower.specs.Projection.{repeated}
 use Rattle.plan_types.specs.Types.{ty}
 use Rattle.plan_types.proofs.ResultLemmas.{passed_on}
-use Rattle.plan_dsl.specs.Expressions.{tree_of}
+use Rattle.plan_dsl.specs.Expressions.{plain_tree}
 use Rattle.plan_dsl.specs.Registry.{registry}
 use Rattle.plan_arena.specs.Items.{named_node}
 use Rattle.plan_lower.proofs.ProjectionLemmas.{refused_output, adds_output, had_type}
@@ -14,7 +14,7 @@ use Rattle.plan_lower.proofs.conversion.projection.project_one.Goals as goal
 
 pub returns-in_err-expr_ir-clause-err : goal.returns-in_err-expr_ir-clause-err
 returns-in_err-expr_ir-clause-err c =
-    passed_on c.from_residual.result c.in_err-expr_ir.field-0.0 _ c.from_residual.ensures.1 (refused_output (registry c.args.udfs.now) (columns c.args.schema.now) c.args.twice (tree_of c.args.expr) (columns c.args.output.now) _ c.in_err-expr_ir.ensures.err)
+    passed_on c.from_residual.result c.in_err-expr_ir.field-0.0 _ c.from_residual.ensures.1 (refused_output (registry c.args.udfs.now) (columns c.args.schema.now) c.args.twice (plain_tree c.args.expr) (columns c.args.output.now) _ c.in_err-expr_ir.ensures.err)
 
 pub returns-clause-ok : goal.returns-clause-ok
 returns-clause-ok c =
@@ -22,7 +22,7 @@ returns-clause-ok c =
     let before = c.in_ok-before.ensures in
     let absent = had_type c.in_ok-before.before _ before.before ∙ sym c.is_some.ensures ∙ c.if-is_some.false in
     let named = c.in_ok-name.ensures.ok ∙ c.output_name.ensures in
-    adds_output (registry c.args.udfs.now) (columns c.args.schema.now) _ c.add_typed.new.arena (tree_of c.args.expr) (named_node c.in_ok-expr_ir.expr_ir) c.node.result.0 (columns c.args.output.now) (columns c.with_column.new.self) _ _ _ c.in_ok-expr_ir.ensures.name c.in_ok-expr_ir.ensures.denotes c.node.ensures typed absent named named before.ok
+    adds_output (registry c.args.udfs.now) (columns c.args.schema.now) _ c.add_typed.new.arena (plain_tree c.args.expr) (named_node c.in_ok-expr_ir.expr_ir) c.node.result.0 (columns c.args.output.now) (columns c.with_column.new.self) _ _ _ c.in_ok-expr_ir.ensures.name c.in_ok-expr_ir.ensures.denotes c.node.ensures typed absent named named before.ok
 
 pub returns-then-is_some-clause-err : goal.returns-then-is_some-clause-err
 returns-then-is_some-clause-err c =

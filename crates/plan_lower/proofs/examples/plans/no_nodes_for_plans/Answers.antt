@@ -1,8 +1,11 @@
-use Rattle.std.proofs.Common.{◌≡◌, List, [], ◌∷◌, map, Ok, Err, subst}
+use Rattle.std.proofs.Common.{◌≡◌, List, [], ◌∷◌, map, Ok, Err, subst, ◌∙◌}
 use Rattle.std.specs.List.{AllByRecursion}
 use Rattle.plan_types.specs.Types.{Truth}
 use Rattle.plan_types.specs.declared.error.ErrorKind.TheVariants.{ColumnNotFound}
 use Rattle.plan_dsl.specs.Aliases.{core}
+use Rattle.plan_dsl.specs.Expansion.{expansions}
+use Rattle.plan_dsl.specs.Ops.{Expression}
+use Rattle.plan_dsl.specs.Sources.{written}
 use Rattle.plan_dsl.specs.Literals.{settled}
 use Rattle.plan_dsl.specs.Typing.{typing}
 use Rattle.plan_lower.specs.Outputs.{Lowered, IsLowered}
@@ -18,5 +21,10 @@ no_outputs (output ∷ outputs) trees each =
     let typed : Err ColumnNotFound ≡ Ok output.typed = subst (λ t. typing [] (one_column Truth) (settled (core t)) ≡ Ok output.typed) (first_tree output outputs trees) each.0.typed in
     cc
 
+only_c : (trees : List Expression) → expansions [] (one_column Truth) (written c ∷ []) ≡ Ok trees → trees ≡ c ∷ []
+only_c trees e = cc
+
 pub returns-clause-select_of_no_column : goal.returns-clause-select_of_no_column
-returns-clause-select_of_no_column k = λ plans is. no_outputs is.has.outputs is.has.selects.trees_are is.has.selects.each
+returns-clause-select_of_no_column k = λ plans is.
+    let selects = is.has.lowered.selects in
+    no_outputs is.has.lowered.outputs (selects.trees_are ∙ only_c is.has.trees is.has.expanded) selects.each

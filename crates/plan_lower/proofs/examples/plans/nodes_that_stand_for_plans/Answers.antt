@@ -1,10 +1,14 @@
-use Rattle.std.proofs.Common.{[], ◌∷◌, codes, true, None, refl}
+use Rattle.std.proofs.Common.{◌≡◌, List, [], ◌∷◌, codes, true, None, Ok, refl}
 use Rattle.plan_types.specs.Types.{Truth}
 use Rattle.plan_types.specs.Schemas.{Name, Columns}
 use Rattle.plan_dsl.specs.Trees.{node, no_more}
 use Rattle.plan_dsl.specs.Ops.{ColumnOp, Expression}
 use Rattle.plan_dsl.specs.Plans.{scan_op}
-use Rattle.plan_lower.specs.Outputs.{Lowered, IsLowered}
+use Rattle.plan_dsl.specs.Expansion.{expansions}
+use Rattle.plan_dsl.specs.Samples.{all}
+use Rattle.plan_dsl.specs.Sources.{Source, written}
+use Rattle.plan_infer.specs.Samples.{a, a_items}
+use Rattle.plan_lower.specs.Outputs.{Lowered, IsLowered, HasExpandedOutputs}
 use Rattle.plan_lower.specs.Samples.{node_named}
 use Rattle.plan_lower.proofs.ExamplePlanLemmas.{item_at, scan_denotes, built}
 use Rattle.plan_lower.proofs.examples.plans.nodes_that_stand_for_plans.Goals as goal
@@ -24,22 +28,33 @@ keep_lowered = record { typed = refl; same = record { typing = refl; name = refl
 a_lowered : IsLowered [] (truths (codes "a")) (output (codes "a"))
 a_lowered = record { typed = refl; same = record { typing = refl; name = refl; meaning = λ rows. refl }; strict = refl; casts = refl }
 
+a_expanded : (sources : List Source) → expansions [] (truths (codes "a")) sources ≡ Ok (a ∷ []) → HasExpandedOutputs [] (truths (codes "a")) a_items sources (node_named (codes "a") 0 ∷ []) (truths (codes "a"))
+a_expanded sources expanded = record {
+  trees = a ∷ [];
+  expanded = expanded;
+  lowered = record {
+    outputs = output (codes "a") ∷ [];
+    selects = record { trees_are = refl; each = (a_lowered, tt); distinct = (refl, tt) };
+    denotes = (refl, ([], refl, tt), tt);
+    columns_are = refl;
+  };
+}
+
 pub returns-clause-filter : goal.returns-clause-filter
 returns-clause-filter c = λ plans is. record {
   predicate = node_named (codes "keep") 0;
-  has = record { output = output (codes "keep"); filters = record { tree_is = refl; is = keep_lowered; truth = refl }; denotes = (refl, ([], refl, tt), tt) };
+  has = record {
+    tree = (output (codes "keep")).tree;
+    expanded = refl;
+    lowered = record { output = output (codes "keep"); filters = record { tree_is = refl; is = keep_lowered; truth = refl }; denotes = (refl, ([], refl, tt), tt) };
+  };
   item = item_at plans _ 1 _ is refl;
 }
 
 pub returns-clause-select : goal.returns-clause-select
 returns-clause-select c = λ plans is. record {
   nodes = node_named (codes "a") 0 ∷ [];
-  has = record {
-    outputs = output (codes "a") ∷ [];
-    selects = record { trees_are = refl; each = (a_lowered, tt); distinct = (refl, tt) };
-    denotes = (refl, ([], refl, tt), tt);
-    columns_are = refl;
-  };
+  has = a_expanded (all ∷ []) refl;
   below = 0;
   nothing = λ e. absurd cc;
   something = λ p. refl;
@@ -50,12 +65,7 @@ pub returns-clause-hstack : goal.returns-clause-hstack
 returns-clause-hstack c = λ plans is. record {
   nodes = node_named (codes "a") 0 ∷ [];
   own = truths (codes "a");
-  has = record {
-    outputs = output (codes "a") ∷ [];
-    selects = record { trees_are = refl; each = (a_lowered, tt); distinct = (refl, tt) };
-    denotes = (refl, ([], refl, tt), tt);
-    columns_are = refl;
-  };
+  has = a_expanded (written a ∷ []) refl;
   whole = refl;
   item = item_at plans _ 1 _ is refl;
 }
