@@ -1,10 +1,13 @@
 //! Literals, operators and expressions.
 
 use crate::fixtures::{LENGTHS, NO_MEMORY, assert_alike, assert_text, column, long_name};
-use plan_dsl::expr::Expr;
+use crate::keys::flags;
+use plan_dsl::expr::{Expr, Exprs};
 use plan_dsl::literal::LiteralValue;
+use plan_dsl::marker::RenameAliasFn;
 use plan_dsl::operator::Operator;
-use plan_dsl::sort_options::SortOptions;
+use plan_dsl::selector::Selector;
+use plan_dsl::sort_options::{SortMultipleOptions, SortOptions};
 use plan_types::dtype::TimeUnit::{Microseconds, Milliseconds, Nanoseconds};
 use plan_types::dtype::{CastOptions, DataType};
 use plan_types::text::PlSmallStr;
@@ -87,9 +90,14 @@ pub(crate) enum Kind {
     Condition,
     Sort,
     Alias,
+    Key,
+    Excluded,
+    Selected,
+    Kept,
+    Renamed,
 }
 
-fn boxed(rt: &impl Abort, alloc: Global, expr: Expr) -> Box<Expr> {
+pub(crate) fn boxed(rt: &impl Abort, alloc: Global, expr: Expr) -> Box<Expr> {
     Box::new(alloc, expr).expect(rt, NO_MEMORY)
 }
 
@@ -98,19 +106,55 @@ fn literal(rt: &impl Abort, alloc: Global, value: LiteralValue) -> Box<Expr> {
     boxed(rt, alloc, Expr::Literal(value))
 }
 
+fn plus(left: Box<Expr>, right: Box<Expr>) -> Expr {
+    Expr::BinaryExpr {
+        left,
+        op: Operator::Plus,
+        right,
+    }
+}
+
+fn gathered(expr: Box<Expr>, idx: Box<Expr>) -> Expr {
+    Expr::Gather {
+        expr,
+        idx,
+        returns_scalar: false,
+    }
+}
+
+fn sorted(expr: Box<Expr>) -> Expr {
+    Expr::Sort {
+        expr,
+        options: SortOptions {
+            descending: false,
+            nulls_last: true,
+        },
+    }
+}
+
+// Nothing, sorted by the key.
+fn sorted_by(rt: &impl Abort, alloc: Global, key: Box<Expr>) -> Expr {
+    Expr::SortBy {
+        expr: literal(rt, alloc, LiteralValue::Null),
+        by: Exprs {
+            items: vec![in alloc; Box::into_inner(key)].expect(rt, NO_MEMORY),
+        },
+        sort_options: SortMultipleOptions {
+            descending: flags(rt, alloc, 1),
+            nulls_last: flags(rt, alloc, 1),
+        },
+    }
+}
+
+fn text(rt: &impl Abort, alloc: Global) -> PlSmallStr {
+    PlSmallStr::new(alloc, "x").expect(rt, NO_MEMORY)
+}
+
 // The expression of the kind over the operand.
 fn over(rt: &impl Abort, alloc: Global, kind: Kind, operand: Box<Expr>) -> Expr {
     match kind {
-        Kind::Left => Expr::BinaryExpr {
-            left: operand,
-            op: Operator::Plus,
-            right: literal(rt, alloc, LiteralValue::Int(1)),
-        },
-        Kind::Right => Expr::BinaryExpr {
-            left: literal(rt, alloc, LiteralValue::Int(1)),
-            op: Operator::Plus,
-            right: operand,
-        },
+        Kind::Left => plus(operand, literal(rt, alloc, LiteralValue::Int(1))),
+        Kind::Right => plus(literal(rt, alloc, LiteralValue::Int(1)), operand),
         Kind::Cast => Expr::Cast {
             expr: operand,
             dtype: DataType::Int64,
@@ -122,16 +166,8 @@ fn over(rt: &impl Abort, alloc: Global, kind: Kind, operand: Box<Expr>) -> Expr 
             length: literal(rt, alloc, LiteralValue::Int(1)),
         },
         Kind::Explode => Expr::Explode(operand),
-        Kind::Gather => Expr::Gather {
-            expr: operand,
-            idx: literal(rt, alloc, LiteralValue::Int(0)),
-            returns_scalar: false,
-        },
-        Kind::Index => Expr::Gather {
-            expr: literal(rt, alloc, LiteralValue::Int(1)),
-            idx: operand,
-            returns_scalar: false,
-        },
+        Kind::Gather => gathered(operand, literal(rt, alloc, LiteralValue::Int(0))),
+        Kind::Index => gathered(literal(rt, alloc, LiteralValue::Int(1)), operand),
         Kind::Filter => Expr::Filter {
             input: operand,
             by: literal(rt, alloc, LiteralValue::Boolean(true)),
@@ -140,17 +176,16 @@ fn over(rt: &impl Abort, alloc: Global, kind: Kind, operand: Box<Expr>) -> Expr 
             input: literal(rt, alloc, LiteralValue::Boolean(true)),
             by: operand,
         },
-        Kind::Sort => Expr::Sort {
+        Kind::Sort => sorted(operand),
+        Kind::Alias => Expr::Alias(operand, text(rt, alloc)),
+        Kind::Key => sorted_by(rt, alloc, operand),
+        Kind::Excluded => Expr::Exclude(operand, Vec::new(alloc)),
+        Kind::Selected => Expr::Selector(Selector::Root(operand)),
+        Kind::Kept => Expr::KeepName(operand),
+        Kind::Renamed => Expr::RenameAlias {
+            function: RenameAliasFn::Fixed(text(rt, alloc)),
             expr: operand,
-            options: SortOptions {
-                descending: false,
-                nulls_last: true,
-            },
         },
-        Kind::Alias => {
-            let name = PlSmallStr::new(alloc, "x").expect(rt, NO_MEMORY);
-            Expr::Alias(operand, name)
-        }
     }
 }
 
@@ -169,7 +204,8 @@ pub(crate) fn nested(
     expr
 }
 
-fn assert_copied(rt: &impl Abort, alloc: Global, expr: Expr) {
+/// The expression is copied.
+pub(crate) fn assert_copied(rt: &impl Abort, alloc: Global, expr: Expr) {
     let copy = expr.try_clone(alloc).expect(rt, NO_MEMORY);
     assert_alike(rt, copy, &expr);
     drop(expr);
@@ -206,8 +242,18 @@ fn expressions_of_any_depth_are_copied(rt: HostRuntime) {
         Kind::Condition,
         Kind::Sort,
         Kind::Alias,
+        Kind::Key,
     ] {
         for levels in [0, 1, 2, 299] {
+            assert_nested(&rt, rt.alloc(), *kind, levels);
+        }
+    }
+}
+
+#[test]
+fn markers_and_renaming_forms_of_any_depth_are_copied(rt: HostRuntime) {
+    for kind in &[Kind::Excluded, Kind::Selected, Kind::Kept, Kind::Renamed] {
+        for levels in [0, 1, 2, 100] {
             assert_nested(&rt, rt.alloc(), *kind, levels);
         }
     }

@@ -15,8 +15,8 @@ use plan_types::text::PlSmallStr;
 use std::alloc::Global;
 use std::process::Abort;
 
-// So many flags, of which every other one is set.
-fn flags(rt: &impl Abort, alloc: Global, count: usize) -> Flags {
+/// So many flags, of which every other one is set.
+pub(crate) fn flags(rt: &impl Abort, alloc: Global, count: usize) -> Flags {
     let mut items = Vec::new(alloc);
     for number in 0..count {
         items.push(number % 2 == 0).expect(rt, NO_MEMORY);

@@ -14,6 +14,8 @@ mod casts;
 #[cfg(test)]
 mod conversions;
 #[cfg(test)]
+mod expansion;
+#[cfg(test)]
 mod expressions;
 #[cfg(test)]
 mod fixtures;

@@ -5,6 +5,7 @@ ghost use Rattle.plan_types.specs.Errors.{no_memory};
 ghost use Rattle.plan_dsl.specs.Expressions.{tree_of};
 ghost use Rattle.plan_dsl.specs.Ops.{ColumnOp, BinaryOp};
 ghost use Rattle.plan_dsl.specs.declared.operator.Operator.TheVariants.{Plus};
+ghost use Rattle.plan_dsl.specs.Sources.{written};
 ghost use Rattle.plan_dsl.specs.Trees.{node, no_more, more, tree_depth};
 ghost use Rattle.checks.specs.Sums.{sum_tree};
 
@@ -16,7 +17,7 @@ use std::alloc::Global;
 
 /// The column of that name.
 pub fn column(alloc: Global, name: &str) -> Result<Expr, PlanError>
-    ensures ok { IfOk result (λ expr. tree_of expr ≡ node (ColumnOp (chars name.now)) no_more) }
+    ensures ok { IfOk result (λ expr. tree_of expr ≡ written (node (ColumnOp (chars name.now)) no_more)) }
     ensures err { IfErr result (λ error. error ≡ no_memory) }
 {
     let name = PlSmallStr::new(alloc, name)?;
@@ -25,7 +26,7 @@ pub fn column(alloc: Global, name: &str) -> Result<Expr, PlanError>
 
 /// The column of that name, to which it is added so often.
 pub fn sum_of(alloc: Global, name: &str, additions: usize) -> Result<Expr, PlanError>
-    ensures ok { IfOk result (λ expr. tree_of expr ≡ sum_tree (chars name.now) additions) }
+    ensures ok { IfOk result (λ expr. tree_of expr ≡ written (sum_tree (chars name.now) additions)) }
     ensures err { IfErr result (λ error. error ≡ no_memory) }
 {
     let mut sum = column(alloc, name)?;
