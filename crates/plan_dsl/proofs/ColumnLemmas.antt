@@ -4,7 +4,8 @@ use Rattle.std.specs.Prelude.{ℤ, ◌+ℤ◌}
 use Rattle.std.proofs.lemmas.Bool.{and_parts, and_from}
 use Rattle.plan_types.specs.Types.{Ty, Untyped, same_type}
 use Rattle.plan_types.specs.TypeLaws.{same_type_exact}
-use Rattle.plan_types.specs.Values.{Val, NullValue, IntValue, ListValue, StructValue, fits, all_fit}
+use Rattle.plan_types.specs.Values.{Val, NullValue, IntValue, ListValue, StructValue, fits, all_fit, items_fit}
+use Rattle.plan_types.specs.ValueViews.{values_from}
 use Rattle.plan_types.specs.Outcomes.{Outcome, Done, Meets}
 use Rattle.plan_types.specs.Casts.{Converted, Gives, Fails, cast}
 use Rattle.plan_types.specs.declared.dtype.CastOptions.{CastOptions}
@@ -120,6 +121,15 @@ operator_values_fit operator l r type many left right each h k single =
         single = λ one. single_each f left right count e (single one).0 (single one).1;
       }
     ] refl
+
+-- ---- lists
+
+-- values that fit are those of a list that does
+pub list_of_fitting : (values : List Val) (type : Ty) → IsTrue (all_fit values type) → IsTrue (items_fit (values_from values) type)
+list_of_fitting [] type h = refl
+list_of_fitting (value ∷ values) type h =
+    let parts = and_parts (fits value type) (all_fit values type) h in
+    and_from (fits value type) (items_fit (values_from values) type) parts.0 (list_of_fitting values type parts.1)
 
 -- ---- slices
 

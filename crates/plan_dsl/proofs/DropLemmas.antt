@@ -26,7 +26,7 @@ use Rattle.plan_dsl.proofs.RuleLemmas.{projection_schema}
 
 -- ---- refusals
 
-then_either_told : {A B : Type 0} (r : Result A (List ErrorKind)) (next : A → Result B (List ErrorKind)) (kinds : List ErrorKind) → ((others : List ErrorKind) → r ≡ Err others → (told : ErrorKind) × Contains others told) → ((x : A) → next x ≡ Err kinds → (told : ErrorKind) × Contains kinds told) → then_ok r next ≡ Err kinds → (told : ErrorKind) × Contains kinds told
+pub then_either_told : {A B : Type 0} (r : Result A (List ErrorKind)) (next : A → Result B (List ErrorKind)) (kinds : List ErrorKind) → ((others : List ErrorKind) → r ≡ Err others → (told : ErrorKind) × Contains others told) → ((x : A) → next x ≡ Err kinds → (told : ErrorKind) × Contains kinds told) → then_ok r next ≡ Err kinds → (told : ErrorKind) × Contains kinds told
 then_either_told (Ok x) next kinds first later h = later x h
 then_either_told (Err others) next kinds first later h = let same : others ≡ kinds = cc in subst (λ l. (told : ErrorKind) × Contains l told) same (first others refl)
 

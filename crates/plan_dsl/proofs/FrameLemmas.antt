@@ -16,18 +16,21 @@ use Rattle.plan_types.proofs.ValueLemmas.{meets_then, value_in_fits}
 use Rattle.plan_dsl.specs.Registry.{Registry}
 use Rattle.plan_dsl.specs.Trees.{Trees, node, no_more, more, fold_all}
 use Rattle.plan_dsl.specs.Ops.{Expression}
-use Rattle.plan_dsl.specs.Plans.{Named, PlanKind, ScanKind, SelectKind, HStackKind, FilterKind, SimpleProjectionKind, PlanOp, Plan, Scan, select_op, filter_op, own_scans, scans_in}
+use Rattle.plan_dsl.specs.Plans.{Named, PlanKind, ScanKind, SelectKind, HStackKind, GroupByKind, FilterKind, SimpleProjectionKind, PlanOp, Plan, Scan, select_op, group_by_op, filter_op, own_scans, scans_in}
 use Rattle.plan_dsl.specs.Literals.{settled}
 use Rattle.plan_dsl.specs.Typing.{Typed, typing}
 use Rattle.plan_dsl.specs.Meaning.{meaning}
-use Rattle.plan_dsl.specs.Kernels.{stretched, at_length, in_front}
+use Rattle.plan_dsl.specs.Kernels.{stretched, at_length, for_rows, in_front, key_rows}
 use Rattle.plan_dsl.specs.Picks.{is_true, where_true}
 use Rattle.plan_dsl.specs.PlanKernels.{Series, series_typed, all_series, shared_length, rows_of, series_columns, framed, selected, table_frame, scanned, frame_by, plan_kernel, row_with, rows_with, frame_with_column, stacked, hstacked_on, hstacked, kept_rows, filtered_on, filtered, row_in, projected_on, projected}
-use Rattle.plan_dsl.specs.PlanRules.{broken_kinds, scan_kinds, stands_in, projection_kinds, column_before, columns_of, with_columns, schema_by, plan_rule, schema_of, schemas_of, IsWellFormed, AllWellFormed}
+use Rattle.plan_dsl.specs.Groups.{Group, groups}
+use Rattle.plan_dsl.specs.Grouping.{value_typed, group_value, group_values, group_rows, columns_in_groups, group_frame, grouped_by, grouped_on, grouped}
+use Rattle.plan_dsl.specs.PlanRules.{broken_kinds, scan_kinds, key_kinds, typed_in_groups, type_in_groups, aggregate_columns, columns_beside, stands_in, projection_kinds, column_before, columns_of, with_columns, schema_by, plan_rule, schema_of, schemas_of, IsWellFormed, AllWellFormed}
 use Rattle.plan_dsl.specs.PlanMeaning.{by_meaning, source_meaning, HasTable, HasTables, FitsPlan, MeetsWhere}
 use Rattle.plan_dsl.specs.Laws.{AreOf, MeaningHasSchema, OwnColumnsGiveTheFrame}
 use Rattle.plan_dsl.proofs.FitLemmas.{meaning_has_type}
-use Rattle.plan_dsl.proofs.RuleLemmas.{unbroken_kinds, unbroken_schema, scan_distinct, selected_distinct, projection_stands, projection_distinct, predicate_typed, well_formed_schema}
+use Rattle.plan_dsl.proofs.GroupingLemmas.{groups_have, rows_joined_fit, group_value_fits}
+use Rattle.plan_dsl.proofs.RuleLemmas.{unbroken_kinds, unbroken_schema, scan_distinct, selected_distinct, GroupColumns, group_columns, grouped_distinct, grouped_has_key, projection_stands, projection_distinct, predicate_typed, well_formed_schema}
 
 -- each input has a schema, and gives a frame of it unless there is a fault
 abbrev pub AllMeet : List (Option Columns) → List (Outcome Frame) → Type 0
@@ -330,6 +333,80 @@ projection_meets [] under schema input h none same = without_columns schema same
 projection_meets (c ∷ cs) under schema input h none same =
     subst (λ s. Meets (IsFrameOf s) (projected (c ∷ cs) input)) same (meets_then (IsFrameOf under) (IsFrameOf (c ∷ cs)) input (λ frame. Done (projected_on (c ∷ cs) frame)) h (λ frame k. projected_frame under c cs frame none k))
 
+-- columns of keys make rows that fit, or a length is a fault
+for_rows_fit : (count : ℕ) (values : List Val) (type : Ty) → IsTrue (all_fit values type) → Meets (λ column. IsTrue (all_fit column type)) (for_rows count values)
+for_rows_fit count values type h =
+    elim (length values == count || length values == 1) as (λ b. Meets (λ column. IsTrue (all_fit column type)) (cond b (Done (stretched count values)) Fault)) [ true ↦ all_fit-stretched count values type h | false ↦ tt ]
+
+key_rows_fit : (count : ℕ) (ss : List Series) → AllByRecursion FitsSeries ss → Meets (AllByRecursion (RowFits (series_columns ss))) (key_rows count (map (λ s. s.values) ss))
+key_rows_fit count [] h = bare_rows count
+key_rows_fit count (s ∷ ss) h =
+    let later = key_rows count (map (λ (x : Series). x.values) ss) in
+    let Fit : List Row → Type 0 = AllByRecursion (RowFits (series_columns (s ∷ ss))) in
+    meets_then (λ column. IsTrue (all_fit column s.type)) Fit (for_rows count s.values) (λ column. then_do later (λ rows. Done (in_front column rows))) (for_rows_fit count s.values s.type h.0) (λ column k.
+    meets_then (AllByRecursion (RowFits (series_columns ss))) Fit later (λ rows. Done (in_front column rows)) (key_rows_fit count ss h.1) (λ rows fit. rows_in_front (series_columns ss) s.name s.type column rows k fit))
+
+has_columns : (cs : Columns) (rows : List Row) → ¬ (cs ≡ []) → HasNoRowsWithoutColumns cs rows
+has_columns [] rows some = absurd (some refl)
+has_columns (c ∷ cs) rows some = tt
+
+some_front : (cs ds : Columns) → ¬ (cs ≡ []) → ¬ (cs ++ ds ≡ [])
+some_front [] ds some e = some refl
+some_front (c ∷ cs) ds some e = cc
+
+-- a value of an aggregate's type in groups in front of others
+one_value_meets : (name : Name) (typed : Typed) (rest columns : Columns) (gives : Outcome (List Val)) (later : Outcome Row) → (name, type_in_groups typed) ∷ rest ≡ columns → Meets (AreOf typed) gives → Meets (RowFits rest) later → Meets (RowFits columns) (then_do (value_typed (Ok typed) gives) (λ value. then_do later (λ values. Done (value ∷ values))))
+one_value_meets name typed rest columns gives later e h k =
+    let Fits : Val → Type 0 = λ value. IsTrue (fits value (type_in_groups typed)) in
+    let first = meets_then (AreOf typed) Fits gives (group_value typed.many) h (λ values of. group_value_fits typed values of) in
+    meets_then Fits (RowFits columns) (value_typed (Ok typed) gives) (λ value. then_do later (λ values. Done (value ∷ values))) first (λ value f.
+    meets_then (RowFits rest) (RowFits columns) later (λ values. Done (value ∷ values)) k (λ values g. subst (λ cs. RowFits cs (value ∷ values)) e (f, g)))
+
+module _ (registry : Registry) (frame : Frame) (is_frame : IsFrame frame) where
+  -- aggregates have the same columns in groups by their meaning
+  columns_by_meaning : (aggs : List (Named Expression)) → columns_in_groups (map (by_meaning registry frame) aggs) ≡ aggregate_columns registry frame.schema aggs
+  columns_by_meaning [] = refl
+  columns_by_meaning (o ∷ os) = ap (column_before o.label.name (typed_in_groups (typing registry frame.schema (settled o.expression)))) (columns_by_meaning os)
+
+  -- aggregates that have columns give values of them on a group's rows
+  group_values_meet : (aggs : List (Named Expression)) (columns : Columns) → aggregate_columns registry frame.schema aggs ≡ Some columns → (rows : List ℕ) → Meets (RowFits columns) (group_values (map (by_meaning registry frame) aggs) rows)
+  group_values_meet [] columns h rows = subst (λ cs. RowFits cs []) (some_same [] columns h) tt
+  group_values_meet (o ∷ os) columns h rows =
+      let later = aggregate_columns registry frame.schema os in
+      let gives = meaning registry frame (settled o.expression) rows in
+      let rest = group_values (map (by_meaning registry frame) os) rows in
+      elim (typing registry frame.schema (settled o.expression)) as (λ t. typing registry frame.schema (settled o.expression) ≡ t → column_before o.label.name (typed_in_groups t) later ≡ Some columns → Meets (RowFits columns) (then_do (value_typed t gives) (λ value. then_do rest (λ values. Done (value ∷ values))))) [ Err kind ↦ λ e h. absurd (absurd_none columns h) | Ok typed ↦ λ e h. elim later as (λ l. later ≡ l → column_before o.label.name (typed_in_groups (Ok typed)) l ≡ Some columns → Meets (RowFits columns) (then_do (value_typed (Ok typed) gives) (λ value. then_do rest (λ values. Done (value ∷ values))))) [ None ↦ λ el h. absurd (absurd_none columns h) | Some others ↦ λ el h. one_value_meets o.label.name typed others columns gives rest (some_same _ _ h) (meaning_has_type registry frame is_frame (settled o.expression) typed e rows) (group_values_meet os others el rows) ] refl h ] refl h
+
+  -- and groups of fitting keys make rows that fit
+  group_rows_meet : (aggs : List (Named Expression)) (keys columns : Columns) (found : List (Group ℕ)) → aggregate_columns registry frame.schema aggs ≡ Some columns → AllByRecursion (λ group. RowFits keys group.key) found → Meets (AllByRecursion (RowFits (keys ++ columns))) (group_rows (map (by_meaning registry frame) aggs) found)
+  group_rows_meet aggs keys columns [] e h = tt
+  group_rows_meet aggs keys columns (group ∷ others) e h =
+      let evaluated = map (by_meaning registry frame) aggs in
+      let later = group_rows evaluated others in
+      let Fit : List Row → Type 0 = AllByRecursion (RowFits (keys ++ columns)) in
+      meets_then (RowFits columns) Fit (group_values evaluated group.items) (λ values. then_do later (λ rows. Done ((group.key ++ values) ∷ rows))) (group_values_meet aggs columns e group.items) (λ values k.
+      meets_then Fit Fit later (λ rows. Done ((group.key ++ values) ∷ rows)) (group_rows_meet aggs keys columns others e h.1) (λ rows fit. (rows_joined_fit keys columns group.key values h.0 k, fit)))
+
+  -- so the frame of groups is one of these columns
+  group_frame_meets : (aggs : List (Named Expression)) (keys columns : Columns) (found : List (Group ℕ)) → aggregate_columns registry frame.schema aggs ≡ Some columns → HasDistinctNames (keys ++ columns) → ¬ (keys ≡ []) → AllByRecursion (λ group. RowFits keys group.key) found → Meets (IsFrameOf (keys ++ columns)) (group_frame keys (columns_in_groups (map (by_meaning registry frame) aggs)) (map (by_meaning registry frame) aggs) found)
+  group_frame_meets aggs keys columns found e distinct some h =
+      let evaluated = map (by_meaning registry frame) aggs in
+      let Is : Outcome Frame → Type 0 = Meets (IsFrameOf (keys ++ columns)) in
+      let there = columns_by_meaning aggs ∙ e in
+      subst (λ o. Is (group_frame keys o evaluated found)) (sym there) (
+      meets_then (AllByRecursion (RowFits (keys ++ columns))) (IsFrameOf (keys ++ columns)) (group_rows evaluated found) (λ rows. Done (record { schema = keys ++ columns; rows = rows })) (group_rows_meet aggs keys columns found e h) (λ rows fit. record {
+        schema_is = refl;
+        frame_is = record { distinct = distinct; fitting = fit; bare = has_columns (keys ++ columns) rows (some_front keys columns some) };
+      }))
+
+  -- of the groups that columns of keys make
+  grouped_by_meets : (aggs : List (Named Expression)) (keys columns : Columns) (ss : List Series) → AreSeriesOf keys ss → aggregate_columns registry frame.schema aggs ≡ Some columns → HasDistinctNames (keys ++ columns) → ¬ (keys ≡ []) → Meets (IsFrameOf (keys ++ columns)) (grouped_by ss (map (by_meaning registry frame) aggs) frame)
+  grouped_by_meets aggs keys columns ss h e distinct some =
+      let evaluated = map (by_meaning registry frame) aggs in
+      let rows_of_keys = subst (λ cs. Meets (AllByRecursion (RowFits cs)) (key_rows (length frame.rows) (map (λ s. s.values) ss))) h.columns (key_rows_fit (length frame.rows) ss h.fitting) in
+      let made = meets_then (AllByRecursion (RowFits keys)) (IsFrameOf (keys ++ columns)) (key_rows (length frame.rows) (map (λ s. s.values) ss)) (λ rows. group_frame keys (columns_in_groups evaluated) evaluated (groups rows (row_numbers frame))) rows_of_keys (λ rows fit. group_frame_meets aggs keys columns (groups rows (row_numbers frame)) e distinct some (groups_have (RowFits keys) rows (row_numbers frame) fit)) in
+      subst (λ cs. Meets (IsFrameOf (keys ++ columns)) (then_do (key_rows (length frame.rows) (map (λ s. s.values) ss)) (λ rows. group_frame cs (columns_in_groups evaluated) evaluated (groups rows (row_numbers frame))))) (sym h.columns) made
+
 module _ (registry : Registry) (frame : Frame) (is_frame : IsFrame frame) (rows : List ℕ) where
   -- expressions that have columns give columns of them
   series_meet : (outputs : List (Named Expression)) (schema : Columns) → columns_of registry frame.schema outputs ≡ Some schema → Meets (AreSeriesOf schema) (all_series rows (map (by_meaning registry frame) outputs))
@@ -365,6 +442,25 @@ module _ (registry : Registry) where
       let found = mapped_some (with_columns under) (columns_of registry under outputs) schema is in
       subst (λ s. Meets (IsFrameOf s) (hstacked (by_meaning registry) outputs input)) found.2 (meets_then (IsFrameOf under) (IsFrameOf (with_columns under found.0)) input _ h (λ frame k. stack_meets outputs under found.0 frame k found.1))
 
+  -- a group-by that breaks no rule
+  keys_have_columns : (under : Columns) (keys : List (Named Expression)) (columns : Columns) → key_kinds keys ≡ [] → columns_of registry under keys ≡ Some columns → ¬ (columns ≡ [])
+  keys_have_columns under [] columns none h = absurd cc
+  keys_have_columns under (key ∷ keys) columns none h = has_column key.label.name (typing registry under (settled key.expression)) (columns_of registry under keys) columns h
+
+  groups_meet : (keys aggs : List (Named Expression)) (recorded : Option Columns) (under schema : Columns) (found : GroupColumns registry under keys aggs schema) (frame : Frame) → IsFrameOf under frame → broken_kinds registry (group_by_op keys aggs recorded) (Some under ∷ []) ≡ [] → Meets (IsFrameOf schema) (grouped_on (map (by_meaning registry frame) keys) (map (by_meaning registry frame) aggs) frame)
+  groups_meet keys aggs recorded under schema found frame h none =
+      let some = keys_have_columns under keys found.own (grouped_has_key registry under keys aggs recorded none) found.own_are in
+      let distinct = subst HasDistinctNames (sym found.both) (grouped_distinct registry under keys aggs recorded schema none found) in
+      let first = subst (λ c. columns_of registry c keys ≡ Some found.own) (sym h.schema_is) found.own_are in
+      let later = subst (λ c. aggregate_columns registry c aggs ≡ Some found.others) (sym h.schema_is) found.others_are in
+      let evaluated = map (by_meaning registry frame) aggs in
+      subst (λ s. Meets (IsFrameOf s) (grouped_on (map (by_meaning registry frame) keys) evaluated frame)) found.both (
+      meets_then (AreSeriesOf found.own) (IsFrameOf (found.own ++ found.others)) (all_series (row_numbers frame) (map (by_meaning registry frame) keys)) (λ columns. grouped_by columns evaluated frame) (series_meet registry frame h.frame_is (row_numbers frame) keys found.own first) (λ ss k. grouped_by_meets registry frame h.frame_is aggs found.own found.others ss k later distinct some))
+
+  group_by_meets : (keys aggs : List (Named Expression)) (recorded : Option Columns) (under schema : Columns) (input : Outcome Frame) → Meets (IsFrameOf under) input → broken_kinds registry (group_by_op keys aggs recorded) (Some under ∷ []) ≡ [] → columns_beside (columns_of registry under keys) (aggregate_columns registry under aggs) ≡ Some schema → Meets (IsFrameOf schema) (grouped (by_meaning registry) keys aggs input)
+  group_by_meets keys aggs recorded under schema input h none is =
+      meets_then (IsFrameOf under) (IsFrameOf schema) input _ h (λ frame k. groups_meet keys aggs recorded under schema (group_columns registry under keys aggs schema is) frame k none)
+
   -- a filter by a predicate that breaks no rule
   predicate_meets : (predicate : Named Expression) (schema : Columns) (frame : Frame) → IsFrameOf schema frame → broken_kinds registry (filter_op predicate) (Some schema ∷ []) ≡ [] → Meets (IsFrameOf schema) (filtered_on (by_meaning registry frame predicate) frame)
   predicate_meets predicate schema frame h none =
@@ -390,6 +486,9 @@ module _ (registry : Registry) where
   node_meets (HStackKind outputs) tables recorded (Some under ∷ []) outcomes schema fits none is k =
       let only = only_outcome (Some under) outcomes k in
       subst (λ os. Meets (IsFrameOf schema) (frame_by (HStackKind outputs) tables (by_meaning registry) os)) (sym only.1) (hstack_meets outputs under schema only.0 only.2 is)
+  node_meets (GroupByKind keys aggs) tables recorded (Some under ∷ []) outcomes schema fits none is k =
+      let only = only_outcome (Some under) outcomes k in
+      subst (λ os. Meets (IsFrameOf schema) (frame_by (GroupByKind keys aggs) tables (by_meaning registry) os)) (sym only.1) (group_by_meets keys aggs recorded under schema only.0 only.2 none is)
   node_meets (FilterKind predicate) tables recorded (Some under ∷ []) outcomes schema fits none is k =
       let only = only_outcome (Some under) outcomes k in
       subst (λ os. Meets (IsFrameOf schema) (frame_by (FilterKind predicate) tables (by_meaning registry) os)) (sym only.1) (filter_meets predicate under schema only.0 only.2 none (some_same _ _ is))

@@ -6,6 +6,7 @@ use Rattle.plan_types.specs.Frames.{Row, Frame, IsFrameOf, row_numbers}
 use Rattle.plan_dsl.specs.Ops.{Expression}
 use Rattle.plan_dsl.specs.Plans.{Named}
 use Rattle.plan_dsl.specs.PlanKernels.{Evaluation, selected, selected_on, hstacked, hstacked_on, filtered, filtered_on}
+use Rattle.plan_dsl.specs.Grouping.{grouped, grouped_on}
 
 -- two evaluations say the same of expressions side by side, on every frame of the columns
 abbrev pub AgreeOn : Columns → Evaluation → Evaluation → List (Named Expression) → List (Named Expression) → Type 0
@@ -33,6 +34,15 @@ pub hstacked_agrees : (e f : Evaluation) (xs ys : List (Named Expression)) (sche
 hstacked_agrees e f xs ys schema (Done frame) agree meets = ap (λ es. hstacked_on es frame) (on_frame e f xs ys schema frame meets.schema_is agree)
 hstacked_agrees e f xs ys schema Fault agree meets = refl
 hstacked_agrees e f xs ys schema Stuck agree meets = refl
+
+-- a group-by, where they say the same of keys and of aggregates
+pub grouped_agrees : (e f : Evaluation) (xs ys us vs : List (Named Expression)) (schema : Columns) (input : Outcome Frame) → AgreeOn schema e f xs ys → AgreeOn schema e f us vs → Meets (IsFrameOf schema) input → grouped e xs us input ≡ grouped f ys vs input
+grouped_agrees e f xs ys us vs schema (Done frame) keys aggs meets =
+    let first = on_frame e f xs ys schema frame meets.schema_is keys in
+    let later = on_frame e f us vs schema frame meets.schema_is aggs in
+    λ i. grouped_on (first i) (later i) frame
+grouped_agrees e f xs ys us vs schema Fault keys aggs meets = refl
+grouped_agrees e f xs ys us vs schema Stuck keys aggs meets = refl
 
 -- and so does a filter
 pub filtered_agrees : (e f : Evaluation) (x y : Named Expression) (schema : Columns) (input : Outcome Frame) → AgreeOn schema e f (x ∷ []) (y ∷ []) → Meets (IsFrameOf schema) input → filtered e x input ≡ filtered f y input

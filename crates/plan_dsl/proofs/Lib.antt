@@ -1,3 +1,4 @@
+pub mod AggregateLemmas
 pub mod AliasLemmas
 pub mod ArithmeticLemmas
 pub mod BitLemmas
@@ -10,6 +11,9 @@ pub mod ExpansionLemmas
 pub mod ExprLemmas
 pub mod FitLemmas
 pub mod FrameLemmas
+pub mod GroupLemmas
+pub mod GroupingLemmas
+pub mod GivenLemmas
 pub mod KernelLemmas
 pub mod KindLemmas
 pub mod LiteralLemmas
@@ -31,3 +35,4 @@ pub mod SwappedNodeLemmas
 pub mod TakingLemmas
 pub mod TimeLemmas
 pub mod TypingLemmas
+pub mod WindowLemmas

@@ -1,6 +1,6 @@
 -- What the rule of each op keeps: operands can become of the types to which they are taken, what was taken stays, the own
--- type is one of columns or a number's, and over fitting columns the kernel gives values of the own type. All else that
--- is said of ops follows.
+-- type is one of columns or a number's, and over operands of the types to which they are taken the node means its own type.
+-- All else that is said of ops follows.
 use Rattle.std.proofs.Common.{◌≡◌, ℕ, length, true, false, ◌||◌, cond, List, [], ◌∷◌, Option, Some, None, is_some, Ok, Err, refl, sym, ap, ◌∙◌, subst}
 use Rattle.std.specs.Prelude.{ℤ}
 use Rattle.std.proofs.lemmas.Bool.{and_parts, and_from, or_parts}
@@ -16,19 +16,24 @@ use Rattle.plan_types.specs.declared.dtype.CastOptions.{CastOptions}
 use Rattle.plan_types.proofs.CommonLemmas.{alone_known, alone_itself, alone_same}
 use Rattle.plan_types.proofs.ValueLemmas.{int_eq_exact, cast_fits, column_fits}
 use Rattle.plan_dsl.specs.declared.operator.Operator.{Operator}
+use Rattle.plan_dsl.specs.declared.sort_options.SortOptions.{SortOptions}
 use Rattle.plan_dsl.specs.Registry.{Registry}
-use Rattle.plan_dsl.specs.Ops.{Op, ColumnOp, LiteralOp, BinaryOp, CastOp, LenOp, SliceOp, AliasOp, ExplodeOp, GatherOp, FilterOp, SortOp, SortByOp}
+use Rattle.plan_dsl.specs.Ops.{Op, ColumnOp, LiteralOp, BinaryOp, CastOp, LenOp, SliceOp, AliasOp, ExplodeOp, GatherOp, FilterOp, SortOp, SortByOp, AggOp, WindowOp}
 use Rattle.plan_dsl.specs.Literals.{is_literal, is_literal_of}
-use Rattle.plan_dsl.specs.OperatorTypes.{Taken, operator_types}
+use Rattle.plan_dsl.specs.OperatorTypes.{Taken, operator_types, pair_to}
 use Rattle.plan_dsl.specs.Signatures.{signature}
 use Rattle.plan_dsl.specs.Typing.{Typed, Ruling, aliased, column_type, literal_taken, cast_taken, own_over, types_of, typed_to, ruled_as, rule, signed}
-use Rattle.plan_dsl.specs.Kernels.{kernel}
+use Rattle.plan_dsl.specs.Kernels.{Meaning, kernel}
+use Rattle.plan_dsl.specs.Meaning.{applied}
 use Rattle.plan_dsl.specs.Laws.{AreOf}
 use Rattle.plan_dsl.proofs.TypingLemmas.{ok_same, ok_where, ruling_of, ruled_is}
-use Rattle.plan_dsl.proofs.ColumnLemmas.{AreAllOf, on_columns, cast_column_fits, operator_values_fit, literal_fits}
+use Rattle.plan_dsl.proofs.ColumnLemmas.{on_columns, cast_column_fits, operator_values_fit, literal_fits}
+use Rattle.plan_dsl.proofs.GivenLemmas.{AllMean, GoesByColumns, MeansType, by_columns}
 use Rattle.plan_dsl.proofs.OperatorLemmas.{TakesOperands, operands_taken, pair_becomes, pair_stays}
 use Rattle.plan_dsl.proofs.SignatureLemmas.{AllBecome, makes, passes, KernelGives, OnAsked, OnSigned, alone_becomes, is_signed, target_known}
+use Rattle.plan_dsl.proofs.AggregateLemmas.{aggregate_gives}
 use Rattle.plan_dsl.proofs.KindLemmas.{len_gives, slice_gives, explode_gives, gather_gives, filter_gives, sort_gives, sort_by_gives}
+use Rattle.plan_dsl.proofs.WindowLemmas.{window_gives}
 
 -- a node of a number's own type is that number, as a literal
 pub record IsNumberOp (number : ℤ) (op : Op) (typed : List Typed) (own : Typed) : Type 0 where
@@ -54,7 +59,7 @@ pub record KeepsRule (registry : Registry) (schema : Columns) (op : Op) (typed :
   pub becomes : AllBecome ruling.own.type (types_of typed) ruling.operands
   pub stays : rule registry schema op (typed_to typed ruling.operands) ≡ Ok ruling
   pub own : HasOwnType op typed ruling.own
-  pub gives : (frame : Frame) → frame.schema ≡ schema → IsFrame frame → (rows : List ℕ) (columns : List (List Val)) → AreAllOf (typed_to typed ruling.operands) columns → Meets (AreOf ruling.own) (kernel registry frame rows op ruling.operands ruling.own.type columns)
+  pub gives : (frame : Frame) → frame.schema ≡ schema → IsFrame frame → (operands : List Meaning) → AllMean (typed_to typed ruling.operands) operands → MeansType ruling.own (applied registry frame op ruling operands)
 
 -- ---- columns
 
@@ -66,7 +71,7 @@ column_keeps registry schema name (Some type) taken at h =
       becomes = tt;
       stays = ap (λ found. ruled_as (column_type found) true) at ∙ ap (λ b. ruled_as (cond b (Ok (record { operands = []; type = type })) (Err InvalidOperation)) true) p.0;
       own = of_columns p.0;
-      gives = λ frame same of rows. on_columns [] (λ columns. Meets (AreOf (record { type = type; many = true })) (kernel registry frame rows (ColumnOp name) [] type columns)) (record { fitting = column_fits frame name type of (ap (λ s. type_at s name) same ∙ at) rows; single = λ one. cc });
+      gives = λ frame same of. by_columns registry frame (ColumnOp name) (λ registry frame ruling operands rows. refl) [] (ruling_of (record { operands = []; type = type }) true) (λ rows. on_columns [] (λ columns. Meets (AreOf (record { type = type; many = true })) (kernel registry frame rows (ColumnOp name) [] type columns)) (record { fitting = column_fits frame name type of (ap (λ s. type_at s name) same ∙ at) rows; single = λ one. cc }));
     })
 
 -- ---- literals
@@ -98,7 +103,7 @@ literal_keeps registry schema type value taken h =
       becomes = tt;
       stays = ap (λ b. ruled_as (cond b (Ok (record { operands = []; type = type })) (Err InvalidOperation)) false) p.0;
       own = literal_own type value p.0;
-      gives = λ frame same of rows. on_columns [] (λ columns. Meets (AreOf (record { type = type; many = false })) (kernel registry frame rows (LiteralOp type value) [] type columns)) (record { fitting = and_from _ true fit refl; single = λ one. refl });
+      gives = λ frame same of. by_columns registry frame (LiteralOp type value) (λ registry frame ruling operands rows. refl) [] (ruling_of (record { operands = []; type = type }) false) (λ rows. on_columns [] (λ columns. Meets (AreOf (record { type = type; many = false })) (kernel registry frame rows (LiteralOp type value) [] type columns)) (record { fitting = and_from _ true fit refl; single = λ one. refl }));
     })
 
 -- ---- operators
@@ -112,8 +117,8 @@ binary_keeps registry schema operator left right taken t =
       becomes = (makes can.0, (makes can.1, tt));
       stays = ap (λ found. ruled_as found many) (pair_stays operator t.left_own t.right_own taken pair);
       own = of_columns pair.known;
-      gives = λ frame same of rows. on_columns (record { type = pair.left; many = left.many } ∷ record { type = pair.right; many = right.many } ∷ []) (λ columns. Meets (AreOf (record { type = pair.type; many = many })) (kernel registry frame rows (BinaryOp operator) (pair.left ∷ pair.right ∷ []) pair.type columns)) (λ ls l rs r.
-          operator_values_fit operator pair.left pair.right pair.type many ls rs pair.fitting l.fitting r.fitting (λ one. let parts = or_parts left.many (right.many || false) one in (l.single parts.0, r.single (or_parts right.many false parts.1).0)));
+      gives = λ frame same of. by_columns registry frame (BinaryOp operator) (λ registry frame ruling operands rows. refl) (record { type = pair.left; many = left.many } ∷ record { type = pair.right; many = right.many } ∷ []) (ruling_of (pair_to pair.left pair.right pair.type) many) (λ rows. on_columns (record { type = pair.left; many = left.many } ∷ record { type = pair.right; many = right.many } ∷ []) (λ columns. Meets (AreOf (record { type = pair.type; many = many })) (kernel registry frame rows (BinaryOp operator) (pair.left ∷ pair.right ∷ []) pair.type columns)) (λ ls l rs r.
+          operator_values_fit operator pair.left pair.right pair.type many ls rs pair.fitting l.fitting r.fitting (λ one. let parts = or_parts left.many (right.many || false) one in (l.single parts.0, r.single (or_parts right.many false parts.1).0))));
     })
 
 -- ---- casts
@@ -126,8 +131,8 @@ cast_keeps registry schema target options from (Some own) taken alone h =
       becomes = (makes (alone_becomes from.type own alone), tt);
       stays = ap (λ found. ruled_as (cast_taken target found) from.many) (alone_itself own (alone_known from.type own alone)) ∙ ap (λ b. ruled_as (cond b (Ok (record { operands = own ∷ []; type = target })) (Err InvalidOperation)) from.many) p.0;
       own = of_columns (target_known own target p.0);
-      gives = λ frame same of rows. on_columns (record { type = own; many = from.many } ∷ []) (λ columns. Meets (AreOf (record { type = target; many = from.many })) (kernel registry frame rows (CastOp target options) (own ∷ []) target columns)) (λ column fit.
-          cast_column_fits own target options from.many column (λ value fit. cast_fits value own target options fit p.0) fit);
+      gives = λ frame same of. by_columns registry frame (CastOp target options) (λ registry frame ruling operands rows. refl) (record { type = own; many = from.many } ∷ []) (ruling_of (record { operands = own ∷ []; type = target }) from.many) (λ rows. on_columns (record { type = own; many = from.many } ∷ []) (λ columns. Meets (AreOf (record { type = target; many = from.many })) (kernel registry frame rows (CastOp target options) (own ∷ []) target columns)) (λ column fit.
+          cast_column_fits own target options from.many column (λ value fit. cast_fits value own target options fit p.0) fit));
     })
 
 -- ---- aliases
@@ -137,13 +142,13 @@ alias_keeps registry schema name input = record {
   becomes = (passes refl refl, tt);
   stays = refl;
   own = of_operand (record { name = name; op_is = refl; over = refl });
-  gives = λ frame same of rows. on_columns (input ∷ []) (λ columns. Meets (AreOf input) (kernel registry frame rows (AliasOp name) (input.type ∷ []) input.type columns)) (λ column fit. fit);
+  gives = λ frame same of. by_columns registry frame (AliasOp name) (λ registry frame ruling operands rows. refl) (input ∷ []) (aliased input) (λ rows. on_columns (input ∷ []) (λ columns. Meets (AreOf input) (kernel registry frame rows (AliasOp name) (input.type ∷ []) input.type columns)) (λ column fit. fit));
 }
 
 -- ---- ops that go by a signature
 
-signed_keeps : (registry : Registry) (schema : Columns) (op : Op) → KernelGives op → ((typed : List Typed) → rule registry schema op typed ≡ signed (signature op (length typed)) typed) → (typed : List Typed) (ruling : Ruling) → rule registry schema op typed ≡ Ok ruling → KeepsRule registry schema op typed ruling
-signed_keeps registry schema op gives is typed ruling h =
+signed_keeps : (registry : Registry) (schema : Columns) (op : Op) → KernelGives op → GoesByColumns op → ((typed : List Typed) → rule registry schema op typed ≡ signed (signature op (length typed)) typed) → (typed : List Typed) (ruling : Ruling) → rule registry schema op typed ≡ Ok ruling → KeepsRule registry schema op typed ruling
+signed_keeps registry schema op gives goes is typed ruling h =
     let s = is_signed (signature op (length typed)) typed ruling (sym (is typed) ∙ h) in
     let own = typed_to typed ruling.operands in
     let same = ap (signature op) s.as_many in
@@ -151,12 +156,29 @@ signed_keeps registry schema op gives is typed ruling h =
       becomes = s.becomes;
       stays = is own ∙ ap (λ found. signed found own) same ∙ s.stays;
       own = of_columns s.known;
-      gives = λ frame at of rows.
+      gives = λ frame at of. by_columns registry frame op goes own ruling (λ rows.
           let each = subst (λ found. OnSigned found (λ signature. OnAsked signature 0 own (λ columns. Meets (AreOf (own_over signature own)) (kernel registry frame rows op (types_of own) (own_over signature own).type columns)))) (same ∙ s.found_is) (gives registry frame rows own) in
           let here = subst (λ (typing : Typed). OnAsked s.signature 0 own (λ columns. Meets (AreOf typing) (kernel registry frame rows op (types_of own) typing.type columns))) s.own each in
           let there = subst (λ types. OnAsked s.signature 0 own (λ columns. Meets (AreOf ruling.own) (kernel registry frame rows op types ruling.own.type columns))) s.types here in
           let P : List (List Val) → Type 0 = λ columns. Meets (AreOf ruling.own) (kernel registry frame rows op ruling.operands ruling.own.type columns) in
-          on_columns own P (s.on P there);
+          on_columns own P (s.on P there));
+    }
+
+-- ---- windows
+
+window_keeps : (registry : Registry) (schema : Columns) (order : Option SortOptions) (typed : List Typed) (ruling : Ruling) → rule registry schema (WindowOp order) typed ≡ Ok ruling → KeepsRule registry schema (WindowOp order) typed ruling
+window_keeps registry schema order typed ruling h =
+    let s = is_signed (signature (WindowOp order) (length typed)) typed ruling h in
+    let own = typed_to typed ruling.operands in
+    let same = ap (signature (WindowOp order)) s.as_many in
+    record {
+      becomes = s.becomes;
+      stays = ap (λ found. signed found own) same ∙ s.stays;
+      own = of_columns s.known;
+      gives = λ frame at of operands all.
+          let here = applied registry frame (WindowOp order) ruling operands in
+          let each = subst (λ found. OnSigned found (λ signature. AllMean own operands → MeansType (own_over signature own) here)) (same ∙ s.found_is) (window_gives order registry frame ruling own operands) in
+          subst (λ typing. MeansType typing here) s.own (each all);
     }
 
 -- ---- by op
@@ -172,11 +194,13 @@ keeps_rule registry schema (CastOp target options) (from ∷ []) ruling h =
     ruled_is (KeepsRule registry schema (CastOp target options) (from ∷ [])) (cast_taken target (type_alone from.type)) from.many ruling h (λ taken found. cast_keeps registry schema target options from (type_alone from.type) taken refl found)
 keeps_rule registry schema (AliasOp name) (input ∷ []) ruling h =
     subst (KeepsRule registry schema (AliasOp name) (input ∷ [])) (ok_same (rule registry schema (AliasOp name) (input ∷ [])) (aliased input) ruling refl h) (alias_keeps registry schema name input)
-keeps_rule registry schema LenOp typed ruling h = signed_keeps registry schema LenOp len_gives (λ typed. refl) typed ruling h
-keeps_rule registry schema SliceOp typed ruling h = signed_keeps registry schema SliceOp slice_gives (λ typed. refl) typed ruling h
-keeps_rule registry schema ExplodeOp typed ruling h = signed_keeps registry schema ExplodeOp explode_gives (λ typed. refl) typed ruling h
-keeps_rule registry schema (GatherOp returns_scalar) typed ruling h = signed_keeps registry schema (GatherOp returns_scalar) (gather_gives returns_scalar) (λ typed. refl) typed ruling h
-keeps_rule registry schema FilterOp typed ruling h = signed_keeps registry schema FilterOp filter_gives (λ typed. refl) typed ruling h
-keeps_rule registry schema (SortOp options) typed ruling h = signed_keeps registry schema (SortOp options) (sort_gives options) (λ typed. refl) typed ruling h
-keeps_rule registry schema (SortByOp descending nulls_last) typed ruling h = signed_keeps registry schema (SortByOp descending nulls_last) (sort_by_gives descending nulls_last) (λ typed. refl) typed ruling h
+keeps_rule registry schema (AggOp method) typed ruling h = signed_keeps registry schema (AggOp method) (aggregate_gives method) (λ registry frame ruling operands rows. refl) (λ typed. refl) typed ruling h
+keeps_rule registry schema (WindowOp order) typed ruling h = window_keeps registry schema order typed ruling h
+keeps_rule registry schema LenOp typed ruling h = signed_keeps registry schema LenOp len_gives (λ registry frame ruling operands rows. refl) (λ typed. refl) typed ruling h
+keeps_rule registry schema SliceOp typed ruling h = signed_keeps registry schema SliceOp slice_gives (λ registry frame ruling operands rows. refl) (λ typed. refl) typed ruling h
+keeps_rule registry schema ExplodeOp typed ruling h = signed_keeps registry schema ExplodeOp explode_gives (λ registry frame ruling operands rows. refl) (λ typed. refl) typed ruling h
+keeps_rule registry schema (GatherOp returns_scalar) typed ruling h = signed_keeps registry schema (GatherOp returns_scalar) (gather_gives returns_scalar) (λ registry frame ruling operands rows. refl) (λ typed. refl) typed ruling h
+keeps_rule registry schema FilterOp typed ruling h = signed_keeps registry schema FilterOp filter_gives (λ registry frame ruling operands rows. refl) (λ typed. refl) typed ruling h
+keeps_rule registry schema (SortOp options) typed ruling h = signed_keeps registry schema (SortOp options) (sort_gives options) (λ registry frame ruling operands rows. refl) (λ typed. refl) typed ruling h
+keeps_rule registry schema (SortByOp descending nulls_last) typed ruling h = signed_keeps registry schema (SortByOp descending nulls_last) (sort_by_gives descending nulls_last) (λ registry frame ruling operands rows. refl) (λ typed. refl) typed ruling h
 keeps_rule _ _ _ _ _ h = cc

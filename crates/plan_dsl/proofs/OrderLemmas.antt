@@ -340,7 +340,7 @@ key_rows_fit count (type ∷ types) (key ∷ keys) h =
     meets_then (λ column. all_fit column type ≡ true) Fit (for_rows count key) (λ column. then_do (key_rows count keys) (λ rows. Done (in_front column rows))) (column_fits count type key parts.0) (λ column fit.
     meets_then (λ rows. list_all (keys_fit types) rows ≡ true) Fit (key_rows count keys) (λ rows. Done (in_front column rows)) (key_rows_fit count types keys parts.1) (λ rows each. keys_in_front type types column rows fit each))
 
-done_parts : {A B : Type 0} (first : Outcome A) (next : A → Outcome B) (found : B) → then_do first next ≡ Done found → (x : A) × (first ≡ Done x) × (next x ≡ Done found)
+pub done_parts : {A B : Type 0} (first : Outcome A) (next : A → Outcome B) (found : B) → then_do first next ≡ Done found → (x : A) × (first ≡ Done x) × (next x ≡ Done found)
 done_parts (Done x) next found h = (x, refl, h)
 done_parts Fault next found h = cc
 done_parts Stuck next found h = cc

@@ -6,18 +6,18 @@ use Rattle.plan_types.specs.declared.error.ErrorKind.{ErrorKind}
 use Rattle.plan_dsl.specs.Registry.{Registry}
 use Rattle.plan_dsl.specs.Trees.{Trees, node, no_more, more, fold_all, child_at, child_of, tree_at}
 use Rattle.plan_dsl.specs.Ops.{Expression}
-use Rattle.plan_dsl.specs.Plans.{PlanKind, ScanKind, SelectKind, HStackKind, FilterKind, SimpleProjectionKind, DropKind, RefusedKind, PlanOp, Named, named, select_op, hstack_op, filter_op, simple_projection_op, drop_op, source_select, source_hstack, source_filter, source_drop, SourcePlan, own_scans, scans_in}
-use Rattle.plan_dsl.specs.Sources.{Source}
+use Rattle.plan_dsl.specs.Plans.{PlanKind, ScanKind, SelectKind, HStackKind, GroupByKind, FilterKind, SimpleProjectionKind, DropKind, RefusedKind, PlanOp, Named, named, select_op, hstack_op, group_by_op, filter_op, simple_projection_op, drop_op, source_select, source_hstack, source_group_by, source_filter, source_drop, SourcePlan, own_scans, scans_in}
+use Rattle.plan_dsl.specs.Sources.{Source, written}
 use Rattle.plan_dsl.specs.Refusals.{then_ok, with_kinds}
-use Rattle.plan_dsl.specs.Expansion.{expansions, predicate_expansion}
+use Rattle.plan_dsl.specs.Expansion.{expansions, key_names, predicate_expansion}
 use Rattle.plan_dsl.specs.Drops.{drop_leaves}
 use Rattle.plan_dsl.specs.PlanRules.{broken_kinds, where_unbroken, plan_rule, schema_of, schemas_of, IsWellFormed, AllWellFormed}
 use Rattle.plan_dsl.specs.PlanMeaning.{HasTables}
-use Rattle.plan_dsl.specs.Resolving.{expanded_kind, first_columns, resolution, resolved_kind, resolved_op, resolved, all_resolved}
+use Rattle.plan_dsl.specs.Resolving.{over_keys, expanded_kind, first_columns, resolution, resolved_kind, resolved_op, resolved, all_resolved}
 use Rattle.plan_dsl.specs.Laws.{UnresolvedIsTold, PlacesStay, ResolvedBreaksNothing, NothingIsToldAboveARefusal, ScansStay, QueryHasSchema}
 use Rattle.plan_dsl.proofs.RuleLemmas.{unbroken_kinds}
 use Rattle.plan_dsl.proofs.FrameLemmas.{meaning_has_schema}
-use Rattle.plan_dsl.proofs.DropLemmas.{drop_is_told}
+use Rattle.plan_dsl.proofs.DropLemmas.{drop_is_told, then_either_told}
 use Rattle.plan_dsl.proofs.ExpansionLemmas.{unexpanded_told, with_kinds_told}
 
 -- a kind scans what it did
@@ -25,11 +25,17 @@ then_scans : {A K : Type 0} (r : Result A K) (change : A → PlanKind (Named Exp
 then_scans (Ok x) change found none h = let same : found ≡ change x = cc in ap own_scans same ∙ none x
 then_scans (Err kinds) change found none h = absurd cc
 
+then_next_scans : {A K : Type 0} (r : Result A K) (next : A → Result (PlanKind (Named Expression)) K) (found : PlanKind (Named Expression)) → ((x : A) → next x ≡ Ok found → own_scans found ≡ []) → then_ok r next ≡ Ok found → own_scans found ≡ []
+then_next_scans (Ok x) next found none h = none x h
+then_next_scans (Err kinds) next found none h = absurd cc
+
 scans_expanded : (schema : Columns) (kind : PlanKind Source) (found : PlanKind (Named Expression)) → expanded_kind schema kind ≡ Ok found → own_scans found ≡ own_scans kind
 scans_expanded schema (ScanKind (Some number) own) found h = let same : found ≡ ScanKind (Some number) own = cc in ap own_scans same
 scans_expanded schema (ScanKind None own) found h = let same : found ≡ ScanKind None own = cc in ap own_scans same
 scans_expanded schema (SelectKind sources) found h = then_scans (expansions [] schema sources) (λ trees. SelectKind (map named trees)) found (λ trees. refl) h
 scans_expanded schema (HStackKind sources) found h = then_scans (expansions [] schema sources) (λ trees. HStackKind (map named trees)) found (λ trees. refl) h
+scans_expanded schema (GroupByKind keys aggs) found h =
+    then_next_scans (expansions [] schema keys) (over_keys schema aggs) found (λ trees e. then_scans (expansions (key_names (map written trees)) schema aggs) (λ others. GroupByKind (map named trees) (map named others)) found (λ others. refl) e) h
 scans_expanded schema (FilterKind source) found h = then_scans (with_kinds (predicate_expansion schema source)) (λ tree. FilterKind (named tree)) found (λ tree. refl) h
 scans_expanded schema (SimpleProjectionKind columns) found h = let same : found ≡ SimpleProjectionKind columns = cc in ap own_scans same
 scans_expanded schema (DropKind selectors strict) found h = then_scans (drop_leaves schema selectors strict) SimpleProjectionKind found (λ columns. refl) h
@@ -71,7 +77,7 @@ module _ (registry : Registry) where
   resolved_as op input schema found there is =
       resolved_over op input schema there ∙ ap (λ r. node (op_of r op.recorded) (more (resolved registry input) no_more)) is
 
-  -- a select, an hstack, a filter and a drop over it
+  -- a select, an hstack, a group-by, a filter and a drop over it
   pub select_resolved : (sources : List Source) (trees : List Expression) (input : SourcePlan) (schema : Columns) → schema_of registry (resolved registry input) ≡ Some schema → expansions [] schema sources ≡ Ok trees → resolved registry (source_select sources input) ≡ node (select_op (map named trees) None) (more (resolved registry input) no_more)
   select_resolved sources trees input schema there is =
       resolved_as (select_op sources None) input schema (Ok (SelectKind (map named trees))) there (ap (λ r. then_ok r (λ outputs. Ok (SelectKind (map named outputs)))) is)
@@ -79,6 +85,10 @@ module _ (registry : Registry) where
   pub hstack_resolved : (sources : List Source) (trees : List Expression) (input : SourcePlan) (schema : Columns) → schema_of registry (resolved registry input) ≡ Some schema → expansions [] schema sources ≡ Ok trees → resolved registry (source_hstack sources input) ≡ node (hstack_op (map named trees) None) (more (resolved registry input) no_more)
   hstack_resolved sources trees input schema there is =
       resolved_as (hstack_op sources None) input schema (Ok (HStackKind (map named trees))) there (ap (λ r. then_ok r (λ outputs. Ok (HStackKind (map named outputs)))) is)
+
+  pub group_resolved : (keys aggs : List Source) (trees others : List Expression) (input : SourcePlan) (schema : Columns) → schema_of registry (resolved registry input) ≡ Some schema → expansions [] schema keys ≡ Ok trees → expansions (key_names (map written trees)) schema aggs ≡ Ok others → resolved registry (source_group_by keys aggs input) ≡ node (group_by_op (map named trees) (map named others) None) (more (resolved registry input) no_more)
+  group_resolved keys aggs trees others input schema there is behind =
+      resolved_as (group_by_op keys aggs None) input schema (Ok (GroupByKind (map named trees) (map named others))) there (ap (λ r. then_ok r (over_keys schema aggs)) is ∙ ap (λ r. then_ok r (λ found. Ok (GroupByKind (map named trees) (map named found)))) behind)
 
   pub filter_resolved : (source : Source) (tree : Expression) (input : SourcePlan) (schema : Columns) → schema_of registry (resolved registry input) ≡ Some schema → predicate_expansion schema source ≡ Ok tree → resolved registry (source_filter source input) ≡ node (filter_op (named tree)) (more (resolved registry input) no_more)
   filter_resolved source tree input schema there is =
@@ -96,6 +106,14 @@ module _ (registry : Registry) where
   pub hstack_unresolved : (sources : List Source) (input : SourcePlan) (schema : Columns) (kinds : List ErrorKind) → schema_of registry (resolved registry input) ≡ Some schema → expansions [] schema sources ≡ Err kinds → resolved registry (source_hstack sources input) ≡ node (op_of (Err kinds) None) (more (resolved registry input) no_more)
   hstack_unresolved sources input schema kinds there is =
       resolved_as (hstack_op sources None) input schema (Err kinds) there (ap (λ r. then_ok r (λ outputs. Ok (HStackKind (map named outputs)))) is)
+
+  pub keys_unresolved : (keys aggs : List Source) (input : SourcePlan) (schema : Columns) (kinds : List ErrorKind) → schema_of registry (resolved registry input) ≡ Some schema → expansions [] schema keys ≡ Err kinds → resolved registry (source_group_by keys aggs input) ≡ node (op_of (Err kinds) None) (more (resolved registry input) no_more)
+  keys_unresolved keys aggs input schema kinds there is =
+      resolved_as (group_by_op keys aggs None) input schema (Err kinds) there (ap (λ r. then_ok r (over_keys schema aggs)) is)
+
+  pub aggregates_unresolved : (keys aggs : List Source) (trees : List Expression) (input : SourcePlan) (schema : Columns) (kinds : List ErrorKind) → schema_of registry (resolved registry input) ≡ Some schema → expansions [] schema keys ≡ Ok trees → expansions (key_names (map written trees)) schema aggs ≡ Err kinds → resolved registry (source_group_by keys aggs input) ≡ node (op_of (Err kinds) None) (more (resolved registry input) no_more)
+  aggregates_unresolved keys aggs trees input schema kinds there is behind =
+      resolved_as (group_by_op keys aggs None) input schema (Err kinds) there (ap (λ r. then_ok r (over_keys schema aggs)) is ∙ ap (λ r. then_ok r (λ found. Ok (GroupByKind (map named trees) (map named found)))) behind)
 
   pub filter_unresolved : (source : Source) (input : SourcePlan) (schema : Columns) (kind : ErrorKind) → schema_of registry (resolved registry input) ≡ Some schema → predicate_expansion schema source ≡ Err kind → resolved registry (source_filter source input) ≡ node (op_of (Err (kind ∷ [])) None) (more (resolved registry input) no_more)
   filter_unresolved source input schema kind there is =
@@ -153,6 +171,8 @@ kind_is_told : (schema : Columns) (kind : PlanKind Source) (kinds : List ErrorKi
 kind_is_told schema (ScanKind table own) kinds h = absurd cc
 kind_is_told schema (SelectKind sources) kinds h = then_told (expansions [] schema sources) (λ trees. SelectKind (map named trees)) kinds (unexpanded_told [] schema sources) h
 kind_is_told schema (HStackKind sources) kinds h = then_told (expansions [] schema sources) (λ trees. HStackKind (map named trees)) kinds (unexpanded_told [] schema sources) h
+kind_is_told schema (GroupByKind keys aggs) kinds h =
+    then_either_told (expansions [] schema keys) (over_keys schema aggs) kinds (unexpanded_told [] schema keys) (λ trees e. then_told (expansions (key_names (map written trees)) schema aggs) (λ others. GroupByKind (map named trees) (map named others)) kinds (unexpanded_told (key_names (map written trees)) schema aggs) e) h
 kind_is_told schema (FilterKind source) kinds h = then_told (with_kinds (predicate_expansion schema source)) (λ tree. FilterKind (named tree)) kinds (with_kinds_told (predicate_expansion schema source)) h
 kind_is_told schema (SimpleProjectionKind columns) kinds h = absurd cc
 kind_is_told schema (DropKind selectors strict) kinds h = then_told (drop_leaves schema selectors strict) SimpleProjectionKind kinds (drop_is_told schema selectors strict) h

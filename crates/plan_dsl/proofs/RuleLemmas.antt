@@ -6,19 +6,19 @@ use Rattle.std.specs.Option.{option_map}
 use Rattle.std.proofs.lemmas.List.{map-append}
 use Rattle.std.proofs.lemmas.List.Elements.{Contains-append_left, Contains-append_right, Contains-push}
 use Rattle.plan_types.specs.Schemas.{Name, Columns, type_at, repeats, names_of, HasDistinctNames, all_known}
-use Rattle.plan_types.specs.Types.{Truth, same_type}
+use Rattle.plan_types.specs.Types.{Ty, Truth, same_type}
 use Rattle.plan_types.specs.declared.error.ErrorKind.{ErrorKind}
 use Rattle.plan_types.specs.declared.error.ErrorKind.TheVariants.{Duplicate, SchemaMismatch, InvalidOperation, ComputeError}
 use Rattle.plan_types.proofs.SchemaLemmas.{repeated_test, test_from_distinct, distinct_from_test}
 use Rattle.plan_dsl.specs.Registry.{Registry}
 use Rattle.plan_dsl.specs.Trees.{Trees, node, no_more, more, child_at, child_of, tree_at, tree_count}
 use Rattle.plan_dsl.specs.Ops.{Op, Expression}
-use Rattle.plan_dsl.specs.Plans.{Named, PlanKind, ScanKind, SelectKind, HStackKind, FilterKind, SimpleProjectionKind, DropKind, RefusedKind, PlanOp, Plan, scan_op, select_op, hstack_op, filter_op, simple_projection_op}
+use Rattle.plan_dsl.specs.Plans.{Named, PlanKind, ScanKind, SelectKind, HStackKind, GroupByKind, FilterKind, SimpleProjectionKind, DropKind, RefusedKind, PlanOp, Plan, scan_op, select_op, hstack_op, group_by_op, filter_op, simple_projection_op}
 use Rattle.plan_dsl.specs.Literals.{settled}
 use Rattle.plan_dsl.specs.Names.{Label}
 use Rattle.plan_dsl.specs.Signatures.{bare_kinds}
 use Rattle.plan_dsl.specs.Typing.{Typed, typing, typing_all, typing_rule, then_typed, typed_before, kind_of, own_kind, kinds_in, kinds_in_all}
-use Rattle.plan_dsl.specs.PlanRules.{all_kinds, kind_where, name_kinds, scan_kinds, predicate_kinds, stands_in, projection_kinds, broken_kinds, column_before, columns_of, with_columns, where_unbroken, plan_rule, schema_of, IsWellFormed, AllWellFormed, top_kinds, Breaks}
+use Rattle.plan_dsl.specs.PlanRules.{all_kinds, kind_where, key_kinds, name_kinds, group_kinds, scan_kinds, predicate_kinds, stands_in, projection_kinds, broken_kinds, column_before, columns_of, with_columns, type_in_groups, typed_in_groups, aggregate_columns, columns_beside, where_unbroken, plan_rule, schema_of, IsWellFormed, AllWellFormed, top_kinds, Breaks}
 use Rattle.plan_dsl.specs.Laws.{NoSchemaIsBroken}
 
 same_kind : {A : Type 0} (r : Result A ErrorKind) (k kind : ErrorKind) → r ≡ Err k → r ≡ Err kind → k ≡ kind
@@ -96,6 +96,32 @@ module _ (registry : Registry) (schema : Columns) where
   pub hstack_repeated_name : (recorded : Option Columns) (before : Columns) (front : List (Named Expression)) (o : Named Expression) (back : List (Named Expression)) → names_of before ≡ output_names front → is_some (type_at before o.label.name) ≡ true → Contains (broken_kinds registry (hstack_op (front ++ o ∷ back) recorded) (Some schema ∷ [])) ComputeError
   hstack_repeated_name recorded before front o back names found = repeated_name ComputeError before front o back names found
 
+  -- a group-by breaks the kind for which one of its keys or aggregates is refused
+  of_keys : (keys aggs : List (Named Expression)) (own : List ErrorKind) (kind : ErrorKind) → Contains (all_kinds registry schema keys) kind → Contains ((all_kinds registry schema keys ++ (all_kinds registry schema aggs ++ [])) ++ own) kind
+  of_keys keys aggs own kind h = Contains-append_left (all_kinds registry schema keys ++ (all_kinds registry schema aggs ++ [])) own kind (Contains-append_left (all_kinds registry schema keys) _ kind h)
+
+  of_aggregates : (keys aggs : List (Named Expression)) (own : List ErrorKind) (kind : ErrorKind) → Contains (all_kinds registry schema aggs) kind → Contains ((all_kinds registry schema keys ++ (all_kinds registry schema aggs ++ [])) ++ own) kind
+  of_aggregates keys aggs own kind h =
+      Contains-append_left (all_kinds registry schema keys ++ (all_kinds registry schema aggs ++ [])) own kind (Contains-append_right (all_kinds registry schema keys) _ kind (Contains-append_left (all_kinds registry schema aggs) [] kind h))
+
+  pub key_refused_kind : (recorded : Option Columns) (front : List (Named Expression)) (o : Named Expression) (back aggs : List (Named Expression)) (kind : ErrorKind) → typing registry schema (settled o.expression) ≡ Err kind → Contains (broken_kinds registry (group_by_op (front ++ o ∷ back) aggs recorded) (Some schema ∷ [])) kind
+  key_refused_kind recorded front o back aggs kind h = of_keys (front ++ o ∷ back) aggs _ kind (refused_among front o back kind h)
+
+  pub aggregate_refused_kind : (recorded : Option Columns) (keys front : List (Named Expression)) (o : Named Expression) (back : List (Named Expression)) (kind : ErrorKind) → typing registry schema (settled o.expression) ≡ Err kind → Contains (broken_kinds registry (group_by_op keys (front ++ o ∷ back) recorded) (Some schema ∷ [])) kind
+  aggregate_refused_kind recorded keys front o back kind h = of_aggregates keys (front ++ o ∷ back) _ kind (refused_among front o back kind h)
+
+  -- one without keys breaks that rule
+  pub no_keys_kind : (recorded : Option Columns) (aggs : List (Named Expression)) → Contains (broken_kinds registry (group_by_op [] aggs recorded) (Some schema ∷ [])) ComputeError
+  no_keys_kind recorded aggs =
+      Contains-append_right (all_kinds registry schema aggs ++ []) _ ComputeError (Contains-append_left (ComputeError ∷ []) (name_kinds Duplicate aggs) ComputeError (Contains-push [] ComputeError))
+
+  -- and one of which a name of a key or an aggregate stands among those before it breaks that of distinct names
+  pub group_repeated_name : (recorded : Option Columns) (keys aggs : List (Named Expression)) (before : Columns) (front : List (Named Expression)) (o : Named Expression) (back : List (Named Expression)) → keys ++ aggs ≡ front ++ o ∷ back → names_of before ≡ output_names front → is_some (type_at before o.label.name) ≡ true → Contains (broken_kinds registry (group_by_op keys aggs recorded) (Some schema ∷ [])) Duplicate
+  group_repeated_name recorded keys aggs before front o back all names found =
+      let whole = map-append (λ (x : Named Expression). x.label.name) front (o ∷ back) ∙ ap (λ l. l ++ o.label.name ∷ output_names back) (sym names) in
+      let repeated = ap (λ l. repeats (output_names l)) all ∙ ap repeats whole ∙ repeated_test before o.label.name (output_names back) found in
+      Contains-append_right (all_kinds registry schema keys ++ (all_kinds registry schema aggs ++ [])) (group_kinds keys aggs) Duplicate (Contains-append_right (key_kinds keys) (name_kinds Duplicate (keys ++ aggs)) Duplicate (subst (λ b. Contains (kind_where b Duplicate) Duplicate) (sym repeated) (Contains-push [] Duplicate)))
+
   -- a filter breaks the kind for which its predicate is refused
   pub filter_refused_kind : (predicate : Named Expression) (kind : ErrorKind) → typing registry schema (settled predicate.expression) ≡ Err kind → Contains (broken_kinds registry (filter_op predicate) (Some schema ∷ [])) kind
   filter_refused_kind predicate kind h = of_expressions (predicate ∷ []) _ kind (refused_among [] predicate [] kind h)
@@ -158,6 +184,39 @@ module _ (registry : Registry) (schema : Columns) where
     hstack_schema recorded outputs h distinct =
         let unbroken = ap (λ k. (k ++ []) ++ name_kinds ComputeError (map output outputs)) (no_kinds_from_typed outputs h) ∙ no_names_from_distinct ComputeError outputs distinct in
         ap (λ kinds. where_unbroken kinds (option_map (with_columns schema) (columns_of registry schema (map output outputs)))) unbroken ∙ ap (option_map (with_columns schema)) (columns_from_typed outputs h)
+
+    -- aggregates of them have these columns in groups
+    pub columns_in_groups_from_typed : (outputs : List A) → AllByRecursion (λ a. typing registry schema (settled (tree a)) ≡ Ok (typed a)) outputs → aggregate_columns registry schema (map output outputs) ≡ Some (map (λ a. ((label a).name, type_in_groups (typed a))) outputs)
+    columns_in_groups_from_typed [] h = refl
+    columns_in_groups_from_typed (a ∷ rest) h =
+        ap (λ r. column_before (label a).name (typed_in_groups r) (aggregate_columns registry schema (map output rest))) h.0
+        ∙ ap (column_before (label a).name (typed_in_groups (Ok (typed a)))) (columns_in_groups_from_typed rest h.1)
+
+    names_in_groups_are : (outputs : List A) → output_names (map output outputs) ≡ names_of (map (λ a. ((label a).name, type_in_groups (typed a))) outputs)
+    names_in_groups_are [] = refl
+    names_in_groups_are (a ∷ rest) = ap (λ l. (label a).name ∷ l) (names_in_groups_are rest)
+
+    -- and a group-by of them, of which one is a key, has the columns of keys and then of aggregates
+    pub group_schema : (recorded : Option Columns) (key : A) (keys aggs : List A) → AllByRecursion (λ a. typing registry schema (settled (tree a)) ≡ Ok (typed a)) (key ∷ keys) → AllByRecursion (λ a. typing registry schema (settled (tree a)) ≡ Ok (typed a)) aggs → HasDistinctNames (map (λ a. ((label a).name, (typed a).type)) (key ∷ keys) ++ map (λ a. ((label a).name, type_in_groups (typed a))) aggs) → plan_rule registry (group_by_op (map output (key ∷ keys)) (map output aggs) recorded) (Some schema ∷ []) ≡ Some (map (λ a. ((label a).name, (typed a).type)) (key ∷ keys) ++ map (λ a. ((label a).name, type_in_groups (typed a))) aggs)
+    group_schema recorded key keys aggs h k distinct =
+        let outputs = map output (key ∷ keys) in
+        let others = map output aggs in
+        let columns = map (λ (a : A). ((label a).name, (typed a).type)) (key ∷ keys) in
+        let in_groups = map (λ (a : A). ((label a).name, type_in_groups (typed a))) aggs in
+        let front = names_are (key ∷ keys) in
+        let behind = names_in_groups_are aggs in
+        let names : output_names (outputs ++ others) ≡ names_of (columns ++ in_groups) =
+        map-append (λ (o : Named Expression). o.label.name) outputs others
+        ∙ (λ i. front i ++ behind i)
+        ∙ sym (map-append (λ (c : Name × Ty). c.0) columns in_groups) in
+        let none = ap (λ b. kind_where b Duplicate) (ap repeats names ∙ test_from_distinct (columns ++ in_groups) distinct) in
+        let unbroken : broken_kinds registry (group_by_op outputs others recorded) (Some schema ∷ []) ≡ [] =
+        ap (λ l. (l ++ (all_kinds registry schema others ++ [])) ++ group_kinds outputs others) (no_kinds_from_typed (key ∷ keys) h)
+        ∙ ap (λ l. (l ++ []) ++ group_kinds outputs others) (no_kinds_from_typed aggs k)
+        ∙ none in
+        let there = columns_from_typed (key ∷ keys) h in
+        let later = columns_in_groups_from_typed aggs k in
+        ap (λ kinds. where_unbroken kinds (columns_beside (columns_of registry schema outputs) (aggregate_columns registry schema others))) unbroken ∙ (λ i. columns_beside (there i) (later i))
 
 -- a scan of columns with types has its table's schema
 pub scan_schema : (registry : Registry) (table : Option ℕ) (own : Columns) → HasDistinctNames own → all_known own ≡ true → plan_rule registry (scan_op table own) [] ≡ Some own
@@ -243,6 +302,44 @@ selected_distinct registry under os recorded schema none columns =
     let test = not_repeated (repeats (map (λ (o : Named Expression). o.label.name) os)) (no_tail (all_kinds registry under os ++ []) _ none) in
     distinct_from_test schema (ap repeats (sym (column_names registry under os schema columns)) ∙ test)
 
+-- so are the names of aggregates
+aggregate_names : (registry : Registry) (under : Columns) (os : List (Named Expression)) (schema : Columns) → aggregate_columns registry under os ≡ Some schema → map (λ o. o.label.name) os ≡ names_of schema
+aggregate_names registry under [] schema h = let e : [] ≡ schema = cc in ap names_of e
+aggregate_names registry under (o ∷ os) schema h =
+    let rest = aggregate_columns registry under os in
+    elim (typing registry under (settled o.expression)) as (λ t. column_before o.label.name (typed_in_groups t) rest ≡ Some schema → o.label.name ∷ map (λ (x : Named Expression). x.label.name) os ≡ names_of schema) [ Ok typed ↦ λ h. elim rest as (λ r. rest ≡ r → column_before o.label.name (typed_in_groups (Ok typed)) r ≡ Some schema → o.label.name ∷ map (λ (x : Named Expression). x.label.name) os ≡ names_of schema) [ Some columns ↦ λ e h. let same : (o.label.name, type_in_groups typed) ∷ columns ≡ schema = cc in ap (λ l. o.label.name ∷ l) (aggregate_names registry under os columns e) ∙ ap names_of same | None ↦ λ e h. cc ] refl h | Err kind ↦ λ h. cc ] h
+
+-- the columns of a group-by that has them: of its keys, and of its aggregates
+pub record GroupColumns (registry : Registry) (under : Columns) (keys aggs : List (Named Expression)) (schema : Columns) : Type 0 where
+  pub own : Columns
+  pub own_are : columns_of registry under keys ≡ Some own
+  pub others : Columns
+  pub others_are : aggregate_columns registry under aggs ≡ Some others
+  pub both : own ++ others ≡ schema
+
+pub group_columns : (registry : Registry) (under : Columns) (keys aggs : List (Named Expression)) (schema : Columns) → columns_beside (columns_of registry under keys) (aggregate_columns registry under aggs) ≡ Some schema → GroupColumns registry under keys aggs schema
+group_columns registry under keys aggs schema h =
+    let left = columns_of registry under keys in
+    let right = aggregate_columns registry under aggs in
+    elim left as (λ l. left ≡ l → columns_beside l right ≡ Some schema → GroupColumns registry under keys aggs schema) [ Some own ↦ λ e h. elim right as (λ r. right ≡ r → columns_beside (Some own) r ≡ Some schema → GroupColumns registry under keys aggs schema) [ Some others ↦ λ f h. record { own = own; own_are = e; others = others; others_are = f; both = cc } | None ↦ λ f h. absurd cc ] refl h | None ↦ λ e h. absurd cc ] refl h
+
+-- they have distinct names where it breaks no rule
+pub grouped_distinct : (registry : Registry) (under : Columns) (keys aggs : List (Named Expression)) (recorded : Option Columns) (schema : Columns) → broken_kinds registry (group_by_op keys aggs recorded) (Some under ∷ []) ≡ [] → GroupColumns registry under keys aggs schema → HasDistinctNames schema
+grouped_distinct registry under keys aggs recorded schema none found =
+    let own = no_tail (key_kinds keys) _ (no_tail (all_kinds registry under keys ++ (all_kinds registry under aggs ++ [])) _ none) in
+    let front = column_names registry under keys found.own found.own_are in
+    let behind = aggregate_names registry under aggs found.others found.others_are in
+    let names : map (λ (o : Named Expression). o.label.name) (keys ++ aggs) ≡ names_of schema =
+    map-append (λ (o : Named Expression). o.label.name) keys aggs
+    ∙ (λ i. front i ++ behind i)
+    ∙ sym (map-append (λ (c : Name × Ty). c.0) found.own found.others)
+    ∙ ap names_of found.both in
+    distinct_from_test schema (ap repeats (sym names) ∙ not_repeated (repeats (map (λ (o : Named Expression). o.label.name) (keys ++ aggs))) own)
+
+-- and it has a key
+pub grouped_has_key : (registry : Registry) (under : Columns) (keys aggs : List (Named Expression)) (recorded : Option Columns) → broken_kinds registry (group_by_op keys aggs recorded) (Some under ∷ []) ≡ [] → key_kinds keys ≡ []
+grouped_has_key registry under keys aggs recorded none = no_front (key_kinds keys) _ (no_tail (all_kinds registry under keys ++ (all_kinds registry under aggs ++ [])) _ none)
+
 -- expressions of which one has no column break a kind
 no_column_breaks : (registry : Registry) (under : Columns) (os : List (Named Expression)) → columns_of registry under os ≡ None → (kind : ErrorKind) × Contains (all_kinds registry under os) kind
 no_column_breaks registry under [] h = absurd cc
@@ -251,6 +348,14 @@ no_column_breaks registry under (o ∷ os) h =
     let own = kinds_in registry under (settled o.expression) in
     elim (typing registry under (settled o.expression)) as (λ t. typing registry under (settled o.expression) ≡ t → column_before o.label.name t rest ≡ None → (kind : ErrorKind) × Contains (own ++ all_kinds registry under os) kind) [ Ok typed ↦ λ e h. elim rest as (λ r. rest ≡ r → column_before o.label.name (Ok typed) r ≡ None → (kind : ErrorKind) × Contains (own ++ all_kinds registry under os) kind) [ Some columns ↦ λ e h. absurd cc | None ↦ λ e h. let later = no_column_breaks registry under os e in (later.0, Contains-append_right own (all_kinds registry under os) later.0 later.1) ] refl h | Err kind ↦ λ e h. (kind, Contains-append_left own (all_kinds registry under os) kind (refusal_is_broken registry under (settled o.expression) kind e)) ] refl h
 
+-- so do aggregates
+no_aggregate_breaks : (registry : Registry) (under : Columns) (os : List (Named Expression)) → aggregate_columns registry under os ≡ None → (kind : ErrorKind) × Contains (all_kinds registry under os) kind
+no_aggregate_breaks registry under [] h = absurd cc
+no_aggregate_breaks registry under (o ∷ os) h =
+    let rest = aggregate_columns registry under os in
+    let own = kinds_in registry under (settled o.expression) in
+    elim (typing registry under (settled o.expression)) as (λ t. typing registry under (settled o.expression) ≡ t → column_before o.label.name (typed_in_groups t) rest ≡ None → (kind : ErrorKind) × Contains (own ++ all_kinds registry under os) kind) [ Ok typed ↦ λ e h. elim rest as (λ r. rest ≡ r → column_before o.label.name (typed_in_groups (Ok typed)) r ≡ None → (kind : ErrorKind) × Contains (own ++ all_kinds registry under os) kind) [ Some columns ↦ λ e h. absurd cc | None ↦ λ e h. let later = no_aggregate_breaks registry under os e in (later.0, Contains-append_right own (all_kinds registry under os) later.0 later.1) ] refl h | Err kind ↦ λ e h. (kind, Contains-append_left own (all_kinds registry under os) kind (refusal_is_broken registry under (settled o.expression) kind e)) ] refl h
+
 -- where there would be a schema, a node that has none breaks a kind
 some_kind : (kinds : List ErrorKind) (schema : Columns) → where_unbroken kinds (Some schema) ≡ None → (kind : ErrorKind) × Contains kinds kind
 some_kind [] schema h = absurd cc
@@ -258,6 +363,14 @@ some_kind (kind ∷ kinds) schema h = (kind, Contains-append_left (kind ∷ []) 
 
 some_last : (kinds : List ErrorKind) (last : ErrorKind) → (kind : ErrorKind) × Contains (kinds ++ last ∷ []) kind
 some_last kinds last = (last, Contains-append_right kinds (last ∷ []) last (Contains-push [] last))
+
+-- a group-by without a schema breaks a rule
+groups_break : (registry : Registry) (under : Columns) (keys aggs : List (Named Expression)) → plan_rule registry (group_by_op keys aggs None) (Some under ∷ []) ≡ None → (kind : ErrorKind) × Contains (broken_kinds registry (group_by_op keys aggs None) (Some under ∷ [])) kind
+groups_break registry under keys aggs h =
+    let kinds = broken_kinds registry (group_by_op keys aggs None) (Some under ∷ []) in
+    let left = columns_of registry under keys in
+    let right = aggregate_columns registry under aggs in
+    elim left as (λ l. left ≡ l → where_unbroken kinds (columns_beside l right) ≡ None → (kind : ErrorKind) × Contains kinds kind) [ Some own ↦ λ e h. elim right as (λ r. right ≡ r → where_unbroken kinds (columns_beside (Some own) r) ≡ None → (kind : ErrorKind) × Contains kinds kind) [ Some others ↦ λ f h. some_kind kinds (own ++ others) h | None ↦ λ f h. let found = no_aggregate_breaks registry under aggs f in (found.0, of_aggregates registry under keys aggs (group_kinds keys aggs) found.0 found.1) ] refl h | None ↦ λ e h. let found = no_column_breaks registry under keys e in (found.0, of_keys registry under keys aggs (group_kinds keys aggs) found.0 found.1) ] refl h
 
 -- a node of the kind without a schema, whose inputs have one, breaks a rule
 kind_breaks : (registry : Registry) (kind : PlanKind (Named Expression)) (inputs : List Columns) → ¬ (kind ≡ RefusedKind []) → plan_rule registry (record { kind = kind; recorded = None }) (map Some inputs) ≡ None → (k : ErrorKind) × Contains (broken_kinds registry (record { kind = kind; recorded = None }) (map Some inputs)) k
@@ -273,6 +386,9 @@ kind_breaks registry (HStackKind outputs) (under ∷ []) known h =
     let kinds = (all_kinds registry under outputs ++ []) ++ name_kinds ComputeError outputs in
     elim (columns_of registry under outputs) as (λ c. columns_of registry under outputs ≡ c → where_unbroken kinds (option_map (with_columns under) c) ≡ None → (k : ErrorKind) × Contains kinds k) [ Some columns ↦ λ e h. some_kind kinds (with_columns under columns) h | None ↦ λ e h. let found = no_column_breaks registry under outputs e in (found.0, of_expressions registry under outputs (name_kinds ComputeError outputs) found.0 found.1) ] refl h
 kind_breaks registry (HStackKind outputs) (under ∷ other ∷ inputs) known h = some_last (all_kinds registry under outputs ++ []) SchemaMismatch
+kind_breaks registry (GroupByKind keys aggs) [] known h = some_last [] SchemaMismatch
+kind_breaks registry (GroupByKind keys aggs) (under ∷ []) known h = groups_break registry under keys aggs h
+kind_breaks registry (GroupByKind keys aggs) (under ∷ other ∷ inputs) known h = some_last (all_kinds registry under keys ++ (all_kinds registry under aggs ++ [])) SchemaMismatch
 kind_breaks registry (FilterKind predicate) [] known h = some_last [] SchemaMismatch
 kind_breaks registry (FilterKind predicate) (under ∷ []) known h =
     some_kind ((all_kinds registry under (predicate ∷ []) ++ []) ++ predicate_kinds (typing registry under (settled predicate.expression))) under h

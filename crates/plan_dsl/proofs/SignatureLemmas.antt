@@ -1,6 +1,6 @@
 -- What a signature says of typed operands keeps the rule, whatever the op: operands can become of the types to which they
 -- are taken, and these are taken as they are.
-use Rattle.std.proofs.Common.{◌≡◌, ℕ, suc, Bool, true, false, ◌&&◌, cond, List, [], ◌∷◌, length, Option, Some, None, Result, Ok, Err, refl, ap, ◌∙◌, subst}
+use Rattle.std.proofs.Common.{◌≡◌, ℕ, suc, nat_lt, Bool, true, false, ◌&&◌, cond, List, [], ◌∷◌, length, Option, Some, None, Result, Ok, Err, refl, ap, ◌∙◌, subst}
 use Rattle.plan_types.specs.Types.{Ty, NullType, Truth, Integer, ListType, StructType, Untyped, Fields, no_field, with_field, are_known, is_known}
 use Rattle.plan_types.specs.Values.{Val}
 use Rattle.plan_types.specs.Casts.{can_cast, can_cast_fields}
@@ -12,15 +12,15 @@ use Rattle.plan_types.proofs.CommonLemmas.{alone_known, alone_itself, alone_same
 use Rattle.plan_types.proofs.CastLemmas.{cast_own as own_cast}
 use Rattle.std.proofs.lemmas.Bool.{and_parts, and_from}
 use Rattle.plan_dsl.specs.declared.signature.Ask.{Ask}
-use Rattle.plan_dsl.specs.declared.signature.Ask.TheVariants.{Any, Sortable, Boolean, Place, Length}
+use Rattle.plan_dsl.specs.declared.signature.Ask.TheVariants.{Any, Sortable, Boolean, Place, Length, Summable}
 use Rattle.plan_dsl.specs.declared.signature.Asked.{Asked}
 use Rattle.plan_dsl.specs.declared.signature.OwnType.{OwnType}
-use Rattle.plan_dsl.specs.declared.signature.OwnType.TheVariants.{First, Item, ListOf, Count}
+use Rattle.plan_dsl.specs.declared.signature.OwnType.TheVariants.{First, Item, ListOf, Count, Total, Rows}
 use Rattle.plan_dsl.specs.declared.signature.Signature.{Signature}
 use Rattle.plan_dsl.specs.Registry.{Registry}
 use Rattle.plan_dsl.specs.Ops.{Op}
 use Rattle.plan_dsl.specs.Kernels.{kernel}
-use Rattle.plan_dsl.specs.Signatures.{asked_at, asked_target, is_asked, own_type, signature}
+use Rattle.plan_dsl.specs.Signatures.{asked_at, asked_target, is_asked, own_type, signature, sum_type}
 use Rattle.plan_dsl.specs.Typing.{Typed, Ruling, first_of, own_over, signed, signed_to, taken_alone, taken_by, taken_from, type_before, typed_to, types_of}
 use Rattle.plan_dsl.specs.Strictness.{CanBecome}
 use Rattle.plan_dsl.specs.Laws.{AreOf}
@@ -82,6 +82,7 @@ alone_becomes from own alone = alone_casts from own own alone (own_cast own (alo
 asked_casts : (ask : Ask) (type : Ty) → is_known type ≡ true → is_asked ask type ≡ true → can_cast type (asked_target ask type) ≡ true
 asked_casts Any type k h = own_cast type k
 asked_casts Sortable type k h = own_cast type k
+asked_casts Summable type k h = own_cast type k
 asked_casts Boolean NullType k h = refl
 asked_casts Boolean Truth k h = refl
 asked_casts Place (Integer signed bits) k h = refl
@@ -93,6 +94,7 @@ asked_casts _ _ k h = cc
 target_asked : (ask : Ask) (type : Ty) → is_asked ask type ≡ true → is_asked ask (asked_target ask type) ≡ true
 target_asked Any type h = refl
 target_asked Sortable type h = h
+target_asked Summable type h = h
 target_asked Boolean type h = refl
 target_asked Place type h = refl
 target_asked Length type h = refl
@@ -100,6 +102,7 @@ target_asked Length type h = refl
 target_kept : (ask : Ask) (type : Ty) → asked_target ask (asked_target ask type) ≡ asked_target ask type
 target_kept Any type = refl
 target_kept Sortable type = refl
+target_kept Summable type = refl
 target_kept Boolean type = refl
 target_kept Place type = refl
 target_kept Length type = refl
@@ -228,12 +231,19 @@ are_taken signature place (t ∷ ts) targets h =
 
 -- ---- the ruling
 
+sum_known : (type : Ty) → is_known type ≡ true → is_known (sum_type type) ≡ true
+sum_known Truth k = refl
+sum_known (Integer signed bits) k = elim (nat_lt bits 32) as (λ b. is_known (cond b (Integer true 64) (Integer signed bits)) ≡ true) [ true ↦ refl | false ↦ refl ]
+sum_known _ k = k
+
 own_known : (own : OwnType) (type : Ty) → is_known type ≡ true → is_known (own_type own type) ≡ true
 own_known First type k = k
 own_known Item (ListType item) k = k
 own_known Item _ k = k
 own_known ListOf type k = k
 own_known Count type k = refl
+own_known Total type k = sum_known type k
+own_known Rows type k = refl
 
 -- what a signature says, where it says something
 pub record IsSigned (found : Result Signature ErrorKind) (typed : List Typed) (ruling : Ruling) : Type 1 where

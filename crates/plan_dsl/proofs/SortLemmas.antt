@@ -72,7 +72,7 @@ in_front_many count (value ∷ values) [] h k = k
 in_front_many zero (value ∷ values) (row ∷ rows) h k = cc
 in_front_many (suc count) (value ∷ values) (row ∷ rows) h k = ap suc (in_front_many count values rows (omega (arith, h)) (omega (arith, k)))
 
-column_for_rows : (count : ℕ) (values : List Val) → Meets (λ column. length column ≡ count) (for_rows count values)
+pub column_for_rows : (count : ℕ) (values : List Val) → Meets (λ column. length column ≡ count) (for_rows count values)
 column_for_rows count values =
     elim (length values == count || length values == 1) as (λ b. (length values == count || length values == 1) ≡ b → Meets (λ column. length column ≡ count) (cond b (Done (stretched count values)) Fault)) [
       | true ↦ λ e. as_many_rows count values e

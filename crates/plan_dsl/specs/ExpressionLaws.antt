@@ -1,5 +1,5 @@
 -- Laws of comparing expressions.
-use Rattle.std.specs.Prelude.{◌≡◌, Bool, true}
+use Rattle.std.specs.Prelude.{◌≡◌, Bool, true, false, Option, Some, None}
 use Rattle.std.specs.Cmp.{IsEquivalence, booleans_Decides}
 use Rattle.std.specs.Cmp.Lexicographic.{pointwise_decides}
 use Rattle.std.proofs.Common.{refl, ap, ◌∙◌}
@@ -15,14 +15,16 @@ use Rattle.plan_types.specs.Values.{same_value}
 use Rattle.plan_types.specs.ValueLaws.{same_value_exact, same_value_own}
 use Rattle.plan_types.specs.declared.dtype.CastOptions.{CastOptions}
 use Rattle.plan_types.specs.declared.dtype.CastOptions.TheVariants.{Strict, NonStrict, Overflowing}
+use Rattle.plan_dsl.specs.declared.aggregate.GroupByMethod.{GroupByMethod}
+use Rattle.plan_dsl.specs.declared.aggregate.GroupByMethod.TheVariants.{Min, NanMin, Max, NanMax, NUnique, First, Last, Implode, Sum, Count, Groups}
 use Rattle.plan_dsl.specs.declared.literal.LiteralValue.{LiteralValue}
 use Rattle.plan_dsl.specs.declared.operator.Operator.{Operator}
 use Rattle.plan_dsl.specs.declared.operator.Operator.TheVariants.{Eq, EqValidity, NotEq, NotEqValidity, Lt, LtEq, Gt, GtEq, Plus, Minus, Multiply, Divide, FloorDivide, Modulus, And, Or, Xor, LogicalAnd, LogicalOr}
 use Rattle.plan_dsl.specs.declared.sort_options.SortOptions.{SortOptions}
 use Rattle.plan_dsl.specs.Trees.{Tree, Trees, node, no_more, more}
-use Rattle.plan_dsl.specs.Ops.{Op, ColumnOp, LiteralOp, BinaryOp, CastOp, LenOp, SliceOp, AliasOp, Expression, ExplodeOp, GatherOp, FilterOp, SortOp, SortByOp}
+use Rattle.plan_dsl.specs.Ops.{Op, ColumnOp, LiteralOp, BinaryOp, CastOp, LenOp, SliceOp, AliasOp, Expression, ExplodeOp, GatherOp, FilterOp, SortOp, SortByOp, AggOp, WindowOp}
 use Rattle.plan_dsl.specs.Literals.{literal_type, literal_value, literal_op}
-use Rattle.plan_dsl.specs.SameExpressions.{operator_rank, same_operator, options_rank, same_options, same_sort, same_flags, same_literal, same_op, same_tree, same_trees, literal_writes}
+use Rattle.plan_dsl.specs.SameExpressions.{operator_rank, same_operator, method_rank, same_method, options_rank, same_options, same_sort, same_flags, same_literal, same_op, same_tree, same_trees, literal_writes, same_order}
 
 -- operators and ways to cast that compare equal are one
 pub same_operator_exact : (a b : Operator) → same_operator a b ≡ true → a ≡ b
@@ -69,6 +71,39 @@ same_sort_exact a b h =
 pub same_sort_own : (a : SortOptions) → same_sort a a ≡ true
 same_sort_own a = and_from _ _ ((booleans_Decides a.descending a.descending).1 refl) ((booleans_Decides a.nulls_last a.nulls_last).1 refl)
 
+-- methods that compare equal are one
+pub same_method_exact : (a b : GroupByMethod) → same_method a b ≡ true → a ≡ b
+same_method_exact Min Min h = refl
+same_method_exact NanMin NanMin h = refl
+same_method_exact Max Max h = refl
+same_method_exact NanMax NanMax h = refl
+same_method_exact NUnique NUnique h = refl
+same_method_exact First First h = refl
+same_method_exact Last Last h = refl
+same_method_exact Implode Implode h = refl
+same_method_exact Sum Sum h = refl
+same_method_exact (Count true) (Count true) h = refl
+same_method_exact (Count false) (Count false) h = refl
+same_method_exact Groups Groups h = refl
+same_method_exact (Count true) _ h = cc
+same_method_exact (Count false) _ h = cc
+same_method_exact _ (Count true) h = cc
+same_method_exact _ (Count false) h = cc
+same_method_exact _ _ h = cc
+
+pub same_method_own : (a : GroupByMethod) → same_method a a ≡ true
+same_method_own a = (Decides-eqb (method_rank a) (method_rank a)).1 refl
+
+pub same_order_exact : (a b : Option SortOptions) → same_order a b ≡ true → a ≡ b
+same_order_exact None None h = refl
+same_order_exact (Some options) (Some other) h = ap Some (same_sort_exact options other h)
+same_order_exact None (Some other) h = cc
+same_order_exact (Some options) None h = cc
+
+pub same_order_own : (a : Option SortOptions) → same_order a a ≡ true
+same_order_own None = refl
+same_order_own (Some options) = same_sort_own options
+
 -- nodes that compare equal do the same
 pub same_op_exact : (a b : Op) → same_op a b ≡ true → a ≡ b
 same_op_exact (ColumnOp name) (ColumnOp other) h = ap ColumnOp ((bytes_eq-Decides name other).0 h)
@@ -89,7 +124,9 @@ same_op_exact (SortByOp descending nulls_last) (SortByOp other others) h =
     let parts = and_parts (same_flags descending other) (same_flags nulls_last others) h in
     let same = pointwise_decides booleans_Decides in
     ap (λ d. SortByOp d nulls_last) ((same descending other).0 parts.0) ∙ ap (SortByOp other) ((same nulls_last others).0 parts.1)
+same_op_exact (WindowOp order) (WindowOp other) h = ap WindowOp (same_order_exact order other h)
 same_op_exact (AliasOp name) (AliasOp other) h = ap AliasOp ((bytes_eq-Decides name other).0 h)
+same_op_exact (AggOp method) (AggOp other) h = ap AggOp (same_method_exact method other h)
 same_op_exact _ _ h = cc
 
 pub same_op_own : (a : Op) → same_op a a ≡ true
@@ -104,7 +141,9 @@ same_op_own (GatherOp returns_scalar) = (booleans_Decides returns_scalar returns
 same_op_own FilterOp = refl
 same_op_own (SortOp options) = same_sort_own options
 same_op_own (SortByOp descending nulls_last) = and_from _ _ ((pointwise_decides booleans_Decides descending descending).1 refl) ((pointwise_decides booleans_Decides nulls_last nulls_last).1 refl)
+same_op_own (WindowOp order) = same_order_own order
 same_op_own (AliasOp name) = (bytes_eq-Decides name name).1 refl
+same_op_own (AggOp method) = same_method_own method
 
 -- trees that compare equal are one where nodes are, and each is equal to itself
 module _ {O : Type 0} (test : O → O → Bool) where

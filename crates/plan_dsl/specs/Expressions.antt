@@ -1,8 +1,12 @@
 -- The trees of expressions and of selectors, as queries write them.
-use Rattle.std.specs.Prelude.{List, map}
+use Rattle.std.specs.Prelude.{List, map, Bool, if◌then◌else◌}
 use Rattle.plan_types.specs.Types.{ty}
+use Rattle.plan_dsl.specs.declared.aggregate.AggExpr.{AggExpr}
+use Rattle.plan_dsl.specs.declared.aggregate.AggExpr.TheVariants as agg
+use Rattle.plan_dsl.specs.declared.aggregate.GroupByMethod.{GroupByMethod}
+use Rattle.plan_dsl.specs.declared.aggregate.GroupByMethod.TheVariants.{Min, NanMin, Max, NanMax, NUnique, First, Last, Implode, Sum, Count, Groups}
 use Rattle.plan_dsl.specs.declared.expr.Expr.{Expr, Row_of-Expr, end_of-Expr, more_of-Expr}
-use Rattle.plan_dsl.specs.declared.expr.Expr.TheVariants.{Column, Columns, DtypeColumn, IndexColumn, Literal, BinaryExpr', Cast', Len, Slice', Alias', Explode', Gather', Filter', Sort', SortBy', Wildcard, Exclude', KeepName', Nth, RenameAlias', Selector as Selecting}
+use Rattle.plan_dsl.specs.declared.expr.Expr.TheVariants.{Column, Columns, DtypeColumn, IndexColumn, Literal, BinaryExpr', Cast', Len, Slice', Alias', Explode', Gather', Filter', Sort', SortBy', Agg, Wildcard, Exclude', KeepName', Nth, RenameAlias', Selector as Selecting}
 use Rattle.plan_dsl.specs.declared.expr.Exprs.{Exprs}
 use Rattle.plan_dsl.specs.declared.marker.Excluded.{Excluded as ExcludedValue}
 use Rattle.plan_dsl.specs.declared.marker.Excluded.TheVariants.{Name, Dtype}
@@ -14,11 +18,34 @@ use Rattle.plan_dsl.specs.declared.selector.Selectors.{Selectors}
 use Rattle.plan_dsl.specs.declared.sort_options.SortMultipleOptions.{SortMultipleOptions}
 use Rattle.plan_dsl.specs.Trees.{Trees, node, no_more, more}
 use Rattle.plan_dsl.specs.Literals.{literal_op}
-use Rattle.plan_dsl.specs.Ops.{Op, ColumnOp, BinaryOp, CastOp, LenOp, SliceOp, AliasOp, ExplodeOp, GatherOp, FilterOp, SortOp, SortByOp, Expression}
+use Rattle.plan_dsl.specs.Ops.{Op, ColumnOp, BinaryOp, CastOp, LenOp, SliceOp, AliasOp, ExplodeOp, GatherOp, FilterOp, SortOp, SortByOp, AggOp, Expression}
 use Rattle.plan_dsl.specs.Sources.{Excluded, ExcludedName, ExcludedType, Renaming, KeepRoot, AddPrefix, AddSuffix, SetName, Add, Sub, Intersect, ExclusiveOr, SourceOp, Plain, WildcardOp, ColumnsOp, DtypeColumnOp, IndexColumnOp, NthOp, ExcludeOp, SelectorOp, RootOp, RenameOp, Source, unwritten, of_two}
 
 abbrev pub sort_by_op : SortMultipleOptions → Op
 sort_by_op options = SortByOp options.descending.items.value.items options.nulls_last.items.value.items
+
+-- an aggregate of an expression
+abbrev pub aggregated : GroupByMethod → Source → Source
+aggregated method input = node (Plain (AggOp method)) (more input no_more)
+
+-- the method of a least and of a greatest value, by whether what is no number would be passed on: there is none
+abbrev pub least_by : Bool → GroupByMethod
+least_by propagate_nans = if propagate_nans then NanMin else Min
+
+abbrev pub greatest_by : Bool → GroupByMethod
+greatest_by propagate_nans = if propagate_nans then NanMax else Max
+
+-- the method of an aggregate
+abbrev pub method_of : AggExpr → GroupByMethod
+method_of (agg.Min' p input propagate_nans) = least_by propagate_nans
+method_of (agg.Max' p input propagate_nans) = greatest_by propagate_nans
+method_of (agg.NUnique' p input) = NUnique
+method_of (agg.First' p input) = First
+method_of (agg.Last' p input) = Last
+method_of (agg.Implode' p input) = Implode
+method_of (agg.Count' p input include_nulls) = Count include_nulls
+method_of (agg.Sum' p input) = Sum
+method_of (agg.AggGroups' p input) = Groups
 
 -- what an exclude leaves out
 abbrev pub excluded_of : ExcludedValue → Excluded
@@ -48,12 +75,25 @@ abbrev mutual
   tree_of (Sort' p expr options) = node (Plain (SortOp options)) (more (tree_of expr) no_more)
   tree_of (SortBy' p expr shape by sort_options) = node (Plain (sort_by_op sort_options)) (more (tree_of expr) (row_trees by))
   tree_of (Alias' p expr name) = node (Plain (AliasOp name)) (more (tree_of expr) no_more)
+  tree_of (Agg aggregate) = aggregated (method_of aggregate) (input_tree aggregate)
   tree_of Wildcard = node WildcardOp no_more
   tree_of (Exclude' p marker excluded) = node (ExcludeOp (map excluded_of excluded.items)) (more (tree_of marker) no_more)
   tree_of (KeepName' p expr) = node (RenameOp KeepRoot) (more (tree_of expr) no_more)
   tree_of (Nth place) = node (NthOp place) no_more
   tree_of (RenameAlias' function p expr) = node (RenameOp (renaming_of function)) (more (tree_of expr) no_more)
   tree_of (Selecting selector) = node SelectorOp (more (selector_tree selector) no_more)
+
+  -- what an aggregate is made of
+  pub input_tree : AggExpr → Source
+  input_tree (agg.Min' p input propagate_nans) = tree_of input
+  input_tree (agg.Max' p input propagate_nans) = tree_of input
+  input_tree (agg.NUnique' p input) = tree_of input
+  input_tree (agg.First' p input) = tree_of input
+  input_tree (agg.Last' p input) = tree_of input
+  input_tree (agg.Implode' p input) = tree_of input
+  input_tree (agg.Count' p input include_nulls) = tree_of input
+  input_tree (agg.Sum' p input) = tree_of input
+  input_tree (agg.AggGroups' p input) = tree_of input
 
   pub selector_tree : Selector → Source
   selector_tree (Root' p expr) = node RootOp (more (tree_of expr) no_more)
@@ -66,6 +106,9 @@ abbrev mutual
   pub row_trees : {n : _} → Row_of-Expr n → Trees SourceOp
   row_trees end_of-Expr = no_more
   row_trees (more_of-Expr first rest) = more (tree_of first) (row_trees rest)
+
+abbrev pub agg_tree : AggExpr → Source
+agg_tree aggregate = aggregated (method_of aggregate) (input_tree aggregate)
 
 -- the trees of expressions, and of selectors
 abbrev pub trees_of : Exprs → List Source

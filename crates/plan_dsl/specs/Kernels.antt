@@ -14,8 +14,9 @@ use Rattle.plan_dsl.specs.Operators.{operator_value}
 use Rattle.plan_dsl.specs.Slices.{slice_values}
 use Rattle.plan_dsl.specs.Sorting.{key_options, sort_values, sorted_rows}
 use Rattle.plan_dsl.specs.Picks.{explode_values, gather_values, where_true}
+use Rattle.plan_dsl.specs.Aggregates.{aggregate_value}
 use Rattle.plan_dsl.specs.Registry.{Registry}
-use Rattle.plan_dsl.specs.Ops.{Op, ColumnOp, LiteralOp, BinaryOp, CastOp, LenOp, SliceOp, AliasOp, ExplodeOp, GatherOp, FilterOp, SortOp, SortByOp}
+use Rattle.plan_dsl.specs.Ops.{Op, ColumnOp, LiteralOp, BinaryOp, CastOp, LenOp, SliceOp, AliasOp, ExplodeOp, GatherOp, FilterOp, SortOp, SortByOp, AggOp}
 
 -- what an expression gives on the rows of these numbers
 abbrev pub Meaning : Type 0
@@ -117,4 +118,5 @@ kernel registry frame rows FilterOp types type (values ∷ truths ∷ []) = filt
 kernel registry frame rows (SortOp options) types type (values ∷ []) = Done (sort_values options values)
 kernel registry frame rows (SortByOp descending nulls_last) types type (values ∷ keys) = sort_by_values descending nulls_last values keys
 kernel registry frame rows (AliasOp name) types type (column ∷ []) = Done column
+kernel registry frame rows (AggOp method) types type (values ∷ []) = Done (aggregate_value method type rows values ∷ [])
 kernel registry frame rows op types type columns = Stuck

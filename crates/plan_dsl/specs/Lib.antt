@@ -1,10 +1,15 @@
 -- What the contracts of this crate cite.
+pub mod Aggregates
 pub mod Aliases
 pub mod Counts
 pub mod Drops
+pub mod Evaluations
 pub mod Expansion
 pub mod ExpressionLaws
 pub mod Expressions
+pub mod GroupLaws
+pub mod Grouping
+pub mod Groups
 pub mod Kernels
 pub mod Laws
 pub mod Literals
@@ -35,3 +40,5 @@ pub mod Strictness
 pub mod Trees
 pub mod Typing
 pub mod ViewLaws
+pub mod WindowLaws
+pub mod Windows

@@ -1,6 +1,7 @@
 -- What an expression means.
 -- Each node first casts its operands, not strictly, to the types to which it takes them, and then does
--- what its kernel says. A fault of an operand is a fault of the node. What has no type means nothing.
+-- what its kernel says; a window asks its first operand on the rows of each group, and not on all. A fault of an operand is a
+-- fault of the node. What has no type means nothing.
 use Rattle.std.specs.Prelude.{List, [], ◌∷◌, Result, Ok, Err}
 use Rattle.plan_types.specs.Types.{Ty}
 use Rattle.plan_types.specs.Outcomes.{then_do}
@@ -9,9 +10,10 @@ use Rattle.plan_types.specs.declared.error.ErrorKind.{ErrorKind}
 use Rattle.plan_types.specs.declared.dtype.CastOptions.TheVariants.{NonStrict}
 use Rattle.plan_dsl.specs.Registry.{Registry}
 use Rattle.plan_dsl.specs.Trees.{Trees, node, no_more, more}
-use Rattle.plan_dsl.specs.Ops.{Op, Expression}
+use Rattle.plan_dsl.specs.Ops.{Op, WindowOp, Expression}
 use Rattle.plan_dsl.specs.Typing.{Typed, Ruling, rule, types_of, typing_all}
 use Rattle.plan_dsl.specs.Kernels.{Meaning, stuck, given, cast_meaning, kernel}
+use Rattle.plan_dsl.specs.Windows.{window_values}
 
 -- operands of the first types, cast to the second
 abbrev pub taken_to : List Ty → List Ty → List Meaning → List Meaning
@@ -22,6 +24,7 @@ taken_to (from ∷ types) (target ∷ targets) (operand ∷ operands) = cast_mea
 
 -- what a node gives of operands that have the types to which it takes them
 abbrev pub applied : Registry → Frame → Op → Ruling → List Meaning → Meaning
+applied registry frame (WindowOp order) ruling (function ∷ operands) rows = then_do (given operands rows) (window_values order function rows)
 applied registry frame op ruling operands rows =
     then_do (given operands rows) (kernel registry frame rows op ruling.operands ruling.own.type)
 

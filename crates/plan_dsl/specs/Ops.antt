@@ -1,9 +1,10 @@
 -- What a node of an expression does, without its children.
-use Rattle.std.specs.Prelude.{Bool, List}
+use Rattle.std.specs.Prelude.{Bool, List, Option}
 use Rattle.plan_types.specs.Types.{Ty}
 use Rattle.plan_types.specs.Schemas.{Name}
 use Rattle.plan_types.specs.Values.{Val}
 use Rattle.plan_types.specs.declared.dtype.CastOptions.{CastOptions}
+use Rattle.plan_dsl.specs.declared.aggregate.GroupByMethod.{GroupByMethod}
 use Rattle.plan_dsl.specs.declared.operator.Operator.{Operator}
 use Rattle.plan_dsl.specs.declared.sort_options.SortOptions.{SortOptions}
 use Rattle.plan_dsl.specs.Trees.{Tree}
@@ -20,7 +21,9 @@ pub data Op : Type 0 where
   FilterOp : Op
   SortOp : (options : SortOptions) → Op
   SortByOp : (descending nulls_last : List Bool) → Op
+  WindowOp : (order : Option SortOptions) → Op
   AliasOp : (name : Name) → Op
+  AggOp : (method : GroupByMethod) → Op
 
 abbrev pub Expression : Type 0
 Expression = Tree Op

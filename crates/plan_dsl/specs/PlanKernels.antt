@@ -2,49 +2,21 @@
 -- A scan gives its table, and the empty table has no rows. A select gives a column for each expression,
 -- brought to a common length; one of nothing gives the frame without columns, whatever its input gives.
 -- An hstack puts a column for each expression into its input's frame, brought to the frame's height.
+-- A group-by gives a row for each group of its input's rows.
 -- A filter keeps the rows for which its predicate is true: null is not true.
 -- A simple projection gives its input's rows in its columns; one of none gives what a select of nothing does.
-use Rattle.std.specs.Prelude.{ℕ, List, [], ◌∷◌, map, length, replicate, slice_get, Option, Some, None, Result, Ok, Err, if◌then◌else◌}
+use Rattle.std.specs.Prelude.{ℕ, List, [], ◌∷◌, map, length, replicate, slice_get, Option, Some, None, if◌then◌else◌}
 use Rattle.plan_types.specs.Types.{Ty}
 use Rattle.plan_types.specs.Schemas.{Name, Columns, same_name, with_column}
 use Rattle.plan_types.specs.Values.{Val}
 use Rattle.plan_types.specs.Outcomes.{Outcome, Done, Stuck, then_do}
 use Rattle.plan_types.specs.Frames.{Row, Frame, value_in, empty_frame, row_numbers}
-use Rattle.plan_types.specs.declared.error.ErrorKind.{ErrorKind}
 use Rattle.plan_dsl.specs.Ops.{Expression}
 use Rattle.plan_dsl.specs.Picks.{where_true}
-use Rattle.plan_dsl.specs.Plans.{PlanKind, ScanKind, SelectKind, HStackKind, FilterKind, SimpleProjectionKind, PlanOp, Named}
-use Rattle.plan_dsl.specs.Typing.{Typed}
-use Rattle.plan_dsl.specs.Kernels.{Meaning, common_length, stretched, at_length, for_rows, in_front}
-
--- an expression as a node sees it on a frame: its name, its typing, and what it gives
-pub record Evaluated : Type 0 where
-  pub name : Name
-  pub typing : Result Typed ErrorKind
-  pub gives : Meaning
-
--- how expressions are evaluated on a frame
-abbrev pub Evaluation : Type 0
-Evaluation = Frame → Named Expression → Evaluated
-
--- a column of a frame to be: its name, type and values
-pub record Series : Type 0 where
-  pub name : Name
-  pub type : Ty
-  pub values : List Val
-
--- what is given of that type
-abbrev pub series_typed : Name → Result Typed ErrorKind → Outcome (List Val) → Outcome Series
-series_typed name (Err kind) given = Stuck
-series_typed name (Ok typed) given = then_do given (λ values. Done (record { name = name; type = typed.type; values = values }))
-
-abbrev pub series_on : List ℕ → Evaluated → Outcome Series
-series_on rows e = series_typed e.name e.typing (e.gives rows)
-
--- what each gives. The first that gives nothing is the answer
-abbrev pub all_series : List ℕ → List Evaluated → Outcome (List Series)
-all_series rows [] = Done []
-all_series rows (e ∷ es) = then_do (series_on rows e) (λ s. then_do (all_series rows es) (λ ss. Done (s ∷ ss)))
+use Rattle.plan_dsl.specs.Plans.{PlanKind, ScanKind, SelectKind, HStackKind, GroupByKind, FilterKind, SimpleProjectionKind, PlanOp, Named}
+use Rattle.plan_dsl.specs.Kernels.{common_length, stretched, at_length, for_rows, in_front}
+pub use Rattle.plan_dsl.specs.Evaluations.{Evaluated, Evaluation, Series, series_typed, series_on, all_series, series_columns}
+use Rattle.plan_dsl.specs.Grouping.{grouped}
 
 abbrev pub length_beside : ℕ → Option ℕ → Option ℕ
 length_beside count None = None
@@ -59,9 +31,6 @@ shared_length (s ∷ ss) = length_beside (length s.values) (shared_length ss)
 abbrev pub rows_of : ℕ → List Series → List Row
 rows_of count [] = replicate count []
 rows_of count (s ∷ ss) = in_front (stretched count s.values) (rows_of count ss)
-
-abbrev pub series_columns : List Series → Columns
-series_columns ss = map (λ s. (s.name, s.type)) ss
 
 -- the frame of the columns
 abbrev pub framed : List Series → Outcome Frame
@@ -146,6 +115,7 @@ abbrev pub frame_by : PlanKind (Named Expression) → List Frame → Evaluation 
 frame_by (ScanKind table schema) tables evaluate [] = scanned tables table schema
 frame_by (SelectKind outputs) tables evaluate (input ∷ []) = selected evaluate outputs input
 frame_by (HStackKind outputs) tables evaluate (input ∷ []) = hstacked evaluate outputs input
+frame_by (GroupByKind keys aggs) tables evaluate (input ∷ []) = grouped evaluate keys aggs input
 frame_by (FilterKind predicate) tables evaluate (input ∷ []) = filtered evaluate predicate input
 frame_by (SimpleProjectionKind columns) tables evaluate (input ∷ []) = projected columns input
 frame_by kind tables evaluate inputs = Stuck

@@ -1,17 +1,17 @@
 -- The rules of plans.
 -- A node breaks some kinds of rule, where what they read is there, over inputs that have a schema or none.
 -- Where it breaks none it has a schema. A plan is well formed where each of its nodes has one.
-use Rattle.std.specs.Prelude.{ℕ, zero, suc, List, [], ◌∷◌, ◌++◌, map, Option, Some, None, Bool, false, not, is_some, IsTrue, Result, Ok, Err, if◌then◌else◌}
+use Rattle.std.specs.Prelude.{ℕ, zero, suc, List, [], ◌∷◌, ◌++◌, map, Option, Some, None, Bool, true, false, not, is_some, IsTrue, Result, Ok, Err, if◌then◌else◌}
 use Rattle.std.specs.List.{Contains, flat_map, list_all}
 use Rattle.std.specs.Option.{option_map, option_map_or}
 use Rattle.plan_types.specs.Schemas.{Name, Columns, type_at, with_column, repeats, names_of, all_known}
-use Rattle.plan_types.specs.Types.{Ty, Truth, same_type}
+use Rattle.plan_types.specs.Types.{Ty, Truth, ListType, same_type}
 use Rattle.plan_types.specs.declared.error.ErrorKind.{ErrorKind}
 use Rattle.plan_types.specs.declared.error.ErrorKind.TheVariants.{Duplicate, SchemaMismatch, InvalidOperation, ComputeError}
 use Rattle.plan_dsl.specs.Registry.{Registry}
 use Rattle.plan_dsl.specs.Trees.{Trees, node, no_more, more, fold, fold_all, tree_at}
 use Rattle.plan_dsl.specs.Ops.{Expression}
-use Rattle.plan_dsl.specs.Plans.{Named, PlanKind, ScanKind, SelectKind, HStackKind, FilterKind, SimpleProjectionKind, RefusedKind, PlanOp, OverInput, Plan, expressions_of}
+use Rattle.plan_dsl.specs.Plans.{Named, PlanKind, ScanKind, SelectKind, HStackKind, GroupByKind, FilterKind, SimpleProjectionKind, RefusedKind, PlanOp, OverInput, Plan, expressions_of}
 use Rattle.plan_dsl.specs.Literals.{settled}
 use Rattle.plan_dsl.specs.Typing.{Typed, typing, kinds_in}
 
@@ -46,6 +46,15 @@ scan_kinds own = kind_where (not (all_known own)) InvalidOperation ++ kind_where
 abbrev pub name_kinds : ErrorKind → List (Named Expression) → List ErrorKind
 name_kinds kind outputs = kind_where (repeats (map (λ output. output.label.name) outputs)) kind
 
+-- there is a key
+abbrev pub key_kinds : List (Named Expression) → List ErrorKind
+key_kinds [] = ComputeError ∷ []
+key_kinds (key ∷ keys) = []
+
+-- a group-by has a key, and the names of keys and aggregates are distinct
+abbrev pub group_kinds : List (Named Expression) → List (Named Expression) → List ErrorKind
+group_kinds keys aggs = key_kinds keys ++ name_kinds Duplicate (keys ++ aggs)
+
 -- a typed predicate is of the type of truth values: what one that isn't typed breaks, its expression says
 abbrev pub predicate_kinds : Result Typed ErrorKind → List ErrorKind
 predicate_kinds (Err kind) = []
@@ -67,6 +76,8 @@ own_kinds registry (SelectKind outputs) (None ∷ []) = []
 own_kinds registry (SelectKind outputs) (Some schema ∷ []) = name_kinds Duplicate outputs
 own_kinds registry (HStackKind outputs) (None ∷ []) = []
 own_kinds registry (HStackKind outputs) (Some schema ∷ []) = name_kinds ComputeError outputs
+own_kinds registry (GroupByKind keys aggs) (None ∷ []) = []
+own_kinds registry (GroupByKind keys aggs) (Some schema ∷ []) = group_kinds keys aggs
 own_kinds registry (FilterKind predicate) (None ∷ []) = []
 own_kinds registry (FilterKind predicate) (Some schema ∷ []) = predicate_kinds (typing registry schema (settled predicate.expression))
 own_kinds registry (SimpleProjectionKind columns) (None ∷ []) = []
@@ -94,11 +105,32 @@ abbrev pub with_columns : Columns → Columns → Columns
 with_columns schema [] = schema
 with_columns schema (column ∷ columns) = with_columns (with_column schema column.0 column.1) columns
 
+-- what aggregates are in groups: there is one value for each group, which is the list of the aggregate's values where it
+-- may have many
+abbrev pub type_in_groups : Typed → Ty
+type_in_groups typed = if typed.many then ListType typed.type else typed.type
+
+abbrev pub typed_in_groups : Result Typed ErrorKind → Result Typed ErrorKind
+typed_in_groups (Err kind) = Err kind
+typed_in_groups (Ok typed) = Ok (record { type = type_in_groups typed; many = true })
+
+-- the names and types of aggregates in groups, where each has a type
+abbrev pub aggregate_columns : Registry → Columns → List (Named Expression) → Option Columns
+aggregate_columns registry schema [] = Some []
+aggregate_columns registry schema (output ∷ outputs) =
+    column_before output.label.name (typed_in_groups (typing registry schema (settled output.expression))) (aggregate_columns registry schema outputs)
+
+-- the columns of keys, and then those of aggregates
+abbrev pub columns_beside : Option Columns → Option Columns → Option Columns
+columns_beside (Some keys) (Some aggs) = Some (keys ++ aggs)
+columns_beside keys aggs = None
+
 -- the schema of a node that breaks no rule
 abbrev pub schema_by : Registry → PlanKind (Named Expression) → List (Option Columns) → Option Columns
 schema_by registry (ScanKind table schema) [] = Some schema
 schema_by registry (SelectKind outputs) (Some schema ∷ []) = columns_of registry schema outputs
 schema_by registry (HStackKind outputs) (Some schema ∷ []) = option_map (with_columns schema) (columns_of registry schema outputs)
+schema_by registry (GroupByKind keys aggs) (Some schema ∷ []) = columns_beside (columns_of registry schema keys) (aggregate_columns registry schema aggs)
 schema_by registry (FilterKind predicate) (Some schema ∷ []) = Some schema
 schema_by registry (SimpleProjectionKind columns) (Some schema ∷ []) = Some columns
 schema_by registry kind inputs = None

@@ -4,7 +4,7 @@ use Rattle.std.specs.List.{flat_map}
 use Rattle.plan_types.specs.Schemas.{Columns, columns}
 use Rattle.plan_types.specs.declared.error.ErrorKind.{ErrorKind}
 use Rattle.plan_dsl.specs.declared.plan.DslPlan.{DslPlan}
-use Rattle.plan_dsl.specs.declared.plan.DslPlan.TheVariants.{DataFrameScan, Filter', HStack', MapFunction', Select'}
+use Rattle.plan_dsl.specs.declared.plan.DslPlan.TheVariants.{DataFrameScan, Filter', GroupBy', HStack', MapFunction', Select'}
 use Rattle.plan_dsl.specs.declared.function.DslFunction.{DslFunction}
 use Rattle.plan_dsl.specs.declared.function.DslFunction.TheVariants.{Drop}
 use Rattle.plan_dsl.specs.declared.plan.ProjectionOptions.{ProjectionOptions}
@@ -28,13 +28,14 @@ pub data PlanKind (E : Type 0) : Type 0 where
   ScanKind : (table : Option ℕ) (schema : Columns) → PlanKind E
   SelectKind : (outputs : List E) → PlanKind E
   HStackKind : (outputs : List E) → PlanKind E
+  GroupByKind : (keys aggs : List E) → PlanKind E
   FilterKind : (predicate : E) → PlanKind E
   SimpleProjectionKind : (columns : Columns) → PlanKind E
   DropKind : (selectors : List E) (strict : Bool) → PlanKind E
   RefusedKind : (kinds : List ErrorKind) → PlanKind E
 
 -- What a node of a plan does: its kind, and the schema of its frame where the node records it. A scan does, and a
--- select, an hstack or a simple projection of a lowered plan. These of a query, a filter and a drop record none.
+-- select, an hstack, a group-by or a simple projection of a lowered plan. These of a query, a filter and a drop record none.
 pub record PlanOp (E : Type 0) : Type 0 where
   pub kind : PlanKind E
   pub recorded : Option Columns
@@ -52,6 +53,7 @@ abbrev pub expressions_of : {E : Type 0} → PlanKind E → List (OverInput E)
 expressions_of (ScanKind table schema) = []
 expressions_of (SelectKind outputs) = over_input 0 outputs ∷ []
 expressions_of (HStackKind outputs) = over_input 0 outputs ∷ []
+expressions_of (GroupByKind keys aggs) = over_input 0 keys ∷ over_input 0 aggs ∷ []
 expressions_of (FilterKind predicate) = over_input 0 (predicate ∷ []) ∷ []
 expressions_of (SimpleProjectionKind columns) = []
 expressions_of (DropKind selectors strict) = []
@@ -77,6 +79,9 @@ select_op outputs recorded = record { kind = SelectKind outputs; recorded = reco
 abbrev pub hstack_op : {E : Type 0} → List E → Option Columns → PlanOp E
 hstack_op outputs recorded = record { kind = HStackKind outputs; recorded = recorded }
 
+abbrev pub group_by_op : {E : Type 0} → List E → List E → Option Columns → PlanOp E
+group_by_op keys aggs recorded = record { kind = GroupByKind keys aggs; recorded = recorded }
+
 abbrev pub filter_op : {E : Type 0} → E → PlanOp E
 filter_op predicate = record { kind = FilterKind predicate; recorded = None }
 
@@ -86,12 +91,15 @@ simple_projection_op columns recorded = record { kind = SimpleProjectionKind col
 abbrev pub drop_op : {E : Type 0} → List E → Bool → PlanOp E
 drop_op selectors strict = record { kind = DropKind selectors strict; recorded = None }
 
--- a select, an hstack, a filter and a drop in a query
+-- a select, an hstack, a group-by, a filter and a drop in a query
 abbrev pub source_select : List Source → SourcePlan → SourcePlan
 source_select sources input = node (select_op sources None) (more input no_more)
 
 abbrev pub source_hstack : List Source → SourcePlan → SourcePlan
 source_hstack sources input = node (hstack_op sources None) (more input no_more)
+
+abbrev pub source_group_by : List Source → List Source → SourcePlan → SourcePlan
+source_group_by keys aggs input = node (group_by_op keys aggs None) (more input no_more)
 
 abbrev pub source_filter : Source → SourcePlan → SourcePlan
 source_filter source input = node (filter_op source) (more input no_more)
@@ -112,6 +120,7 @@ abbrev pub plan_tree : DslPlan → SourcePlan
 plan_tree (DataFrameScan table schema) = node (scan_op table (columns schema)) no_more
 plan_tree (Select' expr p input options) = source_select (trees_of expr) (plan_tree input)
 plan_tree (HStack' exprs p input options) = source_hstack (trees_of exprs) (plan_tree input)
+plan_tree (GroupBy' p input keys aggs maintain_order) = source_group_by (trees_of keys) (trees_of aggs) (plan_tree input)
 plan_tree (Filter' p input predicate) = source_filter (tree_of predicate) (plan_tree input)
 plan_tree (MapFunction' p input function) = source_function function (plan_tree input)
 
@@ -134,6 +143,7 @@ abbrev pub options_in : DslPlan → List ProjectionOptions
 options_in (DataFrameScan table schema) = []
 options_in (Select' expr p input options) = options ∷ options_in input
 options_in (HStack' exprs p input options) = options ∷ options_in input
+options_in (GroupBy' p input keys aggs maintain_order) = options_in input
 options_in (Filter' p input predicate) = options_in input
 options_in (MapFunction' p input function) = options_in input
 

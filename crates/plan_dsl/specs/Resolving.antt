@@ -9,12 +9,16 @@ use Rattle.plan_types.specs.declared.error.ErrorKind.{ErrorKind}
 use Rattle.plan_dsl.specs.Registry.{Registry}
 use Rattle.plan_dsl.specs.Trees.{Trees, node, no_more, more}
 use Rattle.plan_dsl.specs.Ops.{Expression}
-use Rattle.plan_dsl.specs.Plans.{PlanKind, ScanKind, SelectKind, HStackKind, FilterKind, SimpleProjectionKind, DropKind, RefusedKind, PlanOp, Plan, Named, named, SourcePlan}
-use Rattle.plan_dsl.specs.Sources.{Source}
+use Rattle.plan_dsl.specs.Plans.{PlanKind, ScanKind, SelectKind, HStackKind, GroupByKind, FilterKind, SimpleProjectionKind, DropKind, RefusedKind, PlanOp, Plan, Named, named, SourcePlan}
+use Rattle.plan_dsl.specs.Sources.{Source, written}
 use Rattle.plan_dsl.specs.Refusals.{then_ok, with_kinds}
-use Rattle.plan_dsl.specs.Expansion.{expansions, predicate_expansion}
+use Rattle.plan_dsl.specs.Expansion.{expansions, key_names, predicate_expansion}
 use Rattle.plan_dsl.specs.Drops.{drop_leaves}
 use Rattle.plan_dsl.specs.PlanRules.{schemas_of}
+
+-- a group-by of keys that were expanded: what its markers stand for in aggregates leaves out those that are plain columns
+abbrev pub over_keys : Columns → List Source → List Expression → Result (PlanKind (Named Expression)) (List ErrorKind)
+over_keys schema aggs keys = then_ok (expansions (key_names (map written keys)) schema aggs) (λ trees. Ok (GroupByKind (map named keys) (map named trees)))
 
 -- a kind with its expressions expanded over a schema, each under its own name, and a drop as a simple projection of what
 -- it leaves; or the kinds by which it is refused
@@ -22,6 +26,7 @@ abbrev pub expanded_kind : Columns → PlanKind Source → Result (PlanKind (Nam
 expanded_kind schema (ScanKind table own) = Ok (ScanKind table own)
 expanded_kind schema (SelectKind sources) = then_ok (expansions [] schema sources) (λ trees. Ok (SelectKind (map named trees)))
 expanded_kind schema (HStackKind sources) = then_ok (expansions [] schema sources) (λ trees. Ok (HStackKind (map named trees)))
+expanded_kind schema (GroupByKind keys aggs) = then_ok (expansions [] schema keys) (over_keys schema aggs)
 expanded_kind schema (FilterKind source) = then_ok (with_kinds (predicate_expansion schema source)) (λ tree. Ok (FilterKind (named tree)))
 expanded_kind schema (SimpleProjectionKind columns) = Ok (SimpleProjectionKind columns)
 expanded_kind schema (DropKind selectors strict) = then_ok (drop_leaves schema selectors strict) (λ columns. Ok (SimpleProjectionKind columns))

@@ -1,7 +1,7 @@
 -- Expressions that are one, and what they are hashed by.
 -- Two literals are one where they are of one type and value, and two expressions where their nodes do the same and have
 -- as many children, which are one in order. So a literal of a type isn't one without, nor of another type.
-use Rattle.std.specs.Prelude.{ℕ, Bool, true, false, ◌&&◌, ◌==◌, List, [], ◌++◌, encode_utf8_all}
+use Rattle.std.specs.Prelude.{ℕ, Bool, true, false, ◌&&◌, ◌==◌, List, [], ◌++◌, encode_utf8_all, if◌then◌else◌, Option, Some, None}
 use Rattle.std.specs.Hash as fed
 use Rattle.std.specs.Bool.{beq}
 use Rattle.std.specs.Cmp.Lexicographic.{pointwise}
@@ -10,12 +10,14 @@ use Rattle.plan_types.specs.Types.{Ty, same_type, type_writes}
 use Rattle.plan_types.specs.Values.{Val, NullValue, TruthValue, IntValue, TextValue, ListValue, StructValue, same_value}
 use Rattle.plan_types.specs.declared.dtype.CastOptions.{CastOptions}
 use Rattle.plan_types.specs.declared.dtype.CastOptions.TheVariants.{Strict, NonStrict, Overflowing}
+use Rattle.plan_dsl.specs.declared.aggregate.GroupByMethod.{GroupByMethod}
+use Rattle.plan_dsl.specs.declared.aggregate.GroupByMethod.TheVariants.{Min, NanMin, Max, NanMax, NUnique, First, Last, Implode, Sum, Count, Groups}
 use Rattle.plan_dsl.specs.declared.literal.LiteralValue.{LiteralValue}
 use Rattle.plan_dsl.specs.declared.operator.Operator.{Operator}
 use Rattle.plan_dsl.specs.declared.operator.Operator.TheVariants.{Eq, EqValidity, NotEq, NotEqValidity, Lt, LtEq, Gt, GtEq, Plus, Minus, Multiply, Divide, FloorDivide, Modulus, And, Or, Xor, LogicalAnd, LogicalOr}
 use Rattle.plan_dsl.specs.declared.sort_options.SortOptions.{SortOptions}
 use Rattle.plan_dsl.specs.Trees.{Tree, Trees, node, no_more, more}
-use Rattle.plan_dsl.specs.Ops.{Op, ColumnOp, LiteralOp, BinaryOp, CastOp, LenOp, SliceOp, AliasOp, ExplodeOp, GatherOp, FilterOp, SortOp, SortByOp}
+use Rattle.plan_dsl.specs.Ops.{Op, ColumnOp, LiteralOp, BinaryOp, CastOp, LenOp, SliceOp, AliasOp, ExplodeOp, GatherOp, FilterOp, SortOp, SortByOp, AggOp, WindowOp}
 use Rattle.plan_dsl.specs.Literals.{literal_type, literal_value}
 
 -- ---- what is one
@@ -54,9 +56,32 @@ options_rank Overflowing = 2
 abbrev pub same_options : CastOptions → CastOptions → Bool
 same_options left right = options_rank left == options_rank right
 
+-- the number of a method: no two have the same
+abbrev pub method_rank : GroupByMethod → ℕ
+method_rank Min = 0
+method_rank NanMin = 1
+method_rank Max = 2
+method_rank NanMax = 3
+method_rank NUnique = 4
+method_rank First = 5
+method_rank Last = 6
+method_rank Implode = 7
+method_rank Sum = 8
+method_rank (Count include_nulls) = if include_nulls then 10 else 9
+method_rank Groups = 11
+
+abbrev pub same_method : GroupByMethod → GroupByMethod → Bool
+same_method left right = method_rank left == method_rank right
+
 -- whether two ways to sort are one
 abbrev pub same_sort : SortOptions → SortOptions → Bool
 same_sort left right = beq left.descending right.descending && beq left.nulls_last right.nulls_last
+
+-- whether both are no order, or one
+abbrev pub same_order : Option SortOptions → Option SortOptions → Bool
+same_order None None = true
+same_order (Some options) (Some other) = same_sort options other
+same_order order other = false
 
 abbrev pub same_flags : List Bool → List Bool → Bool
 same_flags left right = pointwise beq left right
@@ -78,7 +103,9 @@ same_op (GatherOp returns_scalar) (GatherOp other) = beq returns_scalar other
 same_op FilterOp FilterOp = true
 same_op (SortOp options) (SortOp other) = same_sort options other
 same_op (SortByOp descending nulls_last) (SortByOp other others) = same_flags descending other && same_flags nulls_last others
+same_op (WindowOp order) (WindowOp other) = same_order order other
 same_op (AliasOp name) (AliasOp other) = bytes_eq name other
+same_op (AggOp method) (AggOp other) = same_method method other
 same_op op other = false
 
 -- whether two trees have nodes that do the same, by that test, over as many children
@@ -106,6 +133,11 @@ bare_writes (StructValue parts) = []
 abbrev pub literal_writes : Ty → Val → List (List ℕ)
 literal_writes type value = type_writes type ++ bare_writes value
 
+-- whether there is an order, and which
+abbrev pub order_writes : Option SortOptions → List (List ℕ)
+order_writes None = fed.u8 0
+order_writes (Some options) = fed.u8 1 ++ (fed.bool options.descending ++ fed.bool options.nulls_last)
+
 abbrev pub op_writes : Op → List (List ℕ)
 op_writes (ColumnOp name) = fed.u8 0 ++ fed.str (encode_utf8_all name)
 op_writes (LiteralOp type value) = fed.u8 1 ++ literal_writes type value
@@ -119,6 +151,8 @@ op_writes FilterOp = fed.u8 8
 op_writes (SortOp options) = fed.u8 9 ++ (fed.bool options.descending ++ fed.bool options.nulls_last)
 op_writes (AliasOp name) = fed.u8 10 ++ fed.str (encode_utf8_all name)
 op_writes (SortByOp descending nulls_last) = fed.u8 11 ++ (fed.slice fed.bool descending ++ fed.slice fed.bool nulls_last)
+op_writes (AggOp method) = fed.u8 21 ++ fed.u8 (method_rank method)
+op_writes (WindowOp order) = fed.u8 22 ++ order_writes order
 
 -- each node, before its children
 abbrev mutual

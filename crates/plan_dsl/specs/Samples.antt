@@ -11,13 +11,15 @@ use Rattle.plan_types.specs.declared.dtype.CastOptions.{CastOptions}
 use Rattle.plan_types.specs.declared.dtype.CastOptions.TheVariants.{Strict, NonStrict, Overflowing}
 use Rattle.plan_types.specs.declared.dtype.TimeUnit.TheVariants.{Microseconds}
 use Rattle.plan_types.specs.declared.error.ErrorKind.{ErrorKind}
+use Rattle.plan_dsl.specs.declared.aggregate.GroupByMethod.{GroupByMethod}
+use Rattle.plan_dsl.specs.declared.aggregate.GroupByMethod.TheVariants.{Min, NanMin, Max, NanMax, NUnique, First, Last, Implode, Sum, Count, Groups}
 use Rattle.plan_dsl.specs.declared.expr.Expr.TheVariants.{Literal}
 use Rattle.plan_dsl.specs.declared.literal.LiteralValue.{LiteralValue}
 use Rattle.plan_dsl.specs.declared.operator.Operator.{Operator}
 use Rattle.plan_dsl.specs.declared.operator.Operator.TheVariants.{Eq, EqValidity, NotEq, NotEqValidity, Lt, LtEq, Gt, GtEq, Plus, Minus, Multiply, Divide, FloorDivide, Modulus, And, Or, Xor, LogicalAnd, LogicalOr}
 use Rattle.plan_dsl.specs.declared.sort_options.SortOptions.{SortOptions}
 use Rattle.plan_dsl.specs.Trees.{Tree, node, no_more, more, children_from}
-use Rattle.plan_dsl.specs.Ops.{ColumnOp, LiteralOp, BinaryOp, CastOp, Expression, LenOp, SliceOp, AliasOp, ExplodeOp, GatherOp, FilterOp, SortOp, SortByOp}
+use Rattle.plan_dsl.specs.Ops.{ColumnOp, LiteralOp, BinaryOp, CastOp, Expression, LenOp, SliceOp, AliasOp, ExplodeOp, GatherOp, FilterOp, SortOp, SortByOp, AggOp, WindowOp}
 use Rattle.plan_dsl.specs.Sources.{Excluded, ExcludedName, ExcludedType, Renaming, AddPrefix, AddSuffix, SetName, Plain, WildcardOp, ColumnsOp, DtypeColumnOp, IndexColumnOp, NthOp, ExcludeOp, SelectorOp, RootOp, RenameOp, Source, written}
 use Rattle.plan_dsl.specs.Expressions.{plain_tree}
 use Rattle.plan_dsl.specs.Literals.{is_literal}
@@ -27,7 +29,8 @@ use Rattle.plan_dsl.specs.OperatorTypes.{Taken, pair_to, operator_types}
 use Rattle.plan_dsl.specs.Meaning.{meaning}
 use Rattle.plan_dsl.specs.Strictness.{as_operand}
 use Rattle.plan_dsl.specs.StrictRun.{strict_run}
-use Rattle.plan_dsl.specs.Plans.{Plan, SourcePlan, PlanOp, named, scan_op, select_op, hstack_op, filter_op, simple_projection_op, source_select, source_hstack, source_filter}
+use Rattle.plan_dsl.specs.Plans.{Plan, SourcePlan, PlanOp, named, scan_op, select_op, hstack_op, group_by_op, filter_op, simple_projection_op, source_select, source_hstack, source_filter}
+use Rattle.plan_dsl.specs.Groups.{Group}
 use Rattle.plan_dsl.specs.PlanKernels.{Series}
 
 -- ---- tables of cases
@@ -194,6 +197,9 @@ c = column "c"
 abbrev pub d : Expression
 d = column "d"
 
+abbrev pub k : Expression
+k = column "k"
+
 abbrev pub m : Expression
 m = column "m"
 
@@ -208,6 +214,9 @@ t = column "t"
 
 abbrev pub u : Expression
 u = column "u"
+
+abbrev pub v : Expression
+v = column "v"
 
 abbrev pub w : Expression
 w = column "w"
@@ -304,6 +313,20 @@ sort_by descending nulls_last keys input = node (SortByOp descending nulls_last)
 
 abbrev pub rising_by : List Expression → Expression → Expression
 rising_by keys input = sort_by (false ∷ []) (false ∷ []) keys input
+
+-- an aggregate
+abbrev pub agg : GroupByMethod → Expression → Expression
+agg method input = node (AggOp method) (more input no_more)
+
+abbrev pub all_methods : List GroupByMethod
+all_methods = Min ∷ NanMin ∷ Max ∷ NanMax ∷ NUnique ∷ First ∷ Last ∷ Implode ∷ Sum ∷ Count false ∷ Count true ∷ Groups ∷ []
+
+-- a function over the groups of keys, and over such groups in order
+abbrev pub over : List Expression → Expression → Expression
+over keys function = node (WindowOp None) (more function (children_from keys))
+
+abbrev pub over_by : SortOptions → Expression → List Expression → Expression → Expression
+over_by options order keys function = node (WindowOp (Some options)) (more function (more order (children_from keys)))
 
 abbrev pub alias : String → Expression → Expression
 alias name operand = node (AliasOp (codes name)) (more operand no_more)
@@ -519,6 +542,9 @@ select outputs input = node (select_op (map named outputs) None) (more input no_
 abbrev pub stack : List Expression → Plan → Plan
 stack outputs input = node (hstack_op (map named outputs) None) (more input no_more)
 
+abbrev pub group_by : List Expression → List Expression → Plan → Plan
+group_by keys aggs input = node (group_by_op (map named keys) (map named aggs) None) (more input no_more)
+
 abbrev pub keep : Expression → Plan → Plan
 keep predicate input = node (filter_op (named predicate)) (more input no_more)
 
@@ -566,6 +592,23 @@ mixed =
     (null ∷ number 20 ∷ []) ∷
     (number 100 ∷ number 20 ∷ []) ∷
     (number 5 ∷ number 300 ∷ []) ∷ [])
+
+-- numbers beside the names of their groups, with nulls
+abbrev pub schema_kv : Columns
+schema_kv = (codes "k", TextType) ∷ (codes "v", int64) ∷ []
+
+abbrev pub keyed : Frame
+keyed =
+    frame_with schema_kv (
+    (text "x" ∷ number 1 ∷ []) ∷
+    (text "y" ∷ number 2 ∷ []) ∷
+    (text "x" ∷ null ∷ []) ∷
+    (null ∷ number 4 ∷ []) ∷
+    (null ∷ number 5 ∷ []) ∷
+    (text "x" ∷ number 1 ∷ []) ∷ [])
+
+abbrev pub group : List Val → List ℕ → Group ℕ
+group key items = record { key = key; items = items }
 
 -- four rows beside truth values and a null
 abbrev pub flagged : Frame

@@ -1,23 +1,36 @@
 -- Signatures: what a kind of expression asks of its operands, one by one, and what it makes of them. Most kinds have one,
 -- and with it their rule (`Typing`).
-use Rattle.std.specs.Prelude.{ℕ, zero, suc, Bool, true, false, ◌&&◌, ◌||◌, List, [], ◌∷◌, Result, Ok, Err, if◌then◌else◌}
-use Rattle.plan_types.specs.Types.{Ty, Truth, Integer, ListType, is_integer, is_null, is_ord, is_truth}
+use Rattle.std.specs.Prelude.{ℕ, zero, suc, nat_lt, Bool, true, false, ◌&&◌, ◌||◌, List, [], ◌∷◌, Result, Ok, Err, if◌then◌else◌, Some, None}
+use Rattle.plan_types.specs.Types.{Ty, Truth, Integer, DurationType, ListType, is_integer, is_null, is_ord, is_truth}
 use Rattle.plan_types.specs.declared.error.ErrorKind.{ErrorKind}
-use Rattle.plan_types.specs.declared.error.ErrorKind.TheVariants.{SchemaMismatch, ComputeError}
+use Rattle.plan_types.specs.declared.error.ErrorKind.TheVariants.{SchemaMismatch, ComputeError, InvalidOperation}
+use Rattle.plan_dsl.specs.declared.aggregate.GroupByMethod.{GroupByMethod}
+use Rattle.plan_dsl.specs.declared.aggregate.GroupByMethod.TheVariants.{Min, NanMin, Max, NanMax, NUnique, First as FirstValue, Last, Implode, Sum, Count as CountValues, Groups}
 use Rattle.plan_dsl.specs.declared.signature.Ask.{Ask}
-use Rattle.plan_dsl.specs.declared.signature.Ask.TheVariants.{Any, Sortable, Boolean, Place, Length}
+use Rattle.plan_dsl.specs.declared.signature.Ask.TheVariants.{Any, Sortable, Boolean, Place, Length, Summable}
 use Rattle.plan_dsl.specs.declared.signature.Asked.{Asked}
 use Rattle.plan_dsl.specs.declared.signature.OwnType.{OwnType}
-use Rattle.plan_dsl.specs.declared.signature.OwnType.TheVariants.{First, Item, ListOf, Count}
+use Rattle.plan_dsl.specs.declared.signature.OwnType.TheVariants.{First, Item, ListOf, Count, Total, Rows}
 use Rattle.plan_dsl.specs.declared.signature.Many.{Many}
 use Rattle.plan_dsl.specs.declared.signature.Many.TheVariants.{Never, Always, AsFirst}
 use Rattle.plan_dsl.specs.declared.signature.Signature.{Signature}
-use Rattle.plan_dsl.specs.Ops.{Op, LenOp, SliceOp, ExplodeOp, GatherOp, FilterOp, SortOp, SortByOp}
+use Rattle.plan_dsl.specs.Ops.{Op, LenOp, SliceOp, ExplodeOp, GatherOp, FilterOp, SortOp, SortByOp, AggOp, WindowOp}
 use Rattle.plan_dsl.specs.Sorting.{are_for}
 
 -- the type of places and lengths
 abbrev pub place_type : Ty
 place_type = Integer true 64
+
+-- whether values of the type are added up
+abbrev pub is_summable : Ty → Bool
+is_summable (DurationType unit) = true
+is_summable type = is_integer type || is_truth type
+
+-- the type of their sum: of truth values that of counts, and of small integers one that is wide
+abbrev pub sum_type : Ty → Ty
+sum_type Truth = Integer false 32
+sum_type (Integer signed bits) = if nat_lt bits 32 then Integer true 64 else Integer signed bits
+sum_type type = type
 
 -- whether the type that an operand has alone is what is asked
 abbrev pub is_asked : Ask → Ty → Bool
@@ -26,6 +39,7 @@ is_asked Sortable type = is_ord type || is_null type
 is_asked Boolean type = is_truth type || is_null type
 is_asked Place type = is_integer type
 is_asked Length type = is_integer type || is_null type
+is_asked Summable type = is_summable type
 
 -- and the type to which it is taken
 abbrev pub asked_target : Ask → Ty → Ty
@@ -34,13 +48,15 @@ asked_target Place type = place_type
 asked_target Length type = place_type
 asked_target ask type = type
 
--- the own type, from that of the first operand: of a count 32 bits without a sign
+-- the own type, from that of the first operand: of a count, and of each row number in a list, 32 bits without a sign
 abbrev pub own_type : OwnType → Ty → Ty
 own_type First type = type
 own_type Item (ListType item) = item
 own_type Item type = type
 own_type ListOf type = ListType type
 own_type Count type = Integer false 32
+own_type Total type = sum_type type
+own_type Rows type = ListType (Integer false 32)
 
 -- what is asked of an operand, of which there may be many values or must be one
 abbrev pub asks : Ask → Asked
@@ -63,6 +79,23 @@ takes first second rest own many = Ok (record { first = first; second = second; 
 abbrev pub has_flags : List Bool → List Bool → ℕ → Bool
 has_flags descending nulls_last keys = are_for descending keys && are_for nulls_last keys
 
+-- what an aggregate asks of its column, and its own type: there is one value
+abbrev pub aggregated : Ask → OwnType → Result Signature ErrorKind
+aggregated ask own = takes (asks ask) (asks Any) (asks Any) own Never
+
+abbrev pub method_signature : GroupByMethod → Result Signature ErrorKind
+method_signature Min = aggregated Sortable First
+method_signature NanMin = aggregated Sortable First
+method_signature Max = aggregated Sortable First
+method_signature NanMax = aggregated Sortable First
+method_signature NUnique = aggregated Any Count
+method_signature FirstValue = aggregated Any First
+method_signature Last = aggregated Any First
+method_signature Implode = aggregated Any ListOf
+method_signature Sum = aggregated Summable Total
+method_signature (CountValues include_nulls) = aggregated Any Count
+method_signature Groups = aggregated Any Rows
+
 -- The signature of an op over so many operands. An op over another number of operands than its own, which no expression
 -- has, has none.
 abbrev pub signature : Op → ℕ → Result Signature ErrorKind
@@ -75,6 +108,10 @@ signature FilterOp (suc (suc zero)) = takes (asks Any) (asks Boolean) (asks Any)
 signature (SortOp options) (suc zero) = takes (asks Sortable) (asks Any) (asks Any) First AsFirst
 signature (SortByOp descending nulls_last) (suc keys) =
     if has_flags descending nulls_last keys then takes (asks Any) (asks Sortable) (asks Sortable) First AsFirst else Err ComputeError
+signature (AggOp method) (suc zero) = method_signature method
+signature (WindowOp None) (suc (suc keys)) = takes (asks Any) (asks Any) (asks Any) First Always
+signature (WindowOp (Some options)) (suc (suc (suc keys))) = takes (asks Any) (asks Sortable) (asks Any) First Always
+signature (WindowOp order) count = Err InvalidOperation
 signature op count = Err SchemaMismatch
 
 -- the kinds that a node breaks whatever its children's types, and where they have none: that for which its op has no

@@ -5,11 +5,12 @@ use Rattle.std.specs.Ordering.{on}
 use Rattle.std.proofs.Common.{ap}
 use Rattle.std.proofs.lemmas.Cmp.{on_equiv}
 use Rattle.plan_types.specs.TypeLaws.{equivalence_from_exact}
+use Rattle.plan_dsl.specs.declared.aggregate.AggExpr.{AggExpr}
 use Rattle.plan_dsl.specs.declared.expr.Expr.{Expr}
 use Rattle.plan_dsl.specs.declared.marker.Excluded.{Excluded}
 use Rattle.plan_dsl.specs.declared.marker.RenameAliasFn.{RenameAliasFn}
 use Rattle.plan_dsl.specs.declared.selector.Selector.{Selector}
-use Rattle.plan_dsl.specs.Expressions.{excluded_of, renaming_of, tree_of, selector_tree}
+use Rattle.plan_dsl.specs.Expressions.{excluded_of, renaming_of, tree_of, agg_tree, selector_tree}
 use Rattle.plan_dsl.specs.Sources.{same_excluded, same_renaming, same_source, excluded_writes, renaming_writes, source_writes}
 use Rattle.plan_dsl.specs.SourceLaws.{same_excluded_exact, same_excluded_own, same_renaming_exact, same_renaming_own, same_source_exact, same_source_own}
 
@@ -20,7 +21,14 @@ same_expression_is_equivalence = on_equiv tree_of (equivalence_from_exact same_s
 pub same_expression_hash : (a b : Expr) → same_source (tree_of a) (tree_of b) ≡ true → source_writes (tree_of a) ≡ source_writes (tree_of b)
 same_expression_hash a b h = ap source_writes (same_source_exact (tree_of a) (tree_of b) h)
 
--- the same of selectors
+-- the same of aggregates
+pub same_aggregate_is_equivalence : IsEquivalence (on agg_tree same_source)
+same_aggregate_is_equivalence = on_equiv agg_tree (equivalence_from_exact same_source same_source_exact same_source_own)
+
+pub same_aggregate_hash : (a b : AggExpr) → same_source (agg_tree a) (agg_tree b) ≡ true → source_writes (agg_tree a) ≡ source_writes (agg_tree b)
+same_aggregate_hash a b h = ap source_writes (same_source_exact (agg_tree a) (agg_tree b) h)
+
+-- of selectors
 pub same_selector_is_equivalence : IsEquivalence (on selector_tree same_source)
 same_selector_is_equivalence = on_equiv selector_tree (equivalence_from_exact same_source same_source_exact same_source_own)
 

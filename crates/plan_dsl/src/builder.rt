@@ -3,7 +3,7 @@ ghost use Rattle.std.specs.Prelude.{◌≡◌, ◌<◌, ◌∷◌, map, vec_len,
 ghost use Rattle.plan_types.specs.Errors.{no_memory};
 ghost use Rattle.plan_types.specs.Schemas.{columns};
 ghost use Rattle.plan_dsl.specs.Expressions.{selector_tree, tree_of};
-ghost use Rattle.plan_dsl.specs.Plans.{plan_tree, options_in, scan_op, source_drop, source_filter, source_hstack, source_select};
+ghost use Rattle.plan_dsl.specs.Plans.{plan_tree, options_in, scan_op, source_drop, source_filter, source_group_by, source_hstack, source_select};
 ghost use Rattle.plan_dsl.specs.Trees.{node, no_more};
 
 use crate::expr::{Expr, Exprs};
@@ -66,6 +66,27 @@ impl DslBuilder {
             exprs: Exprs { items: exprs },
             input,
             options,
+        }))
+    }
+
+    /// A row for each group of rows that have the same keys: the keys, then what each aggregate gives on the group's rows.
+    pub fn group_by(
+        self,
+        alloc: Global,
+        keys: Vec<Expr>,
+        aggs: Vec<Expr>,
+        maintain_order: bool,
+    ) -> Result<DslBuilder, PlanError>
+        ensures ok { IfOk result (λ built. plan_tree built.0 ≡ source_group_by (map tree_of keys.items) (map tree_of aggs.items) (plan_tree self.0)) }
+        ensures options { IfOk result (λ built. options_in built.0 ≡ options_in self.0) }
+        ensures err { IfErr result (λ error. error ≡ no_memory) }
+    {
+        let input = Box::new(alloc, self.0)?;
+        Ok(DslBuilder(DslPlan::GroupBy {
+            input,
+            keys: Exprs { items: keys },
+            aggs: Exprs { items: aggs },
+            maintain_order,
         }))
     }
 

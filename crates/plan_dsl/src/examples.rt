@@ -1,5 +1,6 @@
 //! Worked examples of the definitions. The functions do nothing: their clauses are the examples.
 
+pub mod aggregates;
 pub mod aliases;
 pub mod arithmetic;
 pub mod bits;
@@ -7,6 +8,8 @@ pub mod drops;
 pub mod expansion;
 pub mod expressions;
 pub mod filters;
+pub mod group_bys;
+pub mod groups;
 pub mod hstacks;
 pub mod kinds;
 pub mod lists_and_structs;
@@ -26,3 +29,4 @@ pub mod sources;
 pub mod strictness;
 pub mod texts_and_times;
 pub mod time_arithmetic;
+pub mod windows;

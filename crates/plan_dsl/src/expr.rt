@@ -8,6 +8,8 @@ ghost use Rattle.plan_dsl.specs.SameExpressions.{operator_rank, options_rank, sa
 ghost use Rattle.plan_dsl.specs.Sources.{is_plain, same_source, same_source_op, source_op_writes, source_writes};
 ghost use Rattle.plan_types.specs.Errors.{no_memory};
 
+use crate::aggregate::{AggExpr, method_rank};
+use crate::below_aggregate;
 use crate::literal::LiteralValue;
 use crate::marker::{Excluded, RenameAliasFn, excluded_copied, names_copied, types_copied};
 use crate::operator::Operator;
@@ -153,6 +155,8 @@ pub enum Expr {
     },
     /// The same under another name.
     Alias(Box<Expr>, PlSmallStr),
+    /// One value that is made of an expression's.
+    Agg(AggExpr),
     /// A marker: the columns of these names, whether they stand or not.
     Columns(Vec<PlSmallStr>),
     /// A marker: the columns of one of these types.
@@ -207,6 +211,14 @@ macro_rules! copied {
                 let expr = expr.$copy $args?;
                 Ok(Expr::KeepName(Box::new($alloc, expr)?))
             }
+            Expr::Agg(aggregate) => {
+                let method = aggregate.method();
+                below_aggregate!(aggregate, input => {
+                    let input = input.$copy $args?;
+                    let input = Box::new($alloc, input)?;
+                    Ok(Expr::Agg(AggExpr::of(method, input)))
+                })
+            }
         }
     };
 }
@@ -234,6 +246,7 @@ macro_rules! compared {
             }
             (Expr::Selector(selector), Expr::Selector(own)) => selector.is_same(own),
             (Expr::KeepName(expr), Expr::KeepName(own)) => expr.is_same(own),
+            (Expr::Agg(aggregate), Expr::Agg(own)) => aggregate.is_same(own),
             _ => false,
         }
     };
@@ -276,6 +289,7 @@ macro_rules! feed_operands {
             Expr::Exclude(marker, _) => marker.feed($state),
             Expr::Selector(selector) => selector.feed($state),
             Expr::KeepName(expr) => expr.feed($state),
+            Expr::Agg(aggregate) => below_aggregate!(aggregate, input => input.feed($state)),
         }
     };
 }
@@ -354,6 +368,7 @@ impl Expr {
             Expr::Filter { input, by } => input.is_plain() && by.is_plain(),
             Expr::SortBy { expr, by, .. } => expr.is_plain() && by.are_plain(),
             Expr::Alias(expr, _) => expr.is_plain(),
+            Expr::Agg(aggregate) => below_aggregate!(aggregate, input => input.is_plain()),
             Expr::Columns(_)
             | Expr::DtypeColumn(_)
             | Expr::IndexColumn(_)
@@ -415,7 +430,11 @@ impl Expr {
                     dtype.hash(state);
                     state.write_u8(options_rank(*options));
                 },
-                Expr::RenameAlias { function, .. } => function.hash(state)
+                Expr::RenameAlias { function, .. } => function.hash(state),
+                Expr::Agg(aggregate) => {
+                    state.write_u8(21);
+                    state.write_u8(method_rank(aggregate.method()));
+                }
             ],
             Expr::Column(name) => 0 [name]
             Expr::Literal(value) => 1 [value]

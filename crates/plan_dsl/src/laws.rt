@@ -1,6 +1,8 @@
 //! Laws of the definitions. The functions do nothing: their clauses are the laws.
+ghost use Rattle.plan_dsl.specs.GroupLaws.{EachIsInOneGroup, ItemsGoToTheEnd, SameKeysAreOne};
 ghost use Rattle.plan_dsl.specs.Laws.{TakenTypesStay, TakenOperandsSaySame, SwappedOperandsSaySame, StrictRunIsMeaning, MeaningHasType, OnlyNumbersAreUntyped, CoresSaySame};
 ghost use Rattle.plan_dsl.specs.SortLaws.{ValuesHaveAnOrder, KeysHaveAnOrder, ValuesAreSorted, RowsAreSorted, SortsByKeysAreSorted, SortedByKeysAreTheSame};
+ghost use Rattle.plan_dsl.specs.WindowLaws.{WindowsHaveAValueForEachRow};
 
 /// Operands that were taken to their types stay, and a node over operands that were made of those types says
 /// the same. Where an operator has one for swapped operands, that takes them to the same types and gives the same.
@@ -28,4 +30,18 @@ pub fn sort_laws()
     ensures rows { RowsAreSorted }
     ensures keys { SortsByKeysAreSorted }
     ensures same { SortedByKeysAreTheSame }
+{}
+
+/// Keys that are found the same are one. Each item is in one group, beside its own keys, no group is empty, and no two have
+/// the same keys. An item more goes to the end of its group, or into a new one behind the others: so groups stand in the
+/// order in which their keys first occur, and their items as they stood.
+pub fn group_laws()
+    ensures same { SameKeysAreOne }
+    ensures one_group { EachIsInOneGroup }
+    ensures order { ItemsGoToTheEnd }
+{}
+
+/// A window gives a value for each row on which it is asked.
+pub fn window_laws()
+    ensures { WindowsHaveAValueForEachRow }
 {}

@@ -1,6 +1,7 @@
 //! Queries as a user writes them: expressions, plans, and the registry of functions.
 #![tactic(auto)]
 
+pub mod aggregate;
 pub mod builder;
 mod examples;
 pub mod expr;

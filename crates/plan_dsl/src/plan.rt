@@ -38,6 +38,14 @@ pub enum DslPlan {
         input: Box<DslPlan>,
         predicate: Expr,
     },
+    /// A row for each group of the input's rows by the keys. Whether groups keep their order means nothing here: they
+    /// always do.
+    GroupBy {
+        input: Box<DslPlan>,
+        keys: Exprs,
+        aggs: Exprs,
+        maintain_order: bool,
+    },
     /// The input's frame with a column for each expression, in place of its namesake or behind the others.
     HStack {
         exprs: Exprs,
@@ -57,6 +65,23 @@ pub enum DslPlan {
     },
 }
 
+// A copy of a plan, by its kind: of those that are listed the fields that take memory besides the input, and the others.
+macro_rules! copied {
+    ($plan:expr, $alloc:ident, $($kind:ident [$($cloned:ident),*] [$($copied:ident),*])*) => {
+        match $plan {
+            DslPlan::DataFrameScan { table, schema } => {
+                let schema = schema.try_clone($alloc)?;
+                Ok(DslPlan::DataFrameScan { table: *table, schema })
+            }
+            $(DslPlan::$kind { input, $($cloned,)* $($copied),* } => Ok(DslPlan::$kind {
+                input: Box::new($alloc, input.try_clone($alloc)?)?,
+                $($cloned: $cloned.try_clone($alloc)?,)*
+                $($copied: *$copied),*
+            }),)*
+        }
+    };
+}
+
 impl DslPlan {
     /// The empty table without columns.
     pub fn default(alloc: Global) -> Result<DslPlan, PlanError>
@@ -74,58 +99,13 @@ impl DslPlan {
         ensures options { IfOk result (λ copy. options_in copy ≡ options_in self.now) }
         ensures err { IfErr result (λ error. error ≡ no_memory) }
     {
-        match self {
-            DslPlan::DataFrameScan { table, schema } => {
-                let schema = schema.try_clone(alloc)?;
-                Ok(DslPlan::DataFrameScan {
-                    table: *table,
-                    schema,
-                })
-            }
-            DslPlan::Filter { input, predicate } => {
-                let input = input.try_clone(alloc)?;
-                let predicate = predicate.try_clone(alloc)?;
-                Ok(DslPlan::Filter {
-                    input: Box::new(alloc, input)?,
-                    predicate,
-                })
-            }
-            DslPlan::HStack {
-                exprs,
-                input,
-                options,
-            } => {
-                let exprs = exprs.try_clone(alloc)?;
-                let input = input.try_clone(alloc)?;
-                let input = Box::new(alloc, input)?;
-                Ok(DslPlan::HStack {
-                    exprs,
-                    input,
-                    options: *options,
-                })
-            }
-            DslPlan::MapFunction { input, function } => {
-                let input = input.try_clone(alloc)?;
-                let function = function.try_clone(alloc)?;
-                Ok(DslPlan::MapFunction {
-                    input: Box::new(alloc, input)?,
-                    function,
-                })
-            }
-            DslPlan::Select {
-                expr,
-                input,
-                options,
-            } => {
-                let expr = expr.try_clone(alloc)?;
-                let input = input.try_clone(alloc)?;
-                let input = Box::new(alloc, input)?;
-                Ok(DslPlan::Select {
-                    expr,
-                    input,
-                    options: *options,
-                })
-            }
-        }
+        copied!(
+            self, alloc,
+            Filter [predicate] []
+            GroupBy [keys, aggs] [maintain_order]
+            HStack [exprs] [options]
+            MapFunction [function] []
+            Select [expr] [options]
+        )
     }
 }

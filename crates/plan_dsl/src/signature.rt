@@ -17,6 +17,8 @@ pub enum Ask {
     Place,
     /// An integer or null, taken to places.
     Length,
+    /// A type whose values are added up: an integer, truth values or a span of time, which is kept.
+    Summable,
 }
 
 /// What is asked of an operand.
@@ -38,6 +40,10 @@ pub enum OwnType {
     ListOf,
     /// That of counts.
     Count,
+    /// That of its sums.
+    Total,
+    /// Lists of row numbers.
+    Rows,
 }
 
 /// Whether the column of a kind may have another length than one.
