@@ -6,7 +6,7 @@ use Rattle.std.proofs.lemmas.Option.{slice_get-map, slice_get_within}
 use Rattle.std.proofs.lemmas.List.{map-append, map-set, length-map}
 use Rattle.plan_types.proofs.ListLemmas.{slice_get-append, slice_get-seam, slice_get-set_other, slice_get-set_same}
 use Rattle.plan_dsl.specs.Ops.{Op, Expression}
-use Rattle.plan_dsl.specs.Plans.{Named, PlanKind, ScanKind, SelectKind, HStackKind, FilterKind, SimpleProjectionKind, DropKind, RefusedKind, PlanOp, Plan, filter_op}
+use Rattle.plan_dsl.specs.Plans.{Named, PlanKind, ScanKind, SelectKind, HStackKind, GroupByKind, FilterKind, SimpleProjectionKind, DropKind, RefusedKind, PlanOp, Plan, filter_op}
 use Rattle.plan_dsl.specs.PlanRules.{broken_kinds, where_unbroken, plan_rule, schema_of}
 use Rattle.plan_dsl.specs.Registry.{Registry}
 use Rattle.plan_types.specs.Schemas.{Columns}
@@ -18,7 +18,7 @@ use Rattle.plan_arena.specs.Items.{expression_layer, plan_layer, HoldsExpression
 use Rattle.plan_arena.specs.Runs.{HasRecorded, IsAccepted, AllAccepted}
 use Rattle.plan_arena.specs.declared.aexpr.AExpr.{AExpr}
 use Rattle.plan_arena.specs.declared.ir.IR.{IR}
-use Rattle.plan_arena.specs.declared.ir.IR.TheVariants.{DataFrameScan, Filter, HStack, Select, SimpleProjection, Invalid}
+use Rattle.plan_arena.specs.declared.ir.IR.TheVariants.{DataFrameScan, Filter, GroupBy, HStack, Select, SimpleProjection, Invalid}
 use Rattle.plan_arena.specs.declared.arena.Node.{Node}
 use Rattle.plan_arena.specs.declared.expr_ir.ExprIR.{ExprIR}
 use Rattle.plan_arena.proofs.DenotationLemmas.{HasShape, some_same, denotes_one, kept, inputs_denote, depth_of_inputs}
@@ -94,6 +94,10 @@ kind_one : (items : List AExpr) (flat : PlanKind (Named ℕ)) (a b : PlanKind (N
 kind_one items (ScanKind table schema) a b d e = d ∙ sym e
 kind_one items (SelectKind nodes) a b d e = d.1 ∙ ap SelectKind (named_one items nodes d.0 e.0 d.2 e.2) ∙ sym e.1
 kind_one items (HStackKind nodes) a b d e = d.1 ∙ ap HStackKind (named_one items nodes d.0 e.0 d.2 e.2) ∙ sym e.1
+kind_one items (GroupByKind keys aggs) a b d e =
+    let first = named_one items keys d.0 e.0 d.3 e.3 in
+    let later = named_one items aggs d.1 e.1 d.4 e.4 in
+    d.2 ∙ (λ i. GroupByKind (first i) (later i)) ∙ sym e.2
 kind_one items (FilterKind n) a b d e =
     d.1 ∙ ap FilterKind (list_one d.0 e.0 (named_one items (n ∷ []) (d.0 ∷ []) (e.0 ∷ []) d.2 e.2)) ∙ sym e.1
 kind_one items (SimpleProjectionKind columns) a b d e = d ∙ sym e
@@ -129,6 +133,7 @@ kind_kept : (items items' : List AExpr) → ((n : ℕ) (op : Op) (inputs : List 
 kind_kept items items' keeps (ScanKind table schema) kind d = d
 kind_kept items items' keeps (SelectKind nodes) kind d = (d.0, d.1, named_kept items items' keeps nodes d.0 d.2)
 kind_kept items items' keeps (HStackKind nodes) kind d = (d.0, d.1, named_kept items items' keeps nodes d.0 d.2)
+kind_kept items items' keeps (GroupByKind keys aggs) kind d = (d.0, d.1, d.2, named_kept items items' keeps keys d.0 d.3, named_kept items items' keeps aggs d.1 d.4)
 kind_kept items items' keeps (FilterKind n) kind d = (d.0, d.1, named_kept items items' keeps (n ∷ []) (d.0 ∷ []) d.2)
 kind_kept items items' keeps (SimpleProjectionKind columns) kind d = d
 kind_kept items items' keeps (DropKind selectors strict) kind d = absurd d
@@ -177,6 +182,7 @@ plan_within items plans n d = plan_here items plans n d.tree d.denotes
 pub records_unless_filter : (item : IR) → item ≢ Invalid → ((input : Node) (predicate : ExprIR) → item ≡ Filter input predicate → ⊥) → IsTrue (is_some (op_of (plan_layer item)).recorded)
 records_unless_filter (Filter input predicate) valid other = absurd (other input predicate refl)
 records_unless_filter (DataFrameScan table schema) valid other = refl
+records_unless_filter (GroupBy input keys aggs schema maintain_order) valid other = refl
 records_unless_filter (HStack exprs input schema options) valid other = refl
 records_unless_filter (Select expr input schema options) valid other = refl
 records_unless_filter (SimpleProjection input schema) valid other = refl
@@ -186,6 +192,7 @@ records_unless_filter Invalid valid other = absurd (valid refl)
 pub is_valid : (expressions : List AExpr) (item : IR) (flat : PlanOp (Named ℕ)) (inputs : List ℕ) (op : PlanOp (Named Expression)) → plan_layer item ≡ layer flat inputs → DenotesOp expressions flat op → item ≢ Invalid
 is_valid expressions (Filter input predicate) flat inputs op is d e = cc
 is_valid expressions (DataFrameScan table schema) flat inputs op is d e = cc
+is_valid expressions (GroupBy input keys aggs schema maintain_order) flat inputs op is d e = cc
 is_valid expressions (HStack exprs input schema options) flat inputs op is d e = cc
 is_valid expressions (Select expr input schema options) flat inputs op is d e = cc
 is_valid expressions (SimpleProjection input schema) flat inputs op is d e = cc

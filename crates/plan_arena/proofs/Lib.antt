@@ -3,4 +3,5 @@ pub mod InputLemmas
 pub mod ItemLemmas
 pub mod LabelLemmas
 pub mod NumberLemmas
+pub mod PlanSchemaLemmas
 pub mod RunLemmas

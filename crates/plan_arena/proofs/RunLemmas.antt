@@ -7,15 +7,16 @@ use Rattle.plan_types.specs.Frames.{Frame, IsFrameOf}
 use Rattle.plan_dsl.specs.Registry.{Registry}
 use Rattle.plan_dsl.specs.Trees.{Trees, node, no_more, more, fold_all}
 use Rattle.plan_dsl.specs.Ops.{Expression}
-use Rattle.plan_dsl.specs.Plans.{Named, PlanKind, ScanKind, SelectKind, HStackKind, FilterKind, PlanOp, Plan, expressions_of, own_scans, scans_in}
+use Rattle.plan_dsl.specs.Plans.{Named, PlanKind, ScanKind, SelectKind, HStackKind, GroupByKind, FilterKind, PlanOp, Plan, expressions_of, own_scans, scans_in}
 use Rattle.plan_dsl.specs.Typing.{typing}
 use Rattle.plan_dsl.specs.Kernels.{Meaning}
 use Rattle.plan_dsl.specs.Meaning.{meaning}
 use Rattle.plan_dsl.specs.PlanRules.{input_schema, schema_of, schemas_of}
+use Rattle.plan_dsl.specs.Grouping.{grouped}
 use Rattle.plan_dsl.specs.PlanKernels.{Evaluated, selected, hstacked, filtered, plan_kernel, frame_by}
 use Rattle.plan_dsl.specs.PlanMeaning.{by_meaning, HasTables, FitsPlan, MeetsWhere}
 use Rattle.plan_dsl.proofs.FrameLemmas.{AllMeet, front_tables, back_tables, scans_below, kernel_meets}
-use Rattle.plan_dsl.proofs.KernelLemmas.{AgreeOn, selected_agrees, hstacked_agrees, filtered_agrees}
+use Rattle.plan_dsl.proofs.KernelLemmas.{AgreeOn, selected_agrees, hstacked_agrees, grouped_agrees, filtered_agrees}
 use Rattle.plan_dsl.proofs.LiteralLemmas.{strict_settled}
 use Rattle.plan_dsl.proofs.RunLemmas.{strict_is_meaning}
 use Rattle.plan_arena.specs.Runs.{own_schema, IsStrictCore, HasRecorded, IsAccepted, AllAccepted, AreStrictOver, AreStrict, IsStrictPlan, AllStrictPlans, by_running, plan_run, RunsSoundly, AllRunSoundly}
@@ -49,6 +50,11 @@ module _ (registry : Registry) where
   hstack_runs outputs (Some schema) o strict meets =
       hstacked_agrees (by_running registry) (by_meaning registry) outputs outputs schema o (strict_agree schema outputs strict) meets
 
+  groups_run : (keys aggs : List (Named Expression)) (schema : Option Columns) (o : Outcome Frame) → AreStrictOver registry schema keys → AreStrictOver registry schema aggs → MeetsWhere schema o → grouped (by_running registry) keys aggs o ≡ grouped (by_meaning registry) keys aggs o
+  groups_run keys aggs None o strict also meets = absurd meets
+  groups_run keys aggs (Some schema) o strict also meets =
+      grouped_agrees (by_running registry) (by_meaning registry) keys keys aggs aggs schema o (strict_agree schema keys strict) (strict_agree schema aggs also) meets
+
   filter_runs : (predicate : Named Expression) (schema : Option Columns) (o : Outcome Frame) → AreStrictOver registry schema (predicate ∷ []) → MeetsWhere schema o → filtered (by_running registry) predicate o ≡ filtered (by_meaning registry) predicate o
   filter_runs predicate None o strict meets = absurd meets
   filter_runs predicate (Some schema) o strict meets =
@@ -63,6 +69,11 @@ module _ (registry : Registry) where
   strict_node tables (HStackKind outputs) schemas (o ∷ []) strict meet =
       let under = only_input schemas o meet in
       hstack_runs outputs under.0 o (subst (λ s. AreStrictOver registry (input_schema s 0) outputs) under.1 strict.0) under.2
+  strict_node tables (GroupByKind keys aggs) schemas (o ∷ []) strict meet =
+      let under = only_input schemas o meet in
+      let first = subst (λ s. AreStrictOver registry (input_schema s 0) keys) under.1 strict.0 in
+      let later = subst (λ s. AreStrictOver registry (input_schema s 0) aggs) under.1 strict.1.0 in
+      groups_run keys aggs under.0 o first later under.2
   strict_node tables (FilterKind predicate) schemas (o ∷ []) strict meet =
       let under = only_input schemas o meet in
       filter_runs predicate under.0 o (subst (λ s. AreStrictOver registry (input_schema s 0) (predicate ∷ [])) under.1 strict.0) under.2

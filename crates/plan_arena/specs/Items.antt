@@ -5,21 +5,22 @@ use Rattle.std.specs.List.{AllByRecursion}
 use Rattle.plan_types.specs.Types.{ty}
 use Rattle.plan_types.specs.Schemas.{columns}
 use Rattle.plan_dsl.specs.Expressions.{sort_by_op}
-use Rattle.plan_dsl.specs.Ops.{Op, ColumnOp, BinaryOp, CastOp, LenOp, SliceOp, AliasOp, Expression, ExplodeOp, GatherOp, FilterOp, SortOp}
+use Rattle.plan_dsl.specs.Ops.{Op, ColumnOp, BinaryOp, CastOp, LenOp, SliceOp, AliasOp, Expression, ExplodeOp, GatherOp, FilterOp, SortOp, AggOp}
 use Rattle.plan_dsl.specs.Literals.{literal_op}
 use Rattle.plan_dsl.specs.Names.{Label, FromField, FromNothing, alias_label, column_label, literal_label}
-use Rattle.plan_dsl.specs.Plans.{PlanKind, ScanKind, SelectKind, HStackKind, FilterKind, SimpleProjectionKind, DropKind, RefusedKind, PlanOp, Plan, Named, scan_op, select_op, hstack_op, filter_op, simple_projection_op}
+use Rattle.plan_dsl.specs.Plans.{PlanKind, ScanKind, SelectKind, HStackKind, GroupByKind, FilterKind, SimpleProjectionKind, DropKind, RefusedKind, PlanOp, Plan, Named, scan_op, select_op, hstack_op, group_by_op, filter_op, simple_projection_op}
+use Rattle.plan_arena.specs.Aggregates.{input_at, method_at}
 use Rattle.plan_arena.specs.Denotation.{Denotes, DenoteAll, DenotesTree}
 use Rattle.plan_arena.specs.Layers.{Layer, layer, op_of, inputs_of}
 use Rattle.plan_dsl.specs.Trees.{node}
 use Rattle.plan_arena.specs.declared.arena.Node.{Node}
 use Rattle.plan_arena.specs.declared.aexpr.AExpr.{AExpr}
-use Rattle.plan_arena.specs.declared.aexpr.AExpr.TheVariants.{Column, Literal, BinaryExpr, Cast, Len, Slice, Alias, Explode, Gather, Filter as FilterBy, Sort, SortBy}
+use Rattle.plan_arena.specs.declared.aexpr.AExpr.TheVariants.{Column, Literal, BinaryExpr, Cast, Len, Slice, Alias, Explode, Gather, Filter as FilterBy, Sort, SortBy, Agg}
 use Rattle.plan_arena.specs.declared.expr_ir.OutputName.{OutputName}
 use Rattle.plan_arena.specs.declared.expr_ir.OutputName.TheVariants.{None as Unnamed, ColumnLhs, LiteralLhs, Alias as NamedByAlias, Field}
 use Rattle.plan_arena.specs.declared.expr_ir.ExprIR.{ExprIR}
 use Rattle.plan_arena.specs.declared.ir.IR.{IR}
-use Rattle.plan_arena.specs.declared.ir.IR.TheVariants.{DataFrameScan, Filter, HStack, Select, SimpleProjection, Invalid}
+use Rattle.plan_arena.specs.declared.ir.IR.TheVariants.{DataFrameScan, Filter, GroupBy, HStack, Select, SimpleProjection, Invalid}
 use Rattle.plan_arena.specs.declared.plan.IRPlan.{IRPlan}
 
 -- the numbers of nodes
@@ -39,6 +40,7 @@ expression_layer (Explode input) = layer ExplodeOp (input.0 ∷ [])
 expression_layer (Gather expr idx returns_scalar) = layer (GatherOp returns_scalar) (expr.0 ∷ idx.0 ∷ [])
 expression_layer (FilterBy input by) = layer FilterOp (input.0 ∷ by.0 ∷ [])
 expression_layer (Sort expr options) = layer (SortOp options) (expr.0 ∷ [])
+expression_layer (Agg aggregate) = layer (AggOp (method_at aggregate)) ((input_at aggregate).0 ∷ [])
 expression_layer (SortBy expr by sort_options) = layer (sort_by_op sort_options) (expr.0 ∷ numbers by.items.items)
 
 -- the name of an output, with what it comes from
@@ -58,6 +60,7 @@ abbrev pub plan_layer : IR → Layer (PlanOp (Named ℕ))
 plan_layer (DataFrameScan table schema) = layer (scan_op table (columns schema)) []
 plan_layer (Select expr input schema options) = layer (select_op (map named_node expr.items.items) (Some (columns schema))) (input.0 ∷ [])
 plan_layer (HStack exprs input schema options) = layer (hstack_op (map named_node exprs.items.items) (Some (columns schema))) (input.0 ∷ [])
+plan_layer (GroupBy input keys aggs schema maintain_order) = layer (group_by_op (map named_node keys.items.items) (map named_node aggs.items.items) (Some (columns schema))) (input.0 ∷ [])
 plan_layer (Filter input predicate) = layer (filter_op (named_node predicate)) (input.0 ∷ [])
 plan_layer (SimpleProjection input schema) = layer (simple_projection_op (columns schema) (Some (columns schema))) (input.0 ∷ [])
 plan_layer Invalid = layer (record { kind = RefusedKind []; recorded = None }) []
@@ -67,6 +70,7 @@ abbrev pub kind_text : {E : Type 0} → PlanKind E → List ℕ
 kind_text (ScanKind table schema) = codes "df"
 kind_text (SelectKind outputs) = codes "projection"
 kind_text (HStackKind outputs) = codes "hstack"
+kind_text (GroupByKind keys aggs) = codes "aggregate"
 kind_text (FilterKind predicate) = codes "selection"
 kind_text (SimpleProjectionKind columns) = codes "simple_projection"
 kind_text (DropKind selectors strict) = codes "invalid"
@@ -98,6 +102,8 @@ DenotesKind expressions (SelectKind nodes) kind =
     (outputs : List (Named Expression)) × (kind ≡ SelectKind outputs) × DenoteNamed expressions nodes outputs
 DenotesKind expressions (HStackKind nodes) kind =
     (outputs : List (Named Expression)) × (kind ≡ HStackKind outputs) × DenoteNamed expressions nodes outputs
+DenotesKind expressions (GroupByKind keys aggs) kind =
+    (outputs : List (Named Expression)) × (others : List (Named Expression)) × (kind ≡ GroupByKind outputs others) × DenoteNamed expressions keys outputs × DenoteNamed expressions aggs others
 DenotesKind expressions (FilterKind flat) kind =
     (predicate : Named Expression) × (kind ≡ FilterKind predicate) × DenoteNamed expressions (flat ∷ []) (predicate ∷ [])
 DenotesKind expressions (SimpleProjectionKind columns) kind = kind ≡ SimpleProjectionKind columns

@@ -10,7 +10,7 @@ use Rattle.plan_dsl.specs.declared.operator.Operator.TheVariants.{Plus}
 use Rattle.plan_dsl.specs.Trees.{node, no_more, more}
 use Rattle.plan_dsl.specs.Names.{column_label, literal_label}
 use Rattle.plan_dsl.specs.Ops.{Expression}
-use Rattle.plan_dsl.specs.Plans.{Named, Plan, named, select_op, hstack_op, simple_projection_op}
+use Rattle.plan_dsl.specs.Plans.{Named, Plan, named, select_op, hstack_op, group_by_op, simple_projection_op}
 use Rattle.plan_dsl.specs.Samples.{int8, int32, number, null, yes, no, a, b, sum, cast_as, frame_with, scan, empty_scan, schema_ab, schema_flagged}
 use Rattle.plan_arena.specs.declared.arena.Node.{Node}
 use Rattle.plan_arena.specs.declared.aexpr.AExpr.{AExpr}
@@ -52,6 +52,10 @@ schema_of_one name type = (codes name, type) ∷ []
 -- a lowered select and a lowered simple projection, which record their schemas
 abbrev pub lowered_select : Columns → List Expression → Plan → Plan
 lowered_select schema outputs input = node (select_op (map named outputs) (Some schema)) (more input no_more)
+
+-- a lowered group-by, which records its schema
+abbrev pub lowered_groups : Columns → List Expression → List Expression → Plan → Plan
+lowered_groups schema keys aggs input = node (group_by_op (map named keys) (map named aggs) (Some schema)) (more input no_more)
 
 -- a lowered hstack, which records its schema
 abbrev pub lowered_hstack : Columns → List Expression → Plan → Plan

@@ -1,9 +1,11 @@
 //! Expressions in an arena.
 ghost use Rattle.std.specs.Prelude.{◌≡◌, ◌+◌, [], ◌∷◌, ◌++◌, length, reverse, IfOk, OnOk, OnErr, IfErr};
 ghost use Rattle.plan_types.specs.Errors.{no_memory};
+ghost use Rattle.plan_arena.specs.Aggregates.{input_at, method_at};
 ghost use Rattle.plan_arena.specs.Layers.{layer, op_of, inputs_of};
 ghost use Rattle.plan_arena.specs.Items.{expression_layer, numbers};
 
+use crate::aggregate::IRAggExpr;
 use crate::arena::Node;
 use crate::inputs::{Inputs, NodeList};
 use plan_dsl::literal::LiteralValue;
@@ -72,12 +74,14 @@ pub enum AExpr {
     },
     /// A node under another name.
     Alias(Node, PlSmallStr),
+    /// One value that is made of a node's.
+    Agg(IRAggExpr),
 }
 
 // The inputs of each kind in order, the one from which the name comes first: what the functions give of none, one, two
-// or three of them, or of one and a list.
+// or three of them, or of one and a list, and of the one of an aggregate.
 macro_rules! by_inputs {
-    ($item:expr, $none:expr, $one:path, $two:path, $three:path, $listed:path $(, $given:expr)?) => {
+    ($item:expr, $none:expr, $one:path, $two:path, $three:path, $listed:path, $below:path $(, $given:expr)?) => {
         match $item {
             AExpr::Column(_) | AExpr::Literal(_) | AExpr::Len => $none,
             AExpr::BinaryExpr { left, right, .. } => $two(left, right $(, $given)?),
@@ -88,6 +92,7 @@ macro_rules! by_inputs {
             AExpr::Sort { expr, .. } => $one(expr $(, $given)?),
             AExpr::SortBy { expr, by, .. } => $listed(expr, by $(, $given)?),
             AExpr::Alias(expr, _) => $one(expr $(, $given)?),
+            AExpr::Agg(aggregate) => $below(aggregate $(, $given)?),
             AExpr::Slice { input, offset, length } => $three(input, offset, length $(, $given)?),
         }
     };
@@ -106,6 +111,7 @@ macro_rules! copied {
             }),)*
             AExpr::Explode(input) => Ok(AExpr::Explode(*input)),
             AExpr::Alias(expr, name) => Ok(AExpr::Alias(*expr, name.try_clone($alloc)?)),
+            AExpr::Agg(aggregate) => Ok(AExpr::Agg(*aggregate)),
         }
     };
 }
@@ -137,7 +143,8 @@ impl AExpr {
             Inputs::one,
             Inputs::two,
             Inputs::three,
-            Inputs::listed
+            Inputs::listed,
+            one_below
         )
     }
 
@@ -178,8 +185,33 @@ impl AExpr {
         ensures layer { expression_layer self.new ≡ layer (op_of (expression_layer self.old)) (numbers inputs.now) }
         ensures same { numbers inputs.now ≡ inputs_of (expression_layer self.old) → self.new ≡ self.old }
     {
-        by_inputs!(self, (), set_one, set_two, set_three, set_listed, inputs)
+        by_inputs!(
+            self,
+            (),
+            set_one,
+            set_two,
+            set_three,
+            set_listed,
+            set_below,
+            inputs
+        )
     }
+}
+
+// The one input of an aggregate.
+fn one_below<'a>(aggregate: &IRAggExpr) -> Inputs<'a>
+    ensures { result ≡ (input_at aggregate.now).0 ∷ [] }
+{
+    Inputs::one(&aggregate.get_input().first())
+}
+
+fn set_below(aggregate: &mut IRAggExpr, inputs: &[Node])
+    requires { length inputs.now ≡ 1 }
+    ensures list { inputs.now ≡ input_at aggregate.new ∷ [] }
+    ensures method { method_at aggregate.new ≡ method_at aggregate.old }
+    ensures same { numbers inputs.now ≡ (input_at aggregate.old).0 ∷ [] → aggregate.new ≡ aggregate.old }
+{
+    aggregate.set_input(inputs[0]);
 }
 
 fn set_one(first: &mut Node, inputs: &[Node])

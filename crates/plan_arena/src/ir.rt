@@ -31,6 +31,14 @@ pub enum IR {
         input: Node,
         predicate: ExprIR,
     },
+    /// A row for each group of the input's rows: the keys, then what each aggregate gives.
+    GroupBy {
+        input: Node,
+        keys: ExprIRs,
+        aggs: ExprIRs,
+        schema: Schema,
+        maintain_order: bool,
+    },
     /// The input's frame with a column for each expression, in place of its namesake or behind the others.
     HStack {
         exprs: ExprIRs,
@@ -55,66 +63,34 @@ pub enum IR {
     Invalid,
 }
 
+// A copy of an item, by its kind: of those that are listed the fields that take memory, and the others.
+macro_rules! copied {
+    ($item:expr, $alloc:ident, $($kind:ident [$($cloned:ident),*] [$($copied:ident),*])*) => {
+        match $item {
+            $(IR::$kind { $($cloned,)* $($copied),* } => Ok(IR::$kind {
+                $($cloned: $cloned.try_clone($alloc)?,)*
+                $($copied: *$copied),*
+            }),)*
+            IR::Invalid => Ok(IR::Invalid),
+        }
+    };
+}
+
 impl IR {
     /// The same node, over the same inputs and expressions.
     pub fn try_clone(&self, alloc: Global) -> Result<IR, PlanError>
         ensures ok { IfOk result (λ copy. plan_layer copy ≡ plan_layer self.now) }
         ensures err { IfErr result (λ error. error ≡ no_memory) }
     {
-        match self {
-            IR::DataFrameScan { table, schema } => {
-                let schema = schema.try_clone(alloc)?;
-                Ok(IR::DataFrameScan {
-                    table: *table,
-                    schema,
-                })
-            }
-            IR::Filter { input, predicate } => {
-                let predicate = predicate.try_clone(alloc)?;
-                Ok(IR::Filter {
-                    input: *input,
-                    predicate,
-                })
-            }
-            IR::HStack {
-                exprs,
-                input,
-                schema,
-                options,
-            } => {
-                let exprs = exprs.try_clone(alloc)?;
-                let schema = schema.try_clone(alloc)?;
-                Ok(IR::HStack {
-                    exprs,
-                    input: *input,
-                    schema,
-                    options: *options,
-                })
-            }
-            IR::Select {
-                expr,
-                input,
-                schema,
-                options,
-            } => {
-                let expr = expr.try_clone(alloc)?;
-                let schema = schema.try_clone(alloc)?;
-                Ok(IR::Select {
-                    expr,
-                    input: *input,
-                    schema,
-                    options: *options,
-                })
-            }
-            IR::SimpleProjection { input, columns } => {
-                let columns = columns.try_clone(alloc)?;
-                Ok(IR::SimpleProjection {
-                    input: *input,
-                    columns,
-                })
-            }
-            IR::Invalid => Ok(IR::Invalid),
-        }
+        copied!(
+            self, alloc,
+            DataFrameScan [schema] [table]
+            Filter [predicate] [input]
+            GroupBy [keys, aggs, schema] [input, maintain_order]
+            HStack [exprs, schema] [input, options]
+            Select [expr, schema] [input, options]
+            SimpleProjection [columns] [input]
+        )
     }
 
     /// What a report calls the node.
@@ -124,6 +100,7 @@ impl IR {
         match self {
             IR::DataFrameScan { .. } => "df",
             IR::Filter { .. } => "selection",
+            IR::GroupBy { .. } => "aggregate",
             IR::HStack { .. } => "hstack",
             IR::Select { .. } => "projection",
             IR::SimpleProjection { .. } => "simple_projection",
@@ -168,6 +145,7 @@ impl IR {
     {
         match self {
             IR::DataFrameScan { schema, .. }
+            | IR::GroupBy { schema, .. }
             | IR::HStack { schema, .. }
             | IR::Select { schema, .. } => schema,
             IR::SimpleProjection { columns, .. } => columns,

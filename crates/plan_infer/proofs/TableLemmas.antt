@@ -441,7 +441,7 @@ all_whole P ns i whole all = subst (λ (l : List Node). AllByRecursion P (number
 
 -- the first child that is refused refuses the node
 module _ (registry : Registry) (schema : Columns) (items : List AExpr) (table : TypeTable) (right : IsRight registry schema items table) (error : PlanError) where
-  child_refused : (ns : List Node) (i : ℕ) (n : Node) → AllByRecursion (IsKept table) (numbers (take i ns)) → i < length ns → AllRefused items registry schema (get_or ns i n).0 error → (ts : Trees Op) → DenoteAll (HoldsExpression items) (numbers ns) ts → IsRefusal (typing_all registry schema ts) error
+  pub child_refused : (ns : List Node) (i : ℕ) (n : Node) → AllByRecursion (IsKept table) (numbers (take i ns)) → i < length ns → AllRefused items registry schema (get_or ns i n).0 error → (ts : Trees Op) → DenoteAll (HoldsExpression items) (numbers ns) ts → IsRefusal (typing_all registry schema ts) error
   child_refused [] i n all lt refused ts d = absurd (omega (arith, lt))
   child_refused (m ∷ ns) i n all lt refused no_more d = absurd d
   child_refused (m ∷ ns) zero n all lt refused (more t ts) d =

@@ -1,5 +1,6 @@
 -- What the contracts of this crate cite.
 pub mod Fields
+pub mod ItemTrees
 pub mod KeptTypes
 pub mod Samples
 pub mod Typed

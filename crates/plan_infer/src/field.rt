@@ -109,8 +109,8 @@ impl TypeTable {
     }
 }
 
-// The type that a column has in a context.
-fn dtype_in(ctxt: Context, own: &Inferred, alloc: Global) -> Result<DataType, PlanError>
+/// The type that a column has in a context.
+pub fn dtype_in(ctxt: Context, own: &Inferred, alloc: Global) -> Result<DataType, PlanError>
     ensures ok { IfOk result (λ dtype. ty dtype ≡ type_in ctxt (typed_of own.now)) }
     ensures err { IfErr result (λ error. error ≡ no_memory) }
 {

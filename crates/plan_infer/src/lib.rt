@@ -1,7 +1,9 @@
 //! Types of expressions in an arena, and tables that keep them by node.
 #![tactic(auto)]
 
+pub mod aexpr_field;
 mod examples;
+pub mod expr_ir_field;
 pub mod field;
 pub mod names;
 pub mod operator_types;

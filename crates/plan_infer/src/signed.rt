@@ -5,7 +5,7 @@ ghost use Rattle.plan_types.specs.Errors.{IsMemoryOr, IsRefusal, no_memory};
 ghost use Rattle.plan_types.specs.CommonTypes.{type_alone};
 ghost use Rattle.plan_types.specs.Types.{Ty, NullType, ty};
 ghost use Rattle.plan_dsl.specs.declared.signature.OwnType.TheVariants.{Item};
-ghost use Rattle.plan_dsl.specs.Signatures.{asked_target, has_flags, is_asked, own_type, signature};
+ghost use Rattle.plan_dsl.specs.Signatures.{asked_target, has_flags, is_asked, is_summable, method_signature, own_type, signature, sum_type};
 ghost use Rattle.plan_dsl.specs.Sorting.{are_for};
 ghost use Rattle.plan_dsl.specs.Typing.{Typed, many_of, signed, some_many, taken_by, taken_from, types_of};
 ghost use Rattle.plan_arena.specs.Layers.{op_of, inputs_of};
@@ -16,6 +16,7 @@ use crate::type_table::{Inferred, TypeTable};
 use plan_arena::aexpr::AExpr;
 use plan_arena::arena::Node;
 use plan_arena::inputs::NodeList;
+use plan_dsl::aggregate::GroupByMethod;
 use plan_dsl::signature::{Ask, Asked, Many, OwnType, Signature, asks, asks_one, takes};
 use plan_dsl::sort_options::{Flags, SortMultipleOptions};
 use plan_types::common_type::materialize_dyn_int;
@@ -53,8 +54,27 @@ pub(crate) fn signature(item: &AExpr) -> Result<Signature, ErrorKind>
             }
             takes(asks(Any), asks(Sortable), asks(Sortable), First, AsFirst)
         }
+        AExpr::Agg(aggregate) => method_signature(GroupByMethod::from(*aggregate)),
         _ => Err(ErrorKind::SchemaMismatch),
     }
+}
+
+// What an aggregate asks of its input, by its method.
+fn method_signature(method: GroupByMethod) -> Result<Signature, ErrorKind>
+    ensures { result ≡ method_signature method }
+{
+    let (ask, own) = match method {
+        GroupByMethod::Min | GroupByMethod::NanMin | GroupByMethod::Max | GroupByMethod::NanMax => (
+            Ask::Sortable,
+            OwnType::First,
+        ),
+        GroupByMethod::NUnique | GroupByMethod::Count { .. } => (Ask::Any, OwnType::Count),
+        GroupByMethod::First | GroupByMethod::Last => (Ask::Any, OwnType::First),
+        GroupByMethod::Implode => (Ask::Any, OwnType::ListOf),
+        GroupByMethod::Sum => (Ask::Summable, OwnType::Total),
+        GroupByMethod::Groups => (Ask::Any, OwnType::Rows),
+    };
+    takes(asks(ask), asks(Ask::Any), asks(Ask::Any), own, Many::Never)
 }
 
 // Whether a sort has flags for its keys.
@@ -143,14 +163,22 @@ fn is_asked(ask: Ask, alone: &DataType) -> bool
         Ask::Boolean => matches!(alone, DataType::Null | DataType::Boolean),
         Ask::Place => alone.is_integer(),
         Ask::Length => matches!(alone, DataType::Null) || alone.is_integer(),
+        Ask::Summable => is_summable(alone),
     }
+}
+
+// Whether values of the type are added up.
+fn is_summable(dtype: &DataType) -> bool
+    ensures { result ≡ is_summable (ty dtype.now) }
+{
+    matches!(dtype, DataType::Boolean | DataType::Duration(_)) || dtype.is_integer()
 }
 
 fn asked_target(ask: Ask, alone: DataType) -> DataType
     ensures { ty result ≡ asked_target ask (ty alone) }
 {
     match ask {
-        Ask::Any | Ask::Sortable => alone,
+        Ask::Any | Ask::Sortable | Ask::Summable => alone,
         Ask::Boolean => DataType::Boolean,
         Ask::Place | Ask::Length => DataType::Int64,
     }
@@ -177,6 +205,19 @@ fn own_dtype(own: OwnType, first: DataType, alloc: Global) -> Result<DataType, P
         OwnType::Item => item_dtype(&first, alloc),
         OwnType::ListOf => first.implode(alloc),
         OwnType::Count => Ok(DataType::UInt32),
+        OwnType::Total => Ok(sum_dtype(first)),
+        OwnType::Rows => DataType::UInt32.implode(alloc),
+    }
+}
+
+// The type of a sum of values of the type.
+fn sum_dtype(first: DataType) -> DataType
+    ensures { ty result ≡ sum_type (ty first) }
+{
+    match first {
+        DataType::Boolean => DataType::UInt32,
+        DataType::Int8 | DataType::Int16 | DataType::UInt8 | DataType::UInt16 => DataType::Int64,
+        first => first,
     }
 }
 

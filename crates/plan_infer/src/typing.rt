@@ -104,8 +104,8 @@ fn type_over<M: Ledger>(
     types.add(node, own)
 }
 
-// What the rule of a node says, whose inputs are typed.
-fn own_typing(
+/// What the rule of a node says, whose inputs are typed.
+pub(crate) fn own_typing(
     node: Node,
     item: &AExpr,
     inputs: &[Node],

@@ -16,7 +16,7 @@ ghost use Rattle.plan_dsl.specs.declared.sort_options.SortMultipleOptions.{SortM
 ghost use Rattle.plan_dsl.specs.Trees.{node, no_more, more};
 ghost use Rattle.plan_dsl.specs.Names.{FromField, FromNothing, alias_label, column_label, literal_label};
 ghost use Rattle.plan_dsl.specs.Ops.{ColumnOp, LiteralOp, BinaryOp, CastOp, LenOp, SliceOp, AliasOp, ExplodeOp, GatherOp, FilterOp, SortOp, SortByOp, Expression};
-ghost use Rattle.plan_dsl.specs.Plans.{FilterKind, HStackKind, Named, RefusedKind, ScanKind, SelectKind, named, scan_op, select_op, hstack_op, simple_projection_op, filter_op, DropKind, SimpleProjectionKind};
+ghost use Rattle.plan_dsl.specs.Plans.{FilterKind, GroupByKind, HStackKind, Named, RefusedKind, ScanKind, SelectKind, named, scan_op, select_op, hstack_op, group_by_op, simple_projection_op, filter_op, DropKind, SimpleProjectionKind};
 ghost use Rattle.plan_dsl.specs.Samples.{Gives, GivesOfTwo, int8, int32, a, alias, b, cast_as, column, count, keep, literal, slice, sort_by, sum, typed_literal, way, schema_ab};
 ghost use Rattle.plan_arena.specs.declared.aexpr.AExpr.{AExpr};
 ghost use Rattle.plan_arena.specs.declared.aexpr.AExpr.TheVariants.{Column, Literal, BinaryExpr, Cast, Len, Slice, Alias, Explode, Gather, Filter as FilterBy, Sort, SortBy};
@@ -26,7 +26,7 @@ ghost use Rattle.plan_arena.specs.declared.expr_ir.ExprIR.{ExprIR};
 ghost use Rattle.plan_arena.specs.declared.expr_ir.ExprIRs.{ExprIRs};
 ghost use Rattle.plan_arena.specs.declared.expr_ir.OutputName.{OutputName};
 ghost use Rattle.plan_arena.specs.declared.expr_ir.OutputName.TheVariants.{ColumnLhs, LiteralLhs};
-ghost use Rattle.plan_arena.specs.declared.ir.IR.TheVariants.{DataFrameScan, Filter, HStack, Select, SimpleProjection, Invalid};
+ghost use Rattle.plan_arena.specs.declared.ir.IR.TheVariants.{DataFrameScan, Filter, GroupBy, HStack, Select, SimpleProjection, Invalid};
 ghost use Rattle.plan_arena.specs.declared.plan.IRPlan.{IRPlan};
 ghost use Rattle.plan_arena.specs.Layers.{layer, op_of, inputs_of, shape_of};
 ghost use Rattle.plan_arena.specs.Denotation.{Denotes, DenotesTree, depth_at, greatest, inputs_at};
@@ -59,9 +59,11 @@ pub fn layers_of_items()
         plan_layer (Select exprs (node_at 5) schema options) ≡ layer (select_op (named_at "a" 3 ∷ literal_at 4 ∷ []) (Some (columns schema))) (5 ∷ []) }
     ensures hstack { (exprs : ExprIRs) (schema : Schema) (options : ProjectionOptions) → exprs.items.items ≡ a_at 3 ∷ [] →
         plan_layer (HStack exprs (node_at 5) schema options) ≡ layer (hstack_op (named_at "a" 3 ∷ []) (Some (columns schema))) (5 ∷ []) }
+    ensures group_by { (keys aggs : ExprIRs) (schema : Schema) → keys.items.items ≡ a_at 3 ∷ [] → aggs.items.items ≡ a_at 4 ∷ a_at 2 ∷ [] →
+        plan_layer (GroupBy (node_at 5) keys aggs schema true) ≡ layer (group_by_op (named_at "a" 3 ∷ []) (named_at "a" 4 ∷ named_at "a" 2 ∷ []) (Some (columns schema))) (5 ∷ []) }
     ensures names { (schema : Schema) (input : Node) (predicate : ExprIR) (exprs : ExprIRs) (options : ProjectionOptions) → Gives node_name
         ((DataFrameScan (Some 0) schema, codes "df") ∷ (DataFrameScan None schema, codes "df") ∷ (Filter input predicate, codes "selection")
-        ∷ (HStack exprs input schema options, codes "hstack") ∷ (Select exprs input schema options, codes "projection") ∷ (SimpleProjection input schema, codes "simple_projection") ∷ (Invalid, codes "invalid") ∷ []) }
+        ∷ (GroupBy input exprs exprs schema false, codes "aggregate") ∷ (HStack exprs input schema options, codes "hstack") ∷ (Select exprs input schema options, codes "projection") ∷ (SimpleProjection input schema, codes "simple_projection") ∷ (Invalid, codes "invalid") ∷ []) }
 {}
 
 /// The name that an item keeps, with what it comes from.
@@ -156,6 +158,8 @@ pub fn kinds_of_plans()
     ensures turned { ¬ (DenotesKind sum_items (SelectKind (named_at "b" 1 ∷ named_at "a" 3 ∷ [])) (SelectKind (named strict_sum ∷ named b ∷ []))) }
     ensures hstack { DenotesKind sum_items (HStackKind (named_at "b" 1 ∷ [])) (HStackKind (named b ∷ [])) }
     ensures no_select { ¬ (DenotesKind sum_items (HStackKind (named_at "b" 1 ∷ [])) (SelectKind (named b ∷ []))) }
+    ensures group_by { DenotesKind sum_items (GroupByKind (named_at "b" 1 ∷ []) (named_at "a" 0 ∷ [])) (GroupByKind (named b ∷ []) (named a ∷ [])) }
+    ensures aggregates_as_keys { ¬ (DenotesKind sum_items (GroupByKind (named_at "b" 1 ∷ []) (named_at "a" 0 ∷ [])) (GroupByKind (named b ∷ named a ∷ []) [])) }
     ensures filter { DenotesKind sum_items (FilterKind (named_at "a" 0)) (FilterKind (named a)) }
     ensures other_node { ¬ (DenotesKind sum_items (FilterKind (named_at "a" 1)) (FilterKind (named a))) }
     ensures simple_projection { DenotesKind [] (SimpleProjectionKind schema_ab) (SimpleProjectionKind schema_ab) }

@@ -3,7 +3,7 @@
 ghost use Rattle.std.specs.Prelude.{◌≡◌, [], ◌∷◌, pos, codes, true, false, Option, Some, None};
 ghost use Rattle.std.specs.List.{AllByRecursion};
 ghost use Rattle.plan_types.specs.Schemas.{Columns};
-ghost use Rattle.plan_types.specs.Types.{Truth};
+ghost use Rattle.plan_types.specs.Types.{Truth, ListType};
 ghost use Rattle.plan_types.specs.Outcomes.{Done, Fault, Stuck};
 ghost use Rattle.plan_types.specs.Frames.{empty_frame};
 ghost use Rattle.plan_types.specs.declared.dtype.CastOptions.TheVariants.{Strict};
@@ -12,9 +12,9 @@ ghost use Rattle.plan_dsl.specs.Ops.{Expression};
 ghost use Rattle.plan_dsl.specs.Names.{Label, alias_label, column_label, literal_label};
 ghost use Rattle.plan_dsl.specs.Plans.{drop_op, empty_table, select_op, filter_op, simple_projection_op};
 ghost use Rattle.plan_dsl.specs.PlanMeaning.{source_meaning};
-ghost use Rattle.plan_dsl.specs.Samples.{Gives, GivesOfTwo, int8, int16, int32, int64, number, null, yes, a, alias, b, cast_as, column, empty_scan, frame_with, keep, less, literal, scan, scan_of, schema_ab, schema_flagged, select, stack, sum, table, typed_literal, project};
+ghost use Rattle.plan_dsl.specs.Samples.{Gives, GivesOfTwo, int8, int16, int32, int64, number, null, yes, a, alias, b, cast_as, column, empty_scan, frame_with, group_by, keep, less, list, literal, scan, scan_of, schema_ab, schema_flagged, select, stack, sum, table, typed_literal, project};
 ghost use Rattle.plan_arena.specs.Runs.{own_schema, HasRecorded, IsAccepted, IsStrictPlan, IsNamedPlan, plan_run, RunsSoundly};
-ghost use Rattle.plan_arena.specs.Samples.{lowered_hstack, lowered_number, lowered_select, lowered_sum, narrowed, schema_of_one, strict_sum, sums, three_flagged, three_numbers, lowered_projection};
+ghost use Rattle.plan_arena.specs.Samples.{lowered_groups, lowered_hstack, lowered_number, lowered_select, lowered_sum, narrowed, schema_of_one, strict_sum, sums, three_flagged, three_numbers, lowered_projection};
 
 /// A lowered plan runs by its written casts alone, and gives what the query means.
 pub fn plans_run_as_written()
@@ -51,6 +51,19 @@ pub fn hstacks_run_as_written()
     ensures strict { IsStrictPlan [] (stack (strict_sum ∷ []) (scan schema_ab)) × ¬ (IsStrictPlan [] (stack (sum a b ∷ []) (scan schema_ab))) }
     ensures sound { RunsSoundly [] (table ∷ []) (lowered_hstack ((codes "a", int32) ∷ (codes "b", int32) ∷ []) (strict_sum ∷ []) (scan schema_ab)) }
     ensures stuck { ¬ (RunsSoundly [] (table ∷ []) (stack (sum a b ∷ []) (scan schema_ab))) }
+{}
+
+/// A lowered group-by gives what the query's means, and records the columns of its keys and of its aggregates.
+pub fn groups_run_as_written()
+    ensures runs { let sums_in_groups = (codes "b", int32) ∷ (codes "a", ListType int32) ∷ [] in
+        Gives (plan_run [] (table ∷ [])) (
+        (lowered_groups sums_in_groups (b ∷ []) (strict_sum ∷ []) (scan schema_ab), Done (frame_with sums_in_groups ((number 10 ∷ list (number 11 ∷ []) ∷ []) ∷ (number 20 ∷ list (null ∷ []) ∷ []) ∷ (number 200 ∷ list (number 300 ∷ []) ∷ []) ∷ []))) ∷
+        (group_by (b ∷ []) (sum a b ∷ []) (scan schema_ab), Stuck) ∷ (group_by (sum a b ∷ []) [] (scan schema_ab), Stuck) ∷ []) }
+    ensures accepted { IsAccepted [] (lowered_groups ((codes "b", int32) ∷ (codes "a", ListType int32) ∷ []) (b ∷ []) (strict_sum ∷ []) (scan schema_ab)) }
+    ensures other_schema { ¬ (IsAccepted [] (lowered_groups ((codes "b", int32) ∷ (codes "a", int32) ∷ []) (b ∷ []) (strict_sum ∷ []) (scan schema_ab))) }
+    ensures strict { IsStrictPlan [] (group_by (b ∷ []) (strict_sum ∷ []) (scan schema_ab)) × ¬ (IsStrictPlan [] (group_by (b ∷ []) (sum a b ∷ []) (scan schema_ab))) }
+    ensures sound { RunsSoundly [] (table ∷ []) (lowered_groups ((codes "b", int32) ∷ (codes "a", ListType int32) ∷ []) (b ∷ []) (strict_sum ∷ []) (scan schema_ab)) }
+    ensures stuck { ¬ (RunsSoundly [] (table ∷ []) (group_by (b ∷ []) (sum a b ∷ []) (scan schema_ab))) }
 {}
 
 /// A lowered simple projection gives its input's rows in its columns, which stand there, and nothing where it has none.

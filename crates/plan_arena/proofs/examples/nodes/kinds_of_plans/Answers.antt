@@ -11,5 +11,8 @@ returns-clause-select c = (
   (refl, (2 ∷ 1 ∷ [], refl, ((0 ∷ [], refl, (([], refl, tt), tt)), (([], refl, tt), tt))), (refl, ([], refl, tt), tt)),
 )
 
+pub returns-clause-group_by : goal.returns-clause-group_by
+returns-clause-group_by c = (named b ∷ [], named a ∷ [], refl, (refl, ([], refl, tt), tt), (refl, ([], refl, tt), tt))
+
 pub returns-clause-filter : goal.returns-clause-filter
 returns-clause-filter c = (named a, refl, (refl, ([], refl, tt), tt))

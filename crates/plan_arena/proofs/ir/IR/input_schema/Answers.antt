@@ -1,0 +1,16 @@
+use Rattle.plan_types.specs.Schemas.{columns}
+use Rattle.plan_arena.proofs.ItemLemmas.{plan_within, item_inputs}
+use Rattle.plan_arena.proofs.PlanSchemaLemmas.{first_plan, first_schema}
+use Rattle.plan_arena.proofs.ir.IR.input_schema.Goals as goal
+
+pub get-requires : goal.get-requires
+get-requires c =
+    plan_within c.requires.expressions c.args.arena.now c.in-Some.first.0 (first_plan c.args.arena.now c.args.self.now c.requires c.in-Some.first.0 c.in-Some.ensures)
+
+pub schema-requires : goal.schema-requires
+schema-requires c =
+    item_inputs c.requires.expressions c.args.arena.now c.in-Some.first.0 c.get.result.now c.get.ensures (first_plan c.args.arena.now c.args.self.now c.requires c.in-Some.first.0 c.in-Some.ensures)
+
+pub returns-in_ok-schema-in-Some-clause-rule : goal.returns-in_ok-schema-in-Some-clause-rule
+returns-in_ok-schema-in-Some-clause-rule c =
+    first_schema c.args.arena.now c.args.self.now c.get.result.now c.in-Some.first.0 (columns c.in_ok-schema-in-Some.schema) c.in-Some.ensures c.get.ensures c.in_ok-schema-in-Some.ensures.rule
