@@ -7,6 +7,7 @@ ghost use Rattle.plan_dsl.specs.Expressions.{plain_tree, tree_of, trees_of};
 ghost use Rattle.plan_dsl.specs.Sources.{same_source};
 ghost use Rattle.plan_expand.specs.Walks.{first_marker, first_marker_of, first_root_of};
 
+use plan_dsl::below_aggregate;
 use plan_dsl::expr::{Expr, Exprs};
 use plan_types::text::PlSmallStr;
 
@@ -41,6 +42,7 @@ macro_rules! found_in_operands {
             Expr::Sort { expr, .. } => $find(expr),
             Expr::SortBy { expr, by, .. } => first_found!($find(expr), $find_listed(by)),
             Expr::Alias(expr, _) => $find(expr),
+            Expr::Agg(aggregate) => below_aggregate!(aggregate, input => $find(input)),
         }
     };
 }
@@ -136,6 +138,7 @@ pub(crate) fn has_only(expr: &Expr, marker: &Expr) -> bool
         Expr::Sort { expr, .. } => has_only(expr, marker),
         Expr::SortBy { expr, by, .. } => has_only(expr, marker) && have_only(by, marker),
         Expr::Alias(expr, _) => has_only(expr, marker),
+        Expr::Agg(aggregate) => below_aggregate!(aggregate, input => has_only(input, marker)),
         Expr::KeepName(expr) => has_only(expr, marker),
         Expr::RenameAlias { expr, .. } => has_only(expr, marker),
     }

@@ -42,10 +42,10 @@ use Rattle.plan_lower.specs.Projection.{IsOutputRefusal, no_room, untyped, repea
 use Rattle.plan_lower.specs.Predicates.{FiltersBy, IsPredicateRefusal, without_room, without_type, of_other_type, lowered_filter}
 use Rattle.plan_lower.specs.Lowering.{IsBuilt, IsPlanRefusal, out_of_memory, broken, resolved_select, resolved_hstack, resolved_filter}
 
-abbrev output_label : Lowered → Label
+abbrev pub output_label : Lowered → Label
 output_label o = label_of o.tree
 
-abbrev output_typed : Lowered → Typed
+abbrev pub output_typed : Lowered → Typed
 output_typed o = o.typed
 
 -- what goes on with something unexpanded, or takes a refusal by one kind, is unexpanded
@@ -73,14 +73,14 @@ module _ (registry : Registry) where
         same = λ tables f. refl;
       }
 
-  each_typed : (schema : Columns) (outputs : List Lowered) → AllByRecursion (IsLowered registry schema) outputs → AllByRecursion (λ (o : Lowered). typing registry schema (settled (core o.tree)) ≡ Ok o.typed) outputs
+  pub each_typed : (schema : Columns) (outputs : List Lowered) → AllByRecursion (IsLowered registry schema) outputs → AllByRecursion (λ (o : Lowered). typing registry schema (settled (core o.tree)) ≡ Ok o.typed) outputs
   each_typed schema [] each = tt
   each_typed schema (o ∷ os) each = (each.0.typed, each_typed schema os each.1)
 
   after_typed : (schema : Columns) (o : Lowered) → IsLowered registry schema o → typing registry schema (settled o.after) ≡ Ok o.typed
   after_typed schema o is = ap (typing registry schema) (strict_settled registry schema o.after is.strict) ∙ is.same.typing ∙ is.typed
 
-  each_after_typed : (schema : Columns) (outputs : List Lowered) → AllByRecursion (IsLowered registry schema) outputs → AllByRecursion (λ (o : Lowered). typing registry schema (settled o.after) ≡ Ok o.typed) outputs
+  pub each_after_typed : (schema : Columns) (outputs : List Lowered) → AllByRecursion (IsLowered registry schema) outputs → AllByRecursion (λ (o : Lowered). typing registry schema (settled o.after) ≡ Ok o.typed) outputs
   each_after_typed schema [] each = tt
   each_after_typed schema (o ∷ os) each = (after_typed schema o each.0, each_after_typed schema os each.1)
 
@@ -92,7 +92,7 @@ module _ (registry : Registry) where
   strict_core : (schema : Columns) (o : Lowered) → IsLowered registry schema o → IsStrictCore registry schema o.after
   strict_core schema o is = (after_core schema o is, is.strict)
 
-  each_strict : (schema : Columns) (outputs : List Lowered) → AllByRecursion (IsLowered registry schema) outputs → AllByRecursion (λ (o : Named Expression). IsStrictCore registry schema o.expression) (map lowered_named outputs)
+  pub each_strict : (schema : Columns) (outputs : List Lowered) → AllByRecursion (IsLowered registry schema) outputs → AllByRecursion (λ (o : Named Expression). IsStrictCore registry schema o.expression) (map lowered_named outputs)
   each_strict schema [] each = tt
   each_strict schema (o ∷ os) each = (strict_core schema o each.0, each_strict schema os each.1)
 
@@ -100,12 +100,12 @@ module _ (registry : Registry) where
   own_named : (schema : Columns) (o : Lowered) → IsLowered registry schema o → HasOwnName (lowered_named o)
   own_named schema o is = ⊎_elim (λ alias. inl alias) (λ e. inr (e ∙ sym (is.same.name ∙ settled_label (core o.tree)))) (core_label o.tree)
 
-  each_named : (schema : Columns) (outputs : List Lowered) → AllByRecursion (IsLowered registry schema) outputs → AllByRecursion HasOwnName (map lowered_named outputs)
+  pub each_named : (schema : Columns) (outputs : List Lowered) → AllByRecursion (IsLowered registry schema) outputs → AllByRecursion HasOwnName (map lowered_named outputs)
   each_named schema [] each = tt
   each_named schema (o ∷ os) each = (own_named schema o each.0, each_named schema os each.1)
 
   -- what stands for an expression gives what the expression means
-  agree : (schema : Columns) (outputs : List Lowered) → AllByRecursion (IsLowered registry schema) outputs → AgreeOn schema (by_running registry) (by_meaning registry) (map lowered_named outputs) (map (λ (o : Lowered). named o.tree) outputs)
+  pub agree : (schema : Columns) (outputs : List Lowered) → AllByRecursion (IsLowered registry schema) outputs → AgreeOn schema (by_running registry) (by_meaning registry) (map lowered_named outputs) (map (λ (o : Lowered). named o.tree) outputs)
   agree schema [] each rows = refl
   agree schema (o ∷ os) each rows =
       let frame : Frame = record { schema = schema; rows = rows } in

@@ -1,6 +1,8 @@
 pub mod BuiltLemmas
 pub mod DropLemmas
+pub mod ExpressionFieldLemmas
 pub mod ExamplePlanLemmas
+pub mod GroupLemmas
 pub mod NodeLemmas
 pub mod PlanLemmas
 pub mod ProjectionLemmas

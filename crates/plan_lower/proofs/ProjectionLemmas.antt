@@ -49,7 +49,7 @@ no_type : (o : Option Ty) → is_some o ≡ false → o ≡ None
 no_type None e = refl
 no_type (Some type) e = cc
 
-column_added : (old new : Columns) (seen copy name : Name) (type : Ty) → is_some (type_at old seen) ≡ false → seen ≡ name → copy ≡ name → new ≡ with_column old copy type → new ≡ old ++ (name, type) ∷ []
+pub column_added : (old new : Columns) (seen copy name : Name) (type : Ty) → is_some (type_at old seen) ≡ false → seen ≡ name → copy ≡ name → new ≡ with_column old copy type → new ≡ old ++ (name, type) ∷ []
 column_added old new seen copy name type absent s c e =
     let new_name = no_type (type_at old name) (ap (λ n. is_some (type_at old n)) (sym s) ∙ absent) in
     e ∙ ap (λ n. with_column old n type) c ∙ with_column-new old name type new_name

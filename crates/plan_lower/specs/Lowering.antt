@@ -9,7 +9,7 @@ use Rattle.plan_types.specs.declared.error.PlanError.{PlanError}
 use Rattle.plan_dsl.specs.Registry.{Registry}
 use Rattle.plan_dsl.specs.Trees.{node, no_more, more}
 use Rattle.plan_dsl.specs.Ops.{Expression}
-use Rattle.plan_dsl.specs.Plans.{Named, PlanOp, Plan, named, scan_op, select_op, hstack_op, filter_op, simple_projection_op}
+use Rattle.plan_dsl.specs.Plans.{Named, PlanOp, Plan, named, scan_op, select_op, hstack_op, group_by_op, filter_op, simple_projection_op}
 use Rattle.plan_dsl.specs.Drops.{drop_leaves}
 use Rattle.plan_dsl.specs.Expressions.{selector_trees}
 use Rattle.plan_dsl.specs.Sources.{Source}
@@ -25,6 +25,7 @@ use Rattle.plan_arena.specs.Layers.{Layer, layer, op_of}
 use Rattle.plan_arena.specs.Items.{HoldsPlan, DenotesPlan, plan_layer}
 use Rattle.plan_arena.specs.Runs.{IsAccepted, IsStrictPlan, IsNamedPlan, plan_run, RunsSoundly}
 use Rattle.plan_expand.specs.Refusals.{IsUnexpanded}
+use Rattle.plan_lower.specs.Groups.{HasExpandedGroups}
 use Rattle.plan_lower.specs.Outputs.{HasExpandedOutputs}
 use Rattle.plan_lower.specs.Predicates.{HasExpandedPredicate}
 
@@ -94,6 +95,10 @@ resolved_select trees input = node (select_op (map named trees) None) (more inpu
 abbrev pub resolved_hstack : List Expression → Plan → Plan
 resolved_hstack trees input = node (hstack_op (map named trees) None) (more input no_more)
 
+-- a group-by in a query, resolved
+abbrev pub resolved_groups : List Expression → List Expression → Plan → Plan
+resolved_groups keys aggs input = node (group_by_op (map named keys) (map named aggs) None) (more input no_more)
+
 -- a filter in a query, resolved
 abbrev pub resolved_filter : Expression → Plan → Plan
 resolved_filter tree input = node (filter_op (named tree)) (more input no_more)
@@ -136,6 +141,13 @@ pub record IsHStackAt (registry : Registry) (schema : Columns) (expressions : Li
   pub has : HasExpandedOutputs registry schema expressions sources nodes own
   pub whole : columns ≡ with_columns schema own
   pub item : slice_get (map plan_layer plans) n ≡ Some (layer (hstack_op nodes (Some columns)) (input ∷ []))
+
+-- the node is a group-by of what stands for the source expressions, over an input of the schema. Its frame has the columns
+pub record IsGroupByAt (registry : Registry) (schema : Columns) (expressions : List AExpr) (plans : List IR) (n input : ℕ) (keys aggs : List Source) (columns : Columns) : Type 0 where
+  pub nodes : List (Named ℕ)
+  pub others : List (Named ℕ)
+  pub has : HasExpandedGroups registry schema expressions keys aggs nodes others columns
+  pub item : slice_get (map plan_layer plans) n ≡ Some (layer (group_by_op nodes others (Some columns)) (input ∷ []))
 
 -- the node is a filter by what stands for the source expression, over an input of the schema
 pub record IsFilterAt (registry : Registry) (schema : Columns) (expressions : List AExpr) (plans : List IR) (n input : ℕ) (source : Source) : Type 0 where

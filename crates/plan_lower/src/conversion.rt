@@ -2,7 +2,9 @@
 
 mod drops;
 pub mod dsl_to_ir;
+pub mod expr_field;
 pub mod expr_to_ir;
+mod groups;
 mod predicate;
 mod projection;
 mod put_copy;

@@ -7,7 +7,7 @@ use Rattle.std.proofs.lemmas.List.Sums.{sum_by_more}
 use Rattle.std.proofs.lemmas.Option.{slice_get-map, slice_get-get_or, slice_get_within, get_or_from_slice_get}
 use Rattle.plan_dsl.specs.Trees.{Tree, Trees, node, no_more, more, fold, fold_all}
 use Rattle.plan_dsl.specs.Ops.{Op, Expression}
-use Rattle.plan_dsl.specs.Plans.{Named, PlanKind, ScanKind, SelectKind, HStackKind, FilterKind, SimpleProjectionKind, PlanOp, Plan}
+use Rattle.plan_dsl.specs.Plans.{Named, PlanKind, ScanKind, SelectKind, HStackKind, GroupByKind, FilterKind, SimpleProjectionKind, PlanOp, Plan}
 use Rattle.plan_types.specs.Schemas.{Columns}
 use Rattle.plan_arena.specs.Denotation.{Denotes, DenoteAll, DenotesTree, depth_at}
 use Rattle.plan_arena.specs.Layers.{layer, op_of, inputs_of, shape_of}
@@ -150,6 +150,14 @@ hstack_casts items nodes count all kind d = let here = all d.0 d.2 in let whole 
 
 pub projection_casts : (items : List AExpr) (columns : Columns) (kind : PlanKind (Named Expression)) → DenotesKind items (SimpleProjectionKind columns) kind → 0 ≡ kind_casts kind
 projection_casts items columns kind d = sym (ap kind_casts d)
+
+-- a group-by has those of its keys and of its aggregates
+pub group_casts : (items : List AExpr) (keys aggs : List (Named ℕ)) (first later count : ℕ) → ((es : List (Named Expression)) → DenoteNamed items keys es → first ≡ outputs_casts es) → ((es : List (Named Expression)) → DenoteNamed items aggs es → later ≡ outputs_casts es) → count ≡ first + later → (kind : PlanKind (Named Expression)) → DenotesKind items (GroupByKind keys aggs) kind → count ≡ kind_casts kind
+group_casts items keys aggs first later count all others both kind d =
+    let here = all d.0 d.3 in
+    let also = others d.1 d.4 in
+    let whole : kind_casts kind ≡ (0 + outputs_casts d.0) + outputs_casts d.1 = ap kind_casts d.2 in
+    omega (arith, both, here, also, whole)
 
 -- the only named node denotes an expression
 pub only_named : (items : List AExpr) (n : Named ℕ) (es : List (Named Expression)) → DenoteNamed items (n ∷ []) es → DenotesTree (HoldsExpression items) n.expression

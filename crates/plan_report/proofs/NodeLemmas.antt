@@ -5,7 +5,7 @@ use Rattle.std.proofs.lemmas.List.{append-nil}
 use Rattle.plan_types.specs.Schemas.{Columns}
 use Rattle.plan_dsl.specs.Trees.{Trees, node, no_more, more}
 use Rattle.plan_dsl.specs.Ops.{Op, Expression}
-use Rattle.plan_dsl.specs.Plans.{Named, PlanKind, ScanKind, SelectKind, HStackKind, FilterKind, SimpleProjectionKind, DropKind, RefusedKind, PlanOp, Plan, filter_op}
+use Rattle.plan_dsl.specs.Plans.{Named, PlanKind, ScanKind, SelectKind, HStackKind, GroupByKind, FilterKind, SimpleProjectionKind, DropKind, RefusedKind, PlanOp, Plan, filter_op}
 use Rattle.plan_dsl.specs.PlanRules.{schema_of}
 use Rattle.plan_dsl.specs.Registry.{Registry}
 use Rattle.plan_arena.specs.Denotation.{Denotes, DenoteAll, DenotesTree, depth_at}
@@ -66,12 +66,18 @@ module _ (expressions : List AExpr) (plans : List IR) (n : ℕ) (item : IR) (got
   pub node_kind : DenotesTree (HoldsPlan expressions plans) n → DenotesSome expressions flat.kind
   node_kind d = kind_of_node d.tree d.denotes
 
--- the expressions of a select, of an hstack, and of a filter, denote expressions
+-- the expressions of a select, of an hstack, of a group-by, and of a filter, denote expressions
 pub select_outputs : (expressions : List AExpr) (nodes : List (Named ℕ)) → DenotesSome expressions (SelectKind nodes) → DenoteOutputs expressions nodes
 select_outputs expressions nodes d = record { outputs = d.denotes.0; denote = d.denotes.2 }
 
 pub hstack_outputs : (expressions : List AExpr) (nodes : List (Named ℕ)) → DenotesSome expressions (HStackKind nodes) → DenoteOutputs expressions nodes
 hstack_outputs expressions nodes d = record { outputs = d.denotes.0; denote = d.denotes.2 }
+
+pub key_outputs : (expressions : List AExpr) (keys aggs : List (Named ℕ)) → DenotesSome expressions (GroupByKind keys aggs) → DenoteOutputs expressions keys
+key_outputs expressions keys aggs d = record { outputs = d.denotes.0; denote = d.denotes.3 }
+
+pub aggregate_outputs : (expressions : List AExpr) (keys aggs : List (Named ℕ)) → DenotesSome expressions (GroupByKind keys aggs) → DenoteOutputs expressions aggs
+aggregate_outputs expressions keys aggs d = record { outputs = d.denotes.1; denote = d.denotes.4 }
 
 pub filter_outputs : (expressions : List AExpr) (n : Named ℕ) → DenotesSome expressions (FilterKind n) → DenoteOutputs expressions (n ∷ [])
 filter_outputs expressions n d = record { outputs = d.denotes.0 ∷ []; denote = d.denotes.2 }
@@ -81,6 +87,7 @@ same_text : (expressions : List AExpr) (flat : PlanKind (Named ℕ)) (kind : Pla
 same_text expressions (ScanKind table schema) kind d = sym (ap kind_text d)
 same_text expressions (SelectKind nodes) kind d = sym (ap kind_text d.1)
 same_text expressions (HStackKind nodes) kind d = sym (ap kind_text d.1)
+same_text expressions (GroupByKind keys aggs) kind d = sym (ap kind_text d.2)
 same_text expressions (FilterKind n) kind d = sym (ap kind_text d.1)
 same_text expressions (SimpleProjectionKind columns) kind d = sym (ap kind_text d)
 same_text expressions (DropKind selectors strict) kind d = absurd d

@@ -90,6 +90,19 @@ pub(crate) fn plan_casts(plan: &IRPlan, node: Node) -> Result<u64, AllocError>
             let count = add(here, below)?;
             Ok(count)
         }
+        IR::GroupBy {
+            input,
+            keys,
+            aggs,
+            ..
+        } => {
+            let first = outputs_casts(&plan.expr_arena, keys)?;
+            let later = outputs_casts(&plan.expr_arena, aggs)?;
+            let here = add(first, later)?;
+            let below = plan_casts(plan, *input)?;
+            let count = add(here, below)?;
+            Ok(count)
+        }
         IR::SimpleProjection { input, .. } => {
             let below = plan_casts(plan, *input)?;
             Ok(below)

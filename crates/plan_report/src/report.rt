@@ -61,6 +61,17 @@ fn steps_of(alloc: Global, place: &Place) -> Result<Vec<u64>, AllocError>
     Ok(steps)
 }
 
+// Appends the lines of a node's only input, whose frame has a schema of its own.
+macro_rules! lines_below {
+    ($alloc:ident, $text:ident, $path:ident, $plan:ident, $input:ident) => {{
+        let schema = $plan.lp_arena.get(*$input).schema_ref(&$plan.lp_arena);
+        $path.push(ONLY_INPUT)?;
+        push_lines($alloc, $text, $path, $plan, *$input, schema)?;
+        $path.pop();
+        Ok(())
+    }};
+}
+
 // Appends the lines of the plan at the node, to which the path leads, and whose frame has the schema.
 fn push_lines(
     alloc: Global,
@@ -88,27 +99,10 @@ fn push_lines(
             path.pop();
             Ok(())
         }
-        IR::Select { input, .. } => {
-            let schema = plan.lp_arena.get(*input).schema_ref(&plan.lp_arena);
-            path.push(ONLY_INPUT)?;
-            push_lines(alloc, text, path, plan, *input, schema)?;
-            path.pop();
-            Ok(())
-        }
-        IR::HStack { input, .. } => {
-            let schema = plan.lp_arena.get(*input).schema_ref(&plan.lp_arena);
-            path.push(ONLY_INPUT)?;
-            push_lines(alloc, text, path, plan, *input, schema)?;
-            path.pop();
-            Ok(())
-        }
-        IR::SimpleProjection { input, .. } => {
-            let schema = plan.lp_arena.get(*input).schema_ref(&plan.lp_arena);
-            path.push(ONLY_INPUT)?;
-            push_lines(alloc, text, path, plan, *input, schema)?;
-            path.pop();
-            Ok(())
-        }
+        IR::Select { input, .. } => lines_below!(alloc, text, path, plan, input),
+        IR::HStack { input, .. } => lines_below!(alloc, text, path, plan, input),
+        IR::GroupBy { input, .. } => lines_below!(alloc, text, path, plan, input),
+        IR::SimpleProjection { input, .. } => lines_below!(alloc, text, path, plan, input),
     }
 }
 

@@ -14,11 +14,13 @@ ghost use Rattle.plan_dsl.specs.Trees.{node, no_more, more};
 ghost use Rattle.plan_arena.specs.Items.{HoldsExpression, Grows, plan_layer};
 ghost use Rattle.plan_arena.specs.Layers.{layer};
 ghost use Rattle.plan_expand.specs.Refusals.{IsUnexpanded};
-ghost use Rattle.plan_lower.specs.Lowering.{IsDropAt, IsFunctionAt, IsFunctionRefusal, IsFilterAt, IsHStackAt, IsSelectAt, StandsFor, IsPlanRefusal, IsEmptyTableAt, Records, recorded_at, columns_at, Answers, IsTyped, IsSound, GivesSameFrame};
+ghost use Rattle.plan_lower.specs.Groups.{IsUngrouped};
+ghost use Rattle.plan_lower.specs.Lowering.{IsDropAt, IsFunctionAt, IsFunctionRefusal, IsFilterAt, IsGroupByAt, IsHStackAt, IsSelectAt, StandsFor, IsPlanRefusal, IsEmptyTableAt, Records, recorded_at, columns_at, Answers, IsTyped, IsSound, GivesSameFrame};
 ghost use Rattle.plan_lower.specs.Predicates.{IsUnfiltered};
 ghost use Rattle.plan_lower.specs.Projection.{IsUnprojected};
 
 use crate::conversion::drops::columns_left;
+use crate::conversion::groups::group_strictly;
 use crate::conversion::predicate::lower_predicate;
 use crate::conversion::projection::project_strictly;
 use crate::conversion::put_copy::put_copy;
@@ -115,6 +117,16 @@ fn lower(
         } => {
             let input = lower_input(input, expr_arena, lp_arena, udfs)?;
             let lowered = lower_hstack(exprs, input, options, expr_arena, lp_arena, udfs)?;
+            Ok(lowered)
+        }
+        DslPlan::GroupBy {
+            input,
+            keys,
+            aggs,
+            maintain_order: order,
+        } => {
+            let input = lower_input(input, expr_arena, lp_arena, udfs)?;
+            let lowered = lower_groups(input, keys, aggs, order, expr_arena, lp_arena, udfs)?;
             Ok(lowered)
         }
         DslPlan::MapFunction { input, function } => {
@@ -270,6 +282,40 @@ fn lower_hstack(
         input: input.node,
         schema,
         options,
+    })?;
+    Ok(LoweredNode {
+        node,
+        schema_node: node,
+    })
+}
+
+// Adds a group-by over a lowered input.
+fn lower_groups(
+    input: LoweredNode,
+    keys: Exprs,
+    aggs: Exprs,
+    maintain_order: bool,
+    expr_arena: &mut Arena<AExpr>,
+    lp_arena: &mut Arena<IR>,
+    udfs: &Udfs,
+) -> Result<LoweredNode, PlanError>
+    requires { Records lp_arena.old input.schema_node.0 }
+    ensures ok { IfOk result (λ lowered. IsGroupByAt (registry udfs.now) (columns_at lp_arena.old input.schema_node.0) expr_arena.new lp_arena.new
+        lowered.node.0 input.node.0 (trees_of keys) (trees_of aggs) (columns_at lp_arena.new lowered.schema_node.0)) }
+    ensures recorded { IfOk result (λ lowered. Records lp_arena.new lowered.schema_node.0) }
+    ensures err { IfErr result (IsUngrouped (registry udfs.now) (columns_at lp_arena.old input.schema_node.0) (trees_of keys) (trees_of aggs)) }
+    ensures kept { (n : ℕ) (op : Op) (inputs : List ℕ) →
+        HoldsExpression expr_arena.old n op inputs → HoldsExpression expr_arena.new n op inputs }
+    ensures grows { Grows lp_arena.old lp_arena.new }
+{
+    let schema = recorded_schema(lp_arena, input.schema_node);
+    let groups = group_strictly(keys, aggs, schema, expr_arena, udfs)?;
+    let node = lp_arena.add(IR::GroupBy {
+        input: input.node,
+        keys: groups.keys,
+        aggs: groups.aggs,
+        schema: groups.schema,
+        maintain_order,
     })?;
     Ok(LoweredNode {
         node,

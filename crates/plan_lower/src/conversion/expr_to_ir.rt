@@ -15,9 +15,11 @@ ghost use Rattle.plan_arena.specs.Items.{named_node, numbers, output_label, Hold
 ghost use Rattle.plan_lower.specs.Nodes.{IsItemOf};
 
 use plan_arena::aexpr::AExpr;
+use plan_arena::aggregate::IRAggExpr;
 use plan_arena::arena::{Arena, Node};
 use plan_arena::expr_ir::{ExprIR, OutputName};
 use plan_arena::inputs::NodeList;
+use plan_dsl::below_aggregate;
 use plan_dsl::expr::{Expr, Exprs};
 use plan_dsl::literal::LiteralValue;
 use plan_types::common_type::materialize_dyn_int;
@@ -141,6 +143,7 @@ fn first_alias(expr: &Expr) -> Option<&PlSmallStr>
         Expr::Explode(input) | Expr::Slice { input, .. } | Expr::Filter { input, .. } => {
             first_alias(input)
         }
+        Expr::Agg(aggregate) => below_aggregate!(aggregate, input => first_alias(input)),
         Expr::Column(_)
         | Expr::Literal(_)
         | Expr::Len
@@ -245,6 +248,13 @@ macro_rules! item_over {
             Expr::Alias(input, name) => {
                 let input = add_nodes(Box::into_inner(input), $keep, $arena)?;
                 Ok(AExpr::Alias(input, name))
+            }
+            Expr::Agg(aggregate) => {
+                let method = aggregate.method();
+                below_aggregate!(aggregate, input => {
+                    let input = add_nodes(Box::into_inner(input), $keep, $arena)?;
+                    Ok(AExpr::Agg(IRAggExpr::of(method, input)))
+                })
             }
             Expr::Columns(_)
             | Expr::DtypeColumn(_)

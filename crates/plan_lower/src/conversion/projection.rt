@@ -65,8 +65,13 @@ pub(crate) fn project_strictly(
     Ok(projection)
 }
 
-// What the expressions are expanded to over the schema, of which no column is a key.
-fn expanded(exprs: Exprs, schema: &Schema, udfs: &Udfs, alloc: Global) -> Result<Exprs, PlanError>
+/// What the expressions are expanded to over the schema, of which no column is a key.
+pub(crate) fn expanded(
+    exprs: Exprs,
+    schema: &Schema,
+    udfs: &Udfs,
+    alloc: Global,
+) -> Result<Exprs, PlanError>
     ensures ok { IfOk result (λ others. expansions [] (columns schema.now) (trees_of exprs) ≡ Ok (plain_trees others)) }
     ensures plain { IfOk result (λ others. list_all is_plain (trees_of others) ≡ true) }
     ensures err { IfErr result (IsUnexpanded (expansions [] (columns schema.now) (trees_of exprs))) }
@@ -75,8 +80,8 @@ fn expanded(exprs: Exprs, schema: &Schema, udfs: &Udfs, alloc: Global) -> Result
     Ok(Exprs { items })
 }
 
-// Makes room for the nodes of so many expressions, and a table for their types.
-fn room_for(count: usize, arena: &mut Arena<AExpr>) -> Result<TypeTable, PlanError>
+/// Makes room for the nodes of so many expressions, and a table for their types.
+pub(crate) fn room_for(count: usize, arena: &mut Arena<AExpr>) -> Result<TypeTable, PlanError>
     ensures ok { IfOk result (λ types. (n : ℕ) → ¬ (IsKept types n)) }
     ensures same { arena.new ≡ arena.old }
     ensures err { IfErr result (λ error. error ≡ no_memory) }
@@ -87,8 +92,8 @@ fn room_for(count: usize, arena: &mut Arena<AExpr>) -> Result<TypeTable, PlanErr
     Ok(types)
 }
 
-// The same, with a table that keeps nothing yet.
-fn project_in(
+/// The same, with a table that keeps nothing yet.
+pub(crate) fn project_in(
     exprs: Exprs,
     schema: &Schema,
     arena: &mut Arena<AExpr>,
@@ -111,8 +116,8 @@ fn project_in(
     Ok(projection)
 }
 
-// The nodes of the expressions.
-fn roots_of(exprs: &ExprIRs, alloc: Global) -> Result<Nodes, PlanError>
+/// The nodes of the expressions.
+pub(crate) fn roots_of(exprs: &ExprIRs, alloc: Global) -> Result<Nodes, PlanError>
     ensures ok { IfOk result (λ stack. numbers stack.items ≡ map (λ e. (named_node e).expression) exprs.now.items.items) }
     ensures err { IfErr result (λ error. error ≡ no_memory) }
 {

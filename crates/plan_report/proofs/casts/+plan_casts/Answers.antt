@@ -1,8 +1,8 @@
 use Rattle.std.proofs.Common.{[], ◌∷◌, ap, arith}
 use Rattle.plan_arena.specs.Items.{named_node, plan_layer}
 use Rattle.plan_arena.proofs.ItemLemmas.{item_inputs, plan_within}
-use Rattle.plan_report.proofs.NodeLemmas.{plan_inputs, node_kind, select_outputs, hstack_outputs, filter_outputs}
-use Rattle.plan_report.proofs.CastLemmas.{only_named, scan_casts, select_casts, hstack_casts, projection_casts, filter_casts, plan_counted}
+use Rattle.plan_report.proofs.NodeLemmas.{plan_inputs, node_kind, select_outputs, hstack_outputs, key_outputs, aggregate_outputs, filter_outputs}
+use Rattle.plan_report.proofs.CastLemmas.{only_named, scan_casts, select_casts, hstack_casts, group_casts, projection_casts, filter_casts, plan_counted}
 use Rattle.plan_report.proofs.casts.+plan_casts.Goals as goal
 
 pub get-item-requires : goal.get-item-requires
@@ -69,3 +69,22 @@ pub returns-in_ok-below-in-SimpleProjection : goal.returns-in_ok-below-in-Simple
 returns-in_ok-below-in-SimpleProjection t c tree d =
     let counted = plan_counted c.args.plan.now.expr_arena c.args.plan.now.lp_arena c.args.node.0 c.get-item.result.now c.get-item.ensures _ _ 0 (c.in_ok-below-in-SimpleProjection.below ∷ []) (ap plan_layer c.in-SimpleProjection.is) (projection_casts c.args.plan.now.expr_arena _) (c.in_ok-below-in-SimpleProjection.ensures, tt) tree d in
     omega arith
+
+pub outputs_casts-requires-in-GroupBy : goal.outputs_casts-requires-in-GroupBy
+outputs_casts-requires-in-GroupBy t c =
+    key_outputs c.args.plan.now.expr_arena _ _ (node_kind c.args.plan.now.expr_arena c.args.plan.now.lp_arena c.args.node.0 c.get-item.result.now c.get-item.ensures _ _ (ap plan_layer c.in-GroupBy.is) c.requires)
+
+pub outputs_casts-requires-in-GroupBy-2 : goal.outputs_casts-requires-in-GroupBy-2
+outputs_casts-requires-in-GroupBy-2 t c =
+    aggregate_outputs c.args.plan.now.expr_arena _ _ (node_kind c.args.plan.now.expr_arena c.args.plan.now.lp_arena c.args.node.0 c.get-item.result.now c.get-item.ensures _ _ (ap plan_layer c.in-GroupBy.is) c.requires)
+
+pub plan_casts-requires-in-GroupBy : goal.plan_casts-requires-in-GroupBy
+plan_casts-requires-in-GroupBy t c =
+    let inputs = plan_inputs c.args.plan.now.expr_arena c.args.plan.now.lp_arena c.args.node.0 c.get-item.result.now c.get-item.ensures _ _ (ap plan_layer c.in-GroupBy.is) c.requires in
+    (omega (arith, c.decreases, inputs.0.1), inputs.0.0)
+
+pub returns-in_ok-count-in-GroupBy : goal.returns-in_ok-count-in-GroupBy
+returns-in_ok-count-in-GroupBy t c tree d =
+    let own = group_casts c.args.plan.now.expr_arena _ _ c.in_ok-first-in-GroupBy.first c.in_ok-later-in-GroupBy.later c.in_ok-here-in-GroupBy.here c.in_ok-first-in-GroupBy.ensures c.in_ok-later-in-GroupBy.ensures c.in_ok-here-in-GroupBy.ensures in
+    let counted = plan_counted c.args.plan.now.expr_arena c.args.plan.now.lp_arena c.args.node.0 c.get-item.result.now c.get-item.ensures _ _ c.in_ok-here-in-GroupBy.here (c.in_ok-below-in-GroupBy.below ∷ []) (ap plan_layer c.in-GroupBy.is) own (c.in_ok-below-in-GroupBy.ensures, tt) tree d in
+    omega (arith, c.in_ok-count-in-GroupBy.ensures)

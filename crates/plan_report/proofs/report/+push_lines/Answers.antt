@@ -64,6 +64,25 @@ pub returns-in_ok-push_lines-in-HStack-clause-lines : goal.returns-in_ok-push_li
 returns-in_ok-push_lines-in-HStack-clause-lines t c registry tree d accepted schema =
     select_lines c.args.plan.now.expr_arena c.args.plan.now.lp_arena c.args.node.0 c.get-item.result.now c.get-item.ensures (columns c.args.schema.now) registry c.args.path.now.items _ _ _ (ap plan_layer c.in-HStack.is) _ _ _ (columns c.schema_ref-schema-in-HStack.result.now) (rw (← c.as_slice.ensures.value, ← c.name.ensures) c.in_ok-push_line.ensures) c.in_ok-push-in-HStack.ensures.items (lent_schema c.args.plan.now.expr_arena c.args.plan.now.lp_arena c.in-HStack.input.0 c.get-in-HStack.result.now (columns c.schema_ref-schema-in-HStack.result.now) c.get-in-HStack.ensures c.schema_ref-schema-in-HStack.ensures.rule registry) (c.in_ok-push_lines-in-HStack.ensures.lines registry) tree d accepted schema
 
+pub get-requires-in-GroupBy : goal.get-requires-in-GroupBy
+get-requires-in-GroupBy t c =
+    let inputs = plan_inputs c.args.plan.now.expr_arena c.args.plan.now.lp_arena c.args.node.0 c.get-item.result.now c.get-item.ensures _ _ (ap plan_layer c.in-GroupBy.is) c.requires in
+    plan_within c.args.plan.now.expr_arena c.args.plan.now.lp_arena c.in-GroupBy.input.0 inputs.0.0
+
+pub schema_ref-schema-requires-in-GroupBy : goal.schema_ref-schema-requires-in-GroupBy
+schema_ref-schema-requires-in-GroupBy t c =
+    let inputs = plan_inputs c.args.plan.now.expr_arena c.args.plan.now.lp_arena c.args.node.0 c.get-item.result.now c.get-item.ensures _ _ (ap plan_layer c.in-GroupBy.is) c.requires in
+    item_inputs c.args.plan.now.expr_arena c.args.plan.now.lp_arena c.in-GroupBy.input.0 c.get-in-GroupBy.result.now c.get-in-GroupBy.ensures inputs.0.0
+
+pub push_lines-requires-in-GroupBy : goal.push_lines-requires-in-GroupBy
+push_lines-requires-in-GroupBy t c =
+    let inputs = plan_inputs c.args.plan.now.expr_arena c.args.plan.now.lp_arena c.args.node.0 c.get-item.result.now c.get-item.ensures _ _ (ap plan_layer c.in-GroupBy.is) c.requires in
+    (omega (arith, c.decreases, inputs.0.1), inputs.0.0)
+
+pub returns-in_ok-push_lines-in-GroupBy-clause-lines : goal.returns-in_ok-push_lines-in-GroupBy-clause-lines
+returns-in_ok-push_lines-in-GroupBy-clause-lines t c registry tree d accepted schema =
+    select_lines c.args.plan.now.expr_arena c.args.plan.now.lp_arena c.args.node.0 c.get-item.result.now c.get-item.ensures (columns c.args.schema.now) registry c.args.path.now.items _ _ _ (ap plan_layer c.in-GroupBy.is) _ _ _ (columns c.schema_ref-schema-in-GroupBy.result.now) (rw (← c.as_slice.ensures.value, ← c.name.ensures) c.in_ok-push_line.ensures) c.in_ok-push-in-GroupBy.ensures.items (lent_schema c.args.plan.now.expr_arena c.args.plan.now.lp_arena c.in-GroupBy.input.0 c.get-in-GroupBy.result.now (columns c.schema_ref-schema-in-GroupBy.result.now) c.get-in-GroupBy.ensures c.schema_ref-schema-in-GroupBy.ensures.rule registry) (c.in_ok-push_lines-in-GroupBy.ensures.lines registry) tree d accepted schema
+
 pub get-requires-in-SimpleProjection : goal.get-requires-in-SimpleProjection
 get-requires-in-SimpleProjection t c =
     let inputs = plan_inputs c.args.plan.now.expr_arena c.args.plan.now.lp_arena c.args.node.0 c.get-item.result.now c.get-item.ensures _ _ (ap plan_layer c.in-SimpleProjection.is) c.requires in

@@ -3,13 +3,14 @@ use Rattle.plan_types.specs.Schemas.{columns}
 use Rattle.plan_types.proofs.ResultLemmas.{passed_on}
 use Rattle.plan_types.proofs.SchemaLemmas.{schema_has_distinct_names}
 use Rattle.plan_dsl.specs.Expressions.{tree_of, trees_of}
-use Rattle.plan_dsl.specs.Plans.{plan_tree, filter_op, select_op, hstack_op}
+use Rattle.plan_dsl.specs.Plans.{plan_tree, filter_op, select_op, group_by_op, hstack_op}
 use Rattle.plan_dsl.specs.PlanRules.{schema_of}
 use Rattle.plan_dsl.specs.Registry.{registry}
 use Rattle.plan_dsl.specs.Resolving.{resolved_op, resolved}
 use Rattle.plan_dsl.specs.Trees.{node, no_more, more}
 use Rattle.plan_lower.specs.Lowering.{columns_at, IsPlanRefusal, StandsFor}
 use Rattle.plan_lower.proofs.DropLemmas.{function_below, function_stands, function_refused}
+use Rattle.plan_lower.proofs.GroupLemmas.{groups_stand, groups_refused}
 use Rattle.plan_lower.proofs.PlanLemmas.{scan_stands, scan_refused, filter_stands, filter_refused, select_stands, select_refused, hstack_stands, hstack_refused, refused_below}
 use Rattle.plan_lower.proofs.RecordedLemmas.{columns_of_recorded, columns_stay, records_stay}
 use Rattle.plan_lower.proofs.conversion.dsl_to_ir.+plans.Goals as goal
@@ -95,6 +96,27 @@ lower-returns-in_ok-lowered-in-HStack-clause-ok t c =
     let input = c.in_ok-input-in-HStack in
     let lowered = c.in_ok-lowered-in-HStack in
     hstack_stands r c.lower_input-in-HStack.new.expr_arena c.lower_hstack.new.expr_arena c.lower_input-in-HStack.new.lp_arena c.lower_hstack.new.lp_arena input.input.node.0 lowered.lowered.node.0 (columns_at c.lower_input-in-HStack.new.lp_arena input.input.schema_node.0) (columns_at c.lower_hstack.new.lp_arena lowered.lowered.schema_node.0) (trees_of c.in-HStack.exprs) (plan_tree c.in-HStack.input.value) (resolved r (plan_tree c.args.plan)) lowered.ensures.kept lowered.ensures.grows input.ensures.ok lowered.ensures.ok (ap (λ p. resolved r (plan_tree p)) c.in-HStack.is)
+
+pub lower-returns-in_err-input-in-GroupBy-clause-err :
+    goal.lower-returns-in_err-input-in-GroupBy-clause-err
+lower-returns-in_err-input-in-GroupBy-clause-err t c =
+    let r = registry c.args.udfs.now in
+    passed_on c.from_residual-in_err-input-in-GroupBy.result c.in_err-input-in-GroupBy.field-0.0 _ c.from_residual-in_err-input-in-GroupBy.ensures.1 (subst (λ p. IsPlanRefusal r p c.in_err-input-in-GroupBy.field-0.0) (sym (ap (λ p. resolved r (plan_tree p)) c.in-GroupBy.is)) (c.in_err-input-in-GroupBy.ensures.err (group_by_op (trees_of c.in-GroupBy.keys) (trees_of c.in-GroupBy.aggs) None)))
+
+pub lower-returns-in_err-lowered-in-GroupBy-clause-err :
+    goal.lower-returns-in_err-lowered-in-GroupBy-clause-err
+lower-returns-in_err-lowered-in-GroupBy-clause-err t c =
+    let r = registry c.args.udfs.now in
+    let input = c.in_ok-input-in-GroupBy in
+    passed_on c.from_residual-in_err-lowered-in-GroupBy.result c.in_err-lowered-in-GroupBy.field-0.0 _ c.from_residual-in_err-lowered-in-GroupBy.ensures.1 (groups_refused r c.lower_input-in-GroupBy.new.expr_arena c.lower_input-in-GroupBy.new.lp_arena input.input.node.0 (columns_at c.lower_input-in-GroupBy.new.lp_arena input.input.schema_node.0) (trees_of c.in-GroupBy.keys) (trees_of c.in-GroupBy.aggs) (plan_tree c.in-GroupBy.input.value) (resolved r (plan_tree c.args.plan)) _ input.ensures.ok c.in_err-lowered-in-GroupBy.ensures.err (ap (λ p. resolved r (plan_tree p)) c.in-GroupBy.is))
+
+pub lower-returns-in_ok-lowered-in-GroupBy-clause-ok :
+    goal.lower-returns-in_ok-lowered-in-GroupBy-clause-ok
+lower-returns-in_ok-lowered-in-GroupBy-clause-ok t c =
+    let r = registry c.args.udfs.now in
+    let input = c.in_ok-input-in-GroupBy in
+    let lowered = c.in_ok-lowered-in-GroupBy in
+    groups_stand r c.lower_input-in-GroupBy.new.expr_arena c.lower_groups.new.expr_arena c.lower_input-in-GroupBy.new.lp_arena c.lower_groups.new.lp_arena input.input.node.0 lowered.lowered.node.0 (columns_at c.lower_input-in-GroupBy.new.lp_arena input.input.schema_node.0) (columns_at c.lower_groups.new.lp_arena lowered.lowered.schema_node.0) (trees_of c.in-GroupBy.keys) (trees_of c.in-GroupBy.aggs) (plan_tree c.in-GroupBy.input.value) (resolved r (plan_tree c.args.plan)) lowered.ensures.kept lowered.ensures.grows input.ensures.ok lowered.ensures.ok (ap (λ p. resolved r (plan_tree p)) c.in-GroupBy.is)
 
 pub lower-returns-in_err-input-in-MapFunction-clause-err :
     goal.lower-returns-in_err-input-in-MapFunction-clause-err

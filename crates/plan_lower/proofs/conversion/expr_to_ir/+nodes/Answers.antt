@@ -4,7 +4,7 @@ use Rattle.plan_dsl.specs.Sources.{is_plain}
 use Rattle.std.specs.Vec.Iter.{into_iter_items}
 use Rattle.plan_dsl.specs.Aliases.{all_pruned, inputs_pruned, prune_node, pruned}
 use Rattle.plan_dsl.specs.Expressions.{plain_tree, plain_trees, sort_by_op, tree_of}
-use Rattle.plan_dsl.specs.declared.expr.Expr.TheViews.{size-Expr, sized-BinaryExpr, sized-Filter, sized-Gather, sized-Slice, sized-SortBy}
+use Rattle.plan_dsl.specs.declared.aggregate.AggExpr.TheViews.{size-Expr, sized-BinaryExpr, sized-Filter, sized-Gather, sized-Slice, sized-SortBy}
 use Rattle.plan_dsl.specs.Ops.{AliasOp}
 use Rattle.plan_dsl.specs.Trees.{node, no_more, more, children_from}
 use Rattle.plan_dsl.proofs.ExprLemmas.{sort_by_listed}
