@@ -10,7 +10,7 @@ use Rattle.serde_json.specs.Find.{as_str, as_array, as_bool, as_null, at, get_it
 use Rattle.plan_types.specs.Schemas.{Name, is_among, repeats}
 use Rattle.plan_types.specs.Types.{Ty, is_counted}
 use Rattle.plan_json.specs.Forms.{Asked, a_form, leaf, many, Places, single, listed, asks, key_named, row_named, type_rows, excluded_rows}
-use Rattle.plan_json.specs.Leaves.{index_of, text_of, type_named, type_of, unit_of, literal_of, number_text_of, counted_of, number_of, operator_of, mode_of, column_name, table_name, table_limit}
+use Rattle.plan_json.specs.Leaves.{index_of, text_of, type_named, type_of, unit_of, literal_of, number_text_of, counted_of, number_of, operator_of, method_of, mode_of, column_name, table_name, table_limit}
 use Rattle.plan_json.specs.Looking.{both, is_float, only_member, two_members, two_items, some_of, first_items}
 use Rattle.plan_json.specs.declared.forms.Kind.{Kind}
 use Rattle.plan_json.specs.declared.forms.Kind.TheVariants as kinds
@@ -44,7 +44,7 @@ Path = List Step
 pub data Form : Type 0 where
   a_query table_list column_list field_list a_column a_type a_unit a_text : Form
   a_table a_new_name a_scan : List Name → Form
-  a_literal a_number_text a_typed_literal a_counted_type an_operator a_mode nothing_form flag_form an_index an_excluded : Form
+  a_literal a_number_text a_typed_literal a_counted_type an_operator a_method a_mode nothing_form flag_form an_index an_excluded : Form
   a_number_of : Ty → Form
   -- an object of one key, which names a form of the kind
   keyed_form : List Name → Kind → Form
@@ -88,6 +88,7 @@ leaf_form names leaves.Value = a_literal
 leaf_form names leaves.Digits = a_number_text
 leaf_form names leaves.Typed = a_typed_literal
 leaf_form names leaves.Operator = an_operator
+leaf_form names leaves.Method = a_method
 leaf_form names leaves.Dtype = a_type
 leaf_form names leaves.Mode = a_mode
 leaf_form names leaves.Table = a_scan names
@@ -169,6 +170,7 @@ has_shape a_typed_literal d = is_some (two_items d)
 has_shape a_counted_type d = has_type_shape d && may_be_counted d
 has_shape (a_number_of type) d = is_some (number_of type d)
 has_shape an_operator d = is_some (operator_of d)
+has_shape a_method d = is_some (method_of d)
 has_shape a_mode d = is_some (mode_of d)
 has_shape nothing_form d = is_some (as_null d)
 has_shape flag_form d = is_some (as_bool d)

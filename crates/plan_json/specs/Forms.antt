@@ -5,10 +5,12 @@ use Rattle.plan_types.specs.Schemas.{Name, Columns}
 use Rattle.plan_types.specs.Types.{Ty}
 use Rattle.plan_types.specs.declared.dtype.CastOptions.{CastOptions}
 use Rattle.plan_dsl.specs.Ops.{Op, ColumnOp, BinaryOp, CastOp, LenOp, SliceOp, ExplodeOp, GatherOp, FilterOp, SortOp, SortByOp, AliasOp}
-use Rattle.plan_dsl.specs.Plans.{SourcePlan, scan_op, source_select, source_hstack, source_filter, source_drop}
+use Rattle.plan_dsl.specs.Plans.{SourcePlan, scan_op, source_select, source_hstack, source_group_by, source_filter, source_drop}
 use Rattle.plan_dsl.specs.Sources.{Excluded, Source, Plain, WildcardOp, ColumnsOp, DtypeColumnOp, IndexColumnOp, NthOp, ExcludeOp, SelectorOp, RootOp, RenameOp, KeepRoot, AddPrefix, AddSuffix, SetName, Add, Sub, Intersect, ExclusiveOr, of_two}
 use Rattle.plan_dsl.specs.Trees.{node, no_more, more, children_from}
+use Rattle.plan_dsl.specs.declared.aggregate.GroupByMethod.{GroupByMethod}
 use Rattle.plan_dsl.specs.declared.operator.Operator.{Operator}
+use Rattle.plan_dsl.specs.Expressions.{aggregated}
 use Rattle.plan_json.specs.declared.forms.Kind.{Kind}
 use Rattle.plan_json.specs.declared.forms.Kind.TheVariants as kinds
 use Rattle.plan_json.specs.declared.forms.Leaf.{Leaf}
@@ -76,6 +78,7 @@ expression_rows =
     (codes "sort", of.Sort) ∷
     (codes "sort_by", of.SortBy) ∷
     (codes "alias", of.Alias) ∷
+    (codes "agg", of.Agg) ∷
     (codes "cols", of.Cols) ∷
     (codes "dtypes", of.Dtypes) ∷
     (codes "at", of.At) ∷
@@ -104,6 +107,7 @@ expression_asks of.Filter = listed (expression ∷ expression ∷ [])
 expression_asks of.Sort = listed (expression ∷ leaf leaves.Flag ∷ leaf leaves.Flag ∷ [])
 expression_asks of.SortBy = listed (expression ∷ many expression ∷ many (leaf leaves.Flag) ∷ many (leaf leaves.Flag) ∷ [])
 expression_asks of.Alias = listed (expression ∷ leaf leaves.Name ∷ [])
+expression_asks of.Agg = listed (leaf leaves.Method ∷ expression ∷ [])
 expression_asks of.Cols = single (many (leaf leaves.Name))
 expression_asks of.Dtypes = single (many (leaf leaves.Dtype))
 expression_asks of.At = single (many (leaf leaves.Index))
@@ -145,6 +149,7 @@ plan_rows =
     (codes "filter", by.Filter) ∷
     (codes "select", by.Select) ∷
     (codes "with_columns", by.WithColumns) ∷
+    (codes "group_by", by.GroupBy) ∷
     (codes "drop", by.Drop) ∷ []
 
 -- what each asks of its value
@@ -154,6 +159,7 @@ plan_asks by.Empty = single (leaf leaves.Columns)
 plan_asks by.Filter = listed (plan ∷ expression ∷ [])
 plan_asks by.Select = listed (plan ∷ many expression ∷ [])
 plan_asks by.WithColumns = listed (plan ∷ many expression ∷ [])
+plan_asks by.GroupBy = listed (plan ∷ many expression ∷ many expression ∷ [])
 plan_asks by.Drop = listed (plan ∷ many selector ∷ leaf leaves.Flag ∷ [])
 
 -- ---- types
@@ -182,6 +188,7 @@ mutual
     name_read : Name → Read
     literal_read : Op → Read
     operator_read : Operator → Read
+    method_read : GroupByMethod → Read
     type_read : Ty → Read
     mode_read : CastOptions → Read
     table_read : ℕ → Columns → Read
@@ -264,6 +271,7 @@ expression_says of.Int (literal_read op ∷ []) = Some (node (Plain op) no_more)
 expression_says of.Typed (literal_read op ∷ []) = Some (node (Plain op) no_more)
 expression_says of.Bin (operator_read op ∷ expression_read left ∷ expression_read right ∷ []) =
     Some (node (Plain (BinaryOp op)) (more left (more right no_more)))
+expression_says of.Agg (method_read method ∷ expression_read input ∷ []) = Some (aggregated method input)
 expression_says of.Cast (expression_read operand ∷ type_read type ∷ mode_read mode ∷ []) =
     Some (node (Plain (CastOp type mode)) (more operand no_more))
 expression_says of.Len (nothing_read ∷ []) = Some (node (Plain LenOp) no_more)
@@ -308,6 +316,8 @@ plan_says by.Select (plan_read input ∷ many_read outputs ∷ []) =
     Some (source_select (expressions_in outputs) input)
 plan_says by.WithColumns (plan_read input ∷ many_read outputs ∷ []) =
     Some (source_hstack (expressions_in outputs) input)
+plan_says by.GroupBy (plan_read input ∷ many_read keys ∷ many_read aggs ∷ []) =
+    Some (source_group_by (expressions_in keys) (expressions_in aggs) input)
 plan_says by.Drop (plan_read input ∷ chosen_read selectors ∷ flag_read strict ∷ []) =
     Some (source_drop (selectors_in selectors) strict input)
 plan_says _ _ = None
@@ -350,6 +360,7 @@ abbrev mutual
   fits (leaf leaves.Digits) (literal_read op) = true
   fits (leaf leaves.Typed) (literal_read op) = true
   fits (leaf leaves.Operator) (operator_read op) = true
+  fits (leaf leaves.Method) (method_read method) = true
   fits (leaf leaves.Dtype) (type_read type) = true
   fits (leaf leaves.Mode) (mode_read mode) = true
   fits (leaf leaves.Table) (table_read number columns) = true

@@ -17,6 +17,8 @@ use Rattle.plan_types.specs.declared.dtype.TimeUnit.{TimeUnit}
 use Rattle.plan_types.specs.declared.dtype.TimeUnit.TheVariants.{Nanoseconds, Microseconds, Milliseconds}
 use Rattle.plan_dsl.specs.Ops.{Op, LiteralOp}
 use Rattle.plan_dsl.specs.Sources.{Excluded, ExcludedName, ExcludedType}
+use Rattle.plan_dsl.specs.declared.aggregate.GroupByMethod.{GroupByMethod}
+use Rattle.plan_dsl.specs.declared.aggregate.GroupByMethod.TheVariants.{Min, Max, NUnique, First, Last, Implode, Sum, Count, Groups}
 use Rattle.plan_dsl.specs.declared.operator.Operator.{Operator}
 use Rattle.plan_dsl.specs.declared.operator.Operator.TheVariants.{Eq, EqValidity, NotEq, NotEqValidity, Lt, LtEq, Gt, GtEq, Plus, Minus, Multiply, Divide, FloorDivide, Modulus, And, Or, Xor, LogicalAnd, LogicalOr}
 use Rattle.plan_json.specs.Forms.{row_named, type_rows, excluded_rows}
@@ -132,6 +134,29 @@ operator_named name = option_or (option_or (comparison_named name) (arithmetic_n
 
 abbrev pub operator_of : Data → Option Operator
 operator_of d = option_and_then operator_named (as_str d)
+
+-- the method of an aggregate by its name
+abbrev pub value_named : List ℕ → Option GroupByMethod
+value_named name =
+    if bytes_eq name (codes "Min") then Some Min else (
+    if bytes_eq name (codes "Max") then Some Max else (
+    if bytes_eq name (codes "First") then Some First else (
+    if bytes_eq name (codes "Last") then Some Last else (
+    if bytes_eq name (codes "Sum") then Some Sum else None))))
+
+abbrev pub count_named : List ℕ → Option GroupByMethod
+count_named name =
+    if bytes_eq name (codes "NUnique") then Some NUnique else (
+    if bytes_eq name (codes "Implode") then Some Implode else (
+    if bytes_eq name (codes "Count") then Some (Count false) else (
+    if bytes_eq name (codes "CountAll") then Some (Count true) else (
+    if bytes_eq name (codes "AggGroups") then Some Groups else None))))
+
+abbrev pub method_named : List ℕ → Option GroupByMethod
+method_named name = option_or (value_named name) (count_named name)
+
+abbrev pub method_of : Data → Option GroupByMethod
+method_of d = option_and_then method_named (as_str d)
 
 -- what a cast does with a value that has no place in its target
 abbrev pub mode_named : List ℕ → Option CastOptions

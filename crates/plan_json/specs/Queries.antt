@@ -4,9 +4,9 @@ use Rattle.serde_json.specs.Find.{as_bool, as_null, get_item}
 use Rattle.serde_json.specs.Data.{Data, array, object, Items, no_items, item, no_members, member}
 use Rattle.plan_dsl.specs.Plans.{SourcePlan, plan_tree}
 use Rattle.plan_dsl.specs.declared.plan.DslPlan.{DslPlan}
-use Rattle.plan_dsl.specs.declared.plan.DslPlan.TheVariants.{DataFrameScan, Filter', HStack', MapFunction', Select'}
-use Rattle.plan_json.specs.Forms.{Asked, a_form, leaf, many, Places, single, listed, plan, Read, name_read, literal_read, operator_read, type_read, mode_read, table_read, columns_read, plan_read, list_read, reads_of, key_named, asks, says, nothing_read, flag_read, index_read, excluded_read, Fits}
-use Rattle.plan_json.specs.Leaves.{excluded_item, index_of, text_of, literal_of, number_text_of, typed_of, operator_of, type_of, mode_of, table_at, columns_of, tables_of}
+use Rattle.plan_dsl.specs.declared.plan.DslPlan.TheVariants.{DataFrameScan, Filter', GroupBy', HStack', MapFunction', Select'}
+use Rattle.plan_json.specs.Forms.{Asked, a_form, leaf, many, Places, single, listed, plan, Read, name_read, literal_read, operator_read, method_read, type_read, mode_read, table_read, columns_read, plan_read, list_read, reads_of, key_named, asks, says, nothing_read, flag_read, index_read, excluded_read, Fits}
+use Rattle.plan_json.specs.Leaves.{excluded_item, index_of, text_of, literal_of, number_text_of, typed_of, operator_of, method_of, type_of, mode_of, table_at, columns_of, tables_of}
 use Rattle.plan_json.specs.Looking.{both, two_members}
 use Rattle.plan_json.specs.Tables.{Declared, declared}
 use Rattle.plan_json.specs.declared.forms.Leaf.{Leaf}
@@ -33,6 +33,7 @@ leaf_of tables leaves.Value d = option_map literal_read (literal_of d)
 leaf_of tables leaves.Digits d = option_map literal_read (number_text_of d)
 leaf_of tables leaves.Typed d = option_map literal_read (typed_of d)
 leaf_of tables leaves.Operator d = option_map operator_read (operator_of d)
+leaf_of tables leaves.Method d = option_map method_read (method_of d)
 leaf_of tables leaves.Dtype d = option_map type_read (type_of d)
 leaf_of tables leaves.Mode d = option_map mode_read (mode_of d)
 leaf_of tables leaves.Table d = option_map (λ table. table_read table.0 table.1) (option_and_then (table_at tables) (text_of d))
@@ -99,11 +100,12 @@ query_from parts =
 abbrev pub query_of : Data → Option QueryModel
 query_of d = option_and_then query_from (two_members (codes "tables") (codes "plan") d)
 
--- whether some select or hstack of the plan has its option set, which no query can write
+-- whether some select, hstack or group-by of the plan has its option set, which no query can write
 abbrev pub has_flags : DslPlan → Bool
 has_flags (DataFrameScan table schema) = false
 has_flags (Select' expr p input options) = options.duplicate_check || has_flags input
 has_flags (HStack' exprs p input options) = options.duplicate_check || has_flags input
+has_flags (GroupBy' p input keys aggs maintain_order) = maintain_order || has_flags input
 has_flags (Filter' p input predicate) = has_flags input
 has_flags (MapFunction' p input function) = has_flags input
 

@@ -6,10 +6,11 @@ ghost use Rattle.plan_dsl.specs.Plans.{plan_tree};
 ghost use Rattle.plan_types.specs.Schemas.{columns};
 ghost use Rattle.plan_types.specs.Types.{ty};
 ghost use Rattle.plan_json.specs.Arguments.{arg_view, args_view};
-ghost use Rattle.plan_json.specs.Forms.{AllFit, Asked, Fits, chosen_read, columns_read, expression, expression_read, leaf, leaves_read, literal_read, many, many_read, mode_read, name_read, operator_read, plan, plan_read, reads_of, selector, selector_read, table_read, type_read, nothing_read, flag_read, index_read, excluded_read};
+ghost use Rattle.plan_json.specs.Forms.{AllFit, Asked, Fits, chosen_read, columns_read, expression, expression_read, leaf, leaves_read, literal_read, many, many_read, method_read, mode_read, name_read, operator_read, plan, plan_read, reads_of, selector, selector_read, table_read, type_read, nothing_read, flag_read, index_read, excluded_read};
 ghost use Rattle.plan_json.specs.Queries.{has_flags};
 ghost use Rattle.plan_json.specs.declared.forms.Leaf.TheVariants as leaves;
 
+use plan_dsl::aggregate::GroupByMethod;
 use plan_dsl::expr::{Expr, Exprs};
 use plan_dsl::literal::LiteralValue;
 use plan_dsl::marker::Excluded;
@@ -27,6 +28,7 @@ pub(crate) enum Arg {
     Name(Box<PlSmallStr>),
     Literal(Box<LiteralValue>),
     Operator(Operator),
+    Method(GroupByMethod),
     Dtype(Box<DataType>),
     Mode(CastOptions),
     Table(u32, Box<Schema>),
@@ -220,6 +222,16 @@ pub(crate) fn operator(arg: Arg) -> Operator
 {
     match arg {
         Arg::Operator(operator) => operator,
+        _ => unreachable!(),
+    }
+}
+
+pub(crate) fn method(arg: Arg) -> GroupByMethod
+    requires { Fits (leaf leaves.Method) (arg_view arg) }
+    ensures { arg_view arg ≡ method_read result }
+{
+    match arg {
+        Arg::Method(method) => method,
         _ => unreachable!(),
     }
 }

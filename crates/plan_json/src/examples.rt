@@ -1,6 +1,7 @@
 //! Worked examples of the definitions. The functions do nothing: their clauses are the examples.
 #![tactic(auto, unfolding(crate::proofs::OnLiterals::values_on_literals))]
 
+pub mod aggregates;
 pub mod errors;
 pub mod faults;
 pub mod markers;
@@ -9,7 +10,7 @@ ghost use Rattle.std.specs.Prelude.{◌≡◌, pos, [], ◌∷◌, Some, None, c
 ghost use Rattle.plan_types.specs.Types.{NullType, Truth, Integer, TextType, DateType, TimeType, DatetimeType, DurationType, ListType, StructType, no_field, with_field, Untyped};
 ghost use Rattle.plan_types.specs.declared.dtype.CastOptions.TheVariants.{Strict, NonStrict, Overflowing};
 ghost use Rattle.plan_types.specs.declared.dtype.TimeUnit.TheVariants.{Nanoseconds, Microseconds, Milliseconds};
-ghost use Rattle.plan_dsl.specs.Plans.{empty_table, source_select};
+ghost use Rattle.plan_dsl.specs.Plans.{empty_table, source_group_by, source_select};
 ghost use Rattle.plan_dsl.specs.declared.operator.Operator.TheVariants.{Lt, GtEq, Plus, Eq, EqValidity, NotEq, NotEqValidity, LtEq, Gt, Minus, Multiply, Divide, FloorDivide, Modulus, And, Or, Xor, LogicalAnd, LogicalOr};
 ghost use Rattle.serde_json.specs.Data.{Items, array, boolean, member, no_members, null, object, float, negative, number, string, unsigned};
 ghost use Rattle.serde_json.specs.Events.{items_len};
@@ -18,7 +19,7 @@ ghost use Rattle.plan_json.specs.Forms.{Read, flag_read, leaf as one};
 ghost use Rattle.plan_json.specs.Queries.{IsItem, plan_of, query_of, QueryModel};
 ghost use Rattle.plan_json.specs.declared.forms.Leaf.TheVariants as leaves;
 ghost use Rattle.plan_dsl.specs.Samples.{alias, all, count, explode, form, gather_one, keep_where, nth, slice, sort_as, sort_by, way, written_hstack};
-ghost use Rattle.plan_dsl.specs.Sources.{AddSuffix};
+ghost use Rattle.plan_dsl.specs.Sources.{AddSuffix, written};
 ghost use Rattle.plan_json.specs.Samples.{ReadAs, items_of, expression_of, Gives, GivesAll, bin, binary, cast_to, cast_value, col, column, column_value, empty_value, filter, filter_value, int8, int64, keyed, keyed_twice, list, moments, query, query_value, scan, scan_value, select, select_value, spans, table_value, untyped, whole, word, below_zero, leaf, typed, Each, Refused, Writes, NoJson};
 ghost use Rattle.plan_types.specs.Values.{NullValue, TruthValue, TextValue};
 ghost use Rattle.plan_dsl.specs.Ops.{LiteralOp};
@@ -76,7 +77,7 @@ pub fn type_examples()
         keyed "Struct" (list (known ∷ column_value "a" "int8" ∷ [])) ∷ []) }
 {}
 
-/// A scan names a declared table, and the empty table has the columns that are written. A filter has its input and a predicate, a select and an hstack their input and a list.
+/// A scan names a declared table, and the empty table has the columns that are written. A filter has its input and a predicate, a select and an hstack their input and a list, a group-by its input and two.
 pub fn plan_examples()
     ensures over_two { let a = (codes "a", Truth) ∷ [] in
         Gives (plan_of ((codes "t", a) ∷ (codes "s", []) ∷ [])) ((scan_value "t", Some (scan (Some 0) a)) ∷ (scan_value "s", Some (scan (Some 1) [])) ∷ []) }
@@ -95,6 +96,11 @@ pub fn plan_examples()
         (empty_value ∷ list [] ∷ [], Some (written_hstack [] empty_table)) ∷
         (empty_value ∷ list (col "b" ∷ col "a" ∷ []) ∷ [], Some (written_hstack (column "b" ∷ column "a" ∷ []) empty_table)) ∷
         (empty_value ∷ [], None) ∷ (empty_value ∷ col "a" ∷ [], None) ∷ (empty_value ∷ list [] ∷ list [] ∷ [], None) ∷ []) }
+    ensures groups { Gives (λ items. plan_of [] (keyed "group_by" (list items))) (
+        (empty_value ∷ list [] ∷ list [] ∷ [], Some (source_group_by [] [] empty_table)) ∷
+        (empty_value ∷ list (col "b" ∷ col "a" ∷ []) ∷ list (keyed "all" null ∷ []) ∷ [], Some (source_group_by (written (column "b") ∷ written (column "a") ∷ []) (all ∷ []) empty_table)) ∷
+        (empty_value ∷ list (col "a" ∷ []) ∷ [], None) ∷ (empty_value ∷ list [] ∷ list [] ∷ list [] ∷ [], None) ∷ (empty_value ∷ col "a" ∷ list [] ∷ [], None) ∷
+        (list [] ∷ list [] ∷ empty_value ∷ [], None) ∷ []) }
 {}
 
 /// An expression: an object of one key, which names its form. An operator is written by its name.

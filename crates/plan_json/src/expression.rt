@@ -7,9 +7,10 @@ ghost use Rattle.plan_json.specs.declared.forms.ExpressionKey.TheVariants as of;
 
 use super::arguments::{
     Args, digits, dtype, dtypes, excluded, expression, expressions, flag, flags, four, index,
-    indexes, mode, name, names, nothing, one, operator, selector, three, two, typed, value,
+    indexes, method, mode, name, names, nothing, one, operator, selector, three, two, typed, value,
 };
 use super::forms::ExpressionKey;
+use plan_dsl::aggregate::AggExpr;
 use plan_dsl::expr::Expr;
 use plan_dsl::marker::RenameAliasFn;
 use plan_dsl::sort_options::{SortMultipleOptions, SortOptions};
@@ -37,6 +38,7 @@ pub(crate) fn assemble_expression(key: ExpressionKey, args: Args) -> Expr
         ExpressionKey::Sort => sort(args),
         ExpressionKey::SortBy => sort_by(args),
         ExpressionKey::Alias => alias(args),
+        ExpressionKey::Agg => agg(args),
         ExpressionKey::Cols => cols(args),
         ExpressionKey::Dtypes => dtype_columns(args),
         ExpressionKey::At => at(args),
@@ -175,6 +177,14 @@ fn sort_by(args: Args) -> Expr
             nulls_last: flags(nulls_last),
         },
     }
+}
+
+fn agg(args: Args) -> Expr
+    requires { AllFit (asked_in (expression_asks of.Agg)) (args_view args) }
+    ensures { expression_says of.Agg (args_view args) ≡ Some (tree_of result) }
+{
+    let (made, input) = two(args);
+    Expr::Agg(AggExpr::of(method(made), expression(input)))
 }
 
 fn alias(args: Args) -> Expr

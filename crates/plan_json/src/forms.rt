@@ -24,6 +24,8 @@ pub(crate) enum Leaf {
     // A number with its type.
     Typed,
     Operator,
+    // What an aggregate makes of its input.
+    Method,
     // A type.
     Dtype,
     // What a cast does with a value that has no place in its target.
@@ -88,6 +90,7 @@ pub(crate) enum ExpressionKey {
     Sort,
     SortBy,
     Alias,
+    Agg,
     Cols,
     Dtypes,
     At,
@@ -117,6 +120,7 @@ pub(crate) enum PlanKey {
     Filter,
     Select,
     WithColumns,
+    GroupBy,
     Drop,
 }
 
@@ -173,6 +177,8 @@ const TYPED: Place = Place::Leaf(Leaf::Typed);
 
 const OPERATOR: Place = Place::Leaf(Leaf::Operator);
 
+const METHOD: Place = Place::Leaf(Leaf::Method);
+
 const DTYPE: Place = Place::Leaf(Leaf::Dtype);
 
 const MODE: Place = Place::Leaf(Leaf::Mode);
@@ -188,7 +194,7 @@ const FLAG: Place = Place::Leaf(Leaf::Flag);
 const INDEX: Place = Place::Leaf(Leaf::Index);
 
 // A word is looked for from the first row on, so common ones stand in front.
-const EXPRESSION_ROWS: [(&'static str, ExpressionKey); 25] = [
+const EXPRESSION_ROWS: [(&'static str, ExpressionKey); 26] = [
     ("col", ExpressionKey::Col),
     ("bin", ExpressionKey::Bin),
     ("lit", ExpressionKey::Lit),
@@ -203,6 +209,7 @@ const EXPRESSION_ROWS: [(&'static str, ExpressionKey); 25] = [
     ("sort", ExpressionKey::Sort),
     ("sort_by", ExpressionKey::SortBy),
     ("alias", ExpressionKey::Alias),
+    ("agg", ExpressionKey::Agg),
     ("cols", ExpressionKey::Cols),
     ("dtypes", ExpressionKey::Dtypes),
     ("at", ExpressionKey::At),
@@ -224,12 +231,13 @@ const SELECTOR_ROWS: [(&'static str, SelectorKey); 5] = [
     ("xor", SelectorKey::Xor),
 ];
 
-const PLAN_ROWS: [(&'static str, PlanKey); 6] = [
+const PLAN_ROWS: [(&'static str, PlanKey); 7] = [
     ("scan", PlanKey::Scan),
     ("empty", PlanKey::Empty),
     ("filter", PlanKey::Filter),
     ("select", PlanKey::Select),
     ("with_columns", PlanKey::WithColumns),
+    ("group_by", PlanKey::GroupBy),
     ("drop", PlanKey::Drop),
 ];
 
@@ -363,6 +371,7 @@ fn expression_places(key: ExpressionKey) -> Places
         ExpressionKey::Int => Places::One(DIGITS),
         ExpressionKey::Typed => Places::One(TYPED),
         ExpressionKey::Bin => Places::Listed(&[OPERATOR, EXPRESSION, EXPRESSION]),
+        ExpressionKey::Agg => Places::Listed(&[METHOD, EXPRESSION]),
         ExpressionKey::Cast => Places::Listed(&[EXPRESSION, DTYPE, MODE]),
         ExpressionKey::Len => Places::One(NOTHING),
         ExpressionKey::Slice => Places::Listed(&[EXPRESSION, EXPRESSION, EXPRESSION]),
@@ -396,6 +405,7 @@ fn plan_places(key: PlanKey) -> Places
         PlanKey::Filter => Places::Listed(&[PLAN, EXPRESSION]),
         PlanKey::Select => Places::Listed(&[PLAN, EXPRESSIONS]),
         PlanKey::WithColumns => Places::Listed(&[PLAN, EXPRESSIONS]),
+        PlanKey::GroupBy => Places::Listed(&[PLAN, EXPRESSIONS, EXPRESSIONS]),
         PlanKey::Drop => Places::Listed(&[PLAN, SELECTORS, FLAG]),
     }
 }

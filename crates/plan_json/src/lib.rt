@@ -16,6 +16,7 @@ mod forms;
 pub mod laws;
 mod lists;
 mod literal;
+mod method;
 mod operator;
 mod places;
 mod plan;

@@ -21,6 +21,7 @@ use super::expression::assemble_expression;
 use super::forms::{ExpressionKey, Key, Kind, Leaf, ListLeaf, Place, Places, find_key, places_of};
 use super::lists::{read_flag, read_index, read_list};
 use super::literal::{read_literal, read_number_text, read_typed};
+use super::method::read_method;
 use super::operator::{read_mode, read_operator};
 use super::plan::assemble_plan;
 use super::selector::assemble_selector;
@@ -356,6 +357,7 @@ fn read_leaf(alloc: Global, tables: &Tables, which: Leaf, value: &Value) -> Resu
         Leaf::Digits => boxed!(alloc, read_number_text(alloc, value), Arg::Literal),
         Leaf::Typed => boxed!(alloc, read_typed(alloc, value), Arg::Literal),
         Leaf::Operator => plain!(read_operator(alloc, value), Arg::Operator),
+        Leaf::Method => plain!(read_method(alloc, value), Arg::Method),
         Leaf::Dtype => boxed!(alloc, read_type(alloc, value), Arg::Dtype),
         Leaf::Mode => plain!(read_mode(alloc, value), Arg::Mode),
         Leaf::Table => match read_table_name(alloc, tables, value) {

@@ -27,6 +27,7 @@ pub(crate) fn assemble_plan(key: PlanKey, args: Args) -> DslPlan
         PlanKey::Filter => filter(args),
         PlanKey::Select => select(args),
         PlanKey::WithColumns => with_columns(args),
+        PlanKey::GroupBy => group_by(args),
         PlanKey::Drop => drop_columns(args),
     }
 }
@@ -78,6 +79,20 @@ fn select(args: Args) -> DslPlan
         options: ProjectionOptions {
             duplicate_check: false,
         },
+    }
+}
+
+fn group_by(args: Args) -> DslPlan
+    requires { AllFit (asked_in (plan_asks by.GroupBy)) (args_view args) }
+    ensures says { plan_says by.GroupBy (args_view args) ≡ Some (plan_tree result) }
+    ensures flags { has_flags result ≡ false }
+{
+    let (input, keys, aggs) = three(args);
+    DslPlan::GroupBy {
+        input: plan(input),
+        keys: expressions(keys),
+        aggs: expressions(aggs),
+        maintain_order: false,
     }
 }
 

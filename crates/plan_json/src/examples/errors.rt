@@ -6,7 +6,7 @@ ghost use Rattle.std.specs.Global.{Global};
 ghost use Rattle.plan_types.specs.declared.schema.Schema.{Schema};
 ghost use Rattle.plan_dsl.specs.Plans.{empty_table, plan_tree};
 ghost use Rattle.plan_dsl.specs.declared.expr.Expr.{Expr};
-ghost use Rattle.plan_dsl.specs.declared.plan.DslPlan.TheVariants.{DataFrameScan, Filter', HStack', Select'};
+ghost use Rattle.plan_dsl.specs.declared.plan.DslPlan.TheVariants.{DataFrameScan, Filter', GroupBy', HStack', Select'};
 ghost use Rattle.plan_dsl.specs.declared.expr.Exprs.{Exprs};
 ghost use Rattle.plan_dsl.specs.declared.plan.ProjectionOptions.{ProjectionOptions};
 ghost use Rattle.serde_json.specs.Data.{null};
@@ -53,15 +53,15 @@ pub fn steps_and_pointers()
         ([], []) ∷ (to "tables" (number 0 ∷ to "columns" (number 12 ∷ [])), codes "/tables/0/columns/12") ∷ (to "~/" (key [] ∷ to "0" []), codes "/~0~1//0") ∷ []) }
 {}
 
-/// A query shows its tables in order, and the tree of its plan. A plan has flags where some select or hstack of it has its option set.
+/// A query shows its tables in order, and the tree of its plan. A plan has flags where some select, hstack or group-by of it has its option set.
 pub fn models_of_queries()
     ensures tables_and_plan { (read : Query) → let tables = (codes "t", []) ∷ (codes "s", []) ∷ [] in
         declared read.tables ≡ tables → plan_tree read.plan ≡ empty_table → query_model read ≡ query tables empty_table }
     ensures no_flags { (expr : Exprs) (p : _) (table : Option ℕ) (schema : Schema) → let options : ProjectionOptions = record { duplicate_check = false } in
         (has_flags (DataFrameScan table schema) ≡ false) × (has_flags (Select' expr p (DataFrameScan None schema) options) ≡ false)
-        × (has_flags (HStack' expr p (DataFrameScan None schema) options) ≡ false) }
+        × (has_flags (HStack' expr p (DataFrameScan None schema) options) ≡ false) × (has_flags (GroupBy' p (DataFrameScan None schema) expr expr false) ≡ false) }
     ensures flags { (expr : Exprs) (predicate : Expr) (p q : _) (schema : Schema) → let options : ProjectionOptions = record { duplicate_check = true } in
         (has_flags (Select' expr p (DataFrameScan None schema) options) ≡ true)
-        × (has_flags (HStack' expr p (DataFrameScan None schema) options) ≡ true)
+        × (has_flags (HStack' expr p (DataFrameScan None schema) options) ≡ true) × (has_flags (GroupBy' p (DataFrameScan None schema) expr expr true) ≡ true)
         × (has_flags (Filter' p (Select' expr q (DataFrameScan None schema) options) predicate) ≡ true) }
 {}
