@@ -2,6 +2,7 @@
 
 use crate::fixtures::{LENGTHS, NO_MEMORY, assert_alike, assert_text, column, long_name};
 use crate::keys::flags;
+use plan_dsl::aggregate::AggExpr;
 use plan_dsl::expr::{Expr, Exprs};
 use plan_dsl::literal::LiteralValue;
 use plan_dsl::marker::RenameAliasFn;
@@ -90,6 +91,7 @@ pub(crate) enum Kind {
     Condition,
     Sort,
     Alias,
+    Aggregate,
     Key,
     Excluded,
     Selected,
@@ -178,6 +180,7 @@ fn over(rt: &impl Abort, alloc: Global, kind: Kind, operand: Box<Expr>) -> Expr 
         },
         Kind::Sort => sorted(operand),
         Kind::Alias => Expr::Alias(operand, text(rt, alloc)),
+        Kind::Aggregate => Expr::Agg(AggExpr::Last(operand)),
         Kind::Key => sorted_by(rt, alloc, operand),
         Kind::Excluded => Expr::Exclude(operand, Vec::new(alloc)),
         Kind::Selected => Expr::Selector(Selector::Root(operand)),
@@ -242,6 +245,7 @@ fn expressions_of_any_depth_are_copied(rt: HostRuntime) {
         Kind::Condition,
         Kind::Sort,
         Kind::Alias,
+        Kind::Aggregate,
         Kind::Key,
     ] {
         for levels in [0, 1, 2, 299] {

@@ -18,6 +18,8 @@ mod expansion;
 #[cfg(test)]
 mod expressions;
 #[cfg(test)]
+mod fields;
+#[cfg(test)]
 mod fixtures;
 #[cfg(test)]
 mod frames;

@@ -60,6 +60,10 @@ fn expressions_of_any_depth_are_lowered(rt: HostRuntime) {
             Kind::Alias,
             ". projection (\"x\" Int8)\n.0 df (\"part 0\" Int8)\ncasts 0\n",
         ),
+        (
+            Kind::Aggregate,
+            ". projection (\"part 0\" Int8)\n.0 df (\"part 0\" Int8)\ncasts 0\n",
+        ),
     ] {
         for levels in [1, 2, 1_000] {
             assert_nested(&rt, rt.alloc(), *kind, levels, want);

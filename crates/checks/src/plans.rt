@@ -107,3 +107,21 @@ fn hstacks_of_any_size_are_copied(rt: HostRuntime) {
         assert_hstack(&rt, rt.alloc(), count);
     }
 }
+
+// A group-by of so many keys and as many aggregates is copied, over the default plan.
+fn assert_group_by(rt: &impl Abort, alloc: Global, count: usize) {
+    let input = DslPlan::default(alloc).expect(rt, NO_MEMORY);
+    let keys = columns_of(rt, alloc, count);
+    let aggs = columns_of(rt, alloc, count);
+    let built = DslBuilder::from(input).group_by(alloc, keys, aggs, true);
+    let plan = built.expect(rt, NO_MEMORY).build();
+    drop(plan.try_clone(alloc).expect(rt, NO_MEMORY));
+    drop(plan);
+}
+
+#[test]
+fn group_bys_of_any_size_are_copied(rt: HostRuntime) {
+    for count in SIZES {
+        assert_group_by(&rt, rt.alloc(), count);
+    }
+}
