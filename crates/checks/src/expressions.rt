@@ -9,6 +9,7 @@ use plan_dsl::marker::RenameAliasFn;
 use plan_dsl::operator::Operator;
 use plan_dsl::selector::Selector;
 use plan_dsl::sort_options::{SortMultipleOptions, SortOptions};
+use plan_dsl::window::WindowType;
 use plan_types::dtype::TimeUnit::{Microseconds, Milliseconds, Nanoseconds};
 use plan_types::dtype::{CastOptions, DataType};
 use plan_types::text::PlSmallStr;
@@ -92,6 +93,9 @@ pub(crate) enum Kind {
     Sort,
     Alias,
     Aggregate,
+    Windowed,
+    Partition,
+    Ordered,
     Key,
     Excluded,
     Selected,
@@ -148,6 +152,34 @@ fn sorted_by(rt: &impl Abort, alloc: Global, key: Box<Expr>) -> Expr {
     }
 }
 
+// A function over the groups of a key, in order if something orders them.
+fn windowed(
+    rt: &impl Abort,
+    alloc: Global,
+    function: Box<Expr>,
+    key: Box<Expr>,
+    order: Option<(Box<Expr>, SortOptions)>,
+) -> Expr {
+    Expr::Window {
+        function,
+        partition_by: Exprs {
+            items: vec![in alloc; Box::into_inner(key)].expect(rt, NO_MEMORY),
+        },
+        order_by: order,
+        options: WindowType::GroupsToRows,
+    }
+}
+
+fn ordered(rt: &impl Abort, alloc: Global, by: Box<Expr>) -> Expr {
+    let options = SortOptions {
+        descending: true,
+        nulls_last: false,
+    };
+    let one = literal(rt, alloc, LiteralValue::Null);
+    let key = literal(rt, alloc, LiteralValue::Null);
+    windowed(rt, alloc, one, key, Some((by, options)))
+}
+
 fn text(rt: &impl Abort, alloc: Global) -> PlSmallStr {
     PlSmallStr::new(alloc, "x").expect(rt, NO_MEMORY)
 }
@@ -181,6 +213,15 @@ fn over(rt: &impl Abort, alloc: Global, kind: Kind, operand: Box<Expr>) -> Expr 
         Kind::Sort => sorted(operand),
         Kind::Alias => Expr::Alias(operand, text(rt, alloc)),
         Kind::Aggregate => Expr::Agg(AggExpr::Last(operand)),
+        Kind::Windowed => {
+            let key = literal(rt, alloc, LiteralValue::Null);
+            windowed(rt, alloc, operand, key, None)
+        }
+        Kind::Partition => {
+            let one = literal(rt, alloc, LiteralValue::Null);
+            windowed(rt, alloc, one, operand, None)
+        }
+        Kind::Ordered => ordered(rt, alloc, operand),
         Kind::Key => sorted_by(rt, alloc, operand),
         Kind::Excluded => Expr::Exclude(operand, Vec::new(alloc)),
         Kind::Selected => Expr::Selector(Selector::Root(operand)),
@@ -246,6 +287,9 @@ fn expressions_of_any_depth_are_copied(rt: HostRuntime) {
         Kind::Sort,
         Kind::Alias,
         Kind::Aggregate,
+        Kind::Windowed,
+        Kind::Partition,
+        Kind::Ordered,
         Kind::Key,
     ] {
         for levels in [0, 1, 2, 299] {

@@ -64,6 +64,18 @@ fn expressions_of_any_depth_are_lowered(rt: HostRuntime) {
             Kind::Aggregate,
             ". projection (\"part 0\" Int8)\n.0 df (\"part 0\" Int8)\ncasts 0\n",
         ),
+        (
+            Kind::Windowed,
+            ". projection (\"part 0\" Int8)\n.0 df (\"part 0\" Int8)\ncasts 0\n",
+        ),
+        (
+            Kind::Partition,
+            ". projection (\"literal\" Null)\n.0 df (\"part 0\" Int8)\ncasts 0\n",
+        ),
+        (
+            Kind::Ordered,
+            ". projection (\"literal\" Null)\n.0 df (\"part 0\" Int8)\ncasts 0\n",
+        ),
     ] {
         for levels in [1, 2, 1_000] {
             assert_nested(&rt, rt.alloc(), *kind, levels, want);

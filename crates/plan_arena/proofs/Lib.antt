@@ -5,3 +5,4 @@ pub mod LabelLemmas
 pub mod NumberLemmas
 pub mod PlanSchemaLemmas
 pub mod RunLemmas
+pub mod WindowLemmas

@@ -1,11 +1,12 @@
 -- The items of the two arenas.
 -- An item of the plans' arena holds a plan's op where its expression nodes denote that op's expressions.
-use Rattle.std.specs.Prelude.{◌≡◌, ◌≢◌, ◌≤◌, ℕ, List, [], ◌∷◌, ◌++◌, map, set, Some, None, slice_get, codes}
+use Rattle.std.specs.Prelude.{◌≡◌, ◌≢◌, ◌≤◌, ℕ, List, [], ◌∷◌, ◌++◌, map, set, Option, Some, None, slice_get, codes}
 use Rattle.std.specs.List.{AllByRecursion}
 use Rattle.plan_types.specs.Types.{ty}
 use Rattle.plan_types.specs.Schemas.{columns}
 use Rattle.plan_dsl.specs.Expressions.{sort_by_op}
-use Rattle.plan_dsl.specs.Ops.{Op, ColumnOp, BinaryOp, CastOp, LenOp, SliceOp, AliasOp, Expression, ExplodeOp, GatherOp, FilterOp, SortOp, AggOp}
+use Rattle.plan_dsl.specs.Ops.{Op, ColumnOp, BinaryOp, CastOp, LenOp, SliceOp, AliasOp, Expression, ExplodeOp, GatherOp, FilterOp, SortOp, AggOp, WindowOp}
+use Rattle.plan_dsl.specs.declared.sort_options.SortOptions.{SortOptions}
 use Rattle.plan_dsl.specs.Literals.{literal_op}
 use Rattle.plan_dsl.specs.Names.{Label, FromField, FromNothing, alias_label, column_label, literal_label}
 use Rattle.plan_dsl.specs.Plans.{PlanKind, ScanKind, SelectKind, HStackKind, GroupByKind, FilterKind, SimpleProjectionKind, DropKind, RefusedKind, PlanOp, Plan, Named, scan_op, select_op, hstack_op, group_by_op, filter_op, simple_projection_op}
@@ -15,7 +16,7 @@ use Rattle.plan_arena.specs.Layers.{Layer, layer, op_of, inputs_of}
 use Rattle.plan_dsl.specs.Trees.{node}
 use Rattle.plan_arena.specs.declared.arena.Node.{Node}
 use Rattle.plan_arena.specs.declared.aexpr.AExpr.{AExpr}
-use Rattle.plan_arena.specs.declared.aexpr.AExpr.TheVariants.{Column, Literal, BinaryExpr, Cast, Len, Slice, Alias, Explode, Gather, Filter as FilterBy, Sort, SortBy, Agg}
+use Rattle.plan_arena.specs.declared.aexpr.AExpr.TheVariants.{Column, Literal, BinaryExpr, Cast, Len, Slice, Alias, Explode, Gather, Filter as FilterBy, Sort, SortBy, Agg, Window}
 use Rattle.plan_arena.specs.declared.expr_ir.OutputName.{OutputName}
 use Rattle.plan_arena.specs.declared.expr_ir.OutputName.TheVariants.{None as Unnamed, ColumnLhs, LiteralLhs, Alias as NamedByAlias, Field}
 use Rattle.plan_arena.specs.declared.expr_ir.ExprIR.{ExprIR}
@@ -26,6 +27,15 @@ use Rattle.plan_arena.specs.declared.plan.IRPlan.{IRPlan}
 -- the numbers of nodes
 abbrev pub numbers : List Node → List ℕ
 numbers nodes = map (λ n. n.0) nodes
+
+-- the node by which a window's rows are put in order, if there is one, and how
+abbrev pub ordering : Option (Node × SortOptions) → List ℕ
+ordering None = []
+ordering (Some order) = order.0.0 ∷ []
+
+abbrev pub ordered : Option (Node × SortOptions) → Option SortOptions
+ordered None = None
+ordered (Some order) = Some order.1
 
 -- an expression's item
 abbrev pub expression_layer : AExpr → Layer Op
@@ -42,6 +52,13 @@ expression_layer (FilterBy input by) = layer FilterOp (input.0 ∷ by.0 ∷ [])
 expression_layer (Sort expr options) = layer (SortOp options) (expr.0 ∷ [])
 expression_layer (Agg aggregate) = layer (AggOp (method_at aggregate)) ((input_at aggregate).0 ∷ [])
 expression_layer (SortBy expr by sort_options) = layer (sort_by_op sort_options) (expr.0 ∷ numbers by.items.items)
+expression_layer (Window function partition_by order_by options) =
+    layer (WindowOp (ordered order_by)) (function.0 ∷ (ordering order_by ++ numbers partition_by.items.items))
+
+-- the inputs as passes go over them: in their own order, but of a window what its rows are ordered by comes behind its keys
+abbrev pub passed : Layer Op → List ℕ
+passed (layer (WindowOp (Some options)) (function ∷ by ∷ keys)) = function ∷ (keys ++ by ∷ [])
+passed (layer op inputs) = inputs
 
 -- the name of an output, with what it comes from
 abbrev pub output_label : OutputName → Label

@@ -1,9 +1,9 @@
 //! Expressions in an arena.
-ghost use Rattle.std.specs.Prelude.{◌≡◌, ◌+◌, [], ◌∷◌, ◌++◌, length, reverse, IfOk, OnOk, OnErr, IfErr};
+ghost use Rattle.std.specs.Prelude.{◌≡◌, ◌+◌, ◌≤◌, [], ◌∷◌, ◌++◌, length, reverse, IfOk, OnOk, OnErr, IfErr};
 ghost use Rattle.plan_types.specs.Errors.{no_memory};
 ghost use Rattle.plan_arena.specs.Aggregates.{input_at, method_at};
 ghost use Rattle.plan_arena.specs.Layers.{layer, op_of, inputs_of};
-ghost use Rattle.plan_arena.specs.Items.{expression_layer, numbers};
+ghost use Rattle.plan_arena.specs.Items.{expression_layer, numbers, ordered, ordering, passed};
 
 use crate::aggregate::IRAggExpr;
 use crate::arena::Node;
@@ -11,6 +11,7 @@ use crate::inputs::{Inputs, NodeList};
 use plan_dsl::literal::LiteralValue;
 use plan_dsl::operator::Operator;
 use plan_dsl::sort_options::{SortMultipleOptions, SortOptions};
+use plan_dsl::window::WindowType;
 use plan_types::dtype::{CastOptions, DataType};
 use plan_types::error::PlanError;
 use plan_types::text::PlSmallStr;
@@ -76,12 +77,19 @@ pub enum AExpr {
     Alias(Node, PlSmallStr),
     /// One value that is made of a node's.
     Agg(IRAggExpr),
+    /// What the function gives on the rows of each group by the keys, which are in order if one is given.
+    Window {
+        function: Node,
+        partition_by: NodeList,
+        order_by: Option<(Node, SortOptions)>,
+        options: WindowType,
+    },
 }
 
 // The inputs of each kind in order, the one from which the name comes first: what the functions give of none, one, two
-// or three of them, or of one and a list, and of the one of an aggregate.
+// or three of them, or of one and a list, of the one of an aggregate, and of those of a window.
 macro_rules! by_inputs {
-    ($item:expr, $none:expr, $one:path, $two:path, $three:path, $listed:path, $below:path $(, $given:expr)?) => {
+    ($item:expr, $none:expr, $one:path, $two:path, $three:path, $listed:path, $below:path, $window:path $(, $given:expr)?) => {
         match $item {
             AExpr::Column(_) | AExpr::Literal(_) | AExpr::Len => $none,
             AExpr::BinaryExpr { left, right, .. } => $two(left, right $(, $given)?),
@@ -93,6 +101,7 @@ macro_rules! by_inputs {
             AExpr::SortBy { expr, by, .. } => $listed(expr, by $(, $given)?),
             AExpr::Alias(expr, _) => $one(expr $(, $given)?),
             AExpr::Agg(aggregate) => $below(aggregate $(, $given)?),
+            AExpr::Window { function, partition_by, order_by, .. } => $window(function, partition_by, order_by $(, $given)?),
             AExpr::Slice { input, offset, length } => $three(input, offset, length $(, $given)?),
         }
     };
@@ -130,6 +139,7 @@ impl AExpr {
             Filter [input, by] []
             Sort [expr, options] []
             SortBy [expr] [by, sort_options]
+            Window [function, order_by, options] [partition_by]
         )
     }
 
@@ -144,12 +154,31 @@ impl AExpr {
             Inputs::two,
             Inputs::three,
             Inputs::listed,
-            one_below
+            one_below,
+            Inputs::window
         )
     }
 
-    /// Appends the inputs in reverse, so that the one from which the name comes is the last.
+    /// Appends the inputs in reverse, as passes go over them: the one from which the name comes is the last.
+    #[tactic(auto, using(crate::proofs::WindowLemmas::passed_window))]
     pub fn inputs_rev(&self, nodes: &mut Nodes) -> Result<(), PlanError>
+        ensures ok { OnOk result (numbers nodes.new.items ≡ numbers nodes.old.items ++ reverse (passed (expression_layer self.now))) }
+        ensures unchanged { OnErr result (nodes.new.items ≡ nodes.old.items) }
+        ensures err { IfErr result (λ error. error ≡ no_memory) }
+    {
+        match self {
+            AExpr::Window {
+                function,
+                partition_by,
+                order_by,
+                ..
+            } => push_passed(nodes, function, partition_by, order_by),
+            _ => push_reversed(nodes, &self.input_nodes()),
+        }
+    }
+
+    /// Appends the inputs in reverse, in their own order.
+    pub fn push_inputs(&self, nodes: &mut Nodes) -> Result<(), PlanError>
         ensures ok { OnOk result (numbers nodes.new.items ≡ numbers nodes.old.items ++ reverse (inputs_of (expression_layer self.now))) }
         ensures unchanged { OnErr result (nodes.new.items ≡ nodes.old.items) }
         ensures err { IfErr result (λ error. error ≡ no_memory) }
@@ -163,23 +192,44 @@ impl AExpr {
         ensures err { IfErr result (λ error. error ≡ no_memory) }
     {
         let mut nodes: Nodes = SmallVec::new(alloc);
-        self.inputs_rev(&mut nodes)?;
+        self.push_inputs(&mut nodes)?;
         nodes.as_mut_slice().reverse();
         Ok(nodes)
     }
 
-    /// The node over other inputs, as many as it has.
+    /// The node over other inputs, as many as it has, as passes go over them.
     pub fn replace_inputs(self, inputs: &[Node]) -> AExpr
         requires { length inputs.now ≡ length (inputs_of (expression_layer self)) }
-        ensures layer { expression_layer result ≡ layer (op_of (expression_layer self)) (numbers inputs.now) }
-        ensures same { numbers inputs.now ≡ inputs_of (expression_layer self) → result ≡ self }
+        ensures op { op_of (expression_layer result) ≡ op_of (expression_layer self) }
+        ensures inputs { passed (expression_layer result) ≡ numbers inputs.now }
+        ensures same { numbers inputs.now ≡ passed (expression_layer self) → result ≡ self }
     {
         let mut item = self;
-        item.set_inputs(inputs);
+        item.set_passed(inputs);
         item
     }
 
-    /// Puts other inputs in place of the node's, as many as it has.
+    #[tactic(auto, using(crate::proofs::WindowLemmas::passed_window))]
+    fn set_passed(&mut self, inputs: &[Node])
+        requires { length inputs.now ≡ length (inputs_of (expression_layer self.old)) }
+        ensures op { op_of (expression_layer self.new) ≡ op_of (expression_layer self.old) }
+        ensures inputs { passed (expression_layer self.new) ≡ numbers inputs.now }
+        ensures same { numbers inputs.now ≡ passed (expression_layer self.old) → self.new ≡ self.old }
+    {
+        by_inputs!(
+            self,
+            (),
+            set_one,
+            set_two,
+            set_three,
+            set_listed,
+            set_below,
+            set_passed_window,
+            inputs
+        )
+    }
+
+    /// Puts other inputs in place of the node's, as many as it has, in their own order.
     pub fn set_inputs(&mut self, inputs: &[Node])
         requires { length inputs.now ≡ length (inputs_of (expression_layer self.old)) }
         ensures layer { expression_layer self.new ≡ layer (op_of (expression_layer self.old)) (numbers inputs.now) }
@@ -193,6 +243,7 @@ impl AExpr {
             set_three,
             set_listed,
             set_below,
+            set_window,
             inputs
         )
     }
@@ -247,17 +298,95 @@ fn set_listed(first: &mut Node, rest: &mut NodeList, inputs: &[Node])
     rest.items.as_mut_slice().copy_from_slice(&inputs[1..]);
 }
 
+// A window's inputs in their own order: the function, what its rows are ordered by, if anything, and the keys.
+fn set_window(
+    function: &mut Node,
+    keys: &mut NodeList,
+    order: &mut Option<(Node, SortOptions)>,
+    inputs: &[Node],
+)
+    requires { length inputs.now ≡ length (function.old.0 ∷ (ordering order.old ++ numbers keys.old.items.items)) }
+    ensures list { numbers inputs.now ≡ function.new.0 ∷ (ordering order.new ++ numbers keys.new.items.items) }
+    ensures ordered { ordered order.new ≡ ordered order.old }
+    ensures same_keys { numbers inputs.now ≡ function.old.0 ∷ (ordering order.old ++ numbers keys.old.items.items) → keys.new ≡ keys.old }
+    ensures same_order { numbers inputs.now ≡ function.old.0 ∷ (ordering order.old ++ numbers keys.old.items.items) → order.new ≡ order.old }
+{
+    match order {
+        None => set_listed(function, keys, inputs),
+        Some((by, _)) => {
+            *function = inputs[0];
+            set_listed(by, keys, &inputs[1..]);
+        }
+    }
+}
+
+// The same, with what its rows are ordered by behind the keys.
+fn set_passed_window(
+    function: &mut Node,
+    keys: &mut NodeList,
+    order: &mut Option<(Node, SortOptions)>,
+    inputs: &[Node],
+)
+    requires { length inputs.now ≡ length (function.old.0 ∷ (ordering order.old ++ numbers keys.old.items.items)) }
+    ensures list { numbers inputs.now ≡ function.new.0 ∷ (numbers keys.new.items.items ++ ordering order.new) }
+    ensures ordered { ordered order.new ≡ ordered order.old }
+    ensures same_function { numbers inputs.now ≡ function.old.0 ∷ (numbers keys.old.items.items ++ ordering order.old) → function.new ≡ function.old }
+    ensures same_keys { numbers inputs.now ≡ function.old.0 ∷ (numbers keys.old.items.items ++ ordering order.old) → keys.new ≡ keys.old }
+    ensures same_order { numbers inputs.now ≡ function.old.0 ∷ (numbers keys.old.items.items ++ ordering order.old) → order.new ≡ order.old }
+{
+    match order {
+        None => set_listed(function, keys, inputs),
+        Some((by, _)) => {
+            let last = inputs.len() - 1;
+            *by = inputs[last];
+            set_listed(function, keys, &inputs[..last]);
+        }
+    }
+}
+
+// Appends a window's inputs in reverse, as passes go over them: the function, the keys, and what its rows are ordered by,
+// if anything. All or none.
+fn push_passed(
+    nodes: &mut Nodes,
+    function: &Node,
+    keys: &NodeList,
+    order: &Option<(Node, SortOptions)>,
+) -> Result<(), PlanError>
+    ensures ok { OnOk result (numbers nodes.new.items ≡ numbers nodes.old.items ++ reverse (function.now.0 ∷ (numbers keys.now.items.items ++ ordering order.now))) }
+    ensures unchanged { OnErr result (nodes.new.items ≡ nodes.old.items) }
+    ensures err { IfErr result (λ error. error ≡ no_memory) }
+{
+    let front = Inputs::listed(function, keys);
+    match order {
+        None => push_reversed(nodes, &front),
+        Some((by, _)) => {
+            nodes.reserve(keys.items.len() + 2)?;
+            nodes.push_reserved(*by);
+            push_in_room(nodes, &front);
+            Ok(())
+        }
+    }
+}
+
 // Appends a node's inputs in reverse, all or none.
 fn push_reversed(nodes: &mut Nodes, inputs: &Inputs<'_>) -> Result<(), PlanError>
     ensures ok { OnOk result (numbers nodes.new.items ≡ numbers nodes.old.items ++ reverse inputs.now) }
     ensures unchanged { OnErr result (nodes.new.items ≡ nodes.old.items) }
     ensures err { IfErr result (λ error. error ≡ no_memory) }
 {
+    nodes.reserve(inputs.len())?;
+    push_in_room(nodes, inputs);
+    Ok(())
+}
+
+// The same, where there is room for them.
+fn push_in_room(nodes: &mut Nodes, inputs: &Inputs<'_>)
+    requires { length nodes.old.items + length inputs.now ≤ nodes.old.capacity }
+    ensures { numbers nodes.new.items ≡ numbers nodes.old.items ++ reverse inputs.now }
+{
     let mut left = inputs.len();
-    nodes.reserve(left)?;
     while left > 0 {
         left -= 1;
         nodes.push_reserved(inputs.at(left));
     }
-    Ok(())
 }

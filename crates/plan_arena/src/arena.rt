@@ -137,7 +137,7 @@ impl<T: Drop> Arena<T> {
 }
 
 impl Arena<AExpr> {
-    /// Puts other inputs in place of those of the item at the node, as many as it has.
+    /// Puts other inputs in place of those of the item at the node, as many as it has, in their own order.
     pub fn replace_inputs(&mut self, node: Node, inputs: &[Node])
         requires there { node.0 < length self.old }
         requires count { (item : AExpr) → slice_get self.old node.0 ≡ Some item → length inputs.now ≡ length (inputs_of (expression_layer item)) }

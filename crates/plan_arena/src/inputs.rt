@@ -1,9 +1,10 @@
 //! The inputs of a node, without a list in memory but one that the node keeps.
 ghost use Rattle.std.specs.Prelude.{◌≡◌, ◌<◌, ◌≤◌, [], ◌∷◌, ◌++◌, Some, length, slice_get, take, MatchOption, IfOk, IfErr};
 ghost use Rattle.plan_types.specs.Errors.{no_memory};
-ghost use Rattle.plan_arena.specs.Items.{numbers};
+ghost use Rattle.plan_arena.specs.Items.{numbers, ordering};
 
 use crate::arena::Node;
+use plan_dsl::sort_options::SortOptions;
 use plan_types::error::PlanError;
 use std::alloc::Global;
 use std::marker::Model;
@@ -75,6 +76,20 @@ impl<'a> Inputs<'a> {
         ensures { result ≡ first.now.0 ∷ numbers rest.now.items.items }
     {
         Inputs::some(1, *first, *first, *first, rest.items.as_slice())
+    }
+
+    // Those of a window: the function, what its rows are ordered by, if anything, and the keys.
+    pub(crate) fn window(
+        function: &Node,
+        keys: &'a NodeList,
+        order: &Option<(Node, SortOptions)>,
+    ) -> Inputs<'a>
+        ensures { result ≡ function.now.0 ∷ (ordering order.now ++ numbers keys.now.items.items) }
+    {
+        match order {
+            None => Inputs::listed(function, keys),
+            Some((by, _)) => Inputs::some(2, *function, *by, *by, keys.items.as_slice()),
+        }
     }
 
     // So many of these, and then a list.

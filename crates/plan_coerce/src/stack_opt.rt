@@ -69,7 +69,7 @@ fn coerce_stacked(
             Some(node) => node,
         };
         coerce_node(node, arena, types)?;
-        arena.get(node).inputs_rev(stack)?;
+        arena.get(node).push_inputs(stack)?;
     }
     Err(PlanError::at_top(ErrorKind::NoMemory))
 }

@@ -1,6 +1,7 @@
 -- The expressions of a node, as the row that it keeps and as a list.
-use Rattle.std.proofs.Common.{◌≡◌, ◌≢◌, ℕ, suc, Bool, true, false, ◌&&◌, List, [], ◌∷◌, ◌++◌, map, length, refl, sym, ap, ◌∙◌}
+use Rattle.std.proofs.Common.{◌≡◌, ◌≢◌, ℕ, suc, Bool, true, false, ◌&&◌, List, [], ◌∷◌, ◌++◌, map, length, Option, Some, None, refl, sym, ap, ◌∙◌}
 use Rattle.std.proofs.Math.Bool.{and-true, and-false}
+use Rattle.std.proofs.lemmas.List.{append_assoc}
 use Rattle.std.specs.Global.{Box, Vec}
 use Rattle.std.specs.Cmp.Derive.Mapped.{items_map, pointwise-map}
 use Rattle.std.specs.Cmp.Lexicographic.{pointwise}
@@ -13,14 +14,16 @@ use Rattle.plan_types.specs.Schemas.{Name}
 use Rattle.plan_types.specs.Types.{ty, same_type}
 use Rattle.plan_types.specs.declared.dtype.DataType.{DataType}
 use Rattle.plan_dsl.specs.declared.marker.Excluded.{Excluded}
-use Rattle.plan_dsl.specs.Ops.{Op}
+use Rattle.plan_dsl.specs.Ops.{Op, WindowOp}
 use Rattle.plan_dsl.specs.Expansion.{all_with_column_put, with_column_put}
-use Rattle.plan_dsl.specs.Expressions.{excluded_of, tree_of, row_trees, sort_by_op, trees_of}
-use Rattle.plan_dsl.specs.SameExpressions.{same_trees, trees_writes}
+use Rattle.plan_dsl.specs.Expressions.{excluded_of, order_trees, tree_of, row_trees, sort_by_op, trees_of, way_of}
+use Rattle.plan_dsl.specs.SameExpressions.{same_order, same_sort, same_trees, trees_writes}
 use Rattle.plan_dsl.specs.Sources.{is_plain, all_are_plain, excluded_writes, same_excluded, SourceOp, Plain, Source, same_source_op, same_source, source_op_writes, source_writes}
-use Rattle.plan_dsl.specs.declared.expr.Expr.{Expr, DtypeColumn, Exclude, SortBy, SortBy', Row_of-Expr, end_of-Expr, more_of-Expr, items-the_row-Expr, items_hidden-the_row-Expr-0}
+use Rattle.plan_dsl.specs.declared.expr.Expr.{Expr, DtypeColumn, Exclude, SortBy, SortBy', Window, Window', Row_of-Expr, end_of-Expr, more_of-Expr, items-the_row-Expr, items_hidden-the_row-Expr-0}
 use Rattle.plan_dsl.specs.declared.expr.Exprs.{Exprs}
 use Rattle.plan_dsl.specs.declared.sort_options.SortMultipleOptions.{SortMultipleOptions}
+use Rattle.plan_dsl.specs.declared.sort_options.SortOptions.{SortOptions}
+use Rattle.plan_dsl.specs.declared.window.WindowType.{WindowType}
 
 row_children : (n : _) (row : Row_of-Expr n) → row_trees row ≡ children_from (map tree_of (items-the_row-Expr n row))
 row_children n end_of-Expr = refl
@@ -83,10 +86,58 @@ listed_fed write s {t} {u} {v} {tree} {op} {first} {rest} listed own each others
 
 abbrev row_of : Expr → (n : Count) × Row_of-Expr n
 row_of (SortBy' p expr _ row options) = (_, row)
+row_of (Window' p function _ row order options) = (_, row)
 row_of _ = (_, end_of-Expr)
 
 pub sort_by_listed : (value : Expr) (expr : Box Expr) (by : Exprs) (options : SortMultipleOptions) → value ≡ SortBy expr by options → IsListed (tree_of value) (Plain (sort_by_op options)) (tree_of expr.value) (trees_of by)
 sort_by_listed value expr by options is = row_listed value (Plain (sort_by_op options)) (tree_of expr.value) (row_of (SortBy expr by options)) by.items.items (ap tree_of is) (items_hidden-the_row-Expr-0 by.items)
+
+-- a window's list: what orders its groups, if anything does, and its keys
+pub window_listed : (value : Expr) (function : Box Expr) (keys : Exprs) (order : Option (Box Expr × SortOptions)) (options : WindowType) → value ≡ Window function keys order options
+    → IsListed (tree_of value) (Plain (WindowOp (way_of order))) (tree_of function.value) (order_trees order ++ trees_of keys)
+window_listed value function keys None options is = row_listed value (Plain (WindowOp None)) (tree_of function.value) (row_of (Window function keys None options)) keys.items.items (ap tree_of is) (items_hidden-the_row-Expr-0 keys.items)
+window_listed value function keys (Some order) options is =
+    let row = row_of (Window function keys (Some order) options) in
+    record {
+      is = ap tree_of is ∙ ap (λ rest. node (Plain (WindowOp (Some order.1))) (more (tree_of function.value) (more (tree_of order.0.value) rest)))
+          (row_children row.0 row.1 ∙ ap (λ items. children_from (map tree_of items)) (items_hidden-the_row-Expr-0 keys.items));
+    }
+
+-- with a column in place of markers
+pub put_behind : (name : Name) (orders keys others : List Source) → children_from others ≡ all_with_column_put name (children_from keys)
+    → children_from (map (with_column_put name) orders ++ others) ≡ all_with_column_put name (children_from (orders ++ keys))
+put_behind name [] keys others put = put
+put_behind name (order ∷ orders) keys others put = ap (more (with_column_put name order)) (put_behind name orders keys others put)
+
+-- compared
+moved : (way first order keys : Bool) → (way && (first && (order && keys))) ≡ ((way && (order && true)) && (first && keys))
+moved false first order keys = refl
+moved true true true keys = refl
+moved true true false keys = refl
+moved true false true keys = refl
+moved true false false keys = refl
+
+abbrev orders_compared : Option (Box Expr × SortOptions) → Option (Box Expr × SortOptions) → Bool
+orders_compared order own = same_order (way_of order) (way_of own) && same_trees same_source_op (children_from (order_trees order)) (children_from (order_trees own))
+
+pub windows_compared : (order own : Option (Box Expr × SortOptions)) (keys others : List Source) {a b first other : Source}
+    → IsListed a (Plain (WindowOp (way_of order))) first (order_trees order ++ keys) → IsListed b (Plain (WindowOp (way_of own))) other (order_trees own ++ others)
+    → same_source a b ≡ (orders_compared order own && (same_source first other && same_trees same_source_op (children_from keys) (children_from others)))
+windows_compared None None keys others left right = λ i. same_source (left.is i) (right.is i)
+windows_compared None (Some own) keys others left right = λ i. same_source (left.is i) (right.is i)
+windows_compared (Some order) None keys others left right = λ i. same_source (left.is i) (right.is i)
+windows_compared (Some order) (Some own) keys others {a} {b} {first} {other} left right =
+    (λ i. same_source (left.is i) (right.is i)) ∙ moved (same_sort order.1 own.1) (same_source first other) (same_source (tree_of order.0.value) (tree_of own.0.value)) (same_trees same_source_op (children_from keys) (children_from others))
+
+-- fed to a hasher
+trees_written : (first rest : List Source) → trees_writes source_op_writes (children_from (first ++ rest)) ≡ trees_writes source_op_writes (children_from first) ++ trees_writes source_op_writes (children_from rest)
+trees_written [] rest = refl
+trees_written (tree ∷ first) rest = ap (λ x. source_writes tree ++ x) (trees_written first rest) ∙ sym (append_assoc (source_writes tree) (trees_writes source_op_writes (children_from first)) (trees_writes source_op_writes (children_from rest)))
+
+pub joined_fed : {S : Type 0} (write : S → List ℕ → S) (s : S) {t u : S} (first rest : List Source) → t ≡ fold write s (trees_writes source_op_writes (children_from first)) → u ≡ fold write t (trees_writes source_op_writes (children_from rest))
+    → u ≡ fold write s (trees_writes source_op_writes (children_from (first ++ rest)))
+joined_fed write s {t} {u} first rest own others =
+    fed_then write s t u (trees_writes source_op_writes (children_from first)) (trees_writes source_op_writes (children_from rest)) own others ∙ ap (fold write s) (sym (trees_written first rest))
 
 -- ---- markers that hold lists
 

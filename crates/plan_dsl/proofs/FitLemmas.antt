@@ -1,7 +1,6 @@
 -- A typed expression is not stuck on a frame, and gives values of its type.
 use Rattle.std.proofs.Common.{◌≡◌, Bool, List, [], ◌∷◌, Ok, refl, sym, ap, ◌∙◌, subst}
 use Rattle.plan_types.specs.Types.{Ty}
-use Rattle.plan_types.specs.Outcomes.{Meets}
 use Rattle.plan_types.specs.Frames.{Frame, IsFrame}
 use Rattle.plan_types.specs.declared.dtype.CastOptions.{CastOptions}
 use Rattle.plan_types.specs.declared.dtype.CastOptions.TheVariants.{NonStrict}

@@ -1,5 +1,5 @@
 -- Groups: each item is in one of them, and one more item goes to the end.
-use Rattle.std.proofs.Common.{◌≡◌, ℕ, Bool, true, false, cond, not, ◌&&◌, ◌||◌, List, [], ◌∷◌, ◌++◌, map, length, append-nil, refl, sym, ap, ◌∙◌, subst, arith}
+use Rattle.std.proofs.Common.{◌≡◌, Bool, true, false, cond, not, ◌||◌, List, [], ◌∷◌, ◌++◌, map, length, append-nil, refl, sym, ap, ◌∙◌, subst, arith}
 use Rattle.std.specs.Prelude.{flat_map, zip, IsPermutation}
 use Rattle.std.specs.Bool.{Decides}
 use Rattle.std.specs.List.{AllByRecursion, filter, list_any}
@@ -285,8 +285,8 @@ module _ {A : Type 0} where
       ∙ groups_more keys items key item (with_key key found) h
       ∙ groups_with its key item found (firsts_apart keys) (none_of_key key found (zip keys items) (keys_found keys items))
 
-pub each_is_in_one_group : EachIsInOneGroup
+pub each_is_in_one_group : {A : Type 0} → EachIsInOneGroup A
 each_is_in_one_group keys items h = are_groups keys items h
 
-pub items_go_to_the_end : ItemsGoToTheEnd
+pub items_go_to_the_end : {A : Type 0} → ItemsGoToTheEnd A
 items_go_to_the_end keys items key item h = goes_to_the_end keys items key item h

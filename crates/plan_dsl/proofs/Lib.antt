@@ -36,3 +36,4 @@ pub mod TakingLemmas
 pub mod TimeLemmas
 pub mod TypingLemmas
 pub mod WindowLemmas
+pub mod WindowValueLemmas

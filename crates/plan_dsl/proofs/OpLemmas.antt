@@ -1,7 +1,7 @@
 -- What the rule of each op keeps: operands can become of the types to which they are taken, what was taken stays, the own
 -- type is one of columns or a number's, and over operands of the types to which they are taken the node means its own type.
 -- All else that is said of ops follows.
-use Rattle.std.proofs.Common.{◌≡◌, ℕ, length, true, false, ◌||◌, cond, List, [], ◌∷◌, Option, Some, None, is_some, Ok, Err, refl, sym, ap, ◌∙◌, subst}
+use Rattle.std.proofs.Common.{◌≡◌, length, true, false, ◌||◌, cond, List, [], ◌∷◌, Option, Some, None, is_some, Ok, Err, refl, sym, ap, ◌∙◌, subst}
 use Rattle.std.specs.Prelude.{ℤ}
 use Rattle.std.proofs.lemmas.Bool.{and_parts, and_from, or_parts}
 use Rattle.plan_types.specs.Types.{Ty, Untyped, is_known}

@@ -1,12 +1,13 @@
 -- The trees of expressions and of selectors, as queries write them.
-use Rattle.std.specs.Prelude.{List, map, Bool, if◌then◌else◌}
+use Rattle.std.specs.Prelude.{List, [], ◌∷◌, map, Bool, if◌then◌else◌, Option, Some, None}
+use Rattle.std.specs.Global.{Box}
 use Rattle.plan_types.specs.Types.{ty}
 use Rattle.plan_dsl.specs.declared.aggregate.AggExpr.{AggExpr}
 use Rattle.plan_dsl.specs.declared.aggregate.AggExpr.TheVariants as agg
 use Rattle.plan_dsl.specs.declared.aggregate.GroupByMethod.{GroupByMethod}
 use Rattle.plan_dsl.specs.declared.aggregate.GroupByMethod.TheVariants.{Min, NanMin, Max, NanMax, NUnique, First, Last, Implode, Sum, Count, Groups}
-use Rattle.plan_dsl.specs.declared.expr.Expr.{Expr, Row_of-Expr, end_of-Expr, more_of-Expr}
-use Rattle.plan_dsl.specs.declared.expr.Expr.TheVariants.{Column, Columns, DtypeColumn, IndexColumn, Literal, BinaryExpr', Cast', Len, Slice', Alias', Explode', Gather', Filter', Sort', SortBy', Agg, Wildcard, Exclude', KeepName', Nth, RenameAlias', Selector as Selecting}
+use Rattle.plan_dsl.specs.declared.expr.Expr.{Expr, Row_of-Expr, end_of-Expr, more_of-Expr, Held-Expr-Window-2, None', Some'}
+use Rattle.plan_dsl.specs.declared.expr.Expr.TheVariants.{Column, Columns, DtypeColumn, IndexColumn, Literal, BinaryExpr', Cast', Len, Slice', Alias', Explode', Gather', Filter', Sort', SortBy', Agg, Window', Wildcard, Exclude', KeepName', Nth, RenameAlias', Selector as Selecting}
 use Rattle.plan_dsl.specs.declared.expr.Exprs.{Exprs}
 use Rattle.plan_dsl.specs.declared.marker.Excluded.{Excluded as ExcludedValue}
 use Rattle.plan_dsl.specs.declared.marker.Excluded.TheVariants.{Name, Dtype}
@@ -16,9 +17,10 @@ use Rattle.plan_dsl.specs.declared.selector.Selector.{Selector}
 use Rattle.plan_dsl.specs.declared.selector.Selector.TheVariants.{Root', Add', Sub', ExclusiveOr', Intersect'}
 use Rattle.plan_dsl.specs.declared.selector.Selectors.{Selectors}
 use Rattle.plan_dsl.specs.declared.sort_options.SortMultipleOptions.{SortMultipleOptions}
+use Rattle.plan_dsl.specs.declared.sort_options.SortOptions.{SortOptions}
 use Rattle.plan_dsl.specs.Trees.{Trees, node, no_more, more}
 use Rattle.plan_dsl.specs.Literals.{literal_op}
-use Rattle.plan_dsl.specs.Ops.{Op, ColumnOp, BinaryOp, CastOp, LenOp, SliceOp, AliasOp, ExplodeOp, GatherOp, FilterOp, SortOp, SortByOp, AggOp, Expression}
+use Rattle.plan_dsl.specs.Ops.{Op, ColumnOp, BinaryOp, CastOp, LenOp, SliceOp, AliasOp, ExplodeOp, GatherOp, FilterOp, SortOp, SortByOp, AggOp, WindowOp, Expression}
 use Rattle.plan_dsl.specs.Sources.{Excluded, ExcludedName, ExcludedType, Renaming, KeepRoot, AddPrefix, AddSuffix, SetName, Add, Sub, Intersect, ExclusiveOr, SourceOp, Plain, WildcardOp, ColumnsOp, DtypeColumnOp, IndexColumnOp, NthOp, ExcludeOp, SelectorOp, RootOp, RenameOp, Source, unwritten, of_two}
 
 abbrev pub sort_by_op : SortMultipleOptions → Op
@@ -58,6 +60,11 @@ renaming_of (Prefix text) = AddPrefix text
 renaming_of (Suffix text) = AddSuffix text
 renaming_of (Fixed text) = SetName text
 
+-- how the groups of a window are put in order, if they are
+abbrev pub held_way : Held-Expr-Window-2 → Option SortOptions
+held_way None' = None
+held_way (Some' p order options) = Some options
+
 abbrev mutual
   pub tree_of : Expr → Source
   tree_of (Column name) = node (Plain (ColumnOp name)) no_more
@@ -76,12 +83,18 @@ abbrev mutual
   tree_of (SortBy' p expr shape by sort_options) = node (Plain (sort_by_op sort_options)) (more (tree_of expr) (row_trees by))
   tree_of (Alias' p expr name) = node (Plain (AliasOp name)) (more (tree_of expr) no_more)
   tree_of (Agg aggregate) = aggregated (method_of aggregate) (input_tree aggregate)
+  tree_of (Window' p function shape partition_by order_by options) = node (Plain (WindowOp (held_way order_by))) (more (tree_of function) (behind_order order_by (row_trees partition_by)))
   tree_of Wildcard = node WildcardOp no_more
   tree_of (Exclude' p marker excluded) = node (ExcludeOp (map excluded_of excluded.items)) (more (tree_of marker) no_more)
   tree_of (KeepName' p expr) = node (RenameOp KeepRoot) (more (tree_of expr) no_more)
   tree_of (Nth place) = node (NthOp place) no_more
   tree_of (RenameAlias' function p expr) = node (RenameOp (renaming_of function)) (more (tree_of expr) no_more)
   tree_of (Selecting selector) = node SelectorOp (more (selector_tree selector) no_more)
+
+  -- what orders the groups of a window, if anything does, in front of its keys
+  pub behind_order : Held-Expr-Window-2 → Trees SourceOp → Trees SourceOp
+  behind_order None' keys = keys
+  behind_order (Some' p order options) keys = more (tree_of order) keys
 
   -- what an aggregate is made of
   pub input_tree : AggExpr → Source
@@ -109,6 +122,15 @@ abbrev mutual
 
 abbrev pub agg_tree : AggExpr → Source
 agg_tree aggregate = aggregated (method_of aggregate) (input_tree aggregate)
+
+-- the order of a window, if there is one: how, and by which tree
+abbrev pub way_of : Option (Box Expr × SortOptions) → Option SortOptions
+way_of None = None
+way_of (Some order) = Some order.1
+
+abbrev pub order_trees : Option (Box Expr × SortOptions) → List Source
+order_trees None = []
+order_trees (Some order) = tree_of order.0.value ∷ []
 
 -- the trees of expressions, and of selectors
 abbrev pub trees_of : Exprs → List Source

@@ -1,5 +1,6 @@
--- Laws of groups: what comes of items beside keys, whatever they are.
-use Rattle.std.specs.Prelude.{◌≡◌, ℕ, Bool, true, false, List, [], ◌∷◌, ◌++◌, map, length, flat_map, zip, IsPermutation, if◌then◌else◌}
+-- Laws of groups: what comes of items beside keys. They are said of items of any one type. No clause speaks of all types at
+-- once, so they are clauses for the types whose items are put in groups: numbers of rows, and spots of windows.
+use Rattle.std.specs.Prelude.{◌≡◌, false, List, [], ◌∷◌, ◌++◌, map, length, flat_map, zip, IsPermutation, if◌then◌else◌}
 use Rattle.std.specs.List.{AllByRecursion}
 use Rattle.std.specs.Bool.{Decides}
 use Rattle.plan_types.specs.Frames.{Row}
@@ -24,8 +25,8 @@ pub record AreGroupsOf {A : Type 0} (keys : List Row) (items : List A) (found : 
   pub filled : AllByRecursion (λ group. ¬ (group.items ≡ [])) found
   pub apart : AreApart (map (λ group. group.key) found)
 
-abbrev pub EachIsInOneGroup : Type 0
-EachIsInOneGroup = (keys : List Row) (items : List ℕ) → length keys ≡ length items → AreGroupsOf keys items (groups keys items)
+abbrev pub EachIsInOneGroup : Type 0 → Type 0
+EachIsInOneGroup A = (keys : List Row) (items : List A) → length keys ≡ length items → AreGroupsOf keys items (groups keys items)
 
 -- groups with an item more: at the end of the group of its key, or alone in a new one behind the others
 abbrev pub with_item : {A : Type 0} → Row → A → List (Group A) → List (Group A)
@@ -34,5 +35,5 @@ with_item key item (group ∷ others) =
     if same_keys group.key key then record { key = group.key; items = group.items ++ item ∷ [] } ∷ others else group ∷ with_item key item others
 
 -- so groups stand in the order in which their keys first occur, and their items as they stood
-abbrev pub ItemsGoToTheEnd : Type 0
-ItemsGoToTheEnd = (keys : List Row) (items : List ℕ) (key : Row) (item : ℕ) → length keys ≡ length items → groups (keys ++ key ∷ []) (items ++ item ∷ []) ≡ with_item key item (groups keys items)
+abbrev pub ItemsGoToTheEnd : Type 0 → Type 0
+ItemsGoToTheEnd A = (keys : List Row) (items : List A) (key : Row) (item : A) → length keys ≡ length items → groups (keys ++ key ∷ []) (items ++ item ∷ []) ≡ with_item key item (groups keys items)

@@ -138,12 +138,17 @@ own_scans kind = []
 abbrev pub scans_in : {E : Type 0} → Tree (PlanOp E) → List Scan
 scans_in plan = fold (λ op below. own_scans op.kind ++ flat_map (λ scans. scans) below) plan
 
--- the options of a plan's selects and hstacks, from the top down: its tree has none of them, since they mean nothing
-abbrev pub options_in : DslPlan → List ProjectionOptions
+-- an option of a node: those of a select and of an hstack, and whether a group-by keeps the order of its groups
+pub data PlanOption : Type 0 where
+  ProjectionOption : (options : ProjectionOptions) → PlanOption
+  OrderOption : (maintain_order : Bool) → PlanOption
+
+-- the options of a plan's nodes, from the top down: its tree has none of them, since they mean nothing
+abbrev pub options_in : DslPlan → List PlanOption
 options_in (DataFrameScan table schema) = []
-options_in (Select' expr p input options) = options ∷ options_in input
-options_in (HStack' exprs p input options) = options ∷ options_in input
-options_in (GroupBy' p input keys aggs maintain_order) = options_in input
+options_in (Select' expr p input options) = ProjectionOption options ∷ options_in input
+options_in (HStack' exprs p input options) = ProjectionOption options ∷ options_in input
+options_in (GroupBy' p input keys aggs maintain_order) = OrderOption maintain_order ∷ options_in input
 options_in (Filter' p input predicate) = options_in input
 options_in (MapFunction' p input function) = options_in input
 

@@ -1,6 +1,7 @@
 -- What the worked examples share: tables of cases, types, values, expressions, plans and frames.
 use Prim.Native.String.{String}
-use Rattle.std.specs.Prelude.{◌≡◌, ℕ, ℤ, pos, neg_ℤ, List, [], ◌∷◌, map, codes, Bool, true, false, Some, None, Result, Ok, Err}
+use Rattle.std.specs.Prelude.{◌≡◌, ℕ, ℤ, pos, neg_ℤ, List, [], ◌∷◌, map, length, codes, Bool, true, false, Some, None, Result, Ok, Err}
+use Rattle.std.specs.List.{range_with_len}
 use Rattle.plan_types.specs.Types.{Ty, NullType, Truth, Integer, TextType, DateType, TimeType, DatetimeType, DurationType, StructType, Untyped, fields_from}
 use Rattle.plan_types.specs.Values.{Val, NullValue, TruthValue, IntValue, TextValue, ListValue, StructValue}
 use Rattle.plan_types.specs.ValueViews.{values_from}
@@ -31,6 +32,7 @@ use Rattle.plan_dsl.specs.Strictness.{as_operand}
 use Rattle.plan_dsl.specs.StrictRun.{strict_run}
 use Rattle.plan_dsl.specs.Plans.{Plan, SourcePlan, PlanOp, named, scan_op, select_op, hstack_op, group_by_op, filter_op, simple_projection_op, source_select, source_hstack, source_filter}
 use Rattle.plan_dsl.specs.Groups.{Group}
+use Rattle.plan_dsl.specs.Windows.{Spot}
 use Rattle.plan_dsl.specs.PlanKernels.{Series}
 
 -- ---- tables of cases
@@ -609,6 +611,13 @@ keyed =
 
 abbrev pub group : List Val → List ℕ → Group ℕ
 group key items = record { key = key; items = items }
+
+abbrev pub spot : ℕ → ℕ → Val → Spot
+spot place row by = record { place = place; number = row; by = by }
+
+-- each row's turn among the rows that are asked for
+abbrev pub turns : List ℕ → Outcome (List Val)
+turns rows = Done (map number (range_with_len 0 (length rows)))
 
 -- four rows beside truth values and a null
 abbrev pub flagged : Frame

@@ -1,6 +1,7 @@
 //! Aggregates: expressions of one value that is made of a column.
-ghost use Rattle.std.specs.Prelude.{◌≡◌, IfOk, IfErr};
+ghost use Rattle.std.specs.Prelude.{◌≡◌, ◌<◌, IfOk, IfErr};
 ghost use Rattle.plan_types.specs.Errors.{no_memory};
+ghost use Rattle.plan_dsl.specs.declared.aggregate.AggExpr.TheViews.{size-AggExpr, size-Expr};
 ghost use Rattle.plan_dsl.specs.Expressions.{agg_tree, aggregated, input_tree, method_of, tree_of};
 ghost use Rattle.plan_dsl.specs.SameExpressions.{method_rank};
 ghost use Rattle.plan_dsl.specs.Sources.{same_source};
@@ -92,20 +93,19 @@ pub enum AggExpr {
     AggGroups(Box<Expr>),
 }
 
-/// What is made of the expression below an aggregate, whatever its method.
-#[macro_export]
+// What is made of the expression below an aggregate, whatever its method.
 macro_rules! below_aggregate {
     ($aggregate:expr, $input:ident => $made:expr) => {
         match $aggregate {
-            $crate::aggregate::AggExpr::Min { input: $input, .. } => $made,
-            $crate::aggregate::AggExpr::Max { input: $input, .. } => $made,
-            $crate::aggregate::AggExpr::NUnique($input) => $made,
-            $crate::aggregate::AggExpr::First($input) => $made,
-            $crate::aggregate::AggExpr::Last($input) => $made,
-            $crate::aggregate::AggExpr::Implode($input) => $made,
-            $crate::aggregate::AggExpr::Count($input, _) => $made,
-            $crate::aggregate::AggExpr::Sum($input) => $made,
-            $crate::aggregate::AggExpr::AggGroups($input) => $made,
+            AggExpr::Min { input: $input, .. } => $made,
+            AggExpr::Max { input: $input, .. } => $made,
+            AggExpr::NUnique($input) => $made,
+            AggExpr::First($input) => $made,
+            AggExpr::Last($input) => $made,
+            AggExpr::Implode($input) => $made,
+            AggExpr::Count($input, _) => $made,
+            AggExpr::Sum($input) => $made,
+            AggExpr::AggGroups($input) => $made,
         }
     };
 }
@@ -173,14 +173,21 @@ impl AggExpr {
         }
     }
 
+    /// What it is made of, which is less deep.
+    pub fn into_input(self) -> Box<Expr>
+        ensures tree { input_tree self ≡ tree_of result.value }
+        ensures below { size-Expr result.value < size-AggExpr self }
+    {
+        below_aggregate!(self, input => input)
+    }
+
     // Whether both are one tree: the same method over the same expression.
     #[cycle(same_exprs)]
     pub(crate) fn is_same(&self, other: &AggExpr) -> bool
         ensures { result ≡ same_source (agg_tree self.now) (agg_tree other.now) }
     {
-        let own = other.as_ref();
         method_rank(self.method()) == method_rank(other.method())
-            && below_aggregate!(self, input => input.is_same(own))
+            && self.as_ref().is_same(other.as_ref())
     }
 
     pub fn try_clone(&self, alloc: Global) -> Result<AggExpr, PlanError>
@@ -194,8 +201,10 @@ impl AggExpr {
 }
 
 impl AsRef<Expr> for AggExpr {
+    /// What it is made of, which is less deep.
     fn as_ref(&self) -> &Expr
-        ensures { input_tree self.now ≡ tree_of result.now }
+        ensures tree { input_tree self.now ≡ tree_of result.now }
+        ensures below { size-Expr result.now < size-AggExpr self.now }
     {
         below_aggregate!(self, input => input)
     }

@@ -3,7 +3,7 @@ ghost use Rattle.std.specs.Prelude.{◌≡◌, ◌<◌, ◌∷◌, map, vec_len,
 ghost use Rattle.plan_types.specs.Errors.{no_memory};
 ghost use Rattle.plan_types.specs.Schemas.{columns};
 ghost use Rattle.plan_dsl.specs.Expressions.{selector_tree, tree_of};
-ghost use Rattle.plan_dsl.specs.Plans.{plan_tree, options_in, scan_op, source_drop, source_filter, source_group_by, source_hstack, source_select};
+ghost use Rattle.plan_dsl.specs.Plans.{OrderOption, ProjectionOption, plan_tree, options_in, scan_op, source_drop, source_filter, source_group_by, source_hstack, source_select};
 ghost use Rattle.plan_dsl.specs.Trees.{node, no_more};
 
 use crate::expr::{Expr, Exprs};
@@ -34,7 +34,7 @@ impl DslBuilder {
         options: ProjectionOptions,
     ) -> Result<DslBuilder, PlanError>
         ensures ok { IfOk result (λ built. plan_tree built.0 ≡ source_select (map tree_of exprs.items) (plan_tree self.0)) }
-        ensures options { IfOk result (λ built. options_in built.0 ≡ options ∷ options_in self.0) }
+        ensures options { IfOk result (λ built. options_in built.0 ≡ ProjectionOption options ∷ options_in self.0) }
         ensures err { IfErr result (λ error. error ≡ no_memory) }
     {
         let input = Box::new(alloc, self.0)?;
@@ -55,7 +55,7 @@ impl DslBuilder {
     ) -> Result<DslBuilder, PlanError>
         ensures none { IfOk result (λ built. vec_len exprs ≡ 0 → built ≡ self) }
         ensures ok { IfOk result (λ built. 0 < vec_len exprs → plan_tree built.0 ≡ source_hstack (map tree_of exprs.items) (plan_tree self.0)) }
-        ensures options { IfOk result (λ built. 0 < vec_len exprs → options_in built.0 ≡ options ∷ options_in self.0) }
+        ensures options { IfOk result (λ built. 0 < vec_len exprs → options_in built.0 ≡ ProjectionOption options ∷ options_in self.0) }
         ensures err { IfErr result (λ error. error ≡ no_memory) }
     {
         if exprs.is_empty() {
@@ -78,7 +78,7 @@ impl DslBuilder {
         maintain_order: bool,
     ) -> Result<DslBuilder, PlanError>
         ensures ok { IfOk result (λ built. plan_tree built.0 ≡ source_group_by (map tree_of keys.items) (map tree_of aggs.items) (plan_tree self.0)) }
-        ensures options { IfOk result (λ built. options_in built.0 ≡ options_in self.0) }
+        ensures options { IfOk result (λ built. options_in built.0 ≡ OrderOption maintain_order ∷ options_in self.0) }
         ensures err { IfErr result (λ error. error ≡ no_memory) }
     {
         let input = Box::new(alloc, self.0)?;
@@ -96,8 +96,13 @@ impl DslBuilder {
         ensures options { IfOk result (λ built. options_in built.0 ≡ options_in self.0) }
         ensures err { IfErr result (λ error. error ≡ no_memory) }
     {
-        let input = Box::new(alloc, self.0)?;
-        Ok(DslBuilder(DslPlan::Filter { input, predicate }))
+        match Box::new(alloc, self.0) {
+            Ok(input) => Ok(DslBuilder(DslPlan::Filter { input, predicate })),
+            Err(error) => {
+                drop(predicate);
+                Err(PlanError::from(error))
+            }
+        }
     }
 
     /// Without the columns that the selectors name. Where it is strict, each of them must stand.

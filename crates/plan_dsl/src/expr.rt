@@ -1,20 +1,20 @@
 //! Expressions over the columns of a frame.
-ghost use Rattle.std.specs.Prelude.{◌≡◌, IfOk, IfErr};
+ghost use Rattle.std.specs.Prelude.{◌≡◌, ◌&&◌, map, IfOk, IfErr};
 ghost use Rattle.std.specs.List.{fold, list_all};
 ghost use Rattle.plan_dsl.specs.Trees.{children_from, top_op};
-ghost use Rattle.plan_dsl.specs.Expressions.{tree_of, trees_of};
+ghost use Rattle.plan_dsl.specs.Expressions.{order_trees, tree_of, trees_of, way_of};
 ghost use Rattle.plan_dsl.specs.Expansion.{all_with_column_put, with_column_put};
-ghost use Rattle.plan_dsl.specs.SameExpressions.{operator_rank, options_rank, same_trees, trees_writes};
+ghost use Rattle.plan_dsl.specs.SameExpressions.{operator_rank, options_rank, order_writes, same_order, same_trees, trees_writes};
 ghost use Rattle.plan_dsl.specs.Sources.{is_plain, same_source, same_source_op, source_op_writes, source_writes};
 ghost use Rattle.plan_types.specs.Errors.{no_memory};
 
 use crate::aggregate::{AggExpr, method_rank};
-use crate::below_aggregate;
 use crate::literal::LiteralValue;
 use crate::marker::{Excluded, RenameAliasFn, excluded_copied, names_copied, types_copied};
 use crate::operator::Operator;
 use crate::selector::Selector;
 use crate::sort_options::{SortMultipleOptions, SortOptions};
+use crate::window::WindowType;
 use plan_types::dtype::{CastOptions, DataType};
 use plan_types::error::PlanError;
 use plan_types::text::PlSmallStr;
@@ -157,6 +157,14 @@ pub enum Expr {
     Alias(Box<Expr>, PlSmallStr),
     /// One value that is made of an expression's.
     Agg(AggExpr),
+    /// The values of a function that is asked on each group of rows, of which the keys are the same.
+    Window {
+        function: Box<Expr>,
+        partition_by: Exprs,
+        /// The values by which the rows of a group are put in order, and how.
+        order_by: Option<(Box<Expr>, SortOptions)>,
+        options: WindowType,
+    },
     /// A marker: the columns of these names, whether they stand or not.
     Columns(Vec<PlSmallStr>),
     /// A marker: the columns of one of these types.
@@ -180,11 +188,12 @@ pub enum Expr {
     },
 }
 
-// A copy of an expression, by its kind, whose operands are copied by that call: of those that are listed the operands, a
-// list of operands, the fields that are copied, and those that take memory. What becomes of markers is given.
+// A copy of an expression, by its kind, whose operands are copied by those calls, into a box or not: of those that are
+// listed the operands, a list of operands, the fields that are copied, and those that take memory. What becomes of
+// markers is given.
 macro_rules! copied {
     (
-        $expr:expr, $alloc:ident, $copy:ident $args:tt, [$($marker:pat => $made:expr),*],
+        $expr:expr, $alloc:ident, $copy:ident $boxed:ident $args:tt, [$($marker:pat => $made:expr),*],
         $($kind:ident { $($input:ident),* } [$($list:ident),*] [$($copied:ident),*] [$($cloned:ident),*])*
     ) => {
         match $expr {
@@ -193,31 +202,20 @@ macro_rules! copied {
             Expr::Literal(value) => Ok(Expr::Literal(value.try_clone($alloc)?)),
             Expr::Len => Ok(Expr::Len),
             $(Expr::$kind { $($input,)* $($list,)* $($copied,)* $($cloned),* } => Ok(Expr::$kind {
-                $($input: Box::new($alloc, $input.$copy $args?)?,)*
+                $($input: $input.$boxed $args?,)*
                 $($list: $list.$copy $args?,)*
                 $($copied: *$copied,)*
                 $($cloned: $cloned.try_clone($alloc)?),*
             }),)*
-            Expr::Explode(input) => {
-                let input = input.$copy $args?;
-                Ok(Expr::Explode(Box::new($alloc, input)?))
-            }
+            Expr::Explode(input) => Ok(Expr::Explode(input.$boxed $args?)),
             Expr::Alias(expr, name) => {
-                let expr = Box::new($alloc, expr.$copy $args?)?;
                 let name = name.try_clone($alloc)?;
-                Ok(Expr::Alias(expr, name))
+                Ok(Expr::Alias(expr.$boxed $args?, name))
             }
-            Expr::KeepName(expr) => {
-                let expr = expr.$copy $args?;
-                Ok(Expr::KeepName(Box::new($alloc, expr)?))
-            }
+            Expr::KeepName(expr) => Ok(Expr::KeepName(expr.$boxed $args?)),
             Expr::Agg(aggregate) => {
-                let method = aggregate.method();
-                below_aggregate!(aggregate, input => {
-                    let input = input.$copy $args?;
-                    let input = Box::new($alloc, input)?;
-                    Ok(Expr::Agg(AggExpr::of(method, input)))
-                })
+                let input = aggregate.as_ref().$boxed $args?;
+                Ok(Expr::Agg(AggExpr::of(aggregate.method(), input)))
             }
         }
     };
@@ -247,6 +245,10 @@ macro_rules! compared {
             (Expr::Selector(selector), Expr::Selector(own)) => selector.is_same(own),
             (Expr::KeepName(expr), Expr::KeepName(own)) => expr.is_same(own),
             (Expr::Agg(aggregate), Expr::Agg(own)) => aggregate.is_same(own),
+            (
+                Expr::Window { function, partition_by, order_by, .. },
+                Expr::Window { function: own, partition_by: own_keys, order_by: own_order, .. },
+            ) => is_same_order(order_by, own_order) && function.is_same(own) && partition_by.is_same(own_keys),
             _ => false,
         }
     };
@@ -289,7 +291,12 @@ macro_rules! feed_operands {
             Expr::Exclude(marker, _) => marker.feed($state),
             Expr::Selector(selector) => selector.feed($state),
             Expr::KeepName(expr) => expr.feed($state),
-            Expr::Agg(aggregate) => below_aggregate!(aggregate, input => input.feed($state)),
+            Expr::Agg(aggregate) => aggregate.as_ref().feed($state),
+            Expr::Window { function, partition_by, order_by, .. } => {
+                function.feed($state);
+                feed_order(order_by, $state);
+                partition_by.feed($state);
+            }
         }
     };
 }
@@ -300,17 +307,23 @@ impl Expr {
         ensures ok { IfOk result (λ copy. tree_of copy ≡ tree_of self.now) }
         ensures err { IfErr result (λ error. error ≡ no_memory) }
     {
-        copied!(self, alloc, try_clone(alloc), [
+        copied!(self, alloc, try_clone boxed_copy(alloc), [
                 Expr::Columns(names) => Ok(Expr::Columns(names_copied(names, alloc)?)),
                 Expr::DtypeColumn(types) => Ok(Expr::DtypeColumn(types_copied(types, alloc)?)),
                 Expr::IndexColumn(places) => Ok(Expr::IndexColumn(Vec::from_slice(alloc, places)?)),
                 Expr::Nth(place) => Ok(Expr::Nth(*place)),
                 Expr::Wildcard => Ok(Expr::Wildcard),
                 Expr::Exclude(marker, excluded) => {
-                    let marker = Box::new(alloc, marker.try_clone(alloc)?)?;
-                    Ok(Expr::Exclude(marker, excluded_copied(excluded, alloc)?))
+                    let excluded = excluded_copied(excluded, alloc)?;
+                    Ok(Expr::Exclude(marker.boxed_copy(alloc)?, excluded))
                 },
-                Expr::Selector(selector) => Ok(Expr::Selector(selector.try_clone(alloc)?))
+                Expr::Selector(selector) => Ok(Expr::Selector(selector.try_clone(alloc)?)),
+                Expr::Window { function, partition_by, order_by, options } => Ok(Expr::Window {
+                    function: function.boxed_copy(alloc)?,
+                    partition_by: partition_by.try_clone(alloc)?,
+                    order_by: order_copied(order_by, alloc)?,
+                    options: *options,
+                })
             ],
             BinaryExpr { left, right } [] [op] []
             Cast { expr } [] [options] [dtype]
@@ -323,20 +336,37 @@ impl Expr {
         )
     }
 
+    // The same in a box.
+    #[cycle(expr_copies)]
+    pub(crate) fn boxed_copy(&self, alloc: Global) -> Result<Box<Expr>, PlanError>
+        ensures ok { IfOk result (λ copy. tree_of copy.value ≡ tree_of self.now) }
+        ensures err { IfErr result (λ error. error ≡ no_memory) }
+    {
+        let copy = self.try_clone(alloc)?;
+        let copy = Box::new(alloc, copy)?;
+        Ok(copy)
+    }
+
     /// A copy with the column of that name in place of all markers.
     #[cycle(columns_put)]
     pub fn with_column(&self, name: &PlSmallStr, alloc: Global) -> Result<Expr, PlanError>
         ensures ok { IfOk result (λ copy. tree_of copy ≡ with_column_put name.now (tree_of self.now)) }
         ensures err { IfErr result (λ error. error ≡ no_memory) }
     {
-        copied!(self, alloc, with_column(name, alloc), [
+        copied!(self, alloc, with_column boxed_with_column(name, alloc), [
                 Expr::Columns(_)
                 | Expr::DtypeColumn(_)
                 | Expr::IndexColumn(_)
                 | Expr::Nth(_)
                 | Expr::Wildcard
                 | Expr::Exclude(_, _)
-                | Expr::Selector(_) => Ok(Expr::Column(name.try_clone(alloc)?))
+                | Expr::Selector(_) => Ok(Expr::Column(name.try_clone(alloc)?)),
+                Expr::Window { function, partition_by, order_by, options } => Ok(Expr::Window {
+                    function: function.boxed_with_column(name, alloc)?,
+                    partition_by: partition_by.with_column(name, alloc)?,
+                    order_by: order_with_column(order_by, name, alloc)?,
+                    options: *options,
+                })
             ],
             BinaryExpr { left, right } [] [op] []
             Cast { expr } [] [options] [dtype]
@@ -347,6 +377,17 @@ impl Expr {
             SortBy { expr } [by] [] [sort_options]
             RenameAlias { expr } [] [] [function]
         )
+    }
+
+    // The same in a box.
+    #[cycle(columns_put)]
+    fn boxed_with_column(&self, name: &PlSmallStr, alloc: Global) -> Result<Box<Expr>, PlanError>
+        ensures ok { IfOk result (λ copy. tree_of copy.value ≡ with_column_put name.now (tree_of self.now)) }
+        ensures err { IfErr result (λ error. error ≡ no_memory) }
+    {
+        let copy = self.with_column(name, alloc)?;
+        let copy = Box::new(alloc, copy)?;
+        Ok(copy)
     }
 
     /// Whether it has neither a marker nor a renaming form.
@@ -368,7 +409,13 @@ impl Expr {
             Expr::Filter { input, by } => input.is_plain() && by.is_plain(),
             Expr::SortBy { expr, by, .. } => expr.is_plain() && by.are_plain(),
             Expr::Alias(expr, _) => expr.is_plain(),
-            Expr::Agg(aggregate) => below_aggregate!(aggregate, input => input.is_plain()),
+            Expr::Agg(aggregate) => aggregate.as_ref().is_plain(),
+            Expr::Window {
+                function,
+                partition_by,
+                order_by,
+                ..
+            } => { function.is_plain() && is_plain_order(order_by) && partition_by.are_plain() }
             Expr::Columns(_)
             | Expr::DtypeColumn(_)
             | Expr::IndexColumn(_)
@@ -434,6 +481,10 @@ impl Expr {
                 Expr::Agg(aggregate) => {
                     state.write_u8(21);
                     state.write_u8(method_rank(aggregate.method()));
+                },
+                Expr::Window { order_by, .. } => {
+                    state.write_u8(22);
+                    feed_way(order_by, state);
                 }
             ],
             Expr::Column(name) => 0 [name]
@@ -455,6 +506,94 @@ impl Expr {
             Expr::Nth(place) => 18 [place]
             Expr::Selector(_) => 20 []
         )
+    }
+}
+
+// A copy of what orders the groups of a window, if anything does.
+#[cycle(expr_copies)]
+fn order_copied(
+    order: &Option<(Box<Expr>, SortOptions)>,
+    alloc: Global,
+) -> Result<Option<(Box<Expr>, SortOptions)>, PlanError>
+    ensures ok { IfOk result (λ copy. (way_of copy ≡ way_of order.now) × (order_trees copy ≡ order_trees order.now)) }
+    ensures err { IfErr result (λ error. error ≡ no_memory) }
+{
+    match order {
+        None => Ok(None),
+        Some((expr, options)) => {
+            let expr = expr.boxed_copy(alloc)?;
+            Ok(Some((expr, *options)))
+        }
+    }
+}
+
+// The same with the column of that name in place of all markers.
+#[cycle(columns_put)]
+fn order_with_column(
+    order: &Option<(Box<Expr>, SortOptions)>,
+    name: &PlSmallStr,
+    alloc: Global,
+) -> Result<Option<(Box<Expr>, SortOptions)>, PlanError>
+    ensures ok { IfOk result (λ copy. (way_of copy ≡ way_of order.now) × (order_trees copy ≡ map (with_column_put name.now) (order_trees order.now))) }
+    ensures err { IfErr result (λ error. error ≡ no_memory) }
+{
+    match order {
+        None => Ok(None),
+        Some((expr, options)) => {
+            let expr = expr.boxed_with_column(name, alloc)?;
+            Ok(Some((expr, *options)))
+        }
+    }
+}
+
+// Whether what orders the groups of a window, if anything does, has neither a marker nor a renaming form.
+#[cycle(plain_exprs)]
+fn is_plain_order(order: &Option<(Box<Expr>, SortOptions)>) -> bool
+    ensures { result ≡ list_all is_plain (order_trees order.now) }
+{
+    match order {
+        None => true,
+        Some((expr, _)) => expr.is_plain(),
+    }
+}
+
+// Whether groups are put in order by the same and in the same way, or neither are.
+#[cycle(same_exprs)]
+fn is_same_order(
+    order: &Option<(Box<Expr>, SortOptions)>,
+    other: &Option<(Box<Expr>, SortOptions)>,
+) -> bool
+    ensures { result ≡ (same_order (way_of order.now) (way_of other.now) && same_trees same_source_op (children_from (order_trees order.now)) (children_from (order_trees other.now))) }
+{
+    match (order, other) {
+        (None, None) => true,
+        (Some((expr, options)), Some((own, own_options))) => *options == *own_options
+            && expr.is_same(own),
+        _ => false,
+    }
+}
+
+// Feeds the expression by which groups are put in order to the hasher, if there is one.
+#[cycle(expr_hashes)]
+fn feed_order<H: Hasher>(order: &Option<(Box<Expr>, SortOptions)>, state: &mut H)
+    ensures { state.new ≡ fold H.write state.old (trees_writes source_op_writes (children_from (order_trees order.now))) }
+{
+    match order {
+        None => {}
+        Some((expr, _)) => expr.feed(state),
+    }
+}
+
+// Feeds whether groups are put in order, and how.
+fn feed_way<H: Hasher>(order: &Option<(Box<Expr>, SortOptions)>, state: &mut H)
+    ensures { state.new ≡ fold H.write state.old (order_writes (way_of order.now)) }
+{
+    match order {
+        None => state.write_u8(0),
+        Some((_, options)) => {
+            state.write_u8(1);
+            options.hash(state);
+        }
     }
 }
 

@@ -1,8 +1,10 @@
 //! Laws of the definitions. The functions do nothing: their clauses are the laws.
+ghost use Rattle.std.specs.Prelude.{ℕ};
 ghost use Rattle.plan_dsl.specs.GroupLaws.{EachIsInOneGroup, ItemsGoToTheEnd, SameKeysAreOne};
 ghost use Rattle.plan_dsl.specs.Laws.{TakenTypesStay, TakenOperandsSaySame, SwappedOperandsSaySame, StrictRunIsMeaning, MeaningHasType, OnlyNumbersAreUntyped, CoresSaySame};
 ghost use Rattle.plan_dsl.specs.SortLaws.{ValuesHaveAnOrder, KeysHaveAnOrder, ValuesAreSorted, RowsAreSorted, SortsByKeysAreSorted, SortedByKeysAreTheSame};
-ghost use Rattle.plan_dsl.specs.WindowLaws.{WindowsHaveAValueForEachRow};
+ghost use Rattle.plan_dsl.specs.WindowLaws.{WindowsHaveAValueForEachRow, RowsHaveWhatTheirGroupIsGiven, GroupsArePutInOrder, WindowsOfColumnsAreTheColumns};
+ghost use Rattle.plan_dsl.specs.Windows.{Spot};
 
 /// Operands that were taken to their types stay, and a node over operands that were made of those types says
 /// the same. Where an operator has one for swapped operands, that takes them to the same types and gives the same.
@@ -34,14 +36,19 @@ pub fn sort_laws()
 
 /// Keys that are found the same are one. Each item is in one group, beside its own keys, no group is empty, and no two have
 /// the same keys. An item more goes to the end of its group, or into a new one behind the others: so groups stand in the
-/// order in which their keys first occur, and their items as they stood.
+/// order in which their keys first occur, and their items as they stood. Both of numbers of rows and of spots of windows.
 pub fn group_laws()
     ensures same { SameKeysAreOne }
-    ensures one_group { EachIsInOneGroup }
-    ensures order { ItemsGoToTheEnd }
+    ensures one_group { EachIsInOneGroup ℕ × EachIsInOneGroup Spot }
+    ensures order { ItemsGoToTheEnd ℕ × ItemsGoToTheEnd Spot }
 {}
 
-/// A window gives a value for each row on which it is asked.
+/// A window gives a value for each row on which it is asked. In each group of rows, which is put in order, these have what
+/// the function gives on them, each at its place. Of a column, with a value of its own for each row, a window gives that
+/// column, whatever the keys and the order.
 pub fn window_laws()
-    ensures { WindowsHaveAValueForEachRow }
+    ensures each_row { WindowsHaveAValueForEachRow }
+    ensures groups { RowsHaveWhatTheirGroupIsGiven }
+    ensures order { GroupsArePutInOrder }
+    ensures columns { WindowsOfColumnsAreTheColumns }
 {}

@@ -16,3 +16,4 @@ pub mod selector;
 pub mod signature;
 pub mod sort_options;
 pub mod udfs;
+pub mod window;

@@ -51,13 +51,10 @@ pub enum Selector {
 macro_rules! copied {
     ($selector:expr, $alloc:expr, $($kind:ident)*) => {
         match $selector {
-            Selector::Root(expr) => {
-                let expr = expr.try_clone($alloc)?;
-                Ok(Selector::Root(Box::new($alloc, expr)?))
-            }
+            Selector::Root(expr) => Ok(Selector::Root(expr.boxed_copy($alloc)?)),
             $(Selector::$kind(first, second) => {
-                let first = Box::new($alloc, first.try_clone($alloc)?)?;
-                let second = Box::new($alloc, second.try_clone($alloc)?)?;
+                let first = first.boxed_copy($alloc)?;
+                let second = second.boxed_copy($alloc)?;
                 Ok(Selector::$kind(first, second))
             })*
         }
@@ -101,6 +98,17 @@ impl Selector {
         ensures err { IfErr result (λ error. error ≡ no_memory) }
     {
         copied!(self, alloc, Add Sub ExclusiveOr Intersect)
+    }
+
+    // The same in a box.
+    #[cycle(expr_copies)]
+    fn boxed_copy(&self, alloc: Global) -> Result<Box<Selector>, PlanError>
+        ensures ok { IfOk result (λ copy. selector_tree copy.value ≡ selector_tree self.now) }
+        ensures err { IfErr result (λ error. error ≡ no_memory) }
+    {
+        let copy = self.try_clone(alloc)?;
+        let copy = Box::new(alloc, copy)?;
+        Ok(copy)
     }
 
     // Whether both are one tree: the same nodes in the same places.

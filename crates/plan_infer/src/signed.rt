@@ -1,5 +1,5 @@
 //! Types of nodes whose kind goes by a signature.
-ghost use Rattle.std.specs.Prelude.{◌≡◌, [], Some, None, List, length, map, get_or, IfOk, IfErr};
+ghost use Rattle.std.specs.Prelude.{◌≡◌, ◌++◌, suc, [], Some, None, List, length, map, get_or, IfOk, IfErr};
 ghost use Rattle.std.specs.List.{AllByRecursion};
 ghost use Rattle.plan_types.specs.Errors.{IsMemoryOr, IsRefusal, no_memory};
 ghost use Rattle.plan_types.specs.CommonTypes.{type_alone};
@@ -9,7 +9,8 @@ ghost use Rattle.plan_dsl.specs.Signatures.{asked_target, has_flags, is_asked, i
 ghost use Rattle.plan_dsl.specs.Sorting.{are_for};
 ghost use Rattle.plan_dsl.specs.Typing.{Typed, many_of, signed, some_many, taken_by, taken_from, types_of};
 ghost use Rattle.plan_arena.specs.Layers.{op_of, inputs_of};
-ghost use Rattle.plan_arena.specs.Items.{expression_layer, numbers};
+ghost use Rattle.plan_dsl.specs.Ops.{WindowOp};
+ghost use Rattle.plan_arena.specs.Items.{expression_layer, numbers, ordered, ordering};
 ghost use Rattle.plan_infer.specs.KeptTypes.{AreOperands, IsKept, Says, name_at, typed_of, typings_at};
 
 use crate::type_table::{Inferred, TypeTable};
@@ -18,7 +19,7 @@ use plan_arena::arena::Node;
 use plan_arena::inputs::NodeList;
 use plan_dsl::aggregate::GroupByMethod;
 use plan_dsl::signature::{Ask, Asked, Many, OwnType, Signature, asks, asks_one, takes};
-use plan_dsl::sort_options::{Flags, SortMultipleOptions};
+use plan_dsl::sort_options::{Flags, SortMultipleOptions, SortOptions};
 use plan_types::common_type::materialize_dyn_int;
 use plan_types::dtype::DataType;
 use plan_types::error::{ErrorKind, PlanError};
@@ -55,6 +56,11 @@ pub(crate) fn signature(item: &AExpr) -> Result<Signature, ErrorKind>
             takes(asks(Any), asks(Sortable), asks(Sortable), First, AsFirst)
         }
         AExpr::Agg(aggregate) => method_signature(GroupByMethod::from(*aggregate)),
+        AExpr::Window {
+            partition_by,
+            order_by,
+            ..
+        } => window_signature(partition_by, order_by),
         _ => Err(ErrorKind::SchemaMismatch),
     }
 }
@@ -75,6 +81,29 @@ fn method_signature(method: GroupByMethod) -> Result<Signature, ErrorKind>
         GroupByMethod::Groups => (Ask::Any, OwnType::Rows),
     };
     takes(asks(ask), asks(Ask::Any), asks(Ask::Any), own, Many::Never)
+}
+
+// What a window asks of its inputs, by its keys and by what its rows are ordered by.
+fn window_signature(
+    keys: &NodeList,
+    order: &Option<(Node, SortOptions)>,
+) -> Result<Signature, ErrorKind>
+    ensures { result ≡ signature (WindowOp (ordered order.now)) (suc (length (ordering order.now ++ numbers keys.now.items.items))) }
+{
+    if keys.items.is_empty() {
+        return Err(ErrorKind::InvalidOperation);
+    }
+    let second = match order {
+        None => Ask::Any,
+        Some(_) => Ask::Sortable,
+    };
+    takes(
+        asks(Ask::Any),
+        asks(second),
+        asks(Ask::Any),
+        OwnType::First,
+        Many::Always,
+    )
 }
 
 // Whether a sort has flags for its keys.

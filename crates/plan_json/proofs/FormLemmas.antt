@@ -1,19 +1,28 @@
 -- What is read by the table of forms.
-use Rattle.plan_json.proofs.Names.{Bool, List, None, Some, [], ap, arith, bytes_eq, cond, false, get_or, length, map, ne_eqb, option_and_then, option_map, refl, slice_get, subst, suc, sym, take, true, zero, ℕ, ◌&&◌, ◌<◌, ◌==◌, ◌∙◌, ◌∷◌, ◌≡◌, ◌≤◌, asked_form, items_of, key, key_form, keyed_form, number, own_fault, part, part_of, places_form, shape_fault, unless, all_of, both, only_member, items_view, view, Name, Data, Items, array, item, no_items, Declared, as_array, at, get_item, AllFit, Asked, Fits, Read, a_form, all_fit, asks, expression_read, expressions_in, fits, flag_read, flags_in, key_named, leaves_read, list_read, many, many_read, name_read, place_view, ty, type_read, ℤ, reads_of, row_named, says, IsItem, each_as, front, places_as, read_as, these_as, option_map_or, escaped, Value, items_len-items_view, eq-eqb, length-map, items_len, bytes_eq-Decides, Kind, Key, tree_of, slice_get-map, slice_get-get_or, trees_of, SortByOp, expression_says, same_Some, and_parts, Box, Global}
+use Rattle.plan_json.proofs.Names.{Bool, List, None, Option, Some, [], ap, arith, bytes_eq, cond, false, get_or, is_some, length, map, ne_eqb, option_and_then, option_map, refl, slice_get, subst, suc, sym, take, true, zero, ℕ, ◌&&◌, ◌||◌, ◌++◌, ◌<◌, ◌==◌, ◌∙◌, ◌∷◌, ◌≡◌, ◌≤◌, asked_form, items_of, key, key_form, keyed_form, number, own_fault, part, part_of, places_form, shape_fault, unless, all_of, both, only_member, items_view, view, Name, Data, Items, array, item, no_items, Declared, as_array, at, get_item, AllFit, Asked, Fits, Read, a_form, all_fit, asks, expression_read, expressions_in, fits, flag_read, flags_in, key_named, leaves_read, list_read, many, many_read, name_read, place_view, ty, type_read, ℤ, reads_of, row_named, says, IsItem, each_as, front, places_as, read_as, these_as, option_map_or, escaped, Value, items_len-items_view, eq-eqb, length-map, items_len, bytes_eq-Decides, Kind, Key, tree_of, slice_get-map, slice_get-get_or, trees_of, SortByOp, expression_says, same_Some, and_parts, Box, Global}
 use Rattle.plan_json.specs.declared.forms.Place.{Place}
 use Rattle.plan_dsl.specs.Expressions.{excluded_of}
 use Rattle.plan_dsl.specs.Sources.{Plain, Source}
 use Rattle.plan_dsl.specs.declared.marker.Excluded.{Excluded}
 use Rattle.plan_types.specs.declared.dtype.DataType.{DataType}
-use Rattle.plan_json.specs.Forms.{excluded_in, excluded_read, index_read, indexes_in, names_in, selector_read, selectors_in, types_in}
+use Rattle.plan_json.specs.Forms.{excluded_in, excluded_read, index_read, indexes_in, names_in, order, order_items, order_read, order_says, selector_read, selectors_in, types_in}
+use Rattle.plan_json.specs.Queries.{list_as}
+use Rattle.plan_dsl.specs.Expressions.{order_trees, way_of}
+use Rattle.plan_dsl.specs.Ops.{WindowOp}
+use Rattle.plan_dsl.specs.declared.sort_options.SortOptions.{SortOptions}
+use Rattle.plan_dsl.specs.declared.window.WindowType.{WindowType}
 use Rattle.plan_dsl.specs.Trees.{node, more, children_from}
-use Rattle.plan_dsl.specs.declared.expr.Expr.{Expr, SortBy}
+use Rattle.plan_dsl.specs.declared.expr.Expr.{Expr, SortBy, Window}
 use Rattle.plan_dsl.specs.declared.expr.Exprs.{Exprs}
 use Rattle.plan_dsl.specs.declared.sort_options.SortMultipleOptions.{SortMultipleOptions}
-use Rattle.plan_dsl.proofs.ExprLemmas.{sort_by_listed}
+use Rattle.plan_dsl.proofs.ExprLemmas.{sort_by_listed, window_listed}
 use Rattle.plan_json.specs.declared.forms.ExpressionKey.TheVariants as of
 use Rattle.plan_json.specs.declared.forms.Leaf.TheVariants as leaves
-use Rattle.plan_json.proofs.FaultLemmas.{key_in}
+use Rattle.plan_json.specs.Errors.{IsErrorOf}
+use Rattle.plan_json.specs.Faults.{Step, is_list, order_form}
+use Rattle.plan_json.specs.declared.error.JsonError.{JsonError}
+use Rattle.serde_json.specs.Find.{as_null}
+use Rattle.plan_json.proofs.FaultLemmas.{key_in, stricter_error}
 use Rattle.plan_json.proofs.ItemLemmas.{item_at}
 use Rattle.plan_json.proofs.LookingLemmas.{array-from_as_array, object-from_only_member}
 
@@ -86,6 +95,29 @@ pub sort_by_said : (expr : Box Expr Global) (by : Exprs) (options : SortMultiple
 sort_by_said expr by options =
     (λ i. Some (node (Plain (SortByOp (flags_read options.descending.items.value.items i) (flags_read options.nulls_last.items.value.items i))) (more (tree_of expr.value) (children_from (expressions_read (trees_of by) i)))))
     ∙ ap (λ tree. Some tree) (sym (sort_by_listed (SortBy expr by options) expr by options refl).is)
+
+-- a window over its function, its keys and what orders its groups
+pub over_said : (function : Box Expr Global) (keys : Exprs) (by : Option (Box Expr Global × SortOptions)) (options : WindowType)
+    → expression_says of.Over (expression_read (tree_of function.value) ∷ many_read (reads_of (map expression_read (trees_of keys))) ∷ order_read (way_of by) (order_trees by) ∷ []) ≡ Some (tree_of (Window function keys by options))
+over_said function keys by options =
+    (λ i. Some (node (Plain (WindowOp (way_of by))) (more (tree_of function.value) (children_from (order_trees by ++ expressions_read (trees_of keys) i)))))
+    ∙ ap (λ tree. Some tree) (sym (window_listed (Window function keys by options) function keys by options refl).is)
+
+-- an order that is a list
+pub order_listed : (tables : Declared) (d : Data) (rs : List Read) (r : Read) → list_as tables order_items d ≡ Some rs → order_says rs ≡ Some r → read_as tables order d ≡ Some r
+order_listed tables (array ds) rs r items says = ap (option_and_then order_says) items ∙ says
+order_listed tables _ rs r items says = cc
+
+-- an error of that list is one of the order
+order_parts : (names : List Name) (d : Data) (step : Step) → part_of (items_of names order_items) step d ≡ part_of (order_form names) step d
+order_parts names d (key word) = refl
+order_parts names d (number n) = refl
+
+pub order_error : (names : List Name) (d : Data) (error : JsonError) → None ≡ as_null d → IsErrorOf (items_of names order_items) d error → IsErrorOf (order_form names) d error
+order_error names d error none bad =
+    stricter_error (items_of names order_items) (order_form names) d
+    (λ kind h. ap (λ o. unless (shape_fault d) (is_some {T = Unit {0}} o || is_list (λ items. items_len items == length order_items) d)) (sym none) ∙ h)
+    (order_parts names d) error bad
 
 -- ---- a form by its key
 

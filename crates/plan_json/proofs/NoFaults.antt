@@ -5,7 +5,9 @@ use Rattle.plan_json.specs.declared.forms.TypeKey.TheVariants as types
 use Rattle.plan_json.specs.declared.forms.ExcludedKey.{ExcludedKey}
 use Rattle.plan_json.specs.declared.forms.ExcludedKey.TheVariants as excludes
 use Rattle.plan_dsl.specs.Sources.{Excluded, ExcludedName, ExcludedType}
-use Rattle.plan_json.specs.Forms.{excluded_read, excluded_rows}
+use Rattle.plan_json.specs.Forms.{excluded_read, excluded_rows, order, order_items, order_says}
+use Rattle.plan_json.specs.Faults.{item_part, order_form}
+use Rattle.serde_json.specs.Data.{null}
 use Rattle.plan_json.specs.Leaves.{excluded_item, keyed_excluded}
 use Rattle.plan_json.specs.declared.forms.Leaf.TheVariants as leaves
 use Rattle.plan_json.proofs.DeclarationLemmas.{is_some-table_at, each_column-all_of, table_name-read, declared_names-read}
@@ -31,6 +33,7 @@ IsOf an_excluded d = Present (excluded_item d)
 IsOf (keyed_form names kind) d = (r : (tables : Declared) × (names_of tables ≡ names) × Read) × (read_as r.0 (a_form kind) d ≡ Some r.2)
 IsOf (list_of names a) d = (r : (tables : Declared) × (names_of tables ≡ names) × Read) × (read_as r.0 (many a) d ≡ Some r.2)
 IsOf (items_of names ps) d = (r : (tables : Declared) × (names_of tables ≡ names) × List Read) × (list_as r.0 ps d ≡ Some r.2)
+IsOf (order_form names) d = (r : (tables : Declared) × (names_of tables ≡ names) × Read) × (read_as r.0 order d ≡ Some r.2)
 IsOf form d = Unit {0} × (has_shape form d ≡ true)
 
 abbrev Holds : Part → Type 0
@@ -86,6 +89,9 @@ shape (keyed_form names kind) (object (member word value no_members)) ((tables, 
     keyed (key_form names kind) word value (places_form names (asks row.0.1), ap (option_map (λ (r : List ℕ × Key). places_form names (asks r.1))) row.1)
 shape (list_of names a) (array ds) h = refl
 shape (items_of names ps) (array ds) ((tables, same, rs), e) = eq-eqb _ _ (these_count tables ps ds rs e)
+shape (order_form names) null h = refl
+shape (order_form names) (array ds) ((tables, same, r), e) =
+    let rs = chained order_says (these_as tables order_items ds) r e in eq-eqb _ _ (these_count tables order_items ds rs.0 rs.1)
 shape _ _ (x, e) = cc
 
 own : (form : Form) (d : Data) → IsOf form d → own_fault form d ≡ None
@@ -153,6 +159,14 @@ type_part (object (member word value no_members)) t e at p here =
     key_holds type_key_form word value (type_form row.0.1) (ap (option_map (λ (r : List ℕ × TypeKey). type_form r.1)) row.1) (type_key_is row.0.1 value t row.2) at p here
 type_part _ t _ at p here = cc
 
+-- the items of a list of exactly these
+these_hold : (names : List Name) (tables : Declared) → names_of tables ≡ names → (ps : List Asked) (ds : Items) (rs : List Read) → these_as tables ps ds ≡ Some rs → (n : ℕ) (p : Part) → item_part names ps n ds ≡ Some p → Holds p
+these_hold names tables same ps ds rs e n p here =
+    let found = kept (items_len ds == length ps) (option_map (λ q. part (asked_form names q.0) q.1) (both (slice_get ps n) (get_item n ds))) p here in
+    let q = mapped (λ (q : Asked × Data). part (asked_form names q.0) q.1) (both (slice_get ps n) (get_item n ds)) p found.1 in
+    let are = both_are (slice_get ps n) (get_item n ds) q.0 q.1 in
+    subst Holds q.2 (asked_is names tables same q.0.0 q.0.1 (this_read tables ps ds rs n q.0.0 q.0.1 e are.0 are.1))
+
 parts : (form : Form) (step : Step) (d : Data) → IsOf form d → (p : Part) → part_of form step d ≡ Some p → Holds p
 parts table_list (number n) (array ds) (ts, e) p here =
     let all = kept (nat_lt (items_len ds) table_limit && not (repeats (some_of table_name ds))) (all_of table_of ds) ts e in
@@ -175,11 +189,9 @@ parts a_typed_literal (number n) d (op, e) p here =
 parts (list_of names a) (number n) (array ds) ((tables, same, r), e) p here =
     let rs = mapped (λ xs. list_read a (reads_of xs)) (each_as tables a ds) r e in
     item_holds (asked_form names a) (read_as tables a) ds rs.0 n p (sym (each_as-all_of tables a ds) ∙ rs.1) (asked_is names tables same a) here
-parts (items_of names ps) (number n) (array ds) ((tables, same, rs), e) p here =
-    let found = kept (items_len ds == length ps) (option_map (λ q. part (asked_form names q.0) q.1) (both (slice_get ps n) (get_item n ds))) p here in
-    let q = mapped (λ (q : Asked × Data). part (asked_form names q.0) q.1) (both (slice_get ps n) (get_item n ds)) p found.1 in
-    let are = both_are (slice_get ps n) (get_item n ds) q.0 q.1 in
-    subst Holds q.2 (asked_is names tables same q.0.0 q.0.1 (this_read tables ps ds rs n q.0.0 q.0.1 e are.0 are.1))
+parts (items_of names ps) (number n) (array ds) ((tables, same, rs), e) p here = these_hold names tables same ps ds rs e n p here
+parts (order_form names) (number n) (array ds) ((tables, same, r), e) p here =
+    let rs = chained order_says (these_as tables order_items ds) r e in these_hold names tables same order_items ds rs.0 rs.1 n p here
 parts a_query (key word) d (q, e) p here =
     let pair = chained query_from (two_members (codes "tables") (codes "plan") d) q e in
     let tables = chained (λ ts. option_map (λ tree. record { tables = ts; plan = tree }) (plan_of ts pair.0.1)) (tables_of pair.0.0) q pair.2 in

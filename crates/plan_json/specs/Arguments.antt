@@ -2,14 +2,14 @@
 use Rattle.std.specs.Prelude.{List, [], ◌∷◌, map, take, if◌then◌else◌}
 use Rattle.plan_types.specs.Schemas.{columns}
 use Rattle.plan_types.specs.Types.{ty}
-use Rattle.plan_dsl.specs.Expressions.{excluded_of, selector_tree, selector_trees, tree_of, trees_of}
+use Rattle.plan_dsl.specs.Expressions.{excluded_of, order_trees, selector_tree, selector_trees, tree_of, trees_of, way_of}
 use Rattle.plan_dsl.specs.Literals.{literal_op}
 use Rattle.plan_dsl.specs.Plans.{plan_tree}
 use Rattle.plan_dsl.specs.declared.plan.DslPlan.{DslPlan}
-use Rattle.plan_json.specs.Forms.{Read, name_read, literal_read, operator_read, method_read, type_read, mode_read, table_read, columns_read, expression_read, selector_read, plan_read, many_read, chosen_read, leaves_read, reads_of, other_read, nothing_read, flag_read, index_read, excluded_read}
+use Rattle.plan_json.specs.Forms.{Read, name_read, literal_read, operator_read, method_read, type_read, mode_read, table_read, columns_read, expression_read, selector_read, plan_read, many_read, chosen_read, leaves_read, reads_of, other_read, nothing_read, flag_read, index_read, excluded_read, order_read}
 use Rattle.plan_json.specs.Queries.{has_flags}
 use Rattle.plan_json.specs.declared.arguments.Arg.{Arg}
-use Rattle.plan_json.specs.declared.arguments.Arg.TheVariants.{Name, Literal, Operator, Method, Dtype, Mode, Table, Columns, Nothing, Flag, Index, Excluded, Expression, Selector, Plan, Expressions, Selectors, Names, Dtypes, Flags, Indexes, AllExcluded}
+use Rattle.plan_json.specs.declared.arguments.Arg.TheVariants.{Name, Literal, Operator, Method, Dtype, Mode, Table, Columns, Nothing, Flag, Index, Excluded, Order, Expression, Selector, Plan, Expressions, Selectors, Names, Dtypes, Flags, Indexes, AllExcluded}
 use Rattle.plan_json.specs.declared.arguments.Items.{Items}
 use Rattle.plan_json.specs.declared.forms.Leaf.TheVariants as leaves
 use Rattle.plan_json.specs.declared.arguments.Args.{Args}
@@ -31,6 +31,7 @@ arg_view Nothing = nothing_read
 arg_view (Flag flag) = flag_read flag
 arg_view (Index index) = index_read index
 arg_view (Excluded excluded) = excluded_read (excluded_of excluded.value)
+arg_view (Order order) = order_read (way_of order) (order_trees order)
 arg_view (Expression expr) = expression_read (tree_of expr.value)
 arg_view (Selector selector) = selector_read (selector_tree selector.value)
 arg_view (Plan plan) = plan_seen plan.value

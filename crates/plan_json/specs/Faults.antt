@@ -9,7 +9,7 @@ use Rattle.serde_json.specs.Events.{items_len}
 use Rattle.serde_json.specs.Find.{as_str, as_array, as_bool, as_null, at, get_item}
 use Rattle.plan_types.specs.Schemas.{Name, is_among, repeats}
 use Rattle.plan_types.specs.Types.{Ty, is_counted}
-use Rattle.plan_json.specs.Forms.{Asked, a_form, leaf, many, Places, single, listed, asks, key_named, row_named, type_rows, excluded_rows}
+use Rattle.plan_json.specs.Forms.{Asked, a_form, leaf, many, order, order_items, Places, single, listed, asks, key_named, row_named, type_rows, excluded_rows}
 use Rattle.plan_json.specs.Leaves.{index_of, text_of, type_named, type_of, unit_of, literal_of, number_text_of, counted_of, number_of, operator_of, method_of, mode_of, column_name, table_name, table_limit}
 use Rattle.plan_json.specs.Looking.{both, is_float, only_member, two_members, two_items, some_of, first_items}
 use Rattle.plan_json.specs.declared.forms.Kind.{Kind}
@@ -52,6 +52,8 @@ pub data Form : Type 0 where
   list_of : List Name → Asked → Form
   -- a list of exactly these
   items_of : List Name → List Asked → Form
+  -- null, or a list of an expression and two flags
+  order_form : List Name → Form
 
 -- a part of a value: what its place asks for, and the part itself
 pub record Part : Type 0 where
@@ -102,6 +104,7 @@ abbrev pub asked_form : List Name → Asked → Form
 asked_form names (a_form kind) = keyed_form names kind
 asked_form names (leaf which) = leaf_form names which
 asked_form names (many a) = list_of names a
+asked_form names order = order_form names
 
 abbrev pub places_form : List Name → Places → Form
 places_form names (single a) = asked_form names a
@@ -179,6 +182,7 @@ has_shape an_excluded d = is_some (keyed_part excluded_key_form d)
 has_shape (keyed_form names kind) d = is_some (keyed_part (key_form names kind) d)
 has_shape (list_of names a) d = is_list (λ items. true) d
 has_shape (items_of names ps) d = is_list (λ items. items_len items == length ps) d
+has_shape (order_form names) d = is_some (as_null d) || is_list (λ items. items_len items == length order_items) d
 
 -- how a value itself breaks the form
 abbrev pub own_fault : Form → Data → Option FaultKind
@@ -241,6 +245,7 @@ part_of an_excluded (key word) d = option_and_then (part_if word) (keyed_part ex
 part_of (keyed_form names kind) (key word) d = option_and_then (part_if word) (keyed_part (key_form names kind) d)
 part_of (list_of names a) (number n) d = option_map (part (asked_form names a)) (at n d)
 part_of (items_of names ps) (number n) d = option_and_then (item_part names ps n) (as_array d)
+part_of (order_form names) (number n) d = option_and_then (item_part names order_items n) (as_array d)
 part_of _ _ d = None
 
 -- ---- faults along a path

@@ -1,15 +1,16 @@
 -- The table of forms: the keys of an object of one key, what each asks of its value, and what it says.
-use Rattle.std.specs.Prelude.{◌≡◌, ℕ, List, [], ◌∷◌, Option, Some, None, Bool, ◌&&◌, ℤ, true, false, option_map, codes, length, map, if◌then◌else◌}
+use Rattle.std.specs.Prelude.{◌≡◌, ℕ, List, [], ◌∷◌, ◌++◌, Option, Some, None, Bool, ◌&&◌, ℤ, true, false, option_map, codes, length, map, if◌then◌else◌}
 use Rattle.std.specs.Str.{bytes_eq}
 use Rattle.plan_types.specs.Schemas.{Name, Columns}
 use Rattle.plan_types.specs.Types.{Ty}
 use Rattle.plan_types.specs.declared.dtype.CastOptions.{CastOptions}
-use Rattle.plan_dsl.specs.Ops.{Op, ColumnOp, BinaryOp, CastOp, LenOp, SliceOp, ExplodeOp, GatherOp, FilterOp, SortOp, SortByOp, AliasOp}
+use Rattle.plan_dsl.specs.Ops.{Op, ColumnOp, BinaryOp, CastOp, LenOp, SliceOp, ExplodeOp, GatherOp, FilterOp, SortOp, SortByOp, AliasOp, WindowOp}
 use Rattle.plan_dsl.specs.Plans.{SourcePlan, scan_op, source_select, source_hstack, source_group_by, source_filter, source_drop}
 use Rattle.plan_dsl.specs.Sources.{Excluded, Source, Plain, WildcardOp, ColumnsOp, DtypeColumnOp, IndexColumnOp, NthOp, ExcludeOp, SelectorOp, RootOp, RenameOp, KeepRoot, AddPrefix, AddSuffix, SetName, Add, Sub, Intersect, ExclusiveOr, of_two}
 use Rattle.plan_dsl.specs.Trees.{node, no_more, more, children_from}
 use Rattle.plan_dsl.specs.declared.aggregate.GroupByMethod.{GroupByMethod}
 use Rattle.plan_dsl.specs.declared.operator.Operator.{Operator}
+use Rattle.plan_dsl.specs.declared.sort_options.SortOptions.{SortOptions}
 use Rattle.plan_dsl.specs.Expressions.{aggregated}
 use Rattle.plan_json.specs.declared.forms.Kind.{Kind}
 use Rattle.plan_json.specs.declared.forms.Kind.TheVariants as kinds
@@ -43,6 +44,8 @@ pub data Asked : Type 0 where
   leaf : Leaf → Asked
   -- a list of any number of these
   many : Asked → Asked
+  -- null, or a list of an expression and two flags
+  order : Asked
 
 -- what a key asks of its value
 pub data Places : Type 0 where
@@ -58,6 +61,10 @@ selector = a_form kinds.Selector
 
 abbrev pub plan : Asked
 plan = a_form kinds.Plan
+
+-- what an order asks for where it is no null
+abbrev pub order_items : List Asked
+order_items = expression ∷ leaf leaves.Flag ∷ leaf leaves.Flag ∷ []
 
 -- ---- expressions
 
@@ -79,6 +86,7 @@ expression_rows =
     (codes "sort_by", of.SortBy) ∷
     (codes "alias", of.Alias) ∷
     (codes "agg", of.Agg) ∷
+    (codes "over", of.Over) ∷
     (codes "cols", of.Cols) ∷
     (codes "dtypes", of.Dtypes) ∷
     (codes "at", of.At) ∷
@@ -108,6 +116,7 @@ expression_asks of.Sort = listed (expression ∷ leaf leaves.Flag ∷ leaf leave
 expression_asks of.SortBy = listed (expression ∷ many expression ∷ many (leaf leaves.Flag) ∷ many (leaf leaves.Flag) ∷ [])
 expression_asks of.Alias = listed (expression ∷ leaf leaves.Name ∷ [])
 expression_asks of.Agg = listed (leaf leaves.Method ∷ expression ∷ [])
+expression_asks of.Over = listed (expression ∷ many expression ∷ order ∷ [])
 expression_asks of.Cols = single (many (leaf leaves.Name))
 expression_asks of.Dtypes = single (many (leaf leaves.Dtype))
 expression_asks of.At = single (many (leaf leaves.Index))
@@ -197,6 +206,8 @@ mutual
     flag_read : Bool → Read
     index_read : ℤ → Read
     excluded_read : Excluded → Read
+    -- how rows are put in order, if they are, and by which expressions
+    order_read : Option SortOptions → List Source → Read
     expression_read : Source → Read
     selector_read : Source → Read
     plan_read : SourcePlan → Read
@@ -264,6 +275,15 @@ excluded_in no_read = []
 excluded_in (more_read (excluded_read excluded) rs) = excluded ∷ excluded_in rs
 excluded_in (more_read _ rs) = excluded_in rs
 
+-- no order, and one by what a list says
+abbrev pub no_order : Read
+no_order = order_read None []
+
+abbrev pub order_says : List Read → Option Read
+order_says (expression_read by ∷ flag_read descending ∷ flag_read nulls_last ∷ []) =
+    Some (order_read (Some (record { descending = descending; nulls_last = nulls_last })) (by ∷ []))
+order_says _ = None
+
 abbrev pub expression_says : ExpressionKey → List Read → Option Source
 expression_says of.Col (name_read name ∷ []) = Some (node (Plain (ColumnOp name)) no_more)
 expression_says of.Lit (literal_read op ∷ []) = Some (node (Plain op) no_more)
@@ -272,6 +292,8 @@ expression_says of.Typed (literal_read op ∷ []) = Some (node (Plain op) no_mor
 expression_says of.Bin (operator_read op ∷ expression_read left ∷ expression_read right ∷ []) =
     Some (node (Plain (BinaryOp op)) (more left (more right no_more)))
 expression_says of.Agg (method_read method ∷ expression_read input ∷ []) = Some (aggregated method input)
+expression_says of.Over (expression_read function ∷ many_read keys ∷ order_read way by ∷ []) =
+    Some (node (Plain (WindowOp way)) (more function (children_from (by ++ expressions_in keys))))
 expression_says of.Cast (expression_read operand ∷ type_read type ∷ mode_read mode ∷ []) =
     Some (node (Plain (CastOp type mode)) (more operand no_more))
 expression_says of.Len (nothing_read ∷ []) = Some (node (Plain LenOp) no_more)
@@ -369,6 +391,7 @@ abbrev mutual
   fits (leaf leaves.Flag) (flag_read flag) = true
   fits (leaf leaves.Index) (index_read index) = true
   fits (leaf leaves.Excluded) (excluded_read excluded) = true
+  fits order (order_read way by) = true
   fits (many (leaf leaves.Name)) (leaves_read leaves.Name rs) = all_fit (leaf leaves.Name) rs
   fits (many (leaf leaves.Dtype)) (leaves_read leaves.Dtype rs) = all_fit (leaf leaves.Dtype) rs
   fits (many (leaf leaves.Flag)) (leaves_read leaves.Flag rs) = all_fit (leaf leaves.Flag) rs
@@ -416,6 +439,7 @@ place_view (places.Form kind) = a_form kind
 place_view (places.Leaf which) = leaf which
 place_view places.Expressions = many expression
 place_view places.Selectors = many selector
+place_view places.Order = order
 place_view (places.Leaves which) = many (leaf (listed_leaf which))
 
 abbrev pub places_view : CodePlaces → Places

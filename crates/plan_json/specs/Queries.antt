@@ -5,7 +5,7 @@ use Rattle.serde_json.specs.Data.{Data, array, object, Items, no_items, item, no
 use Rattle.plan_dsl.specs.Plans.{SourcePlan, plan_tree}
 use Rattle.plan_dsl.specs.declared.plan.DslPlan.{DslPlan}
 use Rattle.plan_dsl.specs.declared.plan.DslPlan.TheVariants.{DataFrameScan, Filter', GroupBy', HStack', MapFunction', Select'}
-use Rattle.plan_json.specs.Forms.{Asked, a_form, leaf, many, Places, single, listed, plan, Read, name_read, literal_read, operator_read, method_read, type_read, mode_read, table_read, columns_read, plan_read, list_read, reads_of, key_named, asks, says, nothing_read, flag_read, index_read, excluded_read, Fits}
+use Rattle.plan_json.specs.Forms.{Asked, a_form, leaf, many, order, order_items, order_says, no_order, Places, single, listed, plan, Read, name_read, literal_read, operator_read, method_read, type_read, mode_read, table_read, columns_read, plan_read, list_read, reads_of, key_named, asks, says, nothing_read, flag_read, index_read, excluded_read, Fits}
 use Rattle.plan_json.specs.Leaves.{excluded_item, index_of, text_of, literal_of, number_text_of, typed_of, operator_of, method_of, type_of, mode_of, table_at, columns_of, tables_of}
 use Rattle.plan_json.specs.Looking.{both, two_members}
 use Rattle.plan_json.specs.Tables.{Declared, declared}
@@ -26,6 +26,10 @@ query_model query = record { tables = declared query.tables; plan = plan_tree qu
 -- null says nothing
 abbrev pub nothing_of : Data → Option Read
 nothing_of d = option_map (λ none. nothing_read) (as_null d)
+
+-- and puts nothing in order
+abbrev pub order_of_null : Data → Option Read
+order_of_null d = option_map (λ none. no_order) (as_null d)
 
 abbrev pub leaf_of : Declared → Leaf → Data → Option Read
 leaf_of tables leaves.Name d = option_map name_read (text_of d)
@@ -58,6 +62,8 @@ abbrev mutual
       option_and_then (λ row. option_and_then (says row.1) (given (asks row.1) (λ a. read_as tables a value) (λ ps. list_as tables ps value))) (key_named kind word)
   read_as tables (leaf which) d = leaf_of tables which d
   read_as tables (many a) (array ds) = option_map (λ rs. list_read a (reads_of rs)) (each_as tables a ds)
+  read_as tables order (array ds) = option_and_then order_says (these_as tables order_items ds)
+  read_as tables order d = order_of_null d
   read_as tables _ _ = None
 
   -- a list of exactly these

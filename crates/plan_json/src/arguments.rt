@@ -1,12 +1,12 @@
 //! What is read of a key's value, item by item, and taking it apart again.
-ghost use Rattle.std.specs.Prelude.{◌≡◌, ◌∷◌, [], false, length, map};
-ghost use Rattle.plan_dsl.specs.Expressions.{excluded_of, selector_tree, selector_trees, tree_of, trees_of};
+ghost use Rattle.std.specs.Prelude.{◌≡◌, ◌∷◌, [], false, length, map, Some};
+ghost use Rattle.plan_dsl.specs.Expressions.{excluded_of, order_trees, selector_tree, selector_trees, tree_of, trees_of, way_of};
 ghost use Rattle.plan_dsl.specs.Literals.{literal_op};
 ghost use Rattle.plan_dsl.specs.Plans.{plan_tree};
 ghost use Rattle.plan_types.specs.Schemas.{columns};
 ghost use Rattle.plan_types.specs.Types.{ty};
-ghost use Rattle.plan_json.specs.Arguments.{arg_view, args_view};
-ghost use Rattle.plan_json.specs.Forms.{AllFit, Asked, Fits, chosen_read, columns_read, expression, expression_read, leaf, leaves_read, literal_read, many, many_read, method_read, mode_read, name_read, operator_read, plan, plan_read, reads_of, selector, selector_read, table_read, type_read, nothing_read, flag_read, index_read, excluded_read};
+ghost use Rattle.plan_json.specs.Arguments.{arg_view, args_view, items_seen};
+ghost use Rattle.plan_json.specs.Forms.{AllFit, Asked, Fits, chosen_read, columns_read, expression, expression_read, leaf, leaves_read, literal_read, many, many_read, method_read, mode_read, name_read, operator_read, order, order_items, order_read, order_says, plan, plan_read, reads_of, selector, selector_read, table_read, type_read, nothing_read, flag_read, index_read, excluded_read};
 ghost use Rattle.plan_json.specs.Queries.{has_flags};
 ghost use Rattle.plan_json.specs.declared.forms.Leaf.TheVariants as leaves;
 
@@ -17,7 +17,7 @@ use plan_dsl::marker::Excluded;
 use plan_dsl::operator::Operator;
 use plan_dsl::plan::DslPlan;
 use plan_dsl::selector::{Selector, Selectors};
-use plan_dsl::sort_options::Flags;
+use plan_dsl::sort_options::{Flags, SortOptions};
 use plan_types::dtype::{CastOptions, DataType};
 use plan_types::schema::Schema;
 use plan_types::text::PlSmallStr;
@@ -37,6 +37,7 @@ pub(crate) enum Arg {
     Flag(bool),
     Index(i64),
     Excluded(Box<Excluded>),
+    Order(Option<(Box<Expr>, SortOptions)>),
     Expression(Box<Expr>),
     Selector(Box<Selector>),
     Plan(Box<DslPlan>),
@@ -305,6 +306,31 @@ pub(crate) fn index(arg: Arg) -> i64
         Arg::Index(index) => index,
         _ => unreachable!(),
     }
+}
+
+// How rows are put in order, and by which expression, if they are.
+pub(crate) fn order(arg: Arg) -> Option<(Box<Expr>, SortOptions)>
+    requires { Fits order (arg_view arg) }
+    ensures { arg_view arg ≡ order_read (way_of result) (order_trees result) }
+{
+    match arg {
+        Arg::Order(order) => order,
+        _ => unreachable!(),
+    }
+}
+
+// The order that a list says.
+pub(crate) fn listed_order(items: Items) -> Arg
+    requires { AllFit order_items (items_seen items) }
+    ensures says { order_says (items_seen items) ≡ Some (arg_view result) }
+    ensures fit { Fits order (arg_view result) }
+{
+    let (by, descending, nulls_last) = three(Args::Listed(items));
+    let options = SortOptions {
+        descending: flag(descending),
+        nulls_last: flag(nulls_last),
+    };
+    Arg::Order(Some((expression(by), options)))
 }
 
 pub(crate) fn expression(arg: Arg) -> Box<Expr>

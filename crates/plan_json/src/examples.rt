@@ -5,6 +5,7 @@ pub mod aggregates;
 pub mod errors;
 pub mod faults;
 pub mod markers;
+pub mod windows;
 
 ghost use Rattle.std.specs.Prelude.{◌≡◌, pos, [], ◌∷◌, Some, None, codes, nat_lt, true, false, ℕ, ℤ, negsuc, Float, List};
 ghost use Rattle.plan_types.specs.Types.{NullType, Truth, Integer, TextType, DateType, TimeType, DatetimeType, DurationType, ListType, StructType, no_field, with_field, Untyped};
@@ -182,6 +183,7 @@ pub fn text_examples()
         ("{\"tables\":[],\"plan\":{\"scan\":\"t\"}}", BadName, "/plan/scan") ∷ ("{\"tables\":[],\"plan\":{\"filter\":[{\"empty\":[]},{\"lit\":1.5}]}}", BadFloat, "/plan/filter/1/lit") ∷
         ("{\"tables\":[],\"plan\":{\"scan\":18446744073709551616}}", BadFloat, "/plan/scan") ∷ ("{\"tables\":[],\"plan\":{\"scan\":-9223372036854775809}}", BadFloat, "/plan/scan") ∷
         ("{\"tables\":[],\"plan\":{\"filter\":[{\"empty\":[]},{\"exclude\":[{\"all\":null},[{\"name\":null}]]}]}}", BadShape, "/plan/filter/1/exclude/1/0/name") ∷
+        ("{\"tables\":[],\"plan\":{\"filter\":[{\"empty\":[]},{\"over\":[{\"len\":null},[],[{\"len\":null},true,0]]}]}}", BadShape, "/plan/filter/1/over/2/2") ∷
         ("{\"tables\":[],\"plan\":{\"scan\":-0}}", BadFloat, "/plan/scan") ∷ ("{\"tables\":[],\"plan\":{\"scan\":0}}", BadShape, "/plan/scan") ∷ []) }
     ensures no_json { Each NoJson ("{\"tables\":[" ∷ "{\"tables\":[],\"plan\":{\"scan\":1e400}}" ∷ "" ∷ "{\"tables\":[],\"plan\":{\"empty\":[]}}," ∷ []) }
     ensures other_value { (query : QueryModel) → ¬ (WritesQuery (codes "[]") query) }

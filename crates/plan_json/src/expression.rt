@@ -7,13 +7,15 @@ ghost use Rattle.plan_json.specs.declared.forms.ExpressionKey.TheVariants as of;
 
 use super::arguments::{
     Args, digits, dtype, dtypes, excluded, expression, expressions, flag, flags, four, index,
-    indexes, method, mode, name, names, nothing, one, operator, selector, three, two, typed, value,
+    indexes, method, mode, name, names, nothing, one, operator, order, selector, three, two, typed,
+    value,
 };
 use super::forms::ExpressionKey;
 use plan_dsl::aggregate::AggExpr;
 use plan_dsl::expr::Expr;
 use plan_dsl::marker::RenameAliasFn;
 use plan_dsl::sort_options::{SortMultipleOptions, SortOptions};
+use plan_dsl::window::WindowType;
 
 // The expression of that key.
 pub(crate) fn assemble_expression(key: ExpressionKey, args: Args) -> Expr
@@ -39,6 +41,7 @@ pub(crate) fn assemble_expression(key: ExpressionKey, args: Args) -> Expr
         ExpressionKey::SortBy => sort_by(args),
         ExpressionKey::Alias => alias(args),
         ExpressionKey::Agg => agg(args),
+        ExpressionKey::Over => over(args),
         ExpressionKey::Cols => cols(args),
         ExpressionKey::Dtypes => dtype_columns(args),
         ExpressionKey::At => at(args),
@@ -185,6 +188,19 @@ fn agg(args: Args) -> Expr
 {
     let (made, input) = two(args);
     Expr::Agg(AggExpr::of(method(made), expression(input)))
+}
+
+fn over(args: Args) -> Expr
+    requires { AllFit (asked_in (expression_asks of.Over)) (args_view args) }
+    ensures { expression_says of.Over (args_view args) ≡ Some (tree_of result) }
+{
+    let (function, keys, by) = three(args);
+    Expr::Window {
+        function: expression(function),
+        partition_by: expressions(keys),
+        order_by: order(by),
+        options: WindowType::GroupsToRows,
+    }
 }
 
 fn alias(args: Args) -> Expr

@@ -2,7 +2,7 @@
 ghost use Rattle.std.specs.Prelude.{◌≡◌, ◌≤◌, IfSome, length, map};
 ghost use Rattle.std.specs.Option.{option_map};
 ghost use Rattle.plan_json.specs.Errors.{escaped};
-ghost use Rattle.plan_json.specs.Forms.{asked_in, asks, excluded_rows, expression_asks, expression_rows, key_named, kind_of, places_view, plan_asks, plan_rows, row_named, selector_asks, selector_rows, type_rows};
+ghost use Rattle.plan_json.specs.Forms.{asked_in, asks, excluded_rows, expression_asks, expression_rows, key_named, kind_of, order_items, place_view, places_view, plan_asks, plan_rows, row_named, selector_asks, selector_rows, type_rows};
 
 // What an object of one key can be.
 #[derive(Clone, Copy)]
@@ -63,6 +63,8 @@ pub(crate) enum Place {
     Expressions,
     // A list of any number of selectors.
     Selectors,
+    // Null, or a list of an expression and two flags.
+    Order,
     // A list of any number of these.
     Leaves(ListLeaf),
 }
@@ -91,6 +93,7 @@ pub(crate) enum ExpressionKey {
     SortBy,
     Alias,
     Agg,
+    Over,
     Cols,
     Dtypes,
     At,
@@ -155,6 +158,8 @@ const SELECTOR: Place = Place::Form(Kind::Selector);
 
 const SELECTORS: Place = Place::Selectors;
 
+const ORDER: Place = Place::Order;
+
 const NAMES: Place = Place::Leaves(ListLeaf::Name);
 
 const DTYPES: Place = Place::Leaves(ListLeaf::Dtype);
@@ -194,7 +199,7 @@ const FLAG: Place = Place::Leaf(Leaf::Flag);
 const INDEX: Place = Place::Leaf(Leaf::Index);
 
 // A word is looked for from the first row on, so common ones stand in front.
-const EXPRESSION_ROWS: [(&'static str, ExpressionKey); 26] = [
+const EXPRESSION_ROWS: [(&'static str, ExpressionKey); 27] = [
     ("col", ExpressionKey::Col),
     ("bin", ExpressionKey::Bin),
     ("lit", ExpressionKey::Lit),
@@ -210,6 +215,7 @@ const EXPRESSION_ROWS: [(&'static str, ExpressionKey); 26] = [
     ("sort_by", ExpressionKey::SortBy),
     ("alias", ExpressionKey::Alias),
     ("agg", ExpressionKey::Agg),
+    ("over", ExpressionKey::Over),
     ("cols", ExpressionKey::Cols),
     ("dtypes", ExpressionKey::Dtypes),
     ("at", ExpressionKey::At),
@@ -349,6 +355,14 @@ pub(crate) fn find_excluded(word: &str) -> Option<(&'static str, ExcludedKey)>
     }
 }
 
+// What an order asks for where it is no null.
+pub(crate) fn order_places() -> &'static [Place]
+    ensures asks { map place_view result.now ≡ order_items }
+    ensures short { length result.now ≤ 4 }
+{
+    &[EXPRESSION, FLAG, FLAG]
+}
+
 // What the key asks of its value.
 pub(crate) fn places_of(key: Key) -> Places
     ensures asks { places_view result ≡ asks key }
@@ -372,6 +386,7 @@ fn expression_places(key: ExpressionKey) -> Places
         ExpressionKey::Typed => Places::One(TYPED),
         ExpressionKey::Bin => Places::Listed(&[OPERATOR, EXPRESSION, EXPRESSION]),
         ExpressionKey::Agg => Places::Listed(&[METHOD, EXPRESSION]),
+        ExpressionKey::Over => Places::Listed(&[EXPRESSION, EXPRESSIONS, ORDER]),
         ExpressionKey::Cast => Places::Listed(&[EXPRESSION, DTYPE, MODE]),
         ExpressionKey::Len => Places::One(NOTHING),
         ExpressionKey::Slice => Places::Listed(&[EXPRESSION, EXPRESSION, EXPRESSION]),

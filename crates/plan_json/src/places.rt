@@ -6,19 +6,21 @@ ghost use Rattle.plan_dsl.specs.Expressions.{selector_trees, trees_of};
 ghost use Rattle.plan_types.specs.Schemas.{columns, names_of};
 ghost use Rattle.plan_json.specs.Arguments.{arg_view, args_view, items_seen};
 ghost use Rattle.plan_json.specs.Errors.{IsErrorOf, IsListErrorOf};
-ghost use Rattle.plan_json.specs.Faults.{asked_form, a_scan, items_of, keyed_form, leaf_form, places_form, nothing_form};
-ghost use Rattle.plan_json.specs.Forms.{AllFit, Fits, a_form, asked_in, asks, expression, expression_read, kind_of, leaf, listed_leaf, chosen_read, many, many_read, place_view, places_view, reads_of, says, selector, selector_read, nothing_read};
+ghost use Rattle.plan_json.specs.Faults.{asked_form, a_scan, items_of, keyed_form, leaf_form, order_form, places_form, nothing_form};
+ghost use Rattle.plan_json.specs.Forms.{AllFit, Fits, a_form, asked_in, asks, expression, expression_read, kind_of, leaf, listed_leaf, chosen_read, many, many_read, order, place_view, places_view, reads_of, says, selector, selector_read, nothing_read};
 ghost use Rattle.plan_json.specs.Leaves.{table_at, text_of};
 ghost use Rattle.plan_json.specs.Queries.{IsItem, leaf_of, list_as, places_as, read_as, these_as, nothing_of};
 ghost use Rattle.plan_json.specs.Tables.{Declared, declared};
 
-use super::arguments::{Arg, Args, Items, discard, expression, selector};
+use super::arguments::{Arg, Args, Items, discard, expression, listed_order, selector};
 use super::columns::read_columns;
 use super::dtype::{read_text, read_type};
 use super::error::{JsonError, Step};
 use super::excluded::read_excluded;
 use super::expression::assemble_expression;
-use super::forms::{ExpressionKey, Key, Kind, Leaf, ListLeaf, Place, Places, find_key, places_of};
+use super::forms::{
+    ExpressionKey, Key, Kind, Leaf, ListLeaf, Place, Places, find_key, order_places, places_of,
+};
 use super::lists::{read_flag, read_index, read_list};
 use super::literal::{read_literal, read_number_text, read_typed};
 use super::method::read_method;
@@ -273,6 +275,10 @@ fn read_place(alloc: Global, tables: &Tables, place: Place, value: &Value) -> Re
             )
         }
         Place::Selectors => { boxed!(alloc, read_selectors(alloc, tables, value), Arg::Selectors) }
+        Place::Order => match read_order(alloc, tables, value) {
+            Ok(arg) => Ok(arg),
+            Err(error) => Err(error),
+        },
         Place::Leaves(which) => match read_leaves(alloc, which, value) {
             Ok(arg) => Ok(arg),
             Err(error) => Err(error),
@@ -294,6 +300,24 @@ fn read_leaves(alloc: Global, which: ListLeaf, value: &Value) -> Result<Arg, Jso
         ListLeaf::Flag => boxed!(alloc, read_list(alloc, value), Arg::Flags),
         ListLeaf::Index => boxed!(alloc, read_list(alloc, value), Arg::Indexes),
         ListLeaf::Excluded => boxed!(alloc, read_list(alloc, value), Arg::AllExcluded),
+    }
+}
+
+// Null, or a list of an expression and two flags.
+#[cycle(forms)]
+#[inline(never)]
+#[tactic(auto, using(crate::proofs::FormLemmas::order_listed, crate::proofs::FormLemmas::order_error))]
+fn read_order(alloc: Global, tables: &Tables, value: &Value) -> Result<Arg, JsonError>
+    ensures ok { IfOk result (λ arg. read_as (declared tables.now) order (view value.now) ≡ Some (arg_view arg)) }
+    ensures fit { IfOk result (λ arg. Fits order (arg_view arg)) }
+    ensures err { IfErr result (IsErrorOf (order_form (names_of (declared tables.now))) (view value.now)) }
+{
+    match value.as_null() {
+        Some(()) => Ok(Arg::Order(None)),
+        None => match read_listed(alloc, tables, order_places(), value) {
+            Ok(items) => Ok(listed_order(items)),
+            Err(error) => Err(error),
+        },
     }
 }
 

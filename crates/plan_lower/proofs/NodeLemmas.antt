@@ -1,7 +1,7 @@
 -- Nodes that lowering adds.
 use Rattle.std.proofs.Common.{◌≡◌, ◌≢◌, ℕ, Bool, true, refl, ◌≤◌, List, [], ◌∷◌, ◌++◌, length, map, sym, ap, ◌∙◌, subst, arith, append-nil, append_assoc}
 use Rattle.std.specs.List.{AllByRecursion, list_all}
-use Rattle.std.proofs.lemmas.Bool.{and_parts}
+use Rattle.std.proofs.lemmas.Bool.{and_from, and_parts}
 use Rattle.std.proofs.lemmas.List.{map-append}
 use Rattle.plan_dsl.specs.Aliases.{all_pruned, inputs_pruned, pruned}
 use Rattle.plan_dsl.specs.Expressions.{plain_tree, tree_of}
@@ -106,6 +106,20 @@ unwritten_listed {tree} {op} {first} exprs listed =
     let rest = all_unwritten_from (map tree_of exprs) ∙ ap children_from (map-map unwritten tree_of exprs) in
     ap unwritten listed.is ∙ ap (λ others. node op (more (unwritten first) others)) rest
 
+-- the same of a list in two parts
+pub unwritten_both : {tree : Source} {op : Op} {first : Source} (orders : List Source) (exprs : List Expr) → IsListed tree (Plain op) first (orders ++ map tree_of exprs)
+    → unwritten tree ≡ node op (more (unwritten first) (children_from (map unwritten orders ++ map plain_tree exprs)))
+unwritten_both {tree} {op} {first} orders exprs listed =
+    let parts = map-append unwritten orders (map tree_of exprs) ∙ ap (λ l. map unwritten orders ++ l) (map-map unwritten tree_of exprs) in
+    ap unwritten listed.is ∙ ap (λ others. node op (more (unwritten first) others)) (all_unwritten_from (orders ++ map tree_of exprs) ∙ ap children_from parts)
+
+pub both_plain : (orders keys : List Source) → list_all is_plain (orders ++ keys) ≡ true → (list_all is_plain orders ≡ true) × (list_all is_plain keys ≡ true)
+both_plain [] keys plain = (refl, plain)
+both_plain (order ∷ orders) keys plain =
+    let parts = and_parts (is_plain order) (list_all is_plain (orders ++ keys)) plain in
+    let rest = both_plain orders keys parts.1 in
+    (and_from (is_plain order) (list_all is_plain orders) parts.0 rest.0, rest.1)
+
 -- ---- expressions that are added one after the other
 
 -- each of some that have plans' ops alone has
@@ -151,3 +165,17 @@ pub over_listed : (old mid last : List AExpr) (tree : Expression) (item : AExpr)
 over_listed old mid last tree item n ns t ts is listed first grows rest later =
     let all : DenoteAll (HoldsFrom (length old) last) (n ∷ ns) (more t ts) = (tree_grown (length old) (length old) mid last (omega arith) later n t first, all_grown (length mid) (length old) last last ns ts (length-grown old mid grows) (nothing_added last) rest) in
     record { operands = more t ts; is = is; denote = subst (λ inputs. DenoteAll (HoldsFrom (length old) last) inputs (more t ts)) (sym listed) all }
+
+-- one over an input, and two lists of inputs that were added one after the other
+both_denote : (first : ℕ) (keep : Bool) (items : List AExpr) (ns ms : List ℕ) (xs ys : List Expression) → DenoteAll (HoldsFrom first items) ns (all_pruned keep (children_from xs)) → DenoteAll (HoldsFrom first items) ms (all_pruned keep (children_from ys)) → DenoteAll (HoldsFrom first items) (ns ++ ms) (all_pruned keep (children_from (xs ++ ys)))
+both_denote first keep items [] ms [] ys d e = e
+both_denote first keep items (n ∷ ns) ms (x ∷ xs) ys d e = (d.0, both_denote first keep items ns ms xs ys d.1 e)
+both_denote first keep items [] ms (x ∷ xs) ys d e = absurd d
+both_denote first keep items (n ∷ ns) ms [] ys d e = absurd d
+
+pub over_both : (keep : Bool) (old mid later last : List AExpr) (tree : Expression) (item : AExpr) (n : ℕ) (ns ms : List ℕ) (t : Expression) (xs ys : List Expression) → tree ≡ node (op_of (expression_layer item)) (more t (all_pruned keep (children_from (xs ++ ys)))) → inputs_of (expression_layer item) ≡ n ∷ (ns ++ ms)
+    → Denotes (HoldsFrom (length old) mid) n t → Grows old mid → DenoteAll (HoldsFrom (length mid) later) ns (all_pruned keep (children_from xs)) → Grows mid later → DenoteAll (HoldsFrom (length later) last) ms (all_pruned keep (children_from ys)) → Grows later last → IsItemOf (length old) last tree item
+over_both keep old mid later last tree item n ns ms t xs ys is listed first grows orders more_grow keys rest_grow =
+    let front = all_grown (length mid) (length mid) later last ns (all_pruned keep (children_from xs)) (omega arith) rest_grow orders in
+    let back = all_grown (length later) (length mid) last last ms (all_pruned keep (children_from ys)) (length-grown mid later more_grow) (nothing_added last) keys in
+    over_listed old mid last tree item n (ns ++ ms) t (all_pruned keep (children_from (xs ++ ys))) is listed first grows (both_denote (length mid) keep last ns ms xs ys front back) (grows_then mid later last more_grow rest_grow)

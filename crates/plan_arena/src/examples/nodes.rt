@@ -13,13 +13,14 @@ ghost use Rattle.plan_dsl.specs.declared.literal.LiteralValue.TheVariants.{Int, 
 ghost use Rattle.plan_dsl.specs.declared.operator.Operator.TheVariants.{Plus};
 ghost use Rattle.plan_dsl.specs.declared.plan.ProjectionOptions.{ProjectionOptions};
 ghost use Rattle.plan_dsl.specs.declared.sort_options.SortMultipleOptions.{SortMultipleOptions};
+ghost use Rattle.plan_dsl.specs.declared.window.WindowType.TheVariants.{GroupsToRows};
 ghost use Rattle.plan_dsl.specs.Trees.{node, no_more, more};
 ghost use Rattle.plan_dsl.specs.Names.{FromField, FromNothing, alias_label, column_label, literal_label};
-ghost use Rattle.plan_dsl.specs.Ops.{ColumnOp, LiteralOp, BinaryOp, CastOp, LenOp, SliceOp, AliasOp, ExplodeOp, GatherOp, FilterOp, SortOp, SortByOp, Expression};
+ghost use Rattle.plan_dsl.specs.Ops.{ColumnOp, LiteralOp, BinaryOp, CastOp, LenOp, SliceOp, AliasOp, ExplodeOp, GatherOp, FilterOp, SortOp, SortByOp, WindowOp, Expression};
 ghost use Rattle.plan_dsl.specs.Plans.{FilterKind, GroupByKind, HStackKind, Named, RefusedKind, ScanKind, SelectKind, named, scan_op, select_op, hstack_op, group_by_op, simple_projection_op, filter_op, DropKind, SimpleProjectionKind};
-ghost use Rattle.plan_dsl.specs.Samples.{Gives, GivesOfTwo, int8, int32, a, alias, b, cast_as, column, count, keep, literal, slice, sort_by, sum, typed_literal, way, schema_ab};
+ghost use Rattle.plan_dsl.specs.Samples.{Gives, GivesOfTwo, int8, int32, a, alias, b, cast_as, column, count, keep, literal, over, over_by, slice, sort_by, sum, typed_literal, way, schema_ab};
 ghost use Rattle.plan_arena.specs.declared.aexpr.AExpr.{AExpr};
-ghost use Rattle.plan_arena.specs.declared.aexpr.AExpr.TheVariants.{Column, Literal, BinaryExpr, Cast, Len, Slice, Alias, Explode, Gather, Filter as FilterBy, Sort, SortBy};
+ghost use Rattle.plan_arena.specs.declared.aexpr.AExpr.TheVariants.{Column, Literal, BinaryExpr, Cast, Len, Slice, Alias, Explode, Gather, Filter as FilterBy, Sort, SortBy, Window};
 ghost use Rattle.plan_arena.specs.declared.arena.Node.{Node};
 ghost use Rattle.plan_arena.specs.declared.inputs.NodeList.{NodeList};
 ghost use Rattle.plan_arena.specs.declared.expr_ir.ExprIR.{ExprIR};
@@ -30,7 +31,7 @@ ghost use Rattle.plan_arena.specs.declared.ir.IR.TheVariants.{DataFrameScan, Fil
 ghost use Rattle.plan_arena.specs.declared.plan.IRPlan.{IRPlan};
 ghost use Rattle.plan_arena.specs.Layers.{layer, op_of, inputs_of, shape_of};
 ghost use Rattle.plan_arena.specs.Denotation.{Denotes, DenotesTree, depth_at, greatest, inputs_at};
-ghost use Rattle.plan_arena.specs.Items.{expression_layer, kind_text, output_label, named_node, node_name, plan_layer, DenoteNamed, DenotesItem, DenotesKind, DenotesPlan, Grows, HasInputs, HoldsExpression, HoldsFrom, HoldsPlan, Rewired};
+ghost use Rattle.plan_arena.specs.Items.{expression_layer, kind_text, output_label, named_node, node_name, ordered, ordering, passed, plan_layer, DenoteNamed, DenotesItem, DenotesKind, DenotesPlan, Grows, HasInputs, HoldsExpression, HoldsFrom, HoldsPlan, Rewired};
 ghost use Rattle.plan_arena.specs.NamedNodes.{same_named};
 ghost use Rattle.plan_arena.specs.Samples.{a_at, circle, literal_at, named_at, node_at, strict_sum, sum_items, wide_a};
 
@@ -50,6 +51,10 @@ pub fn layers_of_items()
         expression_layer (SortBy (node_at 4) by options) ≡ layer (SortByOp (true ∷ false ∷ []) (true ∷ [])) (4 ∷ 2 ∷ 7 ∷ []) }
     ensures sort_by_nothing { (by : NodeList) (options : SortMultipleOptions) → by.items.items ≡ [] →
         inputs_of (expression_layer (SortBy (node_at 4) by options)) ≡ 4 ∷ [] }
+    ensures window { (keys : NodeList) → keys.items.items ≡ node_at 2 ∷ node_at 7 ∷ [] →
+        expression_layer (Window (node_at 4) keys None GroupsToRows) ≡ layer (WindowOp None) (4 ∷ 2 ∷ 7 ∷ []) }
+    ensures ordered_window { (keys : NodeList) → keys.items.items ≡ node_at 2 ∷ node_at 7 ∷ [] →
+        expression_layer (Window (node_at 4) keys (Some (node_at 5, way true false)) GroupsToRows) ≡ layer (WindowOp (Some (way true false))) (4 ∷ 5 ∷ 2 ∷ 7 ∷ []) }
     ensures plans { (schema : Schema) → Gives plan_layer ((DataFrameScan (Some 2) schema, layer (scan_op (Some 2) (columns schema)) [])
         ∷ (DataFrameScan None schema, layer (scan_op None (columns schema)) []) ∷ (Filter (node_at 5) (a_at 3), layer (filter_op (named_at "a" 3)) (5 ∷ []))
         ∷ (SimpleProjection (node_at 5) schema, layer (simple_projection_op (columns schema) (Some (columns schema))) (5 ∷ []))
@@ -82,6 +87,17 @@ pub fn parts_of_layers()
     ensures greatest { map (greatest (λ n. n)) ([] ∷ (7 ∷ []) ∷ (3 ∷ 5 ∷ 1 ∷ []) ∷ []) ≡ 0 ∷ 7 ∷ 5 ∷ [] }
 {}
 
+/// Passes go over inputs in their own order, but over what a window's rows are ordered by behind its keys.
+pub fn inputs_of_passes()
+    ensures layers { Gives passed ((layer (WindowOp (Some (way true false))) (4 ∷ 5 ∷ 2 ∷ 7 ∷ []), 4 ∷ 2 ∷ 7 ∷ 5 ∷ []) ∷
+        (layer (WindowOp None) (4 ∷ 5 ∷ 2 ∷ 7 ∷ []), 4 ∷ 5 ∷ 2 ∷ 7 ∷ []) ∷ (layer (WindowOp (Some (way true false))) (4 ∷ 5 ∷ []), 4 ∷ 5 ∷ []) ∷
+        (layer SliceOp (4 ∷ 2 ∷ 7 ∷ []), 4 ∷ 2 ∷ 7 ∷ []) ∷ (layer LenOp [], []) ∷ []) }
+    ensures window { (keys : NodeList) → keys.items.items ≡ node_at 2 ∷ node_at 7 ∷ [] →
+        passed (expression_layer (Window (node_at 4) keys (Some (node_at 5, way true false)) GroupsToRows)) ≡ 4 ∷ 2 ∷ 7 ∷ 5 ∷ [] }
+    ensures order { map ordering (None ∷ Some (node_at 5, way true false) ∷ []) ≡ [] ∷ (5 ∷ []) ∷ [] }
+    ensures way { map ordered (None ∷ Some (node_at 5, way true false) ∷ []) ≡ None ∷ Some (way true false) ∷ [] }
+{}
+
 /// A node denotes the tree that its item and those of its inputs make.
 pub fn expressions_of_nodes()
     ensures column { Denotes (HoldsExpression sum_items) 0 a }
@@ -96,6 +112,11 @@ pub fn expressions_of_nodes()
     ensures other_keys { (by : NodeList) (options : SortMultipleOptions) → by.items.items ≡ node_at 1 ∷ node_at 0 ∷ [] →
         AllByRecursion {X = List Expression} (λ keys. ¬ (Denotes (HoldsExpression (Column (codes "a") ∷ Len ∷ SortBy (node_at 0) by options ∷ [])) 2
         (sort_by options.descending.items.value.items options.nulls_last.items.value.items keys a))) ((a ∷ count ∷ []) ∷ (count ∷ []) ∷ (count ∷ a ∷ a ∷ []) ∷ []) }
+    ensures window { (keys : NodeList) → keys.items.items ≡ node_at 1 ∷ [] →
+        Denotes (HoldsExpression (Column (codes "a") ∷ Len ∷ Window (node_at 0) keys None GroupsToRows ∷ [])) 2 (over (count ∷ []) a) }
+    ensures ordered_window { (keys : NodeList) → keys.items.items ≡ node_at 1 ∷ [] →
+        Denotes (HoldsExpression (Column (codes "a") ∷ Len ∷ Window (node_at 1) keys (Some (node_at 0, way true false)) GroupsToRows ∷ [])) 2
+        (over_by (way true false) a (count ∷ []) count) }
     ensures others { AllByRecursion {X = ℕ × Expression} (λ c. ¬ (Denotes (HoldsExpression sum_items) c.0 c.1)) ((1, a) ∷ (3, sum a b) ∷ (3, sum b wide_a) ∷ (4, a) ∷ []) }
     ensures circle { ¬ (DenotesTree (HoldsExpression circle) 0) }
 {}

@@ -1,7 +1,8 @@
-use Rattle.std.proofs.Common.{sym, ◌∙◌}
-use Rattle.plan_dsl.proofs.ExprLemmas.{excludes_apart, excludes_compared, exprs_apart, listed_compared, sort_by_listed, types_compared}
+use Rattle.std.proofs.Common.{◌&&◌, sym, ◌∙◌}
+use Rattle.plan_dsl.specs.Expressions.{trees_of}
+use Rattle.plan_dsl.proofs.ExprLemmas.{excludes_apart, excludes_compared, exprs_apart, listed_compared, sort_by_listed, types_compared, window_listed, windows_compared}
 use Rattle.plan_dsl.proofs.+same_exprs.Goals as goal
-use Rattle.plan_dsl.proofs.+same_exprs.Goals.{expr::Expr::is_same-then-eq-5, expr::Expr::is_same-else-eq-5}
+use Rattle.plan_dsl.proofs.+same_exprs.Goals.{expr::Expr::is_same-then-eq-5, expr::Expr::is_same-else-eq-5, expr::Expr::is_same-then-is_same_order, expr::Expr::is_same-else-is_same_order}
 
 pub expr::Expr::is_same-returns-then-is_same-6 : goal.expr::Expr::is_same-returns-then-is_same-6
 expr::Expr::is_same-returns-then-is_same-6 t c =
@@ -30,3 +31,15 @@ pub expr::Expr::is_same-returns-else-eq-8 : goal.expr::Expr::is_same-returns-els
 expr::Expr::is_same-returns-else-eq-8 t c =
     let kind = c.in-Exclude-Exclude in
     c.if-eq-8.false ∙ excludes_apart kind.marker kind.own kind.excluded kind.own_excluded kind.is-0 kind.is-1 (sym c.if-eq-8.false ∙ c.eq-in-Exclude-Exclude.ensures)
+
+pub expr::Expr::is_same-returns-then-is_same-7 : goal.expr::Expr::is_same-returns-then-is_same-7
+expr::Expr::is_same-returns-then-is_same-7 t c =
+    let kind = c.in-Window-Window in
+    let whole = windows_compared kind.order_by kind.own_order (trees_of kind.partition_by) (trees_of kind.own_keys) (window_listed c.args.self.now kind.function kind.partition_by kind.order_by _ kind.is-0) (window_listed c.args.other.now kind.own kind.own_keys kind.own_order _ kind.is-1) in
+    elim c.if-is_same_order.branch [
+      | expr::Expr::is_same-then-is_same_order w ↦
+          let order = sym w.if-is_same_order.true ∙ c.is_same_order.ensures in
+          let first = sym c.if-is_same-7.true ∙ w.value-is ∙ (rw (w.deref-then-is_same_order.ensures, w.deref-then-is_same_order-2.ensures) at w.is_same-then-is_same_order.ensures) in
+          (λ i. order i && (first i && c.is_same-then-is_same-7.ensures i)) ∙ sym whole
+      | expr::Expr::is_same-else-is_same_order w ↦ cc
+    ]

@@ -12,16 +12,16 @@ ghost use Rattle.plan_types.specs.Outcomes.{Done, Fault, Stuck};
 ghost use Rattle.plan_types.specs.Frames.{empty_frame};
 ghost use Rattle.plan_types.specs.declared.dtype.CastOptions.TheVariants.{Strict, NonStrict};
 ghost use Rattle.plan_types.specs.declared.error.ErrorKind.TheVariants.{ColumnNotFound, Duplicate, SchemaMismatch, InvalidOperation, ComputeError};
-ghost use Rattle.plan_dsl.specs.Plans.{GroupByKind, Named, named, expressions_of, group_by_op, options_in, plan_tree, source_group_by, scans_in};
+ghost use Rattle.plan_dsl.specs.Plans.{GroupByKind, OrderOption, Named, named, expressions_of, group_by_op, options_in, plan_tree, source_group_by, scans_in};
 ghost use Rattle.plan_dsl.specs.Ops.{Expression};
 ghost use Rattle.plan_dsl.specs.Sources.{written, KeepRoot};
 ghost use Rattle.plan_dsl.specs.PlanRules.{schema_of, schema_by, schema_at, own_kinds, broken_kinds, type_in_groups, IsWellFormed, Breaks};
-ghost use Rattle.plan_dsl.specs.Grouping.{columns_in_groups, group_rows, group_value};
+ghost use Rattle.plan_dsl.specs.Grouping.{columns_in_groups, group_frame, group_rows, group_value, group_values, grouped_by, value_typed};
 ghost use Rattle.plan_dsl.specs.PlanKernels.{Evaluated, plan_kernel};
 ghost use Rattle.plan_dsl.specs.PlanMeaning.{by_meaning, source_meaning, FitsPlan};
 ghost use Rattle.plan_dsl.specs.Resolving.{over_keys, resolution, resolved};
 ghost use Rattle.plan_dsl.specs.Counts.{cast_count, node_count};
-ghost use Rattle.plan_dsl.specs.Samples.{Gives, GivesOfTwo, GivesAll, int32, int64, uint32, null, yes, no, number, text, list, group, column, k, v, d, one, two, five, literal, count, alias, sum, less, cast_as, slice, gather_one, keep_where, one_value, many_values, of_one, of_many, frame_with, keyed, schema_kv, scan, empty_scan, select, group_by, all, columns_named, columns_at, form, but_named};
+ghost use Rattle.plan_dsl.specs.Samples.{Gives, GivesOfTwo, GivesAll, int32, int64, uint32, null, yes, no, number, text, list, group, column, k, v, d, one, two, five, literal, count, alias, sum, less, cast_as, slice, gather_one, keep_where, one_value, many_values, of_one, of_many, frame_with, keyed, schema_kv, scan, empty_scan, select, group_by, all, columns_named, columns_at, form, but_named, series};
 
 /// A group-by has a row for each group: its keys, then of each aggregate its one value, or the list of its values.
 pub fn frames_of_groups()
@@ -67,6 +67,23 @@ pub fn values_in_groups()
         (numbers ∷ [], Done ((yes ∷ list (number 4 ∷ number 2 ∷ []) ∷ []) ∷ (no ∷ list (number 3 ∷ []) ∷ []) ∷ [])) ∷
         ([], Done ((yes ∷ []) ∷ (no ∷ []) ∷ [])) ∷ (at_most_one ∷ [], Stuck) ∷ (untyped ∷ [], Stuck) ∷ [])
         × Gives columns_in_groups ((numbers ∷ at_most_one ∷ [], Some ((codes "n", ListType int64) ∷ (codes "o", int64) ∷ [])) ∷ (numbers ∷ untyped ∷ [], None) ∷ []) }
+{}
+
+/// What an aggregate's outcome is in a group, a group's row, and the frame of groups by series of keys.
+pub fn groups_by_series()
+    ensures typed { GivesOfTwo value_typed (
+        (of_many int64, Done (number 1 ∷ []), Done (list (number 1 ∷ []))) ∷ (of_one int64, Done (number 1 ∷ []), Done (number 1)) ∷ (of_one int64, Done [], Stuck) ∷
+        (of_many int64, Fault, Fault) ∷ (of_one int64, Stuck, Stuck) ∷ (Err ColumnNotFound, Done (number 1 ∷ []), Stuck) ∷ []) }
+    ensures rows { let numbers : Evaluated = record { name = codes "n"; typing = of_many int64; gives = λ rows. Done (map number rows) } in
+        let at_fault : Evaluated = record { name = codes "f"; typing = of_one int64; gives = λ rows. Fault } in
+        Gives (λ aggs. group_values aggs (4 ∷ 2 ∷ [])) (
+        ([], Done []) ∷ (numbers ∷ numbers ∷ [], Done (list (number 4 ∷ number 2 ∷ []) ∷ list (number 4 ∷ number 2 ∷ []) ∷ [])) ∷ (numbers ∷ at_fault ∷ [], Fault) ∷ []) }
+    ensures frames { let numbers : Evaluated = record { name = codes "n"; typing = of_many int64; gives = λ rows. Done (map number rows) } in
+        let columns = (codes "k", Truth) ∷ (codes "n", ListType int64) ∷ [] in
+        Gives (λ keys. grouped_by (series "k" Truth keys ∷ []) (numbers ∷ []) (frame_with [] ([] ∷ [] ∷ [] ∷ []))) (
+        (yes ∷ no ∷ yes ∷ [], Done (frame_with columns ((yes ∷ list (number 0 ∷ number 2 ∷ []) ∷ []) ∷ (no ∷ list (number 1 ∷ []) ∷ []) ∷ []))) ∷
+        (null ∷ [], Done (frame_with columns ((null ∷ list (number 0 ∷ number 1 ∷ number 2 ∷ []) ∷ []) ∷ []))) ∷ (yes ∷ no ∷ [], Fault) ∷ ([], Fault) ∷ []) }
+    ensures without_types { group_frame ((codes "k", Truth) ∷ []) None [] (group (yes ∷ []) (0 ∷ []) ∷ []) ≡ Stuck }
 {}
 
 /// A group-by has the columns of its keys, then those of its aggregates, with lists where there may be many values.
@@ -118,10 +135,10 @@ pub fn groups_that_are_resolved()
     ensures queries { resolved [] (source_group_by (written k ∷ []) (all ∷ []) (scan schema_kv)) ≡ group_by (k ∷ []) (v ∷ []) (scan schema_kv) }
 {}
 
-/// A group-by's tree, its expressions, its schema at a place, its casts, nodes and tables.
+/// A group-by's tree and option, its expressions, its schema at a place, its casts, nodes and tables.
 pub fn parts_of_groups()
     ensures tree { (p : _) (keys aggs : Exprs) (schema : Schema) (maintain_order : Bool) → let plan = GroupBy' p (DataFrameScan (Some 0) schema) keys aggs maintain_order in
-        (plan_tree plan ≡ source_group_by (trees_of keys) (trees_of aggs) (scan (columns schema))) × (options_in plan ≡ []) }
+        (plan_tree plan ≡ source_group_by (trees_of keys) (trees_of aggs) (scan (columns schema))) × (options_in plan ≡ OrderOption maintain_order ∷ []) }
     ensures expressions { expressions_of {E = Named Expression} (GroupByKind (named k ∷ []) (named v ∷ named count ∷ []))
         ≡ record { input = 0; outputs = named k ∷ [] } ∷ record { input = 0; outputs = named v ∷ named count ∷ [] } ∷ [] }
     ensures schemas { Gives (schema_at [] (group_by (v ∷ []) [] (scan schema_kv))) (([], Some ((codes "v", int64) ∷ [])) ∷ (0 ∷ [], Some schema_kv) ∷ []) }

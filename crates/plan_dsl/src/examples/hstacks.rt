@@ -12,7 +12,7 @@ ghost use Rattle.plan_dsl.specs.declared.expr.Exprs.{Exprs};
 ghost use Rattle.plan_dsl.specs.declared.plan.DslPlan.TheVariants.{DataFrameScan, HStack'};
 ghost use Rattle.plan_dsl.specs.declared.plan.ProjectionOptions.{ProjectionOptions};
 ghost use Rattle.plan_dsl.specs.Expressions.{trees_of};
-ghost use Rattle.plan_dsl.specs.Plans.{HStackKind, Named, named, empty_table, expressions_of, hstack_op, plan_tree, options_in, source_hstack, scans_in};
+ghost use Rattle.plan_dsl.specs.Plans.{HStackKind, ProjectionOption, Named, named, empty_table, expressions_of, hstack_op, plan_tree, options_in, source_hstack, scans_in};
 ghost use Rattle.plan_dsl.specs.Ops.{Expression};
 ghost use Rattle.plan_dsl.specs.Sources.{written};
 ghost use Rattle.plan_dsl.specs.PlanRules.{with_columns, schema_of, schema_by, schema_at, own_kinds, broken_kinds, IsWellFormed, Breaks};
@@ -111,7 +111,7 @@ pub fn kinds_that_hstacks_break()
 /// An hstack's tree and options, its expressions, its schema at a place, its casts, nodes and tables, and what a query's is resolved to.
 pub fn parts_of_hstacks()
     ensures tree { (p : _) (exprs : Exprs) (schema : Schema) (options : ProjectionOptions) → let plan = HStack' exprs p (DataFrameScan (Some 0) schema) options in
-        (plan_tree plan ≡ source_hstack (trees_of exprs) (scan (columns schema))) × (options_in plan ≡ options ∷ []) }
+        (plan_tree plan ≡ source_hstack (trees_of exprs) (scan (columns schema))) × (options_in plan ≡ ProjectionOption options ∷ []) }
     ensures expressions { expressions_of {E = Named Expression} (HStackKind (named a ∷ named b ∷ [])) ≡ record { input = 0; outputs = named a ∷ named b ∷ [] } ∷ [] }
     ensures schemas { Gives (schema_at [] (stack (alias "a" b ∷ []) (scan schema_ab))) (([], Some ((codes "a", int32) ∷ (codes "b", int32) ∷ [])) ∷ (0 ∷ [], Some schema_ab) ∷ []) }
     ensures casts { cast_count (stack (cast_as NonStrict int32 a ∷ b ∷ []) (stack (cast_as Strict int8 b ∷ []) (scan schema_ab))) ≡ 2 }

@@ -10,7 +10,7 @@ ghost use Rattle.plan_types.specs.declared.error.ErrorKind.TheVariants.{ColumnNo
 ghost use Rattle.plan_types.specs.declared.schema.Schema.{Schema};
 ghost use Rattle.plan_dsl.specs.declared.expr.Expr.TheVariants.{Column};
 ghost use Rattle.plan_dsl.specs.declared.operator.Operator.TheVariants.{Minus};
-ghost use Rattle.plan_dsl.specs.declared.plan.DslPlan.TheVariants.{DataFrameScan, Filter', Select'};
+ghost use Rattle.plan_dsl.specs.declared.plan.DslPlan.TheVariants.{DataFrameScan, Filter', GroupBy', Select'};
 ghost use Rattle.plan_dsl.specs.declared.expr.Exprs.{Exprs};
 ghost use Rattle.plan_dsl.specs.declared.plan.ProjectionOptions.{ProjectionOptions};
 ghost use Rattle.plan_dsl.specs.Trees.{node, no_more, more};
@@ -21,12 +21,12 @@ ghost use Rattle.plan_dsl.specs.Kernels.{Meaning, in_front};
 ghost use Rattle.plan_dsl.specs.Picks.{where_true};
 ghost use Rattle.plan_dsl.specs.Laws.{operator_node};
 ghost use Rattle.plan_dsl.specs.Sources.{Plain};
-ghost use Rattle.plan_dsl.specs.Plans.{ScanKind, SelectKind, FilterKind, Named, named, over_input, expressions_of, scans_in, scan_op, select_op, filter_op, plan_tree, options_in};
+ghost use Rattle.plan_dsl.specs.Plans.{ScanKind, SelectKind, FilterKind, OrderOption, ProjectionOption, Named, named, over_input, expressions_of, scans_in, scan_op, select_op, filter_op, plan_tree, options_in};
 ghost use Rattle.plan_dsl.specs.PlanRules.{scan_kinds, predicate_kinds, own_kinds, input_schema, expression_kinds, broken_kinds, columns_of, schema_by, plan_rule, top_kinds};
 ghost use Rattle.plan_dsl.specs.PlanKernels.{Evaluated, series_on, shared_length, rows_of, kept_rows};
 ghost use Rattle.plan_dsl.specs.Samples.{Gives, GivesOfTwo, int8, null, yes, no, number, column, a, b, c, u, many_values, of_one, of_many, sum, equal, frame_with, schema_au, uint64, scan, scan_of, empty_scan, select, keep, series};
 
-/// A plan's tree has the parts of the plan, and an expression is named by its own name. Its selects keep their options beside it.
+/// A plan's tree has the parts of the plan, and an expression is named by its own name. Its nodes keep their options beside it.
 pub fn trees_of_plans()
     ensures scan { (schema : Schema) → plan_tree (DataFrameScan (Some 3) schema) ≡ node (scan_op (Some 3) (columns schema)) no_more }
     ensures empty { (schema : Schema) → plan_tree (DataFrameScan None schema) ≡ node (scan_op None (columns schema)) no_more }
@@ -34,9 +34,10 @@ pub fn trees_of_plans()
         ≡ node (filter_op (node (Plain (ColumnOp (codes "keep"))) no_more)) (more (scan (columns schema)) no_more) }
     ensures named { named (column "keep") ≡ record { label = column_label (codes "keep"); expression = column "keep" } }
     ensures null { named (node (LiteralOp NullType NullValue) no_more) ≡ record { label = literal_label (codes "literal"); expression = node (LiteralOp NullType NullValue) no_more } }
-    ensures options { (p q r : _) (expr inner : Exprs) (schema : Schema) → let checked : ProjectionOptions = record { duplicate_check = true } in
+    ensures options { (p q r s : _) (expr inner keys aggs : Exprs) (schema : Schema) → let checked : ProjectionOptions = record { duplicate_check = true } in
         let unchecked : ProjectionOptions = record { duplicate_check = false } in
-        options_in (Select' expr p (Filter' q (Select' inner r (DataFrameScan None schema) checked) (Column (codes "keep"))) unchecked) ≡ unchecked ∷ checked ∷ [] }
+        options_in (Select' expr p (Filter' q (GroupBy' s (Select' inner r (DataFrameScan None schema) checked) keys aggs true) (Column (codes "keep"))) unchecked)
+        ≡ ProjectionOption unchecked ∷ OrderOption true ∷ ProjectionOption checked ∷ [] }
     ensures operator { operator_node Minus a b ≡ node (BinaryOp Minus) (more a (more b no_more)) }
 {}
 

@@ -1,18 +1,35 @@
 //! Windows.
 
-ghost use Rattle.std.specs.Prelude.{◌≡◌, [], ◌∷◌, pos, codes, Some, true, false, Err};
+ghost use Rattle.std.specs.Prelude.{◌≡◌, [], ◌∷◌, pos, codes, Some, None, true, false, Err};
+ghost use Rattle.std.specs.Global.{Box};
 ghost use Rattle.plan_types.specs.Types.{TextType, ListType};
 ghost use Rattle.plan_types.specs.Outcomes.{Done, Fault, Stuck};
 ghost use Rattle.plan_types.specs.declared.dtype.CastOptions.TheVariants.{Strict};
 ghost use Rattle.plan_types.specs.declared.error.ErrorKind.TheVariants.{ColumnNotFound, InvalidOperation};
+ghost use Rattle.plan_dsl.specs.declared.expr.Expr.{Expr, Window};
+ghost use Rattle.plan_dsl.specs.declared.expr.Exprs.{Exprs};
+ghost use Rattle.plan_dsl.specs.declared.sort_options.SortOptions.{SortOptions};
+ghost use Rattle.plan_dsl.specs.declared.window.WindowType.{WindowType};
+ghost use Rattle.plan_dsl.specs.Expressions.{tree_of, trees_of};
+ghost use Rattle.plan_dsl.specs.Sources.{Plain};
 ghost use Rattle.plan_dsl.specs.declared.aggregate.GroupByMethod.TheVariants.{First, Implode, Sum};
 ghost use Rattle.plan_dsl.specs.Meaning.{meaning};
 ghost use Rattle.plan_dsl.specs.Names.{name_of};
 ghost use Rattle.plan_dsl.specs.Ops.{LiteralOp, WindowOp};
 ghost use Rattle.plan_dsl.specs.Strictness.{is_strict};
-ghost use Rattle.plan_dsl.specs.Trees.{node, no_more};
+ghost use Rattle.plan_dsl.specs.Trees.{children_from, more, node, no_more};
 ghost use Rattle.plan_dsl.specs.Typing.{typing, kinds_in};
-ghost use Rattle.plan_dsl.specs.Samples.{Gives, GivesAll, int8, int32, uint32, null, number, a, b, c, agg, beside, cast_as, count, five, huge, literal, means, of_many, one, over, over_by, rising, runs, schema_ab, slice, sort_as, sum, text, way};
+ghost use Rattle.plan_dsl.specs.WindowLaws.{AreOfGroups, HaveWhatIsGiven, are_for_rows, of_each};
+ghost use Rattle.plan_dsl.specs.Windows.{put_in_order, spots_from, value_at, window_values};
+ghost use Rattle.plan_dsl.specs.Samples.{Gives, GivesAll, GivesOfTwo, int8, int32, uint32, null, number, a, b, c, agg, beside, cast_as, count, five, huge, literal, means, of_many, one, over, over_by, rising, runs, schema_ab, slice, sort_as, spot, sum, text, turns, way, yes, no};
+
+/// A window has its function as the first child, then what orders its groups, if anything does, and the keys behind it, in order.
+pub fn trees_of_windows()
+    ensures unordered { (function : Box Expr) (keys : Exprs) (options : WindowType) → tree_of (Window function keys None options)
+        ≡ node (Plain (WindowOp None)) (more (tree_of function.value) (children_from (trees_of keys))) }
+    ensures ordered { (function order : Box Expr) (way : SortOptions) (keys : Exprs) (options : WindowType) → tree_of (Window function keys (Some (order, way)) options)
+        ≡ node (Plain (WindowOp (Some way))) (more (tree_of function.value) (more (tree_of order.value) (children_from (trees_of keys)))) }
+{}
 
 /// A window has the name and the type of its function, and may have any number of values. It has a key, and its order is one of
 /// values that are sorted.
@@ -61,4 +78,42 @@ pub fn windows_at_fault()
         GivesAll (means rows) Fault (over (a ∷ []) two ∷ over (two ∷ []) b ∷ over_by rising two (a ∷ []) b ∷ []) }
     ensures none { let wrong = cast_as Strict int8 (node (LiteralOp TextType (text "x")) no_more) in
         (means (beside int8 int32 []) wrong ≡ Fault) × (means (beside int8 int32 []) (over (a ∷ []) wrong) ≡ Done []) × (means (beside int8 int32 []) (over (wrong ∷ []) b) ≡ Fault) }
+{}
+
+/// Rows have their places, and are put in order by the values beside them: from the greatest on they are turned round.
+pub fn spots_in_order()
+    ensures spots { spots_from 4 (7 ∷ 5 ∷ []) (null ∷ number 1 ∷ []) ≡ spot 4 7 null ∷ spot 5 5 (number 1) ∷ [] }
+    ensures orders { Gives (λ order. put_in_order order (spot 0 7 (number 1) ∷ spot 1 8 (number 2) ∷ spot 2 7 null ∷ spot 3 9 (number 2) ∷ [])) (
+        (None, spot 0 7 (number 1) ∷ spot 1 8 (number 2) ∷ spot 2 7 null ∷ spot 3 9 (number 2) ∷ []) ∷
+        (Some rising, spot 2 7 null ∷ spot 0 7 (number 1) ∷ spot 1 8 (number 2) ∷ spot 3 9 (number 2) ∷ []) ∷
+        (Some (way true true), spot 1 8 (number 2) ∷ spot 3 9 (number 2) ∷ spot 0 7 (number 1) ∷ spot 2 7 null ∷ []) ∷ []) }
+    ensures places { Gives (value_at ((3, yes) ∷ (0, no) ∷ [])) ((3, yes) ∷ (0, no) ∷ (1, null) ∷ []) }
+{}
+
+/// A function that tells rows their turns within their group, and one of a value for each row: over rows that are asked for
+/// twice, keys that are null, an order that turns a group round, and values that no group has room for.
+pub fn windows_over_functions()
+    ensures turns { Gives (window_values None turns (7 ∷ 5 ∷ 7 ∷ 6 ∷ [])) (
+        ((yes ∷ []) ∷ [], Done (number 0 ∷ number 1 ∷ number 2 ∷ number 3 ∷ [])) ∷
+        ((null ∷ yes ∷ null ∷ yes ∷ []) ∷ [], Done (number 0 ∷ number 0 ∷ number 1 ∷ number 1 ∷ [])) ∷
+        ((null ∷ yes ∷ null ∷ yes ∷ []) ∷ (null ∷ null ∷ yes ∷ null ∷ []) ∷ [], Done (number 0 ∷ number 0 ∷ number 0 ∷ number 1 ∷ [])) ∷ []) }
+    ensures turned { Gives (λ order. window_values (Some order) turns (7 ∷ 5 ∷ 7 ∷ 6 ∷ []) ((number 1 ∷ number 2 ∷ null ∷ number 3 ∷ []) ∷ (no ∷ yes ∷ no ∷ no ∷ []) ∷ [])) (
+        (rising, Done (number 1 ∷ number 0 ∷ number 0 ∷ number 2 ∷ [])) ∷ (way true true, Done (number 1 ∷ number 0 ∷ number 2 ∷ number 0 ∷ [])) ∷ []) }
+    ensures columns { let rows = 7 ∷ 5 ∷ 7 ∷ [] in let keys = (null ∷ yes ∷ null ∷ []) ∷ [] in
+        (of_each number rows ≡ Done (number 7 ∷ number 5 ∷ number 7 ∷ [])) × (window_values None (of_each number) rows keys ≡ of_each number rows) ×
+        (window_values (Some (way true true)) (of_each number) rows ((number 1 ∷ number 2 ∷ number 3 ∷ []) ∷ keys) ≡ of_each number rows) }
+    ensures numbers { Gives (λ rows. window_values None (λ numbers. Done (yes ∷ no ∷ [])) rows ((null ∷ []) ∷ [])) (
+        ([], Done []) ∷ (7 ∷ 5 ∷ [], Done (yes ∷ no ∷ [])) ∷ (7 ∷ 5 ∷ 7 ∷ [], Fault) ∷ (7 ∷ [], Fault) ∷ []) }
+    ensures keys { GivesOfTwo are_for_rows (
+        (2, [], true) ∷ (2, (yes ∷ no ∷ []) ∷ (null ∷ []) ∷ [], true) ∷ (2, (null ∷ []) ∷ (yes ∷ no ∷ yes ∷ []) ∷ [], false) ∷ (0, (null ∷ []) ∷ [] ∷ [], true) ∷ (1, [] ∷ [], false) ∷ []) }
+{}
+
+/// What rows are given stands at their places: not in their order, and not at others.
+pub fn values_that_rows_are_given()
+    ensures each { HaveWhatIsGiven (of_each number) (spot 2 7 null ∷ spot 0 5 null ∷ []) (number 5 ∷ null ∷ number 7 ∷ []) }
+    ensures one { HaveWhatIsGiven (λ rows. Done (yes ∷ [])) (spot 2 7 null ∷ spot 0 5 null ∷ []) (yes ∷ null ∷ yes ∷ []) }
+    ensures in_order { ¬ (HaveWhatIsGiven (of_each number) (spot 2 7 null ∷ spot 0 5 null ∷ []) (number 7 ∷ null ∷ number 5 ∷ [])) }
+    ensures too_few { ¬ (HaveWhatIsGiven (of_each number) (spot 2 7 null ∷ spot 0 5 null ∷ []) (number 5 ∷ null ∷ [])) }
+    ensures wrong_number { ¬ (HaveWhatIsGiven (λ rows. Done (yes ∷ no ∷ [])) (spot 0 7 null ∷ spot 1 5 null ∷ spot 2 6 null ∷ []) (yes ∷ no ∷ yes ∷ [])) }
+    ensures by_groups { ¬ (AreOfGroups None (of_each number) (7 ∷ 5 ∷ 6 ∷ []) (Done (null ∷ null ∷ null ∷ [])) ((yes ∷ no ∷ yes ∷ []) ∷ []) (number 7 ∷ number 6 ∷ number 5 ∷ [])) }
 {}

@@ -9,6 +9,7 @@ ghost use Rattle.plan_types.specs.declared.error.ErrorKind.TheVariants.{ColumnNo
 ghost use Rattle.plan_dsl.specs.declared.operator.Operator.TheVariants.{Eq, Lt, GtEq, Plus};
 ghost use Rattle.plan_dsl.specs.Typing.{typing};
 ghost use Rattle.plan_dsl.specs.Ops.{BinaryOp, ColumnOp};
+ghost use Rattle.plan_dsl.specs.Samples.{over, over_by, rising};
 ghost use Rattle.plan_infer.specs.declared.type_table.TypeTable.{TypeTable};
 ghost use Rattle.plan_infer.specs.KeptTypes.{AllKept, AreOperands, Extends, GivesName, HasRightTypes, IsKept, IsNamedBy, IsRight, IsRuled, IsTypedNode, Keeps, KeepsEntry, KeepsTyped, TakesTo, kept_count, name_at, node_depth, some_count, typings_at};
 ghost use Rattle.plan_infer.specs.Fields.{IsFieldOf, type_in};
@@ -34,6 +35,8 @@ pub fn types_of_expressions()
     ensures structs { let two = StructType (with_field (codes "x") int8 (with_field (codes "y") TextType no_field)) in
         let target = struct_of (codes "y") TextType in
         HaveTypes ((one_column two, a, two) ∷ (one_column (struct_of (codes "x") int8), strictly_cast_to target a, target) ∷ []) }
+    ensures windows { HaveTypes ((columns_of int8 TextType, over (b ∷ []) a, int8) ∷ (columns_of int8 TextType, over_by rising a (b ∷ []) b, TextType) ∷
+        (columns_of int8 (ListType int8), over (a ∷ []) b, ListType int8) ∷ []) }
 {}
 
 /// A refusal of an expression is the kind that its typing gives, at the top, or want of memory.
@@ -50,6 +53,8 @@ pub fn refusals_of_expressions()
         (one_column (ListType int8), cast_to (ListType DateType) a) ∷ ([], cast_to (ListType int32) five) ∷ []) }
     ensures structs { AreRefused InvalidOperation ((columns_of NullType (StructType no_field), binary GtEq a b) ∷
         (one_column (struct_of (codes "x") int8), binary Plus a five) ∷ []) }
+    ensures windows { AreRefused InvalidOperation ((one_column int8, over [] a) ∷ (one_column int8, over_by rising a [] a) ∷
+        (one_column (ListType int8), over_by rising a (a ∷ []) a) ∷ []) }
     ensures no_common_type { AreRefused SchemaMismatch ((columns_of DateType TimeType, binary Eq a b) ∷
         (columns_of (ListType TextType) TextType, binary Lt a b) ∷
         (columns_of (struct_of (codes "x") Truth) (struct_of (codes "y") Truth), binary Eq a b) ∷ []) }

@@ -1,17 +1,17 @@
 //! Expressions to nodes of an arena.
-ghost use Rattle.std.specs.Prelude.{◌≡◌, ◌≢◌, ◌⊎◌, length, false, true, IfOk, IfErr, IfSome, MatchOption, OnOk};
+ghost use Rattle.std.specs.Prelude.{◌≡◌, ◌≢◌, ◌⊎◌, length, map, false, true, IfOk, IfErr, IfSome, MatchOption, OnOk};
 ghost use Rattle.std.specs.List.{list_all};
 ghost use Rattle.std.specs.Option.{option_map_or};
 ghost use Rattle.plan_types.specs.Errors.{IsMemoryOr, no_memory};
 ghost use Rattle.plan_dsl.specs.Aliases.{all_pruned, core, inputs_pruned, pruned};
-ghost use Rattle.plan_dsl.specs.Expressions.{plain_tree, plain_trees, tree_of, trees_of};
+ghost use Rattle.plan_dsl.specs.Expressions.{order_trees, plain_tree, plain_trees, tree_of, trees_of, way_of};
 ghost use Rattle.plan_dsl.specs.Literals.{literal_op, settled, settled_op, settles};
 ghost use Rattle.plan_dsl.specs.Names.{alias_label, label_of};
 ghost use Rattle.plan_dsl.specs.Ops.{Expression};
-ghost use Rattle.plan_dsl.specs.Sources.{is_plain};
+ghost use Rattle.plan_dsl.specs.Sources.{is_plain, unwritten};
 ghost use Rattle.plan_dsl.specs.Trees.{children_from};
 ghost use Rattle.plan_arena.specs.Denotation.{Denotes, DenoteAll, DenotesTree};
-ghost use Rattle.plan_arena.specs.Items.{named_node, numbers, output_label, HoldsExpression, HoldsFrom, Grows};
+ghost use Rattle.plan_arena.specs.Items.{named_node, numbers, ordered, ordering, output_label, HoldsExpression, HoldsFrom, Grows};
 ghost use Rattle.plan_lower.specs.Nodes.{IsItemOf};
 
 use plan_arena::aexpr::AExpr;
@@ -19,9 +19,9 @@ use plan_arena::aggregate::IRAggExpr;
 use plan_arena::arena::{Arena, Node};
 use plan_arena::expr_ir::{ExprIR, OutputName};
 use plan_arena::inputs::NodeList;
-use plan_dsl::below_aggregate;
 use plan_dsl::expr::{Expr, Exprs};
 use plan_dsl::literal::LiteralValue;
+use plan_dsl::sort_options::SortOptions;
 use plan_types::common_type::materialize_dyn_int;
 use plan_types::error::{ErrorKind, PlanError};
 use plan_types::text::PlSmallStr;
@@ -143,7 +143,8 @@ fn first_alias(expr: &Expr) -> Option<&PlSmallStr>
         Expr::Explode(input) | Expr::Slice { input, .. } | Expr::Filter { input, .. } => {
             first_alias(input)
         }
-        Expr::Agg(aggregate) => below_aggregate!(aggregate, input => first_alias(input)),
+        Expr::Agg(aggregate) => first_alias(aggregate.as_ref()),
+        Expr::Window { function, .. } => first_alias(function),
         Expr::Column(_)
         | Expr::Literal(_)
         | Expr::Len
@@ -245,16 +246,20 @@ macro_rules! item_over {
                 let by = add_each(by, $keep, $arena)?;
                 Ok(AExpr::SortBy { expr, by, sort_options })
             }
+            Expr::Window { function, partition_by, order_by, options } => {
+                let function = add_nodes(Box::into_inner(function), $keep, $arena)?;
+                let order_by = add_order(order_by, $keep, $arena)?;
+                let partition_by = add_each(partition_by, $keep, $arena)?;
+                Ok(AExpr::Window { function, partition_by, order_by, options })
+            }
             Expr::Alias(input, name) => {
                 let input = add_nodes(Box::into_inner(input), $keep, $arena)?;
                 Ok(AExpr::Alias(input, name))
             }
             Expr::Agg(aggregate) => {
                 let method = aggregate.method();
-                below_aggregate!(aggregate, input => {
-                    let input = add_nodes(Box::into_inner(input), $keep, $arena)?;
-                    Ok(AExpr::Agg(IRAggExpr::of(method, input)))
-                })
+                let input = add_nodes(Box::into_inner(aggregate.into_input()), $keep, $arena)?;
+                Ok(AExpr::Agg(IRAggExpr::of(method, input)))
             }
             Expr::Columns(_)
             | Expr::DtypeColumn(_)
@@ -285,6 +290,28 @@ fn add_inputs(expr: Expr, keep: bool, arena: &mut Arena<AExpr>) -> Result<AExpr,
         Filter { input, by } []
         Sort { expr } [options]
     )
+}
+
+// Adds the nodes of what orders the groups of a window, if anything does.
+#[cycle(nodes)]
+fn add_order(
+    order: Option<(Box<Expr>, SortOptions)>,
+    keep: bool,
+    arena: &mut Arena<AExpr>,
+) -> Result<Option<(Node, SortOptions)>, PlanError>
+    requires plain { list_all is_plain (order_trees order) ≡ true }
+    ensures way { IfOk result (λ by. ordered by ≡ way_of order) }
+    ensures ok { IfOk result (λ by. DenoteAll (HoldsFrom (length arena.old) arena.new) (ordering by) (all_pruned keep (children_from (map unwritten (order_trees order))))) }
+    ensures grows { Grows arena.old arena.new }
+    ensures err { IfErr result (λ error. error ≡ no_memory) }
+{
+    match order {
+        None => Ok(None),
+        Some((expr, options)) => {
+            let node = add_nodes(Box::into_inner(expr), keep, arena)?;
+            Ok(Some((node, options)))
+        }
+    }
 }
 
 // Adds the nodes of expressions, one after the other.

@@ -64,15 +64,15 @@ loop-turn-preserved c =
     let here = all_last (Near c.args.arena.now roots) (numbers c.pop.new.self.items) c.in-Some.node.0 waits in
     let closed = visited.closed c.args.arena.now roots c.loop-turn.invariant.longer here c.loop-turn.invariant.closed in
     record {
-      near = stack_near c.args.arena.now roots c.coerce_node.new.arena c.in-Some.node.0 c.get.result.now (numbers c.pop.new.self.items) (numbers c.inputs_rev.new.nodes.items) c.get.ensures closed here (all_front (Near c.args.arena.now roots) (numbers c.pop.new.self.items) (c.in-Some.node.0 ∷ []) waits) c.in_ok-inputs_rev.ensures.ok;
+      near = stack_near c.args.arena.now roots c.coerce_node.new.arena c.in-Some.node.0 c.get.result.now (numbers c.pop.new.self.items) (numbers c.push_inputs.new.nodes.items) c.get.ensures closed here (all_front (Near c.args.arena.now roots) (numbers c.pop.new.self.items) (c.in-Some.node.0 ∷ []) waits) c.in_ok-push_inputs.ensures.ok;
       closed = closed;
       elsewhere = λ n op inputs apart h. visited.elsewhere n op inputs (not_near c.args.arena.now roots c.in-Some.node.0 n op inputs here apart h) (c.loop-turn.invariant.elsewhere n op inputs apart h);
       longer = omega (arith, c.loop-turn.invariant.longer, visited.longer);
-      kept = waiting_known c.coerce_node.new.arena c.loop-turn.types c.coerce_node.new.types c.in-Some.node.0 (numbers c.pop.new.self.items) (numbers c.inputs_rev.new.nodes.items) known visited.extends (record { registry = is.registry; schema = is.schema; right = right }) (pushed c.coerce_node.new.arena c.in-Some.node.0 c.get.result.now (numbers c.pop.new.self.items) (numbers c.inputs_rev.new.nodes.items) c.get.ensures c.in_ok-inputs_rev.ensures.ok);
+      kept = waiting_known c.coerce_node.new.arena c.loop-turn.types c.coerce_node.new.types c.in-Some.node.0 (numbers c.pop.new.self.items) (numbers c.push_inputs.new.nodes.items) known visited.extends (record { registry = is.registry; schema = is.schema; right = right }) (pushed c.coerce_node.new.arena c.in-Some.node.0 c.get.result.now (numbers c.pop.new.self.items) (numbers c.push_inputs.new.nodes.items) c.get.ensures c.in_ok-push_inputs.ensures.ok);
       right = λ registry schema before. visited.right registry schema (c.loop-turn.invariant.right registry schema before);
       pending = λ registry schema first before le all.
           let p = subst (λ s. Pending registry schema first c.args.arena.now c.loop-turn.arena s (numbers c.args.stack.now.items)) popped (c.loop-turn.invariant.pending registry schema first before le all) in
-          pending_step registry schema first c.args.arena.now c.loop-turn.arena c.coerce_node.new.arena c.in-Some.node.0 (numbers c.pop.new.self.items) (numbers c.inputs_rev.new.nodes.items) (numbers c.args.stack.now.items) p visited.elsewhere (λ t d has. visited.ok registry schema first t (c.loop-turn.invariant.right registry schema before) (omega (arith, le, c.loop-turn.invariant.longer)) d has) (pushed c.coerce_node.new.arena c.in-Some.node.0 c.get.result.now (numbers c.pop.new.self.items) (numbers c.inputs_rev.new.nodes.items) c.get.ensures c.in_ok-inputs_rev.ensures.ok);
+          pending_step registry schema first c.args.arena.now c.loop-turn.arena c.coerce_node.new.arena c.in-Some.node.0 (numbers c.pop.new.self.items) (numbers c.push_inputs.new.nodes.items) (numbers c.args.stack.now.items) p visited.elsewhere (λ t d has. visited.ok registry schema first t (c.loop-turn.invariant.right registry schema before) (omega (arith, le, c.loop-turn.invariant.longer)) d has) (pushed c.coerce_node.new.arena c.in-Some.node.0 c.get.result.now (numbers c.pop.new.self.items) (numbers c.push_inputs.new.nodes.items) c.get.ensures c.in_ok-push_inputs.ensures.ok);
     }
 
 pub returns-in_err-coerce_node-clause-stays : goal.returns-in_err-coerce_node-clause-stays
@@ -80,8 +80,8 @@ returns-in_err-coerce_node-clause-stays c = on_refusal c.from_residual.result (�
     let p = c.loop-turn.invariant.pending registry schema first right le all in
     stays_grown registry schema first c.args.arena.now c.loop-turn.arena c.coerce_node.new.arena (numbers c.loop-turn.stack.items) (numbers c.args.stack.now.items) p c.in_err-coerce_node.ensures.grows)
 
-pub returns-in_err-inputs_rev-clause-stays : goal.returns-in_err-inputs_rev-clause-stays
-returns-in_err-inputs_rev-clause-stays c = on_refusal c.from_residual-in_err-inputs_rev.result (λ registry schema first right le all.
+pub returns-in_err-push_inputs-clause-stays : goal.returns-in_err-push_inputs-clause-stays
+returns-in_err-push_inputs-clause-stays c = on_refusal c.from_residual-in_err-push_inputs.result (λ registry schema first right le all.
     let popped = pushed_one c.pop.new.self.items c.loop-turn.stack.items c.in-Some.node c.in-Some.ensures.items in
     let p = subst (λ s. Pending registry schema first c.args.arena.now c.loop-turn.arena s (numbers c.args.stack.now.items)) popped (c.loop-turn.invariant.pending registry schema first right le all) in
     let visited = c.in_ok-coerce_node.ensures in
@@ -99,8 +99,8 @@ returns-in_err-coerce_node-clause-elsewhere c = λ n op inputs apart h.
     let here = all_last (Near c.args.arena.now roots) (numbers c.pop.new.self.items) c.in-Some.node.0 waits in
     c.in_err-coerce_node.ensures.elsewhere n op inputs (not_near c.args.arena.now roots c.in-Some.node.0 n op inputs here apart h) (c.loop-turn.invariant.elsewhere n op inputs apart h)
 
-pub returns-in_err-inputs_rev-clause-elsewhere : goal.returns-in_err-inputs_rev-clause-elsewhere
-returns-in_err-inputs_rev-clause-elsewhere c = λ n op inputs apart h.
+pub returns-in_err-push_inputs-clause-elsewhere : goal.returns-in_err-push_inputs-clause-elsewhere
+returns-in_err-push_inputs-clause-elsewhere c = λ n op inputs apart h.
     let roots = numbers c.args.stack.now.items in
     let popped = pushed_one c.pop.new.self.items c.loop-turn.stack.items c.in-Some.node c.in-Some.ensures.items in
     let waits = subst (AllByRecursion (Near c.args.arena.now roots)) popped c.loop-turn.invariant.near in

@@ -12,5 +12,5 @@ pub returns-clause-refused : goal.returns-clause-refused
 unfolding values_on_literals
 returns-clause-refused c =
     let scan = to "plan" (to "scan" []) in
-    each_refused _ (to "plan" [] ∷ to "plan" (to "empty" (number 0 ∷ number 1 ∷ to "Datetime" [])) ∷ scan ∷ to "plan" (to "filter" (number 1 ∷ to "lit" [])) ∷ scan ∷ scan ∷ to "plan" (to "filter" (number 1 ∷ to "exclude" (number 1 ∷ number 0 ∷ to "name" []))) ∷ scan ∷ scan ∷ [])
-    ((refl, refl, refl), ((refl, refl, refl), ((refl, refl, refl), ((refl, refl, refl), ((refl, refl, refl), ((refl, refl, refl), ((refl, refl, refl), ((refl, refl, refl), ((refl, refl, refl), tt)))))))))
+    each_refused _ (to "plan" [] ∷ to "plan" (to "empty" (number 0 ∷ number 1 ∷ to "Datetime" [])) ∷ scan ∷ to "plan" (to "filter" (number 1 ∷ to "lit" [])) ∷ scan ∷ scan ∷ to "plan" (to "filter" (number 1 ∷ to "exclude" (number 1 ∷ number 0 ∷ to "name" []))) ∷ to "plan" (to "filter" (number 1 ∷ to "over" (number 2 ∷ number 2 ∷ []))) ∷ scan ∷ scan ∷ [])
+    ((refl, refl, refl), ((refl, refl, refl), ((refl, refl, refl), ((refl, refl, refl), ((refl, refl, refl), ((refl, refl, refl), ((refl, refl, refl), ((refl, refl, refl), ((refl, refl, refl), ((refl, refl, refl), tt))))))))))

@@ -1,8 +1,8 @@
-use Rattle.std.proofs.Common.{◌≡◌, ℕ, List, [], ◌∷◌, Some, codes, refl, sym, ap, ◌∙◌, subst}
+use Rattle.std.proofs.Common.{◌≡◌, ℕ, List, [], ◌∷◌, Some, None, true, false, codes, refl, sym, ap, ◌∙◌, subst}
 use Rattle.plan_dsl.specs.declared.sort_options.SortMultipleOptions.{SortMultipleOptions}
 use Rattle.plan_dsl.specs.Trees.{Trees, node, no_more, more, children_from}
-use Rattle.plan_dsl.specs.Ops.{Op, Expression, SortByOp}
-use Rattle.plan_dsl.specs.Samples.{a, count, sort_by}
+use Rattle.plan_dsl.specs.Ops.{Op, Expression, SortByOp, WindowOp}
+use Rattle.plan_dsl.specs.Samples.{a, count, sort_by, way}
 use Rattle.plan_arena.specs.declared.aexpr.AExpr.{AExpr}
 use Rattle.plan_arena.specs.declared.aexpr.AExpr.TheVariants.{Column, Len, SortBy}
 use Rattle.plan_arena.specs.declared.inputs.NodeList.{NodeList}
@@ -62,3 +62,14 @@ returns-clause-other_keys c = λ by options is.
     let under : (keys : List Expression) → Denotes (HoldsExpression items) 2 (sort_by options.descending.items.value.items options.nulls_last.items.value.items keys a) → DenoteAll (HoldsExpression items) (0 ∷ 1 ∷ 0 ∷ []) (more a (children_from keys))
     = λ keys d. subst (λ inputs. DenoteAll (HoldsExpression items) inputs (more a (children_from keys))) (sym (keys_are by options is _ d.0 d.1)) d.2 in
     (λ d. count_isnt_a (SortBy (node_at 0) by options ∷ []) (under (a ∷ count ∷ []) d).1.0, (λ d. (under (count ∷ []) d).1.1, (λ d. (under (count ∷ a ∷ a ∷ []) d).1.1.1, tt)))
+
+pub returns-clause-window : goal.returns-clause-window
+returns-clause-window c = λ keys is.
+    (0 ∷ 1 ∷ [], ap (λ nodes. Some (layer (WindowOp None) (0 ∷ numbers nodes))) is, (([], refl, tt), (([], refl, tt), tt)))
+
+pub returns-clause-ordered_window : goal.returns-clause-ordered_window
+returns-clause-ordered_window c = λ keys is. (
+  1 ∷ 0 ∷ 1 ∷ [],
+  ap (λ nodes. Some (layer (WindowOp (Some (way true false))) (1 ∷ 0 ∷ numbers nodes))) is,
+  (([], refl, tt), (([], refl, tt), (([], refl, tt), tt))),
+)

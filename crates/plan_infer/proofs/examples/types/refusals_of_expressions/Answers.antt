@@ -15,5 +15,8 @@ returns-clause-lists c = (broken InvalidOperation refl refl, (broken InvalidOper
 pub returns-clause-structs : goal.returns-clause-structs
 returns-clause-structs c = (broken InvalidOperation refl refl, (broken InvalidOperation refl refl, tt))
 
+pub returns-clause-windows : goal.returns-clause-windows
+returns-clause-windows c = (broken InvalidOperation refl refl, (broken InvalidOperation refl refl, (broken InvalidOperation refl refl, tt)))
+
 pub returns-clause-no_common_type : goal.returns-clause-no_common_type
 returns-clause-no_common_type c = (broken SchemaMismatch refl refl, (broken SchemaMismatch refl refl, (broken SchemaMismatch refl refl, tt)))

@@ -1,19 +1,19 @@
-use Rattle.std.proofs.Common.{◌≡◌, true, arith, length, map, refl, subst, sym, ap, ◌∙◌}
+use Rattle.std.proofs.Common.{◌≡◌, ◌++◌, true, arith, length, map, refl, subst, sym, ap, ◌∙◌}
 use Rattle.std.specs.List.{AllByRecursion}
-use Rattle.plan_dsl.specs.Sources.{is_plain}
+use Rattle.plan_dsl.specs.Sources.{is_plain, unwritten}
 use Rattle.std.specs.Vec.Iter.{into_iter_items}
 use Rattle.plan_dsl.specs.Aliases.{all_pruned, inputs_pruned, prune_node, pruned}
-use Rattle.plan_dsl.specs.Expressions.{plain_tree, plain_trees, sort_by_op, tree_of}
-use Rattle.plan_dsl.specs.declared.aggregate.AggExpr.TheViews.{size-Expr, sized-BinaryExpr, sized-Filter, sized-Gather, sized-Slice, sized-SortBy}
-use Rattle.plan_dsl.specs.Ops.{AliasOp}
+use Rattle.plan_dsl.specs.Expressions.{order_trees, plain_tree, plain_trees, sort_by_op, tree_of, trees_of}
+use Rattle.plan_dsl.specs.declared.aggregate.AggExpr.TheViews.{size-Expr, sized-BinaryExpr, sized-Filter, sized-Gather, sized-Slice, sized-SortBy, sized-Window}
+use Rattle.plan_dsl.specs.Ops.{AliasOp, WindowOp}
 use Rattle.plan_dsl.specs.Trees.{node, no_more, more, children_from}
-use Rattle.plan_dsl.proofs.ExprLemmas.{sort_by_listed}
-use Rattle.plan_arena.specs.declared.aexpr.AExpr.TheVariants.{Alias, SortBy}
+use Rattle.plan_dsl.proofs.ExprLemmas.{sort_by_listed, window_listed}
+use Rattle.plan_arena.specs.declared.aexpr.AExpr.TheVariants.{Alias, SortBy, Window}
 use Rattle.plan_arena.specs.Denotation.{Denotes}
 use Rattle.plan_arena.specs.Items.{HoldsFrom}
 use Rattle.plan_lower.specs.Nodes.{IsItemOf}
 use Rattle.plan_arena.proofs.ItemLemmas.{grows_then, length-grown}
-use Rattle.plan_lower.proofs.NodeLemmas.{Adding, adding_start, adding_step, each_plain, item_denotes, nothing_added, over_added, over_listed, pruned_item, rest_plain, second_plain, third_plain, unwritten_listed}
+use Rattle.plan_lower.proofs.NodeLemmas.{Adding, adding_start, adding_step, both_plain, each_plain, item_denotes, nothing_added, over_added, over_both, over_listed, pruned_item, rest_plain, second_plain, third_plain, unwritten_both, unwritten_listed}
 use Rattle.plan_lower.proofs.conversion.expr_to_ir.+nodes.Goals as goal
 
 pub add_nodes-returns-in_ok-node-in-Alias-clause-denotes : goal.add_nodes-returns-in_ok-node-in-Alias-clause-denotes
@@ -116,6 +116,33 @@ add_inputs-returns-in-SortBy-clause-ok t c =
     let whole = ap (inputs_pruned c.args.keep) (unwritten_listed kind.by.items.items (sort_by_listed c.args.expr kind.expr kind.by kind.sort_options kind.is)) in
     let tree = whole ∙ ap (λ e. node (sort_by_op kind.sort_options) (more (pruned c.args.keep (plain_tree e)) keys)) (sym c.into_inner-in-SortBy.ensures) in
     over_listed c.args.arena.now c.add_nodes-in-SortBy.new.arena c.add_each.new.arena _ (SortBy c.in_ok-expr-in-SortBy.expr c.in_ok-by-in-SortBy.by kind.sort_options) _ _ _ keys tree refl first.denotes first.grows rest.ok rest.grows
+
+-- what orders the groups of a window, and its keys, are less deep and have plans' ops alone
+pub add_inputs-add_order-requires : goal.add_inputs-add_order-requires
+add_inputs-add_order-requires t c =
+    let kind = c.in-Window in
+    let size = ap size-Expr kind.is ∙ sized-Window _ _ _ _ in
+    let plain = rest_plain (window_listed c.args.expr kind.function kind.partition_by kind.order_by kind.options kind.is) c.requires.plain in
+    (omega (arith, c.decreases, size), (both_plain (order_trees kind.order_by) (trees_of kind.partition_by) plain).0)
+
+pub add_inputs-add_each-requires-in-Window : goal.add_inputs-add_each-requires-in-Window
+add_inputs-add_each-requires-in-Window t c =
+    let kind = c.in-Window in
+    let size = ap size-Expr kind.is ∙ sized-Window _ _ _ _ in
+    let plain = rest_plain (window_listed c.args.expr kind.function kind.partition_by kind.order_by kind.options kind.is) c.requires.plain in
+    (omega (arith, c.decreases, size), (both_plain (order_trees kind.order_by) (trees_of kind.partition_by) plain).1)
+
+-- a window's item, over its function, what orders its groups, and its keys
+pub add_inputs-returns-in-Window-clause-ok : goal.add_inputs-returns-in-Window-clause-ok
+add_inputs-returns-in-Window-clause-ok t c =
+    let kind = c.in-Window in
+    let first = c.in_ok-function-in-Window.ensures in
+    let order = c.in_ok-order_by-in-Window in
+    let keys = c.in_ok-partition_by-in-Window.ensures in
+    let orders = map unwritten (order_trees kind.order_by) in
+    let whole = ap (inputs_pruned c.args.keep) (unwritten_both (order_trees kind.order_by) kind.partition_by.items.items (window_listed c.args.expr kind.function kind.partition_by kind.order_by kind.options kind.is)) in
+    let tree = whole ∙ (λ i. node (WindowOp (sym order.ensures.way i)) (more (pruned c.args.keep (plain_tree (sym c.into_inner-in-Window.ensures i))) (all_pruned c.args.keep (children_from (orders ++ plain_trees kind.partition_by))))) in
+    over_both c.args.keep c.args.arena.now c.add_nodes-in-Window.new.arena c.add_order.new.arena c.add_each-in-Window.new.arena _ (Window c.in_ok-function-in-Window.function c.in_ok-partition_by-in-Window.partition_by order.order_by kind.options) _ _ _ _ orders (plain_trees kind.partition_by) tree refl first.denotes first.grows order.ensures.ok order.ensures.grows keys.ok keys.grows
 
 pub add_each-loop-expr-init : goal.add_each-loop-expr-init
 add_each-loop-expr-init t c =

@@ -1,7 +1,7 @@
 use Rattle.std.proofs.Common.{length, ap, ◌∙◌, arith}
 use Rattle.std.proofs.lemmas.List.{length_push}
 use Rattle.plan_arena.proofs.InputLemmas.{one_more}
-use Rattle.plan_arena.proofs.aexpr.push_reversed.Goals as goal
+use Rattle.plan_arena.proofs.aexpr.push_in_room.Goals as goal
 
 pub loop-left-preserved : goal.loop-left-preserved
 loop-left-preserved c =

@@ -1,6 +1,6 @@
 use Rattle.std.proofs.Common.{◌≡◌, ◌++◌, ◌+◌, ◌≤◌, length, reverse, take}
 use Rattle.plan_arena.specs.Items.{numbers}
-use Rattle.plan_arena.proofs.aexpr.push_reversed.Given as goal
+use Rattle.plan_arena.proofs.aexpr.push_in_room.Given as goal
 
 -- the inputs from a number on are appended, and there is room for the others
 abbrev pub invariant-loop-left : goal.invariant-loop-left
