@@ -1,21 +1,23 @@
 -- The expressions of a node, as the row that it keeps and as a list.
-use Rattle.std.proofs.Common.{◌≡◌, ◌≢◌, ℕ, suc, Bool, true, false, ◌&&◌, List, [], ◌∷◌, ◌++◌, map, length, Option, Some, None, refl, sym, ap, ◌∙◌}
+use Rattle.std.proofs.Common.{◌≡◌, ◌≢◌, ℕ, suc, Bool, true, false, cond, ◌&&◌, List, [], ◌∷◌, ◌++◌, map, length, Option, Some, None, refl, sym, ap, ◌∙◌}
 use Rattle.std.proofs.Math.Bool.{and-true, and-false}
-use Rattle.std.proofs.lemmas.List.{append_assoc}
+use Rattle.std.proofs.lemmas.List.{append_assoc, map-append}
 use Rattle.std.specs.Global.{Box, Vec}
 use Rattle.std.specs.Cmp.Derive.Mapped.{items_map, pointwise-map}
 use Rattle.std.specs.Cmp.Lexicographic.{pointwise}
 use Rattle.std.specs.Hash as fed
 use Rattle.std.specs.Hash.{fed_then}
 use Rattle.std.specs.List.{fold, list_all}
+use Rattle.std.specs.Option.{option_map}
 use mathlib.Core.Former.{Count}
-use Rattle.plan_dsl.specs.Trees.{node, more, children_from, top_op}
+use Rattle.plan_dsl.specs.Copies.{put, all_put, put_below}
+use Rattle.plan_dsl.specs.Trees.{Trees, node, no_more, more, children_from, top_op}
 use Rattle.plan_types.specs.Schemas.{Name}
 use Rattle.plan_types.specs.Types.{ty, same_type}
 use Rattle.plan_types.specs.declared.dtype.DataType.{DataType}
 use Rattle.plan_dsl.specs.declared.marker.Excluded.{Excluded}
-use Rattle.plan_dsl.specs.Ops.{Op, WindowOp}
-use Rattle.plan_dsl.specs.Expansion.{all_with_column_put, with_column_put}
+use Rattle.plan_dsl.specs.Ops.{Op, ColumnOp, WindowOp}
+use Rattle.plan_dsl.specs.Expansion.{all_with_column_put, is_marker, with_column_put}
 use Rattle.plan_dsl.specs.Expressions.{excluded_of, order_trees, tree_of, row_trees, sort_by_op, trees_of, way_of}
 use Rattle.plan_dsl.specs.SameExpressions.{same_order, same_sort, same_trees, trees_writes}
 use Rattle.plan_dsl.specs.Sources.{is_plain, all_are_plain, excluded_writes, same_excluded, SourceOp, Plain, Source, same_source_op, same_source, source_op_writes, source_writes}
@@ -41,22 +43,9 @@ row_listed value op first row items is shown = record {
   is = is ∙ ap (λ rest. node op (more first rest)) (row_children row.0 row.1 ∙ ap (λ items. children_from (map tree_of items)) shown);
 }
 
--- one of the same parts
-pub listed_copied : {tree copy : Source} {op own : SourceOp} {first other : Source} {rest others : List Source} → IsListed tree op first rest → IsListed copy own other others → own ≡ op → other ≡ first → others ≡ rest → copy ≡ tree
-listed_copied listed copied ops firsts rests = copied.is ∙ (λ i. node (ops i) (more (firsts i) (children_from (rests i)))) ∙ sym listed.is
-
 -- compared
 pub listed_compared : {a b : Source} {op own : SourceOp} {first other : Source} {rest others : List Source} {result : Bool} → IsListed a op first rest → IsListed b own other others → true ≡ same_source_op op own → true ≡ same_source first other → result ≡ same_trees same_source_op (children_from rest) (children_from others) → result ≡ same_source a b
 listed_compared left right ops firsts rests = (λ i. ops i && (firsts i && rests i)) ∙ sym (λ i. same_source (left.is i) (right.is i))
-
--- copied with a column in place of markers
-pub listed_put : (name : Name) {tree copy : Source} {op : Op} {own : SourceOp} {first other : Source} {rest others : List Source} → IsListed tree (Plain op) first rest → IsListed copy own other others → own ≡ Plain op → other ≡ with_column_put name first → children_from others ≡ all_with_column_put name (children_from rest) → copy ≡ with_column_put name tree
-listed_put name listed copied ops firsts rests = copied.is ∙ (λ i. node (ops i) (more (firsts i) (rests i))) ∙ sym (ap (with_column_put name) listed.is)
-
--- and so are all of a list
-pub put_each : (name : Name) (exprs : List Expr) → children_from (map (λ expr. with_column_put name (tree_of expr)) exprs) ≡ all_with_column_put name (children_from (map tree_of exprs))
-put_each name [] = refl
-put_each name (expr ∷ exprs) = ap (more (with_column_put name (tree_of expr))) (put_each name exprs)
 
 -- with plans' ops alone
 each_is_plain : (sources : List Source) → all_are_plain (children_from sources) ≡ list_all is_plain sources
@@ -102,12 +91,6 @@ window_listed value function keys (Some order) options is =
       is = ap tree_of is ∙ ap (λ rest. node (Plain (WindowOp (Some order.1))) (more (tree_of function.value) (more (tree_of order.0.value) rest)))
           (row_children row.0 row.1 ∙ ap (λ items. children_from (map tree_of items)) (items_hidden-the_row-Expr-0 keys.items));
     }
-
--- with a column in place of markers
-pub put_behind : (name : Name) (orders keys others : List Source) → children_from others ≡ all_with_column_put name (children_from keys)
-    → children_from (map (with_column_put name) orders ++ others) ≡ all_with_column_put name (children_from (orders ++ keys))
-put_behind name [] keys others put = put
-put_behind name (order ∷ orders) keys others put = ap (more (with_column_put name order)) (put_behind name orders keys others put)
 
 -- compared
 moved : (way first order keys : Bool) → (way && (first && (order && keys))) ≡ ((way && (order && true)) && (first && keys))
@@ -161,3 +144,55 @@ pub exclude_fed : {S : Type 0} (write : S → List ℕ → S) (s : S) {t u : S} 
 exclude_fed write s {t} {u} marker excluded is own each =
     fed_then write s t u (fed.u8 16) (fed.slice (λ x. excluded_writes (excluded_of x)) excluded.items) own each
     ∙ ap (λ x. fold write s (fed.u8 16 ++ x)) (sym (items_map excluded_of excluded_writes excluded.items)) ∙ sym (ap (λ x. fold write s (source_op_writes (top_op (tree_of x)))) is)
+
+-- ---- copies with a column in place of markers, or without
+
+own_each : (children : Trees SourceOp) → all_put None children ≡ children
+own_each no_more = refl
+own_each (more child rest) = ap (more child) (own_each rest)
+
+own_below : (b : Bool) (op : SourceOp) (children : Trees SourceOp) → node op (cond b children (all_put None children)) ≡ node op children
+own_below true op children = refl
+own_below false op children = ap (node op) (own_each children)
+
+pub put_own : (source : Source) → put_below None source ≡ put None source
+put_own (node op children) = own_below (is_marker op) op children
+
+each_put : (name : Name) (children : Trees SourceOp) → all_put (Some name) children ≡ all_with_column_put name children
+each_put name no_more = refl
+each_put name (more child rest) = ap (more (with_column_put name child)) (each_put name rest)
+
+-- a marker
+pub column_put : (name : Name) (source : Source) → true ≡ is_marker (top_op source) → node (Plain (ColumnOp name)) no_more ≡ put (Some name) source
+column_put name (node op children) marks = ap (λ b. cond b (node (Plain (ColumnOp name)) no_more) (node op (all_with_column_put name children))) marks
+
+-- what is none
+pub below_put : (name : Name) (source : Source) → false ≡ is_marker (top_op source) → put_below (Some name) source ≡ put (Some name) source
+below_put name (node op children) marks =
+    sym (ap (λ b. node op (cond b children (all_put (Some name) children))) marks) ∙ ap (node op) (each_put name children) ∙ ap (λ b. cond b (node (Plain (ColumnOp name)) no_more) (node op (all_with_column_put name children))) marks
+
+-- of a list
+row_put : (column : Option Name) (sources : List Source) → children_from (map (put column) sources) ≡ all_put column (children_from sources)
+row_put column [] = refl
+row_put column (source ∷ sources) = ap (more (put column source)) (row_put column sources)
+
+pub listed_copied : {tree copy : Source} {op : Op} {own : SourceOp} {first other : Source} {rest others : List Source} (column : Option Name) → IsListed tree (Plain op) first rest → IsListed copy own other others → own ≡ Plain op → other ≡ put column first → others ≡ map (put column) rest → copy ≡ put_below column tree
+listed_copied {rest = rest} column listed copied ops firsts rests =
+    copied.is ∙ (λ i. node (ops i) (more (firsts i) ((ap children_from rests ∙ row_put column rest) i))) ∙ sym (ap (put_below column) listed.is)
+
+pub own_list : (sources : List Source) → map (put None) sources ≡ sources
+own_list [] = refl
+own_list (source ∷ sources) = ap (λ rest. source ∷ rest) (own_list sources)
+
+-- what orders a window's groups, in front of its keys
+pub put_behind : (column : Option Name) (orders keys : List Source) {own others : List Source} → own ≡ map (put column) orders → others ≡ map (put column) keys → own ++ others ≡ map (put column) (orders ++ keys)
+put_behind column orders keys made rest = (λ i. made i ++ rest i) ∙ sym (map-append (put column) orders keys)
+
+-- a copy of a node, from that of what stands below it
+pub copied_alone : {T : Type 0} {copy : Source} {column : Option T} (tree : Source) (name_of : T → Name) → column ≡ None → copy ≡ put_below (option_map name_of column) tree → copy ≡ put (option_map name_of column) tree
+copied_alone tree name_of is made =
+    made ∙ ap (λ x. put_below (option_map name_of x) tree) is ∙ put_own tree ∙ sym (ap (λ x. put (option_map name_of x) tree) is)
+
+pub copied_below : {T : Type 0} {copy : Source} {column : Option T} (tree : Source) (name_of : T → Name) (name : T) → column ≡ Some name → false ≡ is_marker (top_op tree) → copy ≡ put_below (option_map name_of column) tree → copy ≡ put (option_map name_of column) tree
+copied_below tree name_of name is marks made =
+    made ∙ ap (λ x. put_below (option_map name_of x) tree) is ∙ below_put (name_of name) tree marks ∙ sym (ap (λ x. put (option_map name_of x) tree) is)

@@ -1,6 +1,7 @@
 -- What the contracts of this crate cite.
 pub mod Aggregates
 pub mod Aliases
+pub mod Copies
 pub mod Counts
 pub mod Drops
 pub mod Evaluations

@@ -1,16 +1,19 @@
 //! Expressions over the columns of a frame.
-ghost use Rattle.std.specs.Prelude.{◌≡◌, ◌&&◌, map, IfOk, IfErr};
+ghost use Rattle.std.specs.Prelude.{◌≡◌, ◌&&◌, map, true, false, IfOk, IfErr};
 ghost use Rattle.std.specs.List.{fold, list_all};
+ghost use Rattle.std.specs.Option.{option_map};
 ghost use Rattle.plan_dsl.specs.Trees.{children_from, top_op};
 ghost use Rattle.plan_dsl.specs.Expressions.{order_trees, tree_of, trees_of, way_of};
-ghost use Rattle.plan_dsl.specs.Expansion.{all_with_column_put, with_column_put};
+ghost use Rattle.plan_dsl.specs.Copies.{has_one, has_several, put, put_below};
+ghost use Rattle.plan_dsl.specs.Expansion.{is_marker, with_column_put};
 ghost use Rattle.plan_dsl.specs.SameExpressions.{operator_rank, options_rank, order_writes, same_order, same_trees, trees_writes};
 ghost use Rattle.plan_dsl.specs.Sources.{is_plain, same_source, same_source_op, source_op_writes, source_writes};
 ghost use Rattle.plan_types.specs.Errors.{no_memory};
 
 use crate::aggregate::{AggExpr, method_rank};
+use crate::copies::{copied, exprs_copied};
 use crate::literal::LiteralValue;
-use crate::marker::{Excluded, RenameAliasFn, excluded_copied, names_copied, types_copied};
+use crate::marker::{Excluded, RenameAliasFn};
 use crate::operator::Operator;
 use crate::selector::Selector;
 use crate::sort_options::{SortMultipleOptions, SortOptions};
@@ -29,31 +32,12 @@ pub struct Exprs {
 }
 
 impl Exprs {
-    #[cycle(expr_copies)]
     pub fn try_clone(&self, alloc: Global) -> Result<Exprs, PlanError>
         ensures ok { IfOk result (λ copy. trees_of copy ≡ trees_of self.now) }
         ensures err { IfErr result (λ error. error ≡ no_memory) }
     {
-        let mut items = Vec::new(alloc);
-        for expr in self.items.as_slice() {
-            let copy = expr.try_clone(alloc)?;
-            items.push(copy)?;
-        }
-        Ok(Exprs { items })
-    }
-
-    // A copy with the column of that name in place of all markers.
-    #[cycle(columns_put)]
-    fn with_column(&self, name: &PlSmallStr, alloc: Global) -> Result<Exprs, PlanError>
-        ensures ok { IfOk result (λ copy. children_from (trees_of copy) ≡ all_with_column_put name.now (children_from (trees_of self.now))) }
-        ensures err { IfErr result (λ error. error ≡ no_memory) }
-    {
-        let mut items = Vec::with_capacity(alloc, self.items.len())?;
-        for expr in self.items.as_slice() {
-            let copy = expr.with_column(name, alloc)?;
-            items.push(copy)?;
-        }
-        Ok(Exprs { items })
+        let copy = exprs_copied(self, None, alloc)?;
+        Ok(copy)
     }
 
     // Whether none has a marker or a renaming form.
@@ -188,39 +172,6 @@ pub enum Expr {
     },
 }
 
-// A copy of an expression, by its kind, whose operands are copied by those calls, into a box or not: of those that are
-// listed the operands, a list of operands, the fields that are copied, and those that take memory. What becomes of
-// markers is given.
-macro_rules! copied {
-    (
-        $expr:expr, $alloc:ident, $copy:ident $boxed:ident $args:tt, [$($marker:pat => $made:expr),*],
-        $($kind:ident { $($input:ident),* } [$($list:ident),*] [$($copied:ident),*] [$($cloned:ident),*])*
-    ) => {
-        match $expr {
-            $($marker => $made,)*
-            Expr::Column(name) => Ok(Expr::Column(name.try_clone($alloc)?)),
-            Expr::Literal(value) => Ok(Expr::Literal(value.try_clone($alloc)?)),
-            Expr::Len => Ok(Expr::Len),
-            $(Expr::$kind { $($input,)* $($list,)* $($copied,)* $($cloned),* } => Ok(Expr::$kind {
-                $($input: $input.$boxed $args?,)*
-                $($list: $list.$copy $args?,)*
-                $($copied: *$copied,)*
-                $($cloned: $cloned.try_clone($alloc)?),*
-            }),)*
-            Expr::Explode(input) => Ok(Expr::Explode(input.$boxed $args?)),
-            Expr::Alias(expr, name) => {
-                let name = name.try_clone($alloc)?;
-                Ok(Expr::Alias(expr.$boxed $args?, name))
-            }
-            Expr::KeepName(expr) => Ok(Expr::KeepName(expr.$boxed $args?)),
-            Expr::Agg(aggregate) => {
-                let input = aggregate.as_ref().$boxed $args?;
-                Ok(Expr::Agg(AggExpr::of(aggregate.method(), input)))
-            }
-        }
-    };
-}
-
 // Whether two expressions are one tree, by their kind: of those that are listed the operands and the other fields, each
 // with a name for that of the other expression.
 macro_rules! compared {
@@ -302,91 +253,20 @@ macro_rules! feed_operands {
 }
 
 impl Expr {
-    #[cycle(expr_copies)]
     pub fn try_clone(&self, alloc: Global) -> Result<Expr, PlanError>
         ensures ok { IfOk result (λ copy. tree_of copy ≡ tree_of self.now) }
         ensures err { IfErr result (λ error. error ≡ no_memory) }
     {
-        copied!(self, alloc, try_clone boxed_copy(alloc), [
-                Expr::Columns(names) => Ok(Expr::Columns(names_copied(names, alloc)?)),
-                Expr::DtypeColumn(types) => Ok(Expr::DtypeColumn(types_copied(types, alloc)?)),
-                Expr::IndexColumn(places) => Ok(Expr::IndexColumn(Vec::from_slice(alloc, places)?)),
-                Expr::Nth(place) => Ok(Expr::Nth(*place)),
-                Expr::Wildcard => Ok(Expr::Wildcard),
-                Expr::Exclude(marker, excluded) => {
-                    let excluded = excluded_copied(excluded, alloc)?;
-                    Ok(Expr::Exclude(marker.boxed_copy(alloc)?, excluded))
-                },
-                Expr::Selector(selector) => Ok(Expr::Selector(selector.try_clone(alloc)?)),
-                Expr::Window { function, partition_by, order_by, options } => Ok(Expr::Window {
-                    function: function.boxed_copy(alloc)?,
-                    partition_by: partition_by.try_clone(alloc)?,
-                    order_by: order_copied(order_by, alloc)?,
-                    options: *options,
-                })
-            ],
-            BinaryExpr { left, right } [] [op] []
-            Cast { expr } [] [options] [dtype]
-            Slice { input, offset, length } [] [] []
-            Gather { expr, idx } [] [returns_scalar] []
-            Filter { input, by } [] [] []
-            Sort { expr } [] [options] []
-            SortBy { expr } [by] [] [sort_options]
-            RenameAlias { expr } [] [] [function]
-        )
-    }
-
-    // The same in a box.
-    #[cycle(expr_copies)]
-    pub(crate) fn boxed_copy(&self, alloc: Global) -> Result<Box<Expr>, PlanError>
-        ensures ok { IfOk result (λ copy. tree_of copy.value ≡ tree_of self.now) }
-        ensures err { IfErr result (λ error. error ≡ no_memory) }
-    {
-        let copy = self.try_clone(alloc)?;
-        let copy = Box::new(alloc, copy)?;
+        let copy = copied(self, None, alloc)?;
         Ok(copy)
     }
 
     /// A copy with the column of that name in place of all markers.
-    #[cycle(columns_put)]
     pub fn with_column(&self, name: &PlSmallStr, alloc: Global) -> Result<Expr, PlanError>
         ensures ok { IfOk result (λ copy. tree_of copy ≡ with_column_put name.now (tree_of self.now)) }
         ensures err { IfErr result (λ error. error ≡ no_memory) }
     {
-        copied!(self, alloc, with_column boxed_with_column(name, alloc), [
-                Expr::Columns(_)
-                | Expr::DtypeColumn(_)
-                | Expr::IndexColumn(_)
-                | Expr::Nth(_)
-                | Expr::Wildcard
-                | Expr::Exclude(_, _)
-                | Expr::Selector(_) => Ok(Expr::Column(name.try_clone(alloc)?)),
-                Expr::Window { function, partition_by, order_by, options } => Ok(Expr::Window {
-                    function: function.boxed_with_column(name, alloc)?,
-                    partition_by: partition_by.with_column(name, alloc)?,
-                    order_by: order_with_column(order_by, name, alloc)?,
-                    options: *options,
-                })
-            ],
-            BinaryExpr { left, right } [] [op] []
-            Cast { expr } [] [options] [dtype]
-            Slice { input, offset, length } [] [] []
-            Gather { expr, idx } [] [returns_scalar] []
-            Filter { input, by } [] [] []
-            Sort { expr } [] [options] []
-            SortBy { expr } [by] [] [sort_options]
-            RenameAlias { expr } [] [] [function]
-        )
-    }
-
-    // The same in a box.
-    #[cycle(columns_put)]
-    fn boxed_with_column(&self, name: &PlSmallStr, alloc: Global) -> Result<Box<Expr>, PlanError>
-        ensures ok { IfOk result (λ copy. tree_of copy.value ≡ with_column_put name.now (tree_of self.now)) }
-        ensures err { IfErr result (λ error. error ≡ no_memory) }
-    {
-        let copy = self.with_column(name, alloc)?;
-        let copy = Box::new(alloc, copy)?;
+        let copy = copied(self, Some(name), alloc)?;
         Ok(copy)
     }
 
@@ -506,43 +386,6 @@ impl Expr {
             Expr::Nth(place) => 18 [place]
             Expr::Selector(_) => 20 []
         )
-    }
-}
-
-// A copy of what orders the groups of a window, if anything does.
-#[cycle(expr_copies)]
-fn order_copied(
-    order: &Option<(Box<Expr>, SortOptions)>,
-    alloc: Global,
-) -> Result<Option<(Box<Expr>, SortOptions)>, PlanError>
-    ensures ok { IfOk result (λ copy. (way_of copy ≡ way_of order.now) × (order_trees copy ≡ order_trees order.now)) }
-    ensures err { IfErr result (λ error. error ≡ no_memory) }
-{
-    match order {
-        None => Ok(None),
-        Some((expr, options)) => {
-            let expr = expr.boxed_copy(alloc)?;
-            Ok(Some((expr, *options)))
-        }
-    }
-}
-
-// The same with the column of that name in place of all markers.
-#[cycle(columns_put)]
-fn order_with_column(
-    order: &Option<(Box<Expr>, SortOptions)>,
-    name: &PlSmallStr,
-    alloc: Global,
-) -> Result<Option<(Box<Expr>, SortOptions)>, PlanError>
-    ensures ok { IfOk result (λ copy. (way_of copy ≡ way_of order.now) × (order_trees copy ≡ map (with_column_put name.now) (order_trees order.now))) }
-    ensures err { IfErr result (λ error. error ≡ no_memory) }
-{
-    match order {
-        None => Ok(None),
-        Some((expr, options)) => {
-            let expr = expr.boxed_with_column(name, alloc)?;
-            Ok(Some((expr, *options)))
-        }
     }
 }
 

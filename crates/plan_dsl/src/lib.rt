@@ -3,6 +3,7 @@
 
 pub mod aggregate;
 pub mod builder;
+mod copies;
 mod examples;
 pub mod expr;
 pub mod function;

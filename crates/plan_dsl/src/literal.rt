@@ -86,15 +86,15 @@ impl LiteralValue {
         ensures literal { IfSome result (λ value. literal_op value ≡ LiteralOp (ty dtype.now) (IntValue number)) }
     {
         match dtype {
-            DataType::Int8 => i8::try_from(number).ok().map(LiteralValue::Int8),
-            DataType::Int16 => i16::try_from(number).ok().map(LiteralValue::Int16),
-            DataType::Int32 => i32::try_from(number).ok().map(LiteralValue::Int32),
-            DataType::Int64 => i64::try_from(number).ok().map(LiteralValue::Int64),
-            DataType::UInt8 => u8::try_from(number).ok().map(LiteralValue::UInt8),
-            DataType::UInt16 => u16::try_from(number).ok().map(LiteralValue::UInt16),
-            DataType::UInt32 => u32::try_from(number).ok().map(LiteralValue::UInt32),
-            DataType::UInt64 => u64::try_from(number).ok().map(LiteralValue::UInt64),
-            DataType::Date => i32::try_from(number).ok().map(LiteralValue::Date),
+            DataType::Int8 => Some(LiteralValue::Int8(i8::try_from(number).ok()?)),
+            DataType::Int16 => Some(LiteralValue::Int16(i16::try_from(number).ok()?)),
+            DataType::Int32 => Some(LiteralValue::Int32(i32::try_from(number).ok()?)),
+            DataType::Int64 => Some(LiteralValue::Int64(i64::try_from(number).ok()?)),
+            DataType::UInt8 => Some(LiteralValue::UInt8(u8::try_from(number).ok()?)),
+            DataType::UInt16 => Some(LiteralValue::UInt16(u16::try_from(number).ok()?)),
+            DataType::UInt32 => Some(LiteralValue::UInt32(u32::try_from(number).ok()?)),
+            DataType::UInt64 => Some(LiteralValue::UInt64(u64::try_from(number).ok()?)),
+            DataType::Date => Some(LiteralValue::Date(i32::try_from(number).ok()?)),
             DataType::Time => time_of(number),
             DataType::Datetime(unit) => {
                 let count = i64::try_from(number).ok()?;

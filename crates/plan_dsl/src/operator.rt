@@ -87,33 +87,40 @@ impl Operator {
             | Operator::Modulus => None,
         }
     }
+
+    // How it is written.
+    fn sign(&self) -> &'static str
+        ensures { result.now ≡ operator_sign self.now }
+    {
+        match self {
+            Operator::Eq => "==",
+            Operator::EqValidity => "==v",
+            Operator::NotEq => "!=",
+            Operator::NotEqValidity => "!=v",
+            Operator::Lt => "<",
+            Operator::LtEq => "<=",
+            Operator::Gt => ">",
+            Operator::GtEq => ">=",
+            Operator::Plus => "+",
+            Operator::Minus => "-",
+            Operator::Multiply => "*",
+            Operator::Divide => "//",
+            Operator::FloorDivide => "floor_div",
+            Operator::Modulus => "%",
+            Operator::And => "&",
+            Operator::Or => "|",
+            Operator::Xor => "^",
+            Operator::LogicalAnd => "&",
+            Operator::LogicalOr => "|",
+        }
+    }
 }
 
 impl fmt::Display for Operator {
     ghost output = { λ operator. Some (operator_sign operator) };
 
     fn fmt<W: fmt::Write>(&self, f: &mut fmt::Formatter<W>) -> fmt::Result {
-        match self {
-            Operator::Eq => write!(f, "=="),
-            Operator::EqValidity => write!(f, "==v"),
-            Operator::NotEq => write!(f, "!="),
-            Operator::NotEqValidity => write!(f, "!=v"),
-            Operator::Lt => write!(f, "<"),
-            Operator::LtEq => write!(f, "<="),
-            Operator::Gt => write!(f, ">"),
-            Operator::GtEq => write!(f, ">="),
-            Operator::Plus => write!(f, "+"),
-            Operator::Minus => write!(f, "-"),
-            Operator::Multiply => write!(f, "*"),
-            Operator::Divide => write!(f, "//"),
-            Operator::FloorDivide => write!(f, "floor_div"),
-            Operator::Modulus => write!(f, "%"),
-            Operator::And => write!(f, "&"),
-            Operator::Or => write!(f, "|"),
-            Operator::Xor => write!(f, "^"),
-            Operator::LogicalAnd => write!(f, "&"),
-            Operator::LogicalOr => write!(f, "|"),
-        }
+        f.write_str(self.sign())
     }
 }
 

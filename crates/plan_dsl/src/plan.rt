@@ -1,5 +1,6 @@
 //! Plans as a user writes them.
 ghost use Rattle.std.specs.Prelude.{◌≡◌, true, IfOk, IfErr};
+ghost use Rattle.plan_dsl.specs.Expressions.{trees_of};
 ghost use Rattle.plan_dsl.specs.Plans.{plan_tree, options_in, empty_table};
 ghost use Rattle.plan_types.specs.Errors.{no_memory};
 
@@ -65,23 +66,6 @@ pub enum DslPlan {
     },
 }
 
-// A copy of a plan, by its kind: of those that are listed the fields that take memory besides the input, and the others.
-macro_rules! copied {
-    ($plan:expr, $alloc:ident, $($kind:ident [$($cloned:ident),*] [$($copied:ident),*])*) => {
-        match $plan {
-            DslPlan::DataFrameScan { table, schema } => {
-                let schema = schema.try_clone($alloc)?;
-                Ok(DslPlan::DataFrameScan { table: *table, schema })
-            }
-            $(DslPlan::$kind { input, $($cloned,)* $($copied),* } => Ok(DslPlan::$kind {
-                input: Box::new($alloc, input.try_clone($alloc)?)?,
-                $($cloned: $cloned.try_clone($alloc)?,)*
-                $($copied: *$copied),*
-            }),)*
-        }
-    };
-}
-
 impl DslPlan {
     /// The empty table without columns.
     pub fn default(alloc: Global) -> Result<DslPlan, PlanError>
@@ -94,18 +78,90 @@ impl DslPlan {
         })
     }
 
+    #[cycle(plan_copies)]
     pub fn try_clone(&self, alloc: Global) -> Result<DslPlan, PlanError>
         ensures ok { IfOk result (λ copy. plan_tree copy ≡ plan_tree self.now) }
         ensures options { IfOk result (λ copy. options_in copy ≡ options_in self.now) }
         ensures err { IfErr result (λ error. error ≡ no_memory) }
     {
-        copied!(
-            self, alloc,
-            Filter [predicate] []
-            GroupBy [keys, aggs] [maintain_order]
-            HStack [exprs] [options]
-            MapFunction [function] []
-            Select [expr] [options]
-        )
+        match self {
+            DslPlan::DataFrameScan { table, schema } => Ok(DslPlan::DataFrameScan {
+                table: *table,
+                schema: schema.try_clone(alloc)?,
+            }),
+            DslPlan::Filter { input, predicate } => {
+                let input = input.boxed_copy(alloc)?;
+                Ok(DslPlan::Filter {
+                    input,
+                    predicate: predicate.try_clone(alloc)?,
+                })
+            }
+            DslPlan::GroupBy {
+                input,
+                keys,
+                aggs,
+                maintain_order,
+            } => {
+                let (keys, aggs) = both_copied(keys, aggs, alloc)?;
+                Ok(DslPlan::GroupBy {
+                    input: input.boxed_copy(alloc)?,
+                    keys,
+                    aggs,
+                    maintain_order: *maintain_order,
+                })
+            }
+            DslPlan::HStack {
+                exprs,
+                input,
+                options,
+            } => {
+                let input = input.boxed_copy(alloc)?;
+                Ok(DslPlan::HStack {
+                    exprs: exprs.try_clone(alloc)?,
+                    input,
+                    options: *options,
+                })
+            }
+            DslPlan::MapFunction { input, function } => {
+                let input = input.boxed_copy(alloc)?;
+                let function = function.try_clone(alloc)?;
+                Ok(DslPlan::MapFunction { input, function })
+            }
+            DslPlan::Select {
+                expr,
+                input,
+                options,
+            } => {
+                let input = input.boxed_copy(alloc)?;
+                Ok(DslPlan::Select {
+                    expr: expr.try_clone(alloc)?,
+                    input,
+                    options: *options,
+                })
+            }
+        }
     }
+
+    // The same in a box.
+    #[cycle(plan_copies)]
+    fn boxed_copy(&self, alloc: Global) -> Result<Box<DslPlan>, PlanError>
+        ensures ok { IfOk result (λ copy. plan_tree copy.value ≡ plan_tree self.now) }
+        ensures options { IfOk result (λ copy. options_in copy.value ≡ options_in self.now) }
+        ensures err { IfErr result (λ error. error ≡ no_memory) }
+    {
+        let copy = self.try_clone(alloc)?;
+        let copy = Box::new(alloc, copy)?;
+        Ok(copy)
+    }
+}
+
+// Copies of two lists of expressions.
+fn both_copied(first: &Exprs, second: &Exprs, alloc: Global) -> Result<(Exprs, Exprs), PlanError>
+    ensures first { IfOk result (λ copies. trees_of copies.0 ≡ trees_of first.now) }
+    ensures second { IfOk result (λ copies. trees_of copies.1 ≡ trees_of second.now) }
+    ensures err { IfErr result (λ error. error ≡ no_memory) }
+{
+    let first = first.try_clone(alloc)?;
+    let second = second.try_clone(alloc)?;
+    Ok((first, second))
 }

@@ -5,6 +5,7 @@ ghost use Rattle.plan_types.specs.Errors.{no_memory};
 ghost use Rattle.plan_dsl.specs.Expressions.{selector_tree, selector_trees};
 ghost use Rattle.plan_dsl.specs.Sources.{same_source, source_writes};
 
+use crate::copies::boxed_copy;
 use crate::expr::Expr;
 use plan_types::error::PlanError;
 use std::alloc::Global;
@@ -51,7 +52,7 @@ pub enum Selector {
 macro_rules! copied {
     ($selector:expr, $alloc:expr, $($kind:ident)*) => {
         match $selector {
-            Selector::Root(expr) => Ok(Selector::Root(expr.boxed_copy($alloc)?)),
+            Selector::Root(expr) => Ok(Selector::Root(boxed_copy(expr, None, $alloc)?)),
             $(Selector::$kind(first, second) => {
                 let first = first.boxed_copy($alloc)?;
                 let second = second.boxed_copy($alloc)?;

@@ -3,13 +3,14 @@
 ghost use Rattle.std.specs.Prelude.{◌≡◌, pos, neg_ℤ, [], ◌∷◌, map, codes, true, false, Some, None, Ok, Err};
 ghost use Rattle.plan_types.specs.Types.{TextType, DateType};
 ghost use Rattle.plan_types.specs.declared.error.ErrorKind.TheVariants.{ColumnNotFound, InvalidOperation, ComputeError};
-ghost use Rattle.plan_dsl.specs.Trees.{node, no_more, more};
+ghost use Rattle.plan_dsl.specs.Trees.{node, no_more, more, top_op};
 ghost use Rattle.plan_dsl.specs.Names.{name_of};
 ghost use Rattle.plan_dsl.specs.Refusals.{joined};
 ghost use Rattle.plan_dsl.specs.Sources.{written, ExcludedName, ExcludedType, KeepRoot, AddPrefix, AddSuffix, SetName, Add, Sub, Intersect, ExclusiveOr, WildcardOp, SetOp, same_source, of_two};
 ghost use Rattle.plan_dsl.specs.Markers.{without, once, set_of, marker_names, names_of_selectors};
+ghost use Rattle.plan_dsl.specs.Copies.{has_list, has_one, has_several, put, put_below};
 ghost use Rattle.plan_dsl.specs.Expansion.{markers_in, root_name, name_given, expansion, expansions, predicate_expansion};
-ghost use Rattle.plan_dsl.specs.Samples.{Gives, GivesAll, GivesOfTwo, int8, int16, a, b, c, x, one, five, below, count, sum, equal, alias, column, slice, schema_abc, all_names, these, all, columns_named, columns_of_type, columns_at, nth, but, but_named, but_of_type, selecting, root, form, prefix, suffix, fixed, plus, equals, source_alias};
+ghost use Rattle.plan_dsl.specs.Samples.{Gives, GivesAll, GivesOfTwo, over, int8, int16, a, b, c, x, one, five, below, count, sum, equal, alias, column, slice, schema_abc, all_names, these, all, columns_named, columns_of_type, columns_at, nth, but, but_named, but_of_type, selecting, root, form, prefix, suffix, fixed, plus, equals, source_alias};
 
 /// Lists of names: without others, each once, and one of two.
 pub fn lists_of_names()
@@ -231,4 +232,23 @@ pub fn predicates_that_are_expanded()
         (plus all (nth (pos 0)), Err InvalidOperation) ∷
         (equals (nth (pos 3)) (written one), Err ColumnNotFound) ∷
         (equals all (prefix "p_" (written a)), Err InvalidOperation) ∷ []) }
+{}
+
+/// A copy of an expression, by itself or with a column in place of all markers, and of a node whose operands are so. A
+/// marker itself is copied as it is.
+pub fn copies_of_expressions()
+    ensures by_itself { map (put None) (plus all (written a) ∷ all ∷ []) ≡ plus all (written a) ∷ all ∷ [] }
+    ensures with_a_column { Gives (put (Some (codes "b"))) (
+        (plus all (written a), plus (written b) (written a)) ∷
+        (all, written b) ∷
+        (written a, written a) ∷ []) }
+    ensures below { Gives (put_below (Some (codes "b"))) (
+        (plus all (written a), plus (written b) (written a)) ∷
+        (all, all) ∷
+        (written a, written a) ∷ []) }
+    ensures of_one { Gives (λ tree. has_one (top_op tree)) (
+        (plus all all, false) ∷ (written (alias "x" a), true) ∷ (form KeepRoot all, true) ∷ (all, false) ∷ []) }
+    ensures of_a_list { Gives (λ tree. has_list (top_op tree)) ((written (over [] (sum a b)), true) ∷ (plus all all, false) ∷ []) }
+    ensures of_several { Gives (λ tree. has_several (top_op tree)) (
+        (plus all all, true) ∷ (written (alias "x" a), false) ∷ (written a, false) ∷ (all, false) ∷ []) }
 {}
