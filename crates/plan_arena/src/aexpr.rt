@@ -107,20 +107,12 @@ macro_rules! by_inputs {
     };
 }
 
-// A copy of an item by its kind: of those that are listed the fields that are copied, and those that take memory.
+// A copy of an item by its kind: of those that are listed all fields are copied, and the other kinds are told.
 macro_rules! copied {
-    ($item:expr, $alloc:expr, $($kind:ident [$($copied:ident),*] [$($cloned:ident),*])*) => {
+    ($item:expr, [$($pattern:pat => $copy:expr),*], $($kind:ident [$($field:ident),*])*) => {
         match $item {
-            AExpr::Column(name) => Ok(AExpr::Column(name.try_clone($alloc)?)),
-            AExpr::Literal(value) => Ok(AExpr::Literal(value.try_clone($alloc)?)),
-            AExpr::Len => Ok(AExpr::Len),
-            $(AExpr::$kind { $($copied,)* $($cloned),* } => Ok(AExpr::$kind {
-                $($copied: *$copied,)*
-                $($cloned: $cloned.try_clone($alloc)?),*
-            }),)*
-            AExpr::Explode(input) => Ok(AExpr::Explode(*input)),
-            AExpr::Alias(expr, name) => Ok(AExpr::Alias(*expr, name.try_clone($alloc)?)),
-            AExpr::Agg(aggregate) => Ok(AExpr::Agg(*aggregate)),
+            $($pattern => $copy,)*
+            $(AExpr::$kind { $($field),* } => Ok(AExpr::$kind { $($field: *$field),* })),*
         }
     };
 }
@@ -131,15 +123,24 @@ impl AExpr {
         ensures ok { IfOk result (λ copy. expression_layer copy ≡ expression_layer self.now) }
         ensures err { IfErr result (λ error. error ≡ no_memory) }
     {
-        copied!(self, alloc,
-            BinaryExpr [left, op, right] []
-            Cast [expr, options] [dtype]
-            Slice [input, offset, length] []
-            Gather [expr, idx, returns_scalar] []
-            Filter [input, by] []
-            Sort [expr, options] []
-            SortBy [expr] [by, sort_options]
-            Window [function, order_by, options] [partition_by]
+        copied!(self, [
+                AExpr::Column(name) => column_copy(name, alloc),
+                AExpr::Literal(value) => literal_copy(value, alloc),
+                AExpr::Cast { expr, dtype, options } => cast_copy(*expr, dtype, *options, alloc),
+                AExpr::Len => Ok(AExpr::Len),
+                AExpr::Explode(input) => Ok(AExpr::Explode(*input)),
+                AExpr::SortBy { expr, by, sort_options } => sort_by_copy(*expr, by, sort_options, alloc),
+                AExpr::Alias(expr, name) => alias_copy(*expr, name, alloc),
+                AExpr::Agg(aggregate) => Ok(AExpr::Agg(*aggregate)),
+                AExpr::Window { function, partition_by, order_by, options } => {
+                    window_copy(*function, partition_by, *order_by, *options, alloc)
+                }
+            ],
+            BinaryExpr [left, op, right]
+            Slice [input, offset, length]
+            Gather [expr, idx, returns_scalar]
+            Filter [input, by]
+            Sort [expr, options]
         )
     }
 
@@ -216,17 +217,15 @@ impl AExpr {
         ensures inputs { passed (expression_layer self.new) ≡ numbers inputs.now }
         ensures same { numbers inputs.now ≡ passed (expression_layer self.old) → self.new ≡ self.old }
     {
-        by_inputs!(
-            self,
-            (),
-            set_one,
-            set_two,
-            set_three,
-            set_listed,
-            set_below,
-            set_passed_window,
-            inputs
-        )
+        match self {
+            AExpr::Window {
+                function,
+                partition_by,
+                order_by,
+                ..
+            } => set_passed_window(function, partition_by, order_by, inputs),
+            _ => self.set_inputs(inputs),
+        }
     }
 
     /// Puts other inputs in place of the node's, as many as it has, in their own order.
@@ -247,6 +246,86 @@ impl AExpr {
             inputs
         )
     }
+}
+
+// Copies of items with a field that takes memory.
+
+fn column_copy(name: &PlSmallStr, alloc: Global) -> Result<AExpr, PlanError>
+    ensures ok { IfOk result (λ copy. copy ≡ AExpr.Column name.now) }
+    ensures err { IfErr result (λ error. error ≡ no_memory) }
+{
+    let name = name.try_clone(alloc)?;
+    Ok(AExpr::Column(name))
+}
+
+fn literal_copy(value: &LiteralValue, alloc: Global) -> Result<AExpr, PlanError>
+    ensures ok { IfOk result (λ copy. expression_layer copy ≡ expression_layer (AExpr.Literal value.now)) }
+    ensures err { IfErr result (λ error. error ≡ no_memory) }
+{
+    let value = value.try_clone(alloc)?;
+    Ok(AExpr::Literal(value))
+}
+
+fn cast_copy(
+    expr: Node,
+    dtype: &DataType,
+    options: CastOptions,
+    alloc: Global,
+) -> Result<AExpr, PlanError>
+    ensures ok { IfOk result (λ copy. expression_layer copy ≡ expression_layer (AExpr.Cast expr dtype.now options)) }
+    ensures err { IfErr result (λ error. error ≡ no_memory) }
+{
+    let dtype = dtype.try_clone(alloc)?;
+    Ok(AExpr::Cast {
+        expr,
+        dtype,
+        options,
+    })
+}
+
+fn sort_by_copy(
+    expr: Node,
+    by: &NodeList,
+    sort_options: &SortMultipleOptions,
+    alloc: Global,
+) -> Result<AExpr, PlanError>
+    ensures ok { IfOk result (λ copy. expression_layer copy ≡ expression_layer (AExpr.SortBy expr by.now sort_options.now)) }
+    ensures err { IfErr result (λ error. error ≡ no_memory) }
+{
+    let by = by.try_clone(alloc)?;
+    let sort_options = sort_options.try_clone(alloc)?;
+    Ok(AExpr::SortBy {
+        expr,
+        by,
+        sort_options,
+    })
+}
+
+fn alias_copy(expr: Node, name: &PlSmallStr, alloc: Global) -> Result<AExpr, PlanError>
+    ensures ok { IfOk result (λ copy. copy ≡ AExpr.Alias expr name.now) }
+    ensures err { IfErr result (λ error. error ≡ no_memory) }
+{
+    let name = name.try_clone(alloc)?;
+    Ok(AExpr::Alias(expr, name))
+}
+
+fn window_copy(
+    function: Node,
+    partition_by: &NodeList,
+    order_by: Option<(Node, SortOptions)>,
+    options: WindowType,
+    alloc: Global,
+) -> Result<AExpr, PlanError>
+    ensures ok { IfOk result (λ copy. expression_layer copy ≡ expression_layer (AExpr.Window function partition_by.now order_by options)) }
+    ensures err { IfErr result (λ error. error ≡ no_memory) }
+{
+    let partition_by = partition_by.try_clone(alloc)?;
+    Ok(AExpr::Window {
+        function,
+        partition_by,
+        order_by,
+        options,
+    })
 }
 
 // The one input of an aggregate.

@@ -63,34 +63,37 @@ pub enum IR {
     Invalid,
 }
 
-// A copy of an item, by its kind: of those that are listed the fields that take memory, and the others.
-macro_rules! copied {
-    ($item:expr, $alloc:ident, $($kind:ident [$($cloned:ident),*] [$($copied:ident),*])*) => {
-        match $item {
-            $(IR::$kind { $($cloned,)* $($copied),* } => Ok(IR::$kind {
-                $($cloned: $cloned.try_clone($alloc)?,)*
-                $($copied: *$copied),*
-            }),)*
-            IR::Invalid => Ok(IR::Invalid),
-        }
-    };
-}
-
 impl IR {
     /// The same node, over the same inputs and expressions.
     pub fn try_clone(&self, alloc: Global) -> Result<IR, PlanError>
         ensures ok { IfOk result (λ copy. plan_layer copy ≡ plan_layer self.now) }
         ensures err { IfErr result (λ error. error ≡ no_memory) }
     {
-        copied!(
-            self, alloc,
-            DataFrameScan [schema] [table]
-            Filter [predicate] [input]
-            GroupBy [keys, aggs, schema] [input, maintain_order]
-            HStack [exprs, schema] [input, options]
-            Select [expr, schema] [input, options]
-            SimpleProjection [columns] [input]
-        )
+        match self {
+            IR::DataFrameScan { table, schema } => scan_copy(*table, schema, alloc),
+            IR::Filter { input, predicate } => filter_copy(*input, predicate, alloc),
+            IR::GroupBy {
+                input,
+                keys,
+                aggs,
+                schema,
+                maintain_order,
+            } => group_by_copy(*input, keys, aggs, schema, *maintain_order, alloc),
+            IR::HStack {
+                exprs,
+                input,
+                schema,
+                options,
+            } => hstack_copy(exprs, *input, schema, *options, alloc),
+            IR::Select {
+                expr,
+                input,
+                schema,
+                options,
+            } => select_copy(expr, *input, schema, *options, alloc),
+            IR::SimpleProjection { input, columns } => projection_copy(*input, columns, alloc),
+            IR::Invalid => Ok(IR::Invalid),
+        }
     }
 
     /// What a report calls the node.
@@ -152,4 +155,93 @@ impl IR {
             IR::Filter { .. } | IR::Invalid => unreachable!(),
         }
     }
+}
+
+// Copies of items, by their kind.
+
+fn scan_copy(table: Option<u32>, schema: &Schema, alloc: Global) -> Result<IR, PlanError>
+    ensures ok { IfOk result (λ copy. plan_layer copy ≡ plan_layer (IR.DataFrameScan table schema.now)) }
+    ensures err { IfErr result (λ error. error ≡ no_memory) }
+{
+    let schema = schema.try_clone(alloc)?;
+    Ok(IR::DataFrameScan { table, schema })
+}
+
+fn filter_copy(input: Node, predicate: &ExprIR, alloc: Global) -> Result<IR, PlanError>
+    ensures ok { IfOk result (λ copy. plan_layer copy ≡ plan_layer (IR.Filter input predicate.now)) }
+    ensures err { IfErr result (λ error. error ≡ no_memory) }
+{
+    let predicate = predicate.try_clone(alloc)?;
+    Ok(IR::Filter { input, predicate })
+}
+
+fn group_by_copy(
+    input: Node,
+    keys: &ExprIRs,
+    aggs: &ExprIRs,
+    schema: &Schema,
+    maintain_order: bool,
+    alloc: Global,
+) -> Result<IR, PlanError>
+    ensures ok { IfOk result (λ copy. plan_layer copy ≡ plan_layer (IR.GroupBy input keys.now aggs.now schema.now maintain_order)) }
+    ensures err { IfErr result (λ error. error ≡ no_memory) }
+{
+    let keys = keys.try_clone(alloc)?;
+    let aggs = aggs.try_clone(alloc)?;
+    let schema = schema.try_clone(alloc)?;
+    Ok(IR::GroupBy {
+        input,
+        keys,
+        aggs,
+        schema,
+        maintain_order,
+    })
+}
+
+fn hstack_copy(
+    exprs: &ExprIRs,
+    input: Node,
+    schema: &Schema,
+    options: ProjectionOptions,
+    alloc: Global,
+) -> Result<IR, PlanError>
+    ensures ok { IfOk result (λ copy. plan_layer copy ≡ plan_layer (IR.HStack exprs.now input schema.now options)) }
+    ensures err { IfErr result (λ error. error ≡ no_memory) }
+{
+    let exprs = exprs.try_clone(alloc)?;
+    let schema = schema.try_clone(alloc)?;
+    Ok(IR::HStack {
+        exprs,
+        input,
+        schema,
+        options,
+    })
+}
+
+fn select_copy(
+    expr: &ExprIRs,
+    input: Node,
+    schema: &Schema,
+    options: ProjectionOptions,
+    alloc: Global,
+) -> Result<IR, PlanError>
+    ensures ok { IfOk result (λ copy. plan_layer copy ≡ plan_layer (IR.Select expr.now input schema.now options)) }
+    ensures err { IfErr result (λ error. error ≡ no_memory) }
+{
+    let expr = expr.try_clone(alloc)?;
+    let schema = schema.try_clone(alloc)?;
+    Ok(IR::Select {
+        expr,
+        input,
+        schema,
+        options,
+    })
+}
+
+fn projection_copy(input: Node, columns: &Schema, alloc: Global) -> Result<IR, PlanError>
+    ensures ok { IfOk result (λ copy. plan_layer copy ≡ plan_layer (IR.SimpleProjection input columns.now)) }
+    ensures err { IfErr result (λ error. error ≡ no_memory) }
+{
+    let columns = columns.try_clone(alloc)?;
+    Ok(IR::SimpleProjection { input, columns })
 }

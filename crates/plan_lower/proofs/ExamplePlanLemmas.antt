@@ -13,10 +13,13 @@ use Rattle.plan_arena.specs.Items.{HoldsPlan, plan_layer}
 use Rattle.plan_arena.specs.Runs.{plan_run}
 use Rattle.plan_arena.proofs.DenotationLemmas.{denotes_one}
 use Rattle.plan_arena.proofs.ItemLemmas.{plan_laws}
+use Rattle.plan_dsl.specs.Samples.{all}
+use Rattle.plan_dsl.specs.Sources.{written}
+use Rattle.plan_lower.specs.Groups.{GroupsTo, HasExpandedGroups}
 use Rattle.plan_lower.specs.Lowering.{IsBuilt}
-use Rattle.plan_infer.specs.Samples.{int32, one_column, two_columns}
+use Rattle.plan_infer.specs.Samples.{int8, int32, one_column, two_columns, a, b, columns_and}
 use Rattle.plan_coerce.specs.Samples.{strict_sum, strict_items}
-use Rattle.plan_lower.specs.Samples.{node_named, query, lowered_query, sum_layers}
+use Rattle.plan_lower.specs.Samples.{as_it_is, grouped_columns, node_named, query, lowered_query, sum_layers}
 
 -- a node denotes one plan
 pub one_plan : (expressions : List AExpr) (plans : List IR) (n : ℕ) (t u : Plan) → Denotes (HoldsPlan expressions plans) n t → Denotes (HoldsPlan expressions plans) n u → t ≡ u
@@ -60,4 +63,31 @@ built = record {
   names = (((inr refl, tt), tt), ((tt, tt), tt));
   fits = λ tables fits. fits;
   same = same_frame;
+}
+
+-- groups by column a, with column b
+pub grouped : GroupsTo [] two_columns (a ∷ []) (b ∷ []) (as_it_is a int8 ∷ []) (as_it_is b int32 ∷ [])
+grouped = record {
+  keys_are = refl;
+  aggs_are = refl;
+  each_key = (record { typed = refl; same = record { typing = refl; name = refl; meaning = λ rows. refl }; strict = refl; casts = refl }, tt);
+  each_agg = (record { typed = refl; same = record { typing = refl; name = refl; meaning = λ rows. refl }; strict = refl; casts = refl }, tt);
+  distinct = (refl, (refl, tt));
+  some = λ e. cc;
+}
+
+pub expanded_groups : HasExpandedGroups [] two_columns (columns_and []) (written a ∷ []) (all ∷ []) (node_named (codes "a") 0 ∷ []) (node_named (codes "b") 1 ∷ []) grouped_columns
+expanded_groups = record {
+  trees = a ∷ [];
+  expanded = refl;
+  aggregates = b ∷ [];
+  also = refl;
+  lowered = record {
+    key_outputs = as_it_is a int8 ∷ [];
+    agg_outputs = as_it_is b int32 ∷ [];
+    groups = grouped;
+    keys_denote = (refl, ([], refl, tt), tt);
+    aggs_denote = (refl, ([], refl, tt), tt);
+    columns_are = refl;
+  };
 }

@@ -1,7 +1,7 @@
 -- Nodes that lowering adds.
 use Rattle.std.proofs.Common.{◌≡◌, ◌≢◌, ℕ, Bool, true, refl, ◌≤◌, List, [], ◌∷◌, ◌++◌, length, map, sym, ap, ◌∙◌, subst, arith, append-nil, append_assoc}
 use Rattle.std.specs.List.{AllByRecursion, list_all}
-use Rattle.std.proofs.lemmas.Bool.{and_from, and_parts}
+use Rattle.std.proofs.lemmas.Bool.{and_from, and_parts, false≢true}
 use Rattle.std.proofs.lemmas.List.{map-append}
 use Rattle.plan_dsl.specs.Aliases.{all_pruned, inputs_pruned, pruned}
 use Rattle.plan_dsl.specs.Expressions.{plain_tree, tree_of}
@@ -9,7 +9,7 @@ use Rattle.plan_dsl.specs.Sources.{Plain, SourceOp, Source, all_are_plain, all_u
 use Rattle.plan_dsl.proofs.ExprLemmas.{IsListed, listed_plain}
 use Rattle.plan_types.proofs.ListLemmas.{map-map}
 use Rattle.plan_dsl.specs.declared.expr.Expr.{Expr}
-use Rattle.plan_dsl.specs.declared.expr.Expr.TheVariants.{Alias, Alias', Literal}
+use Rattle.plan_dsl.specs.declared.expr.Expr.TheVariants.{Alias, Alias', BinaryExpr, BinaryExpr', Filter, Filter', Gather, Gather', Literal, Slice, Slice'}
 use Rattle.plan_dsl.specs.Literals.{settled}
 use Rattle.plan_dsl.specs.Trees.{Trees, node, no_more, more, children_from}
 use Rattle.plan_dsl.specs.Ops.{Op, Expression}
@@ -18,7 +18,7 @@ use Rattle.plan_arena.specs.declared.arena.Node.{Node}
 use Rattle.plan_arena.specs.Denotation.{Denotes, DenoteAll}
 use Rattle.plan_arena.specs.Layers.{op_of, inputs_of}
 use Rattle.plan_arena.specs.Items.{HoldsFrom, Grows, expression_layer, numbers}
-use Rattle.plan_lower.specs.Nodes.{IsItemOf}
+use Rattle.plan_lower.specs.Nodes.{IsItemOf, has_several}
 use Rattle.plan_arena.proofs.ItemLemmas.{layer_parts, tree_grown, added_denotes, length-grown, grows_then}
 
 -- trees that were added one after the other, from the one arena to the other: after each there is an arena that has it
@@ -74,6 +74,14 @@ item_denotes first last new tree item n le of grown at =
 pub pruned_item : (keep : Bool) (expr : Expr) → ((below : _) (name : _) → expr ≢ Alias below name) → inputs_pruned keep (plain_tree expr) ≡ pruned keep (plain_tree expr)
 pruned_item keep (Alias' p below name) apart = absurd (apart _ name refl)
 pruned_item keep _ apart = refl
+
+-- the kinds that are over several inputs
+pub several_kinds : (expr : Expr) → has_several expr ≡ true → ((left : _) (op : _) (right : _) → expr ≢ BinaryExpr left op right) → ((input : _) (offset : _) (length : _) → expr ≢ Slice input offset length) → ((input : _) (idx : _) (returns_scalar : _) → expr ≢ Gather input idx returns_scalar) → ((input : _) (by : _) → expr ≢ Filter input by) → ⊥
+several_kinds (BinaryExpr' p left op q right) is binary slice gather filter = binary _ op _ refl
+several_kinds (Slice' p input q offset r length) is binary slice gather filter = slice _ _ _ refl
+several_kinds (Gather' p input q idx returns_scalar) is binary slice gather filter = gather _ _ returns_scalar refl
+several_kinds (Filter' p input q by) is binary slice gather filter = filter _ _ refl
+several_kinds _ is binary slice gather filter = absurd (false≢true is)
 
 -- what is neither a literal nor an alias stays as it is
 pub settled_item : (expr : Expr) → ((value : _) → expr ≢ Literal value) → ((below : _) (name : _) → expr ≢ Alias below name) → plain_tree expr ≡ settled (plain_tree expr)

@@ -1,11 +1,12 @@
 -- What the worked examples share: outputs, predicates and plans over columns a and b, and what arenas hold of them.
-use Rattle.std.specs.Prelude.{◌≡◌, ℕ, List, [], ◌∷◌, map, codes, Option, Some}
-use Rattle.plan_types.specs.Types.{Ty, Truth}
+use Rattle.std.specs.Prelude.{◌≡◌, ℕ, List, [], ◌∷◌, map, true, codes, Option, Some}
+use Rattle.plan_types.specs.Types.{Ty, Truth, Integer, ListType}
 use Rattle.plan_types.specs.Schemas.{Name, Columns}
 use Rattle.plan_dsl.specs.Trees.{node, no_more, more}
 use Rattle.plan_dsl.specs.Names.{column_label}
 use Rattle.plan_dsl.specs.Ops.{Expression}
 use Rattle.plan_dsl.specs.Plans.{PlanOp, Plan, Named, named, scan_op, select_op, filter_op}
+use Rattle.plan_dsl.specs.Samples.{one_value}
 use Rattle.plan_dsl.specs.Typing.{Typed}
 use Rattle.plan_arena.specs.Layers.{Layer, layer}
 use Rattle.plan_arena.specs.Items.{plan_layer}
@@ -43,6 +44,14 @@ lowered_to tree type after = record { tree = tree; typed = of_type type; after =
 -- an expression that stands for itself
 abbrev pub as_it_is : Expression → Ty → Lowered
 as_it_is tree type = lowered_to tree type tree
+
+-- one that has one value
+abbrev pub alone : Expression → Ty → Lowered
+alone tree type = record { tree = tree; typed = one_value type; after = tree }
+
+-- the columns of groups by column a, with column b
+abbrev pub grouped_columns : Columns
+grouped_columns = (codes "a", Integer true 8) ∷ (codes "b", ListType (Integer true 32)) ∷ []
 
 -- the first table
 abbrev pub scan_of : Columns → Plan

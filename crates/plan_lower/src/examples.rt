@@ -1,5 +1,6 @@
 //! Worked examples of the definitions. The functions do nothing: their clauses are the examples.
 
 mod fields;
+mod groups;
 mod outputs;
 mod plans;

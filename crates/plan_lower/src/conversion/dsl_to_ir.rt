@@ -5,7 +5,7 @@ ghost use Rattle.plan_types.specs.Schemas.{columns, all_known};
 ghost use Rattle.plan_dsl.specs.Drops.{drop_leaves};
 ghost use Rattle.plan_dsl.specs.Expressions.{selector_trees, tree_of, trees_of};
 ghost use Rattle.plan_dsl.specs.Ops.{Op};
-ghost use Rattle.plan_dsl.specs.Plans.{PlanOp, SourcePlan, plan_tree, scan_op};
+ghost use Rattle.plan_dsl.specs.Plans.{PlanOp, SourcePlan, plan_tree, scan_op, source_filter, source_function, source_group_by, source_hstack, source_select};
 ghost use Rattle.plan_dsl.specs.PlanRules.{with_columns};
 ghost use Rattle.plan_dsl.specs.Registry.{registry};
 ghost use Rattle.plan_dsl.specs.Resolving.{resolved};
@@ -97,44 +97,144 @@ fn lower(
             Ok(lowered)
         }
         DslPlan::Filter { input, predicate } => {
-            let input = lower_input(input, expr_arena, lp_arena, udfs)?;
-            let lowered = lower_filter(input, predicate, expr_arena, lp_arena, udfs)?;
-            Ok(lowered)
+            add_filter(input, predicate, expr_arena, lp_arena, udfs)
         }
         DslPlan::Select {
             expr,
             input,
             options,
-        } => {
-            let input = lower_input(input, expr_arena, lp_arena, udfs)?;
-            let lowered = lower_select(expr, input, options, expr_arena, lp_arena, udfs)?;
-            Ok(lowered)
-        }
+        } => add_select(input, expr, options, expr_arena, lp_arena, udfs),
         DslPlan::HStack {
             exprs,
             input,
             options,
-        } => {
-            let input = lower_input(input, expr_arena, lp_arena, udfs)?;
-            let lowered = lower_hstack(exprs, input, options, expr_arena, lp_arena, udfs)?;
-            Ok(lowered)
-        }
+        } => add_hstack(input, exprs, options, expr_arena, lp_arena, udfs),
         DslPlan::GroupBy {
             input,
             keys,
             aggs,
             maintain_order: order,
-        } => {
-            let input = lower_input(input, expr_arena, lp_arena, udfs)?;
-            let lowered = lower_groups(input, keys, aggs, order, expr_arena, lp_arena, udfs)?;
-            Ok(lowered)
-        }
+        } => add_groups(input, keys, aggs, order, expr_arena, lp_arena, udfs),
         DslPlan::MapFunction { input, function } => {
-            let input = lower_input(input, expr_arena, lp_arena, udfs)?;
-            let lowered = lower_function(input, function, lp_arena)?;
-            Ok(lowered)
+            add_function(input, function, expr_arena, lp_arena, udfs)
         }
     }
+}
+
+// Adds a filter's nodes, its input's first.
+#[cycle(plans)]
+fn add_filter(
+    input: Box<DslPlan>,
+    predicate: Expr,
+    expr_arena: &mut Arena<AExpr>,
+    lp_arena: &mut Arena<IR>,
+    udfs: &Udfs,
+) -> Result<LoweredNode, PlanError>
+    ensures ok { IfOk result (λ lowered. StandsFor (registry udfs.now) expr_arena.new lp_arena.new lowered.node.0 (columns_at lp_arena.new lowered.schema_node.0) (resolved (registry udfs.now) (source_filter (tree_of predicate) (plan_tree input.value)))) }
+    ensures recorded { IfOk result (λ lowered. Records lp_arena.new lowered.schema_node.0) }
+    ensures err { IfErr result (IsPlanRefusal (registry udfs.now) (resolved (registry udfs.now) (source_filter (tree_of predicate) (plan_tree input.value)))) }
+    ensures kept { (n : ℕ) (op : Op) (inputs : List ℕ) →
+        HoldsExpression expr_arena.old n op inputs → HoldsExpression expr_arena.new n op inputs }
+    ensures grows { Grows lp_arena.old lp_arena.new }
+{
+    match lower_input(input, expr_arena, lp_arena, udfs) {
+        Ok(input) => {
+            let lowered = lower_filter(input, predicate, expr_arena, lp_arena, udfs)?;
+            Ok(lowered)
+        }
+        Err(error) => {
+            drop(predicate);
+            Err(error)
+        }
+    }
+}
+
+// The same of a select.
+#[cycle(plans)]
+fn add_select(
+    input: Box<DslPlan>,
+    expr: Exprs,
+    options: ProjectionOptions,
+    expr_arena: &mut Arena<AExpr>,
+    lp_arena: &mut Arena<IR>,
+    udfs: &Udfs,
+) -> Result<LoweredNode, PlanError>
+    ensures ok { IfOk result (λ lowered. StandsFor (registry udfs.now) expr_arena.new lp_arena.new lowered.node.0 (columns_at lp_arena.new lowered.schema_node.0) (resolved (registry udfs.now) (source_select (trees_of expr) (plan_tree input.value)))) }
+    ensures recorded { IfOk result (λ lowered. Records lp_arena.new lowered.schema_node.0) }
+    ensures err { IfErr result (IsPlanRefusal (registry udfs.now) (resolved (registry udfs.now) (source_select (trees_of expr) (plan_tree input.value)))) }
+    ensures kept { (n : ℕ) (op : Op) (inputs : List ℕ) →
+        HoldsExpression expr_arena.old n op inputs → HoldsExpression expr_arena.new n op inputs }
+    ensures grows { Grows lp_arena.old lp_arena.new }
+{
+    let input = lower_input(input, expr_arena, lp_arena, udfs)?;
+    let lowered = lower_select(expr, input, options, expr_arena, lp_arena, udfs)?;
+    Ok(lowered)
+}
+
+// The same of an hstack.
+#[cycle(plans)]
+fn add_hstack(
+    input: Box<DslPlan>,
+    exprs: Exprs,
+    options: ProjectionOptions,
+    expr_arena: &mut Arena<AExpr>,
+    lp_arena: &mut Arena<IR>,
+    udfs: &Udfs,
+) -> Result<LoweredNode, PlanError>
+    ensures ok { IfOk result (λ lowered. StandsFor (registry udfs.now) expr_arena.new lp_arena.new lowered.node.0 (columns_at lp_arena.new lowered.schema_node.0) (resolved (registry udfs.now) (source_hstack (trees_of exprs) (plan_tree input.value)))) }
+    ensures recorded { IfOk result (λ lowered. Records lp_arena.new lowered.schema_node.0) }
+    ensures err { IfErr result (IsPlanRefusal (registry udfs.now) (resolved (registry udfs.now) (source_hstack (trees_of exprs) (plan_tree input.value)))) }
+    ensures kept { (n : ℕ) (op : Op) (inputs : List ℕ) →
+        HoldsExpression expr_arena.old n op inputs → HoldsExpression expr_arena.new n op inputs }
+    ensures grows { Grows lp_arena.old lp_arena.new }
+{
+    let input = lower_input(input, expr_arena, lp_arena, udfs)?;
+    let lowered = lower_hstack(exprs, input, options, expr_arena, lp_arena, udfs)?;
+    Ok(lowered)
+}
+
+// The same of a group-by.
+#[cycle(plans)]
+fn add_groups(
+    input: Box<DslPlan>,
+    keys: Exprs,
+    aggs: Exprs,
+    order: bool,
+    expr_arena: &mut Arena<AExpr>,
+    lp_arena: &mut Arena<IR>,
+    udfs: &Udfs,
+) -> Result<LoweredNode, PlanError>
+    ensures ok { IfOk result (λ lowered. StandsFor (registry udfs.now) expr_arena.new lp_arena.new lowered.node.0 (columns_at lp_arena.new lowered.schema_node.0) (resolved (registry udfs.now) (source_group_by (trees_of keys) (trees_of aggs) (plan_tree input.value)))) }
+    ensures recorded { IfOk result (λ lowered. Records lp_arena.new lowered.schema_node.0) }
+    ensures err { IfErr result (IsPlanRefusal (registry udfs.now) (resolved (registry udfs.now) (source_group_by (trees_of keys) (trees_of aggs) (plan_tree input.value)))) }
+    ensures kept { (n : ℕ) (op : Op) (inputs : List ℕ) →
+        HoldsExpression expr_arena.old n op inputs → HoldsExpression expr_arena.new n op inputs }
+    ensures grows { Grows lp_arena.old lp_arena.new }
+{
+    let input = lower_input(input, expr_arena, lp_arena, udfs)?;
+    let lowered = lower_groups(input, keys, aggs, order, expr_arena, lp_arena, udfs)?;
+    Ok(lowered)
+}
+
+// The same of a function.
+#[cycle(plans)]
+fn add_function(
+    input: Box<DslPlan>,
+    function: DslFunction,
+    expr_arena: &mut Arena<AExpr>,
+    lp_arena: &mut Arena<IR>,
+    udfs: &Udfs,
+) -> Result<LoweredNode, PlanError>
+    ensures ok { IfOk result (λ lowered. StandsFor (registry udfs.now) expr_arena.new lp_arena.new lowered.node.0 (columns_at lp_arena.new lowered.schema_node.0) (resolved (registry udfs.now) (source_function function (plan_tree input.value)))) }
+    ensures recorded { IfOk result (λ lowered. Records lp_arena.new lowered.schema_node.0) }
+    ensures err { IfErr result (IsPlanRefusal (registry udfs.now) (resolved (registry udfs.now) (source_function function (plan_tree input.value)))) }
+    ensures kept { (n : ℕ) (op : Op) (inputs : List ℕ) →
+        HoldsExpression expr_arena.old n op inputs → HoldsExpression expr_arena.new n op inputs }
+    ensures grows { Grows lp_arena.old lp_arena.new }
+{
+    let input = lower_input(input, expr_arena, lp_arena, udfs)?;
+    let lowered = lower_function(input, function, lp_arena)?;
+    Ok(lowered)
 }
 
 // Adds the nodes of a node's only input. Its refusal is told as the node sees it, whatever that does.

@@ -12,7 +12,7 @@ ghost use Rattle.plan_dsl.specs.Sources.{is_plain, unwritten};
 ghost use Rattle.plan_dsl.specs.Trees.{children_from};
 ghost use Rattle.plan_arena.specs.Denotation.{Denotes, DenoteAll, DenotesTree};
 ghost use Rattle.plan_arena.specs.Items.{named_node, numbers, ordered, ordering, output_label, HoldsExpression, HoldsFrom, Grows};
-ghost use Rattle.plan_lower.specs.Nodes.{IsItemOf};
+ghost use Rattle.plan_lower.specs.Nodes.{IsItemOf, has_several};
 
 use plan_arena::aexpr::AExpr;
 use plan_arena::aggregate::IRAggExpr;
@@ -37,12 +37,20 @@ pub fn to_expr_ir(expr: Expr, arena: &mut Arena<AExpr>) -> Result<ExprIR, PlanEr
     ensures err { IfErr result (IsMemoryOr ErrorKind.InvalidOperation (is_plain (tree_of expr) ≡ false)) }
 {
     if !expr.is_plain() {
+        drop(expr);
         return Err(PlanError::at_top(ErrorKind::InvalidOperation));
     }
-    let alias = alias_name(&expr, arena.allocator())?;
-    let node = add_nodes(expr, false, arena)?;
-    let expr_ir = under_name(node, alias, arena)?;
-    Ok(expr_ir)
+    match alias_name(&expr, arena.allocator()) {
+        Ok(alias) => {
+            let node = add_nodes(expr, false, arena)?;
+            let expr_ir = under_name(node, alias, arena)?;
+            Ok(expr_ir)
+        }
+        Err(error) => {
+            drop(expr);
+            Err(error)
+        }
+    }
 }
 
 /// The same without names of aliases. A number without a type at the top gets the one that it has alone.
@@ -81,9 +89,11 @@ fn add_settled(expr: Expr, keep: bool, arena: &mut Arena<AExpr>) -> Result<Node,
     ensures err { IfErr result (IsMemoryOr ErrorKind.InvalidOperation ((is_plain (tree_of expr) ≡ false) ⊎ (settles (plain_tree expr) ≡ false))) }
 {
     if !expr.is_plain() {
+        drop(expr);
         return Err(PlanError::at_top(ErrorKind::InvalidOperation));
     }
     if !settles(&expr) {
+        drop(expr);
         return Err(PlanError::at_top(ErrorKind::InvalidOperation));
     }
     let mut expr = expr;
@@ -225,56 +235,21 @@ pub(crate) fn add_nodes(expr: Expr, keep: bool, arena: &mut Arena<AExpr>) -> Res
     }
 }
 
-// The item of an expression by its kind: of those that are listed its inputs are added, and its other fields kept. A
-// marker or a renaming form has none.
+// The item of an expression by its kind: of those that are listed its inputs are added, and its other fields kept. The
+// other kinds are told.
 macro_rules! item_over {
-    ($expr:ident, $arena:ident, $keep:ident, $($kind:ident { $($input:ident),* } [$($other:ident),*])*) => {
+    ($expr:ident, $keep:ident, $arena:ident, [$($pattern:pat => $made:expr),*], $($kind:ident { $($input:ident),* } [$($other:ident),*])*) => {
         match $expr {
-            Expr::Column(name) => Ok(AExpr::Column(name)),
-            Expr::Literal(value) => Ok(AExpr::Literal(value)),
-            Expr::Len => Ok(AExpr::Len),
             $(Expr::$kind { $($input,)* $($other),* } => {
                 $(let $input = add_nodes(Box::into_inner($input), $keep, $arena)?;)*
                 Ok(AExpr::$kind { $($input,)* $($other),* })
             })*
-            Expr::Explode(input) => {
-                let input = add_nodes(Box::into_inner(input), $keep, $arena)?;
-                Ok(AExpr::Explode(input))
-            }
-            Expr::SortBy { expr, by, sort_options } => {
-                let expr = add_nodes(Box::into_inner(expr), $keep, $arena)?;
-                let by = add_each(by, $keep, $arena)?;
-                Ok(AExpr::SortBy { expr, by, sort_options })
-            }
-            Expr::Window { function, partition_by, order_by, options } => {
-                let function = add_nodes(Box::into_inner(function), $keep, $arena)?;
-                let order_by = add_order(order_by, $keep, $arena)?;
-                let partition_by = add_each(partition_by, $keep, $arena)?;
-                Ok(AExpr::Window { function, partition_by, order_by, options })
-            }
-            Expr::Alias(input, name) => {
-                let input = add_nodes(Box::into_inner(input), $keep, $arena)?;
-                Ok(AExpr::Alias(input, name))
-            }
-            Expr::Agg(aggregate) => {
-                let method = aggregate.method();
-                let input = add_nodes(Box::into_inner(aggregate.into_input()), $keep, $arena)?;
-                Ok(AExpr::Agg(IRAggExpr::of(method, input)))
-            }
-            Expr::Columns(_)
-            | Expr::DtypeColumn(_)
-            | Expr::IndexColumn(_)
-            | Expr::Nth(_)
-            | Expr::Wildcard
-            | Expr::Exclude(_, _)
-            | Expr::Selector(_)
-            | Expr::KeepName(_)
-            | Expr::RenameAlias { .. } => Err(PlanError::at_top(ErrorKind::InvalidOperation)),
+            $($pattern => $made),*
         }
     };
 }
 
-// Adds the nodes of an expression's inputs, and answers its item over them.
+// Adds the nodes of an expression's inputs, and answers its item over them. A marker or a renaming form has none.
 #[cycle(nodes)]
 fn add_inputs(expr: Expr, keep: bool, arena: &mut Arena<AExpr>) -> Result<AExpr, PlanError>
     requires plain { is_plain (tree_of expr) ≡ true }
@@ -282,13 +257,60 @@ fn add_inputs(expr: Expr, keep: bool, arena: &mut Arena<AExpr>) -> Result<AExpr,
     ensures grows { Grows arena.old arena.new }
     ensures err { IfErr result (λ error. error ≡ no_memory) }
 {
-    item_over!(expr, arena, keep,
-        BinaryExpr { left, right } [op]
+    item_over!(expr, keep, arena, [
+            Expr::Column(name) => Ok(AExpr::Column(name)),
+            Expr::Literal(value) => Ok(AExpr::Literal(value)),
+            Expr::Len => Ok(AExpr::Len),
+            Expr::Explode(input) => {
+                let input = add_nodes(Box::into_inner(input), keep, arena)?;
+                Ok(AExpr::Explode(input))
+            },
+            Expr::Alias(input, name) => {
+                let input = add_nodes(Box::into_inner(input), keep, arena)?;
+                Ok(AExpr::Alias(input, name))
+            },
+            Expr::Agg(aggregate) => {
+                let method = aggregate.method();
+                let input = add_nodes(Box::into_inner(aggregate.into_input()), keep, arena)?;
+                Ok(AExpr::Agg(IRAggExpr::of(method, input)))
+            },
+            Expr::SortBy { expr, by, sort_options } => {
+                let expr = add_nodes(Box::into_inner(expr), keep, arena)?;
+                let by = add_each(by, keep, arena)?;
+                Ok(AExpr::SortBy { expr, by, sort_options })
+            },
+            Expr::Window { function, partition_by, order_by, options } => {
+                let function = add_nodes(Box::into_inner(function), keep, arena)?;
+                let order_by = add_order(order_by, keep, arena)?;
+                let partition_by = add_each(partition_by, keep, arena)?;
+                Ok(AExpr::Window { function, partition_by, order_by, options })
+            },
+            Expr::BinaryExpr { .. } => add_several(expr, keep, arena),
+            Expr::Slice { .. } => add_several(expr, keep, arena),
+            Expr::Gather { .. } => add_several(expr, keep, arena),
+            Expr::Filter { .. } => add_several(expr, keep, arena),
+            Expr::Columns(_) | Expr::DtypeColumn(_) | Expr::IndexColumn(_) | Expr::Nth(_) | Expr::Wildcard
+            | Expr::Exclude(_, _) | Expr::Selector(_) | Expr::KeepName(_) | Expr::RenameAlias { .. } => unreachable!()
+        ],
         Cast { expr } [dtype, options]
+        Sort { expr } [options]
+    )
+}
+
+// The same of an expression over two inputs or three.
+#[cycle(nodes)]
+fn add_several(expr: Expr, keep: bool, arena: &mut Arena<AExpr>) -> Result<AExpr, PlanError>
+    requires plain { is_plain (tree_of expr) ≡ true }
+    requires several { has_several expr ≡ true }
+    ensures ok { IfOk result (IsItemOf (length arena.old) arena.new (inputs_pruned keep (plain_tree expr))) }
+    ensures grows { Grows arena.old arena.new }
+    ensures err { IfErr result (λ error. error ≡ no_memory) }
+{
+    item_over!(expr, keep, arena, [_ => unreachable!()],
+        BinaryExpr { left, right } [op]
         Slice { input, offset, length } []
         Gather { expr, idx } [returns_scalar]
         Filter { input, by } []
-        Sort { expr } [options]
     )
 }
 

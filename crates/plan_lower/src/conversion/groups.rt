@@ -11,17 +11,16 @@ ghost use Rattle.plan_dsl.specs.Registry.{registry};
 ghost use Rattle.plan_dsl.specs.Sources.{is_plain};
 ghost use Rattle.plan_dsl.specs.Typing.{Typed};
 ghost use Rattle.plan_arena.specs.Items.{named_node, HoldsExpression};
-ghost use Rattle.plan_infer.specs.KeptTypes.{AllKept, IsKept, typed_of};
+ghost use Rattle.plan_infer.specs.KeptTypes.{AllKept, IsKept, IsRight, typed_of};
 ghost use Rattle.plan_expand.specs.Refusals.{IsUnexpanded};
 ghost use Rattle.plan_lower.specs.Groups.{HasAggregates, HasExpandedGroups, HasGroups, IsAggregateRefusal, IsGroupRefusal, IsUngrouped, named_in_groups};
 
 use crate::conversion::projection::{
-    Projection, expanded, project, project_in, room_for, roots_of,
+    Projection, coerce_all, expanded, project, project_in, room_for,
 };
 use plan_arena::aexpr::AExpr;
 use plan_arena::arena::Arena;
 use plan_arena::expr_ir::{ExprIR, ExprIRs};
-use plan_coerce::stack_opt::coerce_types;
 use plan_dsl::expr::Exprs;
 use plan_dsl::udfs::Udfs;
 use plan_expand::expr_expansion::rewrite_projections;
@@ -125,10 +124,29 @@ fn aggregate_in(
     ensures err { IfErr result (IsAggregateRefusal (registry udfs.now) (columns schema.now) (names_of (columns keys)) (plain_trees aggs)) }
 {
     let mut types = types;
-    let projection = project(aggs, schema, arena, udfs, ErrorKind::Duplicate, &mut types)?;
-    let whole = with_aggregates(keys, &projection.expr, &types, arena.allocator())?;
-    let mut stack = roots_of(&projection.expr, arena.allocator())?;
-    coerce_types(&mut stack, arena, &mut types)?;
+    aggregate_coerced(aggs, schema, arena, udfs, &mut types, keys)
+}
+
+// The same, with a table that is right.
+fn aggregate_coerced(
+    aggs: Exprs,
+    schema: &Schema,
+    arena: &mut Arena<AExpr>,
+    udfs: &Udfs,
+    types: &mut TypeTable,
+    keys: Schema,
+) -> Result<Projection, PlanError>
+    requires plain { list_all is_plain (trees_of aggs) ≡ true }
+    requires right { IsRight (registry udfs.now) (columns schema.now) arena.old types.old }
+    ensures ok { IfOk result (λ projection. HasAggregates (registry udfs.now) (columns schema.now) arena.new
+        (plain_trees aggs) (map named_node projection.expr.items.items) (columns keys) (columns projection.schema)) }
+    ensures kept { (n : ℕ) (op : Op) (inputs : List ℕ) →
+        HoldsExpression arena.old n op inputs → HoldsExpression arena.new n op inputs }
+    ensures err { IfErr result (IsAggregateRefusal (registry udfs.now) (columns schema.now) (names_of (columns keys)) (plain_trees aggs)) }
+{
+    let projection = project(aggs, schema, arena, udfs, ErrorKind::Duplicate, types)?;
+    let whole = with_aggregates(keys, &projection.expr, types, arena.allocator())?;
+    coerce_all(&projection.expr, arena, types)?;
     Ok(Projection {
         expr: projection.expr,
         schema: whole,

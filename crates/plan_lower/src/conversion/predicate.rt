@@ -1,16 +1,21 @@
 //! The predicate of a filter.
-ghost use Rattle.std.specs.Prelude.{◌≡◌, ℕ, List, true, IfOk, IfErr};
-ghost use Rattle.plan_types.specs.Schemas.{columns};
+ghost use Rattle.std.specs.Prelude.{◌≡◌, ◌≤◌, ℕ, List, [], ◌∷◌, true, length, IfOk, IfErr, OnOk};
+ghost use Rattle.std.specs.List.{AllByRecursion};
+ghost use Rattle.plan_types.specs.Errors.{no_memory};
+ghost use Rattle.plan_types.specs.Schemas.{Columns, columns};
 ghost use Rattle.plan_dsl.specs.Expressions.{plain_tree, tree_of};
 ghost use Rattle.plan_dsl.specs.Ops.{Op};
-ghost use Rattle.plan_dsl.specs.Registry.{registry};
+ghost use Rattle.plan_dsl.specs.Registry.{Registry, registry};
 ghost use Rattle.plan_dsl.specs.Sources.{is_plain};
 ghost use Rattle.plan_arena.specs.Items.{named_node, HoldsExpression};
+ghost use Rattle.plan_infer.specs.KeptTypes.{HasRightTypes, IsKept, IsRight};
+ghost use Rattle.plan_infer.specs.Typed.{DenotesKnown};
+ghost use Rattle.plan_coerce.specs.Coercion.{IsCoerced, KeepsBelow};
 ghost use Rattle.plan_lower.specs.Predicates.{HasExpandedPredicate, HasPredicate, IsPredicateRefusal, IsUnfiltered};
 
 use crate::conversion::projection::add_typed;
 use plan_arena::aexpr::AExpr;
-use plan_arena::arena::Arena;
+use plan_arena::arena::{Arena, Node};
 use plan_arena::expr_ir::ExprIR;
 use plan_coerce::stack_opt::coerce_types;
 use plan_dsl::expr::Expr;
@@ -56,12 +61,53 @@ fn lower_plain(
     ensures err { IfErr result (IsPredicateRefusal (registry udfs.now) (columns schema.now) (plain_tree predicate)) }
 {
     let mut types = TypeTable::new(arena.allocator());
-    let expr_ir = add_typed(predicate, schema, arena, udfs, &mut types)?;
+    lower_typed(predicate, schema, arena, udfs, &mut types)
+}
+
+// The same, with a table of types.
+fn lower_typed(
+    predicate: Expr,
+    schema: &Schema,
+    arena: &mut Arena<AExpr>,
+    udfs: &Udfs,
+    types: &mut TypeTable,
+) -> Result<ExprIR, PlanError>
+    requires plain { is_plain (tree_of predicate) ≡ true }
+    requires right { IsRight (registry udfs.now) (columns schema.now) arena.old types.old }
+    ensures ok { IfOk result (λ expr_ir. HasPredicate (registry udfs.now) (columns schema.now) arena.new
+        (plain_tree predicate) (named_node expr_ir)) }
+    ensures kept { (n : ℕ) (op : Op) (inputs : List ℕ) →
+        HoldsExpression arena.old n op inputs → HoldsExpression arena.new n op inputs }
+    ensures err { IfErr result (IsPredicateRefusal (registry udfs.now) (columns schema.now) (plain_tree predicate)) }
+{
+    let expr_ir = add_typed(predicate, schema, arena, udfs, types)?;
     if types.get(expr_ir.node()).dtype != DataType::Boolean {
+        drop(expr_ir);
         return Err(PlanError::at_top(ErrorKind::InvalidOperation));
     }
+    match coerce_root(expr_ir.node(), arena, types) {
+        Ok(()) => Ok(expr_ir),
+        Err(error) => {
+            drop(expr_ir);
+            Err(error)
+        }
+    }
+}
+
+// Puts casts round the operands of each node that the root reaches.
+fn coerce_root(root: Node, arena: &mut Arena<AExpr>, types: &mut TypeTable) -> Result<(), PlanError>
+    requires right { HasRightTypes arena.old types.old }
+    requires kept { IsKept types.old root.0 }
+    ensures ok { OnOk result ((registry : Registry) (schema : Columns) (first : ℕ) → IsRight registry schema arena.old types.old →
+        first ≤ length arena.old → AllByRecursion (DenotesKnown registry schema first arena.old) (root.0 ∷ []) →
+        IsCoerced registry schema first arena.old arena.new (root.0 ∷ [])) }
+    ensures below { (registry : Registry) (schema : Columns) (first : ℕ) → IsRight registry schema arena.old types.old →
+        first ≤ length arena.old → AllByRecursion (DenotesKnown registry schema first arena.old) (root.0 ∷ []) →
+        KeepsBelow first arena.old arena.new }
+    ensures err { IfErr result (λ error. error ≡ no_memory) }
+{
     let mut stack = SmallVec::new(arena.allocator());
-    stack.push(expr_ir.node())?;
-    coerce_types(&mut stack, arena, &mut types)?;
-    Ok(expr_ir)
+    stack.push(root)?;
+    coerce_types(&mut stack, arena, types)?;
+    Ok(())
 }

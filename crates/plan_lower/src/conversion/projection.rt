@@ -3,19 +3,21 @@ ghost use Rattle.std.specs.Prelude.{◌≡◌, ◌≢◌, ◌≤◌, ℕ, List, 
 ghost use Rattle.std.specs.List.{AllByRecursion, list_all};
 ghost use Rattle.std.specs.Option.{option_map_or};
 ghost use Rattle.plan_types.specs.Errors.{no_memory, IsRefusal};
-ghost use Rattle.plan_types.specs.Schemas.{columns};
+ghost use Rattle.plan_types.specs.Schemas.{Columns, columns};
 ghost use Rattle.plan_dsl.specs.Aliases.{core};
 ghost use Rattle.plan_dsl.specs.Expansion.{expansions};
 ghost use Rattle.plan_dsl.specs.Expressions.{plain_tree, plain_trees, tree_of, trees_of};
 ghost use Rattle.plan_dsl.specs.Literals.{settled};
 ghost use Rattle.plan_dsl.specs.Names.{label_of};
 ghost use Rattle.plan_dsl.specs.Ops.{Expression, Op};
-ghost use Rattle.plan_dsl.specs.Registry.{registry};
+ghost use Rattle.plan_dsl.specs.Registry.{Registry, registry};
 ghost use Rattle.plan_dsl.specs.Sources.{is_plain};
 ghost use Rattle.plan_dsl.specs.Typing.{typing};
 ghost use Rattle.plan_arena.specs.Denotation.{Denotes};
 ghost use Rattle.plan_arena.specs.Items.{named_node, numbers, output_label, Grows, HoldsExpression, HoldsFrom};
 ghost use Rattle.plan_infer.specs.KeptTypes.{Extends, HasRightTypes, IsKept, IsRight};
+ghost use Rattle.plan_infer.specs.Typed.{DenotesKnown};
+ghost use Rattle.plan_coerce.specs.Coercion.{IsCoerced, KeepsBelow};
 ghost use Rattle.plan_expand.specs.Refusals.{IsUnexpanded};
 ghost use Rattle.plan_lower.specs.Outputs.{HasExpandedOutputs, HasOutputs};
 ghost use Rattle.plan_lower.specs.Projection.{Projects, AddsOutput, IsOutputRefusal, IsProjectionRefusal, IsUnprojected};
@@ -110,14 +112,59 @@ pub(crate) fn project_in(
     ensures err { IfErr result (IsProjectionRefusal (registry udfs.now) (columns schema.now) twice (plain_trees exprs)) }
 {
     let mut types = types;
-    let projection = project(exprs, schema, arena, udfs, twice, &mut types)?;
-    let mut stack = roots_of(&projection.expr, arena.allocator())?;
-    coerce_types(&mut stack, arena, &mut types)?;
-    Ok(projection)
+    project_coerced(exprs, schema, arena, udfs, twice, &mut types)
 }
 
-/// The nodes of the expressions.
-pub(crate) fn roots_of(exprs: &ExprIRs, alloc: Global) -> Result<Nodes, PlanError>
+// The same, with a table that is right.
+fn project_coerced(
+    exprs: Exprs,
+    schema: &Schema,
+    arena: &mut Arena<AExpr>,
+    udfs: &Udfs,
+    twice: ErrorKind,
+    types: &mut TypeTable,
+) -> Result<Projection, PlanError>
+    requires plain { list_all is_plain (trees_of exprs) ≡ true }
+    requires right { IsRight (registry udfs.now) (columns schema.now) arena.old types.old }
+    ensures ok { IfOk result (λ projection. HasOutputs (registry udfs.now) (columns schema.now) arena.new
+        (plain_trees exprs) (map named_node projection.expr.items.items) (columns projection.schema)) }
+    ensures kept { (n : ℕ) (op : Op) (inputs : List ℕ) →
+        HoldsExpression arena.old n op inputs → HoldsExpression arena.new n op inputs }
+    ensures err { IfErr result (IsProjectionRefusal (registry udfs.now) (columns schema.now) twice (plain_trees exprs)) }
+{
+    let projection = project(exprs, schema, arena, udfs, twice, types)?;
+    match coerce_all(&projection.expr, arena, types) {
+        Ok(()) => Ok(projection),
+        Err(error) => {
+            drop(projection);
+            Err(error)
+        }
+    }
+}
+
+/// Puts casts round the operands of each node that the expressions reach.
+pub(crate) fn coerce_all(
+    exprs: &ExprIRs,
+    arena: &mut Arena<AExpr>,
+    types: &mut TypeTable,
+) -> Result<(), PlanError>
+    requires right { HasRightTypes arena.old types.old }
+    requires kept { AllByRecursion (IsKept types.old) (map (λ e. (named_node e).expression) exprs.now.items.items) }
+    ensures ok { OnOk result ((registry : Registry) (schema : Columns) (first : ℕ) → IsRight registry schema arena.old types.old →
+        first ≤ length arena.old → AllByRecursion (DenotesKnown registry schema first arena.old) (map (λ e. (named_node e).expression) exprs.now.items.items) →
+        IsCoerced registry schema first arena.old arena.new (map (λ e. (named_node e).expression) exprs.now.items.items)) }
+    ensures below { (registry : Registry) (schema : Columns) (first : ℕ) → IsRight registry schema arena.old types.old →
+        first ≤ length arena.old → AllByRecursion (DenotesKnown registry schema first arena.old) (map (λ e. (named_node e).expression) exprs.now.items.items) →
+        KeepsBelow first arena.old arena.new }
+    ensures err { IfErr result (λ error. error ≡ no_memory) }
+{
+    let mut stack = roots_of(exprs, arena.allocator())?;
+    coerce_types(&mut stack, arena, types)?;
+    Ok(())
+}
+
+// The nodes of the expressions.
+fn roots_of(exprs: &ExprIRs, alloc: Global) -> Result<Nodes, PlanError>
     ensures ok { IfOk result (λ stack. numbers stack.items ≡ map (λ e. (named_node e).expression) exprs.now.items.items) }
     ensures err { IfErr result (λ error. error ≡ no_memory) }
 {
@@ -212,13 +259,72 @@ pub(crate) fn add_typed(
     ensures extends { OnOk result (Extends types.old types.new) }
     ensures err { IfErr result (IsRefusal (typing (registry udfs.now) (columns schema.now) (settled (core (plain_tree expr))))) }
 {
+    match alias_name(&expr, arena.allocator()) {
+        Ok(alias) => {
+            let expr_ir = add_named(expr, alias, schema, arena, udfs, types)?;
+            Ok(expr_ir)
+        }
+        Err(error) => {
+            drop(expr);
+            Err(error)
+        }
+    }
+}
+
+// The same under the alias, or under the expression's name without aliases.
+fn add_named(
+    expr: Expr,
+    alias: Option<OutputName>,
+    schema: &Schema,
+    arena: &mut Arena<AExpr>,
+    udfs: &Udfs,
+    types: &mut TypeTable,
+) -> Result<ExprIR, PlanError>
+    requires plain { is_plain (tree_of expr) ≡ true }
+    requires set { IfSome alias (λ name. name ≢ OutputName.None) }
+    requires right { IsRight (registry udfs.now) (columns schema.now) arena.old types.old }
+    ensures name { IfOk result (λ expr_ir. (named_node expr_ir).label ≡ option_map_or output_label alias (label_of (core (plain_tree expr)))) }
+    ensures denotes { IfOk result (λ expr_ir. Denotes (HoldsFrom (length arena.old) arena.new) (named_node expr_ir).expression (settled (core (plain_tree expr)))) }
+    ensures grows { Grows arena.old arena.new }
+    ensures kept { IfOk result (λ expr_ir. IsKept types.new (named_node expr_ir).expression) }
+    ensures right { OnOk result (IsRight (registry udfs.now) (columns schema.now) arena.new types.new) }
+    ensures extends { OnOk result (Extends types.old types.new) }
+    ensures err { IfErr result (IsRefusal (typing (registry udfs.now) (columns schema.now) (settled (core (plain_tree expr))))) }
+{
     let mut expr = expr;
-    let alias = alias_name(&expr, arena.allocator())?;
     settle(&mut expr);
+    match add_inferred(expr, schema, arena, udfs, types) {
+        Ok(node) => {
+            let name = name_under(alias, node, arena, types)?;
+            Ok(ExprIR::new(node, name))
+        }
+        Err(error) => {
+            drop(alias);
+            Err(error)
+        }
+    }
+}
+
+// Adds an expression's nodes without its aliases, and types them over a frame of the schema.
+fn add_inferred(
+    expr: Expr,
+    schema: &Schema,
+    arena: &mut Arena<AExpr>,
+    udfs: &Udfs,
+    types: &mut TypeTable,
+) -> Result<Node, PlanError>
+    requires plain { is_plain (tree_of expr) ≡ true }
+    requires right { IsRight (registry udfs.now) (columns schema.now) arena.old types.old }
+    ensures denotes { IfOk result (λ node. Denotes (HoldsFrom (length arena.old) arena.new) node.0 (core (plain_tree expr))) }
+    ensures grows { Grows arena.old arena.new }
+    ensures kept { IfOk result (λ node. IsKept types.new node.0) }
+    ensures right { OnOk result (IsRight (registry udfs.now) (columns schema.now) arena.new types.new) }
+    ensures extends { OnOk result (Extends types.old types.new) }
+    ensures err { IfErr result (IsRefusal (typing (registry udfs.now) (columns schema.now) (core (plain_tree expr)))) }
+{
     let node = add_nodes(expr, false, arena)?;
     types.infer(node, schema, arena, udfs)?;
-    let name = name_under(alias, node, arena, types)?;
-    Ok(ExprIR::new(node, name))
+    Ok(node)
 }
 
 // The alias, or the name of the typed expression at the node.

@@ -1,4 +1,4 @@
-use Rattle.std.proofs.Common.{[], ◌∷◌, None, sym, ap, subst}
+use Rattle.std.proofs.Common.{[], ◌∷◌, None, refl, sym, ap, subst}
 use Rattle.plan_types.specs.Schemas.{columns}
 use Rattle.plan_types.proofs.ResultLemmas.{passed_on}
 use Rattle.plan_types.proofs.SchemaLemmas.{schema_has_distinct_names}
@@ -28,116 +28,95 @@ lower-returns-in_ok-lowered-in-DataFrameScan-clause-ok t c =
     let lowered = c.in_ok-lowered-in-DataFrameScan.lowered in
     scan_stands r c.args.expr_arena.now c.lower_scan.new.lp_arena lowered.node.0 c.in-DataFrameScan.table (columns c.in-DataFrameScan.schema) (columns_at c.lower_scan.new.lp_arena lowered.schema_node.0) (resolved r (plan_tree c.args.plan)) c.in_ok-lowered-in-DataFrameScan.ensures.ok (columns_of_recorded c.lower_scan.new.lp_arena lowered.schema_node.0 _ c.in_ok-lowered-in-DataFrameScan.ensures.schema) (schema_has_distinct_names c.in-DataFrameScan.schema) c.in_ok-lowered-in-DataFrameScan.ensures.known (ap (λ p. resolved r (plan_tree p)) c.in-DataFrameScan.is)
 
-pub lower-returns-in_err-input-in-Filter-clause-err :
-    goal.lower-returns-in_err-input-in-Filter-clause-err
-lower-returns-in_err-input-in-Filter-clause-err t c =
-    let r = registry c.args.udfs.now in
-    passed_on c.from_residual-in_err-input-in-Filter.result c.in_err-input-in-Filter.field-0.0 _ c.from_residual-in_err-input-in-Filter.ensures.1 (subst (λ p. IsPlanRefusal r p c.in_err-input-in-Filter.field-0.0) (sym (ap (λ p. resolved r (plan_tree p)) c.in-Filter.is)) (c.in_err-input-in-Filter.ensures.err (filter_op (tree_of c.in-Filter.predicate))))
+pub add_filter-returns-in-Err-clause-err : goal.add_filter-returns-in-Err-clause-err
+add_filter-returns-in-Err-clause-err t c =
+    c.in-Err.ensures.err (filter_op (tree_of c.args.predicate))
 
-pub lower-returns-in_err-lowered-in-Filter-clause-err :
-    goal.lower-returns-in_err-lowered-in-Filter-clause-err
-lower-returns-in_err-lowered-in-Filter-clause-err t c =
+pub add_filter-returns-in_err-lowered-in-Ok-clause-err : goal.add_filter-returns-in_err-lowered-in-Ok-clause-err
+add_filter-returns-in_err-lowered-in-Ok-clause-err t c =
     let r = registry c.args.udfs.now in
-    let input = c.in_ok-input-in-Filter in
-    passed_on c.from_residual-in_err-lowered-in-Filter.result c.in_err-lowered-in-Filter.field-0.0 _ c.from_residual-in_err-lowered-in-Filter.ensures.1 (filter_refused r c.lower_input.new.expr_arena c.lower_input.new.lp_arena input.input.node.0 (columns_at c.lower_input.new.lp_arena input.input.schema_node.0) (tree_of c.in-Filter.predicate) (plan_tree c.in-Filter.input.value) (resolved r (plan_tree c.args.plan)) _ input.ensures.ok c.in_err-lowered-in-Filter.ensures.err (ap (λ p. resolved r (plan_tree p)) c.in-Filter.is))
+    let input = c.in-Ok in
+    passed_on c.from_residual.result c.in_err-lowered-in-Ok.field-0.0 _ c.from_residual.ensures.1 (filter_refused r c.lower_input.new.expr_arena c.lower_input.new.lp_arena input.input.node.0 (columns_at c.lower_input.new.lp_arena input.input.schema_node.0) (tree_of c.args.predicate) (plan_tree c.args.input.value) _ _ input.ensures.ok c.in_err-lowered-in-Ok.ensures.err refl)
 
-pub lower-returns-in_ok-lowered-in-Filter-clause-ok :
-    goal.lower-returns-in_ok-lowered-in-Filter-clause-ok
-lower-returns-in_ok-lowered-in-Filter-clause-ok t c =
+pub add_filter-returns-in_ok-lowered-in-Ok-clause-ok : goal.add_filter-returns-in_ok-lowered-in-Ok-clause-ok
+add_filter-returns-in_ok-lowered-in-Ok-clause-ok t c =
     let r = registry c.args.udfs.now in
-    let input = c.in_ok-input-in-Filter in
-    let lowered = c.in_ok-lowered-in-Filter in
-    filter_stands r c.lower_input.new.expr_arena c.lower_filter.new.expr_arena c.lower_input.new.lp_arena c.lower_filter.new.lp_arena input.input.node.0 lowered.lowered.node.0 (columns_at c.lower_input.new.lp_arena input.input.schema_node.0) (columns_at c.lower_filter.new.lp_arena lowered.lowered.schema_node.0) (tree_of c.in-Filter.predicate) (plan_tree c.in-Filter.input.value) (resolved r (plan_tree c.args.plan)) lowered.ensures.kept lowered.ensures.grows input.ensures.ok lowered.ensures.ok (columns_stay c.lower_input.new.lp_arena c.lower_filter.new.lp_arena input.input.schema_node lowered.lowered.schema_node lowered.ensures.grows lowered.ensures.schema input.ensures.recorded) (ap (λ p. resolved r (plan_tree p)) c.in-Filter.is)
+    let input = c.in-Ok in
+    let lowered = c.in_ok-lowered-in-Ok in
+    filter_stands r c.lower_input.new.expr_arena c.lower_filter.new.expr_arena c.lower_input.new.lp_arena c.lower_filter.new.lp_arena input.input.node.0 lowered.lowered.node.0 (columns_at c.lower_input.new.lp_arena input.input.schema_node.0) (columns_at c.lower_filter.new.lp_arena lowered.lowered.schema_node.0) (tree_of c.args.predicate) (plan_tree c.args.input.value) _ lowered.ensures.kept lowered.ensures.grows input.ensures.ok lowered.ensures.ok (columns_stay c.lower_input.new.lp_arena c.lower_filter.new.lp_arena input.input.schema_node lowered.lowered.schema_node lowered.ensures.grows lowered.ensures.schema input.ensures.recorded) refl
 
-pub lower-returns-in_ok-lowered-in-Filter-clause-recorded :
-    goal.lower-returns-in_ok-lowered-in-Filter-clause-recorded
-lower-returns-in_ok-lowered-in-Filter-clause-recorded t c =
-    let lowered = c.in_ok-lowered-in-Filter in
-    records_stay c.lower_input.new.lp_arena c.lower_filter.new.lp_arena c.in_ok-input-in-Filter.input.schema_node lowered.lowered.schema_node lowered.ensures.grows lowered.ensures.schema c.in_ok-input-in-Filter.ensures.recorded
+pub add_filter-returns-in_ok-lowered-in-Ok-clause-recorded : goal.add_filter-returns-in_ok-lowered-in-Ok-clause-recorded
+add_filter-returns-in_ok-lowered-in-Ok-clause-recorded t c =
+    let lowered = c.in_ok-lowered-in-Ok in
+    records_stay c.lower_input.new.lp_arena c.lower_filter.new.lp_arena c.in-Ok.input.schema_node lowered.lowered.schema_node lowered.ensures.grows lowered.ensures.schema c.in-Ok.ensures.recorded
 
-pub lower-returns-in_err-input-in-Select-clause-err :
-    goal.lower-returns-in_err-input-in-Select-clause-err
-lower-returns-in_err-input-in-Select-clause-err t c =
+pub add_select-returns-in_err-input-clause-err : goal.add_select-returns-in_err-input-clause-err
+add_select-returns-in_err-input-clause-err t c =
+    passed_on c.from_residual.result c.in_err-input.field-0.0 _ c.from_residual.ensures.1 (c.in_err-input.ensures.err (select_op (trees_of c.args.expr) None))
+
+pub add_select-returns-in_err-lowered-clause-err : goal.add_select-returns-in_err-lowered-clause-err
+add_select-returns-in_err-lowered-clause-err t c =
     let r = registry c.args.udfs.now in
-    passed_on c.from_residual-in_err-input-in-Select.result c.in_err-input-in-Select.field-0.0 _ c.from_residual-in_err-input-in-Select.ensures.1 (subst (λ p. IsPlanRefusal r p c.in_err-input-in-Select.field-0.0) (sym (ap (λ p. resolved r (plan_tree p)) c.in-Select.is)) (c.in_err-input-in-Select.ensures.err (select_op (trees_of c.in-Select.expr) None)))
+    let input = c.in_ok-input in
+    passed_on c.from_residual-in_err-lowered.result c.in_err-lowered.field-0.0 _ c.from_residual-in_err-lowered.ensures.1 (select_refused r c.lower_input.new.expr_arena c.lower_input.new.lp_arena input.input.node.0 (columns_at c.lower_input.new.lp_arena input.input.schema_node.0) (trees_of c.args.expr) (plan_tree c.args.input.value) _ _ input.ensures.ok c.in_err-lowered.ensures.err refl)
 
-pub lower-returns-in_err-lowered-in-Select-clause-err :
-    goal.lower-returns-in_err-lowered-in-Select-clause-err
-lower-returns-in_err-lowered-in-Select-clause-err t c =
+pub add_select-returns-clause-ok : goal.add_select-returns-clause-ok
+add_select-returns-clause-ok t c =
     let r = registry c.args.udfs.now in
-    let input = c.in_ok-input-in-Select in
-    passed_on c.from_residual-in_err-lowered-in-Select.result c.in_err-lowered-in-Select.field-0.0 _ c.from_residual-in_err-lowered-in-Select.ensures.1 (select_refused r c.lower_input-in-Select.new.expr_arena c.lower_input-in-Select.new.lp_arena input.input.node.0 (columns_at c.lower_input-in-Select.new.lp_arena input.input.schema_node.0) (trees_of c.in-Select.expr) (plan_tree c.in-Select.input.value) (resolved r (plan_tree c.args.plan)) _ input.ensures.ok c.in_err-lowered-in-Select.ensures.err (ap (λ p. resolved r (plan_tree p)) c.in-Select.is))
+    let input = c.in_ok-input in
+    let lowered = c.in_ok-lowered in
+    select_stands r c.lower_input.new.expr_arena c.lower_select.new.expr_arena c.lower_input.new.lp_arena c.lower_select.new.lp_arena input.input.node.0 lowered.lowered.node.0 (columns_at c.lower_input.new.lp_arena input.input.schema_node.0) (columns_at c.lower_select.new.lp_arena lowered.lowered.schema_node.0) (trees_of c.args.expr) (plan_tree c.args.input.value) _ lowered.ensures.kept lowered.ensures.grows input.ensures.ok lowered.ensures.ok refl
 
-pub lower-returns-in_ok-lowered-in-Select-clause-ok :
-    goal.lower-returns-in_ok-lowered-in-Select-clause-ok
-lower-returns-in_ok-lowered-in-Select-clause-ok t c =
-    let r = registry c.args.udfs.now in
-    let input = c.in_ok-input-in-Select in
-    let lowered = c.in_ok-lowered-in-Select in
-    select_stands r c.lower_input-in-Select.new.expr_arena c.lower_select.new.expr_arena c.lower_input-in-Select.new.lp_arena c.lower_select.new.lp_arena input.input.node.0 lowered.lowered.node.0 (columns_at c.lower_input-in-Select.new.lp_arena input.input.schema_node.0) (columns_at c.lower_select.new.lp_arena lowered.lowered.schema_node.0) (trees_of c.in-Select.expr) (plan_tree c.in-Select.input.value) (resolved r (plan_tree c.args.plan)) lowered.ensures.kept lowered.ensures.grows input.ensures.ok lowered.ensures.ok (ap (λ p. resolved r (plan_tree p)) c.in-Select.is)
+pub add_hstack-returns-in_err-input-clause-err : goal.add_hstack-returns-in_err-input-clause-err
+add_hstack-returns-in_err-input-clause-err t c =
+    passed_on c.from_residual.result c.in_err-input.field-0.0 _ c.from_residual.ensures.1 (c.in_err-input.ensures.err (hstack_op (trees_of c.args.exprs) None))
 
-pub lower-returns-in_err-input-in-HStack-clause-err :
-    goal.lower-returns-in_err-input-in-HStack-clause-err
-lower-returns-in_err-input-in-HStack-clause-err t c =
+pub add_hstack-returns-in_err-lowered-clause-err : goal.add_hstack-returns-in_err-lowered-clause-err
+add_hstack-returns-in_err-lowered-clause-err t c =
     let r = registry c.args.udfs.now in
-    passed_on c.from_residual-in_err-input-in-HStack.result c.in_err-input-in-HStack.field-0.0 _ c.from_residual-in_err-input-in-HStack.ensures.1 (subst (λ p. IsPlanRefusal r p c.in_err-input-in-HStack.field-0.0) (sym (ap (λ p. resolved r (plan_tree p)) c.in-HStack.is)) (c.in_err-input-in-HStack.ensures.err (hstack_op (trees_of c.in-HStack.exprs) None)))
+    let input = c.in_ok-input in
+    passed_on c.from_residual-in_err-lowered.result c.in_err-lowered.field-0.0 _ c.from_residual-in_err-lowered.ensures.1 (hstack_refused r c.lower_input.new.expr_arena c.lower_input.new.lp_arena input.input.node.0 (columns_at c.lower_input.new.lp_arena input.input.schema_node.0) (trees_of c.args.exprs) (plan_tree c.args.input.value) _ _ input.ensures.ok c.in_err-lowered.ensures.err refl)
 
-pub lower-returns-in_err-lowered-in-HStack-clause-err :
-    goal.lower-returns-in_err-lowered-in-HStack-clause-err
-lower-returns-in_err-lowered-in-HStack-clause-err t c =
+pub add_hstack-returns-clause-ok : goal.add_hstack-returns-clause-ok
+add_hstack-returns-clause-ok t c =
     let r = registry c.args.udfs.now in
-    let input = c.in_ok-input-in-HStack in
-    passed_on c.from_residual-in_err-lowered-in-HStack.result c.in_err-lowered-in-HStack.field-0.0 _ c.from_residual-in_err-lowered-in-HStack.ensures.1 (hstack_refused r c.lower_input-in-HStack.new.expr_arena c.lower_input-in-HStack.new.lp_arena input.input.node.0 (columns_at c.lower_input-in-HStack.new.lp_arena input.input.schema_node.0) (trees_of c.in-HStack.exprs) (plan_tree c.in-HStack.input.value) (resolved r (plan_tree c.args.plan)) _ input.ensures.ok c.in_err-lowered-in-HStack.ensures.err (ap (λ p. resolved r (plan_tree p)) c.in-HStack.is))
+    let input = c.in_ok-input in
+    let lowered = c.in_ok-lowered in
+    hstack_stands r c.lower_input.new.expr_arena c.lower_hstack.new.expr_arena c.lower_input.new.lp_arena c.lower_hstack.new.lp_arena input.input.node.0 lowered.lowered.node.0 (columns_at c.lower_input.new.lp_arena input.input.schema_node.0) (columns_at c.lower_hstack.new.lp_arena lowered.lowered.schema_node.0) (trees_of c.args.exprs) (plan_tree c.args.input.value) _ lowered.ensures.kept lowered.ensures.grows input.ensures.ok lowered.ensures.ok refl
 
-pub lower-returns-in_ok-lowered-in-HStack-clause-ok :
-    goal.lower-returns-in_ok-lowered-in-HStack-clause-ok
-lower-returns-in_ok-lowered-in-HStack-clause-ok t c =
-    let r = registry c.args.udfs.now in
-    let input = c.in_ok-input-in-HStack in
-    let lowered = c.in_ok-lowered-in-HStack in
-    hstack_stands r c.lower_input-in-HStack.new.expr_arena c.lower_hstack.new.expr_arena c.lower_input-in-HStack.new.lp_arena c.lower_hstack.new.lp_arena input.input.node.0 lowered.lowered.node.0 (columns_at c.lower_input-in-HStack.new.lp_arena input.input.schema_node.0) (columns_at c.lower_hstack.new.lp_arena lowered.lowered.schema_node.0) (trees_of c.in-HStack.exprs) (plan_tree c.in-HStack.input.value) (resolved r (plan_tree c.args.plan)) lowered.ensures.kept lowered.ensures.grows input.ensures.ok lowered.ensures.ok (ap (λ p. resolved r (plan_tree p)) c.in-HStack.is)
+pub add_groups-returns-in_err-input-clause-err : goal.add_groups-returns-in_err-input-clause-err
+add_groups-returns-in_err-input-clause-err t c =
+    passed_on c.from_residual.result c.in_err-input.field-0.0 _ c.from_residual.ensures.1 (c.in_err-input.ensures.err (group_by_op (trees_of c.args.keys) (trees_of c.args.aggs) None))
 
-pub lower-returns-in_err-input-in-GroupBy-clause-err :
-    goal.lower-returns-in_err-input-in-GroupBy-clause-err
-lower-returns-in_err-input-in-GroupBy-clause-err t c =
+pub add_groups-returns-in_err-lowered-clause-err : goal.add_groups-returns-in_err-lowered-clause-err
+add_groups-returns-in_err-lowered-clause-err t c =
     let r = registry c.args.udfs.now in
-    passed_on c.from_residual-in_err-input-in-GroupBy.result c.in_err-input-in-GroupBy.field-0.0 _ c.from_residual-in_err-input-in-GroupBy.ensures.1 (subst (λ p. IsPlanRefusal r p c.in_err-input-in-GroupBy.field-0.0) (sym (ap (λ p. resolved r (plan_tree p)) c.in-GroupBy.is)) (c.in_err-input-in-GroupBy.ensures.err (group_by_op (trees_of c.in-GroupBy.keys) (trees_of c.in-GroupBy.aggs) None)))
+    let input = c.in_ok-input in
+    passed_on c.from_residual-in_err-lowered.result c.in_err-lowered.field-0.0 _ c.from_residual-in_err-lowered.ensures.1 (groups_refused r c.lower_input.new.expr_arena c.lower_input.new.lp_arena input.input.node.0 (columns_at c.lower_input.new.lp_arena input.input.schema_node.0) (trees_of c.args.keys) (trees_of c.args.aggs) (plan_tree c.args.input.value) _ _ input.ensures.ok c.in_err-lowered.ensures.err refl)
 
-pub lower-returns-in_err-lowered-in-GroupBy-clause-err :
-    goal.lower-returns-in_err-lowered-in-GroupBy-clause-err
-lower-returns-in_err-lowered-in-GroupBy-clause-err t c =
+pub add_groups-returns-clause-ok : goal.add_groups-returns-clause-ok
+add_groups-returns-clause-ok t c =
     let r = registry c.args.udfs.now in
-    let input = c.in_ok-input-in-GroupBy in
-    passed_on c.from_residual-in_err-lowered-in-GroupBy.result c.in_err-lowered-in-GroupBy.field-0.0 _ c.from_residual-in_err-lowered-in-GroupBy.ensures.1 (groups_refused r c.lower_input-in-GroupBy.new.expr_arena c.lower_input-in-GroupBy.new.lp_arena input.input.node.0 (columns_at c.lower_input-in-GroupBy.new.lp_arena input.input.schema_node.0) (trees_of c.in-GroupBy.keys) (trees_of c.in-GroupBy.aggs) (plan_tree c.in-GroupBy.input.value) (resolved r (plan_tree c.args.plan)) _ input.ensures.ok c.in_err-lowered-in-GroupBy.ensures.err (ap (λ p. resolved r (plan_tree p)) c.in-GroupBy.is))
+    let input = c.in_ok-input in
+    let lowered = c.in_ok-lowered in
+    groups_stand r c.lower_input.new.expr_arena c.lower_groups.new.expr_arena c.lower_input.new.lp_arena c.lower_groups.new.lp_arena input.input.node.0 lowered.lowered.node.0 (columns_at c.lower_input.new.lp_arena input.input.schema_node.0) (columns_at c.lower_groups.new.lp_arena lowered.lowered.schema_node.0) (trees_of c.args.keys) (trees_of c.args.aggs) (plan_tree c.args.input.value) _ lowered.ensures.kept lowered.ensures.grows input.ensures.ok lowered.ensures.ok refl
 
-pub lower-returns-in_ok-lowered-in-GroupBy-clause-ok :
-    goal.lower-returns-in_ok-lowered-in-GroupBy-clause-ok
-lower-returns-in_ok-lowered-in-GroupBy-clause-ok t c =
-    let r = registry c.args.udfs.now in
-    let input = c.in_ok-input-in-GroupBy in
-    let lowered = c.in_ok-lowered-in-GroupBy in
-    groups_stand r c.lower_input-in-GroupBy.new.expr_arena c.lower_groups.new.expr_arena c.lower_input-in-GroupBy.new.lp_arena c.lower_groups.new.lp_arena input.input.node.0 lowered.lowered.node.0 (columns_at c.lower_input-in-GroupBy.new.lp_arena input.input.schema_node.0) (columns_at c.lower_groups.new.lp_arena lowered.lowered.schema_node.0) (trees_of c.in-GroupBy.keys) (trees_of c.in-GroupBy.aggs) (plan_tree c.in-GroupBy.input.value) (resolved r (plan_tree c.args.plan)) lowered.ensures.kept lowered.ensures.grows input.ensures.ok lowered.ensures.ok (ap (λ p. resolved r (plan_tree p)) c.in-GroupBy.is)
+pub add_function-returns-in_err-input-clause-err : goal.add_function-returns-in_err-input-clause-err
+add_function-returns-in_err-input-clause-err t c =
+    passed_on c.from_residual.result c.in_err-input.field-0.0 _ c.from_residual.ensures.1 (function_below (registry c.args.udfs.now) c.args.function (plan_tree c.args.input.value) _ _ c.in_err-input.ensures.err refl)
 
-pub lower-returns-in_err-input-in-MapFunction-clause-err :
-    goal.lower-returns-in_err-input-in-MapFunction-clause-err
-lower-returns-in_err-input-in-MapFunction-clause-err t c =
+pub add_function-returns-in_err-lowered-clause-err : goal.add_function-returns-in_err-lowered-clause-err
+add_function-returns-in_err-lowered-clause-err t c =
     let r = registry c.args.udfs.now in
-    passed_on c.from_residual-in_err-input-in-MapFunction.result c.in_err-input-in-MapFunction.field-0.0 _ c.from_residual-in_err-input-in-MapFunction.ensures.1 (function_below r c.in-MapFunction.function (plan_tree c.in-MapFunction.input.value) (resolved r (plan_tree c.args.plan)) _ c.in_err-input-in-MapFunction.ensures.err (ap (λ p. resolved r (plan_tree p)) c.in-MapFunction.is))
+    let input = c.in_ok-input in
+    passed_on c.from_residual-in_err-lowered.result c.in_err-lowered.field-0.0 _ c.from_residual-in_err-lowered.ensures.1 (function_refused r c.lower_input.new.expr_arena c.lower_input.new.lp_arena input.input.node.0 (columns_at c.lower_input.new.lp_arena input.input.schema_node.0) c.args.function (plan_tree c.args.input.value) _ _ input.ensures.ok c.in_err-lowered.ensures.err refl)
 
-pub lower-returns-in_err-lowered-in-MapFunction-clause-err :
-    goal.lower-returns-in_err-lowered-in-MapFunction-clause-err
-lower-returns-in_err-lowered-in-MapFunction-clause-err t c =
+pub add_function-returns-clause-ok : goal.add_function-returns-clause-ok
+add_function-returns-clause-ok t c =
     let r = registry c.args.udfs.now in
-    let input = c.in_ok-input-in-MapFunction in
-    passed_on c.from_residual-in_err-lowered-in-MapFunction.result c.in_err-lowered-in-MapFunction.field-0.0 _ c.from_residual-in_err-lowered-in-MapFunction.ensures.1 (function_refused r c.lower_input-in-MapFunction.new.expr_arena c.lower_input-in-MapFunction.new.lp_arena input.input.node.0 (columns_at c.lower_input-in-MapFunction.new.lp_arena input.input.schema_node.0) c.in-MapFunction.function (plan_tree c.in-MapFunction.input.value) (resolved r (plan_tree c.args.plan)) _ input.ensures.ok c.in_err-lowered-in-MapFunction.ensures.err (ap (λ p. resolved r (plan_tree p)) c.in-MapFunction.is))
-
-pub lower-returns-in_ok-lowered-in-MapFunction-clause-ok :
-    goal.lower-returns-in_ok-lowered-in-MapFunction-clause-ok
-lower-returns-in_ok-lowered-in-MapFunction-clause-ok t c =
-    let r = registry c.args.udfs.now in
-    let input = c.in_ok-input-in-MapFunction in
-    let lowered = c.in_ok-lowered-in-MapFunction in
-    function_stands r c.lower_input-in-MapFunction.new.expr_arena c.lower_input-in-MapFunction.new.lp_arena c.lower_function.new.lp_arena input.input.node.0 lowered.lowered.node.0 (columns_at c.lower_input-in-MapFunction.new.lp_arena input.input.schema_node.0) (columns_at c.lower_function.new.lp_arena lowered.lowered.schema_node.0) c.in-MapFunction.function (plan_tree c.in-MapFunction.input.value) (resolved r (plan_tree c.args.plan)) lowered.ensures.grows input.ensures.ok lowered.ensures.ok (ap (λ p. resolved r (plan_tree p)) c.in-MapFunction.is)
+    let input = c.in_ok-input in
+    let lowered = c.in_ok-lowered in
+    function_stands r c.lower_input.new.expr_arena c.lower_input.new.lp_arena c.lower_function.new.lp_arena input.input.node.0 lowered.lowered.node.0 (columns_at c.lower_input.new.lp_arena input.input.schema_node.0) (columns_at c.lower_function.new.lp_arena lowered.lowered.schema_node.0) c.args.function (plan_tree c.args.input.value) _ lowered.ensures.grows input.ensures.ok lowered.ensures.ok refl
 
 pub lower_input-returns-in-Ok-clause-ok : goal.lower_input-returns-in-Ok-clause-ok
 lower_input-returns-in-Ok-clause-ok t c =

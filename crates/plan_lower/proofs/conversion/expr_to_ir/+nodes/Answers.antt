@@ -11,9 +11,9 @@ use Rattle.plan_dsl.proofs.ExprLemmas.{sort_by_listed, window_listed}
 use Rattle.plan_arena.specs.declared.aexpr.AExpr.TheVariants.{Alias, SortBy, Window}
 use Rattle.plan_arena.specs.Denotation.{Denotes}
 use Rattle.plan_arena.specs.Items.{HoldsFrom}
-use Rattle.plan_lower.specs.Nodes.{IsItemOf}
+use Rattle.plan_lower.specs.Nodes.{IsItemOf, has_several}
 use Rattle.plan_arena.proofs.ItemLemmas.{grows_then, length-grown}
-use Rattle.plan_lower.proofs.NodeLemmas.{Adding, adding_start, adding_step, both_plain, each_plain, item_denotes, nothing_added, over_added, over_both, over_listed, pruned_item, rest_plain, second_plain, third_plain, unwritten_both, unwritten_listed}
+use Rattle.plan_lower.proofs.NodeLemmas.{Adding, adding_start, adding_step, both_plain, each_plain, item_denotes, nothing_added, over_added, over_both, over_listed, pruned_item, rest_plain, second_plain, several_kinds, third_plain, unwritten_both, unwritten_listed}
 use Rattle.plan_lower.proofs.conversion.expr_to_ir.+nodes.Goals as goal
 
 pub add_nodes-returns-in_ok-node-in-Alias-clause-denotes : goal.add_nodes-returns-in_ok-node-in-Alias-clause-denotes
@@ -33,37 +33,54 @@ add_nodes-returns-in_ok-node-in_default-clause-denotes t c =
     let added = item_denotes _ c.add_inputs.new.arena _ _ c.in_ok-item-in_default.item top.node.0 (length-grown c.args.arena.now c.add_inputs.new.arena item.grows) item.ok top.ensures.ok top.ensures.node in
     subst (Denotes (HoldsFrom (length c.args.arena.now) c.add-in_default.new.self) top.node.0) (pruned_item c.args.keep c.args.expr c.in_default.not-Alias) added
 
+-- what is over several inputs
+pub add_inputs-add_several-requires : goal.add_inputs-add_several-requires
+add_inputs-add_several-requires t c = (omega (arith, c.decreases), (c.requires.plain, ap has_several c.in-BinaryExpr.is))
+
+pub add_inputs-add_several-requires-in-Slice : goal.add_inputs-add_several-requires-in-Slice
+add_inputs-add_several-requires-in-Slice t c = (omega (arith, c.decreases), (c.requires.plain, ap has_several c.in-Slice.is))
+
+pub add_inputs-add_several-requires-in-Gather : goal.add_inputs-add_several-requires-in-Gather
+add_inputs-add_several-requires-in-Gather t c = (omega (arith, c.decreases), (c.requires.plain, ap has_several c.in-Gather.is))
+
+pub add_inputs-add_several-requires-in-Filter : goal.add_inputs-add_several-requires-in-Filter
+add_inputs-add_several-requires-in-Filter t c = (omega (arith, c.decreases), (c.requires.plain, ap has_several c.in-Filter.is))
+
+pub add_several-unreachable-requires : goal.add_several-unreachable-requires
+add_several-unreachable-requires t c =
+    several_kinds c.args.expr c.requires.several c.in_default.not-BinaryExpr c.in_default.not-Slice c.in_default.not-Gather c.in_default.not-Filter
+
 -- the operands behind the first are less deep, and have plans' ops alone
-pub add_inputs-add_nodes-requires-in-BinaryExpr : goal.add_inputs-add_nodes-requires-in-BinaryExpr
-add_inputs-add_nodes-requires-in-BinaryExpr t c =
+pub add_several-add_nodes-requires-in-BinaryExpr : goal.add_several-add_nodes-requires-in-BinaryExpr
+add_several-add_nodes-requires-in-BinaryExpr t c =
     let size = ap size-Expr c.in-BinaryExpr.is ∙ sized-BinaryExpr _ _ _ in (
       omega (arith, c.decreases, size, ap size-Expr c.into_inner-in-BinaryExpr.ensures),
       rw (c.into_inner-in-BinaryExpr.ensures) (second_plain c.args.expr _ _ _ _ (ap tree_of c.in-BinaryExpr.is) c.requires.plain),
     )
 
-pub add_inputs-add_nodes-requires-in-Slice-2 : goal.add_inputs-add_nodes-requires-in-Slice-2
-add_inputs-add_nodes-requires-in-Slice-2 t c =
+pub add_several-add_nodes-requires-in-Slice-2 : goal.add_several-add_nodes-requires-in-Slice-2
+add_several-add_nodes-requires-in-Slice-2 t c =
     let size = ap size-Expr c.in-Slice.is ∙ sized-Slice _ _ _ in (
       omega (arith, c.decreases, size, ap size-Expr c.into_inner-in-Slice-2.ensures),
       rw (c.into_inner-in-Slice-2.ensures) (second_plain c.args.expr _ _ _ _ (ap tree_of c.in-Slice.is) c.requires.plain),
     )
 
-pub add_inputs-add_nodes-requires-in-Slice-3 : goal.add_inputs-add_nodes-requires-in-Slice-3
-add_inputs-add_nodes-requires-in-Slice-3 t c =
+pub add_several-add_nodes-requires-in-Slice-3 : goal.add_several-add_nodes-requires-in-Slice-3
+add_several-add_nodes-requires-in-Slice-3 t c =
     let size = ap size-Expr c.in-Slice.is ∙ sized-Slice _ _ _ in (
       omega (arith, c.decreases, size, ap size-Expr c.into_inner-in-Slice-3.ensures),
       rw (c.into_inner-in-Slice-3.ensures) (third_plain c.args.expr _ _ _ _ _ (ap tree_of c.in-Slice.is) c.requires.plain),
     )
 
-pub add_inputs-add_nodes-requires-in-Gather-2 : goal.add_inputs-add_nodes-requires-in-Gather-2
-add_inputs-add_nodes-requires-in-Gather-2 t c =
+pub add_several-add_nodes-requires-in-Gather-2 : goal.add_several-add_nodes-requires-in-Gather-2
+add_several-add_nodes-requires-in-Gather-2 t c =
     let size = ap size-Expr c.in-Gather.is ∙ sized-Gather _ _ _ in (
       omega (arith, c.decreases, size, ap size-Expr c.into_inner-in-Gather-2.ensures),
       rw (c.into_inner-in-Gather-2.ensures) (second_plain c.args.expr _ _ _ _ (ap tree_of c.in-Gather.is) c.requires.plain),
     )
 
-pub add_inputs-add_nodes-requires-in-Filter-2 : goal.add_inputs-add_nodes-requires-in-Filter-2
-add_inputs-add_nodes-requires-in-Filter-2 t c =
+pub add_several-add_nodes-requires-in-Filter-2 : goal.add_several-add_nodes-requires-in-Filter-2
+add_several-add_nodes-requires-in-Filter-2 t c =
     let size = ap size-Expr c.in-Filter.is ∙ sized-Filter _ _ in (
       omega (arith, c.decreases, size, ap size-Expr c.into_inner-in-Filter-2.ensures),
       rw (c.into_inner-in-Filter-2.ensures) (second_plain c.args.expr _ _ _ _ (ap tree_of c.in-Filter.is) c.requires.plain),
@@ -76,39 +93,39 @@ add_inputs-add_each-requires t c =
     (omega (arith, c.decreases, size), rest_plain (sort_by_listed c.args.expr kind.expr kind.by kind.sort_options kind.is) c.requires.plain)
 
 -- an item over two inputs or more, of which each was added behind those before it
-pub add_inputs-returns-in-BinaryExpr-clause-ok :
-    goal.add_inputs-returns-in-BinaryExpr-clause-ok
-add_inputs-returns-in-BinaryExpr-clause-ok t c =
+pub add_several-returns-in_ok-right-in-BinaryExpr-clause-ok :
+    goal.add_several-returns-in_ok-right-in-BinaryExpr-clause-ok
+add_several-returns-in_ok-right-in-BinaryExpr-clause-ok t c =
     let left = c.in_ok-left-in-BinaryExpr.ensures in
     let right = c.in_ok-right-in-BinaryExpr.ensures in
     rw (c.in-BinaryExpr.is, ← c.into_inner.ensures, ← c.into_inner-in-BinaryExpr.ensures) (over_added _ _ _ _ (more _ (more _ no_more)) refl (_, left.denotes, left.grows, (_, right.denotes, right.grows, refl)))
 
-pub add_inputs-returns-in-Slice-clause-ok :
-    goal.add_inputs-returns-in-Slice-clause-ok
-add_inputs-returns-in-Slice-clause-ok t c =
+pub add_several-returns-in_ok-length-in-Slice-clause-ok :
+    goal.add_several-returns-in_ok-length-in-Slice-clause-ok
+add_several-returns-in_ok-length-in-Slice-clause-ok t c =
     let input = c.in_ok-input-in-Slice.ensures in
     let offset = c.in_ok-offset-in-Slice.ensures in
     let length = c.in_ok-length-in-Slice.ensures in
     rw (c.in-Slice.is, ← c.into_inner-in-Slice.ensures, ← c.into_inner-in-Slice-2.ensures, ← c.into_inner-in-Slice-3.ensures) (over_added _ _ _ _ (more _ (more _ (more _ no_more))) refl (_, input.denotes, input.grows, (_, offset.denotes, offset.grows, (_, length.denotes, length.grows, refl))))
 
-pub add_inputs-returns-in-Gather-clause-ok :
-    goal.add_inputs-returns-in-Gather-clause-ok
-add_inputs-returns-in-Gather-clause-ok t c =
+pub add_several-returns-in_ok-idx-in-Gather-clause-ok :
+    goal.add_several-returns-in_ok-idx-in-Gather-clause-ok
+add_several-returns-in_ok-idx-in-Gather-clause-ok t c =
     let expr = c.in_ok-expr-in-Gather.ensures in
     let idx = c.in_ok-idx-in-Gather.ensures in
     rw (c.in-Gather.is, ← c.into_inner-in-Gather.ensures, ← c.into_inner-in-Gather-2.ensures) (over_added _ _ _ _ (more _ (more _ no_more)) refl (_, expr.denotes, expr.grows, (_, idx.denotes, idx.grows, refl)))
 
-pub add_inputs-returns-in-Filter-clause-ok :
-    goal.add_inputs-returns-in-Filter-clause-ok
-add_inputs-returns-in-Filter-clause-ok t c =
+pub add_several-returns-in_ok-by-in-Filter-clause-ok :
+    goal.add_several-returns-in_ok-by-in-Filter-clause-ok
+add_several-returns-in_ok-by-in-Filter-clause-ok t c =
     let input = c.in_ok-input-in-Filter.ensures in
     let by = c.in_ok-by-in-Filter.ensures in
     rw (c.in-Filter.is, ← c.into_inner-in-Filter.ensures, ← c.into_inner-in-Filter-2.ensures) (over_added _ _ _ _ (more _ (more _ no_more)) refl (_, input.denotes, input.grows, (_, by.denotes, by.grows, refl)))
 
 -- one over an input and a list, which was added behind it
-pub add_inputs-returns-in-SortBy-clause-ok :
-    goal.add_inputs-returns-in-SortBy-clause-ok
-add_inputs-returns-in-SortBy-clause-ok t c =
+pub add_inputs-returns-in_ok-by-in-SortBy-clause-ok :
+    goal.add_inputs-returns-in_ok-by-in-SortBy-clause-ok
+add_inputs-returns-in_ok-by-in-SortBy-clause-ok t c =
     let kind = c.in-SortBy in
     let first = c.in_ok-expr-in-SortBy.ensures in
     let rest = c.in_ok-by-in-SortBy.ensures in
@@ -133,8 +150,8 @@ add_inputs-add_each-requires-in-Window t c =
     (omega (arith, c.decreases, size), (both_plain (order_trees kind.order_by) (trees_of kind.partition_by) plain).1)
 
 -- a window's item, over its function, what orders its groups, and its keys
-pub add_inputs-returns-in-Window-clause-ok : goal.add_inputs-returns-in-Window-clause-ok
-add_inputs-returns-in-Window-clause-ok t c =
+pub add_inputs-returns-in_ok-partition_by-in-Window-clause-ok : goal.add_inputs-returns-in_ok-partition_by-in-Window-clause-ok
+add_inputs-returns-in_ok-partition_by-in-Window-clause-ok t c =
     let kind = c.in-Window in
     let first = c.in_ok-function-in-Window.ensures in
     let order = c.in_ok-order_by-in-Window in

@@ -1,85 +1,10 @@
-use Rattle.std.proofs.Common.{◌≡◌, ◌++◌, true, List, length, map, sym, ap, ◌∙◌, subst, arith, ⊎_elim}
-use Rattle.std.specs.List.{AllByRecursion}
-use Rattle.plan_types.proofs.ListLemmas.{map-map}
-use Rattle.plan_types.proofs.ResultLemmas.{passed_on}
-use Rattle.plan_types.specs.Schemas.{Name, columns, names_of, repeats}
+use Rattle.plan_types.specs.Schemas.{columns}
 use Rattle.plan_dsl.specs.Registry.{registry}
-use Rattle.plan_arena.specs.Items.{named_node}
-use Rattle.plan_arena.proofs.ItemLemmas.{grown_held, length-grown}
-use Rattle.plan_infer.specs.KeptTypes.{IsKept}
-use Rattle.plan_infer.specs.Typed.{DenotesKnown}
 use Rattle.plan_infer.proofs.TableLemmas.{right_start}
-use Rattle.plan_coerce.specs.Coercion.{IsCoerced}
-use Rattle.plan_lower.specs.Groups.{not_typed, twice}
-use Rattle.plan_lower.specs.Projection.{out_of_memory}
-use Rattle.plan_lower.proofs.GroupLemmas.{has_aggregates, name_at, named_names, projected_names}
-use Rattle.plan_lower.proofs.ProjectionLemmas.{earlier_kept, has_outputs, roots_are, roots_typed}
 use Rattle.plan_lower.proofs.conversion.groups.aggregate_in.Goals as goal
 
-pub project-requires : goal.project-requires
-project-requires c = record {
+pub aggregate_coerced-requires : goal.aggregate_coerced-requires
+aggregate_coerced-requires c = record {
   plain = c.requires.plain;
   right = right_start (registry c.args.udfs.now) (columns c.args.schema.now) c.args.arena.now c.args.types c.requires.empty;
 }
-
-pub coerce_types-requires : goal.coerce_types-requires
-coerce_types-requires c = record {
-  right = record { registry = registry c.args.udfs.now; schema = columns c.args.schema.now; right = c.in_ok-projection.ensures.right };
-  kept = subst (AllByRecursion (IsKept c.project.new.types)) (sym c.in_ok-stack.ensures.ok) c.in_ok-projection.ensures.kept;
-}
-
-pub returns-clause-ok : goal.returns-clause-ok
-returns-clause-ok c =
-    let r = registry c.args.udfs.now in
-    let schema = columns c.args.schema.now in
-    let p = c.in_ok-projection.ensures.ok in
-    let first = length c.args.arena.now in
-    let exprs = c.in_ok-projection.projection.expr.items.items in
-    let own = roots_are exprs p.outputs p.nodes_are in
-    let roots = c.in_ok-stack.ensures.ok ∙ own in
-    let typed = subst (AllByRecursion (DenotesKnown r schema first c.project.new.arena)) (sym roots) (roots_typed r schema first first c.project.new.arena (omega arith) p.outputs p.each) in
-    let coerced = c.in_ok-coerce_types.ensures.ok r schema first c.in_ok-projection.ensures.right (length-grown _ _ c.in_ok-projection.ensures.grows) typed in
-    let outputs = has_outputs r schema first c.project.new.arena c.coerce_types.new.arena _ _ _ p (subst (IsCoerced r schema first c.project.new.arena c.coerce_types.new.arena) roots coerced) in
-    has_aggregates r schema first c.project.new.arena c.coerce_types.new.arena c.project.new.types _ _ _ _ (columns c.args.keys) (columns c.in_ok-whole.whole) p outputs own c.in_ok-projection.ensures.right c.in_ok-projection.ensures.kept c.in_ok-whole.ensures.ok
-
-pub returns-clause-kept : goal.returns-clause-kept
-returns-clause-kept c =
-    let r = registry c.args.udfs.now in
-    let schema = columns c.args.schema.now in
-    let p = c.in_ok-projection.ensures.ok in
-    let first = length c.args.arena.now in
-    let roots = c.in_ok-stack.ensures.ok ∙ roots_are c.in_ok-projection.projection.expr.items.items p.outputs p.nodes_are in
-    let typed = subst (AllByRecursion (DenotesKnown r schema first c.project.new.arena)) (sym roots) (roots_typed r schema first first c.project.new.arena (omega arith) p.outputs p.each) in
-    let coerced = c.in_ok-coerce_types.ensures.ok r schema first c.in_ok-projection.ensures.right (length-grown _ _ c.in_ok-projection.ensures.grows) typed in
-    earlier_kept c.args.arena.now c.project.new.arena c.coerce_types.new.arena c.in_ok-projection.ensures.grows coerced.below
-
-pub returns-in_err-projection-clause-kept : goal.returns-in_err-projection-clause-kept
-returns-in_err-projection-clause-kept c = grown_held c.args.arena.now c.project.new.arena c.project.ensures.grows
-
-pub returns-in_err-whole-clause-kept : goal.returns-in_err-whole-clause-kept
-returns-in_err-whole-clause-kept c = grown_held c.args.arena.now c.project.new.arena c.in_ok-projection.ensures.grows
-
-pub returns-in_err-stack-clause-kept : goal.returns-in_err-stack-clause-kept
-returns-in_err-stack-clause-kept c = grown_held c.args.arena.now c.project.new.arena c.in_ok-projection.ensures.grows
-
-pub returns-in_err-coerce_types-clause-kept : goal.returns-in_err-coerce_types-clause-kept
-returns-in_err-coerce_types-clause-kept c =
-    let r = registry c.args.udfs.now in
-    let schema = columns c.args.schema.now in
-    let p = c.in_ok-projection.ensures.ok in
-    let first = length c.args.arena.now in
-    let roots = c.in_ok-stack.ensures.ok ∙ roots_are c.in_ok-projection.projection.expr.items.items p.outputs p.nodes_are in
-    let typed = subst (AllByRecursion (DenotesKnown r schema first c.project.new.arena)) (sym roots) (roots_typed r schema first first c.project.new.arena (omega arith) p.outputs p.each) in
-    let stays = c.in_err-coerce_types.ensures.stays r schema first c.in_ok-projection.ensures.right (length-grown _ _ c.in_ok-projection.ensures.grows) typed in
-    earlier_kept c.args.arena.now c.project.new.arena c.coerce_types.new.arena c.in_ok-projection.ensures.grows stays.below
-
-pub returns-in_err-projection-clause-err : goal.returns-in_err-projection-clause-err
-returns-in_err-projection-clause-err c =
-    passed_on c.from_residual.result c.in_err-projection.field-0.0 _ c.from_residual.ensures.1 (not_typed c.in_err-projection.ensures.err)
-
-pub returns-in_err-whole-clause-err : goal.returns-in_err-whole-clause-err
-returns-in_err-whole-clause-err c =
-    let p = c.in_ok-projection.ensures.ok in
-    let names = named_names c.in_ok-projection.projection.expr.items.items ∙ projected_names _ _ _ _ _ _ _ p in
-    let repeated = λ (h : repeats (names_of (columns c.args.keys) ++ map name_at c.in_ok-projection.projection.expr.items.items) ≡ true). ap (λ (l : List Name). repeats (names_of (columns c.args.keys) ++ l)) (sym names) ∙ h in
-    passed_on c.from_residual-in_err-whole.result c.in_err-whole.field-0.0 _ c.from_residual-in_err-whole.ensures.1 (⊎_elim (λ e. not_typed (out_of_memory e)) (λ e. twice e.0 (repeated e.1)) c.in_err-whole.ensures.err)

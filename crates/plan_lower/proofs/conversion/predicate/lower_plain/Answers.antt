@@ -1,75 +1,8 @@
-use Rattle.std.proofs.Common.{[], ◌∷◌, ◌++◌, length, refl, sym, ap, ◌∙◌, subst}
-use Rattle.plan_types.specs.Types.{ty, Truth}
-use Rattle.plan_types.specs.TypeLaws.{same_type_exact}
 use Rattle.plan_types.specs.Schemas.{columns}
-use Rattle.plan_types.proofs.ResultLemmas.{passed_on}
-use Rattle.plan_dsl.specs.Expressions.{plain_tree}
 use Rattle.plan_dsl.specs.Registry.{registry}
-use Rattle.plan_arena.specs.Items.{named_node}
-use Rattle.plan_arena.proofs.ItemLemmas.{grown_held, length-grown}
-use Rattle.plan_coerce.specs.Coercion.{IsCoerced}
-use Rattle.plan_arena.specs.Items.{numbers}
-use Rattle.plan_lower.proofs.ProjectionLemmas.{one_output, root_typed, has_predicate, refused_predicate, other_type_refused, not_true, not_false, earlier_kept}
 use Rattle.plan_infer.proofs.TableLemmas.{right_start}
-use Rattle.plan_infer.proofs.TableLemmas.{kept_type, type_of}
 use Rattle.plan_lower.proofs.conversion.predicate.lower_plain.Goals as goal
 
-pub add_typed-requires : goal.add_typed-requires
-add_typed-requires c =
+pub lower_typed-requires : goal.lower_typed-requires
+lower_typed-requires c =
     record { plain = c.requires.plain; right = right_start (registry c.args.udfs.now) (columns c.args.schema.now) c.args.arena.now c.new-types.result c.new-types.ensures }
-
-pub returns-in_err-expr_ir-clause-err : goal.returns-in_err-expr_ir-clause-err
-returns-in_err-expr_ir-clause-err c =
-    passed_on c.from_residual.result c.in_err-expr_ir.field-0.0 _ c.from_residual.ensures.1 (refused_predicate (registry c.args.udfs.now) (columns c.args.schema.now) (plain_tree c.args.predicate) _ c.in_err-expr_ir.ensures.err)
-
-pub returns-then-ne-clause-err : goal.returns-then-ne-clause-err
-returns-then-ne-clause-err c =
-    let r = registry c.args.udfs.now in
-    let schema = columns c.args.schema.now in
-    let tree = plain_tree c.args.predicate in
-    let n = (named_node c.in_ok-expr_ir.expr_ir).expression in
-    let is = one_output r schema (length c.args.arena.now) c.add_typed.new.arena tree n c.node.result.0 (ty c.get.result.now.dtype) c.in_ok-expr_ir.ensures.denotes c.node.ensures (kept_type r schema c.add_typed.new.arena c.add_typed.new.types c.in_ok-expr_ir.ensures.right c.node.result.0 _ (type_of c.add_typed.new.types c.node.result.0 c.get.result.now c.get.ensures)) in
-    other_type_refused r schema (length c.args.arena.now) c.add_typed.new.arena _ c.at_top.result is.1 (not_true _ (sym c.ne.ensures ∙ c.if-ne.true)) c.at_top.ensures
-
-pub returns-clause-ok : goal.returns-clause-ok
-returns-clause-ok c =
-    let r = registry c.args.udfs.now in
-    let schema = columns c.args.schema.now in
-    let first = length c.args.arena.now in
-    let n = (named_node c.in_ok-expr_ir.expr_ir).expression in
-    let is = one_output r schema first c.add_typed.new.arena (plain_tree c.args.predicate) n c.node.result.0 (ty c.get.result.now.dtype) c.in_ok-expr_ir.ensures.denotes c.node.ensures (kept_type r schema c.add_typed.new.arena c.add_typed.new.types c.in_ok-expr_ir.ensures.right c.node.result.0 _ (type_of c.add_typed.new.types c.node.result.0 c.get.result.now c.get.ensures)) in
-    let truth = same_type_exact (ty c.get.result.now.dtype) Truth (not_false _ (sym c.ne.ensures ∙ c.if-ne.false)) in
-    let stacked = c.in_ok-push.ensures.ok ∙ ap (λ l. l ++ c.node-2.result ∷ []) c.new-stack.ensures.items in
-    let roots = ap numbers stacked ∙ ap (λ k. k ∷ []) c.node-2.ensures in
-    let coerced = c.in_ok-coerce_types.ensures.ok r schema first c.in_ok-expr_ir.ensures.right (length-grown _ _ c.in_ok-expr_ir.ensures.grows) (root_typed r schema first c.add_typed.new.arena _ _ is.1 roots) in
-    has_predicate r schema first c.add_typed.new.arena c.coerce_types.new.arena _ (named_node c.in_ok-expr_ir.expr_ir) is.1 truth c.in_ok-expr_ir.ensures.name refl (subst (IsCoerced r schema first c.add_typed.new.arena c.coerce_types.new.arena) roots coerced)
-
-pub returns-clause-kept : goal.returns-clause-kept
-returns-clause-kept c =
-    let r = registry c.args.udfs.now in
-    let schema = columns c.args.schema.now in
-    let first = length c.args.arena.now in
-    let n = (named_node c.in_ok-expr_ir.expr_ir).expression in
-    let is = one_output r schema first c.add_typed.new.arena (plain_tree c.args.predicate) n c.node.result.0 (ty c.get.result.now.dtype) c.in_ok-expr_ir.ensures.denotes c.node.ensures (kept_type r schema c.add_typed.new.arena c.add_typed.new.types c.in_ok-expr_ir.ensures.right c.node.result.0 _ (type_of c.add_typed.new.types c.node.result.0 c.get.result.now c.get.ensures)) in
-    let stacked = c.in_ok-push.ensures.ok ∙ ap (λ l. l ++ c.node-2.result ∷ []) c.new-stack.ensures.items in
-    let roots = ap numbers stacked ∙ ap (λ k. k ∷ []) c.node-2.ensures in
-    let coerced = c.in_ok-coerce_types.ensures.ok r schema first c.in_ok-expr_ir.ensures.right (length-grown _ _ c.in_ok-expr_ir.ensures.grows) (root_typed r schema first c.add_typed.new.arena _ _ is.1 roots) in
-    earlier_kept c.args.arena.now c.add_typed.new.arena c.coerce_types.new.arena c.in_ok-expr_ir.ensures.grows coerced.below
-
-pub returns-in_err-expr_ir-clause-kept : goal.returns-in_err-expr_ir-clause-kept
-returns-in_err-expr_ir-clause-kept c = grown_held c.args.arena.now c.add_typed.new.arena c.add_typed.ensures.grows
-
-pub returns-then-ne-clause-kept : goal.returns-then-ne-clause-kept
-returns-then-ne-clause-kept c = grown_held c.args.arena.now c.add_typed.new.arena c.in_ok-expr_ir.ensures.grows
-
-pub returns-in_err-coerce_types-clause-kept : goal.returns-in_err-coerce_types-clause-kept
-returns-in_err-coerce_types-clause-kept c =
-    let r = registry c.args.udfs.now in
-    let schema = columns c.args.schema.now in
-    let first = length c.args.arena.now in
-    let n = (named_node c.in_ok-expr_ir.expr_ir).expression in
-    let is = one_output r schema first c.add_typed.new.arena (plain_tree c.args.predicate) n c.node.result.0 (ty c.get.result.now.dtype) c.in_ok-expr_ir.ensures.denotes c.node.ensures (kept_type r schema c.add_typed.new.arena c.add_typed.new.types c.in_ok-expr_ir.ensures.right c.node.result.0 _ (type_of c.add_typed.new.types c.node.result.0 c.get.result.now c.get.ensures)) in
-    let stacked = c.in_ok-push.ensures.ok ∙ ap (λ l. l ++ c.node-2.result ∷ []) c.new-stack.ensures.items in
-    let roots = ap numbers stacked ∙ ap (λ k. k ∷ []) c.node-2.ensures in
-    let stays = c.in_err-coerce_types.ensures.stays r schema first c.in_ok-expr_ir.ensures.right (length-grown _ _ c.in_ok-expr_ir.ensures.grows) (root_typed r schema first c.add_typed.new.arena _ _ is.1 roots) in
-    earlier_kept c.args.arena.now c.add_typed.new.arena c.coerce_types.new.arena c.in_ok-expr_ir.ensures.grows stays.below
