@@ -48,11 +48,16 @@ module _ {A B : Type 0} (definition : A → Result (List B) ErrorKind) where
   pub lists_start : (items : List A) (made : List B) → made ≡ [] → lists_joined definition items ≡ joined (Ok made) (lists_joined definition items)
   lists_start items made none = elim (lists_joined definition items) as (λ r. r ≡ joined (Ok []) r) [ Ok others ↦ refl | Err kinds ↦ refl ] ∙ ap (λ l. joined (Ok l) (lists_joined definition items)) (sym none)
 
-  pub lists_step : (made found grown : List B) (item : A) (rest : List A) → definition item ≡ Ok found → grown ≡ made ++ found → joined (Ok made) (lists_joined definition (item ∷ rest)) ≡ joined (Ok grown) (lists_joined definition rest)
-  lists_step made found grown item rest h is =
-      ap (λ r. joined (Ok made) (joined (with_kinds r) (lists_joined definition rest))) h
-      ∙ elim (lists_joined definition rest) as (λ r. joined (Ok made) (joined (Ok found) r) ≡ joined (Ok (made ++ found)) r) [ Ok others ↦ ap Ok (sym (append_assoc made found others)) | Err kinds ↦ refl ]
-      ∙ ap (λ l. joined (Ok l) (lists_joined definition rest)) (sym is)
+  -- one more that stands behind what was made
+  pub lists_more : (made grown : List B) (item : A) (rest : List A) → joined (Ok made) (with_kinds (definition item)) ≡ Ok grown → joined (Ok made) (lists_joined definition (item ∷ rest)) ≡ joined (Ok grown) (lists_joined definition rest)
+  lists_more made grown item rest h = more (definition item) h
+    where
+      more : (r : Result (List B) ErrorKind) → joined (Ok made) (with_kinds r) ≡ Ok grown → joined (Ok made) (joined (with_kinds r) (lists_joined definition rest)) ≡ joined (Ok grown) (lists_joined definition rest)
+      more (Ok found) e =
+          let same : made ++ found ≡ grown = cc in
+          elim (lists_joined definition rest) as (λ r. joined (Ok made) (joined (Ok found) r) ≡ joined (Ok (made ++ found)) r) [ Ok others ↦ ap Ok (sym (append_assoc made found others)) | Err kinds ↦ refl ]
+          ∙ ap (λ l. joined (Ok l) (lists_joined definition rest)) same
+      more (Err kind) e = absurd cc
 
   first_told : (made : List B) (kind : ErrorKind) (error : PlanError) (answer rest : Result (List B) (List ErrorKind)) → error ≡ at_top kind → answer ≡ joined (Ok made) (joined (Err (kind ∷ [])) rest) → IsUnexpanded answer error
   first_told made kind error answer (Ok others) told is = unexpanded (kind ∷ []) kind told is (Contains-push [] kind)

@@ -1,7 +1,9 @@
 -- Expressions that are expanded, as the code does it.
 use Rattle.std.proofs.Common.{◌≡◌, ◌<◌, ◌+◌, ℕ, List, [], ◌∷◌, ◌++◌, map, drop, length, get_or, Option, Some, None, Bool, true, false, cond, ◌&&◌, Result, Ok, Err, refl, sym, ap, ◌∙◌}
+use Rattle.std.proofs.Math.Bool.{and-true}
 use Rattle.std.specs.Global.{Box}
-use Rattle.std.specs.List.{flat_map, list_all}
+use Rattle.std.specs.List.{list_all}
+use Rattle.std.specs.Result.{IfOk, IfErr}
 use Rattle.std.proofs.lemmas.Bool.{and_from}
 use Rattle.std.proofs.lemmas.List.{map-append}
 use Rattle.std.proofs.lemmas.List.Folds.{list_all-append}
@@ -10,15 +12,15 @@ use Rattle.plan_types.proofs.ListLemmas.{item_left}
 use Rattle.plan_types.specs.Errors.{at_top, IsRefusal, no_room, broken}
 use Rattle.plan_types.specs.Schemas.{Name, Columns, same_name, names_of}
 use Rattle.plan_types.specs.declared.error.ErrorKind.{ErrorKind}
-use Rattle.plan_types.specs.declared.error.ErrorKind.TheVariants.{InvalidOperation, ComputeError}
+use Rattle.plan_types.specs.declared.error.ErrorKind.TheVariants.{InvalidOperation}
 use Rattle.plan_types.specs.declared.error.PlanError.{PlanError}
-use Rattle.plan_dsl.specs.Expansion.{markers_in, with_column_put, repeated_for, plain, root_name, name_given, under_alias, aliased, key_name, key_names, expansion, only_one, predicate_expansion}
+use Rattle.plan_dsl.specs.Expansion.{markers_in, with_column_put, repeated_for, plain, root_name, name_given, under_alias, aliased, key_name, key_names, expansion, expansions, only_one, predicate_expansion}
 use Rattle.plan_dsl.specs.Expressions.{tree_of, plain_tree, renaming_of}
-use Rattle.plan_dsl.specs.Markers.{without, once, names_of_types, without_excluded, is_exclude, set_of, marker_names, selector_names}
+use Rattle.plan_dsl.specs.Markers.{once, names_of_types, without_excluded, is_exclude, set_of, marker_names, selector_names}
 use Rattle.plan_dsl.specs.Ops.{ColumnOp, AliasOp, Expression}
-use Rattle.plan_dsl.specs.Refusals.{then_ok, each_ok}
+use Rattle.plan_dsl.specs.Refusals.{then_ok, each_ok, joined, with_kinds}
 use Rattle.plan_dsl.specs.SourceLaws.{same_source_decides}
-use Rattle.plan_dsl.specs.Sources.{Renaming, KeepRoot, AddPrefix, AddSuffix, Plain, WildcardOp, ColumnsOp, DtypeColumnOp, IndexColumnOp, NthOp, ExcludeOp, SelectorOp, RootOp, SetOp, Source, is_plain, same_source, unwritten}
+use Rattle.plan_dsl.specs.Sources.{Renaming, KeepRoot, Plain, WildcardOp, ColumnsOp, DtypeColumnOp, IndexColumnOp, NthOp, ExcludeOp, SelectorOp, RootOp, SetOp, Source, is_plain, same_source, unwritten}
 use Rattle.plan_dsl.specs.Trees.{node, no_more, more}
 use Rattle.plan_dsl.specs.declared.expr.Expr.{Expr, Column, KeepName, RenameAlias}
 use Rattle.plan_dsl.specs.declared.expr.Expr.TheVariants.{KeepName', RenameAlias'}
@@ -26,6 +28,7 @@ use Rattle.plan_dsl.specs.declared.marker.RenameAliasFn.{RenameAliasFn}
 use Rattle.plan_dsl.specs.declared.marker.RenameAliasFn.TheVariants.{Prefix, Suffix}
 use Rattle.plan_dsl.proofs.ExpansionLemmas.{plain_found, plain_is_written, written_is_expanded, others_are_refused}
 use Rattle.plan_types.specs.declared.text.PlSmallStr.{PlSmallStr}
+use Rattle.plan_expand.specs.Refusals.{IsUnexpanded, no_room as no_memory_left, unexpanded}
 use Rattle.plan_expand.specs.Walks.{first_of, first_marker}
 use Rattle.plan_expand.proofs.NameLemmas.{put_apart}
 use Rattle.plan_expand.proofs.OnceLemmas.{without_once}
@@ -71,9 +74,13 @@ repeated_once keys schema source (marker ∷ others) =
 expansion_once : (keys : List Name) (schema : Columns) (source : Source) → expansion (once keys) schema source ≡ expansion keys schema source
 expansion_once keys schema source = ap (λ r. then_ok r (each_ok aliased)) (repeated_once keys schema source (markers_in source))
 
+expansions_once : (keys : List Name) (schema : Columns) (sources : List Source) → expansions (once keys) schema sources ≡ expansions keys schema sources
+expansions_once keys schema [] = refl
+expansions_once keys schema (source ∷ sources) = λ i. joined (with_kinds (expansion_once keys schema source i)) (expansions_once keys schema sources i)
+
 -- a set of the keys' names
-pub by_set : (set keys : List Name) (schema : Columns) (source : Source) → set ≡ once keys → expansion set schema source ≡ expansion keys schema source
-by_set set keys schema source is = ap (λ l. expansion l schema source) is ∙ expansion_once keys schema source
+pub by_set : (set keys : List Name) (schema : Columns) (sources : List Source) → set ≡ once keys → expansions keys schema sources ≡ expansions set schema sources
+by_set set keys schema sources is = sym (ap (λ l. expansions l schema sources) is ∙ expansions_once keys schema sources)
 
 -- ---- a name in place of a renaming form
 
@@ -125,13 +132,9 @@ pub unrepeated : (keys : List Name) (schema : Columns) (source : Source) → Non
 unrepeated keys schema source none =
     ap (λ markers. then_ok (repeated_for keys schema source markers) (each_ok aliased)) (no_first (markers_in source) none)
 
-pub alone_made : (keys : List Name) (schema : Columns) (source : Source) (tree : Expression) → None ≡ first_marker source → aliased source ≡ Ok tree → expansion keys schema source ≡ Ok (tree ∷ [])
-alone_made keys schema source tree none made = unrepeated keys schema source none ∙ ap (λ r. then_ok r (λ found. Ok (found ∷ []))) made
-
-pub alone_refused : (keys : List Name) (schema : Columns) (source : Source) (error : PlanError) → None ≡ first_marker source → IsRefusal (aliased source) error → IsRefusal (expansion keys schema source) error
-alone_refused keys schema source error none (no_room e) = no_room e
-alone_refused keys schema source error none (broken kind told by) =
-    broken kind told (unrepeated keys schema source none ∙ ap (λ r. then_ok r (λ found. Ok (found ∷ []))) by)
+pub only_refused : (source : Source) (error : PlanError) → IsRefusal (aliased source) error → IsRefusal (each_ok aliased (source ∷ [])) error
+only_refused source error (no_room e) = no_room e
+only_refused source error (broken kind told by) = broken kind told (ap (λ r. then_ok r (λ found. Ok (found ∷ []))) by)
 
 -- what each of the markers is
 module _ (keys : List Name) (schema : Columns) (source marker : Source) where
@@ -171,11 +174,37 @@ pub refused_as : {A : Type 0} (answer other : Result A ErrorKind) (error : PlanE
 refused_as answer other error same (no_room e) = no_room e
 refused_as answer other error same (broken kind told by) = broken kind told (same ∙ by)
 
+-- what was found, or why it is refused, where the answer is the same
+pub found_as : {A T E : Type 0} (view : T → A) (found : Result T E) (answer other : Result A ErrorKind) → answer ≡ other → IfOk found (λ made. other ≡ Ok (view made)) → IfOk found (λ made. answer ≡ Ok (view made))
+found_as view (Ok made) answer other same is = same ∙ is
+found_as view (Err error) answer other same is = tt
+
+pub refused_of : {A T : Type 0} (found : Result T PlanError) (answer other : Result A ErrorKind) → answer ≡ other → IfErr found (IsRefusal other) → IfErr found (IsRefusal answer)
+refused_of (Ok made) answer other same is = tt
+refused_of (Err error) answer other same is = refused_as answer other error same is
+
+pub unexpanded_as : {A : Type 0} (answer other : Result A (List ErrorKind)) (error : PlanError) → answer ≡ other → IsUnexpanded other error → IsUnexpanded answer error
+unexpanded_as answer other error same (no_memory_left e) = no_memory_left e
+unexpanded_as answer other error same (unexpanded kinds kind told by among) = unexpanded kinds kind told (same ∙ by) among
+
 -- ---- the expressions that are made
 
 pub all_plain : (done added grown : List Expr) → grown ≡ done ++ added → list_all is_plain (map tree_of done) ≡ true → list_all is_plain (map tree_of added) ≡ true → list_all is_plain (map tree_of grown) ≡ true
 all_plain done added grown put before also =
     ap (λ l. list_all is_plain (map tree_of l)) put ∙ ap (list_all is_plain) (map-append tree_of done added) ∙ list_all-append is_plain (map tree_of done) (map tree_of added) ∙ and_from _ _ before also
+
+pub one_plain : (expr : Expr) → is_plain (tree_of expr) ≡ true → list_all is_plain (map tree_of (expr ∷ [])) ≡ true
+one_plain expr is = and_from (is_plain (tree_of expr)) true is refl
+
+-- what stands behind others
+pub made_behind : (done added grown : List Expr) (answer : Result (List Expression) ErrorKind) → answer ≡ Ok (map plain_tree added) → grown ≡ done ++ added → joined (Ok (map plain_tree done)) (with_kinds answer) ≡ Ok (map plain_tree grown)
+made_behind done added grown answer made put =
+    ap (λ r. joined (Ok (map plain_tree done)) (with_kinds r)) made ∙ ap Ok (sym (ap (map plain_tree) put ∙ map-append plain_tree done added))
+
+pub added_plain : (done added grown : List Expr) → grown ≡ done ++ added → list_all is_plain (map tree_of added) ≡ true → list_all is_plain (map tree_of grown) ≡ list_all is_plain (map tree_of done)
+added_plain done added grown put also =
+    ap (λ l. list_all is_plain (map tree_of l)) put ∙ ap (list_all is_plain) (map-append tree_of done added) ∙ list_all-append is_plain (map tree_of done) (map tree_of added)
+    ∙ ap (λ b. list_all is_plain (map tree_of done) && b) also ∙ and-true (list_all is_plain (map tree_of done))
 
 -- one more that is plain
 pub plain_more : (done grown : List Expr) (expr : Expr) → grown ≡ done ++ expr ∷ [] → list_all is_plain (map tree_of done) ≡ true → is_plain (tree_of expr) ≡ true → list_all is_plain (map tree_of grown) ≡ true

@@ -1,5 +1,5 @@
 -- The names of markers and of selectors, as the code makes them.
-use Rattle.std.proofs.Common.{◌≡◌, ◌<◌, ◌+◌, ℕ, ℤ, List, [], ◌∷◌, ◌++◌, map, drop, length, get_or, slice_get, Option, Some, None, Bool, true, false, cond, not, ◌&&◌, ◌||◌, Result, Ok, Err, refl, sym, ap, ◌∙◌, append_assoc, arith}
+use Rattle.std.proofs.Common.{◌≡◌, ◌<◌, ◌+◌, ℕ, ℤ, List, [], ◌∷◌, ◌++◌, map, drop, length, slice_get, Some, None, Bool, true, false, cond, not, ◌&&◌, ◌||◌, Result, Ok, Err, refl, sym, ap, ◌∙◌, append_assoc, arith}
 use Rattle.std.specs.Global.{Box, Vec}
 use Rattle.std.specs.List.{filter, flat_map, list_any}
 use Rattle.std.specs.Option.{option_map_or}
@@ -8,17 +8,17 @@ use Rattle.std.proofs.lemmas.List.Elements.{filter_agree}
 use Rattle.std.proofs.lemmas.Option.{slice_get_within, slice_get-get_or, get_or_from_slice_get}
 use Rattle.plan_types.proofs.ListLemmas.{item_left}
 use Rattle.plan_types.specs.Errors.{IsRefusal, no_room, broken}
-use Rattle.plan_types.specs.Schemas.{Name, Columns, same_name, is_among, repeats, names_of, type_at}
+use Rattle.plan_types.specs.Schemas.{Name, Columns, same_name, is_among, names_of, type_at}
 use Rattle.plan_types.specs.TypeLaws.{same_type_is_equivalence}
 use Rattle.plan_types.specs.Types.{Ty, same_type, ty}
 use Rattle.plan_types.specs.declared.dtype.DataType.{DataType}
 use Rattle.plan_types.specs.declared.error.ErrorKind.{ErrorKind}
 use Rattle.plan_types.specs.declared.error.ErrorKind.TheVariants.{InvalidOperation}
 use Rattle.plan_types.specs.declared.error.PlanError.{PlanError}
-use Rattle.plan_dsl.specs.Expressions.{tree_of, selector_tree, excluded_of}
+use Rattle.plan_dsl.specs.Expressions.{tree_of, selector_tree}
 use Rattle.plan_dsl.specs.Markers.{without, once, names_of_types, excludes, without_excluded, is_exclude, set_of, marker_names, selector_names}
 use Rattle.plan_dsl.specs.Refusals.{then_ok}
-use Rattle.plan_dsl.specs.Sources.{Excluded, ExcludedName, ExcludedType, SetRule, Source, Plain, RootOp, of_two}
+use Rattle.plan_dsl.specs.Sources.{Excluded, ExcludedName, ExcludedType, SetRule, Source, RootOp, of_two}
 use Rattle.plan_dsl.specs.Trees.{node, no_more, more}
 use Rattle.plan_dsl.specs.declared.expr.Expr.{Expr, Exclude, Column, Columns as Named, DtypeColumn, IndexColumn, Nth, Wildcard, Selector}
 use Rattle.plan_dsl.specs.declared.expr.Expr.TheVariants.{Exclude'}

@@ -1,5 +1,5 @@
 -- Lists of names that are put into sets one by one, and selectors whose names are gathered.
-use Rattle.std.proofs.Common.{◌≡◌, ◌≢◌, List, [], ◌∷◌, ◌++◌, Bool, true, false, cond, not, ◌&&◌, ◌||◌, Result, Ok, Err, refl, sym, ap, ◌∙◌, append_assoc, append-nil, subst}
+use Rattle.std.proofs.Common.{◌≡◌, List, [], ◌∷◌, ◌++◌, Bool, true, false, cond, not, ◌&&◌, ◌||◌, Result, Ok, Err, refl, sym, ap, ◌∙◌, append_assoc, append-nil, subst}
 use Rattle.std.proofs.Math.Bool.{and-true, and-false}
 use Rattle.std.specs.List.{AllByRecursion, IsDistinct, filter}
 use Rattle.std.proofs.lemmas.Bool.{or_parts, or_from}
@@ -10,15 +10,11 @@ use Rattle.indexmap.specs.IndexSet.{insert_all}
 use Rattle.plan_types.specs.Errors.{at_top, IsRefusal, no_room as refused_memory, broken}
 use Rattle.plan_types.specs.Schemas.{Name, Columns, same_name, is_among, repeats}
 use Rattle.plan_types.specs.declared.error.ErrorKind.{ErrorKind}
-use Rattle.plan_types.specs.declared.error.ErrorKind.TheVariants.{InvalidOperation}
 use Rattle.plan_types.specs.declared.error.PlanError.{PlanError}
 use Rattle.plan_types.proofs.NameLemmas.{repeats-push}
-use Rattle.plan_dsl.specs.Expressions.{tree_of}
 use Rattle.plan_dsl.specs.Markers.{without, once, selector_names, names_of_selectors}
 use Rattle.plan_dsl.specs.Refusals.{then_ok, with_kinds, joined, lists_joined}
-use Rattle.plan_dsl.specs.Sources.{Source, RootOp, written}
-use Rattle.plan_dsl.specs.Trees.{node, no_more, more}
-use Rattle.plan_dsl.specs.declared.expr.Expr.{Expr, Column}
+use Rattle.plan_dsl.specs.Sources.{Source}
 use Rattle.plan_expand.specs.Names.{selected}
 use Rattle.plan_expand.specs.Refusals.{IsUnexpanded, no_room, unexpanded}
 

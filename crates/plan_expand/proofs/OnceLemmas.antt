@@ -1,11 +1,11 @@
 -- Lists of names, each once: what is left of them, and what selectors' rules make of them.
-use Rattle.std.proofs.Common.{◌≡◌, List, [], ◌∷◌, ◌++◌, Bool, true, false, cond, not, ◌&&◌, ◌||◌, refl, sym, ap, ◌∙◌, subst}
+use Rattle.std.proofs.Common.{◌≡◌, List, [], ◌∷◌, ◌++◌, Bool, true, false, cond, not, ◌&&◌, ◌||◌, refl, sym, ap, ◌∙◌}
 use Rattle.std.proofs.Math.Bool.{and_comm}
 use Rattle.std.specs.List.{filter}
 use Rattle.std.proofs.lemmas.List.Elements.{filter_agree}
 use Rattle.std.proofs.lemmas.Slice.Eq.{bytes_eq-Decides}
 use Rattle.indexmap.specs.IndexSet.{insert_all}
-use Rattle.plan_types.specs.Schemas.{Name, same_name, is_among, repeats}
+use Rattle.plan_types.specs.Schemas.{Name, same_name, is_among}
 use Rattle.plan_dsl.specs.Markers.{without, once, set_of}
 use Rattle.plan_dsl.specs.Sources.{SetRule, Add, Sub, Intersect, ExclusiveOr}
 use Rattle.plan_expand.proofs.NameLemmas.{both_tests, put_apart, put_behind, put_once}

@@ -5,8 +5,14 @@ use Rattle.plan_types.specs.Types.{Ty, same_type}
 use Rattle.plan_types.specs.Schemas.{Name, Columns, type_at}
 use Rattle.plan_types.specs.declared.error.ErrorKind.{ErrorKind}
 use Rattle.plan_dsl.specs.Refusals.{then_ok}
-use Rattle.plan_dsl.specs.Sources.{Excluded, ExcludedName, ExcludedType, Source}
+use Rattle.plan_dsl.specs.Sources.{Excluded, ExcludedName, ExcludedType, SetRule, Add as AddNames, Sub as SubNames, Intersect as IntersectNames, ExclusiveOr as ExclusiveOrNames, RootOp, Source, of_two}
 use Rattle.plan_dsl.specs.Markers.{once, selector_names}
+use Rattle.plan_dsl.specs.Expressions.{selector_tree, tree_of}
+use Rattle.plan_dsl.specs.Trees.{node, no_more, more}
+use Rattle.plan_expand.specs.declared.selectors.Parts.{Parts}
+use Rattle.plan_expand.specs.declared.selectors.Parts.TheVariants.{Root, Two}
+use Rattle.plan_expand.specs.declared.selectors.Rule.{Rule}
+use Rattle.plan_expand.specs.declared.selectors.Rule.TheVariants.{Add, Sub, ExclusiveOr, Intersect}
 
 -- the names that a selector makes, each once
 abbrev pub selected : List Name → Columns → Source → Result (List Name) ErrorKind
@@ -30,3 +36,15 @@ is_of_type schema name type = option_map_or (same_type type) (type_at schema nam
 abbrev pub as_number : ℤ → Option ℕ
 as_number (pos place) = Some place
 as_number (negsuc before) = None
+
+-- the rule of selectors that a rule of the code is
+abbrev pub set_rule : Rule → SetRule
+set_rule Add = AddNames
+set_rule Sub = SubNames
+set_rule ExclusiveOr = ExclusiveOrNames
+set_rule Intersect = IntersectNames
+
+-- the tree of a selector that is made of these parts
+abbrev pub parts_tree : Parts → Source
+parts_tree (Root expr) = node RootOp (more (tree_of expr.now) no_more)
+parts_tree (Two rule first second) = of_two (set_rule rule) (selector_tree first.now) (selector_tree second.now)

@@ -7,7 +7,7 @@ ghost use Rattle.plan_types.specs.declared.error.ErrorKind.TheVariants.{ComputeE
 ghost use Rattle.plan_dsl.specs.Expansion.{aliased, expansion, expansions, key_names, name_given, only_one, plain, predicate_expansion, root_name, under_alias, with_column_put};
 ghost use Rattle.plan_dsl.specs.Expressions.{plain_tree, renaming_of, tree_of};
 ghost use Rattle.plan_dsl.specs.Markers.{once};
-ghost use Rattle.plan_dsl.specs.Refusals.{each_ok, then_ok};
+ghost use Rattle.plan_dsl.specs.Refusals.{each_ok, joined, then_ok, with_kinds};
 ghost use Rattle.plan_dsl.specs.Sources.{KeepRoot, is_plain};
 ghost use Rattle.plan_expand.specs.Refusals.{IsUnexpanded};
 ghost use Rattle.plan_expand.specs.Walks.{first_marker};
@@ -38,16 +38,47 @@ pub fn rewrite_projections(
     ensures err { IfErr result (IsUnexpanded (expansions (key_names (map tree_of keys.now)) (columns schema.now) (map tree_of exprs.items))) }
 {
     let key_names = key_names(alloc, keys)?;
+    let expanded = all_expanded(alloc, exprs, schema, &key_names)?;
+    Ok(expanded)
+}
+
+// The same, by the names of keys.
+fn all_expanded(
+    alloc: Global,
+    exprs: Vec<Expr>,
+    schema: &Schema,
+    keys: &IndexSet<PlSmallStr>,
+) -> Result<Vec<Expr>, PlanError>
+    ensures ok { IfOk result (λ expanded. expansions keys.now.keys (columns schema.now) (map tree_of exprs.items) ≡ Ok (map plain_tree expanded.items)) }
+    ensures plain { IfOk result (λ expanded. list_all is_plain (map tree_of expanded.items) ≡ true) }
+    ensures err { IfErr result (IsUnexpanded (expansions keys.now.keys (columns schema.now) (map tree_of exprs.items))) }
+{
     let mut expanded = Vec::with_capacity(alloc, exprs.len())?;
     for expr in exprs {
-        if expr.is_plain() {
-            expanded.push(expr)?;
-        } else {
-            let mut more = expansion(alloc, expr, schema, &key_names)?;
-            expanded.append(&mut more)?;
-        }
+        add_expansion(alloc, &mut expanded, expr, schema, keys)?;
     }
     Ok(expanded)
+}
+
+// Adds what an expression is expanded to behind others.
+fn add_expansion(
+    alloc: Global,
+    expanded: &mut Vec<Expr>,
+    expr: Expr,
+    schema: &Schema,
+    keys: &IndexSet<PlSmallStr>,
+) -> Result<(), PlanError>
+    ensures ok { OnOk result (joined (Ok (map plain_tree expanded.old.items)) (with_kinds (expansion keys.now.keys (columns schema.now) (tree_of expr))) ≡ Ok (map plain_tree expanded.new.items)) }
+    ensures plain { OnOk result (list_all is_plain (map tree_of expanded.new.items) ≡ list_all is_plain (map tree_of expanded.old.items)) }
+    ensures err { IfErr result (IsRefusal (expansion keys.now.keys (columns schema.now) (tree_of expr))) }
+{
+    if expr.is_plain() {
+        expanded.push(expr)?;
+        return Ok(());
+    }
+    let mut more = expansion(alloc, expr, schema, keys)?;
+    expanded.append(&mut more)?;
+    Ok(())
 }
 
 /// The one expression to which a predicate is expanded. Where it is expanded to none or to several, that is refused.
@@ -75,10 +106,12 @@ fn only_one(mut exprs: Vec<Expr>) -> Result<Expr, PlanError>
     ensures ok { IfOk result (λ only. exprs.items ≡ only ∷ []) }
     ensures err { IfErr result (λ error. (error ≡ at_top ComputeError) × (only_one (map plain_tree exprs.items) ≡ Err ComputeError)) }
 {
-    match exprs.pop() {
-        Some(only) if exprs.is_empty() => Ok(only),
-        _ => Err(PlanError::at_top(ErrorKind::ComputeError)),
+    if exprs.len() != 1 {
+        return Err(PlanError::at_top(ErrorKind::ComputeError));
     }
+    exprs
+        .pop()
+        .ok_or(PlanError::at_top(ErrorKind::ComputeError))
 }
 
 // The names of the keys that are columns.
@@ -107,13 +140,22 @@ fn expansion(
     ensures plain { IfOk result (λ expanded. list_all is_plain (map tree_of expanded.items) ≡ true) }
     ensures err { IfErr result (IsRefusal (expansion keys.now.keys (columns schema.now) (tree_of expr))) }
 {
-    if let Some(marker) = first_marker(&expr) {
-        let expanded = marked(alloc, &expr, marker, schema, keys)?;
-        return Ok(expanded);
-    }
+    let Some(marker) = first_marker(&expr) else {
+        return alone(alloc, expr);
+    };
+    let expanded = marked(alloc, &expr, marker, schema, keys);
+    drop(expr);
+    expanded
+}
+
+// What an expression without markers is expanded to.
+fn alone(alloc: Global, expr: Expr) -> Result<Vec<Expr>, PlanError>
+    ensures ok { IfOk result (λ expanded. each_ok aliased (tree_of expr ∷ []) ≡ Ok (map plain_tree expanded.items)) }
+    ensures plain { IfOk result (λ expanded. list_all is_plain (map tree_of expanded.items) ≡ true) }
+    ensures err { IfErr result (IsRefusal (each_ok aliased (tree_of expr ∷ []))) }
+{
     let own = aliased(alloc, expr)?;
-    let mut alone = Vec::with_capacity(alloc, 1)?;
-    alone.push(own)?;
+    let alone = vec![in alloc; own]?;
     Ok(alone)
 }
 
@@ -160,19 +202,23 @@ fn aliased(alloc: Global, expr: Expr) -> Result<Expr, PlanError>
     ensures err { IfErr result (IsRefusal (aliased (tree_of expr))) }
 {
     match expr {
-        Expr::KeepName(expr) => {
-            let own = under_root(alloc, expr)?;
-            Ok(own)
-        }
-        Expr::RenameAlias { function, expr } => {
-            let own = renamed(alloc, function, expr)?;
-            Ok(own)
-        }
-        expr => {
-            check_plain(&expr)?;
-            Ok(expr)
-        }
+        Expr::KeepName(expr) => under_root(alloc, expr),
+        Expr::RenameAlias { function, expr } => renamed(alloc, function, expr),
+        expr => as_plain(expr),
     }
+}
+
+// An expression that has neither a marker nor a renaming form, as it is.
+fn as_plain(expr: Expr) -> Result<Expr, PlanError>
+    ensures ok { IfOk result (λ own. plain (tree_of expr) ≡ Ok (plain_tree own)) }
+    ensures plain { IfOk result (λ own. is_plain (tree_of own) ≡ true) }
+    ensures err { IfErr result (IsRefusal (plain (tree_of expr))) }
+{
+    if expr.is_plain() {
+        return Ok(expr);
+    }
+    drop(expr);
+    Err(PlanError::at_top(ErrorKind::InvalidOperation))
 }
 
 // Refuses an expression that has a marker or a renaming form.

@@ -7,7 +7,7 @@ ghost use Rattle.plan_dsl.specs.Expressions.{selector_tree, tree_of};
 ghost use Rattle.plan_dsl.specs.Markers.{once, set_of, selector_names, names_of_selectors};
 ghost use Rattle.plan_dsl.specs.Sources.{Add, Sub, Intersect, ExclusiveOr, RootOp};
 ghost use Rattle.plan_dsl.specs.Trees.{node, no_more, more};
-ghost use Rattle.plan_expand.specs.Names.{selected};
+ghost use Rattle.plan_expand.specs.Names.{parts_tree, selected, set_rule};
 ghost use Rattle.plan_expand.specs.Refusals.{IsUnexpanded};
 
 use crate::markers::marker_names;
@@ -44,9 +44,25 @@ pub fn selected_names(
     ensures err { IfErr result (IsUnexpanded (names_of_selectors (columns schema.now) (map selector_tree selectors.items))) }
 {
     let keys = IndexSet::new(alloc);
+    let names = all_selected(alloc, selectors.as_slice(), schema, &keys);
+    drop(selectors);
+    names
+}
+
+// The same, of selectors that are lent, where there are no keys.
+fn all_selected(
+    alloc: Global,
+    selectors: &[Selector],
+    schema: &Schema,
+    keys: &IndexSet<PlSmallStr>,
+) -> Result<IndexSet<PlSmallStr>, PlanError>
+    requires { keys.now.keys ≡ [] }
+    ensures ok { IfOk result (λ names. names_of_selectors (columns schema.now) (map selector_tree selectors.now) ≡ Ok names.keys) }
+    ensures err { IfErr result (IsUnexpanded (names_of_selectors (columns schema.now) (map selector_tree selectors.now))) }
+{
     let mut names = IndexSet::new(alloc);
-    for selector in selectors.as_slice() {
-        let mut more = selected(alloc, selector, schema, &keys)?;
+    for selector in selectors {
+        let mut more = selected(alloc, selector, schema, keys)?;
         names.append(&mut more)?;
     }
     Ok(names)
@@ -67,13 +83,32 @@ pub(crate) fn listed(
     Ok(list)
 }
 
-// The names of two selectors.
-macro_rules! both_selected {
-    ($alloc:ident, $first:ident, $second:ident, $schema:ident, $keys:ident) => {{
-        let names = selected($alloc, $first, $schema, $keys)?;
-        let others = selected($alloc, $second, $schema, $keys)?;
-        (names, others)
-    }};
+// How one list of names is made of two.
+#[derive(Clone, Copy)]
+enum Rule {
+    Add,
+    Sub,
+    ExclusiveOr,
+    Intersect,
+}
+
+// What a selector is made of.
+enum Parts<'a> {
+    Root(&'a Expr),
+    Two(Rule, &'a Selector, &'a Selector),
+}
+
+// The parts of a selector.
+fn made_of(selector: &Selector) -> Parts<'_>
+    ensures { selector_tree selector.now ≡ parts_tree result }
+{
+    match selector {
+        Selector::Root(expr) => Parts::Root(expr),
+        Selector::Add(first, second) => Parts::Two(Rule::Add, first, second),
+        Selector::Sub(first, second) => Parts::Two(Rule::Sub, first, second),
+        Selector::ExclusiveOr(first, second) => Parts::Two(Rule::ExclusiveOr, first, second),
+        Selector::Intersect(first, second) => Parts::Two(Rule::Intersect, first, second),
+    }
 }
 
 // The names that a selector makes, each once. Markers pass over the columns that are keys, but for lists of names and
@@ -89,25 +124,13 @@ pub(crate) fn selected(
     ensures once { IfOk result (λ names. repeats names.keys ≡ false) }
     ensures err { IfErr result (IsRefusal (selector_names keys.now.keys (columns schema.now) (selector_tree selector.now))) }
 {
-    match selector {
-        Selector::Root(expr) => Ok(rooted(alloc, expr, schema, keys)?),
-        Selector::Add(first, second) => {
-            let (names, others) = both_selected!(alloc, first, second, schema, keys);
-            let joined = added(names, others)?;
+    match made_of(selector) {
+        Parts::Root(expr) => rooted(alloc, expr, schema, keys),
+        Parts::Two(rule, first, second) => {
+            let names = selected(alloc, first, schema, keys)?;
+            let others = selected(alloc, second, schema, keys)?;
+            let joined = by_rule(alloc, rule, names, others)?;
             Ok(joined)
-        }
-        Selector::Sub(first, second) => {
-            let (names, others) = both_selected!(alloc, first, second, schema, keys);
-            Ok(lacking(names, &others))
-        }
-        Selector::ExclusiveOr(first, second) => {
-            let (names, others) = both_selected!(alloc, first, second, schema, keys);
-            let apart = in_one(alloc, &names, &others)?;
-            Ok(apart)
-        }
-        Selector::Intersect(first, second) => {
-            let (names, others) = both_selected!(alloc, first, second, schema, keys);
-            Ok(in_both(names, &others))
         }
     }
 }
@@ -144,6 +167,27 @@ fn distinct(alloc: Global, list: Vec<PlSmallStr>) -> Result<IndexSet<PlSmallStr>
         names.insert(name)?;
     }
     Ok(names)
+}
+
+// The names that a rule makes of two sets.
+fn by_rule(
+    alloc: Global,
+    rule: Rule,
+    names: IndexSet<PlSmallStr>,
+    others: IndexSet<PlSmallStr>,
+) -> Result<IndexSet<PlSmallStr>, PlanError>
+    requires names { repeats names.keys ≡ false }
+    requires others { repeats others.keys ≡ false }
+    ensures ok { IfOk result (λ joined. joined.keys ≡ set_of (set_rule rule) names.keys others.keys) }
+    ensures once { IfOk result (λ joined. repeats joined.keys ≡ false) }
+    ensures err { IfErr result (λ error. error ≡ no_memory) }
+{
+    match rule {
+        Rule::Add => added(names, others),
+        Rule::Sub => Ok(lacking(names, &others)),
+        Rule::ExclusiveOr => in_one(alloc, &names, &others),
+        Rule::Intersect => Ok(in_both(names, &others)),
+    }
 }
 
 // The names of the first, and then those that are new in the second.

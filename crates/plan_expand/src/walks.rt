@@ -1,149 +1,30 @@
 //! Walks over expressions: their markers, and their first column.
-ghost use Rattle.std.specs.Prelude.{◌≡◌};
-ghost use Rattle.std.specs.List.{flat_map, list_all};
+ghost use Rattle.std.specs.Prelude.{◌≡◌, ◌∷◌, ◌++◌, length, slice_get};
+ghost use Rattle.std.specs.List.{list_all};
 ghost use Rattle.std.specs.Option.{option_map};
 ghost use Rattle.plan_dsl.specs.Expansion.{markers_in, root_name};
 ghost use Rattle.plan_dsl.specs.Expressions.{order_trees, plain_tree, tree_of, trees_of};
 ghost use Rattle.plan_dsl.specs.Sources.{same_source};
-ghost use Rattle.plan_expand.specs.Walks.{first_marker, first_marker_of, first_root_of};
+ghost use Rattle.plan_expand.specs.Walks.{first_marker, operand_trees, operands_in};
 
 use plan_dsl::expr::{Expr, Exprs};
 use plan_dsl::sort_options::SortOptions;
 use plan_types::text::PlSmallStr;
 
-// The first that is found, of calls that are made one after the other until one finds something.
-macro_rules! first_found {
-    ($call:expr) => { $call };
-    ($call:expr, $($later:expr),+) => {
-        match $call {
-            Some(found) => Some(found),
-            None => first_found!($($later),+),
-        }
-    };
+// The operands of an expression, in order.
+#[derive(Clone, Copy)]
+enum Operands<'a> {
+    Leaf,
+    One(&'a Expr),
+    Two(&'a Expr, &'a Expr),
+    Three(&'a Expr, &'a Expr, &'a Expr),
+    Listed(&'a Expr, &'a Exprs),
+    Ordered(&'a Expr, &'a Expr, &'a Exprs),
 }
 
-// What is found in an expression's operands, in order, by its kind: by that call in each of them, by the next in a list of
-// them, and by the last in what orders a window's groups. What is found in an expression that has no
-// operands, or in whose operands nothing is sought, is given.
-macro_rules! found_in_operands {
-    ($expr:expr, $find:ident, $find_listed:ident, $find_in_order:ident, [$($own:pat => $found:expr),*]) => {
-        match $expr {
-            $($own => $found,)*
-            Expr::Literal(_) | Expr::Len => None,
-            Expr::BinaryExpr { left, right, .. } => first_found!($find(left), $find(right)),
-            Expr::Cast { expr, .. } => $find(expr),
-            Expr::Slice {
-                input,
-                offset,
-                length,
-            } => first_found!($find(input), $find(offset), $find(length)),
-            Expr::Explode(input) => $find(input),
-            Expr::Gather { expr, idx, .. } => first_found!($find(expr), $find(idx)),
-            Expr::Filter { input, by } => first_found!($find(input), $find(by)),
-            Expr::Sort { expr, .. } => $find(expr),
-            Expr::SortBy { expr, by, .. } => first_found!($find(expr), $find_listed(by)),
-            Expr::Alias(expr, _) => $find(expr),
-            Expr::Agg(aggregate) => $find(aggregate.as_ref()),
-            Expr::Window {
-                function,
-                partition_by,
-                order_by,
-                ..
-            } => first_found!($find(function), $find_in_order(order_by), $find_listed(partition_by)),
-        }
-    };
-}
-
-// The first marker of an expression. What stands inside a marker is its own.
-#[cycle(first_marker)]
-pub(crate) fn first_marker(expr: &Expr) -> Option<&Expr>
-    ensures { option_map (λ marker. tree_of marker.now) result ≡ first_marker (tree_of expr.now) }
-{
-    found_in_operands!(expr, first_marker, first_marker_listed, first_marker_in_order, [
-        Expr::Columns(_)
-        | Expr::DtypeColumn(_)
-        | Expr::IndexColumn(_)
-        | Expr::Nth(_)
-        | Expr::Wildcard
-        | Expr::Exclude(_, _)
-        | Expr::Selector(_) => Some(expr),
-        Expr::Column(_) => None,
-        Expr::KeepName(inner) => first_marker(inner),
-        Expr::RenameAlias { expr: inner, .. } => first_marker(inner)
-    ])
-}
-
-// The first marker of some expressions.
-#[cycle(first_marker)]
-fn first_marker_listed(exprs: &Exprs) -> Option<&Expr>
-    ensures { option_map (λ marker. tree_of marker.now) result ≡ first_marker_of (trees_of exprs.now) }
-{
-    for expr in exprs.items.as_slice() {
-        if let Some(marker) = first_marker(expr) {
-            return Some(marker);
-        }
-    }
-    None
-}
-
-// The first marker of what orders a window's groups, if anything does.
-#[cycle(first_marker)]
-fn first_marker_in_order(order: &Option<(Box<Expr>, SortOptions)>) -> Option<&Expr>
-    ensures { option_map (λ marker. tree_of marker.now) result ≡ first_marker_of (order_trees order.now) }
-{
-    match order {
-        None => None,
-        Some((expr, _)) => first_marker(expr),
-    }
-}
-
-// The name of the first column of an expression, in the order of operands. Nothing is sought in markers and renaming forms.
-#[cycle(root_name)]
-pub(crate) fn root_name(expr: &Expr) -> Option<&PlSmallStr>
-    ensures { option_map (λ name. name.now) result ≡ root_name (plain_tree expr.now) }
-{
-    found_in_operands!(expr, root_name, root_name_listed, root_name_in_order, [
-        Expr::Column(name) => Some(name),
-        Expr::Columns(_)
-        | Expr::DtypeColumn(_)
-        | Expr::IndexColumn(_)
-        | Expr::Nth(_)
-        | Expr::Wildcard
-        | Expr::Exclude(_, _)
-        | Expr::Selector(_)
-        | Expr::KeepName(_)
-        | Expr::RenameAlias { .. } => None
-    ])
-}
-
-// The name of the first column of some expressions.
-#[cycle(root_name)]
-fn root_name_listed(exprs: &Exprs) -> Option<&PlSmallStr>
-    ensures { option_map (λ name. name.now) result ≡ first_root_of (trees_of exprs.now) }
-{
-    for expr in exprs.items.as_slice() {
-        if let Some(name) = root_name(expr) {
-            return Some(name);
-        }
-    }
-    None
-}
-
-// The name of the first column of what orders a window's groups, if anything does.
-#[cycle(root_name)]
-fn root_name_in_order(order: &Option<(Box<Expr>, SortOptions)>) -> Option<&PlSmallStr>
-    ensures { option_map (λ name. name.now) result ≡ first_root_of (order_trees order.now) }
-{
-    match order {
-        None => None,
-        Some((expr, _)) => root_name(expr),
-    }
-}
-
-// Whether all markers of an expression are that one.
-#[cycle(has_only)]
-pub(crate) fn has_only(expr: &Expr, marker: &Expr) -> bool
-    ensures { result ≡ list_all (same_source (tree_of marker.now)) (markers_in (tree_of expr.now)) }
+// The operands of an expression that is no marker. What stands inside a marker is its own.
+fn operands_of(expr: &Expr) -> Option<Operands<'_>>
+    ensures { option_map operand_trees result ≡ operands_in (tree_of expr.now) }
 {
     match expr {
         Expr::Columns(_)
@@ -152,57 +33,144 @@ pub(crate) fn has_only(expr: &Expr, marker: &Expr) -> bool
         | Expr::Nth(_)
         | Expr::Wildcard
         | Expr::Exclude(_, _)
-        | Expr::Selector(_) => *marker == *expr,
-        Expr::Column(_) | Expr::Literal(_) | Expr::Len => true,
-        Expr::BinaryExpr { left, right, .. } => has_only(left, marker) && has_only(right, marker),
-        Expr::Cast { expr, .. } => has_only(expr, marker),
+        | Expr::Selector(_) => None,
+        Expr::Column(_) | Expr::Literal(_) | Expr::Len => Some(Operands::Leaf),
+        Expr::Cast { expr, .. } => Some(Operands::One(expr)),
+        Expr::Explode(input) => Some(Operands::One(input)),
+        Expr::Sort { expr, .. } => Some(Operands::One(expr)),
+        Expr::Alias(expr, _) => Some(Operands::One(expr)),
+        Expr::Agg(aggregate) => Some(Operands::One(aggregate.as_ref())),
+        Expr::KeepName(expr) => Some(Operands::One(expr)),
+        Expr::RenameAlias { expr, .. } => Some(Operands::One(expr)),
+        Expr::BinaryExpr { left, right, .. } => Some(Operands::Two(left, right)),
+        Expr::Gather { expr, idx, .. } => Some(Operands::Two(expr, idx)),
+        Expr::Filter { input, by } => Some(Operands::Two(input, by)),
         Expr::Slice {
             input,
             offset,
             length,
-        } => has_only(input, marker) && has_only(offset, marker) && has_only(length, marker),
-        Expr::Explode(input) => has_only(input, marker),
-        Expr::Gather { expr, idx, .. } => has_only(expr, marker) && has_only(idx, marker),
-        Expr::Filter { input, by } => has_only(input, marker) && has_only(by, marker),
-        Expr::Sort { expr, .. } => has_only(expr, marker),
-        Expr::SortBy { expr, by, .. } => has_only(expr, marker) && have_only(by, marker),
-        Expr::Alias(expr, _) => has_only(expr, marker),
-        Expr::Agg(aggregate) => has_only(aggregate.as_ref(), marker),
+        } => Some(Operands::Three(input, offset, length)),
+        Expr::SortBy { expr, by, .. } => Some(Operands::Listed(expr, by)),
         Expr::Window {
             function,
             partition_by,
             order_by,
             ..
-        } => {
-            has_only(function, marker)
-                && has_only_in_order(order_by, marker)
-                && have_only(partition_by, marker)
-        }
-        Expr::KeepName(expr) => has_only(expr, marker),
-        Expr::RenameAlias { expr, .. } => has_only(expr, marker),
+        } => Some(of_window(function, order_by, partition_by)),
     }
 }
 
-// Whether all markers of some expressions are that one.
-#[cycle(has_only)]
-fn have_only(exprs: &Exprs, marker: &Expr) -> bool
-    ensures { result ≡ list_all (same_source (tree_of marker.now)) (flat_map markers_in (trees_of exprs.now)) }
+// The operands of a window: its function, what orders its groups, if anything does, and its keys.
+fn of_window<'a>(
+    function: &'a Expr,
+    order: &'a Option<(Box<Expr>, SortOptions)>,
+    keys: &'a Exprs,
+) -> Operands<'a>
+    ensures { operand_trees result ≡ tree_of function.now ∷ (order_trees order.now ++ trees_of keys.now) }
 {
-    for expr in exprs.items.as_slice() {
-        if !has_only(expr, marker) {
+    match order {
+        None => Operands::Listed(function, keys),
+        Some((order, _)) => Operands::Ordered(function, order, keys),
+    }
+}
+
+// How many operands there are.
+fn count_of(operands: Operands<'_>) -> usize
+    ensures { result ≡ length (operand_trees operands.entry) }
+{
+    match operands {
+        Operands::Leaf => 0,
+        Operands::One(_) => 1,
+        Operands::Two(_, _) => 2,
+        Operands::Three(_, _, _) => 3,
+        Operands::Listed(_, others) => 1 + others.items.len(),
+        Operands::Ordered(_, _, others) => 2 + others.items.len(),
+    }
+}
+
+// The operand at a place.
+fn operand_at<'a>(operands: Operands<'a>, place: usize) -> Option<&'a Expr>
+    ensures { option_map (λ operand. tree_of operand.now) result ≡ slice_get (operand_trees operands.entry) place }
+{
+    match operands {
+        Operands::Leaf => None,
+        Operands::One(first) => [first].get(place).copied(),
+        Operands::Two(first, second) => [first, second].get(place).copied(),
+        Operands::Three(first, second, third) => [first, second, third].get(place).copied(),
+        Operands::Listed(first, others) => listed_at(first, others, place),
+        Operands::Ordered(first, second, others) => {
+            if place == 0 {
+                Some(first)
+            } else {
+                listed_at(second, others, place - 1)
+            }
+        }
+    }
+}
+
+// The expression at a place in a list behind a first one.
+fn listed_at<'a>(first: &'a Expr, others: &'a Exprs, place: usize) -> Option<&'a Expr>
+    ensures { option_map (λ operand. tree_of operand.now) result ≡ slice_get (tree_of first.now ∷ trees_of others.now) place }
+{
+    if place == 0 {
+        Some(first)
+    } else {
+        others.items.as_slice().get(place - 1)
+    }
+}
+
+// The first marker of an expression.
+#[cycle(first_marker)]
+pub(crate) fn first_marker(expr: &Expr) -> Option<&Expr>
+    ensures { option_map (λ marker. tree_of marker.now) result ≡ first_marker (tree_of expr.now) }
+{
+    let Some(operands) = operands_of(expr) else {
+        return Some(expr);
+    };
+    for place in 0..count_of(operands) {
+        let operand = operand_at(operands, place)?;
+        if let Some(marker) = first_marker(operand) {
+            return Some(marker);
+        }
+    }
+    None
+}
+
+// The name of the first column of an expression, in the order of operands. Nothing is sought in markers and renaming forms.
+#[cycle(root_name)]
+pub(crate) fn root_name(expr: &Expr) -> Option<&PlSmallStr>
+    ensures { option_map (λ name. name.now) result ≡ root_name (plain_tree expr.now) }
+{
+    match expr {
+        Expr::Column(name) => return Some(name),
+        Expr::KeepName(_) | Expr::RenameAlias { .. } => return None,
+        _ => {}
+    }
+    let operands = operands_of(expr)?;
+    for place in 0..count_of(operands) {
+        let operand = operand_at(operands, place)?;
+        if let Some(name) = root_name(operand) {
+            return Some(name);
+        }
+    }
+    None
+}
+
+// Whether all markers of an expression are that one.
+#[cycle(has_only)]
+pub(crate) fn has_only(expr: &Expr, marker: &Expr) -> bool
+    ensures { result ≡ list_all (same_source (tree_of marker.now)) (markers_in (tree_of expr.now)) }
+{
+    let Some(operands) = operands_of(expr) else {
+        return *marker == *expr;
+    };
+    for place in 0..count_of(operands) {
+        let Some(operand) = operand_at(operands, place) else {
+            return true;
+        };
+        if !has_only(operand, marker) {
             return false;
         }
     }
     true
-}
-
-// Whether all markers of what orders a window's groups, if anything does, are that one.
-#[cycle(has_only)]
-fn has_only_in_order(order: &Option<(Box<Expr>, SortOptions)>, marker: &Expr) -> bool
-    ensures { result ≡ list_all (same_source (tree_of marker.now)) (flat_map markers_in (order_trees order.now)) }
-{
-    match order {
-        None => true,
-        Some((expr, _)) => has_only(expr, marker),
-    }
 }

@@ -4,8 +4,7 @@ use Rattle.plan_types.specs.Errors.{broken}
 use Rattle.plan_types.specs.Schemas.{columns, repeats}
 use Rattle.plan_types.specs.declared.error.ErrorKind.TheVariants.{InvalidOperation}
 use Rattle.plan_dsl.specs.Expressions.{selector_tree}
-use Rattle.plan_dsl.specs.Sources.{Add, Sub, Intersect, ExclusiveOr}
-use Rattle.plan_expand.specs.Names.{selected}
+use Rattle.plan_expand.specs.Names.{selected, set_rule}
 use Rattle.plan_expand.proofs.EachLemmas.{nothing_found}
 use Rattle.plan_expand.proofs.NameLemmas.{once_distinct}
 use Rattle.plan_expand.proofs.MarkerLemmas.{exclude_refused, no_marker, selector_listed, rooted, root_refused, two_selected}
@@ -42,38 +41,9 @@ selectors::rooted-returns t c = record {
   err = tt;
 }
 
-pub selectors::selected-returns-in_ok-joined-in-Add-clause-ok :
-    goal.selectors::selected-returns-in_ok-joined-in-Add-clause-ok
-selectors::selected-returns-in_ok-joined-in-Add-clause-ok t c =
+pub selectors::selected-returns-in_ok-joined-in-Two-clause-ok :
+    goal.selectors::selected-returns-in_ok-joined-in-Two-clause-ok
+selectors::selected-returns-in_ok-joined-in-Two-clause-ok t c =
     let keys = c.args.keys.now.keys in
     let schema = columns c.args.schema.now in
-    let one = rw c.deref-in-Add.ensures at c.in_ok-names-in-Add.ensures.ok in
-    let other = rw c.deref-in-Add-2.ensures at c.in_ok-others-in-Add.ensures.ok in
-    ap (λ s. selected keys schema (selector_tree s)) c.in-Add.is ∙ two_selected keys schema Add (selector_tree c.in-Add.first.value) (selector_tree c.in-Add.second.value) _ _ _ one other c.in_ok-joined-in-Add.ensures.ok
-
-pub selectors::selected-returns-in_ok-others-in-Sub-clause-ok :
-    goal.selectors::selected-returns-in_ok-others-in-Sub-clause-ok
-selectors::selected-returns-in_ok-others-in-Sub-clause-ok t c =
-    let keys = c.args.keys.now.keys in
-    let schema = columns c.args.schema.now in
-    let one = rw c.deref-in-Sub.ensures at c.in_ok-names-in-Sub.ensures.ok in
-    let other = rw c.deref-in-Sub-2.ensures at c.in_ok-others-in-Sub.ensures.ok in
-    ap (λ s. selected keys schema (selector_tree s)) c.in-Sub.is ∙ two_selected keys schema Sub (selector_tree c.in-Sub.first.value) (selector_tree c.in-Sub.second.value) _ _ _ one other c.lacking.ensures.names
-
-pub selectors::selected-returns-in_ok-apart-in-ExclusiveOr-clause-ok :
-    goal.selectors::selected-returns-in_ok-apart-in-ExclusiveOr-clause-ok
-selectors::selected-returns-in_ok-apart-in-ExclusiveOr-clause-ok t c =
-    let keys = c.args.keys.now.keys in
-    let schema = columns c.args.schema.now in
-    let one = rw c.deref-in-ExclusiveOr.ensures at c.in_ok-names-in-ExclusiveOr.ensures.ok in
-    let other = rw c.deref-in-ExclusiveOr-2.ensures at c.in_ok-others-in-ExclusiveOr.ensures.ok in
-    ap (λ s. selected keys schema (selector_tree s)) c.in-ExclusiveOr.is ∙ two_selected keys schema ExclusiveOr (selector_tree c.in-ExclusiveOr.first.value) (selector_tree c.in-ExclusiveOr.second.value) _ _ _ one other c.in_ok-apart-in-ExclusiveOr.ensures.ok
-
-pub selectors::selected-returns-in_ok-others-in-Intersect-clause-ok :
-    goal.selectors::selected-returns-in_ok-others-in-Intersect-clause-ok
-selectors::selected-returns-in_ok-others-in-Intersect-clause-ok t c =
-    let keys = c.args.keys.now.keys in
-    let schema = columns c.args.schema.now in
-    let one = rw c.deref-in-Intersect.ensures at c.in_ok-names-in-Intersect.ensures.ok in
-    let other = rw c.deref-in-Intersect-2.ensures at c.in_ok-others-in-Intersect.ensures.ok in
-    ap (λ s. selected keys schema (selector_tree s)) c.in-Intersect.is ∙ two_selected keys schema Intersect (selector_tree c.in-Intersect.first.value) (selector_tree c.in-Intersect.second.value) _ _ _ one other c.in_both.ensures.names
+    ap (selected keys schema) c.in-Two.ensures ∙ two_selected keys schema (set_rule c.in-Two.rule) (selector_tree c.in-Two.first.now) (selector_tree c.in-Two.second.now) _ _ _ c.in_ok-names-in-Two.ensures.ok c.in_ok-others-in-Two.ensures.ok c.in_ok-joined-in-Two.ensures.ok

@@ -1,15 +1,13 @@
-use Rattle.std.proofs.Common.{◌≡◌, ◌++◌, ◌∷◌, [], Ok, map, sym, ap, ◌∙◌}
-use Rattle.plan_types.proofs.ResultLemmas.{passed_on}
+use Rattle.std.proofs.Common.{map}
 use Rattle.plan_types.specs.Schemas.{columns}
 use Rattle.plan_dsl.specs.Expressions.{plain_tree, tree_of}
-use Rattle.plan_expand.proofs.ExpansionLemmas.{alone_made, alone_refused}
+use Rattle.plan_expand.proofs.ExpansionLemmas.{found_as, refused_of, unrepeated}
 use Rattle.plan_expand.proofs.expr_expansion.expansion.Goals as goal
 
-pub returns-in_err-own-clause-err : goal.returns-in_err-own-clause-err
-returns-in_err-own-clause-err c =
-    passed_on c.from_residual-in_err-own.result c.in_err-own.field-0.0 _ c.from_residual-in_err-own.ensures.1 (alone_refused c.args.keys.now.keys (columns c.args.schema.now) (tree_of c.args.expr) _ c.in_default.ensures c.in_err-own.ensures.err)
+pub returns-in_default-clause-ok : goal.returns-in_default-clause-ok
+returns-in_default-clause-ok c =
+    found_as (λ expanded. map plain_tree expanded.items) c.alone.result _ _ (unrepeated c.args.keys.now.keys (columns c.args.schema.now) (tree_of c.args.expr) c.in_default.ensures) c.alone.ensures.ok
 
-pub returns-clause-ok : goal.returns-clause-ok
-returns-clause-ok c =
-    let alone = ap (map plain_tree) (c.in_ok-push.ensures.items ∙ ap (λ l. l ++ c.in_ok-own.own ∷ []) c.in_ok-alone.ensures.items) in
-    alone_made c.args.keys.now.keys (columns c.args.schema.now) (tree_of c.args.expr) (plain_tree c.in_ok-own.own) c.in_default.ensures c.in_ok-own.ensures.ok ∙ ap Ok (sym alone)
+pub returns-in_default-clause-err : goal.returns-in_default-clause-err
+returns-in_default-clause-err c =
+    refused_of c.alone.result _ _ (unrepeated c.args.keys.now.keys (columns c.args.schema.now) (tree_of c.args.expr) c.in_default.ensures) c.alone.ensures.err

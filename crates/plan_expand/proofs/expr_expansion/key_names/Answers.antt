@@ -1,4 +1,4 @@
-use Rattle.std.proofs.Common.{◌≡◌, ◌∷◌, [], map, sym, ap, ◌∙◌}
+use Rattle.std.proofs.Common.{◌∷◌, [], map, sym, ap, ◌∙◌}
 use Rattle.indexmap.specs.IndexSet.{insert_all}
 use Rattle.plan_types.specs.Schemas.{same_name}
 use Rattle.plan_dsl.specs.Expansion.{key_name, key_names}

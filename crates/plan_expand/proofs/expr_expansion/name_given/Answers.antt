@@ -1,6 +1,4 @@
-use Rattle.std.proofs.Common.{ap, ◌∙◌}
 use Rattle.plan_types.proofs.ResultLemmas.{passed_on}
-use Rattle.plan_dsl.specs.Expansion.{name_given}
 use Rattle.plan_expand.proofs.ExpansionLemmas.{prefix_refused, suffix_refused}
 use Rattle.plan_expand.proofs.expr_expansion.name_given.Goals as goal
 

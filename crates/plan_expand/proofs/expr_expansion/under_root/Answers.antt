@@ -1,4 +1,4 @@
-use Rattle.std.proofs.Common.{◌≡◌, ap, ◌∙◌, sym, Ok}
+use Rattle.std.proofs.Common.{ap, ◌∙◌, sym, Ok}
 use Rattle.plan_types.proofs.ResultLemmas.{passed_on}
 use Rattle.plan_dsl.specs.Expansion.{name_given, under_alias}
 use Rattle.plan_dsl.specs.Expressions.{tree_of}

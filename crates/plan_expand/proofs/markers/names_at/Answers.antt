@@ -1,4 +1,4 @@
-use Rattle.std.proofs.Common.{◌≡◌, get_or, pos, Ok, SFits, w64, rules, sym, ap, ◌∙◌}
+use Rattle.std.proofs.Common.{get_or, pos, Ok, SFits, w64, rules, sym, ap, ◌∙◌}
 use Rattle.std.proofs.lemmas.Int.{to_z-of_z}
 use Rattle.plan_types.specs.Errors.{broken}
 use Rattle.plan_types.specs.Schemas.{columns, names_of}

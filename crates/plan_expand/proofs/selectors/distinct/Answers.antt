@@ -1,4 +1,4 @@
-use Rattle.std.proofs.Common.{◌≡◌, ◌∙◌}
+use Rattle.std.proofs.Common.{◌∙◌}
 use Rattle.indexmap.specs.IndexSet.{insert_all}
 use Rattle.plan_types.specs.Schemas.{same_name}
 use Rattle.plan_expand.proofs.NameLemmas.{put_once}

@@ -1,19 +1,25 @@
-use Rattle.std.proofs.Common.{◌≡◌, None, sym, ◌∙◌}
-use Rattle.plan_dsl.specs.Expressions.{order_trees, tree_of, trees_of}
-use Rattle.plan_dsl.proofs.ExprLemmas.{sort_by_listed, window_listed}
-use Rattle.plan_expand.specs.Walks.{first_marker}
-use Rattle.plan_expand.proofs.WalkLemmas.{first_listed, none_in_front}
+use Rattle.std.proofs.Common.{ap, sym, ◌∙◌, arith}
+use Rattle.plan_dsl.specs.Expressions.{tree_of}
+use Rattle.plan_expand.specs.Walks.{first_of, operand_trees}
+use Rattle.plan_expand.proofs.WalkLemmas.{first_behind, first_found, markers_of_operands, not_past, operand_below}
 use Rattle.plan_expand.proofs.walks.+first_marker.Goals as goal
 
-pub first_marker-returns-in-None-first_marker-5 : goal.first_marker-returns-in-None-first_marker-5
-first_marker-returns-in-None-first_marker-5 t c =
-    let kind = c.in-SortBy in
-    let first : None ≡ first_marker (tree_of kind.expr.value) = rw c.deref-in-SortBy.ensures at c.in-None-first_marker-5.ensures in
-    first_listed (sort_by_listed c.args.expr.now kind.expr kind.by kind.sort_options kind.is) first c.first_marker_listed.ensures
+pub loop-place-init : goal.loop-place-init
+loop-place-init t c = ap first_of (markers_of_operands (tree_of c.args.expr.now) (operand_trees c.in-Some.operands) c.in-Some.ensures)
 
-pub first_marker-returns-in-None-first_marker_in_order : goal.first_marker-returns-in-None-first_marker_in_order
-first_marker-returns-in-None-first_marker_in_order t c =
-    let kind = c.in-Window in
-    let first : None ≡ first_marker (tree_of kind.function.value) = rw c.deref-in-Window.ensures at c.in-None-first_marker-6.ensures in
-    let rest = c.first_marker_listed-in-None-first_marker_in_order.ensures ∙ none_in_front (order_trees kind.order_by) (trees_of kind.partition_by) c.in-None-first_marker_in_order.ensures in
-    first_listed (window_listed c.args.expr.now kind.function kind.partition_by kind.order_by kind.options kind.is) first rest
+pub returns-in_err-operand : goal.returns-in_err-operand
+returns-in_err-operand t c =
+    absurd (not_past (operand_trees c.in-Some.operands) c.loop-place.place c.count_of-place-end.result c.count_of-place-end.ensures c.loop-place-test.true c.in_err-operand.ensures)
+
+pub first_marker-requires : goal.first_marker-requires
+first_marker-requires t c =
+    let below = operand_below (tree_of c.args.expr.now) (operand_trees c.in-Some.operands) c.loop-place.place (tree_of c.in_ok-operand.operand.now) c.in-Some.ensures c.in_ok-operand.ensures in
+    (omega (arith, c.decreases, below), tt)
+
+pub returns-in-Some-first_marker : goal.returns-in-Some-first_marker
+returns-in-Some-first_marker t c =
+    first_found (operand_trees c.in-Some.operands) c.loop-place.place (tree_of c.in_ok-operand.operand.now) c.in_ok-operand.ensures (tree_of c.in-Some-first_marker.marker.now) c.in-Some-first_marker.ensures ∙ sym c.loop-place.invariant
+
+pub loop-place-preserved : goal.loop-place-preserved
+loop-place-preserved t c =
+    c.loop-place.invariant ∙ first_behind (operand_trees c.in-Some.operands) c.loop-place.place (tree_of c.in_ok-operand.operand.now) c.in_ok-operand.ensures c.in_default-first_marker.ensures

@@ -1,27 +1,26 @@
-use Rattle.std.proofs.Common.{◌≡◌, None, Some, ap, option_map, refl, sym, ◌∙◌}
-use Rattle.plan_dsl.specs.Expansion.{root_name}
-use Rattle.plan_dsl.specs.Expressions.{order_trees, tree_of, trees_of}
-use Rattle.plan_dsl.specs.Sources.{unwritten}
-use Rattle.plan_dsl.proofs.ExprLemmas.{sort_by_listed, window_listed}
-use Rattle.plan_expand.proofs.WalkLemmas.{no_root_in_front, root_in_front, root_listed}
+use Rattle.std.proofs.Common.{sym, ◌∙◌, arith}
+use Rattle.plan_dsl.specs.Expressions.{tree_of}
+use Rattle.plan_expand.specs.Walks.{operand_trees}
+use Rattle.plan_expand.proofs.WalkLemmas.{not_past, operand_below, root_behind, root_found, root_of_operands}
 use Rattle.plan_expand.proofs.walks.+root_name.Goals as goal
 
-pub root_name-returns-in-None-root_name-5 : goal.root_name-returns-in-None-root_name-5
-root_name-returns-in-None-root_name-5 t c =
-    let kind = c.in-SortBy in
-    let first : None ≡ root_name (unwritten (tree_of kind.expr.value)) = rw c.deref-in-SortBy.ensures at c.in-None-root_name-5.ensures in
-    root_listed _ (λ roots. refl) (sort_by_listed c.args.expr.now kind.expr kind.by kind.sort_options kind.is) first c.root_name_listed.ensures
+pub loop-place-init : goal.loop-place-init
+loop-place-init t c =
+    sym (root_of_operands c.args.expr.now (operand_trees c.in_ok-operands.operands) c.in_ok-operands.ensures c.in_default.not-Column c.in_default.not-KeepName c.in_default.not-RenameAlias)
 
-pub root_name-returns-in-Some-root_name_in_order : goal.root_name-returns-in-Some-root_name_in_order
-root_name-returns-in-Some-root_name_in_order t c =
-    let kind = c.in-Window in
-    let first : None ≡ root_name (unwritten (tree_of kind.function.value)) = rw c.deref-in-Window.ensures at c.in-None-root_name-6.ensures in
-    let rest = root_in_front (order_trees kind.order_by) (trees_of kind.partition_by) c.in-Some-root_name_in_order.found.now c.in-Some-root_name_in_order.ensures in
-    root_listed _ (λ roots. refl) (window_listed c.args.expr.now kind.function kind.partition_by kind.order_by kind.options kind.is) first rest
+pub returns-in_err-operand : goal.returns-in_err-operand
+returns-in_err-operand t c =
+    absurd (not_past (operand_trees c.in_ok-operands.operands) c.loop-place.place c.count_of-place-end.result c.count_of-place-end.ensures c.loop-place-test.true c.in_err-operand.ensures)
 
-pub root_name-returns-in-None-root_name_in_order : goal.root_name-returns-in-None-root_name_in_order
-root_name-returns-in-None-root_name_in_order t c =
-    let kind = c.in-Window in
-    let first : None ≡ root_name (unwritten (tree_of kind.function.value)) = rw c.deref-in-Window.ensures at c.in-None-root_name-6.ensures in
-    let rest = c.root_name_listed-in-None-root_name_in_order.ensures ∙ no_root_in_front (order_trees kind.order_by) (trees_of kind.partition_by) c.in-None-root_name_in_order.ensures in
-    root_listed _ (λ roots. refl) (window_listed c.args.expr.now kind.function kind.partition_by kind.order_by kind.options kind.is) first rest
+pub root_name-requires : goal.root_name-requires
+root_name-requires t c =
+    let below = operand_below (tree_of c.args.expr.now) (operand_trees c.in_ok-operands.operands) c.loop-place.place (tree_of c.in_ok-operand.operand.now) c.in_ok-operands.ensures c.in_ok-operand.ensures in
+    (omega (arith, c.decreases, below), tt)
+
+pub returns-in-Some : goal.returns-in-Some
+returns-in-Some t c =
+    root_found (operand_trees c.in_ok-operands.operands) c.loop-place.place (tree_of c.in_ok-operand.operand.now) c.in_ok-operand.ensures c.in-Some.name.now c.in-Some.ensures ∙ sym c.loop-place.invariant
+
+pub loop-place-preserved : goal.loop-place-preserved
+loop-place-preserved t c =
+    c.loop-place.invariant ∙ root_behind (operand_trees c.in_ok-operands.operands) c.loop-place.place (tree_of c.in_ok-operand.operand.now) c.in_ok-operand.ensures c.in_default-root_name.ensures

@@ -2,16 +2,16 @@ use Rattle.std.proofs.Common.{◌≡◌, true, Ok, map}
 use Rattle.std.specs.List.{list_all}
 use Rattle.std.specs.Vec.Iter.{into_iter_items}
 use Rattle.plan_types.specs.Schemas.{columns}
-use Rattle.plan_dsl.specs.Expansion.{expansions, key_names}
+use Rattle.plan_dsl.specs.Expansion.{expansions}
 use Rattle.plan_dsl.specs.Expressions.{plain_tree, tree_of}
 use Rattle.plan_dsl.specs.Refusals.{joined}
 use Rattle.plan_dsl.specs.Sources.{is_plain}
-use Rattle.plan_expand.proofs.expr_expansion.rewrite_projections.Given as goal
+use Rattle.plan_expand.proofs.expr_expansion.all_expanded.Given as goal
 
 abbrev pub invariant-loop-expr : goal.invariant-loop-expr
 invariant-loop-expr l = record {
   can : (goal.iterator-loop-expr).can_next l.expr-iterator;
   finite : (goal.iterator-loop-expr).is_finite l.expr-iterator;
-  so_far : expansions (key_names (map tree_of l.fn.keys)) (columns l.schema) (map tree_of l.fn.exprs.items) ≡ joined (Ok (map plain_tree l.expanded.items)) (expansions (key_names (map tree_of l.fn.keys)) (columns l.schema) (map tree_of (into_iter_items l.expr-iterator)));
+  so_far : expansions l.keys.keys (columns l.schema) (map tree_of l.fn.exprs.items) ≡ joined (Ok (map plain_tree l.expanded.items)) (expansions l.keys.keys (columns l.schema) (map tree_of (into_iter_items l.expr-iterator)));
   plain : list_all is_plain (map tree_of l.expanded.items) ≡ true;
 }
