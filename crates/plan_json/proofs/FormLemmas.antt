@@ -1,5 +1,5 @@
 -- What is read by the table of forms.
-use Rattle.plan_json.proofs.Names.{Bool, List, None, Option, Some, [], ap, arith, bytes_eq, cond, false, get_or, is_some, length, map, ne_eqb, option_and_then, option_map, refl, slice_get, subst, suc, sym, take, true, zero, ℕ, ◌&&◌, ◌||◌, ◌++◌, ◌<◌, ◌==◌, ◌∙◌, ◌∷◌, ◌≡◌, ◌≤◌, asked_form, items_of, key, key_form, keyed_form, number, own_fault, part, part_of, places_form, shape_fault, unless, all_of, both, only_member, items_view, view, Name, Data, Items, array, item, no_items, Declared, as_array, at, get_item, AllFit, Asked, Fits, Read, a_form, all_fit, asks, expression_read, expressions_in, fits, flag_read, flags_in, key_named, leaves_read, list_read, many, many_read, name_read, place_view, ty, type_read, ℤ, reads_of, row_named, says, IsItem, each_as, front, places_as, read_as, these_as, option_map_or, escaped, Value, items_len-items_view, eq-eqb, length-map, items_len, bytes_eq-Decides, Kind, Key, tree_of, slice_get-map, slice_get-get_or, trees_of, SortByOp, expression_says, same_Some, and_parts, Box, Global}
+use Rattle.plan_json.proofs.Names.{Bool, List, None, Option, Some, [], ap, arith, bytes_eq, cond, false, get_or, is_some, length, map, ne_eqb, option_and_then, option_map, refl, slice_get, subst, suc, sym, take, true, zero, ℕ, ◌&&◌, ◌||◌, ◌++◌, ◌<◌, ◌==◌, ◌∙◌, ◌∷◌, ◌≡◌, ◌≤◌, asked_form, items_of, key, key_form, keyed_form, number, own_fault, part, part_of, places_form, shape_fault, unless, all_of, both, only_member, items_view, view, Name, Data, Items, array, item, no_items, Declared, as_array, at, get_item, Asked, Read, a_form, asks, expression_read, expressions_in, flag_read, flags_in, key_named, leaves_read, list_read, many, many_read, name_read, place_view, ty, type_read, ℤ, reads_of, row_named, says, IsItem, each_as, front, places_as, read_as, these_as, option_map_or, escaped, Value, items_len-items_view, eq-eqb, length-map, items_len, bytes_eq-Decides, Kind, Key, tree_of, slice_get-map, slice_get-get_or, trees_of, SortByOp, expression_says, same_Some, and_parts, Box, Global}
 use Rattle.plan_json.specs.declared.forms.Place.{Place}
 use Rattle.plan_dsl.specs.Expressions.{excluded_of}
 use Rattle.plan_dsl.specs.Sources.{Plain, Source}
@@ -18,6 +18,7 @@ use Rattle.plan_dsl.specs.declared.sort_options.SortMultipleOptions.{SortMultipl
 use Rattle.plan_dsl.proofs.ExprLemmas.{sort_by_listed, window_listed}
 use Rattle.plan_json.specs.declared.forms.ExpressionKey.TheVariants as of
 use Rattle.plan_json.specs.declared.forms.Leaf.TheVariants as leaves
+use Rattle.plan_json.specs.declared.forms.SmallLeaf.TheVariants as smalls
 use Rattle.plan_json.specs.Errors.{IsErrorOf}
 use Rattle.plan_json.specs.Faults.{Step, is_list, order_form}
 use Rattle.plan_json.specs.declared.error.JsonError.{JsonError}
@@ -38,11 +39,6 @@ named_plain {K} (first ∷ rows) word row plain is =
     let parts = and_parts _ _ plain in
     let here : Some row ≡ Some first → escaped row.0 ≡ row.0 = λ e. subst (λ (x : List ℕ × K). escaped x.0 ≡ x.0) (sym (same_Some row first e)) ((bytes_eq-Decides (escaped first.0) first.0).0 parts.0) in
     elim (bytes_eq first.0 word) as (λ b. Some row ≡ cond b (Some first) (row_named rows word) → escaped row.0 ≡ row.0) [ true ↦ here | false ↦ named_plain rows word row parts.1 ] is
-
--- a list of what fits is one
-pub many_fit : {A : Type 0} (a : Asked) (f : A → Read) → ((x : A) → fits a (f x) ≡ true) → (xs : List A) → all_fit a (reads_of (map f xs)) ≡ true
-many_fit a f each [] = refl
-many_fit a f each (x ∷ xs) = ap (λ b. b && all_fit a (reads_of (map f xs))) (each x) ∙ many_fit a f each xs
 
 place_at : (places : List Place) (n : ℕ) (p : Place) → n < length places → slice_get (map place_view places) n ≡ Some (place_view (get_or places n p))
 place_at places n p within = slice_get-map place_view places n ∙ ap (option_map place_view) (slice_get-get_or places n p within)
@@ -91,7 +87,7 @@ all_excluded_read [] = refl
 all_excluded_read (x ∷ xs) = ap (λ l. excluded_of x ∷ l) (all_excluded_read xs)
 
 pub sort_by_said : (expr : Box Expr Global) (by : Exprs) (options : SortMultipleOptions)
-    → expression_says of.SortBy (expression_read (tree_of expr.value) ∷ many_read (reads_of (map expression_read (trees_of by))) ∷ leaves_read leaves.Flag (reads_of (map flag_read options.descending.items.value.items)) ∷ leaves_read leaves.Flag (reads_of (map flag_read options.nulls_last.items.value.items)) ∷ []) ≡ Some (tree_of (SortBy expr by options))
+    → expression_says of.SortBy (expression_read (tree_of expr.value) ∷ many_read (reads_of (map expression_read (trees_of by))) ∷ leaves_read (leaves.Small smalls.Flag) (reads_of (map flag_read options.descending.items.value.items)) ∷ leaves_read (leaves.Small smalls.Flag) (reads_of (map flag_read options.nulls_last.items.value.items)) ∷ []) ≡ Some (tree_of (SortBy expr by options))
 sort_by_said expr by options =
     (λ i. Some (node (Plain (SortByOp (flags_read options.descending.items.value.items i) (flags_read options.nulls_last.items.value.items i))) (more (tree_of expr.value) (children_from (expressions_read (trees_of by) i)))))
     ∙ ap (λ tree. Some tree) (sym (sort_by_listed (SortBy expr by options) expr by options refl).is)
@@ -129,13 +125,12 @@ key_part names kind d word value row is named same =
 -- ---- a list of exactly these
 
 -- what is read of items one by one, with something behind the last
-these_read : (tables : Declared) (ps : List Asked) (ds : Items) (rs : List Read) → items_len ds ≡ length ps → length ps ≤ length rs → ((n : ℕ) (r : Read) → slice_get rs n ≡ Some r → IsItem tables ps ds n r)
-    → (these_as tables ps ds ≡ Some (take (length ps) rs)) × AllFit ps (take (length ps) rs)
-these_read tables [] no_items rs count room each = (refl, record { count = refl; each = tt })
+these_read : (tables : Declared) (ps : List Asked) (ds : Items) (rs : List Read) → items_len ds ≡ length ps → length ps ≤ length rs → ((n : ℕ) (r : Read) → slice_get rs n ≡ Some r → IsItem tables ps ds n r) → these_as tables ps ds ≡ Some (take (length ps) rs)
+these_read tables [] no_items rs count room each = refl
 these_read tables (p ∷ ps) (item d ds) (r ∷ rs) count room each =
     let first = each 0 r refl in
-    let rest = these_read tables ps ds rs (omega (arith, count)) (omega (arith, room)) (λ n x at. record { read = λ q e asked here. (each (suc n) x at).read q e asked here; fit = λ q asked. (each (suc n) x at).fit q asked }) in
-    (ap (λ o. front o (these_as tables ps ds)) (first.read p d refl refl) ∙ ap (front (Some r)) rest.0, record { count = ap suc rest.1.count; each = (first.fit p refl, rest.1.each) })
+    let rest = these_read tables ps ds rs (omega (arith, count)) (omega (arith, room)) (λ n x at. record { read = λ q e asked here. (each (suc n) x at).read q e asked here }) in
+    ap (λ o. front o (these_as tables ps ds)) (first.read p d refl refl) ∙ ap (front (Some r)) rest
 these_read tables _ _ _ count room each = absurd (omega (arith, count, room))
 
 one_of_four : (tables : Declared) (ps : List Asked) (ds : Items) (a b c e : Read) → IsItem tables ps ds 0 a → IsItem tables ps ds 1 b → IsItem tables ps ds 2 c → IsItem tables ps ds 3 e → (n : ℕ) (r : Read) → slice_get (a ∷ b ∷ c ∷ e ∷ []) n ≡ Some r → IsItem tables ps ds n r
@@ -146,22 +141,21 @@ one_of_four tables ps ds a b c e first second third fourth (suc (suc (suc zero))
 one_of_four tables ps ds a b c e first second third fourth (suc (suc (suc (suc n)))) r at = cc
 
 pub four_read : (tables : Declared) (places : List Place) (vs : List Value) (a b c e : Read) → length vs ≡ length places → length places ≤ 4 → let ps = map place_view places in let ds = items_view vs in
-    IsItem tables ps ds 0 a → IsItem tables ps ds 1 b → IsItem tables ps ds 2 c → IsItem tables ps ds 3 e → let rs = take (length places) (a ∷ b ∷ c ∷ e ∷ []) in (these_as tables ps ds ≡ Some rs) × AllFit ps rs
+    IsItem tables ps ds 0 a → IsItem tables ps ds 1 b → IsItem tables ps ds 2 c → IsItem tables ps ds 3 e → these_as tables ps ds ≡ Some (take (length places) (a ∷ b ∷ c ∷ e ∷ []))
 four_read tables places vs a b c e count short first second third fourth =
     let ps = map place_view places in
     let ds = items_view vs in
     let same : length ps ≡ length places = length-map places place_view in
-    subst (λ n. (these_as tables ps ds ≡ Some (take n (a ∷ b ∷ c ∷ e ∷ []))) × AllFit ps (take n (a ∷ b ∷ c ∷ e ∷ []))) same
-    (these_read tables ps ds (a ∷ b ∷ c ∷ e ∷ []) (items_len-items_view vs ∙ count ∙ sym same) (subst (λ n. n ≤ 4) (sym same) short) (one_of_four tables ps ds a b c e first second third fourth))
+    these_read tables ps ds (a ∷ b ∷ c ∷ e ∷ []) (items_len-items_view vs ∙ count ∙ sym same) (subst (λ n. n ≤ 4) (sym same) short) (one_of_four tables ps ds a b c e first second third fourth)
+    ∙ ap (λ n. Some (take n (a ∷ b ∷ c ∷ e ∷ []))) same
 
 -- the item of a number, by the place of that number
 pub item_read : (tables : Declared) (places : List Place) (vs : List Value) (n : ℕ) (p : Place) (v : Value) (r : Read) → length vs ≡ length places → n < length places → v ≡ get_or vs n v
-    → read_as tables (place_view (get_or places n p)) (view v) ≡ Some r → Fits (place_view (get_or places n p)) r → IsItem tables (map place_view places) (items_view vs) n r
-item_read tables places vs n p v r count within here read fit = record {
+    → read_as tables (place_view (get_or places n p)) (view v) ≡ Some r → IsItem tables (map place_view places) (items_view vs) n r
+item_read tables places vs n p v r count within here read = record {
   read = λ q d asked at.
       let own : q ≡ place_view (get_or places n p) = same_Some _ _ (sym asked ∙ place_at places n p within) in
       let value : d ≡ view v = same_Some _ _ (sym at ∙ item_at vs n v (subst (λ k. n < k) (sym count) within) here) in (λ i. read_as tables (own i) (value i)) ∙ read;
-  fit = λ q asked. subst (λ a. Fits a r) (same_Some _ q (sym (place_at places n p within) ∙ asked)) fit;
 }
 
 -- the item of a number is a part

@@ -1,6 +1,7 @@
 pub mod DeclarationLemmas
 pub mod FaultLemmas
 pub mod FloatLaws
+pub mod FitLemmas
 pub mod FormLemmas
 pub mod ItemLemmas
 pub mod Lemmas

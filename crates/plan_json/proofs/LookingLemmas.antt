@@ -1,5 +1,5 @@
 -- Looking into a value, beside what the value's type holds.
-use Rattle.plan_json.proofs.Names.{Global, List, None, Option, Some, String, [], ap, arith, cond, get_or, length, ne_eqb, option_map, refl, slice_get, string_bytes, subst, suc, sym, zero, ℕ, ◌<◌, ◌==◌, ◌∙◌, ◌∷◌, ◌≡◌, ◌≤◌, both, only_member, two_items, two_members, items_view, members_view, view, Data, Items, Members, array, depth, items_depth, member, no_members, object, as_array, as_object, at, get, get_member, Value, members_len-members_view, eq-eqb, same_Some}
+use Rattle.plan_json.proofs.Names.{Global, List, None, Option, Some, String, [], ap, arith, cond, get_or, length, ne_eqb, option_map, refl, slice_get, string_bytes, subst, suc, sym, zero, ℕ, ◌<◌, ◌==◌, ◌∙◌, ◌∷◌, ◌≡◌, ◌≤◌, both, only_member, two_items, two_members, items_view, members_view, view, Data, Items, Members, array, depth, item, items_depth, member, no_items, no_members, object, as_array, as_object, at, get, get_member, Value, members_len-members_view, eq-eqb, same_Some}
 
 abbrev pub Entry : Type 0
 Entry = String Global × Value
@@ -66,3 +66,7 @@ pub depth-item : (d : Data) (vs : List Value) (i : ℕ) (v : Value) → Some (it
 depth-item d vs i v is within at =
     let below = item_depth vs i v within at in
     subst (λ x. depth (view v) < depth x) (sym (array-from_as_array d _ is)) (omega (arith, below))
+
+pub depth-two_items : (d first second : Data) → Some (first, second) ≡ two_items d → depth second < depth d
+depth-two_items (array (item a (item b no_items))) first second e = subst (λ x. depth x < depth (array (item a (item b no_items)))) (ap (λ (q : Data × Data). q.1) (sym (same_Some (first, second) (a, b) e))) (omega arith)
+depth-two_items _ first second e = cc

@@ -10,6 +10,8 @@ use Rattle.plan_json.specs.Faults.{item_part, order_form}
 use Rattle.serde_json.specs.Data.{null}
 use Rattle.plan_json.specs.Leaves.{excluded_item, keyed_excluded}
 use Rattle.plan_json.specs.declared.forms.Leaf.TheVariants as leaves
+use Rattle.plan_json.specs.declared.forms.SmallLeaf.TheVariants as smalls
+use Rattle.plan_json.specs.declared.forms.Writing.TheVariants as writings
 use Rattle.plan_json.proofs.DeclarationLemmas.{is_some-table_at, each_column-all_of, table_name-read, declared_names-read}
 use Rattle.plan_json.proofs.FaultLemmas.{name_fault-tested}
 use Rattle.plan_json.proofs.FormLemmas.{each_as-all_of}
@@ -102,7 +104,7 @@ own form d h = ap (unless (shape_fault d)) (shape form d h)
 -- ---- what is asked
 
 asked_is : (names : List Name) (tables : Declared) → names_of tables ≡ names → (a : Asked) (d : Data) → Present (read_as tables a d) → IsOf (asked_form names a) d
-asked_is names tables same (leaf leaves.Typed) d (r, e) = made literal_read (typed_of d) r e
+asked_is names tables same (leaf (leaves.Literal writings.Typed)) d (r, e) = made literal_read (typed_of d) r e
 asked_is names tables same (leaf leaves.Dtype) d (r, e) = made type_read (type_of d) r e
 asked_is names tables same (leaf leaves.Table) d (r, e) =
     let table = mapped (λ table. table_read table.0 table.1) (option_and_then (table_at tables) (text_of d)) r e in
@@ -110,6 +112,7 @@ asked_is names tables same (leaf leaves.Table) d (r, e) =
     ((at.0, ap (is_among at.0) (sym same) ∙ sym (is_some-table_at tables at.0) ∙ ap is_some at.2), at.1)
 asked_is names tables same (leaf leaves.Excluded) d (r, e) = made excluded_read (excluded_item d) r e
 asked_is names tables same (leaf leaves.Columns) d (r, e) = made columns_read (columns_of d) r e
+asked_is names tables same (leaf (leaves.Small smalls.Operator)) d (r, e) = shown _ _ r e
 asked_is names tables same (leaf which) d (r, e) = shown _ _ r e
 asked_is names tables same _ d (r, e) = ((tables, same, r), e)
 

@@ -12,6 +12,7 @@ use Rattle.plan_json.specs.declared.arguments.Arg.{Arg}
 use Rattle.plan_json.specs.declared.arguments.Arg.TheVariants.{Name, Literal, Operator, Method, Dtype, Mode, Table, Columns, Nothing, Flag, Index, Excluded, Order, Expression, Selector, Plan, Expressions, Selectors, Names, Dtypes, Flags, Indexes, AllExcluded}
 use Rattle.plan_json.specs.declared.arguments.Items.{Items}
 use Rattle.plan_json.specs.declared.forms.Leaf.TheVariants as leaves
+use Rattle.plan_json.specs.declared.forms.SmallLeaf.TheVariants as smalls
 use Rattle.plan_json.specs.declared.arguments.Args.{Args}
 use Rattle.plan_json.specs.declared.arguments.Args.TheVariants as args
 
@@ -39,8 +40,8 @@ arg_view (Expressions exprs) = many_read (reads_of (map expression_read (trees_o
 arg_view (Selectors selectors) = chosen_read (reads_of (map selector_read (selector_trees selectors.value)))
 arg_view (Names names) = leaves_read leaves.Name (reads_of (map name_read names.value.items))
 arg_view (Dtypes types) = leaves_read leaves.Dtype (reads_of (map (λ dtype. type_read (ty dtype)) types.value.items))
-arg_view (Flags flags) = leaves_read leaves.Flag (reads_of (map flag_read flags.value.items))
-arg_view (Indexes indexes) = leaves_read leaves.Index (reads_of (map index_read indexes.value.items))
+arg_view (Flags flags) = leaves_read (leaves.Small smalls.Flag) (reads_of (map flag_read flags.value.items))
+arg_view (Indexes indexes) = leaves_read (leaves.Small smalls.Index) (reads_of (map index_read indexes.value.items))
 arg_view (AllExcluded excluded) = leaves_read leaves.Excluded (reads_of (map (λ item. excluded_read (excluded_of item)) excluded.value.items))
 
 abbrev pub items_seen : Items → List Read

@@ -16,6 +16,10 @@ use Rattle.plan_json.specs.declared.forms.Kind.{Kind}
 use Rattle.plan_json.specs.declared.forms.Kind.TheVariants as kinds
 use Rattle.plan_json.specs.declared.forms.Leaf.{Leaf}
 use Rattle.plan_json.specs.declared.forms.Leaf.TheVariants as leaves
+use Rattle.plan_json.specs.declared.forms.SmallLeaf.{SmallLeaf}
+use Rattle.plan_json.specs.declared.forms.SmallLeaf.TheVariants as smalls
+use Rattle.plan_json.specs.declared.forms.Writing.{Writing}
+use Rattle.plan_json.specs.declared.forms.Writing.TheVariants as writings
 use Rattle.plan_json.specs.declared.forms.TypeKey.{TypeKey}
 use Rattle.plan_json.specs.declared.forms.TypeKey.TheVariants as types
 use Rattle.plan_json.specs.declared.forms.ExcludedKey.{ExcludedKey}
@@ -83,22 +87,30 @@ excluded_form excludes.Dtype = a_type
 abbrev pub excluded_key_form : List ℕ → Option Form
 excluded_key_form word = option_map (λ row. excluded_form row.1) (row_named excluded_rows word)
 
+-- a literal that is written so
+abbrev pub literal_form : Writing → Form
+literal_form writings.AsIs = a_literal
+literal_form writings.Digits = a_number_text
+literal_form writings.Typed = a_typed_literal
+
+-- what needs no box
+abbrev pub small_form : SmallLeaf → Form
+small_form smalls.Operator = an_operator
+small_form smalls.Method = a_method
+small_form smalls.Mode = a_mode
+small_form smalls.Nothing = nothing_form
+small_form smalls.Flag = flag_form
+small_form smalls.Index = an_index
+
 -- what has no forms
 abbrev pub leaf_form : List Name → Leaf → Form
 leaf_form names leaves.Name = a_text
-leaf_form names leaves.Value = a_literal
-leaf_form names leaves.Digits = a_number_text
-leaf_form names leaves.Typed = a_typed_literal
-leaf_form names leaves.Operator = an_operator
-leaf_form names leaves.Method = a_method
+leaf_form names (leaves.Literal how) = literal_form how
 leaf_form names leaves.Dtype = a_type
-leaf_form names leaves.Mode = a_mode
 leaf_form names leaves.Table = a_scan names
 leaf_form names leaves.Columns = column_list
-leaf_form names leaves.Nothing = nothing_form
-leaf_form names leaves.Flag = flag_form
-leaf_form names leaves.Index = an_index
 leaf_form names leaves.Excluded = an_excluded
+leaf_form names (leaves.Small which) = small_form which
 
 abbrev pub asked_form : List Name → Asked → Form
 asked_form names (a_form kind) = keyed_form names kind

@@ -6,7 +6,7 @@ use Rattle.plan_types.specs.Types.{Ty}
 use Rattle.plan_types.specs.declared.dtype.CastOptions.{CastOptions}
 use Rattle.plan_dsl.specs.Ops.{Op, ColumnOp, BinaryOp, CastOp, LenOp, SliceOp, ExplodeOp, GatherOp, FilterOp, SortOp, SortByOp, AliasOp, WindowOp}
 use Rattle.plan_dsl.specs.Plans.{SourcePlan, scan_op, source_select, source_hstack, source_group_by, source_filter, source_drop}
-use Rattle.plan_dsl.specs.Sources.{Excluded, Source, Plain, WildcardOp, ColumnsOp, DtypeColumnOp, IndexColumnOp, NthOp, ExcludeOp, SelectorOp, RootOp, RenameOp, KeepRoot, AddPrefix, AddSuffix, SetName, Add, Sub, Intersect, ExclusiveOr, of_two}
+use Rattle.plan_dsl.specs.Sources.{Excluded, Source, Plain, WildcardOp, ColumnsOp, DtypeColumnOp, IndexColumnOp, NthOp, ExcludeOp, SelectorOp, RootOp, RenameOp, KeepRoot, AddPrefix, AddSuffix, SetName, SetRule, Add, Sub, Intersect, ExclusiveOr, SourceOp, of_two}
 use Rattle.plan_dsl.specs.Trees.{node, no_more, more, children_from}
 use Rattle.plan_dsl.specs.declared.aggregate.GroupByMethod.{GroupByMethod}
 use Rattle.plan_dsl.specs.declared.operator.Operator.{Operator}
@@ -16,6 +16,8 @@ use Rattle.plan_json.specs.declared.forms.Kind.{Kind}
 use Rattle.plan_json.specs.declared.forms.Kind.TheVariants as kinds
 use Rattle.plan_json.specs.declared.forms.Leaf.{Leaf}
 use Rattle.plan_json.specs.declared.forms.Leaf.TheVariants as leaves
+use Rattle.plan_json.specs.declared.forms.SmallLeaf.TheVariants as smalls
+use Rattle.plan_json.specs.declared.forms.Writing.TheVariants as writings
 use Rattle.plan_json.specs.declared.forms.ListLeaf.{ListLeaf}
 use Rattle.plan_json.specs.declared.forms.ListLeaf.TheVariants as lists
 use Rattle.plan_json.specs.declared.forms.Place.{Place}
@@ -26,8 +28,14 @@ use Rattle.plan_json.specs.declared.forms.Key.{Key}
 use Rattle.plan_json.specs.declared.forms.Key.TheVariants as keys
 use Rattle.plan_json.specs.declared.forms.ExpressionKey.{ExpressionKey}
 use Rattle.plan_json.specs.declared.forms.ExpressionKey.TheVariants as of
+use Rattle.plan_json.specs.declared.forms.NamedKey.{NamedKey}
+use Rattle.plan_json.specs.declared.forms.NamedKey.TheVariants as named
+use Rattle.plan_json.specs.declared.forms.MarkerKey.{MarkerKey}
+use Rattle.plan_json.specs.declared.forms.MarkerKey.TheVariants as marks
 use Rattle.plan_json.specs.declared.forms.SelectorKey.{SelectorKey}
 use Rattle.plan_json.specs.declared.forms.SelectorKey.TheVariants as from
+use Rattle.plan_json.specs.declared.forms.Joining.{Joining}
+use Rattle.plan_json.specs.declared.forms.Joining.TheVariants as joinings
 use Rattle.plan_json.specs.declared.forms.PlanKey.{PlanKey}
 use Rattle.plan_json.specs.declared.forms.PlanKey.TheVariants as by
 use Rattle.plan_json.specs.declared.forms.TypeKey.{TypeKey}
@@ -64,7 +72,7 @@ plan = a_form kinds.Plan
 
 -- what an order asks for where it is no null
 abbrev pub order_items : List Asked
-order_items = expression ∷ leaf leaves.Flag ∷ leaf leaves.Flag ∷ []
+order_items = expression ∷ leaf (leaves.Small smalls.Flag) ∷ leaf (leaves.Small smalls.Flag) ∷ []
 
 -- ---- expressions
 
@@ -73,9 +81,9 @@ abbrev pub expression_rows : List (List ℕ × ExpressionKey)
 expression_rows =
     (codes "col", of.Col) ∷
     (codes "bin", of.Bin) ∷
-    (codes "lit", of.Lit) ∷
-    (codes "int", of.Int) ∷
-    (codes "typed", of.Typed) ∷
+    (codes "lit", of.Literal writings.AsIs) ∷
+    (codes "int", of.Literal writings.Digits) ∷
+    (codes "typed", of.Literal writings.Typed) ∷
     (codes "cast", of.Cast) ∷
     (codes "len", of.Len) ∷
     (codes "slice", of.Slice) ∷
@@ -84,50 +92,49 @@ expression_rows =
     (codes "filter", of.Filter) ∷
     (codes "sort", of.Sort) ∷
     (codes "sort_by", of.SortBy) ∷
-    (codes "alias", of.Alias) ∷
+    (codes "alias", of.Named named.Alias) ∷
     (codes "agg", of.Agg) ∷
     (codes "over", of.Over) ∷
-    (codes "cols", of.Cols) ∷
-    (codes "dtypes", of.Dtypes) ∷
-    (codes "at", of.At) ∷
-    (codes "nth", of.Nth) ∷
-    (codes "all", of.All) ∷
-    (codes "exclude", of.Exclude) ∷
-    (codes "selector", of.Selector) ∷
+    (codes "cols", of.Marker marks.Cols) ∷
+    (codes "dtypes", of.Marker marks.Dtypes) ∷
+    (codes "at", of.Marker marks.At) ∷
+    (codes "nth", of.Marker marks.Nth) ∷
+    (codes "all", of.Marker marks.All) ∷
+    (codes "exclude", of.Marker marks.Exclude) ∷
+    (codes "selector", of.Marker marks.Selector) ∷
     (codes "keep_name", of.KeepName) ∷
-    (codes "prefix", of.Prefix) ∷
-    (codes "suffix", of.Suffix) ∷
-    (codes "fixed", of.Fixed) ∷ []
+    (codes "prefix", of.Named named.Prefix) ∷
+    (codes "suffix", of.Named named.Suffix) ∷
+    (codes "fixed", of.Named named.Fixed) ∷ []
+
+-- what a marker's key asks of its value
+abbrev pub marker_asks : MarkerKey → Places
+marker_asks marks.Cols = single (many (leaf leaves.Name))
+marker_asks marks.Dtypes = single (many (leaf leaves.Dtype))
+marker_asks marks.At = single (many (leaf (leaves.Small smalls.Index)))
+marker_asks marks.Nth = single (leaf (leaves.Small smalls.Index))
+marker_asks marks.All = single (leaf (leaves.Small smalls.Nothing))
+marker_asks marks.Exclude = listed (expression ∷ many (leaf leaves.Excluded) ∷ [])
+marker_asks marks.Selector = single selector
 
 -- what each asks of its value
 abbrev pub expression_asks : ExpressionKey → Places
 expression_asks of.Col = single (leaf leaves.Name)
-expression_asks of.Lit = single (leaf leaves.Value)
-expression_asks of.Int = single (leaf leaves.Digits)
-expression_asks of.Typed = single (leaf leaves.Typed)
-expression_asks of.Bin = listed (leaf leaves.Operator ∷ expression ∷ expression ∷ [])
-expression_asks of.Cast = listed (expression ∷ leaf leaves.Dtype ∷ leaf leaves.Mode ∷ [])
-expression_asks of.Len = single (leaf leaves.Nothing)
+expression_asks (of.Literal how) = single (leaf (leaves.Literal how))
+expression_asks of.Bin = listed (leaf (leaves.Small smalls.Operator) ∷ expression ∷ expression ∷ [])
+expression_asks of.Cast = listed (expression ∷ leaf leaves.Dtype ∷ leaf (leaves.Small smalls.Mode) ∷ [])
+expression_asks of.Len = single (leaf (leaves.Small smalls.Nothing))
 expression_asks of.Slice = listed (expression ∷ expression ∷ expression ∷ [])
 expression_asks of.Explode = single expression
-expression_asks of.Gather = listed (expression ∷ expression ∷ leaf leaves.Flag ∷ [])
+expression_asks of.Gather = listed (expression ∷ expression ∷ leaf (leaves.Small smalls.Flag) ∷ [])
 expression_asks of.Filter = listed (expression ∷ expression ∷ [])
-expression_asks of.Sort = listed (expression ∷ leaf leaves.Flag ∷ leaf leaves.Flag ∷ [])
-expression_asks of.SortBy = listed (expression ∷ many expression ∷ many (leaf leaves.Flag) ∷ many (leaf leaves.Flag) ∷ [])
-expression_asks of.Alias = listed (expression ∷ leaf leaves.Name ∷ [])
-expression_asks of.Agg = listed (leaf leaves.Method ∷ expression ∷ [])
+expression_asks of.Sort = listed (expression ∷ leaf (leaves.Small smalls.Flag) ∷ leaf (leaves.Small smalls.Flag) ∷ [])
+expression_asks of.SortBy = listed (expression ∷ many expression ∷ many (leaf (leaves.Small smalls.Flag)) ∷ many (leaf (leaves.Small smalls.Flag)) ∷ [])
+expression_asks of.Agg = listed (leaf (leaves.Small smalls.Method) ∷ expression ∷ [])
 expression_asks of.Over = listed (expression ∷ many expression ∷ order ∷ [])
-expression_asks of.Cols = single (many (leaf leaves.Name))
-expression_asks of.Dtypes = single (many (leaf leaves.Dtype))
-expression_asks of.At = single (many (leaf leaves.Index))
-expression_asks of.Nth = single (leaf leaves.Index)
-expression_asks of.All = single (leaf leaves.Nothing)
-expression_asks of.Exclude = listed (expression ∷ many (leaf leaves.Excluded) ∷ [])
-expression_asks of.Selector = single selector
 expression_asks of.KeepName = single expression
-expression_asks of.Prefix = listed (expression ∷ leaf leaves.Name ∷ [])
-expression_asks of.Suffix = listed (expression ∷ leaf leaves.Name ∷ [])
-expression_asks of.Fixed = listed (expression ∷ leaf leaves.Name ∷ [])
+expression_asks (of.Named key) = listed (expression ∷ leaf leaves.Name ∷ [])
+expression_asks (of.Marker key) = marker_asks key
 
 -- ---- selectors
 
@@ -135,18 +142,15 @@ expression_asks of.Fixed = listed (expression ∷ leaf leaves.Name ∷ [])
 abbrev pub selector_rows : List (List ℕ × SelectorKey)
 selector_rows =
     (codes "root", from.Root) ∷
-    (codes "add", from.Add) ∷
-    (codes "sub", from.Sub) ∷
-    (codes "and", from.And) ∷
-    (codes "xor", from.Xor) ∷ []
+    (codes "add", from.Joined joinings.Add) ∷
+    (codes "sub", from.Joined joinings.Sub) ∷
+    (codes "and", from.Joined joinings.And) ∷
+    (codes "xor", from.Joined joinings.Xor) ∷ []
 
 -- what each asks of its value
 abbrev pub selector_asks : SelectorKey → Places
 selector_asks from.Root = single expression
-selector_asks from.Add = listed (selector ∷ selector ∷ [])
-selector_asks from.Sub = listed (selector ∷ selector ∷ [])
-selector_asks from.And = listed (selector ∷ selector ∷ [])
-selector_asks from.Xor = listed (selector ∷ selector ∷ [])
+selector_asks (from.Joined by) = listed (selector ∷ selector ∷ [])
 
 -- ---- plans
 
@@ -169,7 +173,7 @@ plan_asks by.Filter = listed (plan ∷ expression ∷ [])
 plan_asks by.Select = listed (plan ∷ many expression ∷ [])
 plan_asks by.WithColumns = listed (plan ∷ many expression ∷ [])
 plan_asks by.GroupBy = listed (plan ∷ many expression ∷ many expression ∷ [])
-plan_asks by.Drop = listed (plan ∷ many selector ∷ leaf leaves.Flag ∷ [])
+plan_asks by.Drop = listed (plan ∷ many selector ∷ leaf (leaves.Small smalls.Flag) ∷ [])
 
 -- ---- types
 
@@ -284,11 +288,26 @@ order_says (expression_read by ∷ flag_read descending ∷ flag_read nulls_last
     Some (order_read (Some (record { descending = descending; nulls_last = nulls_last })) (by ∷ []))
 order_says _ = None
 
+abbrev pub marker_says : MarkerKey → List Read → Option Source
+marker_says marks.Cols (leaves_read _ names ∷ []) = Some (node (ColumnsOp (names_in names)) no_more)
+marker_says marks.Dtypes (leaves_read _ types ∷ []) = Some (node (DtypeColumnOp (types_in types)) no_more)
+marker_says marks.At (leaves_read _ places ∷ []) = Some (node (IndexColumnOp (indexes_in places)) no_more)
+marker_says marks.Nth (index_read place ∷ []) = Some (node (NthOp place) no_more)
+marker_says marks.All (nothing_read ∷ []) = Some (node WildcardOp no_more)
+marker_says marks.Exclude (expression_read marker ∷ leaves_read _ excluded ∷ []) = Some (node (ExcludeOp (excluded_in excluded)) (more marker no_more))
+marker_says marks.Selector (selector_read selector ∷ []) = Some (node SelectorOp (more selector no_more))
+marker_says _ _ = None
+
+-- what a name does with an expression
+abbrev pub named_op : NamedKey → Name → SourceOp
+named_op named.Alias text = Plain (AliasOp text)
+named_op named.Prefix text = RenameOp (AddPrefix text)
+named_op named.Suffix text = RenameOp (AddSuffix text)
+named_op named.Fixed text = RenameOp (SetName text)
+
 abbrev pub expression_says : ExpressionKey → List Read → Option Source
 expression_says of.Col (name_read name ∷ []) = Some (node (Plain (ColumnOp name)) no_more)
-expression_says of.Lit (literal_read op ∷ []) = Some (node (Plain op) no_more)
-expression_says of.Int (literal_read op ∷ []) = Some (node (Plain op) no_more)
-expression_says of.Typed (literal_read op ∷ []) = Some (node (Plain op) no_more)
+expression_says (of.Literal how) (literal_read op ∷ []) = Some (node (Plain op) no_more)
 expression_says of.Bin (operator_read op ∷ expression_read left ∷ expression_read right ∷ []) =
     Some (node (Plain (BinaryOp op)) (more left (more right no_more)))
 expression_says of.Agg (method_read method ∷ expression_read input ∷ []) = Some (aggregated method input)
@@ -307,26 +326,21 @@ expression_says of.Sort (expression_read input ∷ flag_read descending ∷ flag
     Some (node (Plain (SortOp (record { descending = descending; nulls_last = nulls_last }))) (more input no_more))
 expression_says of.SortBy (expression_read input ∷ many_read keys ∷ leaves_read _ descending ∷ leaves_read _ nulls_last ∷ []) =
     Some (node (Plain (SortByOp (flags_in descending) (flags_in nulls_last))) (more input (children_from (expressions_in keys))))
-expression_says of.Alias (expression_read operand ∷ name_read name ∷ []) = Some (node (Plain (AliasOp name)) (more operand no_more))
-expression_says of.Cols (leaves_read _ names ∷ []) = Some (node (ColumnsOp (names_in names)) no_more)
-expression_says of.Dtypes (leaves_read _ types ∷ []) = Some (node (DtypeColumnOp (types_in types)) no_more)
-expression_says of.At (leaves_read _ places ∷ []) = Some (node (IndexColumnOp (indexes_in places)) no_more)
-expression_says of.Nth (index_read place ∷ []) = Some (node (NthOp place) no_more)
-expression_says of.All (nothing_read ∷ []) = Some (node WildcardOp no_more)
-expression_says of.Exclude (expression_read marker ∷ leaves_read _ excluded ∷ []) = Some (node (ExcludeOp (excluded_in excluded)) (more marker no_more))
-expression_says of.Selector (selector_read selector ∷ []) = Some (node SelectorOp (more selector no_more))
 expression_says of.KeepName (expression_read operand ∷ []) = Some (node (RenameOp KeepRoot) (more operand no_more))
-expression_says of.Prefix (expression_read operand ∷ name_read text ∷ []) = Some (node (RenameOp (AddPrefix text)) (more operand no_more))
-expression_says of.Suffix (expression_read operand ∷ name_read text ∷ []) = Some (node (RenameOp (AddSuffix text)) (more operand no_more))
-expression_says of.Fixed (expression_read operand ∷ name_read text ∷ []) = Some (node (RenameOp (SetName text)) (more operand no_more))
+expression_says (of.Named key) (expression_read operand ∷ name_read text ∷ []) = Some (node (named_op key text) (more operand no_more))
+expression_says (of.Marker key) found = marker_says key found
 expression_says _ _ = None
+
+-- how two selectors are joined
+abbrev pub joined_by : Joining → SetRule
+joined_by joinings.Add = Add
+joined_by joinings.Sub = Sub
+joined_by joinings.And = Intersect
+joined_by joinings.Xor = ExclusiveOr
 
 abbrev pub selector_says : SelectorKey → List Read → Option Source
 selector_says from.Root (expression_read tree ∷ []) = Some (node RootOp (more tree no_more))
-selector_says from.Add (selector_read first ∷ selector_read second ∷ []) = Some (of_two Add first second)
-selector_says from.Sub (selector_read first ∷ selector_read second ∷ []) = Some (of_two Sub first second)
-selector_says from.And (selector_read first ∷ selector_read second ∷ []) = Some (of_two Intersect first second)
-selector_says from.Xor (selector_read first ∷ selector_read second ∷ []) = Some (of_two ExclusiveOr first second)
+selector_says (from.Joined by) (selector_read first ∷ selector_read second ∷ []) = Some (of_two (joined_by by) first second)
 selector_says _ _ = None
 
 abbrev pub plan_says : PlanKey → List Read → Option SourcePlan
@@ -372,30 +386,32 @@ says (keys.Plan key) found = option_map plan_read (plan_says key found)
 
 -- ---- what is read is what was asked for
 
+abbrev pub is_literal : Read → Bool
+is_literal (literal_read op) = true
+is_literal _ = false
+
 abbrev mutual
   pub fits : Asked → Read → Bool
   fits (a_form kinds.Expression) (expression_read tree) = true
   fits (a_form kinds.Selector) (selector_read tree) = true
   fits (a_form kinds.Plan) (plan_read tree) = true
   fits (leaf leaves.Name) (name_read name) = true
-  fits (leaf leaves.Value) (literal_read op) = true
-  fits (leaf leaves.Digits) (literal_read op) = true
-  fits (leaf leaves.Typed) (literal_read op) = true
-  fits (leaf leaves.Operator) (operator_read op) = true
-  fits (leaf leaves.Method) (method_read method) = true
+  fits (leaf (leaves.Literal how)) r = is_literal r
+  fits (leaf (leaves.Small smalls.Operator)) (operator_read op) = true
+  fits (leaf (leaves.Small smalls.Method)) (method_read method) = true
   fits (leaf leaves.Dtype) (type_read type) = true
-  fits (leaf leaves.Mode) (mode_read mode) = true
+  fits (leaf (leaves.Small smalls.Mode)) (mode_read mode) = true
   fits (leaf leaves.Table) (table_read number columns) = true
   fits (leaf leaves.Columns) (columns_read columns) = true
-  fits (leaf leaves.Nothing) nothing_read = true
-  fits (leaf leaves.Flag) (flag_read flag) = true
-  fits (leaf leaves.Index) (index_read index) = true
+  fits (leaf (leaves.Small smalls.Nothing)) nothing_read = true
+  fits (leaf (leaves.Small smalls.Flag)) (flag_read flag) = true
+  fits (leaf (leaves.Small smalls.Index)) (index_read index) = true
   fits (leaf leaves.Excluded) (excluded_read excluded) = true
   fits order (order_read way by) = true
   fits (many (leaf leaves.Name)) (leaves_read leaves.Name rs) = all_fit (leaf leaves.Name) rs
   fits (many (leaf leaves.Dtype)) (leaves_read leaves.Dtype rs) = all_fit (leaf leaves.Dtype) rs
-  fits (many (leaf leaves.Flag)) (leaves_read leaves.Flag rs) = all_fit (leaf leaves.Flag) rs
-  fits (many (leaf leaves.Index)) (leaves_read leaves.Index rs) = all_fit (leaf leaves.Index) rs
+  fits (many (leaf (leaves.Small smalls.Flag))) (leaves_read (leaves.Small smalls.Flag) rs) = all_fit (leaf (leaves.Small smalls.Flag)) rs
+  fits (many (leaf (leaves.Small smalls.Index))) (leaves_read (leaves.Small smalls.Index) rs) = all_fit (leaf (leaves.Small smalls.Index)) rs
   fits (many (leaf leaves.Excluded)) (leaves_read leaves.Excluded rs) = all_fit (leaf leaves.Excluded) rs
   fits (many (a_form kinds.Expression)) (many_read rs) = all_fit expression rs
   fits (many (a_form kinds.Selector)) (chosen_read rs) = all_fit selector rs
@@ -430,8 +446,8 @@ pub record AllFit (asked : List Asked) (found : List Read) : Type 0 where
 abbrev pub listed_leaf : ListLeaf → Leaf
 listed_leaf lists.Name = leaves.Name
 listed_leaf lists.Dtype = leaves.Dtype
-listed_leaf lists.Flag = leaves.Flag
-listed_leaf lists.Index = leaves.Index
+listed_leaf lists.Flag = leaves.Small smalls.Flag
+listed_leaf lists.Index = leaves.Small smalls.Index
 listed_leaf lists.Excluded = leaves.Excluded
 
 abbrev pub place_view : Place → Asked

@@ -24,6 +24,8 @@ use Rattle.plan_dsl.specs.declared.operator.Operator.TheVariants.{Eq, EqValidity
 use Rattle.plan_json.specs.Forms.{row_named, type_rows, excluded_rows}
 use Rattle.plan_json.specs.Looking.{both, whole_number, only_member, two_members, two_items, all_of, some_of}
 use Rattle.plan_json.specs.Tables.{Declared}
+use Rattle.plan_json.specs.declared.forms.Writing.{Writing}
+use Rattle.plan_json.specs.declared.forms.Writing.TheVariants as writings
 use Rattle.plan_json.specs.declared.forms.TypeKey.{TypeKey}
 use Rattle.plan_json.specs.declared.forms.TypeKey.TheVariants as types
 use Rattle.plan_json.specs.declared.forms.ExcludedKey.{ExcludedKey}
@@ -279,3 +281,9 @@ typed_from pair = option_and_then (λ type. number_of type pair.1) (counted_of p
 -- `[type, number]`
 abbrev pub typed_of : Data → Option Op
 typed_of d = option_and_then typed_from (two_items d)
+
+-- a literal that is written so
+abbrev pub literal_written : Writing → Data → Option Op
+literal_written writings.AsIs d = literal_of d
+literal_written writings.Digits d = number_text_of d
+literal_written writings.Typed d = typed_of d

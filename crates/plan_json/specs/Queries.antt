@@ -5,12 +5,14 @@ use Rattle.serde_json.specs.Data.{Data, array, object, Items, no_items, item, no
 use Rattle.plan_dsl.specs.Plans.{SourcePlan, plan_tree}
 use Rattle.plan_dsl.specs.declared.plan.DslPlan.{DslPlan}
 use Rattle.plan_dsl.specs.declared.plan.DslPlan.TheVariants.{DataFrameScan, Filter', GroupBy', HStack', MapFunction', Select'}
-use Rattle.plan_json.specs.Forms.{Asked, a_form, leaf, many, order, order_items, order_says, no_order, Places, single, listed, plan, Read, name_read, literal_read, operator_read, method_read, type_read, mode_read, table_read, columns_read, plan_read, list_read, reads_of, key_named, asks, says, nothing_read, flag_read, index_read, excluded_read, Fits}
-use Rattle.plan_json.specs.Leaves.{excluded_item, index_of, text_of, literal_of, number_text_of, typed_of, operator_of, method_of, type_of, mode_of, table_at, columns_of, tables_of}
+use Rattle.plan_json.specs.Forms.{Asked, a_form, leaf, many, order, order_items, order_says, no_order, Places, single, listed, plan, Read, name_read, literal_read, operator_read, method_read, type_read, mode_read, table_read, columns_read, plan_read, list_read, reads_of, key_named, asks, says, nothing_read, flag_read, index_read, excluded_read}
+use Rattle.plan_json.specs.Leaves.{excluded_item, index_of, text_of, literal_written, operator_of, method_of, type_of, mode_of, table_at, columns_of, tables_of}
 use Rattle.plan_json.specs.Looking.{both, two_members}
 use Rattle.plan_json.specs.Tables.{Declared, declared}
 use Rattle.plan_json.specs.declared.forms.Leaf.{Leaf}
 use Rattle.plan_json.specs.declared.forms.Leaf.TheVariants as leaves
+use Rattle.plan_json.specs.declared.forms.SmallLeaf.{SmallLeaf}
+use Rattle.plan_json.specs.declared.forms.SmallLeaf.TheVariants as smalls
 use Rattle.plan_json.specs.declared.read.Query.{Query}
 
 -- a query: its tables, and its plan over them
@@ -31,21 +33,22 @@ nothing_of d = option_map (λ none. nothing_read) (as_null d)
 abbrev pub order_of_null : Data → Option Read
 order_of_null d = option_map (λ none. no_order) (as_null d)
 
+abbrev pub small_of : SmallLeaf → Data → Option Read
+small_of smalls.Operator d = option_map operator_read (operator_of d)
+small_of smalls.Method d = option_map method_read (method_of d)
+small_of smalls.Mode d = option_map mode_read (mode_of d)
+small_of smalls.Nothing d = nothing_of d
+small_of smalls.Flag d = option_map flag_read (as_bool d)
+small_of smalls.Index d = option_map index_read (index_of d)
+
 abbrev pub leaf_of : Declared → Leaf → Data → Option Read
 leaf_of tables leaves.Name d = option_map name_read (text_of d)
-leaf_of tables leaves.Value d = option_map literal_read (literal_of d)
-leaf_of tables leaves.Digits d = option_map literal_read (number_text_of d)
-leaf_of tables leaves.Typed d = option_map literal_read (typed_of d)
-leaf_of tables leaves.Operator d = option_map operator_read (operator_of d)
-leaf_of tables leaves.Method d = option_map method_read (method_of d)
+leaf_of tables (leaves.Literal how) d = option_map literal_read (literal_written how d)
 leaf_of tables leaves.Dtype d = option_map type_read (type_of d)
-leaf_of tables leaves.Mode d = option_map mode_read (mode_of d)
 leaf_of tables leaves.Table d = option_map (λ table. table_read table.0 table.1) (option_and_then (table_at tables) (text_of d))
 leaf_of tables leaves.Columns d = option_map columns_read (columns_of d)
-leaf_of tables leaves.Nothing d = nothing_of d
-leaf_of tables leaves.Flag d = option_map flag_read (as_bool d)
-leaf_of tables leaves.Index d = option_map index_read (index_of d)
 leaf_of tables leaves.Excluded d = option_map excluded_read (excluded_item d)
+leaf_of tables (leaves.Small which) d = small_of which d
 
 -- the first of these, and the others
 abbrev pub front : Option Read → Option (List Read) → Option (List Read)
@@ -83,7 +86,6 @@ abbrev mutual
 -- what is read of the item of a number, where there is one
 pub record IsItem (tables : Declared) (ps : List Asked) (ds : Items) (n : ℕ) (r : Read) : Type 0 where
   pub read : (p : Asked) (d : Data) → slice_get ps n ≡ Some p → get_item n ds ≡ Some d → read_as tables p d ≡ Some r
-  pub fit : (p : Asked) → slice_get ps n ≡ Some p → Fits p r
 
 -- what is read of a key's value
 abbrev pub places_as : Declared → Places → Data → Option (List Read)

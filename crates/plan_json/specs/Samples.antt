@@ -22,6 +22,7 @@ use Rattle.plan_json.specs.declared.forms.Kind.TheVariants as kinds
 use Rattle.plan_json.specs.declared.forms.Leaf.{Leaf}
 use Rattle.plan_json.specs.declared.forms.Key.TheVariants as keys
 use Rattle.plan_json.specs.declared.forms.ExpressionKey.TheVariants as of
+use Rattle.plan_json.specs.declared.forms.MarkerKey.TheVariants as marks
 use Rattle.plan_json.specs.declared.forms.PlanKey.TheVariants as by
 use Rattle.plan_json.specs.Tables.{Declared}
 use Rattle.plan_json.specs.declared.error.JsonError.{JsonError}
@@ -250,7 +251,7 @@ abbrev pub a_cast : Form
 a_cast = places_form [] (asks (keys.Expression of.Cast))
 
 abbrev pub an_exclude : Form
-an_exclude = places_form [] (asks (keys.Expression of.Exclude))
+an_exclude = places_form [] (asks (keys.Expression (of.Marker marks.Exclude)))
 
 abbrev pub a_filter : List Text → Form
 a_filter names = places_form names (asks (keys.Plan by.Filter))

@@ -1,14 +1,15 @@
 //! What is read of a key's value, item by item, and taking it apart again.
-ghost use Rattle.std.specs.Prelude.{◌≡◌, ◌∷◌, [], false, length, map, Some};
+ghost use Rattle.std.specs.Prelude.{◌≡◌, ◌∷◌, [], false, true, length, map, Some};
 ghost use Rattle.plan_dsl.specs.Expressions.{excluded_of, order_trees, selector_tree, selector_trees, tree_of, trees_of, way_of};
 ghost use Rattle.plan_dsl.specs.Literals.{literal_op};
 ghost use Rattle.plan_dsl.specs.Plans.{plan_tree};
 ghost use Rattle.plan_types.specs.Schemas.{columns};
 ghost use Rattle.plan_types.specs.Types.{ty};
 ghost use Rattle.plan_json.specs.Arguments.{arg_view, args_view, items_seen};
-ghost use Rattle.plan_json.specs.Forms.{AllFit, Asked, Fits, chosen_read, columns_read, expression, expression_read, leaf, leaves_read, literal_read, many, many_read, method_read, mode_read, name_read, operator_read, order, order_items, order_read, order_says, plan, plan_read, reads_of, selector, selector_read, table_read, type_read, nothing_read, flag_read, index_read, excluded_read};
+ghost use Rattle.plan_json.specs.Forms.{AllFit, Asked, Fits, chosen_read, columns_read, expression, expression_read, leaf, leaves_read, literal_read, many, many_read, method_read, mode_read, name_read, operator_read, order, order_items, order_read, order_says, plan, plan_read, reads_of, selector, selector_read, table_read, type_read, nothing_read, flag_read, index_read, excluded_read, is_literal};
 ghost use Rattle.plan_json.specs.Queries.{has_flags};
 ghost use Rattle.plan_json.specs.declared.forms.Leaf.TheVariants as leaves;
+ghost use Rattle.plan_json.specs.declared.forms.SmallLeaf.TheVariants as smalls;
 
 use plan_dsl::aggregate::GroupByMethod;
 use plan_dsl::expr::{Expr, Exprs};
@@ -187,38 +188,19 @@ pub(crate) fn name(arg: Arg) -> PlSmallStr
     }
 }
 
-pub(crate) fn value(arg: Arg) -> LiteralValue
-    requires { Fits (leaf leaves.Value) (arg_view arg) }
+// A literal, however it was written.
+pub(crate) fn literal(arg: Arg) -> LiteralValue
+    requires { is_literal (arg_view arg) ≡ true }
     ensures { arg_view arg ≡ literal_read (literal_op result) }
 {
     match arg {
-        Arg::Literal(value) => Box::into_inner(value),
-        _ => unreachable!(),
-    }
-}
-
-pub(crate) fn digits(arg: Arg) -> LiteralValue
-    requires { Fits (leaf leaves.Digits) (arg_view arg) }
-    ensures { arg_view arg ≡ literal_read (literal_op result) }
-{
-    match arg {
-        Arg::Literal(digits) => Box::into_inner(digits),
-        _ => unreachable!(),
-    }
-}
-
-pub(crate) fn typed(arg: Arg) -> LiteralValue
-    requires { Fits (leaf leaves.Typed) (arg_view arg) }
-    ensures { arg_view arg ≡ literal_read (literal_op result) }
-{
-    match arg {
-        Arg::Literal(typed) => Box::into_inner(typed),
+        Arg::Literal(literal) => Box::into_inner(literal),
         _ => unreachable!(),
     }
 }
 
 pub(crate) fn operator(arg: Arg) -> Operator
-    requires { Fits (leaf leaves.Operator) (arg_view arg) }
+    requires { Fits (leaf (leaves.Small smalls.Operator)) (arg_view arg) }
     ensures { arg_view arg ≡ operator_read result }
 {
     match arg {
@@ -228,7 +210,7 @@ pub(crate) fn operator(arg: Arg) -> Operator
 }
 
 pub(crate) fn method(arg: Arg) -> GroupByMethod
-    requires { Fits (leaf leaves.Method) (arg_view arg) }
+    requires { Fits (leaf (leaves.Small smalls.Method)) (arg_view arg) }
     ensures { arg_view arg ≡ method_read result }
 {
     match arg {
@@ -248,7 +230,7 @@ pub(crate) fn dtype(arg: Arg) -> DataType
 }
 
 pub(crate) fn mode(arg: Arg) -> CastOptions
-    requires { Fits (leaf leaves.Mode) (arg_view arg) }
+    requires { Fits (leaf (leaves.Small smalls.Mode)) (arg_view arg) }
     ensures { arg_view arg ≡ mode_read result }
 {
     match arg {
@@ -279,7 +261,7 @@ pub(crate) fn columns(arg: Arg) -> Schema
 
 // Nothing is taken out, but what was read is dropped.
 pub(crate) fn nothing(arg: Arg)
-    requires { Fits (leaf leaves.Nothing) (arg_view arg) }
+    requires { Fits (leaf (leaves.Small smalls.Nothing)) (arg_view arg) }
     ensures { arg_view arg ≡ nothing_read }
 {
     match arg {
@@ -289,7 +271,7 @@ pub(crate) fn nothing(arg: Arg)
 }
 
 pub(crate) fn flag(arg: Arg) -> bool
-    requires { Fits (leaf leaves.Flag) (arg_view arg) }
+    requires { Fits (leaf (leaves.Small smalls.Flag)) (arg_view arg) }
     ensures { arg_view arg ≡ flag_read result }
 {
     match arg {
@@ -299,7 +281,7 @@ pub(crate) fn flag(arg: Arg) -> bool
 }
 
 pub(crate) fn index(arg: Arg) -> i64
-    requires { Fits (leaf leaves.Index) (arg_view arg) }
+    requires { Fits (leaf (leaves.Small smalls.Index)) (arg_view arg) }
     ensures { arg_view arg ≡ index_read result }
 {
     match arg {
@@ -388,44 +370,11 @@ pub(crate) fn selectors(arg: Arg) -> Selectors
 
 // A list of truth values, in the box in which it was read.
 pub(crate) fn flags(arg: Arg) -> Flags
-    requires { Fits (many (leaf leaves.Flag)) (arg_view arg) }
-    ensures { arg_view arg ≡ leaves_read leaves.Flag (reads_of (map flag_read result.items.value.items)) }
+    requires { Fits (many (leaf (leaves.Small smalls.Flag))) (arg_view arg) }
+    ensures { arg_view arg ≡ leaves_read (leaves.Small smalls.Flag) (reads_of (map flag_read result.items.value.items)) }
 {
     match arg {
         Arg::Flags(items) => Flags { items },
-        _ => unreachable!(),
-    }
-}
-
-// A list of names.
-pub(crate) fn names(arg: Arg) -> Vec<PlSmallStr>
-    requires { Fits (many (leaf leaves.Name)) (arg_view arg) }
-    ensures { arg_view arg ≡ leaves_read leaves.Name (reads_of (map name_read result.items)) }
-{
-    match arg {
-        Arg::Names(names) => Box::into_inner(names),
-        _ => unreachable!(),
-    }
-}
-
-// A list of types.
-pub(crate) fn dtypes(arg: Arg) -> Vec<DataType>
-    requires { Fits (many (leaf leaves.Dtype)) (arg_view arg) }
-    ensures { arg_view arg ≡ leaves_read leaves.Dtype (reads_of (map (λ dtype. type_read (ty dtype)) result.items)) }
-{
-    match arg {
-        Arg::Dtypes(dtypes) => Box::into_inner(dtypes),
-        _ => unreachable!(),
-    }
-}
-
-// A list of whole numbers.
-pub(crate) fn indexes(arg: Arg) -> Vec<i64>
-    requires { Fits (many (leaf leaves.Index)) (arg_view arg) }
-    ensures { arg_view arg ≡ leaves_read leaves.Index (reads_of (map index_read result.items)) }
-{
-    match arg {
-        Arg::Indexes(indexes) => Box::into_inner(indexes),
         _ => unreachable!(),
     }
 }

@@ -33,7 +33,6 @@ pub(crate) fn read_text(alloc: Global, value: &Value) -> Result<PlSmallStr, Json
 
 // A type: a name, or an object of one key, which names its form.
 #[cycle(types)]
-#[tactic(auto, using(crate::proofs::Lemmas::less_deep))]
 pub(crate) fn read_type(alloc: Global, value: &Value) -> Result<DataType, JsonError>
     ensures ok { IfOk result (λ dtype. type_of (view value.now) ≡ Some (ty dtype)) }
     ensures err { IfErr result (IsErrorOf a_type (view value.now)) }
@@ -87,7 +86,6 @@ fn read_keyed(alloc: Global, key: TypeKey, value: &Value) -> Result<DataType, Js
 
 // The fields of a type of structs: a list of them, whose names may repeat.
 #[cycle(types)]
-#[tactic(auto, using(crate::proofs::Lemmas::less_deep))]
 fn read_fields(alloc: Global, value: &Value) -> Result<Fields, JsonError>
     ensures ok { IfOk result (λ fields. struct_of (view value.now) ≡ Some (fields_of fields)) }
     ensures err { IfErr result (IsErrorOf field_list (view value.now)) }

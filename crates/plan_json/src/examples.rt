@@ -19,6 +19,7 @@ ghost use Rattle.plan_json.specs.Leaves.{columns_of, table_limit, tables_of, typ
 ghost use Rattle.plan_json.specs.Forms.{Read, flag_read, leaf as one};
 ghost use Rattle.plan_json.specs.Queries.{IsItem, plan_of, query_of, QueryModel};
 ghost use Rattle.plan_json.specs.declared.forms.Leaf.TheVariants as leaves;
+ghost use Rattle.plan_json.specs.declared.forms.SmallLeaf.TheVariants as smalls;
 ghost use Rattle.plan_dsl.specs.Samples.{alias, all, count, explode, form, gather_one, keep_where, nth, slice, sort_as, sort_by, way, written_hstack};
 ghost use Rattle.plan_dsl.specs.Sources.{AddSuffix, written};
 ghost use Rattle.plan_json.specs.Samples.{ReadAs, items_of, expression_of, Gives, GivesAll, bin, binary, cast_to, cast_value, col, column, column_value, empty_value, filter, filter_value, int8, int64, keyed, keyed_twice, list, moments, query, query_value, scan, scan_value, select, select_value, spans, table_value, untyped, whole, word, below_zero, leaf, typed, Each, Refused, Writes, NoJson};
@@ -161,10 +162,10 @@ pub fn literal_examples()
 
 /// What is read of the item of a number: what its place says of it. Behind the last item nothing is asked.
 pub fn item_examples()
-    ensures first { IsItem [] (one leaves.Flag ∷ []) (items_of (boolean true ∷ [])) 0 (flag_read true) }
-    ensures second { IsItem [] (one leaves.Nothing ∷ one leaves.Flag ∷ []) (items_of (null ∷ boolean false ∷ [])) 1 (flag_read false) }
-    ensures behind_the_last { (r : Read) → IsItem [] (one leaves.Flag ∷ []) (items_of (boolean true ∷ [])) 1 r }
-    ensures other { ¬ (IsItem [] (one leaves.Flag ∷ []) (items_of (boolean true ∷ [])) 0 (flag_read false)) }
+    ensures first { IsItem [] (one (leaves.Small smalls.Flag) ∷ []) (items_of (boolean true ∷ [])) 0 (flag_read true) }
+    ensures second { IsItem [] (one (leaves.Small smalls.Nothing) ∷ one (leaves.Small smalls.Flag) ∷ []) (items_of (null ∷ boolean false ∷ [])) 1 (flag_read false) }
+    ensures behind_the_last { (r : Read) → IsItem [] (one (leaves.Small smalls.Flag) ∷ []) (items_of (boolean true ∷ [])) 1 r }
+    ensures other { ¬ (IsItem [] (one (leaves.Small smalls.Flag) ∷ []) (items_of (boolean true ∷ [])) 0 (flag_read false)) }
 {}
 
 /// Bytes that write a query, and bytes that write none.

@@ -1,16 +1,18 @@
-//! Expressions, from what was read of a key's value: one function for each key that has parts.
+//! Expressions, from what was read of a key's value: one function for each key of more than one item.
 ghost use Rattle.std.specs.Prelude.{◌≡◌, [], ◌∷◌, Some};
 ghost use Rattle.plan_dsl.specs.Expressions.{tree_of};
-ghost use Rattle.plan_json.specs.Arguments.{args_view};
-ghost use Rattle.plan_json.specs.Forms.{AllFit, asked_in, expression_asks, expression_says};
+ghost use Rattle.plan_json.specs.Arguments.{arg_view, args_view};
+ghost use Rattle.plan_json.specs.Forms.{AllFit, Fits, asked_in, expression_asks, expression_says, leaf, many, marker_asks, marker_says};
 ghost use Rattle.plan_json.specs.declared.forms.ExpressionKey.TheVariants as of;
+ghost use Rattle.plan_json.specs.declared.forms.Leaf.TheVariants as leaves;
+ghost use Rattle.plan_json.specs.declared.forms.MarkerKey.TheVariants as marks;
+ghost use Rattle.plan_json.specs.declared.forms.SmallLeaf.TheVariants as smalls;
 
 use super::arguments::{
-    Args, digits, dtype, dtypes, excluded, expression, expressions, flag, flags, four, index,
-    indexes, method, mode, name, names, nothing, one, operator, order, selector, three, two, typed,
-    value,
+    Arg, Args, dtype, excluded, expression, expressions, flag, flags, four, index, literal, method,
+    mode, name, nothing, one, operator, order, selector, three, two,
 };
-use super::forms::ExpressionKey;
+use super::forms::{ExpressionKey, MarkerKey, NamedKey};
 use plan_dsl::aggregate::AggExpr;
 use plan_dsl::expr::Expr;
 use plan_dsl::marker::RenameAliasFn;
@@ -23,10 +25,8 @@ pub(crate) fn assemble_expression(key: ExpressionKey, args: Args) -> Expr
     ensures { expression_says key (args_view args) ≡ Some (tree_of result) }
 {
     match key {
-        ExpressionKey::Col => col(args),
-        ExpressionKey::Lit => lit(args),
-        ExpressionKey::Int => int(args),
-        ExpressionKey::Typed => typed_number(args),
+        ExpressionKey::Col => Expr::Column(name(one(args))),
+        ExpressionKey::Literal(_) => Expr::Literal(literal(one(args))),
         ExpressionKey::Bin => bin(args),
         ExpressionKey::Cast => cast(args),
         ExpressionKey::Len => {
@@ -34,57 +34,17 @@ pub(crate) fn assemble_expression(key: ExpressionKey, args: Args) -> Expr
             Expr::Len
         }
         ExpressionKey::Slice => slice(args),
-        ExpressionKey::Explode => explode(args),
+        ExpressionKey::Explode => Expr::Explode(expression(one(args))),
         ExpressionKey::Gather => gather(args),
         ExpressionKey::Filter => filter(args),
         ExpressionKey::Sort => sort(args),
         ExpressionKey::SortBy => sort_by(args),
-        ExpressionKey::Alias => alias(args),
         ExpressionKey::Agg => agg(args),
         ExpressionKey::Over => over(args),
-        ExpressionKey::Cols => cols(args),
-        ExpressionKey::Dtypes => dtype_columns(args),
-        ExpressionKey::At => at(args),
-        ExpressionKey::Nth => nth(args),
-        ExpressionKey::All => {
-            nothing(one(args));
-            Expr::Wildcard
-        }
-        ExpressionKey::Exclude => exclude(args),
-        ExpressionKey::Selector => selecting(args),
-        ExpressionKey::KeepName => keep_name(args),
-        ExpressionKey::Prefix => prefix(args),
-        ExpressionKey::Suffix => suffix(args),
-        ExpressionKey::Fixed => fixed(args),
+        ExpressionKey::KeepName => Expr::KeepName(expression(one(args))),
+        ExpressionKey::Named(key) => named(key, args),
+        ExpressionKey::Marker(key) => marker(key, args),
     }
-}
-
-fn col(args: Args) -> Expr
-    requires { AllFit (asked_in (expression_asks of.Col)) (args_view args) }
-    ensures { expression_says of.Col (args_view args) ≡ Some (tree_of result) }
-{
-    Expr::Column(name(one(args)))
-}
-
-fn lit(args: Args) -> Expr
-    requires { AllFit (asked_in (expression_asks of.Lit)) (args_view args) }
-    ensures { expression_says of.Lit (args_view args) ≡ Some (tree_of result) }
-{
-    Expr::Literal(value(one(args)))
-}
-
-fn int(args: Args) -> Expr
-    requires { AllFit (asked_in (expression_asks of.Int)) (args_view args) }
-    ensures { expression_says of.Int (args_view args) ≡ Some (tree_of result) }
-{
-    Expr::Literal(digits(one(args)))
-}
-
-fn typed_number(args: Args) -> Expr
-    requires { AllFit (asked_in (expression_asks of.Typed)) (args_view args) }
-    ensures { expression_says of.Typed (args_view args) ≡ Some (tree_of result) }
-{
-    Expr::Literal(typed(one(args)))
 }
 
 fn bin(args: Args) -> Expr
@@ -121,13 +81,6 @@ fn slice(args: Args) -> Expr
         offset: expression(offset),
         length: expression(length),
     }
-}
-
-fn explode(args: Args) -> Expr
-    requires { AllFit (asked_in (expression_asks of.Explode)) (args_view args) }
-    ensures { expression_says of.Explode (args_view args) ≡ Some (tree_of result) }
-{
-    Expr::Explode(expression(one(args)))
 }
 
 fn gather(args: Args) -> Expr
@@ -203,97 +156,90 @@ fn over(args: Args) -> Expr
     }
 }
 
-fn alias(args: Args) -> Expr
-    requires { AllFit (asked_in (expression_asks of.Alias)) (args_view args) }
-    ensures { expression_says of.Alias (args_view args) ≡ Some (tree_of result) }
+// An expression and a name.
+fn named(key: NamedKey, args: Args) -> Expr
+    requires { AllFit (asked_in (expression_asks (of.Named key))) (args_view args) }
+    ensures { expression_says (of.Named key) (args_view args) ≡ Some (tree_of result) }
 {
-    let (operand, called) = two(args);
-    Expr::Alias(expression(operand), name(called))
+    let (operand, text) = two(args);
+    let (expr, text) = (expression(operand), name(text));
+    match key {
+        NamedKey::Alias => Expr::Alias(expr, text),
+        NamedKey::Prefix => Expr::RenameAlias {
+            function: RenameAliasFn::Prefix(text),
+            expr,
+        },
+        NamedKey::Suffix => Expr::RenameAlias {
+            function: RenameAliasFn::Suffix(text),
+            expr,
+        },
+        NamedKey::Fixed => Expr::RenameAlias {
+            function: RenameAliasFn::Fixed(text),
+            expr,
+        },
+    }
 }
 
+// The marker of that key.
+fn marker(key: MarkerKey, args: Args) -> Expr
+    requires { AllFit (asked_in (marker_asks key)) (args_view args) }
+    ensures { marker_says key (args_view args) ≡ Some (tree_of result) }
+{
+    match key {
+        MarkerKey::Cols => cols(one(args)),
+        MarkerKey::Dtypes => dtype_columns(one(args)),
+        MarkerKey::At => at(one(args)),
+        MarkerKey::Nth => Expr::Nth(index(one(args))),
+        MarkerKey::All => {
+            nothing(one(args));
+            Expr::Wildcard
+        }
+        MarkerKey::Exclude => exclude(args),
+        MarkerKey::Selector => Expr::Selector(Box::into_inner(selector(one(args)))),
+    }
+}
+
+// Columns by their names.
 #[tactic(auto, using(crate::proofs::FormLemmas::names_read))]
-fn cols(args: Args) -> Expr
-    requires { AllFit (asked_in (expression_asks of.Cols)) (args_view args) }
-    ensures { expression_says of.Cols (args_view args) ≡ Some (tree_of result) }
+fn cols(arg: Arg) -> Expr
+    requires { Fits (many (leaf leaves.Name)) (arg_view arg) }
+    ensures { marker_says marks.Cols (arg_view arg ∷ []) ≡ Some (tree_of result) }
 {
-    Expr::Columns(names(one(args)))
+    match arg {
+        Arg::Names(names) => Expr::Columns(Box::into_inner(names)),
+        _ => unreachable!(),
+    }
 }
 
+// Columns by their types.
 #[tactic(auto, using(crate::proofs::FormLemmas::types_read))]
-fn dtype_columns(args: Args) -> Expr
-    requires { AllFit (asked_in (expression_asks of.Dtypes)) (args_view args) }
-    ensures { expression_says of.Dtypes (args_view args) ≡ Some (tree_of result) }
+fn dtype_columns(arg: Arg) -> Expr
+    requires { Fits (many (leaf leaves.Dtype)) (arg_view arg) }
+    ensures { marker_says marks.Dtypes (arg_view arg ∷ []) ≡ Some (tree_of result) }
 {
-    Expr::DtypeColumn(dtypes(one(args)))
+    match arg {
+        Arg::Dtypes(dtypes) => Expr::DtypeColumn(Box::into_inner(dtypes)),
+        _ => unreachable!(),
+    }
 }
 
+// Columns by their places.
 #[tactic(auto, using(crate::proofs::FormLemmas::indexes_read))]
-fn at(args: Args) -> Expr
-    requires { AllFit (asked_in (expression_asks of.At)) (args_view args) }
-    ensures { expression_says of.At (args_view args) ≡ Some (tree_of result) }
+fn at(arg: Arg) -> Expr
+    requires { Fits (many (leaf (leaves.Small smalls.Index))) (arg_view arg) }
+    ensures { marker_says marks.At (arg_view arg ∷ []) ≡ Some (tree_of result) }
 {
-    Expr::IndexColumn(indexes(one(args)))
-}
-
-fn nth(args: Args) -> Expr
-    requires { AllFit (asked_in (expression_asks of.Nth)) (args_view args) }
-    ensures { expression_says of.Nth (args_view args) ≡ Some (tree_of result) }
-{
-    Expr::Nth(index(one(args)))
+    match arg {
+        Arg::Indexes(indexes) => Expr::IndexColumn(Box::into_inner(indexes)),
+        _ => unreachable!(),
+    }
 }
 
 #[tactic(auto, using(crate::proofs::FormLemmas::all_excluded_read))]
 fn exclude(args: Args) -> Expr
-    requires { AllFit (asked_in (expression_asks of.Exclude)) (args_view args) }
-    ensures { expression_says of.Exclude (args_view args) ≡ Some (tree_of result) }
+    requires { AllFit (asked_in (marker_asks marks.Exclude)) (args_view args) }
+    ensures { marker_says marks.Exclude (args_view args) ≡ Some (tree_of result) }
 {
     let (marker, left_out) = two(args);
     Expr::Exclude(expression(marker), excluded(left_out))
-}
-
-fn selecting(args: Args) -> Expr
-    requires { AllFit (asked_in (expression_asks of.Selector)) (args_view args) }
-    ensures { expression_says of.Selector (args_view args) ≡ Some (tree_of result) }
-{
-    Expr::Selector(Box::into_inner(selector(one(args))))
-}
-
-fn keep_name(args: Args) -> Expr
-    requires { AllFit (asked_in (expression_asks of.KeepName)) (args_view args) }
-    ensures { expression_says of.KeepName (args_view args) ≡ Some (tree_of result) }
-{
-    Expr::KeepName(expression(one(args)))
-}
-
-fn prefix(args: Args) -> Expr
-    requires { AllFit (asked_in (expression_asks of.Prefix)) (args_view args) }
-    ensures { expression_says of.Prefix (args_view args) ≡ Some (tree_of result) }
-{
-    let (operand, text) = two(args);
-    Expr::RenameAlias {
-        function: RenameAliasFn::Prefix(name(text)),
-        expr: expression(operand),
-    }
-}
-
-fn suffix(args: Args) -> Expr
-    requires { AllFit (asked_in (expression_asks of.Suffix)) (args_view args) }
-    ensures { expression_says of.Suffix (args_view args) ≡ Some (tree_of result) }
-{
-    let (operand, text) = two(args);
-    Expr::RenameAlias {
-        function: RenameAliasFn::Suffix(name(text)),
-        expr: expression(operand),
-    }
-}
-
-fn fixed(args: Args) -> Expr
-    requires { AllFit (asked_in (expression_asks of.Fixed)) (args_view args) }
-    ensures { expression_says of.Fixed (args_view args) ≡ Some (tree_of result) }
-{
-    let (operand, text) = two(args);
-    Expr::RenameAlias {
-        function: RenameAliasFn::Fixed(name(text)),
-        expr: expression(operand),
-    }
 }

@@ -2,7 +2,7 @@
 ghost use Rattle.std.specs.Prelude.{◌≡◌, ◌≤◌, IfSome, length, map};
 ghost use Rattle.std.specs.Option.{option_map};
 ghost use Rattle.plan_json.specs.Errors.{escaped};
-ghost use Rattle.plan_json.specs.Forms.{asked_in, asks, excluded_rows, expression_asks, expression_rows, key_named, kind_of, order_items, place_view, places_view, plan_asks, plan_rows, row_named, selector_asks, selector_rows, type_rows};
+ghost use Rattle.plan_json.specs.Forms.{asked_in, asks, excluded_rows, expression_asks, expression_rows, key_named, marker_asks, order_items, place_view, places_view, plan_asks, plan_rows, row_named, selector_asks, selector_rows, type_rows};
 
 // What an object of one key can be.
 #[derive(Clone, Copy)]
@@ -17,31 +17,43 @@ pub(crate) enum Kind {
 pub(crate) enum Leaf {
     // A text.
     Name,
-    // A literal that is written as it is.
-    Value,
-    // A text that writes a number.
-    Digits,
-    // A number with its type.
-    Typed,
-    Operator,
-    // What an aggregate makes of its input.
-    Method,
+    Literal(Writing),
     // A type.
     Dtype,
-    // What a cast does with a value that has no place in its target.
-    Mode,
     // The name of a declared table.
     Table,
     // A list of columns.
     Columns,
+    // What an exclude leaves out.
+    Excluded,
+    Small(SmallLeaf),
+}
+
+// How a literal is written.
+#[derive(Clone, Copy)]
+pub(crate) enum Writing {
+    // As it is.
+    AsIs,
+    // A text that writes a number.
+    Digits,
+    // A number with its type.
+    Typed,
+}
+
+// What has no forms and needs no box.
+#[derive(Clone, Copy)]
+pub(crate) enum SmallLeaf {
+    Operator,
+    // What an aggregate makes of its input.
+    Method,
+    // What a cast does with a value that has no place in its target.
+    Mode,
     // Null, where a key has nothing to say.
     Nothing,
     // True or false.
     Flag,
     // A whole number of 64 bits with a sign.
     Index,
-    // What an exclude leaves out.
-    Excluded,
 }
 
 // What has no forms and stands in lists.
@@ -79,9 +91,7 @@ pub(crate) enum Places {
 #[derive(Clone, Copy)]
 pub(crate) enum ExpressionKey {
     Col,
-    Lit,
-    Int,
-    Typed,
+    Literal(Writing),
     Bin,
     Cast,
     Len,
@@ -91,9 +101,24 @@ pub(crate) enum ExpressionKey {
     Filter,
     Sort,
     SortBy,
-    Alias,
     Agg,
     Over,
+    KeepName,
+    Named(NamedKey),
+    Marker(MarkerKey),
+}
+
+// The keys of an expression and a name.
+#[derive(Clone, Copy)]
+pub(crate) enum NamedKey {
+    Alias,
+    Prefix,
+    Suffix,
+    Fixed,
+}
+
+#[derive(Clone, Copy)]
+pub(crate) enum MarkerKey {
     Cols,
     Dtypes,
     At,
@@ -101,15 +126,17 @@ pub(crate) enum ExpressionKey {
     All,
     Exclude,
     Selector,
-    KeepName,
-    Prefix,
-    Suffix,
-    Fixed,
 }
 
 #[derive(Clone, Copy)]
 pub(crate) enum SelectorKey {
     Root,
+    Joined(Joining),
+}
+
+// The keys of two selectors.
+#[derive(Clone, Copy)]
+pub(crate) enum Joining {
     Add,
     Sub,
     And,
@@ -174,37 +201,31 @@ const PLAN: Place = Place::Form(Kind::Plan);
 
 const NAME: Place = Place::Leaf(Leaf::Name);
 
-const VALUE: Place = Place::Leaf(Leaf::Value);
+const OPERATOR: Place = Place::Leaf(Leaf::Small(SmallLeaf::Operator));
 
-const DIGITS: Place = Place::Leaf(Leaf::Digits);
-
-const TYPED: Place = Place::Leaf(Leaf::Typed);
-
-const OPERATOR: Place = Place::Leaf(Leaf::Operator);
-
-const METHOD: Place = Place::Leaf(Leaf::Method);
+const METHOD: Place = Place::Leaf(Leaf::Small(SmallLeaf::Method));
 
 const DTYPE: Place = Place::Leaf(Leaf::Dtype);
 
-const MODE: Place = Place::Leaf(Leaf::Mode);
+const MODE: Place = Place::Leaf(Leaf::Small(SmallLeaf::Mode));
 
 const TABLE: Place = Place::Leaf(Leaf::Table);
 
 const COLUMNS: Place = Place::Leaf(Leaf::Columns);
 
-const NOTHING: Place = Place::Leaf(Leaf::Nothing);
+const NOTHING: Place = Place::Leaf(Leaf::Small(SmallLeaf::Nothing));
 
-const FLAG: Place = Place::Leaf(Leaf::Flag);
+const FLAG: Place = Place::Leaf(Leaf::Small(SmallLeaf::Flag));
 
-const INDEX: Place = Place::Leaf(Leaf::Index);
+const INDEX: Place = Place::Leaf(Leaf::Small(SmallLeaf::Index));
 
 // A word is looked for from the first row on, so common ones stand in front.
 const EXPRESSION_ROWS: [(&'static str, ExpressionKey); 27] = [
     ("col", ExpressionKey::Col),
     ("bin", ExpressionKey::Bin),
-    ("lit", ExpressionKey::Lit),
-    ("int", ExpressionKey::Int),
-    ("typed", ExpressionKey::Typed),
+    ("lit", ExpressionKey::Literal(Writing::AsIs)),
+    ("int", ExpressionKey::Literal(Writing::Digits)),
+    ("typed", ExpressionKey::Literal(Writing::Typed)),
     ("cast", ExpressionKey::Cast),
     ("len", ExpressionKey::Len),
     ("slice", ExpressionKey::Slice),
@@ -213,28 +234,28 @@ const EXPRESSION_ROWS: [(&'static str, ExpressionKey); 27] = [
     ("filter", ExpressionKey::Filter),
     ("sort", ExpressionKey::Sort),
     ("sort_by", ExpressionKey::SortBy),
-    ("alias", ExpressionKey::Alias),
+    ("alias", ExpressionKey::Named(NamedKey::Alias)),
     ("agg", ExpressionKey::Agg),
     ("over", ExpressionKey::Over),
-    ("cols", ExpressionKey::Cols),
-    ("dtypes", ExpressionKey::Dtypes),
-    ("at", ExpressionKey::At),
-    ("nth", ExpressionKey::Nth),
-    ("all", ExpressionKey::All),
-    ("exclude", ExpressionKey::Exclude),
-    ("selector", ExpressionKey::Selector),
+    ("cols", ExpressionKey::Marker(MarkerKey::Cols)),
+    ("dtypes", ExpressionKey::Marker(MarkerKey::Dtypes)),
+    ("at", ExpressionKey::Marker(MarkerKey::At)),
+    ("nth", ExpressionKey::Marker(MarkerKey::Nth)),
+    ("all", ExpressionKey::Marker(MarkerKey::All)),
+    ("exclude", ExpressionKey::Marker(MarkerKey::Exclude)),
+    ("selector", ExpressionKey::Marker(MarkerKey::Selector)),
     ("keep_name", ExpressionKey::KeepName),
-    ("prefix", ExpressionKey::Prefix),
-    ("suffix", ExpressionKey::Suffix),
-    ("fixed", ExpressionKey::Fixed),
+    ("prefix", ExpressionKey::Named(NamedKey::Prefix)),
+    ("suffix", ExpressionKey::Named(NamedKey::Suffix)),
+    ("fixed", ExpressionKey::Named(NamedKey::Fixed)),
 ];
 
 const SELECTOR_ROWS: [(&'static str, SelectorKey); 5] = [
     ("root", SelectorKey::Root),
-    ("add", SelectorKey::Add),
-    ("sub", SelectorKey::Sub),
-    ("and", SelectorKey::And),
-    ("xor", SelectorKey::Xor),
+    ("add", SelectorKey::Joined(Joining::Add)),
+    ("sub", SelectorKey::Joined(Joining::Sub)),
+    ("and", SelectorKey::Joined(Joining::And)),
+    ("xor", SelectorKey::Joined(Joining::Xor)),
 ];
 
 const PLAN_ROWS: [(&'static str, PlanKey); 7] = [
@@ -259,41 +280,6 @@ const EXCLUDED_ROWS: [(&'static str, ExcludedKey); 2] = [
     ("dtype", ExcludedKey::Dtype),
 ];
 
-// The keys of expressions.
-fn expression_table() -> &'static [(&'static str, ExpressionKey)]
-    ensures { map (λ row. (row.0.now, row.1)) result.now ≡ expression_rows }
-{
-    &EXPRESSION_ROWS
-}
-
-// The keys of selectors.
-fn selector_table() -> &'static [(&'static str, SelectorKey)]
-    ensures { map (λ row. (row.0.now, row.1)) result.now ≡ selector_rows }
-{
-    &SELECTOR_ROWS
-}
-
-// The keys of plans.
-fn plan_table() -> &'static [(&'static str, PlanKey)]
-    ensures { map (λ row. (row.0.now, row.1)) result.now ≡ plan_rows }
-{
-    &PLAN_ROWS
-}
-
-// The keys of types.
-fn type_table() -> &'static [(&'static str, TypeKey)]
-    ensures { map (λ row. (row.0.now, row.1)) result.now ≡ type_rows }
-{
-    &TYPE_ROWS
-}
-
-// The keys of what an exclude leaves out.
-fn excluded_table() -> &'static [(&'static str, ExcludedKey)]
-    ensures { map (λ row. (row.0.now, row.1)) result.now ≡ excluded_rows }
-{
-    &EXCLUDED_ROWS
-}
-
 // The first row of that word.
 fn find<K: Copy>(rows: &[(&'static str, K)], word: &str) -> Option<(&'static str, K)>
     ensures row { option_map (λ row. (row.0.now, row.1)) result ≡ row_named (map (λ row. (row.0.now, row.1)) rows.now) word.now }
@@ -310,21 +296,20 @@ fn find<K: Copy>(rows: &[(&'static str, K)], word: &str) -> Option<(&'static str
 // The key of that kind and word.
 pub(crate) fn find_key(kind: Kind, word: &str) -> Option<(&'static str, Key)>
     ensures row { option_map (λ row. (row.0.now, row.1)) result ≡ key_named kind word.now }
-    ensures kind { IfSome result (λ row. kind_of row.1 ≡ kind) }
     ensures word { IfSome result (λ row. row.0.now ≡ word.now) }
     // It needs no escape in a pointer.
     ensures plain { IfSome result (λ row. escaped row.0.now ≡ row.0.now) }
 {
     match kind {
-        Kind::Expression => match find(expression_table(), word) {
+        Kind::Expression => match find(&EXPRESSION_ROWS, word) {
             None => None,
             Some((word, key)) => Some((word, Key::Expression(key))),
         },
-        Kind::Plan => match find(plan_table(), word) {
+        Kind::Plan => match find(&PLAN_ROWS, word) {
             None => None,
             Some((word, key)) => Some((word, Key::Plan(key))),
         },
-        Kind::Selector => match find(selector_table(), word) {
+        Kind::Selector => match find(&SELECTOR_ROWS, word) {
             None => None,
             Some((word, key)) => Some((word, Key::Selector(key))),
         },
@@ -337,7 +322,7 @@ pub(crate) fn find_type(word: &str) -> Option<(&'static str, TypeKey)>
     ensures word { IfSome result (λ row. row.0.now ≡ word.now) }
     ensures plain { IfSome result (λ row. escaped row.0.now ≡ row.0.now) }
 {
-    match find(type_table(), word) {
+    match find(&TYPE_ROWS, word) {
         None => None,
         Some((word, key)) => Some((word, key)),
     }
@@ -349,7 +334,7 @@ pub(crate) fn find_excluded(word: &str) -> Option<(&'static str, ExcludedKey)>
     ensures word { IfSome result (λ row. row.0.now ≡ word.now) }
     ensures plain { IfSome result (λ row. escaped row.0.now ≡ row.0.now) }
 {
-    match find(excluded_table(), word) {
+    match find(&EXCLUDED_ROWS, word) {
         None => None,
         Some((word, key)) => Some((word, key)),
     }
@@ -381,9 +366,7 @@ fn expression_places(key: ExpressionKey) -> Places
 {
     match key {
         ExpressionKey::Col => Places::One(NAME),
-        ExpressionKey::Lit => Places::One(VALUE),
-        ExpressionKey::Int => Places::One(DIGITS),
-        ExpressionKey::Typed => Places::One(TYPED),
+        ExpressionKey::Literal(how) => Places::One(Place::Leaf(Leaf::Literal(how))),
         ExpressionKey::Bin => Places::Listed(&[OPERATOR, EXPRESSION, EXPRESSION]),
         ExpressionKey::Agg => Places::Listed(&[METHOD, EXPRESSION]),
         ExpressionKey::Over => Places::Listed(&[EXPRESSION, EXPRESSIONS, ORDER]),
@@ -395,18 +378,24 @@ fn expression_places(key: ExpressionKey) -> Places
         ExpressionKey::Filter => Places::Listed(&[EXPRESSION, EXPRESSION]),
         ExpressionKey::Sort => Places::Listed(&[EXPRESSION, FLAG, FLAG]),
         ExpressionKey::SortBy => Places::Listed(&[EXPRESSION, EXPRESSIONS, FLAGS, FLAGS]),
-        ExpressionKey::Alias => Places::Listed(&[EXPRESSION, NAME]),
-        ExpressionKey::Cols => Places::One(NAMES),
-        ExpressionKey::Dtypes => Places::One(DTYPES),
-        ExpressionKey::At => Places::One(INDEXES),
-        ExpressionKey::Nth => Places::One(INDEX),
-        ExpressionKey::All => Places::One(NOTHING),
-        ExpressionKey::Exclude => Places::Listed(&[EXPRESSION, EXCLUDED]),
-        ExpressionKey::Selector => Places::One(SELECTOR),
         ExpressionKey::KeepName => Places::One(EXPRESSION),
-        ExpressionKey::Prefix => Places::Listed(&[EXPRESSION, NAME]),
-        ExpressionKey::Suffix => Places::Listed(&[EXPRESSION, NAME]),
-        ExpressionKey::Fixed => Places::Listed(&[EXPRESSION, NAME]),
+        ExpressionKey::Named(_) => Places::Listed(&[EXPRESSION, NAME]),
+        ExpressionKey::Marker(key) => marker_places(key),
+    }
+}
+
+fn marker_places(key: MarkerKey) -> Places
+    ensures asks { places_view result ≡ marker_asks key }
+    ensures short { length (asked_in (places_view result)) ≤ 4 }
+{
+    match key {
+        MarkerKey::Cols => Places::One(NAMES),
+        MarkerKey::Dtypes => Places::One(DTYPES),
+        MarkerKey::At => Places::One(INDEXES),
+        MarkerKey::Nth => Places::One(INDEX),
+        MarkerKey::All => Places::One(NOTHING),
+        MarkerKey::Exclude => Places::Listed(&[EXPRESSION, EXCLUDED]),
+        MarkerKey::Selector => Places::One(SELECTOR),
     }
 }
 
@@ -431,8 +420,6 @@ fn selector_places(key: SelectorKey) -> Places
 {
     match key {
         SelectorKey::Root => Places::One(EXPRESSION),
-        SelectorKey::Add | SelectorKey::Sub | SelectorKey::And | SelectorKey::Xor => {
-            Places::Listed(&[SELECTOR, SELECTOR])
-        }
+        SelectorKey::Joined(_) => Places::Listed(&[SELECTOR, SELECTOR]),
     }
 }

@@ -13,6 +13,7 @@ ghost use Rattle.plan_json.specs.Queries.{leaf_of, read_as};
 ghost use Rattle.plan_json.specs.Tables.{Declared};
 ghost use Rattle.plan_json.specs.declared.forms.Leaf.{Leaf};
 ghost use Rattle.plan_json.specs.declared.forms.Leaf.TheVariants as leaves;
+ghost use Rattle.plan_json.specs.declared.forms.SmallLeaf.TheVariants as smalls;
 
 use super::dtype::{read_text, read_type};
 use super::error::{JsonError, Step};
@@ -57,7 +58,7 @@ impl ListItem for DataType {
 }
 
 impl ListItem for bool {
-    ghost which = { leaves.Flag };
+    ghost which = { leaves.Small smalls.Flag };
 
     ghost seen = { λ flag. flag_read flag };
 
@@ -67,7 +68,7 @@ impl ListItem for bool {
 }
 
 impl ListItem for i64 {
-    ghost which = { leaves.Index };
+    ghost which = { leaves.Small smalls.Index };
 
     ghost seen = { λ index. index_read index };
 
@@ -89,9 +90,9 @@ impl ListItem for Excluded {
 // A list of any number of these.
 #[inline(never)]
 #[tactic(auto, using(crate::proofs::Lemmas::growing))]
-pub(crate) fn read_list<T: ListItem>(alloc: Global, value: &Value) -> Result<Vec<T>, JsonError>
+pub(crate) fn read_list<T: ListItem>(alloc: Global, value: &Value) -> Result<Box<Vec<T>>, JsonError>
     ensures ok { (tables : Declared) → IfOk result (λ list. read_as tables (many (leaf T.which)) (view value.now)
-        ≡ Some (leaves_read T.which (reads_of (map T.seen list.items)))) }
+        ≡ Some (leaves_read T.which (reads_of (map T.seen list.value.items)))) }
     ensures err { IfErr result (IsListErrorOf T.which (view value.now)) }
 {
     match items(value) {
@@ -104,7 +105,8 @@ pub(crate) fn read_list<T: ListItem>(alloc: Global, value: &Value) -> Result<Vec
                     Err(error) => return Err(error.below(alloc, Step::Item(number))),
                 }
             }
-            Ok(list)
+            let boxed = Box::new(alloc, list)?;
+            Ok(boxed)
         }
     }
 }

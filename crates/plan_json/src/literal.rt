@@ -4,11 +4,12 @@ ghost use Rattle.serde_json.specs.View.{view};
 ghost use Rattle.plan_dsl.specs.Literals.{literal_op};
 ghost use Rattle.plan_types.specs.Types.{ty};
 ghost use Rattle.plan_json.specs.Errors.{IsErrorOf};
-ghost use Rattle.plan_json.specs.Faults.{a_counted_type, a_literal, a_number_of, a_number_text, a_typed_literal};
-ghost use Rattle.plan_json.specs.Leaves.{counted_of, literal_of, number_of, number_text_of, number_written, typed_of};
+ghost use Rattle.plan_json.specs.Faults.{a_counted_type, a_literal, a_number_of, a_number_text, a_typed_literal, literal_form};
+ghost use Rattle.plan_json.specs.Leaves.{counted_of, literal_of, literal_written, number_of, number_text_of, number_written, typed_of};
 
 use super::dtype::read_type;
 use super::error::{JsonError, Step};
+use super::forms::Writing;
 use super::value::{two_items, whole_number};
 use plan_dsl::literal::LiteralValue;
 use plan_types::dtype::DataType;
@@ -16,9 +17,25 @@ use plan_types::text::PlSmallStr;
 use serde_json::Value;
 use std::alloc::Global;
 
+// A literal that is written so.
+pub(crate) fn read_written(
+    alloc: Global,
+    how: Writing,
+    value: &Value,
+) -> Result<LiteralValue, JsonError>
+    ensures ok { IfOk result (λ literal. literal_written how (view value.now) ≡ Some (literal_op literal)) }
+    ensures err { IfErr result (IsErrorOf (literal_form how) (view value.now)) }
+{
+    match how {
+        Writing::AsIs => read_literal(alloc, value),
+        Writing::Digits => read_number_text(alloc, value),
+        Writing::Typed => read_typed(alloc, value),
+    }
+}
+
 // A literal that is written as it is: null, a truth value, a text, or a whole number, which has no type.
 #[inline(never)]
-pub(crate) fn read_literal(alloc: Global, value: &Value) -> Result<LiteralValue, JsonError>
+fn read_literal(alloc: Global, value: &Value) -> Result<LiteralValue, JsonError>
     ensures ok { IfOk result (λ literal. literal_of (view value.now) ≡ Some (literal_op literal)) }
     ensures err { IfErr result (IsErrorOf a_literal (view value.now)) }
 {
@@ -39,7 +56,7 @@ pub(crate) fn read_literal(alloc: Global, value: &Value) -> Result<LiteralValue,
 
 // A text that writes a whole number, which has no type.
 #[inline(never)]
-pub(crate) fn read_number_text(alloc: Global, value: &Value) -> Result<LiteralValue, JsonError>
+fn read_number_text(alloc: Global, value: &Value) -> Result<LiteralValue, JsonError>
     ensures ok { IfOk result (λ literal. number_text_of (view value.now) ≡ Some (literal_op literal)) }
     ensures err { IfErr result (IsErrorOf a_number_text (view value.now)) }
 {
@@ -76,7 +93,7 @@ fn starts_with_plus(bytes: &[u8]) -> bool
 
 // A number of a type: `[type, number]`.
 #[inline(never)]
-pub(crate) fn read_typed(alloc: Global, value: &Value) -> Result<LiteralValue, JsonError>
+fn read_typed(alloc: Global, value: &Value) -> Result<LiteralValue, JsonError>
     ensures ok { IfOk result (λ literal. typed_of (view value.now) ≡ Some (literal_op literal)) }
     ensures err { IfErr result (IsErrorOf a_typed_literal (view value.now)) }
 {

@@ -6,10 +6,10 @@ ghost use Rattle.plan_dsl.specs.Expressions.{selector_trees, trees_of};
 ghost use Rattle.plan_types.specs.Schemas.{columns, names_of};
 ghost use Rattle.plan_json.specs.Arguments.{arg_view, args_view, items_seen};
 ghost use Rattle.plan_json.specs.Errors.{IsErrorOf, IsListErrorOf};
-ghost use Rattle.plan_json.specs.Faults.{asked_form, a_scan, items_of, keyed_form, leaf_form, order_form, places_form, nothing_form};
-ghost use Rattle.plan_json.specs.Forms.{AllFit, Fits, a_form, asked_in, asks, expression, expression_read, kind_of, leaf, listed_leaf, chosen_read, many, many_read, order, place_view, places_view, reads_of, says, selector, selector_read, nothing_read};
+ghost use Rattle.plan_json.specs.Faults.{asked_form, a_scan, items_of, keyed_form, leaf_form, order_form, places_form, nothing_form, small_form};
+ghost use Rattle.plan_json.specs.Forms.{AllFit, a_form, asked_in, asks, expression, expression_read, leaf, listed_leaf, chosen_read, many, many_read, order, place_view, places_view, reads_of, says, selector, selector_read, nothing_read};
 ghost use Rattle.plan_json.specs.Leaves.{table_at, text_of};
-ghost use Rattle.plan_json.specs.Queries.{IsItem, leaf_of, list_as, places_as, read_as, these_as, nothing_of};
+ghost use Rattle.plan_json.specs.Queries.{IsItem, leaf_of, list_as, places_as, read_as, these_as, nothing_of, small_of};
 ghost use Rattle.plan_json.specs.Tables.{Declared, declared};
 
 use super::arguments::{Arg, Args, Items, discard, expression, listed_order, selector};
@@ -19,10 +19,11 @@ use super::error::{JsonError, Step};
 use super::excluded::read_excluded;
 use super::expression::assemble_expression;
 use super::forms::{
-    ExpressionKey, Key, Kind, Leaf, ListLeaf, Place, Places, find_key, order_places, places_of,
+    ExpressionKey, Key, Kind, Leaf, ListLeaf, Place, Places, SmallLeaf, find_key, order_places,
+    places_of,
 };
 use super::lists::{read_flag, read_index, read_list};
-use super::literal::{read_literal, read_number_text, read_typed};
+use super::literal::read_written;
 use super::method::read_method;
 use super::operator::{read_mode, read_operator};
 use super::plan::assemble_plan;
@@ -46,7 +47,6 @@ pub(crate) fn read_form(
 ) -> Result<Arg, JsonError>
     ensures ok { IfOk result (λ arg. read_as (declared tables.now) (a_form kind) (view value.now)
         ≡ Some (arg_view arg)) }
-    ensures fit { IfOk result (λ arg. Fits (a_form kind) (arg_view arg)) }
     ensures err { IfErr result (IsErrorOf (keyed_form (names_of (declared tables.now)) kind) (view value.now)) }
 {
     match only_member(value) {
@@ -66,7 +66,6 @@ pub(crate) fn read_form(
 fn read_keyed(alloc: Global, tables: &Tables, key: Key, value: &Value) -> Result<Arg, JsonError>
     ensures ok { IfOk result (λ arg. option_and_then (says key) (places_as (declared tables.now) (asks key) (view value.now))
         ≡ Some (arg_view arg)) }
-    ensures fit { IfOk result (λ arg. Fits (a_form (kind_of key)) (arg_view arg)) }
     ensures err { IfErr result (IsErrorOf (places_form (names_of (declared tables.now)) (asks key)) (view value.now)) }
 {
     match key {
@@ -101,7 +100,6 @@ fn read_places(
     requires { length (asked_in (places_view places)) ≤ 4 }
     ensures ok { IfOk result (λ args. places_as (declared tables.now) (places_view places) (view value.now)
         ≡ Some (args_view args)) }
-    ensures fit { IfOk result (λ args. AllFit (asked_in (places_view places)) (args_view args)) }
     ensures err { IfErr result (IsErrorOf (places_form (names_of (declared tables.now)) (places_view places))
         (view value.now)) }
 {
@@ -129,7 +127,6 @@ fn read_listed(
     requires { length places.now ≤ 4 }
     ensures ok { IfOk result (λ items. list_as (declared tables.now) (map place_view places.now) (view value.now)
         ≡ Some (items_seen items)) }
-    ensures fit { IfOk result (λ items. AllFit (map place_view places.now) (items_seen items)) }
     ensures err { IfErr result (IsErrorOf (items_of (names_of (declared tables.now)) (map place_view places.now))
         (view value.now)) }
 {
@@ -160,7 +157,6 @@ fn read_items(
     requires short { length places.now ≤ 4 }
     ensures ok { IfOk result (λ items. these_as (declared tables.now) (map place_view places.now) (items_view values.now)
         ≡ Some (items_seen items)) }
-    ensures fit { IfOk result (λ items. AllFit (map place_view places.now) (items_seen items)) }
     ensures err { IfErr result (IsErrorOf (items_of (names_of (declared tables.now)) (map place_view places.now))
         (array (items_view values.now))) }
 {
@@ -226,7 +222,7 @@ fn read_item(
     }
 }
 
-// What was read, as the argument of its kind, and the same in a box, where it is wide.
+// What was read, as the argument of its kind.
 macro_rules! plain {
     ($read:expr, $kind:path) => {
         match $read {
@@ -236,6 +232,7 @@ macro_rules! plain {
     };
 }
 
+// The same in a box, since it is wide.
 macro_rules! boxed {
     ($alloc:ident, $read:expr, $kind:path) => {
         match $read {
@@ -250,11 +247,9 @@ macro_rules! boxed {
 
 // What is at one place.
 #[cycle(forms)]
-#[tactic(auto, using(crate::proofs::FormLemmas::many_fit))]
 fn read_place(alloc: Global, tables: &Tables, place: Place, value: &Value) -> Result<Arg, JsonError>
     ensures ok { IfOk result (λ arg. read_as (declared tables.now) (place_view place) (view value.now)
         ≡ Some (arg_view arg)) }
-    ensures fit { IfOk result (λ arg. Fits (place_view place) (arg_view arg)) }
     ensures err { IfErr result (IsErrorOf (asked_form (names_of (declared tables.now)) (place_view place))
         (view value.now)) }
 {
@@ -287,19 +282,17 @@ fn read_place(alloc: Global, tables: &Tables, place: Place, value: &Value) -> Re
 }
 
 // A list of any number of what has no forms.
-#[tactic(auto, using(crate::proofs::FormLemmas::many_fit))]
 fn read_leaves(alloc: Global, which: ListLeaf, value: &Value) -> Result<Arg, JsonError>
     ensures ok { (tables : Declared) → IfOk result (λ arg. read_as tables (many (leaf (listed_leaf which))) (view value.now)
         ≡ Some (arg_view arg)) }
-    ensures fit { IfOk result (λ arg. Fits (many (leaf (listed_leaf which))) (arg_view arg)) }
     ensures err { IfErr result (IsListErrorOf (listed_leaf which) (view value.now)) }
 {
     match which {
-        ListLeaf::Name => boxed!(alloc, read_list(alloc, value), Arg::Names),
-        ListLeaf::Dtype => boxed!(alloc, read_list(alloc, value), Arg::Dtypes),
-        ListLeaf::Flag => boxed!(alloc, read_list(alloc, value), Arg::Flags),
-        ListLeaf::Index => boxed!(alloc, read_list(alloc, value), Arg::Indexes),
-        ListLeaf::Excluded => boxed!(alloc, read_list(alloc, value), Arg::AllExcluded),
+        ListLeaf::Name => plain!(read_list(alloc, value), Arg::Names),
+        ListLeaf::Dtype => plain!(read_list(alloc, value), Arg::Dtypes),
+        ListLeaf::Flag => plain!(read_list(alloc, value), Arg::Flags),
+        ListLeaf::Index => plain!(read_list(alloc, value), Arg::Indexes),
+        ListLeaf::Excluded => plain!(read_list(alloc, value), Arg::AllExcluded),
     }
 }
 
@@ -309,7 +302,6 @@ fn read_leaves(alloc: Global, which: ListLeaf, value: &Value) -> Result<Arg, Jso
 #[tactic(auto, using(crate::proofs::FormLemmas::order_listed, crate::proofs::FormLemmas::order_error))]
 fn read_order(alloc: Global, tables: &Tables, value: &Value) -> Result<Arg, JsonError>
     ensures ok { IfOk result (λ arg. read_as (declared tables.now) order (view value.now) ≡ Some (arg_view arg)) }
-    ensures fit { IfOk result (λ arg. Fits order (arg_view arg)) }
     ensures err { IfErr result (IsErrorOf (order_form (names_of (declared tables.now))) (view value.now)) }
 {
     match value.as_null() {
@@ -372,30 +364,40 @@ fn read_selectors(alloc: Global, tables: &Tables, value: &Value) -> Result<Selec
 // What has no forms.
 fn read_leaf(alloc: Global, tables: &Tables, which: Leaf, value: &Value) -> Result<Arg, JsonError>
     ensures ok { IfOk result (λ arg. leaf_of (declared tables.now) which (view value.now) ≡ Some (arg_view arg)) }
-    ensures fit { IfOk result (λ arg. Fits (leaf which) (arg_view arg)) }
     ensures err { IfErr result (IsErrorOf (leaf_form (names_of (declared tables.now)) which) (view value.now)) }
 {
     match which {
         Leaf::Name => boxed!(alloc, read_text(alloc, value), Arg::Name),
-        Leaf::Value => boxed!(alloc, read_literal(alloc, value), Arg::Literal),
-        Leaf::Digits => boxed!(alloc, read_number_text(alloc, value), Arg::Literal),
-        Leaf::Typed => boxed!(alloc, read_typed(alloc, value), Arg::Literal),
-        Leaf::Operator => plain!(read_operator(alloc, value), Arg::Operator),
-        Leaf::Method => plain!(read_method(alloc, value), Arg::Method),
+        Leaf::Literal(how) => boxed!(alloc, read_written(alloc, how, value), Arg::Literal),
         Leaf::Dtype => boxed!(alloc, read_type(alloc, value), Arg::Dtype),
-        Leaf::Mode => plain!(read_mode(alloc, value), Arg::Mode),
         Leaf::Table => match read_table_name(alloc, tables, value) {
             Ok((number, schema)) => Ok(Arg::Table(number, schema)),
             Err(error) => Err(error),
         },
         Leaf::Columns => boxed!(alloc, read_columns(alloc, value), Arg::Columns),
-        Leaf::Nothing => match read_nothing(alloc, value) {
+        Leaf::Excluded => boxed!(alloc, read_excluded(alloc, value), Arg::Excluded),
+        Leaf::Small(which) => match read_small(alloc, which, value) {
+            Ok(arg) => Ok(arg),
+            Err(error) => Err(error),
+        },
+    }
+}
+
+// What has no forms and needs no box.
+fn read_small(alloc: Global, which: SmallLeaf, value: &Value) -> Result<Arg, JsonError>
+    ensures ok { IfOk result (λ arg. small_of which (view value.now) ≡ Some (arg_view arg)) }
+    ensures err { IfErr result (IsErrorOf (small_form which) (view value.now)) }
+{
+    match which {
+        SmallLeaf::Operator => plain!(read_operator(alloc, value), Arg::Operator),
+        SmallLeaf::Method => plain!(read_method(alloc, value), Arg::Method),
+        SmallLeaf::Mode => plain!(read_mode(alloc, value), Arg::Mode),
+        SmallLeaf::Nothing => match read_nothing(alloc, value) {
             Ok(()) => Ok(Arg::Nothing),
             Err(error) => Err(error),
         },
-        Leaf::Flag => plain!(read_flag(alloc, value), Arg::Flag),
-        Leaf::Index => plain!(read_index(alloc, value), Arg::Index),
-        Leaf::Excluded => boxed!(alloc, read_excluded(alloc, value), Arg::Excluded),
+        SmallLeaf::Flag => plain!(read_flag(alloc, value), Arg::Flag),
+        SmallLeaf::Index => plain!(read_index(alloc, value), Arg::Index),
     }
 }
 
@@ -440,7 +442,6 @@ fn read_table_name(
 fn assemble(alloc: Global, key: Key, args: Args) -> Result<Arg, JsonError>
     requires { AllFit (asked_in (asks key)) (args_view args) }
     ensures ok { IfOk result (λ arg. says key (args_view args) ≡ Some (arg_view arg)) }
-    ensures fit { IfOk result (λ arg. Fits (a_form (kind_of key)) (arg_view arg)) }
     ensures err { IfErr result (λ error. error ≡ JsonError.NoMemory) }
 {
     match key {

@@ -22,36 +22,22 @@ pub(crate) fn assemble_plan(key: PlanKey, args: Args) -> DslPlan
     ensures flags { has_flags result ≡ false }
 {
     match key {
-        PlanKey::Scan => scan(args),
-        PlanKey::Empty => empty(args),
+        PlanKey::Scan => {
+            let (number, schema) = table(one(args));
+            DslPlan::DataFrameScan {
+                table: Some(number),
+                schema,
+            }
+        }
+        PlanKey::Empty => DslPlan::DataFrameScan {
+            table: None,
+            schema: columns(one(args)),
+        },
         PlanKey::Filter => filter(args),
         PlanKey::Select => select(args),
         PlanKey::WithColumns => with_columns(args),
         PlanKey::GroupBy => group_by(args),
         PlanKey::Drop => drop_columns(args),
-    }
-}
-
-fn scan(args: Args) -> DslPlan
-    requires { AllFit (asked_in (plan_asks by.Scan)) (args_view args) }
-    ensures says { plan_says by.Scan (args_view args) ≡ Some (plan_tree result) }
-    ensures flags { has_flags result ≡ false }
-{
-    let (number, schema) = table(one(args));
-    DslPlan::DataFrameScan {
-        table: Some(number),
-        schema,
-    }
-}
-
-fn empty(args: Args) -> DslPlan
-    requires { AllFit (asked_in (plan_asks by.Empty)) (args_view args) }
-    ensures says { plan_says by.Empty (args_view args) ≡ Some (plan_tree result) }
-    ensures flags { has_flags result ≡ false }
-{
-    DslPlan::DataFrameScan {
-        table: None,
-        schema: columns(one(args)),
     }
 }
 

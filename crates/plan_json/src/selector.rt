@@ -6,7 +6,7 @@ ghost use Rattle.plan_json.specs.Forms.{AllFit, asked_in, selector_asks, selecto
 ghost use Rattle.plan_json.specs.declared.forms.SelectorKey.TheVariants as from;
 
 use super::arguments::{Args, expression, one, selector, two};
-use super::forms::SelectorKey;
+use super::forms::{Joining, SelectorKey};
 use plan_dsl::selector::Selector;
 
 // The selector of that key.
@@ -15,49 +15,22 @@ pub(crate) fn assemble_selector(key: SelectorKey, args: Args) -> Selector
     ensures { selector_says key (args_view args) ≡ Some (selector_tree result) }
 {
     match key {
-        SelectorKey::Root => root(args),
-        SelectorKey::Add => add(args),
-        SelectorKey::Sub => sub(args),
-        SelectorKey::And => and(args),
-        SelectorKey::Xor => xor(args),
+        SelectorKey::Root => Selector::Root(expression(one(args))),
+        SelectorKey::Joined(by) => joined(by, args),
     }
 }
 
-fn root(args: Args) -> Selector
-    requires { AllFit (asked_in (selector_asks from.Root)) (args_view args) }
-    ensures { selector_says from.Root (args_view args) ≡ Some (selector_tree result) }
-{
-    Selector::Root(expression(one(args)))
-}
-
-fn add(args: Args) -> Selector
-    requires { AllFit (asked_in (selector_asks from.Add)) (args_view args) }
-    ensures { selector_says from.Add (args_view args) ≡ Some (selector_tree result) }
+// Two selectors, joined.
+fn joined(by: Joining, args: Args) -> Selector
+    requires { AllFit (asked_in (selector_asks (from.Joined by))) (args_view args) }
+    ensures { selector_says (from.Joined by) (args_view args) ≡ Some (selector_tree result) }
 {
     let (first, second) = two(args);
-    Selector::Add(selector(first), selector(second))
-}
-
-fn sub(args: Args) -> Selector
-    requires { AllFit (asked_in (selector_asks from.Sub)) (args_view args) }
-    ensures { selector_says from.Sub (args_view args) ≡ Some (selector_tree result) }
-{
-    let (first, second) = two(args);
-    Selector::Sub(selector(first), selector(second))
-}
-
-fn and(args: Args) -> Selector
-    requires { AllFit (asked_in (selector_asks from.And)) (args_view args) }
-    ensures { selector_says from.And (args_view args) ≡ Some (selector_tree result) }
-{
-    let (first, second) = two(args);
-    Selector::Intersect(selector(first), selector(second))
-}
-
-fn xor(args: Args) -> Selector
-    requires { AllFit (asked_in (selector_asks from.Xor)) (args_view args) }
-    ensures { selector_says from.Xor (args_view args) ≡ Some (selector_tree result) }
-{
-    let (first, second) = two(args);
-    Selector::ExclusiveOr(selector(first), selector(second))
+    let (first, second) = (selector(first), selector(second));
+    match by {
+        Joining::Add => Selector::Add(first, second),
+        Joining::Sub => Selector::Sub(first, second),
+        Joining::And => Selector::Intersect(first, second),
+        Joining::Xor => Selector::ExclusiveOr(first, second),
+    }
 }

@@ -19,22 +19,20 @@ ghost use Rattle.plan_json.specs.declared.error.JsonError.{JsonError};
 ghost use Rattle.plan_json.specs.declared.error.JsonError.TheVariants.{NotJson, Shape, Float, Name, NoMemory};
 ghost use Rattle.plan_json.specs.declared.error.Step.TheVariants.{Item, Key};
 ghost use Rattle.plan_json.specs.declared.forms.Leaf.TheVariants as leaves;
+ghost use Rattle.plan_json.specs.declared.forms.SmallLeaf.TheVariants as smalls;
 ghost use Rattle.plan_json.specs.declared.read.Query.{Query};
 
 /// An error of a value itself has the empty path, and the name of its kind. An error tells a fault of the value by kind and pointer, want of memory tells none.
-pub fn errors_of_values()
+pub fn error_examples()
     ensures own { (path : String Global) → string_bytes path ≡ [] → IsOwn BadShape (Shape path) × IsOwn BadFloat (Float path) × IsOwn BadName (Name path) }
     ensures of_another_kind { (path : String Global) → ¬ (IsOwn BadShape (Float path)) × ¬ (IsOwn BadFloat (Shape path)) × ¬ (IsOwn BadName (Shape path)) }
     ensures of_a_part { (path : String Global) → string_bytes path ≡ codes "/1" → ¬ (IsOwn BadShape (Shape path)) }
     ensures not_own { ¬ (IsOwn BadShape NotJson) × ¬ (IsOwn BadShape NoMemory) }
     ensures told { (path : String Global) → string_bytes path ≡ codes "/0" → IsErrorOf a_column (list (null ∷ word "Int8" ∷ [])) (Shape path) }
-    ensures of_a_list { (path : String Global) → string_bytes path ≡ codes "/0" → IsListErrorOf leaves.Flag (list (null ∷ [])) (Shape path) }
+    ensures of_a_list { (path : String Global) → string_bytes path ≡ codes "/0" → IsListErrorOf (leaves.Small smalls.Flag) (list (null ∷ [])) (Shape path) }
     ensures not_told { (path : String Global) → ¬ (IsErrorOf a_text (word "a") (Shape path)) }
     ensures memory { IsErrorOf a_text (word "a") NoMemory × ¬ (IsErrorOf a_text null NotJson) }
-{}
-
-/// The error of a part is told with the step to the part in front of its path, or as want of memory.
-pub fn errors_of_parts()
+    // The error of a part is told with the step to the part in front of its path, or as want of memory.
     ensures item { (path longer : String Global) → string_bytes path ≡ codes "/bin/0" → string_bytes longer ≡ codes "/12/bin/0" → IsBelow (number 12) (Shape path) (Shape longer) }
     ensures member { (path longer : String Global) → string_bytes path ≡ [] → string_bytes longer ≡ codes "/lit" → IsBelow (key (codes "lit")) (Float path) (Float longer) }
     ensures table { (path longer : String Global) → string_bytes path ≡ codes "/scan" → string_bytes longer ≡ codes "/plan/scan" → IsBelow (key (codes "plan")) (Name path) (Name longer) }
@@ -42,10 +40,7 @@ pub fn errors_of_parts()
     ensures step_behind { (path longer : String Global) → string_bytes path ≡ codes "/lit" → string_bytes longer ≡ codes "/lit/1" → ¬ (IsBelow (number 1) (Shape path) (Shape longer)) }
     ensures of_memory { (path longer : String Global) → ¬ (IsBelow (number 1) (Float path) (Shape longer)) × IsBelow (number 1) (Shape path) NoMemory
         × IsBelow (number 1) NoMemory NoMemory × ¬ (IsBelow (number 1) NoMemory (Shape longer)) }
-{}
-
-/// A pointer has each step behind a slash. In a key, `~` is `~0` and `/` is `~1`; the code's steps need no such escape.
-pub fn steps_and_pointers()
+    // A pointer has each step behind a slash. In a key, `~` is `~0` and `/` is `~1`; the code's steps need no such escape.
     ensures steps { (word : _) → (step_of (Item 12) ≡ number 12) × (step_of (Key word) ≡ key word.now) }
     ensures plain { IsPlain (key (codes "columns")) × IsPlain (number 12) × ¬ (IsPlain (key (codes "a/b"))) × ¬ (IsPlain (key (codes "m~n"))) }
     ensures keys { Gives (λ name. escaped (codes name)) (("columns", codes "columns") ∷ ("a/b", codes "a~1b") ∷ ("m~n", codes "m~0n") ∷ ("~1/~0", codes "~01~1~00") ∷ []) }

@@ -34,25 +34,19 @@ pub fn marker_examples()
     ensures left_out { Gives excluded_item ((keyed "name" (word ""), Some (ExcludedName [])) ∷ (keyed "dtype" (moments "ms"), Some (ExcludedType (DatetimeType Milliseconds))) ∷
         (keyed "name" (whole 1), None) ∷ (keyed "dtype" (word "Datetime"), None) ∷ (keyed "col" (word "a"), None) ∷ (keyed_twice "dtype" (word "Date") "name" (word "a"), None) ∷ (word "a", None) ∷ (object no_members, None) ∷ []) }
     ensures in_plans { plan_of [] (select_value (empty_value ∷ list (every_column ∷ keyed "suffix" (list (every_column ∷ word "x" ∷ [])) ∷ []) ∷ [])) ≡ Some (source_select (all ∷ suffix "x" all ∷ []) empty_table) }
-{}
-
-/// Renaming forms: the name of the first column as it is, with a text in front of it or behind it, or a text in its place.
-pub fn renaming_examples()
-    ensures read { let a = col "a" in let of_a = written (column "a") in
+    // Renaming forms: the name of the first column as it is, with a text in front of it or behind it, or a text in its place.
+    ensures renamed { let a = col "a" in let of_a = written (column "a") in
         Gives expression_of ((keyed "keep_name" a, Some (form KeepRoot of_a)) ∷ (keyed "prefix" (list (a ∷ word "p" ∷ [])), Some (prefix "p" of_a)) ∷ (keyed "suffix" (list (a ∷ word "s" ∷ [])), Some (suffix "s" of_a)) ∷
         (keyed "fixed" (list (a ∷ word "f" ∷ [])), Some (fixed "f" of_a)) ∷ (keyed "prefix" (list (keyed "keep_name" every_column ∷ word "" ∷ [])), Some (prefix "" (form KeepRoot all))) ∷ []) }
-    ensures unread { let a = col "a" in
+    ensures not_renamed { let a = col "a" in
         GivesAll expression_of None (keyed "keep_name" (list (a ∷ [])) ∷ keyed "keep_name" (word "a") ∷ keyed "prefix" (list (a ∷ [])) ∷ keyed "prefix" (list (word "p" ∷ a ∷ [])) ∷
         keyed "suffix" (list (a ∷ null ∷ [])) ∷ keyed "suffix" (word "s") ∷ keyed "fixed" (list (a ∷ word "f" ∷ word "f" ∷ [])) ∷ keyed "fixed" (list (a ∷ a ∷ [])) ∷ []) }
-{}
-
-/// Selectors: a root, and two that are joined by a rule. A drop has its input, selectors, and whether each column must stand there.
-pub fn selector_examples()
-    ensures read { let a = keyed "root" (col "a") in let rest = keyed "root" every_column in let of_a = root (written (column "a")) in let two = list (a ∷ rest ∷ []) in
+    // Selectors: a root, and two that are joined by a rule. A drop has its input, selectors, and whether each column must stand there.
+    ensures selectors { let a = keyed "root" (col "a") in let rest = keyed "root" every_column in let of_a = root (written (column "a")) in let two = list (a ∷ rest ∷ []) in
         Gives selector_of ((a, Some of_a) ∷ (keyed "add" two, Some (of_two Add of_a (root all))) ∷ (keyed "sub" two, Some (of_two Sub of_a (root all))) ∷
         (keyed "and" two, Some (of_two Intersect of_a (root all))) ∷ (keyed "xor" two, Some (of_two ExclusiveOr of_a (root all))) ∷
         (keyed "sub" (list (keyed "add" two ∷ a ∷ [])), Some (of_two Sub (of_two Add of_a (root all)) of_a)) ∷ []) }
-    ensures unread { let a = keyed "root" (col "a") in
+    ensures no_selectors { let a = keyed "root" (col "a") in
         GivesAll selector_of None (col "a" ∷ keyed "root" (word "a") ∷ keyed "root" a ∷ keyed "add" (list (a ∷ [])) ∷ keyed "sub" (list (a ∷ a ∷ a ∷ [])) ∷ keyed "and" (list (a ∷ col "a" ∷ [])) ∷ keyed "xor" a ∷ keyed "or" (list (a ∷ a ∷ [])) ∷ []) }
     ensures drops { let a = keyed "root" (col "a") in let of_a = root (written (column "a")) in
         Gives (λ items. plan_of [] (keyed "drop" (list items))) ((empty_value ∷ list [] ∷ boolean true ∷ [], Some (source_drop [] true empty_table)) ∷

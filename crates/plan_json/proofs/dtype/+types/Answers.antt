@@ -1,5 +1,5 @@
 use Rattle.plan_json.proofs.Names.{Some, ap, arith, map, option_map, refl, sym, ◌∙◌, a_column, a_text, a_type, column_part, field_list, type_form, type_key_form, all_of, view, column_of, field_of, map-append}
-use Rattle.plan_json.proofs.Lemmas.{type_by_key, struct_all, part_in, item_in, key_in, all_of-more, all_taken}
+use Rattle.plan_json.proofs.Lemmas.{type_by_key, struct_all, part_in, item_in, key_in, all_of-more, all_taken, depth-only_member, depth-item, depth-two_items}
 use Rattle.plan_json.proofs.dtype.+types.Goals as goal
 
 -- ---- a type
@@ -36,3 +36,17 @@ pub read_fields-returns-in-Err-clause-err : goal.read_fields-returns-in-Err-clau
 read_fields-returns-in-Err-clause-err t c =
     c.below.ensures field_list a_column _ _
     (item_in a_column _ c.in-Some.values.now c.loop-number.number _ c.in-Some.ensures c.loop-number-test.true c.index-values-number.is) c.in-Err.ensures.err
+
+-- ---- parts are less deep
+
+pub read_type-read_keyed-requires : goal.read_type-read_keyed-requires
+read_type-read_keyed-requires t c =
+    let below = depth-only_member (view c.args.value.now) c.in-Some-only_member.word.now (view c.in-Some-only_member.inner.now) c.in-Some-only_member.ensures in (omega (arith, c.decreases, below), tt)
+
+pub read_fields-read_column-requires : goal.read_fields-read_column-requires
+read_fields-read_column-requires t c =
+    let below = depth-item (view c.args.value.now) c.in-Some.values.now c.loop-number.number c.index-values-number.result c.in-Some.ensures c.loop-number-test.true c.index-values-number.is in (omega (arith, c.decreases, below), tt)
+
+pub read_column-read_type-requires : goal.read_column-read_type-requires
+read_column-read_type-requires t c =
+    let below = depth-two_items (view c.args.value.now) (view c.in-Some.name.now) (view c.in-Some.dtype.now) c.in-Some.ensures in (omega (arith, c.decreases, below), tt)

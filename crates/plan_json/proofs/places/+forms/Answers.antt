@@ -2,7 +2,27 @@ use Rattle.plan_json.proofs.Names.{Some, ap, arith, map, refl, subst, sym, ◌<�
 use Rattle.plan_dsl.specs.Expressions.{selector_tree}
 use Rattle.plan_json.specs.Forms.{selector, selector_read}
 use Rattle.plan_json.proofs.Lemmas.{IsErrorOf-own, item_in, form_read, key_part, item_part_at, other_count, each_read, all_of-more, all_taken, depth-item}
+use Rattle.plan_json.specs.Forms.{AllFit, asked_in}
+use Rattle.plan_json.specs.Arguments.{args_view, items_seen}
+use Rattle.plan_json.specs.declared.forms.Kind.TheVariants as kinds
+use Rattle.plan_json.proofs.FitLemmas.{form_fits, list_fits, places_fit}
 use Rattle.plan_json.proofs.places.+forms.Goals as goal
+
+-- ---- what was read fits what was asked
+
+pub read_keyed-assemble-requires : goal.read_keyed-assemble-requires
+read_keyed-assemble-requires t c =
+    subst (λ p. AllFit (asked_in p) (args_view c.in-Ok-read_places.args)) c.places_of.ensures.asks (places_fit (declared c.args.tables.now) c.places_of.result _ _ c.in-Ok-read_places.ensures.ok)
+
+pub read_order-listed_order-requires : goal.read_order-listed_order-requires
+read_order-listed_order-requires t c =
+    subst (λ p. AllFit p (items_seen c.in-Ok.items)) c.order_places.ensures.asks (list_fits (declared c.args.tables.now) c.order_places.result.now _ _ c.in-Ok.ensures.ok)
+
+pub read_expressions-expression-requires : goal.read_expressions-expression-requires
+read_expressions-expression-requires t c = form_fits (declared c.args.tables.now) kinds.Expression (view c.index-values-number.result) _ c.in-Ok.ensures.ok
+
+pub read_selectors-selector-requires : goal.read_selectors-selector-requires
+read_selectors-selector-requires t c = form_fits (declared c.args.tables.now) kinds.Selector (view c.index-values-number.result) _ c.in-Ok.ensures.ok
 
 -- ---- a form
 

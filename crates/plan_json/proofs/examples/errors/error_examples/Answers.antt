@@ -1,7 +1,7 @@
 use Rattle.plan_json.proofs.Names.{[], refl, ◌∷◌, BadShape, IsBadAt, Path, a_text, number}
 use Rattle.plan_json.specs.Samples.{word}
 use Rattle.plan_json.proofs.OnLiterals.{values_on_literals}
-use Rattle.plan_json.proofs.examples.errors.errors_of_values.Goals as goal
+use Rattle.plan_json.proofs.examples.errors.error_examples.Goals as goal
 
 pub returns-clause-told : goal.returns-clause-told
 unfolding values_on_literals
