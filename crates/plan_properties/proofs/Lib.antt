@@ -1,0 +1,5 @@
+pub mod AskingLemmas
+mod ElementwiseLemmas
+mod HarmlessLemmas
+mod RowLemmas
+mod ScalarLemmas

@@ -1,0 +1,48 @@
+-- What is asked of expressions, and nodes of which something holds.
+use Rattle.std.specs.Prelude.{◌≡◌, ℕ, Bool, List, map}
+use Rattle.std.specs.List.{AllByRecursion}
+use Rattle.plan_dsl.specs.Ops.{Op, Expression}
+use Rattle.plan_dsl.specs.Trees.{Trees}
+use Rattle.plan_arena.specs.declared.aexpr.AExpr.{AExpr}
+use Rattle.plan_arena.specs.declared.expr_ir.ExprIR.{ExprIR}
+use Rattle.plan_arena.specs.Denotation.{Denotes, DenoteAll, DenotesTree}
+use Rattle.plan_arena.specs.Items.{HoldsExpression}
+use Rattle.plan_arena.specs.Layers.{Layer}
+use Rattle.plan_infer.specs.ItemTrees.{LayerDenotes}
+use Rattle.plan_properties.specs.declared.asked.Asked.{Asked}
+use Rattle.plan_properties.specs.declared.asked.Asked.TheVariants.{Elementwise, Harmless, Scalar, Columnless}
+use Rattle.plan_properties.specs.Properties.{all_trees, gives_one, holds_by, is_no_column, is_own_elementwise, is_own_harmless, keeps_one, never}
+
+-- the ops that settle what is asked, and those that hand it on
+abbrev pub settles : Asked → Op → Bool
+settles Elementwise = never
+settles Harmless = never
+settles Scalar = gives_one
+settles Columnless = never
+
+abbrev pub hands_on : Asked → Op → Bool
+hands_on Elementwise = is_own_elementwise
+hands_on Harmless = is_own_harmless
+hands_on Scalar = keeps_one
+hands_on Columnless = is_no_column
+
+-- what is asked holds of an expression
+abbrev pub holds_of : Asked → Expression → Bool
+holds_of asked = holds_by (settles asked) (hands_on asked)
+
+-- the answer is that of the expression at the node, of an item's, and of all that are denoted
+abbrev pub SaysOfNode : List AExpr → ℕ → (Expression → Bool) → Bool → Type 0
+SaysOfNode items n test answer = (tree : Expression) → Denotes (HoldsExpression items) n tree → answer ≡ test tree
+
+abbrev pub SaysOfItem : List AExpr → Layer Op → (Expression → Bool) → Bool → Type 0
+SaysOfItem items item test answer = (tree : Expression) → LayerDenotes items item tree → answer ≡ test tree
+
+abbrev pub SaysOfAll : List AExpr → List ℕ → (Expression → Bool) → Bool → Type 0
+SaysOfAll items ns test answer = (trees : Trees Op) → DenoteAll (HoldsExpression items) ns trees → answer ≡ all_trees test trees
+
+abbrev pub nodes_of : List ExprIR → List ℕ
+nodes_of exprs = map (λ expr. expr.node.0) exprs
+
+-- each node denotes an expression
+abbrev pub AllDenote : List AExpr → List ℕ → Type 0
+AllDenote items ns = AllByRecursion (DenotesTree (HoldsExpression items)) ns

@@ -1,0 +1,5 @@
+-- What the contracts of this crate cite.
+pub mod Asking
+pub mod Laws
+pub mod Properties
+pub mod Samples

@@ -1,0 +1,90 @@
+-- Properties of expressions, node by node.
+use Rattle.std.specs.Prelude.{Bool, true, false, ◌&&◌, ◌||◌, not}
+use Rattle.std.specs.List.{list_all}
+use Rattle.plan_types.specs.declared.dtype.CastOptions.TheVariants.{Strict}
+use Rattle.plan_dsl.specs.declared.aggregate.GroupByMethod.{GroupByMethod}
+use Rattle.plan_dsl.specs.declared.aggregate.GroupByMethod.TheVariants.{Min, NanMin, Max, NanMax, First, Last, Sum, Count}
+use Rattle.plan_dsl.specs.Ops.{Op, ColumnOp, LiteralOp, BinaryOp, CastOp, LenOp, AliasOp, AggOp, Expression}
+use Rattle.plan_dsl.specs.Trees.{Trees, node, no_more, more, fold}
+
+-- it holds where a node settles it, or hands it on to its operands and it holds of each
+abbrev pub holds_by : (Op → Bool) → (Op → Bool) → Expression → Bool
+holds_by settles hands_on = fold (λ op below. settles op || (hands_on op && list_all (λ b. b) below))
+
+abbrev pub never : Op → Bool
+never op = false
+
+-- ---- what a node says of itself
+
+-- a value for each row, which hangs on that row's values alone
+abbrev pub is_own_elementwise : Op → Bool
+is_own_elementwise (ColumnOp name) = true
+is_own_elementwise (LiteralOp type value) = true
+is_own_elementwise (BinaryOp operator) = true
+is_own_elementwise (CastOp target options) = true
+is_own_elementwise (AliasOp name) = true
+is_own_elementwise op = false
+
+-- and no data fault besides
+abbrev pub is_own_harmless : Op → Bool
+is_own_harmless (CastOp target Strict) = false
+is_own_harmless op = is_own_elementwise op
+
+-- one value, whatever the operands
+abbrev pub gives_one : Op → Bool
+gives_one (LiteralOp type value) = true
+gives_one LenOp = true
+gives_one (AggOp method) = true
+gives_one op = false
+
+-- one value, where each operand has one
+abbrev pub keeps_one : Op → Bool
+keeps_one (BinaryOp operator) = true
+keeps_one (CastOp target options) = true
+keeps_one (AliasOp name) = true
+keeps_one op = false
+
+abbrev pub is_no_column : Op → Bool
+is_no_column (ColumnOp name) = false
+is_no_column op = true
+
+-- ---- expressions
+
+-- each row has a value of its own, from that row and literals alone
+abbrev pub is_elementwise : Expression → Bool
+is_elementwise = holds_by never is_own_elementwise
+
+-- and it has no data fault that its columns don't have
+abbrev pub permits_pushdown : Expression → Bool
+permits_pushdown = holds_by never is_own_harmless
+
+-- its column has one value
+abbrev pub is_scalar : Expression → Bool
+is_scalar = holds_by gives_one keeps_one
+
+-- it names a column
+abbrev pub has_column : Expression → Bool
+has_column tree = not (holds_by never is_no_column tree)
+
+-- the values of parts can be merged
+abbrev pub merges : GroupByMethod → Bool
+merges Min = true
+merges NanMin = true
+merges Max = true
+merges NanMax = true
+merges First = true
+merges Last = true
+merges Sum = true
+merges (Count include_nulls) = include_nulls
+merges method = false
+
+-- a count of rows, or an aggregate by such a method of an elementwise expression that names a column
+abbrev pub can_pre_agg : Expression → Bool
+can_pre_agg (node LenOp operands) = true
+can_pre_agg (node (AggOp method) (more input no_more)) = merges method && (is_elementwise input && has_column input)
+can_pre_agg tree = false
+
+-- all of some expressions
+abbrev pub all_trees : (Expression → Bool) → Trees Op → Bool
+all_trees test no_more = true
+all_trees test (more tree rest) = test tree && all_trees test rest

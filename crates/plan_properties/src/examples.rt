@@ -1,0 +1,39 @@
+//! Worked examples of the definitions. The functions do nothing: their clauses are the examples.
+
+ghost use Rattle.std.specs.Prelude.{◌≡◌, [], ◌∷◌, map, true, false};
+ghost use Rattle.plan_types.specs.declared.dtype.CastOptions.TheVariants.{Strict, NonStrict, Overflowing};
+ghost use Rattle.plan_dsl.specs.declared.aggregate.GroupByMethod.TheVariants.{Min, NanMax, First, Last, NUnique, Implode, Groups, Sum, Count};
+ghost use Rattle.plan_dsl.specs.Samples.{Gives, GivesAll, a, b, alias, cast_as, count, int8, one, over, slice, sum};
+ghost use Rattle.plan_dsl.specs.Ops.{AggOp};
+ghost use Rattle.plan_dsl.specs.Trees.{Trees, node, no_more, more};
+ghost use Rattle.plan_properties.specs.Properties.{all_trees, can_pre_agg, has_column, is_elementwise, is_scalar, permits_pushdown};
+ghost use Rattle.plan_properties.specs.Samples.{aggregate};
+
+/// Columns, literals, operators, casts and aliases of these have a value for each row. What counts rows, picks them or
+/// takes them together has none. A strict cast may have a fault of its own.
+pub fn expressions_by_rows()
+    ensures elementwise { GivesAll is_elementwise true (a ∷ one ∷ sum a one ∷ cast_as Strict int8 a ∷ alias "x" (sum a b) ∷ []) }
+    ensures not_elementwise { GivesAll is_elementwise false (count ∷ slice a one one ∷ aggregate Sum a ∷ sum a (aggregate Sum a) ∷ alias "x" count ∷ over (b ∷ []) a ∷ []) }
+    ensures pushdown { Gives permits_pushdown (
+        (sum a one, true) ∷ (cast_as Strict int8 a, false) ∷ (cast_as NonStrict int8 a, true) ∷ (cast_as Overflowing int8 a, true) ∷
+        (sum one (cast_as Strict int8 a), false) ∷ (count, false) ∷ []) }
+{}
+
+/// Literals, counts of rows and aggregates have one value, and so have operators, casts and aliases of these alone.
+pub fn expressions_of_one_value()
+    ensures one_value { GivesAll is_scalar true (one ∷ count ∷ aggregate Sum a ∷ sum (aggregate Sum a) one ∷ alias "x" (cast_as Strict int8 one) ∷ aggregate Implode a ∷ []) }
+    ensures many_values { GivesAll is_scalar false (a ∷ sum a one ∷ sum one a ∷ slice one one one ∷ over (b ∷ []) count ∷ alias "x" a ∷ []) }
+    ensures columns { Gives has_column ((one, false) ∷ (a, true) ∷ (sum one one, false) ∷ (sum one (alias "x" a), true) ∷ (count, false) ∷ []) }
+{}
+
+/// Aggregates of an elementwise expression over columns can be made of parts, where their values can be merged.
+pub fn aggregates_of_parts()
+    ensures can { GivesAll can_pre_agg true (
+        count ∷ aggregate Min a ∷ aggregate NanMax a ∷ aggregate First a ∷ aggregate Last (sum a one) ∷ aggregate Sum a ∷ aggregate (Count true) a ∷ []) }
+    ensures can_not { GivesAll can_pre_agg false (
+        a ∷ aggregate (Count false) a ∷ aggregate NUnique a ∷ aggregate Implode a ∷ aggregate Groups a ∷ aggregate Sum one ∷
+        aggregate Sum (aggregate Sum a) ∷ alias "x" (aggregate Sum a) ∷ sum count one ∷ []) }
+    ensures all { all_trees can_pre_agg (more count (more (aggregate Sum a) no_more)) ≡ true }
+    ensures not_all { all_trees can_pre_agg (more count (more a no_more)) ≡ false }
+    ensures none { all_trees can_pre_agg no_more ≡ true }
+{}

@@ -1,0 +1,13 @@
+//! Laws of the definitions. The functions do nothing: their clauses are the laws.
+ghost use Rattle.plan_properties.specs.Laws.{ElementwiseGoesByRows, PushdownsHaveNoFault, RowsDecide, ScalarsHaveOneValue};
+
+/// An elementwise expression gives on rows what each row gives by itself, with a fault where some row has one; where it has
+/// one value, that is the same on any rows. What a row gives hangs on that row alone, and on literals. A column that a
+/// scalar expression gives has one value, whatever the rows. An expression that a filter may come before has no data
+/// fault, and a value for each row, or one where it has one on any rows.
+pub fn property_laws()
+    ensures elementwise { ElementwiseGoesByRows }
+    ensures rows { RowsDecide }
+    ensures scalar { ScalarsHaveOneValue }
+    ensures pushdown { PushdownsHaveNoFault }
+{}
