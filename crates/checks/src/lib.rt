@@ -28,7 +28,11 @@ mod keys;
 #[cfg(test)]
 mod lowering;
 #[cfg(test)]
+mod plan_schemas;
+#[cfg(test)]
 mod plans;
+#[cfg(test)]
+mod properties;
 #[cfg(test)]
 mod queries;
 #[cfg(test)]
