@@ -4,7 +4,7 @@ use Rattle.std.proofs.Math.Bool.{and-false}
 use Rattle.std.proofs.lemmas.List.{length-map, take_all}
 use Rattle.std.specs.List.{AllByRecursion, list_all}
 use Rattle.plan_dsl.specs.Ops.{Op, AggOp, Expression}
-use Rattle.plan_dsl.specs.Trees.{Trees, node, no_more, more, fold, fold_all}
+use Rattle.plan_dsl.specs.Trees.{Trees, node, no_more, more, fold_all}
 use Rattle.plan_arena.specs.declared.aexpr.AExpr.{AExpr}
 use Rattle.plan_arena.specs.declared.aexpr.AExpr.TheVariants.{Agg, Alias, BinaryExpr, Cast, Column, Explode, Filter, Gather, Len, Literal, Slice, Sort, SortBy, Window}
 use Rattle.plan_arena.specs.Denotation.{Denotes, DenoteAll, DenotesTree, depth_at, greatest}

@@ -1,5 +1,5 @@
 -- An expression that a filter may come before has no fault, and a value for each row, or one.
-use Rattle.std.proofs.Common.{◌≡◌, ◌≢◌, ◌⊎◌, inl, inr, ℕ, suc, Bool, true, false, cond, ◌==◌, ◌&&◌, ◌||◌, List, [], ◌∷◌, length, replicate, Option, Some, None, Result, Ok, Err, refl, sym, ap, ◌∙◌, subst}
+use Rattle.std.proofs.Common.{◌≡◌, ◌⊎◌, inl, inr, ℕ, suc, Bool, true, false, cond, ◌==◌, ◌&&◌, ◌||◌, List, [], ◌∷◌, length, Some, None, Result, Ok, refl, sym, ap, ◌∙◌, subst}
 use Rattle.std.proofs.lemmas.Bool.{and_parts}
 use Rattle.std.proofs.lemmas.Bool.Decides.{Decides-eqb}
 use Rattle.std.proofs.lemmas.List.{length-map, length-replicate}
@@ -22,7 +22,7 @@ use Rattle.plan_dsl.specs.Meaning.{applied, meaning, meaning_all, node_meaning, 
 use Rattle.plan_dsl.specs.Ops.{Op, ColumnOp, LiteralOp, BinaryOp, CastOp, LenOp, SliceOp, ExplodeOp, GatherOp, FilterOp, SortOp, SortByOp, WindowOp, AliasOp, AggOp, Expression}
 use Rattle.plan_dsl.specs.Registry.{Registry}
 use Rattle.plan_dsl.specs.Trees.{Trees, node, no_more, more, fold_all}
-use Rattle.plan_dsl.specs.Typing.{Typed, Ruling, aliased, literal_taken, rule, ruled_as, some_many, types_of, typing, typing_all}
+use Rattle.plan_dsl.specs.Typing.{Typed, Ruling, aliased, rule, ruled_as, types_of, typing, typing_all}
 use Rattle.plan_dsl.proofs.OpLemmas.{keeps_rule}
 use Rattle.plan_dsl.proofs.SignatureLemmas.{AllBecome}
 use Rattle.plan_dsl.proofs.TypingLemmas.{by_children, by_no_children, ok_same, ruled_is, typed_parts}

@@ -1,12 +1,10 @@
 -- A scalar expression has one value.
-use Rattle.std.proofs.Common.{◌≡◌, ℕ, Bool, true, false, ◌&&◌, ◌||◌, List, [], ◌∷◌, length, Option, Some, None, Result, Ok, Err, refl, sym, ap, ◌∙◌, subst}
+use Rattle.std.proofs.Common.{◌≡◌, Bool, true, false, ◌&&◌, ◌||◌, List, [], ◌∷◌, length, Option, Some, None, Result, Ok, Err, refl, sym, ap, ◌∙◌}
 use Rattle.std.proofs.lemmas.Bool.{and_parts}
 use Rattle.std.specs.List.{list_all}
-use Rattle.plan_types.specs.Frames.{Frame, IsFrame}
 use Rattle.plan_types.specs.Schemas.{Columns}
 use Rattle.plan_types.specs.Types.{Ty}
 use Rattle.plan_types.specs.declared.error.ErrorKind.{ErrorKind}
-use Rattle.plan_types.specs.Outcomes.{Meets}
 use Rattle.plan_types.specs.Values.{Val}
 use Rattle.plan_types.proofs.ValueLemmas.{meets_as}
 use Rattle.plan_dsl.specs.declared.aggregate.GroupByMethod.{GroupByMethod}
@@ -18,7 +16,7 @@ use Rattle.plan_dsl.specs.Meaning.{meaning}
 use Rattle.plan_dsl.specs.Ops.{Op, ColumnOp, LiteralOp, BinaryOp, CastOp, LenOp, SliceOp, ExplodeOp, GatherOp, FilterOp, SortOp, SortByOp, WindowOp, AliasOp, AggOp, Expression}
 use Rattle.plan_dsl.specs.Registry.{Registry}
 use Rattle.plan_dsl.specs.Signatures.{method_signature, signature}
-use Rattle.plan_dsl.specs.Trees.{Trees, node, no_more, more, fold, fold_all}
+use Rattle.plan_dsl.specs.Trees.{Trees, node, no_more, more, fold_all}
 use Rattle.plan_dsl.specs.Typing.{Typed, Ruling, aliased, literal_taken, many_of, own_over, rule, signed, signed_to, some_many, taken_from, typed_to, typing, typing_all}
 use Rattle.plan_dsl.proofs.FitLemmas.{meaning_has_type}
 use Rattle.plan_dsl.proofs.TypingLemmas.{by_children, by_no_children, ok_same, ruled_is, typed_parts}

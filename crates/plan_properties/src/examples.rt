@@ -1,11 +1,14 @@
 //! Worked examples of the definitions. The functions do nothing: their clauses are the examples.
 
 ghost use Rattle.std.specs.Prelude.{◌≡◌, [], ◌∷◌, map, true, false};
+ghost use Rattle.plan_types.specs.Outcomes.{Done, Fault, Stuck};
 ghost use Rattle.plan_types.specs.declared.dtype.CastOptions.TheVariants.{Strict, NonStrict, Overflowing};
 ghost use Rattle.plan_dsl.specs.declared.aggregate.GroupByMethod.TheVariants.{Min, NanMax, First, Last, NUnique, Implode, Groups, Sum, Count};
-ghost use Rattle.plan_dsl.specs.Samples.{Gives, GivesAll, a, b, alias, cast_as, count, int8, one, over, slice, sum};
+ghost use Rattle.plan_dsl.specs.Samples.{Gives, GivesAll, GivesOfTwo, a, b, alias, cast_as, count, int8, no, number, one, over, slice, sum, yes};
 ghost use Rattle.plan_dsl.specs.Ops.{AggOp};
+ghost use Rattle.plan_dsl.specs.WindowLaws.{of_each};
 ghost use Rattle.plan_dsl.specs.Trees.{Trees, node, no_more, more};
+ghost use Rattle.plan_properties.specs.Laws.{GoesByRows, HasValues, HasValuesOr, by_rows, joined, row_count};
 ghost use Rattle.plan_properties.specs.Properties.{all_trees, can_pre_agg, has_column, is_elementwise, is_scalar, permits_pushdown};
 ghost use Rattle.plan_properties.specs.Samples.{aggregate};
 
@@ -36,4 +39,22 @@ pub fn aggregates_of_parts()
     ensures all { all_trees can_pre_agg (more count (more (aggregate Sum a) no_more)) ≡ true }
     ensures not_all { all_trees can_pre_agg (more count (more a no_more)) ≡ false }
     ensures none { all_trees can_pre_agg no_more ≡ true }
+{}
+
+/// Rows one behind the other, with the first fault; what goes by rows and what doesn't, as a count of rows; and so many
+/// values, or a fault where there may be one.
+pub fn meanings_by_rows()
+    ensures joined { GivesOfTwo joined (
+        (Done (yes ∷ []), Done (no ∷ yes ∷ []), Done (yes ∷ no ∷ yes ∷ [])) ∷ (Done [], Done (no ∷ []), Done (no ∷ [])) ∷
+        (Done (yes ∷ []), Fault, Fault) ∷ (Fault, Done (no ∷ []), Fault) ∷ (Fault, Stuck, Fault) ∷ []) }
+    ensures by_rows { Gives (by_rows (of_each number)) (([], Done []) ∷ (7 ∷ 5 ∷ 7 ∷ [], Done (number 7 ∷ number 5 ∷ number 7 ∷ [])) ∷ []) }
+    ensures a_fault { Gives (by_rows (λ rows. Fault)) (([], Done []) ∷ (7 ∷ 5 ∷ [], Fault) ∷ []) }
+    ensures one_value { GoesByRows false (λ rows. Done (yes ∷ [])) }
+    ensures no_rows { ¬ (GoesByRows true (λ rows. Done (yes ∷ []))) }
+    ensures many_values { ¬ (GoesByRows false (of_each number)) }
+    ensures counts { GivesOfTwo row_count ((true, 3, 3) ∷ (true, 0, 0) ∷ (false, 3, 1) ∷ (false, 0, 1) ∷ []) }
+    ensures two { HasValues 2 (Done (yes ∷ no ∷ [])) }
+    ensures not_one { ¬ (HasValues 1 (Done (yes ∷ no ∷ []))) }
+    ensures no_fault { ¬ (HasValues 0 Fault) }
+    ensures allowed { HasValuesOr (yes ≡ yes) 2 Fault }
 {}

@@ -1,7 +1,7 @@
-use Rattle.std.proofs.Common.{true, ◌+◌, map, sym, ap, subst, ◌∙◌, arith}
+use Rattle.std.proofs.Common.{true, ◌+◌, map, sym, ap, subst, arith}
 use Rattle.plan_arena.specs.Items.{expression_layer}
 use Rattle.plan_arena.specs.Denotation.{depth_at, greatest}
-use Rattle.plan_arena.specs.Layers.{inputs_of, shape_of}
+use Rattle.plan_arena.specs.Layers.{shape_of}
 use Rattle.plan_arena.proofs.ItemLemmas.{tree_within}
 use Rattle.plan_arena.proofs.NumberLemmas.{all_there}
 use Rattle.plan_properties.specs.Asking.{AllDenote, SaysOfAll, SaysOfNode, hands_on, holds_of, settles}

@@ -1,4 +1,4 @@
-use Rattle.std.proofs.Common.{ℕ, ◌+◌, ◌*◌, true, map, take}
+use Rattle.std.proofs.Common.{◌+◌, ◌*◌, true, map, take}
 use Rattle.std.specs.List.{AllByRecursion}
 use Rattle.plan_arena.specs.Denotation.{depth_at, greatest}
 use Rattle.plan_arena.specs.Layers.{shape_of}

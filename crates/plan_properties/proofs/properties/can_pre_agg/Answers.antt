@@ -1,4 +1,4 @@
-use Rattle.std.proofs.Common.{[], ◌∷◌, true, refl, ap, subst}
+use Rattle.std.proofs.Common.{true, ap, subst}
 use Rattle.std.specs.List.{AllByRecursion}
 use Rattle.plan_arena.specs.Aggregates.{input_at, method_at}
 use Rattle.plan_arena.specs.Denotation.{DenotesTree}

@@ -1,4 +1,4 @@
-use Rattle.std.proofs.Common.{◌+◌, subst, sym, arith}
+use Rattle.std.proofs.Common.{◌+◌, subst, arith}
 use Rattle.plan_properties.specs.Asking.{SaysOfNode, nodes_of}
 use Rattle.plan_properties.specs.Properties.{can_pre_agg}
 use Rattle.plan_arena.proofs.NumberLemmas.{all_there}
