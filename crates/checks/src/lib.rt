@@ -44,6 +44,8 @@ mod schemas;
 #[cfg(test)]
 mod selectors;
 #[cfg(test)]
+mod split_filters;
+#[cfg(test)]
 mod streams;
 pub mod sums;
 #[cfg(test)]

@@ -39,7 +39,9 @@ use Rattle.plan_arena.proofs.RunLemmas.{runs_soundly, sound_top}
 use Rattle.plan_expand.specs.Refusals.{IsUnexpanded, no_room as no_place, unexpanded}
 use Rattle.plan_lower.specs.Outputs.{Lowered, IsLowered, lowered_named, lowered_column, lowered_select, lowered_hstack, SelectsTo}
 use Rattle.plan_lower.specs.Projection.{IsOutputRefusal, no_room, untyped, repeated, IsProjectionRefusal, out_of_memory as no_space, refused}
+use Rattle.plan_properties.specs.Splitting.{IsCondition, IsWhole, split_predicate}
 use Rattle.plan_lower.specs.Predicates.{FiltersBy, IsPredicateRefusal, without_room, without_type, of_other_type, lowered_filter}
+use Rattle.plan_lower.proofs.FilterLemmas.{runs_as, split_predicates, split_runs, stacked}
 use Rattle.plan_lower.specs.Lowering.{IsBuilt, IsPlanRefusal, out_of_memory, broken, resolved_select, resolved_hstack, resolved_filter}
 
 abbrev pub output_label : Lowered → Label
@@ -69,6 +71,7 @@ module _ (registry : Registry) where
         accepted = (there, tt);
         strict = (tt, tt);
         names = (tt, tt);
+        split = (tt, tt);
         fits = λ tables f. f;
         same = λ tables f. refl;
       }
@@ -130,8 +133,8 @@ module _ (registry : Registry) where
 
   -- a node over what was built from its input: both have the schema over the input's, and it records that or none; its
   -- expressions are strict and named, and give over frames of the input's schema what those of the query's node give
-  pub over_built : (before op : PlanOp (Named Expression)) (source lowered : Plan) (schema own : Columns) → IsBuilt registry source lowered schema → plan_rule registry before (Some schema ∷ []) ≡ Some own → plan_rule registry op (Some schema ∷ []) ≡ Some own → HasRecorded op.recorded (Some own) → AreStrict registry (Some schema ∷ []) (expressions_of op.kind) → HaveOwnNames (expressions_of op.kind) → own_scans op.kind ≡ [] → ((tables : List Frame) (input : Outcome Frame) → Meets (IsFrameOf schema) input → plan_kernel tables (by_running registry) op (input ∷ []) ≡ plan_kernel tables (by_meaning registry) before (input ∷ [])) → IsBuilt registry (node before (more source no_more)) (node op (more lowered no_more)) own
-  over_built before op source lowered schema own built rule_before rule_op recorded strict names scans agrees =
+  pub over_built : (before op : PlanOp (Named Expression)) (source lowered : Plan) (schema own : Columns) → IsBuilt registry source lowered schema → plan_rule registry before (Some schema ∷ []) ≡ Some own → plan_rule registry op (Some schema ∷ []) ≡ Some own → HasRecorded op.recorded (Some own) → AreStrict registry (Some schema ∷ []) (expressions_of op.kind) → HaveOwnNames (expressions_of op.kind) → IsWhole op.kind → own_scans op.kind ≡ [] → ((tables : List Frame) (input : Outcome Frame) → Meets (IsFrameOf schema) input → plan_kernel tables (by_running registry) op (input ∷ []) ≡ plan_kernel tables (by_meaning registry) before (input ∷ [])) → IsBuilt registry (node before (more source no_more)) (node op (more lowered no_more)) own
+  over_built before op source lowered schema own built rule_before rule_op recorded strict names whole scans agrees =
       let there = over_schema before source schema own built.source_schema rule_before in
       let here = over_schema op lowered schema own built.lowered_schema rule_op in
       record {
@@ -141,6 +144,7 @@ module _ (registry : Registry) where
         accepted = (subst (HasRecorded op.recorded) (sym here) recorded, (built.accepted, tt));
         strict = (subst (λ s. AreStrict registry (s ∷ []) (expressions_of op.kind)) (sym built.lowered_schema) strict, (built.strict, tt));
         names = (names, (built.names, tt));
+        split = (whole, (built.split, tt));
         fits = λ tables f. fits_over tables op lowered scans (built.fits tables (fits_input tables before source f));
         same = λ tables f.
             let under = fits_input tables before source f in
@@ -163,6 +167,7 @@ module _ (registry : Registry) where
         accepted = (refl, ((refl, tt), tt));
         strict = ((tt, tt), ((tt, tt), tt));
         names = ((tt, tt), ((tt, tt), tt));
+        split = (tt, ((tt, tt), tt));
         fits = λ tables f. tt;
         same = λ tables f. refl;
       }
@@ -170,7 +175,7 @@ module _ (registry : Registry) where
       let outputs = o ∷ os in
       let own = map lowered_column outputs in
       let here = select_schema registry schema output_label (λ (o : Lowered). o.after) output_typed (Some own) outputs (each_after_typed schema outputs each) distinct in
-      over_built (select_op (source_outputs outputs) None) (select_op (map lowered_named outputs) (Some own)) source lowered schema own built (select_columns schema None outputs each distinct) here refl (each_strict schema outputs each, tt) (each_named schema outputs each, tt) refl
+      over_built (select_op (source_outputs outputs) None) (select_op (map lowered_named outputs) (Some own)) source lowered schema own built (select_columns schema None outputs each distinct) here refl (each_strict schema outputs each, tt) (each_named schema outputs each, tt) tt refl
       (λ tables input meets. selected_agrees (by_running registry) (by_meaning registry) (map lowered_named outputs) (source_outputs outputs) schema input (agree schema outputs each) meets)
 
   -- the same of a select of expressions that become the outputs
@@ -186,7 +191,7 @@ module _ (registry : Registry) where
       let own = with_columns schema (map lowered_column outputs) in
       let there = hstack_schema registry schema output_label (λ (o : Lowered). core o.tree) output_typed None outputs (each_typed schema outputs each) distinct in
       let here = hstack_schema registry schema output_label (λ (o : Lowered). o.after) output_typed (Some own) outputs (each_after_typed schema outputs each) distinct in
-      over_built (hstack_op (source_outputs outputs) None) (hstack_op (map lowered_named outputs) (Some own)) source lowered schema own built there here refl (each_strict schema outputs each, tt) (each_named schema outputs each, tt) refl
+      over_built (hstack_op (source_outputs outputs) None) (hstack_op (map lowered_named outputs) (Some own)) source lowered schema own built there here refl (each_strict schema outputs each, tt) (each_named schema outputs each, tt) tt refl
       (λ tables input meets. hstacked_agrees (by_running registry) (by_meaning registry) (map lowered_named outputs) (source_outputs outputs) schema input (agree schema outputs each) meets)
 
   -- the same of an hstack of expressions that become the outputs
@@ -195,13 +200,32 @@ module _ (registry : Registry) where
       let expressions = sym (map-map named (λ (o : Lowered). o.tree) outputs) ∙ ap (map named) selects.trees_are in
       subst (λ es. IsBuilt registry (node (hstack_op es None) (more source no_more)) (lowered_hstack schema outputs lowered) (with_columns schema (map lowered_column outputs))) expressions (stacked_over source lowered schema built outputs selects.each selects.distinct)
 
-  -- a filter by one output over what was built from its input
+  -- a filter over what was built from its input, split
   filter_over : (source lowered : Plan) (schema : Columns) → IsBuilt registry source lowered schema → (o : Lowered) → IsLowered registry schema o → o.typed.type ≡ Truth → IsBuilt registry (resolved_filter o.tree source) (lowered_filter o lowered) schema
   filter_over source lowered schema built o is truth =
-      let there = filter_schema registry schema (named o.tree) o.typed is.typed truth in
-      let here = filter_schema registry schema (lowered_named o) o.typed (after_typed schema o is) truth in
-      over_built (filter_op (named o.tree)) (filter_op (lowered_named o)) source lowered schema schema built there here refl ((strict_core schema o is, tt), tt) (each_named schema (o ∷ []) (is, tt), tt) refl
-      (λ tables input meets. filtered_agrees (by_running registry) (by_meaning registry) (lowered_named o) (named o.tree) schema input (agree schema (o ∷ []) (is, tt)) meets)
+      let before = filter_op (named o.tree) in
+      let there = over_schema before source schema schema built.source_schema (filter_schema registry schema (named o.tree) o.typed is.typed truth) in
+      let condition : IsCondition registry schema o.after = record { own = o.typed; typed = is.same.typing ∙ is.typed; truth = truth; strict = is.strict } in
+      let core = after_core schema o is in
+      let predicates = split_predicates registry schema (lowered_named o) condition core (own_named schema o is) in
+      let s = stacked registry schema (split_predicate (lowered_named o)) lowered predicates built.lowered_schema built.accepted built.strict built.names built.split in
+      record {
+        well_formed = (ap is_some there, (built.well_formed, tt));
+        source_schema = there;
+        lowered_schema = s.schema_is;
+        accepted = s.accepted;
+        strict = s.strict;
+        names = s.names;
+        split = s.split;
+        fits = λ tables f. s.fits tables (built.fits tables (fits_input tables before source f));
+        same = λ tables f.
+            let under = fits_input tables before source f in
+            let meets = built_meets source lowered schema tables built under in
+            runs_as registry schema tables (split_predicate (lowered_named o)) lowered
+            ∙ split_runs registry schema (lowered_named o) condition core (plan_run registry tables lowered) meets
+            ∙ filtered_agrees (by_running registry) (by_meaning registry) (lowered_named o) (named o.tree) schema (plan_run registry tables lowered) (agree schema (o ∷ []) (is, tt)) meets
+            ∙ ap (λ input. plan_kernel tables (by_meaning registry) before (input ∷ [])) (built.same tables under);
+      }
 
   -- the same of a filter by an expression that becomes the output
   pub filter_built : (source lowered : Plan) (schema : Columns) (tree : Expression) (output : Lowered) → IsBuilt registry source lowered schema → FiltersBy registry schema tree output → IsBuilt registry (resolved_filter tree source) (lowered_filter output lowered) schema

@@ -61,6 +61,7 @@ built = record {
   accepted = (refl, ((refl, tt), tt));
   strict = ((((refl, refl), tt), tt), ((tt, tt), tt));
   names = (((inr refl, tt), tt), ((tt, tt), tt));
+  split = (tt, ((tt, tt), tt));
   fits = λ tables fits. fits;
   same = same_frame;
 }

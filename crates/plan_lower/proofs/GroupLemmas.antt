@@ -1,15 +1,14 @@
 -- Group-bys: their columns, what is built from them, and why one isn't lowered.
-use Rattle.std.proofs.Common.{◌≡◌, ◌⊎◌, ◌||◌, ℕ, zero, suc, ◌+◌, ◌<◌, ◌≤◌, ◌==◌, List, [], ◌∷◌, ◌++◌, length, map, drop, get_or, Bool, true, false, is_some, Option, Some, None, Ok, slice_get, refl, sym, ap, ◌∙◌, subst, arith, append_assoc, append-nil, ⊎_elim}
+use Rattle.std.proofs.Common.{◌≡◌, ◌||◌, ℕ, zero, suc, ◌+◌, ◌<◌, ◌≤◌, ◌==◌, List, [], ◌∷◌, ◌++◌, length, map, drop, get_or, Bool, true, false, is_some, Some, None, Ok, slice_get, refl, sym, ap, ◌∙◌, subst, arith, append_assoc, append-nil}
 use Rattle.std.specs.List.{AllByRecursion, Contains, list_all}
 use Rattle.std.specs.Option.{option_map}
 use Rattle.std.proofs.lemmas.List.{drop_all, map-append, length-map}
 use Rattle.std.proofs.lemmas.Bool.{and_parts}
 use Rattle.std.proofs.lemmas.Option.{slice_get_within, slice_get-get_or, slice_get-map, get_or_from_slice_get}
-use Rattle.std.proofs.lemmas.List.Elements.{Contains-append_left, Contains-append_right, Contains-push}
+use Rattle.std.proofs.lemmas.List.Elements.{Contains-append_right, Contains-push}
 use Rattle.plan_types.specs.Types.{Ty}
 use Rattle.plan_types.specs.Schemas.{Name, Columns, same_name, type_at, HasDistinctNames, is_among, repeats, names_of}
-use Rattle.plan_types.specs.Errors.{no_memory, at_top, IsMemoryOr}
-use Rattle.plan_types.specs.declared.error.ErrorKind.{ErrorKind}
+use Rattle.plan_types.specs.Errors.{at_top}
 use Rattle.plan_types.specs.declared.error.ErrorKind.TheVariants.{ComputeError, Duplicate}
 use Rattle.plan_types.specs.declared.error.PlanError.{PlanError}
 use Rattle.plan_types.proofs.ListLemmas.{item_left, map-map}
@@ -23,7 +22,7 @@ use Rattle.plan_dsl.specs.Names.{name_of}
 use Rattle.plan_dsl.specs.Plans.{Plan, SourcePlan, Named, named, GroupByKind, group_by_op, source_group_by}
 use Rattle.plan_dsl.specs.PlanRules.{all_kinds, broken_kinds, group_kinds, key_kinds, kind_where, name_kinds, schema_of, type_in_groups}
 use Rattle.plan_dsl.specs.Refusals.{then_ok}
-use Rattle.plan_dsl.specs.Resolving.{expanded_kind, over_keys, resolved}
+use Rattle.plan_dsl.specs.Resolving.{over_keys, resolved}
 use Rattle.plan_dsl.specs.Sources.{Source, is_plain, written}
 use Rattle.plan_dsl.specs.Expressions.{plain_tree, tree_of}
 use Rattle.plan_dsl.specs.declared.expr.Expr.{Expr}
@@ -35,10 +34,9 @@ use Rattle.plan_dsl.proofs.ResolvingLemmas.{group_resolved}
 use Rattle.plan_dsl.proofs.RuleLemmas.{aggregate_refused_kind, group_schema, key_refused_kind, no_keys_kind}
 use Rattle.plan_arena.specs.declared.aexpr.AExpr.{AExpr}
 use Rattle.plan_arena.specs.declared.ir.IR.{IR}
-use Rattle.plan_arena.specs.Denotation.{Denotes}
 use Rattle.plan_arena.specs.Layers.{layer}
 use Rattle.plan_arena.specs.declared.expr_ir.ExprIR.{ExprIR}
-use Rattle.plan_arena.specs.Items.{DenoteNamed, Grows, HoldsExpression, named_node, plan_layer}
+use Rattle.plan_arena.specs.Items.{Grows, HoldsExpression, named_node, plan_layer}
 use Rattle.plan_arena.specs.Runs.{by_running}
 use Rattle.plan_arena.proofs.ItemLemmas.{any_node, named_kept, plan_added, plan_tree_kept}
 use Rattle.plan_dsl.specs.PlanMeaning.{by_meaning}
@@ -47,7 +45,6 @@ use Rattle.plan_infer.specs.KeptTypes.{AllKept, IsKept, IsRight, KeepsEntry, Kee
 use Rattle.plan_infer.specs.declared.type_table.Inferred.{Inferred}
 use Rattle.plan_infer.specs.declared.type_table.TypeTable.{TypeTable}
 use Rattle.plan_infer.proofs.TableLemmas.{keeps_one, kept_typing}
-use Rattle.plan_coerce.specs.Coercion.{IsCoerced}
 use Rattle.plan_lower.specs.Groups.{GroupsTo, HasAggregates, HasExpandedGroups, HasGroups, IsAggregateRefusal, not_typed, twice, IsGroupRefusal, short, without_keys, of_keys, of_aggregates, IsUngrouped, keys_unexpanded, aggregates_unexpanded, not_grouped, group_column, group_columns_of, lowered_groups, named_in_groups}
 use Rattle.plan_lower.specs.Lowering.{IsBuilt, IsGroupByAt, IsPlanRefusal, out_of_memory, StandsFor, resolved_groups}
 use Rattle.plan_lower.specs.Outputs.{HasOutputs, IsLowered, Lowered, lowered_column, lowered_named}
@@ -295,7 +292,7 @@ module _ (registry : Registry) where
       let own = group_columns_of keys aggs in
       let there = group_schema registry schema output_label (λ (o : Lowered). core o.tree) output_typed None k ks aggs (each_typed registry schema keys each) (each_typed registry schema aggs also) distinct in
       let here = group_schema registry schema output_label (λ (o : Lowered). o.after) output_typed (Some own) k ks aggs (each_after_typed registry schema keys each) (each_after_typed registry schema aggs also) distinct in
-      over_built registry (group_by_op (source_outputs keys) (source_outputs aggs) None) (group_by_op (map lowered_named keys) (map lowered_named aggs) (Some own)) source lowered schema own built there here refl (each_strict registry schema keys each, (each_strict registry schema aggs also, tt)) (each_named registry schema keys each, (each_named registry schema aggs also, tt)) refl
+      over_built registry (group_by_op (source_outputs keys) (source_outputs aggs) None) (group_by_op (map lowered_named keys) (map lowered_named aggs) (Some own)) source lowered schema own built there here refl (each_strict registry schema keys each, (each_strict registry schema aggs also, tt)) (each_named registry schema keys each, (each_named registry schema aggs also, tt)) tt refl
       (λ tables input meets. grouped_agrees (by_running registry) (by_meaning registry) (map lowered_named keys) (source_outputs keys) (map lowered_named aggs) (source_outputs aggs) schema input (agree registry schema keys each) (agree registry schema aggs also) meets)
 
   -- the same of a group-by of expressions that become keys and aggregates

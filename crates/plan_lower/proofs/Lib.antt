@@ -2,6 +2,7 @@ pub mod BuiltLemmas
 pub mod DropLemmas
 pub mod ExpressionFieldLemmas
 pub mod ExamplePlanLemmas
+pub mod FilterLemmas
 pub mod GroupLemmas
 pub mod NodeLemmas
 pub mod PlanLemmas

@@ -15,18 +15,21 @@ use Rattle.plan_dsl.specs.Expansion.{expansions, predicate_expansion}
 use Rattle.plan_dsl.specs.Resolving.{resolved}
 use Rattle.plan_dsl.proofs.ResolvingLemmas.{select_resolved, hstack_resolved, filter_resolved}
 use Rattle.plan_arena.specs.declared.aexpr.AExpr.{AExpr}
+use Rattle.plan_arena.specs.declared.expr_ir.ExprIR.{ExprIR}
 use Rattle.plan_arena.specs.declared.ir.IR.{IR}
 use Rattle.plan_arena.specs.declared.plan.IRPlan.{IRPlan}
 use Rattle.plan_arena.specs.Denotation.{Denotes}
 use Rattle.plan_arena.specs.Layers.{layer}
-use Rattle.plan_arena.specs.Items.{HoldsExpression, HoldsPlan, DenoteNamed, Grows, plan_layer}
+use Rattle.plan_arena.specs.Items.{HoldsExpression, HoldsPlan, DenoteNamed, Grows, named_node, plan_layer}
 use Rattle.plan_arena.proofs.DenotationLemmas.{denotes_one}
 use Rattle.plan_arena.proofs.ItemLemmas.{plan_added, plan_stays, plan_tree_kept, plan_laws}
 use Rattle.plan_arena.proofs.RunLemmas.{runs_soundly}
 use Rattle.plan_lower.specs.Outputs.{Lowered, lowered_named, lowered_column, over, lowered_select, lowered_hstack, HasExpandedOutputs}
 use Rattle.plan_lower.specs.Predicates.{HasExpandedPredicate, IsUnfiltered, not_expanded as unreduced, no_predicate, lowered_filter}
 use Rattle.plan_lower.specs.Projection.{IsUnprojected, not_expanded, not_projected}
-use Rattle.plan_lower.specs.Lowering.{IsBuilt, IsPlanRefusal, IsSelectAt, IsHStackAt, IsFilterAt, StandsFor, IsEmptyTableAt, IsTyped, IsSound, GivesSameFrame}
+use Rattle.plan_lower.specs.Lowering.{IsBuilt, IsPlanRefusal, IsSelectAt, IsHStackAt, IsFilterAt, StandsFor, IsEmptyTableAt, AreFilters, IsTyped, IsSplit, IsSound, GivesSameFrame}
+use Rattle.plan_properties.specs.Splitting.{split_predicate}
+use Rattle.plan_lower.proofs.FilterLemmas.{filters_denoted}
 use Rattle.plan_lower.proofs.BuiltLemmas.{unexpanded_then, unexpanded_kind, unresolved_refused, scan_built, scan_refused_at, select_built, select_refused_at, hstack_built, hstack_refused_at, filter_built, filter_refused_at, refused_in_input}
 
 -- the empty table
@@ -64,10 +67,11 @@ pub hstack_at : (registry : Registry) (schema : Columns) (items : List AExpr) (p
 hstack_at registry schema items plans new item n input sources nodes own whole h with_own grown at is =
     record { nodes = nodes; own = own; has = h; whole = with_own; item = rw (grown, at) (plan_added plans item ∙ ap Some is) }
 
--- a filter that was added over its input
-pub filter_at : (registry : Registry) (schema : Columns) (items : List AExpr) (plans new : List IR) (item : IR) (n input : ℕ) (source : Source) (predicate : Named ℕ) → HasExpandedPredicate registry schema items source predicate → new ≡ plans ++ item ∷ [] → n ≡ length plans → plan_layer item ≡ layer (filter_op predicate) (input ∷ []) → IsFilterAt registry schema items new n input source
-filter_at registry schema items plans new item n input source predicate h grown at is =
-    record { predicate = predicate; has = h; item = rw (grown, at) (plan_added plans item ∙ ap Some is) }
+-- filters that were added over their input
+pub filter_at : (registry : Registry) (schema : Columns) (items : List AExpr) (new : List IR) (n input : ℕ) (source : Source) (predicate : Named ℕ) (parts : List ExprIR) → HasExpandedPredicate registry schema items source predicate
+    → ((whole : Named Expression) → DenoteNamed items (predicate ∷ []) (whole ∷ []) → DenoteNamed items (map named_node parts) (split_predicate whole)) → AreFilters new n (map named_node parts) input → IsFilterAt registry schema items new n input source
+filter_at registry schema items new n input source predicate parts h splits filters =
+    record { predicate = predicate; has = h; parts = map named_node parts; denote = splits (lowered_named h.lowered.output) h.lowered.denotes; filters = filters }
 
 module _ (registry : Registry) where
   -- a scan that was added
@@ -143,7 +147,7 @@ module _ (registry : Registry) where
       let built = filter_built registry (resolved registry source) s.lowered schema is.has.tree output s.built has.filters in
       record {
         lowered = lowered;
-        denotes = (input ∷ [], record { flat = filter_op is.predicate; item = is.item; denotes = record { same_recorded = refl; kind = (lowered_named output, refl, has.denotes) } }, (plan_tree_kept items items' plans new keeps grows input s.lowered s.denotes, tt));
+        denotes = filters_denoted items' new is.parts (split_predicate (lowered_named output)) n input s.lowered is.filters is.denote (plan_tree_kept items items' plans new keeps grows input s.lowered s.denotes);
         built = subst (λ c. IsBuilt registry plan lowered c) (sym copy) (subst (λ p. IsBuilt registry p lowered schema) (sym there) built);
       }
 
@@ -168,6 +172,9 @@ module _ (registry : Registry) where
   pub stands_typed : (lowering : IRPlan) (schema : Columns) (plan : Plan) → StandsFor registry lowering.expr_arena lowering.lp_arena lowering.lp_top.0 schema plan → IsTyped registry plan lowering
   stands_typed lowering schema plan s =
       record { tree = s.lowered; denotes = s.denotes; accepted = s.built.accepted; strict = s.built.strict; names = s.built.names; schema = s.built.source_schema ∙ sym s.built.lowered_schema }
+
+  pub stands_split : (lowering : IRPlan) (schema : Columns) (plan : Plan) → StandsFor registry lowering.expr_arena lowering.lp_arena lowering.lp_top.0 schema plan → IsSplit lowering
+  stands_split lowering schema plan s tree d = (built_one lowering.expr_arena lowering.lp_arena lowering.lp_top.0 schema plan tree s d).split
 
   pub stands_sound : (lowering : IRPlan) (schema : Columns) (plan : Plan) → StandsFor registry lowering.expr_arena lowering.lp_arena lowering.lp_top.0 schema plan → IsSound registry plan lowering
   stands_sound lowering schema plan s tree d tables fits =

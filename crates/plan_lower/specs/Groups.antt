@@ -2,7 +2,7 @@
 use Rattle.std.specs.Prelude.{◌≡◌, ℕ, List, [], ◌∷◌, ◌++◌, map, true, Ok, Some}
 use Rattle.std.specs.List.{AllByRecursion}
 use Rattle.plan_types.specs.Types.{Ty}
-use Rattle.plan_types.specs.Schemas.{Name, Columns, HasDistinctNames, repeats, names_of}
+use Rattle.plan_types.specs.Schemas.{Name, Columns, HasDistinctNames, repeats}
 use Rattle.plan_types.specs.Errors.{no_memory, at_top}
 use Rattle.plan_types.specs.declared.error.ErrorKind.TheVariants.{ComputeError, Duplicate}
 use Rattle.plan_types.specs.declared.error.PlanError.{PlanError}

@@ -22,11 +22,12 @@ use Rattle.plan_arena.specs.declared.ir.IR.{IR}
 use Rattle.plan_arena.specs.declared.plan.IRPlan.{IRPlan}
 use Rattle.plan_arena.specs.Denotation.{Denotes}
 use Rattle.plan_arena.specs.Layers.{Layer, layer, op_of}
-use Rattle.plan_arena.specs.Items.{HoldsPlan, DenotesPlan, plan_layer}
+use Rattle.plan_arena.specs.Items.{DenoteNamed, HoldsPlan, DenotesPlan, plan_layer}
 use Rattle.plan_arena.specs.Runs.{IsAccepted, IsStrictPlan, IsNamedPlan, plan_run, RunsSoundly}
 use Rattle.plan_expand.specs.Refusals.{IsUnexpanded}
+use Rattle.plan_properties.specs.Splitting.{IsSplitPlan, split_predicate}
 use Rattle.plan_lower.specs.Groups.{HasExpandedGroups}
-use Rattle.plan_lower.specs.Outputs.{HasExpandedOutputs}
+use Rattle.plan_lower.specs.Outputs.{HasExpandedOutputs, lowered_named}
 use Rattle.plan_lower.specs.Predicates.{HasExpandedPredicate}
 
 -- what is built from a well-formed plan, and the schema of both
@@ -38,6 +39,7 @@ pub record IsBuilt (registry : Registry) (source lowered : Plan) (schema : Colum
   pub strict : IsStrictPlan registry lowered
   pub names : IsNamedPlan lowered
   pub fits : (tables : List Frame) → FitsPlan tables source → FitsPlan tables lowered
+  pub split : IsSplitPlan lowered
   pub same : (tables : List Frame) → FitsPlan tables source → plan_run registry tables lowered ≡ source_meaning registry tables source
 
 -- the node denotes what was built from the plan, and both have the schema
@@ -66,6 +68,10 @@ pub record IsTyped (registry : Registry) (plan : Plan) (lowering : IRPlan) : Typ
   pub names : IsNamedPlan tree
   pub schema : schema_of registry plan ≡ schema_of registry tree
 
+-- no filter of the plan that the top denotes can be split further
+abbrev pub IsSplit : IRPlan → Type 0
+IsSplit lowering = (tree : Plan) → DenotesPlan lowering tree → IsSplitPlan tree
+
 -- on tables that fit the query's plan no node is stuck, and the frame of each has the node's own schema
 abbrev pub IsSound : Registry → Plan → IRPlan → Type 0
 IsSound registry plan lowering =
@@ -83,6 +89,7 @@ pub record IsLoweringOf (registry : Registry) (plan : Plan) (lowering : IRPlan) 
   pub accepted : IsAccepted registry tree
   pub strict : IsStrictPlan registry tree
   pub names : IsNamedPlan tree
+  pub split : IsSplitPlan tree
   pub schema : schema_of registry plan ≡ schema_of registry tree
   pub sound : (tables : List Frame) → FitsPlan tables plan → RunsSoundly registry tables tree
   pub same_frame : (tables : List Frame) → FitsPlan tables plan → plan_run registry tables tree ≡ source_meaning registry tables plan
@@ -149,11 +156,19 @@ pub record IsGroupByAt (registry : Registry) (schema : Columns) (expressions : L
   pub has : HasExpandedGroups registry schema expressions keys aggs nodes others columns
   pub item : slice_get (map plan_layer plans) n ≡ Some (layer (group_by_op nodes others (Some columns)) (input ∷ []))
 
--- the node is a filter by what stands for the source expression, over an input of the schema
+-- nodes are filters by the predicates, each over the next, and the last over the input
+abbrev pub AreFilters : List IR → ℕ → List (Named ℕ) → ℕ → Type 0
+AreFilters plans n [] input = n ≡ input
+AreFilters plans n (predicate ∷ predicates) input =
+    (below : ℕ) × (slice_get (map plan_layer plans) n ≡ Some (layer (filter_op predicate) (below ∷ []))) × AreFilters plans below predicates input
+
+-- the node is a filter by what stands for the source expression, split, over an input of the schema
 pub record IsFilterAt (registry : Registry) (schema : Columns) (expressions : List AExpr) (plans : List IR) (n input : ℕ) (source : Source) : Type 0 where
   pub predicate : Named ℕ
   pub has : HasExpandedPredicate registry schema expressions source predicate
-  pub item : slice_get (map plan_layer plans) n ≡ Some (layer (filter_op predicate) (input ∷ []))
+  pub parts : List (Named ℕ)
+  pub denote : DenoteNamed expressions parts (split_predicate (lowered_named has.lowered.output))
+  pub filters : AreFilters plans n parts input
 
 -- the node is a simple projection of what a drop leaves of the schema, over an input of the schema, or where nothing is
 -- left over the empty table

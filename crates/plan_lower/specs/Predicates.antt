@@ -17,6 +17,7 @@ use Rattle.plan_dsl.specs.Literals.{settled}
 use Rattle.plan_dsl.specs.Typing.{Typed, typing}
 use Rattle.plan_arena.specs.declared.aexpr.AExpr.{AExpr}
 use Rattle.plan_arena.specs.Items.{DenoteNamed}
+use Rattle.plan_properties.specs.Splitting.{split_predicate}
 use Rattle.plan_lower.specs.Outputs.{Lowered, IsLowered, lowered_named}
 
 -- the expression becomes this output, which is of the type of truth values
@@ -48,6 +49,11 @@ pub data IsUnfiltered (registry : Registry) (schema : Columns) (source : Source)
   not_expanded : IsRefusal (predicate_expansion schema source) error → IsUnfiltered registry schema source error
   no_predicate : (tree : Expression) → predicate_expansion schema source ≡ Ok tree → IsPredicateRefusal registry schema tree error → IsUnfiltered registry schema source error
 
--- a filter by the output over a lowered plan
+-- filters over a lowered plan, the last innermost
+abbrev pub filters_over : List (Named Expression) → Plan → Plan
+filters_over [] input = input
+filters_over (predicate ∷ predicates) input = node (filter_op predicate) (more (filters_over predicates input) no_more)
+
+-- a filter by the output over a lowered plan, split
 abbrev pub lowered_filter : Lowered → Plan → Plan
-lowered_filter output input = node (filter_op (lowered_named output)) (more input no_more)
+lowered_filter output input = filters_over (split_predicate (lowered_named output)) input

@@ -245,7 +245,7 @@ module _ (F : Type 0) (g : Op → Bool) (tells : (op : Op) → g op ≡ true →
           let both = and_parts (holds_by never g t) (list_all (λ b. b) (fold_all (step g) ts)) s in
           by_children (λ typed. AllHave (length rows) rows typed (meaning registry frame t ∷ meaning_all registry frame ts)) _ _ below h (λ own rest first others. (has_values t own first both.0, have_values ts rest others both.1))
 
-harmless_tells : (op : Op) → is_own_harmless op ≡ true → is_own_elementwise op ≡ true
+pub harmless_tells : (op : Op) → is_own_harmless op ≡ true → is_own_elementwise op ≡ true
 harmless_tells (CastOp target Strict) h = cc
 harmless_tells (CastOp target NonStrict) h = refl
 harmless_tells (CastOp target Overflowing) h = refl

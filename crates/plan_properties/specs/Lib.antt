@@ -3,3 +3,4 @@ pub mod Asking
 pub mod Laws
 pub mod Properties
 pub mod Samples
+pub mod Splitting

@@ -4,13 +4,18 @@ ghost use Rattle.std.specs.Prelude.{◌≡◌, [], ◌∷◌, map, true, false};
 ghost use Rattle.plan_types.specs.Outcomes.{Done, Fault, Stuck};
 ghost use Rattle.plan_types.specs.declared.dtype.CastOptions.TheVariants.{Strict, NonStrict, Overflowing};
 ghost use Rattle.plan_dsl.specs.declared.aggregate.GroupByMethod.TheVariants.{Min, NanMax, First, Last, NUnique, Implode, Groups, Sum, Count};
-ghost use Rattle.plan_dsl.specs.Samples.{Gives, GivesAll, GivesOfTwo, a, b, alias, cast_as, count, int8, no, number, one, over, slice, sum, yes};
-ghost use Rattle.plan_dsl.specs.Ops.{AggOp};
+ghost use Rattle.std.specs.List.{AllByRecursion};
+ghost use Rattle.plan_types.specs.Types.{Truth};
+ghost use Rattle.plan_dsl.specs.Samples.{Gives, GivesAll, GivesOfTwo, a, b, c, alias, binary, cast_as, count, equal, int8, no, number, one, over, slice, sum, text, yes};
+ghost use Rattle.plan_dsl.specs.Ops.{AggOp, BinaryOp, LenOp};
+ghost use Rattle.plan_dsl.specs.Plans.{empty_table};
+ghost use Rattle.plan_dsl.specs.declared.operator.Operator.TheVariants.{And, Eq, LogicalAnd, Or};
 ghost use Rattle.plan_dsl.specs.WindowLaws.{of_each};
 ghost use Rattle.plan_dsl.specs.Trees.{Trees, node, no_more, more};
 ghost use Rattle.plan_properties.specs.Laws.{GoesByRows, HasValues, HasValuesOr, by_rows, joined, row_count};
 ghost use Rattle.plan_properties.specs.Properties.{all_trees, can_pre_agg, has_column, is_elementwise, is_scalar, permits_pushdown};
-ghost use Rattle.plan_properties.specs.Samples.{aggregate};
+ghost use Rattle.plan_properties.specs.Samples.{above_beside_one, aggregate, both, filtered_by, frame_of, is_above, is_one, no_number, under_alias, words_and_numbers};
+ghost use Rattle.plan_properties.specs.Splitting.{IsCondition, IsSplitPlan, conjuncts, is_conjunction, is_whole, kept_by, kept_by_all, own_named, split_predicate};
 
 /// Columns, literals, operators, casts and aliases of these have a value for each row. What counts rows, picks them or
 /// takes them together has none. A strict cast may have a fault of its own.
@@ -57,4 +62,32 @@ pub fn meanings_by_rows()
     ensures not_one { ¬ (HasValues 1 (Done (yes ∷ no ∷ []))) }
     ensures no_fault { ¬ (HasValues 0 Fault) }
     ensures allowed { HasValuesOr (yes ≡ yes) 2 Fault }
+{}
+
+/// A predicate's parts are those of both operands, where its top joins two. A filter is split to them, under their own names,
+/// where no part can have a fault.
+pub fn predicates_in_parts()
+    ensures conjunctions { Gives is_conjunction ((BinaryOp And, true) ∷ (BinaryOp LogicalAnd, true) ∷ (BinaryOp Or, false) ∷ (BinaryOp Eq, false) ∷ (LenOp, false) ∷ []) }
+    ensures parts { Gives conjuncts (
+        (a, a ∷ []) ∷ (both a b, a ∷ b ∷ []) ∷ (both (both a b) c, a ∷ b ∷ c ∷ []) ∷ (both a (both b c), a ∷ b ∷ c ∷ []) ∷
+        (binary LogicalAnd a (both b c), a ∷ b ∷ c ∷ []) ∷ (binary Or (both a b) c, binary Or (both a b) c ∷ []) ∷ (equal (both a b) c, equal (both a b) c ∷ []) ∷ []) }
+    ensures split { split_predicate (under_alias (both a b)) ≡ own_named a ∷ own_named b ∷ [] }
+    ensures one_part { split_predicate (under_alias a) ≡ own_named a ∷ [] }
+    ensures not_split { split_predicate (under_alias (both a (cast_as Strict Truth b))) ≡ under_alias (both a (cast_as Strict Truth b)) ∷ [] }
+    ensures whole { Gives is_whole ((a, true) ∷ (both a b, false) ∷ (both a (cast_as Strict Truth b), true) ∷ (binary Or a b, true) ∷ []) }
+    ensures plan { IsSplitPlan (filtered_by a (filtered_by b empty_table)) }
+    ensures no_plan { ¬ (IsSplitPlan (filtered_by a (filtered_by (both a b) empty_table))) }
+{}
+
+/// A text that is no number, beside 2, where the number above 0 is asked for beside 1. By parts, of which the last comes
+/// first, no row is left to have the fault that the whole has; where the cast gives null, there is none.
+pub fn filters_in_parts()
+    ensures whole { kept_by [] (above_beside_one Strict) no_number ≡ Fault }
+    ensures in_parts { kept_by_all [] (conjuncts (above_beside_one Strict)) no_number ≡ Done (frame_of []) }
+    ensures nulls { kept_by [] (above_beside_one NonStrict) no_number ≡ Done (frame_of []) }
+    ensures nulls_in_parts { kept_by_all [] (conjuncts (above_beside_one NonStrict)) no_number ≡ Done (frame_of []) }
+    ensures kept { kept_by_all [] (is_one ∷ []) (frame_of ((text "x" ∷ number 1 ∷ []) ∷ (text "y" ∷ number 2 ∷ []) ∷ [])) ≡ Done (frame_of ((text "x" ∷ number 1 ∷ []) ∷ [])) }
+    ensures conditions { AllByRecursion (IsCondition [] words_and_numbers) (is_one ∷ is_above NonStrict ∷ above_beside_one Strict ∷ []) }
+    ensures no_condition { ¬ (IsCondition [] words_and_numbers b) }
+    ensures not_strict { ¬ (IsCondition [] words_and_numbers (equal b one)) }
 {}

@@ -5,3 +5,4 @@ pub mod asked;
 mod examples;
 pub mod laws;
 pub mod properties;
+pub mod splitting;

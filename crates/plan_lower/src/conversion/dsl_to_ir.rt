@@ -11,11 +11,11 @@ ghost use Rattle.plan_dsl.specs.Registry.{registry};
 ghost use Rattle.plan_dsl.specs.Resolving.{resolved};
 ghost use Rattle.plan_dsl.specs.Sources.{Source};
 ghost use Rattle.plan_dsl.specs.Trees.{node, no_more, more};
-ghost use Rattle.plan_arena.specs.Items.{HoldsExpression, Grows, plan_layer};
+ghost use Rattle.plan_arena.specs.Items.{HoldsExpression, Grows, named_node, plan_layer};
 ghost use Rattle.plan_arena.specs.Layers.{layer};
 ghost use Rattle.plan_expand.specs.Refusals.{IsUnexpanded};
 ghost use Rattle.plan_lower.specs.Groups.{IsUngrouped};
-ghost use Rattle.plan_lower.specs.Lowering.{IsDropAt, IsFunctionAt, IsFunctionRefusal, IsFilterAt, IsGroupByAt, IsHStackAt, IsSelectAt, StandsFor, IsPlanRefusal, IsEmptyTableAt, Records, recorded_at, columns_at, Answers, IsTyped, IsSound, GivesSameFrame};
+ghost use Rattle.plan_lower.specs.Lowering.{IsDropAt, IsFunctionAt, IsFunctionRefusal, AreFilters, IsFilterAt, IsGroupByAt, IsHStackAt, IsSelectAt, StandsFor, IsPlanRefusal, IsEmptyTableAt, Records, recorded_at, columns_at, Answers, IsTyped, IsSplit, IsSound, GivesSameFrame};
 ghost use Rattle.plan_lower.specs.Predicates.{IsUnfiltered};
 ghost use Rattle.plan_lower.specs.Projection.{IsUnprojected};
 
@@ -26,12 +26,14 @@ use crate::conversion::projection::project_strictly;
 use crate::conversion::put_copy::put_copy;
 use plan_arena::aexpr::AExpr;
 use plan_arena::arena::{Arena, Node};
+use plan_arena::expr_ir::ExprIR;
 use plan_arena::ir::IR;
 use plan_arena::plan::IRPlan;
 use plan_dsl::expr::{Expr, Exprs};
 use plan_dsl::function::{DropFunction, DslFunction};
 use plan_dsl::plan::{DslPlan, ProjectionOptions};
 use plan_dsl::udfs::Udfs;
+use plan_properties::splitting::split_predicate;
 use plan_types::error::{ErrorKind, PlanError};
 use plan_types::schema::Schema;
 use std::alloc::Global;
@@ -46,6 +48,7 @@ pub trait PlanLowering {
     fn to_alp(self, alloc: Global, udfs: &Udfs) -> Result<IRPlan, PlanError>
         ensures answers { Answers (registry udfs.now) (resolved (registry udfs.now) (tree self)) result }
         ensures typed { IfOk result (IsTyped (registry udfs.now) (resolved (registry udfs.now) (tree self))) }
+        ensures split { IfOk result IsSplit }
         ensures sound { IfOk result (IsSound (registry udfs.now) (resolved (registry udfs.now) (tree self))) }
         ensures same_frame { IfOk result (GivesSameFrame (registry udfs.now) (resolved (registry udfs.now) (tree self))) };
 }
@@ -294,7 +297,7 @@ fn below(alloc: Global, error: PlanError) -> PlanError
     }
 }
 
-// Adds a filter over a lowered input, whose schema it has.
+// Adds the filters to which one is split over a lowered input, whose schema they have.
 fn lower_filter(
     input: LoweredNode,
     predicate: Expr,
@@ -313,14 +316,33 @@ fn lower_filter(
 {
     let schema = recorded_schema(lp_arena, input.schema_node);
     let predicate = lower_predicate(predicate, schema, expr_arena, udfs)?;
-    let node = lp_arena.add(IR::Filter {
-        input: input.node,
-        predicate,
-    })?;
+    let predicates = split_predicate(predicate, expr_arena, udfs)?;
+    let node = add_filters(input.node, predicates, lp_arena)?;
     Ok(LoweredNode {
         node,
         schema_node: input.schema_node,
     })
+}
+
+// Adds filters over an input, the last of them first.
+fn add_filters(
+    input: Node,
+    predicates: Vec<ExprIR>,
+    lp_arena: &mut Arena<IR>,
+) -> Result<Node, PlanError>
+    ensures ok { IfOk result (λ node. AreFilters lp_arena.new node.0 (map named_node predicates.items) input.0) }
+    ensures err { IfErr result (λ error. error ≡ no_memory) }
+    ensures grows { Grows lp_arena.old lp_arena.new }
+{
+    let mut node = input;
+    let mut predicates = predicates;
+    while let Some(predicate) = predicates.pop() {
+        node = lp_arena.add(IR::Filter {
+            input: node,
+            predicate,
+        })?;
+    }
+    Ok(node)
 }
 
 // Adds a select over a lowered input.

@@ -12,7 +12,7 @@ ghost use Rattle.plan_arena.specs.declared.aexpr.AExpr.TheVariants.{Column};
 ghost use Rattle.plan_arena.specs.declared.ir.IR.{IR};
 ghost use Rattle.plan_arena.specs.declared.plan.IRPlan.{IRPlan};
 ghost use Rattle.plan_arena.specs.Layers.{layer};
-ghost use Rattle.plan_lower.specs.Lowering.{IsBuilt, StandsFor, IsPlanRefusal, Answers, IsTyped, IsSound, GivesSameFrame, IsLoweringOf, resolved_select, resolved_hstack, resolved_filter, IsSelectAt, IsHStackAt, IsFilterAt, IsEmptyTableAt, recorded_in, recorded_at, columns_at, Records};
+ghost use Rattle.plan_lower.specs.Lowering.{IsBuilt, StandsFor, IsPlanRefusal, Answers, IsTyped, IsSplit, IsSound, GivesSameFrame, IsLoweringOf, resolved_select, resolved_hstack, resolved_filter, IsSelectAt, IsHStackAt, AreFilters, IsFilterAt, IsEmptyTableAt, recorded_in, recorded_at, columns_at, Records};
 ghost use Rattle.plan_infer.specs.Samples.{int8, int32, one_column, two_columns, a, c, sum, a_items, refused};
 ghost use Rattle.plan_lower.specs.Samples.{truths, keep, keep_items, node_named, scan_of, select_over, filter_over, query, lowered_query, scan_layer, select_layer, ForPlans, ForScan, ForSum};
 
@@ -32,6 +32,7 @@ pub fn refusals_of_plans()
 /// A query of a sum with its two arenas, for which all holds that lowering promises.
 pub fn lowering_of_a_sum()
     ensures typed { ForSum (λ lowering. IsTyped [] query lowering) }
+    ensures split { ForSum IsSplit }
     ensures sound { ForSum (λ lowering. IsSound [] query lowering) }
     ensures same_frame { ForSum (λ lowering. GivesSameFrame [] query lowering) }
     ensures all { ForSum (λ lowering. IsLoweringOf [] query lowering lowered_query) }
@@ -58,6 +59,8 @@ pub fn nodes_that_stand_for_plans()
     ensures not_built { ¬ (IsBuilt [] query (select_over (scan_of two_columns) sum (one_column int32)) (one_column int32)) }
     ensures filter { ForPlans (scan_layer (Some 0) truths ∷ layer (filter_op (node_named (codes "keep") 0)) (0 ∷ []) ∷ []) (λ plans.
         IsFilterAt [] truths keep_items plans 1 0 all) }
+    ensures filters { ForPlans (scan_layer (Some 0) truths ∷ layer (filter_op (node_named (codes "keep") 0)) (0 ∷ []) ∷ layer (filter_op (node_named (codes "keep") 1)) (1 ∷ []) ∷ []) (λ plans.
+        AreFilters plans 2 (node_named (codes "keep") 1 ∷ node_named (codes "keep") 0 ∷ []) 0) }
     ensures select { ForPlans (scan_layer (Some 0) (one_column Truth) ∷ select_layer 0 (one_column Truth) ∷ []) (λ plans.
         IsSelectAt [] (one_column Truth) a_items plans 1 0 (all ∷ []) (one_column Truth)) }
     ensures hstack { ForPlans (scan_layer (Some 0) (one_column Truth) ∷ layer (hstack_op (node_named (codes "a") 0 ∷ []) (Some (one_column Truth))) (0 ∷ []) ∷ []) (λ plans.

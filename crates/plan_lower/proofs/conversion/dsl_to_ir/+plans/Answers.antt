@@ -8,7 +8,7 @@ use Rattle.plan_dsl.specs.PlanRules.{schema_of}
 use Rattle.plan_dsl.specs.Registry.{registry}
 use Rattle.plan_dsl.specs.Resolving.{resolved_op, resolved}
 use Rattle.plan_dsl.specs.Trees.{node, no_more, more}
-use Rattle.plan_lower.specs.Lowering.{columns_at, IsPlanRefusal, StandsFor}
+use Rattle.plan_lower.specs.Lowering.{columns_at, StandsFor}
 use Rattle.plan_lower.proofs.DropLemmas.{function_below, function_stands, function_refused}
 use Rattle.plan_lower.proofs.GroupLemmas.{groups_stand, groups_refused}
 use Rattle.plan_lower.proofs.PlanLemmas.{scan_stands, scan_refused, filter_stands, filter_refused, select_stands, select_refused, hstack_stands, hstack_refused, refused_below}

@@ -1,10 +1,8 @@
 use Rattle.std.proofs.Common.{◌≡◌, ◌++◌, true, List, length, map, sym, ap, ◌∙◌, subst, arith, ⊎_elim}
 use Rattle.std.specs.List.{AllByRecursion}
-use Rattle.plan_types.proofs.ListLemmas.{map-map}
 use Rattle.plan_types.proofs.ResultLemmas.{passed_on}
 use Rattle.plan_types.specs.Schemas.{Name, columns, names_of, repeats}
 use Rattle.plan_dsl.specs.Registry.{registry}
-use Rattle.plan_arena.specs.Items.{named_node}
 use Rattle.plan_arena.proofs.ItemLemmas.{grown_held, length-grown}
 use Rattle.plan_infer.specs.Typed.{DenotesKnown}
 use Rattle.plan_coerce.specs.Coercion.{IsCoerced}

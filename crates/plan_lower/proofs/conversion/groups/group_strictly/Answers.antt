@@ -1,10 +1,8 @@
-use Rattle.std.proofs.Common.{◌≡◌, List, Ok, map, sym, subst}
+use Rattle.std.proofs.Common.{◌≡◌, List, Ok, sym, subst}
 use Rattle.plan_types.proofs.ResultLemmas.{passed_on}
 use Rattle.plan_types.specs.Schemas.{columns}
-use Rattle.plan_arena.specs.Items.{named_node}
 use Rattle.plan_dsl.specs.Expansion.{expansions, key_names}
 use Rattle.plan_dsl.specs.Expressions.{plain_trees, trees_of}
-use Rattle.plan_dsl.specs.Registry.{registry}
 use Rattle.plan_dsl.specs.Sources.{Source}
 use Rattle.plan_expand.specs.Refusals.{IsUnexpanded}
 use Rattle.plan_lower.specs.Groups.{keys_unexpanded, aggregates_unexpanded, not_grouped}

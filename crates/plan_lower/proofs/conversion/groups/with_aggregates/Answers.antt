@@ -1,4 +1,4 @@
-use Rattle.std.proofs.Common.{◌≡◌, ◌++◌, true, is_some, List, inl, inr, map, refl, sym, ap, ◌∙◌, subst, arith, ⊎_elim}
+use Rattle.std.proofs.Common.{◌≡◌, ◌++◌, true, is_some, List, inl, inr, map, refl, sym, subst, arith, ⊎_elim}
 use Rattle.std.specs.List.{AllByRecursion}
 use Rattle.plan_types.proofs.ResultLemmas.{passed_on}
 use Rattle.plan_types.specs.Schemas.{columns, names_of, type_at}

@@ -1,6 +1,5 @@
-use Rattle.std.proofs.Common.{◌≡◌, ◌∷◌, [], refl}
-use Rattle.plan_infer.specs.Samples.{int8, int32, two_columns, a, b}
-use Rattle.plan_lower.specs.Groups.{GroupsTo}
+use Rattle.std.proofs.Common.{◌∷◌, [], refl}
+use Rattle.plan_infer.specs.Samples.{int8, int32, a, b}
 use Rattle.plan_lower.specs.Samples.{as_it_is}
 use Rattle.plan_lower.proofs.ExamplePlanLemmas.{grouped}
 use Rattle.plan_lower.proofs.examples.groups.lowered_group_bys.Goals as goal

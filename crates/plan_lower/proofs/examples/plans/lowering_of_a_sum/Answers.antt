@@ -7,6 +7,7 @@ use Rattle.plan_arena.specs.Items.{HoldsPlan, DenotesPlan, plan_layer}
 use Rattle.plan_arena.specs.Runs.{plan_run, RunsSoundly}
 use Rattle.plan_arena.proofs.RunLemmas.{runs_soundly}
 use Rattle.plan_coerce.specs.Samples.{strict_items}
+use Rattle.plan_properties.specs.Splitting.{IsSplitPlan}
 use Rattle.plan_lower.specs.Samples.{query, lowered_query, sum_layers}
 use Rattle.plan_lower.proofs.ExamplePlanLemmas.{one_plan, lowered_denotes, built}
 use Rattle.plan_lower.proofs.examples.plans.lowering_of_a_sum.Goals as goal
@@ -23,6 +24,10 @@ pub returns-clause-typed : goal.returns-clause-typed
 returns-clause-typed c = λ lowering top expressions plans.
     record { tree = lowered_query; denotes = denotes lowering top expressions plans; accepted = built.accepted; strict = built.strict; names = built.names; schema = refl }
 
+pub returns-clause-split : goal.returns-clause-split
+returns-clause-split c = λ lowering top expressions plans tree d.
+    subst IsSplitPlan (one_plan lowering.expr_arena lowering.lp_arena lowering.lp_top.0 lowered_query tree (denotes lowering top expressions plans) d) built.split
+
 pub returns-clause-sound : goal.returns-clause-sound
 returns-clause-sound c = λ lowering top expressions plans tree d tables fits.
     subst (RunsSoundly [] tables) (one_plan lowering.expr_arena lowering.lp_arena lowering.lp_top.0 lowered_query tree (denotes lowering top expressions plans) d) (sound tables fits)
@@ -38,6 +43,7 @@ returns-clause-all c = λ lowering top expressions plans. record {
   accepted = built.accepted;
   strict = built.strict;
   names = built.names;
+  split = built.split;
   schema = refl;
   sound = sound;
   same_frame = built.same;

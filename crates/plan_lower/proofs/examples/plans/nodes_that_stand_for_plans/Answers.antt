@@ -48,8 +48,13 @@ returns-clause-filter c = λ plans is. record {
     expanded = refl;
     lowered = record { output = output (codes "keep"); filters = record { tree_is = refl; is = keep_lowered; truth = refl }; denotes = (refl, ([], refl, tt), tt) };
   };
-  item = item_at plans _ 1 _ is refl;
+  parts = node_named (codes "keep") 0 ∷ [];
+  denote = (refl, ([], refl, tt), tt);
+  filters = (0, item_at plans _ 1 _ is refl, refl);
 }
+
+pub returns-clause-filters : goal.returns-clause-filters
+returns-clause-filters c = λ plans is. (1, item_at plans _ 2 _ is refl, (0, item_at plans _ 1 _ is refl, refl))
 
 pub returns-clause-select : goal.returns-clause-select
 returns-clause-select c = λ plans is. record {
@@ -74,5 +79,5 @@ pub returns-clause-scan : goal.returns-clause-scan
 returns-clause-scan c = λ plans is. record {
   lowered = node (scan_op None []) no_more;
   denotes = scan_denotes [] plans 0 None [] (item_at plans _ 0 _ is refl);
-  built = record { well_formed = (refl, tt); source_schema = refl; lowered_schema = refl; accepted = (refl, tt); strict = (tt, tt); names = (tt, tt); fits = λ tables fits. fits; same = λ tables fits. refl };
+  built = record { well_formed = (refl, tt); source_schema = refl; lowered_schema = refl; accepted = (refl, tt); strict = (tt, tt); names = (tt, tt); split = (tt, tt); fits = λ tables fits. fits; same = λ tables fits. refl };
 }
