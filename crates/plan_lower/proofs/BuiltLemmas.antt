@@ -41,7 +41,7 @@ use Rattle.plan_lower.specs.Outputs.{Lowered, IsLowered, lowered_named, lowered_
 use Rattle.plan_lower.specs.Projection.{IsOutputRefusal, no_room, untyped, repeated, IsProjectionRefusal, out_of_memory as no_space, refused}
 use Rattle.plan_properties.specs.Splitting.{IsCondition, IsWhole, split_predicate}
 use Rattle.plan_lower.specs.Predicates.{FiltersBy, IsPredicateRefusal, without_room, without_type, of_other_type, lowered_filter}
-use Rattle.plan_lower.proofs.FilterLemmas.{runs_as, split_predicates, split_runs, stacked}
+use Rattle.plan_properties.proofs.FilterLemmas.{runs_as, split_predicates, split_runs, stacked}
 use Rattle.plan_lower.specs.Lowering.{IsBuilt, IsPlanRefusal, out_of_memory, broken, resolved_select, resolved_hstack, resolved_filter}
 
 abbrev pub output_label : Lowered → Label

@@ -4,6 +4,7 @@ use Rattle.std.specs.List.{AllByRecursion, list_all}
 use Rattle.std.proofs.lemmas.Bool.{and_from, and_parts, false≢true}
 use Rattle.std.proofs.lemmas.List.{map-append}
 use Rattle.plan_dsl.specs.Aliases.{all_pruned, inputs_pruned, pruned}
+use Rattle.plan_dsl.specs.Copies.{has_several}
 use Rattle.plan_dsl.specs.Expressions.{plain_tree, tree_of}
 use Rattle.plan_dsl.specs.Sources.{Plain, SourceOp, Source, all_are_plain, all_unwritten, is_plain, unwritten}
 use Rattle.plan_dsl.proofs.ExprLemmas.{IsListed, listed_plain}
@@ -11,14 +12,14 @@ use Rattle.plan_types.proofs.ListLemmas.{map-map}
 use Rattle.plan_dsl.specs.declared.expr.Expr.{Expr}
 use Rattle.plan_dsl.specs.declared.expr.Expr.TheVariants.{Alias, Alias', BinaryExpr, BinaryExpr', Filter, Filter', Gather, Gather', Literal, Slice, Slice'}
 use Rattle.plan_dsl.specs.Literals.{settled}
-use Rattle.plan_dsl.specs.Trees.{Trees, node, no_more, more, children_from}
+use Rattle.plan_dsl.specs.Trees.{Trees, node, no_more, more, children_from, top_op}
 use Rattle.plan_dsl.specs.Ops.{Op, Expression}
 use Rattle.plan_arena.specs.declared.aexpr.AExpr.{AExpr}
 use Rattle.plan_arena.specs.declared.arena.Node.{Node}
 use Rattle.plan_arena.specs.Denotation.{Denotes, DenoteAll}
 use Rattle.plan_arena.specs.Layers.{op_of, inputs_of}
 use Rattle.plan_arena.specs.Items.{HoldsFrom, Grows, expression_layer, numbers}
-use Rattle.plan_lower.specs.Nodes.{IsItemOf, has_several}
+use Rattle.plan_lower.specs.Nodes.{IsItemOf}
 use Rattle.plan_arena.proofs.ItemLemmas.{layer_parts, tree_grown, added_denotes, length-grown, grows_then}
 
 -- trees that were added one after the other, from the one arena to the other: after each there is an arena that has it
@@ -76,7 +77,7 @@ pruned_item keep (Alias' p below name) apart = absurd (apart _ name refl)
 pruned_item keep _ apart = refl
 
 -- the kinds that are over several inputs
-pub several_kinds : (expr : Expr) → has_several expr ≡ true → ((left : _) (op : _) (right : _) → expr ≢ BinaryExpr left op right) → ((input : _) (offset : _) (length : _) → expr ≢ Slice input offset length) → ((input : _) (idx : _) (returns_scalar : _) → expr ≢ Gather input idx returns_scalar) → ((input : _) (by : _) → expr ≢ Filter input by) → ⊥
+pub several_kinds : (expr : Expr) → has_several (top_op (tree_of expr)) ≡ true → ((left : _) (op : _) (right : _) → expr ≢ BinaryExpr left op right) → ((input : _) (offset : _) (length : _) → expr ≢ Slice input offset length) → ((input : _) (idx : _) (returns_scalar : _) → expr ≢ Gather input idx returns_scalar) → ((input : _) (by : _) → expr ≢ Filter input by) → ⊥
 several_kinds (BinaryExpr' p left op q right) is binary slice gather filter = binary _ op _ refl
 several_kinds (Slice' p input q offset r length) is binary slice gather filter = slice _ _ _ refl
 several_kinds (Gather' p input q idx returns_scalar) is binary slice gather filter = gather _ _ returns_scalar refl

@@ -1,7 +1,5 @@
 -- Items that stand for expressions.
-use Rattle.std.specs.Prelude.{◌≡◌, Bool, true, false, ℕ, List}
-use Rattle.plan_dsl.specs.declared.expr.Expr.{Expr}
-use Rattle.plan_dsl.specs.declared.expr.Expr.TheVariants.{BinaryExpr', Slice', Gather', Filter'}
+use Rattle.std.specs.Prelude.{◌≡◌, ℕ, List}
 use Rattle.plan_dsl.specs.Trees.{Trees, node}
 use Rattle.plan_dsl.specs.Ops.{Op, Expression}
 use Rattle.plan_arena.specs.declared.aexpr.AExpr.{AExpr}
@@ -14,11 +12,3 @@ pub record IsItemOf (first : ℕ) (items : List AExpr) (tree : Expression) (item
   pub operands : Trees Op
   pub is : tree ≡ node (op_of (expression_layer item)) operands
   pub denote : DenoteAll (HoldsFrom first items) (inputs_of (expression_layer item)) operands
-
--- an expression over two inputs or three
-abbrev pub has_several : Expr → Bool
-has_several (BinaryExpr' p left op q right) = true
-has_several (Slice' p input q offset r length) = true
-has_several (Gather' p expr q idx returns_scalar) = true
-has_several (Filter' p input q by) = true
-has_several _ = false

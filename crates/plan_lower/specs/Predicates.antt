@@ -7,17 +7,16 @@ use Rattle.plan_types.specs.declared.error.ErrorKind.{ErrorKind}
 use Rattle.plan_types.specs.declared.error.ErrorKind.TheVariants.{InvalidOperation}
 use Rattle.plan_types.specs.declared.error.PlanError.{PlanError}
 use Rattle.plan_dsl.specs.Registry.{Registry}
-use Rattle.plan_dsl.specs.Trees.{node, no_more, more}
 use Rattle.plan_dsl.specs.Ops.{Expression}
 use Rattle.plan_dsl.specs.Sources.{Source}
 use Rattle.plan_dsl.specs.Expansion.{predicate_expansion}
-use Rattle.plan_dsl.specs.Plans.{Named, Plan, filter_op}
+use Rattle.plan_dsl.specs.Plans.{Named, Plan}
 use Rattle.plan_dsl.specs.Aliases.{core}
 use Rattle.plan_dsl.specs.Literals.{settled}
 use Rattle.plan_dsl.specs.Typing.{Typed, typing}
 use Rattle.plan_arena.specs.declared.aexpr.AExpr.{AExpr}
 use Rattle.plan_arena.specs.Items.{DenoteNamed}
-use Rattle.plan_properties.specs.Splitting.{split_predicate}
+use Rattle.plan_properties.specs.Splitting.{filters_over, split_predicate}
 use Rattle.plan_lower.specs.Outputs.{Lowered, IsLowered, lowered_named}
 
 -- the expression becomes this output, which is of the type of truth values
@@ -48,11 +47,6 @@ pub record HasExpandedPredicate (registry : Registry) (schema : Columns) (items 
 pub data IsUnfiltered (registry : Registry) (schema : Columns) (source : Source) (error : PlanError) : Type 0 where
   not_expanded : IsRefusal (predicate_expansion schema source) error → IsUnfiltered registry schema source error
   no_predicate : (tree : Expression) → predicate_expansion schema source ≡ Ok tree → IsPredicateRefusal registry schema tree error → IsUnfiltered registry schema source error
-
--- filters over a lowered plan, the last innermost
-abbrev pub filters_over : List (Named Expression) → Plan → Plan
-filters_over [] input = input
-filters_over (predicate ∷ predicates) input = node (filter_op predicate) (more (filters_over predicates input) no_more)
 
 -- a filter by the output over a lowered plan, split
 abbrev pub lowered_filter : Lowered → Plan → Plan

@@ -1,6 +1,7 @@
 pub mod AskingLemmas
 pub mod ConjunctLemmas
 mod ElementwiseLemmas
+pub mod FilterLemmas
 mod HarmlessLemmas
 mod PartLemmas
 mod RowLemmas

@@ -11,6 +11,9 @@ use Rattle.plan_dsl.specs.Plans.{Named, Plan, filter_op}
 use Rattle.plan_dsl.specs.Names.{alias_label}
 use Rattle.plan_dsl.specs.Samples.{b, binary, cast_as, equal, int64, number, s, text, typed_literal}
 use Rattle.plan_dsl.specs.Trees.{node, no_more, more}
+use Rattle.plan_arena.specs.declared.expr_ir.ExprIR.{ExprIR}
+use Rattle.plan_arena.specs.declared.expr_ir.OutputName.TheVariants.{ColumnLhs}
+use Rattle.plan_infer.specs.Samples.{at}
 
 abbrev pub aggregate : GroupByMethod → Expression → Expression
 aggregate method input = node (AggOp method) (more input no_more)
@@ -24,6 +27,10 @@ under_alias tree = record { label = alias_label (codes "x"); expression = tree }
 
 abbrev pub filtered_by : Expression → Plan → Plan
 filtered_by tree input = node (filter_op (under_alias tree)) (more input no_more)
+
+-- column a, as a plan records it
+abbrev pub recorded_a : ExprIR
+recorded_a = record { node = at 0; output_name = ColumnLhs (codes "a") }
 
 -- texts beside numbers
 abbrev pub words_and_numbers : Columns

@@ -1,23 +1,26 @@
 -- Filters that are split: a predicate's parts, and filters one over the other.
 -- A predicate whose top says that both of two are true has the parts of both. A filter by it keeps the rows that filters by
 -- its parts keep one after the other, where none of them can have a fault.
-use Rattle.std.specs.Prelude.{◌≡◌, ◌&&◌, Bool, true, false, not, IsTrue, List, [], ◌∷◌, ◌++◌, map, Ok, if◌then◌else◌}
+use Rattle.std.specs.Prelude.{◌≡◌, ◌&&◌, Bool, true, false, not, IsTrue, List, [], ◌∷◌, ◌++◌, map, Some, Ok, if◌then◌else◌}
 use Rattle.std.specs.List.{AllByRecursion}
-use Rattle.plan_types.specs.Frames.{Frame, row_numbers}
-use Rattle.plan_types.specs.Outcomes.{Outcome, Done, then_do}
+use Rattle.plan_types.specs.Frames.{Frame, IsFrameOf, row_numbers}
+use Rattle.plan_types.specs.Outcomes.{Outcome, Done, Meets, then_do}
 use Rattle.plan_types.specs.Schemas.{Columns}
 use Rattle.plan_types.specs.Types.{Truth}
+use Rattle.plan_dsl.specs.Aliases.{IsCore}
 use Rattle.plan_dsl.specs.Meaning.{meaning}
 use Rattle.plan_dsl.specs.Ops.{Op, BinaryOp, Expression}
 use Rattle.plan_dsl.specs.PlanKernels.{kept_rows}
 use Rattle.plan_dsl.specs.Names.{label_of}
-use Rattle.plan_dsl.specs.Plans.{FilterKind, Named, Plan, PlanKind, PlanOp}
+use Rattle.plan_dsl.specs.PlanRules.{schema_of}
+use Rattle.plan_dsl.specs.Plans.{FilterKind, Named, filter_op, Plan, PlanKind, PlanOp}
 use Rattle.plan_dsl.specs.Registry.{Registry}
 use Rattle.plan_dsl.specs.Strictness.{IsStrict}
 use Rattle.plan_dsl.specs.Trees.{Trees, node, no_more, more}
 use Rattle.plan_dsl.specs.Typing.{Typed, typing}
 use Rattle.plan_dsl.specs.declared.operator.Operator.TheVariants.{And, LogicalAnd}
 use Rattle.plan_arena.specs.Items.{DenoteNamed, named_node}
+use Rattle.plan_arena.specs.Runs.{plan_run}
 use Rattle.plan_arena.specs.declared.aexpr.AExpr.{AExpr}
 use Rattle.plan_arena.specs.declared.expr_ir.ExprIR.{ExprIR}
 use Rattle.plan_properties.specs.Properties.{permits_pushdown}
@@ -68,6 +71,11 @@ pub record AddsParts (items : List AExpr) (old new : List ExprIR) (trees : List 
   pub longer : new ≡ old ++ added
   pub denote : DenoteNamed items (map named_node added) (map own_named trees)
 
+-- filters over a plan, the last innermost
+abbrev pub filters_over : List (Named Expression) → Plan → Plan
+filters_over [] input = input
+filters_over (predicate ∷ predicates) input = node (filter_op predicate) (more (filters_over predicates input) no_more)
+
 -- the rows of a frame for which a predicate is true, and what filters leave, the last of them first
 abbrev pub kept_by : Registry → Expression → Frame → Outcome Frame
 kept_by registry predicate frame = then_do (meaning registry frame predicate (row_numbers frame)) (kept_rows frame)
@@ -93,3 +101,16 @@ SplittingKeepsFrames =
 abbrev pub PartsAreConditions : Type 0
 PartsAreConditions =
     (registry : Registry) (schema : Columns) (tree : Expression) → IsCondition registry schema tree → AllByRecursion (IsCondition registry schema) (conjuncts tree)
+
+-- a filter of a plan by a condition, split, gives on tables what it gives whole
+abbrev pub SplittingKeepsPlans : Type 0
+SplittingKeepsPlans =
+    (registry : Registry) (schema : Columns) (predicate : Named Expression) (input : Plan) (tables : List Frame) → IsCondition registry schema predicate.expression → IsCore predicate.expression
+    → Meets (IsFrameOf schema) (plan_run registry tables input)
+    → plan_run registry tables (filters_over (split_predicate predicate) input) ≡ plan_run registry tables (filters_over (predicate ∷ []) input)
+
+-- and has the input's schema
+abbrev pub SplittingKeepsSchemas : Type 0
+SplittingKeepsSchemas =
+    (registry : Registry) (schema : Columns) (predicate : Named Expression) (input : Plan) → IsCondition registry schema predicate.expression
+    → schema_of registry input ≡ Some schema → schema_of registry (filters_over (split_predicate predicate) input) ≡ Some schema

@@ -12,10 +12,13 @@ ghost use Rattle.plan_dsl.specs.Plans.{empty_table};
 ghost use Rattle.plan_dsl.specs.declared.operator.Operator.TheVariants.{And, Eq, LogicalAnd, Or};
 ghost use Rattle.plan_dsl.specs.WindowLaws.{of_each};
 ghost use Rattle.plan_dsl.specs.Trees.{Trees, node, no_more, more};
+ghost use Rattle.plan_arena.specs.Layers.{layer};
+ghost use Rattle.plan_infer.specs.Samples.{a_items};
+ghost use Rattle.plan_properties.specs.Asking.{AllDenote, SaysOfAll, SaysOfItem, SaysOfNode};
 ghost use Rattle.plan_properties.specs.Laws.{GoesByRows, HasValues, HasValuesOr, by_rows, joined, row_count};
 ghost use Rattle.plan_properties.specs.Properties.{all_trees, can_pre_agg, has_column, is_elementwise, is_scalar, permits_pushdown};
-ghost use Rattle.plan_properties.specs.Samples.{above_beside_one, aggregate, both, filtered_by, frame_of, is_above, is_one, no_number, under_alias, words_and_numbers};
-ghost use Rattle.plan_properties.specs.Splitting.{IsCondition, IsSplitPlan, conjuncts, is_conjunction, is_whole, kept_by, kept_by_all, own_named, split_predicate};
+ghost use Rattle.plan_properties.specs.Samples.{above_beside_one, aggregate, both, filtered_by, frame_of, is_above, is_one, no_number, recorded_a, under_alias, words_and_numbers};
+ghost use Rattle.plan_properties.specs.Splitting.{AddsParts, IsCondition, IsSplitPlan, conjuncts, is_conjunction, is_whole, kept_by, kept_by_all, own_named, split_predicate};
 
 /// Columns, literals, operators, casts and aliases of these have a value for each row. What counts rows, picks them or
 /// takes them together has none. A strict cast may have a fault of its own.
@@ -90,4 +93,19 @@ pub fn filters_in_parts()
     ensures conditions { AllByRecursion (IsCondition [] words_and_numbers) (is_one ∷ is_above NonStrict ∷ above_beside_one Strict ∷ []) }
     ensures no_condition { ¬ (IsCondition [] words_and_numbers b) }
     ensures not_strict { ¬ (IsCondition [] words_and_numbers (equal b one)) }
+{}
+
+/// What is said of a node's expression, of an item's, and of those of several nodes; nodes that denote some, and that stand
+/// for parts.
+pub fn answers_of_nodes()
+    ensures node { SaysOfNode a_items 0 is_elementwise true }
+    ensures other_node { ¬ (SaysOfNode a_items 0 is_scalar true) }
+    ensures item { SaysOfItem a_items (layer LenOp []) is_scalar true }
+    ensures other_item { ¬ (SaysOfItem a_items (layer LenOp []) is_elementwise true) }
+    ensures all { SaysOfAll a_items (0 ∷ 0 ∷ []) is_elementwise true }
+    ensures not_all { ¬ (SaysOfAll a_items (0 ∷ []) is_scalar true) }
+    ensures denoted { AllDenote a_items (0 ∷ 0 ∷ []) }
+    ensures not_denoted { ¬ (AllDenote a_items (0 ∷ 1 ∷ [])) }
+    ensures parts { AddsParts a_items [] (recorded_a ∷ []) (a ∷ []) }
+    ensures no_parts { ¬ (AddsParts a_items [] [] (a ∷ [])) }
 {}

@@ -4,15 +4,16 @@ ghost use Rattle.std.specs.List.{list_all};
 ghost use Rattle.std.specs.Option.{option_map_or};
 ghost use Rattle.plan_types.specs.Errors.{IsMemoryOr, no_memory};
 ghost use Rattle.plan_dsl.specs.Aliases.{all_pruned, core, inputs_pruned, pruned};
+ghost use Rattle.plan_dsl.specs.Copies.{has_several};
 ghost use Rattle.plan_dsl.specs.Expressions.{order_trees, plain_tree, plain_trees, tree_of, trees_of, way_of};
 ghost use Rattle.plan_dsl.specs.Literals.{literal_op, settled, settled_op, settles};
 ghost use Rattle.plan_dsl.specs.Names.{alias_label, label_of};
 ghost use Rattle.plan_dsl.specs.Ops.{Expression};
 ghost use Rattle.plan_dsl.specs.Sources.{is_plain, unwritten};
-ghost use Rattle.plan_dsl.specs.Trees.{children_from};
+ghost use Rattle.plan_dsl.specs.Trees.{children_from, top_op};
 ghost use Rattle.plan_arena.specs.Denotation.{Denotes, DenoteAll, DenotesTree};
 ghost use Rattle.plan_arena.specs.Items.{named_node, numbers, ordered, ordering, output_label, HoldsExpression, HoldsFrom, Grows};
-ghost use Rattle.plan_lower.specs.Nodes.{IsItemOf, has_several};
+ghost use Rattle.plan_lower.specs.Nodes.{IsItemOf};
 
 use plan_arena::aexpr::AExpr;
 use plan_arena::aggregate::IRAggExpr;
@@ -301,7 +302,7 @@ fn add_inputs(expr: Expr, keep: bool, arena: &mut Arena<AExpr>) -> Result<AExpr,
 #[cycle(nodes)]
 fn add_several(expr: Expr, keep: bool, arena: &mut Arena<AExpr>) -> Result<AExpr, PlanError>
     requires plain { is_plain (tree_of expr) ≡ true }
-    requires several { has_several expr ≡ true }
+    requires several { has_several (top_op (tree_of expr)) ≡ true }
     ensures ok { IfOk result (IsItemOf (length arena.old) arena.new (inputs_pruned keep (plain_tree expr))) }
     ensures grows { Grows arena.old arena.new }
     ensures err { IfErr result (λ error. error ≡ no_memory) }

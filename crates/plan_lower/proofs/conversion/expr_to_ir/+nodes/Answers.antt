@@ -3,15 +3,16 @@ use Rattle.std.specs.List.{AllByRecursion}
 use Rattle.plan_dsl.specs.Sources.{is_plain, unwritten}
 use Rattle.std.specs.Vec.Iter.{into_iter_items}
 use Rattle.plan_dsl.specs.Aliases.{all_pruned, inputs_pruned, prune_node, pruned}
+use Rattle.plan_dsl.specs.Copies.{has_several}
 use Rattle.plan_dsl.specs.Expressions.{order_trees, plain_tree, plain_trees, sort_by_op, tree_of, trees_of}
 use Rattle.plan_dsl.specs.declared.aggregate.AggExpr.TheViews.{size-Expr, sized-BinaryExpr, sized-Filter, sized-Gather, sized-Slice, sized-SortBy, sized-Window}
 use Rattle.plan_dsl.specs.Ops.{AliasOp, WindowOp}
-use Rattle.plan_dsl.specs.Trees.{node, no_more, more, children_from}
+use Rattle.plan_dsl.specs.Trees.{node, no_more, more, children_from, top_op}
 use Rattle.plan_dsl.proofs.ExprLemmas.{sort_by_listed, window_listed}
 use Rattle.plan_arena.specs.declared.aexpr.AExpr.TheVariants.{Alias, SortBy, Window}
 use Rattle.plan_arena.specs.Denotation.{Denotes}
 use Rattle.plan_arena.specs.Items.{HoldsFrom}
-use Rattle.plan_lower.specs.Nodes.{IsItemOf, has_several}
+use Rattle.plan_lower.specs.Nodes.{IsItemOf}
 use Rattle.plan_arena.proofs.ItemLemmas.{grows_then, length-grown}
 use Rattle.plan_lower.proofs.NodeLemmas.{Adding, adding_start, adding_step, both_plain, each_plain, item_denotes, nothing_added, over_added, over_both, over_listed, pruned_item, rest_plain, second_plain, several_kinds, third_plain, unwritten_both, unwritten_listed}
 use Rattle.plan_lower.proofs.conversion.expr_to_ir.+nodes.Goals as goal
@@ -35,16 +36,16 @@ add_nodes-returns-in_ok-node-in_default-clause-denotes t c =
 
 -- what is over several inputs
 pub add_inputs-add_several-requires : goal.add_inputs-add_several-requires
-add_inputs-add_several-requires t c = (omega (arith, c.decreases), (c.requires.plain, ap has_several c.in-BinaryExpr.is))
+add_inputs-add_several-requires t c = (omega (arith, c.decreases), (c.requires.plain, ap (λ e. has_several (top_op (tree_of e))) c.in-BinaryExpr.is))
 
 pub add_inputs-add_several-requires-in-Slice : goal.add_inputs-add_several-requires-in-Slice
-add_inputs-add_several-requires-in-Slice t c = (omega (arith, c.decreases), (c.requires.plain, ap has_several c.in-Slice.is))
+add_inputs-add_several-requires-in-Slice t c = (omega (arith, c.decreases), (c.requires.plain, ap (λ e. has_several (top_op (tree_of e))) c.in-Slice.is))
 
 pub add_inputs-add_several-requires-in-Gather : goal.add_inputs-add_several-requires-in-Gather
-add_inputs-add_several-requires-in-Gather t c = (omega (arith, c.decreases), (c.requires.plain, ap has_several c.in-Gather.is))
+add_inputs-add_several-requires-in-Gather t c = (omega (arith, c.decreases), (c.requires.plain, ap (λ e. has_several (top_op (tree_of e))) c.in-Gather.is))
 
 pub add_inputs-add_several-requires-in-Filter : goal.add_inputs-add_several-requires-in-Filter
-add_inputs-add_several-requires-in-Filter t c = (omega (arith, c.decreases), (c.requires.plain, ap has_several c.in-Filter.is))
+add_inputs-add_several-requires-in-Filter t c = (omega (arith, c.decreases), (c.requires.plain, ap (λ e. has_several (top_op (tree_of e))) c.in-Filter.is))
 
 pub add_several-unreachable-requires : goal.add_several-unreachable-requires
 add_several-unreachable-requires t c =
