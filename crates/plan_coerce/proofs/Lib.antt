@@ -1,6 +1,10 @@
 pub mod CoercedLemmas
 pub mod CoercionLemmas
+pub mod CoercionRuleLemmas
 pub mod ExampleLemmas
+pub mod OnceLemmas
+pub mod PlanNodeLemmas
 pub mod ReachLemmas
 pub mod RightLemmas
+pub mod SettledLemmas
 pub mod StackLemmas

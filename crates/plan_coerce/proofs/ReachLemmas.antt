@@ -7,17 +7,19 @@ use Rattle.std.proofs.lemmas.List.{length-map, map-append, map-set}
 use Rattle.std.proofs.Math.ListN.{length-set}
 use Rattle.plan_types.proofs.ListLemmas.{slice_get-append, slice_get-set_other}
 use Rattle.plan_types.specs.Types.{Ty, same_type}
-use Rattle.plan_dsl.specs.Ops.{Op}
+use Rattle.plan_dsl.specs.Ops.{Op, Expression}
+use Rattle.plan_dsl.specs.Trees.{Trees, node, no_more, more}
+use Rattle.plan_arena.specs.Denotation.{Denotes, DenoteAll}
 use Rattle.plan_arena.specs.declared.aexpr.AExpr.{AExpr}
 use Rattle.plan_arena.specs.Layers.{layer, op_of, inputs_of}
 use Rattle.plan_arena.specs.Items.{HoldsExpression, Rewired, expression_layer}
 use Rattle.plan_arena.proofs.DenotationLemmas.{some_same, same_or_other}
-use Rattle.plan_arena.proofs.ItemLemmas.{layer_inputs, expression_added, expression_written}
+use Rattle.plan_arena.proofs.ItemLemmas.{layer_inputs, layer_parts, expression_added, expression_elsewhere, expression_written}
 use Rattle.plan_arena.proofs.NumberLemmas.{all_joined, all_reversed}
 use Rattle.plan_infer.specs.declared.type_table.TypeTable.{TypeTable}
 use Rattle.plan_infer.proofs.TableLemmas.{layer_held}
 use Rattle.plan_coerce.specs.Coercion.{Operand, IsChanged, AreChanged}
-use Rattle.plan_coerce.specs.Reaching.{Among, IsReached, Near, IsClosed}
+use Rattle.plan_coerce.specs.Reaching.{Among, IsReached, Near, IsClosed, ReachedBy}
 use Rattle.plan_coerce.proofs.RightLemmas.{node_within}
 
 all_among : (P : ℕ → Type 0) (ns : List ℕ) → ((n : ℕ) → Among ns n → P n) → AllByRecursion P ns
@@ -43,7 +45,7 @@ held_before old item n op inputs lt h =
     let there = ap (λ l. slice_get l n) (map-append expression_layer old (item ∷ [])) ∙ slice_get-append layers (map expression_layer (item ∷ [])) n _ got in
     got ∙ ap Some (some_same (slice_get (map expression_layer (old ++ item ∷ [])) n) _ _ there h)
 
-held_unwritten : (old : List AExpr) (at : ℕ) (item : AExpr) (n : ℕ) (op : Op) (inputs : List ℕ) → n ≢ at → HoldsExpression (set old at item) n op inputs → HoldsExpression old n op inputs
+pub held_unwritten : (old : List AExpr) (at : ℕ) (item : AExpr) (n : ℕ) (op : Op) (inputs : List ℕ) → n ≢ at → HoldsExpression (set old at item) n op inputs → HoldsExpression old n op inputs
 held_unwritten old at item n op inputs other h =
     let layers = map expression_layer old in
     let within = node_within (set old at item) n op inputs h in
@@ -103,3 +105,48 @@ stack_near start roots items n item rest stack got closed near waits is =
 pub not_near : (start : List AExpr) (roots : List ℕ) (at n : ℕ) (op : Op) (inputs : List ℕ) → Near start roots at → ¬ (IsReached start roots n) → HoldsExpression start n op inputs → n ≢ at
 not_near start roots at n op inputs near apart held e =
     ⊎_elim (λ le. absurd (omega (arith, le, e, node_within start n op inputs held))) (λ r. apart (subst (IsReached start roots) (sym e) r)) near
+
+-- with an item that was put in place, over such nodes
+pub closed_put : (start : List AExpr) (roots : List ℕ) (old : List AExpr) (at : ℕ) (item : AExpr) → at < length old → AllByRecursion (Near start roots) (inputs_of (expression_layer item)) → IsClosed start roots old → IsClosed start roots (set old at item)
+closed_put start roots old at item lt near closed n o inputs here held = ⊎_elim
+    (λ same.
+    let there = expression_written old at item lt ∙ ap Some (layer_parts (expression_layer item)) in
+    let one = some_same (slice_get (map expression_layer (set old at item)) at) (layer (op_of (expression_layer item)) (inputs_of (expression_layer item))) (layer o inputs) there (subst (λ k. HoldsExpression (set old at item) k o inputs) same held) in
+    subst (AllByRecursion (Near start roots)) (layer_inputs (op_of (expression_layer item)) o (inputs_of (expression_layer item)) inputs one) near)
+    (λ other. closed n o inputs here (held_unwritten old at item n o inputs other held))
+    (same_or_other n at)
+
+among_all : (P : ℕ → Type 0) (ns : List ℕ) (n : ℕ) → AllByRecursion P ns → Among ns n → P n
+among_all P [] n all a = absurd a
+among_all P (m ∷ ms) n all a = ⊎_elim (λ e. subst P (sym e) all.0) (λ b. among_all P ms n all.1 b) a
+
+near_by : (start : List AExpr) (roots : List ℕ) (items : List AExpr) (tops : List ℕ) → IsClosed start roots items → AllByRecursion (Near start roots) tops → (steps n : ℕ) → ReachedBy items tops steps n → Near start roots n
+near_by start roots items tops closed all zero n path = among_all (Near start roots) tops n all path
+near_by start roots items tops closed all (suc steps) n path =
+    among_all (Near start roots) path.2 n (closed path.0 path.1 path.2 (near_by start roots items tops closed all steps path.0 path.3) path.4) path.5
+
+-- what such nodes reach are such nodes
+pub reached_near : (start : List AExpr) (roots : List ℕ) (items : List AExpr) (tops : List ℕ) (n : ℕ) → IsClosed start roots items → AllByRecursion (Near start roots) tops → IsReached items tops n → Near start roots n
+reached_near start roots items tops n closed all r = near_by start roots items tops closed all r.steps n r.path
+
+pub root_near : (start : List AExpr) (at : ℕ) → Near start (at ∷ []) at
+root_near start at = inr (record { steps = zero; path = inl refl })
+
+-- trees of new nodes over new nodes stay where an old one is written
+module _ (old new : List AExpr) (at : ℕ) (item : AExpr) (lt : at < length old) (closed : IsClosed old [] new) where
+  is_new : (n : ℕ) → Near old [] n → length old ≤ n
+  is_new n near = ⊎_elim (λ le. le) (λ r. absurd (no_root r.steps n r.path)) near where
+    no_root : (steps n : ℕ) → ReachedBy old [] steps n → ⊥
+    no_root zero n path = path
+    no_root (suc steps) n path = no_root steps path.0 path.3
+
+  mutual
+    pub new_kept : (n : ℕ) (t : Expression) → Near old [] n → Denotes (HoldsExpression new) n t → Denotes (HoldsExpression (set new at item)) n t
+    new_kept n (node op ts) near d =
+        (d.0, expression_elsewhere new at item n op d.0 (λ e. omega (arith, is_new n near, e, lt)) d.1, all_new_kept d.0 ts (closed n op d.0 near d.1) d.2)
+
+    all_new_kept : (ns : List ℕ) (ts : Trees Op) → AllByRecursion (Near old []) ns → DenoteAll (HoldsExpression new) ns ts → DenoteAll (HoldsExpression (set new at item)) ns ts
+    all_new_kept [] no_more all d = tt
+    all_new_kept (n ∷ ns) (more t ts) all d = (new_kept n t all.0 d.0, all_new_kept ns ts all.1 d.1)
+    all_new_kept [] (more t ts) all d = absurd d
+    all_new_kept (n ∷ ns) no_more all d = absurd d

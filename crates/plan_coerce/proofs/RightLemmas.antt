@@ -1,7 +1,8 @@
 -- What is kept by node stays right as coercion adds nodes and writes one.
-use Rattle.std.proofs.Common.{reverse, ◌≡◌, ◌≢◌, ◌⊎◌, ℕ, ◌<◌, List, [], ◌∷◌, ◌++◌, length, map, set, true, false, cond, Some, Ok, Err, slice_get, refl, sym, ap, ◌∙◌, subst, arith, zero-le, inl, inr, ⊎_elim}
+use Rattle.std.proofs.Common.{reverse, ◌≡◌, ◌≢◌, ◌⊎◌, ℕ, ◌<◌, List, [], ◌∷◌, ◌++◌, length, map, set, true, false, cond, Some, Ok, Err, slice_get, refl, sym, ap, ◌∙◌, subst, arith, zero-le, inl, inr, ⊎_elim, length-append}
 use Rattle.std.specs.List.{AllByRecursion}
 use Rattle.std.proofs.lemmas.List.{length-map}
+use Rattle.std.proofs.lemmas.Bool.{cases_lt}
 use Rattle.plan_types.specs.Types.{Ty, ty, is_known}
 use Rattle.plan_types.specs.Casts.{can_cast}
 use Rattle.plan_types.proofs.CommonLemmas.{alone_itself}
@@ -33,7 +34,7 @@ use Rattle.plan_arena.proofs.ItemLemmas.{expression_laws, any_node, from_zero, e
 use Rattle.plan_infer.specs.declared.type_table.Inferred.{Inferred}
 use Rattle.plan_infer.specs.declared.type_table.TypeTable.{TypeTable}
 use Rattle.plan_infer.specs.Typed.{DenotesTyped}
-use Rattle.plan_coerce.specs.Coercion.{AreChanged, DenotesSame, IsChanged, Operand}
+use Rattle.plan_coerce.specs.Coercion.{AllStrictFrom, AreChanged, DenotesSame, IsChanged, Operand}
 use Rattle.plan_infer.specs.KeptTypes.{AllKept, AreOperands, Extends, GivesName, HasRightTypes, IsKept, IsNamedBy, IsRight, IsRuled, KeepsEntry, TakesTo, by_first, by_itself, typed_of}
 use Rattle.plan_infer.proofs.TypingLemmas.{cast_ruled, literal_ruled}
 use Rattle.plan_arena.proofs.NumberLemmas.{all_reversed, all_weaker, all_front, all_joined, all_last}
@@ -200,3 +201,25 @@ literal_kept registry schema items table n value k d literal right =
     let is = kept_typing registry schema items table right n k.own k.keeps (node (literal_op value) no_more) d in
     let typed = literal_typing registry schema (literal_type value) (literal_value value) literal in
     ap (λ (t : Typed). t.type) (ok_same _ (typed_of k.own) (record { type = literal_type value; many = false }) is typed)
+
+-- ---- nodes that take their operands as they are
+
+-- a node that was added so, behind others
+pub strict_added : (registry : Registry) (schema : Columns) (start : ℕ) (old new : List AExpr) (item : AExpr) (table table' : TypeTable) (n : ℕ) (own : Inferred) → IsRight registry schema old table → new ≡ old ++ item ∷ [] → n ≡ length old → own.operands.items ≡ [] → is_known (ty own.dtype) ≡ true → IsKept table' n → ((n : ℕ) (other : Inferred) → KeepsEntry table n other → KeepsEntry table' n other) → ((m : ℕ) (other : Inferred) → KeepsEntry table' m other → KeepsEntry table m other ⊎ ((m ≡ n) × (other ≡ own))) → AllStrictFrom start old table → AllStrictFrom start new table'
+strict_added registry schema start old new item table table' n own right grown at none known kept stays only before m from within =
+    let is : HasRightTypes old table = record { registry = registry; schema = schema; right = right } in
+    let count = ap length grown ∙ length-append old (item ∷ []) in
+    ⊎_elim
+    (λ lt. let k = before m from lt in record { own = k.own; keeps = stays m k.own k.keeps; none = k.none; known = k.known })
+    (λ le.
+    let here : m ≡ n = omega (arith, le, within, at, count) in
+    ⊎_elim
+    (λ k. absurd (omega (arith, at, kept_within old table n is (record { own = kept.own; keeps = k }))))
+    (λ e. record {
+      own = kept.own;
+      keeps = subst (λ k. KeepsEntry table' k kept.own) (sym here) kept.keeps;
+      none = ap (λ (x : Inferred). x.operands.items) e.1 ∙ none;
+      known = ap (λ (x : Inferred). is_known (ty x.dtype)) e.1 ∙ known;
+    })
+    (only n kept.own kept.keeps))
+    (cases_lt m (length old))

@@ -1,10 +1,10 @@
 -- What coercion leaves.
 -- A node that was visited is strict over its inputs, and says the same as before. Other items stay.
-use Rattle.std.specs.Prelude.{◌≡◌, ◌≤◌, ◌⊎◌, ℕ, true, false, List, [], ◌∷◌, length, map, Result, Ok, Err}
+use Rattle.std.specs.Prelude.{◌≡◌, ◌<◌, ◌≤◌, ◌⊎◌, ℕ, true, false, List, [], ◌∷◌, length, map, Result, Ok, Err, Some, slice_get}
 use Rattle.plan_types.specs.declared.error.ErrorKind.{ErrorKind}
 use Rattle.plan_dsl.specs.Typing.{Typed, Ruling, rule, types_of, typing_all}
 use Rattle.std.specs.List.{AllByRecursion}
-use Rattle.plan_types.specs.Types.{Ty, ty, same_type}
+use Rattle.plan_types.specs.Types.{Ty, ty, is_known, same_type}
 use Rattle.plan_types.specs.Schemas.{Columns}
 use Rattle.plan_types.specs.declared.dtype.DataType.{DataType}
 use Rattle.plan_dsl.specs.Registry.{Registry}
@@ -13,9 +13,11 @@ use Rattle.plan_dsl.specs.Ops.{Op, Expression}
 use Rattle.plan_dsl.specs.Strictness.{CanBecome, IsSame, IsStrict, IsStrictOver, as_operand, as_operands}
 use Rattle.plan_arena.specs.declared.aexpr.AExpr.{AExpr}
 use Rattle.plan_arena.specs.Denotation.{Denotes, DenoteAll}
-use Rattle.plan_arena.specs.Items.{HoldsExpression, HoldsFrom}
+use Rattle.plan_arena.specs.Layers.{layer, inputs_of, op_of}
+use Rattle.plan_arena.specs.Items.{HoldsExpression, HoldsFrom, expression_layer}
+use Rattle.plan_infer.specs.declared.type_table.Inferred.{Inferred}
 use Rattle.plan_infer.specs.declared.type_table.TypeTable.{TypeTable}
-use Rattle.plan_infer.specs.KeptTypes.{Keeps, KeepsType}
+use Rattle.plan_infer.specs.KeptTypes.{IsKept, Keeps, KeepsEntry, KeepsType}
 
 -- operands that a node over typed children takes, made of their types where it has a rule
 abbrev pub fitted_by : Result Ruling ErrorKind → List Ty → Trees Op → Trees Op
@@ -95,6 +97,27 @@ pub record AreChanged (old new : List AExpr) (table : TypeTable) (inputs changed
   pub changed_are : map (λ o. o.changed) operands ≡ changed
   pub targets_are : map (λ o. o.target) operands ≡ targets
   pub each : AllByRecursion (IsChanged old new table) operands
+
+-- the table keeps of the node that it takes its operands as they are, and a type of columns
+pub record KeepsStrict (table : TypeTable) (n : ℕ) : Type 0 where
+  pub own : Inferred
+  pub keeps : KeepsEntry table n own
+  pub none : own.operands.items ≡ []
+  pub known : is_known (ty own.dtype) ≡ true
+
+-- the same of each node of an arena from a number on
+abbrev pub AllStrictFrom : ℕ → List AExpr → TypeTable → Type 0
+AllStrictFrom start items table = (n : ℕ) → start ≤ n → n < length items → KeepsStrict table n
+
+-- An item does what the one at the node does, over nodes that stand for its operands, made of the types that are kept as
+-- those to which it takes them.
+pub record IsOverOperands (old new : List AExpr) (table table' : TypeTable) (at : ℕ) (item : AExpr) : Type 0 where
+  pub before : AExpr
+  pub got : slice_get old at ≡ Some before
+  pub nodes : List ℕ
+  pub is : expression_layer item ≡ layer (op_of (expression_layer before)) nodes
+  pub changed : (own : Inferred) → KeepsEntry table at own → AreChanged old new table (inputs_of (expression_layer before)) nodes (map ty own.operands.items)
+  pub kept : AllByRecursion (IsKept table') nodes
 
 -- What stays as roots are coerced: items below the number, and each tree becomes one that says the same.
 pub record StaysSame (registry : Registry) (schema : Columns) (first : ℕ) (old new : List AExpr) : Type 0 where

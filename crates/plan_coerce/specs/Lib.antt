@@ -1,4 +1,6 @@
 -- What the contracts of this crate cite.
+pub mod CoercedLaws
 pub mod Coercion
 pub mod Reaching
+pub mod Rules
 pub mod Samples

@@ -1,3 +1,4 @@
 //! Worked examples of the definitions. The functions do nothing: their clauses are the examples.
 
 mod coercions;
+mod rules;

@@ -1,6 +1,9 @@
 //! Casts round operands, so that each node has operands of the types to which it takes them.
 #![tactic(auto)]
 
+pub mod coercion_rule;
 mod examples;
+pub mod rule;
 pub mod stack_opt;
+pub mod type_check;
 mod type_coercion;

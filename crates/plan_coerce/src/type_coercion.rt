@@ -22,8 +22,8 @@ ghost use Rattle.plan_arena.specs.Items.{Grows, HoldsExpression, HoldsFrom, numb
 ghost use Rattle.plan_infer.specs.declared.type_table.Inferred.{Inferred};
 ghost use Rattle.plan_infer.specs.KeptTypes.{Extends, HasRightTypes, IsKept, IsRight, Keeps, KeepsEntry};
 ghost use Rattle.plan_infer.specs.Typed.{HasKnownType};
-ghost use Rattle.plan_coerce.specs.Coercion.{AllReady, AreChanged, IsChanged, IsReady, Visits};
-ghost use Rattle.plan_coerce.specs.Reaching.{IsClosed, Near};
+ghost use Rattle.plan_coerce.specs.Coercion.{AllReady, AllStrictFrom, AreChanged, IsChanged, IsReady, KeepsStrict, Visits};
+ghost use Rattle.plan_coerce.specs.Reaching.{AreMadeOnce, HasNewNodes, IsClosed, IsMadeOnce, IsPutOnce, Near};
 
 use plan_arena::aexpr::{AExpr, Nodes};
 use plan_arena::arena::{Arena, Node};
@@ -68,8 +68,8 @@ pub(crate) fn coerce_node(
     Ok(())
 }
 
-// The nodes that stand for the operands of a node, made of the types to which it takes them.
-fn operands_to(
+/// The nodes that stand for the operands of a node, made of the types to which it takes them.
+pub(crate) fn operands_to(
     node: Node,
     inputs: &[Node],
     arena: &mut Arena<AExpr>,
@@ -85,6 +85,9 @@ fn operands_to(
         IsRight registry schema arena.old types.old → IsRight registry schema arena.new types.new) }
     ensures closed { OnOk result ((start : List AExpr) (roots : List ℕ) → length start ≤ length arena.old →
         AllByRecursion (Near start roots) (numbers inputs.now) → IsClosed start roots arena.old → IsClosed start roots arena.new) }
+    ensures added { OnOk result ((registry : Registry) (schema : Columns) (start : ℕ) → start ≤ length arena.old → IsRight registry schema arena.old types.old →
+        AllStrictFrom start arena.old types.old → AllStrictFrom start arena.new types.new) }
+    ensures once { IfOk result (λ operands. AreMadeOnce arena.old arena.new (numbers inputs.now) (numbers operands.items)) }
     ensures extends { OnOk result (Extends types.old types.new) }
     ensures grows { Grows arena.old arena.new }
     ensures err { IfErr result (λ error. error ≡ no_memory) }
@@ -114,6 +117,9 @@ fn operand_to(
         IsRight registry schema arena.old types.old → IsRight registry schema arena.new types.new) }
     ensures closed { OnOk result ((start : List AExpr) (roots : List ℕ) → length start ≤ length arena.old → Near start roots node.0 →
         IsClosed start roots arena.old → IsClosed start roots arena.new) }
+    ensures added { OnOk result ((registry : Registry) (schema : Columns) (start : ℕ) → start ≤ length arena.old → IsRight registry schema arena.old types.old →
+        AllStrictFrom start arena.old types.old → AllStrictFrom start arena.new types.new) }
+    ensures once { IfOk result (λ changed. IsMadeOnce arena.old arena.new node.0 changed.0) }
     ensures extends { OnOk result (Extends types.old types.new) }
     ensures grows { Grows arena.old arena.new }
     ensures err { IfErr result (λ error. error ≡ no_memory) }
@@ -134,8 +140,8 @@ fn operand_to(
     }
 }
 
-// Adds a number without a type, made of the type, under the aliases that the node has.
-fn number_under(
+/// Adds a number without a type, made of the type, under the aliases that the node has.
+pub(crate) fn number_under(
     node: Node,
     number: i128,
     target: DataType,
@@ -152,6 +158,9 @@ fn number_under(
     ensures kept { IfOk result (λ made. IsKept types.new made.0) }
     ensures closed { OnOk result ((start : List AExpr) (roots : List ℕ) → length start ≤ length arena.old →
         IsClosed start roots arena.old → IsClosed start roots arena.new) }
+    ensures added { OnOk result ((registry : Registry) (schema : Columns) (start : ℕ) → start ≤ length arena.old → IsRight registry schema arena.old types.old →
+        AllStrictFrom start arena.old types.old → AllStrictFrom start arena.new types.new) }
+    ensures once { IfOk result (λ made. HasNewNodes arena.old arena.new made.0) }
     ensures extends { OnOk result (Extends types.old types.new) }
     ensures grows { Grows arena.old arena.new }
     ensures err { IfErr result (λ error. error ≡ no_memory) }
@@ -186,6 +195,9 @@ fn number_to(
     ensures kept { IfOk result (λ made. IsKept types.new made.0) }
     ensures closed { OnOk result ((start : List AExpr) (roots : List ℕ) → length start ≤ length arena.old →
         IsClosed start roots arena.old → IsClosed start roots arena.new) }
+    ensures added { OnOk result ((registry : Registry) (schema : Columns) (start : ℕ) → start ≤ length arena.old → IsRight registry schema arena.old types.old →
+        AllStrictFrom start arena.old types.old → AllStrictFrom start arena.new types.new) }
+    ensures once { IfOk result (λ made. HasNewNodes arena.old arena.new made.0) }
     ensures extends { OnOk result (Extends types.old types.new) }
     ensures grows { Grows arena.old arena.new }
     ensures err { IfErr result (λ error. error ≡ no_memory) }
@@ -229,6 +241,9 @@ fn add_number_cast(
     ensures kept { IfOk result (λ cast. IsKept types.new cast.0) }
     ensures closed { OnOk result ((start : List AExpr) (roots : List ℕ) → length start ≤ length arena.old →
         IsClosed start roots arena.old → IsClosed start roots arena.new) }
+    ensures added { OnOk result ((registry : Registry) (schema : Columns) (start : ℕ) → start ≤ length arena.old → IsRight registry schema arena.old types.old →
+        is_known (ty target) ≡ true → AllStrictFrom start arena.old types.old → AllStrictFrom start arena.new types.new) }
+    ensures once { IfOk result (λ cast. HasNewNodes arena.old arena.new cast.0) }
     ensures extends { OnOk result (Extends types.old types.new) }
     ensures grows { Grows arena.old arena.new }
     ensures err { IfErr result (λ error. error ≡ no_memory) }
@@ -261,6 +276,9 @@ fn add_cast(
     ensures kept { IfOk result (λ cast. IsKept types.new cast.0) }
     ensures closed { OnOk result ((start : List AExpr) (roots : List ℕ) → Near start roots input.0 →
         IsClosed start roots arena.old → IsClosed start roots arena.new) }
+    ensures added { OnOk result ((registry : Registry) (schema : Columns) (start : ℕ) → start ≤ length arena.old → IsRight registry schema arena.old types.old →
+        is_known (ty target) ≡ true → AllStrictFrom start arena.old types.old → AllStrictFrom start arena.new types.new) }
+    ensures once { IfOk result (λ cast. IsPutOnce arena.old arena.new input.0 cast.0) }
     ensures extends { OnOk result (Extends types.old types.new) }
     ensures grows { Grows arena.old arena.new }
     ensures err { IfErr result (λ error. error ≡ no_memory) }
@@ -298,6 +316,9 @@ fn add_alias(
     ensures kept { IfOk result (λ alias. IsKept types.new alias.0) }
     ensures closed { OnOk result ((start : List AExpr) (roots : List ℕ) → Near start roots input.0 →
         IsClosed start roots arena.old → IsClosed start roots arena.new) }
+    ensures added { OnOk result ((registry : Registry) (schema : Columns) (start : ℕ) → start ≤ length arena.old → IsRight registry schema arena.old types.old →
+        KeepsStrict types.old input.0 → AllStrictFrom start arena.old types.old → AllStrictFrom start arena.new types.new) }
+    ensures once { IfOk result (λ alias. IsPutOnce arena.old arena.new input.0 alias.0) }
     ensures extends { OnOk result (Extends types.old types.new) }
     ensures grows { Grows arena.old arena.new }
     ensures err { IfErr result (λ error. error ≡ no_memory) }
@@ -332,6 +353,9 @@ fn add_literal(
     ensures kept { IfOk result (λ literal. IsKept types.new literal.0) }
     ensures closed { OnOk result ((start : List AExpr) (roots : List ℕ) →
         IsClosed start roots arena.old → IsClosed start roots arena.new) }
+    ensures added { OnOk result ((registry : Registry) (schema : Columns) (start : ℕ) → start ≤ length arena.old → IsRight registry schema arena.old types.old →
+        is_known (ty target) ≡ true → AllStrictFrom start arena.old types.old → AllStrictFrom start arena.new types.new) }
+    ensures once { IfOk result (λ literal. HasNewNodes arena.old arena.new literal.0) }
     ensures extends { OnOk result (Extends types.old types.new) }
     ensures grows { Grows arena.old arena.new }
     ensures err { IfErr result (λ error. error ≡ no_memory) }

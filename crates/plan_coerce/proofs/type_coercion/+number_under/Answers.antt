@@ -1,3 +1,5 @@
+use Rattle.plan_coerce.proofs.OnceLemmas.{put_over_new}
+use Rattle.plan_coerce.proofs.RightLemmas.{kept_within}
 use Rattle.std.proofs.Common.{◌≤◌, [], ◌∷◌, Some, length, ap, ◌∙◌, sym, subst, arith, inl}
 use Rattle.std.specs.Int.{w128}
 use Rattle.std.proofs.lemmas.Int.{to_z-of_z}
@@ -53,3 +55,18 @@ returns-in_ok-alias-in-Some-clause-extends t c =
 pub returns-in_ok-alias-in-Some-clause-grows : goal.returns-in_ok-alias-in-Some-clause-grows
 returns-in_ok-alias-in-Some-clause-grows t c =
     grows_then c.args.arena.now c.number_under.new.arena c.add_alias.new.arena c.in_ok-made-in-Some.ensures.grows c.in_ok-alias-in-Some.ensures.grows
+
+pub returns-in_ok-alias-in-Some-clause-added : goal.returns-in_ok-alias-in-Some-clause-added
+returns-in_ok-alias-in-Some-clause-added t c = λ registry schema start le right before.
+    let mid = c.number_under.new.arena in
+    let made = c.in_ok-made-in-Some in
+    let right' = made.ensures.right registry schema right in
+    let before' = made.ensures.added registry schema start le right before in
+    let within = kept_within mid c.number_under.new.types made.made.0 (record { registry = registry; schema = schema; right = right' }) made.ensures.kept in
+    let strict = before' made.made.0 (omega (arith, le, made.ensures.fresh)) within in
+    c.in_ok-alias-in-Some.ensures.added registry schema start (omega (arith, le, length-grown c.args.arena.now mid made.ensures.grows)) right' strict before'
+
+pub returns-in_ok-alias-in-Some-clause-once : goal.returns-in_ok-alias-in-Some-clause-once
+returns-in_ok-alias-in-Some-clause-once t c =
+    let made = c.in_ok-made-in-Some in
+    put_over_new c.args.arena.now c.number_under.new.arena c.add_alias.new.arena made.made.0 c.in_ok-alias-in-Some.alias.0 (length-grown c.args.arena.now c.number_under.new.arena made.ensures.grows) made.ensures.once c.in_ok-alias-in-Some.ensures.once

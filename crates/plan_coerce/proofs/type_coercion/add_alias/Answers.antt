@@ -1,3 +1,9 @@
+use Rattle.plan_coerce.proofs.OnceLemmas.{put_once}
+use Rattle.std.proofs.Common.{ap, ◌∙◌}
+use Rattle.plan_types.specs.Types.{is_known, ty}
+use Rattle.plan_infer.specs.declared.type_table.Inferred.{Inferred}
+use Rattle.plan_infer.proofs.TableLemmas.{keeps_one}
+use Rattle.plan_coerce.proofs.RightLemmas.{strict_added}
 use Rattle.std.proofs.Common.{[], ◌∷◌, refl}
 use Rattle.plan_arena.specs.declared.aexpr.AExpr.TheVariants.{Alias}
 use Rattle.plan_coerce.proofs.CoercionLemmas.{alias_denotes}
@@ -21,3 +27,12 @@ pub returns-clause-closed : goal.returns-clause-closed
 returns-clause-closed c = λ start roots near closed.
     let item = Alias c.args.input c.args.name in
     closed_added start roots c.args.arena.now c.add.new.self item _ (c.args.input.0 ∷ []) c.in_ok-alias.ensures.ok refl (near, tt) closed
+
+pub returns-clause-added : goal.returns-clause-added
+returns-clause-added c = λ registry schema start le right input before.
+    let same = keeps_one c.args.types.now c.args.input.0 c.get-from.result.now input.own c.get-from.ensures input.keeps in
+    let known = ap is_known c.in_ok-dtype.ensures.ok ∙ ap (λ (x : Inferred). is_known (ty x.dtype)) same ∙ input.known in
+    strict_added registry schema start c.args.arena.now c.add.new.self _ c.args.types.now c.keep.new.self c.in_ok-alias.alias.0 _ right c.in_ok-alias.ensures.ok c.in_ok-alias.ensures.node c.new.ensures.items known c.in_ok-keep.ensures.kept c.in_ok-keep.ensures.stays c.in_ok-keep.ensures.only before
+
+pub returns-clause-once : goal.returns-clause-once
+returns-clause-once c = put_once c.args.arena.now c.add.new.self (Alias c.args.input c.args.name) _ c.args.input.0 c.in_ok-alias.alias.0 c.in_ok-alias.ensures.ok c.in_ok-alias.ensures.node refl

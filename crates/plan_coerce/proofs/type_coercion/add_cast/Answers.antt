@@ -1,3 +1,5 @@
+use Rattle.plan_coerce.proofs.OnceLemmas.{put_once}
+use Rattle.plan_coerce.proofs.RightLemmas.{strict_added}
 use Rattle.std.proofs.Common.{[], ◌∷◌, refl, sym, ap, ◌∙◌}
 use Rattle.plan_types.specs.Casts.{can_cast}
 use Rattle.plan_types.specs.Types.{is_known, ty}
@@ -28,3 +30,10 @@ pub returns-clause-closed : goal.returns-clause-closed
 returns-clause-closed c = λ start roots near closed.
     let item = Cast c.args.input c.args.target NonStrict in
     closed_added start roots c.args.arena.now c.add.new.self item _ (c.args.input.0 ∷ []) c.in_ok-cast.ensures.ok refl (near, tt) closed
+
+pub returns-clause-added : goal.returns-clause-added
+returns-clause-added c = λ registry schema start le right known before.
+    strict_added registry schema start c.args.arena.now c.add.new.self _ c.args.types.now c.keep.new.self c.in_ok-cast.cast.0 _ right c.in_ok-cast.ensures.ok c.in_ok-cast.ensures.node c.new.ensures.items (ap is_known c.in_ok-dtype.ensures.ok ∙ known) c.in_ok-keep.ensures.kept c.in_ok-keep.ensures.stays c.in_ok-keep.ensures.only before
+
+pub returns-clause-once : goal.returns-clause-once
+returns-clause-once c = put_once c.args.arena.now c.add.new.self (Cast c.args.input c.args.target NonStrict) _ c.args.input.0 c.in_ok-cast.cast.0 c.in_ok-cast.ensures.ok c.in_ok-cast.ensures.node refl

@@ -1,3 +1,4 @@
+use Rattle.plan_coerce.proofs.OnceLemmas.{put_over_new}
 use Rattle.std.proofs.Common.{◌≡◌, ◌≤◌, Some, length, sym, ap, ◌∙◌, arith, zero-le}
 use Rattle.std.specs.Int.{w128}
 use Rattle.std.proofs.lemmas.Int.{to_z-of_z}
@@ -49,3 +50,20 @@ returns-clause-right c = λ registry schema right.
 pub returns-clause-extends : goal.returns-clause-extends
 returns-clause-extends c =
     extends_then c.args.types.now c.add_literal.new.types c.add_cast.new.types c.in_ok-literal.ensures.extends c.in_ok-cast.ensures.extends
+
+pub returns-clause-added : goal.returns-clause-added
+returns-clause-added c = λ registry schema start le right known before.
+    let mid = c.add_literal.new.arena in
+    let literal = c.in_ok-literal in
+    let own = ty c.in-Some.own in
+    let trip = to_z-of_z w128 c.args.number c.ranges.number in
+    let alone : type_alone (Untyped c.args.number) ≡ Some own = ap literal_type (sym trip) ∙ sym c.in-Some.ensures in
+    let has = literal_has c.args.number own alone in
+    let is = literal_is own c.in-Some-of_number.value c.args.number has.1 has.0 (c.in-Some-of_number.ensures.literal ∙ ap (λ m. LiteralOp own (IntValue m)) trip) in
+    let right' = literal.ensures.right registry schema is.0 is.1 right in
+    let before' = literal.ensures.added registry schema start le right has.1 before in
+    c.in_ok-cast.ensures.added registry schema start (omega (arith, le, length-grown c.args.arena.now mid literal.ensures.grows)) right' known before'
+
+pub returns-clause-once : goal.returns-clause-once
+returns-clause-once c =
+    put_over_new c.args.arena.now c.add_literal.new.arena c.add_cast.new.arena c.in_ok-literal.literal.0 c.in_ok-cast.cast.0 (length-grown c.args.arena.now c.add_literal.new.arena c.in_ok-literal.ensures.grows) c.in_ok-literal.ensures.once c.in_ok-cast.ensures.once

@@ -23,3 +23,11 @@ returns-in_ok-cast-in-None-clause-denotes c = λ first le.
     let cast = c.in_ok-cast-in-None in
     let trip = to_z-of_z w128 c.args.number c.ranges.number in
     cast_as first c.add_number_cast.new.arena cast.cast.0 (ty c.args.target) c.args.number (ap (integer_has (ty c.args.target)) (sym trip) ∙ sym c.in-None.ensures.has) (subst (λ m. Denotes (HoldsFrom first c.add_number_cast.new.arena) cast.cast.0 (cast_to (ty c.args.target) (number_literal (settled_type (Untyped m)) m))) trip (cast.ensures.denotes first le))
+
+pub returns-in_ok-literal-in-Some-clause-added : goal.returns-in_ok-literal-in-Some-clause-added
+returns-in_ok-literal-in-Some-clause-added c = λ registry schema start le right before.
+    c.in_ok-literal-in-Some.ensures.added registry schema start le right c.requires.becomes.known before
+
+pub returns-in_ok-cast-in-None-clause-added : goal.returns-in_ok-cast-in-None-clause-added
+returns-in_ok-cast-in-None-clause-added c = λ registry schema start le right before.
+    c.in_ok-cast-in-None.ensures.added registry schema start le right c.requires.becomes.known before

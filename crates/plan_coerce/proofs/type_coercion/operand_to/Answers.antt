@@ -1,3 +1,4 @@
+use Rattle.plan_coerce.proofs.OnceLemmas.{cast_once, number_once}
 use Rattle.std.proofs.Common.{sym, ap, ◌∙◌, subst, rules}
 use Rattle.std.specs.Int.{w128}
 use Rattle.std.specs.Prelude.{FitsSigned}
@@ -49,3 +50,17 @@ returns-in_ok-made-in-Some-clause-changed c = λ from keeps.
     let fits : FitsSigned w128 c.in-Some.number = search rules in
     let untyped = c.in-Some.ensures ∙ ap Untyped (sym (to_z-of_z w128 c.in-Some.number fits)) in
     changed_from c.args.arena.now c.number_under.new.arena c.args.types.now c.args.node.0 made.made.0 own from target is keeps (number_for c.args.arena.now c.number_under.new.arena c.args.types.now c.args.node.0 made.made.0 own target _ is (sym c.eq.ensures ∙ c.if-eq.false) untyped made.ensures.fresh made.ensures.denotes)
+
+pub returns-in_ok-cast-in-None-clause-added : goal.returns-in_ok-cast-in-None-clause-added
+returns-in_ok-cast-in-None-clause-added c = λ registry schema start le right before.
+    let target = ty c.args.target in
+    let own = c.get-from.result.now.dtype in
+    let is = type_of c.args.types.now c.args.node.0 c.get-from.result.now c.get-from.ensures in
+    let can = becomes_of c.args.types.now c.args.node.0 own target is c.requires.ready (sym c.eq.ensures ∙ c.if-eq.false) in
+    c.in_ok-cast-in-None.ensures.added registry schema start le right can.known before
+
+pub returns-in_ok-cast-in-None-clause-once : goal.returns-in_ok-cast-in-None-clause-once
+returns-in_ok-cast-in-None-clause-once c = cast_once c.args.arena.now c.add_cast.new.arena c.args.node.0 c.in_ok-cast-in-None.cast.0 c.in_ok-cast-in-None.ensures.once
+
+pub returns-in_ok-made-in-Some-clause-once : goal.returns-in_ok-made-in-Some-clause-once
+returns-in_ok-made-in-Some-clause-once c = number_once c.args.arena.now c.number_under.new.arena c.args.node.0 c.in_ok-made-in-Some.made.0 c.in_ok-made-in-Some.ensures.once

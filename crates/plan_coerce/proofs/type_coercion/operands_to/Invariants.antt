@@ -7,8 +7,8 @@ use Rattle.plan_dsl.specs.Registry.{Registry}
 use Rattle.plan_arena.specs.Items.{Grows, numbers}
 use Rattle.plan_infer.specs.KeptTypes.{Extends, IsKept, IsRight, KeepsEntry}
 use Rattle.plan_arena.specs.declared.aexpr.AExpr.{AExpr}
-use Rattle.plan_coerce.specs.Coercion.{AreChanged}
-use Rattle.plan_coerce.specs.Reaching.{IsClosed, Near}
+use Rattle.plan_coerce.specs.Coercion.{AllStrictFrom, AreChanged}
+use Rattle.plan_coerce.specs.Reaching.{AreMadeOnce, IsClosed, Near}
 use Rattle.plan_coerce.proofs.type_coercion.operands_to.Given as goal
 
 abbrev pub invariant-loop-index : goal.invariant-loop-index
@@ -17,7 +17,9 @@ invariant-loop-index l =
       grows : Grows l.initial.arena l.arena;
       extends : Extends l.initial.types l.types;
       right : (registry : Registry) (schema : Columns) → IsRight registry schema l.initial.arena l.initial.types → IsRight registry schema l.arena l.types;
+      added : (registry : Registry) (schema : Columns) (start : ℕ) → start ≤ length l.initial.arena → IsRight registry schema l.initial.arena l.initial.types → AllStrictFrom start l.initial.arena l.initial.types → AllStrictFrom start l.arena l.types;
       closed : (start : List AExpr) (roots : List ℕ) → length start ≤ length l.initial.arena → AllByRecursion (Near start roots) (numbers l.inputs) → IsClosed start roots l.initial.arena → IsClosed start roots l.arena;
+      once : AreMadeOnce l.initial.arena l.arena (take l.index (numbers l.inputs)) (numbers l.operands.items);
       kept : AllByRecursion (IsKept l.types) (numbers l.operands.items);
       changed : (own : Inferred) → KeepsEntry l.initial.types l.node.0 own → AreChanged l.initial.arena l.arena l.initial.types (take l.index (numbers l.inputs)) (numbers l.operands.items) (map ty (take l.index own.operands.items));
     }

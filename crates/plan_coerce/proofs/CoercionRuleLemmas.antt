@@ -1,0 +1,282 @@
+-- The rule of coercion: nodes that are strict, and what is put in place of others.
+use Rattle.std.proofs.Common.{◌≡◌, ◌≢◌, ◌&&◌, not, ℕ, zero, suc, None, is_some, ℤ, ◌<◌, ◌≤◌, Bool, true, false, cond, List, [], ◌∷◌, length, map, set, Option, Some, Ok, slice_get, refl, sym, ap, ◌∙◌, subst, arith, zero-le, inl, ⊎_elim}
+use Rattle.std.specs.List.{AllByRecursion}
+use Rattle.std.proofs.Math.ListN.{length-set}
+use Rattle.std.proofs.lemmas.Bool.{and_parts, false≢true}
+use Rattle.plan_types.specs.Types.{Ty, Untyped, ty, is_known, same_type}
+use Rattle.plan_types.specs.declared.dtype.DataType.{DataType}
+use Rattle.plan_types.specs.Values.{Val, IntValue}
+use Rattle.plan_types.specs.CommonTypes.{type_alone}
+use Rattle.plan_types.specs.Schemas.{Name, Columns}
+use Rattle.plan_types.proofs.ListLemmas.{slice_get-append}
+use Rattle.plan_dsl.specs.Registry.{Registry}
+use Rattle.plan_dsl.specs.Literals.{is_literal_of, literal_op, settled, settled_type}
+use Rattle.plan_dsl.specs.Aliases.{is_core_op, renamed}
+use Rattle.plan_dsl.specs.Ops.{AliasOp, LiteralOp, Expression}
+use Rattle.plan_dsl.specs.Strictness.{is_strict_over, is_strict_rule, number_as, number_literal, same_types}
+use Rattle.plan_dsl.specs.Trees.{node, no_more}
+use Rattle.plan_dsl.specs.Typing.{Typed, types_of, typing}
+use Rattle.plan_dsl.proofs.TypingLemmas.{ok_same}
+use Rattle.plan_dsl.proofs.LiteralLemmas.{settled_known, typed_known, untyped_is_number}
+use Rattle.plan_dsl.proofs.SameLemmas.{same_itself}
+use Rattle.plan_dsl.specs.declared.literal.LiteralValue.{LiteralValue}
+use Rattle.plan_arena.specs.declared.arena.Node.{Node}
+use Rattle.plan_arena.specs.declared.aexpr.AExpr.{AExpr}
+use Rattle.plan_arena.specs.declared.aexpr.AExpr.TheVariants.{Literal, Alias}
+use Rattle.plan_arena.specs.Denotation.{Denotes}
+use Rattle.plan_arena.specs.Layers.{inputs_of, op_of, layer, shape_of}
+use Rattle.plan_arena.specs.Items.{Grows, HoldsExpression, HoldsFrom, Rewired, expression_layer}
+use Rattle.plan_arena.proofs.DenotationLemmas.{denotes_one, some_same}
+use Rattle.plan_arena.proofs.ItemLemmas.{any_node, expression_laws, expression_written, from_zero, held_top, length-grown, within}
+use Rattle.plan_infer.specs.declared.type_table.Inferred.{Inferred}
+use Rattle.plan_infer.specs.declared.type_table.TypeTable.{TypeTable}
+use Rattle.plan_infer.specs.KeptTypes.{Extends, HasRightTypes, IsKept, IsRight, KeepsEntry, typed_of, typings_at}
+use Rattle.plan_infer.specs.Typed.{HasType}
+use Rattle.plan_infer.proofs.TableLemmas.{children_kept, kept_typing, layer_held, over_kept, ruled_inputs}
+use Rattle.plan_coerce.specs.Coercion.{AllStrictFrom, IsOverOperands, KeepsStrict}
+use Rattle.plan_coerce.specs.Reaching.{IsClosed, IsReached, Near}
+use Rattle.plan_coerce.specs.Rules.{HasSameCasts, IsLike, IsReplacement, is_strict_node, said, until_strict}
+use Rattle.plan_coerce.proofs.CoercionLemmas.{not_renamed, own_literal, rewritten, strict_visits, takes_listed, under_alias}
+use Rattle.plan_coerce.proofs.ReachLemmas.{changed_near, closed_put, closed_start, held_unwritten, inputs_near, new_kept, reached_near, root_near}
+use Rattle.plan_coerce.proofs.SettledLemmas.{known_settled, literal_typed, number_settled, own_number}
+use Rattle.plan_coerce.proofs.RightLemmas.{kept_within, node_within, right_rewritten}
+
+and_true : (b : Bool) → (b && true) ≡ b
+and_true b = elim b as (λ x. (x && true) ≡ x) [ true ↦ refl | false ↦ refl ]
+
+and_false : (b : Bool) → (b && false) ≡ false
+and_false b = elim b as (λ x. (x && false) ≡ false) [ true ↦ refl | false ↦ refl ]
+
+-- types side by side, one at a time
+pub ne_is : (b : Bool) → not b ≡ true → b ≡ false
+ne_is b h = elim b as (λ x. not x ≡ true → x ≡ false) [ true ↦ λ e. cc | false ↦ λ e. refl ] h
+
+module _ (all : Bool) (ts : List Typed) (ds : List DataType) (t : Typed) (d : DataType) (ts' : List Typed) (ds' : List DataType) (left : ts ≡ t ∷ ts') (target : ds ≡ d ∷ ds') where
+  pub one_apart : same_type t.type (ty d) ≡ false → same_types (types_of ts) (map ty ds) ≡ all → false ≡ all
+  one_apart apart same =
+      sym (ap (λ l. same_types (types_of l) (map ty ds)) left ∙ ap (λ l. same_types (types_of (t ∷ ts')) (map ty l)) target ∙ ap (λ b. b && same_types (types_of ts') (map ty ds')) apart) ∙ same
+
+  pub one_same : same_type t.type (ty d) ≡ true → same_types (types_of ts) (map ty ds) ≡ all → same_types (types_of ts') (map ty ds') ≡ all
+  one_same is same =
+      sym (ap (λ l. same_types (types_of l) (map ty ds)) left ∙ ap (λ l. same_types (types_of (t ∷ ts')) (map ty l)) target ∙ ap (λ b. b && same_types (types_of ts') (map ty ds')) is) ∙ same
+
+-- a node that is strict, of what a table keeps
+module _ (registry : Registry) (schema : Columns) (items : List AExpr) (table : TypeTable) (right : IsRight registry schema items table) (n : ℕ) (own : Inferred) (keeps : KeepsEntry table n own) where
+  module _ (item : AExpr) (got : slice_get items n ≡ Some item) where
+    -- one that takes its operands as they are
+    pub plain_strict : own.operands.items ≡ [] → is_known (ty own.dtype) ≡ true → (t : Expression) → Denotes (HoldsExpression items) n t → said (is_strict_node registry schema) registry schema t ≡ true
+    plain_strict none known t d =
+        let is = kept_typing registry schema items table right n own keeps t d in
+        let v = strict_visits registry schema items table right n item own got keeps none 0 t (from_zero items n t d) (record { typed = typed_of own; is = is; known = known }) in
+        let there = any_node 0 items n (node v.op v.children) (v.inputs, v.held, v.denotes) in
+        let one = denotes_one (shape_of (map expression_layer items)) (HoldsExpression items) (expression_laws items) n (node v.op v.children) t there d in
+        subst (λ u. said (is_strict_node registry schema) registry schema u ≡ true) one v.strict
+
+    -- whether its operands are of the types that are listed tells whether it is strict
+    pub listed_strict : own.operands.items ≢ [] → is_known (ty own.dtype) ≡ true → (b : Bool) → b ≡ same_types (types_of (typings_at table (inputs_of (expression_layer item)))) (map ty own.operands.items) → (t : Expression) → Denotes (HoldsExpression items) n t → said (is_strict_node registry schema) registry schema t ≡ b
+    listed_strict some known b same t d =
+        let op = op_of (expression_layer item) in
+        let inputs = inputs_of (expression_layer item) in
+        let top = held_top items n op inputs (layer_held items n item got) t d in
+        let e = ruled_inputs registry schema items table right n item own got keeps in
+        let targets = takes_listed registry schema items table right n item own got keeps some e.typed e.ruling e.kept e.rules in
+        let typed = children_kept registry schema items table right inputs top.0 e.typed top.2 e.kept in
+        let here = over_kept (λ ts. b ≡ same_types (types_of ts) (map ty own.operands.items)) table inputs inputs refl same e.typed e.kept in
+        let own_known : is_known e.ruling.own.type ≡ true = ap (λ (x : Typed). is_known x.type) e.is ∙ known in
+        ap (said (is_strict_node registry schema) registry schema) top.1
+        ∙ ap (is_strict_over registry schema op) typed
+        ∙ ap (is_strict_rule (types_of e.typed)) e.rules
+        ∙ ap (λ l. same_types (types_of e.typed) l && is_known e.ruling.own.type) targets
+        ∙ ap (λ k. same_types (types_of e.typed) (map ty own.operands.items) && k) own_known
+        ∙ and_true (same_types (types_of e.typed) (map ty own.operands.items))
+        ∙ sym here
+
+    -- a number without a type is not
+    pub number_unsettled : is_known (ty own.dtype) ≡ false → (t : Expression) → Denotes (HoldsExpression items) n t → said (is_strict_node registry schema) registry schema t ≡ false
+    number_unsettled unknown t d =
+        let op = op_of (expression_layer item) in
+        let inputs = inputs_of (expression_layer item) in
+        let top = held_top items n op inputs (layer_held items n item got) t d in
+        let e = ruled_inputs registry schema items table right n item own got keeps in
+        let typed = children_kept registry schema items table right inputs top.0 e.typed top.2 e.kept in
+        let own_unknown : is_known e.ruling.own.type ≡ false = ap (λ (x : Typed). is_known x.type) e.is ∙ unknown in
+        ap (said (is_strict_node registry schema) registry schema) top.1
+        ∙ ap (is_strict_over registry schema op) typed
+        ∙ ap (is_strict_rule (types_of e.typed)) e.rules
+        ∙ ap (λ k. same_types (types_of e.typed) e.ruling.operands && k) own_unknown
+        ∙ and_false (same_types (types_of e.typed) e.ruling.operands)
+
+-- ---- numbers that get a type
+
+-- by a literal in their place
+pub literal_settles : (registry : Registry) (schema : Columns) (items : List AExpr) (at : ℕ) (before : AExpr) (value : LiteralValue) (number : ℤ) (own : Ty) → type_alone (Untyped number) ≡ Some own → slice_get items at ≡ Some before → is_core_op (op_of (expression_layer before)) ≡ true → literal_op value ≡ LiteralOp own (IntValue number) → (t : Expression) → Denotes (HoldsExpression items) at t → HasType (typing registry schema t) (Untyped number) → Denotes (HoldsExpression (set items at (Literal value))) at (settled t)
+literal_settles registry schema items at before value number own alone got core is t d h =
+    let s = number_settled registry schema number own alone t h.many h.is in
+    let lit = number_literal (settled_type (Untyped number)) number in
+    let bare = not_renamed 0 items at before t lit got core (from_zero items at t d) in
+    let new = set items at (Literal value) in
+    let there : Denotes (HoldsExpression new) at (node (literal_op value) no_more) = ([], expression_written items at (Literal value) (within items at t d), tt) in
+    subst (Denotes (HoldsExpression new) at) (sym (s.is ∙ bare)) (any_node 0 new at lit (own_literal 0 new at own value number alone is (from_zero new at (node (literal_op value) no_more) there)))
+
+-- or by an alias over one that was added
+pub alias_settles : (registry : Registry) (schema : Columns) (items new : List AExpr) (at : ℕ) (below : Node) (before : AExpr) (made : Node) (name copy : Name) (number : ℤ) (own : Ty) → type_alone (Untyped number) ≡ Some own → slice_get items at ≡ Some before → expression_layer before ≡ layer (AliasOp name) (below.0 ∷ []) → copy ≡ name → Grows items new → IsClosed items [] new → length items ≤ made.0 → ((u : Expression) → Denotes (HoldsFrom 0 items) below.0 u → Denotes (HoldsFrom 0 new) made.0 (renamed u (number_as number own))) → (t : Expression) → Denotes (HoldsExpression items) at t → HasType (typing registry schema t) (Untyped number) → Denotes (HoldsExpression (set new at (Alias made copy))) at (settled t)
+alias_settles registry schema items new at below before made name copy number own alone got is called g closed fresh denotes t d h =
+    let s = number_settled registry schema number own alone t h.many h.is in
+    let lit = number_literal (settled_type (Untyped number)) number in
+    let u = under_alias 0 items at below.0 before name t lit got is (from_zero items at t d) in
+    let here = within items at t d in
+    let item = Alias made copy in
+    let longer : at < length new = omega (arith, here, length-grown items new g) in
+    let under = any_node 0 new made.0 _ (subst (λ e. Denotes (HoldsFrom 0 new) made.0 (renamed u.0 e)) (own_number number own alone) (denotes u.0 u.2)) in
+    let kept = new_kept items new at item here closed made.0 (renamed u.0 lit) (inl fresh) under in
+    let held : HoldsExpression (set new at item) at (AliasOp name) (made.0 ∷ []) = expression_written new at item longer ∙ ap (λ n. Some (layer (AliasOp n) (made.0 ∷ []))) called in
+    subst (Denotes (HoldsExpression (set new at item)) at) (sym (s.is ∙ u.1)) (made.0 ∷ [], held, (kept, tt))
+
+-- ---- new nodes
+
+any_within : (items : List AExpr) (n : ℕ) (t : Expression) → Denotes (HoldsExpression items) n t → n < length items
+any_within items n (node op ts) d = node_within items n op d.0 d.1
+
+none_there : (items : List AExpr) (n : ℕ) → n < length items → slice_get items n ≡ None → ⊥
+none_there [] n lt e = omega (arith, lt)
+none_there (x ∷ xs) zero lt e = cc
+none_there (x ∷ xs) (suc n) lt e = none_there xs n (omega (arith, lt)) e
+
+some_alone : (found : Option Ty) → is_some found ≡ true → (own : Ty) × (found ≡ Some own)
+some_alone (Some own) h = (own, refl)
+some_alone None h = cc
+
+-- the item at a node that denotes something
+pub item_there : (items : List AExpr) (n : ℕ) (t : Expression) → Denotes (HoldsExpression items) n t → (item : AExpr) × (slice_get items n ≡ Some item)
+item_there items n t d =
+    let lt = any_within items n t d in
+    elim (slice_get items n) as (λ o. slice_get items n ≡ o → (item : AExpr) × (o ≡ Some item)) [ Some item ↦ λ e. (item, refl) | None ↦ λ e. absurd (none_there items n lt e) ] refl
+
+number_alone : (registry : Registry) (schema : Columns) (number : ℤ) (t : Expression) (many : Bool) → typing registry schema t ≡ Ok (record { type = Untyped number; many = many }) → (own : Ty) × (type_alone (Untyped number) ≡ Some own)
+number_alone registry schema number t many h =
+    let is = untyped_is_number registry schema number t many h in
+    some_alone (type_alone (Untyped number)) (and_parts (is_literal_of (Untyped number) (IntValue number)) (is_some (type_alone (Untyped number))) is.literal).1
+
+-- what is written over other operands
+rewired : (old new : List AExpr) (table table' : TypeTable) (at : ℕ) (item : AExpr) → Grows old new → (over : IsOverOperands old new table table' at item) → Rewired new (set new at item) at over.nodes
+rewired old new table table' at item g over = record {
+  before = over.before;
+  after = item;
+  got = ap (λ l. slice_get l at) g.longer ∙ slice_get-append old g.added at over.before over.got;
+  items = refl;
+  rewired = over.is;
+}
+
+-- no number without a type is kept as a strict node
+pub strict_no_number : (registry : Registry) (schema : Columns) (items : List AExpr) (table : TypeTable) (n : ℕ) (number : ℤ) (value : Val) (inputs : List ℕ) → IsRight registry schema items table → KeepsStrict table n → HoldsExpression items n (LiteralOp (Untyped number) value) inputs → ⊥
+strict_no_number registry schema items table n number value inputs right k held =
+    let e = right.each n k.own k.keeps in
+    let top = held_top items n (LiteralOp (Untyped number) value) inputs held e.tree e.denotes in
+    let type = literal_typed registry schema (Untyped number) value top.0 (typed_of k.own) (sym (ap (typing registry schema) top.1) ∙ e.typed) in
+    let known : is_known (Untyped number) ≡ true = ap is_known type ∙ k.known in
+    false≢true known
+
+-- a new node that is kept as a strict one is one
+pub new_strict : (registry : Registry) (schema : Columns) (items : List AExpr) (table : TypeTable) (n : ℕ) → IsRight registry schema items table → KeepsStrict table n → (t : Expression) → Denotes (HoldsExpression items) n t → said (is_strict_node registry schema) registry schema t ≡ true
+new_strict registry schema items table n right k t d =
+    let item = item_there items n t d in
+    plain_strict registry schema items table right n k.own k.keeps item.0 item.1 k.none k.known t d
+
+falls_to : (registry : Registry) (schema : Columns) (t before : Expression) → said (is_strict_node registry schema) registry schema t ≡ true → said (is_strict_node registry schema) registry schema before ≡ false → said (until_strict registry schema) registry schema t < said (until_strict registry schema) registry schema before
+falls_to registry schema (node op ts) (node op' us) a b =
+    let zero : said (until_strict registry schema) registry schema (node op ts) ≡ 0 = ap (λ x. cond x 0 1) a in
+    let one : said (until_strict registry schema) registry schema (node op' us) ≡ 1 = ap (λ x. cond x 0 1) b in
+    omega (arith, zero, one)
+
+module _ (registry : Registry) (schema : Columns) (old new : List AExpr) (table table' : TypeTable) (at : ℕ) (item : AExpr) (own : Inferred) (right : IsRight registry schema old table) (keeps : KeepsEntry table at own) (g : Grows old new) (right' : IsRight registry schema new table') (added : AllStrictFrom (length old) new table') (closed : IsClosed old (at ∷ []) (set new at item)) where
+  before_there : at < length old
+  before_there = kept_within old table at (record { registry = registry; schema = schema; right = right }) (record { own = own; keeps = keeps })
+
+  -- numbers without a type below what is put in place were there before
+  old_numbers : (n : ℕ) (number : ℤ) (value : Val) (inputs : List ℕ) → IsReached (set new at item) (at ∷ []) n → HoldsExpression (set new at item) n (LiteralOp (Untyped number) value) inputs → IsReached old (at ∷ []) n
+  old_numbers n number value inputs reached held = ⊎_elim
+      (λ le.
+      let within = node_within (set new at item) n (LiteralOp (Untyped number) value) inputs held in
+      let other : n ≢ at = λ e. omega (arith, le, e, before_there) in
+      let k = added n le (omega (arith, within, length-set new at item)) in
+      absurd (strict_no_number registry schema new table' n number value inputs right' k (held_unwritten new at item n (LiteralOp (Untyped number) value) inputs other held)))
+      (λ r. r)
+      (reached_near old (at ∷ []) (set new at item) (at ∷ []) n closed (root_near old at, tt) reached)
+
+  -- a number that gets its type
+  pub number_replaced : (number : ℤ) → ty own.dtype ≡ Untyped number → IsClosed old [] new → (t : Expression) → Denotes (HoldsExpression old) at t → (HasType (typing registry schema t) (Untyped number) → Denotes (HoldsExpression (set new at item)) at (settled t)) → IsReplacement (HasSameCasts registry schema) (until_strict registry schema) registry schema old (set new at item) at t
+  number_replaced number is apart t d settles =
+      let typed = kept_typing registry schema old table right at own keeps t d in
+      let number_typed = typed ∙ ap (λ x. Ok (record { type = x; many = own.many })) is in
+      let alone = number_alone registry schema number t own.many number_typed in
+      let s = number_settled registry schema number alone.0 alone.1 t own.many number_typed in
+      let got = item_there old at t d in
+      let loose = number_unsettled registry schema old table right at own keeps got.0 got.1 (ap is_known is) t d in
+      record {
+        tree = settled t;
+        denotes = settles (record { many = own.many; is = number_typed });
+        like = λ typed h. record { same = same_itself registry schema (settled t); relates = refl };
+        known = λ typed h. settled_known registry schema t typed h;
+        falls = falls_to registry schema (settled t) t s.strict loose;
+        fresh = λ n u le reached du.
+            let within = any_within (set new at item) n u du in
+            let k = added n le (omega (arith, within, length-set new at item)) in
+            let e = right'.each n k.own k.keeps in
+            let one = denotes_one (shape_of (map expression_layer (set new at item))) (HoldsExpression (set new at item)) (expression_laws (set new at item)) n e.tree u (new_kept old new at item before_there apart n e.tree (inl le) e.denotes) du in
+            falls_to registry schema u t (subst (λ w. said (is_strict_node registry schema) registry schema w ≡ true) one (new_strict registry schema new table' n right' k e.tree e.denotes)) loose;
+        numbers = old_numbers;
+      }
+
+  -- a node over operands that were made of their types
+  pub node_replaced : is_known (ty own.dtype) ≡ true → own.operands.items ≢ [] → (over : IsOverOperands old new table table' at item) → false ≡ same_types (types_of (typings_at table (inputs_of (expression_layer over.before)))) (map ty own.operands.items) → IsRight registry schema (set new at item) table' → (t : Expression) → Denotes (HoldsExpression old) at t → IsReplacement (HasSameCasts registry schema) (until_strict registry schema) registry schema old (set new at item) at t
+  node_replaced known some over differs placed t d =
+      let typed = kept_typing registry schema old table right at own keeps t d in
+      let loose = listed_strict registry schema old table right at own keeps over.before over.got some known false differs t d in
+      let takes = takes_listed registry schema old table right at over.before own over.got keeps some in
+      let rew = rewired old new table table' at item g over in
+      let r = rewritten registry schema old new (set new at item) table at over.before over.nodes (map ty own.operands.items) right over.got g (over.changed own keeps) takes rew 0 t (typed_of own) zero-le (from_zero old at t d) typed in
+      let stays = known_settled registry schema t (typed_of own) typed known in
+      record {
+        tree = node r.op r.children;
+        denotes = any_node 0 (set new at item) at (node r.op r.children) (r.inputs, r.held, r.denotes);
+        like = λ other h. subst (λ w. IsLike (HasSameCasts registry schema) registry schema w (node r.op r.children)) (sym stays) (record { same = r.same.same; relates = r.same.casts });
+        known = λ other h.
+            let is = ok_same (typing registry schema (node r.op r.children)) other (typed_of own) h (r.same.same.typing ∙ typed) in
+            ap (λ (x : Typed). is_known x.type) is ∙ known;
+        falls = falls_to registry schema (node r.op r.children) t (r.strict known) loose;
+        fresh = λ n u le reached du.
+            let within = any_within (set new at item) n u du in
+            let k = added n le (omega (arith, within, length-set new at item)) in
+            falls_to registry schema u t (new_strict registry schema (set new at item) table' n placed k u du) loose;
+        numbers = old_numbers;
+      }
+
+  -- what is kept is right of it
+  pub node_placed : own.operands.items ≢ [] → Extends table table' → IsOverOperands old new table table' at item → IsRight registry schema (set new at item) table'
+  node_placed some extends over =
+      let takes = takes_listed registry schema old table right at over.before own over.got keeps some in
+      right_rewritten registry schema old new (set new at item) table table' at over.before own over.nodes right keeps over.got g (over.changed own keeps) takes (rewired old new table table' at item g over) over.kept extends right'
+
+-- ---- what is kept of a node tells which of these it is
+
+module _ (registry : Registry) (schema : Columns) (items : List AExpr) (table : TypeTable) (right : IsRight registry schema items table) (n : ℕ) (own : Inferred) (keeps : KeepsEntry table n own) where
+  pub known_not_number : ((number : ℤ) → ty own.dtype ≢ Untyped number) → is_known (ty own.dtype) ≡ true
+  known_not_number none = let e = right.each n own keeps in typed_known registry schema e.tree (ty own.dtype) own.many e.typed none
+
+  pub type_number : (number : ℤ) → ty own.dtype ≡ Untyped number → (type : Ty) × (type_alone (Untyped number) ≡ Some type)
+  type_number number is =
+      let e = right.each n own keeps in
+      number_alone registry schema number e.tree own.many (e.typed ∙ ap (λ x. Ok (record { type = x; many = own.many })) is)
+
+pub same_before : (items : List AExpr) (n : ℕ) (a b : AExpr) (table : TypeTable) (own : Inferred) → slice_get items n ≡ Some a → slice_get items n ≡ Some b → false ≡ same_types (types_of (typings_at table (inputs_of (expression_layer a)))) (map ty own.operands.items) → false ≡ same_types (types_of (typings_at table (inputs_of (expression_layer b)))) (map ty own.operands.items)
+same_before items n a b table own at bt h =
+    subst (λ (x : AExpr). false ≡ same_types (types_of (typings_at table (inputs_of (expression_layer x)))) (map ty own.operands.items)) (some_same (slice_get items n) a b at bt) h
+
+-- nodes that an item over changed operands reaches
+pub over_near : (old new : List AExpr) (table table' : TypeTable) (at : ℕ) (item : AExpr) → HasRightTypes old table → IsKept table at → Grows old new → (over : IsOverOperands old new table table' at item) → (((before : AExpr) → slice_get old at ≡ Some before → AllByRecursion (Near old (at ∷ [])) (inputs_of (expression_layer before))) → IsClosed old (at ∷ []) new) → IsClosed old (at ∷ []) (set new at item)
+over_near old new table table' at item is k g over closed =
+    let roots = at ∷ [] in
+    let here = kept_within old table at is k in
+    let below = λ (before : AExpr) (got : slice_get old at ≡ Some before). inputs_near old roots old at before got (closed_start old roots) (root_near old at) in
+    let near = changed_near old roots old new table (inputs_of (expression_layer over.before)) over.nodes (map ty k.own.operands.items) (omega arith) (over.changed k.own k.keeps) (below over.before over.got) in
+    closed_put old roots new at item (omega (arith, here, length-grown old new g)) (subst (AllByRecursion (Near old roots)) (sym (ap inputs_of over.is)) near) (closed below)

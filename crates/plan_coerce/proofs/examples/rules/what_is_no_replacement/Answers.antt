@@ -1,0 +1,21 @@
+use Rattle.std.proofs.Common.{◌<◌, [], ◌∷◌, Ok, pos, false, refl, subst, arith}
+use Rattle.std.proofs.lemmas.Bool.{false≢true}
+use Rattle.plan_types.specs.Types.{Untyped}
+use Rattle.plan_dsl.specs.Ops.{Expression, LenOp}
+use Rattle.plan_dsl.specs.Typing.{Typed}
+use Rattle.plan_infer.specs.Samples.{two_columns, sum, sum_items}
+use Rattle.plan_infer.proofs.ExampleLemmas.{one_expression}
+use Rattle.plan_coerce.specs.Rules.{said, until_strict}
+use Rattle.plan_coerce.proofs.examples.rules.what_is_no_replacement.Goals as goal
+
+pub returns-clause-unchanged : goal.returns-clause-unchanged
+returns-clause-unchanged c = λ r.
+    let same = one_expression sum_items 2 r.tree sum r.denotes (0 ∷ 1 ∷ [], refl, (([], refl, tt), (([], refl, tt), tt))) in
+    let falls : 1 < 1 = subst (λ (t : Expression). said (until_strict [] two_columns) [] two_columns t < 1) same r.falls in
+    omega (arith, falls)
+
+pub returns-clause-any_node : goal.returns-clause-any_node
+returns-clause-any_node c = λ settles.
+    let number : Typed = record { type = Untyped (pos 5); many = false } in
+    let known = settles LenOp (record { labels = []; typings = Ok (number ∷ []) }) (number ∷ []) refl refl in
+    false≢true known.0

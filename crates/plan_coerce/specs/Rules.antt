@@ -1,0 +1,140 @@
+-- Rules that put nodes in place of others.
+-- What a rule says of a node of an expression goes by what the node does, and by what is seen of its inputs: their names
+-- and typings. Of a plan's node it goes by the node's kind, and by the schema that goes into it.
+use Rattle.std.specs.Prelude.{◌≡◌, ◌<◌, ◌≤◌, ℕ, ℤ, Bool, true, false, List, [], ◌∷◌, length, Some, Result, Ok, Err, if◌then◌else◌}
+use Rattle.std.specs.List.{AllByRecursion}
+use Rattle.plan_types.specs.Types.{Untyped, is_known, is_truth}
+use Rattle.plan_types.specs.Schemas.{Columns}
+use Rattle.plan_types.specs.Values.{Val}
+use Rattle.plan_types.specs.declared.error.ErrorKind.{ErrorKind}
+use Rattle.plan_types.specs.declared.error.ErrorKind.TheVariants.{InvalidOperation}
+use Rattle.plan_dsl.specs.Registry.{Registry}
+use Rattle.plan_dsl.specs.Literals.{settled}
+use Rattle.plan_dsl.specs.Names.{Label, op_label}
+use Rattle.plan_dsl.specs.Ops.{Op, LiteralOp, Expression}
+use Rattle.plan_dsl.specs.Plans.{Named, PlanKind, FilterKind, PlanOp}
+use Rattle.plan_dsl.specs.Strictness.{IsSame, is_strict_over}
+use Rattle.plan_dsl.specs.Trees.{Trees, node, fold_all, AllRelated}
+use Rattle.plan_dsl.specs.Typing.{Typed, typing, typing_all}
+use Rattle.plan_arena.specs.declared.aexpr.AExpr.{AExpr}
+use Rattle.plan_arena.specs.declared.ir.IR.{IR}
+use Rattle.plan_arena.specs.Denotation.{Denotes}
+use Rattle.plan_arena.specs.Items.{HoldsExpression, HoldsPlan}
+use Rattle.plan_arena.specs.PlanSchemas.{schema_into}
+use Rattle.plan_arena.specs.Runs.{AllAccepted}
+use Rattle.plan_infer.specs.declared.type_table.Inferred.{Inferred}
+use Rattle.plan_infer.specs.declared.type_table.TypeTable.{TypeTable}
+use Rattle.plan_infer.specs.KeptTypes.{KeepsEntry, typed_of}
+use Rattle.plan_coerce.specs.Coercion.{coerced}
+use Rattle.plan_coerce.specs.Reaching.{IsReached}
+
+-- ---- nodes of expressions
+
+-- what is seen of a node's inputs: their names, with what these come from, and their typings, or why one has none
+pub record Inputs : Type 0 where
+  pub labels : List Label
+  pub typings : Result (List Typed) ErrorKind
+
+abbrev pub seen : Registry → Columns → Trees Op → Inputs
+seen registry schema children = record { labels = fold_all op_label children; typings = typing_all registry schema children }
+
+-- what is said of a node, by its op and its inputs
+abbrev pub said : {A : Type 0} → (Op → Inputs → A) → Registry → Columns → Expression → A
+said says registry schema (node op children) = says op (seen registry schema children)
+
+-- the one expression has the type, name and meaning of the other, and is related to it
+pub record IsLike (related : Expression → Expression → Type 0) (registry : Registry) (schema : Columns) (before after : Expression) : Type 0 where
+  pub same : IsSame registry schema before after
+  pub relates : related before after
+
+-- a node over children that are so related is related to the node over the others
+abbrev pub IsCongruent : (Expression → Expression → Type 0) → Registry → Columns → Type 0
+IsCongruent related registry schema =
+    (op : Op) (before after : Trees Op) → AllRelated (IsLike related registry schema) before after → related (node op before) (node op after)
+
+abbrev pub IsTransitive : (Expression → Expression → Type 0) → Type 0
+IsTransitive related = (t u w : Expression) → related t u → related u w → related t w
+
+-- no node is called settled of which an input is a number without a type
+abbrev pub SettlesNoNumber : (Op → Inputs → Bool) → Type 0
+SettlesNoNumber settled =
+    (op : Op) (inputs : Inputs) (typed : List Typed) → settled op inputs ≡ true → inputs.typings ≡ Ok typed → AllByRecursion (λ (t : Typed). is_known t.type ≡ true) typed
+
+-- What is put in place of a node that denoted the tree: the arena with it denotes a finite tree there, which has the type,
+-- name and meaning of the old one, is related to it, and is no number without a type. A number without a type that was
+-- there counts as one of the type that it has alone. The measure falls, that of each new node below is smaller too, and
+-- each number without a type below was there before.
+pub record IsReplacement (related : Expression → Expression → Type 0) (measure : Op → Inputs → ℕ) (registry : Registry) (schema : Columns) (old new : List AExpr) (at : ℕ) (before : Expression) : Type 0 where
+  pub tree : Expression
+  pub denotes : Denotes (HoldsExpression new) at tree
+  pub like : (typed : Typed) → typing registry schema before ≡ Ok typed → IsLike related registry schema (settled before) tree
+  pub known : (typed : Typed) → typing registry schema tree ≡ Ok typed → is_known typed.type ≡ true
+  pub falls : said measure registry schema tree < said measure registry schema before
+  pub fresh : (n : ℕ) (t : Expression) → length old ≤ n → IsReached new (at ∷ []) n → Denotes (HoldsExpression new) n t → said measure registry schema t < said measure registry schema before
+  pub numbers : (n : ℕ) (number : ℤ) (value : Val) (inputs : List ℕ) → IsReached new (at ∷ []) n → HoldsExpression new n (LiteralOp (Untyped number) value) inputs → IsReached old (at ∷ []) n
+
+-- the table keeps a number's own type for the node
+pub record KeepsNumber (table : TypeTable) (n : ℕ) : Type 0 where
+  pub own : Inferred
+  pub number : ℤ
+  pub keeps : KeepsEntry table n own
+  pub is : (typed_of own).type ≡ Untyped number
+
+-- ---- the rule of coercion
+
+-- whether a node is strict, and how often it is replaced until it is
+abbrev pub is_strict_node : Registry → Columns → Op → Inputs → Bool
+is_strict_node registry schema op inputs = is_strict_over registry schema op inputs.typings
+
+abbrev pub until_strict : Registry → Columns → Op → Inputs → ℕ
+until_strict registry schema op inputs = if is_strict_node registry schema op inputs then 0 else 1
+
+-- both are one expression with every cast written out
+abbrev pub HasSameCasts : Registry → Columns → Expression → Expression → Type 0
+HasSameCasts registry schema before after = coerced registry schema after ≡ coerced registry schema before
+
+-- ---- nodes of plans
+
+-- the node is a plan's, and its inputs are accepted
+pub record IsPlanNode (registry : Registry) (expressions : List AExpr) (plans : List IR) (n : ℕ) (op : PlanOp (Named Expression)) (inputs : Trees (PlanOp (Named Expression))) : Type 0 where
+  pub denotes : Denotes (HoldsPlan expressions plans) n (node op inputs)
+  pub accepted : AllAccepted registry inputs
+
+pub record HasAcceptedInputs (registry : Registry) (expressions : List AExpr) (plans : List IR) (n : ℕ) : Type 0 where
+  pub op : PlanOp (Named Expression)
+  pub inputs : Trees (PlanOp (Named Expression))
+  pub is : IsPlanNode registry expressions plans n op inputs
+
+-- such a node of that kind, into which the schema goes
+pub record StandsOver (registry : Registry) (expressions : List AExpr) (plans : List IR) (n : ℕ) (kind : PlanKind (Named Expression)) (schema : Columns) : Type 0 where
+  pub op : PlanOp (Named Expression)
+  pub inputs : Trees (PlanOp (Named Expression))
+  pub is : IsPlanNode registry expressions plans n op inputs
+  pub of_kind : op.kind ≡ kind
+  pub into : schema_into registry kind inputs ≡ Some schema
+
+-- the typing of a predicate, where it is that of truth values, or why it is refused
+abbrev pub truth_of : Result Typed ErrorKind → Result Typed ErrorKind
+truth_of (Err kind) = Err kind
+truth_of (Ok typed) = if is_truth typed.type then Ok typed else Err InvalidOperation
+
+-- what holds of the typing of a filter's predicate, or else, of any other node
+abbrev pub RefusesPredicate : (Result Typed ErrorKind → Type 0) → Type 0 → Registry → Columns → PlanKind (Named Expression) → Type 0
+RefusesPredicate refused other registry schema (FilterKind predicate) = refused (truth_of (typing registry schema predicate.expression))
+RefusesPredicate refused other registry schema kind = other
+
+-- What is put in place of a plan's node: the arena with it denotes a plan there, over accepted inputs. Where it is a filter
+-- the node was one, over an input of the same schema.
+pub record IsPlanReplacement (registry : Registry) (expressions : List AExpr) (old new : List IR) (n : ℕ) : Type 0 where
+  pub accepted : HasAcceptedInputs registry expressions new n
+  pub filter : (predicate : Named Expression) (schema : Columns) → StandsOver registry expressions new n (FilterKind predicate) schema → (before : Named Expression) × StandsOver registry expressions old n (FilterKind before) schema
+
+-- whether there is a typing
+abbrev pub is_ok_typed : Result Typed ErrorKind → Bool
+is_ok_typed (Err kind) = false
+is_ok_typed (Ok typed) = true
+
+-- whether the predicate of a filter has the type of truth values; nothing is asked of other nodes
+abbrev pub has_truth : Registry → Columns → PlanKind (Named Expression) → Bool
+has_truth registry schema (FilterKind predicate) = is_ok_typed (truth_of (typing registry schema predicate.expression))
+has_truth registry schema kind = true

@@ -1,0 +1,239 @@
+//! The rule that each node has operands of the types to which it takes them.
+ghost use Rattle.std.specs.Prelude.{◌≡◌, ℕ, ◌≤◌, List, [], ◌∷◌, Some, length, slice_get, map, set, true, MatchOption, IfOk, IfErr, OnOk};
+ghost use Rattle.std.specs.List.{AllByRecursion};
+ghost use Rattle.plan_types.specs.CommonTypes.{type_alone};
+ghost use Rattle.plan_types.specs.Errors.{IsRefusal, no_memory};
+ghost use Rattle.plan_types.specs.Schemas.{Columns, columns};
+ghost use Rattle.plan_types.specs.Types.{Ty, Untyped, ty};
+ghost use Rattle.plan_dsl.specs.Literals.{settled};
+ghost use Rattle.plan_dsl.specs.Ops.{Expression};
+ghost use Rattle.plan_dsl.specs.Registry.{Registry, registry};
+ghost use Rattle.plan_dsl.specs.Strictness.{same_types};
+ghost use Rattle.plan_dsl.specs.Typing.{types_of, typing};
+ghost use Rattle.plan_arena.specs.declared.aexpr.AExpr.{AExpr};
+ghost use Rattle.plan_arena.specs.Denotation.{Denotes, DenotesTree};
+ghost use Rattle.plan_arena.specs.Items.{Grows, HoldsExpression, expression_layer, numbers};
+ghost use Rattle.plan_arena.specs.Layers.{inputs_of};
+ghost use Rattle.plan_infer.specs.declared.type_table.Inferred.{Inferred};
+ghost use Rattle.plan_infer.specs.KeptTypes.{Extends, HasRightTypes, IsKept, IsRight, KeepsEntry, typings_at};
+ghost use Rattle.plan_infer.specs.Typed.{HasType};
+ghost use Rattle.plan_coerce.specs.CoercedLaws.{same_casts_congruent, same_casts_transitive, until_strict_bounded};
+ghost use Rattle.plan_coerce.specs.Coercion.{AllReady, AllStrictFrom, IsOverOperands};
+ghost use Rattle.plan_coerce.specs.Reaching.{AreMadeOnce, IsClosed, Near, StaysOnce};
+ghost use Rattle.plan_coerce.specs.Rules.{HasSameCasts, IsReplacement, KeepsNumber, is_strict_node, said, until_strict};
+
+use crate::rule::OptimizationRule;
+use crate::type_coercion::{number_under, operands_to};
+use plan_arena::aexpr::AExpr;
+use plan_arena::arena::{Arena, Node};
+use plan_arena::ir::IR;
+use plan_dsl::literal::LiteralValue;
+use plan_dsl::udfs::Udfs;
+use plan_infer::field::Context;
+use plan_infer::steps::Steps;
+use plan_infer::type_table::{Inferred, TypeTable};
+use plan_types::common_type::materialize_dyn_int;
+use plan_types::error::PlanError;
+use plan_types::schema::Schema;
+use std::sync::ledger::Ledger;
+
+/// Puts casts round the operands of a node, or literals of a type in place of numbers without one. A node is settled where
+/// it is strict.
+#[derive(Clone, Copy, Drop)]
+pub struct TypeCoercionRule;
+
+impl OptimizationRule for TypeCoercionRule {
+    ghost settled = { λ rule. is_strict_node };
+
+    ghost measure = { λ rule. until_strict };
+
+    ghost turns = { λ rule. Some 8 };
+
+    ghost related = { λ rule. HasSameCasts };
+
+    ghost settled_plan = { λ rule registry schema kind. true };
+
+    ghost congruent = { λ rule. same_casts_congruent };
+
+    ghost transitive = { λ rule. same_casts_transitive };
+
+    ghost bounded = { λ rule. until_strict_bounded };
+
+    fn optimize_plan<M: Ledger>(
+        &self,
+        _expr_arena: &Arena<AExpr>,
+        _lp_arena: &Arena<IR>,
+        _node: Node,
+        _udfs: &Udfs,
+        _types: &mut TypeTable,
+        _typings: &mut Steps<M>,
+    ) -> Result<Option<IR>, PlanError> {
+        Ok(None)
+    }
+
+    fn optimize_expr<M: Ledger>(
+        &self,
+        expr_arena: &mut Arena<AExpr>,
+        node: Node,
+        schema: &Schema,
+        udfs: &Udfs,
+        types: &mut TypeTable,
+        typings: &mut Steps<M>,
+    ) -> Result<Option<AExpr>, PlanError> {
+        infer_once(node, schema, expr_arena, udfs, types, typings)?;
+        match item_for(node, expr_arena, types) {
+            Ok(answer) => Ok(answer),
+            Err(error) => {
+                types.clear();
+                Err(error)
+            }
+        }
+    }
+}
+
+// Keeps what is inferred of a node, unless something is kept of it.
+fn infer_once<M: Ledger>(
+    node: Node,
+    schema: &Schema,
+    arena: &Arena<AExpr>,
+    udfs: &Udfs,
+    types: &mut TypeTable,
+    typings: &mut Steps<M>,
+) -> Result<(), PlanError>
+    requires tree { DenotesTree (HoldsExpression arena.now) node.0 }
+    requires right { IsRight (registry udfs.now) (columns schema.now) arena.now types.old }
+    ensures kept { OnOk result (IsKept types.new node.0) }
+    ensures right { IsRight (registry udfs.now) (columns schema.now) arena.now types.new }
+    ensures err { IfErr result (λ error. (t : Expression) → Denotes (HoldsExpression arena.now) node.0 t →
+        IsRefusal (typing (registry udfs.now) (columns schema.now) t) error) }
+{
+    if types.kept(node).is_some() {
+        return Ok(());
+    }
+    types.field_of(node, schema, Context::Default, arena, udfs, typings)?;
+    Ok(())
+}
+
+// The item that is to be put in place of a node, unless it is strict. Where there is no memory for it the table may keep
+// less than it should.
+fn item_for(
+    node: Node,
+    arena: &mut Arena<AExpr>,
+    types: &mut TypeTable,
+) -> Result<Option<AExpr>, PlanError>
+    requires right { HasRightTypes arena.old types.old }
+    requires kept { IsKept types.old node.0 }
+    ensures answer { IfOk result (λ answer. (registry : Registry) (schema : Columns) (t : Expression) → IsRight registry schema arena.old types.old →
+        Denotes (HoldsExpression arena.old) node.0 t → MatchOption answer (said (is_strict_node registry schema) registry schema t ≡ true)
+        (λ item. IsReplacement (HasSameCasts registry schema) (until_strict registry schema) registry schema arena.old (set arena.new node.0 item) node.0 t)) }
+    ensures reaches { IfOk result (λ answer. MatchOption answer Unit (λ item. IsClosed arena.old (node.0 ∷ []) (set arena.new node.0 item))) }
+    ensures once { IfOk result (λ answer. MatchOption answer Unit (λ item. StaysOnce arena.old (set arena.new node.0 item) node.0)) }
+    ensures placed { IfOk result (λ answer. MatchOption answer Unit (λ item. (registry : Registry) (schema : Columns) → IsRight registry schema arena.old types.old →
+        ¬ (KeepsNumber types.new node.0) → IsRight registry schema (set arena.new node.0 item) types.new)) }
+    ensures right { OnOk result ((registry : Registry) (schema : Columns) → IsRight registry schema arena.old types.old → IsRight registry schema arena.new types.new) }
+    ensures grows { Grows arena.old arena.new }
+    ensures err { IfErr result (λ error. error ≡ no_memory) }
+{
+    let own = types.get(node);
+    match own.dtype.untyped_number() {
+        Some(number) => {
+            let item = typed_number(node, number, arena, types)?;
+            Ok(Some(item))
+        }
+        None => {
+            if own.is_strict() {
+                return Ok(None);
+            }
+            let nodes = arena.get(node).inputs(arena.allocator())?;
+            let inputs = nodes.as_slice();
+            if takes_own(own, inputs, types) {
+                return Ok(None);
+            }
+            let item = over_operands(node, inputs, arena, types)?;
+            Ok(Some(item))
+        }
+    }
+}
+
+// Whether a node takes its operands as they are.
+fn takes_own(own: &Inferred, inputs: &[Node], types: &TypeTable) -> bool
+    requires inputs { AllByRecursion (IsKept types.now) (numbers inputs.now) }
+    requires count { length own.now.operands.items ≡ length inputs.now }
+    ensures { result ≡ same_types (types_of (typings_at types.now (numbers inputs.now))) (map ty own.now.operands.items) }
+{
+    for index in 0..inputs.len() {
+        if types.get(inputs[index]).dtype != own.operands[index] {
+            return false;
+        }
+    }
+    true
+}
+
+// What the item at a node does, over operands made of the types to which it takes them.
+fn over_operands(
+    node: Node,
+    inputs: &[Node],
+    arena: &mut Arena<AExpr>,
+    types: &mut TypeTable,
+) -> Result<AExpr, PlanError>
+    requires right { HasRightTypes arena.old types.old }
+    requires kept { IsKept types.old node.0 }
+    requires listed { (item : AExpr) → slice_get arena.old node.0 ≡ Some item → numbers inputs.now ≡ inputs_of (expression_layer item) }
+    requires ready { (own : Inferred) → KeepsEntry types.old node.0 own → AllReady types.old (numbers inputs.now) (map ty own.operands.items) }
+    ensures over { IfOk result (IsOverOperands arena.old arena.new types.old types.new node.0) }
+    ensures once { IfOk result (λ item. AreMadeOnce arena.old arena.new (numbers inputs.now) (inputs_of (expression_layer item))) }
+    ensures right { OnOk result ((registry : Registry) (schema : Columns) →
+        IsRight registry schema arena.old types.old → IsRight registry schema arena.new types.new) }
+    ensures closed { OnOk result ((start : List AExpr) (roots : List ℕ) → length start ≤ length arena.old →
+        AllByRecursion (Near start roots) (numbers inputs.now) → IsClosed start roots arena.old → IsClosed start roots arena.new) }
+    ensures added { OnOk result ((registry : Registry) (schema : Columns) (start : ℕ) → start ≤ length arena.old → IsRight registry schema arena.old types.old →
+        AllStrictFrom start arena.old types.old → AllStrictFrom start arena.new types.new) }
+    ensures extends { OnOk result (Extends types.old types.new) }
+    ensures grows { Grows arena.old arena.new }
+    ensures err { IfErr result (λ error. error ≡ no_memory) }
+{
+    let mut item = arena.get(node).try_clone(arena.allocator())?;
+    let operands = operands_to(node, inputs, arena, types)?;
+    item.set_inputs(operands.as_slice());
+    Ok(item)
+}
+
+// What gives a number without a type the one that it has alone, under the aliases that the node has.
+fn typed_number(
+    node: Node,
+    number: i128,
+    arena: &mut Arena<AExpr>,
+    types: &mut TypeTable,
+) -> Result<AExpr, PlanError>
+    requires tree { DenotesTree (HoldsExpression arena.old) node.0 }
+    requires alone { (own : Ty) × (type_alone (Untyped number) ≡ Some own) }
+    ensures settles { IfOk result (λ item. (registry : Registry) (schema : Columns) (t : Expression) → Denotes (HoldsExpression arena.old) node.0 t →
+        HasType (typing registry schema t) (Untyped number) → Denotes (HoldsExpression (set arena.new node.0 item)) node.0 (settled t)) }
+    ensures once { IfOk result (λ item. StaysOnce arena.old (set arena.new node.0 item) node.0) }
+    ensures right { OnOk result ((registry : Registry) (schema : Columns) →
+        IsRight registry schema arena.old types.old → IsRight registry schema arena.new types.new) }
+    ensures closed { IfOk result (λ item. IsClosed arena.old (node.0 ∷ []) (set arena.new node.0 item)) }
+    ensures apart { OnOk result (IsClosed arena.old [] arena.new) }
+    ensures added { OnOk result ((registry : Registry) (schema : Columns) (start : ℕ) → start ≤ length arena.old → IsRight registry schema arena.old types.old →
+        AllStrictFrom start arena.old types.old → AllStrictFrom start arena.new types.new) }
+    ensures extends { OnOk result (Extends types.old types.new) }
+    ensures grows { Grows arena.old arena.new }
+    ensures err { IfErr result (λ error. error ≡ no_memory) }
+{
+    let Some(own) = materialize_dyn_int(number) else {
+        unreachable!()
+    };
+    match arena.get(node).alias() {
+        None => {
+            let Some(value) = LiteralValue::of_number(&own, number) else {
+                unreachable!()
+            };
+            Ok(AExpr::Literal(value))
+        }
+        Some((below, name)) => {
+            let name = name.try_clone(arena.allocator())?;
+            let made = number_under(below, number, own, arena, types)?;
+            Ok(AExpr::Alias(made, name))
+        }
+    }
+}
