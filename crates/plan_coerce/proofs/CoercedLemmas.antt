@@ -1,5 +1,5 @@
 -- Expressions with every cast written out.
-use Rattle.std.proofs.Common.{◌≡◌, Bool, true, false, cond, List, [], ◌∷◌, Some, Result, Ok, Err, refl, sym, ap, ◌∙◌, subst}
+use Rattle.std.proofs.Common.{◌≡◌, ◌≢◌, ℕ, map, Bool, true, false, cond, List, [], ◌∷◌, Some, Result, Ok, Err, refl, sym, ap, ◌∙◌, subst}
 use Rattle.std.specs.Prelude.{ℤ, unwrap_or}
 use Rattle.plan_types.specs.Types.{Ty, Untyped, is_known, same_type}
 use Rattle.plan_types.specs.TypeLaws.{same_type_own}
@@ -13,6 +13,12 @@ use Rattle.plan_types.specs.CommonTypes.{type_alone}
 use Rattle.plan_types.proofs.CommonLemmas.{alone_itself, literal_has}
 use Rattle.plan_types.proofs.CastLemmas.{source_known}
 use Rattle.plan_dsl.specs.Registry.{Registry}
+use Rattle.plan_arena.specs.declared.aexpr.AExpr.{AExpr}
+use Rattle.plan_arena.specs.Denotation.{Denotes}
+use Rattle.plan_arena.specs.Layers.{shape_of}
+use Rattle.plan_arena.specs.Items.{HoldsExpression, HoldsFrom, expression_layer}
+use Rattle.plan_arena.proofs.DenotationLemmas.{replaced}
+use Rattle.plan_arena.proofs.ItemLemmas.{from_laws}
 use Rattle.plan_dsl.specs.Trees.{Trees, node, no_more, more, AllRelated}
 use Rattle.plan_dsl.specs.Aliases.{IsCore, are_core, is_core, is_core_op, renamed}
 use Rattle.plan_dsl.specs.Ops.{Op, LiteralOp, CastOp, AliasOp, Expression}
@@ -30,7 +36,18 @@ use Rattle.plan_dsl.proofs.OperandLemmas.{after_typed, operands_same, types_are}
 use Rattle.plan_dsl.proofs.SameLemmas.{node_same, typings_same, same_itself, same_then}
 use Rattle.plan_dsl.proofs.StrictLemmas.{strict_parts}
 use Rattle.std.proofs.lemmas.Bool.{and_parts, and_from}
-use Rattle.plan_coerce.specs.Coercion.{IsAlike, fitted, fitted_by, coerced, coerced_all}
+use Rattle.plan_coerce.specs.Coercion.{fitted, fitted_by, coerced, coerced_all}
+
+-- the one expression says the same as the other, and both are one with every cast written out
+pub record IsAlike (registry : Registry) (schema : Columns) (before after : Expression) : Type 0 where
+  pub same : IsSame registry schema before after
+  pub casts : coerced registry schema after ≡ coerced registry schema before
+
+-- the node denotes a tree that is so
+pub record DenotesSame (registry : Registry) (schema : Columns) (first : ℕ) (items : List AExpr) (n : ℕ) (before : Expression) : Type 0 where
+  pub tree : Expression
+  pub denotes : Denotes (HoldsFrom first items) n tree
+  pub same : IsAlike registry schema before tree
 
 -- as many types as trees
 abbrev Alongside : List Ty → Trees Op → Type 0
@@ -273,3 +290,9 @@ module _ (registry : Registry) (schema : Columns) where
     all_coerced_core (more tree trees) h =
         let parts = and_parts (is_core tree) (are_core trees) h in
         and_from (is_core (coerced registry schema tree)) (are_core (coerced_all registry schema trees)) (coerced_core tree parts.0) (all_coerced_core trees parts.1)
+
+-- every tree becomes one that says the same, where one node's does and no other item changes
+pub becomes : (registry : Registry) (schema : Columns) (first : ℕ) (items items' : List AExpr) (at : ℕ) (before : Expression) → Denotes (HoldsFrom first items) at before → DenotesSame registry schema first items' at before → ((n : ℕ) (op : Op) (inputs : List ℕ) → n ≢ at → HoldsExpression items n op inputs → HoldsExpression items' n op inputs) → (n : ℕ) (u : Expression) → Denotes (HoldsFrom first items) n u → (w : Expression) × Denotes (HoldsFrom first items') n w × IsAlike registry schema u w
+becomes registry schema first items items' at before d same elsewhere n u e =
+    let keeps : (m : ℕ) (op : Op) (inputs : List ℕ) → m ≢ at → HoldsFrom first items m op inputs → HoldsFrom first items' m op inputs = λ m op inputs other h. (h.0, elsewhere m op inputs other h.1) in
+    replaced (shape_of (map expression_layer items)) (HoldsFrom first items) (HoldsFrom first items') (from_laws first items) at keeps before d (IsAlike registry schema) (node_alike registry schema) same.tree same.denotes same.same n u e

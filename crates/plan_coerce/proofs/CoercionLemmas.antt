@@ -33,8 +33,9 @@ use Rattle.plan_arena.proofs.DenotationLemmas.{kept_below, all_kept_below, some_
 use Rattle.plan_arena.proofs.NumberLemmas.{taken_more}
 use Rattle.plan_arena.proofs.ItemLemmas.{held_top, tree_grown, added_denotes, length-grown, any_node, from_laws, from_top, expression_elsewhere, expression_written, grown_held, within, expression_got}
 use Rattle.plan_infer.specs.Typed.{HasKnownType}
-use Rattle.plan_coerce.proofs.CoercedLemmas.{alike_itself, node_alike_over}
-use Rattle.plan_coerce.specs.Coercion.{IsAlike, Visits, Operand, IsChanged, AreChanged, IsReady, AllReady, DenotesSame}
+use Rattle.plan_coerce.specs.Rules.{is_strict_node, said}
+use Rattle.plan_coerce.proofs.CoercedLemmas.{DenotesSame, IsAlike, node_alike_over}
+use Rattle.plan_coerce.specs.Coercion.{Operand, IsChanged, AreChanged, IsReady, AllReady}
 use Rattle.plan_infer.specs.declared.type_table.TypeTable.{TypeTable}
 use Rattle.plan_types.proofs.CastLemmas.{source_known}
 use Rattle.plan_types.proofs.ListLemmas.{mapped_more}
@@ -285,29 +286,18 @@ module _ (registry : Registry) (schema : Columns) (items : List AExpr) (table : 
       subst (AllReady table (inputs_of (expression_layer item))) same (all_ready e.ruling.own.type table (inputs_of (expression_layer item)) e.typed e.ruling.operands e.kept becomes)
 
   -- and where there are none the node is strict as it is
-  pub strict_visits : own.operands.items ≡ [] → (first : ℕ) (t : Expression) → Denotes (HoldsFrom first items) n t → HasKnownType (typing registry schema t) → Visits registry schema first items n t
-  strict_visits none first t d has =
+  pub plain_strict : own.operands.items ≡ [] → (t : Expression) → Denotes (HoldsExpression items) n t → HasKnownType (typing registry schema t) → said (is_strict_node registry schema) registry schema t ≡ true
+  plain_strict none t d has =
       let op = op_of (expression_layer item) in
       let inputs = inputs_of (expression_layer item) in
-      let held = layer_held items n item got in
-      let top = from_top first items n op inputs held t d in
-      let plain = held_top items n op inputs held t (any_node first items n t d) in
-      let one = same_children op plain.0 top.0 (sym plain.1 ∙ top.1) in
+      let top = held_top items n op inputs (layer_held items n item got) t d in
       let e = ruled_inputs registry schema items table right n item own got keeps in
-      let typed = subst (λ ts. typing_all registry schema ts ≡ Ok e.typed) one (children_kept registry schema items table right inputs plain.0 e.typed plain.2 e.kept) in
+      let typed = children_kept registry schema items table right inputs top.0 e.typed top.2 e.kept in
       let becomes = (keeps_rule registry schema op e.typed e.ruling e.rules).becomes in
       let same = as_they_are e.ruling.own.type (map ty own.operands.items) (types_of e.typed) e.ruling.operands (ap (map ty) none) (listed_operands registry schema items table right n item own got keeps e.typed e.ruling e.kept e.rules) becomes in
       let whole = ap (λ r. then_typed r (typing_rule registry schema op)) typed ∙ ap own_typed e.rules in
       let is = ok_same (typing registry schema t) e.ruling.own has.typed (ap (typing registry schema) top.1 ∙ whole) has.is in
-      record {
-        op = op;
-        inputs = inputs;
-        children = top.0;
-        held = (top.3, held);
-        denotes = top.2;
-        same = subst (λ u. IsAlike registry schema u (node op top.0)) (sym top.1) (alike_itself registry schema (node op top.0));
-        strict = strict_from registry schema op top.0 e.typed e.ruling typed e.rules same (ap (λ (x : Typed). is_known x.type) is ∙ has.known);
-      }
+      subst (λ u. said (is_strict_node registry schema) registry schema u ≡ true) (sym top.1) (strict_from registry schema op top.0 e.typed e.ruling typed e.rules same (ap (λ (x : Typed). is_known x.type) is ∙ has.known))
 
 pub ready_length : (table : TypeTable) (ns : List ℕ) (ts : List DataType) → AllReady table ns (map ty ts) → length ns ≡ length ts
 ready_length table [] [] all = refl
@@ -397,9 +387,6 @@ pub record Rewritten (registry : Registry) (schema : Columns) (first : ℕ) (ite
 
 pub rewritten_same : (registry : Registry) (schema : Columns) (first : ℕ) (items : List AExpr) (at : ℕ) (before : Expression) (typed : Typed) → Rewritten registry schema first items at before typed → DenotesSame registry schema first items at before
 rewritten_same registry schema first items at before typed r = record { tree = node r.op r.children; denotes = (r.inputs, r.held, r.denotes); same = r.same }
-
-pub rewritten_visits : (registry : Registry) (schema : Columns) (first : ℕ) (items : List AExpr) (at : ℕ) (before : Expression) (has : HasKnownType (typing registry schema before)) → Rewritten registry schema first items at before has.typed → Visits registry schema first items at before
-rewritten_visits registry schema first items at before has r = record { op = r.op; inputs = r.inputs; children = r.children; held = r.held; denotes = r.denotes; same = r.same; strict = r.strict has.known }
 
 module _ (registry : Registry) (schema : Columns) (old new : List AExpr) (table : TypeTable) (right : IsRight registry schema old table) where
   children_from : (first : ℕ) (os : List Operand) (ts : Trees Op) (typed : List Typed) → DenoteAll (HoldsFrom first old) (map (λ o. o.input) os) ts → typing_all registry schema ts ≡ Ok typed → AllByRecursion (IsChanged old new table) os → types_of typed ≡ map (λ o. o.from) os

@@ -36,7 +36,7 @@ use Rattle.plan_infer.proofs.TableLemmas.{children_kept, kept_typing, layer_held
 use Rattle.plan_coerce.specs.Coercion.{AllStrictFrom, IsOverOperands, KeepsStrict}
 use Rattle.plan_coerce.specs.Reaching.{IsClosed, IsReached, Near}
 use Rattle.plan_coerce.specs.Rules.{HasSameCasts, IsLike, IsReplacement, is_strict_node, said, until_strict}
-use Rattle.plan_coerce.proofs.CoercionLemmas.{not_renamed, own_literal, rewritten, strict_visits, takes_listed, under_alias}
+use Rattle.plan_coerce.proofs.CoercionLemmas.{not_renamed, own_literal, rewritten, plain_strict, takes_listed, under_alias}
 use Rattle.plan_coerce.proofs.ReachLemmas.{changed_near, closed_put, closed_start, held_unwritten, inputs_near, new_kept, reached_near, root_near}
 use Rattle.plan_coerce.proofs.SettledLemmas.{known_settled, literal_typed, number_settled, own_number}
 use Rattle.plan_coerce.proofs.RightLemmas.{kept_within, node_within, right_rewritten}
@@ -64,13 +64,9 @@ module _ (all : Bool) (ts : List Typed) (ds : List DataType) (t : Typed) (d : Da
 module _ (registry : Registry) (schema : Columns) (items : List AExpr) (table : TypeTable) (right : IsRight registry schema items table) (n : ℕ) (own : Inferred) (keeps : KeepsEntry table n own) where
   module _ (item : AExpr) (got : slice_get items n ≡ Some item) where
     -- one that takes its operands as they are
-    pub plain_strict : own.operands.items ≡ [] → is_known (ty own.dtype) ≡ true → (t : Expression) → Denotes (HoldsExpression items) n t → said (is_strict_node registry schema) registry schema t ≡ true
-    plain_strict none known t d =
-        let is = kept_typing registry schema items table right n own keeps t d in
-        let v = strict_visits registry schema items table right n item own got keeps none 0 t (from_zero items n t d) (record { typed = typed_of own; is = is; known = known }) in
-        let there = any_node 0 items n (node v.op v.children) (v.inputs, v.held, v.denotes) in
-        let one = denotes_one (shape_of (map expression_layer items)) (HoldsExpression items) (expression_laws items) n (node v.op v.children) t there d in
-        subst (λ u. said (is_strict_node registry schema) registry schema u ≡ true) one v.strict
+    pub kept_strict : own.operands.items ≡ [] → is_known (ty own.dtype) ≡ true → (t : Expression) → Denotes (HoldsExpression items) n t → said (is_strict_node registry schema) registry schema t ≡ true
+    kept_strict none known t d =
+        plain_strict registry schema items table right n item own got keeps none t d (record { typed = typed_of own; is = kept_typing registry schema items table right n own keeps t d; known = known })
 
     -- whether its operands are of the types that are listed tells whether it is strict
     pub listed_strict : own.operands.items ≢ [] → is_known (ty own.dtype) ≡ true → (b : Bool) → b ≡ same_types (types_of (typings_at table (inputs_of (expression_layer item)))) (map ty own.operands.items) → (t : Expression) → Denotes (HoldsExpression items) n t → said (is_strict_node registry schema) registry schema t ≡ b
@@ -180,7 +176,7 @@ strict_no_number registry schema items table n number value inputs right k held 
 pub new_strict : (registry : Registry) (schema : Columns) (items : List AExpr) (table : TypeTable) (n : ℕ) → IsRight registry schema items table → KeepsStrict table n → (t : Expression) → Denotes (HoldsExpression items) n t → said (is_strict_node registry schema) registry schema t ≡ true
 new_strict registry schema items table n right k t d =
     let item = item_there items n t d in
-    plain_strict registry schema items table right n k.own k.keeps item.0 item.1 k.none k.known t d
+    kept_strict registry schema items table right n k.own k.keeps item.0 item.1 k.none k.known t d
 
 falls_to : (registry : Registry) (schema : Columns) (t before : Expression) → said (is_strict_node registry schema) registry schema t ≡ true → said (is_strict_node registry schema) registry schema before ≡ false → said (until_strict registry schema) registry schema t < said (until_strict registry schema) registry schema before
 falls_to registry schema (node op ts) (node op' us) a b =

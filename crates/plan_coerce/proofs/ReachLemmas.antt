@@ -22,7 +22,7 @@ use Rattle.plan_coerce.specs.Coercion.{Operand, IsChanged, AreChanged}
 use Rattle.plan_coerce.specs.Reaching.{Among, IsReached, Near, IsClosed, ReachedBy}
 use Rattle.plan_coerce.proofs.RightLemmas.{node_within}
 
-all_among : (P : ℕ → Type 0) (ns : List ℕ) → ((n : ℕ) → Among ns n → P n) → AllByRecursion P ns
+pub all_among : (P : ℕ → Type 0) (ns : List ℕ) → ((n : ℕ) → Among ns n → P n) → AllByRecursion P ns
 all_among P [] h = tt
 all_among P (n ∷ ns) h = (h n (inl refl), all_among P ns (λ m a. h m (inr a)))
 
@@ -116,7 +116,7 @@ closed_put start roots old at item lt near closed n o inputs here held = ⊎_eli
     (λ other. closed n o inputs here (held_unwritten old at item n o inputs other held))
     (same_or_other n at)
 
-among_all : (P : ℕ → Type 0) (ns : List ℕ) (n : ℕ) → AllByRecursion P ns → Among ns n → P n
+pub among_all : (P : ℕ → Type 0) (ns : List ℕ) (n : ℕ) → AllByRecursion P ns → Among ns n → P n
 among_all P [] n all a = absurd a
 among_all P (m ∷ ms) n all a = ⊎_elim (λ e. subst P (sym e) all.0) (λ b. among_all P ms n all.1 b) a
 

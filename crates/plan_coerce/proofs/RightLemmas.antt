@@ -34,12 +34,12 @@ use Rattle.plan_arena.proofs.ItemLemmas.{expression_laws, any_node, from_zero, e
 use Rattle.plan_infer.specs.declared.type_table.Inferred.{Inferred}
 use Rattle.plan_infer.specs.declared.type_table.TypeTable.{TypeTable}
 use Rattle.plan_infer.specs.Typed.{DenotesTyped}
-use Rattle.plan_coerce.specs.Coercion.{AllStrictFrom, AreChanged, DenotesSame, IsChanged, Operand}
+use Rattle.plan_coerce.specs.Coercion.{AllStrictFrom, AreChanged, IsChanged, Operand}
 use Rattle.plan_infer.specs.KeptTypes.{AllKept, AreOperands, Extends, GivesName, HasRightTypes, IsKept, IsNamedBy, IsRight, IsRuled, KeepsEntry, TakesTo, by_first, by_itself, typed_of}
 use Rattle.plan_infer.proofs.TypingLemmas.{cast_ruled, literal_ruled}
 use Rattle.plan_arena.proofs.NumberLemmas.{all_reversed, all_weaker, all_front, all_joined, all_last}
 use Rattle.plan_infer.proofs.TableLemmas.{extends_itself, held_inputs, held_op, keeps_one, kept_one, kept_typing, known_inputs, known_typed, layer_held, node_stays, plain_tree, right_grown, right_kept, ruled_inputs, still_kept, top_held, type_of, type_one}
-use Rattle.plan_coerce.proofs.StackLemmas.{becomes}
+use Rattle.plan_coerce.proofs.CoercedLemmas.{DenotesSame, becomes}
 use Rattle.plan_coerce.proofs.CoercionLemmas.{item_is, rewritten, rewritten_same}
 
 -- other items stay where one is written

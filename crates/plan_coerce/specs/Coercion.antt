@@ -1,5 +1,4 @@
--- What coercion leaves.
--- A node that was visited is strict over its inputs, and says the same as before. Other items stay.
+-- Expressions with every cast written out, and operands that are made of other types.
 use Rattle.std.specs.Prelude.{◌≡◌, ◌<◌, ◌≤◌, ◌⊎◌, ℕ, true, false, List, [], ◌∷◌, length, map, Result, Ok, Err, Some, slice_get}
 use Rattle.plan_types.specs.declared.error.ErrorKind.{ErrorKind}
 use Rattle.plan_dsl.specs.Typing.{Typed, Ruling, rule, types_of, typing_all}
@@ -10,9 +9,9 @@ use Rattle.plan_types.specs.declared.dtype.DataType.{DataType}
 use Rattle.plan_dsl.specs.Registry.{Registry}
 use Rattle.plan_dsl.specs.Trees.{Trees, node, no_more, more}
 use Rattle.plan_dsl.specs.Ops.{Op, Expression}
-use Rattle.plan_dsl.specs.Strictness.{CanBecome, IsSame, IsStrict, IsStrictOver, as_operand, as_operands}
+use Rattle.plan_dsl.specs.Strictness.{CanBecome, as_operand, as_operands}
 use Rattle.plan_arena.specs.declared.aexpr.AExpr.{AExpr}
-use Rattle.plan_arena.specs.Denotation.{Denotes, DenoteAll}
+use Rattle.plan_arena.specs.Denotation.{Denotes}
 use Rattle.plan_arena.specs.Layers.{layer, inputs_of, op_of}
 use Rattle.plan_arena.specs.Items.{HoldsExpression, HoldsFrom, expression_layer}
 use Rattle.plan_infer.specs.declared.type_table.Inferred.{Inferred}
@@ -40,27 +39,6 @@ abbrev mutual
 -- items below the number stay
 abbrev pub KeepsBelow : ℕ → List AExpr → List AExpr → Type 0
 KeepsBelow first old new = (n : ℕ) (op : Op) (inputs : List ℕ) → ¬ (first ≤ n) → HoldsExpression old n op inputs → HoldsExpression new n op inputs
-
--- the one expression says the same as the other, and both are one with every cast written out
-pub record IsAlike (registry : Registry) (schema : Columns) (before after : Expression) : Type 0 where
-  pub same : IsSame registry schema before after
-  pub casts : coerced registry schema after ≡ coerced registry schema before
-
--- the node denotes a tree that is so
-pub record DenotesSame (registry : Registry) (schema : Columns) (first : ℕ) (items : List AExpr) (n : ℕ) (before : Expression) : Type 0 where
-  pub tree : Expression
-  pub denotes : Denotes (HoldsFrom first items) n tree
-  pub same : IsAlike registry schema before tree
-
--- the visit of a node that denoted the tree
-pub record Visits (registry : Registry) (schema : Columns) (first : ℕ) (items : List AExpr) (at : ℕ) (before : Expression) : Type 0 where
-  pub op : Op
-  pub inputs : List ℕ
-  pub children : Trees Op
-  pub held : HoldsFrom first items at op inputs
-  pub denotes : DenoteAll (HoldsFrom first items) inputs children
-  pub same : IsAlike registry schema before (node op children)
-  pub strict : IsStrictOver registry schema op children
 
 -- the operand at a node has the type, or can be made of it
 pub record IsReady (table : TypeTable) (n : ℕ) (target : Ty) : Type 0 where
@@ -118,16 +96,3 @@ pub record IsOverOperands (old new : List AExpr) (table table' : TypeTable) (at 
   pub is : expression_layer item ≡ layer (op_of (expression_layer before)) nodes
   pub changed : (own : Inferred) → KeepsEntry table at own → AreChanged old new table (inputs_of (expression_layer before)) nodes (map ty own.operands.items)
   pub kept : AllByRecursion (IsKept table') nodes
-
--- What stays as roots are coerced: items below the number, and each tree becomes one that says the same.
-pub record StaysSame (registry : Registry) (schema : Columns) (first : ℕ) (old new : List AExpr) : Type 0 where
-  pub below : KeepsBelow first old new
-  pub trees : (n : ℕ) (t : Expression) → Denotes (HoldsFrom first old) n t → DenotesSame registry schema first new n t
-
--- What coercion of these roots leaves: items below the number stay, each tree becomes one that says the
--- same, and each root's is strict: what it was, with every cast written out.
-pub record IsCoerced (registry : Registry) (schema : Columns) (first : ℕ) (old new : List AExpr) (roots : List ℕ) : Type 0 where
-  pub below : KeepsBelow first old new
-  pub trees : (n : ℕ) (t : Expression) → Denotes (HoldsFrom first old) n t → DenotesSame registry schema first new n t
-  pub strict : AllByRecursion (λ n. (t : Expression) × Denotes (HoldsFrom first new) n t × IsStrict registry schema t) roots
-  pub casts : AllByRecursion (λ n. (t : Expression) → Denotes (HoldsFrom first old) n t → Denotes (HoldsFrom first new) n (coerced registry schema t)) roots

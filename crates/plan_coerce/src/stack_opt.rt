@@ -1,75 +1,342 @@
-//! The work stack of coercion.
-ghost use Rattle.std.specs.Prelude.{◌≡◌, ℕ, ◌<◌, ◌≤◌, List, [], ◌++◌, length, IfErr, OnErr, OnOk};
+//! The stack of coercion, and its loop over any rule.
+ghost use Rattle.std.specs.Prelude.{◌≡◌, ◌≢◌, ◌⊎◌, ℕ, ◌<◌, ◌≤◌, ◌+◌, ◌*◌, List, [], ◌∷◌, ◌++◌, IsTrue, Some, true, ◌↔◌, length, map, reverse, set, slice_get, IfOk, IfErr, OnErr, OnOk};
 ghost use Rattle.std.specs.List.{AllByRecursion};
-ghost use Rattle.plan_types.specs.Errors.{no_memory};
-ghost use Rattle.plan_types.specs.Schemas.{Columns};
-ghost use Rattle.plan_dsl.specs.Ops.{Op};
-ghost use Rattle.plan_dsl.specs.Registry.{Registry};
-ghost use Rattle.plan_arena.specs.Items.{HoldsExpression, numbers};
-ghost use Rattle.plan_infer.specs.Typed.{DenotesKnown};
-ghost use Rattle.plan_coerce.specs.Coercion.{IsCoerced, StaysSame};
-ghost use Rattle.plan_coerce.specs.Reaching.{IsReached};
-ghost use Rattle.plan_infer.specs.KeptTypes.{HasRightTypes, IsKept, IsRight};
+ghost use Rattle.plan_types.specs.Errors.{IsRefusal, no_memory};
+ghost use Rattle.plan_types.specs.Schemas.{Columns, columns};
+ghost use Rattle.plan_dsl.specs.Ops.{Expression};
+ghost use Rattle.plan_dsl.specs.Plans.{FilterKind, Named, PlanKind};
+ghost use Rattle.plan_dsl.specs.Registry.{Registry, registry};
+ghost use Rattle.plan_dsl.specs.Typing.{typing};
+ghost use Rattle.plan_arena.specs.Denotation.{Denotes, DenotesTree};
+ghost use Rattle.plan_arena.specs.Items.{HoldsExpression, named_node, numbers};
+ghost use Rattle.plan_infer.specs.KeptTypes.{IsRight};
+ghost use Rattle.plan_coerce.specs.Optimizer.{AreApart, AreTrees, AreTypedRoots, DenotesSettled, IsCoercionRefusal, IsBegun, IsPlanTurn, ReachesNear, StaysApart, StaysFinite, StaysLike, StaysOver, all_with_inputs, roots_of, stacked, with_inputs};
+ghost use Rattle.plan_coerce.specs.Rules.{HasAcceptedInputs, KeepsNumber, RefusesPredicate, StandsOver};
+ghost use Rattle.plan_coerce.specs.Turns.{IsStopped, IsTurn};
 
-use crate::type_coercion::coerce_node;
+use crate::rule::OptimizationRule;
 use plan_arena::aexpr::{AExpr, Nodes};
-use plan_arena::arena::Arena;
+use plan_arena::arena::{Arena, Node};
+use plan_arena::expr_ir::ExprIR;
+use plan_arena::ir::IR;
+use plan_dsl::udfs::Udfs;
+use plan_infer::steps::Steps;
 use plan_infer::type_table::TypeTable;
 use plan_types::error::{ErrorKind, PlanError};
+use plan_types::schema::Schema;
+use smallvec::SmallVec;
+use std::alloc::Global;
+use std::sync::ledger::Ledger;
 
-/// Puts casts round the operands of each node that the stacked roots reach, a node before its inputs. The stack is
-/// empty at the end.
-pub fn coerce_types(
-    stack: &mut Nodes,
-    arena: &mut Arena<AExpr>,
-    types: &mut TypeTable,
-) -> Result<(), PlanError>
-    requires right { HasRightTypes arena.old types.old }
-    requires kept { AllByRecursion (IsKept types.old) (numbers stack.old.items) }
-    ensures ok { OnOk result ((registry : Registry) (schema : Columns) (first : ℕ) → IsRight registry schema arena.old types.old →
-        first ≤ length arena.old → AllByRecursion (DenotesKnown registry schema first arena.old) (numbers stack.old.items) →
-        IsCoerced registry schema first arena.old arena.new (numbers stack.old.items)) }
-    ensures stays { OnErr result ((registry : Registry) (schema : Columns) (first : ℕ) → IsRight registry schema arena.old types.old →
-        first ≤ length arena.old → AllByRecursion (DenotesKnown registry schema first arena.old) (numbers stack.old.items) →
-        StaysSame registry schema first arena.old arena.new) }
-    ensures empty { stack.new.items ≡ [] }
-    ensures elsewhere { (n : ℕ) (op : Op) (inputs : List ℕ) → ¬ (IsReached arena.old (numbers stack.old.items) n) →
-        HoldsExpression arena.old n op inputs → HoldsExpression arena.new n op inputs }
-    ensures longer { length arena.old ≤ length arena.new }
-    ensures err { IfErr result (λ error. error ≡ no_memory) }
-{
-    let done = coerce_stacked(stack, arena, types);
-    stack.clear();
-    done
+/// Puts nodes in place of others, as a rule says, from stacked roots on.
+#[derive(Drop)]
+pub struct ConversionOptimizer {
+    roots: Nodes,
+    scratch: Nodes,
 }
 
-// The same, with what is left on the stack after a refusal.
-fn coerce_stacked(
-    stack: &mut Nodes,
-    arena: &mut Arena<AExpr>,
+impl ConversionOptimizer {
+    /// One that has nothing stacked.
+    pub fn new(alloc: Global) -> ConversionOptimizer
+        ensures roots { roots_of result ≡ [] }
+        ensures stacked { stacked result ≡ [] }
+    {
+        ConversionOptimizer {
+            roots: SmallVec::new(alloc),
+            scratch: SmallVec::new(alloc),
+        }
+    }
+
+    /// Stacks a root, and then its inputs, as passes go over them.
+    pub fn push_scratch(&mut self, node: Node, expr_arena: &Arena<AExpr>) -> Result<(), PlanError>
+        requires { node.0 < length expr_arena.now }
+        ensures roots { OnOk result (roots_of self.new ≡ roots_of self.old ++ node.0 ∷ []) }
+        ensures stacked { OnOk result (stacked self.new ≡ stacked self.old ++ with_inputs expr_arena.now node.0) }
+        ensures same_roots { OnErr result (roots_of self.new ≡ roots_of self.old) }
+        ensures same_stack { OnErr result (stacked self.new ≡ stacked self.old) }
+        ensures err { IfErr result (λ error. error ≡ no_memory) }
+    {
+        let before = self.scratch.len();
+        match self.push_root(node, expr_arena) {
+            Ok(()) => Ok(()),
+            Err(error) => {
+                self.scratch.truncate(before);
+                Err(error)
+            }
+        }
+    }
+
+    // The same. After a refusal more may be stacked.
+    fn push_root(&mut self, node: Node, expr_arena: &Arena<AExpr>) -> Result<(), PlanError>
+        requires { node.0 < length expr_arena.now }
+        ensures roots { OnOk result (roots_of self.new ≡ roots_of self.old ++ node.0 ∷ []) }
+        ensures stacked { OnOk result (stacked self.new ≡ stacked self.old ++ with_inputs expr_arena.now node.0) }
+        ensures same_roots { OnErr result (roots_of self.new ≡ roots_of self.old) }
+        ensures more { OnErr result (IsBegun (stacked self.old) (stacked self.new)) }
+        ensures err { IfErr result (λ error. error ≡ no_memory) }
+    {
+        self.scratch.push(node)?;
+        expr_arena.get(node).inputs_rev(&mut self.scratch)?;
+        self.roots.push(node)?;
+        Ok(())
+    }
+
+    /// Stacks the expressions' nodes in turn.
+    pub fn fill_scratch(
+        &mut self,
+        exprs: &[ExprIR],
+        expr_arena: &Arena<AExpr>,
+    ) -> Result<(), PlanError>
+        requires { AllByRecursion (λ n. n < length expr_arena.now) (map (λ e. (named_node e).expression) exprs.now) }
+        ensures roots { OnOk result (roots_of self.new ≡ roots_of self.old ++ map (λ e. (named_node e).expression) exprs.now) }
+        ensures stacked { OnOk result (stacked self.new ≡ stacked self.old ++ all_with_inputs expr_arena.now (map (λ e. (named_node e).expression) exprs.now)) }
+        ensures same_roots { OnErr result (roots_of self.new ≡ roots_of self.old) }
+        ensures same_stack { OnErr result (stacked self.new ≡ stacked self.old) }
+        ensures err { IfErr result (λ error. error ≡ no_memory) }
+    {
+        let roots = self.roots.len();
+        let before = self.scratch.len();
+        match self.push_all(exprs, expr_arena) {
+            Ok(()) => Ok(()),
+            Err(error) => {
+                self.roots.truncate(roots);
+                self.scratch.truncate(before);
+                Err(error)
+            }
+        }
+    }
+
+    // The same. After a refusal more may be stacked.
+    fn push_all(&mut self, exprs: &[ExprIR], expr_arena: &Arena<AExpr>) -> Result<(), PlanError>
+        requires { AllByRecursion (λ n. n < length expr_arena.now) (map (λ e. (named_node e).expression) exprs.now) }
+        ensures roots { OnOk result (roots_of self.new ≡ roots_of self.old ++ map (λ e. (named_node e).expression) exprs.now) }
+        ensures stacked { OnOk result (stacked self.new ≡ stacked self.old ++ all_with_inputs expr_arena.now (map (λ e. (named_node e).expression) exprs.now)) }
+        ensures more_roots { IsBegun (roots_of self.old) (roots_of self.new) }
+        ensures more { IsBegun (stacked self.old) (stacked self.new) }
+        ensures err { IfErr result (λ error. error ≡ no_memory) }
+    {
+        for expr in exprs {
+            self.push_scratch(expr.node(), expr_arena)?;
+        }
+        Ok(())
+    }
+
+    /// Goes from the stacked roots on over what they reach, a node before its inputs: what the rule answers for a node
+    /// is put in its place, and the rule is asked again; where it answers none, the inputs are next. The types that are
+    /// kept are those over a frame of the schema. Afterwards nothing is stacked. `steps` counts each visit of a node, and
+    /// each time that a node is replaced.
+    pub fn coerce_expressions<R: OptimizationRule, M: Ledger, L: Ledger>(
+        &mut self,
+        rule: &R,
+        expr_arena: &mut Arena<AExpr>,
+        schema: &Schema,
+        udfs: &Udfs,
+        types: &mut TypeTable,
+        typings: &mut Steps<M>,
+        steps: &mut Steps<L>,
+    ) -> Result<(), PlanError>
+        requires trees { AreTrees expr_arena.old (roots_of self.old) }
+        requires right { IsRight (registry udfs.now) (columns schema.now) expr_arena.old types.old }
+        ensures like { AreTypedRoots (R.settled rule.now (registry udfs.now) (columns schema.now)) (registry udfs.now) (columns schema.now) expr_arena.old (roots_of self.old) → StaysLike (R.related rule.now (registry udfs.now) (columns schema.now)) (registry udfs.now) (columns schema.now) expr_arena.old expr_arena.new }
+        ensures settled { OnOk result (AreTypedRoots (R.settled rule.now (registry udfs.now) (columns schema.now)) (registry udfs.now) (columns schema.now) expr_arena.old (roots_of self.old) → AllByRecursion (DenotesSettled (R.settled rule.now (registry udfs.now) (columns schema.now)) (registry udfs.now) (columns schema.now) expr_arena.new) (roots_of self.old)) }
+        ensures finite { StaysFinite expr_arena.old expr_arena.new }
+        ensures elsewhere { (n : ℕ) → R.turns rule.now ≡ Some n → StaysApart expr_arena.old expr_arena.new (roots_of self.old) }
+        ensures reaches { (n : ℕ) → R.turns rule.now ≡ Some n → ReachesNear expr_arena.old expr_arena.new (roots_of self.old) }
+        ensures longer { length expr_arena.old ≤ length expr_arena.new }
+        ensures right { IsRight (registry udfs.now) (columns schema.now) expr_arena.new types.new }
+        ensures bounded { (n : ℕ) → R.turns rule.now ≡ Some n → AreApart expr_arena.old (roots_of self.old) →
+            steps.new ≤ steps.old + (2 * n + 2) * length expr_arena.new }
+        ensures no_roots { roots_of self.new ≡ [] }
+        ensures none_stacked { stacked self.new ≡ [] }
+        ensures err { IfErr result (λ error. IsCoercionRefusal (R.settled rule.now (registry udfs.now) (columns schema.now)) (registry udfs.now) (columns schema.now) expr_arena.old (roots_of self.old) error) }
+    {
+        self.scratch.clear();
+        let done = coerce_stacked(
+            &mut self.roots,
+            rule,
+            expr_arena,
+            schema,
+            udfs,
+            types,
+            typings,
+            steps,
+        );
+        self.roots.clear();
+        done
+    }
+
+    /// Asks the rule what is to be put in place of the plan's node, and then goes over the expressions, as
+    /// `coerce_expressions` does. Where the plan's node is a filter, the schema is the one of its input.
+    pub fn coerce_types<R: OptimizationRule, M: Ledger, L: Ledger>(
+        &mut self,
+        rule: &R,
+        expr_arena: &mut Arena<AExpr>,
+        lp_arena: &mut Arena<IR>,
+        node: Node,
+        schema: &Schema,
+        udfs: &Udfs,
+        types: &mut TypeTable,
+        typings: &mut Steps<M>,
+        steps: &mut Steps<L>,
+    ) -> Result<(), PlanError>
+        requires inputs { HasAcceptedInputs (registry udfs.now) expr_arena.old lp_arena.old node.0 }
+        requires over { StaysOver (registry udfs.now) expr_arena.old lp_arena.old node.0 (columns schema.now) }
+        requires trees { AreTrees expr_arena.old (roots_of self.old) }
+        requires right { IsRight (registry udfs.now) (columns schema.now) expr_arena.old types.old }
+        ensures like { AreTypedRoots (R.settled rule.now (registry udfs.now) (columns schema.now)) (registry udfs.now) (columns schema.now) expr_arena.old (roots_of self.old) → StaysLike (R.related rule.now (registry udfs.now) (columns schema.now)) (registry udfs.now) (columns schema.now) expr_arena.old expr_arena.new }
+        ensures settled { OnOk result (AreTypedRoots (R.settled rule.now (registry udfs.now) (columns schema.now)) (registry udfs.now) (columns schema.now) expr_arena.old (roots_of self.old) → AllByRecursion (DenotesSettled (R.settled rule.now (registry udfs.now) (columns schema.now)) (registry udfs.now) (columns schema.now) expr_arena.new) (roots_of self.old)) }
+        ensures finite { StaysFinite expr_arena.old expr_arena.new }
+        ensures elsewhere { (n : ℕ) → R.turns rule.now ≡ Some n → StaysApart expr_arena.old expr_arena.new (roots_of self.old) }
+        ensures reaches { (n : ℕ) → R.turns rule.now ≡ Some n → ReachesNear expr_arena.old expr_arena.new (roots_of self.old) }
+        ensures longer { length expr_arena.old ≤ length expr_arena.new }
+        ensures right { IsRight (registry udfs.now) (columns schema.now) expr_arena.new types.new }
+        ensures bounded { (n : ℕ) → R.turns rule.now ≡ Some n → AreApart expr_arena.old (roots_of self.old) →
+            steps.new ≤ steps.old + (2 * n + 2) * length expr_arena.new }
+        ensures no_roots { roots_of self.new ≡ [] }
+        ensures none_stacked { stacked self.new ≡ [] }
+        ensures plans { (n : ℕ) → n ≢ node.0 → slice_get lp_arena.new n ≡ slice_get lp_arena.old n }
+        ensures count { length lp_arena.new ≡ length lp_arena.old }
+        ensures plan { OnOk result (IsPlanTurn (R.settled_plan rule.now) (registry udfs.now) expr_arena.old lp_arena.old lp_arena.new node.0) }
+        ensures plan_stays { (kind : PlanKind (Named Expression)) (over : Columns) → StandsOver (registry udfs.now) expr_arena.old lp_arena.old node.0 kind over →
+            R.settled_plan rule.now (registry udfs.now) over kind ≡ true → lp_arena.new ≡ lp_arena.old }
+        ensures err { IfErr result (λ error. ((kind : PlanKind (Named Expression)) (over : Columns) → StandsOver (registry udfs.now) expr_arena.old lp_arena.old node.0 kind over →
+            RefusesPredicate (λ checked. IsRefusal checked error) (error ≡ no_memory) (registry udfs.now) over kind)
+            ⊎ IsCoercionRefusal (R.settled rule.now (registry udfs.now) (columns schema.now)) (registry udfs.now) (columns schema.now) expr_arena.old (roots_of self.old) error) }
+    {
+        match place_plan(rule, expr_arena, lp_arena, node, udfs, types, typings) {
+            Ok(()) => self.coerce_expressions(
+                rule, expr_arena, schema, udfs, types, typings, steps,
+            ),
+            Err(error) => {
+                self.roots.clear();
+                self.scratch.clear();
+                Err(error)
+            }
+        }
+    }
+}
+
+// Puts in place of a plan's node what the rule answers, if anything.
+fn place_plan<R: OptimizationRule, M: Ledger>(
+    rule: &R,
+    expr_arena: &Arena<AExpr>,
+    lp_arena: &mut Arena<IR>,
+    node: Node,
+    udfs: &Udfs,
     types: &mut TypeTable,
+    typings: &mut Steps<M>,
 ) -> Result<(), PlanError>
-    requires right { HasRightTypes arena.old types.old }
-    requires kept { AllByRecursion (IsKept types.old) (numbers stack.old.items) }
-    ensures ok { OnOk result ((registry : Registry) (schema : Columns) (first : ℕ) → IsRight registry schema arena.old types.old →
-        first ≤ length arena.old → AllByRecursion (DenotesKnown registry schema first arena.old) (numbers stack.old.items) →
-        IsCoerced registry schema first arena.old arena.new (numbers stack.old.items)) }
-    ensures stays { OnErr result ((registry : Registry) (schema : Columns) (first : ℕ) → IsRight registry schema arena.old types.old →
-        first ≤ length arena.old → AllByRecursion (DenotesKnown registry schema first arena.old) (numbers stack.old.items) →
-        StaysSame registry schema first arena.old arena.new) }
-    ensures elsewhere { (n : ℕ) (op : Op) (inputs : List ℕ) → ¬ (IsReached arena.old (numbers stack.old.items) n) →
-        HoldsExpression arena.old n op inputs → HoldsExpression arena.new n op inputs }
-    ensures longer { length arena.old ≤ length arena.new }
-    ensures err { IfErr result (λ error. error ≡ no_memory) }
+    requires inputs { HasAcceptedInputs (registry udfs.now) expr_arena.now lp_arena.old node.0 }
+    requires right { (predicate : Named Expression) (schema : Columns) → StandsOver (registry udfs.now) expr_arena.now lp_arena.old node.0 (FilterKind predicate) schema →
+        IsRight (registry udfs.now) schema expr_arena.now types.old }
+    ensures plans { (n : ℕ) → n ≢ node.0 → slice_get lp_arena.new n ≡ slice_get lp_arena.old n }
+    ensures count { length lp_arena.new ≡ length lp_arena.old }
+    ensures plan { OnOk result (IsPlanTurn (R.settled_plan rule.now) (registry udfs.now) expr_arena.now lp_arena.old lp_arena.new node.0) }
+    ensures plan_stays { (kind : PlanKind (Named Expression)) (over : Columns) → StandsOver (registry udfs.now) expr_arena.now lp_arena.old node.0 kind over →
+        R.settled_plan rule.now (registry udfs.now) over kind ≡ true → lp_arena.new ≡ lp_arena.old }
+    ensures right { (schema : Columns) → IsRight (registry udfs.now) schema expr_arena.now types.old → StaysOver (registry udfs.now) expr_arena.now lp_arena.old node.0 schema →
+        IsRight (registry udfs.now) schema expr_arena.now types.new }
+    ensures refused { OnErr result (lp_arena.new ≡ lp_arena.old) }
+    ensures err { IfErr result (λ error. (kind : PlanKind (Named Expression)) (over : Columns) → StandsOver (registry udfs.now) expr_arena.now lp_arena.old node.0 kind over →
+        RefusesPredicate (λ checked. IsRefusal checked error) (error ≡ no_memory) (registry udfs.now) over kind) }
 {
-    // The stack never holds as many nodes as there are turns.
+    match rule.optimize_plan(expr_arena, lp_arena, node, udfs, types, typings)? {
+        None => Ok(()),
+        Some(item) => {
+            lp_arena.replace(node, item);
+            Ok(())
+        }
+    }
+}
+
+// Goes over what the roots on the stack reach. After a refusal some may be left there.
+fn coerce_stacked<R: OptimizationRule, M: Ledger, L: Ledger>(
+    stack: &mut Nodes,
+    rule: &R,
+    arena: &mut Arena<AExpr>,
+    schema: &Schema,
+    udfs: &Udfs,
+    types: &mut TypeTable,
+    typings: &mut Steps<M>,
+    steps: &mut Steps<L>,
+) -> Result<(), PlanError>
+    requires trees { AreTrees arena.old (numbers stack.old.items) }
+    requires right { IsRight (registry udfs.now) (columns schema.now) arena.old types.old }
+    ensures like { AreTypedRoots (R.settled rule.now (registry udfs.now) (columns schema.now)) (registry udfs.now) (columns schema.now) arena.old (numbers stack.old.items) → StaysLike (R.related rule.now (registry udfs.now) (columns schema.now)) (registry udfs.now) (columns schema.now) arena.old arena.new }
+    ensures settled { OnOk result (AreTypedRoots (R.settled rule.now (registry udfs.now) (columns schema.now)) (registry udfs.now) (columns schema.now) arena.old (numbers stack.old.items) → AllByRecursion (DenotesSettled (R.settled rule.now (registry udfs.now) (columns schema.now)) (registry udfs.now) (columns schema.now) arena.new) (numbers stack.old.items)) }
+    ensures finite { StaysFinite arena.old arena.new }
+    ensures elsewhere { (n : ℕ) → R.turns rule.now ≡ Some n → StaysApart arena.old arena.new (numbers stack.old.items) }
+    ensures reaches { (n : ℕ) → R.turns rule.now ≡ Some n → ReachesNear arena.old arena.new (numbers stack.old.items) }
+    ensures longer { length arena.old ≤ length arena.new }
+    ensures right { IsRight (registry udfs.now) (columns schema.now) arena.new types.new }
+    ensures bounded { (n : ℕ) → R.turns rule.now ≡ Some n → AreApart arena.old (numbers stack.old.items) →
+        steps.new ≤ steps.old + (2 * n + 2) * length arena.new }
+    ensures err { IfErr result (λ error. IsCoercionRefusal (R.settled rule.now (registry udfs.now) (columns schema.now)) (registry udfs.now) (columns schema.now) arena.old (numbers stack.old.items) error) }
+{
+    // A finite tree has no end of turns, but no stack lives to see so many.
     for _turn in 0..u64::MAX {
         let node = match stack.pop() {
             None => return Ok(()),
             Some(node) => node,
         };
-        coerce_node(node, arena, types)?;
-        arena.get(node).push_inputs(stack)?;
+        visit(
+            node, stack, rule, arena, schema, udfs, types, typings, steps,
+        )?;
     }
     Err(PlanError::at_top(ErrorKind::NoMemory))
+}
+
+// Asks the rule about a node that was taken from the stack. It is put back where it is replaced, else its inputs are.
+fn visit<R: OptimizationRule, M: Ledger, L: Ledger>(
+    node: Node,
+    stack: &mut Nodes,
+    rule: &R,
+    arena: &mut Arena<AExpr>,
+    schema: &Schema,
+    udfs: &Udfs,
+    types: &mut TypeTable,
+    typings: &mut Steps<M>,
+    steps: &mut Steps<L>,
+) -> Result<(), PlanError>
+    requires tree { DenotesTree (HoldsExpression arena.old) node.0 }
+    requires right { IsRight (registry udfs.now) (columns schema.now) arena.old types.old }
+    ensures ok { OnOk result (IsTurn (R.settled rule.now (registry udfs.now) (columns schema.now)) (R.measure rule.now (registry udfs.now) (columns schema.now)) (R.related rule.now (registry udfs.now) (columns schema.now)) (R.turns rule.now) (registry udfs.now) (columns schema.now) arena.old arena.new node.0 (numbers stack.old.items) (numbers stack.new.items) steps.old steps.new) }
+    ensures stopped { OnErr result (IsStopped (R.settled rule.now (registry udfs.now) (columns schema.now)) (R.measure rule.now (registry udfs.now) (columns schema.now)) (R.related rule.now (registry udfs.now) (columns schema.now)) (R.turns rule.now) (registry udfs.now) (columns schema.now) arena.old arena.new node.0) }
+    ensures steps { steps.new ≤ steps.old + 2 }
+    ensures right { IsRight (registry udfs.now) (columns schema.now) arena.new types.new }
+    ensures err { IfErr result (λ error. (t : Expression) → Denotes (HoldsExpression arena.old) node.0 t → IsRefusal (typing (registry udfs.now) (columns schema.now) t) error) }
+{
+    steps.tick();
+    match rule.optimize_expr(arena, node, schema, udfs, types, typings)? {
+        None => arena.get(node).push_inputs(stack),
+        Some(item) => {
+            steps.tick();
+            put_in_place(node, item, arena, types);
+            stack.push(node)?;
+            Ok(())
+        }
+    }
+}
+
+// Puts an item in place of a node. Where a number's type is kept for the node, what is kept is forgotten.
+fn put_in_place(node: Node, item: AExpr, arena: &mut Arena<AExpr>, types: &mut TypeTable)
+    requires there { node.0 < length arena.old }
+    ensures item { arena.new ≡ set arena.old node.0 item }
+    ensures right { (registry : Registry) (schema : Columns) → (¬ (KeepsNumber types.old node.0) → IsRight registry schema (set arena.old node.0 item) types.old) →
+        IsRight registry schema arena.new types.new }
+{
+    if keeps_number(node, types) {
+        types.clear();
+    }
+    arena.replace(node, item);
+}
+
+// Whether the type of a number without one is kept for the node.
+fn keeps_number(node: Node, types: &TypeTable) -> bool
+    ensures { IsTrue result ↔ KeepsNumber types.now node.0 }
+{
+    match types.kept(node) {
+        None => false,
+        Some(own) => own.dtype.untyped_number().is_some(),
+    }
 }

@@ -22,7 +22,7 @@ ghost use Rattle.plan_arena.specs.Items.{Grows, HoldsExpression, HoldsFrom, numb
 ghost use Rattle.plan_infer.specs.declared.type_table.Inferred.{Inferred};
 ghost use Rattle.plan_infer.specs.KeptTypes.{Extends, HasRightTypes, IsKept, IsRight, Keeps, KeepsEntry};
 ghost use Rattle.plan_infer.specs.Typed.{HasKnownType};
-ghost use Rattle.plan_coerce.specs.Coercion.{AllReady, AllStrictFrom, AreChanged, IsChanged, IsReady, KeepsStrict, Visits};
+ghost use Rattle.plan_coerce.specs.Coercion.{AllReady, AllStrictFrom, AreChanged, IsChanged, IsReady, KeepsStrict};
 ghost use Rattle.plan_coerce.specs.Reaching.{AreMadeOnce, HasNewNodes, IsClosed, IsMadeOnce, IsPutOnce, Near};
 
 use plan_arena::aexpr::{AExpr, Nodes};
@@ -34,39 +34,6 @@ use plan_types::dtype::{CastOptions, DataType};
 use plan_types::error::PlanError;
 use plan_types::text::PlSmallStr;
 use smallvec::SmallVec;
-
-/// Makes the operands of the node of the types to which it takes them, where theirs are others.
-pub(crate) fn coerce_node(
-    node: Node,
-    arena: &mut Arena<AExpr>,
-    types: &mut TypeTable,
-) -> Result<(), PlanError>
-    requires right { HasRightTypes arena.old types.old }
-    requires kept { IsKept types.old node.0 }
-    ensures ok { OnOk result ((registry : Registry) (schema : Columns) (first : ℕ) (t : Expression) → IsRight registry schema arena.old types.old →
-        first ≤ length arena.old → Denotes (HoldsFrom first arena.old) node.0 t → HasKnownType (typing registry schema t) →
-        Visits registry schema first arena.new node.0 t) }
-    ensures right { OnOk result ((registry : Registry) (schema : Columns) →
-        IsRight registry schema arena.old types.old → IsRight registry schema arena.new types.new) }
-    ensures extends { OnOk result (Extends types.old types.new) }
-    ensures elsewhere { (n : ℕ) (op : Op) (inputs : List ℕ) → n ≢ node.0 →
-        HoldsExpression arena.old n op inputs → HoldsExpression arena.new n op inputs }
-    ensures closed { OnOk result ((start : List AExpr) (roots : List ℕ) → length start ≤ length arena.old → Near start roots node.0 →
-        IsClosed start roots arena.old → IsClosed start roots arena.new) }
-    ensures longer { length arena.old ≤ length arena.new }
-    ensures grows { OnErr result (Grows arena.old arena.new) }
-    ensures err { IfErr result (λ error. error ≡ no_memory) }
-{
-    let item = arena.get(node);
-    if types.get(node).is_strict() {
-        return Ok(());
-    }
-    let nodes = item.inputs(arena.allocator())?;
-    let inputs = nodes.as_slice();
-    let operands = operands_to(node, inputs, arena, types)?;
-    arena.replace_inputs(node, operands.as_slice());
-    Ok(())
-}
 
 /// The nodes that stand for the operands of a node, made of the types to which it takes them.
 pub(crate) fn operands_to(

@@ -9,7 +9,9 @@ ghost use Rattle.plan_dsl.specs.declared.literal.LiteralValue.TheVariants.{Int, 
 ghost use Rattle.plan_dsl.specs.declared.operator.Operator.TheVariants.{Eq, Plus};
 ghost use Rattle.plan_arena.specs.declared.aexpr.AExpr.TheVariants.{Column, Literal};
 ghost use Rattle.plan_infer.specs.Typed.{DenotesTyped, DenotesKnown};
-ghost use Rattle.plan_coerce.specs.Coercion.{KeepsBelow, DenotesSame, Visits, IsCoerced, StaysSame, coerced};
+ghost use Rattle.plan_coerce.specs.Coercion.{KeepsBelow, coerced};
+ghost use Rattle.plan_coerce.specs.Optimizer.{DenotesLike, IsCoerced, StaysLike};
+ghost use Rattle.plan_coerce.specs.Rules.{HasSameCasts};
 ghost use Rattle.plan_coerce.specs.Reaching.{IsReached, Near};
 ghost use Rattle.plan_infer.specs.Samples.{int8, int32, int64, one_column, columns_of, two_columns, struct_of, a, b, literal, number, five, binary, cast_to, sum, pair, columns_and, sum_items, a_items};
 ghost use Rattle.plan_coerce.specs.Samples.{cast_of, strict_items, strict_sum};
@@ -35,37 +37,14 @@ pub fn nodes_of_typed_expressions()
     ensures number_is_not_known { ¬ (DenotesKnown [] [] 0 (Literal (Int (pos 5)) ∷ []) 0) }
 {}
 
-/// A visit leaves a strict node that says the same as the tree before: casts to the right types, in order.
-pub fn visits_of_a_sum()
-    ensures cast { Visits [] two_columns 0 strict_items 2 sum }
-    ensures without_a_cast { ¬ (Visits [] two_columns 0 sum_items 2 sum) }
-    ensures cast_to_another_type { ¬ (Visits [] two_columns 0 (columns_and (pair 3 Plus 1 ∷ cast_of 0 dtype.Int16 ∷ [])) 2 sum) }
-    ensures turned_round { ¬ (Visits [] two_columns 0 (columns_and (pair 1 Plus 3 ∷ cast_of 0 dtype.Int32 ∷ [])) 2 sum) }
-    ensures literal { Visits [] (one_column int8) 0 (Column (codes "a") ∷ pair 0 Plus 2 ∷ Literal (Int8 (pos 5)) ∷ []) 1 (binary Plus a five) }
-    ensures number_left { ¬ (Visits [] (one_column int8) 0 (Column (codes "a") ∷ pair 0 Plus 2 ∷ Literal (Int (pos 5)) ∷ []) 1 (binary Plus a five)) }
-{}
-
 /// Operands are cast to their common type, or each to the type to which the operator takes it.
-pub fn visits_of_other_operands()
-    ensures span_in_another_unit { Visits [] (columns_of (DatetimeType Microseconds) (DurationType Nanoseconds)) 0
-        (columns_and (pair 0 Plus 3 ∷ cast_of 1 (dtype.Duration Microseconds) ∷ [])) 2 (binary Plus a b) }
-    ensures span_as_a_moment { ¬ (Visits [] (columns_of (DatetimeType Microseconds) (DurationType Nanoseconds)) 0
-        (columns_and (pair 0 Plus 3 ∷ cast_of 1 (dtype.Datetime Microseconds) ∷ [])) 2 (binary Plus a b)) }
-    ensures date_beside_a_moment { Visits [] (columns_of DateType (DatetimeType Milliseconds)) 0
-        (columns_and (pair 3 Eq 1 ∷ cast_of 0 (dtype.Datetime Milliseconds) ∷ [])) 2 (binary Eq a b) }
-    ensures truth_value_beside_a_text { Visits [] (columns_of TextType Truth) 0
-        (columns_and (pair 0 Plus 3 ∷ cast_of 1 dtype.String ∷ [])) 2 (binary Plus a b) }
-    ensures null_beside_a_number { Visits [] (columns_of NullType int8) 0
-        (columns_and (pair 3 Eq 1 ∷ cast_of 0 dtype.Int8 ∷ [])) 2 (binary Eq a b) }
-{}
-
-/// Lists and structs are cast to their common type, where they are of others.
-pub fn visits_of_parts()
-    ensures lists { (target : DataType) → ty target ≡ ListType int64 → Visits [] (columns_of (ListType int8) (ListType int64)) 0
-        (columns_and (pair 3 Eq 1 ∷ cast_of 0 target ∷ [])) 2 (binary Eq a b) }
-    ensures structs { (target : DataType) → ty target ≡ struct_of (codes "x") TextType → Visits [] (columns_of (struct_of (codes "x") TextType) (struct_of (codes "x") Truth)) 0
-        (columns_and (pair 0 Eq 3 ∷ cast_of 1 target ∷ [])) 2 (binary Eq a b) }
-    ensures not_cast { ¬ (Visits [] (columns_of (ListType int8) (ListType int64)) 0 (columns_and (pair 0 Eq 1 ∷ [])) 2 (binary Eq a b)) }
+pub fn casts_of_other_operands()
+    ensures span_in_another_unit { coerced [] (columns_of (DatetimeType Microseconds) (DurationType Nanoseconds)) (binary Plus a b) ≡ binary Plus a (cast_to (DurationType Microseconds) b) }
+    ensures date_beside_a_moment { coerced [] (columns_of DateType (DatetimeType Milliseconds)) (binary Eq a b) ≡ binary Eq (cast_to (DatetimeType Milliseconds) a) b }
+    ensures truth_value_beside_a_text { coerced [] (columns_of TextType Truth) (binary Plus a b) ≡ binary Plus a (cast_to TextType b) }
+    ensures null_beside_a_number { coerced [] (columns_of NullType int8) (binary Eq a b) ≡ binary Eq (cast_to int8 a) b }
+    ensures lists { coerced [] (columns_of (ListType int8) (ListType int64)) (binary Eq a b) ≡ binary Eq (cast_to (ListType int64) a) b }
+    ensures structs { coerced [] (columns_of (struct_of (codes "x") TextType) (struct_of (codes "x") Truth)) (binary Eq a b) ≡ binary Eq a (cast_to (struct_of (codes "x") TextType) b) }
 {}
 
 /// Coercion leaves items below a number, makes each tree one that says the same, and each root's a strict one.
@@ -77,12 +56,11 @@ pub fn coerced_sums()
     ensures turned_round { ¬ (IsCoerced [] two_columns 0 sum_items (columns_and (pair 1 Plus 3 ∷ cast_of 0 dtype.Int32 ∷ [])) (2 ∷ [])) }
     ensures number_left { ¬ (IsCoerced [] [] 0 (Literal (Int (pos 5)) ∷ []) (Literal (Int (pos 5)) ∷ []) (0 ∷ [])) }
     ensures item_below { ¬ (IsCoerced [] [] 1 a_items (Column (codes "b") ∷ []) []) }
-    ensures nothing_done { StaysSame [] (one_column int8) 0 (columns_and []) (columns_and []) }
-    ensures other_item_below { ¬ (StaysSame [] [] 1 a_items (Column (codes "b") ∷ [])) }
-    ensures other_tree { ¬ (StaysSame [] (columns_of int8 int8) 0 a_items (Column (codes "b") ∷ [])) }
+    ensures nothing_done { StaysLike (HasSameCasts [] (one_column int8)) [] (one_column int8) (columns_and []) (columns_and []) }
+    ensures other_tree { ¬ (StaysLike (HasSameCasts [] (columns_of int8 int8)) [] (columns_of int8 int8) a_items (Column (codes "b") ∷ [])) }
     ensures items_below { KeepsBelow 1 (columns_and []) (Column (codes "a") ∷ Column (codes "c") ∷ []) }
-    ensures same { DenotesSame [] (one_column int8) 0 a_items 0 a }
-    ensures not_same { ¬ (DenotesSame [] (columns_of int8 int8) 0 (Column (codes "b") ∷ []) 0 a) }
+    ensures same { DenotesLike (HasSameCasts [] (one_column int8)) [] (one_column int8) a_items 0 a }
+    ensures not_same { ¬ (DenotesLike (HasSameCasts [] (columns_of int8 int8)) [] (columns_of int8 int8) (Column (codes "b") ∷ []) 0 a) }
 {}
 
 /// A root reaches itself and what its inputs lead to. Nodes that are added are near.

@@ -19,7 +19,7 @@ use Rattle.plan_infer.proofs.TableLemmas.{keeps_one, known_inputs, known_typed, 
 use Rattle.plan_coerce.specs.Coercion.{AllReady}
 use Rattle.plan_coerce.specs.Reaching.{Near}
 use Rattle.plan_coerce.proofs.CoercionLemmas.{ready_length, takes_ready}
-use Rattle.plan_coerce.proofs.CoercionRuleLemmas.{item_there, known_not_number, same_before, listed_strict, node_placed, node_replaced, number_replaced, over_near, plain_strict, type_number}
+use Rattle.plan_coerce.proofs.CoercionRuleLemmas.{item_there, known_not_number, same_before, listed_strict, node_placed, node_replaced, number_replaced, over_near, kept_strict, type_number}
 use Rattle.plan_coerce.proofs.ReachLemmas.{closed_start}
 use Rattle.plan_coerce.proofs.RightLemmas.{kept_within}
 use Rattle.plan_coerce.proofs.coercion_rule.item_for.Goals as goal
@@ -41,7 +41,7 @@ returns-then-is_strict-clause-answer c = λ registry schema t right d.
     let own = c.get-own.result.now in
     let got = item_there c.args.arena.now c.args.node.0 t d in
     let known = known_not_number registry schema c.args.arena.now c.args.types.now right c.args.node.0 own c.get-own.ensures c.in-None.ensures in
-    plain_strict registry schema c.args.arena.now c.args.types.now right c.args.node.0 own c.get-own.ensures got.0 got.1 (c.is_strict.ensures.0 c.if-is_strict.true) known t d
+    kept_strict registry schema c.args.arena.now c.args.types.now right c.args.node.0 own c.get-own.ensures got.0 got.1 (c.is_strict.ensures.0 c.if-is_strict.true) known t d
 
 pub get-requires : goal.get-requires
 get-requires c = kept_within c.args.arena.now c.args.types.now c.args.node.0 c.requires.right c.requires.kept

@@ -1,108 +1,200 @@
-use Rattle.std.proofs.Common.{◌<◌, length, subst, arith}
-use Rattle.std.specs.List.{AllByRecursion}
-use Rattle.plan_arena.proofs.ItemLemmas.{tree_within}
-use Rattle.plan_arena.specs.Items.{numbers}
-use Rattle.plan_infer.specs.KeptTypes.{IsKept}
-use Rattle.plan_infer.proofs.TableLemmas.{plain_tree}
-use Rattle.plan_arena.proofs.NumberLemmas.{all_front, all_last}
-use Rattle.plan_coerce.proofs.StackLemmas.{Pending, pending_start, pending_step, pending_end, pushed, pushed_one, no_numbers, on_refusal, stays_now, stays_grown, stays_visited}
-use Rattle.plan_infer.proofs.TableLemmas.{known_typed}
-use Rattle.plan_coerce.proofs.RightLemmas.{waiting_known}
-use Rattle.std.proofs.Common.{[], ◌∷◌}
-use Rattle.plan_coerce.specs.Reaching.{Near}
-use Rattle.plan_coerce.proofs.ReachLemmas.{closed_start, not_near, roots_near, stack_near}
+use Rattle.std.proofs.Common.{◌+◌, ◌*◌, ◌∙◌, ◌∷◌, reverse, refl, sym, ap, subst, arith}
+use Rattle.plan_types.specs.Schemas.{columns}
+use Rattle.plan_dsl.specs.Registry.{registry}
+use Rattle.plan_arena.specs.Denotation.{DenotesTree}
+use Rattle.plan_arena.specs.Items.{HoldsExpression, numbers}
+use Rattle.plan_arena.proofs.NumberLemmas.{all_joined, all_reversed, all_weaker}
+use Rattle.plan_types.proofs.ResultLemmas.{passed_on}
+use Rattle.plan_coerce.specs.Optimizer.{AreTrees, IsCoercionRefusal}
+use Rattle.plan_coerce.proofs.CountLemmas.{Counted, counted_end, counted_start, counted_stops, counted_turn}
+use Rattle.plan_coerce.proofs.NearLemmas.{Keeping, keeping_end, keeping_start, keeping_stops, keeping_turn, stops_apart, waiting_turn}
+use Rattle.plan_coerce.proofs.StackLemmas.{no_numbers, pushed_one}
+use Rattle.plan_coerce.proofs.TurnLemmas.{Pending, all_ended, memory_alone, no_memory_left, pending_start, pending_stops, pending_turn, stopped_finite, stopped_longer, top_first, turn_stopped}
 use Rattle.plan_coerce.proofs.stack_opt.coerce_stacked.Goals as goal
 
 pub loop-turn-init : goal.loop-turn-init
-loop-turn-init c =
+loop-turn-init g c =
+    let r = registry c.args.udfs.now in
+    let s = columns c.args.schema.now in
+    let rule = g.R.OptimizationRule in
+    let laws = g.met.R.OptimizationRule in
     let roots = numbers c.args.stack.now.items in
     record {
-      near = roots_near c.args.arena.now roots;
-      closed = closed_start c.args.arena.now roots;
-      elsewhere = λ n op inputs apart h. h;
+      finite = λ n t. t;
+      waiting = all_reversed (DenotesTree (HoldsExpression c.args.arena.now)) roots c.requires.trees;
       longer = omega arith;
-      kept = c.requires.kept;
-      right = λ registry schema right. right;
-      pending = λ registry schema first right le all. pending_start registry schema first c.args.arena.now (numbers c.args.stack.now.items) all;
+      right = c.requires.right;
+      pending = pending_start (rule.settled c.args.rule.now r s) (rule.measure c.args.rule.now r s) (rule.related c.args.rule.now r s) (rule.turns c.args.rule.now) r s (laws.congruent c.args.rule.now r s) (laws.transitive c.args.rule.now r s) c.args.arena.now roots;
+      keeping = λ n e. keeping_start c.args.arena.now roots;
+      counted = λ n e. counted_start (rule.measure c.args.rule.now r s) r s n (2 * n + 2) refl (λ op inputs. laws.bounded c.args.rule.now r s op inputs n e) c.args.arena.now roots c.args.steps.now;
     }
 
-pub returns-in-None-clause-ok : goal.returns-in-None-clause-ok
-returns-in-None-clause-ok c = λ registry schema first right le all.
-    let none = no_numbers c.loop-turn.stack.items c.in-None.ensures.variant.1 in
-    let p = subst (λ s. Pending registry schema first c.args.arena.now c.loop-turn.arena s (numbers c.args.stack.now.items)) none (c.loop-turn.invariant.pending registry schema first right le all) in
-    pending_end registry schema first c.args.arena.now c.loop-turn.arena (numbers c.args.stack.now.items) p
-
-pub coerce_node-requires : goal.coerce_node-requires
-coerce_node-requires c =
+pub visit-requires-clause-tree : goal.visit-requires-clause-tree
+visit-requires-clause-tree g c =
+    let rest = numbers c.pop.new.self.items in
     let popped = pushed_one c.pop.new.self.items c.loop-turn.stack.items c.in-Some.node c.in-Some.ensures.items in
-    let known = subst (AllByRecursion (IsKept c.loop-turn.types)) popped c.loop-turn.invariant.kept in
-    let is = c.requires.right in
-    record {
-      right = record { registry = is.registry; schema = is.schema; right = c.loop-turn.invariant.right is.registry is.schema is.right };
-      kept = all_last (IsKept c.loop-turn.types) (numbers c.pop.new.self.items) c.in-Some.node.0 known;
-    }
-
-pub get-requires : goal.get-requires
-get-requires c =
-    let popped = pushed_one c.pop.new.self.items c.loop-turn.stack.items c.in-Some.node c.in-Some.ensures.items in
-    let known = subst (AllByRecursion (IsKept c.loop-turn.types)) popped c.loop-turn.invariant.kept in
-    let here = all_last (IsKept c.loop-turn.types) (numbers c.pop.new.self.items) c.in-Some.node.0 known in
-    let is = c.requires.right in
-    let typed = known_typed is.registry is.schema c.loop-turn.arena c.loop-turn.types (c.loop-turn.invariant.right is.registry is.schema is.right) c.in-Some.node.0 here in
-    let within : c.in-Some.node.0 < length c.loop-turn.arena = tree_within c.loop-turn.arena c.in-Some.node.0 (plain_tree typed) in
-    omega (arith, within, c.in_ok-coerce_node.ensures.longer)
+    (subst (AreTrees c.loop-turn.arena) (ap reverse popped ∙ top_first rest c.in-Some.node.0) c.loop-turn.invariant.waiting).0
 
 pub loop-turn-preserved : goal.loop-turn-preserved
-loop-turn-preserved c =
-    let popped = pushed_one c.pop.new.self.items c.loop-turn.stack.items c.in-Some.node c.in-Some.ensures.items in
-    let known = subst (AllByRecursion (IsKept c.loop-turn.types)) popped c.loop-turn.invariant.kept in
-    let visited = c.in_ok-coerce_node.ensures in
-    let is = c.requires.right in
-    let right = visited.right is.registry is.schema (c.loop-turn.invariant.right is.registry is.schema is.right) in
+loop-turn-preserved g c =
+    let r = registry c.args.udfs.now in
+    let s = columns c.args.schema.now in
+    let rule = g.R.OptimizationRule in
+    let laws = g.met.R.OptimizationRule in
+    let settled = rule.settled c.args.rule.now r s in
+    let measure = rule.measure c.args.rule.now r s in
+    let related = rule.related c.args.rule.now r s in
+    let turns = rule.turns c.args.rule.now in
     let roots = numbers c.args.stack.now.items in
-    let waits = subst (AllByRecursion (Near c.args.arena.now roots)) popped c.loop-turn.invariant.near in
-    let here = all_last (Near c.args.arena.now roots) (numbers c.pop.new.self.items) c.in-Some.node.0 waits in
-    let closed = visited.closed c.args.arena.now roots c.loop-turn.invariant.longer here c.loop-turn.invariant.closed in
+    let rest = numbers c.pop.new.self.items in
+    let at = c.in-Some.node.0 in
+    let popped = ap reverse (pushed_one c.pop.new.self.items c.loop-turn.stack.items c.in-Some.node c.in-Some.ensures.items) in
+    let turn = c.in_ok-visit.ensures.ok in
+    let inv = c.loop-turn.invariant in
+    let waiting = subst (AreTrees c.loop-turn.arena) popped inv.waiting in
+    let here = (subst (AreTrees c.loop-turn.arena) (top_first rest at) waiting).0 in
+    let stopped = turn_stopped settled measure related turns r s c.loop-turn.arena c.visit.new.arena at rest (numbers c.visit.new.stack.items) c.loop-turn.steps c.visit.new.steps turn in
+    let finite = stopped_finite settled measure related turns r s c.loop-turn.arena c.visit.new.arena at here stopped in
+    let longer = stopped_longer settled measure related turns r s c.loop-turn.arena c.visit.new.arena at stopped in
+    let rooted = all_weaker (DenotesTree (HoldsExpression c.args.arena.now)) (DenotesTree (HoldsExpression c.loop-turn.arena)) inv.finite roots c.requires.trees in
     record {
-      near = stack_near c.args.arena.now roots c.coerce_node.new.arena c.in-Some.node.0 c.get.result.now (numbers c.pop.new.self.items) (numbers c.push_inputs.new.nodes.items) c.get.ensures closed here (all_front (Near c.args.arena.now roots) (numbers c.pop.new.self.items) (c.in-Some.node.0 ∷ []) waits) c.in_ok-push_inputs.ensures.ok;
-      closed = closed;
-      elsewhere = λ n op inputs apart h. visited.elsewhere n op inputs (not_near c.args.arena.now roots c.in-Some.node.0 n op inputs here apart h) (c.loop-turn.invariant.elsewhere n op inputs apart h);
-      longer = omega (arith, c.loop-turn.invariant.longer, visited.longer);
-      kept = waiting_known c.coerce_node.new.arena c.loop-turn.types c.coerce_node.new.types c.in-Some.node.0 (numbers c.pop.new.self.items) (numbers c.push_inputs.new.nodes.items) known visited.extends (record { registry = is.registry; schema = is.schema; right = right }) (pushed c.coerce_node.new.arena c.in-Some.node.0 c.get.result.now (numbers c.pop.new.self.items) (numbers c.push_inputs.new.nodes.items) c.get.ensures c.in_ok-push_inputs.ensures.ok);
-      right = λ registry schema before. visited.right registry schema (c.loop-turn.invariant.right registry schema before);
-      pending = λ registry schema first before le all.
-          let p = subst (λ s. Pending registry schema first c.args.arena.now c.loop-turn.arena s (numbers c.args.stack.now.items)) popped (c.loop-turn.invariant.pending registry schema first before le all) in
-          pending_step registry schema first c.args.arena.now c.loop-turn.arena c.coerce_node.new.arena c.in-Some.node.0 (numbers c.pop.new.self.items) (numbers c.push_inputs.new.nodes.items) (numbers c.args.stack.now.items) p visited.elsewhere (λ t d has. visited.ok registry schema first t (c.loop-turn.invariant.right registry schema before) (omega (arith, le, c.loop-turn.invariant.longer)) d has) (pushed c.coerce_node.new.arena c.in-Some.node.0 c.get.result.now (numbers c.pop.new.self.items) (numbers c.push_inputs.new.nodes.items) c.get.ensures c.in_ok-push_inputs.ensures.ok);
+      finite = λ n t. finite n (inv.finite n t);
+      waiting = waiting_turn settled measure related turns r s c.loop-turn.arena c.visit.new.arena at rest (numbers c.visit.new.stack.items) c.loop-turn.steps c.visit.new.steps turn waiting;
+      longer = omega (arith, inv.longer, longer);
+      right = c.in_ok-visit.ensures.right;
+      pending = λ typed. pending_turn settled measure related turns r s (laws.congruent c.args.rule.now r s) (laws.transitive c.args.rule.now r s) c.args.arena.now c.loop-turn.arena c.visit.new.arena at rest (numbers c.visit.new.stack.items) roots c.loop-turn.steps c.visit.new.steps turn (subst (λ l. Pending settled related r s c.args.arena.now c.loop-turn.arena l roots) popped (inv.pending typed));
+      keeping = λ n e. keeping_turn settled measure related turns r s c.loop-turn.arena c.visit.new.arena at rest (numbers c.visit.new.stack.items) c.loop-turn.steps c.visit.new.steps turn n e c.args.arena.now roots inv.longer rooted waiting (subst (Keeping c.args.arena.now roots c.loop-turn.arena) popped (inv.keeping n e));
+      counted = λ n e apart. counted_turn measure r s n (2 * n + 2) refl settled related turns e (λ op inputs. laws.bounded c.args.rule.now r s op inputs n e) c.loop-turn.arena c.visit.new.arena at rest (numbers c.visit.new.stack.items) c.args.steps.now c.loop-turn.steps c.visit.new.steps turn (subst (λ l. Counted measure r s n (2 * n + 2) c.loop-turn.arena l c.args.steps.now c.loop-turn.steps) popped (inv.counted n e apart));
     }
 
-pub returns-in_err-coerce_node-clause-stays : goal.returns-in_err-coerce_node-clause-stays
-returns-in_err-coerce_node-clause-stays c = on_refusal c.from_residual.result (λ registry schema first right le all.
-    let p = c.loop-turn.invariant.pending registry schema first right le all in
-    stays_grown registry schema first c.args.arena.now c.loop-turn.arena c.coerce_node.new.arena (numbers c.loop-turn.stack.items) (numbers c.args.stack.now.items) p c.in_err-coerce_node.ensures.grows)
-
-pub returns-in_err-push_inputs-clause-stays : goal.returns-in_err-push_inputs-clause-stays
-returns-in_err-push_inputs-clause-stays c = on_refusal c.from_residual-in_err-push_inputs.result (λ registry schema first right le all.
-    let popped = pushed_one c.pop.new.self.items c.loop-turn.stack.items c.in-Some.node c.in-Some.ensures.items in
-    let p = subst (λ s. Pending registry schema first c.args.arena.now c.loop-turn.arena s (numbers c.args.stack.now.items)) popped (c.loop-turn.invariant.pending registry schema first right le all) in
-    let visited = c.in_ok-coerce_node.ensures in
-    stays_visited registry schema first c.args.arena.now c.loop-turn.arena c.coerce_node.new.arena c.in-Some.node.0 (numbers c.pop.new.self.items) (numbers c.args.stack.now.items) p visited.elsewhere (λ t d has. visited.ok registry schema first t (c.loop-turn.invariant.right registry schema right) (omega (arith, le, c.loop-turn.invariant.longer)) d has))
-
-pub returns-clause-stays : goal.returns-clause-stays
-returns-clause-stays c = λ registry schema first right le all.
-    stays_now registry schema first c.args.arena.now c.loop-turn.arena (numbers c.loop-turn.stack.items) (numbers c.args.stack.now.items) (c.loop-turn.invariant.pending registry schema first right le all)
-
-pub returns-in_err-coerce_node-clause-elsewhere : goal.returns-in_err-coerce_node-clause-elsewhere
-returns-in_err-coerce_node-clause-elsewhere c = λ n op inputs apart h.
+pub returns-in-None-clause-settled : goal.returns-in-None-clause-settled
+returns-in-None-clause-settled g c = λ typed.
+    let r = registry c.args.udfs.now in
+    let s = columns c.args.schema.now in
+    let rule = g.R.OptimizationRule in
+    let settled = rule.settled c.args.rule.now r s in
+    let related = rule.related c.args.rule.now r s in
     let roots = numbers c.args.stack.now.items in
-    let popped = pushed_one c.pop.new.self.items c.loop-turn.stack.items c.in-Some.node c.in-Some.ensures.items in
-    let waits = subst (AllByRecursion (Near c.args.arena.now roots)) popped c.loop-turn.invariant.near in
-    let here = all_last (Near c.args.arena.now roots) (numbers c.pop.new.self.items) c.in-Some.node.0 waits in
-    c.in_err-coerce_node.ensures.elsewhere n op inputs (not_near c.args.arena.now roots c.in-Some.node.0 n op inputs here apart h) (c.loop-turn.invariant.elsewhere n op inputs apart h)
+    let none = ap reverse (no_numbers c.loop-turn.stack.items c.in-None.ensures.variant.1) in
+    all_ended settled r s c.loop-turn.arena roots (subst (λ l. Pending settled related r s c.args.arena.now c.loop-turn.arena l roots) none (c.loop-turn.invariant.pending typed)).settled
 
-pub returns-in_err-push_inputs-clause-elsewhere : goal.returns-in_err-push_inputs-clause-elsewhere
-returns-in_err-push_inputs-clause-elsewhere c = λ n op inputs apart h.
+pub returns-in-None-clause-bounded : goal.returns-in-None-clause-bounded
+returns-in-None-clause-bounded g c = λ n e apart.
+    counted_end (g.R.OptimizationRule.measure c.args.rule.now (registry c.args.udfs.now) (columns c.args.schema.now)) (registry c.args.udfs.now) (columns c.args.schema.now) n (2 * n + 2) refl c.loop-turn.arena (reverse (numbers c.loop-turn.stack.items)) c.args.steps.now c.loop-turn.steps (c.loop-turn.invariant.counted n e apart)
+
+pub returns-clause-reaches : goal.returns-clause-reaches
+returns-clause-reaches g c = λ n e.
+    keeping_end c.args.arena.now (numbers c.args.stack.now.items) c.loop-turn.arena (reverse (numbers c.loop-turn.stack.items)) (c.loop-turn.invariant.keeping n e)
+
+pub returns-clause-bounded : goal.returns-clause-bounded
+returns-clause-bounded g c = λ n e apart.
+    counted_end (g.R.OptimizationRule.measure c.args.rule.now (registry c.args.udfs.now) (columns c.args.schema.now)) (registry c.args.udfs.now) (columns c.args.schema.now) n (2 * n + 2) refl c.loop-turn.arena (reverse (numbers c.loop-turn.stack.items)) c.args.steps.now c.loop-turn.steps (c.loop-turn.invariant.counted n e apart)
+
+pub returns-clause-err : goal.returns-clause-err
+returns-clause-err g c =
+    let r = registry c.args.udfs.now in
+    let s = columns c.args.schema.now in
+    let settled = g.R.OptimizationRule.settled c.args.rule.now r s in
     let roots = numbers c.args.stack.now.items in
-    let popped = pushed_one c.pop.new.self.items c.loop-turn.stack.items c.in-Some.node c.in-Some.ensures.items in
-    let waits = subst (AllByRecursion (Near c.args.arena.now roots)) popped c.loop-turn.invariant.near in
-    let here = all_last (Near c.args.arena.now roots) (numbers c.pop.new.self.items) c.in-Some.node.0 waits in
-    c.in_ok-coerce_node.ensures.elsewhere n op inputs (not_near c.args.arena.now roots c.in-Some.node.0 n op inputs here apart h) (c.loop-turn.invariant.elsewhere n op inputs apart h)
+    subst (IsCoercionRefusal settled r s c.args.arena.now roots) (sym c.at_top.ensures) (no_memory_left settled r s c.args.arena.now roots)
+
+pub returns-in_err-visit-clause-like : goal.returns-in_err-visit-clause-like
+returns-in_err-visit-clause-like g c = λ typed.
+    let r = registry c.args.udfs.now in
+    let s = columns c.args.schema.now in
+    let rule = g.R.OptimizationRule in
+    let laws = g.met.R.OptimizationRule in
+    let settled = rule.settled c.args.rule.now r s in
+    let measure = rule.measure c.args.rule.now r s in
+    let related = rule.related c.args.rule.now r s in
+    let turns = rule.turns c.args.rule.now in
+    let roots = numbers c.args.stack.now.items in
+    let rest = numbers c.pop.new.self.items in
+    let at = c.in-Some.node.0 in
+    let popped = ap reverse (pushed_one c.pop.new.self.items c.loop-turn.stack.items c.in-Some.node c.in-Some.ensures.items) ∙ top_first rest at in
+    let inv = c.loop-turn.invariant in
+    let now = subst (λ l. Pending settled related r s c.args.arena.now c.loop-turn.arena l roots) popped (inv.pending typed) in
+    pending_stops settled measure related turns r s (laws.congruent c.args.rule.now r s) (laws.transitive c.args.rule.now r s) c.args.arena.now c.loop-turn.arena c.visit.new.arena at (reverse rest) roots now c.in_err-visit.ensures.stopped
+
+pub returns-in_err-visit-clause-finite : goal.returns-in_err-visit-clause-finite
+returns-in_err-visit-clause-finite g c = λ n t.
+    let rest = numbers c.pop.new.self.items in
+    let at = c.in-Some.node.0 in
+    let popped = ap reverse (pushed_one c.pop.new.self.items c.loop-turn.stack.items c.in-Some.node c.in-Some.ensures.items) ∙ top_first rest at in
+    let inv = c.loop-turn.invariant in
+    let here = (subst (AreTrees c.loop-turn.arena) popped inv.waiting).0 in
+    stopped_finite (g.R.OptimizationRule.settled c.args.rule.now (registry c.args.udfs.now) (columns c.args.schema.now)) (g.R.OptimizationRule.measure c.args.rule.now (registry c.args.udfs.now) (columns c.args.schema.now)) (g.R.OptimizationRule.related c.args.rule.now (registry c.args.udfs.now) (columns c.args.schema.now)) (g.R.OptimizationRule.turns c.args.rule.now) (registry c.args.udfs.now) (columns c.args.schema.now) c.loop-turn.arena c.visit.new.arena at here c.in_err-visit.ensures.stopped n (inv.finite n t)
+
+pub returns-in_err-visit-clause-longer : goal.returns-in_err-visit-clause-longer
+returns-in_err-visit-clause-longer g c =
+    omega (arith, c.loop-turn.invariant.longer, stopped_longer (g.R.OptimizationRule.settled c.args.rule.now (registry c.args.udfs.now) (columns c.args.schema.now)) (g.R.OptimizationRule.measure c.args.rule.now (registry c.args.udfs.now) (columns c.args.schema.now)) (g.R.OptimizationRule.related c.args.rule.now (registry c.args.udfs.now) (columns c.args.schema.now)) (g.R.OptimizationRule.turns c.args.rule.now) (registry c.args.udfs.now) (columns c.args.schema.now) c.loop-turn.arena c.visit.new.arena c.in-Some.node.0 c.in_err-visit.ensures.stopped)
+
+pub returns-in_err-visit-clause-elsewhere : goal.returns-in_err-visit-clause-elsewhere
+returns-in_err-visit-clause-elsewhere g c = λ n e.
+    let r = registry c.args.udfs.now in
+    let s = columns c.args.schema.now in
+    let rule = g.R.OptimizationRule in
+    let settled = rule.settled c.args.rule.now r s in
+    let measure = rule.measure c.args.rule.now r s in
+    let related = rule.related c.args.rule.now r s in
+    let turns = rule.turns c.args.rule.now in
+    let roots = numbers c.args.stack.now.items in
+    let rest = numbers c.pop.new.self.items in
+    let at = c.in-Some.node.0 in
+    let popped = ap reverse (pushed_one c.pop.new.self.items c.loop-turn.stack.items c.in-Some.node c.in-Some.ensures.items) ∙ top_first rest at in
+    let inv = c.loop-turn.invariant in
+    let rooted = all_weaker (DenotesTree (HoldsExpression c.args.arena.now)) (DenotesTree (HoldsExpression c.loop-turn.arena)) inv.finite roots c.requires.trees in
+    let trees = all_joined (DenotesTree (HoldsExpression c.loop-turn.arena)) roots (at ∷ reverse rest) rooted (subst (AreTrees c.loop-turn.arena) popped inv.waiting) in
+    stops_apart settled measure related turns n e r s c.args.arena.now c.loop-turn.arena c.visit.new.arena at (reverse rest) roots inv.longer trees (subst (Keeping c.args.arena.now roots c.loop-turn.arena) popped (inv.keeping n e)) c.in_err-visit.ensures.stopped
+
+pub returns-in_err-visit-clause-reaches : goal.returns-in_err-visit-clause-reaches
+returns-in_err-visit-clause-reaches g c = λ n e.
+    let r = registry c.args.udfs.now in
+    let s = columns c.args.schema.now in
+    let rule = g.R.OptimizationRule in
+    let settled = rule.settled c.args.rule.now r s in
+    let measure = rule.measure c.args.rule.now r s in
+    let related = rule.related c.args.rule.now r s in
+    let turns = rule.turns c.args.rule.now in
+    let roots = numbers c.args.stack.now.items in
+    let rest = numbers c.pop.new.self.items in
+    let at = c.in-Some.node.0 in
+    let popped = ap reverse (pushed_one c.pop.new.self.items c.loop-turn.stack.items c.in-Some.node c.in-Some.ensures.items) ∙ top_first rest at in
+    let inv = c.loop-turn.invariant in
+    let rooted = all_weaker (DenotesTree (HoldsExpression c.args.arena.now)) (DenotesTree (HoldsExpression c.loop-turn.arena)) inv.finite roots c.requires.trees in
+    let trees = all_joined (DenotesTree (HoldsExpression c.loop-turn.arena)) roots (at ∷ reverse rest) rooted (subst (AreTrees c.loop-turn.arena) popped inv.waiting) in
+    keeping_stops settled measure related turns n e r s c.args.arena.now c.loop-turn.arena c.visit.new.arena at (reverse rest) roots inv.longer trees (subst (Keeping c.args.arena.now roots c.loop-turn.arena) popped (inv.keeping n e)) c.in_err-visit.ensures.stopped
+
+pub returns-in_err-visit-clause-bounded : goal.returns-in_err-visit-clause-bounded
+returns-in_err-visit-clause-bounded g c = λ n e apart.
+    let r = registry c.args.udfs.now in
+    let s = columns c.args.schema.now in
+    let rule = g.R.OptimizationRule in
+    let measure = rule.measure c.args.rule.now r s in
+    let rest = numbers c.pop.new.self.items in
+    let at = c.in-Some.node.0 in
+    let popped = ap reverse (pushed_one c.pop.new.self.items c.loop-turn.stack.items c.in-Some.node c.in-Some.ensures.items) ∙ top_first rest at in
+    let inv = c.loop-turn.invariant in
+    let now = subst (λ l. Counted measure r s n (2 * n + 2) c.loop-turn.arena l c.args.steps.now c.loop-turn.steps) popped (inv.counted n e apart) in
+    counted_stops measure r s n (2 * n + 2) refl c.loop-turn.arena c.visit.new.arena at (reverse rest) c.args.steps.now c.loop-turn.steps c.visit.new.steps now (stopped_longer (g.R.OptimizationRule.settled c.args.rule.now (registry c.args.udfs.now) (columns c.args.schema.now)) (g.R.OptimizationRule.measure c.args.rule.now (registry c.args.udfs.now) (columns c.args.schema.now)) (g.R.OptimizationRule.related c.args.rule.now (registry c.args.udfs.now) (columns c.args.schema.now)) (g.R.OptimizationRule.turns c.args.rule.now) (registry c.args.udfs.now) (columns c.args.schema.now) c.loop-turn.arena c.visit.new.arena at c.in_err-visit.ensures.stopped) c.in_err-visit.ensures.steps
+
+pub returns-in_err-visit-clause-err : goal.returns-in_err-visit-clause-err
+returns-in_err-visit-clause-err g c =
+    let r = registry c.args.udfs.now in
+    let s = columns c.args.schema.now in
+    let rule = g.R.OptimizationRule in
+    let settled = rule.settled c.args.rule.now r s in
+    let related = rule.related c.args.rule.now r s in
+    let roots = numbers c.args.stack.now.items in
+    let rest = numbers c.pop.new.self.items in
+    let at = c.in-Some.node.0 in
+    let popped = ap reverse (pushed_one c.pop.new.self.items c.loop-turn.stack.items c.in-Some.node c.in-Some.ensures.items) ∙ top_first rest at in
+    let inv = c.loop-turn.invariant in
+    let here = (subst (AreTrees c.loop-turn.arena) popped inv.waiting).0 in
+    passed_on c.from_residual.result c.in_err-visit.field-0.0 _ c.from_residual.ensures.1 (record {
+      tree = here.tree;
+      is = c.in_err-visit.ensures.err here.tree here.denotes;
+      typed = λ typed.
+          let root = (subst (λ l. Pending settled related r s c.args.arena.now c.loop-turn.arena l roots) popped (inv.pending typed)).waiting.0 in
+          memory_alone _ root.typed c.in_err-visit.field-0.0 root.is (c.in_err-visit.ensures.err root.tree root.denotes);
+    })

@@ -13,13 +13,13 @@ use Rattle.plan_arena.specs.declared.aexpr.AExpr.{AExpr}
 use Rattle.plan_arena.specs.declared.aexpr.AExpr.TheVariants.{Column, Literal}
 use Rattle.plan_arena.specs.Denotation.{Denotes}
 use Rattle.plan_arena.specs.Layers.{layer}
-use Rattle.plan_arena.specs.Items.{HoldsExpression, HoldsFrom}
+use Rattle.plan_arena.specs.Items.{HoldsExpression}
 use Rattle.plan_arena.proofs.ItemLemmas.{got_held}
-use Rattle.plan_coerce.specs.Coercion.{DenotesSame, coerced}
+use Rattle.plan_coerce.specs.Optimizer.{DenotesLike}
+use Rattle.plan_coerce.specs.Rules.{HasSameCasts}
 use Rattle.plan_infer.specs.Samples.{int8, int32, int64, columns_of, two_columns, of_type, a, b, binary, cast_to, sum, pair, columns_and, sum_items}
 use Rattle.plan_coerce.specs.Samples.{strict_sum, cast_of, strict_items}
-use Rattle.plan_infer.proofs.ExampleLemmas.{one_tree}
-use Rattle.plan_coerce.proofs.ExampleLemmas.{strict_root, same_tree, other_name, other_label}
+use Rattle.plan_coerce.proofs.ExampleLemmas.{one_denoted, strict_root, same_tree, other_name, other_label}
 use Rattle.plan_coerce.proofs.examples.coercions.coerced_sums.Goals as goal
 
 abbrev wide : List AExpr
@@ -28,35 +28,35 @@ wide = columns_and (pair 3 Plus 4 ∷ cast_of 0 dtype.Int64 ∷ cast_of 1 dtype.
 abbrev turned : List AExpr
 turned = columns_and (pair 1 Plus 3 ∷ cast_of 0 dtype.Int32 ∷ [])
 
-column_denotes : (items : List AExpr) (n : ℕ) (name : Name) → slice_get items n ≡ Some (Column name) → Denotes (HoldsFrom 0 items) n (node (ColumnOp name) no_more)
-column_denotes items n name got = ([], (omega arith, got_held items n (Column name) (ColumnOp name) [] got refl), tt)
+column_denotes : (items : List AExpr) (n : ℕ) (name : Name) → slice_get items n ≡ Some (Column name) → Denotes (HoldsExpression items) n (node (ColumnOp name) no_more)
+column_denotes items n name got = ([], got_held items n (Column name) (ColumnOp name) [] got refl, tt)
 
-before_denotes : Denotes (HoldsFrom 0 sum_items) 2 sum
-before_denotes = (0 ∷ 1 ∷ [], (omega arith, refl), (column_denotes sum_items 0 (codes "a") refl, (column_denotes sum_items 1 (codes "b") refl, tt)))
+before_denotes : Denotes (HoldsExpression sum_items) 2 sum
+before_denotes = (0 ∷ 1 ∷ [], refl, (column_denotes sum_items 0 (codes "a") refl, (column_denotes sum_items 1 (codes "b") refl, tt)))
 
-after_denotes : Denotes (HoldsFrom 0 strict_items) 2 strict_sum
-after_denotes = (3 ∷ 1 ∷ [], (omega arith, refl), ((0 ∷ [], (omega arith, refl), (column_denotes strict_items 0 (codes "a") refl, tt)), (column_denotes strict_items 1 (codes "b") refl, tt)))
+after_denotes : Denotes (HoldsExpression strict_items) 2 strict_sum
+after_denotes = (3 ∷ 1 ∷ [], refl, ((0 ∷ [], refl, (column_denotes strict_items 0 (codes "a") refl, tt)), (column_denotes strict_items 1 (codes "b") refl, tt)))
 
-wide_denotes : Denotes (HoldsFrom 0 wide) 2 (binary Plus (cast_to int64 a) (cast_to int64 b))
-wide_denotes = (3 ∷ 4 ∷ [], (omega arith, refl), ((0 ∷ [], (omega arith, refl), (column_denotes wide 0 (codes "a") refl, tt)), ((1 ∷ [], (omega arith, refl), (column_denotes wide 1 (codes "b") refl, tt)), tt)))
+wide_denotes : Denotes (HoldsExpression wide) 2 (binary Plus (cast_to int64 a) (cast_to int64 b))
+wide_denotes = (3 ∷ 4 ∷ [], refl, ((0 ∷ [], refl, (column_denotes wide 0 (codes "a") refl, tt)), ((1 ∷ [], refl, (column_denotes wide 1 (codes "b") refl, tt)), tt)))
 
-turned_denotes : Denotes (HoldsFrom 0 turned) 2 (binary Plus b (cast_to int32 a))
-turned_denotes = (1 ∷ 3 ∷ [], (omega arith, refl), (column_denotes turned 1 (codes "b") refl, ((0 ∷ [], (omega arith, refl), (column_denotes turned 0 (codes "a") refl, tt)), tt)))
+turned_denotes : Denotes (HoldsExpression turned) 2 (binary Plus b (cast_to int32 a))
+turned_denotes = (1 ∷ 3 ∷ [], refl, (column_denotes turned 1 (codes "b") refl, ((0 ∷ [], refl, (column_denotes turned 0 (codes "a") refl, tt)), tt)))
 
 no_item : {A : Type 0} (n : ℕ) (x : A) → slice_get [] n ≡ Some x → ⊥
 no_item n x e = cc
 
-no_node : (n : ℕ) (t : Expression) → Denotes (HoldsFrom 0 sum_items) (suc (suc (suc n))) t → ⊥
-no_node n (node op ts) d = no_item n _ d.1.1
+no_node : (n : ℕ) (t : Expression) → Denotes (HoldsExpression sum_items) (suc (suc (suc n))) t → ⊥
+no_node n (node op ts) d = no_item n _ d.1
 
 -- the columns stay, and the sum becomes one that says the same
-kept : (n : ℕ) (t : Expression) → Denotes (HoldsFrom 0 sum_items) n t → DenotesSame [] two_columns 0 strict_items n t
-kept zero t d = subst (DenotesSame [] two_columns 0 strict_items 0) (sym (one_tree 0 sum_items 0 t a d (column_denotes sum_items 0 (codes "a") refl)))
-    (record { tree = a; denotes = column_denotes strict_items 0 (codes "a") refl; same = record { same = record { typing = refl; name = refl; meaning = λ rows. refl }; casts = refl } })
-kept (suc zero) t d = subst (DenotesSame [] two_columns 0 strict_items 1) (sym (one_tree 0 sum_items 1 t b d (column_denotes sum_items 1 (codes "b") refl)))
-    (record { tree = b; denotes = column_denotes strict_items 1 (codes "b") refl; same = record { same = record { typing = refl; name = refl; meaning = λ rows. refl }; casts = refl } })
-kept (suc (suc zero)) t d = subst (DenotesSame [] two_columns 0 strict_items 2) (sym (one_tree 0 sum_items 2 t sum d before_denotes))
-    (record { tree = strict_sum; denotes = after_denotes; same = record { same = record { typing = refl; name = refl; meaning = λ rows. refl }; casts = refl } })
+kept : (n : ℕ) (t : Expression) → Denotes (HoldsExpression sum_items) n t → DenotesLike (HasSameCasts [] two_columns) [] two_columns strict_items n t
+kept zero t d = subst (DenotesLike (HasSameCasts [] two_columns) [] two_columns strict_items 0) (sym (one_denoted sum_items 0 t a d (column_denotes sum_items 0 (codes "a") refl)))
+    (record { tree = a; denotes = column_denotes strict_items 0 (codes "a") refl; like = record { same = record { typing = refl; name = refl; meaning = λ rows. refl }; relates = refl } })
+kept (suc zero) t d = subst (DenotesLike (HasSameCasts [] two_columns) [] two_columns strict_items 1) (sym (one_denoted sum_items 1 t b d (column_denotes sum_items 1 (codes "b") refl)))
+    (record { tree = b; denotes = column_denotes strict_items 1 (codes "b") refl; like = record { same = record { typing = refl; name = refl; meaning = λ rows. refl }; relates = refl } })
+kept (suc (suc zero)) t d = subst (DenotesLike (HasSameCasts [] two_columns) [] two_columns strict_items 2) (sym (one_denoted sum_items 2 t sum d before_denotes))
+    (record { tree = strict_sum; denotes = after_denotes; like = record { same = record { typing = refl; name = refl; meaning = λ rows. refl }; relates = refl } })
 kept (suc (suc (suc n))) t d = absurd (no_node n t d)
 
 pub returns-clause-cast : goal.returns-clause-cast
@@ -64,20 +64,19 @@ returns-clause-cast c = record {
   below = λ n op inputs absent h. absurd (absent (omega arith));
   trees = kept;
   strict = ((strict_sum, after_denotes, refl), tt);
-  casts = ((λ t d. subst (λ u. Denotes (HoldsFrom 0 strict_items) 2 (coerced [] two_columns u)) (sym (one_tree 0 sum_items 2 t sum d before_denotes)) after_denotes), tt);
 }
 
 pub returns-clause-unchanged : goal.returns-clause-unchanged
 returns-clause-unchanged c = λ coerced.
     let type = int32 in
-    let strict = strict_root [] two_columns 0 sum_items 2 sum coerced.strict.0 before_denotes in
+    let strict = strict_root [] two_columns sum_items 2 sum coerced.strict.0 before_denotes in
     let same : false ≡ true = strict in
     cc
 
 pub returns-clause-both_to_another_type : goal.returns-clause-both_to_another_type
 returns-clause-both_to_another_type c = λ coerced.
     let tree = binary Plus (cast_to int64 a) (cast_to int64 b) in
-    let same = same_tree [] two_columns 0 wide 2 sum tree (coerced.trees 2 sum before_denotes) wide_denotes in
+    let same = same_tree (HasSameCasts [] two_columns) [] two_columns wide 2 sum tree (coerced.trees 2 sum before_denotes) wide_denotes in
     let one = ok_same (typing [] two_columns tree) (of_type int64) (of_type int32) refl same.typing in
     let differs : true ≡ false = ap (λ t. same_type int64 t.type) one in
     cc
@@ -85,12 +84,12 @@ returns-clause-both_to_another_type c = λ coerced.
 -- the sum has the name of the other column
 pub returns-clause-turned_round : goal.returns-clause-turned_round
 returns-clause-turned_round c = λ coerced.
-    other_label (same_tree [] two_columns 0 turned 2 sum (binary Plus b (cast_to int32 a)) (coerced.trees 2 sum before_denotes) turned_denotes).name
+    other_label (same_tree (HasSameCasts [] two_columns) [] two_columns turned 2 sum (binary Plus b (cast_to int32 a)) (coerced.trees 2 sum before_denotes) turned_denotes).name
 
 pub returns-clause-number_left : goal.returns-clause-number_left
 returns-clause-number_left c = λ coerced.
     let op = LiteralOp (Untyped (pos 5)) (IntValue (pos 5)) in
-    let strict = strict_root [] [] 0 (Literal (Int (pos 5)) ∷ []) 0 (node op no_more) coerced.strict.0 ([], (omega arith, refl), tt) in
+    let strict = strict_root [] [] (Literal (Int (pos 5)) ∷ []) 0 (node op no_more) coerced.strict.0 ([], refl, tt) in
     let known : false ≡ true = strict in
     cc
 
@@ -102,18 +101,11 @@ returns-clause-item_below c = λ coerced.
     other_name (column_name (codes "b") (codes "a") (coerced.below 0 (ColumnOp (codes "a")) [] (λ le. omega (arith, le)) refl))
 
 pub returns-clause-nothing_done : goal.returns-clause-nothing_done
-returns-clause-nothing_done c = record {
-  below = λ n op inputs lower h. h;
-  trees = λ n t d. record { tree = t; denotes = d; same = record { same = record { typing = refl; name = refl; meaning = λ rows. refl }; casts = refl } };
-}
-
-pub returns-clause-other_item_below : goal.returns-clause-other_item_below
-returns-clause-other_item_below c = λ stays.
-    other_name (column_name (codes "b") (codes "a") (stays.below 0 (ColumnOp (codes "a")) [] (λ le. omega (arith, le)) refl))
+returns-clause-nothing_done c = λ n t d. record { tree = t; denotes = d; like = record { same = record { typing = refl; name = refl; meaning = λ rows. refl }; relates = refl } }
 
 pub returns-clause-other_tree : goal.returns-clause-other_tree
 returns-clause-other_tree c = λ stays.
-    other_label (same_tree [] (columns_of int8 int8) 0 (Column (codes "b") ∷ []) 0 a b (stays.trees 0 a ([], (omega arith, refl), tt)) ([], (omega arith, refl), tt)).name
+    other_label (same_tree (HasSameCasts [] (columns_of int8 int8)) [] (columns_of int8 int8) (Column (codes "b") ∷ []) 0 a b (stays 0 a ([], refl, tt)) ([], refl, tt)).name
 
 kept_first : (n : ℕ) (op : Op) (inputs : List ℕ) → ¬ (1 ≤ n) → HoldsExpression (columns_and []) n op inputs → HoldsExpression (Column (codes "a") ∷ Column (codes "c") ∷ []) n op inputs
 kept_first zero op inputs below h = h
@@ -123,8 +115,8 @@ pub returns-clause-items_below : goal.returns-clause-items_below
 returns-clause-items_below c = kept_first
 
 pub returns-clause-same : goal.returns-clause-same
-returns-clause-same c = record { tree = a; denotes = ([], (omega arith, refl), tt); same = record { same = record { typing = refl; name = refl; meaning = λ rows. refl }; casts = refl } }
+returns-clause-same c = record { tree = a; denotes = ([], refl, tt); like = record { same = record { typing = refl; name = refl; meaning = λ rows. refl }; relates = refl } }
 
 pub returns-clause-not_same : goal.returns-clause-not_same
 returns-clause-not_same c = λ found.
-    other_label (same_tree [] (columns_of int8 int8) 0 (Column (codes "b") ∷ []) 0 a b found ([], (omega arith, refl), tt)).name
+    other_label (same_tree (HasSameCasts [] (columns_of int8 int8)) [] (columns_of int8 int8) (Column (codes "b") ∷ []) 0 a b found ([], refl, tt)).name

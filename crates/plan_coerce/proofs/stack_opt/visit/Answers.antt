@@ -1,0 +1,32 @@
+use Rattle.std.proofs.Common.{arith, inr}
+use Rattle.plan_types.specs.Schemas.{columns}
+use Rattle.plan_dsl.specs.Registry.{registry}
+use Rattle.plan_arena.specs.Items.{numbers}
+use Rattle.plan_coerce.specs.Turns.{finds, places}
+use Rattle.plan_coerce.proofs.StackLemmas.{pushed, pushed_one}
+use Rattle.plan_coerce.proofs.TurnLemmas.{found_now, on_ok, on_refusal, placed_now, some_said}
+use Rattle.plan_coerce.proofs.stack_opt.visit.Goals as goal
+
+pub returns-in-None-clause-ok : goal.returns-in-None-clause-ok
+returns-in-None-clause-ok g c = on_ok c.push_inputs.result c.push_inputs.ensures.ok (λ stacked. finds
+    (found_now _ _ _ _ _ _ _ _ _ c.in-None.is c.in_ok-optimize_expr.ensures.grows c.in_ok-optimize_expr.ensures.answer)
+    (pushed c.optimize_expr.new.expr_arena c.args.node.0 c.get.result.now (numbers c.args.stack.now.items) (numbers c.push_inputs.new.nodes.items) c.get.ensures stacked)
+    c.tick.ensures)
+
+pub returns-in_ok-push-in-Some-clause-ok : goal.returns-in_ok-push-in-Some-clause-ok
+returns-in_ok-push-in-Some-clause-ok g c =
+    let made = c.in_ok-optimize_expr.ensures in
+    places (placed_now _ _ _ _ _ _ _ _ _ _ _ _ c.in-Some.is made.grows c.put_in_place.ensures.item made.answer made.numbers made.reaches made.once) (pushed_one _ _ _ c.in_ok-push-in-Some.ensures.ok) (omega (arith, c.tick.ensures, c.tick-in-Some.ensures))
+
+pub returns-in_ok-push-in-Some-clause-right : goal.returns-in_ok-push-in-Some-clause-right
+returns-in_ok-push-in-Some-clause-right g c =
+    c.put_in_place.ensures.right (registry c.args.udfs.now) (columns c.args.schema.now) (some_said _ _ c.in_ok-optimize_expr.field-0 c.in-Some.item c.in-Some.is c.in_ok-optimize_expr.ensures.placed)
+
+pub returns-in_err-push-in-Some-clause-stopped : goal.returns-in_err-push-in-Some-clause-stopped
+returns-in_err-push-in-Some-clause-stopped g c =
+    let made = c.in_ok-optimize_expr.ensures in
+    on_refusal c.from_residual-in_err-push-in-Some.result (inr (placed_now _ _ _ _ _ _ _ _ _ _ _ _ c.in-Some.is made.grows c.put_in_place.ensures.item made.answer made.numbers made.reaches made.once))
+
+pub returns-in_err-push-in-Some-clause-right : goal.returns-in_err-push-in-Some-clause-right
+returns-in_err-push-in-Some-clause-right g c =
+    c.put_in_place.ensures.right (registry c.args.udfs.now) (columns c.args.schema.now) (some_said _ _ c.in_ok-optimize_expr.field-0 c.in-Some.item c.in-Some.is c.in_ok-optimize_expr.ensures.placed)

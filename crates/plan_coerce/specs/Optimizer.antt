@@ -1,0 +1,132 @@
+-- What coercion by a rule leaves of two arenas, from roots on.
+use Rattle.std.specs.Prelude.{◌≡◌, ◌⊎◌, ℕ, Bool, true, List, [], ◌∷◌, ◌++◌, map, reverse, slice_get, option_map, unwrap_or, Ok}
+use Rattle.std.specs.List.{AllByRecursion}
+use Rattle.plan_types.specs.Errors.{IsRefusal, no_memory}
+use Rattle.plan_types.specs.Types.{is_known}
+use Rattle.plan_types.specs.Schemas.{Columns}
+use Rattle.plan_types.specs.declared.error.PlanError.{PlanError}
+use Rattle.plan_dsl.specs.Registry.{Registry}
+use Rattle.plan_dsl.specs.Ops.{Op, Expression}
+use Rattle.plan_dsl.specs.Trees.{Trees, node, no_more, more}
+use Rattle.plan_dsl.specs.Plans.{Named, PlanKind, FilterKind}
+use Rattle.plan_dsl.specs.Strictness.{IsStrict}
+use Rattle.plan_dsl.specs.Typing.{Typed, typing}
+use Rattle.plan_arena.specs.declared.aexpr.AExpr.{AExpr}
+use Rattle.plan_arena.specs.declared.ir.IR.{IR}
+use Rattle.plan_arena.specs.Denotation.{Denotes, DenotesTree}
+use Rattle.plan_arena.specs.Items.{HoldsExpression, expression_layer, numbers, passed}
+use Rattle.plan_coerce.specs.declared.stack_opt.ConversionOptimizer.{ConversionOptimizer}
+use Rattle.plan_coerce.specs.Coercion.{KeepsBelow}
+use Rattle.plan_coerce.specs.Reaching.{AreOnce, HaveNodes, IsReached, Near}
+use Rattle.plan_coerce.specs.Rules.{HasSameCasts, Inputs, IsLike, IsPlanReplacement, SettlesNoNumber, StandsOver, seen}
+
+-- the nodes at which coercion starts, and these with their inputs
+abbrev pub roots_of : ConversionOptimizer → List ℕ
+roots_of optimizer = numbers optimizer.roots.items
+
+abbrev pub stacked : ConversionOptimizer → List ℕ
+stacked optimizer = numbers optimizer.scratch.items
+
+-- a node, and then its inputs, as passes go over them
+abbrev pub with_inputs : List AExpr → ℕ → List ℕ
+with_inputs items n = n ∷ reverse (unwrap_or (option_map passed (slice_get (map expression_layer items) n)) [])
+
+-- the same of each in turn
+abbrev pub all_with_inputs : List AExpr → List ℕ → List ℕ
+all_with_inputs items [] = []
+all_with_inputs items (n ∷ ns) = with_inputs items n ++ all_with_inputs items ns
+
+-- each node of the expression is settled
+abbrev mutual
+  pub IsSettled : (Op → Inputs → Bool) → Registry → Columns → Expression → Type 0
+  IsSettled settled registry schema (node op children) = (settled op (seen registry schema children) ≡ true) × AreSettled settled registry schema children
+
+  pub AreSettled : (Op → Inputs → Bool) → Registry → Columns → Trees Op → Type 0
+  AreSettled settled registry schema no_more = Unit
+  AreSettled settled registry schema (more child rest) = IsSettled settled registry schema child × AreSettled settled registry schema rest
+
+-- the node denotes an expression of which each node is settled
+pub record DenotesSettled (settled : Op → Inputs → Bool) (registry : Registry) (schema : Columns) (items : List AExpr) (n : ℕ) : Type 0 where
+  pub tree : Expression
+  pub denotes : Denotes (HoldsExpression items) n tree
+  pub each : IsSettled settled registry schema tree
+
+-- the node denotes an expression of the same type, name and meaning that is related
+pub record DenotesLike (related : Expression → Expression → Type 0) (registry : Registry) (schema : Columns) (items : List AExpr) (n : ℕ) (before : Expression) : Type 0 where
+  pub tree : Expression
+  pub denotes : Denotes (HoldsExpression items) n tree
+  pub like : IsLike related registry schema before tree
+
+-- so does each node of what it denoted
+abbrev pub StaysLike : (Expression → Expression → Type 0) → Registry → Columns → List AExpr → List AExpr → Type 0
+StaysLike related registry schema old new =
+    (n : ℕ) (t : Expression) → Denotes (HoldsExpression old) n t → DenotesLike related registry schema new n t
+
+-- a root that is typed; where no node over a number without a type is settled, it is no such number
+pub record IsTypedRoot (settled : Op → Inputs → Bool) (registry : Registry) (schema : Columns) (items : List AExpr) (n : ℕ) : Type 0 where
+  pub tree : Expression
+  pub denotes : Denotes (HoldsExpression items) n tree
+  pub typed : Typed
+  pub is : typing registry schema tree ≡ Ok typed
+  pub known : SettlesNoNumber settled → is_known typed.type ≡ true
+
+-- all of them are
+abbrev pub AreTypedRoots : (Op → Inputs → Bool) → Registry → Columns → List AExpr → List ℕ → Type 0
+AreTypedRoots settled registry schema items roots = AllByRecursion (IsTypedRoot settled registry schema items) roots
+
+-- the nodes denote finite trees
+abbrev pub AreTrees : List AExpr → List ℕ → Type 0
+AreTrees items ns = AllByRecursion (DenotesTree (HoldsExpression items)) ns
+
+-- each node that denoted a finite tree denotes one
+abbrev pub StaysFinite : List AExpr → List AExpr → Type 0
+StaysFinite old new = (n : ℕ) → DenotesTree (HoldsExpression old) n → DenotesTree (HoldsExpression new) n
+
+-- items that the roots don't reach stay
+abbrev pub StaysApart : List AExpr → List AExpr → List ℕ → Type 0
+StaysApart old new roots =
+    (n : ℕ) (op : Op) (inputs : List ℕ) → ¬ (IsReached old roots n) → HoldsExpression old n op inputs → HoldsExpression new n op inputs
+
+-- what the roots reach was added, or they reached it before
+abbrev pub ReachesNear : List AExpr → List AExpr → List ℕ → Type 0
+ReachesNear old new roots = (n : ℕ) → IsReached new roots n → Near old roots n
+
+-- the roots reach no node twice
+pub record AreApart (items : List AExpr) (roots : List ℕ) : Type 0 where
+  pub trees : Trees Op
+  pub nodes : List ℕ
+  pub have : HaveNodes items roots trees nodes
+  pub once : AreOnce nodes
+
+-- why coercion is refused: an expression's typing is, or memory is wanting. Over typed roots it is the latter
+pub record IsCoercionRefusal (settled : Op → Inputs → Bool) (registry : Registry) (schema : Columns) (items : List AExpr) (roots : List ℕ) (error : PlanError) : Type 0 where
+  pub tree : Expression
+  pub is : IsRefusal (typing registry schema tree) error
+  pub typed : AreTypedRoots settled registry schema items roots → error ≡ no_memory
+
+-- where the plan's node is a filter, the schema is the one that goes into it
+abbrev pub StaysOver : Registry → List AExpr → List IR → ℕ → Columns → Type 0
+StaysOver registry expressions plans n schema =
+    (predicate : Named Expression) (into : Columns) → StandsOver registry expressions plans n (FilterKind predicate) into → into ≡ schema
+
+-- the plan's node is settled
+abbrev pub IsSettledPlan : (Registry → Columns → PlanKind (Named Expression) → Bool) → Registry → List AExpr → List IR → ℕ → Type 0
+IsSettledPlan settled registry expressions plans n =
+    (kind : PlanKind (Named Expression)) (schema : Columns) → StandsOver registry expressions plans n kind schema → settled registry schema kind ≡ true
+
+-- the plan's node stays where it is settled, or another was put in its place
+abbrev pub IsPlanTurn : (Registry → Columns → PlanKind (Named Expression) → Bool) → Registry → List AExpr → List IR → List IR → ℕ → Type 0
+IsPlanTurn settled registry expressions old new n =
+    ((new ≡ old) × IsSettledPlan settled registry expressions old n) ⊎ IsPlanReplacement registry expressions old new n
+
+-- the other list begins with the first
+pub record IsBegun {T : Type 0} (old new : List T) : Type 0 where
+  pub more : List T
+  pub is : new ≡ old ++ more
+
+-- What coercion of these roots leaves: items below the number stay, each tree becomes one that says the same, and each
+-- root's is strict.
+pub record IsCoerced (registry : Registry) (schema : Columns) (first : ℕ) (old new : List AExpr) (roots : List ℕ) : Type 0 where
+  pub below : KeepsBelow first old new
+  pub trees : StaysLike (HasSameCasts registry schema) registry schema old new
+  pub strict : AllByRecursion (λ n. (t : Expression) × Denotes (HoldsExpression new) n t × IsStrict registry schema t) roots

@@ -1,0 +1,37 @@
+-- One turn of coercion, at one node.
+use Rattle.std.specs.Prelude.{◌≡◌, ◌+◌, ◌⊎◌, ℕ, Bool, true, false, List, [], ◌∷◌, ◌++◌, reverse, set, Option, Some, Ok}
+use Rattle.plan_types.specs.Types.{is_known}
+use Rattle.plan_types.specs.Schemas.{Columns}
+use Rattle.plan_dsl.specs.Registry.{Registry}
+use Rattle.plan_dsl.specs.Ops.{Op, Expression}
+use Rattle.plan_dsl.specs.Typing.{Typed, typing}
+use Rattle.plan_arena.specs.declared.aexpr.AExpr.{AExpr}
+use Rattle.plan_arena.specs.Denotation.{Denotes}
+use Rattle.plan_arena.specs.Items.{Grows, HoldsExpression}
+use Rattle.plan_coerce.specs.Reaching.{IsClosed, StaysOnce}
+use Rattle.plan_coerce.specs.Rules.{Inputs, IsReplacement, SettlesNoNumber, said}
+
+-- an item was put in place of the one at the node, and others were added for it
+pub record IsPlaced (settled : Op → Inputs → Bool) (measure : Op → Inputs → ℕ) (related : Expression → Expression → Type 0) (turns : Option ℕ) (registry : Registry) (schema : Columns) (old new : List AExpr) (at : ℕ) : Type 0 where
+  pub grown : List AExpr
+  pub grows : Grows old grown
+  pub item : AExpr
+  pub is : new ≡ set grown at item
+  pub answer : (t : Expression) → Denotes (HoldsExpression old) at t → IsReplacement related measure registry schema old new at t
+  pub numbers : (t : Expression) (typed : Typed) → Denotes (HoldsExpression old) at t → typing registry schema t ≡ Ok typed → is_known typed.type ≡ false → SettlesNoNumber settled
+  pub reaches : (n : ℕ) → turns ≡ Some n → IsClosed old (at ∷ []) new
+  pub once : (n : ℕ) → turns ≡ Some n → StaysOnce old new at
+
+-- the node was found settled, whatever was added
+pub record IsFound (settled : Op → Inputs → Bool) (registry : Registry) (schema : Columns) (old new : List AExpr) (at : ℕ) : Type 0 where
+  pub grows : Grows old new
+  pub is : (t : Expression) → Denotes (HoldsExpression old) at t → said settled registry schema t ≡ true
+
+-- A turn at a node that was taken from the stack: it is put back where an item was put in its place, else its inputs are.
+pub data IsTurn (settled : Op → Inputs → Bool) (measure : Op → Inputs → ℕ) (related : Expression → Expression → Type 0) (turns : Option ℕ) (registry : Registry) (schema : Columns) (old new : List AExpr) (at : ℕ) (rest stack : List ℕ) (before steps : ℕ) : Type 0 where
+  places : IsPlaced settled measure related turns registry schema old new at → stack ≡ rest ++ at ∷ [] → steps ≡ before + 2 → IsTurn settled measure related turns registry schema old new at rest stack before steps
+  finds : IsFound settled registry schema old new at → ((op : Op) (inputs : List ℕ) → HoldsExpression new at op inputs → stack ≡ rest ++ reverse inputs) → steps ≡ before + 1 → IsTurn settled measure related turns registry schema old new at rest stack before steps
+
+-- what a turn that was refused leaves
+abbrev pub IsStopped : (Op → Inputs → Bool) → (Op → Inputs → ℕ) → (Expression → Expression → Type 0) → Option ℕ → Registry → Columns → List AExpr → List AExpr → ℕ → Type 0
+IsStopped settled measure related turns registry schema old new at = Grows old new ⊎ IsPlaced settled measure related turns registry schema old new at
