@@ -1,9 +1,9 @@
 pub mod CoercedLemmas
 pub mod CoercionLemmas
 pub mod CoercionRuleLemmas
-mod CountLemmas
+pub mod CountLemmas
 pub mod ExampleLemmas
-mod NearLemmas
+pub mod NearLemmas
 pub mod OnceLemmas
 pub mod PlanNodeLemmas
 pub mod ReachLemmas
@@ -11,4 +11,4 @@ pub mod RightLemmas
 pub mod RootLemmas
 pub mod SettledLemmas
 pub mod StackLemmas
-mod TurnLemmas
+pub mod TurnLemmas

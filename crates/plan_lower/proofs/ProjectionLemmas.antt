@@ -27,9 +27,11 @@ use Rattle.plan_arena.specs.declared.expr_ir.ExprIR.{ExprIR}
 use Rattle.plan_arena.specs.Items.{HoldsFrom, HoldsExpression, Grows, DenoteNamed, named_node, expression_layer}
 use Rattle.plan_arena.specs.Layers.{shape_of, inputs_of}
 use Rattle.plan_arena.proofs.DenotationLemmas.{denotes_one}
-use Rattle.plan_arena.proofs.ItemLemmas.{any_node, tree_grown, from_laws, expression_laws, grown_held}
+use Rattle.plan_arena.proofs.ItemLemmas.{any_node, from_zero, tree_grown, expression_laws, grown_held}
 use Rattle.plan_infer.specs.Typed.{DenotesKnown}
-use Rattle.plan_coerce.specs.Coercion.{DenotesSame, KeepsBelow, IsCoerced}
+use Rattle.plan_coerce.specs.Coercion.{KeepsBelow}
+use Rattle.plan_coerce.specs.Optimizer.{IsCoerced, StaysLike}
+use Rattle.plan_coerce.specs.Rules.{HasSameCasts}
 use Rattle.plan_infer.proofs.TableLemmas.{still_kept}
 use Rattle.plan_infer.specs.KeptTypes.{IsKept, Extends}
 use Rattle.plan_lower.specs.Outputs.{Lowered, lowered_named, lowered_column, IsLowered, HasOutputs}
@@ -168,17 +170,17 @@ record HasLowered (registry : Registry) (schema : Columns) (items : List AExpr) 
   denotes : DenoteNamed items (map output_node outputs) (map lowered_named lowered)
 
 -- what stands for one output after coercion
-lowered_as : (registry : Registry) (schema : Columns) (first : ℕ) (old new : List AExpr) → ((n : ℕ) (t : Expression) → Denotes (HoldsFrom first old) n t → DenotesSame registry schema first new n t) → (o : Output) → IsOutput registry schema first old o → ((t : Expression) × Denotes (HoldsFrom first new) o.node t × IsStrict registry schema t) → (after : Expression) × IsLowered registry schema (record { tree = o.tree; typed = o.typed; after = after }) × Denotes (HoldsExpression new) o.node after
+lowered_as : (registry : Registry) (schema : Columns) (first : ℕ) (old new : List AExpr) → StaysLike (HasSameCasts registry schema) registry schema old new → (o : Output) → IsOutput registry schema first old o → ((t : Expression) × Denotes (HoldsExpression new) o.node t × IsStrict registry schema t) → (after : Expression) × IsLowered registry schema (record { tree = o.tree; typed = o.typed; after = after }) × Denotes (HoldsExpression new) o.node after
 lowered_as registry schema first old new become o is strict =
-    let same = become o.node (settled (core o.tree)) is.denotes in
-    let one = denotes_one _ (HoldsFrom first new) (from_laws first new) o.node strict.0 same.tree strict.1 same.denotes in
+    let same = become o.node (settled (core o.tree)) (any_node first old o.node (settled (core o.tree)) is.denotes) in
+    let one = denotes_one _ (HoldsExpression new) (expression_laws new) o.node strict.0 same.tree strict.1 same.denotes in
     let own = subst (IsStrict registry schema) one strict.2 in (
       same.tree,
-      record { typed = is.typed; same = same.same.same; strict = own; casts = sym (strict_coerced registry schema same.tree own) ∙ same.same.casts },
-      any_node first new o.node same.tree same.denotes,
+      record { typed = is.typed; same = same.like.same; strict = own; casts = sym (strict_coerced registry schema same.tree own) ∙ same.like.relates },
+      same.denotes,
     )
 
-has_lowered : (registry : Registry) (schema : Columns) (first : ℕ) (old new : List AExpr) → ((n : ℕ) (t : Expression) → Denotes (HoldsFrom first old) n t → DenotesSame registry schema first new n t) → (outputs : List Output) → AllByRecursion (IsOutput registry schema first old) outputs → AllByRecursion (λ n. (t : Expression) × Denotes (HoldsFrom first new) n t × IsStrict registry schema t) (map (λ (o : Output). o.node) outputs) → HasLowered registry schema new outputs
+has_lowered : (registry : Registry) (schema : Columns) (first : ℕ) (old new : List AExpr) → StaysLike (HasSameCasts registry schema) registry schema old new → (outputs : List Output) → AllByRecursion (IsOutput registry schema first old) outputs → AllByRecursion (λ n. (t : Expression) × Denotes (HoldsExpression new) n t × IsStrict registry schema t) (map (λ (o : Output). o.node) outputs) → HasLowered registry schema new outputs
 has_lowered registry schema first old new become [] all strict = record { lowered = []; trees_are = refl; columns_are = refl; each = tt; denotes = tt }
 has_lowered registry schema first old new become (o ∷ os) all strict =
     let here = lowered_as registry schema first old new become o all.0 strict.0 in
@@ -224,6 +226,12 @@ has_predicate registry schema first old new o node is truth name at coerced =
 pub root_typed : (registry : Registry) (schema : Columns) (first : ℕ) (items : List AExpr) (o : Output) (roots : List ℕ) → IsOutput registry schema first items o → roots ≡ o.node ∷ [] → AllByRecursion (DenotesKnown registry schema first items) roots
 root_typed registry schema first items o roots is at =
     subst (AllByRecursion (DenotesKnown registry schema first items)) (sym at) (record { tree = settled (core o.tree); denotes = is.denotes; has = record { typed = o.typed; is = is.typed; known = settled_known registry schema (core o.tree) o.typed is.typed } }, tt)
+
+-- nodes from a number on are nodes
+pub known_lower : (registry : Registry) (schema : Columns) (first : ℕ) (items : List AExpr) (roots : List ℕ) → AllByRecursion (DenotesKnown registry schema first items) roots → AllByRecursion (DenotesKnown registry schema 0 items) roots
+known_lower registry schema first items [] all = tt
+known_lower registry schema first items (n ∷ ns) all =
+    (record { tree = all.0.tree; denotes = from_zero items n all.0.tree (any_node first items n all.0.tree all.0.denotes); has = all.0.has }, known_lower registry schema first items ns all.1)
 
 pub refused_predicate : (registry : Registry) (schema : Columns) (tree : Expression) (error : PlanError) → IsRefusal (typing registry schema (settled (core tree))) error → IsPredicateRefusal registry schema tree error
 refused_predicate registry schema tree error (short e) = without_room e

@@ -1,5 +1,6 @@
 //! Lowering: expressions to nodes, and plans.
 
+mod coercion;
 mod drops;
 pub mod dsl_to_ir;
 pub mod expr_field;

@@ -15,8 +15,9 @@ ghost use Rattle.plan_infer.specs.KeptTypes.{AllKept, IsKept, IsRight, typed_of}
 ghost use Rattle.plan_expand.specs.Refusals.{IsUnexpanded};
 ghost use Rattle.plan_lower.specs.Groups.{HasAggregates, HasExpandedGroups, HasGroups, IsAggregateRefusal, IsGroupRefusal, IsUngrouped, named_in_groups};
 
+use crate::conversion::coercion::coerce_all;
 use crate::conversion::projection::{
-    Projection, coerce_all, expanded, project, project_in, room_for,
+    Projection, expanded, project, project_in, room_for,
 };
 use plan_arena::aexpr::AExpr;
 use plan_arena::arena::Arena;
@@ -146,7 +147,7 @@ fn aggregate_coerced(
 {
     let projection = project(aggs, schema, arena, udfs, ErrorKind::Duplicate, types)?;
     let whole = with_aggregates(keys, &projection.expr, types, arena.allocator())?;
-    coerce_all(&projection.expr, arena, types)?;
+    coerce_all(&projection.expr, arena, schema, udfs, types)?;
     Ok(Projection {
         expr: projection.expr,
         schema: whole,

@@ -1,23 +1,19 @@
 //! The predicate of a filter.
-ghost use Rattle.std.specs.Prelude.{◌≡◌, ◌≤◌, ℕ, List, [], ◌∷◌, true, length, IfOk, IfErr, OnOk};
-ghost use Rattle.std.specs.List.{AllByRecursion};
-ghost use Rattle.plan_types.specs.Errors.{no_memory};
-ghost use Rattle.plan_types.specs.Schemas.{Columns, columns};
+ghost use Rattle.std.specs.Prelude.{◌≡◌, ℕ, List, true, IfOk, IfErr};
+ghost use Rattle.plan_types.specs.Schemas.{columns};
 ghost use Rattle.plan_dsl.specs.Expressions.{plain_tree, tree_of};
 ghost use Rattle.plan_dsl.specs.Ops.{Op};
-ghost use Rattle.plan_dsl.specs.Registry.{Registry, registry};
+ghost use Rattle.plan_dsl.specs.Registry.{registry};
 ghost use Rattle.plan_dsl.specs.Sources.{is_plain};
 ghost use Rattle.plan_arena.specs.Items.{named_node, HoldsExpression};
-ghost use Rattle.plan_infer.specs.KeptTypes.{HasRightTypes, IsKept, IsRight};
-ghost use Rattle.plan_infer.specs.Typed.{DenotesKnown};
-ghost use Rattle.plan_coerce.specs.Coercion.{IsCoerced, KeepsBelow};
+ghost use Rattle.plan_infer.specs.KeptTypes.{IsRight};
 ghost use Rattle.plan_lower.specs.Predicates.{HasExpandedPredicate, HasPredicate, IsPredicateRefusal, IsUnfiltered};
 
+use crate::conversion::coercion::coerce_root;
 use crate::conversion::projection::add_typed;
 use plan_arena::aexpr::AExpr;
-use plan_arena::arena::{Arena, Node};
+use plan_arena::arena::Arena;
 use plan_arena::expr_ir::ExprIR;
-use plan_coerce::stack_opt::coerce_types;
 use plan_dsl::expr::Expr;
 use plan_dsl::udfs::Udfs;
 use plan_expand::expr_expansion::expand_filter;
@@ -25,7 +21,6 @@ use plan_infer::type_table::TypeTable;
 use plan_types::dtype::DataType;
 use plan_types::error::{ErrorKind, PlanError};
 use plan_types::schema::Schema;
-use smallvec::SmallVec;
 
 /// Expands a predicate over the schema, adds its nodes, types them over a frame of the schema, asks that it is of the
 /// type of truth values, and puts casts round operands.
@@ -85,29 +80,11 @@ fn lower_typed(
         drop(expr_ir);
         return Err(PlanError::at_top(ErrorKind::InvalidOperation));
     }
-    match coerce_root(expr_ir.node(), arena, types) {
+    match coerce_root(expr_ir.node(), arena, schema, udfs, types) {
         Ok(()) => Ok(expr_ir),
         Err(error) => {
             drop(expr_ir);
             Err(error)
         }
     }
-}
-
-// Puts casts round the operands of each node that the root reaches.
-fn coerce_root(root: Node, arena: &mut Arena<AExpr>, types: &mut TypeTable) -> Result<(), PlanError>
-    requires right { HasRightTypes arena.old types.old }
-    requires kept { IsKept types.old root.0 }
-    ensures ok { OnOk result ((registry : Registry) (schema : Columns) (first : ℕ) → IsRight registry schema arena.old types.old →
-        first ≤ length arena.old → AllByRecursion (DenotesKnown registry schema first arena.old) (root.0 ∷ []) →
-        IsCoerced registry schema first arena.old arena.new (root.0 ∷ [])) }
-    ensures below { (registry : Registry) (schema : Columns) (first : ℕ) → IsRight registry schema arena.old types.old →
-        first ≤ length arena.old → AllByRecursion (DenotesKnown registry schema first arena.old) (root.0 ∷ []) →
-        KeepsBelow first arena.old arena.new }
-    ensures err { IfErr result (λ error. error ≡ no_memory) }
-{
-    let mut stack = SmallVec::new(arena.allocator());
-    stack.push(root)?;
-    coerce_types(&mut stack, arena, types)?;
-    Ok(())
 }

@@ -1,39 +1,36 @@
 //! The expressions of one node, lowered together.
-ghost use Rattle.std.specs.Prelude.{◌≡◌, ◌≢◌, ◌≤◌, ℕ, List, [], true, Ok, OnOk, IfOk, IfErr, IfSome, length, map};
+ghost use Rattle.std.specs.Prelude.{◌≡◌, ◌≢◌, ℕ, List, [], true, Ok, OnOk, IfOk, IfErr, IfSome, length, map};
 ghost use Rattle.std.specs.List.{AllByRecursion, list_all};
 ghost use Rattle.std.specs.Option.{option_map_or};
 ghost use Rattle.plan_types.specs.Errors.{no_memory, IsRefusal};
-ghost use Rattle.plan_types.specs.Schemas.{Columns, columns};
+ghost use Rattle.plan_types.specs.Schemas.{columns};
 ghost use Rattle.plan_dsl.specs.Aliases.{core};
 ghost use Rattle.plan_dsl.specs.Expansion.{expansions};
 ghost use Rattle.plan_dsl.specs.Expressions.{plain_tree, plain_trees, tree_of, trees_of};
 ghost use Rattle.plan_dsl.specs.Literals.{settled};
 ghost use Rattle.plan_dsl.specs.Names.{label_of};
 ghost use Rattle.plan_dsl.specs.Ops.{Expression, Op};
-ghost use Rattle.plan_dsl.specs.Registry.{Registry, registry};
+ghost use Rattle.plan_dsl.specs.Registry.{registry};
 ghost use Rattle.plan_dsl.specs.Sources.{is_plain};
 ghost use Rattle.plan_dsl.specs.Typing.{typing};
 ghost use Rattle.plan_arena.specs.Denotation.{Denotes};
-ghost use Rattle.plan_arena.specs.Items.{named_node, numbers, output_label, Grows, HoldsExpression, HoldsFrom};
+ghost use Rattle.plan_arena.specs.Items.{named_node, output_label, Grows, HoldsExpression, HoldsFrom};
 ghost use Rattle.plan_infer.specs.KeptTypes.{Extends, HasRightTypes, IsKept, IsRight};
-ghost use Rattle.plan_infer.specs.Typed.{DenotesKnown};
-ghost use Rattle.plan_coerce.specs.Coercion.{IsCoerced, KeepsBelow};
 ghost use Rattle.plan_expand.specs.Refusals.{IsUnexpanded};
 ghost use Rattle.plan_lower.specs.Outputs.{HasExpandedOutputs, HasOutputs};
 ghost use Rattle.plan_lower.specs.Projection.{Projects, AddsOutput, IsOutputRefusal, IsProjectionRefusal, IsUnprojected};
 
+use crate::conversion::coercion::coerce_all;
 use crate::conversion::expr_to_ir::{add_nodes, alias_name, settle};
-use plan_arena::aexpr::{AExpr, Nodes};
+use plan_arena::aexpr::AExpr;
 use plan_arena::arena::{Arena, Node};
 use plan_arena::expr_ir::{ExprIR, ExprIRs, OutputName};
-use plan_coerce::stack_opt::coerce_types;
 use plan_dsl::expr::{Expr, Exprs};
 use plan_dsl::udfs::Udfs;
 use plan_expand::expr_expansion::rewrite_projections;
 use plan_infer::type_table::TypeTable;
 use plan_types::error::{ErrorKind, PlanError};
 use plan_types::schema::Schema;
-use smallvec::SmallVec;
 use std::alloc::Global;
 
 // So many nodes has an operator over two columns that are both cast.
@@ -133,46 +130,13 @@ fn project_coerced(
     ensures err { IfErr result (IsProjectionRefusal (registry udfs.now) (columns schema.now) twice (plain_trees exprs)) }
 {
     let projection = project(exprs, schema, arena, udfs, twice, types)?;
-    match coerce_all(&projection.expr, arena, types) {
+    match coerce_all(&projection.expr, arena, schema, udfs, types) {
         Ok(()) => Ok(projection),
         Err(error) => {
             drop(projection);
             Err(error)
         }
     }
-}
-
-/// Puts casts round the operands of each node that the expressions reach.
-pub(crate) fn coerce_all(
-    exprs: &ExprIRs,
-    arena: &mut Arena<AExpr>,
-    types: &mut TypeTable,
-) -> Result<(), PlanError>
-    requires right { HasRightTypes arena.old types.old }
-    requires kept { AllByRecursion (IsKept types.old) (map (λ e. (named_node e).expression) exprs.now.items.items) }
-    ensures ok { OnOk result ((registry : Registry) (schema : Columns) (first : ℕ) → IsRight registry schema arena.old types.old →
-        first ≤ length arena.old → AllByRecursion (DenotesKnown registry schema first arena.old) (map (λ e. (named_node e).expression) exprs.now.items.items) →
-        IsCoerced registry schema first arena.old arena.new (map (λ e. (named_node e).expression) exprs.now.items.items)) }
-    ensures below { (registry : Registry) (schema : Columns) (first : ℕ) → IsRight registry schema arena.old types.old →
-        first ≤ length arena.old → AllByRecursion (DenotesKnown registry schema first arena.old) (map (λ e. (named_node e).expression) exprs.now.items.items) →
-        KeepsBelow first arena.old arena.new }
-    ensures err { IfErr result (λ error. error ≡ no_memory) }
-{
-    let mut stack = roots_of(exprs, arena.allocator())?;
-    coerce_types(&mut stack, arena, types)?;
-    Ok(())
-}
-
-// The nodes of the expressions.
-fn roots_of(exprs: &ExprIRs, alloc: Global) -> Result<Nodes, PlanError>
-    ensures ok { IfOk result (λ stack. numbers stack.items ≡ map (λ e. (named_node e).expression) exprs.now.items.items) }
-    ensures err { IfErr result (λ error. error ≡ no_memory) }
-{
-    let mut stack = SmallVec::new(alloc);
-    for expr in exprs.items.as_slice() {
-        stack.push(expr.node())?;
-    }
-    Ok(stack)
 }
 
 /// Adds the expressions' nodes, and types them over a frame of the schema. No casts are put in yet.

@@ -5,7 +5,7 @@ use Rattle.plan_types.specs.Schemas.{Name, columns, names_of, repeats}
 use Rattle.plan_dsl.specs.Registry.{registry}
 use Rattle.plan_arena.proofs.ItemLemmas.{grown_held, length-grown}
 use Rattle.plan_infer.specs.Typed.{DenotesKnown}
-use Rattle.plan_coerce.specs.Coercion.{IsCoerced}
+use Rattle.plan_coerce.specs.Optimizer.{IsCoerced}
 use Rattle.plan_lower.specs.Groups.{not_typed, twice}
 use Rattle.plan_lower.specs.Projection.{out_of_memory}
 use Rattle.plan_lower.proofs.GroupLemmas.{has_aggregates, name_at, named_names, projected_names}
@@ -14,8 +14,13 @@ use Rattle.plan_lower.proofs.conversion.groups.aggregate_coerced.Goals as goal
 
 pub coerce_all-requires : goal.coerce_all-requires
 coerce_all-requires c = record {
-  right = record { registry = registry c.args.udfs.now; schema = columns c.args.schema.now; right = c.in_ok-projection.ensures.right };
-  kept = c.in_ok-projection.ensures.kept;
+  right = c.in_ok-projection.ensures.right;
+  known =
+      let r = registry c.args.udfs.now in
+      let s = columns c.args.schema.now in
+      let p = c.in_ok-projection.ensures.ok in
+      let roots = roots_are c.in_ok-projection.projection.expr.items.items p.outputs p.nodes_are in
+      subst (AllByRecursion (DenotesKnown r s 0 c.project.new.arena)) (sym roots) (roots_typed r s 0 (length c.args.arena.now) c.project.new.arena (omega arith) p.outputs p.each);
 }
 
 pub returns-clause-ok : goal.returns-clause-ok
@@ -28,7 +33,7 @@ returns-clause-ok c =
     let own = roots_are exprs p.outputs p.nodes_are in
     let roots = own in
     let typed = subst (AllByRecursion (DenotesKnown r schema first c.project.new.arena)) (sym roots) (roots_typed r schema first first c.project.new.arena (omega arith) p.outputs p.each) in
-    let coerced = c.in_ok-coerce_all.ensures.ok r schema first c.in_ok-projection.ensures.right (length-grown _ _ c.in_ok-projection.ensures.grows) typed in
+    let coerced = c.in_ok-coerce_all.ensures.ok first typed in
     let outputs = has_outputs r schema first c.project.new.arena c.coerce_all.new.arena _ _ _ p (subst (IsCoerced r schema first c.project.new.arena c.coerce_all.new.arena) roots coerced) in
     has_aggregates r schema first c.project.new.arena c.coerce_all.new.arena c.project.new.types _ _ _ _ (columns c.args.keys) (columns c.in_ok-whole.whole) p outputs own c.in_ok-projection.ensures.right c.in_ok-projection.ensures.kept c.in_ok-whole.ensures.ok
 
@@ -40,7 +45,7 @@ returns-clause-kept c =
     let first = length c.args.arena.now in
     let roots = roots_are c.in_ok-projection.projection.expr.items.items p.outputs p.nodes_are in
     let typed = subst (AllByRecursion (DenotesKnown r schema first c.project.new.arena)) (sym roots) (roots_typed r schema first first c.project.new.arena (omega arith) p.outputs p.each) in
-    let coerced = c.in_ok-coerce_all.ensures.ok r schema first c.in_ok-projection.ensures.right (length-grown _ _ c.in_ok-projection.ensures.grows) typed in
+    let coerced = c.in_ok-coerce_all.ensures.ok first typed in
     earlier_kept c.args.arena.now c.project.new.arena c.coerce_all.new.arena c.in_ok-projection.ensures.grows coerced.below
 
 pub returns-in_err-projection-clause-kept : goal.returns-in_err-projection-clause-kept
@@ -57,7 +62,7 @@ returns-in_err-coerce_all-clause-kept c =
     let first = length c.args.arena.now in
     let roots = roots_are c.in_ok-projection.projection.expr.items.items p.outputs p.nodes_are in
     let typed = subst (AllByRecursion (DenotesKnown r schema first c.project.new.arena)) (sym roots) (roots_typed r schema first first c.project.new.arena (omega arith) p.outputs p.each) in
-    let stays = c.in_err-coerce_all.ensures.below r schema first c.in_ok-projection.ensures.right (length-grown _ _ c.in_ok-projection.ensures.grows) typed in
+    let stays = c.in_err-coerce_all.ensures.below first typed in
     earlier_kept c.args.arena.now c.project.new.arena c.coerce_all.new.arena c.in_ok-projection.ensures.grows stays
 
 pub returns-in_err-projection-clause-err : goal.returns-in_err-projection-clause-err

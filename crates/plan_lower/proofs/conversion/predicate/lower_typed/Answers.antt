@@ -7,9 +7,8 @@ use Rattle.plan_dsl.specs.Expressions.{plain_tree}
 use Rattle.plan_dsl.specs.Registry.{registry}
 use Rattle.plan_arena.specs.Items.{named_node}
 use Rattle.plan_arena.proofs.ItemLemmas.{grown_held, length-grown}
-use Rattle.plan_coerce.specs.Coercion.{IsCoerced}
-use Rattle.plan_lower.proofs.ProjectionLemmas.{one_output, root_typed, has_predicate, refused_predicate, other_type_refused, not_true, not_false, earlier_kept}
-use Rattle.plan_infer.specs.KeptTypes.{IsKept}
+use Rattle.plan_coerce.specs.Optimizer.{IsCoerced}
+use Rattle.plan_lower.proofs.ProjectionLemmas.{known_lower, one_output, root_typed, has_predicate, refused_predicate, other_type_refused, not_true, not_false, earlier_kept}
 use Rattle.plan_infer.proofs.TableLemmas.{kept_type, type_of}
 use Rattle.plan_lower.proofs.conversion.predicate.lower_typed.Goals as goal
 
@@ -35,7 +34,7 @@ returns-in-Ok-clause-ok c =
     let is = one_output r schema first c.add_typed.new.arena (plain_tree c.args.predicate) n c.node.result.0 (ty c.get.result.now.dtype) c.in_ok-expr_ir.ensures.denotes c.node.ensures (kept_type r schema c.add_typed.new.arena c.add_typed.new.types c.in_ok-expr_ir.ensures.right c.node.result.0 _ (type_of c.add_typed.new.types c.node.result.0 c.get.result.now c.get.ensures)) in
     let truth = same_type_exact (ty c.get.result.now.dtype) Truth (not_false _ (sym c.ne.ensures ∙ c.if-ne.false)) in
     let roots = ap (λ k. k ∷ []) c.node-2.ensures in
-    let coerced = c.in-Ok.ensures.ok r schema first c.in_ok-expr_ir.ensures.right (length-grown _ _ c.in_ok-expr_ir.ensures.grows) (root_typed r schema first c.add_typed.new.arena _ _ is.1 roots) in
+    let coerced = c.in-Ok.ensures.ok first (root_typed r schema first c.add_typed.new.arena _ _ is.1 roots) in
     has_predicate r schema first c.add_typed.new.arena c.coerce_root.new.arena _ (named_node c.in_ok-expr_ir.expr_ir) is.1 truth c.in_ok-expr_ir.ensures.name refl (subst (IsCoerced r schema first c.add_typed.new.arena c.coerce_root.new.arena) roots coerced)
 
 pub returns-in-Ok-clause-kept : goal.returns-in-Ok-clause-kept
@@ -46,14 +45,20 @@ returns-in-Ok-clause-kept c =
     let n = (named_node c.in_ok-expr_ir.expr_ir).expression in
     let is = one_output r schema first c.add_typed.new.arena (plain_tree c.args.predicate) n c.node.result.0 (ty c.get.result.now.dtype) c.in_ok-expr_ir.ensures.denotes c.node.ensures (kept_type r schema c.add_typed.new.arena c.add_typed.new.types c.in_ok-expr_ir.ensures.right c.node.result.0 _ (type_of c.add_typed.new.types c.node.result.0 c.get.result.now c.get.ensures)) in
     let roots = ap (λ k. k ∷ []) c.node-2.ensures in
-    let coerced = c.in-Ok.ensures.ok r schema first c.in_ok-expr_ir.ensures.right (length-grown _ _ c.in_ok-expr_ir.ensures.grows) (root_typed r schema first c.add_typed.new.arena _ _ is.1 roots) in
+    let coerced = c.in-Ok.ensures.ok first (root_typed r schema first c.add_typed.new.arena _ _ is.1 roots) in
     earlier_kept c.args.arena.now c.add_typed.new.arena c.coerce_root.new.arena c.in_ok-expr_ir.ensures.grows coerced.below
 
 pub coerce_root-requires : goal.coerce_root-requires
-coerce_root-requires c = record {
-  right = record { registry = registry c.args.udfs.now; schema = columns c.args.schema.now; right = c.in_ok-expr_ir.ensures.right };
-  kept = subst (IsKept c.add_typed.new.types) (sym c.node-2.ensures) c.in_ok-expr_ir.ensures.kept;
-}
+coerce_root-requires c =
+    let r = registry c.args.udfs.now in
+    let schema = columns c.args.schema.now in
+    let first = length c.args.arena.now in
+    let n = (named_node c.in_ok-expr_ir.expr_ir).expression in
+    let is = one_output r schema first c.add_typed.new.arena (plain_tree c.args.predicate) n c.node.result.0 (ty c.get.result.now.dtype) c.in_ok-expr_ir.ensures.denotes c.node.ensures (kept_type r schema c.add_typed.new.arena c.add_typed.new.types c.in_ok-expr_ir.ensures.right c.node.result.0 _ (type_of c.add_typed.new.types c.node.result.0 c.get.result.now c.get.ensures)) in
+    record {
+      right = c.in_ok-expr_ir.ensures.right;
+      known = known_lower r schema first c.add_typed.new.arena (c.node-2.result.0 ∷ []) (root_typed r schema first c.add_typed.new.arena _ _ is.1 (ap (λ k. k ∷ []) c.node-2.ensures));
+    }
 
 pub returns-in_err-expr_ir-clause-kept : goal.returns-in_err-expr_ir-clause-kept
 returns-in_err-expr_ir-clause-kept c = grown_held c.args.arena.now c.add_typed.new.arena c.add_typed.ensures.grows
@@ -69,5 +74,5 @@ returns-in-Err-clause-kept c =
     let n = (named_node c.in_ok-expr_ir.expr_ir).expression in
     let is = one_output r schema first c.add_typed.new.arena (plain_tree c.args.predicate) n c.node.result.0 (ty c.get.result.now.dtype) c.in_ok-expr_ir.ensures.denotes c.node.ensures (kept_type r schema c.add_typed.new.arena c.add_typed.new.types c.in_ok-expr_ir.ensures.right c.node.result.0 _ (type_of c.add_typed.new.types c.node.result.0 c.get.result.now c.get.ensures)) in
     let roots = ap (λ k. k ∷ []) c.node-2.ensures in
-    let stays = c.in-Err.ensures.below r schema first c.in_ok-expr_ir.ensures.right (length-grown _ _ c.in_ok-expr_ir.ensures.grows) (root_typed r schema first c.add_typed.new.arena _ _ is.1 roots) in
+    let stays = c.in-Err.ensures.below first (root_typed r schema first c.add_typed.new.arena _ _ is.1 roots) in
     earlier_kept c.args.arena.now c.add_typed.new.arena c.coerce_root.new.arena c.in_ok-expr_ir.ensures.grows stays

@@ -1,0 +1,125 @@
+//! Casts round the operands of what is lowered, by the rule of coercion.
+ghost use Rattle.std.specs.Prelude.{◌≡◌, ◌<◌, ℕ, [], ◌∷◌, map, IfErr, OnOk};
+ghost use Rattle.std.specs.List.{AllByRecursion};
+ghost use Rattle.plan_types.specs.Errors.{no_memory};
+ghost use Rattle.plan_types.specs.Schemas.{columns};
+ghost use Rattle.plan_dsl.specs.Registry.{registry};
+ghost use Rattle.plan_arena.specs.Items.{named_node};
+ghost use Rattle.plan_infer.specs.KeptTypes.{IsRight};
+ghost use Rattle.plan_infer.specs.Typed.{DenotesKnown};
+ghost use Rattle.plan_coerce.specs.Coercion.{KeepsBelow};
+ghost use Rattle.plan_coerce.specs.Optimizer.{IsCoerced, roots_of};
+
+use plan_arena::aexpr::AExpr;
+use plan_arena::arena::{Arena, Node};
+use plan_arena::expr_ir::ExprIRs;
+use plan_coerce::coercion_rule::TypeCoercionRule;
+use plan_coerce::stack_opt::ConversionOptimizer;
+use plan_dsl::udfs::Udfs;
+use plan_infer::steps::Steps;
+use plan_infer::type_table::TypeTable;
+use plan_types::error::PlanError;
+use plan_types::schema::Schema;
+use std::marker::Brand;
+use std::sync::ledger::{Blank, Ledger};
+
+/// Puts casts round the operands of each node that the expressions reach.
+pub(crate) fn coerce_all(
+    exprs: &ExprIRs,
+    arena: &mut Arena<AExpr>,
+    schema: &Schema,
+    udfs: &Udfs,
+    types: &mut TypeTable,
+) -> Result<(), PlanError>
+    requires right { IsRight (registry udfs.now) (columns schema.now) arena.old types.old }
+    requires known { AllByRecursion (DenotesKnown (registry udfs.now) (columns schema.now) 0 arena.old) (map (λ e. (named_node e).expression) exprs.now.items.items) }
+    ensures ok { OnOk result ((first : ℕ) → AllByRecursion (DenotesKnown (registry udfs.now) (columns schema.now) first arena.old) (map (λ e. (named_node e).expression) exprs.now.items.items) →
+        IsCoerced (registry udfs.now) (columns schema.now) first arena.old arena.new (map (λ e. (named_node e).expression) exprs.now.items.items)) }
+    ensures below { (first : ℕ) → AllByRecursion (DenotesKnown (registry udfs.now) (columns schema.now) first arena.old) (map (λ e. (named_node e).expression) exprs.now.items.items) →
+        KeepsBelow first arena.old arena.new }
+    ensures err { IfErr result (λ error. error ≡ no_memory) }
+{
+    let mut optimizer = ConversionOptimizer::new(arena.allocator());
+    optimizer.fill_scratch(exprs.items.as_slice(), arena)?;
+    coerce_stacked(optimizer, arena, schema, udfs, types)
+}
+
+/// The same of each node that a root reaches.
+pub(crate) fn coerce_root(
+    root: Node,
+    arena: &mut Arena<AExpr>,
+    schema: &Schema,
+    udfs: &Udfs,
+    types: &mut TypeTable,
+) -> Result<(), PlanError>
+    requires right { IsRight (registry udfs.now) (columns schema.now) arena.old types.old }
+    requires known { AllByRecursion (DenotesKnown (registry udfs.now) (columns schema.now) 0 arena.old) (root.0 ∷ []) }
+    ensures ok { OnOk result ((first : ℕ) → AllByRecursion (DenotesKnown (registry udfs.now) (columns schema.now) first arena.old) (root.0 ∷ []) →
+        IsCoerced (registry udfs.now) (columns schema.now) first arena.old arena.new (root.0 ∷ [])) }
+    ensures below { (first : ℕ) → AllByRecursion (DenotesKnown (registry udfs.now) (columns schema.now) first arena.old) (root.0 ∷ []) →
+        KeepsBelow first arena.old arena.new }
+    ensures err { IfErr result (λ error. error ≡ no_memory) }
+{
+    let mut optimizer = ConversionOptimizer::new(arena.allocator());
+    optimizer.push_scratch(root, arena)?;
+    coerce_stacked(optimizer, arena, schema, udfs, types)
+}
+
+// The same of what the stacked roots reach. Nobody counts the steps.
+fn coerce_stacked(
+    optimizer: ConversionOptimizer,
+    arena: &mut Arena<AExpr>,
+    schema: &Schema,
+    udfs: &Udfs,
+    types: &mut TypeTable,
+) -> Result<(), PlanError>
+    requires right { IsRight (registry udfs.now) (columns schema.now) arena.old types.old }
+    requires known { AllByRecursion (DenotesKnown (registry udfs.now) (columns schema.now) 0 arena.old) (roots_of optimizer) }
+    ensures ok { OnOk result ((first : ℕ) → AllByRecursion (DenotesKnown (registry udfs.now) (columns schema.now) first arena.old) (roots_of optimizer) →
+        IsCoerced (registry udfs.now) (columns schema.now) first arena.old arena.new (roots_of optimizer)) }
+    ensures below { (first : ℕ) → AllByRecursion (DenotesKnown (registry udfs.now) (columns schema.now) first arena.old) (roots_of optimizer) →
+        KeepsBelow first arena.old arena.new }
+    ensures err { IfErr result (λ error. error ≡ no_memory) }
+{
+    let typings = Blank::new(1);
+    let steps = Blank::new(1);
+    coerce_by::<Brand, Brand>(optimizer, arena, schema, udfs, types, typings, steps)
+}
+
+// The same, with ledgers of its own.
+fn coerce_by<M: Ledger, L: Ledger>(
+    optimizer: ConversionOptimizer,
+    arena: &mut Arena<AExpr>,
+    schema: &Schema,
+    udfs: &Udfs,
+    types: &mut TypeTable,
+    typings: Blank,
+    steps: Blank,
+) -> Result<(), PlanError>
+    requires name { typings.name ≡ M.name }
+    requires parts { typings.parts ≡ M.parts }
+    requires some { 0 < typings.parts }
+    requires steps_name { steps.name ≡ L.name }
+    requires steps_parts { steps.parts ≡ L.parts }
+    requires some_steps { 0 < steps.parts }
+    requires right { IsRight (registry udfs.now) (columns schema.now) arena.old types.old }
+    requires known { AllByRecursion (DenotesKnown (registry udfs.now) (columns schema.now) 0 arena.old) (roots_of optimizer) }
+    ensures ok { OnOk result ((first : ℕ) → AllByRecursion (DenotesKnown (registry udfs.now) (columns schema.now) first arena.old) (roots_of optimizer) →
+        IsCoerced (registry udfs.now) (columns schema.now) first arena.old arena.new (roots_of optimizer)) }
+    ensures below { (first : ℕ) → AllByRecursion (DenotesKnown (registry udfs.now) (columns schema.now) first arena.old) (roots_of optimizer) →
+        KeepsBelow first arena.old arena.new }
+    ensures err { IfErr result (λ error. error ≡ no_memory) }
+{
+    let mut optimizer = optimizer;
+    let mut typings = Steps::<M>::new(typings);
+    let mut steps = Steps::<L>::new(steps);
+    optimizer.coerce_expressions(
+        &TypeCoercionRule,
+        arena,
+        schema,
+        udfs,
+        types,
+        &mut typings,
+        &mut steps,
+    )
+}
