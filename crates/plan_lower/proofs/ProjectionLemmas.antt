@@ -1,5 +1,5 @@
 -- Projections, output by output.
-use Rattle.std.proofs.Common.{◌≡◌, ℕ, ◌≤◌, List, [], ◌∷◌, ◌++◌, length, map, Option, Some, None, Bool, true, false, not, is_some, refl, sym, ap, ◌∙◌, subst, arith, append_assoc, append-nil}
+use Rattle.std.proofs.Common.{◌≡◌, ℕ, ◌<◌, ◌≤◌, IfErr, Result, Ok, Err, List, [], ◌∷◌, ◌++◌, length, map, Option, Some, None, Bool, true, false, not, is_some, refl, sym, ap, ◌∙◌, subst, arith, append_assoc, append-nil}
 use Rattle.std.specs.List.{AllByRecursion}
 use Rattle.std.proofs.lemmas.List.{map-append, length-map}
 use Rattle.plan_types.proofs.ListLemmas.{map-map}
@@ -27,7 +27,7 @@ use Rattle.plan_arena.specs.declared.expr_ir.ExprIR.{ExprIR}
 use Rattle.plan_arena.specs.Items.{HoldsFrom, HoldsExpression, Grows, DenoteNamed, named_node, expression_layer}
 use Rattle.plan_arena.specs.Layers.{shape_of, inputs_of}
 use Rattle.plan_arena.proofs.DenotationLemmas.{denotes_one}
-use Rattle.plan_arena.proofs.ItemLemmas.{any_node, from_zero, tree_grown, expression_laws, grown_held}
+use Rattle.plan_arena.proofs.ItemLemmas.{any_node, from_zero, within, tree_grown, expression_laws, grown_held}
 use Rattle.plan_infer.specs.Typed.{DenotesKnown}
 use Rattle.plan_coerce.specs.Coercion.{KeepsBelow}
 use Rattle.plan_coerce.specs.Optimizer.{IsCoerced, StaysLike}
@@ -226,6 +226,16 @@ has_predicate registry schema first old new o node is truth name at coerced =
 pub root_typed : (registry : Registry) (schema : Columns) (first : ℕ) (items : List AExpr) (o : Output) (roots : List ℕ) → IsOutput registry schema first items o → roots ≡ o.node ∷ [] → AllByRecursion (DenotesKnown registry schema first items) roots
 root_typed registry schema first items o roots is at =
     subst (AllByRecursion (DenotesKnown registry schema first items)) (sym at) (record { tree = settled (core o.tree); denotes = is.denotes; has = record { typed = o.typed; is = is.typed; known = settled_known registry schema (core o.tree) o.typed is.typed } }, tt)
+
+-- a refusal for one reason is one for another
+pub refused_as : {T E : Type 0} (r : Result T E) (P Q : E → Type 0) → ((error : E) → P error → Q error) → IfErr r P → IfErr r Q
+refused_as (Ok x) P Q each h = tt
+refused_as (Err error) P Q each h = each error h
+
+-- typed nodes are in the arena
+pub known_within : (registry : Registry) (schema : Columns) (items : List AExpr) (roots : List ℕ) → AllByRecursion (DenotesKnown registry schema 0 items) roots → AllByRecursion (λ n. n < length items) roots
+known_within registry schema items [] all = tt
+known_within registry schema items (n ∷ ns) all = (within items n all.0.tree (any_node 0 items n all.0.tree all.0.denotes), known_within registry schema items ns all.1)
 
 -- nodes from a number on are nodes
 pub known_lower : (registry : Registry) (schema : Columns) (first : ℕ) (items : List AExpr) (roots : List ℕ) → AllByRecursion (DenotesKnown registry schema first items) roots → AllByRecursion (DenotesKnown registry schema 0 items) roots

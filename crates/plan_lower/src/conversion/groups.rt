@@ -16,9 +16,7 @@ ghost use Rattle.plan_expand.specs.Refusals.{IsUnexpanded};
 ghost use Rattle.plan_lower.specs.Groups.{HasAggregates, HasExpandedGroups, HasGroups, IsAggregateRefusal, IsGroupRefusal, IsUngrouped, named_in_groups};
 
 use crate::conversion::coercion::coerce_all;
-use crate::conversion::projection::{
-    Projection, expanded, project, project_in, room_for,
-};
+use crate::conversion::projection::{Projection, expanded, project, project_in, room_for};
 use plan_arena::aexpr::AExpr;
 use plan_arena::arena::Arena;
 use plan_arena::expr_ir::{ExprIR, ExprIRs};

@@ -3,7 +3,7 @@ use Rattle.std.specs.List.{AllByRecursion}
 use Rattle.plan_types.proofs.ResultLemmas.{passed_on}
 use Rattle.plan_types.specs.Schemas.{Name, columns, names_of, repeats}
 use Rattle.plan_dsl.specs.Registry.{registry}
-use Rattle.plan_arena.proofs.ItemLemmas.{grown_held, length-grown}
+use Rattle.plan_arena.proofs.ItemLemmas.{grown_held}
 use Rattle.plan_infer.specs.Typed.{DenotesKnown}
 use Rattle.plan_coerce.specs.Optimizer.{IsCoerced}
 use Rattle.plan_lower.specs.Groups.{not_typed, twice}

@@ -6,7 +6,7 @@ use Rattle.plan_types.proofs.ResultLemmas.{passed_on}
 use Rattle.plan_dsl.specs.Expressions.{plain_tree}
 use Rattle.plan_dsl.specs.Registry.{registry}
 use Rattle.plan_arena.specs.Items.{named_node}
-use Rattle.plan_arena.proofs.ItemLemmas.{grown_held, length-grown}
+use Rattle.plan_arena.proofs.ItemLemmas.{grown_held}
 use Rattle.plan_coerce.specs.Optimizer.{IsCoerced}
 use Rattle.plan_lower.proofs.ProjectionLemmas.{known_lower, one_output, root_typed, has_predicate, refused_predicate, other_type_refused, not_true, not_false, earlier_kept}
 use Rattle.plan_infer.proofs.TableLemmas.{kept_type, type_of}
