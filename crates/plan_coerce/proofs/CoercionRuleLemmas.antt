@@ -148,7 +148,7 @@ item_there items n t d =
     let lt = any_within items n t d in
     elim (slice_get items n) as (λ o. slice_get items n ≡ o → (item : AExpr) × (o ≡ Some item)) [ Some item ↦ λ e. (item, refl) | None ↦ λ e. absurd (none_there items n lt e) ] refl
 
-number_alone : (registry : Registry) (schema : Columns) (number : ℤ) (t : Expression) (many : Bool) → typing registry schema t ≡ Ok (record { type = Untyped number; many = many }) → (own : Ty) × (type_alone (Untyped number) ≡ Some own)
+pub number_alone : (registry : Registry) (schema : Columns) (number : ℤ) (t : Expression) (many : Bool) → typing registry schema t ≡ Ok (record { type = Untyped number; many = many }) → (own : Ty) × (type_alone (Untyped number) ≡ Some own)
 number_alone registry schema number t many h =
     let is = untyped_is_number registry schema number t many h in
     some_alone (type_alone (Untyped number)) (and_parts (is_literal_of (Untyped number) (IntValue number)) (is_some (type_alone (Untyped number))) is.literal).1

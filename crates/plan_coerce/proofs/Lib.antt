@@ -4,6 +4,7 @@ pub mod CoercionRuleLemmas
 pub mod CountLemmas
 pub mod ExampleLemmas
 pub mod NearLemmas
+pub mod NumberRootLemmas
 pub mod OnceLemmas
 pub mod PlanNodeLemmas
 pub mod ReachLemmas

@@ -1,10 +1,11 @@
 -- What coercion by a rule leaves of two arenas, from roots on.
-use Rattle.std.specs.Prelude.{◌≡◌, ◌⊎◌, ℕ, Bool, true, List, [], ◌∷◌, ◌++◌, map, reverse, slice_get, option_map, unwrap_or, Ok}
+use Rattle.std.specs.Prelude.{◌≡◌, ◌⊎◌, ℕ, ℤ, Bool, true, List, [], ◌∷◌, ◌++◌, map, reverse, slice_get, option_map, unwrap_or, Ok}
 use Rattle.std.specs.List.{AllByRecursion}
 use Rattle.plan_types.specs.Errors.{IsRefusal, no_memory}
-use Rattle.plan_types.specs.Types.{is_known}
+use Rattle.plan_types.specs.Types.{Untyped, is_known}
 use Rattle.plan_types.specs.Schemas.{Columns}
 use Rattle.plan_types.specs.declared.error.PlanError.{PlanError}
+use Rattle.plan_dsl.specs.Literals.{settled as with_own_type}
 use Rattle.plan_dsl.specs.Registry.{Registry}
 use Rattle.plan_dsl.specs.Ops.{Op, Expression}
 use Rattle.plan_dsl.specs.Trees.{Trees, node, no_more, more}
@@ -73,6 +74,19 @@ pub record IsTypedRoot (settled : Op → Inputs → Bool) (registry : Registry) 
 -- all of them are
 abbrev pub AreTypedRoots : (Op → Inputs → Bool) → Registry → Columns → List AExpr → List ℕ → Type 0
 AreTypedRoots settled registry schema items roots = AllByRecursion (IsTypedRoot settled registry schema items) roots
+
+-- What becomes of a root that is a number without a type, or stands over one by aliases: each node is settled, and the
+-- expression is like the one that has the type that the number has alone.
+pub record EndsTyped (settled : Op → Inputs → Bool) (related : Expression → Expression → Type 0) (registry : Registry) (schema : Columns) (items : List AExpr) (n : ℕ) (before : Expression) : Type 0 where
+  pub tree : Expression
+  pub denotes : Denotes (HoldsExpression items) n tree
+  pub each : IsSettled settled registry schema tree
+  pub like : IsLike related registry schema (with_own_type before) (with_own_type tree)
+
+-- so of a root that stands alone, where no node over such a number is settled
+abbrev pub TypesNumber : (Op → Inputs → Bool) → (Expression → Expression → Type 0) → Registry → Columns → List AExpr → List AExpr → List ℕ → Type 0
+TypesNumber settled related registry schema old new roots =
+    (root : ℕ) (number : ℤ) (many : Bool) (t : Expression) → SettlesNoNumber settled → roots ≡ root ∷ [] → Denotes (HoldsExpression old) root t → typing registry schema t ≡ Ok (record { type = Untyped number; many = many }) → EndsTyped settled related registry schema new root t
 
 -- the nodes denote finite trees
 abbrev pub AreTrees : List AExpr → List ℕ → Type 0

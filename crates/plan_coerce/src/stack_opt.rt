@@ -10,7 +10,7 @@ ghost use Rattle.plan_dsl.specs.Typing.{typing};
 ghost use Rattle.plan_arena.specs.Denotation.{Denotes, DenotesTree};
 ghost use Rattle.plan_arena.specs.Items.{HoldsExpression, named_node, numbers};
 ghost use Rattle.plan_infer.specs.KeptTypes.{IsRight};
-ghost use Rattle.plan_coerce.specs.Optimizer.{AreApart, AreTrees, AreTypedRoots, DenotesSettled, IsCoercionRefusal, IsBegun, IsPlanTurn, ReachesNear, StaysApart, StaysFinite, StaysLike, StaysOver, all_with_inputs, roots_of, stacked, with_inputs};
+ghost use Rattle.plan_coerce.specs.Optimizer.{AreApart, AreTrees, AreTypedRoots, DenotesSettled, IsCoercionRefusal, IsBegun, IsPlanTurn, ReachesNear, StaysApart, StaysFinite, StaysLike, StaysOver, TypesNumber, all_with_inputs, roots_of, stacked, with_inputs};
 ghost use Rattle.plan_coerce.specs.Rules.{HasAcceptedInputs, KeepsNumber, RefusesPredicate, StandsOver};
 ghost use Rattle.plan_coerce.specs.Turns.{IsStopped, IsTurn};
 
@@ -139,6 +139,7 @@ impl ConversionOptimizer {
         requires right { IsRight (registry udfs.now) (columns schema.now) expr_arena.old types.old }
         ensures like { AreTypedRoots (R.settled rule.now (registry udfs.now) (columns schema.now)) (registry udfs.now) (columns schema.now) expr_arena.old (roots_of self.old) → StaysLike (R.related rule.now (registry udfs.now) (columns schema.now)) (registry udfs.now) (columns schema.now) expr_arena.old expr_arena.new }
         ensures settled { OnOk result (AreTypedRoots (R.settled rule.now (registry udfs.now) (columns schema.now)) (registry udfs.now) (columns schema.now) expr_arena.old (roots_of self.old) → AllByRecursion (DenotesSettled (R.settled rule.now (registry udfs.now) (columns schema.now)) (registry udfs.now) (columns schema.now) expr_arena.new) (roots_of self.old)) }
+        ensures alone { OnOk result (TypesNumber (R.settled rule.now (registry udfs.now) (columns schema.now)) (R.related rule.now (registry udfs.now) (columns schema.now)) (registry udfs.now) (columns schema.now) expr_arena.old expr_arena.new (roots_of self.old)) }
         ensures finite { StaysFinite expr_arena.old expr_arena.new }
         ensures elsewhere { (n : ℕ) → R.turns rule.now ≡ Some n → StaysApart expr_arena.old expr_arena.new (roots_of self.old) }
         ensures reaches { (n : ℕ) → R.turns rule.now ≡ Some n → ReachesNear expr_arena.old expr_arena.new (roots_of self.old) }
@@ -185,6 +186,7 @@ impl ConversionOptimizer {
         requires right { IsRight (registry udfs.now) (columns schema.now) expr_arena.old types.old }
         ensures like { AreTypedRoots (R.settled rule.now (registry udfs.now) (columns schema.now)) (registry udfs.now) (columns schema.now) expr_arena.old (roots_of self.old) → StaysLike (R.related rule.now (registry udfs.now) (columns schema.now)) (registry udfs.now) (columns schema.now) expr_arena.old expr_arena.new }
         ensures settled { OnOk result (AreTypedRoots (R.settled rule.now (registry udfs.now) (columns schema.now)) (registry udfs.now) (columns schema.now) expr_arena.old (roots_of self.old) → AllByRecursion (DenotesSettled (R.settled rule.now (registry udfs.now) (columns schema.now)) (registry udfs.now) (columns schema.now) expr_arena.new) (roots_of self.old)) }
+        ensures alone { OnOk result (TypesNumber (R.settled rule.now (registry udfs.now) (columns schema.now)) (R.related rule.now (registry udfs.now) (columns schema.now)) (registry udfs.now) (columns schema.now) expr_arena.old expr_arena.new (roots_of self.old)) }
         ensures finite { StaysFinite expr_arena.old expr_arena.new }
         ensures elsewhere { (n : ℕ) → R.turns rule.now ≡ Some n → StaysApart expr_arena.old expr_arena.new (roots_of self.old) }
         ensures reaches { (n : ℕ) → R.turns rule.now ≡ Some n → ReachesNear expr_arena.old expr_arena.new (roots_of self.old) }
@@ -264,6 +266,7 @@ fn coerce_stacked<R: OptimizationRule, M: Ledger, L: Ledger>(
     requires right { IsRight (registry udfs.now) (columns schema.now) arena.old types.old }
     ensures like { AreTypedRoots (R.settled rule.now (registry udfs.now) (columns schema.now)) (registry udfs.now) (columns schema.now) arena.old (numbers stack.old.items) → StaysLike (R.related rule.now (registry udfs.now) (columns schema.now)) (registry udfs.now) (columns schema.now) arena.old arena.new }
     ensures settled { OnOk result (AreTypedRoots (R.settled rule.now (registry udfs.now) (columns schema.now)) (registry udfs.now) (columns schema.now) arena.old (numbers stack.old.items) → AllByRecursion (DenotesSettled (R.settled rule.now (registry udfs.now) (columns schema.now)) (registry udfs.now) (columns schema.now) arena.new) (numbers stack.old.items)) }
+    ensures alone { OnOk result (TypesNumber (R.settled rule.now (registry udfs.now) (columns schema.now)) (R.related rule.now (registry udfs.now) (columns schema.now)) (registry udfs.now) (columns schema.now) arena.old arena.new (numbers stack.old.items)) }
     ensures finite { StaysFinite arena.old arena.new }
     ensures elsewhere { (n : ℕ) → R.turns rule.now ≡ Some n → StaysApart arena.old arena.new (numbers stack.old.items) }
     ensures reaches { (n : ℕ) → R.turns rule.now ≡ Some n → ReachesNear arena.old arena.new (numbers stack.old.items) }

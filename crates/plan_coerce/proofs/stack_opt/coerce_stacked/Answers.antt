@@ -8,6 +8,7 @@ use Rattle.plan_types.proofs.ResultLemmas.{passed_on}
 use Rattle.plan_coerce.specs.Optimizer.{AreTrees, IsCoercionRefusal}
 use Rattle.plan_coerce.proofs.CountLemmas.{Counted, counted_end, counted_start, counted_stops, counted_turn}
 use Rattle.plan_coerce.proofs.NearLemmas.{Keeping, keeping_end, keeping_start, keeping_stops, keeping_turn, stops_apart, waiting_turn}
+use Rattle.plan_coerce.proofs.NumberRootLemmas.{Alone, alone_end, alone_turn, waits}
 use Rattle.plan_coerce.proofs.StackLemmas.{no_numbers, pushed_one}
 use Rattle.plan_coerce.proofs.TurnLemmas.{Pending, all_ended, memory_alone, no_memory_left, pending_start, pending_stops, pending_turn, stopped_finite, stopped_longer, top_first, turn_stopped}
 use Rattle.plan_coerce.proofs.stack_opt.coerce_stacked.Goals as goal
@@ -25,6 +26,7 @@ loop-turn-init g c =
       longer = omega arith;
       right = c.requires.right;
       pending = pending_start (rule.settled c.args.rule.now r s) (rule.measure c.args.rule.now r s) (rule.related c.args.rule.now r s) (rule.turns c.args.rule.now) r s (laws.congruent c.args.rule.now r s) (laws.transitive c.args.rule.now r s) c.args.arena.now roots;
+      alone = λ root number many t none is d h. waits (ap reverse is) d;
       keeping = λ n e. keeping_start c.args.arena.now roots;
       counted = λ n e. counted_start (rule.measure c.args.rule.now r s) r s n (2 * n + 2) refl (λ op inputs. laws.bounded c.args.rule.now r s op inputs n e) c.args.arena.now roots c.args.steps.now;
     }
@@ -63,6 +65,7 @@ loop-turn-preserved g c =
       longer = omega (arith, inv.longer, longer);
       right = c.in_ok-visit.ensures.right;
       pending = λ typed. pending_turn settled measure related turns r s (laws.congruent c.args.rule.now r s) (laws.transitive c.args.rule.now r s) c.args.arena.now c.loop-turn.arena c.visit.new.arena at rest (numbers c.visit.new.stack.items) roots c.loop-turn.steps c.visit.new.steps turn (subst (λ l. Pending settled related r s c.args.arena.now c.loop-turn.arena l roots) popped (inv.pending typed));
+      alone = λ root number many t none is d h. alone_turn settled measure related turns r s (laws.congruent c.args.rule.now r s) (laws.transitive c.args.rule.now r s) none root number many c.loop-turn.arena c.visit.new.arena at rest (numbers c.visit.new.stack.items) c.loop-turn.steps c.visit.new.steps t h turn (subst (λ l. Alone settled related r s c.loop-turn.arena l root t) popped (inv.alone root number many t none is d h));
       keeping = λ n e. keeping_turn settled measure related turns r s c.loop-turn.arena c.visit.new.arena at rest (numbers c.visit.new.stack.items) c.loop-turn.steps c.visit.new.steps turn n e c.args.arena.now roots inv.longer rooted waiting (subst (Keeping c.args.arena.now roots c.loop-turn.arena) popped (inv.keeping n e));
       counted = λ n e apart. counted_turn measure r s n (2 * n + 2) refl settled related turns e (λ op inputs. laws.bounded c.args.rule.now r s op inputs n e) c.loop-turn.arena c.visit.new.arena at rest (numbers c.visit.new.stack.items) c.args.steps.now c.loop-turn.steps c.visit.new.steps turn (subst (λ l. Counted measure r s n (2 * n + 2) c.loop-turn.arena l c.args.steps.now c.loop-turn.steps) popped (inv.counted n e apart));
     }
@@ -198,3 +201,14 @@ returns-in_err-visit-clause-err g c =
           let root = (subst (λ l. Pending settled related r s c.args.arena.now c.loop-turn.arena l roots) popped (inv.pending typed)).waiting.0 in
           memory_alone _ root.typed c.in_err-visit.field-0.0 root.is (c.in_err-visit.ensures.err root.tree root.denotes);
     })
+
+pub returns-in-None-clause-alone : goal.returns-in-None-clause-alone
+returns-in-None-clause-alone g c = λ root number many t none is d h.
+    let r = registry c.args.udfs.now in
+    let s = columns c.args.schema.now in
+    let rule = g.R.OptimizationRule in
+    let laws = g.met.R.OptimizationRule in
+    let settled = rule.settled c.args.rule.now r s in
+    let related = rule.related c.args.rule.now r s in
+    let empty = ap reverse (no_numbers c.loop-turn.stack.items c.in-None.ensures.variant.1) in
+    alone_end settled (rule.measure c.args.rule.now r s) related (rule.turns c.args.rule.now) r s (laws.congruent c.args.rule.now r s) (laws.transitive c.args.rule.now r s) none root number many t c.loop-turn.arena (subst (λ l. Alone settled related r s c.loop-turn.arena l root t) empty (c.loop-turn.invariant.alone root number many t none is d h))
