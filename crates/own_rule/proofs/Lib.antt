@@ -1,0 +1,3 @@
+mod MeaningLemmas
+mod PlacedLemmas
+mod RelaxedLemmas

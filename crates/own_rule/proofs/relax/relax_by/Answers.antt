@@ -1,0 +1,27 @@
+use Rattle.std.proofs.lemmas.Result.{IfErr-weaker, on_ok_weaker}
+use Rattle.plan_types.specs.Schemas.{columns}
+use Rattle.plan_dsl.specs.Registry.{registry}
+use Rattle.plan_coerce.proofs.RightLemmas.{kept_within}
+use Rattle.own_rule.proofs.RelaxedLemmas.{relaxed_roots, tree_root, typed_root}
+use Rattle.own_rule.proofs.relax.relax_by.Goals as goal
+
+pub from_root-requires : goal.from_root-requires
+from_root-requires g c =
+    kept_within c.args.arena.now c.args.types.now c.args.node.0 (record { registry = registry c.args.udfs.now; schema = columns c.args.schema.now; right = c.requires.right }) c.requires.kept
+
+pub coerce_expressions-requires-clause-trees : goal.coerce_expressions-requires-clause-trees
+coerce_expressions-requires-clause-trees g c = tree_root c.requires.right c.requires.kept c.in_ok-optimizer.ensures.ok
+
+pub returns-clause-relaxed : goal.returns-clause-relaxed
+returns-clause-relaxed g c =
+    let done = c.coerce_expressions.ensures in
+    let root = typed_root c.requires.right c.requires.kept c.in_ok-optimizer.ensures.ok in
+    on_ok_weaker c.coerce_expressions.result (λ settled. relaxed_roots c.requires.right c.requires.kept c.in_ok-optimizer.ensures.ok (done.like root) (settled root)) done.settled
+
+pub returns-clause-like : goal.returns-clause-like
+returns-clause-like g c = c.coerce_expressions.ensures.like (typed_root c.requires.right c.requires.kept c.in_ok-optimizer.ensures.ok)
+
+pub returns-clause-err : goal.returns-clause-err
+returns-clause-err g c =
+    let root = typed_root c.requires.right c.requires.kept c.in_ok-optimizer.ensures.ok in
+    IfErr-weaker c.coerce_expressions.result _ _ (λ error refused. refused.typed root) c.coerce_expressions.ensures.err

@@ -1,0 +1,6 @@
+use Rattle.plan_arena.specs.Denotation.{DenotesTree}
+use Rattle.plan_arena.specs.Items.{HoldsExpression}
+use Rattle.own_rule.proofs.tests.casts_of.Given as goal
+
+abbrev pub invariant-loop : goal.invariant-loop
+invariant-loop l = DenotesTree (HoldsExpression l.arena) l.node.0

@@ -1,0 +1,2 @@
+pub mod HarmlessCasts
+pub mod HarmlessCastLaws

@@ -1,0 +1,8 @@
+//! An example of a rule of one's own.
+#![tactic(auto)]
+
+mod examples;
+pub mod harmless_casts;
+pub mod relax;
+#[cfg(test)]
+mod tests;
