@@ -70,7 +70,7 @@ module _ (items : List AExpr) where
       among_nodes (r ∷ []) ns (λ m a. ⊎_elim (λ e. subst (Among ns) (sym e) (root_among r t ns h)) (λ b. absurd b) a) (nodes_closed r t ns h) reached.steps n reached.path
 
   -- and each of them is reached
-  under : (r m : ℕ) (op : Op) (inputs : List ℕ) → HoldsExpression items r op inputs → Among inputs m → (steps n : ℕ) → ReachedBy items (m ∷ []) steps n → ReachedBy items (r ∷ []) (suc steps) n
+  pub under : (r m : ℕ) (op : Op) (inputs : List ℕ) → HoldsExpression items r op inputs → Among inputs m → (steps n : ℕ) → ReachedBy items (m ∷ []) steps n → ReachedBy items (r ∷ []) (suc steps) n
   under r m op inputs held a zero n path = (r, op, inputs, inl refl, held, ⊎_elim (λ e. subst (Among inputs) (sym e) a) (λ b. absurd b) path)
   under r m op inputs held a (suc steps) n path = (path.0, path.1, path.2, under r m op inputs held a steps path.0 path.3, path.4, path.5)
 

@@ -1,8 +1,10 @@
+pub mod BesideLemmas
 pub mod CoercedLemmas
 pub mod CoercionLemmas
 pub mod CoercionRuleLemmas
 pub mod CountLemmas
 pub mod ExampleLemmas
+pub mod ManyRootLemmas
 pub mod NearLemmas
 pub mod NumberRootLemmas
 pub mod OnceLemmas

@@ -31,7 +31,7 @@ from_reached items tops tops' first (suc steps) n path =
 pub reached_from : (items : List AExpr) (tops tops' : List ℕ) → ((m : ℕ) → Among tops m → IsReached items tops' m) → (n : ℕ) → IsReached items tops n → IsReached items tops' n
 reached_from items tops tops' first n r = from_reached items tops tops' first r.steps n r.path
 
-at_once : (items : List AExpr) (tops : List ℕ) (n : ℕ) → Among tops n → IsReached items tops n
+pub at_once : (items : List AExpr) (tops : List ℕ) (n : ℕ) → Among tops n → IsReached items tops n
 at_once items tops n a = record { steps = zero; path = a }
 
 -- nodes that are reached from trees denote trees
@@ -48,7 +48,7 @@ held_earlier items items' g n op inputs t held = held_of t.tree t.denotes where
   held_of (node o ts) d = d.1 ∙ ap Some (some_same _ (layer o d.0) (layer op inputs) (grown_held items items' g n o d.0 d.1) held)
 
 -- where the arena has only grown, the same is reached
-grown_path : (items items' : List AExpr) (tops : List ℕ) → AreTrees items tops → Grows items items' → (steps n : ℕ) → ReachedBy items' tops steps n → ReachedBy items tops steps n
+pub grown_path : (items items' : List AExpr) (tops : List ℕ) → AreTrees items tops → Grows items items' → (steps n : ℕ) → ReachedBy items' tops steps n → ReachedBy items tops steps n
 grown_path items items' tops all g zero n path = path
 grown_path items items' tops all g (suc steps) n path =
     let before = grown_path items items' tops all g steps path.0 path.3 in
@@ -56,17 +56,30 @@ grown_path items items' tops all g (suc steps) n path =
 
 -- where an item was put in place too, the same is reached, or it is reached from there
 module _ (items grown : List AExpr) (at : ℕ) (item : AExpr) (tops : List ℕ) (all : AreTrees items tops) (g : Grows items grown) where
-  written_path : (steps n : ℕ) → ReachedBy (set grown at item) tops steps n → IsReached items tops n ⊎ IsReached (set grown at item) (at ∷ []) n
+  pub written_path : (steps n : ℕ) → ReachedBy (set grown at item) tops steps n → IsReached items tops n ⊎ (IsReached items tops at × IsReached (set grown at item) (at ∷ []) n)
   written_path zero n path = inl (at_once items tops n path)
   written_path (suc steps) n path = ⊎_elim
       (λ r. ⊎_elim
-      (λ e. inr (record { steps = suc zero; path = (path.0, path.1, path.2, inl e, path.4, path.5) }))
+      (λ e. inr (subst (IsReached items tops) e r, record { steps = suc zero; path = (path.0, path.1, path.2, inl e, path.4, path.5) }))
       (λ other.
       let there = held_earlier items grown g path.0 path.1 path.2 (reached_trees items tops all r.steps path.0 r.path) (held_unwritten grown at item path.0 path.1 path.2 other path.4) in
       inl (record { steps = suc r.steps; path = (path.0, path.1, path.2, r.path, there, path.5) }))
       (same_or_other path.0 at))
-      (λ r. inr (record { steps = suc r.steps; path = (path.0, path.1, path.2, r.path, path.4, path.5) }))
+      (λ r. inr (r.0, record { steps = suc r.1.steps; path = (path.0, path.1, path.2, r.1.path, path.4, path.5) }))
       (written_path steps path.0 path.3)
+
+-- so a node reaches no more of what was there
+pub reach_kept : (is_settled : Op → Inputs → Bool) (measure : Op → Inputs → ℕ) (related : Expression → Expression → Type 0) (turns : Option ℕ) (limit : ℕ) → turns ≡ Some limit → (registry : Registry) (schema : Columns) (items items' : List AExpr) (at : ℕ) → IsStopped is_settled measure related turns registry schema items items' at → (n x : ℕ) → DenotesTree (HoldsExpression items) n → IsReached items' (n ∷ []) x → (length items ≤ x) ⊎ IsReached items (n ∷ []) x
+reach_kept is_settled measure related turns limit is registry schema items items' at s n x tree r = ⊎_elim
+    (λ g. inr (record { steps = r.steps; path = grown_path items items' (n ∷ []) (tree, tt) g r.steps x r.path }))
+    (λ p. ⊎_elim
+    (λ old. inr old)
+    (λ now. ⊎_elim
+    (λ le. inl le)
+    (λ under. inr (reached_from items (at ∷ []) (n ∷ []) (λ m a. ⊎_elim (λ e. subst (IsReached items (n ∷ [])) (sym e) now.0) (λ b. absurd b) a) x under))
+    (reached_near items (at ∷ []) (set p.grown at p.item) (at ∷ []) x (subst (IsClosed items (at ∷ [])) p.is (p.reaches limit is)) (root_near items at, tt) now.1))
+    (written_path items p.grown at p.item (n ∷ []) (tree, tt) p.grows r.steps x (subst (λ l. ReachedBy l (n ∷ []) r.steps x) p.is r.path)))
+    s
 
 -- ---- the work so far
 
@@ -108,7 +121,7 @@ module _ (is_settled : Op → Inputs → Bool) (measure : Op → Inputs → ℕ)
       ⊎_elim
       (λ le. inl (omega (arith, le, longer)))
       (λ under. k.near n (reached_from items (at ∷ []) (roots ++ (at ∷ rest)) (λ m a. at_once items (roots ++ (at ∷ rest)) m (among_back roots (at ∷ rest) m (⊎_elim (λ e. inl e) (λ b. absurd b) a))) n under))
-      (reached_near items (at ∷ []) (set p.grown at p.item) (at ∷ []) n closed (root_near items at, tt) now))
+      (reached_near items (at ∷ []) (set p.grown at p.item) (at ∷ []) n closed (root_near items at, tt) now.1))
       (written_path items p.grown at p.item (roots ++ (at ∷ rest)) trees p.grows r.steps n path))
       s
 

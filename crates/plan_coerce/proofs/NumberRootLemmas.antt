@@ -39,14 +39,14 @@ no_top : (a : ℕ) (xs : List ℕ) → a ∷ xs ≡ [] → ⊥
 no_top a xs e = cc
 
 -- a node has no inputs where its tree has no children
-no_inputs : (items : List AExpr) (ns : List ℕ) (ts : Trees Op) → ts ≡ no_more → DenoteAll (HoldsExpression items) ns ts → ns ≡ []
+pub no_inputs : (items : List AExpr) (ns : List ℕ) (ts : Trees Op) → ts ≡ no_more → DenoteAll (HoldsExpression items) ns ts → ns ≡ []
 no_inputs items [] ts e d = refl
 no_inputs items (n ∷ ns) no_more e d = absurd d
 no_inputs items (n ∷ ns) (more t ts) e d = cc
 
 module _ (is_settled : Op → Inputs → Bool) (measure : Op → Inputs → ℕ) (related : Expression → Expression → Type 0) (turns : Option ℕ) (registry : Registry) (schema : Columns) (congruent : IsCongruent related registry schema) (transitive : IsTransitive related) (none : SettlesNoNumber is_settled) (root : ℕ) (number : ℤ) (many : Bool) where
   -- a number that is settled has no inputs
-  settled_bare : (op : Op) (ts : Trees Op) → typing registry schema (node op ts) ≡ Ok (record { type = Untyped number; many = many }) → is_settled op (seen registry schema ts) ≡ true → ts ≡ no_more
+  pub settled_bare : (op : Op) (ts : Trees Op) → typing registry schema (node op ts) ≡ Ok (record { type = Untyped number; many = many }) → is_settled op (seen registry schema ts) ≡ true → ts ≡ no_more
   settled_bare op ts h calm =
       let parts = typed_parts registry schema op ts _ h in
       let known = none op (seen registry schema ts) parts.below calm parts.children_typed in

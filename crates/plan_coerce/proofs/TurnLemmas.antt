@@ -52,7 +52,7 @@ pub inputs_first : (rest inputs : List ℕ) → reverse (rest ++ reverse inputs)
 inputs_first rest inputs = reverse-append rest (reverse inputs) ∙ ap (λ l. l ++ reverse rest) (reverse-reverse inputs)
 
 -- trees side by side, where the arena has grown
-children_grown : (items items' : List AExpr) → Grows items items' → (ns : List ℕ) (ts : Trees Op) → DenoteAll (HoldsExpression items) ns ts → DenoteAll (HoldsExpression items') ns ts
+pub children_grown : (items items' : List AExpr) → Grows items items' → (ns : List ℕ) (ts : Trees Op) → DenoteAll (HoldsExpression items) ns ts → DenoteAll (HoldsExpression items') ns ts
 children_grown items items' g [] no_more d = tt
 children_grown items items' g (n ∷ ns) (more t ts) d = (kept (HoldsExpression items) (HoldsExpression items') (grown_held items items' g) n t d.0, children_grown items items' g ns ts d.1)
 children_grown items items' g [] (more t ts) d = absurd d
@@ -88,7 +88,7 @@ module _ (related : Expression → Expression → Type 0) (registry : Registry) 
   labels_same (more t ts) no_more a = absurd a
 
   -- inputs that are like are seen as the same
-  seen_same : (ts us : Trees Op) → AllRelated (IsLike related registry schema) ts us → seen registry schema us ≡ seen registry schema ts
+  pub seen_same : (ts us : Trees Op) → AllRelated (IsLike related registry schema) ts us → seen registry schema us ≡ seen registry schema ts
   seen_same ts us a =
       ap (λ labels. record { labels = labels; typings = typing_all registry schema us }) (labels_same ts us a)
       ∙ ap (λ typings. record { labels = fold_all op_label ts; typings = typings }) (typings_same registry schema ts us (all_same ts us a))
@@ -125,7 +125,7 @@ abbrev mutual
 
 module _ (is_settled : Op → Inputs → Bool) (registry : Registry) (schema : Columns) (items : List AExpr) (tops : List ℕ) where
   mutual
-    settled_denotes : (n : ℕ) (t : Expression) → SettledBut is_settled registry schema items tops n t → Denotes (HoldsExpression items) n t
+    pub settled_denotes : (n : ℕ) (t : Expression) → SettledBut is_settled registry schema items tops n t → Denotes (HoldsExpression items) n t
     settled_denotes n (node op ts) s = ⊎_elim (λ w. w.1) (λ h. (h.0, h.1, all_settled_denotes h.0 ts h.3)) s
 
     all_settled_denotes : (ns : List ℕ) (ts : Trees Op) → AllSettledBut is_settled registry schema items tops ns ts → DenoteAll (HoldsExpression items) ns ts
@@ -134,11 +134,11 @@ module _ (is_settled : Op → Inputs → Bool) (registry : Registry) (schema : C
     all_settled_denotes [] (more t ts) s = absurd s
     all_settled_denotes (n ∷ ns) no_more s = absurd s
 
-  waiting_settled : (n : ℕ) (t : Expression) → Among tops n → Denotes (HoldsExpression items) n t → SettledBut is_settled registry schema items tops n t
+  pub waiting_settled : (n : ℕ) (t : Expression) → Among tops n → Denotes (HoldsExpression items) n t → SettledBut is_settled registry schema items tops n t
   waiting_settled n (node op ts) w d = inl (w, d)
 
   -- nodes that wait are settled but for what waits
-  all_waiting : (ns : List ℕ) (ts : Trees Op) → ((n : ℕ) → Among ns n → Among tops n) → DenoteAll (HoldsExpression items) ns ts → AllSettledBut is_settled registry schema items tops ns ts
+  pub all_waiting : (ns : List ℕ) (ts : Trees Op) → ((n : ℕ) → Among ns n → Among tops n) → DenoteAll (HoldsExpression items) ns ts → AllSettledBut is_settled registry schema items tops ns ts
   all_waiting [] no_more w d = tt
   all_waiting (n ∷ ns) (more t ts) w d = (waiting_settled n t (w n (inl refl)) d.0, all_waiting ns ts (λ m v. w m (inr v)) d.1)
   all_waiting [] (more t ts) w d = absurd d
@@ -147,7 +147,7 @@ module _ (is_settled : Op → Inputs → Bool) (registry : Registry) (schema : C
 module _ (is_settled : Op → Inputs → Bool) (registry : Registry) (schema : Columns) (items : List AExpr) where
   -- where nothing waits, each node is settled
   mutual
-    settled_all : (n : ℕ) (t : Expression) → SettledBut is_settled registry schema items [] n t → IsSettled is_settled registry schema t
+    pub settled_all : (n : ℕ) (t : Expression) → SettledBut is_settled registry schema items [] n t → IsSettled is_settled registry schema t
     settled_all n (node op ts) s = ⊎_elim (λ w. absurd w.0) (λ h. (h.2, all_settled_all h.0 ts h.3)) s
 
     all_settled_all : (ns : List ℕ) (ts : Trees Op) → AllSettledBut is_settled registry schema items [] ns ts → AreSettled is_settled registry schema ts
@@ -164,7 +164,7 @@ module _ (is_settled : Op → Inputs → Bool) (registry : Registry) (schema : C
 -- what a turn at a node leaves of this
 module _ (is_settled : Op → Inputs → Bool) (related : Expression → Expression → Type 0) (registry : Registry) (schema : Columns) (congruent : IsCongruent related registry schema) (items items' : List AExpr) (at : ℕ) (tops tops' : List ℕ) (keeps : (n : ℕ) (op : Op) (inputs : List ℕ) → n ≢ at → HoldsExpression items n op inputs → HoldsExpression items' n op inputs) (becomes : StaysLike related registry schema items items') (waits : (n : ℕ) → n ≢ at → Among tops n → Among tops' n) (here : (u : Expression) → Denotes (HoldsExpression items) at u → (w : Expression) × SettledBut is_settled registry schema items' tops' at w × IsLike related registry schema u w) where
   mutual
-    step : (n : ℕ) (u : Expression) → SettledBut is_settled registry schema items tops n u → (w : Expression) × SettledBut is_settled registry schema items' tops' n w × IsLike related registry schema u w
+    pub step : (n : ℕ) (u : Expression) → SettledBut is_settled registry schema items tops n u → (w : Expression) × SettledBut is_settled registry schema items' tops' n w × IsLike related registry schema u w
     step n (node op us) s = ⊎_elim
         (λ e.
         let d = subst (λ k. Denotes (HoldsExpression items) k (node op us)) e (settled_denotes is_settled registry schema items tops n (node op us) s) in
@@ -196,13 +196,13 @@ module _ (is_settled : Op → Inputs → Bool) (related : Expression → Express
 -- ---- what waits is typed
 
 -- what is typed stays so
-typed_become : (is_settled : Op → Inputs → Bool) (related : Expression → Expression → Type 0) (registry : Registry) (schema : Columns) (items items' : List AExpr) → StaysLike related registry schema items items' → (n : ℕ) → IsTypedRoot is_settled registry schema items n → IsTypedRoot is_settled registry schema items' n
+pub typed_become : (is_settled : Op → Inputs → Bool) (related : Expression → Expression → Type 0) (registry : Registry) (schema : Columns) (items items' : List AExpr) → StaysLike related registry schema items items' → (n : ℕ) → IsTypedRoot is_settled registry schema items n → IsTypedRoot is_settled registry schema items' n
 typed_become is_settled related registry schema items items' becomes n t =
     let r = becomes n t.tree t.denotes in
     record { tree = r.tree; denotes = r.denotes; typed = t.typed; is = r.like.same.typing ∙ t.is; known = t.known }
 
 -- inputs of a typed node that is settled
-typed_inputs : (is_settled : Op → Inputs → Bool) (registry : Registry) (schema : Columns) (items : List AExpr) (ns : List ℕ) (ts : Trees Op) (typed : List Typed) → DenoteAll (HoldsExpression items) ns ts → typing_all registry schema ts ≡ Ok typed → (SettlesNoNumber is_settled → AllByRecursion (λ (t : Typed). is_known t.type ≡ true) typed) → AllByRecursion (IsTypedRoot is_settled registry schema items) ns
+pub typed_inputs : (is_settled : Op → Inputs → Bool) (registry : Registry) (schema : Columns) (items : List AExpr) (ns : List ℕ) (ts : Trees Op) (typed : List Typed) → DenoteAll (HoldsExpression items) ns ts → typing_all registry schema ts ≡ Ok typed → (SettlesNoNumber is_settled → AllByRecursion (λ (t : Typed). is_known t.type ≡ true) typed) → AllByRecursion (IsTypedRoot is_settled registry schema items) ns
 typed_inputs is_settled registry schema items [] no_more typed d e known = tt
 typed_inputs is_settled registry schema items (n ∷ ns) (more t ts) typed d e known =
     by_children (λ xs. (SettlesNoNumber is_settled → AllByRecursion (λ (t : Typed). is_known t.type ≡ true) xs) → AllByRecursion (IsTypedRoot is_settled registry schema items) (n ∷ ns)) _ _ typed e (λ x xs is rest k.
@@ -213,7 +213,7 @@ typed_inputs is_settled registry schema items (n ∷ ns) no_more typed d e known
 -- ---- what a turn does to trees
 
 module _ (is_settled : Op → Inputs → Bool) (measure : Op → Inputs → ℕ) (related : Expression → Expression → Type 0) (turns : Option ℕ) (registry : Registry) (schema : Columns) (items items' : List AExpr) (at : ℕ) where
-  placed_elsewhere : IsPlaced is_settled measure related turns registry schema items items' at → (n : ℕ) (op : Op) (inputs : List ℕ) → n ≢ at → HoldsExpression items n op inputs → HoldsExpression items' n op inputs
+  pub placed_elsewhere : IsPlaced is_settled measure related turns registry schema items items' at → (n : ℕ) (op : Op) (inputs : List ℕ) → n ≢ at → HoldsExpression items n op inputs → HoldsExpression items' n op inputs
   placed_elsewhere p n op inputs other h = subst (λ l. HoldsExpression l n op inputs) (sym p.is) (written_elsewhere items p.grown at p.item p.grows n op inputs other h)
 
   pub stopped_elsewhere : IsStopped is_settled measure related turns registry schema items items' at → (n : ℕ) (op : Op) (inputs : List ℕ) → n ≢ at → HoldsExpression items n op inputs → HoldsExpression items' n op inputs
@@ -234,7 +234,7 @@ module _ (is_settled : Op → Inputs → Bool) (measure : Op → Inputs → ℕ)
 
 module _ (is_settled : Op → Inputs → Bool) (measure : Op → Inputs → ℕ) (related : Expression → Expression → Type 0) (turns : Option ℕ) (registry : Registry) (schema : Columns) (congruent : IsCongruent related registry schema) (items items' : List AExpr) (at : ℕ) where
   -- what is put in place of a typed node is like it
-  placed_like : IsTypedRoot is_settled registry schema items at → IsPlaced is_settled measure related turns registry schema items items' at → (before : Expression) → Denotes (HoldsExpression items) at before → DenotesLike related registry schema items' at before
+  pub placed_like : IsTypedRoot is_settled registry schema items at → IsPlaced is_settled measure related turns registry schema items items' at → (before : Expression) → Denotes (HoldsExpression items) at before → DenotesLike related registry schema items' at before
   placed_like root p before d =
       let one = denotes_one (shape_of (map expression_layer items)) (HoldsExpression items) (expression_laws items) at root.tree before root.denotes d in
       let rep = p.answer before d in
@@ -349,8 +349,8 @@ on_refusal (Err e) p = p
 pub memory_alone : (answer : Result Typed ErrorKind) (typed : Typed) (error : PlanError) → answer ≡ Ok typed → IsRefusal answer error → error ≡ no_memory
 memory_alone answer typed error is refused = elim refused as (λ _. error ≡ no_memory) [ no_room e ↦ e | broken kind e of ↦ cc ]
 
-pub no_memory_left : (is_settled : Op → Inputs → Bool) (registry : Registry) (schema : Columns) (items : List AExpr) (roots : List ℕ) → IsCoercionRefusal is_settled registry schema items roots no_memory
-no_memory_left is_settled registry schema items roots = record { tree = node LenOp no_more; is = no_room refl; typed = λ all. refl }
+pub no_memory_left : (is_settled : Op → Inputs → Bool) (turns : Option ℕ) (registry : Registry) (schema : Columns) (items : List AExpr) (roots : List ℕ) → IsCoercionRefusal is_settled turns registry schema items roots no_memory
+no_memory_left is_settled turns registry schema items roots = record { tree = node LenOp no_more; is = no_room refl; typed = λ all. refl; numbers = λ n e none all. refl }
 
 pub found_now : (is_settled : Op → Inputs → Bool) (measure : Op → Inputs → ℕ) (related : Expression → Expression → Type 0) (registry : Registry) (schema : Columns) (old grown : List AExpr) (at : ℕ) (answer : Option AExpr) → answer ≡ None → Grows old grown → ((t : Expression) → Denotes (HoldsExpression old) at t → MatchOption answer (said is_settled registry schema t ≡ true) (λ item. IsReplacement related measure registry schema old (set grown at item) at t)) → IsFound is_settled registry schema old grown at
 found_now is_settled measure related registry schema old grown at None is g said_so = record { grows = g; is = said_so }

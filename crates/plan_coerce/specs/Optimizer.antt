@@ -1,5 +1,5 @@
 -- What coercion by a rule leaves of two arenas, from roots on.
-use Rattle.std.specs.Prelude.{◌≡◌, ◌⊎◌, ℕ, ℤ, Bool, true, List, [], ◌∷◌, ◌++◌, map, reverse, slice_get, option_map, unwrap_or, Ok}
+use Rattle.std.specs.Prelude.{◌≡◌, ◌⊎◌, ℕ, ℤ, Bool, true, List, [], ◌∷◌, ◌++◌, map, reverse, slice_get, Option, Some, option_map, unwrap_or, Ok}
 use Rattle.std.specs.List.{AllByRecursion}
 use Rattle.plan_types.specs.Errors.{IsRefusal, no_memory}
 use Rattle.plan_types.specs.Types.{Untyped, is_known}
@@ -18,7 +18,7 @@ use Rattle.plan_arena.specs.Denotation.{Denotes, DenotesTree}
 use Rattle.plan_arena.specs.Items.{HoldsExpression, expression_layer, numbers, passed}
 use Rattle.plan_coerce.specs.declared.stack_opt.ConversionOptimizer.{ConversionOptimizer}
 use Rattle.plan_coerce.specs.Coercion.{KeepsBelow}
-use Rattle.plan_coerce.specs.Reaching.{AreOnce, HaveNodes, IsReached, Near}
+use Rattle.plan_coerce.specs.Reaching.{Among, AreOnce, HaveNodes, IsReached, Near}
 use Rattle.plan_coerce.specs.Rules.{HasSameCasts, Inputs, IsLike, IsPlanReplacement, SettlesNoNumber, StandsOver, seen}
 
 -- the nodes at which coercion starts, and these with their inputs
@@ -88,6 +88,29 @@ abbrev pub TypesNumber : (Op → Inputs → Bool) → (Expression → Expression
 TypesNumber settled related registry schema old new roots =
     (root : ℕ) (number : ℤ) (many : Bool) (t : Expression) → SettlesNoNumber settled → roots ≡ root ∷ [] → Denotes (HoldsExpression old) root t → typing registry schema t ≡ Ok (record { type = Untyped number; many = many }) → EndsTyped settled related registry schema new root t
 
+-- the node denotes a number without a type, or what stands over one by aliases
+pub record IsNumberRoot (registry : Registry) (schema : Columns) (items : List AExpr) (n : ℕ) : Type 0 where
+  pub tree : Expression
+  pub denotes : Denotes (HoldsExpression items) n tree
+  pub number : ℤ
+  pub many : Bool
+  pub is : typing registry schema tree ≡ Ok (record { type = Untyped number; many = many })
+
+-- roots that are typed, and numbers without a type to which no other root leads
+pub record AreRoots (settled : Op → Inputs → Bool) (registry : Registry) (schema : Columns) (items : List AExpr) (roots : List ℕ) : Type 0 where
+  pub each : AllByRecursion (λ n. IsTypedRoot settled registry schema items n ⊎ IsNumberRoot registry schema items n) roots
+  pub apart : (front back : List ℕ) (m : ℕ) → roots ≡ front ++ m ∷ back → IsNumberRoot registry schema items m → (n : ℕ) → Among (front ++ back) n → ¬ (IsReached items (n ∷ []) m)
+
+-- each node that leads to no root that is such a number denotes what is like the expression that it denoted
+abbrev pub StaysLikeBeside : (Expression → Expression → Type 0) → Registry → Columns → List AExpr → List AExpr → List ℕ → Type 0
+StaysLikeBeside related registry schema old new roots =
+    (n : ℕ) (t : Expression) → Denotes (HoldsExpression old) n t → ((m : ℕ) → Among roots m → IsNumberRoot registry schema old m → ¬ (IsReached old (n ∷ []) m)) → DenotesLike related registry schema new n t
+
+-- a root ends settled, and where it was such a number, as one of the type that the number has alone
+pub record EndsSettled (settled : Op → Inputs → Bool) (related : Expression → Expression → Type 0) (registry : Registry) (schema : Columns) (old new : List AExpr) (n : ℕ) : Type 0 where
+  pub each : DenotesSettled settled registry schema new n
+  pub number : (number : ℤ) (many : Bool) (t : Expression) → Denotes (HoldsExpression old) n t → typing registry schema t ≡ Ok (record { type = Untyped number; many = many }) → EndsTyped settled related registry schema new n t
+
 -- the nodes denote finite trees
 abbrev pub AreTrees : List AExpr → List ℕ → Type 0
 AreTrees items ns = AllByRecursion (DenotesTree (HoldsExpression items)) ns
@@ -112,11 +135,13 @@ pub record AreApart (items : List AExpr) (roots : List ℕ) : Type 0 where
   pub have : HaveNodes items roots trees nodes
   pub once : AreOnce nodes
 
--- why coercion is refused: an expression's typing is, or memory is wanting. Over typed roots it is the latter
-pub record IsCoercionRefusal (settled : Op → Inputs → Bool) (registry : Registry) (schema : Columns) (items : List AExpr) (roots : List ℕ) (error : PlanError) : Type 0 where
+-- why coercion is refused: an expression's typing is, or memory is wanting. Over typed roots it is the latter, and so where
+-- some are numbers without a type that stand apart, by a rule that says how often a node is replaced
+pub record IsCoercionRefusal (settled : Op → Inputs → Bool) (turns : Option ℕ) (registry : Registry) (schema : Columns) (items : List AExpr) (roots : List ℕ) (error : PlanError) : Type 0 where
   pub tree : Expression
   pub is : IsRefusal (typing registry schema tree) error
   pub typed : AreTypedRoots settled registry schema items roots → error ≡ no_memory
+  pub numbers : (n : ℕ) → turns ≡ Some n → SettlesNoNumber settled → AreRoots settled registry schema items roots → error ≡ no_memory
 
 -- where the plan's node is a filter, the schema is the one that goes into it
 abbrev pub StaysOver : Registry → List AExpr → List IR → ℕ → Columns → Type 0

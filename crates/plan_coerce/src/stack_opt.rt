@@ -10,8 +10,8 @@ ghost use Rattle.plan_dsl.specs.Typing.{typing};
 ghost use Rattle.plan_arena.specs.Denotation.{Denotes, DenotesTree};
 ghost use Rattle.plan_arena.specs.Items.{HoldsExpression, named_node, numbers};
 ghost use Rattle.plan_infer.specs.KeptTypes.{IsRight};
-ghost use Rattle.plan_coerce.specs.Optimizer.{AreApart, AreTrees, AreTypedRoots, DenotesSettled, IsCoercionRefusal, IsBegun, IsPlanTurn, ReachesNear, StaysApart, StaysFinite, StaysLike, StaysOver, TypesNumber, all_with_inputs, roots_of, stacked, with_inputs};
-ghost use Rattle.plan_coerce.specs.Rules.{HasAcceptedInputs, KeepsNumber, RefusesPredicate, StandsOver};
+ghost use Rattle.plan_coerce.specs.Optimizer.{AreApart, AreRoots, AreTrees, AreTypedRoots, DenotesSettled, EndsSettled, IsCoercionRefusal, IsBegun, IsPlanTurn, ReachesNear, StaysApart, StaysFinite, StaysLike, StaysLikeBeside, StaysOver, TypesNumber, all_with_inputs, roots_of, stacked, with_inputs};
+ghost use Rattle.plan_coerce.specs.Rules.{HasAcceptedInputs, KeepsNumber, RefusesPredicate, SettlesNoNumber, StandsOver};
 ghost use Rattle.plan_coerce.specs.Turns.{IsStopped, IsTurn};
 
 use crate::rule::OptimizationRule;
@@ -140,6 +140,10 @@ impl ConversionOptimizer {
         ensures like { AreTypedRoots (R.settled rule.now (registry udfs.now) (columns schema.now)) (registry udfs.now) (columns schema.now) expr_arena.old (roots_of self.old) → StaysLike (R.related rule.now (registry udfs.now) (columns schema.now)) (registry udfs.now) (columns schema.now) expr_arena.old expr_arena.new }
         ensures settled { OnOk result (AreTypedRoots (R.settled rule.now (registry udfs.now) (columns schema.now)) (registry udfs.now) (columns schema.now) expr_arena.old (roots_of self.old) → AllByRecursion (DenotesSettled (R.settled rule.now (registry udfs.now) (columns schema.now)) (registry udfs.now) (columns schema.now) expr_arena.new) (roots_of self.old)) }
         ensures alone { OnOk result (TypesNumber (R.settled rule.now (registry udfs.now) (columns schema.now)) (R.related rule.now (registry udfs.now) (columns schema.now)) (registry udfs.now) (columns schema.now) expr_arena.old expr_arena.new (roots_of self.old)) }
+        ensures beside { (n : ℕ) → R.turns rule.now ≡ Some n → SettlesNoNumber (R.settled rule.now (registry udfs.now) (columns schema.now)) → AreRoots (R.settled rule.now (registry udfs.now) (columns schema.now)) (registry udfs.now) (columns schema.now) expr_arena.old (roots_of self.old) →
+            StaysLikeBeside (R.related rule.now (registry udfs.now) (columns schema.now)) (registry udfs.now) (columns schema.now) expr_arena.old expr_arena.new (roots_of self.old) }
+        ensures ends { OnOk result ((n : ℕ) → R.turns rule.now ≡ Some n → SettlesNoNumber (R.settled rule.now (registry udfs.now) (columns schema.now)) → AreRoots (R.settled rule.now (registry udfs.now) (columns schema.now)) (registry udfs.now) (columns schema.now) expr_arena.old (roots_of self.old) →
+            AllByRecursion (EndsSettled (R.settled rule.now (registry udfs.now) (columns schema.now)) (R.related rule.now (registry udfs.now) (columns schema.now)) (registry udfs.now) (columns schema.now) expr_arena.old expr_arena.new) (roots_of self.old)) }
         ensures finite { StaysFinite expr_arena.old expr_arena.new }
         ensures elsewhere { (n : ℕ) → R.turns rule.now ≡ Some n → StaysApart expr_arena.old expr_arena.new (roots_of self.old) }
         ensures reaches { (n : ℕ) → R.turns rule.now ≡ Some n → ReachesNear expr_arena.old expr_arena.new (roots_of self.old) }
@@ -149,7 +153,7 @@ impl ConversionOptimizer {
             steps.new ≤ steps.old + (2 * n + 2) * length expr_arena.new }
         ensures no_roots { roots_of self.new ≡ [] }
         ensures none_stacked { stacked self.new ≡ [] }
-        ensures err { IfErr result (λ error. IsCoercionRefusal (R.settled rule.now (registry udfs.now) (columns schema.now)) (registry udfs.now) (columns schema.now) expr_arena.old (roots_of self.old) error) }
+        ensures err { IfErr result (λ error. IsCoercionRefusal (R.settled rule.now (registry udfs.now) (columns schema.now)) (R.turns rule.now) (registry udfs.now) (columns schema.now) expr_arena.old (roots_of self.old) error) }
     {
         self.scratch.clear();
         let done = coerce_stacked(
@@ -187,6 +191,10 @@ impl ConversionOptimizer {
         ensures like { AreTypedRoots (R.settled rule.now (registry udfs.now) (columns schema.now)) (registry udfs.now) (columns schema.now) expr_arena.old (roots_of self.old) → StaysLike (R.related rule.now (registry udfs.now) (columns schema.now)) (registry udfs.now) (columns schema.now) expr_arena.old expr_arena.new }
         ensures settled { OnOk result (AreTypedRoots (R.settled rule.now (registry udfs.now) (columns schema.now)) (registry udfs.now) (columns schema.now) expr_arena.old (roots_of self.old) → AllByRecursion (DenotesSettled (R.settled rule.now (registry udfs.now) (columns schema.now)) (registry udfs.now) (columns schema.now) expr_arena.new) (roots_of self.old)) }
         ensures alone { OnOk result (TypesNumber (R.settled rule.now (registry udfs.now) (columns schema.now)) (R.related rule.now (registry udfs.now) (columns schema.now)) (registry udfs.now) (columns schema.now) expr_arena.old expr_arena.new (roots_of self.old)) }
+        ensures beside { (n : ℕ) → R.turns rule.now ≡ Some n → SettlesNoNumber (R.settled rule.now (registry udfs.now) (columns schema.now)) → AreRoots (R.settled rule.now (registry udfs.now) (columns schema.now)) (registry udfs.now) (columns schema.now) expr_arena.old (roots_of self.old) →
+            StaysLikeBeside (R.related rule.now (registry udfs.now) (columns schema.now)) (registry udfs.now) (columns schema.now) expr_arena.old expr_arena.new (roots_of self.old) }
+        ensures ends { OnOk result ((n : ℕ) → R.turns rule.now ≡ Some n → SettlesNoNumber (R.settled rule.now (registry udfs.now) (columns schema.now)) → AreRoots (R.settled rule.now (registry udfs.now) (columns schema.now)) (registry udfs.now) (columns schema.now) expr_arena.old (roots_of self.old) →
+            AllByRecursion (EndsSettled (R.settled rule.now (registry udfs.now) (columns schema.now)) (R.related rule.now (registry udfs.now) (columns schema.now)) (registry udfs.now) (columns schema.now) expr_arena.old expr_arena.new) (roots_of self.old)) }
         ensures finite { StaysFinite expr_arena.old expr_arena.new }
         ensures elsewhere { (n : ℕ) → R.turns rule.now ≡ Some n → StaysApart expr_arena.old expr_arena.new (roots_of self.old) }
         ensures reaches { (n : ℕ) → R.turns rule.now ≡ Some n → ReachesNear expr_arena.old expr_arena.new (roots_of self.old) }
@@ -203,7 +211,7 @@ impl ConversionOptimizer {
             R.settled_plan rule.now (registry udfs.now) over kind ≡ true → lp_arena.new ≡ lp_arena.old }
         ensures err { IfErr result (λ error. ((kind : PlanKind (Named Expression)) (over : Columns) → StandsOver (registry udfs.now) expr_arena.old lp_arena.old node.0 kind over →
             RefusesPredicate (λ checked. IsRefusal checked error) (error ≡ no_memory) (registry udfs.now) over kind)
-            ⊎ IsCoercionRefusal (R.settled rule.now (registry udfs.now) (columns schema.now)) (registry udfs.now) (columns schema.now) expr_arena.old (roots_of self.old) error) }
+            ⊎ IsCoercionRefusal (R.settled rule.now (registry udfs.now) (columns schema.now)) (R.turns rule.now) (registry udfs.now) (columns schema.now) expr_arena.old (roots_of self.old) error) }
     {
         match place_plan(rule, expr_arena, lp_arena, node, udfs, types, typings) {
             Ok(()) => self.coerce_expressions(
@@ -267,6 +275,10 @@ fn coerce_stacked<R: OptimizationRule, M: Ledger, L: Ledger>(
     ensures like { AreTypedRoots (R.settled rule.now (registry udfs.now) (columns schema.now)) (registry udfs.now) (columns schema.now) arena.old (numbers stack.old.items) → StaysLike (R.related rule.now (registry udfs.now) (columns schema.now)) (registry udfs.now) (columns schema.now) arena.old arena.new }
     ensures settled { OnOk result (AreTypedRoots (R.settled rule.now (registry udfs.now) (columns schema.now)) (registry udfs.now) (columns schema.now) arena.old (numbers stack.old.items) → AllByRecursion (DenotesSettled (R.settled rule.now (registry udfs.now) (columns schema.now)) (registry udfs.now) (columns schema.now) arena.new) (numbers stack.old.items)) }
     ensures alone { OnOk result (TypesNumber (R.settled rule.now (registry udfs.now) (columns schema.now)) (R.related rule.now (registry udfs.now) (columns schema.now)) (registry udfs.now) (columns schema.now) arena.old arena.new (numbers stack.old.items)) }
+    ensures beside { (n : ℕ) → R.turns rule.now ≡ Some n → SettlesNoNumber (R.settled rule.now (registry udfs.now) (columns schema.now)) → AreRoots (R.settled rule.now (registry udfs.now) (columns schema.now)) (registry udfs.now) (columns schema.now) arena.old (numbers stack.old.items) →
+        StaysLikeBeside (R.related rule.now (registry udfs.now) (columns schema.now)) (registry udfs.now) (columns schema.now) arena.old arena.new (numbers stack.old.items) }
+    ensures ends { OnOk result ((n : ℕ) → R.turns rule.now ≡ Some n → SettlesNoNumber (R.settled rule.now (registry udfs.now) (columns schema.now)) → AreRoots (R.settled rule.now (registry udfs.now) (columns schema.now)) (registry udfs.now) (columns schema.now) arena.old (numbers stack.old.items) →
+        AllByRecursion (EndsSettled (R.settled rule.now (registry udfs.now) (columns schema.now)) (R.related rule.now (registry udfs.now) (columns schema.now)) (registry udfs.now) (columns schema.now) arena.old arena.new) (numbers stack.old.items)) }
     ensures finite { StaysFinite arena.old arena.new }
     ensures elsewhere { (n : ℕ) → R.turns rule.now ≡ Some n → StaysApart arena.old arena.new (numbers stack.old.items) }
     ensures reaches { (n : ℕ) → R.turns rule.now ≡ Some n → ReachesNear arena.old arena.new (numbers stack.old.items) }
@@ -274,7 +286,7 @@ fn coerce_stacked<R: OptimizationRule, M: Ledger, L: Ledger>(
     ensures right { IsRight (registry udfs.now) (columns schema.now) arena.new types.new }
     ensures bounded { (n : ℕ) → R.turns rule.now ≡ Some n → AreApart arena.old (numbers stack.old.items) →
         steps.new ≤ steps.old + (2 * n + 2) * length arena.new }
-    ensures err { IfErr result (λ error. IsCoercionRefusal (R.settled rule.now (registry udfs.now) (columns schema.now)) (registry udfs.now) (columns schema.now) arena.old (numbers stack.old.items) error) }
+    ensures err { IfErr result (λ error. IsCoercionRefusal (R.settled rule.now (registry udfs.now) (columns schema.now)) (R.turns rule.now) (registry udfs.now) (columns schema.now) arena.old (numbers stack.old.items) error) }
 {
     // A finite tree has no end of turns, but no stack lives to see so many.
     for _turn in 0..u64::MAX {

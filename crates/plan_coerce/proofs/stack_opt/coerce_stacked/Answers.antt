@@ -11,6 +11,8 @@ use Rattle.plan_coerce.proofs.NearLemmas.{Keeping, keeping_end, keeping_start, k
 use Rattle.plan_coerce.proofs.NumberRootLemmas.{Alone, alone_end, alone_turn, waits}
 use Rattle.plan_coerce.proofs.StackLemmas.{no_numbers, pushed_one}
 use Rattle.plan_coerce.proofs.TurnLemmas.{Pending, all_ended, memory_alone, no_memory_left, pending_start, pending_stops, pending_turn, stopped_finite, stopped_longer, top_first, turn_stopped}
+use Rattle.plan_coerce.proofs.ManyRootLemmas.{Working, working_end, working_start, working_stops, working_turn, working_typed}
+use Rattle.plan_coerce.proofs.ReachLemmas.{among_all}
 use Rattle.plan_coerce.proofs.stack_opt.coerce_stacked.Goals as goal
 
 pub loop-turn-init : goal.loop-turn-init
@@ -27,6 +29,7 @@ loop-turn-init g c =
       right = c.requires.right;
       pending = pending_start (rule.settled c.args.rule.now r s) (rule.measure c.args.rule.now r s) (rule.related c.args.rule.now r s) (rule.turns c.args.rule.now) r s (laws.congruent c.args.rule.now r s) (laws.transitive c.args.rule.now r s) c.args.arena.now roots;
       alone = λ root number many t none is d h. waits (ap reverse is) d;
+      many = λ n e none are. working_start (rule.settled c.args.rule.now r s) (rule.measure c.args.rule.now r s) (rule.related c.args.rule.now r s) (rule.turns c.args.rule.now) n e r s (laws.congruent c.args.rule.now r s) (laws.transitive c.args.rule.now r s) none c.args.arena.now roots are;
       keeping = λ n e. keeping_start c.args.arena.now roots;
       counted = λ n e. counted_start (rule.measure c.args.rule.now r s) r s n (2 * n + 2) refl (λ op inputs. laws.bounded c.args.rule.now r s op inputs n e) c.args.arena.now roots c.args.steps.now;
     }
@@ -66,6 +69,7 @@ loop-turn-preserved g c =
       right = c.in_ok-visit.ensures.right;
       pending = λ typed. pending_turn settled measure related turns r s (laws.congruent c.args.rule.now r s) (laws.transitive c.args.rule.now r s) c.args.arena.now c.loop-turn.arena c.visit.new.arena at rest (numbers c.visit.new.stack.items) roots c.loop-turn.steps c.visit.new.steps turn (subst (λ l. Pending settled related r s c.args.arena.now c.loop-turn.arena l roots) popped (inv.pending typed));
       alone = λ root number many t none is d h. alone_turn settled measure related turns r s (laws.congruent c.args.rule.now r s) (laws.transitive c.args.rule.now r s) none root number many c.loop-turn.arena c.visit.new.arena at rest (numbers c.visit.new.stack.items) c.loop-turn.steps c.visit.new.steps t h turn (subst (λ l. Alone settled related r s c.loop-turn.arena l root t) popped (inv.alone root number many t none is d h));
+      many = λ n e none are. working_turn settled measure related turns n e r s (laws.congruent c.args.rule.now r s) (laws.transitive c.args.rule.now r s) none c.args.arena.now roots are c.loop-turn.arena c.visit.new.arena at inv.finite inv.longer (λ m a. among_all (DenotesTree (HoldsExpression c.args.arena.now)) roots m c.requires.trees a) rest (numbers c.visit.new.stack.items) c.loop-turn.steps c.visit.new.steps turn (subst (λ l. Working settled related r s c.args.arena.now c.loop-turn.arena l roots) popped (inv.many n e none are));
       keeping = λ n e. keeping_turn settled measure related turns r s c.loop-turn.arena c.visit.new.arena at rest (numbers c.visit.new.stack.items) c.loop-turn.steps c.visit.new.steps turn n e c.args.arena.now roots inv.longer rooted waiting (subst (Keeping c.args.arena.now roots c.loop-turn.arena) popped (inv.keeping n e));
       counted = λ n e apart. counted_turn measure r s n (2 * n + 2) refl settled related turns e (λ op inputs. laws.bounded c.args.rule.now r s op inputs n e) c.loop-turn.arena c.visit.new.arena at rest (numbers c.visit.new.stack.items) c.args.steps.now c.loop-turn.steps c.visit.new.steps turn (subst (λ l. Counted measure r s n (2 * n + 2) c.loop-turn.arena l c.args.steps.now c.loop-turn.steps) popped (inv.counted n e apart));
     }
@@ -99,7 +103,7 @@ returns-clause-err g c =
     let s = columns c.args.schema.now in
     let settled = g.R.OptimizationRule.settled c.args.rule.now r s in
     let roots = numbers c.args.stack.now.items in
-    subst (IsCoercionRefusal settled r s c.args.arena.now roots) (sym c.at_top.ensures) (no_memory_left settled r s c.args.arena.now roots)
+    subst (IsCoercionRefusal settled (g.R.OptimizationRule.turns c.args.rule.now) r s c.args.arena.now roots) (sym c.at_top.ensures) (no_memory_left settled (g.R.OptimizationRule.turns c.args.rule.now) r s c.args.arena.now roots)
 
 pub returns-in_err-visit-clause-like : goal.returns-in_err-visit-clause-like
 returns-in_err-visit-clause-like g c = λ typed.
@@ -200,6 +204,11 @@ returns-in_err-visit-clause-err g c =
       typed = λ typed.
           let root = (subst (λ l. Pending settled related r s c.args.arena.now c.loop-turn.arena l roots) popped (inv.pending typed)).waiting.0 in
           memory_alone _ root.typed c.in_err-visit.field-0.0 root.is (c.in_err-visit.ensures.err root.tree root.denotes);
+      numbers = λ n e none are.
+          let laws = g.met.R.OptimizationRule in
+          let now = subst (λ l. Working settled related r s c.args.arena.now c.loop-turn.arena l roots) popped (inv.many n e none are) in
+          let top = working_typed settled (rule.measure c.args.rule.now r s) related (rule.turns c.args.rule.now) n e r s (laws.congruent c.args.rule.now r s) (laws.transitive c.args.rule.now r s) none c.args.arena.now roots are c.loop-turn.arena at (reverse rest) now in
+          memory_alone _ top.1 c.in_err-visit.field-0.0 top.3 (c.in_err-visit.ensures.err top.0 top.2);
     })
 
 pub returns-in-None-clause-alone : goal.returns-in-None-clause-alone
@@ -212,3 +221,38 @@ returns-in-None-clause-alone g c = λ root number many t none is d h.
     let related = rule.related c.args.rule.now r s in
     let empty = ap reverse (no_numbers c.loop-turn.stack.items c.in-None.ensures.variant.1) in
     alone_end settled (rule.measure c.args.rule.now r s) related (rule.turns c.args.rule.now) r s (laws.congruent c.args.rule.now r s) (laws.transitive c.args.rule.now r s) none root number many t c.loop-turn.arena (subst (λ l. Alone settled related r s c.loop-turn.arena l root t) empty (c.loop-turn.invariant.alone root number many t none is d h))
+
+pub returns-in-None-clause-beside : goal.returns-in-None-clause-beside
+returns-in-None-clause-beside g c = λ n e none are. (c.loop-turn.invariant.many n e none are).trees
+
+pub returns-in-None-clause-ends : goal.returns-in-None-clause-ends
+returns-in-None-clause-ends g c = λ n e none are.
+    let r = registry c.args.udfs.now in
+    let s = columns c.args.schema.now in
+    let rule = g.R.OptimizationRule in
+    let laws = g.met.R.OptimizationRule in
+    let settled = rule.settled c.args.rule.now r s in
+    let related = rule.related c.args.rule.now r s in
+    let roots = numbers c.args.stack.now.items in
+    let empty = ap reverse (no_numbers c.loop-turn.stack.items c.in-None.ensures.variant.1) in
+    working_end settled (rule.measure c.args.rule.now r s) related (rule.turns c.args.rule.now) n e r s (laws.congruent c.args.rule.now r s) (laws.transitive c.args.rule.now r s) none c.args.arena.now roots are c.loop-turn.arena (subst (λ l. Working settled related r s c.args.arena.now c.loop-turn.arena l roots) empty (c.loop-turn.invariant.many n e none are))
+
+pub returns-clause-beside : goal.returns-clause-beside
+returns-clause-beside g c = λ n e none are. (c.loop-turn.invariant.many n e none are).trees
+
+pub returns-in_err-visit-clause-beside : goal.returns-in_err-visit-clause-beside
+returns-in_err-visit-clause-beside g c = λ n e none are.
+    let r = registry c.args.udfs.now in
+    let s = columns c.args.schema.now in
+    let rule = g.R.OptimizationRule in
+    let laws = g.met.R.OptimizationRule in
+    let settled = rule.settled c.args.rule.now r s in
+    let measure = rule.measure c.args.rule.now r s in
+    let related = rule.related c.args.rule.now r s in
+    let turns = rule.turns c.args.rule.now in
+    let roots = numbers c.args.stack.now.items in
+    let rest = numbers c.pop.new.self.items in
+    let at = c.in-Some.node.0 in
+    let popped = ap reverse (pushed_one c.pop.new.self.items c.loop-turn.stack.items c.in-Some.node c.in-Some.ensures.items) ∙ top_first rest at in
+    let inv = c.loop-turn.invariant in
+    working_stops settled measure related turns n e r s (laws.congruent c.args.rule.now r s) (laws.transitive c.args.rule.now r s) none c.args.arena.now roots are c.loop-turn.arena c.visit.new.arena at inv.finite inv.longer (λ m a. among_all (DenotesTree (HoldsExpression c.args.arena.now)) roots m c.requires.trees a) (reverse rest) c.in_err-visit.ensures.stopped (subst (λ l. Working settled related r s c.args.arena.now c.loop-turn.arena l roots) popped (inv.many n e none are))

@@ -7,9 +7,10 @@ use Rattle.plan_types.specs.Types.{Untyped}
 use Rattle.plan_arena.specs.Denotation.{Denotes}
 use Rattle.plan_arena.specs.Items.{HoldsExpression, numbers}
 use Rattle.plan_coerce.specs.Rules.{SettlesNoNumber}
+use Rattle.plan_coerce.proofs.ManyRootLemmas.{Working}
 use Rattle.plan_coerce.proofs.NumberRootLemmas.{Alone}
 use Rattle.plan_infer.specs.KeptTypes.{IsRight}
-use Rattle.plan_coerce.specs.Optimizer.{AreApart, AreTrees, AreTypedRoots, StaysFinite}
+use Rattle.plan_coerce.specs.Optimizer.{AreApart, AreRoots, AreTrees, AreTypedRoots, StaysFinite}
 use Rattle.plan_coerce.proofs.CountLemmas.{Counted}
 use Rattle.plan_coerce.proofs.NearLemmas.{Keeping}
 use Rattle.plan_coerce.proofs.TurnLemmas.{Pending}
@@ -28,6 +29,7 @@ invariant-loop-turn g l =
       right : IsRight registry schema l.arena l.types;
       pending : AreTypedRoots settled registry schema l.initial.arena roots → Pending settled (g.R.OptimizationRule.related l.rule registry schema) registry schema l.initial.arena l.arena (reverse (numbers l.stack.items)) roots;
       alone : (root : ℕ) (number : ℤ) (many : Bool) (t : Expression) → SettlesNoNumber settled → roots ≡ root ∷ [] → Denotes (HoldsExpression l.initial.arena) root t → typing registry schema t ≡ Ok (record { type = Untyped number; many = many }) → Alone settled (g.R.OptimizationRule.related l.rule registry schema) registry schema l.arena (reverse (numbers l.stack.items)) root t;
+      many : (n : ℕ) → g.R.OptimizationRule.turns l.rule ≡ Some n → SettlesNoNumber settled → AreRoots settled registry schema l.initial.arena roots → Working settled (g.R.OptimizationRule.related l.rule registry schema) registry schema l.initial.arena l.arena (reverse (numbers l.stack.items)) roots;
       keeping : (n : ℕ) → g.R.OptimizationRule.turns l.rule ≡ Some n → Keeping l.initial.arena roots l.arena (reverse (numbers l.stack.items));
       counted : (n : ℕ) → g.R.OptimizationRule.turns l.rule ≡ Some n → AreApart l.initial.arena roots → Counted (g.R.OptimizationRule.measure l.rule registry schema) registry schema n (2 * n + 2) l.arena (reverse (numbers l.stack.items)) l.initial.steps l.steps;
     }

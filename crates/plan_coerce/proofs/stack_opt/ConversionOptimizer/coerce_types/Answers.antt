@@ -14,3 +14,9 @@ returns-in-Err-clause-like g c = λ typed n t d.
     let r = registry c.args.udfs.now in
     let s = columns c.args.schema.now in
     record { tree = t; denotes = d; like = like_itself (g.R.OptimizationRule.related c.args.rule.now r s) r s (g.met.R.OptimizationRule.congruent c.args.rule.now r s) t }
+
+pub returns-in-Err-clause-beside : goal.returns-in-Err-clause-beside
+returns-in-Err-clause-beside g c = λ turns is none are n t d away.
+    let r = registry c.args.udfs.now in
+    let s = columns c.args.schema.now in
+    record { tree = t; denotes = d; like = like_itself (g.R.OptimizationRule.related c.args.rule.now r s) r s (g.met.R.OptimizationRule.congruent c.args.rule.now r s) t }
