@@ -1,13 +1,20 @@
 -- What the worked examples share: the sum with a cast and what an arena holds of it.
-use Rattle.std.specs.Prelude.{ℕ, List, [], ◌∷◌}
+use Rattle.std.specs.Prelude.{◌≡◌, ℕ, List, [], ◌∷◌, codes, Some}
+use Rattle.plan_types.specs.Schemas.{Columns, columns}
+use Rattle.plan_types.specs.declared.schema.Schema.{Schema}
 use Rattle.plan_types.specs.declared.dtype.DataType.{DataType}
 use Rattle.plan_types.specs.declared.dtype.DataType.TheVariants as dtype
 use Rattle.plan_types.specs.declared.dtype.CastOptions.TheVariants.{NonStrict}
-use Rattle.plan_dsl.specs.declared.operator.Operator.TheVariants.{Plus}
+use Rattle.plan_dsl.specs.declared.operator.Operator.TheVariants.{Eq, Plus}
 use Rattle.plan_dsl.specs.Ops.{Expression}
 use Rattle.plan_arena.specs.declared.aexpr.AExpr.{AExpr}
 use Rattle.plan_arena.specs.declared.aexpr.AExpr.TheVariants.{Cast}
-use Rattle.plan_infer.specs.Samples.{int32, a, b, binary, cast_to, at, pair, columns_and}
+use Rattle.plan_arena.specs.declared.ir.IR.{IR}
+use Rattle.plan_arena.specs.declared.ir.IR.TheVariants.{DataFrameScan, Filter}
+use Rattle.plan_arena.specs.declared.expr_ir.OutputName.TheVariants.{ColumnLhs}
+use Rattle.plan_infer.specs.Samples.{int32, two_columns, a, b, binary, cast_to, at, pair, columns_and}
+use Rattle.plan_coerce.specs.Rules.{HasSameCasts, is_strict_node, until_strict}
+use Rattle.plan_coerce.specs.Turns.{IsFound, IsPlaced, IsStopped, IsTurn}
 
 abbrev pub wide : Expression
 wide = cast_to int32 a
@@ -22,3 +29,35 @@ cast_of n dtype = Cast (at n) dtype NonStrict
 -- the same, with the first column cast
 abbrev pub strict_items : List AExpr
 strict_items = columns_and (pair 3 Plus 1 ∷ cast_of 0 dtype.Int32 ∷ [])
+
+-- what the rule of coercion does at nodes over these columns
+abbrev pub IsSumPlaced : List AExpr → List AExpr → ℕ → Type 0
+IsSumPlaced = IsPlaced (is_strict_node [] two_columns) (until_strict [] two_columns) (HasSameCasts [] two_columns) (Some 1) [] two_columns
+
+abbrev pub IsSumFound : List AExpr → List AExpr → ℕ → Type 0
+IsSumFound = IsFound (is_strict_node [] two_columns) [] two_columns
+
+abbrev pub IsSumTurn : List AExpr → List AExpr → ℕ → List ℕ → List ℕ → ℕ → ℕ → Type 0
+IsSumTurn = IsTurn (is_strict_node [] two_columns) (until_strict [] two_columns) (HasSameCasts [] two_columns) (Some 1) [] two_columns
+
+abbrev pub IsSumStopped : List AExpr → List AExpr → ℕ → Type 0
+IsSumStopped = IsStopped (is_strict_node [] two_columns) (until_strict [] two_columns) (HasSameCasts [] two_columns) (Some 1) [] two_columns
+
+-- two columns and whether they are equal
+abbrev pub equal_items : List AExpr
+equal_items = columns_and (pair 0 Eq 1 ∷ [])
+
+-- a property of each schema of these columns
+abbrev pub ForSchema : Columns → (Schema → Type 0) → Type 0
+ForSchema own Has = (schema : Schema) → columns schema ≡ own → Has schema
+
+-- a plan's filter over a node, by a node of the other arena, and a scan with other nodes behind it
+abbrev pub filter_by : ℕ → ℕ → IR
+filter_by input predicate = Filter (at input) (record { node = at predicate; output_name = ColumnLhs (codes "a") })
+
+abbrev pub scan_and : Schema → List IR → List IR
+scan_and schema behind = DataFrameScan (Some 0) schema ∷ behind
+
+-- over a scan a filter by truth values and one by numbers, and a filter over the latter
+abbrev pub filters : Schema → List IR
+filters schema = scan_and schema (filter_by 0 2 ∷ filter_by 0 0 ∷ filter_by 2 2 ∷ [])

@@ -1,0 +1,27 @@
+use Rattle.std.proofs.Common.{◌≡◌, [], refl}
+use Rattle.plan_types.specs.declared.dtype.CastOptions.TheVariants.{NonStrict}
+use Rattle.plan_dsl.specs.Ops.{CastOp}
+use Rattle.plan_dsl.specs.Trees.{no_more, more}
+use Rattle.plan_infer.specs.Samples.{int32, two_columns, a, cast_to}
+use Rattle.plan_coerce.specs.CoercedLaws.{same_casts_congruent}
+use Rattle.plan_coerce.proofs.ExampleLemmas.{other_label}
+use Rattle.plan_coerce.proofs.examples.optimizer.expressions_that_are_alike.Goals as goal
+
+pub returns-clause-cast : goal.returns-clause-cast
+returns-clause-cast c = record { same = record { typing = refl; name = refl; meaning = λ rows. refl }; relates = refl }
+
+pub returns-clause-unrelated : goal.returns-clause-unrelated
+returns-clause-unrelated c = λ like. like.relates
+
+pub returns-clause-other_name : goal.returns-clause-other_name
+returns-clause-other_name c = λ like. other_label like.same.name
+
+pub returns-clause-same_casts : goal.returns-clause-same_casts
+returns-clause-same_casts c = same_casts_congruent [] two_columns
+
+no_column : cast_to int32 a ≡ a → ⊥
+no_column e = cc
+
+pub returns-clause-one_column_alone : goal.returns-clause-one_column_alone
+returns-clause-one_column_alone c = λ congruent.
+    no_column (congruent (CastOp int32 NonStrict) (more a no_more) (more a no_more) (record { same = record { typing = refl; name = refl; meaning = λ rows. refl }; relates = refl }, tt))
