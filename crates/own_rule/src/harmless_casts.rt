@@ -47,6 +47,8 @@ impl OptimizationRule for HarmlessCastRule {
 
     ghost related = { λ rule. HasSameRelaxed };
 
+    ghost replaces_plans = { λ rule. false };
+
     ghost settled_plan = { λ rule registry schema kind. true };
 
     ghost congruent = { λ rule. relaxed_congruent };

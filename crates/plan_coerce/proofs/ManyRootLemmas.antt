@@ -26,7 +26,7 @@ use Rattle.plan_coerce.proofs.NearLemmas.{reach_kept}
 use Rattle.plan_coerce.proofs.NumberRootLemmas.{no_inputs, settled_bare}
 use Rattle.plan_coerce.proofs.CoercionRuleLemmas.{number_alone}
 use Rattle.plan_coerce.proofs.OnceLemmas.{among_back, among_front, among_split}
-use Rattle.plan_coerce.proofs.SettledLemmas.{known_settled, number_settled}
+use Rattle.plan_coerce.proofs.SettledLemmas.{number_settled}
 use Rattle.plan_coerce.proofs.TurnLemmas.{SettledBut, all_waiting, among_reversed, children_grown, inputs_first, like_itself, like_then, placed_like, settled_all, settled_denotes, step, stopped_elsewhere, stopped_like, top_first, turn_stopped, typed_become, typed_inputs, waiting_settled}
 
 -- the node denotes no number without a type
@@ -378,11 +378,11 @@ module _ (is_settled : Op → Inputs → Bool) (measure : Op → Inputs → ℕ)
         let each = settled_all is_settled registry schema items r v s in
         record {
           each = record { tree = v; denotes = denotes; each = each };
-          number = λ k m u d g. record { tree = v; denotes = denotes; each = each; like = subst (λ x. IsLike related registry schema (settled x) (settled v)) (one_tree start r t u before d) (subst (IsLike related registry schema (settled t)) (sym (known_settled registry schema v own typed known)) like) };
+          number = λ k m u d g. record { tree = v; denotes = denotes; each = each; like = inl (subst (λ x. IsLike related registry schema (settled x) v) (one_tree start r t u before d) like) };
         }
     | number_found t number many before h now calm ↦ record {
       each = record { tree = t; denotes = now; each = calm };
-      number = λ k m u d g. record { tree = t; denotes = now; each = calm; like = subst (λ x. IsLike related registry schema (settled x) (settled t)) (one_tree start r t u before d) (like_itself related registry schema congruent (settled t)) };
+      number = λ k m u d g. record { tree = t; denotes = now; each = calm; like = inr (one_tree start r t u before d) };
     }
   ]
 

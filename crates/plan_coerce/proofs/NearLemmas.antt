@@ -96,17 +96,18 @@ keeping_start items roots = record {
   among_turned : (ns : List ℕ) (m : ℕ) → Among (reverse ns) m → Among ns m
   among_turned ns m b = among_all (Among ns) (reverse ns) m (all_reversed (Among ns) ns (all_among (Among ns) ns (λ k a. a))) b
 
+-- what is at the top is such a node
+pub here_near : {start : List AExpr} {roots : List ℕ} {items : List AExpr} {at : ℕ} {rest : List ℕ} → Keeping start roots items (at ∷ rest) → Near start roots at
+here_near {start = start} {roots = roots} {items = items} {at = at} {rest = rest} k = k.near at (at_once items (roots ++ (at ∷ rest)) at (among_back roots (at ∷ rest) at (inl refl)))
+
 pub keeping_end : (start : List AExpr) (roots : List ℕ) (items : List AExpr) (tops : List ℕ) → Keeping start roots items tops → ReachesNear start items roots
 keeping_end start roots items tops k n r = k.near n (reached_from items roots (roots ++ tops) (λ m a. at_once items (roots ++ tops) m (among_front roots tops m a)) n r)
 
 module _ (is_settled : Op → Inputs → Bool) (measure : Op → Inputs → ℕ) (related : Expression → Expression → Type 0) (turns : Option ℕ) (limit : ℕ) (is : turns ≡ Some limit) (registry : Registry) (schema : Columns) (start items items' : List AExpr) (at : ℕ) (rest roots : List ℕ) (longer : length start ≤ length items) (trees : AreTrees items (roots ++ (at ∷ rest))) (k : Keeping start roots items (at ∷ rest)) where
-  here_near : Near start roots at
-  here_near = k.near at (at_once items (roots ++ (at ∷ rest)) at (among_back roots (at ∷ rest) at (inl refl)))
-
   -- the items that stay
   pub stops_apart : IsStopped is_settled measure related turns registry schema items items' at → StaysApart start items' roots
   stops_apart s n op inputs away held =
-      stopped_elsewhere is_settled measure related turns registry schema items items' at s n op inputs (not_near start roots at n op inputs here_near away held) (k.apart n op inputs away held)
+      stopped_elsewhere is_settled measure related turns registry schema items items' at s n op inputs (not_near start roots at n op inputs (here_near k) away held) (k.apart n op inputs away held)
 
   -- what is reached
   stops_near : IsStopped is_settled measure related turns registry schema items items' at → (n : ℕ) → IsReached items' (roots ++ (at ∷ rest)) n → Near start roots n

@@ -1,5 +1,5 @@
 -- A root that is a number without a type, by itself on the stack.
-use Rattle.std.proofs.Common.{◌≡◌, ℕ, ℤ, Bool, true, false, List, [], ◌∷◌, ◌++◌, map, reverse, Option, Ok, refl, sym, ap, ◌∙◌, subst}
+use Rattle.std.proofs.Common.{◌≡◌, ℕ, ℤ, Bool, true, false, List, [], ◌∷◌, ◌++◌, map, reverse, Option, Ok, refl, sym, ap, ◌∙◌, subst, inl, inr}
 use Rattle.std.specs.List.{AllByRecursion}
 use Rattle.plan_types.specs.Types.{Untyped, is_known}
 use Rattle.plan_types.specs.Schemas.{Columns}
@@ -20,8 +20,8 @@ use Rattle.plan_arena.proofs.ItemLemmas.{expression_laws, grown_held}
 use Rattle.plan_coerce.specs.Optimizer.{EndsTyped, IsSettled, IsTypedRoot}
 use Rattle.plan_coerce.specs.Rules.{Inputs, IsCongruent, IsLike, IsTransitive, SettlesNoNumber, seen}
 use Rattle.plan_coerce.specs.Turns.{IsFound, IsPlaced, IsTurn, finds, places}
-use Rattle.plan_coerce.proofs.SettledLemmas.{known_settled, number_settled}
-use Rattle.plan_coerce.proofs.TurnLemmas.{Pending, all_ended, like_itself, like_then, pending_start, pending_turn, top_first, inputs_first}
+use Rattle.plan_coerce.proofs.SettledLemmas.{number_settled}
+use Rattle.plan_coerce.proofs.TurnLemmas.{Pending, all_ended, like_then, pending_start, pending_turn, top_first, inputs_first}
 
 -- such a root waits, or it has got a type and is settled but for what waits, or it was found settled
 pub data Alone (is_settled : Op → Inputs → Bool) (related : Expression → Expression → Type 0) (registry : Registry) (schema : Columns) (items : List AExpr) (tops : List ℕ) (root : ℕ) (t : Expression) : Type 0 where
@@ -102,13 +102,11 @@ module _ (is_settled : Op → Inputs → Bool) (measure : Op → Inputs → ℕ)
         let now = pending.trees root v d in
         let one = denotes_one (shape_of (map expression_layer items)) (HoldsExpression items) (expression_laws items) root now.tree ended.tree now.denotes ended.denotes in
         let whole = like_then related registry schema congruent transitive (settled t) v now.tree like now.like in
-        let typed = now.like.same.typing ∙ is in
-        let stays = known_settled registry schema now.tree own typed known in
         record {
           tree = ended.tree;
           denotes = ended.denotes;
           each = ended.each;
-          like = subst (λ u. IsLike related registry schema (settled t) (settled u)) one (subst (IsLike related registry schema (settled t)) (sym stays) whole);
+          like = inl (subst (IsLike related registry schema (settled t)) one whole);
         }
-    | is_found empty d calm ↦ record { tree = t; denotes = d; each = calm; like = like_itself related registry schema congruent (settled t) }
+    | is_found empty d calm ↦ record { tree = t; denotes = d; each = calm; like = inr refl }
   ]

@@ -9,9 +9,9 @@ use Rattle.plan_dsl.specs.Ops.{Op}
 use Rattle.plan_arena.specs.declared.arena.Node.{Node}
 use Rattle.plan_arena.specs.declared.aexpr.AExpr.{AExpr}
 use Rattle.plan_arena.specs.Layers.{layer, inputs_of}
-use Rattle.plan_arena.specs.Items.{HoldsExpression, expression_layer, named_node, numbers, passed}
+use Rattle.plan_arena.specs.Items.{Grows, HoldsExpression, expression_layer, named_node, numbers, passed}
 use Rattle.plan_arena.specs.declared.expr_ir.ExprIR.{ExprIR}
-use Rattle.plan_coerce.specs.Optimizer.{IsBegun, all_with_inputs, with_inputs}
+use Rattle.plan_coerce.specs.Optimizer.{all_with_inputs, with_inputs}
 use Rattle.plan_arena.proofs.DenotationLemmas.{some_same}
 use Rattle.plan_arena.proofs.ItemLemmas.{expression_got}
 
@@ -40,12 +40,9 @@ pub with_one_more : (items : List AExpr) (ms : List ℕ) (n : ℕ) → all_with_
 with_one_more items [] n = append-nil (with_inputs items n)
 with_one_more items (m ∷ ms) n = ap (λ l. with_inputs items m ++ l) (with_one_more items ms n) ∙ sym (append_assoc (with_inputs items m) (all_with_inputs items ms) (with_inputs items n))
 
-pub begun_back : (old now : List Node) (count : ℕ) → count ≡ length old → IsBegun (numbers old) (numbers now) → numbers (take count now) ≡ numbers old
+pub begun_back : (old now : List Node) (count : ℕ) → count ≡ length old → Grows (numbers old) (numbers now) → numbers (take count now) ≡ numbers old
 begun_back old now count is b =
-    sym (take-map (λ (n : Node). n.0) count now) ∙ ap (take count) b.is ∙ ap (λ k. take k (numbers old ++ b.more)) (is ∙ sym (length-map old (λ (n : Node). n.0))) ∙ take-append_seam (numbers old) b.more
-
-pub begun_then : (a b c : List ℕ) → IsBegun a b → IsBegun b c → IsBegun a c
-begun_then a b c first second = record { more = first.more ++ second.more; is = second.is ∙ ap (λ l. l ++ second.more) first.is ∙ append_assoc a first.more second.more }
+    sym (take-map (λ (n : Node). n.0) count now) ∙ ap (take count) b.longer ∙ ap (λ k. take k (numbers old ++ b.added)) (is ∙ sym (length-map old (λ (n : Node). n.0))) ∙ take-append_seam (numbers old) b.added
 
 -- the roots that are stacked so far, and with one more
 module _ (exprs : List ExprIR) (i : ℕ) (expr : ExprIR) (within : i < length exprs) (at : expr ≡ get_or exprs i expr) where

@@ -13,7 +13,7 @@ use Rattle.plan_dsl.specs.Registry.{Registry}
 use Rattle.plan_dsl.specs.Literals.{settled}
 use Rattle.plan_dsl.specs.Names.{label_of, op_label}
 use Rattle.plan_dsl.specs.Trees.{Trees, node, no_more, more, fold_all, AllRelated}
-use Rattle.plan_dsl.specs.Ops.{Op, LenOp, Expression}
+use Rattle.plan_dsl.specs.Ops.{Op, Expression}
 use Rattle.plan_dsl.specs.Strictness.{IsSame}
 use Rattle.plan_dsl.specs.Typing.{Typed, typing, typing_all}
 use Rattle.plan_dsl.proofs.SameLemmas.{node_same, same_itself, same_then, typings_same}
@@ -349,8 +349,8 @@ on_refusal (Err e) p = p
 pub memory_alone : (answer : Result Typed ErrorKind) (typed : Typed) (error : PlanError) → answer ≡ Ok typed → IsRefusal answer error → error ≡ no_memory
 memory_alone answer typed error is refused = elim refused as (λ _. error ≡ no_memory) [ no_room e ↦ e | broken kind e of ↦ cc ]
 
-pub no_memory_left : (is_settled : Op → Inputs → Bool) (turns : Option ℕ) (registry : Registry) (schema : Columns) (items : List AExpr) (roots : List ℕ) → IsCoercionRefusal is_settled turns registry schema items roots no_memory
-no_memory_left is_settled turns registry schema items roots = record { tree = node LenOp no_more; is = no_room refl; typed = λ all. refl; numbers = λ n e none all. refl }
+pub no_memory_left : (is_settled : Op → Inputs → Bool) (turns : Option ℕ) (registry : Registry) (schema : Columns) (old new : List AExpr) (roots : List ℕ) → IsCoercionRefusal is_settled turns registry schema old new roots no_memory
+no_memory_left is_settled turns registry schema old new roots = record { cause = inl refl; typed = λ all. refl; numbers = λ n e none all. refl }
 
 pub found_now : (is_settled : Op → Inputs → Bool) (measure : Op → Inputs → ℕ) (related : Expression → Expression → Type 0) (registry : Registry) (schema : Columns) (old grown : List AExpr) (at : ℕ) (answer : Option AExpr) → answer ≡ None → Grows old grown → ((t : Expression) → Denotes (HoldsExpression old) at t → MatchOption answer (said is_settled registry schema t ≡ true) (λ item. IsReplacement related measure registry schema old (set grown at item) at t)) → IsFound is_settled registry schema old grown at
 found_now is_settled measure related registry schema old grown at None is g said_so = record { grows = g; is = said_so }

@@ -28,7 +28,7 @@ roots_of optimizer = numbers optimizer.roots.items
 abbrev pub stacked : ConversionOptimizer → List ℕ
 stacked optimizer = numbers optimizer.scratch.items
 
--- a node, and then its inputs, as passes go over them
+-- a node, and then its inputs, as passes go over them, the last one first
 abbrev pub with_inputs : List AExpr → ℕ → List ℕ
 with_inputs items n = n ∷ reverse (unwrap_or (option_map passed (slice_get (map expression_layer items) n)) [])
 
@@ -76,12 +76,12 @@ abbrev pub AreTypedRoots : (Op → Inputs → Bool) → Registry → Columns →
 AreTypedRoots settled registry schema items roots = AllByRecursion (IsTypedRoot settled registry schema items) roots
 
 -- What becomes of a root that is a number without a type, or stands over one by aliases: each node is settled, and the
--- expression is like the one that has the type that the number has alone.
+-- expression is like the one that has the type that the number has alone, or it was settled as it was.
 pub record EndsTyped (settled : Op → Inputs → Bool) (related : Expression → Expression → Type 0) (registry : Registry) (schema : Columns) (items : List AExpr) (n : ℕ) (before : Expression) : Type 0 where
   pub tree : Expression
   pub denotes : Denotes (HoldsExpression items) n tree
   pub each : IsSettled settled registry schema tree
-  pub like : IsLike related registry schema (with_own_type before) (with_own_type tree)
+  pub like : IsLike related registry schema (with_own_type before) tree ⊎ (tree ≡ before)
 
 -- so of a root that stands alone, where no node over such a number is settled
 abbrev pub TypesNumber : (Op → Inputs → Bool) → (Expression → Expression → Type 0) → Registry → Columns → List AExpr → List AExpr → List ℕ → Type 0
@@ -135,13 +135,21 @@ pub record AreApart (items : List AExpr) (roots : List ℕ) : Type 0 where
   pub have : HaveNodes items roots trees nodes
   pub once : AreOnce nodes
 
--- why coercion is refused: an expression's typing is, or memory is wanting. Over typed roots it is the latter, and so where
--- some are numbers without a type that stand apart, by a rule that says how often a node is replaced
-pub record IsCoercionRefusal (settled : Op → Inputs → Bool) (turns : Option ℕ) (registry : Registry) (schema : Columns) (items : List AExpr) (roots : List ℕ) (error : PlanError) : Type 0 where
+-- A refusal comes of the typing of what a node denotes. By a rule that says how often a node is replaced it is one that was
+-- added, or that the roots reached.
+pub record IsRefusedAt (turns : Option ℕ) (registry : Registry) (schema : Columns) (old new : List AExpr) (roots : List ℕ) (error : PlanError) : Type 0 where
+  pub node : ℕ
   pub tree : Expression
+  pub denotes : Denotes (HoldsExpression new) node tree
   pub is : IsRefusal (typing registry schema tree) error
-  pub typed : AreTypedRoots settled registry schema items roots → error ≡ no_memory
-  pub numbers : (n : ℕ) → turns ≡ Some n → SettlesNoNumber settled → AreRoots settled registry schema items roots → error ≡ no_memory
+  pub near : (n : ℕ) → turns ≡ Some n → Near old roots node
+
+-- Why coercion is refused: memory is wanting, or such a typing is refused. Over typed roots it is the former, and so where
+-- some are numbers without a type that stand apart, by a rule that says how often a node is replaced.
+pub record IsCoercionRefusal (settled : Op → Inputs → Bool) (turns : Option ℕ) (registry : Registry) (schema : Columns) (old new : List AExpr) (roots : List ℕ) (error : PlanError) : Type 0 where
+  pub cause : (error ≡ no_memory) ⊎ IsRefusedAt turns registry schema old new roots error
+  pub typed : AreTypedRoots settled registry schema old roots → error ≡ no_memory
+  pub numbers : (n : ℕ) → turns ≡ Some n → SettlesNoNumber settled → AreRoots settled registry schema old roots → error ≡ no_memory
 
 -- where the plan's node is a filter, the schema is the one that goes into it
 abbrev pub StaysOver : Registry → List AExpr → List IR → ℕ → Columns → Type 0
@@ -153,15 +161,10 @@ abbrev pub IsSettledPlan : (Registry → Columns → PlanKind (Named Expression)
 IsSettledPlan settled registry expressions plans n =
     (kind : PlanKind (Named Expression)) (schema : Columns) → StandsOver registry expressions plans n kind schema → settled registry schema kind ≡ true
 
--- the plan's node stays where it is settled, or another was put in its place
-abbrev pub IsPlanTurn : (Registry → Columns → PlanKind (Named Expression) → Bool) → Registry → List AExpr → List IR → List IR → ℕ → Type 0
-IsPlanTurn settled registry expressions old new n =
-    ((new ≡ old) × IsSettledPlan settled registry expressions old n) ⊎ IsPlanReplacement registry expressions old new n
-
--- the other list begins with the first
-pub record IsBegun {T : Type 0} (old new : List T) : Type 0 where
-  pub more : List T
-  pub is : new ≡ old ++ more
+-- the plan's node stays and is settled, or another was put in its place, by a rule that may do so
+abbrev pub IsPlanTurn : (Registry → Columns → PlanKind (Named Expression) → Bool) → Bool → Registry → List AExpr → List IR → List IR → ℕ → Type 0
+IsPlanTurn settled replaces registry expressions old new n =
+    ((new ≡ old) × IsSettledPlan settled registry expressions old n) ⊎ ((replaces ≡ true) × IsPlanReplacement registry expressions old new n)
 
 -- What coercion of these roots leaves: items below the number stay, each tree becomes one that says the same, and each
 -- root's is strict.

@@ -1,5 +1,5 @@
 //! The rule that each node has operands of the types to which it takes them.
-ghost use Rattle.std.specs.Prelude.{◌≡◌, ℕ, ◌≤◌, List, [], ◌∷◌, Some, length, slice_get, map, set, true, MatchOption, IfOk, IfErr, OnOk};
+ghost use Rattle.std.specs.Prelude.{◌≡◌, ℕ, ◌≤◌, List, [], ◌∷◌, Some, length, slice_get, map, set, true, MatchOption, IfOk, IfErr, OnOk, false};
 ghost use Rattle.std.specs.List.{AllByRecursion};
 ghost use Rattle.plan_types.specs.CommonTypes.{type_alone};
 ghost use Rattle.plan_types.specs.Errors.{IsRefusal, no_memory};
@@ -50,6 +50,8 @@ impl OptimizationRule for TypeCoercionRule {
     ghost turns = { λ rule. Some 8 };
 
     ghost related = { λ rule. HasSameCasts };
+
+    ghost replaces_plans = { λ rule. false };
 
     ghost settled_plan = { λ rule registry schema kind. true };
 

@@ -37,6 +37,9 @@ pub trait OptimizationRule {
     // What else what is put in place has in common with what was there.
     ghost related: { Self → Registry → Columns → Expression → Expression → Type 0 };
 
+    // Whether it may put anything in place of a plan's node.
+    ghost replaces_plans: { Self → Bool };
+
     // Whether a plan's node over an input of the schema is settled.
     ghost settled_plan: { Self → Registry → Columns → PlanKind (Named Expression) → Bool };
 
@@ -60,6 +63,7 @@ pub trait OptimizationRule {
             (λ item. IsPlanReplacement (registry udfs.now) expr_arena.now lp_arena.now (set lp_arena.now node.0 item) node.0)) }
         ensures stays { IfOk result (λ answer. (kind : PlanKind (Named Expression)) (schema : Columns) → StandsOver (registry udfs.now) expr_arena.now lp_arena.now node.0 kind schema →
             settled_plan self.now (registry udfs.now) schema kind ≡ true → answer ≡ None) }
+        ensures none { replaces_plans self.now ≡ false → IfOk result (λ answer. answer ≡ None) }
         ensures right { (schema : Columns) → IsRight (registry udfs.now) schema expr_arena.now types.old →
             ((predicate : Named Expression) (into : Columns) → StandsOver (registry udfs.now) expr_arena.now lp_arena.now node.0 (FilterKind predicate) into → into ≡ schema) →
             IsRight (registry udfs.now) schema expr_arena.now types.new }

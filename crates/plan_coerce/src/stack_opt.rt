@@ -1,5 +1,5 @@
 //! The stack of coercion, and its loop over any rule.
-ghost use Rattle.std.specs.Prelude.{◌≡◌, ◌≢◌, ◌⊎◌, ℕ, ◌<◌, ◌≤◌, ◌+◌, ◌*◌, List, [], ◌∷◌, ◌++◌, IsTrue, Some, true, ◌↔◌, length, map, reverse, set, slice_get, IfOk, IfErr, OnErr, OnOk};
+ghost use Rattle.std.specs.Prelude.{◌≡◌, ◌≢◌, ◌⊎◌, ℕ, ◌<◌, ◌≤◌, ◌+◌, ◌*◌, List, [], ◌∷◌, ◌++◌, IsTrue, Some, true, false, ◌↔◌, length, map, reverse, set, slice_get, IfOk, IfErr, OnErr, OnOk};
 ghost use Rattle.std.specs.List.{AllByRecursion};
 ghost use Rattle.plan_types.specs.Errors.{IsRefusal, no_memory};
 ghost use Rattle.plan_types.specs.Schemas.{Columns, columns};
@@ -8,9 +8,9 @@ ghost use Rattle.plan_dsl.specs.Plans.{FilterKind, Named, PlanKind};
 ghost use Rattle.plan_dsl.specs.Registry.{Registry, registry};
 ghost use Rattle.plan_dsl.specs.Typing.{typing};
 ghost use Rattle.plan_arena.specs.Denotation.{Denotes, DenotesTree};
-ghost use Rattle.plan_arena.specs.Items.{HoldsExpression, named_node, numbers};
+ghost use Rattle.plan_arena.specs.Items.{Grows, HoldsExpression, named_node, numbers};
 ghost use Rattle.plan_infer.specs.KeptTypes.{IsRight};
-ghost use Rattle.plan_coerce.specs.Optimizer.{AreApart, AreRoots, AreTrees, AreTypedRoots, DenotesSettled, EndsSettled, IsCoercionRefusal, IsBegun, IsPlanTurn, ReachesNear, StaysApart, StaysFinite, StaysLike, StaysLikeBeside, StaysOver, TypesNumber, all_with_inputs, roots_of, stacked, with_inputs};
+ghost use Rattle.plan_coerce.specs.Optimizer.{AreApart, AreRoots, AreTrees, AreTypedRoots, DenotesSettled, EndsSettled, IsCoercionRefusal, IsPlanTurn, ReachesNear, StaysApart, StaysFinite, StaysLike, StaysLikeBeside, StaysOver, TypesNumber, all_with_inputs, roots_of, stacked, with_inputs};
 ghost use Rattle.plan_coerce.specs.Rules.{HasAcceptedInputs, KeepsNumber, RefusesPredicate, SettlesNoNumber, StandsOver};
 ghost use Rattle.plan_coerce.specs.Turns.{IsStopped, IsTurn};
 
@@ -72,7 +72,7 @@ impl ConversionOptimizer {
         ensures roots { OnOk result (roots_of self.new ≡ roots_of self.old ++ node.0 ∷ []) }
         ensures stacked { OnOk result (stacked self.new ≡ stacked self.old ++ with_inputs expr_arena.now node.0) }
         ensures same_roots { OnErr result (roots_of self.new ≡ roots_of self.old) }
-        ensures more { OnErr result (IsBegun (stacked self.old) (stacked self.new)) }
+        ensures more { OnErr result (Grows (stacked self.old) (stacked self.new)) }
         ensures err { IfErr result (λ error. error ≡ no_memory) }
     {
         self.scratch.push(node)?;
@@ -111,8 +111,8 @@ impl ConversionOptimizer {
         requires { AllByRecursion (λ n. n < length expr_arena.now) (map (λ e. (named_node e).expression) exprs.now) }
         ensures roots { OnOk result (roots_of self.new ≡ roots_of self.old ++ map (λ e. (named_node e).expression) exprs.now) }
         ensures stacked { OnOk result (stacked self.new ≡ stacked self.old ++ all_with_inputs expr_arena.now (map (λ e. (named_node e).expression) exprs.now)) }
-        ensures more_roots { IsBegun (roots_of self.old) (roots_of self.new) }
-        ensures more { IsBegun (stacked self.old) (stacked self.new) }
+        ensures more_roots { Grows (roots_of self.old) (roots_of self.new) }
+        ensures more { Grows (stacked self.old) (stacked self.new) }
         ensures err { IfErr result (λ error. error ≡ no_memory) }
     {
         for expr in exprs {
@@ -153,7 +153,7 @@ impl ConversionOptimizer {
             steps.new ≤ steps.old + (2 * n + 2) * length expr_arena.new }
         ensures no_roots { roots_of self.new ≡ [] }
         ensures none_stacked { stacked self.new ≡ [] }
-        ensures err { IfErr result (λ error. IsCoercionRefusal (R.settled rule.now (registry udfs.now) (columns schema.now)) (R.turns rule.now) (registry udfs.now) (columns schema.now) expr_arena.old (roots_of self.old) error) }
+        ensures err { IfErr result (λ error. IsCoercionRefusal (R.settled rule.now (registry udfs.now) (columns schema.now)) (R.turns rule.now) (registry udfs.now) (columns schema.now) expr_arena.old expr_arena.new (roots_of self.old) error) }
     {
         self.scratch.clear();
         let done = coerce_stacked(
@@ -206,12 +206,13 @@ impl ConversionOptimizer {
         ensures none_stacked { stacked self.new ≡ [] }
         ensures plans { (n : ℕ) → n ≢ node.0 → slice_get lp_arena.new n ≡ slice_get lp_arena.old n }
         ensures count { length lp_arena.new ≡ length lp_arena.old }
-        ensures plan { OnOk result (IsPlanTurn (R.settled_plan rule.now) (registry udfs.now) expr_arena.old lp_arena.old lp_arena.new node.0) }
+        ensures plan { OnOk result (IsPlanTurn (R.settled_plan rule.now) (R.replaces_plans rule.now) (registry udfs.now) expr_arena.old lp_arena.old lp_arena.new node.0) }
+        ensures plan_same { R.replaces_plans rule.now ≡ false → lp_arena.new ≡ lp_arena.old }
         ensures plan_stays { (kind : PlanKind (Named Expression)) (over : Columns) → StandsOver (registry udfs.now) expr_arena.old lp_arena.old node.0 kind over →
             R.settled_plan rule.now (registry udfs.now) over kind ≡ true → lp_arena.new ≡ lp_arena.old }
         ensures err { IfErr result (λ error. ((kind : PlanKind (Named Expression)) (over : Columns) → StandsOver (registry udfs.now) expr_arena.old lp_arena.old node.0 kind over →
             RefusesPredicate (λ checked. IsRefusal checked error) (error ≡ no_memory) (registry udfs.now) over kind)
-            ⊎ IsCoercionRefusal (R.settled rule.now (registry udfs.now) (columns schema.now)) (R.turns rule.now) (registry udfs.now) (columns schema.now) expr_arena.old (roots_of self.old) error) }
+            ⊎ IsCoercionRefusal (R.settled rule.now (registry udfs.now) (columns schema.now)) (R.turns rule.now) (registry udfs.now) (columns schema.now) expr_arena.old expr_arena.new (roots_of self.old) error) }
     {
         match place_plan(rule, expr_arena, lp_arena, node, udfs, types, typings) {
             Ok(()) => self.coerce_expressions(
@@ -241,7 +242,8 @@ fn place_plan<R: OptimizationRule, M: Ledger>(
         IsRight (registry udfs.now) schema expr_arena.now types.old }
     ensures plans { (n : ℕ) → n ≢ node.0 → slice_get lp_arena.new n ≡ slice_get lp_arena.old n }
     ensures count { length lp_arena.new ≡ length lp_arena.old }
-    ensures plan { OnOk result (IsPlanTurn (R.settled_plan rule.now) (registry udfs.now) expr_arena.now lp_arena.old lp_arena.new node.0) }
+    ensures plan { OnOk result (IsPlanTurn (R.settled_plan rule.now) (R.replaces_plans rule.now) (registry udfs.now) expr_arena.now lp_arena.old lp_arena.new node.0) }
+    ensures plan_same { R.replaces_plans rule.now ≡ false → lp_arena.new ≡ lp_arena.old }
     ensures plan_stays { (kind : PlanKind (Named Expression)) (over : Columns) → StandsOver (registry udfs.now) expr_arena.now lp_arena.old node.0 kind over →
         R.settled_plan rule.now (registry udfs.now) over kind ≡ true → lp_arena.new ≡ lp_arena.old }
     ensures right { (schema : Columns) → IsRight (registry udfs.now) schema expr_arena.now types.old → StaysOver (registry udfs.now) expr_arena.now lp_arena.old node.0 schema →
@@ -286,7 +288,7 @@ fn coerce_stacked<R: OptimizationRule, M: Ledger, L: Ledger>(
     ensures right { IsRight (registry udfs.now) (columns schema.now) arena.new types.new }
     ensures bounded { (n : ℕ) → R.turns rule.now ≡ Some n → AreApart arena.old (numbers stack.old.items) →
         steps.new ≤ steps.old + (2 * n + 2) * length arena.new }
-    ensures err { IfErr result (λ error. IsCoercionRefusal (R.settled rule.now (registry udfs.now) (columns schema.now)) (R.turns rule.now) (registry udfs.now) (columns schema.now) arena.old (numbers stack.old.items) error) }
+    ensures err { IfErr result (λ error. IsCoercionRefusal (R.settled rule.now (registry udfs.now) (columns schema.now)) (R.turns rule.now) (registry udfs.now) (columns schema.now) arena.old arena.new (numbers stack.old.items) error) }
 {
     // A finite tree has no end of turns, but no stack lives to see so many.
     for _turn in 0..u64::MAX {
@@ -317,6 +319,7 @@ fn visit<R: OptimizationRule, M: Ledger, L: Ledger>(
     requires right { IsRight (registry udfs.now) (columns schema.now) arena.old types.old }
     ensures ok { OnOk result (IsTurn (R.settled rule.now (registry udfs.now) (columns schema.now)) (R.measure rule.now (registry udfs.now) (columns schema.now)) (R.related rule.now (registry udfs.now) (columns schema.now)) (R.turns rule.now) (registry udfs.now) (columns schema.now) arena.old arena.new node.0 (numbers stack.old.items) (numbers stack.new.items) steps.old steps.new) }
     ensures stopped { OnErr result (IsStopped (R.settled rule.now (registry udfs.now) (columns schema.now)) (R.measure rule.now (registry udfs.now) (columns schema.now)) (R.related rule.now (registry udfs.now) (columns schema.now)) (R.turns rule.now) (registry udfs.now) (columns schema.now) arena.old arena.new node.0) }
+    ensures refused { IfErr result (λ error. (error ≡ no_memory) ⊎ Grows arena.old arena.new) }
     ensures steps { steps.new ≤ steps.old + 2 }
     ensures right { IsRight (registry udfs.now) (columns schema.now) arena.new types.new }
     ensures err { IfErr result (λ error. (t : Expression) → Denotes (HoldsExpression arena.old) node.0 t → IsRefusal (typing (registry udfs.now) (columns schema.now) t) error) }

@@ -1,5 +1,5 @@
 //! The rule that a filter's predicate has the type of truth values.
-ghost use Rattle.std.specs.Prelude.{◌≡◌, true, Some, IfErr, OnOk};
+ghost use Rattle.std.specs.Prelude.{◌≡◌, true, Some, IfErr, OnOk, false};
 ghost use Rattle.std.proofs.Common.{zero-le};
 ghost use Rattle.plan_types.specs.Errors.{IsRefusal};
 ghost use Rattle.plan_types.specs.Schemas.{columns};
@@ -37,6 +37,8 @@ impl OptimizationRule for TypeCheckRule {
     ghost turns = { λ rule. Some 1 };
 
     ghost related = { λ rule registry schema before after. Unit };
+
+    ghost replaces_plans = { λ rule. false };
 
     ghost settled_plan = { λ rule. has_truth };
 

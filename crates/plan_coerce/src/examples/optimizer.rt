@@ -20,7 +20,7 @@ ghost use Rattle.plan_arena.specs.declared.ir.IR.TheVariants.{DataFrameScan};
 ghost use Rattle.plan_infer.specs.declared.type_table.TypeTable.{TypeTable};
 ghost use Rattle.plan_infer.specs.Samples.{int8, int32, two_columns, a, b, five, binary, cast_to, sum, pair, columns_and, sum_items, a_items, at, refused, ForEntry, ForTable};
 ghost use Rattle.plan_coerce.specs.Coercion.{AllReady, AllStrictFrom, AreChanged, IsChanged, IsOverOperands, IsReady, KeepsStrict};
-ghost use Rattle.plan_coerce.specs.Optimizer.{AreApart, AreRoots, AreSettled, AreTrees, AreTypedRoots, DenotesSettled, EndsSettled, EndsTyped, IsBegun, IsCoercionRefusal, IsNumberRoot, IsPlanTurn, IsSettled, IsSettledPlan, IsTypedRoot, ReachesNear, StaysApart, StaysFinite, StaysLikeBeside, StaysOver, TypesNumber, all_with_inputs, with_inputs};
+ghost use Rattle.plan_coerce.specs.Optimizer.{AreApart, AreRoots, AreSettled, AreTrees, AreTypedRoots, DenotesSettled, EndsSettled, EndsTyped, IsCoercionRefusal, IsNumberRoot, IsPlanTurn, IsSettled, IsSettledPlan, IsTypedRoot, ReachesNear, StaysApart, StaysFinite, StaysLikeBeside, StaysOver, TypesNumber, all_with_inputs, with_inputs};
 ghost use Rattle.plan_coerce.specs.Reaching.{AreMadeOnce, HasNewNodes, IsClosed, IsMadeOnce, IsPutOnce, StaysOnce};
 ghost use Rattle.plan_coerce.specs.Rules.{HasAcceptedInputs, HasSameCasts, IsCongruent, IsLike, IsPlanNode, IsPlanReplacement, IsReplacement, KeepsNumber, RefusesPredicate, StandsOver, has_truth, is_strict_node, until_strict};
 ghost use Rattle.plan_coerce.specs.Samples.{cast_of, strict_items, strict_sum, equal_items, filter_by, scan_and, filters, ForSchema, IsSumFound, IsSumPlaced, IsSumStopped, IsSumTurn};
@@ -35,10 +35,6 @@ pub fn nodes_with_inputs()
         with_inputs (columns_and (Column (codes "c") ∷ Window (at 0) keys (Some (at 2, way true false)) GroupsToRows ∷ [])) 3 ≡ 3 ∷ 2 ∷ 1 ∷ 0 ∷ [] }
     ensures several { all_with_inputs sum_items (0 ∷ 2 ∷ 0 ∷ []) ≡ 0 ∷ 2 ∷ 1 ∷ 0 ∷ 0 ∷ [] }
     ensures none { all_with_inputs sum_items [] ≡ [] }
-    ensures another_list_begins { IsBegun {T = AExpr} a_items sum_items }
-    ensures itself { IsBegun {T = AExpr} a_items a_items }
-    ensures shorter { ¬ (IsBegun {T = AExpr} sum_items a_items) }
-    ensures other_beginning { ¬ (IsBegun {T = AExpr} (Column (codes "b") ∷ []) sum_items) }
 {}
 
 /// An expression is settled where each of its nodes is, also those below one that is.
@@ -92,11 +88,12 @@ pub fn roots_that_are_numbers()
 /// Coercion is refused as an expression's typing is, or for want of memory, and over typed roots for that alone, or
 /// over numbers that stand apart.
 pub fn refusals_of_coercion()
-    ensures no_such_column { IsCoercionRefusal (is_strict_node [] []) (Some 1) [] [] a_items (0 ∷ []) (at_top ColumnNotFound) }
-    ensures memory { IsCoercionRefusal (is_strict_node [] two_columns) (Some 1) [] two_columns sum_items (2 ∷ []) no_memory }
-    ensures over_a_number { ¬ (IsCoercionRefusal (is_strict_node [] []) (Some 1) [] [] (Literal (Int (pos 5)) ∷ []) (0 ∷ []) (at_top ColumnNotFound)) }
-    ensures at_a_place { ¬ (IsCoercionRefusal (is_strict_node [] []) (Some 1) [] [] a_items (0 ∷ []) (refused ColumnNotFound (0 ∷ []))) }
-    ensures over_typed_roots { ¬ (IsCoercionRefusal (is_strict_node [] two_columns) (Some 1) [] two_columns sum_items (2 ∷ []) (at_top ColumnNotFound)) }
+    ensures no_such_column { IsCoercionRefusal (is_strict_node [] []) (Some 1) [] [] a_items a_items (0 ∷ []) (at_top ColumnNotFound) }
+    ensures memory { IsCoercionRefusal (is_strict_node [] two_columns) (Some 1) [] two_columns sum_items sum_items (2 ∷ []) no_memory }
+    ensures other_kind { ¬ (IsCoercionRefusal (is_strict_node [] []) (Some 1) [] [] a_items a_items (0 ∷ []) (at_top InvalidOperation)) }
+    ensures over_a_number { ¬ (IsCoercionRefusal (is_strict_node [] []) (Some 1) [] [] (Literal (Int (pos 5)) ∷ []) (Literal (Int (pos 5)) ∷ []) (0 ∷ []) (at_top ColumnNotFound)) }
+    ensures at_a_place { ¬ (IsCoercionRefusal (is_strict_node [] []) (Some 1) [] [] a_items a_items (0 ∷ []) (refused ColumnNotFound (0 ∷ []))) }
+    ensures over_typed_roots { ¬ (IsCoercionRefusal (is_strict_node [] two_columns) (Some 1) [] two_columns sum_items sum_items (2 ∷ []) (at_top ColumnNotFound)) }
 {}
 
 /// Trees stay finite where an arena grows, and not where a node becomes its own input.
@@ -219,9 +216,9 @@ pub fn plan_nodes_that_are_put_in_place()
     ensures other_filter { ForSchema two_columns (λ schema. IsPlanReplacement [] equal_items (scan_and schema (filter_by 0 0 ∷ [])) (scan_and schema (filter_by 0 2 ∷ [])) 1) }
     ensures scan_for_a_filter { ForSchema two_columns (λ schema. IsPlanReplacement [] equal_items (scan_and schema (filter_by 0 0 ∷ [])) (scan_and schema (DataFrameScan (Some 0) schema ∷ [])) 1) }
     ensures filter_for_a_scan { ForSchema two_columns (λ schema. ¬ (IsPlanReplacement [] equal_items (scan_and schema (DataFrameScan (Some 0) schema ∷ [])) (scan_and schema (filter_by 0 2 ∷ [])) 1)) }
-    ensures turn { ForSchema two_columns (λ schema. IsPlanTurn has_truth [] equal_items (scan_and schema (filter_by 0 0 ∷ [])) (scan_and schema (filter_by 0 2 ∷ [])) 1) }
-    ensures settled { ForSchema two_columns (λ schema. IsPlanTurn has_truth [] equal_items (filters schema) (filters schema) 1) }
-    ensures no_turn { ForSchema two_columns (λ schema. ¬ (IsPlanTurn has_truth [] equal_items (scan_and schema (DataFrameScan (Some 0) schema ∷ [])) (scan_and schema (filter_by 0 2 ∷ [])) 1)) }
+    ensures turn { ForSchema two_columns (λ schema. IsPlanTurn has_truth true [] equal_items (scan_and schema (filter_by 0 0 ∷ [])) (scan_and schema (filter_by 0 2 ∷ [])) 1) }
+    ensures settled { ForSchema two_columns (λ schema. IsPlanTurn has_truth true [] equal_items (filters schema) (filters schema) 1) }
+    ensures no_turn { ForSchema two_columns (λ schema. ¬ (IsPlanTurn has_truth true [] equal_items (scan_and schema (DataFrameScan (Some 0) schema ∷ [])) (scan_and schema (filter_by 0 2 ∷ [])) 1)) }
 {}
 
 /// An item stands over nodes for its operands: the sum over the cast does, for which types are kept. One of another operator

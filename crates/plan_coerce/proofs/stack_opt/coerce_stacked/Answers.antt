@@ -1,13 +1,15 @@
-use Rattle.std.proofs.Common.{◌+◌, ◌*◌, ◌∙◌, ◌∷◌, reverse, refl, sym, ap, subst, arith}
+use Rattle.std.proofs.Common.{◌+◌, ◌*◌, ◌∙◌, ◌∷◌, reverse, refl, sym, ap, subst, arith, inl, inr, ⊎_elim}
 use Rattle.plan_types.specs.Schemas.{columns}
 use Rattle.plan_dsl.specs.Registry.{registry}
 use Rattle.plan_arena.specs.Denotation.{DenotesTree}
 use Rattle.plan_arena.specs.Items.{HoldsExpression, numbers}
+use Rattle.plan_arena.proofs.DenotationLemmas.{kept}
+use Rattle.plan_arena.proofs.ItemLemmas.{grown_held}
 use Rattle.plan_arena.proofs.NumberLemmas.{all_joined, all_reversed, all_weaker}
 use Rattle.plan_types.proofs.ResultLemmas.{passed_on}
 use Rattle.plan_coerce.specs.Optimizer.{AreTrees, IsCoercionRefusal}
 use Rattle.plan_coerce.proofs.CountLemmas.{Counted, counted_end, counted_start, counted_stops, counted_turn}
-use Rattle.plan_coerce.proofs.NearLemmas.{Keeping, keeping_end, keeping_start, keeping_stops, keeping_turn, stops_apart, waiting_turn}
+use Rattle.plan_coerce.proofs.NearLemmas.{Keeping, here_near, keeping_end, keeping_start, keeping_stops, keeping_turn, stops_apart, waiting_turn}
 use Rattle.plan_coerce.proofs.NumberRootLemmas.{Alone, alone_end, alone_turn, waits}
 use Rattle.plan_coerce.proofs.StackLemmas.{no_numbers, pushed_one}
 use Rattle.plan_coerce.proofs.TurnLemmas.{Pending, all_ended, memory_alone, no_memory_left, pending_start, pending_stops, pending_turn, stopped_finite, stopped_longer, top_first, turn_stopped}
@@ -103,7 +105,7 @@ returns-clause-err g c =
     let s = columns c.args.schema.now in
     let settled = g.R.OptimizationRule.settled c.args.rule.now r s in
     let roots = numbers c.args.stack.now.items in
-    subst (IsCoercionRefusal settled (g.R.OptimizationRule.turns c.args.rule.now) r s c.args.arena.now roots) (sym c.at_top.ensures) (no_memory_left settled (g.R.OptimizationRule.turns c.args.rule.now) r s c.args.arena.now roots)
+    subst (IsCoercionRefusal settled (g.R.OptimizationRule.turns c.args.rule.now) r s c.args.arena.now c.loop-turn.arena roots) (sym c.at_top.ensures) (no_memory_left settled (g.R.OptimizationRule.turns c.args.rule.now) r s c.args.arena.now c.loop-turn.arena roots)
 
 pub returns-in_err-visit-clause-like : goal.returns-in_err-visit-clause-like
 returns-in_err-visit-clause-like g c = λ typed.
@@ -199,8 +201,16 @@ returns-in_err-visit-clause-err g c =
     let inv = c.loop-turn.invariant in
     let here = (subst (AreTrees c.loop-turn.arena) popped inv.waiting).0 in
     passed_on c.from_residual.result c.in_err-visit.field-0.0 _ c.from_residual.ensures.1 (record {
-      tree = here.tree;
-      is = c.in_err-visit.ensures.err here.tree here.denotes;
+      cause = ⊎_elim
+          (λ memory. inl memory)
+          (λ grows. inr (record {
+            node = at;
+            tree = here.tree;
+            denotes = kept (HoldsExpression c.loop-turn.arena) (HoldsExpression c.visit.new.arena) (grown_held c.loop-turn.arena c.visit.new.arena grows) at here.tree here.denotes;
+            is = c.in_err-visit.ensures.err here.tree here.denotes;
+            near = λ n e. here_near (subst (Keeping c.args.arena.now roots c.loop-turn.arena) popped (inv.keeping n e));
+          }))
+          c.in_err-visit.ensures.refused;
       typed = λ typed.
           let root = (subst (λ l. Pending settled related r s c.args.arena.now c.loop-turn.arena l roots) popped (inv.pending typed)).waiting.0 in
           memory_alone _ root.typed c.in_err-visit.field-0.0 root.is (c.in_err-visit.ensures.err root.tree root.denotes);

@@ -55,7 +55,7 @@ pub returns-clause-filter_for_a_scan : goal.returns-clause-filter_for_a_scan
 returns-clause-filter_for_a_scan c = no_replacement
 
 pub returns-clause-turn : goal.returns-clause-turn
-returns-clause-turn c = λ schema is. inr (other_filter schema is)
+returns-clause-turn c = λ schema is. inr (refl, other_filter schema is)
 
 pub returns-clause-settled : goal.returns-clause-settled
 returns-clause-settled c = λ schema is. inl (refl, truth_settled schema is)
@@ -64,4 +64,4 @@ other_items : (schema : Schema) → scan_and schema (filter_by 0 2 ∷ []) ≡ s
 other_items schema e = cc
 
 pub returns-clause-no_turn : goal.returns-clause-no_turn
-returns-clause-no_turn c = λ schema is turn. ⊎_elim (λ p. other_items schema p.0) (no_replacement schema is) turn
+returns-clause-no_turn c = λ schema is turn. ⊎_elim (λ p. other_items schema p.0) (λ p. no_replacement schema is p.1) turn

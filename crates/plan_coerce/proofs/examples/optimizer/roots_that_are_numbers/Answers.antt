@@ -1,4 +1,4 @@
-use Rattle.std.proofs.Common.{◌≡◌, ℕ, suc, zero, List, [], ◌∷◌, Ok, pos, true, false, inl, refl, sym, ap, subst, arith}
+use Rattle.std.proofs.Common.{◌≡◌, ℕ, suc, zero, List, [], ◌∷◌, Ok, pos, true, false, inl, refl, sym, ap, subst, arith, ◌∙◌, ⊎_elim}
 use Rattle.plan_types.specs.Types.{Untyped, is_known, same_type}
 use Rattle.plan_dsl.specs.declared.literal.LiteralValue.TheVariants.{Int8, Int32}
 use Rattle.plan_dsl.specs.Literals.{settled as with_own_type}
@@ -46,7 +46,7 @@ abbrev typed_items : List AExpr
 typed_items = Literal (Int32 (pos 5)) ∷ []
 
 ends : EndsTyped (is_strict_node [] []) (HasSameCasts [] []) [] [] typed_items 0 five
-ends = record { tree = literal int32 (pos 5); denotes = ([], refl, tt); each = (refl, tt); like = record { same = record { typing = refl; name = refl; meaning = λ rows. refl }; relates = refl } }
+ends = record { tree = literal int32 (pos 5); denotes = ([], refl, tt); each = (refl, tt); like = inl (record { same = record { typing = refl; name = refl; meaning = λ rows. refl }; relates = refl }) }
 
 pub returns-clause-ends_typed : goal.returns-clause-ends_typed
 returns-clause-ends_typed c = ends
@@ -55,10 +55,16 @@ returns-clause-ends_typed c = ends
 other_type : EndsTyped (is_strict_node [] []) (HasSameCasts [] []) [] [] (Literal (Int8 (pos 5)) ∷ []) 0 five → ⊥
 other_type e =
     let same = one_denoted (Literal (Int8 (pos 5)) ∷ []) 0 e.tree (literal int8 (pos 5)) e.denotes ([], refl, tt) in
-    let is = subst (λ t. typing [] [] (with_own_type t) ≡ typing [] [] (with_own_type five)) same e.like.same.typing in
+    ⊎_elim
+    (λ like.
+    let is = subst (λ t. typing [] [] t ≡ typing [] [] (with_own_type five)) same like.same.typing in
     let types = ok_same (typing [] [] (literal int8 (pos 5))) (of_one int8) (of_one int32) refl is in
     let differs : true ≡ false = ap (λ (t : Typed). same_type int8 t.type) types in
-    cc
+    cc)
+    (λ as_it_was.
+    let is : literal int8 (pos 5) ≡ five = sym same ∙ as_it_was in
+    cc)
+    e.like
 
 pub returns-clause-other_type : goal.returns-clause-other_type
 returns-clause-other_type c = other_type

@@ -20,7 +20,7 @@ loop-expr-preserved c = record {
 }
 
 pub returns-in_err-push_scratch-clause-more_roots : goal.returns-in_err-push_scratch-clause-more_roots
-returns-in_err-push_scratch-clause-more_roots c = record { more = _; is = c.in_err-push_scratch.ensures.same_roots ∙ c.loop-expr.invariant.roots }
+returns-in_err-push_scratch-clause-more_roots c = record { added = _; longer = c.in_err-push_scratch.ensures.same_roots ∙ c.loop-expr.invariant.roots }
 
 pub returns-in_err-push_scratch-clause-more : goal.returns-in_err-push_scratch-clause-more
-returns-in_err-push_scratch-clause-more c = record { more = _; is = c.in_err-push_scratch.ensures.same_stack ∙ c.loop-expr.invariant.stacked }
+returns-in_err-push_scratch-clause-more c = record { added = _; longer = c.in_err-push_scratch.ensures.same_stack ∙ c.loop-expr.invariant.stacked }

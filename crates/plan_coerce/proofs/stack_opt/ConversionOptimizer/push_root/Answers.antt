@@ -18,9 +18,9 @@ returns-in_err-push-2-clause-more c =
     let node = c.args.node.0 in
     let pushed = pushed_one c.args.self.now.scratch.items c.push.new.self.items c.args.node c.in_ok-push.ensures.ok in
     let inputs = reverse (passed (expression_layer c.get.result.now)) in
-    on_refusal c.from_residual-in_err-push-2.result (record { more = node ∷ inputs; is = c.in_ok-inputs_rev.ensures.ok ∙ ap (λ l. l ++ inputs) pushed ∙ append_assoc (stacked c.args.self.now) (node ∷ []) inputs })
+    on_refusal c.from_residual-in_err-push-2.result (record { added = node ∷ inputs; longer = c.in_ok-inputs_rev.ensures.ok ∙ ap (λ l. l ++ inputs) pushed ∙ append_assoc (stacked c.args.self.now) (node ∷ []) inputs })
 
 pub returns-in_err-inputs_rev-clause-more : goal.returns-in_err-inputs_rev-clause-more
 returns-in_err-inputs_rev-clause-more c =
     let pushed = pushed_one c.args.self.now.scratch.items c.push.new.self.items c.args.node c.in_ok-push.ensures.ok in
-    on_refusal c.from_residual-in_err-inputs_rev.result (record { more = c.args.node.0 ∷ []; is = ap numbers c.in_err-inputs_rev.ensures.unchanged ∙ pushed })
+    on_refusal c.from_residual-in_err-inputs_rev.result (record { added = c.args.node.0 ∷ []; longer = ap numbers c.in_err-inputs_rev.ensures.unchanged ∙ pushed })
