@@ -23,7 +23,7 @@ use Rattle.plan_coerce.specs.Rules.{Inputs, said, seen}
 use Rattle.plan_coerce.specs.Turns.{IsFound, IsPlaced, IsTurn, finds, places}
 use Rattle.plan_coerce.proofs.OnceLemmas.{among_back, among_front, among_split, nodes_kept, nodes_unwritten, nodes_within, once_apart, once_back, once_front, once_joined}
 use Rattle.plan_coerce.proofs.ReachLemmas.{reached_near, root_near}
-use Rattle.plan_coerce.proofs.TurnLemmas.{inputs_first, top_first}
+use Rattle.plan_coerce.proofs.TurnLemmas.{found_grows, inputs_first, top_first}
 
 -- ---- nodes of a tree
 
@@ -284,10 +284,10 @@ module _ (measure : Op → Inputs → ℕ) (registry : Registry) (schema : Colum
 
     counted_found : (t : Expression) (front back : List ℕ) (k others : ℕ) → c.ns ≡ front ++ back → c.owed ≡ k + others → HasNodes items at t front → k + said measure registry schema t ≤ limit → Owing measure registry schema limit items rest back others → IsFound is_settled registry schema items items' at → (inputs : List ℕ) × (op : Op) × HoldsExpression items' at op inputs × Counted measure registry schema limit cost items' (inputs ++ rest) start (steps + 1)
     counted_found (node op ts) front back k others ns_is owed_is has most owing found =
-        let keeps = grown_held items items' found.grows in
+        let keeps = grown_held items items' (found_grows found) in
         let vs = c.visited in
         let here = nodes_kept items items' keeps at (node op ts) front has in
-        let longer = length-grown items items' found.grows in
+        let longer = length-grown items items' (found_grows found) in
         let all : AreOnce (vs ++ at ∷ (here.1 ++ back)) = subst (λ l. AreOnce (vs ++ l)) (ns_is ∙ ap (λ l. l ++ back) here.3) c.once in
         let paid : cost * (1 + length vs) ≡ cost * 1 + cost * length vs = mul-add cost 1 (length vs) in (
           here.0,

@@ -30,9 +30,9 @@ use Rattle.plan_arena.specs.Runs.{AllAccepted}
 use Rattle.plan_arena.specs.Items.{HoldsExpression, HoldsPlan, expression_layer, plan_layer}
 use Rattle.plan_arena.proofs.DenotationLemmas.{denotes_one, some_same}
 use Rattle.plan_arena.proofs.ItemLemmas.{expression_laws, layer_inputs, plan_got, plan_laws, within}
-use Rattle.plan_coerce.specs.Optimizer.{AreRoots, DenotesLike, IsNumberRoot, IsSettledPlan, IsTypedRoot}
+use Rattle.plan_coerce.specs.Optimizer.{AreRoots, DenotesLike, IsNumberRoot, IsTypedRoot}
 use Rattle.plan_coerce.specs.Reaching.{Among, AreOnce, HasNodes, HaveNodes, Near, ReachedBy}
-use Rattle.plan_coerce.specs.Rules.{HasAcceptedInputs, HasSameCasts, IsReplacement, StandsOver, has_truth, is_strict_node, said, until_strict}
+use Rattle.plan_coerce.specs.Rules.{IsSettledPlan, HasAcceptedInputs, HasSameCasts, IsReplacement, StandsOver, has_truth, is_strict_node, said, until_strict}
 use Rattle.plan_coerce.specs.Samples.{wide, cast_of, strict_items, strict_sum, equal_items, filter_by, filters, scan_and, IsSumFound, IsSumPlaced}
 use Rattle.plan_coerce.proofs.SettledLemmas.{settles_no_number}
 use Rattle.plan_infer.specs.Typed.{HasKnownType}

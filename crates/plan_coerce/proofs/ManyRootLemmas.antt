@@ -27,7 +27,7 @@ use Rattle.plan_coerce.proofs.NumberRootLemmas.{no_inputs, settled_bare}
 use Rattle.plan_coerce.proofs.CoercionRuleLemmas.{number_alone}
 use Rattle.plan_coerce.proofs.OnceLemmas.{among_back, among_front, among_split}
 use Rattle.plan_coerce.proofs.SettledLemmas.{number_settled}
-use Rattle.plan_coerce.proofs.TurnLemmas.{SettledBut, all_waiting, among_reversed, children_grown, inputs_first, like_itself, like_then, placed_like, settled_all, settled_denotes, step, stopped_elsewhere, stopped_like, top_first, turn_stopped, typed_become, typed_inputs, waiting_settled}
+use Rattle.plan_coerce.proofs.TurnLemmas.{found_grows, SettledBut, all_waiting, among_reversed, children_grown, inputs_first, like_itself, like_then, placed_like, settled_all, settled_denotes, step, stopped_elsewhere, stopped_like, top_first, turn_stopped, typed_become, typed_inputs, waiting_settled}
 
 -- the node denotes no number without a type
 abbrev pub NoNumber : Registry → Columns → List AExpr → ℕ → Type 0
@@ -244,7 +244,7 @@ module _ (is_settled : Op → Inputs → Bool) (measure : Op → Inputs → ℕ)
     number_finds rest tops tops' w comes (node op ts) number many before now h over found pushed =
         let calm = found.is (node op ts) now in
         let children = settled_bare is_settled measure related turns registry schema congruent transitive none at number many op ts h calm in
-        let there = kept (HoldsExpression items) (HoldsExpression items') (grown_held items items' found.grows) at (node op ts) now in
+        let there = kept (HoldsExpression items) (HoldsExpression items') (grown_held items items' (found_grows found)) at (node op ts) now in
         let inputs = no_inputs items' there.0 ts children there.2 in
         let left : tops' ≡ rest = pushed op there.0 there.1 ∙ ap (λ l. l ++ rest) inputs in
         let waits : (n : ℕ) → n ≢ at → Among tops n → Among tops' n = λ n other a. subst (λ l. Among l n) (sym left) (⊎_elim (λ e. absurd (other e)) (λ b. b) (subst (λ l. Among l n) over a)) in
@@ -283,8 +283,8 @@ module _ (is_settled : Op → Inputs → Bool) (measure : Op → Inputs → ℕ)
 
       typed_found : (tops : List ℕ) (tree : Expression) → Denotes (HoldsExpression items) at tree → typing registry schema tree ≡ Ok root.typed → IsFound is_settled registry schema items items' at → ((op : Op) (inputs : List ℕ) → HoldsExpression items' at op inputs → tops ≡ inputs ++ (work ++ rest)) → Working is_settled related registry schema start items' tops roots
       typed_found tops (node op ts) d typed found pushed =
-          let held = grown_held items items' found.grows at op d.0 d.1 in
-          let below = children_grown items items' found.grows d.0 ts d.2 in
+          let held = grown_held items items' (found_grows found) at op d.0 d.1 in
+          let below = children_grown items items' (found_grows found) d.0 ts d.2 in
           let parts = typed_parts registry schema op ts root.typed typed in
           let calm = found.is (node op ts) d in
           let over = pushed op d.0 held in

@@ -17,7 +17,7 @@ use Rattle.plan_coerce.specs.Rules.{Inputs}
 use Rattle.plan_coerce.specs.Turns.{IsFound, IsPlaced, IsStopped, IsTurn, finds, places}
 use Rattle.plan_coerce.proofs.OnceLemmas.{among_back, among_front, among_split}
 use Rattle.plan_coerce.proofs.ReachLemmas.{all_among, among_all, held_unwritten, not_near, reached_near, root_near}
-use Rattle.plan_coerce.proofs.TurnLemmas.{inputs_first, stopped_elsewhere, stopped_finite, top_first, turn_stopped}
+use Rattle.plan_coerce.proofs.TurnLemmas.{found_grows, inputs_first, stopped_elsewhere, stopped_finite, top_first, turn_stopped}
 
 -- ---- paths
 
@@ -142,7 +142,7 @@ module _ (is_settled : Op → Inputs → Bool) (measure : Op → Inputs → ℕ)
       (λ c. at_once items' tops m (among_back roots (at ∷ rest) m (inr c)))
       (among_split inputs rest m b))
       (among_split roots (inputs ++ rest) m a) in
-      record { near = λ n r. stops_near (inl found.grows) n (reached_from items' (roots ++ (inputs ++ rest)) tops first n r); apart = stops_apart (inl found.grows) }
+      record { near = λ n r. stops_near (inl (found_grows found)) n (reached_from items' (roots ++ (inputs ++ rest)) tops first n r); apart = stops_apart (inl (found_grows found)) }
 
 -- ---- one turn
 
@@ -160,7 +160,7 @@ module _ (is_settled : Op → Inputs → Bool) (measure : Op → Inputs → ℕ)
       elim turn as (λ _. AreTrees items' (reverse stack)) [
         | places placed over counted ↦ subst (AreTrees items') (sym (ap reverse over ∙ top_first rest at)) (all_weaker (DenotesTree (HoldsExpression items)) (DenotesTree (HoldsExpression items')) finite (at ∷ reverse rest) q)
         | finds found pushed counted ↦
-            let h = held_somehow items items' found.grows at q.0 in
+            let h = held_somehow items items' (found_grows found) at q.0 in
             let below = all_weaker (λ m. DenotesTree (HoldsExpression items') m × _) (DenotesTree (HoldsExpression items')) (λ m d. d.0) h.1 (expression_inputs items' at h.0 h.1 h.2 (finite at q.0)) in
             subst (AreTrees items') (sym (ap reverse (pushed h.0 h.1 h.2) ∙ inputs_first rest h.1)) (all_joined (DenotesTree (HoldsExpression items')) h.1 (reverse rest) below (all_weaker (DenotesTree (HoldsExpression items)) (DenotesTree (HoldsExpression items')) finite (reverse rest) q.1))
       ]
@@ -173,6 +173,6 @@ module _ (is_settled : Op → Inputs → Bool) (measure : Op → Inputs → ℕ)
       elim turn as (λ _. Keeping start roots items' (reverse stack)) [
         | places placed over counted ↦ subst (Keeping start roots items') (sym (ap reverse over ∙ top_first rest at)) (keeping_places is_settled measure related turns limit is registry schema start items items' at (reverse rest) roots longer trees c placed)
         | finds found pushed counted ↦
-            let h = held_somehow items items' found.grows at q.0 in
+            let h = held_somehow items items' (found_grows found) at q.0 in
             subst (Keeping start roots items') (sym (ap reverse (pushed h.0 h.1 h.2) ∙ inputs_first rest h.1)) (keeping_finds is_settled measure related turns limit is registry schema start items items' at (reverse rest) roots longer trees c h.0 h.1 found h.2)
       ]

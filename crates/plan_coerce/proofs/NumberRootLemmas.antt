@@ -21,7 +21,7 @@ use Rattle.plan_coerce.specs.Optimizer.{EndsTyped, IsSettled, IsTypedRoot}
 use Rattle.plan_coerce.specs.Rules.{Inputs, IsCongruent, IsLike, IsTransitive, SettlesNoNumber, seen}
 use Rattle.plan_coerce.specs.Turns.{IsFound, IsPlaced, IsTurn, finds, places}
 use Rattle.plan_coerce.proofs.SettledLemmas.{number_settled}
-use Rattle.plan_coerce.proofs.TurnLemmas.{Pending, all_ended, like_then, pending_start, pending_turn, top_first, inputs_first}
+use Rattle.plan_coerce.proofs.TurnLemmas.{found_grows, Pending, all_ended, like_then, pending_start, pending_turn, top_first, inputs_first}
 
 -- such a root waits, or it has got a type and is settled but for what waits, or it was found settled
 pub data Alone (is_settled : Op → Inputs → Bool) (related : Expression → Expression → Type 0) (registry : Registry) (schema : Columns) (items : List AExpr) (tops : List ℕ) (root : ℕ) (t : Expression) : Type 0 where
@@ -76,7 +76,7 @@ module _ (is_settled : Op → Inputs → Bool) (measure : Op → Inputs → ℕ)
         let there = subst (λ k. Denotes (HoldsExpression items) k (node op ts)) (sym same) d in
         let calm = found.is (node op ts) there in
         let children = settled_bare op ts h calm in
-        let now = kept (HoldsExpression items) (HoldsExpression items') (grown_held items items' found.grows) at (node op ts) there in
+        let now = kept (HoldsExpression items) (HoldsExpression items') (grown_held items items' (found_grows found)) at (node op ts) there in
         let inputs = no_inputs items' now.0 ts children now.2 in
         let over = ap reverse (pushed op now.0 now.1) ∙ inputs_first rest now.0 ∙ ap (λ l. l ++ reverse rest) inputs ∙ empty in
         is_found over (subst (λ k. Denotes (HoldsExpression items') k (node op ts)) same now) (subst (λ us. IsSettled is_settled registry schema (node op us)) (sym children) (subst (λ us. is_settled op (seen registry schema us) ≡ true) children calm, tt))

@@ -3,7 +3,7 @@ use Rattle.std.proofs.Common.{◌≡◌, ◌≢◌, ◌⊎◌, ◌↔◌, ℕ, �
 use Rattle.std.specs.List.{AllByRecursion}
 use Rattle.std.proofs.lemmas.Bool.{false≢true}
 use Rattle.std.proofs.lemmas.Grind.{reverse_onto}
-use Rattle.std.proofs.lemmas.List.{reverse-append, reverse-reverse}
+use Rattle.std.proofs.lemmas.List.{append-nil, reverse-append, reverse-reverse}
 use Rattle.plan_types.specs.Errors.{IsRefusal, broken, no_memory, no_room}
 use Rattle.plan_types.specs.declared.error.ErrorKind.{ErrorKind}
 use Rattle.plan_types.specs.declared.error.PlanError.{PlanError}
@@ -212,6 +212,10 @@ typed_inputs is_settled registry schema items (n ∷ ns) no_more typed d e known
 
 -- ---- what a turn does to trees
 
+-- what is found adds nothing
+pub found_grows : {is_settled : Op → Inputs → Bool} {registry : Registry} {schema : Columns} {old new : List AExpr} {at : ℕ} → IsFound is_settled registry schema old new at → Grows old new
+found_grows {old = old} found = record { added = []; longer = found.same ∙ sym (append-nil old) }
+
 module _ (is_settled : Op → Inputs → Bool) (measure : Op → Inputs → ℕ) (related : Expression → Expression → Type 0) (turns : Option ℕ) (registry : Registry) (schema : Columns) (items items' : List AExpr) (at : ℕ) where
   pub placed_elsewhere : IsPlaced is_settled measure related turns registry schema items items' at → (n : ℕ) (op : Op) (inputs : List ℕ) → n ≢ at → HoldsExpression items n op inputs → HoldsExpression items' n op inputs
   placed_elsewhere p n op inputs other h = subst (λ l. HoldsExpression l n op inputs) (sym p.is) (written_elsewhere items p.grown at p.item p.grows n op inputs other h)
@@ -294,8 +298,8 @@ module _ (is_settled : Op → Inputs → Bool) (measure : Op → Inputs → ℕ)
 
     found_there : (tree : Expression) → Denotes (HoldsExpression items) at tree → typing registry schema tree ≡ Ok root.typed → IsFound is_settled registry schema items items' at → (inputs : List ℕ) × (op : Op) × HoldsExpression items' at op inputs × AreTypedRoots is_settled registry schema items' inputs × ((u : Expression) → Denotes (HoldsExpression items) at u → (w : Expression) × SettledBut is_settled registry schema items' (inputs ++ rest) at w × IsLike related registry schema u w)
     found_there (node op ts) d is found =
-        let held = grown_held items items' found.grows at op d.0 d.1 in
-        let below = children_grown items items' found.grows d.0 ts d.2 in
+        let held = grown_held items items' (found_grows found) at op d.0 d.1 in
+        let below = children_grown items items' (found_grows found) d.0 ts d.2 in
         let parts = typed_parts registry schema op ts root.typed is in
         let calm = found.is (node op ts) d in (
           d.0,
@@ -310,14 +314,14 @@ module _ (is_settled : Op → Inputs → Bool) (measure : Op → Inputs → ℕ)
 
     pub pending_finds : (tops : List ℕ) → IsFound is_settled registry schema items items' at → ((op : Op) (inputs : List ℕ) → HoldsExpression items' at op inputs → tops ≡ inputs ++ rest) → Pending is_settled related registry schema old items' tops roots
     pending_finds tops found pushed =
-        let becomes = like_grown related registry schema congruent items items' found.grows in
+        let becomes = like_grown related registry schema congruent items items' (found_grows found) in
         let h = found_there root.tree root.denotes root.is found in
         let is = pushed h.1 h.0 h.2 in
         let others = all_weaker (IsTypedRoot is_settled registry schema items) (IsTypedRoot is_settled registry schema items') (typed_become is_settled related registry schema items items' becomes) rest p.waiting.1 in
         let now : Pending is_settled related registry schema old items' (h.0 ++ rest) roots = record {
           trees = stays_then related registry schema congruent transitive old items items' p.trees becomes;
           waiting = all_joined (IsTypedRoot is_settled registry schema items') h.0 rest h.3 others;
-          settled = roots_step is_settled related registry schema congruent items items' at (at ∷ rest) (h.0 ++ rest) (λ n op inputs other held. grown_held items items' found.grows n op inputs held) becomes (λ n other w. ⊎_elim (λ e. absurd (other e)) (λ a. among_back h.0 rest n a) w) h.4 roots p.settled;
+          settled = roots_step is_settled related registry schema congruent items items' at (at ∷ rest) (h.0 ++ rest) (λ n op inputs other held. grown_held items items' (found_grows found) n op inputs held) becomes (λ n other w. ⊎_elim (λ e. absurd (other e)) (λ a. among_back h.0 rest n a) w) h.4 roots p.settled;
         } in
         subst (λ l. Pending is_settled related registry schema old items' l roots) (sym is) now
 
@@ -333,7 +337,7 @@ module _ (is_settled : Op → Inputs → Bool) (measure : Op → Inputs → ℕ)
 
 pub turn_stopped : (is_settled : Op → Inputs → Bool) (measure : Op → Inputs → ℕ) (related : Expression → Expression → Type 0) (turns : Option ℕ) (registry : Registry) (schema : Columns) (items items' : List AExpr) (at : ℕ) (rest stack : List ℕ) (before steps : ℕ) → IsTurn is_settled measure related turns registry schema items items' at rest stack before steps → IsStopped is_settled measure related turns registry schema items items' at
 turn_stopped is_settled measure related turns registry schema items items' at rest stack before steps turn =
-    elim turn as (λ _. IsStopped is_settled measure related turns registry schema items items' at) [ places placed is counted ↦ inr placed | finds found pushed counted ↦ inl found.grows ]
+    elim turn as (λ _. IsStopped is_settled measure related turns registry schema items items' at) [ places placed is counted ↦ inr placed | finds found pushed counted ↦ inl (found_grows found) ]
 
 -- ---- what a rule answers
 
@@ -352,8 +356,8 @@ memory_alone answer typed error is refused = elim refused as (λ _. error ≡ no
 pub no_memory_left : (is_settled : Op → Inputs → Bool) (turns : Option ℕ) (registry : Registry) (schema : Columns) (old new : List AExpr) (roots : List ℕ) → IsCoercionRefusal is_settled turns registry schema old new roots no_memory
 no_memory_left is_settled turns registry schema old new roots = record { cause = inl refl; typed = λ all. refl; numbers = λ n e none all. refl }
 
-pub found_now : (is_settled : Op → Inputs → Bool) (measure : Op → Inputs → ℕ) (related : Expression → Expression → Type 0) (registry : Registry) (schema : Columns) (old grown : List AExpr) (at : ℕ) (answer : Option AExpr) → answer ≡ None → Grows old grown → ((t : Expression) → Denotes (HoldsExpression old) at t → MatchOption answer (said is_settled registry schema t ≡ true) (λ item. IsReplacement related measure registry schema old (set grown at item) at t)) → IsFound is_settled registry schema old grown at
-found_now is_settled measure related registry schema old grown at None is g said_so = record { grows = g; is = said_so }
+pub found_now : (is_settled : Op → Inputs → Bool) (measure : Op → Inputs → ℕ) (related : Expression → Expression → Type 0) (registry : Registry) (schema : Columns) (old grown : List AExpr) (at : ℕ) (answer : Option AExpr) → answer ≡ None → (answer ≡ None → grown ≡ old) → ((t : Expression) → Denotes (HoldsExpression old) at t → MatchOption answer (said is_settled registry schema t ≡ true) (λ item. IsReplacement related measure registry schema old (set grown at item) at t)) → IsFound is_settled registry schema old grown at
+found_now is_settled measure related registry schema old grown at None is g said_so = record { same = g is; is = said_so }
 found_now is_settled measure related registry schema old grown at (Some item) is g said_so = cc
 
 pub some_said : {T : Type 0} (P : Type 0) (Q : T → Type 0) (answer : Option T) (x : T) → answer ≡ Some x → MatchOption answer P Q → Q x

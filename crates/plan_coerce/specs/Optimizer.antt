@@ -19,7 +19,7 @@ use Rattle.plan_arena.specs.Items.{HoldsExpression, expression_layer, numbers, p
 use Rattle.plan_coerce.specs.declared.stack_opt.ConversionOptimizer.{ConversionOptimizer}
 use Rattle.plan_coerce.specs.Coercion.{KeepsBelow}
 use Rattle.plan_coerce.specs.Reaching.{Among, AreOnce, HaveNodes, IsReached, Near}
-use Rattle.plan_coerce.specs.Rules.{HasSameCasts, Inputs, IsLike, IsPlanReplacement, SettlesNoNumber, StandsOver, seen}
+use Rattle.plan_coerce.specs.Rules.{HasSameCasts, Inputs, IsLike, IsPlanReplacement, IsSettledPlan, SettlesNoNumber, StandsOver, seen}
 
 -- the nodes at which coercion starts, and these with their inputs
 abbrev pub roots_of : ConversionOptimizer → List ℕ
@@ -156,15 +156,10 @@ abbrev pub StaysOver : Registry → List AExpr → List IR → ℕ → Columns �
 StaysOver registry expressions plans n schema =
     (predicate : Named Expression) (into : Columns) → StandsOver registry expressions plans n (FilterKind predicate) into → into ≡ schema
 
--- the plan's node is settled
-abbrev pub IsSettledPlan : (Registry → Columns → PlanKind (Named Expression) → Bool) → Registry → List AExpr → List IR → ℕ → Type 0
-IsSettledPlan settled registry expressions plans n =
-    (kind : PlanKind (Named Expression)) (schema : Columns) → StandsOver registry expressions plans n kind schema → settled registry schema kind ≡ true
-
--- the plan's node stays and is settled, or another was put in its place, by a rule that may do so
+-- the plan's node is settled: it stays, or another was put in its place, by a rule that may do so
 abbrev pub IsPlanTurn : (Registry → Columns → PlanKind (Named Expression) → Bool) → Bool → Registry → List AExpr → List IR → List IR → ℕ → Type 0
 IsPlanTurn settled replaces registry expressions old new n =
-    ((new ≡ old) × IsSettledPlan settled registry expressions old n) ⊎ ((replaces ≡ true) × IsPlanReplacement registry expressions old new n)
+    IsSettledPlan settled registry expressions new n × ((new ≡ old) ⊎ ((replaces ≡ true) × IsPlanReplacement registry expressions old new n))
 
 -- What coercion of these roots leaves: items below the number stay, each tree becomes one that says the same, and each
 -- root's is strict.

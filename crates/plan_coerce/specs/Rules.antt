@@ -113,6 +113,11 @@ pub record StandsOver (registry : Registry) (expressions : List AExpr) (plans : 
   pub of_kind : op.kind ≡ kind
   pub into : schema_into registry kind inputs ≡ Some schema
 
+-- the plan's node is settled
+abbrev pub IsSettledPlan : (Registry → Columns → PlanKind (Named Expression) → Bool) → Registry → List AExpr → List IR → ℕ → Type 0
+IsSettledPlan settled registry expressions plans n =
+    (kind : PlanKind (Named Expression)) (schema : Columns) → StandsOver registry expressions plans n kind schema → settled registry schema kind ≡ true
+
 -- the typing of a predicate, where it is that of truth values, or why it is refused
 abbrev pub truth_of : Result Typed ErrorKind → Result Typed ErrorKind
 truth_of (Err kind) = Err kind

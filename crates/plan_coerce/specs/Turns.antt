@@ -22,9 +22,9 @@ pub record IsPlaced (settled : Op → Inputs → Bool) (measure : Op → Inputs 
   pub reaches : (n : ℕ) → turns ≡ Some n → IsClosed old (at ∷ []) new
   pub once : (n : ℕ) → turns ≡ Some n → StaysOnce old new at
 
--- the node was found settled, whatever was added
+-- the node was found settled, and nothing was added
 pub record IsFound (settled : Op → Inputs → Bool) (registry : Registry) (schema : Columns) (old new : List AExpr) (at : ℕ) : Type 0 where
-  pub grows : Grows old new
+  pub same : new ≡ old
   pub is : (t : Expression) → Denotes (HoldsExpression old) at t → said settled registry schema t ≡ true
 
 -- A turn at a node that was taken from the stack: it is put back where an item was put in its place, else its inputs are.

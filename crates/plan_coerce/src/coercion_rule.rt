@@ -134,6 +134,7 @@ fn item_for(
         ¬ (KeepsNumber types.new node.0) → IsRight registry schema (set arena.new node.0 item) types.new)) }
     ensures right { OnOk result ((registry : Registry) (schema : Columns) → IsRight registry schema arena.old types.old → IsRight registry schema arena.new types.new) }
     ensures grows { Grows arena.old arena.new }
+    ensures same { IfOk result (λ answer. answer ≡ None → arena.new ≡ arena.old) }
     ensures err { IfErr result (λ error. error ≡ no_memory) }
 {
     let own = types.get(node);

@@ -11,7 +11,7 @@ ghost use Rattle.plan_arena.specs.Denotation.{Denotes, DenotesTree};
 ghost use Rattle.plan_arena.specs.Items.{Grows, HoldsExpression};
 ghost use Rattle.plan_infer.specs.KeptTypes.{IsRight};
 ghost use Rattle.plan_coerce.specs.Reaching.{IsClosed, StaysOnce};
-ghost use Rattle.plan_coerce.specs.Rules.{HasAcceptedInputs, Inputs, IsCongruent, IsPlanReplacement, IsReplacement, IsTransitive, KeepsNumber, RefusesPredicate, SettlesNoNumber, StandsOver, said};
+ghost use Rattle.plan_coerce.specs.Rules.{HasAcceptedInputs, Inputs, IsCongruent, IsPlanReplacement, IsReplacement, IsSettledPlan, IsTransitive, KeepsNumber, RefusesPredicate, SettlesNoNumber, StandsOver, said};
 
 use plan_arena::aexpr::AExpr;
 use plan_arena::arena::{Arena, Node};
@@ -63,6 +63,7 @@ pub trait OptimizationRule {
             (λ item. IsPlanReplacement (registry udfs.now) expr_arena.now lp_arena.now (set lp_arena.now node.0 item) node.0)) }
         ensures stays { IfOk result (λ answer. (kind : PlanKind (Named Expression)) (schema : Columns) → StandsOver (registry udfs.now) expr_arena.now lp_arena.now node.0 kind schema →
             settled_plan self.now (registry udfs.now) schema kind ≡ true → answer ≡ None) }
+        ensures settles { IfOk result (λ answer. MatchOption answer Unit (λ item. IsSettledPlan (settled_plan self.now) (registry udfs.now) expr_arena.now (set lp_arena.now node.0 item) node.0)) }
         ensures none { replaces_plans self.now ≡ false → IfOk result (λ answer. answer ≡ None) }
         ensures right { (schema : Columns) → IsRight (registry udfs.now) schema expr_arena.now types.old →
             ((predicate : Named Expression) (into : Columns) → StandsOver (registry udfs.now) expr_arena.now lp_arena.now node.0 (FilterKind predicate) into → into ≡ schema) →
@@ -95,6 +96,7 @@ pub trait OptimizationRule {
         ensures once { IfOk result (λ answer. MatchOption answer Unit (λ item. (n : ℕ) → turns self.now ≡ Some n →
             StaysOnce expr_arena.old (set expr_arena.new node.0 item) node.0)) }
         ensures grows { Grows expr_arena.old expr_arena.new }
+        ensures same { IfOk result (λ answer. answer ≡ None → expr_arena.new ≡ expr_arena.old) }
         ensures right { IsRight (registry udfs.now) (columns schema.now) expr_arena.new types.new }
         ensures placed { IfOk result (λ answer. MatchOption answer Unit (λ item. ¬ (KeepsNumber types.new node.0) →
             IsRight (registry udfs.now) (columns schema.now) (set expr_arena.new node.0 item) types.new)) }

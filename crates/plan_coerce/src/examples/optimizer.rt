@@ -20,9 +20,9 @@ ghost use Rattle.plan_arena.specs.declared.ir.IR.TheVariants.{DataFrameScan};
 ghost use Rattle.plan_infer.specs.declared.type_table.TypeTable.{TypeTable};
 ghost use Rattle.plan_infer.specs.Samples.{int8, int32, two_columns, a, b, five, binary, cast_to, sum, pair, columns_and, sum_items, a_items, at, refused, ForEntry, ForTable};
 ghost use Rattle.plan_coerce.specs.Coercion.{AllReady, AllStrictFrom, AreChanged, IsChanged, IsOverOperands, IsReady, KeepsStrict};
-ghost use Rattle.plan_coerce.specs.Optimizer.{AreApart, AreRoots, AreSettled, AreTrees, AreTypedRoots, DenotesSettled, EndsSettled, EndsTyped, IsCoercionRefusal, IsNumberRoot, IsPlanTurn, IsSettled, IsSettledPlan, IsTypedRoot, ReachesNear, StaysApart, StaysFinite, StaysLikeBeside, StaysOver, TypesNumber, all_with_inputs, with_inputs};
+ghost use Rattle.plan_coerce.specs.Optimizer.{AreApart, AreRoots, AreSettled, AreTrees, AreTypedRoots, DenotesSettled, EndsSettled, EndsTyped, IsCoercionRefusal, IsNumberRoot, IsPlanTurn, IsSettled, IsTypedRoot, ReachesNear, StaysApart, StaysFinite, StaysLikeBeside, StaysOver, TypesNumber, all_with_inputs, with_inputs};
 ghost use Rattle.plan_coerce.specs.Reaching.{AreMadeOnce, HasNewNodes, IsClosed, IsMadeOnce, IsPutOnce, StaysOnce};
-ghost use Rattle.plan_coerce.specs.Rules.{HasAcceptedInputs, HasSameCasts, IsCongruent, IsLike, IsPlanNode, IsPlanReplacement, IsReplacement, KeepsNumber, RefusesPredicate, StandsOver, has_truth, is_strict_node, until_strict};
+ghost use Rattle.plan_coerce.specs.Rules.{IsSettledPlan, HasAcceptedInputs, HasSameCasts, IsCongruent, IsLike, IsPlanNode, IsPlanReplacement, IsReplacement, KeepsNumber, RefusesPredicate, StandsOver, has_truth, is_strict_node, until_strict};
 ghost use Rattle.plan_coerce.specs.Samples.{cast_of, strict_items, strict_sum, equal_items, filter_by, scan_and, filters, ForSchema, IsSumFound, IsSumPlaced, IsSumStopped, IsSumTurn};
 
 /// A node stands before its inputs, the last of them first; of a window the last is what its rows are ordered by. A number
@@ -135,7 +135,7 @@ pub fn sums_that_are_put_in_place()
     ensures placed { IsSumPlaced sum_items strict_items 2 }
     ensures unchanged { ¬ (IsSumPlaced sum_items sum_items 2) }
     ensures found { IsSumFound strict_items strict_items 2 }
-    ensures found_as_items_are_added { IsSumFound a_items sum_items 0 }
+    ensures found_with_more { ¬ (IsSumFound a_items sum_items 0) }
     ensures not_found { ¬ (IsSumFound sum_items sum_items 2) }
 {}
 
@@ -218,6 +218,7 @@ pub fn plan_nodes_that_are_put_in_place()
     ensures filter_for_a_scan { ForSchema two_columns (λ schema. ¬ (IsPlanReplacement [] equal_items (scan_and schema (DataFrameScan (Some 0) schema ∷ [])) (scan_and schema (filter_by 0 2 ∷ [])) 1)) }
     ensures turn { ForSchema two_columns (λ schema. IsPlanTurn has_truth true [] equal_items (scan_and schema (filter_by 0 0 ∷ [])) (scan_and schema (filter_by 0 2 ∷ [])) 1) }
     ensures settled { ForSchema two_columns (λ schema. IsPlanTurn has_truth true [] equal_items (filters schema) (filters schema) 1) }
+    ensures left { ForSchema two_columns (λ schema. ¬ (IsPlanTurn has_truth true [] equal_items (scan_and schema (filter_by 0 0 ∷ [])) (scan_and schema (filter_by 0 0 ∷ [])) 1)) }
     ensures no_turn { ForSchema two_columns (λ schema. ¬ (IsPlanTurn has_truth true [] equal_items (scan_and schema (DataFrameScan (Some 0) schema ∷ [])) (scan_and schema (filter_by 0 2 ∷ [])) 1)) }
 {}
 

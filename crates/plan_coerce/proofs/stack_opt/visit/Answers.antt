@@ -9,7 +9,7 @@ use Rattle.plan_coerce.proofs.stack_opt.visit.Goals as goal
 
 pub returns-in-None-clause-ok : goal.returns-in-None-clause-ok
 returns-in-None-clause-ok g c = on_ok c.push_inputs.result c.push_inputs.ensures.ok (λ stacked. finds
-    (found_now _ _ _ _ _ _ _ _ _ c.in-None.is c.in_ok-optimize_expr.ensures.grows c.in_ok-optimize_expr.ensures.answer)
+    (found_now _ _ _ _ _ _ _ _ _ c.in-None.is c.in_ok-optimize_expr.ensures.same c.in_ok-optimize_expr.ensures.answer)
     (pushed c.optimize_expr.new.expr_arena c.args.node.0 c.get.result.now (numbers c.args.stack.now.items) (numbers c.push_inputs.new.nodes.items) c.get.ensures stacked)
     c.tick.ensures)
 

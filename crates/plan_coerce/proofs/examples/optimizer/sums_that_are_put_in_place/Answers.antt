@@ -1,9 +1,8 @@
-use Rattle.std.proofs.Common.{◌≡◌, [], ◌∷◌, codes, true, refl, subst}
+use Rattle.std.proofs.Common.{ap, arith, length, ◌≡◌, [], ◌∷◌, codes, true, refl, subst}
 use Rattle.plan_types.specs.declared.dtype.DataType.TheVariants as dtype
 use Rattle.plan_dsl.specs.declared.operator.Operator.TheVariants.{Plus}
 use Rattle.plan_dsl.specs.Names.{column_label, label_of}
-use Rattle.plan_arena.specs.declared.aexpr.AExpr.TheVariants.{Column}
-use Rattle.plan_infer.specs.Samples.{two_columns, int32, of_type, a, b, binary, cast_to, pair, columns_and, a_items}
+use Rattle.plan_infer.specs.Samples.{sum_items, a_items, two_columns, int32, of_type, a, b, binary, cast_to, pair, columns_and, a_items}
 use Rattle.plan_coerce.specs.Rules.{said, is_strict_node}
 use Rattle.plan_coerce.specs.Samples.{cast_of, strict_items, strict_sum}
 use Rattle.plan_coerce.proofs.ExampleLemmas.{one_denoted, other_label, strict_denotes, sum_not_found, sum_not_left, sum_placed, sum_replaced}
@@ -26,15 +25,15 @@ returns-clause-unchanged c = sum_not_left
 
 pub returns-clause-found : goal.returns-clause-found
 returns-clause-found c = record {
-  grows = record { added = []; longer = refl };
+  same = refl;
   is = λ t d. subst (λ u. said (is_strict_node [] two_columns) [] two_columns u ≡ true) (one_denoted strict_items 2 strict_sum t strict_denotes d) refl;
 }
 
-pub returns-clause-found_as_items_are_added : goal.returns-clause-found_as_items_are_added
-returns-clause-found_as_items_are_added c = record {
-  grows = record { added = Column (codes "b") ∷ pair 0 Plus 1 ∷ []; longer = refl };
-  is = λ t d. subst (λ u. said (is_strict_node [] two_columns) [] two_columns u ≡ true) (one_denoted a_items 0 a t ([], refl, tt) d) refl;
-}
+longer_by_two : sum_items ≡ a_items → ⊥
+longer_by_two e = absurd (omega (arith, ap length e))
+
+pub returns-clause-found_with_more : goal.returns-clause-found_with_more
+returns-clause-found_with_more c = λ found. longer_by_two found.same
 
 pub returns-clause-not_found : goal.returns-clause-not_found
 returns-clause-not_found c = λ found. sum_not_found _ found

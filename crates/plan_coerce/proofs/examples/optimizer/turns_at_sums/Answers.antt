@@ -19,7 +19,7 @@ returns-clause-places c = places sum_placed refl refl
 
 strict_found : IsSumFound strict_items strict_items 2
 strict_found = record {
-  grows = record { added = []; longer = refl };
+  same = refl;
   is = λ t d. subst (λ u. said (is_strict_node [] two_columns) [] two_columns u ≡ true) (one_denoted strict_items 2 strict_sum t strict_denotes d) refl;
 }
 
