@@ -112,7 +112,8 @@ fn literal(rt: &impl Abort, alloc: Global, value: LiteralValue) -> Box<Expr> {
     boxed(rt, alloc, Expr::Literal(value))
 }
 
-fn plus(left: Box<Expr>, right: Box<Expr>) -> Expr {
+/// The sum of both.
+pub(crate) fn plus(left: Box<Expr>, right: Box<Expr>) -> Expr {
     Expr::BinaryExpr {
         left,
         op: Operator::Plus,

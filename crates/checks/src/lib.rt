@@ -12,6 +12,10 @@ mod arenas;
 #[cfg(test)]
 mod casts;
 #[cfg(test)]
+mod checked_filters;
+#[cfg(test)]
+mod coercions;
+#[cfg(test)]
 mod conversions;
 #[cfg(test)]
 mod expansion;

@@ -1,0 +1,2 @@
+mod FilterLemmas
+mod RootLemmas
