@@ -32,6 +32,8 @@ mod keys;
 #[cfg(test)]
 mod lowering;
 #[cfg(test)]
+mod own_rules;
+#[cfg(test)]
 mod plan_schemas;
 #[cfg(test)]
 mod plans;

@@ -4,5 +4,3 @@
 mod examples;
 pub mod harmless_casts;
 pub mod relax;
-#[cfg(test)]
-mod tests;

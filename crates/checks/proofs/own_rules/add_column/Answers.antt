@@ -3,7 +3,7 @@ use Rattle.plan_dsl.specs.Ops.{ColumnOp}
 use Rattle.plan_dsl.specs.Trees.{node, no_more}
 use Rattle.plan_arena.specs.declared.aexpr.AExpr.TheVariants.{Column}
 use Rattle.plan_arena.proofs.ItemLemmas.{added_denotes, any_node}
-use Rattle.own_rule.proofs.tests.add_column.Goals as goal
+use Rattle.checks.proofs.own_rules.add_column.Goals as goal
 
 pub returns : goal.returns
 returns c =

@@ -6,7 +6,7 @@ use Rattle.plan_dsl.specs.Trees.{node, no_more, more}
 use Rattle.plan_arena.specs.Items.{Grows}
 use Rattle.plan_arena.specs.declared.aexpr.AExpr.TheVariants.{Cast}
 use Rattle.plan_arena.proofs.ItemLemmas.{added_denotes, any_node, from_zero, tree_grown}
-use Rattle.own_rule.proofs.tests.add_cast.Goals as goal
+use Rattle.checks.proofs.own_rules.add_cast.Goals as goal
 
 pub returns : goal.returns
 returns c =

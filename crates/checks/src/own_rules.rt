@@ -1,9 +1,10 @@
-//! The rule at work.
+//! A rule of one's own at work, over so many casts.
 ghost use Rattle.std.specs.Prelude.{IfOk};
 ghost use Rattle.plan_arena.specs.Denotation.{DenotesTree};
 ghost use Rattle.plan_arena.specs.Items.{HoldsExpression};
 
-use crate::relax::relax_casts;
+use crate::fixtures::NO_MEMORY;
+use own_rule::relax::relax_casts;
 use plan_arena::aexpr::AExpr;
 use plan_arena::arena::{Arena, Node};
 use plan_dsl::udfs::Udfs;
@@ -13,8 +14,6 @@ use plan_types::schema::Schema;
 use plan_types::text::PlSmallStr;
 use std::alloc::Global;
 use std::process::Abort;
-
-const NO_MEMORY: &str = "there is memory";
 
 fn add_column(arena: &mut Arena<AExpr>, name: PlSmallStr) -> Result<Node, PlanError>
     ensures { IfOk result (λ node. DenotesTree (HoldsExpression arena.new) node.0) }
@@ -84,7 +83,7 @@ fn relax(rt: &impl Abort, alloc: Global, dtype: &DataType, count: usize, first: 
 
 #[test]
 fn casts_to_another_type_stay_strict(rt: HostRuntime) {
-    for count in [1, 2, 50] {
+    for count in [1, 2, 1_000] {
         relax(&rt, rt.alloc(), &DataType::Int32, count, false);
         relax(&rt, rt.alloc(), &DataType::Int64, count, true);
     }
