@@ -1,0 +1,352 @@
+-- What coercion adds to an expression: the casts that it needs, no cast to the type that is there, and no other node.
+use Rattle.std.proofs.Common.{◌≡◌, ℕ, zero, ◌+◌, Bool, true, false, cond, List, [], ◌∷◌, Option, Some, None, Result, Ok, Err, refl, sym, ap, subst, ◌∙◌, arith}
+use Rattle.std.specs.Prelude.{ℤ, sum, unwrap_or}
+use Rattle.std.proofs.lemmas.List.Sums.{sum_by-cons}
+use Rattle.std.proofs.lemmas.Bool.{and_from}
+use Rattle.plan_types.specs.declared.error.ErrorKind.{ErrorKind}
+use Rattle.plan_types.specs.declared.error.ErrorKind.TheVariants.{InvalidOperation}
+use Rattle.plan_types.specs.declared.dtype.CastOptions.{CastOptions}
+use Rattle.plan_types.specs.declared.dtype.CastOptions.TheVariants.{NonStrict}
+use Rattle.plan_types.specs.Types.{Ty, Untyped, is_integer, is_known, same_type}
+use Rattle.plan_types.specs.TypeLaws.{same_type_own, same_type_exact}
+use Rattle.plan_types.specs.Casts.{can_cast}
+use Rattle.plan_types.specs.CommonTypes.{type_alone}
+use Rattle.plan_types.specs.Values.{Val, IntValue, in_range}
+use Rattle.plan_types.specs.Schemas.{Name, Columns}
+use Rattle.plan_types.proofs.CommonLemmas.{alone_itself, alone_known, literal_has}
+use Rattle.plan_types.proofs.CastLemmas.{source_known}
+use Rattle.plan_dsl.specs.Aliases.{renamed}
+use Rattle.plan_dsl.specs.Counts.{op_casts, expression_casts}
+use Rattle.plan_dsl.specs.Literals.{settled, settled_type}
+use Rattle.plan_dsl.specs.Ops.{Op, LiteralOp, CastOp, AliasOp, Expression}
+use Rattle.plan_dsl.specs.Registry.{Registry}
+use Rattle.plan_dsl.specs.Trees.{Trees, node, no_more, more, fold_all, AllRelated}
+use Rattle.plan_dsl.specs.Typing.{Typed, Ruling, rule, types_of, typed_to, typed_before, ruled_as, cast_taken, typing, typing_all}
+use Rattle.plan_dsl.specs.Strictness.{CanBecome, IsSame, cast_to, changed, number_as, number_literal, integer_has, as_operand, as_operands}
+use Rattle.plan_dsl.proofs.LiteralLemmas.{becomes_literal, literal_typing, untyped, untyped_is_number}
+use Rattle.plan_dsl.proofs.OpLemmas.{keeps_rule}
+use Rattle.plan_dsl.proofs.SignatureLemmas.{AllBecome, IsTakenTo, makes, passes}
+use Rattle.plan_dsl.proofs.OperandLemmas.{after_typed, operands_same}
+use Rattle.plan_dsl.proofs.SameLemmas.{node_same, same_then, typings_same}
+use Rattle.plan_dsl.proofs.TypingLemmas.{by_children, by_no_children, typed_parts}
+use Rattle.plan_coerce.specs.Coercion.{fitted, fitted_by, coerced, coerced_all}
+use Rattle.plan_bounds.specs.Counts.{for_other, for_operand, for_operands, by_rule, for_node, added, all_added, needed_casts, other_nodes_step, other_nodes, is_idle, idle_casts, all_idle_casts}
+
+-- ---- coercion keeps types, so each operand is what the typing of its tree says
+
+module _ (registry : Registry) (schema : Columns) where
+  coerced_is : (op : Op) (children : Trees Op) (typed : List Typed) (ruling : Ruling) → typing_all registry schema children ≡ Ok typed → rule registry schema op typed ≡ Ok ruling → coerced registry schema (node op children) ≡ node op (as_operands (types_of typed) ruling.operands (coerced_all registry schema children))
+  coerced_is op children typed ruling types rules =
+      ap (λ r. node op (fitted registry schema op r (coerced_all registry schema children))) types
+      ∙ ap (λ r. node op (fitted_by r (types_of typed) (coerced_all registry schema children))) rules
+
+  mutual
+    pub coerced_same : (tree : Expression) (typed : Typed) → typing registry schema tree ≡ Ok typed → IsSame registry schema tree (coerced registry schema tree)
+    coerced_same (node op children) typed h =
+        let p = typed_parts registry schema op children typed h in
+        let each = all_coerced_same children p.below p.children_typed in
+        let after = coerced_all registry schema children in
+        let types = typings_same registry schema children after each ∙ p.children_typed in
+        subst (IsSame registry schema (node op children)) (sym (coerced_is op children p.below p.ruling p.children_typed p.rules))
+        (same_then registry schema _ (node op after) _ (node_same registry schema op children after each) (operands_same registry schema op after p.below types p.ruling p.rules))
+
+    all_coerced_same : (trees : Trees Op) (typed : List Typed) → typing_all registry schema trees ≡ Ok typed → AllRelated (IsSame registry schema) trees (coerced_all registry schema trees)
+    all_coerced_same no_more typed h = tt
+    all_coerced_same (more tree trees) typed h =
+        by_children (λ _. AllRelated (IsSame registry schema) (more tree trees) (coerced_all registry schema (more tree trees))) _ _ typed h (λ t ts first rest. (coerced_same tree t first, all_coerced_same trees ts rest))
+
+-- a type that lacks the number isn't the one that the number has alone
+other_type : (number : ℤ) (own target : Ty) → type_alone (Untyped number) ≡ Some own → integer_has target number ≡ false → same_type own target ≡ false
+other_type number own target alone lacks =
+    elim (same_type own target) as (λ b. same_type own target ≡ b → b ≡ false) [
+      | true ↦ λ e. let has = literal_has number own alone in let there = subst (λ t. integer_has t number ≡ true) (same_type_exact own target e) (and_from (is_integer own) (in_range own number) has.2 has.0) in cc
+      | false ↦ λ e. refl
+    ] refl
+
+-- ---- a count by the cost of each node
+
+-- What is asked of a cost: it is that of the node over operands that were made of their types, all literals of a value have
+-- the same, an alias has the same over all, and a cast to another type has this one.
+pub record IsCost (registry : Registry) (schema : Columns) (cost : Op → Result (List Typed) ErrorKind → ℕ) (each : ℕ) : Type 0 where
+  pub kept : (op : Op) (typed : List Typed) (ruling : Ruling) → rule registry schema op typed ≡ Ok ruling → cost op (Ok (typed_to typed ruling.operands)) ≡ cost op (Ok typed)
+  pub casts : (from target : Ty) (many : Bool) → is_known from ≡ true → same_type from target ≡ false → cost (CastOp target NonStrict) (Ok (record { type = from; many = many } ∷ [])) ≡ each
+  pub literals : (type own : Ty) (value : Val) (found : Result (List Typed) ErrorKind) → cost (LiteralOp type value) found ≡ cost (LiteralOp own value) found
+  pub aliases : (name : Name) (a b : Result (List Typed) ErrorKind) → cost (AliasOp name) a ≡ cost (AliasOp name) b
+
+module _ (registry : Registry) (schema : Columns) (cost : Op → Result (List Typed) ErrorKind → ℕ) where
+  abbrev mutual
+    pub counted : Expression → ℕ
+    counted (node op children) = cost op (typing_all registry schema children) + all_counted children
+
+    pub all_counted : Trees Op → ℕ
+    all_counted no_more = 0
+    all_counted (more tree trees) = counted tree + all_counted trees
+
+  module _ (each : ℕ) (is : IsCost registry schema cost each) where
+    -- another under the same aliases
+    renamed_counted : (tree x y : Expression) → counted (renamed tree x) + counted y ≡ counted (renamed tree y) + counted x
+    renamed_counted (node (AliasOp name) (more tree no_more)) x y =
+        let below = renamed_counted tree x y in
+        let here = is.aliases name (typing_all registry schema (more (renamed tree x) no_more)) (typing_all registry schema (more (renamed tree y) no_more)) in
+        omega (arith, below, here)
+    renamed_counted (node op children) x y = omega arith
+
+    -- a number at the top that gets a type
+    pub settled_counted : (tree : Expression) → counted (settled tree) ≡ counted tree
+    settled_counted (node (AliasOp name) (more tree no_more)) =
+        let below = settled_counted tree in
+        let here = is.aliases name (typing_all registry schema (more (settled tree) no_more)) (typing_all registry schema (more tree no_more)) in
+        omega (arith, below, here)
+    settled_counted (node (LiteralOp type value) children) =
+        let here = is.literals (settled_type type) type value (typing_all registry schema children) in
+        omega (arith, here)
+    settled_counted (node op children) = refl
+
+    -- a cast to another type
+    cast_counted : (from target : Ty) (tree : Expression) (many : Bool) → typing registry schema tree ≡ Ok (record { type = from; many = many }) → is_known from ≡ true → same_type from target ≡ false → counted (cast_to target tree) ≡ counted tree + each
+    cast_counted from target tree many h known other =
+        let here = ap (λ r. cost (CastOp target NonStrict) (typed_before r (Ok []))) h ∙ is.casts from target many known other in
+        omega (arith, here)
+
+    own_counted : (number : ℤ) (own target : Ty) → type_alone (Untyped number) ≡ Some own → integer_has target number ≡ false → counted (cast_to target (number_literal own number)) ≡ counted (number_literal own number) + each
+    own_counted number own target alone lacks =
+        let has = literal_has number own alone in
+        let typed = literal_typing registry schema own (IntValue number) (becomes_literal own number has.1 has.0) in
+        cast_counted own target (number_literal own number) false typed has.1 (other_type number own target alone lacks)
+
+    number_counted : (number : ℤ) (target : Ty) → CanBecome (Untyped number) target → counted (number_as number target) ≡ counted (untyped number) + for_other each (Untyped number) target
+    number_counted number target can =
+        elim (integer_has target number) as (λ b. integer_has target number ≡ b → counted (cond b (number_literal target number) (cast_to target (number_literal (settled_type (Untyped number)) number))) ≡ counted (untyped number) + cond b zero each) [
+          | true ↦ λ e. let own = is.literals target (Untyped number) (IntValue number) (Ok []) in omega (arith, own)
+          | false ↦ λ e.
+              let alone = can.has number refl e in
+              let type = ap (λ found. unwrap_or found (Untyped number)) alone.1 in
+              let made = ap (λ t. counted (cast_to target (number_literal t number))) type ∙ own_counted number alone.0 target alone.1 e in
+              let own = is.literals alone.0 (Untyped number) (IntValue number) (Ok []) in
+              omega (arith, made, own)
+        ] refl
+
+    changed_counted : (from target : Ty) (tree : Expression) (many : Bool) → typing registry schema tree ≡ Ok (record { type = from; many = many }) → CanBecome from target → same_type from target ≡ false → counted (changed from target tree) ≡ counted tree + for_other each from target
+    changed_counted (Untyped number) target tree many h can other =
+        let whole = renamed_counted tree (number_as number target) (untyped number) in
+        let same = ap counted (untyped_is_number registry schema number tree many h).tree_is in
+        let own = number_counted number target can in
+        omega (arith, whole, same, own)
+    changed_counted from target tree many h can other = cast_counted from target tree many h (source_known from target (can.casts (λ number e. cc))) other
+
+    operand_counted : (own from target : Ty) (tree : Expression) (many : Bool) → typing registry schema tree ≡ Ok (record { type = from; many = many }) → IsTakenTo own from target → counted (as_operand from target tree) ≡ counted tree + for_operand each from target
+    operand_counted own from target tree many h (passes kept owned) =
+        let same = ap (same_type from) (sym kept) ∙ same_type_own from in
+        subst (λ b. counted (cond b tree (changed from target tree)) ≡ counted tree + cond b zero (for_other each from target)) (sym same) (omega arith)
+    operand_counted own from target tree many h (makes can) =
+        elim (same_type from target) as (λ b. same_type from target ≡ b → counted (cond b tree (changed from target tree)) ≡ counted tree + cond b zero (for_other each from target)) [ true ↦ λ e. omega arith | false ↦ λ e. changed_counted from target tree many h can e ] refl
+
+    operands_counted : (own : Ty) (trees : Trees Op) (typed : List Typed) (targets : List Ty) → typing_all registry schema trees ≡ Ok typed → AllBecome own (types_of typed) targets → all_counted (as_operands (types_of typed) targets trees) ≡ all_counted trees + for_operands each (types_of typed) targets
+    operands_counted own no_more typed targets h b =
+        by_no_children (λ ts. all_counted (as_operands (types_of ts) targets no_more) ≡ all_counted no_more + for_operands each (types_of ts) targets) typed h (omega arith)
+    operands_counted own (more tree trees) typed [] h b =
+        by_children (λ ts. AllBecome own (types_of ts) [] → all_counted (as_operands (types_of ts) [] (more tree trees)) ≡ all_counted (more tree trees) + for_operands each (types_of ts) []) _ _ typed h (λ t ts first rest none. absurd none) b
+    operands_counted own (more tree trees) typed (target ∷ targets) h b =
+        by_children (λ ts. AllBecome own (types_of ts) (target ∷ targets) → all_counted (as_operands (types_of ts) (target ∷ targets) (more tree trees)) ≡ all_counted (more tree trees) + for_operands each (types_of ts) (target ∷ targets)) _ _ typed h (λ t ts first rest become.
+        let first_count = operand_counted own t.type target tree t.many first become.0 in
+        let below = operands_counted own trees ts targets rest become.1 in
+        let whole : all_counted (as_operands (types_of (t ∷ ts)) (target ∷ targets) (more tree trees)) ≡ counted (as_operand t.type target tree) + all_counted (as_operands (types_of ts) targets trees) = refl in
+        omega (arith, first_count, below, whole)) b
+
+    mutual
+      -- coercion adds what is said to be added
+      pub coerced_counted : (tree : Expression) (typed : Typed) → typing registry schema tree ≡ Ok typed → counted (coerced registry schema tree) ≡ counted tree + added each registry schema tree
+      coerced_counted (node op children) typed h =
+          let p = typed_parts registry schema op children typed h in
+          let after = coerced_all registry schema children in
+          let types = typings_same registry schema children after (all_coerced_same registry schema children p.below p.children_typed) ∙ p.children_typed in
+          let tree_is = ap counted (coerced_is registry schema op children p.below p.ruling p.children_typed p.rules) in
+          let taken = ap (cost op) (after_typed registry schema op after p.below types p.ruling p.rules) ∙ is.kept op p.below p.ruling p.rules ∙ sym (ap (cost op) p.children_typed) in
+          let own = operands_counted p.ruling.own.type after p.below p.ruling.operands types (keeps_rule registry schema op p.below p.ruling p.rules).becomes in
+          let below = all_coerced_counted children p.below p.children_typed in
+          let here : for_node each registry schema op (typing_all registry schema children) ≡ for_operands each (types_of p.below) p.ruling.operands =
+          ap (for_node each registry schema op) p.children_typed ∙ ap (by_rule each (types_of p.below)) p.rules in
+          omega (arith, tree_is, taken, own, below, here)
+
+      all_coerced_counted : (trees : Trees Op) (typed : List Typed) → typing_all registry schema trees ≡ Ok typed → all_counted (coerced_all registry schema trees) ≡ all_counted trees + all_added each registry schema trees
+      all_coerced_counted no_more typed h = omega arith
+      all_coerced_counted (more tree trees) typed h =
+          by_children (λ _. all_counted (coerced_all registry schema (more tree trees)) ≡ all_counted (more tree trees) + all_added each registry schema (more tree trees)) _ _ typed h (λ t ts first rest.
+          let own = coerced_counted tree t first in
+          let below = all_coerced_counted trees ts rest in
+          omega (arith, own, below))
+
+-- ---- casts, all nodes but casts, and casts to the type that is there
+
+abbrev pub cast_cost : Op → Result (List Typed) ErrorKind → ℕ
+cast_cost (CastOp target options) found = 1
+cast_cost op found = 0
+
+abbrev pub other_cost : Op → Result (List Typed) ErrorKind → ℕ
+other_cost (CastOp target options) found = 0
+other_cost op found = 1
+
+abbrev pub idle_cost : Op → Result (List Typed) ErrorKind → ℕ
+idle_cost op found = cond (is_idle op found) 1 0
+
+module _ (registry : Registry) (schema : Columns) where
+  cast_same : (op : Op) (a b : Result (List Typed) ErrorKind) → cast_cost op a ≡ cast_cost op b
+  cast_same (CastOp target options) a b = refl
+  cast_same op a b = refl
+
+  casts_cost : IsCost registry schema cast_cost 1
+  casts_cost = record {
+    kept = λ op typed ruling rules. cast_same op _ _;
+    casts = λ from target many known other. refl;
+    literals = λ type own value found. refl;
+    aliases = λ name a b. refl;
+  }
+
+  other_same : (op : Op) (a b : Result (List Typed) ErrorKind) → other_cost op a ≡ other_cost op b
+  other_same (CastOp target options) a b = refl
+  other_same op a b = refl
+
+  others_cost : IsCost registry schema other_cost 0
+  others_cost = record {
+    kept = λ op typed ruling rules. other_same op _ _;
+    casts = λ from target many known other. refl;
+    literals = λ type own value found. refl;
+    aliases = λ name a b. refl;
+  }
+
+  -- a cast takes its operand to the type that it has alone
+  cast_kept : (target : Ty) (options : CastOptions) (from : Typed) (own : Option Ty) → type_alone from.type ≡ own → (ruling : Ruling) → ruled_as (cast_taken target own) from.many ≡ Ok ruling → idle_cost (CastOp target options) (Ok (typed_to (from ∷ []) ruling.operands)) ≡ idle_cost (CastOp target options) (Ok (from ∷ []))
+  cast_kept target options from None alone ruling rules = cc
+  cast_kept target options from (Some own) alone ruling rules =
+      let known = alone_known from.type own alone in
+      let itself = ap (λ found. unwrap_or found own) (alone_itself own known) in
+      let before = ap (λ found. unwrap_or found from.type) alone in
+      elim (can_cast own target) as (λ b. ruled_as (cond b (Ok (record { operands = own ∷ []; type = target })) (Err InvalidOperation)) from.many ≡ Ok ruling → idle_cost (CastOp target options) (Ok (typed_to (from ∷ []) ruling.operands)) ≡ idle_cost (CastOp target options) (Ok (from ∷ []))) [
+        | true ↦ λ e.
+            let is : ruling ≡ record { operands = own ∷ []; own = record { type = target; many = from.many } } = cc in
+            ap (λ r. idle_cost (CastOp target options) (Ok (typed_to (from ∷ []) r.operands))) is ∙ ap (λ t. cond (same_type t target) 1 0) (itself ∙ sym before)
+        | false ↦ λ e. cc
+      ] rules
+
+  idle_kept : (op : Op) (typed : List Typed) (ruling : Ruling) → rule registry schema op typed ≡ Ok ruling → idle_cost op (Ok (typed_to typed ruling.operands)) ≡ idle_cost op (Ok typed)
+  idle_kept (CastOp target options) (from ∷ []) ruling rules = cast_kept target options from (type_alone from.type) refl ruling rules
+  idle_kept (CastOp target options) typed ruling rules = cc
+  idle_kept op typed ruling rules = refl
+
+  idle_costs : IsCost registry schema idle_cost 0
+  idle_costs = record {
+    kept = idle_kept;
+    casts = λ from target many known other. ap (λ found. cond (same_type (unwrap_or found from) target) 1 0) (alone_itself from known) ∙ ap (λ b. cond b 1 0) other;
+    literals = λ type own value found. refl;
+    aliases = λ name a b. refl;
+  }
+
+  -- ---- what is counted is what the definitions count
+
+  op_casts_are : (op : Op) (children : Trees Op) → op_casts op (fold_all op_casts children) ≡ cast_cost op (typing_all registry schema children) + sum (fold_all op_casts children)
+  op_casts_are (CastOp target options) children = refl
+  op_casts_are op children = omega arith
+
+  op_others_are : (op : Op) (children : Trees Op) → other_nodes_step op (fold_all other_nodes_step children) ≡ other_cost op (typing_all registry schema children) + sum (fold_all other_nodes_step children)
+  op_others_are (CastOp target options) children = omega arith
+  op_others_are op children = refl
+
+  mutual
+    pub casts_counted : (tree : Expression) → expression_casts tree ≡ counted registry schema cast_cost tree
+    casts_counted (node op children) = let own = op_casts_are op children in let below = all_casts_counted children in omega (arith, own, below)
+
+    all_casts_counted : (trees : Trees Op) → sum (fold_all op_casts trees) ≡ all_counted registry schema cast_cost trees
+    all_casts_counted no_more = refl
+    all_casts_counted (more tree trees) =
+        let whole = sum_by-cons (λ (x : ℕ). x) (expression_casts tree) (fold_all op_casts trees) in
+        let own = casts_counted tree in
+        let below = all_casts_counted trees in
+        omega (arith, whole, own, below)
+
+  mutual
+    pub others_counted : (tree : Expression) → other_nodes tree ≡ counted registry schema other_cost tree
+    others_counted (node op children) = let own = op_others_are op children in let below = all_others_counted children in omega (arith, own, below)
+
+    all_others_counted : (trees : Trees Op) → sum (fold_all other_nodes_step trees) ≡ all_counted registry schema other_cost trees
+    all_others_counted no_more = refl
+    all_others_counted (more tree trees) =
+        let whole = sum_by-cons (λ (x : ℕ). x) (other_nodes tree) (fold_all other_nodes_step trees) in
+        let own = others_counted tree in
+        let below = all_others_counted trees in
+        omega (arith, whole, own, below)
+
+  mutual
+    pub idle_counted : (tree : Expression) → idle_casts registry schema tree ≡ counted registry schema idle_cost tree
+    idle_counted (node op children) = ap (λ n. idle_cost op (typing_all registry schema children) + n) (all_idle_counted children)
+
+    all_idle_counted : (trees : Trees Op) → all_idle_casts registry schema trees ≡ all_counted registry schema idle_cost trees
+    all_idle_counted no_more = refl
+    all_idle_counted (more tree trees) = let own = idle_counted tree in let below = all_idle_counted trees in omega (arith, own, below)
+
+  -- where a cast counts nothing, nothing is added
+  no_other : (from target : Ty) → for_other 0 from target ≡ zero
+  no_other (Untyped number) target = elim (integer_has target number) as (λ b. cond b zero zero ≡ zero) [ true ↦ refl | false ↦ refl ]
+  no_other from target = refl
+
+  no_operand : (from target : Ty) → for_operand 0 from target ≡ zero
+  no_operand from target = elim (same_type from target) as (λ b. cond b zero (for_other 0 from target) ≡ zero) [ true ↦ refl | false ↦ no_other from target ]
+
+  no_operands : (types targets : List Ty) → for_operands 0 types targets ≡ zero
+  no_operands [] targets = refl
+  no_operands (from ∷ types) [] = refl
+  no_operands (from ∷ types) (target ∷ targets) = let own = no_operand from target in let below = no_operands types targets in omega (arith, own, below)
+
+  by_no_rule : (types : List Ty) (found : Result Ruling ErrorKind) → by_rule 0 types found ≡ zero
+  by_no_rule types (Err kind) = refl
+  by_no_rule types (Ok ruling) = no_operands types ruling.operands
+
+  no_node : (op : Op) (found : Result (List Typed) ErrorKind) → for_node 0 registry schema op found ≡ zero
+  no_node op (Err kind) = refl
+  no_node op (Ok typed) = by_no_rule (types_of typed) (rule registry schema op typed)
+
+  mutual
+    none_added : (tree : Expression) → added 0 registry schema tree ≡ zero
+    none_added (node op children) = let own = no_node op (typing_all registry schema children) in let below = none_all_added children in omega (arith, own, below)
+
+    none_all_added : (trees : Trees Op) → all_added 0 registry schema trees ≡ zero
+    none_all_added no_more = refl
+    none_all_added (more tree trees) = let own = none_added tree in let below = none_all_added trees in omega (arith, own, below)
+
+  -- ---- an expression that is coerced
+
+  module _ (tree : Expression) (typed : Typed) (h : typing registry schema tree ≡ Ok typed) where
+    -- has the casts that it needs
+    pub coerced_casts : expression_casts (coerced registry schema tree) ≡ needed_casts registry schema tree
+    coerced_casts =
+        let whole = coerced_counted registry schema cast_cost 1 casts_cost tree typed h in
+        let before = casts_counted tree in
+        let after = casts_counted (coerced registry schema tree) in
+        omega (arith, whole, before, after)
+
+    -- as many other nodes as before
+    pub coerced_others : other_nodes (coerced registry schema tree) ≡ other_nodes tree
+    coerced_others =
+        let whole = coerced_counted registry schema other_cost 0 others_cost tree typed h in
+        let none = none_added tree in
+        let before = others_counted tree in
+        let after = others_counted (coerced registry schema tree) in
+        omega (arith, whole, none, before, after)
+
+    -- and as many casts to a type that is there
+    pub coerced_idle : idle_casts registry schema (coerced registry schema tree) ≡ idle_casts registry schema tree
+    coerced_idle =
+        let whole = coerced_counted registry schema idle_cost 0 idle_costs tree typed h in
+        let none = none_added tree in
+        let before = idle_counted tree in
+        let after = idle_counted (coerced registry schema tree) in
+        omega (arith, whole, none, before, after)
+
+  -- a number at the top that gets a type is no cast, and one node
+  pub settled_casts : (tree : Expression) → expression_casts (settled tree) ≡ expression_casts tree
+  settled_casts tree = casts_counted (settled tree) ∙ settled_counted registry schema cast_cost 1 casts_cost tree ∙ sym (casts_counted tree)
+
+  pub settled_others : (tree : Expression) → other_nodes (settled tree) ≡ other_nodes tree
+  settled_others tree = others_counted (settled tree) ∙ settled_counted registry schema other_cost 0 others_cost tree ∙ sym (others_counted tree)
+
+  pub settled_idle : (tree : Expression) → idle_casts registry schema (settled tree) ≡ idle_casts registry schema tree
+  settled_idle tree = idle_counted (settled tree) ∙ settled_counted registry schema idle_cost 0 idle_costs tree ∙ sym (idle_counted tree)

@@ -1,0 +1,53 @@
+-- Bounds on what coercion adds to an expression.
+use Rattle.std.specs.Prelude.{◌≡◌, ◌≤◌, ℕ, List, Ok, sum_by}
+use Rattle.plan_types.specs.Schemas.{Columns}
+use Rattle.plan_dsl.specs.Counts.{expression_casts}
+use Rattle.plan_dsl.specs.Literals.{settled}
+use Rattle.plan_dsl.specs.Ops.{Expression}
+use Rattle.plan_dsl.specs.Plans.{Named}
+use Rattle.plan_dsl.specs.Registry.{Registry}
+use Rattle.plan_dsl.specs.Typing.{Typed, typing}
+use Rattle.plan_coerce.specs.Coercion.{coerced}
+use Rattle.plan_properties.specs.Splitting.{split_predicate}
+use Rattle.plan_bounds.specs.Counts.{needed_casts, other_nodes, idle_casts}
+
+-- a typed expression with every cast written out has the casts that it needs
+abbrev pub HasNeededCasts : Type 0
+HasNeededCasts =
+    (registry : Registry) (schema : Columns) (tree : Expression) (typed : Typed) → typing registry schema tree ≡ Ok typed
+    → expression_casts (coerced registry schema tree) ≡ needed_casts registry schema tree
+
+-- as many other nodes as before
+abbrev pub KeepsOtherNodes : Type 0
+KeepsOtherNodes =
+    (registry : Registry) (schema : Columns) (tree : Expression) (typed : Typed) → typing registry schema tree ≡ Ok typed
+    → other_nodes (coerced registry schema tree) ≡ other_nodes tree
+
+-- and as many casts to the type that is there
+abbrev pub KeepsIdleCasts : Type 0
+KeepsIdleCasts =
+    (registry : Registry) (schema : Columns) (tree : Expression) (typed : Typed) → typing registry schema tree ≡ Ok typed
+    → idle_casts registry schema (coerced registry schema tree) ≡ idle_casts registry schema tree
+
+-- a number without a type at the top that gets one, as a plan's node takes it, adds no cast, no node and no idle cast
+abbrev pub SettlingAddsNothing : Type 0
+SettlingAddsNothing =
+    (registry : Registry) (schema : Columns) (tree : Expression)
+    → (expression_casts (settled tree) ≡ expression_casts tree) × (other_nodes (settled tree) ≡ other_nodes tree) × (idle_casts registry schema (settled tree) ≡ idle_casts registry schema tree)
+
+-- how many there are in all of some expressions
+abbrev pub in_all : (Expression → ℕ) → List (Named Expression) → ℕ
+in_all count es = sum_by (λ e. count e.expression) es
+
+-- the parts to which a filter is split have the casts of the whole
+abbrev pub SplittingKeepsCasts : Type 0
+SplittingKeepsCasts = (predicate : Named Expression) → in_all expression_casts (split_predicate predicate) ≡ expression_casts predicate.expression
+
+-- no more other nodes
+abbrev pub SplittingAddsNoNode : Type 0
+SplittingAddsNoNode = (predicate : Named Expression) → in_all other_nodes (split_predicate predicate) ≤ other_nodes predicate.expression
+
+-- and as many casts to the type that is there
+abbrev pub SplittingKeepsIdleCasts : Type 0
+SplittingKeepsIdleCasts =
+    (registry : Registry) (schema : Columns) (predicate : Named Expression) → in_all (idle_casts registry schema) (split_predicate predicate) ≡ idle_casts registry schema predicate.expression

@@ -1,0 +1,89 @@
+//! Worked examples of the definitions. The functions do nothing: their clauses are the examples.
+
+ghost use Rattle.std.specs.Prelude.{◌≡◌, [], ◌∷◌, pos, true, false, Ok, Err};
+ghost use Rattle.plan_types.specs.Types.{TextType, Untyped};
+ghost use Rattle.plan_types.specs.declared.dtype.CastOptions.TheVariants.{NonStrict, Strict};
+ghost use Rattle.plan_types.specs.declared.error.ErrorKind.TheVariants.{InvalidOperation};
+ghost use Rattle.plan_dsl.specs.Ops.{BinaryOp, CastOp, LenOp};
+ghost use Rattle.plan_dsl.specs.Trees.{more, no_more};
+ghost use Rattle.plan_dsl.specs.declared.operator.Operator.TheVariants.{And, Eq, Plus};
+ghost use Rattle.plan_dsl.specs.Counts.{expression_casts};
+ghost use Rattle.plan_dsl.specs.Plans.{named};
+ghost use Rattle.plan_dsl.specs.Samples.{alias, cast_as, typed_literal};
+ghost use Rattle.plan_infer.specs.Samples.{a, b, binary, c, cast_to, five, int16, int32, int8, of_type, sum, two_columns};
+ghost use Rattle.plan_properties.specs.Splitting.{split_predicate};
+ghost use Rattle.plan_bounds.specs.Laws.{in_all};
+ghost use Rattle.plan_bounds.specs.Counts.{added, all_added, all_idle_casts, by_rule, for_node, for_operand, for_operands, for_other, idle_casts, is_idle, needed_casts, other_nodes, other_nodes_step};
+
+/// An operand needs a cast where it is taken to another type. A number without a type needs one where the type lacks it.
+pub fn casts_for_operands()
+    ensures of_the_type { for_operand 1 int8 int8 ≡ 0 }
+    ensures of_another { for_operand 1 int8 int32 ≡ 1 }
+    ensures number_in_it { for_operand 1 (Untyped (pos 5)) int8 ≡ 0 }
+    ensures number_past_it { for_operand 1 (Untyped (pos 300)) int8 ≡ 1 }
+    ensures number_as_text { for_operand 1 (Untyped (pos 5)) TextType ≡ 1 }
+    ensures other_than_itself { for_other 1 int8 int8 ≡ 1 }
+    ensures that_much { for_operand 3 int8 int32 ≡ 3 }
+    ensures each { for_operands 1 (int8 ∷ int32 ∷ Untyped (pos 5) ∷ int16 ∷ []) (int32 ∷ int32 ∷ int32 ∷ int32 ∷ []) ≡ 2 }
+    ensures none { for_operands 1 [] [] ≡ 0 }
+{}
+
+/// A node goes by its rule, where it has one.
+pub fn casts_for_nodes()
+    ensures sum { for_node 1 [] two_columns (BinaryOp Plus) (Ok (of_type int8 ∷ of_type int32 ∷ [])) ≡ 1 }
+    ensures equal_types { for_node 1 [] two_columns (BinaryOp Plus) (Ok (of_type int8 ∷ of_type int8 ∷ [])) ≡ 0 }
+    ensures without_a_rule { for_node 1 [] two_columns (BinaryOp Plus) (Ok (of_type int8 ∷ [])) ≡ 0 }
+    ensures untyped_children { for_node 1 [] two_columns (BinaryOp Plus) (Err InvalidOperation) ≡ 0 }
+    ensures by_no_rule { by_rule 1 (int8 ∷ []) (Err InvalidOperation) ≡ 0 }
+{}
+
+/// a is an Int8 and b an Int32. The casts that a query wrote count, and those that coercion puts in: at each sum beside the
+/// wider column, in any operand.
+pub fn needed()
+    ensures column { needed_casts [] two_columns a ≡ 0 }
+    ensures sum { needed_casts [] two_columns sum ≡ 1 }
+    ensures written { needed_casts [] two_columns (binary Plus (cast_to int32 a) b) ≡ 1 }
+    ensures written_besides { needed_casts [] two_columns (binary Plus (cast_to int16 a) b) ≡ 2 }
+    ensures number { needed_casts [] two_columns (binary Plus a five) ≡ 0 }
+    ensures wider_number { needed_casts [] two_columns (binary Plus a (typed_literal (Untyped (pos 300)) (pos 300))) ≡ 1 }
+    ensures both { needed_casts [] two_columns (binary Eq sum (binary Plus b a)) ≡ 2 }
+    ensures at_each { needed_casts [] two_columns (binary Plus b (binary Plus a a)) ≡ 1 }
+    ensures under_an_alias { needed_casts [] two_columns (alias "x" sum) ≡ 1 }
+    ensures without_a_type { needed_casts [] two_columns (cast_to int8 c) ≡ 1 }
+    ensures all { all_added 1 [] two_columns (more sum (more a (more sum no_more))) ≡ 2 }
+    ensures counted_as_nothing { added 0 [] two_columns sum ≡ 0 }
+{}
+
+/// All nodes but casts.
+pub fn nodes_but_casts()
+    ensures sum { other_nodes sum ≡ 3 }
+    ensures cast { other_nodes (binary Plus (cast_to int32 a) (cast_to int32 (cast_to int8 b))) ≡ 3 }
+    ensures alias { other_nodes (alias "x" sum) ≡ 4 }
+    ensures step { other_nodes_step LenOp (2 ∷ 3 ∷ []) ≡ 6 }
+    ensures step_of_a_cast { other_nodes_step (CastOp int8 NonStrict) (2 ∷ []) ≡ 2 }
+{}
+
+/// Casts to the type that is there, of any mode. A number without a type counts as one of the type that it has alone.
+pub fn idle()
+    ensures own_type { idle_casts [] two_columns (cast_to int8 a) ≡ 1 }
+    ensures strict { idle_casts [] two_columns (cast_as Strict int8 a) ≡ 1 }
+    ensures other_type { idle_casts [] two_columns (cast_to int32 a) ≡ 0 }
+    ensures number { idle_casts [] two_columns (cast_to int32 five) ≡ 1 }
+    ensures narrower_number { idle_casts [] two_columns (cast_to int8 five) ≡ 0 }
+    ensures twice { idle_casts [] two_columns (cast_to int8 (cast_to int8 a)) ≡ 2 }
+    ensures of_the_sum { idle_casts [] two_columns (cast_to int32 sum) ≡ 1 }
+    ensures all { all_idle_casts [] two_columns (more (cast_to int8 a) (more sum (more (cast_to int32 b) no_more))) ≡ 2 }
+    ensures without_a_type { idle_casts [] two_columns (cast_to int8 c) ≡ 0 }
+    ensures node { is_idle (CastOp int8 NonStrict) (Ok (of_type int8 ∷ [])) ≡ true }
+    ensures no_cast { is_idle LenOp (Ok (of_type int8 ∷ [])) ≡ false }
+{}
+
+/// Several expressions together. A filter that is split has a node less for each conjunction, and one that isn't has all.
+pub fn parts_of_filters()
+    ensures casts { in_all expression_casts (named (cast_to int32 a) ∷ named sum ∷ named (cast_to int8 (cast_to int32 a)) ∷ []) ≡ 3 }
+    ensures nodes { in_all other_nodes (named (cast_to int32 a) ∷ named sum ∷ []) ≡ 4 }
+    ensures none { in_all other_nodes [] ≡ 0 }
+    ensures whole { other_nodes (binary And (binary Eq a five) (binary Eq b five)) ≡ 7 }
+    ensures in_parts { in_all other_nodes (split_predicate (named (binary And (binary Eq a five) (binary Eq b five)))) ≡ 6 }
+    ensures with_a_fault { in_all other_nodes (split_predicate (named (binary And (binary Eq (cast_as Strict int8 b) five) (binary Eq b five)))) ≡ 7 }
+{}

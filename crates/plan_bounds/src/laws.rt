@@ -1,0 +1,21 @@
+//! Laws of the definitions. The functions do nothing: their clauses are the laws.
+ghost use Rattle.plan_bounds.specs.Laws.{HasNeededCasts, KeepsIdleCasts, KeepsOtherNodes, SettlingAddsNothing, SplittingAddsNoNode, SplittingKeepsCasts, SplittingKeepsIdleCasts};
+
+/// A typed expression with every cast written out has the casts that it needs: those that the query wrote, and one for each
+/// operand of another type than the one to which it is taken, but for a number without a type that the type has. It has as
+/// many other nodes as before, and as many casts to the type that their operand has. A number without a type at the top that
+/// gets one, before it is coerced, adds nothing.
+pub fn coercion_bounds()
+    ensures casts { HasNeededCasts }
+    ensures other_nodes { KeepsOtherNodes }
+    ensures idle { KeepsIdleCasts }
+    ensures settled { SettlingAddsNothing }
+{}
+
+/// The parts to which a filter is split have together the casts of the whole, no more other nodes, and as many casts to the
+/// type that their operand has.
+pub fn splitting_bounds()
+    ensures casts { SplittingKeepsCasts }
+    ensures other_nodes { SplittingAddsNoNode }
+    ensures idle { SplittingKeepsIdleCasts }
+{}
