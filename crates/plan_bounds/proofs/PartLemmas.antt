@@ -1,17 +1,20 @@
 -- What the parts of a predicate have together.
-use Rattle.std.proofs.Common.{◌≡◌, ℕ, zero, ◌≤◌, true, false, cond, List, [], ◌∷◌, map, Result, refl, sym, ◌∙◌, arith}
+use Rattle.std.proofs.Common.{◌≡◌, ℕ, zero, ◌+◌, ◌≤◌, true, false, cond, List, [], ◌∷◌, ◌++◌, length, map, Result, refl, sym, ap, subst, ◌∙◌, arith}
 use Rattle.std.specs.Prelude.{sum_by}
+use Rattle.std.proofs.lemmas.List.{length-append, length-map}
 use Rattle.std.proofs.lemmas.List.Sums.{sum_by-cons, sum_by-append}
 use Rattle.plan_types.specs.declared.error.ErrorKind.{ErrorKind}
 use Rattle.plan_types.specs.Schemas.{Columns}
 use Rattle.plan_dsl.specs.Counts.{expression_casts}
+use Rattle.plan_dsl.specs.declared.operator.Operator.{Operator}
 use Rattle.plan_dsl.specs.Ops.{Op, BinaryOp, Expression}
 use Rattle.plan_dsl.specs.Plans.{Named}
 use Rattle.plan_dsl.specs.Registry.{Registry}
 use Rattle.plan_dsl.specs.Trees.{Trees, node, no_more, more}
 use Rattle.plan_dsl.specs.Typing.{Typed, typing_all}
 use Rattle.plan_properties.specs.Properties.{permits_pushdown}
-use Rattle.plan_properties.specs.Splitting.{all_conjuncts, conjuncts, is_conjunction, own_named, split_predicate}
+use Rattle.plan_properties.specs.Splitting.{IsCondition, all_conjuncts, conjuncts, is_conjunction, own_named, split_predicate}
+use Rattle.plan_properties.proofs.ConjunctLemmas.{both_conditions}
 use Rattle.plan_bounds.specs.Counts.{other_nodes, idle_casts}
 use Rattle.plan_bounds.specs.Laws.{in_all}
 use Rattle.plan_bounds.proofs.CountLemmas.{counted, all_counted, cast_cost, other_cost, idle_cost, casts_counted, others_counted, idle_counted}
@@ -113,3 +116,45 @@ pub split_idle : (registry : Registry) (schema : Columns) (predicate : Named Exp
 split_idle registry schema predicate =
     counts_same (idle_casts registry schema) (counted registry schema idle_cost) (idle_counted registry schema) (split_predicate predicate)
     ∙ split_has_all registry schema idle_cost never_idle predicate ∙ sym (idle_counted registry schema predicate.expression)
+
+-- ---- a filter for each part
+
+module _ (registry : Registry) (schema : Columns) where
+  abbrev IsSized : List Expression → Expression → Type 0
+  IsSized parts tree = sum_by other_nodes parts + length parts ≤ other_nodes tree + 1
+
+  whole_sized : (tree : Expression) → IsSized (tree ∷ []) tree
+  whole_sized tree = let own = one_alone other_nodes tree in omega (arith, own)
+
+  pair_sized : (op : Op) (left right : Expression) (operator : Operator) → op ≡ BinaryOp operator → IsSized (conjuncts left) left → IsSized (conjuncts right) right → IsSized (conjuncts left ++ (conjuncts right ++ [])) (node op (more left (more right no_more)))
+  pair_sized op left right operator op_is l r =
+      let both = sum_by-append other_nodes (conjuncts left) (conjuncts right ++ []) in
+      let last = sum_by-append other_nodes (conjuncts right) [] in
+      let lengths = length-append (conjuncts left) (conjuncts right ++ []) in
+      let last_length = length-append (conjuncts right) [] in
+      let nodes = ap (λ o. other_nodes (node o (more left (more right no_more)))) op_is in
+      omega (arith, l, r, both, last, lengths, last_length, nodes)
+
+  parts_sized : (tree : Expression) → IsCondition registry schema tree → IsSized (conjuncts tree) tree
+  parts_sized (node op (more left (more right no_more))) c =
+      elim (is_conjunction op) as (λ b. is_conjunction op ≡ b → IsSized (cond b (conjuncts left ++ (conjuncts right ++ [])) (node op (more left (more right no_more)) ∷ [])) (node op (more left (more right no_more)))) [
+        | true ↦ λ e.
+            let both = both_conditions registry schema op (more left (more right no_more)) e c in
+            let first : both.left ≡ left = cc in
+            let second : both.right ≡ right = cc in
+            pair_sized op left right both.operator both.op_is (parts_sized left (subst (IsCondition registry schema) first both.left_is)) (parts_sized right (subst (IsCondition registry schema) second both.right_is))
+        | false ↦ λ e. whole_sized (node op (more left (more right no_more)))
+      ] refl
+  parts_sized (node op children) c =
+      elim (is_conjunction op) as (λ b. is_conjunction op ≡ b → IsSized (cond b (all_conjuncts children) (node op children ∷ [])) (node op children)) [
+        | true ↦ λ e. let are = (both_conditions registry schema op children e c).are in cc
+        | false ↦ λ e. whole_sized (node op children)
+      ] refl
+
+  pub split_size : (predicate : Named Expression) → IsCondition registry schema predicate.expression → in_all other_nodes (split_predicate predicate) + length (split_predicate predicate) ≤ other_nodes predicate.expression + 1
+  split_size predicate c =
+      let alone = sum_by-cons (λ (x : Named Expression). other_nodes x.expression) predicate [] in
+      let named = under_own_names other_nodes (conjuncts predicate.expression) in
+      let lengths = length-map (conjuncts predicate.expression) own_named in
+      let parts = parts_sized predicate.expression c in
+      elim (permits_pushdown predicate.expression) as (λ b. in_all other_nodes (cond b (map own_named (conjuncts predicate.expression)) (predicate ∷ [])) + length (cond b (map own_named (conjuncts predicate.expression)) (predicate ∷ [])) ≤ other_nodes predicate.expression + 1) [ true ↦ omega (arith, named, lengths, parts) | false ↦ omega (arith, alone) ]

@@ -1,5 +1,5 @@
 -- Bounds on what coercion adds to an expression.
-use Rattle.std.specs.Prelude.{◌≡◌, ◌≤◌, ℕ, List, Ok, sum_by}
+use Rattle.std.specs.Prelude.{◌≡◌, ◌≤◌, ◌+◌, ℕ, List, length, Ok, sum_by}
 use Rattle.plan_types.specs.Schemas.{Columns}
 use Rattle.plan_dsl.specs.Counts.{expression_casts}
 use Rattle.plan_dsl.specs.Literals.{settled}
@@ -8,7 +8,7 @@ use Rattle.plan_dsl.specs.Plans.{Named}
 use Rattle.plan_dsl.specs.Registry.{Registry}
 use Rattle.plan_dsl.specs.Typing.{Typed, typing}
 use Rattle.plan_coerce.specs.Coercion.{coerced}
-use Rattle.plan_properties.specs.Splitting.{split_predicate}
+use Rattle.plan_properties.specs.Splitting.{IsCondition, split_predicate}
 use Rattle.plan_bounds.specs.Counts.{needed_casts, other_nodes, idle_casts}
 
 -- a typed expression with every cast written out has the casts that it needs
@@ -46,6 +46,12 @@ SplittingKeepsCasts = (predicate : Named Expression) → in_all expression_casts
 -- no more other nodes
 abbrev pub SplittingAddsNoNode : Type 0
 SplittingAddsNoNode = (predicate : Named Expression) → in_all other_nodes (split_predicate predicate) ≤ other_nodes predicate.expression
+
+-- with a filter for each part of a condition in place of one, no more nodes at all
+abbrev pub SplittingKeepsSize : Type 0
+SplittingKeepsSize =
+    (registry : Registry) (schema : Columns) (predicate : Named Expression) → IsCondition registry schema predicate.expression
+    → in_all other_nodes (split_predicate predicate) + length (split_predicate predicate) ≤ other_nodes predicate.expression + 1
 
 -- and as many casts to the type that is there
 abbrev pub SplittingKeepsIdleCasts : Type 0

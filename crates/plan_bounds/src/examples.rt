@@ -1,6 +1,6 @@
 //! Worked examples of the definitions. The functions do nothing: their clauses are the examples.
 
-ghost use Rattle.std.specs.Prelude.{◌≡◌, [], ◌∷◌, pos, true, false, Ok, Err};
+ghost use Rattle.std.specs.Prelude.{◌≡◌, ◌+◌, [], ◌∷◌, length, pos, true, false, Ok, Err};
 ghost use Rattle.plan_types.specs.Types.{TextType, Untyped};
 ghost use Rattle.plan_types.specs.declared.dtype.CastOptions.TheVariants.{NonStrict, Strict};
 ghost use Rattle.plan_types.specs.declared.error.ErrorKind.TheVariants.{InvalidOperation};
@@ -85,5 +85,7 @@ pub fn parts_of_filters()
     ensures none { in_all other_nodes [] ≡ 0 }
     ensures whole { other_nodes (binary And (binary Eq a five) (binary Eq b five)) ≡ 7 }
     ensures in_parts { in_all other_nodes (split_predicate (named (binary And (binary Eq a five) (binary Eq b five)))) ≡ 6 }
+    ensures room_for_a_filter { let predicate = binary And (binary Eq a five) (binary Eq b five) in
+        in_all other_nodes (split_predicate (named predicate)) + length (split_predicate (named predicate)) ≡ other_nodes predicate + 1 }
     ensures with_a_fault { in_all other_nodes (split_predicate (named (binary And (binary Eq (cast_as Strict int8 b) five) (binary Eq b five)))) ≡ 7 }
 {}

@@ -1,5 +1,5 @@
 //! Laws of the definitions. The functions do nothing: their clauses are the laws.
-ghost use Rattle.plan_bounds.specs.Laws.{HasNeededCasts, KeepsIdleCasts, KeepsOtherNodes, SettlingAddsNothing, SplittingAddsNoNode, SplittingKeepsCasts, SplittingKeepsIdleCasts};
+ghost use Rattle.plan_bounds.specs.Laws.{HasNeededCasts, KeepsIdleCasts, KeepsOtherNodes, SettlingAddsNothing, SplittingAddsNoNode, SplittingKeepsCasts, SplittingKeepsIdleCasts, SplittingKeepsSize};
 
 /// A typed expression with every cast written out has the casts that it needs: those that the query wrote, and one for each
 /// operand of another type than the one to which it is taken, but for a number without a type that the type has. It has as
@@ -13,9 +13,11 @@ pub fn coercion_bounds()
 {}
 
 /// The parts to which a filter is split have together the casts of the whole, no more other nodes, and as many casts to the
-/// type that their operand has.
+/// type that their operand has. Of a condition, the filters by them and their nodes are no more than the one by the whole
+/// with its own: each conjunction that goes makes room for a filter.
 pub fn splitting_bounds()
     ensures casts { SplittingKeepsCasts }
     ensures other_nodes { SplittingAddsNoNode }
+    ensures size { SplittingKeepsSize }
     ensures idle { SplittingKeepsIdleCasts }
 {}

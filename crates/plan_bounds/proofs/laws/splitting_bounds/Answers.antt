@@ -1,4 +1,4 @@
-use Rattle.plan_bounds.proofs.PartLemmas.{split_casts, split_nodes, split_idle}
+use Rattle.plan_bounds.proofs.PartLemmas.{split_casts, split_nodes, split_size, split_idle}
 use Rattle.plan_bounds.proofs.laws.splitting_bounds.Goals as goal
 
 pub returns-clause-casts : goal.returns-clause-casts
@@ -9,3 +9,6 @@ returns-clause-other_nodes c = split_nodes
 
 pub returns-clause-idle : goal.returns-clause-idle
 returns-clause-idle c = split_idle
+
+pub returns-clause-size : goal.returns-clause-size
+returns-clause-size c = split_size
