@@ -1,2 +1,4 @@
 pub mod Counts
 pub mod Laws
+pub mod PlanCounts
+pub mod PlanLaws

@@ -9,10 +9,11 @@ ghost use Rattle.plan_dsl.specs.Trees.{more, no_more};
 ghost use Rattle.plan_dsl.specs.declared.operator.Operator.TheVariants.{And, Eq, Plus};
 ghost use Rattle.plan_dsl.specs.Counts.{expression_casts};
 ghost use Rattle.plan_dsl.specs.Plans.{named};
-ghost use Rattle.plan_dsl.specs.Samples.{alias, cast_as, typed_literal};
+ghost use Rattle.plan_dsl.specs.Samples.{alias, cast_as, keep, scan, schema_ab, select, typed_literal};
 ghost use Rattle.plan_infer.specs.Samples.{a, b, binary, c, cast_to, five, int16, int32, int8, of_type, sum, two_columns};
 ghost use Rattle.plan_properties.specs.Splitting.{split_predicate};
 ghost use Rattle.plan_bounds.specs.Laws.{in_all};
+ghost use Rattle.plan_bounds.specs.PlanCounts.{over_inputs, over_schema, plan_idle, plan_needs, plan_size, settled_needs};
 ghost use Rattle.plan_bounds.specs.Counts.{added, all_added, all_idle_casts, by_rule, for_node, for_operand, for_operands, for_other, idle_casts, is_idle, needed_casts, other_nodes, other_nodes_step};
 
 /// An operand needs a cast where it is taken to another type. A number without a type needs one where the type lacks it.
@@ -88,4 +89,17 @@ pub fn parts_of_filters()
     ensures room_for_a_filter { let predicate = binary And (binary Eq a five) (binary Eq b five) in
         in_all other_nodes (split_predicate (named predicate)) + length (split_predicate (named predicate)) ≡ other_nodes predicate + 1 }
     ensures with_a_fault { in_all other_nodes (split_predicate (named (binary And (binary Eq (cast_as Strict int8 b) five) (binary Eq b five)))) ≡ 7 }
+{}
+
+/// a is an Int8 and b an Int32, and the sum of both an Int32 under the name of a. Expressions are counted over the input's
+/// schema: over the select a needs no cast beside b. Where an input has no schema nothing is counted over it.
+pub fn plans()
+    ensures select { plan_needs [] (select (sum ∷ cast_to int16 b ∷ []) (scan schema_ab)) ≡ 2 }
+    ensures over_a_select { plan_needs [] (select (sum ∷ []) (select (sum ∷ b ∷ []) (scan schema_ab))) ≡ 1 }
+    ensures filter { plan_needs [] (keep (binary Eq a b) (select (cast_to int8 a ∷ b ∷ []) (scan schema_ab))) ≡ 2 }
+    ensures refused_below { plan_needs [] (select (cast_to int8 a ∷ []) (select (c ∷ []) (scan schema_ab))) ≡ 0 }
+    ensures number { plan_needs [] (select (five ∷ binary Plus a five ∷ []) (scan schema_ab)) ≡ 0 }
+    ensures idle { plan_idle [] (keep (binary Eq a five) (select (cast_to int8 a ∷ cast_to int32 b ∷ cast_to int8 b ∷ []) (scan schema_ab))) ≡ 2 }
+    ensures size { plan_size (keep (binary Eq a b) (select (cast_to int8 a ∷ sum ∷ []) (scan schema_ab))) ≡ 10 }
+    ensures scan { plan_size (scan schema_ab) ≡ 1 }
 {}

@@ -1,4 +1,5 @@
 use Rattle.plan_bounds.proofs.CountLemmas.{coerced_casts, coerced_others, coerced_idle, settled_casts, settled_others, settled_idle}
+use Rattle.plan_bounds.proofs.StrictLemmas.{strict_plan_needs}
 use Rattle.plan_bounds.proofs.laws.coercion_bounds.Goals as goal
 
 pub returns-clause-casts : goal.returns-clause-casts
@@ -12,3 +13,6 @@ returns-clause-idle c registry schema tree typed h = coerced_idle registry schem
 
 pub returns-clause-settled : goal.returns-clause-settled
 returns-clause-settled c registry schema tree = (settled_casts registry schema tree, settled_others registry schema tree, settled_idle registry schema tree)
+
+pub returns-clause-plans : goal.returns-clause-plans
+returns-clause-plans c = strict_plan_needs

@@ -1,0 +1,10 @@
+-- A lowered plan needs no casts but those that it has.
+use Rattle.std.specs.Prelude.{◌≡◌}
+use Rattle.plan_dsl.specs.Counts.{cast_count}
+use Rattle.plan_dsl.specs.Plans.{Plan}
+use Rattle.plan_dsl.specs.Registry.{Registry}
+use Rattle.plan_arena.specs.Runs.{IsStrictPlan}
+use Rattle.plan_bounds.specs.PlanCounts.{plan_needs}
+
+abbrev pub StrictPlansHaveNeededCasts : Type 0
+StrictPlansHaveNeededCasts = (registry : Registry) (plan : Plan) → IsStrictPlan registry plan → plan_needs registry plan ≡ cast_count plan
