@@ -1,6 +1,6 @@
 //! Worked examples of the definitions. The functions do nothing: their clauses are the examples.
 
-ghost use Rattle.std.specs.Prelude.{◌≡◌, ◌+◌, [], ◌∷◌, length, pos, true, false, Ok, Err};
+ghost use Rattle.std.specs.Prelude.{◌≡◌, ◌+◌, [], ◌∷◌, length, pos, true, false, Some, None, Ok, Err};
 ghost use Rattle.plan_types.specs.Types.{TextType, Untyped};
 ghost use Rattle.plan_types.specs.declared.dtype.CastOptions.TheVariants.{NonStrict, Strict};
 ghost use Rattle.plan_types.specs.declared.error.ErrorKind.TheVariants.{InvalidOperation};
@@ -8,7 +8,7 @@ ghost use Rattle.plan_dsl.specs.Ops.{BinaryOp, CastOp, LenOp};
 ghost use Rattle.plan_dsl.specs.Trees.{more, no_more};
 ghost use Rattle.plan_dsl.specs.declared.operator.Operator.TheVariants.{And, Eq, Plus};
 ghost use Rattle.plan_dsl.specs.Counts.{expression_casts};
-ghost use Rattle.plan_dsl.specs.Plans.{named};
+ghost use Rattle.plan_dsl.specs.Plans.{named, over_input};
 ghost use Rattle.plan_dsl.specs.Samples.{alias, cast_as, keep, scan, schema_ab, select, typed_literal};
 ghost use Rattle.plan_infer.specs.Samples.{a, b, binary, c, cast_to, five, int16, int32, int8, of_type, sum, two_columns};
 ghost use Rattle.plan_properties.specs.Splitting.{split_predicate};
@@ -102,4 +102,15 @@ pub fn plans()
     ensures idle { plan_idle [] (keep (binary Eq a five) (select (cast_to int8 a ∷ cast_to int32 b ∷ cast_to int8 b ∷ []) (scan schema_ab))) ≡ 2 }
     ensures size { plan_size (keep (binary Eq a b) (select (cast_to int8 a ∷ sum ∷ []) (scan schema_ab))) ≡ 10 }
     ensures scan { plan_size (scan schema_ab) ≡ 1 }
+{}
+
+/// Over a schema, over none, and by the number of the input.
+pub fn expressions_over_inputs()
+    ensures schema { over_schema settled_needs [] (Some two_columns) (named sum ∷ named five ∷ named (cast_to int32 five) ∷ []) ≡ 2 }
+    ensures none { over_schema settled_needs [] None (named sum ∷ []) ≡ 0 }
+    ensures inputs { let es = over_input 0 (named sum ∷ []) ∷ over_input 1 (named sum ∷ []) ∷ over_input 0 (named (cast_to int8 b) ∷ []) ∷ [] in
+        over_inputs settled_needs [] (Some two_columns ∷ None ∷ []) es ≡ 2 }
+    ensures no_such_input { over_inputs settled_needs [] (Some two_columns ∷ []) (over_input 1 (named sum ∷ []) ∷ []) ≡ 0 }
+    ensures number { settled_needs [] two_columns five ≡ 0 }
+    ensures number_under_an_alias { settled_needs [] two_columns (alias "x" five) ≡ 0 }
 {}
