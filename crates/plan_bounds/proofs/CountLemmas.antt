@@ -30,7 +30,7 @@ use Rattle.plan_dsl.proofs.OperandLemmas.{after_typed, operands_same}
 use Rattle.plan_dsl.proofs.SameLemmas.{node_same, same_then, typings_same}
 use Rattle.plan_dsl.proofs.TypingLemmas.{by_children, by_no_children, typed_parts}
 use Rattle.plan_coerce.specs.Coercion.{fitted, fitted_by, coerced, coerced_all}
-use Rattle.plan_bounds.specs.Counts.{for_other, for_operand, for_operands, by_rule, for_node, added, all_added, needed_casts, other_nodes_step, other_nodes, is_idle, idle_casts, all_idle_casts}
+use Rattle.plan_bounds.specs.Counts.{changed_casts, operand_casts, operands_casts, ruled_casts, node_casts, implicit_casts, all_implicit_casts, needed_casts, other_nodes_step, other_nodes, is_idle, idle_casts, all_idle_casts}
 
 -- ---- coercion keeps types, so each operand is what the typing of its tree says
 
@@ -65,11 +65,21 @@ other_type number own target alone lacks =
 
 -- ---- a count by the cost of each node
 
+-- casts that are put in count, or nothing counts
+abbrev weight : Bool → ℕ → ℕ
+weight counts n = cond counts n 0
+
+weight_none : (counts : Bool) → weight counts 0 ≡ zero
+weight_none counts = elim counts as (λ b. weight b 0 ≡ zero) [ true ↦ refl | false ↦ refl ]
+
+weight_sum : (counts : Bool) (m n : ℕ) → weight counts (m + n) ≡ weight counts m + weight counts n
+weight_sum counts m n = elim counts as (λ b. weight b (m + n) ≡ weight b m + weight b n) [ true ↦ omega arith | false ↦ omega arith ]
+
 -- What is asked of a cost: it is that of the node over operands that were made of their types, all literals of a value have
--- the same, an alias has the same over all, and a cast to another type has this one.
-pub record IsCost (registry : Registry) (schema : Columns) (cost : Op → Result (List Typed) ErrorKind → ℕ) (each : ℕ) : Type 0 where
+-- the same, an alias has the same over all, and a cast to another type costs one, or nothing.
+pub record IsCost (registry : Registry) (schema : Columns) (cost : Op → Result (List Typed) ErrorKind → ℕ) (counts : Bool) : Type 0 where
   pub kept : (op : Op) (typed : List Typed) (ruling : Ruling) → rule registry schema op typed ≡ Ok ruling → cost op (Ok (typed_to typed ruling.operands)) ≡ cost op (Ok typed)
-  pub casts : (from target : Ty) (many : Bool) → is_known from ≡ true → same_type from target ≡ false → cost (CastOp target NonStrict) (Ok (record { type = from; many = many } ∷ [])) ≡ each
+  pub casts : (from target : Ty) (many : Bool) → is_known from ≡ true → same_type from target ≡ false → cost (CastOp target NonStrict) (Ok (record { type = from; many = many } ∷ [])) ≡ weight counts 1
   pub literals : (type own : Ty) (value : Val) (found : Result (List Typed) ErrorKind) → cost (LiteralOp type value) found ≡ cost (LiteralOp own value) found
   pub aliases : (name : Name) (a b : Result (List Typed) ErrorKind) → cost (AliasOp name) a ≡ cost (AliasOp name) b
 
@@ -82,7 +92,7 @@ module _ (registry : Registry) (schema : Columns) (cost : Op → Result (List Ty
     all_counted no_more = 0
     all_counted (more tree trees) = counted tree + all_counted trees
 
-  module _ (each : ℕ) (is : IsCost registry schema cost each) where
+  module _ (counts : Bool) (is : IsCost registry schema cost counts) where
     -- another under the same aliases
     renamed_counted : (tree x y : Expression) → counted (renamed tree x) + counted y ≡ counted (renamed tree y) + counted x
     renamed_counted (node (AliasOp name) (more tree no_more)) x y =
@@ -103,21 +113,21 @@ module _ (registry : Registry) (schema : Columns) (cost : Op → Result (List Ty
     settled_counted (node op children) = refl
 
     -- a cast to another type
-    cast_counted : (from target : Ty) (tree : Expression) (many : Bool) → typing registry schema tree ≡ Ok (record { type = from; many = many }) → is_known from ≡ true → same_type from target ≡ false → counted (cast_to target tree) ≡ counted tree + each
+    cast_counted : (from target : Ty) (tree : Expression) (many : Bool) → typing registry schema tree ≡ Ok (record { type = from; many = many }) → is_known from ≡ true → same_type from target ≡ false → counted (cast_to target tree) ≡ counted tree + weight counts 1
     cast_counted from target tree many h known other =
         let here = ap (λ r. cost (CastOp target NonStrict) (typed_before r (Ok []))) h ∙ is.casts from target many known other in
         omega (arith, here)
 
-    own_counted : (number : ℤ) (own target : Ty) → type_alone (Untyped number) ≡ Some own → integer_has target number ≡ false → counted (cast_to target (number_literal own number)) ≡ counted (number_literal own number) + each
+    own_counted : (number : ℤ) (own target : Ty) → type_alone (Untyped number) ≡ Some own → integer_has target number ≡ false → counted (cast_to target (number_literal own number)) ≡ counted (number_literal own number) + weight counts 1
     own_counted number own target alone lacks =
         let has = literal_has number own alone in
         let typed = literal_typing registry schema own (IntValue number) (becomes_literal own number has.1 has.0) in
         cast_counted own target (number_literal own number) false typed has.1 (other_type number own target alone lacks)
 
-    number_counted : (number : ℤ) (target : Ty) → CanBecome (Untyped number) target → counted (number_as number target) ≡ counted (untyped number) + for_other each (Untyped number) target
+    number_counted : (number : ℤ) (target : Ty) → CanBecome (Untyped number) target → counted (number_as number target) ≡ counted (untyped number) + weight counts (changed_casts (Untyped number) target)
     number_counted number target can =
-        elim (integer_has target number) as (λ b. integer_has target number ≡ b → counted (cond b (number_literal target number) (cast_to target (number_literal (settled_type (Untyped number)) number))) ≡ counted (untyped number) + cond b zero each) [
-          | true ↦ λ e. let own = is.literals target (Untyped number) (IntValue number) (Ok []) in omega (arith, own)
+        elim (integer_has target number) as (λ b. integer_has target number ≡ b → counted (cond b (number_literal target number) (cast_to target (number_literal (settled_type (Untyped number)) number))) ≡ counted (untyped number) + weight counts (cond b zero 1)) [
+          | true ↦ λ e. let own = is.literals target (Untyped number) (IntValue number) (Ok []) in let none = weight_none counts in omega (arith, own, none)
           | false ↦ λ e.
               let alone = can.has number refl e in
               let type = ap (λ found. unwrap_or found (Untyped number)) alone.1 in
@@ -126,7 +136,7 @@ module _ (registry : Registry) (schema : Columns) (cost : Op → Result (List Ty
               omega (arith, made, own)
         ] refl
 
-    changed_counted : (from target : Ty) (tree : Expression) (many : Bool) → typing registry schema tree ≡ Ok (record { type = from; many = many }) → CanBecome from target → same_type from target ≡ false → counted (changed from target tree) ≡ counted tree + for_other each from target
+    changed_counted : (from target : Ty) (tree : Expression) (many : Bool) → typing registry schema tree ≡ Ok (record { type = from; many = many }) → CanBecome from target → same_type from target ≡ false → counted (changed from target tree) ≡ counted tree + weight counts (changed_casts from target)
     changed_counted (Untyped number) target tree many h can other =
         let whole = renamed_counted tree (number_as number target) (untyped number) in
         let same = ap counted (untyped_is_number registry schema number tree many h).tree_is in
@@ -134,28 +144,29 @@ module _ (registry : Registry) (schema : Columns) (cost : Op → Result (List Ty
         omega (arith, whole, same, own)
     changed_counted from target tree many h can other = cast_counted from target tree many h (source_known from target (can.casts (λ number e. cc))) other
 
-    operand_counted : (own from target : Ty) (tree : Expression) (many : Bool) → typing registry schema tree ≡ Ok (record { type = from; many = many }) → IsTakenTo own from target → counted (as_operand from target tree) ≡ counted tree + for_operand each from target
+    operand_counted : (own from target : Ty) (tree : Expression) (many : Bool) → typing registry schema tree ≡ Ok (record { type = from; many = many }) → IsTakenTo own from target → counted (as_operand from target tree) ≡ counted tree + weight counts (operand_casts from target)
     operand_counted own from target tree many h (passes kept owned) =
         let same = ap (same_type from) (sym kept) ∙ same_type_own from in
-        subst (λ b. counted (cond b tree (changed from target tree)) ≡ counted tree + cond b zero (for_other each from target)) (sym same) (omega arith)
+        subst (λ b. counted (cond b tree (changed from target tree)) ≡ counted tree + weight counts (cond b zero (changed_casts from target))) (sym same) (let none = weight_none counts in omega (arith, none))
     operand_counted own from target tree many h (makes can) =
-        elim (same_type from target) as (λ b. same_type from target ≡ b → counted (cond b tree (changed from target tree)) ≡ counted tree + cond b zero (for_other each from target)) [ true ↦ λ e. omega arith | false ↦ λ e. changed_counted from target tree many h can e ] refl
+        elim (same_type from target) as (λ b. same_type from target ≡ b → counted (cond b tree (changed from target tree)) ≡ counted tree + weight counts (cond b zero (changed_casts from target))) [ true ↦ λ e. let none = weight_none counts in omega (arith, none) | false ↦ λ e. changed_counted from target tree many h can e ] refl
 
-    operands_counted : (own : Ty) (trees : Trees Op) (typed : List Typed) (targets : List Ty) → typing_all registry schema trees ≡ Ok typed → AllBecome own (types_of typed) targets → all_counted (as_operands (types_of typed) targets trees) ≡ all_counted trees + for_operands each (types_of typed) targets
+    operands_counted : (own : Ty) (trees : Trees Op) (typed : List Typed) (targets : List Ty) → typing_all registry schema trees ≡ Ok typed → AllBecome own (types_of typed) targets → all_counted (as_operands (types_of typed) targets trees) ≡ all_counted trees + weight counts (operands_casts (types_of typed) targets)
     operands_counted own no_more typed targets h b =
-        by_no_children (λ ts. all_counted (as_operands (types_of ts) targets no_more) ≡ all_counted no_more + for_operands each (types_of ts) targets) typed h (omega arith)
+        by_no_children (λ ts. all_counted (as_operands (types_of ts) targets no_more) ≡ all_counted no_more + weight counts (operands_casts (types_of ts) targets)) typed h (let none = weight_none counts in omega (arith, none))
     operands_counted own (more tree trees) typed [] h b =
-        by_children (λ ts. AllBecome own (types_of ts) [] → all_counted (as_operands (types_of ts) [] (more tree trees)) ≡ all_counted (more tree trees) + for_operands each (types_of ts) []) _ _ typed h (λ t ts first rest none. absurd none) b
+        by_children (λ ts. AllBecome own (types_of ts) [] → all_counted (as_operands (types_of ts) [] (more tree trees)) ≡ all_counted (more tree trees) + weight counts (operands_casts (types_of ts) [])) _ _ typed h (λ t ts first rest none. absurd none) b
     operands_counted own (more tree trees) typed (target ∷ targets) h b =
-        by_children (λ ts. AllBecome own (types_of ts) (target ∷ targets) → all_counted (as_operands (types_of ts) (target ∷ targets) (more tree trees)) ≡ all_counted (more tree trees) + for_operands each (types_of ts) (target ∷ targets)) _ _ typed h (λ t ts first rest become.
+        by_children (λ ts. AllBecome own (types_of ts) (target ∷ targets) → all_counted (as_operands (types_of ts) (target ∷ targets) (more tree trees)) ≡ all_counted (more tree trees) + weight counts (operands_casts (types_of ts) (target ∷ targets))) _ _ typed h (λ t ts first rest become.
         let first_count = operand_counted own t.type target tree t.many first become.0 in
         let below = operands_counted own trees ts targets rest become.1 in
         let whole : all_counted (as_operands (types_of (t ∷ ts)) (target ∷ targets) (more tree trees)) ≡ counted (as_operand t.type target tree) + all_counted (as_operands (types_of ts) targets trees) = refl in
-        omega (arith, first_count, below, whole)) b
+        let sums = weight_sum counts (operand_casts t.type target) (operands_casts (types_of ts) targets) in
+        omega (arith, first_count, below, whole, sums)) b
 
     mutual
       -- coercion adds what is said to be added
-      pub coerced_counted : (tree : Expression) (typed : Typed) → typing registry schema tree ≡ Ok typed → counted (coerced registry schema tree) ≡ counted tree + added each registry schema tree
+      pub coerced_counted : (tree : Expression) (typed : Typed) → typing registry schema tree ≡ Ok typed → counted (coerced registry schema tree) ≡ counted tree + weight counts (implicit_casts registry schema tree)
       coerced_counted (node op children) typed h =
           let p = typed_parts registry schema op children typed h in
           let after = coerced_all registry schema children in
@@ -164,17 +175,20 @@ module _ (registry : Registry) (schema : Columns) (cost : Op → Result (List Ty
           let taken = ap (cost op) (after_typed registry schema op after p.below types p.ruling p.rules) ∙ is.kept op p.below p.ruling p.rules ∙ sym (ap (cost op) p.children_typed) in
           let own = operands_counted p.ruling.own.type after p.below p.ruling.operands types (keeps_rule registry schema op p.below p.ruling p.rules).becomes in
           let below = all_coerced_counted children p.below p.children_typed in
-          let here : for_node each registry schema op (typing_all registry schema children) ≡ for_operands each (types_of p.below) p.ruling.operands =
-          ap (for_node each registry schema op) p.children_typed ∙ ap (by_rule each (types_of p.below)) p.rules in
-          omega (arith, tree_is, taken, own, below, here)
+          let here : node_casts registry schema op (typing_all registry schema children) ≡ operands_casts (types_of p.below) p.ruling.operands =
+          ap (node_casts registry schema op) p.children_typed ∙ ap (ruled_casts (types_of p.below)) p.rules in
+          let sums = weight_sum counts (node_casts registry schema op (typing_all registry schema children)) (all_implicit_casts registry schema children) in
+          let same = ap (weight counts) here in
+          omega (arith, tree_is, taken, own, below, sums, same)
 
-      all_coerced_counted : (trees : Trees Op) (typed : List Typed) → typing_all registry schema trees ≡ Ok typed → all_counted (coerced_all registry schema trees) ≡ all_counted trees + all_added each registry schema trees
-      all_coerced_counted no_more typed h = omega arith
+      all_coerced_counted : (trees : Trees Op) (typed : List Typed) → typing_all registry schema trees ≡ Ok typed → all_counted (coerced_all registry schema trees) ≡ all_counted trees + weight counts (all_implicit_casts registry schema trees)
+      all_coerced_counted no_more typed h = let none = weight_none counts in omega (arith, none)
       all_coerced_counted (more tree trees) typed h =
-          by_children (λ _. all_counted (coerced_all registry schema (more tree trees)) ≡ all_counted (more tree trees) + all_added each registry schema (more tree trees)) _ _ typed h (λ t ts first rest.
+          by_children (λ _. all_counted (coerced_all registry schema (more tree trees)) ≡ all_counted (more tree trees) + weight counts (all_implicit_casts registry schema (more tree trees))) _ _ typed h (λ t ts first rest.
           let own = coerced_counted tree t first in
           let below = all_coerced_counted trees ts rest in
-          omega (arith, own, below))
+          let sums = weight_sum counts (implicit_casts registry schema tree) (all_implicit_casts registry schema trees) in
+          omega (arith, own, below, sums))
 
 -- ---- casts, all nodes but casts, and casts to the type that is there
 
@@ -194,7 +208,7 @@ module _ (registry : Registry) (schema : Columns) where
   cast_same (CastOp target options) a b = refl
   cast_same op a b = refl
 
-  casts_cost : IsCost registry schema cast_cost 1
+  casts_cost : IsCost registry schema cast_cost true
   casts_cost = record {
     kept = λ op typed ruling rules. cast_same op _ _;
     casts = λ from target many known other. refl;
@@ -206,7 +220,7 @@ module _ (registry : Registry) (schema : Columns) where
   other_same (CastOp target options) a b = refl
   other_same op a b = refl
 
-  others_cost : IsCost registry schema other_cost 0
+  others_cost : IsCost registry schema other_cost false
   others_cost = record {
     kept = λ op typed ruling rules. other_same op _ _;
     casts = λ from target many known other. refl;
@@ -233,7 +247,7 @@ module _ (registry : Registry) (schema : Columns) where
   idle_kept (CastOp target options) typed ruling rules = cc
   idle_kept op typed ruling rules = refl
 
-  idle_costs : IsCost registry schema idle_cost 0
+  idle_costs : IsCost registry schema idle_cost false
   idle_costs = record {
     kept = idle_kept;
     casts = λ from target many known other. ap (λ found. cond (same_type (unwrap_or found from) target) 1 0) (alone_itself from known) ∙ ap (λ b. cond b 1 0) other;
@@ -283,42 +297,13 @@ module _ (registry : Registry) (schema : Columns) where
     all_idle_counted no_more = refl
     all_idle_counted (more tree trees) = let own = idle_counted tree in let below = all_idle_counted trees in omega (arith, own, below)
 
-  -- where a cast counts nothing, nothing is added
-  no_other : (from target : Ty) → for_other 0 from target ≡ zero
-  no_other (Untyped number) target = elim (integer_has target number) as (λ b. cond b zero zero ≡ zero) [ true ↦ refl | false ↦ refl ]
-  no_other from target = refl
-
-  no_operand : (from target : Ty) → for_operand 0 from target ≡ zero
-  no_operand from target = elim (same_type from target) as (λ b. cond b zero (for_other 0 from target) ≡ zero) [ true ↦ refl | false ↦ no_other from target ]
-
-  no_operands : (types targets : List Ty) → for_operands 0 types targets ≡ zero
-  no_operands [] targets = refl
-  no_operands (from ∷ types) [] = refl
-  no_operands (from ∷ types) (target ∷ targets) = let own = no_operand from target in let below = no_operands types targets in omega (arith, own, below)
-
-  by_no_rule : (types : List Ty) (found : Result Ruling ErrorKind) → by_rule 0 types found ≡ zero
-  by_no_rule types (Err kind) = refl
-  by_no_rule types (Ok ruling) = no_operands types ruling.operands
-
-  no_node : (op : Op) (found : Result (List Typed) ErrorKind) → for_node 0 registry schema op found ≡ zero
-  no_node op (Err kind) = refl
-  no_node op (Ok typed) = by_no_rule (types_of typed) (rule registry schema op typed)
-
-  mutual
-    none_added : (tree : Expression) → added 0 registry schema tree ≡ zero
-    none_added (node op children) = let own = no_node op (typing_all registry schema children) in let below = none_all_added children in omega (arith, own, below)
-
-    none_all_added : (trees : Trees Op) → all_added 0 registry schema trees ≡ zero
-    none_all_added no_more = refl
-    none_all_added (more tree trees) = let own = none_added tree in let below = none_all_added trees in omega (arith, own, below)
-
   -- ---- an expression that is coerced
 
   module _ (tree : Expression) (typed : Typed) (h : typing registry schema tree ≡ Ok typed) where
     -- has the casts that it needs
     pub coerced_casts : expression_casts (coerced registry schema tree) ≡ needed_casts registry schema tree
     coerced_casts =
-        let whole = coerced_counted registry schema cast_cost 1 casts_cost tree typed h in
+        let whole = coerced_counted registry schema cast_cost true casts_cost tree typed h in
         let before = casts_counted tree in
         let after = casts_counted (coerced registry schema tree) in
         omega (arith, whole, before, after)
@@ -326,27 +311,25 @@ module _ (registry : Registry) (schema : Columns) where
     -- as many other nodes as before
     pub coerced_others : other_nodes (coerced registry schema tree) ≡ other_nodes tree
     coerced_others =
-        let whole = coerced_counted registry schema other_cost 0 others_cost tree typed h in
-        let none = none_added tree in
+        let whole = coerced_counted registry schema other_cost false others_cost tree typed h in
         let before = others_counted tree in
         let after = others_counted (coerced registry schema tree) in
-        omega (arith, whole, none, before, after)
+        omega (arith, whole, before, after)
 
     -- and as many casts to a type that is there
     pub coerced_idle : idle_casts registry schema (coerced registry schema tree) ≡ idle_casts registry schema tree
     coerced_idle =
-        let whole = coerced_counted registry schema idle_cost 0 idle_costs tree typed h in
-        let none = none_added tree in
+        let whole = coerced_counted registry schema idle_cost false idle_costs tree typed h in
         let before = idle_counted tree in
         let after = idle_counted (coerced registry schema tree) in
-        omega (arith, whole, none, before, after)
+        omega (arith, whole, before, after)
 
   -- a number at the top that gets a type is no cast, and one node
   pub settled_casts : (tree : Expression) → expression_casts (settled tree) ≡ expression_casts tree
-  settled_casts tree = casts_counted (settled tree) ∙ settled_counted registry schema cast_cost 1 casts_cost tree ∙ sym (casts_counted tree)
+  settled_casts tree = casts_counted (settled tree) ∙ settled_counted registry schema cast_cost true casts_cost tree ∙ sym (casts_counted tree)
 
   pub settled_others : (tree : Expression) → other_nodes (settled tree) ≡ other_nodes tree
-  settled_others tree = others_counted (settled tree) ∙ settled_counted registry schema other_cost 0 others_cost tree ∙ sym (others_counted tree)
+  settled_others tree = others_counted (settled tree) ∙ settled_counted registry schema other_cost false others_cost tree ∙ sym (others_counted tree)
 
   pub settled_idle : (tree : Expression) → idle_casts registry schema (settled tree) ≡ idle_casts registry schema tree
-  settled_idle tree = idle_counted (settled tree) ∙ settled_counted registry schema idle_cost 0 idle_costs tree ∙ sym (idle_counted tree)
+  settled_idle tree = idle_counted (settled tree) ∙ settled_counted registry schema idle_cost false idle_costs tree ∙ sym (idle_counted tree)

@@ -5,7 +5,7 @@ use Rattle.std.proofs.lemmas.List.{length-append, length-map}
 use Rattle.std.proofs.lemmas.List.Sums.{sum_by-cons, sum_by-append}
 use Rattle.plan_types.specs.declared.error.ErrorKind.{ErrorKind}
 use Rattle.plan_types.specs.Schemas.{Columns}
-use Rattle.plan_dsl.specs.Counts.{expression_casts}
+use Rattle.plan_dsl.specs.Counts.{expression_casts, outputs_casts}
 use Rattle.plan_dsl.specs.declared.operator.Operator.{Operator}
 use Rattle.plan_dsl.specs.Ops.{Op, BinaryOp, Expression}
 use Rattle.plan_dsl.specs.Plans.{Named}
@@ -100,7 +100,7 @@ never_idle : (op : Op) → is_conjunction op ≡ true → (found : Result (List 
 never_idle (BinaryOp operator) e found = refl
 never_idle op e found = cc
 
-pub split_casts : (predicate : Named Expression) → in_all expression_casts (split_predicate predicate) ≡ expression_casts predicate.expression
+pub split_casts : (predicate : Named Expression) → outputs_casts (split_predicate predicate) ≡ expression_casts predicate.expression
 split_casts predicate =
     counts_same expression_casts (counted [] [] cast_cost) (casts_counted [] []) (split_predicate predicate)
     ∙ split_has_all [] [] cast_cost free_of_casts predicate ∙ sym (casts_counted [] [] predicate.expression)

@@ -11,41 +11,40 @@ use Rattle.plan_dsl.specs.Counts.{expression_casts}
 use Rattle.plan_dsl.specs.Strictness.{integer_has}
 use Rattle.plan_dsl.specs.Typing.{Typed, Ruling, rule, types_of, typing_all}
 
--- What coercion adds to an expression, where a cast that it puts in counts so much: round an operand of another type there
--- is one, and for a number without a type only where the type lacks it.
-module _ (each : ℕ) where
-  abbrev pub for_other : Ty → Ty → ℕ
-  for_other (Untyped number) target = if integer_has target number then 0 else each
-  for_other from target = each
+-- a cast stands round an operand that is made of another type, and for a number without a type only where the type lacks it
+abbrev pub changed_casts : Ty → Ty → ℕ
+changed_casts (Untyped number) target = if integer_has target number then 0 else 1
+changed_casts from target = 1
 
-  abbrev pub for_operand : Ty → Ty → ℕ
-  for_operand from target = if same_type from target then 0 else for_other from target
+abbrev pub operand_casts : Ty → Ty → ℕ
+operand_casts from target = if same_type from target then 0 else changed_casts from target
 
-  abbrev pub for_operands : List Ty → List Ty → ℕ
-  for_operands [] targets = 0
-  for_operands (from ∷ types) [] = 0
-  for_operands (from ∷ types) (target ∷ targets) = for_operand from target + for_operands types targets
+abbrev pub operands_casts : List Ty → List Ty → ℕ
+operands_casts [] targets = 0
+operands_casts (from ∷ types) [] = 0
+operands_casts (from ∷ types) (target ∷ targets) = operand_casts from target + operands_casts types targets
 
-  -- round the operands of a node over typed children
-  abbrev pub by_rule : List Ty → Result Ruling ErrorKind → ℕ
-  by_rule types (Err kind) = 0
-  by_rule types (Ok ruling) = for_operands types ruling.operands
+-- round the operands of a node over typed children
+abbrev pub ruled_casts : List Ty → Result Ruling ErrorKind → ℕ
+ruled_casts types (Err kind) = 0
+ruled_casts types (Ok ruling) = operands_casts types ruling.operands
 
-  abbrev pub for_node : Registry → Columns → Op → Result (List Typed) ErrorKind → ℕ
-  for_node registry schema op (Err kind) = 0
-  for_node registry schema op (Ok typed) = by_rule (types_of typed) (rule registry schema op typed)
+abbrev pub node_casts : Registry → Columns → Op → Result (List Typed) ErrorKind → ℕ
+node_casts registry schema op (Err kind) = 0
+node_casts registry schema op (Ok typed) = ruled_casts (types_of typed) (rule registry schema op typed)
 
-  abbrev mutual
-    pub added : Registry → Columns → Expression → ℕ
-    added registry schema (node op children) = for_node registry schema op (typing_all registry schema children) + all_added registry schema children
+-- those that coercion puts into an expression
+abbrev mutual
+  pub implicit_casts : Registry → Columns → Expression → ℕ
+  implicit_casts registry schema (node op children) = node_casts registry schema op (typing_all registry schema children) + all_implicit_casts registry schema children
 
-    pub all_added : Registry → Columns → Trees Op → ℕ
-    all_added registry schema no_more = 0
-    all_added registry schema (more child rest) = added registry schema child + all_added registry schema rest
+  pub all_implicit_casts : Registry → Columns → Trees Op → ℕ
+  all_implicit_casts registry schema no_more = 0
+  all_implicit_casts registry schema (more child rest) = implicit_casts registry schema child + all_implicit_casts registry schema rest
 
--- the casts that an expression needs: those that are written, and those that coercion puts in
+-- the casts that an expression needs: those that are written, and these
 abbrev pub needed_casts : Registry → Columns → Expression → ℕ
-needed_casts registry schema tree = expression_casts tree + added 1 registry schema tree
+needed_casts registry schema tree = expression_casts tree + implicit_casts registry schema tree
 
 -- how many nodes but casts there are
 abbrev pub other_nodes_step : Op → List ℕ → ℕ

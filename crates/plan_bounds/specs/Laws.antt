@@ -1,7 +1,7 @@
 -- Bounds on what coercion adds to an expression.
 use Rattle.std.specs.Prelude.{◌≡◌, ◌≤◌, ◌+◌, ℕ, List, length, Ok, sum_by}
 use Rattle.plan_types.specs.Schemas.{Columns}
-use Rattle.plan_dsl.specs.Counts.{expression_casts}
+use Rattle.plan_dsl.specs.Counts.{expression_casts, outputs_casts}
 use Rattle.plan_dsl.specs.Literals.{settled}
 use Rattle.plan_dsl.specs.Ops.{Expression}
 use Rattle.plan_dsl.specs.Plans.{Named}
@@ -41,7 +41,7 @@ in_all count es = sum_by (λ e. count e.expression) es
 
 -- the parts to which a filter is split have the casts of the whole
 abbrev pub SplittingKeepsCasts : Type 0
-SplittingKeepsCasts = (predicate : Named Expression) → in_all expression_casts (split_predicate predicate) ≡ expression_casts predicate.expression
+SplittingKeepsCasts = (predicate : Named Expression) → outputs_casts (split_predicate predicate) ≡ expression_casts predicate.expression
 
 -- no more other nodes
 abbrev pub SplittingAddsNoNode : Type 0

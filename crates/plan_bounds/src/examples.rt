@@ -14,28 +14,29 @@ ghost use Rattle.plan_infer.specs.Samples.{a, b, binary, c, cast_to, five, int16
 ghost use Rattle.plan_properties.specs.Splitting.{split_predicate};
 ghost use Rattle.plan_bounds.specs.Laws.{in_all};
 ghost use Rattle.plan_bounds.specs.PlanCounts.{over_inputs, over_schema, plan_idle, plan_needs, plan_size, settled_needs};
-ghost use Rattle.plan_bounds.specs.Counts.{added, all_added, all_idle_casts, by_rule, for_node, for_operand, for_operands, for_other, idle_casts, is_idle, needed_casts, other_nodes, other_nodes_step};
+ghost use Rattle.plan_bounds.specs.Counts.{all_idle_casts, all_implicit_casts, changed_casts, idle_casts, implicit_casts, is_idle, needed_casts, node_casts, operand_casts, operands_casts, other_nodes, other_nodes_step, ruled_casts};
 
 /// An operand needs a cast where it is taken to another type. A number without a type needs one where the type lacks it.
 pub fn casts_for_operands()
-    ensures of_the_type { for_operand 1 int8 int8 ≡ 0 }
-    ensures of_another { for_operand 1 int8 int32 ≡ 1 }
-    ensures number_in_it { for_operand 1 (Untyped (pos 5)) int8 ≡ 0 }
-    ensures number_past_it { for_operand 1 (Untyped (pos 300)) int8 ≡ 1 }
-    ensures number_as_text { for_operand 1 (Untyped (pos 5)) TextType ≡ 1 }
-    ensures other_than_itself { for_other 1 int8 int8 ≡ 1 }
-    ensures that_much { for_operand 3 int8 int32 ≡ 3 }
-    ensures each { for_operands 1 (int8 ∷ int32 ∷ Untyped (pos 5) ∷ int16 ∷ []) (int32 ∷ int32 ∷ int32 ∷ int32 ∷ []) ≡ 2 }
-    ensures none { for_operands 1 [] [] ≡ 0 }
+    ensures of_the_type { operand_casts int8 int8 ≡ 0 }
+    ensures of_another { operand_casts int8 int32 ≡ 1 }
+    ensures number_in_it { operand_casts (Untyped (pos 5)) int8 ≡ 0 }
+    ensures number_past_it { operand_casts (Untyped (pos 300)) int8 ≡ 1 }
+    ensures number_as_text { operand_casts (Untyped (pos 5)) TextType ≡ 1 }
+    ensures other_than_itself { changed_casts int8 int8 ≡ 1 }
+    ensures each { operands_casts (int8 ∷ int32 ∷ Untyped (pos 5) ∷ int16 ∷ []) (int32 ∷ int32 ∷ int32 ∷ int32 ∷ []) ≡ 2 }
+    ensures none { operands_casts [] [] ≡ 0 }
+    ensures fewer_types { operands_casts [] (int8 ∷ []) ≡ 0 }
+    ensures fewer_targets { operands_casts (int8 ∷ int8 ∷ []) (int32 ∷ []) ≡ 1 }
 {}
 
 /// A node goes by its rule, where it has one.
 pub fn casts_for_nodes()
-    ensures sum { for_node 1 [] two_columns (BinaryOp Plus) (Ok (of_type int8 ∷ of_type int32 ∷ [])) ≡ 1 }
-    ensures equal_types { for_node 1 [] two_columns (BinaryOp Plus) (Ok (of_type int8 ∷ of_type int8 ∷ [])) ≡ 0 }
-    ensures without_a_rule { for_node 1 [] two_columns (BinaryOp Plus) (Ok (of_type int8 ∷ [])) ≡ 0 }
-    ensures untyped_children { for_node 1 [] two_columns (BinaryOp Plus) (Err InvalidOperation) ≡ 0 }
-    ensures by_no_rule { by_rule 1 (int8 ∷ []) (Err InvalidOperation) ≡ 0 }
+    ensures sum { node_casts [] two_columns (BinaryOp Plus) (Ok (of_type int8 ∷ of_type int32 ∷ [])) ≡ 1 }
+    ensures equal_types { node_casts [] two_columns (BinaryOp Plus) (Ok (of_type int8 ∷ of_type int8 ∷ [])) ≡ 0 }
+    ensures without_a_rule { node_casts [] two_columns (BinaryOp Plus) (Ok (of_type int8 ∷ [])) ≡ 0 }
+    ensures untyped_children { node_casts [] two_columns (BinaryOp Plus) (Err InvalidOperation) ≡ 0 }
+    ensures by_no_rule { ruled_casts (int8 ∷ []) (Err InvalidOperation) ≡ 0 }
 {}
 
 /// a is an Int8 and b an Int32. The casts that a query wrote count, and those that coercion puts in: at each sum beside the
@@ -51,8 +52,8 @@ pub fn needed()
     ensures at_each { needed_casts [] two_columns (binary Plus b (binary Plus a a)) ≡ 1 }
     ensures under_an_alias { needed_casts [] two_columns (alias "x" sum) ≡ 1 }
     ensures without_a_type { needed_casts [] two_columns (cast_to int8 c) ≡ 1 }
-    ensures all { all_added 1 [] two_columns (more sum (more a (more sum no_more))) ≡ 2 }
-    ensures counted_as_nothing { added 0 [] two_columns sum ≡ 0 }
+    ensures all { all_implicit_casts [] two_columns (more sum (more a (more sum no_more))) ≡ 2 }
+    ensures put_in { implicit_casts [] two_columns (binary Plus (cast_to int16 a) b) ≡ 1 }
 {}
 
 /// All nodes but casts.
@@ -71,11 +72,13 @@ pub fn idle()
     ensures other_type { idle_casts [] two_columns (cast_to int32 a) ≡ 0 }
     ensures number { idle_casts [] two_columns (cast_to int32 five) ≡ 1 }
     ensures narrower_number { idle_casts [] two_columns (cast_to int8 five) ≡ 0 }
+    ensures number_under_an_alias { idle_casts [] two_columns (cast_to int32 (alias "x" five)) ≡ 1 }
     ensures twice { idle_casts [] two_columns (cast_to int8 (cast_to int8 a)) ≡ 2 }
     ensures of_the_sum { idle_casts [] two_columns (cast_to int32 sum) ≡ 1 }
     ensures all { all_idle_casts [] two_columns (more (cast_to int8 a) (more sum (more (cast_to int32 b) no_more))) ≡ 2 }
     ensures without_a_type { idle_casts [] two_columns (cast_to int8 c) ≡ 0 }
     ensures node { is_idle (CastOp int8 NonStrict) (Ok (of_type int8 ∷ [])) ≡ true }
+    ensures untyped_operand { is_idle (CastOp int8 NonStrict) (Err InvalidOperation) ≡ false }
     ensures no_cast { is_idle LenOp (Ok (of_type int8 ∷ [])) ≡ false }
 {}
 
