@@ -253,6 +253,11 @@ fn expressions_of_any_depth_are_expanded(rt: HostRuntime) {
         Kind::Sort,
         Kind::Alias,
         Kind::Key,
+        Kind::Truthy,
+        Kind::Predicate,
+        Kind::Falsy,
+        Kind::Filled,
+        Kind::Filling,
         Kind::Selected,
     ] {
         for levels in DEPTHS {

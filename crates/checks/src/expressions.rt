@@ -4,6 +4,7 @@ use crate::fixtures::{LENGTHS, NO_MEMORY, assert_alike, assert_text, column, lon
 use crate::keys::flags;
 use plan_dsl::aggregate::AggExpr;
 use plan_dsl::expr::{Expr, Exprs};
+use plan_dsl::function_expr::FunctionExpr;
 use plan_dsl::literal::LiteralValue;
 use plan_dsl::marker::RenameAliasFn;
 use plan_dsl::operator::Operator;
@@ -97,6 +98,11 @@ pub(crate) enum Kind {
     Partition,
     Ordered,
     Key,
+    Truthy,
+    Predicate,
+    Falsy,
+    Filled,
+    Filling,
     Excluded,
     Selected,
     Kept,
@@ -181,6 +187,39 @@ fn ordered(rt: &impl Abort, alloc: Global, by: Box<Expr>) -> Expr {
     windowed(rt, alloc, one, key, Some((by, options)))
 }
 
+// What is `truthy` where the predicate is true, and `falsy` elsewhere.
+fn ternary(predicate: Box<Expr>, truthy: Box<Expr>, falsy: Box<Expr>) -> Expr {
+    Expr::Ternary {
+        predicate,
+        truthy,
+        falsy,
+    }
+}
+
+// The first, and where it is null the second.
+fn filled(rt: &impl Abort, alloc: Global, first: Box<Expr>, second: Box<Expr>) -> Expr {
+    let items = vec![in alloc; Box::into_inner(first), Box::into_inner(second)];
+    Expr::Function {
+        input: Exprs {
+            items: items.expect(rt, NO_MEMORY),
+        },
+        function: FunctionExpr::FillNull,
+    }
+}
+
+// A ternary or a function over the operand, at the place that the kind says.
+fn chosen(rt: &impl Abort, alloc: Global, kind: Kind, operand: Box<Expr>) -> Expr {
+    let number = literal(rt, alloc, LiteralValue::Int(1));
+    let truth = literal(rt, alloc, LiteralValue::Boolean(true));
+    match kind {
+        Kind::Truthy => ternary(truth, operand, number),
+        Kind::Predicate => ternary(operand, truth, number),
+        Kind::Falsy => ternary(truth, number, operand),
+        Kind::Filled => filled(rt, alloc, operand, number),
+        _ => filled(rt, alloc, number, operand),
+    }
+}
+
 fn text(rt: &impl Abort, alloc: Global) -> PlSmallStr {
     PlSmallStr::new(alloc, "x").expect(rt, NO_MEMORY)
 }
@@ -224,6 +263,9 @@ fn over(rt: &impl Abort, alloc: Global, kind: Kind, operand: Box<Expr>) -> Expr 
         }
         Kind::Ordered => ordered(rt, alloc, operand),
         Kind::Key => sorted_by(rt, alloc, operand),
+        Kind::Truthy | Kind::Predicate | Kind::Falsy | Kind::Filled | Kind::Filling => {
+            chosen(rt, alloc, kind, operand)
+        }
         Kind::Excluded => Expr::Exclude(operand, Vec::new(alloc)),
         Kind::Selected => Expr::Selector(Selector::Root(operand)),
         Kind::Kept => Expr::KeepName(operand),
@@ -292,6 +334,11 @@ fn expressions_of_any_depth_are_copied(rt: HostRuntime) {
         Kind::Partition,
         Kind::Ordered,
         Kind::Key,
+        Kind::Truthy,
+        Kind::Predicate,
+        Kind::Falsy,
+        Kind::Filled,
+        Kind::Filling,
     ] {
         for levels in [0, 1, 2, 299] {
             assert_nested(&rt, rt.alloc(), *kind, levels);

@@ -28,6 +28,8 @@ mod fixtures;
 #[cfg(test)]
 mod frames;
 #[cfg(test)]
+mod functions;
+#[cfg(test)]
 mod keys;
 #[cfg(test)]
 mod lowering;

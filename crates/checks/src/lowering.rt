@@ -14,16 +14,16 @@ use plan_types::dtype::DataType;
 use std::alloc::{AllocError, Global};
 use std::process::Abort;
 
-// The report of the lowered plan, or of its refusal.
-fn answer(alloc: Global, plan: DslPlan) -> Result<String, AllocError> {
+/// The report of the lowered plan, or of its refusal.
+pub(crate) fn answer(alloc: Global, plan: DslPlan) -> Result<String, AllocError> {
     match plan.to_alp(alloc, &Udfs::new(alloc)) {
         Ok(lowered) => report(alloc, &lowered),
         Err(error) => refusal(alloc, &error),
     }
 }
 
-// A select of the expression over the plan.
-fn select(rt: &impl Abort, alloc: Global, expr: Expr, input: DslPlan) -> DslPlan {
+/// A select of the expression over the plan.
+pub(crate) fn select(rt: &impl Abort, alloc: Global, expr: Expr, input: DslPlan) -> DslPlan {
     let exprs = vec![in alloc; expr].expect(rt, NO_MEMORY);
     select_of(rt, alloc, exprs, input)
 }
@@ -75,6 +75,22 @@ fn expressions_of_any_depth_are_lowered(rt: HostRuntime) {
         (
             Kind::Ordered,
             ". projection (\"literal\" Null)\n.0 df (\"part 0\" Int8)\ncasts 0\n",
+        ),
+        (
+            Kind::Truthy,
+            ". projection (\"part 0\" Int8)\n.0 df (\"part 0\" Int8)\ncasts 0\n",
+        ),
+        (
+            Kind::Falsy,
+            ". projection (\"literal\" Int8)\n.0 df (\"part 0\" Int8)\ncasts 0\n",
+        ),
+        (
+            Kind::Filled,
+            ". projection (\"part 0\" Int8)\n.0 df (\"part 0\" Int8)\ncasts 0\n",
+        ),
+        (
+            Kind::Filling,
+            ". projection (\"literal\" Int8)\n.0 df (\"part 0\" Int8)\ncasts 0\n",
         ),
     ] {
         for levels in [1, 2, 1_000] {

@@ -1,4 +1,4 @@
--- Inputs that are kept as three numbers, of which so many count, and a list.
+-- Inputs that are kept as three numbers, of which so many count, and two lists.
 use Rattle.std.proofs.Common.{◌≡◌, ℕ, suc, ◌+◌, ◌≤◌, List, [], ◌∷◌, ◌++◌, length, reverse, take, Some, slice_get, refl, sym, ap, ◌∙◌, append_assoc, arith, drop, ◌-◌}
 use Rattle.std.proofs.lemmas.List.{length-append, length-map, length-reverse, length-take-le, map-append, reverse-append, reverse-reverse, take_all, take_at}
 use Rattle.std.proofs.lemmas.Grind.{reverse_onto}
@@ -10,17 +10,19 @@ use Rattle.std.specs.Vec.{with_items}
 use mathlib.Core.HLevel.{is_prop→PathP}
 use Rattle.plan_arena.specs.declared.inputs.NodeList.{NodeList}
 use Rattle.plan_arena.proofs.NumberLemmas.{taken_more}
-use Rattle.plan_arena.specs.Items.{numbers}
+use Rattle.plan_arena.specs.Items.{numbers, numbers_named}
+use Rattle.plan_arena.specs.declared.expr_ir.ExprIR.{ExprIR}
 use Rattle.plan_arena.specs.declared.arena.Node.{Node}
 
 abbrev pub first_of : ℕ → ℕ → ℕ → ℕ → List ℕ
 first_of count a b c = take count (a ∷ b ∷ c ∷ [])
 
-pub length-first_of : (xs : List ℕ) (count a b c : ℕ) (rest : List Node) → first_of count a b c ++ numbers rest ≡ xs → count ≤ 3 → count + length rest ≡ length xs
-length-first_of xs count a b c rest is le =
+pub length-first_of : (xs : List ℕ) (count a b c : ℕ) (rest : List Node) (named : List ExprIR) → first_of count a b c ++ (numbers rest ++ numbers_named named) ≡ xs → count ≤ 3 → count + length rest + length named ≡ length xs
+length-first_of xs count a b c rest named is le =
     let few = length-take-le count (a ∷ b ∷ c ∷ []) le in
-    let all = ap length (sym is) ∙ length-append (first_of count a b c) (numbers rest) in
-    omega (arith, few, all, length-map rest (λ (n : Node). n.0))
+    let all = ap length (sym is) ∙ length-append (first_of count a b c) (numbers rest ++ numbers_named named) in
+    let behind = length-append (numbers rest) (numbers_named named) in
+    omega (arith, few, all, behind, length-map rest (λ (n : Node). n.0), length-map named (λ (e : ExprIR). e.node.0))
 
 abbrev node_of : ℕ → Node
 node_of number = record { 0 = number }
@@ -53,7 +55,7 @@ same_rest (n ∷ ns) new list first is same =
     is ∙ take_all (length (n ∷ ns) - 1) ns (omega arith) ∙ same_nodes ns list cc
 
 -- a vector into which its own items are written stays
-own_items : (nodes : Vec Node) (new : List Node) → new ≡ nodes.items → with_items nodes new ≡ nodes
+pub own_items : {X : Type 0} (nodes : Vec X) (new : List X) → new ≡ nodes.items → with_items nodes new ≡ nodes
 own_items nodes new same =
     let long : length new ≡ nodes.len = ap length same ∙ sym nodes.ok.0 in
     let items = with_items_is nodes new long ∙ same in

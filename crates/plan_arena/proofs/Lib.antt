@@ -2,6 +2,7 @@ pub mod DenotationLemmas
 pub mod InputLemmas
 pub mod ItemLemmas
 pub mod LabelLemmas
+mod NamedLemmas
 pub mod NumberLemmas
 pub mod PlanSchemaLemmas
 pub mod RunLemmas

@@ -5,7 +5,7 @@ use Rattle.std.specs.List.{AllByRecursion}
 use Rattle.plan_types.specs.Types.{ty}
 use Rattle.plan_types.specs.Schemas.{columns}
 use Rattle.plan_dsl.specs.Expressions.{sort_by_op}
-use Rattle.plan_dsl.specs.Ops.{Op, ColumnOp, BinaryOp, CastOp, LenOp, SliceOp, AliasOp, Expression, ExplodeOp, GatherOp, FilterOp, SortOp, AggOp, WindowOp}
+use Rattle.plan_dsl.specs.Ops.{Op, ColumnOp, BinaryOp, CastOp, LenOp, SliceOp, AliasOp, Expression, ExplodeOp, GatherOp, FilterOp, SortOp, AggOp, WindowOp, TernaryOp, FunctionOp}
 use Rattle.plan_dsl.specs.declared.sort_options.SortOptions.{SortOptions}
 use Rattle.plan_dsl.specs.Literals.{literal_op}
 use Rattle.plan_dsl.specs.Names.{Label, FromField, FromNothing, alias_label, column_label, literal_label}
@@ -16,7 +16,7 @@ use Rattle.plan_arena.specs.Layers.{Layer, layer, op_of, inputs_of}
 use Rattle.plan_dsl.specs.Trees.{node}
 use Rattle.plan_arena.specs.declared.arena.Node.{Node}
 use Rattle.plan_arena.specs.declared.aexpr.AExpr.{AExpr}
-use Rattle.plan_arena.specs.declared.aexpr.AExpr.TheVariants.{Column, Literal, BinaryExpr, Cast, Len, Slice, Alias, Explode, Gather, Filter as FilterBy, Sort, SortBy, Agg, Window}
+use Rattle.plan_arena.specs.declared.aexpr.AExpr.TheVariants.{Column, Literal, BinaryExpr, Cast, Len, Slice, Alias, Explode, Gather, Filter as FilterBy, Sort, SortBy, Agg, Window, Ternary, Function}
 use Rattle.plan_arena.specs.declared.expr_ir.OutputName.{OutputName}
 use Rattle.plan_arena.specs.declared.expr_ir.OutputName.TheVariants.{None as Unnamed, ColumnLhs, LiteralLhs, Alias as NamedByAlias, Field}
 use Rattle.plan_arena.specs.declared.expr_ir.ExprIR.{ExprIR}
@@ -37,6 +37,21 @@ abbrev pub ordered : Option (Node × SortOptions) → Option SortOptions
 ordered None = None
 ordered (Some order) = Some order.1
 
+-- the name of an output, with what it comes from
+abbrev pub output_label : OutputName → Label
+output_label Unnamed = record { name = []; origin = FromNothing }
+output_label (ColumnLhs name) = column_label name
+output_label (LiteralLhs name) = literal_label name
+output_label (NamedByAlias name) = alias_label name
+output_label (Field name) = record { name = name; origin = FromField }
+
+-- the names of nodes that have names, and their numbers
+abbrev pub recorded : List ExprIR → List Label
+recorded exprs = map (λ e. output_label e.output_name) exprs
+
+abbrev pub numbers_named : List ExprIR → List ℕ
+numbers_named exprs = map (λ e. e.node.0) exprs
+
 -- an expression's item
 abbrev pub expression_layer : AExpr → Layer Op
 expression_layer (Column name) = layer (ColumnOp name) []
@@ -54,19 +69,15 @@ expression_layer (Agg aggregate) = layer (AggOp (method_at aggregate)) ((input_a
 expression_layer (SortBy expr by sort_options) = layer (sort_by_op sort_options) (expr.0 ∷ numbers by.items.items)
 expression_layer (Window function partition_by order_by options) =
     layer (WindowOp (ordered order_by)) (function.0 ∷ (ordering order_by ++ numbers partition_by.items.items))
+expression_layer (Ternary predicate truthy falsy) = layer TernaryOp (truthy.0 ∷ predicate.0 ∷ falsy.0 ∷ [])
+expression_layer (Function input function) = layer (FunctionOp function (recorded input.items.items)) (numbers_named input.items.items)
 
--- the inputs as passes go over them: in their own order, but of a window what its rows are ordered by comes behind its keys
+-- the inputs as passes go over them: in their own order, but of a window what its rows are ordered by comes behind its
+-- keys, and of a ternary the predicate behind what it gives
 abbrev pub passed : Layer Op → List ℕ
 passed (layer (WindowOp (Some options)) (function ∷ by ∷ keys)) = function ∷ (keys ++ by ∷ [])
+passed (layer TernaryOp (truthy ∷ predicate ∷ falsy ∷ [])) = truthy ∷ falsy ∷ predicate ∷ []
 passed (layer op inputs) = inputs
-
--- the name of an output, with what it comes from
-abbrev pub output_label : OutputName → Label
-output_label Unnamed = record { name = []; origin = FromNothing }
-output_label (ColumnLhs name) = column_label name
-output_label (LiteralLhs name) = literal_label name
-output_label (NamedByAlias name) = alias_label name
-output_label (Field name) = record { name = name; origin = FromField }
 
 -- a node with the name of its column, and what that comes from
 abbrev pub named_node : ExprIR → Named ℕ

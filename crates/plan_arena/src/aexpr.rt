@@ -1,13 +1,15 @@
 //! Expressions in an arena.
-ghost use Rattle.std.specs.Prelude.{◌≡◌, ◌+◌, ◌≤◌, [], ◌∷◌, ◌++◌, length, reverse, IfOk, OnOk, OnErr, IfErr};
+ghost use Rattle.std.specs.Prelude.{◌≡◌, ◌+◌, ◌≤◌, [], ◌∷◌, ◌++◌, length, map, reverse, IfOk, OnOk, OnErr, IfErr};
 ghost use Rattle.plan_types.specs.Errors.{no_memory};
 ghost use Rattle.plan_arena.specs.Aggregates.{input_at, method_at};
 ghost use Rattle.plan_arena.specs.Layers.{layer, op_of, inputs_of};
-ghost use Rattle.plan_arena.specs.Items.{expression_layer, numbers, ordered, ordering, passed};
+ghost use Rattle.plan_arena.specs.Items.{expression_layer, numbers, numbers_named, ordered, ordering, passed, recorded};
 
 use crate::aggregate::IRAggExpr;
 use crate::arena::Node;
+use crate::expr_ir::{ExprIR, ExprIRs};
 use crate::inputs::{Inputs, NodeList};
+use plan_dsl::function_expr::FunctionExpr;
 use plan_dsl::literal::LiteralValue;
 use plan_dsl::operator::Operator;
 use plan_dsl::sort_options::{SortMultipleOptions, SortOptions};
@@ -84,12 +86,23 @@ pub enum AExpr {
         order_by: Option<(Node, SortOptions)>,
         options: WindowType,
     },
+    /// The truthy values where the predicate is true, and the falsy ones elsewhere.
+    Ternary {
+        predicate: Node,
+        truthy: Node,
+        falsy: Node,
+    },
+    /// A function of the values of nodes, of which it keeps the names.
+    Function {
+        input: ExprIRs,
+        function: FunctionExpr,
+    },
 }
 
 // The inputs of each kind in order, the one from which the name comes first: what the functions give of none, one, two
-// or three of them, or of one and a list, of the one of an aggregate, and of those of a window.
+// or three of them, or of one and a list, of the one of an aggregate, of those of a window, and of those with names.
 macro_rules! by_inputs {
-    ($item:expr, $none:expr, $one:path, $two:path, $three:path, $listed:path, $below:path, $window:path $(, $given:expr)?) => {
+    ($item:expr, $none:expr, $one:path, $two:path, $three:path, $listed:path, $below:path, $window:path, $named:path $(, $given:expr)?) => {
         match $item {
             AExpr::Column(_) | AExpr::Literal(_) | AExpr::Len => $none,
             AExpr::BinaryExpr { left, right, .. } => $two(left, right $(, $given)?),
@@ -103,6 +116,8 @@ macro_rules! by_inputs {
             AExpr::Agg(aggregate) => $below(aggregate $(, $given)?),
             AExpr::Window { function, partition_by, order_by, .. } => $window(function, partition_by, order_by $(, $given)?),
             AExpr::Slice { input, offset, length } => $three(input, offset, length $(, $given)?),
+            AExpr::Ternary { predicate, truthy, falsy } => $three(truthy, predicate, falsy $(, $given)?),
+            AExpr::Function { input, .. } => $named(input $(, $given)?),
         }
     };
 }
@@ -134,13 +149,15 @@ impl AExpr {
                 AExpr::Agg(aggregate) => Ok(AExpr::Agg(*aggregate)),
                 AExpr::Window { function, partition_by, order_by, options } => {
                     window_copy(*function, partition_by, *order_by, *options, alloc)
-                }
+                },
+                AExpr::Function { input, function } => function_copy(input, function, alloc)
             ],
             BinaryExpr [left, op, right]
             Slice [input, offset, length]
             Gather [expr, idx, returns_scalar]
             Filter [input, by]
             Sort [expr, options]
+            Ternary [predicate, truthy, falsy]
         )
     }
 
@@ -156,7 +173,8 @@ impl AExpr {
             Inputs::three,
             Inputs::listed,
             one_below,
-            Inputs::window
+            Inputs::window,
+            Inputs::named
         )
     }
 
@@ -174,6 +192,11 @@ impl AExpr {
                 order_by,
                 ..
             } => push_passed(nodes, function, partition_by, order_by),
+            AExpr::Ternary {
+                predicate,
+                truthy,
+                falsy,
+            } => push_reversed(nodes, &Inputs::three(truthy, falsy, predicate)),
             _ => push_reversed(nodes, &self.input_nodes()),
         }
     }
@@ -224,6 +247,11 @@ impl AExpr {
                 order_by,
                 ..
             } => set_passed_window(function, partition_by, order_by, inputs),
+            AExpr::Ternary {
+                predicate,
+                truthy,
+                falsy,
+            } => set_three(truthy, falsy, predicate, inputs),
             _ => self.set_inputs(inputs),
         }
     }
@@ -243,6 +271,7 @@ impl AExpr {
             set_listed,
             set_below,
             set_window,
+            set_named,
             inputs
         )
     }
@@ -328,6 +357,19 @@ fn window_copy(
     })
 }
 
+fn function_copy(
+    input: &ExprIRs,
+    function: &FunctionExpr,
+    alloc: Global,
+) -> Result<AExpr, PlanError>
+    ensures ok { IfOk result (λ copy. expression_layer copy ≡ expression_layer (AExpr.Function input.now function.now)) }
+    ensures err { IfErr result (λ error. error ≡ no_memory) }
+{
+    let input = input.try_clone(alloc)?;
+    let function = function.try_clone(alloc)?;
+    Ok(AExpr::Function { input, function })
+}
+
 // The one input of an aggregate.
 fn one_below<'a>(aggregate: &IRAggExpr) -> Inputs<'a>
     ensures { result ≡ (input_at aggregate.now).0 ∷ [] }
@@ -396,6 +438,26 @@ fn set_window(
             *function = inputs[0];
             set_listed(by, keys, &inputs[1..]);
         }
+    }
+}
+
+fn set_named(exprs: &mut ExprIRs, inputs: &[Node])
+    requires { length inputs.now ≡ length (numbers_named exprs.old.items.items) }
+    ensures list { numbers_named exprs.new.items.items ≡ numbers inputs.now }
+    ensures names { recorded exprs.new.items.items ≡ recorded exprs.old.items.items }
+    ensures same { numbers inputs.now ≡ numbers_named exprs.old.items.items → exprs.new ≡ exprs.old }
+{
+    set_nodes(exprs.items.as_mut_slice(), inputs);
+}
+
+// Other nodes under the same names.
+fn set_nodes(exprs: &mut [ExprIR], inputs: &[Node])
+    requires { length inputs.now ≡ length exprs.old }
+    ensures list { map (λ e. e.node) exprs.new ≡ inputs.now }
+    ensures names { map (λ e. e.output_name) exprs.new ≡ map (λ e. e.output_name) exprs.old }
+{
+    for index in 0..inputs.len() {
+        exprs[index].set_node(inputs[index]);
     }
 }
 

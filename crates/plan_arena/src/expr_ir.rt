@@ -119,6 +119,14 @@ impl ExprIR {
         expr_ir
     }
 
+    /// Another node under the name. A kept type goes.
+    pub fn set_node(&mut self, node: Node)
+        ensures { self.new ≡ record { node = node; output_name = self.old.output_name } }
+    {
+        self.node = node;
+        self.output_dtype = None;
+    }
+
     pub fn node(&self) -> Node
         ensures { result.0 ≡ (named_node self.now).expression }
     {

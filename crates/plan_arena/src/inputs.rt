@@ -1,9 +1,10 @@
 //! The inputs of a node, without a list in memory but one that the node keeps.
-ghost use Rattle.std.specs.Prelude.{◌≡◌, ◌<◌, ◌≤◌, [], ◌∷◌, ◌++◌, Some, length, slice_get, take, MatchOption, IfOk, IfErr};
+ghost use Rattle.std.specs.Prelude.{◌≡◌, ◌+◌, ◌<◌, ◌≤◌, [], ◌∷◌, ◌++◌, Some, length, slice_get, take, MatchOption, IfOk, IfErr};
 ghost use Rattle.plan_types.specs.Errors.{no_memory};
-ghost use Rattle.plan_arena.specs.Items.{numbers, ordering};
+ghost use Rattle.plan_arena.specs.Items.{numbers, numbers_named, ordering};
 
 use crate::arena::Node;
+use crate::expr_ir::{ExprIR, ExprIRs};
 use plan_dsl::sort_options::SortOptions;
 use plan_types::error::PlanError;
 use std::alloc::Global;
@@ -25,8 +26,8 @@ impl NodeList {
     }
 }
 
-/// The inputs of a node in order: at most three, and then those of a list that the node keeps. Contracts see their
-/// numbers.
+/// The inputs of a node in order: at most three, and then those of a list that the node keeps, of nodes or of nodes
+/// with names. Contracts see their numbers.
 #[derive(Drop)]
 pub struct Inputs<'a> {
     count: usize,
@@ -34,6 +35,7 @@ pub struct Inputs<'a> {
     second: Node,
     third: Node,
     rest: &'a [Node],
+    named: &'a [ExprIR],
 }
 
 impl<'a> Model for Inputs<'a> {
@@ -41,7 +43,7 @@ impl<'a> Model for Inputs<'a> {
 
     ghost Value = { List ℕ };
 
-    ghost view = { λ inputs. take inputs.count (inputs.first.0 ∷ inputs.second.0 ∷ inputs.third.0 ∷ []) ++ map (λ n. n.0) inputs.rest.now };
+    ghost view = { λ inputs. take inputs.count (inputs.first.0 ∷ inputs.second.0 ∷ inputs.third.0 ∷ []) ++ (map (λ n. n.0) inputs.rest.now ++ map (λ e. e.node.0) inputs.named.now) };
 
     ghost invariant = { λ inputs. inputs.count ≤ 3 };
 }
@@ -50,32 +52,32 @@ impl<'a> Inputs<'a> {
     pub(crate) fn none() -> Inputs<'a>
         ensures { result ≡ [] }
     {
-        Inputs::some(0, Node(0), Node(0), Node(0), &[])
+        Inputs::some(0, Node(0), Node(0), Node(0), &[], &[])
     }
 
     pub(crate) fn one(first: &Node) -> Inputs<'a>
         ensures { result ≡ first.now.0 ∷ [] }
     {
-        Inputs::some(1, *first, *first, *first, &[])
+        Inputs::some(1, *first, *first, *first, &[], &[])
     }
 
     pub(crate) fn two(first: &Node, second: &Node) -> Inputs<'a>
         ensures { result ≡ first.now.0 ∷ second.now.0 ∷ [] }
     {
-        Inputs::some(2, *first, *second, *second, &[])
+        Inputs::some(2, *first, *second, *second, &[], &[])
     }
 
     pub(crate) fn three(first: &Node, second: &Node, third: &Node) -> Inputs<'a>
         ensures { result ≡ first.now.0 ∷ second.now.0 ∷ third.now.0 ∷ [] }
     {
-        Inputs::some(3, *first, *second, *third, &[])
+        Inputs::some(3, *first, *second, *third, &[], &[])
     }
 
     // One, and then a list.
     pub(crate) fn listed(first: &Node, rest: &'a NodeList) -> Inputs<'a>
         ensures { result ≡ first.now.0 ∷ numbers rest.now.items.items }
     {
-        Inputs::some(1, *first, *first, *first, rest.items.as_slice())
+        Inputs::some(1, *first, *first, *first, rest.items.as_slice(), &[])
     }
 
     // Those of a window: the function, what its rows are ordered by, if anything, and the keys.
@@ -88,14 +90,28 @@ impl<'a> Inputs<'a> {
     {
         match order {
             None => Inputs::listed(function, keys),
-            Some((by, _)) => Inputs::some(2, *function, *by, *by, keys.items.as_slice()),
+            Some((by, _)) => Inputs::some(2, *function, *by, *by, keys.items.as_slice(), &[]),
         }
     }
 
-    // So many of these, and then a list.
-    fn some(count: usize, first: Node, second: Node, third: Node, rest: &'a [Node]) -> Inputs<'a>
+    // A list of nodes with names.
+    pub(crate) fn named(exprs: &'a ExprIRs) -> Inputs<'a>
+        ensures { result ≡ numbers_named exprs.now.items.items }
+    {
+        Inputs::some(0, Node(0), Node(0), Node(0), &[], exprs.items.as_slice())
+    }
+
+    // So many of these, and then two lists.
+    fn some(
+        count: usize,
+        first: Node,
+        second: Node,
+        third: Node,
+        rest: &'a [Node],
+        named: &'a [ExprIR],
+    ) -> Inputs<'a>
         requires { count ≤ 3 }
-        ensures { result ≡ take count (first.0 ∷ second.0 ∷ third.0 ∷ []) ++ numbers rest.now }
+        ensures { result ≡ take count (first.0 ∷ second.0 ∷ third.0 ∷ []) ++ (numbers rest.now ++ numbers_named named.now) }
     {
         Inputs {
             count,
@@ -103,6 +119,7 @@ impl<'a> Inputs<'a> {
             second,
             third,
             rest,
+            named,
         }
     }
 
@@ -110,7 +127,7 @@ impl<'a> Inputs<'a> {
     pub fn len(&self) -> usize
         ensures { result ≡ length self.now }
     {
-        self.count + self.rest.len()
+        self.count + self.rest.len() + self.named.len()
     }
 
     /// The input of that number.
@@ -119,7 +136,7 @@ impl<'a> Inputs<'a> {
         ensures { slice_get self.now index ≡ Some result.0 }
     {
         if index >= self.count {
-            return self.rest[index - self.count];
+            return behind(self.rest, self.named, index - self.count);
         }
         if index == 0 {
             return self.first;
@@ -139,4 +156,15 @@ impl<'a> Inputs<'a> {
         }
         Some(self.at(0))
     }
+}
+
+// The node of that number in two lists, the one behind the other.
+fn behind(rest: &[Node], named: &[ExprIR], index: usize) -> Node
+    requires { index < length rest.now + length named.now }
+    ensures { slice_get (numbers rest.now ++ numbers_named named.now) index ≡ Some result.0 }
+{
+    if index < rest.len() {
+        return rest[index];
+    }
+    named[index - rest.len()].node()
 }

@@ -2,16 +2,17 @@
 ghost use Rattle.std.specs.Prelude.{◌≡◌, ◌≢◌, [], ◌∷◌, List, codes, true, IfOk, IfErr, IfSome, MatchOption};
 ghost use Rattle.std.specs.Option.{option_map_or};
 ghost use Rattle.plan_types.specs.Errors.{no_memory};
-ghost use Rattle.plan_dsl.specs.Names.{Label, first_label, label_of, literal_label, op_label};
+ghost use Rattle.plan_dsl.specs.Names.{Label, first_label, function_label, label_of, literal_label, op_label, recorded_or};
 ghost use Rattle.plan_dsl.specs.Aliases.{is_core_op};
 ghost use Rattle.plan_dsl.specs.Ops.{AliasOp, Expression};
 ghost use Rattle.plan_arena.specs.Denotation.{Denotes, DenotesTree};
-ghost use Rattle.plan_arena.specs.Items.{expression_layer, named_node, output_label, HoldsExpression};
+ghost use Rattle.plan_arena.specs.Items.{expression_layer, named_node, output_label, recorded, HoldsExpression};
 ghost use Rattle.plan_arena.specs.Layers.{layer, op_of};
 
 use crate::aexpr::AExpr;
 use crate::arena::{Arena, Node};
-use crate::expr_ir::{ExprIR, OutputName};
+use crate::expr_ir::{ExprIR, ExprIRs, OutputName};
+use plan_dsl::function_expr::FunctionExpr;
 use plan_types::error::PlanError;
 use plan_types::text::PlSmallStr;
 use std::alloc::Global;
@@ -38,6 +39,7 @@ impl AExpr {
                 let name = name.try_clone(alloc)?;
                 Ok(Some(OutputName::Alias(name)))
             }
+            AExpr::Function { input, function } => function_name(input, function, alloc),
             _ => Ok(None),
         }
     }
@@ -68,8 +70,8 @@ impl AExpr {
 }
 
 impl ExprIR {
-    /// The expression at the node, under the name of the topmost alias on the way down first inputs, or else of the
-    /// leftmost column, literal or count of rows.
+    /// The expression at the node, under the name of the topmost alias, field or name kept by a function on the way
+    /// down first inputs, or else of the leftmost column, literal or count of rows.
     pub fn from_node(alloc: Global, node: Node, arena: &Arena<AExpr>) -> Result<ExprIR, PlanError>
         requires { DenotesTree (HoldsExpression arena.now) node.0 }
         ensures node { IfOk result (λ expr_ir. (named_node expr_ir).expression ≡ node.0) }
@@ -102,6 +104,30 @@ fn output_name(alloc: Global, node: Node, arena: &Arena<AExpr>) -> Result<Output
             let name = literal_name(alloc)?;
             Ok(name)
         }
+    }
+}
+
+// The name of a function: that of its field, or else the one that is kept of its first input.
+fn function_name(
+    input: &ExprIRs,
+    function: &FunctionExpr,
+    alloc: Global,
+) -> Result<Option<OutputName>, PlanError>
+    ensures ok { IfOk result (λ name. (labels : List Label) →
+        function_label function.now (recorded_or (recorded input.now.items.items) labels) ≡ option_map_or output_label name (first_label labels)) }
+    ensures set { IfOk result (λ name. IfSome name (λ own. own ≢ OutputName.None)) }
+    ensures err { IfErr result (λ error. error ≡ no_memory) }
+{
+    if let FunctionExpr::FieldByName(name) = function {
+        let name = name.try_clone(alloc)?;
+        return Ok(Some(OutputName::Field(name)));
+    }
+    match input.items.first() {
+        Some(first) => {
+            let name = first.output_name_inner().try_clone(alloc)?;
+            Ok(Some(name))
+        }
+        None => Ok(None),
     }
 }
 

@@ -62,7 +62,7 @@ pub record AreSoMany (target : Ty) (count : ℕ) (values : List Val) : Type 0 wh
   pub fitting : IsTrue (all_fit values target)
   pub as_many : length values ≡ count
 
-before_fits : (target : Ty) (count : ℕ) (converted : Converted) (rest : Outcome (List Val)) → ConvertedFits target converted → Meets (AreSoMany target count) rest → Meets (AreSoMany target (suc count)) (value_before converted rest)
+pub before_fits : (target : Ty) (count : ℕ) (converted : Converted) (rest : Outcome (List Val)) → ConvertedFits target converted → Meets (AreSoMany target count) rest → Meets (AreSoMany target (suc count)) (value_before converted rest)
 before_fits target count Fails rest h r = tt
 before_fits target count (Gives value) rest h r =
     meets_then (AreSoMany target count) (AreSoMany target (suc count)) rest (λ values. Done (value ∷ values)) r (λ values of. record { fitting = and_from (fits value target) (all_fit values target) h of.fitting; as_many = ap suc of.as_many })
@@ -92,7 +92,7 @@ at_each_fits f l r type each (x ∷ left) (y ∷ right) h k =
     let ks = and_parts (fits y r) (all_fit right r) k in
     and_from (fits (f x y) type) (all_fit (at_each f left right) type) (each x y hs.0 ks.0) (at_each_fits f l r type each left right hs.1 ks.1)
 
-replicate_fits : (count : ℕ) (value : Val) (type : Ty) → IsTrue (fits value type) → IsTrue (all_fit (replicate count value) type)
+pub replicate_fits : (count : ℕ) (value : Val) (type : Ty) → IsTrue (fits value type) → IsTrue (all_fit (replicate count value) type)
 replicate_fits zero value type h = refl
 replicate_fits (suc count) value type h = and_from (fits value type) (all_fit (replicate count value) type) h (replicate_fits count value type h)
 
@@ -134,14 +134,14 @@ list_of_fitting (value ∷ values) type h =
 -- ---- slices
 
 -- what is left of values that fit
-taken_fit : (count : ℕ) (values : List Val) (type : Ty) → IsTrue (all_fit values type) → IsTrue (all_fit (take count values) type)
+pub taken_fit : (count : ℕ) (values : List Val) (type : Ty) → IsTrue (all_fit values type) → IsTrue (all_fit (take count values) type)
 taken_fit zero values type h = refl
 taken_fit (suc count) [] type h = refl
 taken_fit (suc count) (value ∷ values) type h =
     let parts = and_parts (fits value type) (all_fit values type) h in
     and_from (fits value type) (all_fit (take count values) type) parts.0 (taken_fit count values type parts.1)
 
-dropped_fit : (count : ℕ) (values : List Val) (type : Ty) → IsTrue (all_fit values type) → IsTrue (all_fit (drop count values) type)
+pub dropped_fit : (count : ℕ) (values : List Val) (type : Ty) → IsTrue (all_fit values type) → IsTrue (all_fit (drop count values) type)
 dropped_fit zero values type h = h
 dropped_fit (suc count) [] type h = refl
 dropped_fit (suc count) (value ∷ values) type h = dropped_fit count values type (and_parts (fits value type) (all_fit values type) h).1

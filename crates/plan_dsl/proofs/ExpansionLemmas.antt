@@ -1,5 +1,5 @@
 -- Expansion: of what is written with plans' ops alone, and of lists.
-use Rattle.std.proofs.Common.{◌≡◌, ◌⊎◌, inl, inr, true, false, ◌&&◌, List, [], ◌∷◌, ◌++◌, map, Result, Ok, Err, refl, sym, ap, ◌∙◌, subst}
+use Rattle.std.proofs.Common.{◌≡◌, ◌⊎◌, inl, inr, true, false, cond, ◌&&◌, List, [], ◌∷◌, ◌++◌, map, Result, Ok, Err, refl, sym, ap, ◌∙◌, subst}
 use Rattle.std.specs.List.{Contains}
 use Rattle.std.proofs.lemmas.Bool.{and_parts, and_from}
 use Rattle.plan_types.specs.declared.error.ErrorKind.TheVariants.{InvalidOperation}
@@ -7,11 +7,11 @@ use Rattle.std.proofs.lemmas.List.{append_assoc}
 use Rattle.std.proofs.lemmas.List.Elements.{Contains-append_left, Contains-push}
 use Rattle.plan_types.specs.Schemas.{Name, Columns}
 use Rattle.plan_types.specs.declared.error.ErrorKind.{ErrorKind}
-use Rattle.plan_dsl.specs.Trees.{Trees, node, no_more, more}
+use Rattle.plan_dsl.specs.Trees.{Trees, node, no_more, more, children_from}
 use Rattle.plan_dsl.specs.Ops.{Op, Expression}
 use Rattle.plan_dsl.specs.Refusals.{then_ok, each_ok, with_kinds, joined, lists_joined}
-use Rattle.plan_dsl.specs.Sources.{SourceOp, Plain, WildcardOp, ColumnsOp, DtypeColumnOp, IndexColumnOp, NthOp, ExcludeOp, SelectorOp, RootOp, SetOp, RenameOp, Source, written, all_written, is_plain, all_are_plain, unwritten, all_unwritten}
-use Rattle.plan_dsl.specs.Expansion.{markers_in, all_markers_in, repeated_for, plain, all_plain, aliased, expansion, expansions, only_one, predicate_expansion}
+use Rattle.plan_dsl.specs.Sources.{SourceOp, Plain, WildcardOp, ColumnsOp, DtypeColumnOp, IndexColumnOp, NthOp, ExcludeOp, SelectorOp, RootOp, SetOp, RenameOp, FieldAtOp, Source, written, all_written, is_plain, all_are_plain, unwritten, all_unwritten}
+use Rattle.plan_dsl.specs.Expansion.{markers_in, all_markers_in, repeated_for, plain, all_plain, aliased, all_fields_named, all_in_place, as_expression, expanded_alone, field_named, fields_named, in_place, over_inputs, spread, spreads, expansion, expansions, only_one, predicate_expansion}
 use Rattle.plan_dsl.specs.Laws.{WrittenIsExpanded, PlainIsWritten, WrittenIsPlain, ListsAreExpandedApart}
 
 -- ---- what is written with plans' ops alone
@@ -86,6 +86,7 @@ mutual
   others_are_refused (node RootOp children) h = refl
   others_are_refused (node (SetOp rule) children) h = refl
   others_are_refused (node (RenameOp renaming) children) h = refl
+  others_are_refused (node (FieldAtOp place) children) h = refl
 
   all_others_refused : (sources : Trees SourceOp) → all_are_plain sources ≡ false → all_plain sources ≡ Err InvalidOperation
   all_others_refused no_more h = absurd cc
@@ -98,11 +99,68 @@ what_is_plain source = record { written_so = λ h. plain_is_written source h; fo
 pub what_is_written : WrittenIsPlain
 what_is_written tree = (written_has_plain_ops tree, unwritten_written tree)
 
+-- its fields have names
+field_stays : (schema : Columns) (op : Op) (children : Trees SourceOp) → field_named schema (Plain op) children ≡ Ok (node (Plain op) children)
+field_stays schema op children = refl
+
+mutual
+  written_named : (schema : Columns) (tree : Expression) → fields_named schema (written tree) ≡ Ok (written tree)
+  written_named schema (node op children) = ap (λ r. then_ok r (field_named schema (Plain op))) (all_written_named schema children)
+
+  all_written_named : (schema : Columns) (trees : Trees Op) → all_fields_named schema (all_written trees) ≡ Ok (all_written trees)
+  all_written_named schema no_more = refl
+  all_written_named schema (more child rest) =
+      let one = written_named schema child in
+      let later = all_written_named schema rest in
+      λ i. then_ok (one i) (λ first. then_ok (later i) (λ others. Ok (more first others)))
+
+written_aliased : (tree : Expression) → aliased (written tree) ≡ Ok tree
+written_aliased (node op children) = written_is_plain (node op children)
+
+written_alone : (keys : List Name) (schema : Columns) (tree : Expression) → expanded_alone keys schema (written tree) ≡ Ok (tree ∷ [])
+written_alone keys schema tree =
+    ap (λ markers. then_ok (repeated_for keys schema (written tree) markers) (each_ok (as_expression schema))) (no_markers tree)
+    ∙ ap (λ r. then_ok (then_ok r aliased) (λ found. Ok (found ∷ []))) (written_named schema tree)
+    ∙ ap (λ r. then_ok r (λ found. Ok (found ∷ []))) (written_aliased tree)
+
+-- and its inputs are in place
+listed : Trees Op → List Expression
+listed no_more = []
+listed (more child rest) = child ∷ listed rest
+
+written_listed : (trees : Trees Op) → children_from (map written (listed trees)) ≡ all_written trees
+unfolding listed
+written_listed no_more = refl
+written_listed (more child rest) = ap (more (written child)) (written_listed rest)
+
+written_spread : (keys : List Name) (schema : Columns) (trees : Trees Op) → spread keys schema (all_written trees) ≡ Ok (listed trees)
+unfolding listed
+written_spread keys schema no_more = refl
+written_spread keys schema (more child rest) =
+    let one = written_alone keys schema child in
+    let later = written_spread keys schema rest in
+    λ i. then_ok (one i) (λ first. then_ok (later i) (λ others. Ok (first ++ others)))
+
+written_over : (keys : List Name) (schema : Columns) (op : Op) (trees : Trees Op) → over_inputs keys schema (Plain op) (all_written trees) ≡ Ok (node (Plain op) (all_written trees))
+written_over keys schema op trees =
+    elim (spreads (Plain op)) as (λ b. cond b (then_ok (spread keys schema (all_written trees)) (λ inputs. Ok (node (Plain op) (children_from (map written inputs))))) (Ok (node (Plain op) (all_written trees))) ≡ Ok (node (Plain op) (all_written trees))) [
+      | true ↦ ap (λ r. then_ok r (λ inputs. Ok (node (Plain op) (children_from (map written inputs))))) (written_spread keys schema trees) ∙ ap (λ children. Ok (node (Plain op) children)) (written_listed trees)
+      | false ↦ refl
+    ]
+
+mutual
+  written_in_place : (keys : List Name) (schema : Columns) (tree : Expression) → in_place keys schema (written tree) ≡ Ok (written tree)
+  written_in_place keys schema (node op children) = ap (λ r. then_ok r (over_inputs keys schema (Plain op))) (all_written_in_place keys schema children) ∙ written_over keys schema op children
+
+  all_written_in_place : (keys : List Name) (schema : Columns) (trees : Trees Op) → all_in_place keys schema (all_written trees) ≡ Ok (all_written trees)
+  all_written_in_place keys schema no_more = refl
+  all_written_in_place keys schema (more child rest) =
+      let one = written_in_place keys schema child in
+      let later = all_written_in_place keys schema rest in
+      λ i. then_ok (one i) (λ first. then_ok (later i) (λ others. Ok (more first others)))
+
 pub written_is_expanded : WrittenIsExpanded
-written_is_expanded keys schema (node op children) =
-    let source : Source = written (node op children) in
-    ap (λ markers. then_ok (repeated_for keys schema source markers) (each_ok aliased)) (no_markers (node op children))
-    ∙ ap (λ r. then_ok r (λ found. Ok (found ∷ []))) (written_is_plain (node op children))
+written_is_expanded keys schema tree = ap (λ r. then_ok r (expanded_alone keys schema)) (written_in_place keys schema tree) ∙ written_alone keys schema tree
 
 pub all_written_expanded : (keys : List Name) (schema : Columns) (trees : List Expression) → expansions keys schema (map written trees) ≡ Ok trees
 all_written_expanded keys schema [] = refl

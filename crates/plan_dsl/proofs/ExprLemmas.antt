@@ -1,5 +1,5 @@
 -- The expressions of a node, as the row that it keeps and as a list.
-use Rattle.std.proofs.Common.{◌≡◌, ◌≢◌, ℕ, suc, Bool, true, false, cond, ◌&&◌, List, [], ◌∷◌, ◌++◌, map, length, Option, Some, None, refl, sym, ap, ◌∙◌}
+use Rattle.std.proofs.Common.{◌≡◌, ◌≢◌, ℕ, suc, Bool, true, false, cond, ◌&&◌, List, [], ◌∷◌, ◌++◌, map, length, Option, Some, None, Result, Ok, Err, IfOk, refl, sym, ap, ◌∙◌}
 use Rattle.std.proofs.Math.Bool.{and-true, and-false}
 use Rattle.std.proofs.lemmas.List.{append_assoc, map-append}
 use Rattle.std.specs.Global.{Box, Vec}
@@ -16,13 +16,16 @@ use Rattle.plan_types.specs.Schemas.{Name}
 use Rattle.plan_types.specs.Types.{ty, same_type}
 use Rattle.plan_types.specs.declared.dtype.DataType.{DataType}
 use Rattle.plan_dsl.specs.declared.marker.Excluded.{Excluded}
+use Rattle.plan_dsl.specs.declared.function_expr.FunctionExpr.TheVariants.{AllHorizontal, AnyHorizontal, IsNull, IsNotNull, FillNull, IsIn, ShiftAndFill, ListGet, FieldByName, FieldByIndex}
+use Rattle.plan_dsl.specs.Functions.{function_writes, is_expanded_function, same_function}
 use Rattle.plan_dsl.specs.Ops.{Op, ColumnOp, WindowOp}
 use Rattle.plan_dsl.specs.Expansion.{all_with_column_put, is_marker, with_column_put}
-use Rattle.plan_dsl.specs.Expressions.{excluded_of, order_trees, tree_of, row_trees, sort_by_op, trees_of, way_of}
+use Rattle.plan_dsl.specs.Expressions.{excluded_of, order_trees, function_source, tree_of, row_trees, sort_by_op, trees_of, way_of}
 use Rattle.plan_dsl.specs.SameExpressions.{same_order, same_sort, same_trees, trees_writes}
 use Rattle.plan_dsl.specs.Sources.{is_plain, all_are_plain, excluded_writes, same_excluded, SourceOp, Plain, Source, same_source_op, same_source, source_op_writes, source_writes}
-use Rattle.plan_dsl.specs.declared.expr.Expr.{Expr, DtypeColumn, Exclude, SortBy, SortBy', Window, Window', Row_of-Expr, end_of-Expr, more_of-Expr, items-the_row-Expr, items_hidden-the_row-Expr-0}
+use Rattle.plan_dsl.specs.declared.expr.Expr.{Expr, DtypeColumn, Exclude, SortBy, SortBy', Window, Window', Function, Function', Row_of-Expr, end_of-Expr, more_of-Expr, items-the_row-Expr, items_hidden-the_row-Expr-0}
 use Rattle.plan_dsl.specs.declared.expr.Exprs.{Exprs}
+use Rattle.plan_dsl.specs.declared.function_expr.FunctionExpr.{FunctionExpr}
 use Rattle.plan_dsl.specs.declared.sort_options.SortMultipleOptions.{SortMultipleOptions}
 use Rattle.plan_dsl.specs.declared.sort_options.SortOptions.{SortOptions}
 use Rattle.plan_dsl.specs.declared.window.WindowType.{WindowType}
@@ -71,15 +74,80 @@ listed_fed write s {t} {u} {v} {tree} {op} {first} {rest} listed own each others
     let keys = trees_writes source_op_writes (children_from rest) in
     fed_then write s t v (source_op_writes op) (values ++ keys) (own ∙ ap (λ x. fold write s (source_op_writes (top_op x))) listed.is) (fed_then write t u v values keys each others) ∙ ap (λ x. fold write s (source_writes x)) (sym listed.is)
 
+-- ---- a list of operands alone, of any kind
+
+-- a tree of an op over a list
+pub record IsOfEach (tree : Source) (op : SourceOp) (each : List Source) : Type 0 where
+  pub is : tree ≡ node op (children_from each)
+
+-- compared
+pub each_compared : {a b : Source} {op own : SourceOp} {each others : List Source} {result : Bool} → IsOfEach a op each → IsOfEach b own others → true ≡ same_source_op op own → result ≡ same_trees same_source_op (children_from each) (children_from others) → result ≡ same_source a b
+each_compared left right ops rests = (λ i. ops i && rests i) ∙ sym (λ i. same_source (left.is i) (right.is i))
+
+pub each_apart : {a b : Source} {op own : SourceOp} {each others : List Source} → IsOfEach a op each → IsOfEach b own others → false ≡ same_source_op op own → false ≡ same_source a b
+each_apart {each = each} {others} left right ops = ap (λ b. b && same_trees same_source_op (children_from each) (children_from others)) ops ∙ sym (λ i. same_source (left.is i) (right.is i))
+
+-- with plans' ops alone
+pub of_each_plain : {tree : Source} {op : Op} {each : List Source} → IsOfEach tree (Plain op) each → is_plain tree ≡ list_all is_plain each
+of_each_plain {each = each} listed = ap is_plain listed.is ∙ each_is_plain each
+
+-- fed to a hasher
+pub each_fed : {S : Type 0} (write : S → List ℕ → S) (s : S) {t u : S} {tree : Source} {op : SourceOp} {each : List Source} → IsOfEach tree op each
+    → t ≡ fold write s (source_op_writes (top_op tree)) → u ≡ fold write t (trees_writes source_op_writes (children_from each)) → u ≡ fold write s (source_writes tree)
+each_fed write s {t} {u} {tree} {op} {each} listed own others =
+    fed_then write s t u (source_op_writes op) (trees_writes source_op_writes (children_from each)) (own ∙ ap (λ x. fold write s (source_op_writes (top_op x))) listed.is) others
+    ∙ ap (λ x. fold write s (source_writes x)) (sym listed.is)
+
 -- ---- the kinds with a list
 
 abbrev row_of : Expr → (n : Count) × Row_of-Expr n
 row_of (SortBy' p expr _ row options) = (_, row)
 row_of (Window' p function _ row order options) = (_, row)
+row_of (Function' _ row function) = (_, row)
 row_of _ = (_, end_of-Expr)
 
 pub sort_by_listed : (value : Expr) (expr : Box Expr) (by : Exprs) (options : SortMultipleOptions) → value ≡ SortBy expr by options → IsListed (tree_of value) (Plain (sort_by_op options)) (tree_of expr.value) (trees_of by)
 sort_by_listed value expr by options is = row_listed value (Plain (sort_by_op options)) (tree_of expr.value) (row_of (SortBy expr by options)) by.items.items (ap tree_of is) (items_hidden-the_row-Expr-0 by.items)
+
+pub function_listed : (value : Expr) (input : Exprs) (function : FunctionExpr) → value ≡ Function input function → IsOfEach (tree_of value) (function_source function) (trees_of input)
+function_listed value input function is =
+    let row = row_of (Function input function) in
+    record {
+      is = ap tree_of is ∙ ap (node (function_source function)) (row_children row.0 row.1 ∙ ap (λ items. children_from (map tree_of items)) (items_hidden-the_row-Expr-0 input.items));
+    }
+
+-- functions that are one, over the same operands
+same_sources : (function other : FunctionExpr) → same_source_op (function_source function) (function_source other) ≡ same_function function other
+same_sources (FieldByIndex place) (FieldByIndex other) = refl
+same_sources (FieldByIndex place) _ = refl
+same_sources _ (FieldByIndex place) = refl
+same_sources function other = and-true (same_function function other)
+
+pub functions_compared : (function other : FunctionExpr) {test : Bool} → test ≡ same_function function other → test ≡ same_source_op (function_source function) (function_source other)
+functions_compared function other same = same ∙ sym (same_sources function other)
+
+-- a function has plans' ops alone where expansion leaves it, and its operands have
+pub function_plain : (function : FunctionExpr) (tree : Source) (each : List Source) → IsOfEach tree (function_source function) each → is_plain tree ≡ (is_expanded_function function && list_all is_plain each)
+function_plain (FieldByIndex place) tree each listed = ap is_plain listed.is
+function_plain AllHorizontal tree each listed = of_each_plain listed
+function_plain AnyHorizontal tree each listed = of_each_plain listed
+function_plain IsNull tree each listed = of_each_plain listed
+function_plain IsNotNull tree each listed = of_each_plain listed
+function_plain FillNull tree each listed = of_each_plain listed
+function_plain IsIn tree each listed = of_each_plain listed
+function_plain ShiftAndFill tree each listed = of_each_plain listed
+function_plain (ListGet flag) tree each listed = of_each_plain listed
+function_plain (FieldByName name) tree each listed = of_each_plain listed
+
+-- what it feeds to a hasher beside its operands
+pub function_writes_so : (function : FunctionExpr) → source_op_writes (function_source function) ≡ fed.u8 24 ++ function_writes function
+function_writes_so (FieldByIndex place) = refl
+function_writes_so _ = refl
+
+-- no marker is one
+pub function_marks : (function : FunctionExpr) → is_marker (function_source function) ≡ false
+function_marks (FieldByIndex place) = refl
+function_marks _ = refl
 
 -- a window's list: what orders its groups, if anything does, and its keys
 pub window_listed : (value : Expr) (function : Box Expr) (keys : Exprs) (order : Option (Box Expr × SortOptions)) (options : WindowType) → value ≡ Window function keys order options
@@ -180,6 +248,12 @@ pub listed_copied : {tree copy : Source} {op : Op} {own : SourceOp} {first other
 listed_copied {rest = rest} column listed copied ops firsts rests =
     copied.is ∙ (λ i. node (ops i) (more (firsts i) ((ap children_from rests ∙ row_put column rest) i))) ∙ sym (ap (put_below column) listed.is)
 
+pub each_copied : {tree copy : Source} {op own : SourceOp} {each others : List Source} (column : Option Name) → IsOfEach tree op each → IsOfEach copy own others → is_marker op ≡ false → own ≡ op → others ≡ map (put column) each → copy ≡ put_below column tree
+each_copied {op = op} {each = each} column listed copied marks ops rests =
+    copied.is ∙ (λ i. node (ops i) ((ap children_from rests ∙ row_put column each) i))
+    ∙ ap (λ b. node op (cond b (children_from each) (all_put column (children_from each)))) (sym marks)
+    ∙ sym (ap (put_below column) listed.is)
+
 pub own_list : (sources : List Source) → map (put None) sources ≡ sources
 own_list [] = refl
 own_list (source ∷ sources) = ap (λ rest. source ∷ rest) (own_list sources)
@@ -196,3 +270,10 @@ copied_alone tree name_of is made =
 pub copied_below : {T : Type 0} {copy : Source} {column : Option T} (tree : Source) (name_of : T → Name) (name : T) → column ≡ Some name → false ≡ is_marker (top_op tree) → copy ≡ put_below (option_map name_of column) tree → copy ≡ put (option_map name_of column) tree
 copied_below tree name_of name is marks made =
     made ∙ ap (λ x. put_below (option_map name_of x) tree) is ∙ below_put (name_of name) tree marks ∙ sym (ap (λ x. put (option_map name_of x) tree) is)
+
+-- ---- answers
+
+-- what an answer says of a value says it of what the value is
+pub if_same : {T E A : Type 0} (r : Result T E) (f : T → A) {x y : A} → x ≡ y → IfOk r (λ t. f t ≡ x) → IfOk r (λ t. f t ≡ y)
+if_same (Ok t) f same h = h ∙ same
+if_same (Err e) f same h = tt

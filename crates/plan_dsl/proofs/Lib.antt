@@ -11,6 +11,8 @@ pub mod ExpansionLemmas
 pub mod ExprLemmas
 pub mod FitLemmas
 pub mod FrameLemmas
+pub mod FunctionLemmas
+pub mod FunctionRuleLemmas
 pub mod GroupLemmas
 pub mod GroupingLemmas
 pub mod GivenLemmas
@@ -24,9 +26,11 @@ pub mod OperatorLemmas
 pub mod OrderLemmas
 pub mod PickLemmas
 pub mod ResolvingLemmas
+pub mod RowLemmas
 pub mod RuleLemmas
 pub mod RunLemmas
 pub mod SameLemmas
+pub mod SharingLemmas
 pub mod SortLemmas
 pub mod SignatureLemmas
 pub mod StrictLemmas

@@ -4,7 +4,7 @@
 use Rattle.std.proofs.Common.{◌≡◌, length, true, false, ◌||◌, cond, List, [], ◌∷◌, Option, Some, None, is_some, Ok, Err, refl, sym, ap, ◌∙◌, subst}
 use Rattle.std.specs.Prelude.{ℤ}
 use Rattle.std.proofs.lemmas.Bool.{and_parts, and_from, or_parts}
-use Rattle.plan_types.specs.Types.{Ty, Untyped, is_known}
+use Rattle.plan_types.specs.Types.{Ty, Truth, StructType, Untyped, Fields, is_known}
 use Rattle.plan_types.specs.Schemas.{Name, Columns, type_at}
 use Rattle.plan_types.specs.Values.{Val, IntValue, in_range}
 use Rattle.plan_types.specs.Outcomes.{Meets}
@@ -18,7 +18,7 @@ use Rattle.plan_types.proofs.ValueLemmas.{int_eq_exact, cast_fits, column_fits}
 use Rattle.plan_dsl.specs.declared.operator.Operator.{Operator}
 use Rattle.plan_dsl.specs.declared.sort_options.SortOptions.{SortOptions}
 use Rattle.plan_dsl.specs.Registry.{Registry}
-use Rattle.plan_dsl.specs.Ops.{Op, ColumnOp, LiteralOp, BinaryOp, CastOp, LenOp, SliceOp, AliasOp, ExplodeOp, GatherOp, FilterOp, SortOp, SortByOp, AggOp, WindowOp}
+use Rattle.plan_dsl.specs.Ops.{Op, ColumnOp, LiteralOp, BinaryOp, CastOp, LenOp, SliceOp, AliasOp, ExplodeOp, GatherOp, FilterOp, SortOp, SortByOp, AggOp, WindowOp, TernaryOp, FunctionOp}
 use Rattle.plan_dsl.specs.Literals.{is_literal, is_literal_of}
 use Rattle.plan_dsl.specs.OperatorTypes.{Taken, operator_types, pair_to}
 use Rattle.plan_dsl.specs.Signatures.{signature}
@@ -30,9 +30,15 @@ use Rattle.plan_dsl.proofs.TypingLemmas.{ok_same, ok_where, ruling_of, ruled_is}
 use Rattle.plan_dsl.proofs.ColumnLemmas.{on_columns, cast_column_fits, operator_values_fit, literal_fits}
 use Rattle.plan_dsl.proofs.GivenLemmas.{AllMean, GoesByColumns, MeansType, by_columns}
 use Rattle.plan_dsl.proofs.OperatorLemmas.{TakesOperands, operands_taken, pair_becomes, pair_stays}
-use Rattle.plan_dsl.proofs.SignatureLemmas.{AllBecome, makes, passes, KernelGives, OnAsked, OnSigned, alone_becomes, is_signed, target_known}
+use Rattle.plan_dsl.proofs.SignatureLemmas.{AllBecome, makes, passes, KernelGives, OnAsked, OnSigned, alone_becomes, alone_casts, is_signed, target_known}
 use Rattle.plan_dsl.proofs.AggregateLemmas.{aggregate_gives}
 use Rattle.plan_dsl.proofs.KindLemmas.{len_gives, slice_gives, explode_gives, gather_gives, filter_gives, sort_gives, sort_by_gives}
+use Rattle.plan_dsl.specs.declared.function_expr.FunctionExpr.{FunctionExpr}
+use Rattle.plan_dsl.specs.declared.function_expr.FunctionExpr.TheVariants.{AllHorizontal, AnyHorizontal, IsNull, IsNotNull, FillNull, IsIn, ShiftAndFill, ListGet, FieldByName, FieldByIndex}
+use Rattle.plan_dsl.specs.FunctionTypes.{field_found, field_taken, field_type, is_in_taken}
+use Rattle.plan_dsl.specs.Labels.{Label}
+use Rattle.plan_dsl.proofs.FunctionLemmas.{ternary_gives, function_gives}
+use Rattle.plan_dsl.proofs.FunctionRuleLemmas.{field_fits, field_known, is_in_fit, takes_member}
 use Rattle.plan_dsl.proofs.WindowLemmas.{window_gives}
 
 -- a node of a number's own type is that number, as a literal
@@ -135,6 +141,38 @@ cast_keeps registry schema target options from (Some own) taken alone h =
           cast_column_fits own target options from.many column (λ value fit. cast_fits value own target options fit p.0) fit));
     })
 
+-- ---- functions without a signature
+
+is_in_keeps : (registry : Registry) (schema : Columns) (recorded : List Label) (value among : Typed) (found other : Option Ty) (taken : Taken) → type_alone value.type ≡ found → type_alone among.type ≡ other → is_in_taken found other ≡ Ok taken → KeepsRule registry schema (FunctionOp IsIn recorded) (value ∷ among ∷ []) (ruling_of taken (value.many || (among.many || false)))
+is_in_keeps registry schema recorded value among None other taken alone beside h = cc
+is_in_keeps registry schema recorded value among (Some a) None taken alone beside h = cc
+is_in_keeps registry schema recorded value among (Some a) (Some b) taken alone beside h =
+    let m = takes_member a b taken (alone_known value.type a alone) (alone_known among.type b beside) h in
+    let many = value.many || (among.many || false) in
+    let own : List Typed = record { type = m.left; many = value.many } ∷ record { type = m.right; many = among.many } ∷ [] in
+    subst (λ (t : Taken). KeepsRule registry schema (FunctionOp IsIn recorded) (value ∷ among ∷ []) (ruling_of t many)) m.is (record {
+      becomes = (makes (alone_casts value.type a m.left alone m.left_casts), (makes (alone_casts among.type b m.right beside m.right_casts), tt));
+      stays = (λ i. ruled_as (is_in_taken (alone_itself m.left m.left_known i) (alone_itself m.right m.right_known i)) many) ∙ ap (λ found. ruled_as found many) m.stays;
+      own = of_columns refl;
+      gives = λ frame same of. by_columns registry frame (FunctionOp IsIn recorded) (λ registry frame ruling operands rows. refl) own (ruling_of (pair_to m.left m.right Truth) many) (λ rows. on_columns own (λ columns. Meets (AreOf (record { type = Truth; many = many })) (kernel registry frame rows (FunctionOp IsIn recorded) (m.left ∷ m.right ∷ []) Truth columns)) (λ ls l rs r. is_in_fit m.left m.right value.many among.many ls rs l r));
+    })
+
+field_keeps : (registry : Registry) (schema : Columns) (name : Name) (recorded : List Label) (from : Typed) (fields : Fields) (found : Option Ty) (taken : Taken) → type_alone from.type ≡ Some (StructType fields) → field_type name fields ≡ found → field_found (StructType fields) found ≡ Ok taken → KeepsRule registry schema (FunctionOp (FieldByName name) recorded) (from ∷ []) (ruling_of taken from.many)
+field_keeps registry schema name recorded from fields None taken alone is h = cc
+field_keeps registry schema name recorded from fields (Some type) taken alone is h =
+    let known = alone_known from.type (StructType fields) alone in
+    let own : List Typed = record { type = StructType fields; many = from.many } ∷ [] in
+    subst (λ (t : Taken). KeepsRule registry schema (FunctionOp (FieldByName name) recorded) (from ∷ []) (ruling_of t from.many)) (ok_same (field_found (StructType fields) (Some type)) (record { operands = StructType fields ∷ []; type = type }) taken refl h) (record {
+      becomes = (makes (alone_becomes from.type (StructType fields) alone), tt);
+      stays = ap (λ found. ruled_as (field_taken name found) from.many) (alone_itself (StructType fields) known) ∙ ap (λ found. ruled_as (field_found (StructType fields) found) from.many) is;
+      own = of_columns (field_known name fields type known is);
+      gives = λ frame same of. by_columns registry frame (FunctionOp (FieldByName name) recorded) (λ registry frame ruling operands rows. refl) own (ruling_of (record { operands = StructType fields ∷ []; type = type }) from.many) (λ rows. on_columns own (λ columns. Meets (AreOf (record { type = type; many = from.many })) (kernel registry frame rows (FunctionOp (FieldByName name) recorded) (StructType fields ∷ []) type columns)) (λ values v. field_fits name fields from.many type values is v));
+    })
+
+field_taken_keeps : (registry : Registry) (schema : Columns) (name : Name) (recorded : List Label) (from : Typed) (found : Option Ty) (taken : Taken) → type_alone from.type ≡ found → field_taken name found ≡ Ok taken → KeepsRule registry schema (FunctionOp (FieldByName name) recorded) (from ∷ []) (ruling_of taken from.many)
+field_taken_keeps registry schema name recorded from (Some (StructType fields)) taken alone h = field_keeps registry schema name recorded from fields (field_type name fields) taken alone refl h
+field_taken_keeps registry schema name recorded from _ taken alone h = cc
+
 -- ---- aliases
 
 alias_keeps : (registry : Registry) (schema : Columns) (name : Name) (input : Typed) → KeepsRule registry schema (AliasOp name) (input ∷ []) (aliased input)
@@ -157,9 +195,9 @@ signed_keeps registry schema op gives goes is typed ruling h =
       stays = is own ∙ ap (λ found. signed found own) same ∙ s.stays;
       own = of_columns s.known;
       gives = λ frame at of. by_columns registry frame op goes own ruling (λ rows.
-          let each = subst (λ found. OnSigned found (λ signature. OnAsked signature 0 own (λ columns. Meets (AreOf (own_over signature own)) (kernel registry frame rows op (types_of own) (own_over signature own).type columns)))) (same ∙ s.found_is) (gives registry frame rows own) in
-          let here = subst (λ (typing : Typed). OnAsked s.signature 0 own (λ columns. Meets (AreOf typing) (kernel registry frame rows op (types_of own) typing.type columns))) s.own each in
-          let there = subst (λ types. OnAsked s.signature 0 own (λ columns. Meets (AreOf ruling.own) (kernel registry frame rows op types ruling.own.type columns))) s.types here in
+          let each = subst (λ found. OnSigned found (λ signature. OnAsked s.shared signature 0 own (λ columns. Meets (AreOf (own_over signature own)) (kernel registry frame rows op (types_of own) (own_over signature own).type columns)))) (same ∙ s.found_is) (gives registry frame rows s.shared own) in
+          let here = subst (λ (typing : Typed). OnAsked s.shared s.signature 0 own (λ columns. Meets (AreOf typing) (kernel registry frame rows op (types_of own) typing.type columns))) s.own each in
+          let there = subst (λ types. OnAsked s.shared s.signature 0 own (λ columns. Meets (AreOf ruling.own) (kernel registry frame rows op types ruling.own.type columns))) s.types here in
           let P : List (List Val) → Type 0 = λ columns. Meets (AreOf ruling.own) (kernel registry frame rows op ruling.operands ruling.own.type columns) in
           on_columns own P (s.on P there));
     }
@@ -180,6 +218,27 @@ window_keeps registry schema order typed ruling h =
           let each = subst (λ found. OnSigned found (λ signature. AllMean own operands → MeansType (own_over signature own) here)) (same ∙ s.found_is) (window_gives order registry frame ruling own operands) in
           subst (λ typing. MeansType typing here) s.own (each all);
     }
+
+-- ---- functions
+
+function_keeps : (registry : Registry) (schema : Columns) (function : FunctionExpr) (recorded : List Label) (typed : List Typed) (ruling : Ruling) → rule registry schema (FunctionOp function recorded) typed ≡ Ok ruling → KeepsRule registry schema (FunctionOp function recorded) typed ruling
+function_keeps registry schema IsIn recorded (value ∷ among ∷ []) ruling h =
+    ruled_is (KeepsRule registry schema (FunctionOp IsIn recorded) (value ∷ among ∷ [])) (is_in_taken (type_alone value.type) (type_alone among.type)) (value.many || (among.many || false)) ruling h (λ taken found. is_in_keeps registry schema recorded value among (type_alone value.type) (type_alone among.type) taken refl refl found)
+function_keeps registry schema (FieldByName name) recorded (from ∷ []) ruling h =
+    ruled_is (KeepsRule registry schema (FunctionOp (FieldByName name) recorded) (from ∷ [])) (field_taken name (type_alone from.type)) from.many ruling h (λ taken found. field_taken_keeps registry schema name recorded from (type_alone from.type) taken refl found)
+function_keeps registry schema IsIn recorded [] ruling h = cc
+function_keeps registry schema IsIn recorded (value ∷ []) ruling h = cc
+function_keeps registry schema IsIn recorded (value ∷ among ∷ third ∷ typed) ruling h = cc
+function_keeps registry schema (FieldByName name) recorded [] ruling h = cc
+function_keeps registry schema (FieldByName name) recorded (from ∷ second ∷ typed) ruling h = cc
+function_keeps registry schema (FieldByIndex place) recorded typed ruling h = cc
+function_keeps registry schema AllHorizontal recorded typed ruling h = signed_keeps registry schema (FunctionOp AllHorizontal recorded) (function_gives AllHorizontal recorded) (λ registry frame ruling operands rows. refl) (λ typed. refl) typed ruling h
+function_keeps registry schema AnyHorizontal recorded typed ruling h = signed_keeps registry schema (FunctionOp AnyHorizontal recorded) (function_gives AnyHorizontal recorded) (λ registry frame ruling operands rows. refl) (λ typed. refl) typed ruling h
+function_keeps registry schema IsNull recorded typed ruling h = signed_keeps registry schema (FunctionOp IsNull recorded) (function_gives IsNull recorded) (λ registry frame ruling operands rows. refl) (λ typed. refl) typed ruling h
+function_keeps registry schema IsNotNull recorded typed ruling h = signed_keeps registry schema (FunctionOp IsNotNull recorded) (function_gives IsNotNull recorded) (λ registry frame ruling operands rows. refl) (λ typed. refl) typed ruling h
+function_keeps registry schema FillNull recorded typed ruling h = signed_keeps registry schema (FunctionOp FillNull recorded) (function_gives FillNull recorded) (λ registry frame ruling operands rows. refl) (λ typed. refl) typed ruling h
+function_keeps registry schema ShiftAndFill recorded typed ruling h = signed_keeps registry schema (FunctionOp ShiftAndFill recorded) (function_gives ShiftAndFill recorded) (λ registry frame ruling operands rows. refl) (λ typed. refl) typed ruling h
+function_keeps registry schema (ListGet flag) recorded typed ruling h = signed_keeps registry schema (FunctionOp (ListGet flag) recorded) (function_gives (ListGet flag) recorded) (λ registry frame ruling operands rows. refl) (λ typed. refl) typed ruling h
 
 -- ---- by op
 
@@ -203,4 +262,6 @@ keeps_rule registry schema (GatherOp returns_scalar) typed ruling h = signed_kee
 keeps_rule registry schema FilterOp typed ruling h = signed_keeps registry schema FilterOp filter_gives (λ registry frame ruling operands rows. refl) (λ typed. refl) typed ruling h
 keeps_rule registry schema (SortOp options) typed ruling h = signed_keeps registry schema (SortOp options) (sort_gives options) (λ registry frame ruling operands rows. refl) (λ typed. refl) typed ruling h
 keeps_rule registry schema (SortByOp descending nulls_last) typed ruling h = signed_keeps registry schema (SortByOp descending nulls_last) (sort_by_gives descending nulls_last) (λ registry frame ruling operands rows. refl) (λ typed. refl) typed ruling h
+keeps_rule registry schema TernaryOp typed ruling h = signed_keeps registry schema TernaryOp ternary_gives (λ registry frame ruling operands rows. refl) (λ typed. refl) typed ruling h
+keeps_rule registry schema (FunctionOp function recorded) typed ruling h = function_keeps registry schema function recorded typed ruling h
 keeps_rule _ _ _ _ _ h = cc

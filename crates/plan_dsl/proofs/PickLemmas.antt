@@ -16,13 +16,13 @@ use Rattle.plan_dsl.proofs.ColumnLemmas.{AreSoMany, stretched_fits}
 
 -- ---- out of lists
 
-joined_fit : (left right : List Val) (type : Ty) → IsTrue (all_fit left type) → IsTrue (all_fit right type) → IsTrue (all_fit (left ++ right) type)
+pub joined_fit : (left right : List Val) (type : Ty) → IsTrue (all_fit left type) → IsTrue (all_fit right type) → IsTrue (all_fit (left ++ right) type)
 joined_fit [] right type h k = k
 joined_fit (value ∷ left) right type h k =
     let parts = and_parts (fits value type) (all_fit left type) h in
     and_from (fits value type) (all_fit (left ++ right) type) parts.0 (joined_fit left right type parts.1 k)
 
-items_in_fit : (items : Vals) (type : Ty) → items_fit items type ≡ true → IsTrue (all_fit (items_in items) type)
+pub items_in_fit : (items : Vals) (type : Ty) → items_fit items type ≡ true → IsTrue (all_fit (items_in items) type)
 items_in_fit no_value type h = refl
 items_in_fit (with_value first rest) type h =
     let parts = and_parts (fits first type) (items_fit rest type) h in

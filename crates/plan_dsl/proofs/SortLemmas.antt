@@ -66,7 +66,7 @@ as_many_rows count [] h = grind arith
 as_many_rows count (value ∷ []) h = length-replicate count value
 as_many_rows count (first ∷ second ∷ rest) h = grind arith
 
-in_front_many : (count : ℕ) (values : List Val) (rows : List Row) → length values ≡ count → length rows ≡ count → length (in_front values rows) ≡ count
+pub in_front_many : (count : ℕ) (values : List Val) (rows : List Row) → length values ≡ count → length rows ≡ count → length (in_front values rows) ≡ count
 in_front_many count [] rows h k = h
 in_front_many count (value ∷ values) [] h k = k
 in_front_many zero (value ∷ values) (row ∷ rows) h k = cc

@@ -2,8 +2,8 @@
 use Rattle.std.specs.Prelude.{Bool, true, false, Option, Some, None, if◌then◌else◌}
 use Rattle.plan_types.specs.Schemas.{Name}
 use Rattle.plan_dsl.specs.Trees.{Trees, node, no_more, more}
-use Rattle.plan_dsl.specs.Ops.{AggOp, AliasOp, BinaryOp, CastOp, ExplodeOp, FilterOp, GatherOp, SliceOp, SortByOp, SortOp, WindowOp}
-use Rattle.plan_dsl.specs.Sources.{SourceOp, Plain, RenameOp, Source}
+use Rattle.plan_dsl.specs.Ops.{AggOp, AliasOp, BinaryOp, CastOp, ExplodeOp, FilterOp, GatherOp, SliceOp, SortByOp, SortOp, WindowOp, TernaryOp, FunctionOp}
+use Rattle.plan_dsl.specs.Sources.{SourceOp, Plain, RenameOp, FieldAtOp, Source}
 use Rattle.plan_dsl.specs.Expansion.{is_marker, with_column_put}
 
 -- the expression with the column of that name, if there is one, in place of all its markers
@@ -34,10 +34,13 @@ has_several (Plain (BinaryOp operator)) = true
 has_several (Plain SliceOp) = true
 has_several (Plain (GatherOp returns_scalar)) = true
 has_several (Plain FilterOp) = true
+has_several (Plain TernaryOp) = true
 has_several op = false
 
 -- or a list of them
 abbrev pub has_list : SourceOp → Bool
 has_list (Plain (SortByOp descending nulls_last)) = true
 has_list (Plain (WindowOp way)) = true
+has_list (Plain (FunctionOp function recorded)) = true
+has_list (FieldAtOp place) = true
 has_list op = false

@@ -1,19 +1,22 @@
 -- Expansion of expressions.
--- All markers of an expression must be one, and it is repeated with each name for which they stand, put in place of all
--- of them. Then a renaming form at its top becomes an alias, and is refused below. What comes out is a list of expressions
--- of plans' ops alone, by its type.
--- Two steps come with functions, and are none yet: that the inputs of one that goes over its inputs are expanded in place
--- before all else, and that a struct's field by its number becomes one by its name, before renaming forms are looked at.
-use Rattle.std.specs.Prelude.{List, [], ◌∷◌, ◌++◌, map, Option, Some, None, Bool, true, false, Result, Ok, Err, if◌then◌else◌}
+-- First each input of a horizontal is expanded by itself, and what it is expanded to stands in its place. Then all markers
+-- of an expression must be one, and it is repeated with each name for which they stand, put in place of all of them. A
+-- struct's field at a place becomes one of a name. Last a renaming form at its top becomes an alias, and is refused below.
+-- What comes out is a list of expressions of plans' ops alone, by its type.
+use Rattle.std.specs.Prelude.{ℤ, pos, negsuc, length, slice_get, List, [], ◌∷◌, ◌++◌, map, Option, Some, None, Bool, true, false, Result, Ok, Err, if◌then◌else◌}
 use Rattle.std.specs.List.{flat_map, list_all}
-use Rattle.std.specs.Option.{option_or}
-use Rattle.plan_types.specs.Schemas.{Name, Columns}
+use Rattle.std.specs.Option.{ok_or, option_or}
+use Rattle.plan_types.specs.Types.{Ty, StructType, Fields, no_field, with_field}
+use Rattle.plan_types.specs.Schemas.{Name, Columns, type_at}
 use Rattle.plan_types.specs.declared.error.ErrorKind.{ErrorKind}
-use Rattle.plan_types.specs.declared.error.ErrorKind.TheVariants.{InvalidOperation, ComputeError}
-use Rattle.plan_dsl.specs.Trees.{Trees, node, no_more, more, fold}
-use Rattle.plan_dsl.specs.Ops.{Op, ColumnOp, AliasOp, Expression}
+use Rattle.plan_types.specs.declared.error.ErrorKind.TheVariants.{ColumnNotFound, InvalidOperation, ComputeError}
+use Rattle.plan_dsl.specs.declared.function_expr.FunctionExpr.TheVariants.{FieldByName}
+use Rattle.plan_dsl.specs.Trees.{Trees, node, no_more, more, children_from, fold}
+use Rattle.plan_dsl.specs.Functions.{is_horizontal}
+use Rattle.plan_dsl.specs.Slices.{slice_start}
+use Rattle.plan_dsl.specs.Ops.{Op, ColumnOp, AliasOp, FunctionOp, Expression}
 use Rattle.plan_dsl.specs.Refusals.{then_ok, each_ok, lists_joined}
-use Rattle.plan_dsl.specs.Sources.{Renaming, KeepRoot, AddPrefix, AddSuffix, SetName, SourceOp, Plain, WildcardOp, ColumnsOp, DtypeColumnOp, IndexColumnOp, NthOp, ExcludeOp, SelectorOp, RenameOp, Source, same_source}
+use Rattle.plan_dsl.specs.Sources.{Renaming, KeepRoot, AddPrefix, AddSuffix, SetName, SourceOp, Plain, WildcardOp, ColumnsOp, DtypeColumnOp, IndexColumnOp, NthOp, ExcludeOp, SelectorOp, RenameOp, FieldAtOp, Source, same_source, written}
 use Rattle.plan_dsl.specs.Markers.{marker_names}
 
 -- ---- a name in place of markers
@@ -96,7 +99,76 @@ abbrev pub aliased : Source → Result Expression ErrorKind
 aliased (node (RenameOp renaming) (more source no_more)) = then_ok (plain source) (under_alias renaming)
 aliased source = plain source
 
+-- ---- a field's name in place of its place
+
+-- the names of a struct's fields
+abbrev pub field_names : Fields → List Name
+field_names no_field = []
+field_names (with_field name type rest) = name ∷ field_names rest
+
+abbrev pub field_from : List Name → ℤ → Result Name ErrorKind
+field_from names (pos place) = ok_or (slice_get names place) InvalidOperation
+field_from names (negsuc before) = Err InvalidOperation
+
+-- the name of the field at a place of a column of structs: a place below 0 counts from the end
+abbrev pub field_at : Option Ty → ℤ → Result Name ErrorKind
+field_at None place = Err ColumnNotFound
+field_at (Some (StructType fields)) place = field_from (field_names fields) (slice_start place (length (field_names fields)))
+field_at (Some type) place = Err InvalidOperation
+
+-- a column's field of that name
+abbrev pub column_field : Name → Name → Source
+column_field column field = node (Plain (FunctionOp (FieldByName field) [])) (more (node (Plain (ColumnOp column)) no_more) no_more)
+
+-- a node with its field named: it must be one of a column
+abbrev pub field_named : Columns → SourceOp → Trees SourceOp → Result Source ErrorKind
+field_named schema (FieldAtOp place) (more (node (Plain (ColumnOp name)) no_more) no_more) = then_ok (field_at (type_at schema name) place) (λ field. Ok (column_field name field))
+field_named schema (FieldAtOp place) children = Err InvalidOperation
+field_named schema op children = Ok (node op children)
+
+abbrev mutual
+  -- an expression without markers, with all its fields named
+  pub fields_named : Columns → Source → Result Source ErrorKind
+  fields_named schema (node op children) = then_ok (all_fields_named schema children) (field_named schema op)
+
+  pub all_fields_named : Columns → Trees SourceOp → Result (Trees SourceOp) ErrorKind
+  all_fields_named schema no_more = Ok no_more
+  all_fields_named schema (more child rest) = then_ok (fields_named schema child) (λ first. then_ok (all_fields_named schema rest) (λ others. Ok (more first others)))
+
 -- ---- expansion
+
+-- an expression without markers: its fields are named, and a renaming form at its top is made an alias
+abbrev pub as_expression : Columns → Source → Result Expression ErrorKind
+as_expression schema source = then_ok (fields_named schema source) aliased
+
+-- what an expression is expanded to whose horizontals have their inputs in place
+abbrev pub expanded_alone : List Name → Columns → Source → Result (List Expression) ErrorKind
+expanded_alone keys schema source = then_ok (repeated keys schema source) (each_ok (as_expression schema))
+
+-- what each of some inputs is expanded to, in order
+abbrev pub spread : List Name → Columns → Trees SourceOp → Result (List Expression) ErrorKind
+spread keys schema no_more = Ok []
+spread keys schema (more child rest) = then_ok (expanded_alone keys schema child) (λ first. then_ok (spread keys schema rest) (λ others. Ok (first ++ others)))
+
+-- whether a node's inputs are expanded in place
+abbrev pub spreads : SourceOp → Bool
+spreads (Plain (FunctionOp function recorded)) = is_horizontal function
+spreads op = false
+
+-- the node over its inputs in place
+abbrev pub over_inputs : List Name → Columns → SourceOp → Trees SourceOp → Result Source ErrorKind
+over_inputs keys schema op children =
+    if spreads op then then_ok (spread keys schema children) (λ inputs. Ok (node op (children_from (map written inputs)))) else Ok (node op children)
+
+abbrev mutual
+  -- an expression in which the inputs of horizontals are expanded in place; what stands inside a marker is its own
+  pub in_place : List Name → Columns → Source → Result Source ErrorKind
+  in_place keys schema (node op children) =
+      if is_marker op then Ok (node op children) else then_ok (all_in_place keys schema children) (over_inputs keys schema op)
+
+  pub all_in_place : List Name → Columns → Trees SourceOp → Result (Trees SourceOp) ErrorKind
+  all_in_place keys schema no_more = Ok no_more
+  all_in_place keys schema (more child rest) = then_ok (in_place keys schema child) (λ first. then_ok (all_in_place keys schema rest) (λ others. Ok (more first others)))
 
 -- the names of keys: of those that are plain columns
 abbrev pub key_name : Source → List Name
@@ -108,7 +180,7 @@ key_names keys = flat_map key_name keys
 
 -- what an expression is expanded to
 abbrev pub expansion : List Name → Columns → Source → Result (List Expression) ErrorKind
-expansion keys schema source = then_ok (repeated keys schema source) (each_ok aliased)
+expansion keys schema source = then_ok (in_place keys schema source) (expanded_alone keys schema)
 
 -- what expressions are expanded to, or the kinds of all that aren't
 abbrev pub expansions : List Name → Columns → List Source → Result (List Expression) (List ErrorKind)

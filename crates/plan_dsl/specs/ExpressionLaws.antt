@@ -1,13 +1,14 @@
 -- Laws of comparing expressions.
-use Rattle.std.specs.Prelude.{◌≡◌, Bool, true, false, Option, Some, None}
+use Rattle.std.specs.Prelude.{◌≡◌, ◌==◌, Bool, true, false, Option, Some, None}
 use Rattle.std.specs.Cmp.{IsEquivalence, booleans_Decides}
-use Rattle.std.specs.Cmp.Lexicographic.{pointwise_decides}
-use Rattle.std.proofs.Common.{refl, ap, ◌∙◌}
+use Rattle.std.specs.Cmp.Lexicographic.{pointwise, pointwise_decides}
+use Rattle.std.proofs.Common.{refl, ap, subst, ◌∙◌}
+use Rattle.std.specs.Str.{bytes_eq}
 use Rattle.std.proofs.lemmas.Slice.Eq.{bytes_eq-Decides}
 use Rattle.std.proofs.lemmas.Bool.{and_parts, and_from}
-use Rattle.std.proofs.lemmas.Bool.Decides.{Decides-eqb}
+use Rattle.std.proofs.lemmas.Bool.Decides.{Decides-eqb, Decides-int_eq}
 use Rattle.std.proofs.lemmas.Cmp.{on_equiv}
-use Rattle.std.specs.Bool.{beq}
+use Rattle.std.specs.Bool.{Decides, beq}
 use Rattle.std.specs.Ordering.{on}
 use Rattle.plan_types.specs.Types.{same_type}
 use Rattle.plan_types.specs.TypeLaws.{equivalence_from_exact, same_type_exact, same_type_own}
@@ -22,9 +23,13 @@ use Rattle.plan_dsl.specs.declared.operator.Operator.{Operator}
 use Rattle.plan_dsl.specs.declared.operator.Operator.TheVariants.{Eq, EqValidity, NotEq, NotEqValidity, Lt, LtEq, Gt, GtEq, Plus, Minus, Multiply, Divide, FloorDivide, Modulus, And, Or, Xor, LogicalAnd, LogicalOr}
 use Rattle.plan_dsl.specs.declared.sort_options.SortOptions.{SortOptions}
 use Rattle.plan_dsl.specs.Trees.{Tree, Trees, node, no_more, more}
-use Rattle.plan_dsl.specs.Ops.{Op, ColumnOp, LiteralOp, BinaryOp, CastOp, LenOp, SliceOp, AliasOp, ExplodeOp, GatherOp, FilterOp, SortOp, SortByOp, AggOp, WindowOp}
+use Rattle.plan_dsl.specs.Ops.{Op, ColumnOp, LiteralOp, BinaryOp, CastOp, LenOp, SliceOp, AliasOp, ExplodeOp, GatherOp, FilterOp, SortOp, SortByOp, AggOp, WindowOp, TernaryOp, FunctionOp}
+use Rattle.plan_dsl.specs.declared.function_expr.FunctionExpr.{FunctionExpr}
+use Rattle.plan_dsl.specs.declared.function_expr.FunctionExpr.TheVariants.{AllHorizontal, AnyHorizontal, IsNull, IsNotNull, FillNull, IsIn, ShiftAndFill, ListGet, FieldByName, FieldByIndex}
+use Rattle.plan_dsl.specs.Functions.{same_function}
+use Rattle.plan_dsl.specs.Labels.{Label, Origin, FromColumn, FromLiteral, FromAlias, FromField, FromNothing}
 use Rattle.plan_dsl.specs.Literals.{literal_type, literal_value, literal_op}
-use Rattle.plan_dsl.specs.SameExpressions.{operator_rank, same_operator, method_rank, same_method, options_rank, same_options, same_sort, same_flags, same_literal, same_op, same_tree, same_trees, literal_writes, same_order}
+use Rattle.plan_dsl.specs.SameExpressions.{operator_rank, same_operator, method_rank, same_method, options_rank, same_options, same_sort, same_flags, same_label, same_literal, same_op, origin_rank, same_tree, same_trees, literal_writes, same_order}
 
 -- operators and ways to cast that compare equal are one
 pub same_operator_exact : (a b : Operator) → same_operator a b ≡ true → a ≡ b
@@ -104,6 +109,47 @@ pub same_order_own : (a : Option SortOptions) → same_order a a ≡ true
 same_order_own None = refl
 same_order_own (Some options) = same_sort_own options
 
+-- functions that compare equal are one
+pub same_function_exact : (a b : FunctionExpr) → same_function a b ≡ true → a ≡ b
+same_function_exact IsNull IsNull h = refl
+same_function_exact IsNotNull IsNotNull h = refl
+same_function_exact FillNull FillNull h = refl
+same_function_exact IsIn IsIn h = refl
+same_function_exact ShiftAndFill ShiftAndFill h = refl
+same_function_exact (ListGet flag) (ListGet other) h = ap ListGet ((booleans_Decides flag other).0 h)
+same_function_exact (FieldByName name) (FieldByName other) h = ap FieldByName ((bytes_eq-Decides name other).0 h)
+same_function_exact AllHorizontal AllHorizontal h = refl
+same_function_exact AnyHorizontal AnyHorizontal h = refl
+same_function_exact (FieldByIndex place) (FieldByIndex other) h = ap FieldByIndex ((Decides-int_eq place other).0 h)
+same_function_exact _ _ h = cc
+
+pub same_function_own : (a : FunctionExpr) → same_function a a ≡ true
+same_function_own (ListGet flag) = (booleans_Decides flag flag).1 refl
+same_function_own (FieldByName name) = (bytes_eq-Decides name name).1 refl
+same_function_own (FieldByIndex place) = (Decides-int_eq place place).1 refl
+same_function_own _ = refl
+
+same_origin_exact : (a b : Origin) → (origin_rank a == origin_rank b) ≡ true → a ≡ b
+same_origin_exact FromColumn FromColumn h = refl
+same_origin_exact FromLiteral FromLiteral h = refl
+same_origin_exact FromAlias FromAlias h = refl
+same_origin_exact FromField FromField h = refl
+same_origin_exact FromNothing FromNothing h = refl
+same_origin_exact _ _ h = cc
+
+same_label_exact : (a b : Label) → same_label a b ≡ true → a ≡ b
+same_label_exact a b h =
+    let parts = and_parts (bytes_eq a.name b.name) (origin_rank a.origin == origin_rank b.origin) h in
+    let name = (bytes_eq-Decides a.name b.name).0 parts.0 in
+    let origin = same_origin_exact a.origin b.origin parts.1 in
+    λ i. record { name = name i; origin = origin i }
+
+same_label_own : (a : Label) → same_label a a ≡ true
+same_label_own a = and_from _ _ ((bytes_eq-Decides a.name a.name).1 refl) ((Decides-eqb (origin_rank a.origin) (origin_rank a.origin)).1 refl)
+
+labels_decided : (a b : Label) → Decides (same_label a b) (a ≡ b)
+labels_decided a b = (same_label_exact a b, λ e. subst (λ x. same_label a x ≡ true) e (same_label_own a))
+
 -- nodes that compare equal do the same
 pub same_op_exact : (a b : Op) → same_op a b ≡ true → a ≡ b
 same_op_exact (ColumnOp name) (ColumnOp other) h = ap ColumnOp ((bytes_eq-Decides name other).0 h)
@@ -127,6 +173,10 @@ same_op_exact (SortByOp descending nulls_last) (SortByOp other others) h =
 same_op_exact (WindowOp order) (WindowOp other) h = ap WindowOp (same_order_exact order other h)
 same_op_exact (AliasOp name) (AliasOp other) h = ap AliasOp ((bytes_eq-Decides name other).0 h)
 same_op_exact (AggOp method) (AggOp other) h = ap AggOp (same_method_exact method other h)
+same_op_exact TernaryOp TernaryOp h = refl
+same_op_exact (FunctionOp function recorded) (FunctionOp other others) h =
+    let parts = and_parts (same_function function other) (pointwise same_label recorded others) h in
+    ap (λ f. FunctionOp f recorded) (same_function_exact function other parts.0) ∙ ap (FunctionOp other) ((pointwise_decides labels_decided recorded others).0 parts.1)
 same_op_exact _ _ h = cc
 
 pub same_op_own : (a : Op) → same_op a a ≡ true
@@ -144,6 +194,8 @@ same_op_own (SortByOp descending nulls_last) = and_from _ _ ((pointwise_decides 
 same_op_own (WindowOp order) = same_order_own order
 same_op_own (AliasOp name) = (bytes_eq-Decides name name).1 refl
 same_op_own (AggOp method) = same_method_own method
+same_op_own TernaryOp = refl
+same_op_own (FunctionOp function recorded) = and_from _ _ (same_function_own function) ((pointwise_decides labels_decided recorded recorded).1 refl)
 
 -- trees that compare equal are one where nodes are, and each is equal to itself
 module _ {O : Type 0} (test : O → O → Bool) where

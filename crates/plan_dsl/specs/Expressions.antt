@@ -7,8 +7,10 @@ use Rattle.plan_dsl.specs.declared.aggregate.AggExpr.TheVariants as agg
 use Rattle.plan_dsl.specs.declared.aggregate.GroupByMethod.{GroupByMethod}
 use Rattle.plan_dsl.specs.declared.aggregate.GroupByMethod.TheVariants.{Min, NanMin, Max, NanMax, NUnique, First, Last, Implode, Sum, Count, Groups}
 use Rattle.plan_dsl.specs.declared.expr.Expr.{Expr, Row_of-Expr, end_of-Expr, more_of-Expr, Held-Expr-Window-2, None', Some'}
-use Rattle.plan_dsl.specs.declared.expr.Expr.TheVariants.{Column, Columns, DtypeColumn, IndexColumn, Literal, BinaryExpr', Cast', Len, Slice', Alias', Explode', Gather', Filter', Sort', SortBy', Agg, Window', Wildcard, Exclude', KeepName', Nth, RenameAlias', Selector as Selecting}
+use Rattle.plan_dsl.specs.declared.expr.Expr.TheVariants.{Column, Columns, DtypeColumn, IndexColumn, Literal, BinaryExpr', Cast', Len, Slice', Alias', Explode', Gather', Filter', Sort', SortBy', Agg, Window', Ternary', Function', Wildcard, Exclude', KeepName', Nth, RenameAlias', Selector as Selecting}
 use Rattle.plan_dsl.specs.declared.expr.Exprs.{Exprs}
+use Rattle.plan_dsl.specs.declared.function_expr.FunctionExpr.{FunctionExpr}
+use Rattle.plan_dsl.specs.declared.function_expr.FunctionExpr.TheVariants.{FieldByIndex}
 use Rattle.plan_dsl.specs.declared.marker.Excluded.{Excluded as ExcludedValue}
 use Rattle.plan_dsl.specs.declared.marker.Excluded.TheVariants.{Name, Dtype}
 use Rattle.plan_dsl.specs.declared.marker.RenameAliasFn.{RenameAliasFn}
@@ -20,8 +22,8 @@ use Rattle.plan_dsl.specs.declared.sort_options.SortMultipleOptions.{SortMultipl
 use Rattle.plan_dsl.specs.declared.sort_options.SortOptions.{SortOptions}
 use Rattle.plan_dsl.specs.Trees.{Trees, node, no_more, more}
 use Rattle.plan_dsl.specs.Literals.{literal_op}
-use Rattle.plan_dsl.specs.Ops.{Op, ColumnOp, BinaryOp, CastOp, LenOp, SliceOp, AliasOp, ExplodeOp, GatherOp, FilterOp, SortOp, SortByOp, AggOp, WindowOp, Expression}
-use Rattle.plan_dsl.specs.Sources.{Excluded, ExcludedName, ExcludedType, Renaming, KeepRoot, AddPrefix, AddSuffix, SetName, Add, Sub, Intersect, ExclusiveOr, SourceOp, Plain, WildcardOp, ColumnsOp, DtypeColumnOp, IndexColumnOp, NthOp, ExcludeOp, SelectorOp, RootOp, RenameOp, Source, unwritten, of_two}
+use Rattle.plan_dsl.specs.Ops.{Op, ColumnOp, BinaryOp, CastOp, LenOp, SliceOp, AliasOp, ExplodeOp, GatherOp, FilterOp, SortOp, SortByOp, AggOp, WindowOp, TernaryOp, FunctionOp, Expression}
+use Rattle.plan_dsl.specs.Sources.{Excluded, ExcludedName, ExcludedType, Renaming, KeepRoot, AddPrefix, AddSuffix, SetName, Add, Sub, Intersect, ExclusiveOr, SourceOp, Plain, WildcardOp, ColumnsOp, DtypeColumnOp, IndexColumnOp, NthOp, ExcludeOp, SelectorOp, RootOp, RenameOp, FieldAtOp, Source, unwritten, of_two}
 
 abbrev pub sort_by_op : SortMultipleOptions → Op
 sort_by_op options = SortByOp options.descending.items.value.items options.nulls_last.items.value.items
@@ -60,6 +62,11 @@ renaming_of (Prefix text) = AddPrefix text
 renaming_of (Suffix text) = AddSuffix text
 renaming_of (Fixed text) = SetName text
 
+-- a function of operands: a field at a place is no plan's op
+abbrev pub function_source : FunctionExpr → SourceOp
+function_source (FieldByIndex place) = FieldAtOp place
+function_source function = Plain (FunctionOp function [])
+
 -- how the groups of a window are put in order, if they are
 abbrev pub held_way : Held-Expr-Window-2 → Option SortOptions
 held_way None' = None
@@ -84,6 +91,8 @@ abbrev mutual
   tree_of (Alias' p expr name) = node (Plain (AliasOp name)) (more (tree_of expr) no_more)
   tree_of (Agg aggregate) = aggregated (method_of aggregate) (input_tree aggregate)
   tree_of (Window' p function shape partition_by order_by options) = node (Plain (WindowOp (held_way order_by))) (more (tree_of function) (behind_order order_by (row_trees partition_by)))
+  tree_of (Ternary' p predicate q truthy r falsy) = node (Plain TernaryOp) (more (tree_of truthy) (more (tree_of predicate) (more (tree_of falsy) no_more)))
+  tree_of (Function' shape input function) = node (function_source function) (row_trees input)
   tree_of Wildcard = node WildcardOp no_more
   tree_of (Exclude' p marker excluded) = node (ExcludeOp (map excluded_of excluded.items)) (more (tree_of marker) no_more)
   tree_of (KeepName' p expr) = node (RenameOp KeepRoot) (more (tree_of expr) no_more)

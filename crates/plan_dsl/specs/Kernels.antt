@@ -1,13 +1,12 @@
 -- What a node does with the columns of its operands.
--- A column is a list of values. Two columns are brought to a common length: one of one value is
--- repeated, and other unequal lengths are a data fault.
-use Rattle.std.specs.Prelude.{ℕ, pos, Bool, List, [], ◌∷◌, map, length, replicate, Option, Some, None, ◌==◌, ◌||◌, if◌then◌else◌}
+-- A column is a list of values.
+use Rattle.std.specs.Prelude.{ℕ, pos, Bool, List, [], ◌∷◌, map, length, if◌then◌else◌}
 use Rattle.plan_types.specs.Types.{Ty, same_type}
 use Rattle.plan_types.specs.Schemas.{Name}
 use Rattle.plan_types.specs.Values.{Val, IntValue}
-use Rattle.plan_types.specs.Outcomes.{Outcome, Done, Fault, Stuck, then_do}
-use Rattle.plan_types.specs.Casts.{Converted, Gives, Fails, cast, wrapped}
-use Rattle.plan_types.specs.Frames.{Frame, Row, value_in, row_at}
+use Rattle.plan_types.specs.Outcomes.{Outcome, Done, Stuck, then_do}
+use Rattle.plan_types.specs.Casts.{cast, wrapped}
+use Rattle.plan_types.specs.Frames.{Frame, value_in, row_at}
 use Rattle.plan_types.specs.declared.dtype.CastOptions.{CastOptions}
 use Rattle.plan_dsl.specs.declared.operator.Operator.{Operator}
 use Rattle.plan_dsl.specs.Operators.{operator_value}
@@ -16,7 +15,9 @@ use Rattle.plan_dsl.specs.Sorting.{key_options, sort_values, sorted_rows}
 use Rattle.plan_dsl.specs.Picks.{explode_values, gather_values, where_true}
 use Rattle.plan_dsl.specs.Aggregates.{aggregate_value}
 use Rattle.plan_dsl.specs.Registry.{Registry}
-use Rattle.plan_dsl.specs.Ops.{Op, ColumnOp, LiteralOp, BinaryOp, CastOp, LenOp, SliceOp, AliasOp, ExplodeOp, GatherOp, FilterOp, SortOp, SortByOp, AggOp}
+use Rattle.plan_dsl.specs.FunctionValues.{function_values, ternary_value}
+use Rattle.plan_dsl.specs.Ops.{Op, ColumnOp, LiteralOp, BinaryOp, CastOp, LenOp, SliceOp, AliasOp, ExplodeOp, GatherOp, FilterOp, SortOp, SortByOp, AggOp, TernaryOp, FunctionOp}
+pub use Rattle.plan_dsl.specs.Rows.{common_length, stretched, for_rows, in_front, at_length, key_rows, value_before, length_of_all, rows_of, side_by_side, each_row, by_row}
 
 -- what an expression gives on the rows of these numbers
 abbrev pub Meaning : Type 0
@@ -29,11 +30,6 @@ stuck rows = Stuck
 abbrev pub given : List Meaning → List ℕ → Outcome (List (List Val))
 given [] rows = Done []
 given (operand ∷ operands) rows = then_do (operand rows) (λ column. then_do (given operands rows) (λ columns. Done (column ∷ columns)))
-
--- one more value in front
-abbrev pub value_before : Converted → Outcome (List Val) → Outcome (List Val)
-value_before Fails rest = Fault
-value_before (Gives value) rest = then_do rest (λ values. Done (value ∷ values))
 
 -- a column's cast
 abbrev pub cast_values : Ty → Ty → CastOptions → List Val → Outcome (List Val)
@@ -48,37 +44,11 @@ abbrev pub cast_meaning : Ty → Ty → CastOptions → Meaning → Meaning
 cast_meaning from target options input =
     if same_type from target then input else (λ rows. then_do (input rows) (cast_values from target options))
 
--- the length to which two columns are brought
-abbrev pub common_length : ℕ → ℕ → Option ℕ
-common_length left right =
-    if left == right then Some left else (if left == 1 then Some right else (if right == 1 then Some left else None))
-
--- a column brought to that length
-abbrev pub stretched : ℕ → List Val → List Val
-stretched count [] = []
-stretched count (value ∷ []) = replicate count value
-stretched count (first ∷ second ∷ rest) = first ∷ second ∷ rest
-
--- values for that many rows: one for each, or a single one that is repeated
-abbrev pub for_rows : ℕ → List Val → Outcome (List Val)
-for_rows count values = if length values == count || length values == 1 then Done (stretched count values) else Fault
-
--- a value in front of each row
-abbrev pub in_front : List Val → List Row → List Row
-in_front [] rows = []
-in_front (value ∷ values) [] = []
-in_front (value ∷ values) (row ∷ rows) = (value ∷ row) ∷ in_front values rows
-
 -- the values of an operator at each place
 abbrev pub at_each : (Val → Val → Val) → List Val → List Val → List Val
 at_each f [] right = []
 at_each f (x ∷ left) [] = []
 at_each f (x ∷ left) (y ∷ right) = f x y ∷ at_each f left right
-
--- what is made at the common length, which is a fault where there is none
-abbrev pub at_length : {A : Type 0} → Option ℕ → (ℕ → A) → Outcome A
-at_length None make = Fault
-at_length (Some count) make = Done (make count)
 
 -- an operator on two columns, the first of that type
 abbrev pub operator_values : Operator → Ty → Ty → List Val → List Val → Outcome (List Val)
@@ -89,11 +59,6 @@ operator_values operator from type left right =
 abbrev pub filter_values : List Val → List Val → Outcome (List Val)
 filter_values values truths =
     at_length (common_length (length values) (length truths)) (λ count. where_true (stretched count truths) (stretched count values))
-
--- the keys beside each of so many values: a column of keys has as many, or a single one that is repeated
-abbrev pub key_rows : ℕ → List (List Val) → Outcome (List Row)
-key_rows count [] = Done (replicate count [])
-key_rows count (key ∷ keys) = then_do (for_rows count key) (λ column. then_do (key_rows count keys) (λ rows. Done (in_front column rows)))
 
 -- values in the order of columns of keys, by a flag for each or one for all
 abbrev pub sort_by_values : List Bool → List Bool → List Val → List (List Val) → Outcome (List Val)
@@ -119,4 +84,6 @@ kernel registry frame rows (SortOp options) types type (values ∷ []) = Done (s
 kernel registry frame rows (SortByOp descending nulls_last) types type (values ∷ keys) = sort_by_values descending nulls_last values keys
 kernel registry frame rows (AliasOp name) types type (column ∷ []) = Done column
 kernel registry frame rows (AggOp method) types type (values ∷ []) = Done (aggregate_value method type rows values ∷ [])
+kernel registry frame rows TernaryOp types type columns = by_row ternary_value columns
+kernel registry frame rows (FunctionOp function recorded) types type columns = function_values function types columns
 kernel registry frame rows op types type columns = Stuck

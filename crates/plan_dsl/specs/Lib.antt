@@ -10,8 +10,12 @@ pub mod ExpressionLaws
 pub mod Expressions
 pub mod GroupLaws
 pub mod Grouping
+pub mod FunctionTypes
+pub mod FunctionValues
+pub mod Functions
 pub mod Groups
 pub mod Kernels
+pub mod Labels
 pub mod Laws
 pub mod Literals
 pub mod Markers
@@ -29,6 +33,7 @@ pub mod Refusals
 pub mod Registry
 pub mod Resolving
 pub mod SameExpressions
+pub mod Rows
 pub mod Samples
 pub mod Signatures
 pub mod Slices

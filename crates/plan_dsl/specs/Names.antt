@@ -1,38 +1,24 @@
 -- Names of expressions.
 -- A column has its own name, a literal is named `literal`, a count of rows `len`, an alias gives its own, and any other
--- node has the name of its first child.
--- What a name comes from is told with it: a column may be called `literal` too.
+-- node has the name of its first child. A function that has recorded names of its operands has the first of these, and one
+-- that takes a field of a struct the field's.
 use Rattle.std.specs.Prelude.{List, [], ◌∷◌, codes}
 use Rattle.plan_types.specs.Schemas.{Name}
+use Rattle.plan_dsl.specs.declared.function_expr.FunctionExpr.{FunctionExpr}
+use Rattle.plan_dsl.specs.declared.function_expr.FunctionExpr.TheVariants.{FieldByName}
 use Rattle.plan_dsl.specs.Trees.{fold}
-use Rattle.plan_dsl.specs.Ops.{Op, ColumnOp, LiteralOp, LenOp, AliasOp, Expression}
+use Rattle.plan_dsl.specs.Ops.{Op, ColumnOp, LiteralOp, LenOp, AliasOp, FunctionOp, Expression}
+pub use Rattle.plan_dsl.specs.Labels.{Origin, FromColumn, FromLiteral, FromAlias, FromField, FromNothing, Label, column_label, literal_label, alias_label, field_label, first_label}
 
--- what a name comes from: a column, a literal or a count of rows, an alias, a field of a struct, or nothing, where none is
--- set
-pub data Origin : Type 0 where
-  FromColumn : Origin
-  FromLiteral : Origin
-  FromAlias : Origin
-  FromField : Origin
-  FromNothing : Origin
+-- the label of a function over operands with these
+abbrev pub function_label : FunctionExpr → List Label → Label
+function_label (FieldByName name) labels = field_label name
+function_label function labels = first_label labels
 
--- a name, with what it comes from
-pub record Label : Type 0 where
-  pub name : Name
-  pub origin : Origin
-
-abbrev pub column_label : Name → Label
-column_label name = record { name = name; origin = FromColumn }
-
-abbrev pub literal_label : Name → Label
-literal_label name = record { name = name; origin = FromLiteral }
-
-abbrev pub alias_label : Name → Label
-alias_label name = record { name = name; origin = FromAlias }
-
-abbrev pub first_label : List Label → Label
-first_label [] = literal_label (codes "literal")
-first_label (label ∷ labels) = label
+-- the labels that are recorded, or else the operands' own
+abbrev pub recorded_or : List Label → List Label → List Label
+recorded_or [] labels = labels
+recorded_or (label ∷ recorded) labels = label ∷ recorded
 
 -- the label of a node, from its children's
 abbrev pub op_label : Op → List Label → Label
@@ -40,6 +26,7 @@ op_label (ColumnOp name) labels = column_label name
 op_label (LiteralOp type value) labels = literal_label (codes "literal")
 op_label LenOp labels = literal_label (codes "len")
 op_label (AliasOp name) labels = alias_label name
+op_label (FunctionOp function recorded) labels = function_label function (recorded_or recorded labels)
 op_label op labels = first_label labels
 
 abbrev pub label_of : Expression → Label

@@ -5,10 +5,14 @@ use Rattle.plan_types.specs.Schemas.{Name}
 use Rattle.plan_types.specs.Values.{Val}
 use Rattle.plan_types.specs.declared.dtype.CastOptions.{CastOptions}
 use Rattle.plan_dsl.specs.declared.aggregate.GroupByMethod.{GroupByMethod}
+use Rattle.plan_dsl.specs.declared.function_expr.FunctionExpr.{FunctionExpr}
 use Rattle.plan_dsl.specs.declared.operator.Operator.{Operator}
 use Rattle.plan_dsl.specs.declared.sort_options.SortOptions.{SortOptions}
+use Rattle.plan_dsl.specs.Labels.{Label}
 use Rattle.plan_dsl.specs.Trees.{Tree}
 
+-- A ternary stands over what it gives where its predicate is true, the predicate, and what it gives elsewhere. A function
+-- has the names of its operands where they are recorded, as they are in a plan's nodes.
 pub data Op : Type 0 where
   ColumnOp : (name : Name) → Op
   LiteralOp : (type : Ty) (value : Val) → Op
@@ -24,6 +28,8 @@ pub data Op : Type 0 where
   WindowOp : (order : Option SortOptions) → Op
   AliasOp : (name : Name) → Op
   AggOp : (method : GroupByMethod) → Op
+  TernaryOp : Op
+  FunctionOp : (function : FunctionExpr) (recorded : List Label) → Op
 
 abbrev pub Expression : Type 0
 Expression = Tree Op

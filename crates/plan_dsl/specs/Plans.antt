@@ -1,5 +1,5 @@
 -- The tree of a plan.
-use Rattle.std.specs.Prelude.{◌≡◌, ℕ, List, [], ◌∷◌, ◌++◌, Option, Some, None, Bool}
+use Rattle.std.specs.Prelude.{◌≡◌, ℕ, List, [], ◌∷◌, ◌++◌, map, Option, Some, None, Bool}
 use Rattle.std.specs.List.{flat_map}
 use Rattle.plan_types.specs.Schemas.{Columns, columns}
 use Rattle.plan_types.specs.declared.error.ErrorKind.{ErrorKind}
@@ -9,11 +9,13 @@ use Rattle.plan_dsl.specs.declared.function.DslFunction.{DslFunction}
 use Rattle.plan_dsl.specs.declared.function.DslFunction.TheVariants.{Drop}
 use Rattle.plan_dsl.specs.declared.plan.ProjectionOptions.{ProjectionOptions}
 use Rattle.plan_dsl.specs.Aliases.{core}
-use Rattle.plan_dsl.specs.Trees.{Tree, node, no_more, more, fold}
-use Rattle.plan_dsl.specs.Ops.{Expression}
+use Rattle.plan_dsl.specs.Trees.{Tree, node, no_more, more, children_from, fold}
+use Rattle.plan_dsl.specs.Ops.{Expression, FunctionOp}
 use Rattle.plan_dsl.specs.Expressions.{tree_of, trees_of, selector_trees}
 use Rattle.plan_dsl.specs.Names.{Label, label_of}
-use Rattle.plan_dsl.specs.Sources.{Source}
+use Rattle.plan_dsl.specs.declared.function_expr.FunctionExpr.{FunctionExpr}
+use Rattle.plan_dsl.specs.declared.function_expr.FunctionExpr.TheVariants.{AllHorizontal, FillNull, IsNotNull}
+use Rattle.plan_dsl.specs.Sources.{Plain, Source, WildcardOp}
 
 -- an expression of a node, with its name and what that comes from
 pub record Named (E : Type 0) : Type 0 where
@@ -106,6 +108,25 @@ source_filter source input = node (filter_op source) (more input no_more)
 
 abbrev pub source_drop : List Source → Bool → SourcePlan → SourcePlan
 source_drop selectors strict input = node (drop_op selectors strict) (more input no_more)
+
+-- a call of a function in a query
+abbrev pub source_call : FunctionExpr → List Source → Source
+source_call function sources = node (Plain (FunctionOp function [])) (children_from sources)
+
+abbrev pub any_column : Source
+any_column = node WildcardOp no_more
+
+abbrev pub is_known_value : Source → Source
+is_known_value source = source_call IsNotNull (source ∷ [])
+
+-- that none of some expressions is null, or no column
+abbrev pub all_known_values : Option (List Source) → Source
+all_known_values None = source_call AllHorizontal (is_known_value any_column ∷ [])
+all_known_values (Some sources) = source_call AllHorizontal (map is_known_value sources)
+
+-- each column, with a value in place of nulls
+abbrev pub nulls_filled : Source → Source
+nulls_filled value = source_call FillNull (any_column ∷ value ∷ [])
 
 -- a function over a plan
 abbrev pub source_function : DslFunction → SourcePlan → SourcePlan

@@ -17,7 +17,9 @@ use Rattle.plan_dsl.specs.declared.operator.Operator.{Operator}
 use Rattle.plan_dsl.specs.declared.operator.Operator.TheVariants.{Eq, EqValidity, NotEq, NotEqValidity, Lt, LtEq, Gt, GtEq, Plus, Minus, Multiply, Divide, FloorDivide, Modulus, And, Or, Xor, LogicalAnd, LogicalOr}
 use Rattle.plan_dsl.specs.declared.sort_options.SortOptions.{SortOptions}
 use Rattle.plan_dsl.specs.Trees.{Tree, Trees, node, no_more, more}
-use Rattle.plan_dsl.specs.Ops.{Op, ColumnOp, LiteralOp, BinaryOp, CastOp, LenOp, SliceOp, AliasOp, ExplodeOp, GatherOp, FilterOp, SortOp, SortByOp, AggOp, WindowOp}
+use Rattle.plan_dsl.specs.Functions.{function_writes, same_function}
+use Rattle.plan_dsl.specs.Labels.{Label, Origin, FromColumn, FromLiteral, FromAlias, FromField, FromNothing}
+use Rattle.plan_dsl.specs.Ops.{Op, ColumnOp, LiteralOp, BinaryOp, CastOp, LenOp, SliceOp, AliasOp, ExplodeOp, GatherOp, FilterOp, SortOp, SortByOp, AggOp, WindowOp, TernaryOp, FunctionOp}
 use Rattle.plan_dsl.specs.Literals.{literal_type, literal_value}
 
 -- ---- what is one
@@ -90,6 +92,17 @@ same_flags left right = pointwise beq left right
 abbrev pub same_literal : LiteralValue → LiteralValue → Bool
 same_literal left right = same_type (literal_type left) (literal_type right) && same_value (literal_value left) (literal_value right)
 
+-- whether two names are one, from the same
+abbrev pub origin_rank : Origin → ℕ
+origin_rank FromColumn = 0
+origin_rank FromLiteral = 1
+origin_rank FromAlias = 2
+origin_rank FromField = 3
+origin_rank FromNothing = 4
+
+abbrev pub same_label : Label → Label → Bool
+same_label left right = bytes_eq left.name right.name && origin_rank left.origin == origin_rank right.origin
+
 -- whether two nodes do the same
 abbrev pub same_op : Op → Op → Bool
 same_op (ColumnOp name) (ColumnOp other) = bytes_eq name other
@@ -106,6 +119,8 @@ same_op (SortByOp descending nulls_last) (SortByOp other others) = same_flags de
 same_op (WindowOp order) (WindowOp other) = same_order order other
 same_op (AliasOp name) (AliasOp other) = bytes_eq name other
 same_op (AggOp method) (AggOp other) = same_method method other
+same_op TernaryOp TernaryOp = true
+same_op (FunctionOp function recorded) (FunctionOp other others) = same_function function other && pointwise same_label recorded others
 same_op op other = false
 
 -- whether two trees have nodes that do the same, by that test, over as many children
@@ -153,6 +168,8 @@ op_writes (AliasOp name) = fed.u8 10 ++ fed.str (encode_utf8_all name)
 op_writes (SortByOp descending nulls_last) = fed.u8 11 ++ (fed.slice fed.bool descending ++ fed.slice fed.bool nulls_last)
 op_writes (AggOp method) = fed.u8 21 ++ fed.u8 (method_rank method)
 op_writes (WindowOp order) = fed.u8 22 ++ order_writes order
+op_writes TernaryOp = fed.u8 23
+op_writes (FunctionOp function recorded) = fed.u8 24 ++ function_writes function
 
 -- each node, before its children
 abbrev mutual

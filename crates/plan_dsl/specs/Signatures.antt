@@ -7,14 +7,18 @@ use Rattle.plan_types.specs.declared.error.ErrorKind.TheVariants.{SchemaMismatch
 use Rattle.plan_dsl.specs.declared.aggregate.GroupByMethod.{GroupByMethod}
 use Rattle.plan_dsl.specs.declared.aggregate.GroupByMethod.TheVariants.{Min, NanMin, Max, NanMax, NUnique, First as FirstValue, Last, Implode, Sum, Count as CountValues, Groups}
 use Rattle.plan_dsl.specs.declared.signature.Ask.{Ask}
-use Rattle.plan_dsl.specs.declared.signature.Ask.TheVariants.{Any, Sortable, Boolean, Place, Length, Summable}
+use Rattle.plan_dsl.specs.declared.signature.Ask.TheVariants.{Any, Sortable, Boolean, Place, Length, Summable, Listed}
 use Rattle.plan_dsl.specs.declared.signature.Asked.{Asked}
 use Rattle.plan_dsl.specs.declared.signature.OwnType.{OwnType}
-use Rattle.plan_dsl.specs.declared.signature.OwnType.TheVariants.{First, Item, ListOf, Count, Total, Rows}
+use Rattle.plan_dsl.specs.declared.signature.OwnType.TheVariants.{First, Item, ListOf, Count, Total, Rows, Truths}
 use Rattle.plan_dsl.specs.declared.signature.Many.{Many}
-use Rattle.plan_dsl.specs.declared.signature.Many.TheVariants.{Never, Always, AsFirst}
+use Rattle.plan_dsl.specs.declared.signature.Many.TheVariants.{Never, Always, AsFirst, WhereAny}
+use Rattle.plan_dsl.specs.declared.signature.Sharing.{Sharing}
+use Rattle.plan_dsl.specs.declared.signature.Sharing.TheVariants.{Alone, WithSecond, WithThird}
 use Rattle.plan_dsl.specs.declared.signature.Signature.{Signature}
-use Rattle.plan_dsl.specs.Ops.{Op, LenOp, SliceOp, ExplodeOp, GatherOp, FilterOp, SortOp, SortByOp, AggOp, WindowOp}
+use Rattle.plan_dsl.specs.declared.function_expr.FunctionExpr.{FunctionExpr}
+use Rattle.plan_dsl.specs.declared.function_expr.FunctionExpr.TheVariants.{AllHorizontal, AnyHorizontal, IsNull, IsNotNull, FillNull, ShiftAndFill, ListGet}
+use Rattle.plan_dsl.specs.Ops.{Op, LenOp, SliceOp, ExplodeOp, GatherOp, FilterOp, SortOp, SortByOp, AggOp, WindowOp, TernaryOp, FunctionOp}
 use Rattle.plan_dsl.specs.Sorting.{are_for}
 
 -- the type of places and lengths
@@ -32,6 +36,10 @@ sum_type Truth = Integer false 32
 sum_type (Integer signed bits) = if nat_lt bits 32 then Integer true 64 else Integer signed bits
 sum_type type = type
 
+abbrev pub is_list : Ty → Bool
+is_list (ListType item) = true
+is_list type = false
+
 -- whether the type that an operand has alone is what is asked
 abbrev pub is_asked : Ask → Ty → Bool
 is_asked Any type = true
@@ -40,6 +48,7 @@ is_asked Boolean type = is_truth type || is_null type
 is_asked Place type = is_integer type
 is_asked Length type = is_integer type || is_null type
 is_asked Summable type = is_summable type
+is_asked Listed type = is_list type
 
 -- and the type to which it is taken
 abbrev pub asked_target : Ask → Ty → Ty
@@ -57,6 +66,7 @@ own_type ListOf type = ListType type
 own_type Count type = Integer false 32
 own_type Total type = sum_type type
 own_type Rows type = ListType (Integer false 32)
+own_type Truths type = Truth
 
 -- what is asked of an operand, of which there may be many values or must be one
 abbrev pub asks : Ask → Asked
@@ -73,7 +83,11 @@ asked_at signature place = signature.rest
 
 -- what is asked of the first operand, of the second and of each other, the own type, and whether there are many values
 abbrev pub takes : Asked → Asked → Asked → OwnType → Many → Result Signature ErrorKind
-takes first second rest own many = Ok (record { first = first; second = second; rest = rest; own = own; many = many })
+takes first second rest own many = Ok (record { first = first; second = second; rest = rest; own = own; many = many; sharing = Alone })
+
+-- the same where the first operand has a common type with another, which is the own type
+abbrev pub shares : Sharing → Asked → Asked → Asked → Many → Result Signature ErrorKind
+shares sharing first second rest many = Ok (record { first = first; second = second; rest = rest; own = First; many = many; sharing = sharing })
 
 -- whether a sort by so many keys has flags for them
 abbrev pub has_flags : List Bool → List Bool → ℕ → Bool
@@ -96,6 +110,24 @@ method_signature Sum = aggregated Summable Total
 method_signature (CountValues include_nulls) = aggregated Any Count
 method_signature Groups = aggregated Any Rows
 
+-- a horizontal over fewer operands than this is written out (`Aliases`), and has no signature
+abbrev pub least_horizontal : ℕ
+least_horizontal = 128
+
+abbrev pub horizontal_signature : ℕ → Result Signature ErrorKind
+horizontal_signature count = if nat_lt count least_horizontal then Err ComputeError else takes (asks Boolean) (asks Boolean) (asks Boolean) Truths WhereAny
+
+-- what a function asks of so many operands. Another number than its own is refused
+abbrev pub function_signature : FunctionExpr → ℕ → Result Signature ErrorKind
+function_signature IsNull (suc zero) = takes (asks Any) (asks Any) (asks Any) Truths WhereAny
+function_signature IsNotNull (suc zero) = takes (asks Any) (asks Any) (asks Any) Truths WhereAny
+function_signature FillNull (suc (suc zero)) = shares WithSecond (asks Any) (asks Any) (asks Any) WhereAny
+function_signature ShiftAndFill (suc (suc (suc zero))) = shares WithThird (asks Any) (asks_one Place) (asks_one Any) Always
+function_signature (ListGet null_on_oob) (suc (suc zero)) = takes (asks Listed) (asks Place) (asks Any) Item WhereAny
+function_signature AllHorizontal count = horizontal_signature count
+function_signature AnyHorizontal count = horizontal_signature count
+function_signature function count = Err ComputeError
+
 -- The signature of an op over so many operands. An op over another number of operands than its own, which no expression
 -- has, has none.
 abbrev pub signature : Op → ℕ → Result Signature ErrorKind
@@ -112,13 +144,16 @@ signature (AggOp method) (suc zero) = method_signature method
 signature (WindowOp None) (suc (suc keys)) = takes (asks Any) (asks Any) (asks Any) First Always
 signature (WindowOp (Some options)) (suc (suc (suc keys))) = takes (asks Any) (asks Sortable) (asks Any) First Always
 signature (WindowOp order) count = Err InvalidOperation
+signature TernaryOp (suc (suc (suc zero))) = shares WithThird (asks Any) (asks Boolean) (asks Any) WhereAny
+signature (FunctionOp function recorded) count = function_signature function count
 signature op count = Err SchemaMismatch
 
 -- the kinds that a node breaks whatever its children's types, and where they have none: that for which its op has no
--- signature, but for the number of the children
+-- signature, but for the number of the children, which is a function's rule where they have types
 abbrev pub unsigned_kinds : Result Signature ErrorKind → List ErrorKind
 unsigned_kinds (Err ComputeError) = ComputeError ∷ []
 unsigned_kinds found = []
 
 abbrev pub bare_kinds : Op → ℕ → List ErrorKind
+bare_kinds (FunctionOp function recorded) count = []
 bare_kinds op count = unsigned_kinds (signature op count)

@@ -8,7 +8,7 @@ use Rattle.std.proofs.lemmas.Bool.Decides.{Decides-int_eq}
 use Rattle.plan_types.specs.Types.{Ty, same_type}
 use Rattle.plan_types.specs.TypeLaws.{same_type_exact, same_type_own}
 use Rattle.plan_dsl.specs.ExpressionLaws.{same_op_exact, same_op_own, same_tree_exact, same_tree_own}
-use Rattle.plan_dsl.specs.Sources.{Excluded, ExcludedName, ExcludedType, SetRule, Add, Sub, Intersect, ExclusiveOr, Renaming, KeepRoot, AddPrefix, AddSuffix, SetName, SourceOp, Plain, WildcardOp, ColumnsOp, DtypeColumnOp, IndexColumnOp, NthOp, ExcludeOp, SelectorOp, RootOp, SetOp, RenameOp, Source, same_excluded, same_rule, same_renaming, same_source_op, same_source}
+use Rattle.plan_dsl.specs.Sources.{Excluded, ExcludedName, ExcludedType, SetRule, Add, Sub, Intersect, ExclusiveOr, Renaming, KeepRoot, AddPrefix, AddSuffix, SetName, SourceOp, Plain, WildcardOp, ColumnsOp, DtypeColumnOp, IndexColumnOp, NthOp, ExcludeOp, SelectorOp, RootOp, SetOp, RenameOp, FieldAtOp, Source, same_excluded, same_rule, same_renaming, same_source_op, same_source}
 
 -- a test that is true of equal things alone, and of each with itself, decides whether two are one
 decided : {A : Type 0} (test : A → A → Bool) → ((a b : A) → test a b ≡ true → a ≡ b) → ((a : A) → test a a ≡ true) → (a b : A) → Decides (test a b) (a ≡ b)
@@ -68,6 +68,7 @@ same_source_op_exact SelectorOp SelectorOp h = refl
 same_source_op_exact RootOp RootOp h = refl
 same_source_op_exact (SetOp rule) (SetOp other) h = ap SetOp (same_rule_exact rule other h)
 same_source_op_exact (RenameOp renaming) (RenameOp other) h = ap RenameOp (same_renaming_exact renaming other h)
+same_source_op_exact (FieldAtOp place) (FieldAtOp other) h = ap FieldAtOp ((Decides-int_eq place other).0 h)
 same_source_op_exact _ _ h = cc
 
 pub same_source_op_own : (a : SourceOp) → same_source_op a a ≡ true
@@ -82,6 +83,7 @@ same_source_op_own SelectorOp = refl
 same_source_op_own RootOp = refl
 same_source_op_own (SetOp rule) = same_rule_own rule
 same_source_op_own (RenameOp renaming) = same_renaming_own renaming
+same_source_op_own (FieldAtOp place) = (Decides-int_eq place place).1 refl
 
 pub same_source_exact : (tree other : Source) → same_source tree other ≡ true → tree ≡ other
 same_source_exact = same_tree_exact same_source_op same_source_op_exact

@@ -1,6 +1,7 @@
 -- Expressions as queries write them.
 -- A source expression has ops of its own beside those of plans. A marker stands for columns of a schema, a selector makes
 -- one list of names of others, and a renaming form gives an expression the name of its first column, as it is or changed.
+-- A struct's field may be told by its place.
 -- Expansion leaves none of them.
 use Rattle.std.specs.Prelude.{ℕ, ℤ, List, ◌++◌, Bool, true, false, ◌&&◌, encode_utf8_all}
 use Rattle.std.specs.Hash as fed
@@ -10,6 +11,8 @@ use Rattle.plan_types.specs.Types.{Ty, same_type, type_writes}
 use Rattle.plan_types.specs.Schemas.{Name, same_name}
 use Rattle.plan_dsl.specs.Trees.{Tree, Trees, node, no_more, more}
 use Rattle.plan_dsl.specs.Ops.{Op, LenOp, Expression}
+use Rattle.plan_dsl.specs.declared.function_expr.FunctionExpr.TheVariants.{FieldByIndex}
+use Rattle.plan_dsl.specs.Functions.{function_writes}
 use Rattle.plan_dsl.specs.SameExpressions.{same_op, same_tree, op_writes, tree_writes}
 
 -- what an exclude leaves out: the column of a name, or those of a type
@@ -45,6 +48,7 @@ pub data SourceOp : Type 0 where
   RootOp : SourceOp
   SetOp : (rule : SetRule) → SourceOp
   RenameOp : (renaming : Renaming) → SourceOp
+  FieldAtOp : (place : ℤ) → SourceOp
 
 abbrev pub Source : Type 0
 Source = Tree SourceOp
@@ -118,6 +122,7 @@ same_source_op SelectorOp SelectorOp = true
 same_source_op RootOp RootOp = true
 same_source_op (SetOp rule) (SetOp other) = same_rule rule other
 same_source_op (RenameOp renaming) (RenameOp other) = same_renaming renaming other
+same_source_op (FieldAtOp place) (FieldAtOp other) = int_eq place other
 same_source_op op other = false
 
 -- whether two source expressions are one
@@ -154,6 +159,7 @@ source_op_writes (ExcludeOp excluded) = fed.u8 16 ++ fed.slice excluded_writes e
 source_op_writes (NthOp place) = fed.u8 18 ++ fed.i64 place
 source_op_writes (RenameOp renaming) = renaming_writes renaming
 source_op_writes SelectorOp = fed.u8 20
+source_op_writes (FieldAtOp place) = fed.u8 24 ++ function_writes (FieldByIndex place)
 source_op_writes RootOp = fed.u8 0
 source_op_writes (SetOp rule) = fed.u8 (rule_rank rule)
 

@@ -1,24 +1,29 @@
 -- Types of expressions.
 -- Typing goes from the leaves up by one rule for a node. The first child that is refused is the answer.
-use Rattle.std.specs.Prelude.{ℕ, suc, Bool, true, false, ◌&&◌, ◌||◌, List, [], ◌∷◌, ◌++◌, map, length, Option, Some, None, Result, Ok, Err, if◌then◌else◌}
+use Rattle.std.specs.Prelude.{ℕ, zero, suc, Bool, true, false, ◌&&◌, ◌||◌, List, [], ◌∷◌, ◌++◌, map, length, Option, Some, None, Result, Ok, Err, if◌then◌else◌}
 use Rattle.plan_types.specs.Types.{Ty, NullType, is_known}
 use Rattle.plan_types.specs.Values.{Val}
 use Rattle.plan_types.specs.Schemas.{Columns, type_at}
 use Rattle.plan_types.specs.Casts.{can_cast}
-use Rattle.plan_types.specs.CommonTypes.{type_alone}
+use Rattle.plan_types.specs.CommonTypes.{common_type, type_alone}
 use Rattle.plan_types.specs.declared.error.ErrorKind.{ErrorKind}
-use Rattle.plan_types.specs.declared.error.ErrorKind.TheVariants.{ColumnNotFound, InvalidOperation}
+use Rattle.plan_types.specs.declared.error.ErrorKind.TheVariants.{ColumnNotFound, SchemaMismatch, InvalidOperation}
+use Rattle.plan_dsl.specs.declared.function_expr.FunctionExpr.{FunctionExpr}
+use Rattle.plan_dsl.specs.declared.function_expr.FunctionExpr.TheVariants.{IsIn, FieldByName}
+use Rattle.plan_dsl.specs.FunctionTypes.{field_taken, is_in_taken}
 use Rattle.plan_dsl.specs.OperatorTypes.{Taken, operator_types}
 use Rattle.plan_dsl.specs.Literals.{is_literal}
 use Rattle.plan_dsl.specs.Registry.{Registry}
 use Rattle.plan_dsl.specs.Trees.{Trees, node, no_more, more, tree_count}
-use Rattle.plan_dsl.specs.Ops.{Op, ColumnOp, LiteralOp, BinaryOp, CastOp, AliasOp, Expression}
+use Rattle.plan_dsl.specs.Ops.{Op, ColumnOp, LiteralOp, BinaryOp, CastOp, AliasOp, FunctionOp, Expression}
 use Rattle.plan_dsl.specs.declared.signature.Ask.{Ask}
 use Rattle.plan_dsl.specs.declared.signature.Asked.{Asked}
 use Rattle.plan_dsl.specs.declared.signature.Many.{Many}
 use Rattle.plan_dsl.specs.declared.signature.Many.TheVariants.{Never, Always, AsFirst, WhereAny}
+use Rattle.plan_dsl.specs.declared.signature.Sharing.{Sharing}
+use Rattle.plan_dsl.specs.declared.signature.Sharing.TheVariants.{Alone, WithSecond, WithThird}
 use Rattle.plan_dsl.specs.declared.signature.Signature.{Signature}
-use Rattle.plan_dsl.specs.Signatures.{asked_at, asked_target, bare_kinds, is_asked, own_type, signature}
+use Rattle.plan_dsl.specs.Signatures.{asked_at, asked_target, bare_kinds, function_signature, is_asked, own_type, signature}
 
 -- an expression's type, and whether its column may have another length than one
 pub record Typed : Type 0 where
@@ -69,8 +74,28 @@ abbrev pub taken_alone : Ask → Option Ty → Option Ty
 taken_alone ask None = None
 taken_alone ask (Some type) = if is_asked ask type then Some (asked_target ask type) else None
 
-abbrev pub taken_by : Asked → Typed → Option Ty
-taken_by asked operand = if asked.one && operand.many then None else taken_alone asked.ask (type_alone operand.type)
+-- the type to which two operands are taken that share one; where none do it doesn't matter
+abbrev pub shared_type : Sharing → List Typed → Result Ty ErrorKind
+shared_type Alone typed = Ok NullType
+shared_type WithSecond (first ∷ second ∷ rest) = common_type first.type second.type
+shared_type WithThird (first ∷ second ∷ third ∷ rest) = common_type first.type third.type
+shared_type sharing typed = Err SchemaMismatch
+
+-- that type, where the operand at the place has it
+abbrev pub shared_at : Sharing → Ty → ℕ → Option Ty
+shared_at WithSecond shared zero = Some shared
+shared_at WithSecond shared (suc zero) = Some shared
+shared_at WithThird shared zero = Some shared
+shared_at WithThird shared (suc (suc zero)) = Some shared
+shared_at sharing shared place = None
+
+-- the type to which an operand is taken: the shared one, or what goes with its own
+abbrev pub taken_as : Option Ty → Ask → Ty → Option Ty
+taken_as None ask type = taken_alone ask (type_alone type)
+taken_as (Some shared) ask type = Some shared
+
+abbrev pub taken_by : Option Ty → Asked → Typed → Option Ty
+taken_by shared asked operand = if asked.one && operand.many then None else taken_as shared asked.ask operand.type
 
 -- one more type in front
 abbrev pub type_before : Option Ty → Option (List Ty) → Option (List Ty)
@@ -79,9 +104,10 @@ type_before (Some type) None = None
 type_before (Some type) (Some types) = Some (type ∷ types)
 
 -- the types to which operands are taken, of which the first has that place
-abbrev pub taken_from : Signature → ℕ → List Typed → Option (List Ty)
-taken_from signature place [] = Some []
-taken_from signature place (t ∷ ts) = type_before (taken_by (asked_at signature place) t) (taken_from signature (suc place) ts)
+abbrev pub taken_from : Ty → Signature → ℕ → List Typed → Option (List Ty)
+taken_from shared signature place [] = Some []
+taken_from shared signature place (t ∷ ts) =
+    type_before (taken_by (shared_at signature.sharing shared place) (asked_at signature place) t) (taken_from shared signature (suc place) ts)
 
 -- the first operand, which matters to no kind without operands
 abbrev pub first_of : List Typed → Typed
@@ -103,13 +129,23 @@ abbrev pub signed_to : Signature → List Typed → Option (List Ty) → Result 
 signed_to signature typed None = Err InvalidOperation
 signed_to signature typed (Some targets) = Ok (record { operands = targets; own = own_over signature (typed_to typed targets) })
 
+abbrev pub signed_sharing : Signature → List Typed → Result Ty ErrorKind → Result Ruling ErrorKind
+signed_sharing signature typed (Err kind) = Err kind
+signed_sharing signature typed (Ok shared) = signed_to signature typed (taken_from shared signature 0 typed)
+
 abbrev pub signed : Result Signature ErrorKind → List Typed → Result Ruling ErrorKind
 signed (Err kind) typed = Err kind
-signed (Ok signature) typed = signed_to signature typed (taken_from signature 0 typed)
+signed (Ok signature) typed = signed_sharing signature typed (shared_type signature.sharing typed)
 
 -- an alias passes its operand on, a number without a type too
 abbrev pub aliased : Typed → Ruling
 aliased input = record { operands = input.type ∷ []; own = input }
+
+-- a function has a signature, but the one that tells whether a value is in another operand, and the one that takes a field
+abbrev pub function_rule : FunctionExpr → List Typed → Result Ruling ErrorKind
+function_rule IsIn (value ∷ among ∷ []) = ruled_as (is_in_taken (type_alone value.type) (type_alone among.type)) (some_many (value ∷ among ∷ []))
+function_rule (FieldByName name) (from ∷ []) = ruled_as (field_taken name (type_alone from.type)) from.many
+function_rule function typed = signed (function_signature function (length typed)) typed
 
 -- The types to which a node takes operands that are typed so, and its own typing: of a kind without a clause here, by its
 -- signature.
@@ -119,6 +155,7 @@ rule registry schema (LiteralOp type value) [] = ruled_as (literal_taken type va
 rule registry schema (BinaryOp operator) typed = ruled_as (operator_types operator (types_of typed)) (some_many typed)
 rule registry schema (CastOp target options) (from ∷ []) = ruled_as (cast_taken target (type_alone from.type)) from.many
 rule registry schema (AliasOp name) (input ∷ []) = Ok (aliased input)
+rule registry schema (FunctionOp function recorded) typed = function_rule function typed
 rule registry schema op typed = signed (signature op (length typed)) typed
 
 abbrev pub own_typed : Result Ruling ErrorKind → Result Typed ErrorKind

@@ -7,9 +7,12 @@ use Rattle.std.proofs.lemmas.Cmp.{on_equiv}
 use Rattle.plan_types.specs.TypeLaws.{equivalence_from_exact}
 use Rattle.plan_dsl.specs.declared.aggregate.AggExpr.{AggExpr}
 use Rattle.plan_dsl.specs.declared.expr.Expr.{Expr}
+use Rattle.plan_dsl.specs.declared.function_expr.FunctionExpr.{FunctionExpr}
 use Rattle.plan_dsl.specs.declared.marker.Excluded.{Excluded}
 use Rattle.plan_dsl.specs.declared.marker.RenameAliasFn.{RenameAliasFn}
 use Rattle.plan_dsl.specs.declared.selector.Selector.{Selector}
+use Rattle.plan_dsl.specs.ExpressionLaws.{same_function_exact, same_function_own}
+use Rattle.plan_dsl.specs.Functions.{function_writes, same_function}
 use Rattle.plan_dsl.specs.Expressions.{excluded_of, renaming_of, tree_of, agg_tree, selector_tree}
 use Rattle.plan_dsl.specs.Sources.{same_excluded, same_renaming, same_source, excluded_writes, renaming_writes, source_writes}
 use Rattle.plan_dsl.specs.SourceLaws.{same_excluded_exact, same_excluded_own, same_renaming_exact, same_renaming_own, same_source_exact, same_source_own}
@@ -41,6 +44,13 @@ same_excluded_is_equivalence = on_equiv excluded_of (equivalence_from_exact same
 
 pub same_excluded_hash : (a b : Excluded) → same_excluded (excluded_of a) (excluded_of b) ≡ true → excluded_writes (excluded_of a) ≡ excluded_writes (excluded_of b)
 same_excluded_hash a b h = ap excluded_writes (same_excluded_exact (excluded_of a) (excluded_of b) h)
+
+-- of functions
+pub same_function_is_equivalence : IsEquivalence same_function
+same_function_is_equivalence = equivalence_from_exact same_function same_function_exact same_function_own
+
+pub same_function_hash : (a b : FunctionExpr) → same_function a b ≡ true → function_writes a ≡ function_writes b
+same_function_hash a b h = ap function_writes (same_function_exact a b h)
 
 -- and of renaming forms
 pub same_renaming_is_equivalence : IsEquivalence (on renaming_of same_renaming)

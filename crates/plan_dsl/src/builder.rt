@@ -1,13 +1,15 @@
 //! Plans that are built call by call.
-ghost use Rattle.std.specs.Prelude.{◌≡◌, ◌<◌, ◌∷◌, map, vec_len, IfOk, IfErr};
+ghost use Rattle.std.specs.Prelude.{◌≡◌, ◌<◌, [], ◌∷◌, map, vec_len, false, IfOk, IfErr};
+ghost use Rattle.std.specs.Option.{option_map};
 ghost use Rattle.plan_types.specs.Errors.{no_memory};
 ghost use Rattle.plan_types.specs.Schemas.{columns};
 ghost use Rattle.plan_dsl.specs.Expressions.{selector_tree, tree_of};
-ghost use Rattle.plan_dsl.specs.Plans.{OrderOption, ProjectionOption, plan_tree, options_in, scan_op, source_drop, source_filter, source_group_by, source_hstack, source_select};
+ghost use Rattle.plan_dsl.specs.Plans.{OrderOption, ProjectionOption, all_known_values, is_known_value, nulls_filled, source_call, plan_tree, options_in, scan_op, source_drop, source_filter, source_group_by, source_hstack, source_select};
 ghost use Rattle.plan_dsl.specs.Trees.{node, no_more};
 
 use crate::expr::{Expr, Exprs};
 use crate::function::{DropFunction, DslFunction};
+use crate::function_expr::FunctionExpr;
 use crate::plan::{DslPlan, ProjectionOptions};
 use crate::selector::{Selector, Selectors};
 use plan_types::error::PlanError;
@@ -105,6 +107,58 @@ impl DslBuilder {
         }
     }
 
+    /// The rows in which none of the expressions is null, and without a list of them no column. An empty list keeps all
+    /// rows.
+    pub fn drop_nulls(
+        self,
+        alloc: Global,
+        subset: Option<Vec<Expr>>,
+    ) -> Result<DslBuilder, PlanError>
+        ensures ok { IfOk result (λ built. plan_tree built.0 ≡ source_filter (all_known_values (option_map (λ exprs. map tree_of exprs.items) subset)) (plan_tree self.0)) }
+        ensures options { IfOk result (λ built. options_in built.0 ≡ options_in self.0) }
+        ensures err { IfErr result (λ error. error ≡ no_memory) }
+    {
+        match subset {
+            Some(exprs) => self.known_in(alloc, exprs),
+            None => {
+                let all = vec![in alloc; Expr::Wildcard]?;
+                self.known_in(alloc, all)
+            }
+        }
+    }
+
+    // The rows in which none of the expressions is null.
+    fn known_in(self, alloc: Global, exprs: Vec<Expr>) -> Result<DslBuilder, PlanError>
+        ensures ok { IfOk result (λ built. plan_tree built.0 ≡ source_filter (source_call FunctionExpr.AllHorizontal (map is_known_value (map tree_of exprs.items))) (plan_tree self.0)) }
+        ensures options { IfOk result (λ built. options_in built.0 ≡ options_in self.0) }
+        ensures err { IfErr result (λ error. error ≡ no_memory) }
+    {
+        let input = each_not_null(alloc, exprs)?;
+        let predicate = Expr::Function {
+            input: Exprs { items: input },
+            function: FunctionExpr::AllHorizontal,
+        };
+        self.filter(alloc, predicate)
+    }
+
+    /// Each column, with the value in place of its nulls.
+    pub fn fill_null(self, alloc: Global, value: Expr) -> Result<DslBuilder, PlanError>
+        ensures ok { IfOk result (λ built. plan_tree built.0 ≡ source_select (nulls_filled (tree_of value) ∷ []) (plan_tree self.0)) }
+        ensures options { IfOk result (λ built. options_in built.0 ≡ ProjectionOption (record { duplicate_check = false }) ∷ options_in self.0) }
+        ensures err { IfErr result (λ error. error ≡ no_memory) }
+    {
+        let input = vec![in alloc; Expr::Wildcard, value]?;
+        let filled = Expr::Function {
+            input: Exprs { items: input },
+            function: FunctionExpr::FillNull,
+        };
+        let exprs = vec![in alloc; filled]?;
+        let options = ProjectionOptions {
+            duplicate_check: false,
+        };
+        self.project(alloc, exprs, options)
+    }
+
     /// Without the columns that the selectors name. Where it is strict, each of them must stand.
     pub fn drop(
         self,
@@ -130,6 +184,31 @@ impl DslBuilder {
     {
         self.0
     }
+}
+
+// That each of the expressions isn't null.
+fn each_not_null(alloc: Global, exprs: Vec<Expr>) -> Result<Vec<Expr>, PlanError>
+    ensures ok { IfOk result (λ tests. map tree_of tests.items ≡ map is_known_value (map tree_of exprs.items)) }
+    ensures err { IfErr result (λ error. error ≡ no_memory) }
+{
+    let mut tests = Vec::with_capacity(alloc, exprs.len())?;
+    for expr in exprs {
+        let test = not_null(alloc, expr)?;
+        tests.push(test)?;
+    }
+    Ok(tests)
+}
+
+// That an expression isn't null.
+fn not_null(alloc: Global, expr: Expr) -> Result<Expr, PlanError>
+    ensures ok { IfOk result (λ test. tree_of test ≡ is_known_value (tree_of expr)) }
+    ensures err { IfErr result (λ error. error ≡ no_memory) }
+{
+    let input = vec![in alloc; expr]?;
+    Ok(Expr::Function {
+        input: Exprs { items: input },
+        function: FunctionExpr::IsNotNull,
+    })
 }
 
 impl From<DslPlan> for DslBuilder {

@@ -101,7 +101,11 @@ fn has_several(expr: &Expr) -> bool
 {
     matches!(
         expr,
-        Expr::BinaryExpr { .. } | Expr::Slice { .. } | Expr::Gather { .. } | Expr::Filter { .. }
+        Expr::BinaryExpr { .. }
+            | Expr::Slice { .. }
+            | Expr::Gather { .. }
+            | Expr::Filter { .. }
+            | Expr::Ternary { .. }
     )
 }
 
@@ -109,7 +113,10 @@ fn has_several(expr: &Expr) -> bool
 fn has_list(expr: &Expr) -> bool
     ensures { result ≡ has_list (top_op (tree_of expr.now)) }
 {
-    matches!(expr, Expr::SortBy { .. } | Expr::Window { .. })
+    matches!(
+        expr,
+        Expr::SortBy { .. } | Expr::Window { .. } | Expr::Function { .. }
+    )
 }
 
 // A copy of a node with one operand.
@@ -205,6 +212,18 @@ fn several_copied(
             let (input, by) = two_copied(input, by, column, alloc)?;
             Ok(Expr::Filter { input, by })
         }
+        Expr::Ternary {
+            predicate,
+            truthy,
+            falsy,
+        } => {
+            let (truthy, predicate, falsy) = three_copied(truthy, predicate, falsy, column, alloc)?;
+            Ok(Expr::Ternary {
+                predicate,
+                truthy,
+                falsy,
+            })
+        }
         _ => unreachable!(),
     }
 }
@@ -243,6 +262,13 @@ fn list_copied(expr: &Expr, column: Option<&PlSmallStr>, alloc: Global) -> Resul
                 partition_by,
                 order_by,
                 options: *options,
+            })
+        }
+        Expr::Function { input, function } => {
+            let input = exprs_copied(input, column, alloc)?;
+            Ok(Expr::Function {
+                input,
+                function: function.try_clone(alloc)?,
             })
         }
         _ => unreachable!(),

@@ -12,6 +12,7 @@ ghost use Rattle.plan_types.specs.Errors.{no_memory};
 
 use crate::aggregate::{AggExpr, method_rank};
 use crate::copies::{copied, exprs_copied};
+use crate::function_expr::FunctionExpr;
 use crate::literal::LiteralValue;
 use crate::marker::{Excluded, RenameAliasFn};
 use crate::operator::Operator;
@@ -40,7 +41,7 @@ impl Exprs {
         Ok(copy)
     }
 
-    // Whether none has a marker or a renaming form.
+    // Whether none has a marker, a renaming form or a field at a place.
     #[cycle(plain_exprs)]
     fn are_plain(&self) -> bool
         ensures { result ≡ list_all is_plain (trees_of self.now) }
@@ -149,6 +150,17 @@ pub enum Expr {
         order_by: Option<(Box<Expr>, SortOptions)>,
         options: WindowType,
     },
+    /// The truthy values where the predicate is true, and the falsy ones elsewhere.
+    Ternary {
+        predicate: Box<Expr>,
+        truthy: Box<Expr>,
+        falsy: Box<Expr>,
+    },
+    /// A function of the values of expressions.
+    Function {
+        input: Exprs,
+        function: FunctionExpr,
+    },
     /// A marker: the columns of these names, whether they stand or not.
     Columns(Vec<PlSmallStr>),
     /// A marker: the columns of one of these types.
@@ -200,6 +212,13 @@ macro_rules! compared {
                 Expr::Window { function, partition_by, order_by, .. },
                 Expr::Window { function: own, partition_by: own_keys, order_by: own_order, .. },
             ) => is_same_order(order_by, own_order) && function.is_same(own) && partition_by.is_same(own_keys),
+            (
+                Expr::Ternary { predicate, truthy, falsy },
+                Expr::Ternary { predicate: own, truthy: own_truthy, falsy: own_falsy },
+            ) => truthy.is_same(own_truthy) && predicate.is_same(own) && falsy.is_same(own_falsy),
+            (Expr::Function { input, function }, Expr::Function { input: own, function: own_function }) => {
+                *function == *own_function && input.is_same(own)
+            }
             _ => false,
         }
     };
@@ -248,6 +267,7 @@ macro_rules! feed_operands {
                 feed_order(order_by, $state);
                 partition_by.feed($state);
             }
+            Expr::Function { input, .. } => input.feed($state),
         }
     };
 }
@@ -270,7 +290,7 @@ impl Expr {
         Ok(copy)
     }
 
-    /// Whether it has neither a marker nor a renaming form.
+    /// Whether it has neither a marker, a renaming form nor a field at a place.
     #[cycle(plain_exprs)]
     pub fn is_plain(&self) -> bool
         ensures { result ≡ is_plain (tree_of self.now) }
@@ -296,6 +316,12 @@ impl Expr {
                 order_by,
                 ..
             } => { function.is_plain() && is_plain_order(order_by) && partition_by.are_plain() }
+            Expr::Ternary {
+                predicate,
+                truthy,
+                falsy,
+            } => truthy.is_plain() && predicate.is_plain() && falsy.is_plain(),
+            Expr::Function { input, function } => function.is_expanded() && input.are_plain(),
             Expr::Columns(_)
             | Expr::DtypeColumn(_)
             | Expr::IndexColumn(_)
@@ -340,6 +366,7 @@ impl Expr {
             Sort { expr }
             SortBy { expr, by }
             RenameAlias { expr }
+            Ternary { truthy, predicate, falsy }
         )
     }
 
@@ -365,6 +392,10 @@ impl Expr {
                 Expr::Window { order_by, .. } => {
                     state.write_u8(22);
                     feed_way(order_by, state);
+                },
+                Expr::Function { function, .. } => {
+                    state.write_u8(24);
+                    function.hash(state);
                 }
             ],
             Expr::Column(name) => 0 [name]
@@ -385,6 +416,7 @@ impl Expr {
             Expr::KeepName(_) => 17 []
             Expr::Nth(place) => 18 [place]
             Expr::Selector(_) => 20 []
+            Expr::Ternary { .. } => 23 []
         )
     }
 }

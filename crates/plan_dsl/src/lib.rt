@@ -7,6 +7,8 @@ mod copies;
 mod examples;
 pub mod expr;
 pub mod function;
+pub mod function_expr;
+pub mod function_options;
 pub mod laws;
 pub mod literal;
 pub mod marker;

@@ -1,6 +1,6 @@
 //! What a kind of expression asks of its operands, and what it makes of them.
 ghost use Rattle.std.specs.Prelude.{◌≡◌};
-ghost use Rattle.plan_dsl.specs.Signatures.{asked_at, asks, asks_one, takes};
+ghost use Rattle.plan_dsl.specs.Signatures.{asked_at, asks, asks_one, shares, takes};
 
 use plan_types::error::ErrorKind;
 
@@ -19,6 +19,8 @@ pub enum Ask {
     Length,
     /// A type whose values are added up: an integer, truth values or a span of time, which is kept.
     Summable,
+    /// A type of lists, which is kept.
+    Listed,
 }
 
 /// What is asked of an operand.
@@ -44,6 +46,17 @@ pub enum OwnType {
     Total,
     /// Lists of row numbers.
     Rows,
+    /// Truth values.
+    Truths,
+}
+
+/// Which operand is taken to the common type of the first operand and itself, with the first. What is asked of the types
+/// of these two is nothing else.
+#[derive(Clone, Copy)]
+pub enum Sharing {
+    Alone,
+    WithSecond,
+    WithThird,
 }
 
 /// Whether the column of a kind may have another length than one.
@@ -66,6 +79,7 @@ pub struct Signature {
     pub rest: Asked,
     pub own: OwnType,
     pub many: Many,
+    pub sharing: Sharing,
 }
 
 impl Signature {
@@ -111,5 +125,26 @@ pub fn takes(
         rest,
         own,
         many,
+        sharing: Sharing::Alone,
+    })
+}
+
+/// The same of a kind whose first operand has a common type with another, which is its own.
+pub fn shares(
+    sharing: Sharing,
+    first: Asked,
+    second: Asked,
+    rest: Asked,
+    many: Many,
+) -> Result<Signature, ErrorKind>
+    ensures { result ≡ shares sharing first second rest many }
+{
+    Ok(Signature {
+        first,
+        second,
+        rest,
+        own: OwnType::First,
+        many,
+        sharing,
     })
 }

@@ -14,16 +14,17 @@ use Rattle.plan_types.specs.Schemas.{Name, Columns, same_name, names_of}
 use Rattle.plan_types.specs.declared.error.ErrorKind.{ErrorKind}
 use Rattle.plan_types.specs.declared.error.ErrorKind.TheVariants.{InvalidOperation}
 use Rattle.plan_types.specs.declared.error.PlanError.{PlanError}
-use Rattle.plan_dsl.specs.Expansion.{markers_in, with_column_put, repeated_for, plain, root_name, name_given, under_alias, aliased, key_name, key_names, expansion, expansions, only_one, predicate_expansion}
+use Rattle.plan_dsl.specs.Expansion.{all_in_place, as_expression, expanded_alone, in_place, is_marker, over_inputs, spread, spreads, markers_in, with_column_put, repeated_for, plain, root_name, name_given, under_alias, aliased, key_name, key_names, expansion, expansions, only_one, predicate_expansion}
 use Rattle.plan_dsl.specs.Expressions.{tree_of, plain_tree, renaming_of}
 use Rattle.plan_dsl.specs.Markers.{once, names_of_types, without_excluded, is_exclude, set_of, marker_names, selector_names}
 use Rattle.plan_dsl.specs.Ops.{ColumnOp, AliasOp, Expression}
 use Rattle.plan_dsl.specs.Refusals.{then_ok, each_ok, joined, with_kinds}
 use Rattle.plan_dsl.specs.SourceLaws.{same_source_decides}
-use Rattle.plan_dsl.specs.Sources.{Renaming, KeepRoot, Plain, WildcardOp, ColumnsOp, DtypeColumnOp, IndexColumnOp, NthOp, ExcludeOp, SelectorOp, RootOp, SetOp, Source, is_plain, same_source, unwritten}
-use Rattle.plan_dsl.specs.Trees.{node, no_more, more}
+use Rattle.plan_dsl.specs.Sources.{Renaming, KeepRoot, Plain, WildcardOp, ColumnsOp, DtypeColumnOp, IndexColumnOp, NthOp, ExcludeOp, SelectorOp, RootOp, SetOp, Source, SourceOp, is_plain, same_source, unwritten, written}
+use Rattle.plan_dsl.specs.Trees.{Trees, children_from, node, no_more, more}
 use Rattle.plan_dsl.specs.declared.expr.Expr.{Expr, Column, KeepName, RenameAlias}
-use Rattle.plan_dsl.specs.declared.expr.Expr.TheVariants.{KeepName', RenameAlias'}
+use Rattle.plan_dsl.specs.declared.expr.Expr.TheVariants.{Function', KeepName', RenameAlias'}
+use Rattle.plan_dsl.specs.declared.function_expr.FunctionExpr.TheVariants.{FieldByIndex}
 use Rattle.plan_dsl.specs.declared.marker.RenameAliasFn.{RenameAliasFn}
 use Rattle.plan_dsl.specs.declared.marker.RenameAliasFn.TheVariants.{Prefix, Suffix}
 use Rattle.plan_dsl.proofs.ExpansionLemmas.{plain_found, plain_is_written, written_is_expanded, others_are_refused}
@@ -37,6 +38,7 @@ use Rattle.plan_expand.proofs.OnceLemmas.{without_once}
 
 pub no_key : (expr : Expr) → ((name : PlSmallStr) → expr ≡ Column name → ⊥) → key_name (tree_of expr) ≡ []
 no_key (Column name) other = absurd (other name refl)
+no_key (Function' shape input (FieldByIndex place)) other = refl
 no_key _ other = refl
 
 -- one more key
@@ -71,8 +73,37 @@ repeated_once keys schema source [] = refl
 repeated_once keys schema source (marker ∷ others) =
     λ i. cond (list_all (same_source marker) others) (then_ok (marker_once keys schema marker i) (λ names. Ok (map (λ name. with_column_put name source) names))) (Err InvalidOperation)
 
+alone_once : (keys : List Name) (schema : Columns) (source : Source) → expanded_alone (once keys) schema source ≡ expanded_alone keys schema source
+alone_once keys schema source = ap (λ r. then_ok r (each_ok (as_expression schema))) (repeated_once keys schema source (markers_in source))
+
+spread_once : (keys : List Name) (schema : Columns) (sources : Trees SourceOp) → spread (once keys) schema sources ≡ spread keys schema sources
+spread_once keys schema no_more = refl
+spread_once keys schema (more source rest) =
+    λ i. then_ok (alone_once keys schema source i) (λ first. then_ok (spread_once keys schema rest i) (λ others. Ok (first ++ others)))
+
+over_once : (keys : List Name) (schema : Columns) (op : SourceOp) (sources : Trees SourceOp) → over_inputs (once keys) schema op sources ≡ over_inputs keys schema op sources
+over_once keys schema op sources =
+    ap (λ r. cond (spreads op) (then_ok r (λ inputs. Ok (node op (children_from (map written inputs))))) (Ok (node op sources))) (spread_once keys schema sources)
+
+-- what follows is the same, whatever comes first
+then_same : {A B : Type 0} (first : Result A ErrorKind) (next other : A → Result B ErrorKind) → ((found : A) → next found ≡ other found) → then_ok first next ≡ then_ok first other
+then_same (Ok found) next other same = same found
+then_same (Err kind) next other same = refl
+
+mutual
+  in_place_once : (keys : List Name) (schema : Columns) (source : Source) → in_place (once keys) schema source ≡ in_place keys schema source
+  in_place_once keys schema (node op children) =
+      ap (λ r. cond (is_marker op) (Ok (node op children)) (then_ok r (over_inputs (once keys) schema op))) (all_in_place_once keys schema children)
+      ∙ ap (cond (is_marker op) (Ok (node op children))) (then_same (all_in_place keys schema children) (over_inputs (once keys) schema op) (over_inputs keys schema op) (over_once keys schema op))
+
+  all_in_place_once : (keys : List Name) (schema : Columns) (sources : Trees SourceOp) → all_in_place (once keys) schema sources ≡ all_in_place keys schema sources
+  all_in_place_once keys schema no_more = refl
+  all_in_place_once keys schema (more source rest) =
+      λ i. then_ok (in_place_once keys schema source i) (λ first. then_ok (all_in_place_once keys schema rest i) (λ others. Ok (more first others)))
+
 expansion_once : (keys : List Name) (schema : Columns) (source : Source) → expansion (once keys) schema source ≡ expansion keys schema source
-expansion_once keys schema source = ap (λ r. then_ok r (each_ok aliased)) (repeated_once keys schema source (markers_in source))
+expansion_once keys schema source =
+    ap (λ r. then_ok r (expanded_alone (once keys) schema)) (in_place_once keys schema source) ∙ then_same (in_place keys schema source) (expanded_alone (once keys) schema) (expanded_alone keys schema) (alone_once keys schema)
 
 expansions_once : (keys : List Name) (schema : Columns) (sources : List Source) → expansions (once keys) schema sources ≡ expansions keys schema sources
 expansions_once keys schema [] = refl
@@ -87,6 +118,7 @@ by_set set keys schema sources is = sym (ap (λ l. expansions l schema sources) 
 pub unrenamed : (expr : Expr) → ((inner : Box Expr) → expr ≡ KeepName inner → ⊥) → ((function : RenameAliasFn) (inner : Box Expr) → expr ≡ RenameAlias function inner → ⊥) → aliased (tree_of expr) ≡ plain (tree_of expr)
 unrenamed (KeepName' p inner) kept renamed = absurd (kept (record { ptr = p.ptr; alloc = p.alloc; value = inner }) refl)
 unrenamed (RenameAlias' function p inner) kept renamed = absurd (renamed function (record { ptr = p.ptr; alloc = p.alloc; value = inner }) refl)
+unrenamed (Function' shape input (FieldByIndex place)) kept renamed = refl
 unrenamed _ kept renamed = refl
 
 -- a name that is made of that of a first column which isn't there
@@ -123,18 +155,18 @@ plain_predicate schema source is = ap (λ r. then_ok r only_one) (plain_alone []
 
 -- ---- markers
 
-no_first : (markers : List Source) → None ≡ first_of markers → markers ≡ []
+pub no_first : (markers : List Source) → None ≡ first_of markers → markers ≡ []
 no_first [] none = refl
 no_first (marker ∷ others) none = absurd cc
 
 -- an expression without markers is repeated once
-pub unrepeated : (keys : List Name) (schema : Columns) (source : Source) → None ≡ first_marker source → expansion keys schema source ≡ each_ok aliased (source ∷ [])
+pub unrepeated : (keys : List Name) (schema : Columns) (source : Source) → None ≡ first_marker source → expanded_alone keys schema source ≡ each_ok (as_expression schema) (source ∷ [])
 unrepeated keys schema source none =
-    ap (λ markers. then_ok (repeated_for keys schema source markers) (each_ok aliased)) (no_first (markers_in source) none)
+    ap (λ markers. then_ok (repeated_for keys schema source markers) (each_ok (as_expression schema))) (no_first (markers_in source) none)
 
-pub only_refused : (source : Source) (error : PlanError) → IsRefusal (aliased source) error → IsRefusal (each_ok aliased (source ∷ [])) error
-only_refused source error (no_room e) = no_room e
-only_refused source error (broken kind told by) = broken kind told (ap (λ r. then_ok r (λ found. Ok (found ∷ []))) by)
+pub only_refused : (schema : Columns) (source : Source) (error : PlanError) → IsRefusal (as_expression schema source) error → IsRefusal (each_ok (as_expression schema) (source ∷ [])) error
+only_refused schema source error (no_room e) = no_room e
+only_refused schema source error (broken kind told by) = broken kind told (ap (λ r. then_ok r (λ found. Ok (found ∷ []))) by)
 
 -- what each of the markers is
 module _ (keys : List Name) (schema : Columns) (source marker : Source) where
@@ -148,26 +180,26 @@ module _ (keys : List Name) (schema : Columns) (source marker : Source) where
   tested : (markers others : List Source) (answer : Bool) → markers ≡ marker ∷ others → answer ≡ list_all (same_source marker) markers → list_all (same_source marker) others ≡ answer
   tested markers others answer are is = sym (is ∙ ap (list_all (same_source marker)) are ∙ ap (λ b. b && list_all (same_source marker) others) own_same)
 
-  pub other_marker : Some marker ≡ first_marker source → false ≡ list_all (same_source marker) (markers_in source) → expansion keys schema source ≡ Err InvalidOperation
+  pub other_marker : Some marker ≡ first_marker source → false ≡ list_all (same_source marker) (markers_in source) → expanded_alone keys schema source ≡ Err InvalidOperation
   other_marker some is =
       let split = some_first (markers_in source) some in
-      ap (λ markers. then_ok (repeated_for keys schema source markers) (each_ok aliased)) split.1
-      ∙ ap (λ b. then_ok (cond b (then_ok (marker_names keys schema marker) (λ names. Ok (map (λ name. with_column_put name source) names))) (Err InvalidOperation)) (each_ok aliased)) (tested (markers_in source) split.0 false split.1 is)
+      ap (λ markers. then_ok (repeated_for keys schema source markers) (each_ok (as_expression schema))) split.1
+      ∙ ap (λ b. then_ok (cond b (then_ok (marker_names keys schema marker) (λ names. Ok (map (λ name. with_column_put name source) names))) (Err InvalidOperation)) (each_ok (as_expression schema))) (tested (markers_in source) split.0 false split.1 is)
 
-  pub one_marker : Some marker ≡ first_marker source → true ≡ list_all (same_source marker) (markers_in source) → expansion keys schema source ≡ then_ok (then_ok (marker_names keys schema marker) (λ names. Ok (map (λ name. with_column_put name source) names))) (each_ok aliased)
+  pub one_marker : Some marker ≡ first_marker source → true ≡ list_all (same_source marker) (markers_in source) → expanded_alone keys schema source ≡ then_ok (then_ok (marker_names keys schema marker) (λ names. Ok (map (λ name. with_column_put name source) names))) (each_ok (as_expression schema))
   one_marker some is =
       let split = some_first (markers_in source) some in
-      ap (λ markers. then_ok (repeated_for keys schema source markers) (each_ok aliased)) split.1
-      ∙ ap (λ b. then_ok (cond b (then_ok (marker_names keys schema marker) (λ names. Ok (map (λ name. with_column_put name source) names))) (Err InvalidOperation)) (each_ok aliased)) (tested (markers_in source) split.0 true split.1 is)
+      ap (λ markers. then_ok (repeated_for keys schema source markers) (each_ok (as_expression schema))) split.1
+      ∙ ap (λ b. then_ok (cond b (then_ok (marker_names keys schema marker) (λ names. Ok (map (λ name. with_column_put name source) names))) (Err InvalidOperation)) (each_ok (as_expression schema))) (tested (markers_in source) split.0 true split.1 is)
 
-  pub unnamed_marker : (error : PlanError) → Some marker ≡ first_marker source → true ≡ list_all (same_source marker) (markers_in source) → IsRefusal (marker_names keys schema marker) error → IsRefusal (expansion keys schema source) error
+  pub unnamed_marker : (error : PlanError) → Some marker ≡ first_marker source → true ≡ list_all (same_source marker) (markers_in source) → IsRefusal (marker_names keys schema marker) error → IsRefusal (expanded_alone keys schema source) error
   unnamed_marker error some is (no_room e) = no_room e
   unnamed_marker error some is (broken kind told by) =
-      broken kind told (one_marker some is ∙ ap (λ r. then_ok (then_ok r (λ names. Ok (map (λ name. with_column_put name source) names))) (each_ok aliased)) by)
+      broken kind told (one_marker some is ∙ ap (λ r. then_ok (then_ok r (λ names. Ok (map (λ name. with_column_put name source) names))) (each_ok (as_expression schema))) by)
 
-  pub named_marker : (names : List Name) → Some marker ≡ first_marker source → true ≡ list_all (same_source marker) (markers_in source) → marker_names keys schema marker ≡ Ok names → expansion keys schema source ≡ each_ok aliased (map (λ name. with_column_put name source) names)
+  pub named_marker : (names : List Name) → Some marker ≡ first_marker source → true ≡ list_all (same_source marker) (markers_in source) → marker_names keys schema marker ≡ Ok names → expanded_alone keys schema source ≡ each_ok (as_expression schema) (map (λ name. with_column_put name source) names)
   named_marker names some is found =
-      one_marker some is ∙ ap (λ r. then_ok (then_ok r (λ names. Ok (map (λ name. with_column_put name source) names))) (each_ok aliased)) found
+      one_marker some is ∙ ap (λ r. then_ok (then_ok r (λ names. Ok (map (λ name. with_column_put name source) names))) (each_ok (as_expression schema))) found
 
 -- a refusal of what is the same
 pub refused_as : {A : Type 0} (answer other : Result A ErrorKind) (error : PlanError) → answer ≡ other → IsRefusal other error → IsRefusal answer error

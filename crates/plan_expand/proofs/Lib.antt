@@ -4,3 +4,7 @@ pub mod MarkerLemmas
 pub mod NameLemmas
 pub mod OnceLemmas
 pub mod WalkLemmas
+pub mod OperandLemmas
+pub mod ChangeLemmas
+pub mod FieldLemmas
+pub mod SpreadLemmas

@@ -21,7 +21,8 @@ use Rattle.plan_dsl.specs.Refusals.{then_ok}
 use Rattle.plan_dsl.specs.Sources.{Excluded, ExcludedName, ExcludedType, SetRule, Source, RootOp, of_two}
 use Rattle.plan_dsl.specs.Trees.{node, no_more, more}
 use Rattle.plan_dsl.specs.declared.expr.Expr.{Expr, Exclude, Column, Columns as Named, DtypeColumn, IndexColumn, Nth, Wildcard, Selector}
-use Rattle.plan_dsl.specs.declared.expr.Expr.TheVariants.{Exclude'}
+use Rattle.plan_dsl.specs.declared.expr.Expr.TheVariants.{Exclude', Function'}
+use Rattle.plan_dsl.specs.declared.function_expr.FunctionExpr.TheVariants.{FieldByIndex}
 use Rattle.plan_types.specs.declared.text.PlSmallStr.{PlSmallStr}
 use Rattle.plan_dsl.specs.declared.marker.Excluded.{Excluded as ExcludedValue}
 use Rattle.plan_dsl.specs.declared.selector.Selector.{Selector as SelectorValue}
@@ -106,6 +107,7 @@ module _ (keys : List Name) (schema : Columns) where
   no_marker Wildcard columns types places place all excluded selector = absurd (all refl)
   no_marker (Exclude' p marker own) columns types places place all excluded selector = absurd (excluded (record { ptr = p.ptr; alloc = p.alloc; value = marker }) own refl)
   no_marker (Selector own) columns types places place all excluded selector = absurd (selector own refl)
+  no_marker (Function' shape input (FieldByIndex own)) columns types places place all excluded selector = refl
   no_marker _ columns types places place all excluded selector = refl
 
   pub selector_listed : (expr : Expr) (selector : SelectorValue) (names lacked list : List Name) → expr ≡ Selector selector → selected keys schema (selector_tree selector) ≡ Ok names → lacked ≡ without keys names → list ≡ lacked → marker_names keys schema (tree_of expr) ≡ Ok list
@@ -121,6 +123,7 @@ module _ (keys : List Name) (schema : Columns) where
   -- a root over what is no column is one over a marker
   pub root_is_marker : (expr : Expr) → ((name : Name) → expr ≡ Column name → ⊥) → selector_names keys schema (node RootOp (more (tree_of expr) no_more)) ≡ marker_names keys schema (tree_of expr)
   root_is_marker (Column name) other = absurd (other name refl)
+  root_is_marker (Function' shape input (FieldByIndex place)) other = refl
   root_is_marker _ other = refl
 
   pub rooted : (expr : Expr) (listed names : List Name) → ((name : Name) → expr ≡ Column name → ⊥) → marker_names keys schema (tree_of expr) ≡ Ok listed → names ≡ once listed → selected keys schema (node RootOp (more (tree_of expr) no_more)) ≡ Ok names

@@ -1,6 +1,5 @@
 -- Walks over operands, one by one.
 use Rattle.std.proofs.Common.{◌≡◌, ◌<◌, ◌≤◌, ◌+◌, ◌-◌, ℕ, suc, zero, List, [], ◌∷◌, ◌++◌, map, drop, length, slice_get, Bor, Option, Some, None, Bool, true, false, cond, ◌&&◌, refl, sym, ap, ◌∙◌, arith}
-use Rattle.std.specs.Global.{Box}
 use Rattle.std.specs.List.{flat_map, list_all}
 use Rattle.std.specs.Option.{option_map, option_or}
 use Rattle.std.proofs.Math.ListN.{drop_of_length-le}
@@ -11,15 +10,17 @@ use Rattle.plan_types.proofs.ListLemmas.{item_left}
 use Rattle.plan_types.specs.Schemas.{Name}
 use Rattle.plan_types.specs.declared.text.PlSmallStr.{PlSmallStr}
 use Rattle.plan_dsl.specs.Expansion.{is_marker, markers_in, all_markers_in, first_root, root_name, root_of_node}
-use Rattle.plan_dsl.specs.Expressions.{plain_tree, tree_of}
+use Rattle.plan_dsl.specs.Expressions.{function_source, plain_tree, tree_of}
+use Rattle.plan_dsl.specs.Functions.{is_expanded_function}
 use Rattle.plan_dsl.specs.Ops.{Op}
 use Rattle.plan_dsl.specs.Sources.{Source, SourceOp, Plain, unwritten, all_unwritten}
-use Rattle.plan_dsl.specs.Trees.{Trees, node, no_more, more, children_from, fold_all, tree_depth, trees_depth}
-use Rattle.plan_dsl.specs.declared.expr.Expr.{Expr, Column, KeepName, RenameAlias}
-use Rattle.plan_dsl.specs.declared.expr.Expr.TheVariants.{Exclude', KeepName', RenameAlias', Selector}
-use Rattle.plan_dsl.specs.declared.marker.RenameAliasFn.{RenameAliasFn}
-use Rattle.plan_dsl.proofs.ExprLemmas.{IsListed}
-use Rattle.plan_expand.specs.Walks.{children_of, operands_in, first_of, first_marker, first_marker_of, first_root_of}
+use Rattle.plan_dsl.specs.Trees.{Trees, node, no_more, more, children_from, fold_all, top_op, tree_depth, trees_depth}
+use Rattle.plan_dsl.specs.declared.expr.Expr.{Expr, Column}
+use Rattle.plan_dsl.specs.declared.expr.Expr.TheVariants.{Exclude', Function', KeepName', RenameAlias', Selector}
+use Rattle.plan_dsl.specs.declared.function_expr.FunctionExpr.{FunctionExpr}
+use Rattle.plan_dsl.specs.declared.function_expr.FunctionExpr.TheVariants.{FieldByIndex}
+use Rattle.plan_dsl.proofs.ExprLemmas.{IsListed, IsOfEach}
+use Rattle.plan_expand.specs.Walks.{children_of, is_of_plans, operands_in, first_of, first_marker, first_marker_of, first_root_of}
 
 -- ---- operands
 
@@ -30,6 +31,11 @@ children_listed (source ∷ sources) = ap (λ l. source ∷ l) (children_listed 
 -- of a kind with a list
 pub operands_listed : {tree : Source} {op : Op} {first : Source} {rest : List Source} → IsListed tree (Plain op) first rest → Some (first ∷ rest) ≡ operands_in tree
 operands_listed {tree} {op} {first} {rest} listed = sym (ap operands_in listed.is ∙ ap (λ l. Some (first ∷ l)) (children_listed rest))
+
+-- of a kind with a list alone
+pub operands_of_each : {tree : Source} {op : SourceOp} {each : List Source} → IsOfEach tree op each → is_marker op ≡ false → Some each ≡ operands_in tree
+operands_of_each {tree} {op} {each} listed marks =
+    sym (ap operands_in listed.is ∙ ap (λ b. cond b None (Some (children_of (children_from each)))) marks ∙ ap Some (children_listed each))
 
 -- what a list lends at a place
 pub lent_at : {X A : Type 0} (view : X → A) (items : List X) (place : ℕ) (lent : Option (Bor X)) → IsItemAt items place lent → option_map (λ item. view item.now) lent ≡ slice_get (map view items) place
@@ -133,11 +139,17 @@ same_children : (source : Source) (trees : List Source) → Some trees ≡ opera
 same_children (node op children) trees are =
     elim (is_marker op) as (λ b. Some trees ≡ cond b None (Some (children_of children)) → trees ≡ children_of children) [ true ↦ λ e. absurd cc | false ↦ λ e. cc ] are
 
--- of what is neither a column nor a renaming form
-pub root_of_operands : (expr : Expr) (trees : List Source) → Some trees ≡ operands_in (tree_of expr) → ((name : PlSmallStr) → expr ≡ Column name → ⊥) → ((inner : Box Expr) → expr ≡ KeepName inner → ⊥) → ((function : RenameAliasFn) (inner : Box Expr) → expr ≡ RenameAlias function inner → ⊥) → first_root_of trees ≡ root_name (plain_tree expr)
-root_of_operands (Column name) trees are column kept renamed = absurd (column name refl)
-root_of_operands (KeepName' p inner) trees are column kept renamed = absurd (kept (record { ptr = p.ptr; alloc = p.alloc; value = inner }) refl)
-root_of_operands (RenameAlias' function p inner) trees are column kept renamed = absurd (renamed function (record { ptr = p.ptr; alloc = p.alloc; value = inner }) refl)
-root_of_operands (Exclude' p marker own) trees are column kept renamed = absurd cc
-root_of_operands (Selector own) trees are column kept renamed = absurd cc
-root_of_operands expr trees are column kept renamed = ap first_root_of (same_children (tree_of expr) trees are) ∙ sym (roots_listed (under (tree_of expr)))
+-- a function's op is one of plans' where expansion leaves it
+pub function_of_plans : (function : FunctionExpr) → is_expanded_function function ≡ is_of_plans (function_source function)
+function_of_plans (FieldByIndex place) = refl
+function_of_plans _ = refl
+
+-- of what is an op of plans over operands
+pub root_of_operands : (expr : Expr) (trees : List Source) → Some trees ≡ operands_in (tree_of expr) → ((name : PlSmallStr) → expr ≡ Column name → ⊥) → true ≡ is_of_plans (top_op (tree_of expr)) → first_root_of trees ≡ root_name (plain_tree expr)
+root_of_operands (Column name) trees are column plans = absurd (column name refl)
+root_of_operands (KeepName' p inner) trees are column plans = absurd cc
+root_of_operands (RenameAlias' function p inner) trees are column plans = absurd cc
+root_of_operands (Exclude' p marker own) trees are column plans = absurd cc
+root_of_operands (Selector own) trees are column plans = absurd cc
+root_of_operands (Function' shape input (FieldByIndex place)) trees are column plans = absurd cc
+root_of_operands expr trees are column plans = ap first_root_of (same_children (tree_of expr) trees are) ∙ sym (roots_listed (under (tree_of expr)))

@@ -4,7 +4,7 @@ ghost use Rattle.std.specs.List.{list_all};
 ghost use Rattle.plan_types.specs.Errors.{at_top, no_memory, IsRefusal};
 ghost use Rattle.plan_types.specs.Schemas.{columns};
 ghost use Rattle.plan_types.specs.declared.error.ErrorKind.TheVariants.{ComputeError, InvalidOperation};
-ghost use Rattle.plan_dsl.specs.Expansion.{aliased, expansion, expansions, key_names, name_given, only_one, plain, predicate_expansion, root_name, under_alias, with_column_put};
+ghost use Rattle.plan_dsl.specs.Expansion.{aliased, as_expression, expanded_alone, expansion, expansions, key_names, markers_in, name_given, only_one, plain, predicate_expansion, root_name, under_alias, with_column_put};
 ghost use Rattle.plan_dsl.specs.Expressions.{plain_tree, renaming_of, tree_of};
 ghost use Rattle.plan_dsl.specs.Markers.{once};
 ghost use Rattle.plan_dsl.specs.Refusals.{each_ok, joined, then_ok, with_kinds};
@@ -12,7 +12,9 @@ ghost use Rattle.plan_dsl.specs.Sources.{KeepRoot, is_plain};
 ghost use Rattle.plan_expand.specs.Refusals.{IsUnexpanded};
 ghost use Rattle.plan_expand.specs.Walks.{first_marker};
 
+use crate::fields::name_fields;
 use crate::markers::marker_names;
+use crate::spreading::spread_inputs;
 use crate::walks::{first_marker, has_only, root_name};
 use indexmap::IndexSet;
 use plan_dsl::expr::Expr;
@@ -128,11 +130,10 @@ fn key_names(alloc: Global, keys: &[Expr]) -> Result<IndexSet<PlSmallStr>, PlanE
     Ok(names)
 }
 
-// What an expression is expanded to: itself, or where it has markers a copy for each name for which they stand. A renaming
-// form at its top becomes an alias.
+// What an expression is expanded to: first the inputs of its horizontals, in place.
 fn expansion(
     alloc: Global,
-    expr: Expr,
+    mut expr: Expr,
     schema: &Schema,
     keys: &IndexSet<PlSmallStr>,
 ) -> Result<Vec<Expr>, PlanError>
@@ -140,8 +141,32 @@ fn expansion(
     ensures plain { IfOk result (λ expanded. list_all is_plain (map tree_of expanded.items) ≡ true) }
     ensures err { IfErr result (IsRefusal (expansion keys.now.keys (columns schema.now) (tree_of expr))) }
 {
+    match spread_inputs(alloc, &mut expr, schema, keys) {
+        Ok(()) => {
+            let expanded = expanded_alone(alloc, expr, schema, keys)?;
+            Ok(expanded)
+        }
+        Err(error) => {
+            drop(expr);
+            Err(error)
+        }
+    }
+}
+
+// What an expression is expanded to whose horizontals have their inputs in place: itself, or where it has markers a copy
+// for each name for which they stand.
+pub(crate) fn expanded_alone(
+    alloc: Global,
+    expr: Expr,
+    schema: &Schema,
+    keys: &IndexSet<PlSmallStr>,
+) -> Result<Vec<Expr>, PlanError>
+    ensures ok { IfOk result (λ expanded. expanded_alone keys.now.keys (columns schema.now) (tree_of expr) ≡ Ok (map plain_tree expanded.items)) }
+    ensures plain { IfOk result (λ expanded. list_all is_plain (map tree_of expanded.items) ≡ true) }
+    ensures err { IfErr result (IsRefusal (expanded_alone keys.now.keys (columns schema.now) (tree_of expr))) }
+{
     let Some(marker) = first_marker(&expr) else {
-        return alone(alloc, expr);
+        return alone(alloc, expr, schema);
     };
     let expanded = marked(alloc, &expr, marker, schema, keys);
     drop(expr);
@@ -149,12 +174,13 @@ fn expansion(
 }
 
 // What an expression without markers is expanded to.
-fn alone(alloc: Global, expr: Expr) -> Result<Vec<Expr>, PlanError>
-    ensures ok { IfOk result (λ expanded. each_ok aliased (tree_of expr ∷ []) ≡ Ok (map plain_tree expanded.items)) }
+fn alone(alloc: Global, expr: Expr, schema: &Schema) -> Result<Vec<Expr>, PlanError>
+    requires { markers_in (tree_of expr) ≡ [] }
+    ensures ok { IfOk result (λ expanded. each_ok (as_expression (columns schema.now)) (tree_of expr ∷ []) ≡ Ok (map plain_tree expanded.items)) }
     ensures plain { IfOk result (λ expanded. list_all is_plain (map tree_of expanded.items) ≡ true) }
-    ensures err { IfErr result (IsRefusal (each_ok aliased (tree_of expr ∷ []))) }
+    ensures err { IfErr result (IsRefusal (each_ok (as_expression (columns schema.now)) (tree_of expr ∷ []))) }
 {
-    let own = aliased(alloc, expr)?;
+    let own = as_expression(alloc, expr, schema)?;
     let alone = vec![in alloc; own]?;
     Ok(alone)
 }
@@ -168,31 +194,55 @@ fn marked(
     keys: &IndexSet<PlSmallStr>,
 ) -> Result<Vec<Expr>, PlanError>
     requires { first_marker (tree_of expr.now) ≡ Some (tree_of marker.now) }
-    ensures ok { IfOk result (λ expanded. expansion keys.now.keys (columns schema.now) (tree_of expr.now) ≡ Ok (map plain_tree expanded.items)) }
+    ensures ok { IfOk result (λ expanded. expanded_alone keys.now.keys (columns schema.now) (tree_of expr.now) ≡ Ok (map plain_tree expanded.items)) }
     ensures plain { IfOk result (λ expanded. list_all is_plain (map tree_of expanded.items) ≡ true) }
-    ensures err { IfErr result (IsRefusal (expansion keys.now.keys (columns schema.now) (tree_of expr.now))) }
+    ensures err { IfErr result (IsRefusal (expanded_alone keys.now.keys (columns schema.now) (tree_of expr.now))) }
 {
     if !has_only(expr, marker) {
         return Err(PlanError::at_top(ErrorKind::InvalidOperation));
     }
     let names = marker_names(alloc, marker, schema, keys)?;
-    let expanded = repeated(alloc, expr, &names)?;
+    let expanded = repeated(alloc, expr, &names, schema)?;
     Ok(expanded)
 }
 
 // The expression for each name, with its column in place of all markers.
-fn repeated(alloc: Global, expr: &Expr, names: &[PlSmallStr]) -> Result<Vec<Expr>, PlanError>
-    ensures ok { IfOk result (λ expanded. each_ok aliased (map (λ name. with_column_put name (tree_of expr.now)) names.now) ≡ Ok (map plain_tree expanded.items)) }
+fn repeated(
+    alloc: Global,
+    expr: &Expr,
+    names: &[PlSmallStr],
+    schema: &Schema,
+) -> Result<Vec<Expr>, PlanError>
+    ensures ok { IfOk result (λ expanded. each_ok (as_expression (columns schema.now)) (map (λ name. with_column_put name (tree_of expr.now)) names.now) ≡ Ok (map plain_tree expanded.items)) }
     ensures plain { IfOk result (λ expanded. list_all is_plain (map tree_of expanded.items) ≡ true) }
-    ensures err { IfErr result (IsRefusal (each_ok aliased (map (λ name. with_column_put name (tree_of expr.now)) names.now))) }
+    ensures err { IfErr result (IsRefusal (each_ok (as_expression (columns schema.now)) (map (λ name. with_column_put name (tree_of expr.now)) names.now))) }
 {
     let mut repeated = Vec::with_capacity(alloc, names.len())?;
     for name in names {
         let copy = expr.with_column(name, alloc)?;
-        let own = aliased(alloc, copy)?;
+        let own = as_expression(alloc, copy, schema)?;
         repeated.push(own)?;
     }
     Ok(repeated)
+}
+
+// An expression without markers: its fields are named, and a renaming form at its top is made an alias.
+fn as_expression(alloc: Global, mut expr: Expr, schema: &Schema) -> Result<Expr, PlanError>
+    requires { markers_in (tree_of expr) ≡ [] }
+    ensures ok { IfOk result (λ own. as_expression (columns schema.now) (tree_of expr) ≡ Ok (plain_tree own)) }
+    ensures plain { IfOk result (λ own. is_plain (tree_of own) ≡ true) }
+    ensures err { IfErr result (IsRefusal (as_expression (columns schema.now) (tree_of expr))) }
+{
+    match name_fields(alloc, &mut expr, schema) {
+        Ok(()) => {
+            let own = aliased(alloc, expr)?;
+            Ok(own)
+        }
+        Err(error) => {
+            drop(expr);
+            Err(error)
+        }
+    }
 }
 
 // An expression without markers, with a renaming form at its top made an alias.

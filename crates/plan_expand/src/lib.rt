@@ -3,6 +3,9 @@
 
 mod examples;
 pub mod expr_expansion;
+mod fields;
 mod markers;
+mod operands;
 pub mod selectors;
+mod spreading;
 mod walks;

@@ -148,7 +148,7 @@ fn name_at(schema: &Schema, place: i64) -> Option<&PlSmallStr>
 }
 
 // The number of the column at a place, of so many. A place below 0 counts from the end, and may lie in front of all.
-fn column_number(place: i64, count: usize) -> Option<usize>
+pub(crate) fn column_number(place: i64, count: usize) -> Option<usize>
     ensures { result ≡ as_number (slice_start place count) }
 {
     let distance = place.unsigned_abs() as usize;

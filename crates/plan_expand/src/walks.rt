@@ -5,7 +5,8 @@ ghost use Rattle.std.specs.Option.{option_map};
 ghost use Rattle.plan_dsl.specs.Expansion.{markers_in, root_name};
 ghost use Rattle.plan_dsl.specs.Expressions.{order_trees, plain_tree, tree_of, trees_of};
 ghost use Rattle.plan_dsl.specs.Sources.{same_source};
-ghost use Rattle.plan_expand.specs.Walks.{first_marker, operand_trees, operands_in};
+ghost use Rattle.plan_dsl.specs.Trees.{top_op};
+ghost use Rattle.plan_expand.specs.Walks.{first_marker, is_of_plans, operand_trees, operands_in};
 
 use plan_dsl::expr::{Expr, Exprs};
 use plan_dsl::sort_options::SortOptions;
@@ -20,6 +21,7 @@ enum Operands<'a> {
     Three(&'a Expr, &'a Expr, &'a Expr),
     Listed(&'a Expr, &'a Exprs),
     Ordered(&'a Expr, &'a Expr, &'a Exprs),
+    Each(&'a Exprs),
 }
 
 // The operands of an expression that is no marker. What stands inside a marker is its own.
@@ -57,6 +59,12 @@ fn operands_of(expr: &Expr) -> Option<Operands<'_>>
             order_by,
             ..
         } => Some(of_window(function, order_by, partition_by)),
+        Expr::Ternary {
+            predicate,
+            truthy,
+            falsy,
+        } => Some(Operands::Three(truthy, predicate, falsy)),
+        Expr::Function { input, .. } => Some(Operands::Each(input)),
     }
 }
 
@@ -85,6 +93,7 @@ fn count_of(operands: Operands<'_>) -> usize
         Operands::Three(_, _, _) => 3,
         Operands::Listed(_, others) => 1 + others.items.len(),
         Operands::Ordered(_, _, others) => 2 + others.items.len(),
+        Operands::Each(all) => all.items.len(),
     }
 }
 
@@ -105,6 +114,7 @@ fn operand_at<'a>(operands: Operands<'a>, place: usize) -> Option<&'a Expr>
                 listed_at(second, others, place - 1)
             }
         }
+        Operands::Each(all) => all.items.as_slice().get(place),
     }
 }
 
@@ -136,15 +146,17 @@ pub(crate) fn first_marker(expr: &Expr) -> Option<&Expr>
     None
 }
 
-// The name of the first column of an expression, in the order of operands. Nothing is sought in markers and renaming forms.
+// The name of the first column of an expression, in the order of operands. Nothing is sought in what has
+// an op of its own.
 #[cycle(root_name)]
 pub(crate) fn root_name(expr: &Expr) -> Option<&PlSmallStr>
     ensures { option_map (λ name. name.now) result ≡ root_name (plain_tree expr.now) }
 {
-    match expr {
-        Expr::Column(name) => return Some(name),
-        Expr::KeepName(_) | Expr::RenameAlias { .. } => return None,
-        _ => {}
+    if let Expr::Column(name) = expr {
+        return Some(name);
+    }
+    if !is_of_plans(expr) {
+        return None;
     }
     let operands = operands_of(expr)?;
     for place in 0..count_of(operands) {
@@ -154,6 +166,25 @@ pub(crate) fn root_name(expr: &Expr) -> Option<&PlSmallStr>
         }
     }
     None
+}
+
+// Whether its op is one of plans'.
+fn is_of_plans(expr: &Expr) -> bool
+    ensures { result ≡ is_of_plans (top_op (tree_of expr.now)) }
+{
+    match expr {
+        Expr::Columns(_)
+        | Expr::DtypeColumn(_)
+        | Expr::IndexColumn(_)
+        | Expr::Nth(_)
+        | Expr::Wildcard
+        | Expr::Exclude(_, _)
+        | Expr::Selector(_)
+        | Expr::KeepName(_)
+        | Expr::RenameAlias { .. } => false,
+        Expr::Function { function, .. } => function.is_expanded(),
+        _ => true,
+    }
 }
 
 // Whether all markers of an expression are that one.
@@ -173,4 +204,12 @@ pub(crate) fn has_only(expr: &Expr, marker: &Expr) -> bool
         }
     }
     true
+}
+
+// How many operands an expression has that is no marker.
+pub(crate) fn operand_count(expr: &Expr) -> Option<usize>
+    ensures { result ≡ option_map length (operands_in (tree_of expr.now)) }
+{
+    let operands = operands_of(expr)?;
+    Some(count_of(operands))
 }

@@ -1,5 +1,6 @@
 pub mod ExampleLemmas
 pub mod FieldLemmas
+pub mod FunctionTypeLemmas
 pub mod ItemTreeLemmas
 pub mod OperandTypeLemmas
 pub mod SignedLemmas

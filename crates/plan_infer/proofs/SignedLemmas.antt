@@ -1,13 +1,14 @@
 -- Kinds that go by a signature: what is found of their inputs one by one, and the names of their nodes.
-use Rattle.std.proofs.Common.{◌≡◌, ◌≢◌, ◌⊎◌, inl, inr, ℕ, zero, suc, ◌<◌, ◌==◌, ◌||◌, false, List, [], ◌∷◌, ◌++◌, length, map, drop, get_or, Option, Some, None, Result, Ok, refl, sym, ap, ◌∙◌, subst, arith, ⊎_elim}
+use Rattle.std.proofs.Common.{◌≡◌, ◌≢◌, ◌⊎◌, inl, inr, ℕ, zero, suc, ◌<◌, ◌≤◌, ◌==◌, ◌||◌, false, List, [], ◌∷◌, ◌++◌, length, map, drop, get_or, Option, Some, None, Result, Ok, Err, slice_get, refl, sym, ap, ◌∙◌, subst, arith, ⊎_elim}
 use Rattle.std.specs.List.{AllByRecursion}
 use Rattle.std.proofs.lemmas.List.{append-nil, append_assoc, length-map}
 use Rattle.plan_types.proofs.ListLemmas.{drop_item}
 use Rattle.plan_types.specs.Types.{Ty, NullType, ty}
 use Rattle.plan_types.specs.Schemas.{Columns}
 use Rattle.plan_types.specs.Errors.{IsMemoryOr, IsRefusal, no_room, broken}
+use Rattle.plan_types.specs.CommonTypes.{common_type}
 use Rattle.plan_types.specs.declared.error.ErrorKind.{ErrorKind}
-use Rattle.plan_types.specs.declared.error.ErrorKind.TheVariants.{InvalidOperation}
+use Rattle.plan_types.specs.declared.error.ErrorKind.TheVariants.{InvalidOperation, SchemaMismatch}
 use Rattle.plan_types.specs.declared.error.PlanError.{PlanError}
 use Rattle.plan_types.specs.declared.dtype.DataType.{DataType}
 use Rattle.plan_dsl.specs.declared.signature.Many.{Many}
@@ -17,11 +18,13 @@ use Rattle.plan_dsl.specs.Ops.{Op}
 use Rattle.plan_dsl.specs.Registry.{Registry}
 use Rattle.plan_dsl.specs.Names.{Label, first_label, op_label}
 use Rattle.plan_dsl.specs.Signatures.{asked_at, own_type, signature}
-use Rattle.plan_dsl.specs.Typing.{Typed, first_of, many_of, own_over, rule, signed, signed_to, some_many, taken_by, taken_from, type_before, typed_to, types_of}
+use Rattle.plan_dsl.specs.Typing.{Typed, first_of, many_of, own_over, rule, shared_at, shared_type, signed, signed_sharing, signed_to, some_many, taken_by, taken_from, type_before, typed_to, types_of}
 use Rattle.plan_dsl.proofs.SignatureLemmas.{is_signed}
+use Rattle.plan_infer.specs.Operands.{common_of_both, common_with}
+use Rattle.plan_infer.proofs.TypingLemmas.{refused_so}
 use Rattle.plan_arena.specs.declared.arena.Node.{Node}
 use Rattle.plan_arena.specs.declared.aexpr.AExpr.{AExpr}
-use Rattle.plan_arena.specs.declared.aexpr.AExpr.TheVariants.{Column, Literal, BinaryExpr, Cast, Len, Alias}
+use Rattle.plan_arena.specs.declared.aexpr.AExpr.TheVariants.{Column, Literal, BinaryExpr, Cast, Len, Alias, Function}
 use Rattle.plan_arena.specs.Layers.{Layer, layer, op_of, inputs_of}
 use Rattle.plan_arena.specs.Items.{expression_layer, numbers}
 use Rattle.plan_infer.specs.declared.type_table.Inferred.{Inferred}
@@ -82,19 +85,44 @@ before_more : (done : List Ty) (target : Ty) (rest : Option (List Ty)) → types
 before_more done target None = refl
 before_more done target (Some types) = ap Some (sym (append_assoc done (target ∷ []) types))
 
-module _ (s : Signature) (all : List Typed) (done : List Ty) (i k : ℕ) (t : Typed) (before : taken_from s 0 all ≡ types_before done (taken_from s i (drop i all))) (next : k ≡ suc i) (left : drop i all ≡ t ∷ drop k all) where
-  taken_here : (found : Option Ty) → taken_by (asked_at s i) t ≡ found → taken_from s 0 all ≡ types_before done (type_before found (taken_from s (suc i) (drop k all)))
-  taken_here found is = before ∙ ap (λ l. types_before done (taken_from s i l)) left ∙ ap (λ o. types_before done (type_before o (taken_from s (suc i) (drop k all)))) is
+module _ (shared : Ty) (s : Signature) (all : List Typed) (done : List Ty) (i k : ℕ) (t : Typed) (before : taken_from shared s 0 all ≡ types_before done (taken_from shared s i (drop i all))) (next : k ≡ suc i) (left : drop i all ≡ t ∷ drop k all) where
+  taken_here : (found : Option Ty) → taken_by (shared_at s.sharing shared i) (asked_at s i) t ≡ found → taken_from shared s 0 all ≡ types_before done (type_before found (taken_from shared s (suc i) (drop k all)))
+  taken_here found is = before ∙ ap (λ l. types_before done (taken_from shared s i l)) left ∙ ap (λ o. types_before done (type_before o (taken_from shared s (suc i) (drop k all)))) is
 
-  pub taken_more : (target : Ty) → taken_by (asked_at s i) t ≡ Some target → taken_from s 0 all ≡ types_before (done ++ target ∷ []) (taken_from s k (drop k all))
+  pub taken_more : (target : Ty) → taken_by (shared_at s.sharing shared i) (asked_at s i) t ≡ Some target → taken_from shared s 0 all ≡ types_before (done ++ target ∷ []) (taken_from shared s k (drop k all))
   taken_more target is =
-      taken_here (Some target) is ∙ before_more done target (taken_from s (suc i) (drop k all)) ∙ ap (λ m. types_before (done ++ target ∷ []) (taken_from s m (drop k all))) (sym next)
+      taken_here (Some target) is ∙ before_more done target (taken_from shared s (suc i) (drop k all)) ∙ ap (λ m. types_before (done ++ target ∷ []) (taken_from shared s m (drop k all))) (sym next)
 
-  pub taken_none : taken_by (asked_at s i) t ≡ None → taken_from s 0 all ≡ None
+  pub taken_none : taken_by (shared_at s.sharing shared i) (asked_at s i) t ≡ None → taken_from shared s 0 all ≡ None
   taken_none is = taken_here None is
 
-pub taken_whole : (s : Signature) (all : List Typed) (done : List Ty) (i : ℕ) → taken_from s 0 all ≡ types_before done (taken_from s i (drop i all)) → drop i all ≡ [] → taken_from s 0 all ≡ Some done
-taken_whole s all done i before none = before ∙ ap (λ l. types_before done (taken_from s i l)) none ∙ ap Some (append-nil done)
+pub taken_whole : (shared : Ty) (s : Signature) (all : List Typed) (done : List Ty) (i : ℕ) → taken_from shared s 0 all ≡ types_before done (taken_from shared s i (drop i all)) → drop i all ≡ [] → taken_from shared s 0 all ≡ Some done
+taken_whole shared s all done i before none = before ∙ ap (λ l. types_before done (taken_from shared s i l)) none ∙ ap Some (append-nil done)
+
+-- ---- the type that they share
+
+-- the typing at a place is there
+pub typing_there : (table : TypeTable) (ns : List Node) (i : ℕ) (n : Node) (own : Inferred) → i < length ns → KeepsEntry table (get_or ns i n).0 own → slice_get (typings_at table (numbers ns)) i ≡ Some (typed_of own)
+typing_there table [] i n own lt k = absurd (omega (arith, lt))
+typing_there table (m ∷ ns) zero n own lt k = ap (λ o. Some (typed_by o)) k.1
+typing_there table (m ∷ ns) (suc i) n own lt k = typing_there table ns i n own (omega (arith, lt)) k
+
+pub both_there : (typed : List Typed) (place : ℕ) (first other : Typed) → slice_get typed 0 ≡ Some first → slice_get typed place ≡ Some other → common_with place typed ≡ common_type first.type other.type
+both_there typed place first other f o = ap (λ t. common_of_both t (slice_get typed place)) f ∙ ap (common_of_both (Some first)) o
+
+none_there : {A : Type 0} (xs : List A) (i : ℕ) → length xs ≤ i → slice_get xs i ≡ None
+none_there [] i h = refl
+none_there (x ∷ xs) zero h = absurd (omega (arith, h))
+none_there (x ∷ xs) (suc i) h = none_there xs i (omega (arith, h))
+
+no_other : (first : Option Typed) → common_of_both first None ≡ Err SchemaMismatch
+no_other None = refl
+no_other (Some first) = refl
+
+pub none_common : (table : TypeTable) (ns : List Node) (place : ℕ) → length ns ≤ place → common_with place (typings_at table (numbers ns)) ≡ Err SchemaMismatch
+none_common table ns place few =
+    let typed = typings_at table (numbers ns) in
+    ap (common_of_both (slice_get typed 0)) (none_there typed place (omega (arith, few, typings_length table ns))) ∙ no_other (slice_get typed 0)
 
 -- ---- what a signature says of them
 
@@ -117,10 +145,15 @@ first_taken (t ∷ ts) [] h = refl
 first_taken (t ∷ ts) (target ∷ targets) h = refl
 first_taken [] (target ∷ targets) h = cc
 
-pub signed_says : (found : Result Signature ErrorKind) (s : Signature) (typed : List Typed) (targets : List Ty) (own : Inferred) → found ≡ Ok s → taken_from s 0 typed ≡ Some targets → ty own.dtype ≡ own_type s.own (get_or targets 0 NullType) → own.many ≡ many_of s.many typed → AreOperands (map ty own.operands.items) (types_of typed) targets → Says (signed found typed) typed own
-signed_says found s typed targets own is taken type many operands =
+-- it says this of typed operands where they are taken so
+signed_so : (found : Result Signature ErrorKind) (s : Signature) (typed : List Typed) (shared : Ty) (taken : Option (List Ty)) → found ≡ Ok s → shared_type s.sharing typed ≡ Ok shared → taken_from shared s 0 typed ≡ taken → signed found typed ≡ signed_to s typed taken
+signed_so found s typed shared taken is shares takes =
+    ap (λ f. signed f typed) is ∙ ap (signed_sharing s typed) shares ∙ ap (signed_to s typed) takes
+
+pub signed_says : (found : Result Signature ErrorKind) (s : Signature) (typed : List Typed) (shared : Ty) (targets : List Ty) (own : Inferred) → found ≡ Ok s → shared_type s.sharing typed ≡ Ok shared → taken_from shared s 0 typed ≡ Some targets → ty own.dtype ≡ own_type s.own (get_or targets 0 NullType) → own.many ≡ many_of s.many typed → AreOperands (map ty own.operands.items) (types_of typed) targets → Says (signed found typed) typed own
+signed_says found s typed shared targets own is shares taken type many operands =
     let own_typing = own_over s (typed_to typed targets) in
-    let rules = ap (λ f. signed f typed) is ∙ ap (signed_to s typed) taken in
+    let rules = signed_so found s typed shared (Some targets) is shares taken in
     let all = is_signed found typed (record { operands = targets; own = own_typing }) rules in
     record {
       ruling = record { operands = targets; own = own_typing };
@@ -130,16 +163,21 @@ signed_says found s typed targets own is taken type many operands =
     }
 
 -- as many as there are inputs
-pub as_many_targets : (s : Signature) (table : TypeTable) (ns : List Node) (targets : List DataType) → taken_from s 0 (typings_at table (numbers ns)) ≡ Some (map ty targets) → length targets ≡ length ns
-as_many_targets s table ns targets taken =
+pub as_many_targets : (s : Signature) (table : TypeTable) (ns : List Node) (shared : Ty) (targets : List DataType) → shared_type s.sharing (typings_at table (numbers ns)) ≡ Ok shared → taken_from shared s 0 (typings_at table (numbers ns)) ≡ Some (map ty targets) → length targets ≡ length ns
+as_many_targets s table ns shared targets shares taken =
     let typed = typings_at table (numbers ns) in
     let types = map ty targets in
-    let all = is_signed (Ok s) typed (record { operands = types; own = own_over s (typed_to typed types) }) (ap (signed_to s typed) taken) in
+    let all = is_signed (Ok s) typed (record { operands = types; own = own_over s (typed_to typed types) }) (signed_so (Ok s) s typed shared (Some types) refl shares taken) in
     sym (length-map targets ty) ∙ sym (ap length all.types) ∙ length-map (typed_to typed types) _ ∙ all.as_many ∙ typings_length table ns
 
-pub signed_refused : (found : Result Signature ErrorKind) (s : Signature) (typed : List Typed) (error : PlanError) → found ≡ Ok s → IsMemoryOr InvalidOperation (taken_from s 0 typed ≡ None) error → IsRefusal (signed found typed) error
-signed_refused found s typed error is b =
-    ⊎_elim (λ e. no_room e) (λ p. broken InvalidOperation p.0 (ap (λ f. signed f typed) is ∙ ap (signed_to s typed) p.1)) b
+pub signed_refused : (found : Result Signature ErrorKind) (s : Signature) (typed : List Typed) (shared : Ty) (error : PlanError) → found ≡ Ok s → shared_type s.sharing typed ≡ Ok shared → IsMemoryOr InvalidOperation (taken_from shared s 0 typed ≡ None) error → IsRefusal (signed found typed) error
+signed_refused found s typed shared error is shares b =
+    ⊎_elim (λ e. no_room e) (λ p. broken InvalidOperation p.0 (signed_so found s typed shared None is shares p.1)) b
+
+-- operands without a common type
+pub shared_refused : (found : Result Signature ErrorKind) (s : Signature) (typed : List Typed) (error : PlanError) → found ≡ Ok s → IsRefusal (shared_type s.sharing typed) error → IsRefusal (signed found typed) error
+shared_refused found s typed error is refused =
+    refused_so (shared_type s.sharing typed) (signed found typed) error (λ kind e. ap (λ f. signed f typed) is ∙ ap (signed_sharing s typed) e) refused
 
 -- ---- items
 
@@ -155,6 +193,7 @@ pub record IsSignedItem (item : AExpr) : Type 0 where
   pub no_operator : (left : _) (operator : _) (right : _) → item ≢ BinaryExpr left operator right
   pub no_cast : (expr : _) (dtype : _) (options : _) → item ≢ Cast expr dtype options
   pub no_alias : (expr : _) (name : _) → item ≢ Alias expr name
+  pub no_function : (input : _) (function : _) → item ≢ Function input function
 
 -- any other goes by its signature
 pub by_signature : (item : AExpr) → IsSignedItem item → (registry : Registry) (schema : Columns) (typed : List Typed) → rule registry schema (op_of (expression_layer item)) typed ≡ signed (signature (op_of (expression_layer item)) (length typed)) typed
@@ -163,6 +202,7 @@ by_signature (Literal value) is registry schema typed = absurd (is.no_literal va
 by_signature (BinaryExpr left operator right) is registry schema typed = absurd (is.no_operator left operator right refl)
 by_signature (Cast expr dtype options) is registry schema typed = absurd (is.no_cast expr dtype options refl)
 by_signature (Alias expr name) is registry schema typed = absurd (is.no_alias expr name refl)
+by_signature (Function input function) is registry schema typed = absurd (is.no_function input function refl)
 by_signature _ is registry schema typed = refl
 
 -- and has the name of its first input, or one of its own where it has none
@@ -173,6 +213,7 @@ name_of_first (Literal value) is = absurd (is.no_literal value refl)
 name_of_first (BinaryExpr left operator right) is = absurd (is.no_operator left operator right refl)
 name_of_first (Cast expr dtype options) is = absurd (is.no_cast expr dtype options refl)
 name_of_first (Alias expr name) is = absurd (is.no_alias expr name refl)
+name_of_first (Function input function) is = absurd (is.no_function input function refl)
 name_of_first Len is = inl (refl, λ names. refl)
 name_of_first _ is = inr (_, _, refl, λ names. refl)
 

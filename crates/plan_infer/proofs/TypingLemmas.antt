@@ -34,6 +34,10 @@ pub if_ok : {T E : Type 0} (r : Result T E) (P Q : T → Type 0) → ((x : T) �
 if_ok (Ok x) P Q so h = so x h
 if_ok (Err e) P Q so h = tt
 
+pub if_ok_both : {T E : Type 0} (r : Result T E) (P R Q : T → Type 0) → ((x : T) → P x → R x → Q x) → IfOk r P → IfOk r R → IfOk r Q
+if_ok_both (Ok x) P R Q so h k = so x h k
+if_ok_both (Err e) P R Q so h k = tt
+
 pub if_err : {T E : Type 0} (r : Result T E) (P Q : E → Type 0) → ((e : E) → P e → Q e) → IfErr r P → IfErr r Q
 if_err (Ok x) P Q so h = tt
 if_err (Err e) P Q so h = so e h
@@ -93,10 +97,6 @@ literal_refused registry schema type value error refused =
     rule_refused registry schema (LiteralOp type value) [] (literal_taken type value) false refl error refused
 
 -- an operator over two operands
-pub binary_ruled : (registry : Registry) (schema : Columns) (operator : Operator) (left right : Typed) (taken : Taken) (own : Inferred) → operator_types operator (left.type ∷ right.type ∷ []) ≡ Ok taken → taken.type ≡ ty own.dtype → own.many ≡ (left.many || (right.many || false)) → AreOperands (map ty own.operands.items) (left.type ∷ right.type ∷ []) taken.operands → IsRuled registry schema (BinaryOp operator) (left ∷ right ∷ []) own
-binary_ruled registry schema operator left right taken own found type many operands =
-    ruled_taken registry schema (BinaryOp operator) (left ∷ right ∷ []) (operator_types operator (left.type ∷ right.type ∷ [])) (left.many || (right.many || false)) refl taken own found type (sym many) operands
-
 pub binary_refused : (registry : Registry) (schema : Columns) (operator : Operator) (left right : Typed) (error : PlanError) → IsRefusal (operator_types operator (left.type ∷ right.type ∷ [])) error → IsRefusal (typing_rule registry schema (BinaryOp operator) (left ∷ right ∷ [])) error
 binary_refused registry schema operator left right error refused =
     rule_refused registry schema (BinaryOp operator) (left ∷ right ∷ []) (operator_types operator (left.type ∷ right.type ∷ [])) (left.many || (right.many || false)) refl error refused

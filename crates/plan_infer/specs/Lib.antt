@@ -2,5 +2,6 @@
 pub mod Fields
 pub mod ItemTrees
 pub mod KeptTypes
+pub mod Operands
 pub mod Samples
 pub mod Typed

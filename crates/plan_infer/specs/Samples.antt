@@ -1,5 +1,5 @@
 -- What the worked examples share: columns a and b, their sum, what arenas hold of them, and tables of types.
-use Rattle.std.specs.Prelude.{◌≡◌, ℕ, Bool, List, [], ◌∷◌, codes, Option}
+use Rattle.std.specs.Prelude.{◌≡◌, ℕ, Bool, List, [], ◌∷◌, codes, Option, Result, Ok}
 use Rattle.std.specs.List.{AllByRecursion}
 use Rattle.plan_types.specs.Types.{Ty, StructType, no_field, with_field}
 use Rattle.plan_types.specs.Errors.{IsRefusal, at_top}
@@ -8,12 +8,13 @@ use Rattle.plan_types.specs.declared.dtype.DataType.{DataType}
 use Rattle.plan_types.specs.declared.dtype.CastOptions.TheVariants.{Strict, NonStrict}
 use Rattle.plan_types.specs.declared.error.ErrorKind.{ErrorKind}
 use Rattle.plan_types.specs.declared.error.PlanError.{PlanError}
+use Rattle.plan_dsl.specs.declared.function_expr.FunctionExpr.{FunctionExpr}
 use Rattle.plan_dsl.specs.declared.operator.Operator.{Operator}
 use Rattle.plan_dsl.specs.declared.operator.Operator.TheVariants.{Plus}
-use Rattle.plan_dsl.specs.Ops.{ColumnOp, Expression}
-use Rattle.plan_dsl.specs.Trees.{node, no_more}
+use Rattle.plan_dsl.specs.Ops.{ColumnOp, TernaryOp, FunctionOp, Expression}
+use Rattle.plan_dsl.specs.Trees.{node, no_more, more, children_from}
 use Rattle.plan_dsl.specs.Samples.{cast_as}
-use Rattle.plan_dsl.specs.Typing.{typing}
+use Rattle.plan_dsl.specs.Typing.{Ruling, Typed, typing}
 use Rattle.plan_arena.specs.declared.arena.Node.{Node}
 use Rattle.plan_arena.specs.declared.aexpr.AExpr.{AExpr}
 use Rattle.plan_arena.specs.declared.aexpr.AExpr.TheVariants.{Column, BinaryExpr}
@@ -49,6 +50,18 @@ strictly_cast_to = cast_as Strict
 
 abbrev pub sum : Expression
 sum = binary Plus a b
+
+-- the first where the second is true, and the third elsewhere
+abbrev pub ternary : Expression → Expression → Expression → Expression
+ternary truthy predicate falsy = node TernaryOp (more truthy (more predicate (more falsy no_more)))
+
+-- a function of operands, under their own names
+abbrev pub apply : FunctionExpr → List Expression → Expression
+apply function operands = node (FunctionOp function []) (children_from operands)
+
+-- what a rule makes of operands that it takes to these types
+abbrev pub made : List Ty → Typed → Result Ruling ErrorKind
+made operands own = Ok (record { operands = operands; own = own })
 
 abbrev pub at : ℕ → Node
 at n = record { 0 = n }

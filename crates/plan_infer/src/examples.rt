@@ -1,4 +1,5 @@
 //! Worked examples of the definitions. The functions do nothing: their clauses are the examples.
 
 mod fields;
+mod functions;
 mod types;

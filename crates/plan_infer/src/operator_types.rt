@@ -28,7 +28,7 @@ pub struct OperandTypes {
 
 impl OperandTypes {
     // Both operands are of the one type.
-    fn both(
+    pub(crate) fn both(
         alloc: Global,
         dtype: DataType,
         result_type: DataType,

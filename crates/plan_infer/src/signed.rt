@@ -1,26 +1,29 @@
 //! Types of nodes whose kind goes by a signature.
-ghost use Rattle.std.specs.Prelude.{◌≡◌, ◌++◌, suc, [], Some, None, List, length, map, get_or, IfOk, IfErr};
+ghost use Rattle.std.specs.Prelude.{◌≡◌, ◌==◌, ◌++◌, suc, [], Ok, Err, Some, None, List, cond, length, map, get_or, IfOk, IfErr};
 ghost use Rattle.std.specs.List.{AllByRecursion};
 ghost use Rattle.plan_types.specs.Errors.{IsMemoryOr, IsRefusal, no_memory};
 ghost use Rattle.plan_types.specs.CommonTypes.{type_alone};
 ghost use Rattle.plan_types.specs.Types.{Ty, NullType, ty};
 ghost use Rattle.plan_dsl.specs.declared.signature.OwnType.TheVariants.{Item};
-ghost use Rattle.plan_dsl.specs.Signatures.{asked_target, has_flags, is_asked, is_summable, method_signature, own_type, signature, sum_type};
+ghost use Rattle.plan_dsl.specs.Signatures.{asked_at, asked_target, function_signature, has_flags, horizontal_signature, is_asked, is_summable, method_signature, own_type, signature, sum_type};
 ghost use Rattle.plan_dsl.specs.Sorting.{are_for};
-ghost use Rattle.plan_dsl.specs.Typing.{Typed, many_of, signed, some_many, taken_by, taken_from, types_of};
+ghost use Rattle.plan_dsl.specs.Typing.{Typed, many_of, shared_at, shared_type, signed, some_many, taken_alone, taken_by, taken_from, types_of};
 ghost use Rattle.plan_arena.specs.Layers.{op_of, inputs_of};
-ghost use Rattle.plan_dsl.specs.Ops.{WindowOp};
-ghost use Rattle.plan_arena.specs.Items.{expression_layer, numbers, ordered, ordering};
+ghost use Rattle.plan_dsl.specs.Ops.{SortByOp, WindowOp};
+ghost use Rattle.plan_arena.specs.Items.{expression_layer, numbers, numbers_named, ordered, ordering};
 ghost use Rattle.plan_infer.specs.KeptTypes.{AreOperands, IsKept, Says, name_at, typed_of, typings_at};
+ghost use Rattle.plan_infer.specs.Operands.{common_with};
 
 use crate::type_table::{Inferred, TypeTable};
 use plan_arena::aexpr::AExpr;
 use plan_arena::arena::Node;
+use plan_arena::expr_ir::ExprIRs;
 use plan_arena::inputs::NodeList;
 use plan_dsl::aggregate::GroupByMethod;
-use plan_dsl::signature::{Ask, Asked, Many, OwnType, Signature, asks, asks_one, takes};
+use plan_dsl::function_expr::FunctionExpr;
+use plan_dsl::signature::{Ask, Many, OwnType, Sharing, Signature, asks, asks_one, shares, takes};
 use plan_dsl::sort_options::{Flags, SortMultipleOptions, SortOptions};
-use plan_types::common_type::materialize_dyn_int;
+use plan_types::common_type::{materialize_dyn_int, try_get_common_type};
 use plan_types::dtype::DataType;
 use plan_types::error::{ErrorKind, PlanError};
 use std::alloc::Global;
@@ -30,8 +33,9 @@ pub(crate) fn signature(item: &AExpr) -> Result<Signature, ErrorKind>
     ensures { result ≡ signature (op_of (expression_layer item.now)) (length (inputs_of (expression_layer item.now))) }
 {
     use Ask::{Any, Boolean, Length, Place, Sortable};
-    use Many::{Always, AsFirst, Never};
+    use Many::{Always, AsFirst, Never, WhereAny};
     use OwnType::{Count, First, Item};
+    use Sharing::WithThird;
     match item {
         AExpr::Len => takes(asks(Any), asks(Any), asks(Any), Count, Never),
         AExpr::Slice { .. } => takes(asks(Any), asks_one(Place), asks_one(Length), First, Always),
@@ -49,18 +53,15 @@ pub(crate) fn signature(item: &AExpr) -> Result<Signature, ErrorKind>
             by,
             sort_options,
             ..
-        } => {
-            if !has_flags(sort_options, by) {
-                return Err(ErrorKind::ComputeError);
-            }
-            takes(asks(Any), asks(Sortable), asks(Sortable), First, AsFirst)
-        }
+        } => sort_by_signature(by, sort_options),
         AExpr::Agg(aggregate) => method_signature(GroupByMethod::from(*aggregate)),
         AExpr::Window {
             partition_by,
             order_by,
             ..
         } => window_signature(partition_by, order_by),
+        AExpr::Ternary { .. } => shares(WithThird, asks(Any), asks(Boolean), asks(Any), WhereAny),
+        AExpr::Function { input, function } => function_signature(function, input),
         _ => Err(ErrorKind::SchemaMismatch),
     }
 }
@@ -106,6 +107,89 @@ fn window_signature(
     )
 }
 
+// What a sort by keys asks of its inputs.
+fn sort_by_signature(by: &NodeList, options: &SortMultipleOptions) -> Result<Signature, ErrorKind>
+    ensures { result ≡ signature (SortByOp options.now.descending.items.value.items options.now.nulls_last.items.value.items) (suc (length (numbers by.now.items.items))) }
+{
+    if !has_flags(options, by) {
+        return Err(ErrorKind::ComputeError);
+    }
+    takes(
+        asks(Ask::Any),
+        asks(Ask::Sortable),
+        asks(Ask::Sortable),
+        OwnType::First,
+        Many::AsFirst,
+    )
+}
+
+// What a function asks of its inputs, of which it has so many. Those with a rule of their own have none.
+fn function_signature(function: &FunctionExpr, input: &ExprIRs) -> Result<Signature, ErrorKind>
+    ensures { result ≡ function_signature function.now (length (numbers_named input.now.items.items)) }
+{
+    use Ask::{Any, Listed, Place};
+    use Many::{Always, WhereAny};
+    use OwnType::{Item, Truths};
+    use Sharing::{WithSecond, WithThird};
+    let count = input.items.len();
+    match function {
+        FunctionExpr::IsNull | FunctionExpr::IsNotNull => over(
+            1,
+            count,
+            takes(asks(Any), asks(Any), asks(Any), Truths, WhereAny),
+        ),
+        FunctionExpr::FillNull => over(
+            2,
+            count,
+            shares(WithSecond, asks(Any), asks(Any), asks(Any), WhereAny),
+        ),
+        FunctionExpr::ShiftAndFill => over(
+            3,
+            count,
+            shares(WithThird, asks(Any), asks_one(Place), asks_one(Any), Always),
+        ),
+        FunctionExpr::ListGet(_) => over(
+            2,
+            count,
+            takes(asks(Listed), asks(Place), asks(Any), Item, WhereAny),
+        ),
+        FunctionExpr::AllHorizontal | FunctionExpr::AnyHorizontal => horizontal_signature(count),
+        FunctionExpr::IsIn | FunctionExpr::FieldByName(_) | FunctionExpr::FieldByIndex(_) => {
+            Err(ErrorKind::ComputeError)
+        }
+    }
+}
+
+// What a horizontal asks of so many inputs: one over fewer than 128 is written out, and no node.
+fn horizontal_signature(count: usize) -> Result<Signature, ErrorKind>
+    ensures { result ≡ horizontal_signature count }
+{
+    if count < 128 {
+        return Err(ErrorKind::ComputeError);
+    }
+    takes(
+        asks(Ask::Boolean),
+        asks(Ask::Boolean),
+        asks(Ask::Boolean),
+        OwnType::Truths,
+        Many::WhereAny,
+    )
+}
+
+// A function's signature over its own number of inputs, where there are so many.
+fn over(
+    own: usize,
+    count: usize,
+    found: Result<Signature, ErrorKind>,
+) -> Result<Signature, ErrorKind>
+    ensures { result ≡ cond (count == own) found (Err ErrorKind.ComputeError) }
+{
+    if count != own {
+        return Err(ErrorKind::ComputeError);
+    }
+    found
+}
+
 // Whether a sort has flags for its keys.
 fn has_flags(options: &SortMultipleOptions, by: &NodeList) -> bool
     ensures { result ≡ has_flags options.now.descending.items.value.items options.now.nulls_last.items.value.items (length (numbers by.now.items.items)) }
@@ -138,7 +222,8 @@ pub(crate) fn signed_typing(
         Ok(signature) => signature,
         Err(kind) => return Err(PlanError::at_top(kind)),
     };
-    let targets = targets(signature, inputs, types, alloc)?;
+    let shared = shared_dtype(signature.sharing, inputs, types, alloc)?;
+    let targets = targets(signature, &shared, inputs, types, alloc)?;
     let first = first_dtype(targets.as_slice(), alloc)?;
     let dtype = own_dtype(signature.own, first, alloc)?;
     Ok(Inferred {
@@ -149,38 +234,108 @@ pub(crate) fn signed_typing(
     })
 }
 
-// The types to which a signature takes its inputs.
+// The type to which inputs are taken that share one, which matters to no kind where none do.
+fn shared_dtype(
+    sharing: Sharing,
+    inputs: &[Node],
+    types: &TypeTable,
+    alloc: Global,
+) -> Result<DataType, PlanError>
+    requires inputs { AllByRecursion (IsKept types.now) (numbers inputs.now) }
+    ensures ok { IfOk result (λ shared. shared_type sharing (typings_at types.now (numbers inputs.now)) ≡ Ok (ty shared)) }
+    ensures err { IfErr result (IsRefusal (shared_type sharing (typings_at types.now (numbers inputs.now)))) }
+{
+    match sharing {
+        Sharing::Alone => Ok(DataType::Null),
+        Sharing::WithSecond => common_dtype(1, inputs, types, alloc),
+        Sharing::WithThird => common_dtype(2, inputs, types, alloc),
+    }
+}
+
+// The common type of the first input and of the one at a place.
+fn common_dtype(
+    place: usize,
+    inputs: &[Node],
+    types: &TypeTable,
+    alloc: Global,
+) -> Result<DataType, PlanError>
+    requires inputs { AllByRecursion (IsKept types.now) (numbers inputs.now) }
+    ensures ok { IfOk result (λ shared. common_with place (typings_at types.now (numbers inputs.now)) ≡ Ok (ty shared)) }
+    ensures err { IfErr result (IsRefusal (common_with place (typings_at types.now (numbers inputs.now)))) }
+{
+    if inputs.len() <= place {
+        return Err(PlanError::at_top(ErrorKind::SchemaMismatch));
+    }
+    let first = types.get(inputs[0]);
+    let other = types.get(inputs[place]);
+    let shared = try_get_common_type(alloc, &first.dtype, &other.dtype)?;
+    Ok(shared)
+}
+
+// The types to which a signature takes its inputs, of which some may be taken to the shared one.
 fn targets(
     signature: Signature,
+    shared: &DataType,
     inputs: &[Node],
     types: &TypeTable,
     alloc: Global,
 ) -> Result<Vec<DataType>, PlanError>
     requires inputs { AllByRecursion (IsKept types.now) (numbers inputs.now) }
-    ensures ok { IfOk result (λ targets. taken_from signature 0 (typings_at types.now (numbers inputs.now)) ≡ Some (map ty targets.items)) }
-    ensures err { IfErr result (IsMemoryOr ErrorKind.InvalidOperation (taken_from signature 0 (typings_at types.now (numbers inputs.now)) ≡ None)) }
+    ensures ok { IfOk result (λ targets. taken_from (ty shared.now) signature 0 (typings_at types.now (numbers inputs.now)) ≡ Some (map ty targets.items)) }
+    ensures err { IfErr result (IsMemoryOr ErrorKind.InvalidOperation (taken_from (ty shared.now) signature 0 (typings_at types.now (numbers inputs.now)) ≡ None)) }
 {
     let mut targets = Vec::new(alloc);
     for index in 0..inputs.len() {
-        let target = target(signature.asked(index), types.get(inputs[index]), alloc)?;
+        let target = target(signature, index, shared, types.get(inputs[index]), alloc)?;
         targets.push(target)?;
     }
     Ok(targets)
 }
 
-// The type to which an operand is taken.
-fn target(asked: Asked, operand: &Inferred, alloc: Global) -> Result<DataType, PlanError>
-    ensures ok { IfOk result (λ target. taken_by asked (typed_of operand.now) ≡ Some (ty target)) }
-    ensures err { IfErr result (IsMemoryOr ErrorKind.InvalidOperation (taken_by asked (typed_of operand.now) ≡ None)) }
+// The type to which the operand at a place is taken.
+fn target(
+    signature: Signature,
+    place: usize,
+    shared: &DataType,
+    operand: &Inferred,
+    alloc: Global,
+) -> Result<DataType, PlanError>
+    ensures ok { IfOk result (λ target. taken_by (shared_at signature.sharing (ty shared.now) place) (asked_at signature place) (typed_of operand.now) ≡ Some (ty target)) }
+    ensures err { IfErr result (IsMemoryOr ErrorKind.InvalidOperation (taken_by (shared_at signature.sharing (ty shared.now) place) (asked_at signature place) (typed_of operand.now) ≡ None)) }
 {
+    let asked = signature.asked(place);
     if asked.one && operand.many {
         return Err(PlanError::at_top(ErrorKind::InvalidOperation));
     }
-    let alone = type_alone(alloc, &operand.dtype)?;
-    if !is_asked(asked.ask, &alone) {
+    if is_shared(signature.sharing, place) {
+        let target = shared.try_clone(alloc)?;
+        return Ok(target);
+    }
+    let target = target_alone(asked.ask, &operand.dtype, alloc)?;
+    Ok(target)
+}
+
+// Whether the operand at a place has the shared type.
+fn is_shared(sharing: Sharing, place: usize) -> bool
+    ensures { (shared : Ty) → shared_at sharing shared place ≡ cond result (Some shared) None }
+{
+    match sharing {
+        Sharing::Alone => false,
+        Sharing::WithSecond => place == 0 || place == 1,
+        Sharing::WithThird => place == 0 || place == 2,
+    }
+}
+
+// The type to which an operand is taken by its own type.
+fn target_alone(ask: Ask, operand: &DataType, alloc: Global) -> Result<DataType, PlanError>
+    ensures ok { IfOk result (λ target. taken_alone ask (type_alone (ty operand.now)) ≡ Some (ty target)) }
+    ensures err { IfErr result (IsMemoryOr ErrorKind.InvalidOperation (taken_alone ask (type_alone (ty operand.now)) ≡ None)) }
+{
+    let alone = type_alone(alloc, operand)?;
+    if !is_asked(ask, &alone) {
         return Err(PlanError::at_top(ErrorKind::InvalidOperation));
     }
-    Ok(asked_target(asked.ask, alone))
+    Ok(asked_target(ask, alone))
 }
 
 fn is_asked(ask: Ask, alone: &DataType) -> bool
@@ -193,6 +348,7 @@ fn is_asked(ask: Ask, alone: &DataType) -> bool
         Ask::Place => alone.is_integer(),
         Ask::Length => matches!(alone, DataType::Null) || alone.is_integer(),
         Ask::Summable => is_summable(alone),
+        Ask::Listed => matches!(alone, DataType::List(_)),
     }
 }
 
@@ -207,7 +363,7 @@ fn asked_target(ask: Ask, alone: DataType) -> DataType
     ensures { ty result ≡ asked_target ask (ty alone) }
 {
     match ask {
-        Ask::Any | Ask::Sortable | Ask::Summable => alone,
+        Ask::Any | Ask::Sortable | Ask::Summable | Ask::Listed => alone,
         Ask::Boolean => DataType::Boolean,
         Ask::Place | Ask::Length => DataType::Int64,
     }
@@ -236,6 +392,7 @@ fn own_dtype(own: OwnType, first: DataType, alloc: Global) -> Result<DataType, P
         OwnType::Count => Ok(DataType::UInt32),
         OwnType::Total => Ok(sum_dtype(first)),
         OwnType::Rows => DataType::UInt32.implode(alloc),
+        OwnType::Truths => Ok(DataType::Boolean),
     }
 }
 
@@ -283,7 +440,8 @@ fn is_many(many: Many, inputs: &[Node], types: &TypeTable) -> bool
     }
 }
 
-fn some_many(inputs: &[Node], types: &TypeTable) -> bool
+// Whether some input may have another length than one.
+pub(crate) fn some_many(inputs: &[Node], types: &TypeTable) -> bool
     requires inputs { AllByRecursion (IsKept types.now) (numbers inputs.now) }
     ensures { result ≡ some_many (typings_at types.now (numbers inputs.now)) }
 {

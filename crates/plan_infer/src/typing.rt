@@ -1,5 +1,5 @@
 //! Types of expressions in an arena.
-ghost use Rattle.std.specs.Prelude.{◌≡◌, ◌≤◌, ◌+◌, ◌⊎◌, ◌||◌, ℕ, true, false, length, slice_get, OnErr, [], ◌∷◌, Some, Ok, IfOk, IfErr, OnOk};
+ghost use Rattle.std.specs.Prelude.{◌≡◌, ◌≤◌, ◌+◌, ◌⊎◌, ℕ, true, length, slice_get, OnErr, [], ◌∷◌, Some, Ok, IfOk, IfErr, OnOk};
 ghost use Rattle.std.specs.List.{AllByRecursion};
 ghost use Rattle.plan_types.specs.Errors.{IsRefusal, no_memory};
 ghost use Rattle.plan_types.specs.Schemas.{Columns, Name, columns};
@@ -14,9 +14,11 @@ ghost use Rattle.plan_arena.specs.Layers.{op_of, inputs_of};
 ghost use Rattle.plan_arena.specs.Items.{HoldsExpression, expression_layer, numbers};
 ghost use Rattle.plan_infer.specs.KeptTypes.{Extends, IsKept, IsNamedBy, IsRight, IsRuled, kept_count, name_at, node_depth, typings_at};
 
-use crate::operator_types::{OperandTypes, operand_types};
+use crate::function_types::function_typing;
+use crate::operator_types::operand_types;
 use crate::signed::{signature, signed_typing, type_alone, unless_own};
 use crate::steps::Steps;
+use crate::taken::taken_typing;
 use crate::type_table::{Inferred, TypeTable};
 use plan_arena::aexpr::AExpr;
 use plan_arena::arena::{Arena, Node};
@@ -126,6 +128,14 @@ pub(crate) fn own_typing(
         AExpr::BinaryExpr { op, .. } => binary_typing(*op, inputs, types, alloc),
         AExpr::Cast { dtype, .. } => cast_typing(dtype, inputs, types, alloc),
         AExpr::Alias(..) => alias_typing(node, inputs, types, alloc),
+        AExpr::Function { function, .. } => function_typing(
+            node,
+            function,
+            signature(item),
+            inputs,
+            types,
+            alloc,
+        ),
         _ => signed_typing(node, signature(item), inputs, types, alloc),
     }
 }
@@ -185,35 +195,8 @@ fn binary_typing(
     let left = types.get(inputs[0]);
     let right = types.get(inputs[1]);
     let taken = operand_types(alloc, &left.dtype, op, &right.dtype)?;
-    let OperandTypes {
-        left: to_left,
-        right: to_right,
-        result: dtype,
-    } = taken;
-    let targets = pair(to_left, to_right, alloc)?;
-    Ok(Inferred {
-        name: left.name,
-        dtype,
-        many: either(left.many, right.many),
-        operands: unless_own(targets, inputs, types),
-    })
-}
-
-// Two types in a list that has room for no more.
-fn pair(left: DataType, right: DataType, alloc: Global) -> Result<Vec<DataType>, PlanError>
-    ensures ok { IfOk result (λ types. types.items ≡ left ∷ right ∷ []) }
-    ensures err { IfErr result (λ error. error ≡ no_memory) }
-{
-    let mut types = Vec::with_capacity(alloc, 2)?;
-    types.push(left)?;
-    types.push(right)?;
-    Ok(types)
-}
-
-fn either(left: bool, right: bool) -> bool
-    ensures { result ≡ (left || (right || false)) }
-{
-    left || right
+    let own = taken_typing(left.name, taken, inputs, types, alloc)?;
+    Ok(own)
 }
 
 // A cast of an operand, as it is alone, where there is such a cast.

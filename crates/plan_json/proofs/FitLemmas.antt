@@ -1,7 +1,7 @@
 -- What is read fits what was asked, and what a key or a list of places asks.
 use Rattle.plan_json.proofs.Names.{List, Option, Some, [], ap, length, map, option_and_then, option_map, refl, subst, suc, sym, true, ℕ, ◌∙◌, ◌∷◌, ◌≡◌, ◌&&◌, arith, take, zero, Data, Items, array, item, member, no_items, no_members, object, as_null, text_of, type_of, columns_of, table_at, operator_of, mode_of, Declared, AllFit, Asked, Fits, Read, a_form, all_fit, asked_in, asks, columns_read, expression, expression_read, expression_rows, expression_says, fits, flag_read, key_named, leaf, list_read, literal_read, many, mode_read, name_read, nothing_read, operator_read, place_view, places_view, plan_rows, reads_of, row_named, says, table_read, type_read, each_as, leaf_of, list_as, places_as, read_as, these_as, Kind, Key, same_Some}
-use Rattle.plan_json.specs.Forms.{Reads, excluded_read, index_read, kind_of, listed_leaf, method_read, no_order, order, order_items, order_says, plan_read, plan_says, selector, selector_read, selector_rows, selector_says}
-use Rattle.plan_json.specs.Leaves.{excluded_item, index_of, literal_written, method_of}
+use Rattle.plan_json.specs.Forms.{Reads, excluded_read, function_read, index_read, kind_of, listed_leaf, method_read, no_order, optional, order, order_items, order_says, plan_read, plan_says, selector, selector_read, selector_rows, selector_says}
+use Rattle.plan_json.specs.Leaves.{excluded_item, function_of, index_of, literal_written, method_of}
 use Rattle.plan_json.specs.declared.forms.Kind.TheVariants as kinds
 use Rattle.plan_json.specs.declared.forms.Key.TheVariants as keys
 use Rattle.plan_json.specs.declared.forms.Leaf.{Leaf}
@@ -32,6 +32,7 @@ leaf_fits tables leaves.Dtype d r e = made_fits (leaf leaves.Dtype) type_read (�
 leaf_fits tables leaves.Table d r e = made_fits (leaf leaves.Table) (λ table. table_read table.0 table.1) (λ x. refl) (option_and_then (table_at tables) (text_of d)) r e
 leaf_fits tables leaves.Columns d r e = made_fits (leaf leaves.Columns) columns_read (λ x. refl) (columns_of d) r e
 leaf_fits tables leaves.Excluded d r e = made_fits (leaf leaves.Excluded) excluded_read (λ x. refl) (excluded_item d) r e
+leaf_fits tables leaves.Function d r e = made_fits (leaf leaves.Function) function_read (λ x. refl) (function_of d) r e
 leaf_fits tables (leaves.Small smalls.Operator) d r e = made_fits (leaf (leaves.Small smalls.Operator)) operator_read (λ x. refl) (operator_of d) r e
 leaf_fits tables (leaves.Small smalls.Method) d r e = made_fits (leaf (leaves.Small smalls.Method)) method_read (λ x. refl) (method_of d) r e
 leaf_fits tables (leaves.Small smalls.Mode) d r e = made_fits (leaf (leaves.Small smalls.Mode)) mode_read (λ x. refl) (mode_of d) r e
@@ -86,6 +87,12 @@ leaves_fit tables lists.Flag = many_fits tables (leaf (leaves.Small smalls.Flag)
 leaves_fit tables lists.Index = many_fits tables (leaf (leaves.Small smalls.Index)) (λ rs. refl) (leaf_fits tables (leaves.Small smalls.Index))
 leaves_fit tables lists.Excluded = many_fits tables (leaf leaves.Excluded) (λ rs. refl) (leaf_fits tables leaves.Excluded)
 
+optional_fits : (tables : Declared) (d : Data) (r : Read) → read_as tables optional d ≡ Some r → Fits optional r
+optional_fits tables (array ds) r e =
+    let rs = mapped (λ xs. list_read expression (reads_of xs)) (each_as tables expression ds) r e in
+    record { fit = subst (λ x. fits optional x ≡ true) rs.2 (each_fits tables expression (form_fits tables kinds.Expression) ds rs.0 rs.1) }
+optional_fits tables d r e = made_fits optional (λ none. nothing_read) (λ x. refl) (as_null d) r e
+
 -- ---- places
 
 place_fits : (tables : Declared) (p : Place) (d : Data) (r : Read) → read_as tables (place_view p) d ≡ Some r → Fits (place_view p) r
@@ -94,6 +101,7 @@ place_fits tables (places.Leaf which) = leaf_fits tables which
 place_fits tables places.Expressions = many_fits tables expression (λ rs. refl) (form_fits tables kinds.Expression)
 place_fits tables places.Selectors = many_fits tables selector (λ rs. refl) (form_fits tables kinds.Selector)
 place_fits tables places.Order = order_fits tables
+place_fits tables places.Optional = optional_fits tables
 place_fits tables (places.Leaves which) = leaves_fit tables which
 
 these_fit : (tables : Declared) (ps : List Place) (ds : Items) (rs : List Read) → these_as tables (map place_view ps) ds ≡ Some rs → AllFit (map place_view ps) rs

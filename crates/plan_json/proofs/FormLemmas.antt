@@ -2,25 +2,30 @@
 use Rattle.plan_json.proofs.Names.{Bool, List, None, Option, Some, [], ap, arith, bytes_eq, cond, false, get_or, is_some, length, map, ne_eqb, option_and_then, option_map, refl, slice_get, subst, suc, sym, take, true, zero, ℕ, ◌&&◌, ◌||◌, ◌++◌, ◌<◌, ◌==◌, ◌∙◌, ◌∷◌, ◌≡◌, ◌≤◌, asked_form, items_of, key, key_form, keyed_form, number, own_fault, part, part_of, places_form, shape_fault, unless, all_of, both, only_member, items_view, view, Name, Data, Items, array, item, no_items, Declared, as_array, at, get_item, Asked, Read, a_form, asks, expression_read, expressions_in, flag_read, flags_in, key_named, leaves_read, list_read, many, many_read, name_read, place_view, ty, type_read, ℤ, reads_of, row_named, says, IsItem, each_as, front, places_as, read_as, these_as, option_map_or, escaped, Value, items_len-items_view, eq-eqb, length-map, items_len, bytes_eq-Decides, Kind, Key, tree_of, slice_get-map, slice_get-get_or, trees_of, SortByOp, expression_says, same_Some, and_parts, Box, Global}
 use Rattle.plan_json.specs.declared.forms.Place.{Place}
 use Rattle.plan_dsl.specs.Expressions.{excluded_of}
-use Rattle.plan_dsl.specs.Sources.{Plain, Source}
+use Rattle.plan_dsl.specs.Sources.{FieldAtOp, Plain, Source}
 use Rattle.plan_dsl.specs.declared.marker.Excluded.{Excluded}
 use Rattle.plan_types.specs.declared.dtype.DataType.{DataType}
-use Rattle.plan_json.specs.Forms.{excluded_in, excluded_read, index_read, indexes_in, names_in, order, order_items, order_read, order_says, selector_read, selectors_in, types_in}
-use Rattle.plan_json.specs.Queries.{list_as}
-use Rattle.plan_dsl.specs.Expressions.{order_trees, way_of}
-use Rattle.plan_dsl.specs.Ops.{WindowOp}
+use Rattle.plan_json.specs.Forms.{excluded_in, excluded_read, function_read, index_read, indexes_in, names_in, expression, optional, order, order_items, order_read, order_says, selector_read, selectors_in, types_in}
+use Rattle.plan_json.specs.Queries.{has_flags, list_as}
+use Rattle.plan_dsl.specs.Plans.{OrderOption, PlanOption, ProjectionOption, options_in}
+use Rattle.plan_dsl.specs.declared.plan.DslPlan.{DslPlan}
+use Rattle.plan_dsl.specs.declared.plan.DslPlan.TheVariants.{DataFrameScan, Filter', GroupBy', HStack', MapFunction', Select'}
+use Rattle.plan_dsl.specs.Expressions.{function_source, order_trees, way_of}
+use Rattle.plan_dsl.specs.Ops.{FunctionOp, WindowOp}
+use Rattle.plan_dsl.specs.declared.function_expr.FunctionExpr.{FunctionExpr}
+use Rattle.plan_dsl.specs.declared.function_expr.FunctionExpr.TheVariants.{FieldByIndex, FieldByName}
 use Rattle.plan_dsl.specs.declared.sort_options.SortOptions.{SortOptions}
 use Rattle.plan_dsl.specs.declared.window.WindowType.{WindowType}
 use Rattle.plan_dsl.specs.Trees.{node, more, children_from}
-use Rattle.plan_dsl.specs.declared.expr.Expr.{Expr, SortBy, Window}
+use Rattle.plan_dsl.specs.declared.expr.Expr.{Expr, Function, SortBy, Window}
 use Rattle.plan_dsl.specs.declared.expr.Exprs.{Exprs}
 use Rattle.plan_dsl.specs.declared.sort_options.SortMultipleOptions.{SortMultipleOptions}
-use Rattle.plan_dsl.proofs.ExprLemmas.{sort_by_listed, window_listed}
+use Rattle.plan_dsl.proofs.ExprLemmas.{function_listed, sort_by_listed, window_listed}
 use Rattle.plan_json.specs.declared.forms.ExpressionKey.TheVariants as of
 use Rattle.plan_json.specs.declared.forms.Leaf.TheVariants as leaves
 use Rattle.plan_json.specs.declared.forms.SmallLeaf.TheVariants as smalls
 use Rattle.plan_json.specs.Errors.{IsErrorOf}
-use Rattle.plan_json.specs.Faults.{Step, is_list, order_form}
+use Rattle.plan_json.specs.Faults.{Step, is_list, list_of, optional_form, order_form}
 use Rattle.plan_json.specs.declared.error.JsonError.{JsonError}
 use Rattle.serde_json.specs.Find.{as_null}
 use Rattle.plan_json.proofs.FaultLemmas.{key_in, stricter_error}
@@ -99,6 +104,27 @@ over_said function keys by options =
     (λ i. Some (node (Plain (WindowOp (way_of by))) (more (tree_of function.value) (children_from (order_trees by ++ expressions_read (trees_of keys) i)))))
     ∙ ap (λ tree. Some tree) (sym (window_listed (Window function keys by options) function keys by options refl).is)
 
+-- a function over the expressions that were read
+pub function_said : (input : Exprs) (function : FunctionExpr)
+    → expression_says of.Fn (function_read function ∷ many_read (reads_of (map expression_read (trees_of input))) ∷ []) ≡ Some (tree_of (Function input function))
+function_said input function =
+    (λ i. Some (node (function_source function) (children_from (expressions_read (trees_of input) i))))
+    ∙ ap (λ tree. Some tree) (sym (function_listed (Function input function) input function refl).is)
+
+-- the field of a name, over one expression
+pub field_said : (input : Exprs) (expr : Expr) (name : Name) → input.items.items ≡ expr ∷ []
+    → expression_says of.Field (expression_read (tree_of expr) ∷ name_read name ∷ []) ≡ Some (tree_of (Function input (FieldByName name)))
+field_said input expr name one =
+    (λ i. Some (node (Plain (FunctionOp (FieldByName name) [])) (children_from (map tree_of (sym one i)))))
+    ∙ ap (λ tree. Some tree) (sym (function_listed (Function input (FieldByName name)) input (FieldByName name) refl).is)
+
+-- the field at a place, over one expression
+pub field_at_said : (input : Exprs) (expr : Expr) (place : ℤ) → input.items.items ≡ expr ∷ []
+    → expression_says of.FieldAt (expression_read (tree_of expr) ∷ index_read place ∷ []) ≡ Some (tree_of (Function input (FieldByIndex place)))
+field_at_said input expr place one =
+    (λ i. Some (node (FieldAtOp place) (children_from (map tree_of (sym one i)))))
+    ∙ ap (λ tree. Some tree) (sym (function_listed (Function input (FieldByIndex place)) input (FieldByIndex place) refl).is)
+
 -- an order that is a list
 pub order_listed : (tables : Declared) (d : Data) (rs : List Read) (r : Read) → list_as tables order_items d ≡ Some rs → order_says rs ≡ Some r → read_as tables order d ≡ Some r
 order_listed tables (array ds) rs r items says = ap (option_and_then order_says) items ∙ says
@@ -114,6 +140,22 @@ order_error names d error none bad =
     stricter_error (items_of names order_items) (order_form names) d
     (λ kind h. ap (λ o. unless (shape_fault d) (is_some {T = Unit {0}} o || is_list (λ items. items_len items == length order_items) d)) (sym none) ∙ h)
     (order_parts names d) error bad
+
+-- a list of expressions where there may be none
+pub optional_listed : (tables : Declared) (d : Data) (r : Read) → read_as tables (many expression) d ≡ Some r → read_as tables optional d ≡ Some r
+optional_listed tables (array ds) r read = read
+optional_listed tables _ r read = cc
+
+-- an error of that list is one of what may be none
+optional_parts : (names : List Name) (d : Data) (step : Step) → part_of (list_of names expression) step d ≡ part_of (optional_form names) step d
+optional_parts names d (key word) = refl
+optional_parts names d (number n) = refl
+
+pub optional_error : (names : List Name) (d : Data) (error : JsonError) → None ≡ as_null d → IsErrorOf (list_of names expression) d error → IsErrorOf (optional_form names) d error
+optional_error names d error none bad =
+    stricter_error (list_of names expression) (optional_form names) d
+    (λ kind h. ap (λ o. unless (shape_fault d) (is_some {T = Unit {0}} o || is_list (λ items. true) d)) (sym none) ∙ h)
+    (optional_parts names d) error bad
 
 -- ---- a form by its key
 
@@ -179,3 +221,28 @@ other_count names places vs d is other =
 pub each_read : (tables : Declared) (a : Asked) (d : Data) (ds : Items) (rs : List Read) → Some ds ≡ as_array d → all_of (read_as tables a) ds ≡ Some rs → read_as tables (many a) d ≡ Some (list_read a (reads_of rs))
 each_read tables a d ds rs is read =
     ap (read_as tables (many a)) (array-from_as_array d ds is) ∙ ap (option_map (λ xs. list_read a (reads_of xs))) (each_as-all_of tables a ds ∙ read)
+
+-- ---- options that are set
+
+abbrev sets : PlanOption → Bool
+sets (ProjectionOption options) = options.duplicate_check
+sets (OrderOption maintain_order) = maintain_order
+
+abbrev any_sets : List PlanOption → Bool
+any_sets [] = false
+any_sets (option ∷ options) = sets option || any_sets options
+
+flags_in_options : (plan : DslPlan) → has_flags plan ≡ any_sets (options_in plan)
+flags_in_options (DataFrameScan table schema) = refl
+flags_in_options (Select' expr p input options) = ap (λ b. options.duplicate_check || b) (flags_in_options input)
+flags_in_options (HStack' exprs p input options) = ap (λ b. options.duplicate_check || b) (flags_in_options input)
+flags_in_options (GroupBy' p input keys aggs maintain_order) = ap (λ b. maintain_order || b) (flags_in_options input)
+flags_in_options (Filter' p input predicate) = flags_in_options input
+flags_in_options (MapFunction' p input function) = flags_in_options input
+
+-- a plan with the options of another, and with one more that isn't set, has no flags where that has none
+pub same_flags : (plan other : DslPlan) → options_in other ≡ options_in plan → has_flags plan ≡ false → has_flags other ≡ false
+same_flags plan other same none = flags_in_options other ∙ ap any_sets same ∙ sym (flags_in_options plan) ∙ none
+
+pub unset_flags : (plan other : DslPlan) → options_in other ≡ ProjectionOption (record { duplicate_check = false }) ∷ options_in plan → has_flags plan ≡ false → has_flags other ≡ false
+unset_flags plan other same none = flags_in_options other ∙ ap any_sets same ∙ sym (flags_in_options plan) ∙ none

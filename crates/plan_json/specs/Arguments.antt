@@ -6,10 +6,10 @@ use Rattle.plan_dsl.specs.Expressions.{excluded_of, order_trees, selector_tree, 
 use Rattle.plan_dsl.specs.Literals.{literal_op}
 use Rattle.plan_dsl.specs.Plans.{plan_tree}
 use Rattle.plan_dsl.specs.declared.plan.DslPlan.{DslPlan}
-use Rattle.plan_json.specs.Forms.{Read, name_read, literal_read, operator_read, method_read, type_read, mode_read, table_read, columns_read, expression_read, selector_read, plan_read, many_read, chosen_read, leaves_read, reads_of, other_read, nothing_read, flag_read, index_read, excluded_read, order_read}
+use Rattle.plan_json.specs.Forms.{Read, name_read, literal_read, operator_read, method_read, function_read, type_read, mode_read, table_read, columns_read, expression_read, selector_read, plan_read, many_read, chosen_read, leaves_read, reads_of, other_read, nothing_read, flag_read, index_read, excluded_read, order_read}
 use Rattle.plan_json.specs.Queries.{has_flags}
 use Rattle.plan_json.specs.declared.arguments.Arg.{Arg}
-use Rattle.plan_json.specs.declared.arguments.Arg.TheVariants.{Name, Literal, Operator, Method, Dtype, Mode, Table, Columns, Nothing, Flag, Index, Excluded, Order, Expression, Selector, Plan, Expressions, Selectors, Names, Dtypes, Flags, Indexes, AllExcluded}
+use Rattle.plan_json.specs.declared.arguments.Arg.TheVariants.{Name, Literal, Operator, Method, Function, Dtype, Mode, Table, Columns, Nothing, Flag, Index, Excluded, Order, Expression, Selector, Plan, Expressions, Selectors, Names, Dtypes, Flags, Indexes, AllExcluded}
 use Rattle.plan_json.specs.declared.arguments.Items.{Items}
 use Rattle.plan_json.specs.declared.forms.Leaf.TheVariants as leaves
 use Rattle.plan_json.specs.declared.forms.SmallLeaf.TheVariants as smalls
@@ -24,6 +24,7 @@ arg_view (Name name) = name_read name.value
 arg_view (Literal literal) = literal_read (literal_op literal.value)
 arg_view (Operator operator) = operator_read operator
 arg_view (Method method) = method_read method
+arg_view (Function function) = function_read function.value
 arg_view (Dtype dtype) = type_read (ty dtype.value)
 arg_view (Mode mode) = mode_read mode
 arg_view (Table number schema) = table_read number (columns schema.value)

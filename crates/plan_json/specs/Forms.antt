@@ -4,14 +4,16 @@ use Rattle.std.specs.Str.{bytes_eq}
 use Rattle.plan_types.specs.Schemas.{Name, Columns}
 use Rattle.plan_types.specs.Types.{Ty}
 use Rattle.plan_types.specs.declared.dtype.CastOptions.{CastOptions}
-use Rattle.plan_dsl.specs.Ops.{Op, ColumnOp, BinaryOp, CastOp, LenOp, SliceOp, ExplodeOp, GatherOp, FilterOp, SortOp, SortByOp, AliasOp, WindowOp}
-use Rattle.plan_dsl.specs.Plans.{SourcePlan, scan_op, source_select, source_hstack, source_group_by, source_filter, source_drop}
-use Rattle.plan_dsl.specs.Sources.{Excluded, Source, Plain, WildcardOp, ColumnsOp, DtypeColumnOp, IndexColumnOp, NthOp, ExcludeOp, SelectorOp, RootOp, RenameOp, KeepRoot, AddPrefix, AddSuffix, SetName, SetRule, Add, Sub, Intersect, ExclusiveOr, SourceOp, of_two}
+use Rattle.plan_dsl.specs.Ops.{Op, ColumnOp, BinaryOp, CastOp, LenOp, SliceOp, ExplodeOp, GatherOp, FilterOp, SortOp, SortByOp, AliasOp, WindowOp, TernaryOp, FunctionOp}
+use Rattle.plan_dsl.specs.Plans.{SourcePlan, all_known_values, nulls_filled, scan_op, source_select, source_hstack, source_group_by, source_filter, source_drop}
+use Rattle.plan_dsl.specs.Sources.{Excluded, Source, Plain, WildcardOp, ColumnsOp, DtypeColumnOp, IndexColumnOp, NthOp, ExcludeOp, SelectorOp, RootOp, RenameOp, KeepRoot, AddPrefix, AddSuffix, SetName, FieldAtOp, SetRule, Add, Sub, Intersect, ExclusiveOr, SourceOp, of_two}
 use Rattle.plan_dsl.specs.Trees.{node, no_more, more, children_from}
 use Rattle.plan_dsl.specs.declared.aggregate.GroupByMethod.{GroupByMethod}
+use Rattle.plan_dsl.specs.declared.function_expr.FunctionExpr.{FunctionExpr}
+use Rattle.plan_dsl.specs.declared.function_expr.FunctionExpr.TheVariants as functions
 use Rattle.plan_dsl.specs.declared.operator.Operator.{Operator}
 use Rattle.plan_dsl.specs.declared.sort_options.SortOptions.{SortOptions}
-use Rattle.plan_dsl.specs.Expressions.{aggregated}
+use Rattle.plan_dsl.specs.Expressions.{aggregated, function_source}
 use Rattle.plan_json.specs.declared.forms.Kind.{Kind}
 use Rattle.plan_json.specs.declared.forms.Kind.TheVariants as kinds
 use Rattle.plan_json.specs.declared.forms.Leaf.{Leaf}
@@ -54,6 +56,8 @@ pub data Asked : Type 0 where
   many : Asked → Asked
   -- null, or a list of an expression and two flags
   order : Asked
+  -- null, or a list of any number of expressions
+  optional : Asked
 
 -- what a key asks of its value
 pub data Places : Type 0 where
@@ -95,6 +99,10 @@ expression_rows =
     (codes "alias", of.Named named.Alias) ∷
     (codes "agg", of.Agg) ∷
     (codes "over", of.Over) ∷
+    (codes "if", of.If) ∷
+    (codes "fn", of.Fn) ∷
+    (codes "field", of.Field) ∷
+    (codes "field_at", of.FieldAt) ∷
     (codes "cols", of.Marker marks.Cols) ∷
     (codes "dtypes", of.Marker marks.Dtypes) ∷
     (codes "at", of.Marker marks.At) ∷
@@ -132,6 +140,10 @@ expression_asks of.Sort = listed (expression ∷ leaf (leaves.Small smalls.Flag)
 expression_asks of.SortBy = listed (expression ∷ many expression ∷ many (leaf (leaves.Small smalls.Flag)) ∷ many (leaf (leaves.Small smalls.Flag)) ∷ [])
 expression_asks of.Agg = listed (leaf (leaves.Small smalls.Method) ∷ expression ∷ [])
 expression_asks of.Over = listed (expression ∷ many expression ∷ order ∷ [])
+expression_asks of.If = listed (expression ∷ expression ∷ expression ∷ [])
+expression_asks of.Fn = listed (leaf leaves.Function ∷ many expression ∷ [])
+expression_asks of.Field = listed (expression ∷ leaf leaves.Name ∷ [])
+expression_asks of.FieldAt = listed (expression ∷ leaf (leaves.Small smalls.Index) ∷ [])
 expression_asks of.KeepName = single expression
 expression_asks (of.Named key) = listed (expression ∷ leaf leaves.Name ∷ [])
 expression_asks (of.Marker key) = marker_asks key
@@ -163,7 +175,9 @@ plan_rows =
     (codes "select", by.Select) ∷
     (codes "with_columns", by.WithColumns) ∷
     (codes "group_by", by.GroupBy) ∷
-    (codes "drop", by.Drop) ∷ []
+    (codes "drop", by.Drop) ∷
+    (codes "drop_nulls", by.DropNulls) ∷
+    (codes "fill_null", by.FillNull) ∷ []
 
 -- what each asks of its value
 abbrev pub plan_asks : PlanKey → Places
@@ -174,6 +188,8 @@ plan_asks by.Select = listed (plan ∷ many expression ∷ [])
 plan_asks by.WithColumns = listed (plan ∷ many expression ∷ [])
 plan_asks by.GroupBy = listed (plan ∷ many expression ∷ many expression ∷ [])
 plan_asks by.Drop = listed (plan ∷ many selector ∷ leaf (leaves.Small smalls.Flag) ∷ [])
+plan_asks by.DropNulls = listed (plan ∷ optional ∷ [])
+plan_asks by.FillNull = listed (plan ∷ expression ∷ [])
 
 -- ---- types
 
@@ -202,6 +218,7 @@ mutual
     literal_read : Op → Read
     operator_read : Operator → Read
     method_read : GroupByMethod → Read
+    function_read : FunctionExpr → Read
     type_read : Ty → Read
     mode_read : CastOptions → Read
     table_read : ℕ → Columns → Read
@@ -288,6 +305,11 @@ order_says (expression_read by ∷ flag_read descending ∷ flag_read nulls_last
     Some (order_read (Some (record { descending = descending; nulls_last = nulls_last })) (by ∷ []))
 order_says _ = None
 
+-- no list of expressions, or these
+abbrev pub optional_read : Option (List Source) → Read
+optional_read None = nothing_read
+optional_read (Some trees) = many_read (reads_of (map expression_read trees))
+
 abbrev pub marker_says : MarkerKey → List Read → Option Source
 marker_says marks.Cols (leaves_read _ names ∷ []) = Some (node (ColumnsOp (names_in names)) no_more)
 marker_says marks.Dtypes (leaves_read _ types ∷ []) = Some (node (DtypeColumnOp (types_in types)) no_more)
@@ -313,6 +335,12 @@ expression_says of.Bin (operator_read op ∷ expression_read left ∷ expression
 expression_says of.Agg (method_read method ∷ expression_read input ∷ []) = Some (aggregated method input)
 expression_says of.Over (expression_read function ∷ many_read keys ∷ order_read way by ∷ []) =
     Some (node (Plain (WindowOp way)) (more function (children_from (by ++ expressions_in keys))))
+expression_says of.If (expression_read predicate ∷ expression_read truthy ∷ expression_read falsy ∷ []) =
+    Some (node (Plain TernaryOp) (more truthy (more predicate (more falsy no_more))))
+expression_says of.Fn (function_read function ∷ many_read inputs ∷ []) = Some (node (function_source function) (children_from (expressions_in inputs)))
+expression_says of.Field (expression_read input ∷ name_read name ∷ []) =
+    Some (node (Plain (FunctionOp (functions.FieldByName name) [])) (more input no_more))
+expression_says of.FieldAt (expression_read input ∷ index_read place ∷ []) = Some (node (FieldAtOp place) (more input no_more))
 expression_says of.Cast (expression_read operand ∷ type_read type ∷ mode_read mode ∷ []) =
     Some (node (Plain (CastOp type mode)) (more operand no_more))
 expression_says of.Len (nothing_read ∷ []) = Some (node (Plain LenOp) no_more)
@@ -356,6 +384,10 @@ plan_says by.GroupBy (plan_read input ∷ many_read keys ∷ many_read aggs ∷ 
     Some (source_group_by (expressions_in keys) (expressions_in aggs) input)
 plan_says by.Drop (plan_read input ∷ chosen_read selectors ∷ flag_read strict ∷ []) =
     Some (source_drop (selectors_in selectors) strict input)
+plan_says by.DropNulls (plan_read input ∷ nothing_read ∷ []) = Some (source_filter (all_known_values None) input)
+plan_says by.DropNulls (plan_read input ∷ many_read subset ∷ []) =
+    Some (source_filter (all_known_values (Some (expressions_in subset))) input)
+plan_says by.FillNull (plan_read input ∷ expression_read value ∷ []) = Some (source_select (nulls_filled value ∷ []) input)
 plan_says _ _ = None
 
 -- ---- keys of any kind
@@ -407,7 +439,10 @@ abbrev mutual
   fits (leaf (leaves.Small smalls.Flag)) (flag_read flag) = true
   fits (leaf (leaves.Small smalls.Index)) (index_read index) = true
   fits (leaf leaves.Excluded) (excluded_read excluded) = true
+  fits (leaf leaves.Function) (function_read function) = true
   fits order (order_read way by) = true
+  fits optional nothing_read = true
+  fits optional (many_read rs) = all_fit expression rs
   fits (many (leaf leaves.Name)) (leaves_read leaves.Name rs) = all_fit (leaf leaves.Name) rs
   fits (many (leaf leaves.Dtype)) (leaves_read leaves.Dtype rs) = all_fit (leaf leaves.Dtype) rs
   fits (many (leaf (leaves.Small smalls.Flag))) (leaves_read (leaves.Small smalls.Flag) rs) = all_fit (leaf (leaves.Small smalls.Flag)) rs
@@ -456,6 +491,7 @@ place_view (places.Leaf which) = leaf which
 place_view places.Expressions = many expression
 place_view places.Selectors = many selector
 place_view places.Order = order
+place_view places.Optional = optional
 place_view (places.Leaves which) = many (leaf (listed_leaf which))
 
 abbrev pub places_view : CodePlaces → Places

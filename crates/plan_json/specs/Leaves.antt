@@ -19,6 +19,8 @@ use Rattle.plan_dsl.specs.Ops.{Op, LiteralOp}
 use Rattle.plan_dsl.specs.Sources.{Excluded, ExcludedName, ExcludedType}
 use Rattle.plan_dsl.specs.declared.aggregate.GroupByMethod.{GroupByMethod}
 use Rattle.plan_dsl.specs.declared.aggregate.GroupByMethod.TheVariants.{Min, Max, NUnique, First, Last, Implode, Sum, Count, Groups}
+use Rattle.plan_dsl.specs.declared.function_expr.FunctionExpr.{FunctionExpr}
+use Rattle.plan_dsl.specs.declared.function_expr.FunctionExpr.TheVariants.{AllHorizontal, AnyHorizontal, IsNull, IsNotNull, FillNull, IsIn, ShiftAndFill, ListGet}
 use Rattle.plan_dsl.specs.declared.operator.Operator.{Operator}
 use Rattle.plan_dsl.specs.declared.operator.Operator.TheVariants.{Eq, EqValidity, NotEq, NotEqValidity, Lt, LtEq, Gt, GtEq, Plus, Minus, Multiply, Divide, FloorDivide, Modulus, And, Or, Xor, LogicalAnd, LogicalOr}
 use Rattle.plan_json.specs.Forms.{row_named, type_rows, excluded_rows}
@@ -159,6 +161,22 @@ method_named name = option_or (value_named name) (count_named name)
 
 abbrev pub method_of : Data → Option GroupByMethod
 method_of d = option_and_then method_named (as_str d)
+
+-- the function of that name, of those that are written by it alone
+abbrev pub function_named : List ℕ → Option FunctionExpr
+function_named name =
+    if bytes_eq name (codes "AllHorizontal") then Some AllHorizontal else (
+    if bytes_eq name (codes "AnyHorizontal") then Some AnyHorizontal else (
+    if bytes_eq name (codes "IsNull") then Some IsNull else (
+    if bytes_eq name (codes "IsNotNull") then Some IsNotNull else (
+    if bytes_eq name (codes "FillNull") then Some FillNull else (
+    if bytes_eq name (codes "IsIn") then Some IsIn else (
+    if bytes_eq name (codes "ShiftAndFill") then Some ShiftAndFill else (
+    if bytes_eq name (codes "ListGet") then Some (ListGet false) else (
+    if bytes_eq name (codes "ListGetOrNull") then Some (ListGet true) else None))))))))
+
+abbrev pub function_of : Data → Option FunctionExpr
+function_of d = option_and_then function_named (as_str d)
 
 -- what a cast does with a value that has no place in its target
 abbrev pub mode_named : List ℕ → Option CastOptions

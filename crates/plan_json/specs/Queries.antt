@@ -5,8 +5,8 @@ use Rattle.serde_json.specs.Data.{Data, array, object, Items, no_items, item, no
 use Rattle.plan_dsl.specs.Plans.{SourcePlan, plan_tree}
 use Rattle.plan_dsl.specs.declared.plan.DslPlan.{DslPlan}
 use Rattle.plan_dsl.specs.declared.plan.DslPlan.TheVariants.{DataFrameScan, Filter', GroupBy', HStack', MapFunction', Select'}
-use Rattle.plan_json.specs.Forms.{Asked, a_form, leaf, many, order, order_items, order_says, no_order, Places, single, listed, plan, Read, name_read, literal_read, operator_read, method_read, type_read, mode_read, table_read, columns_read, plan_read, list_read, reads_of, key_named, asks, says, nothing_read, flag_read, index_read, excluded_read}
-use Rattle.plan_json.specs.Leaves.{excluded_item, index_of, text_of, literal_written, operator_of, method_of, type_of, mode_of, table_at, columns_of, tables_of}
+use Rattle.plan_json.specs.Forms.{Asked, a_form, leaf, many, order, optional, expression, many_read, order_items, order_says, no_order, Places, single, listed, plan, Read, name_read, literal_read, operator_read, method_read, function_read, type_read, mode_read, table_read, columns_read, plan_read, list_read, reads_of, key_named, asks, says, nothing_read, flag_read, index_read, excluded_read}
+use Rattle.plan_json.specs.Leaves.{excluded_item, index_of, text_of, literal_written, operator_of, method_of, function_of, type_of, mode_of, table_at, columns_of, tables_of}
 use Rattle.plan_json.specs.Looking.{both, two_members}
 use Rattle.plan_json.specs.Tables.{Declared, declared}
 use Rattle.plan_json.specs.declared.forms.Leaf.{Leaf}
@@ -48,6 +48,7 @@ leaf_of tables leaves.Dtype d = option_map type_read (type_of d)
 leaf_of tables leaves.Table d = option_map (λ table. table_read table.0 table.1) (option_and_then (table_at tables) (text_of d))
 leaf_of tables leaves.Columns d = option_map columns_read (columns_of d)
 leaf_of tables leaves.Excluded d = option_map excluded_read (excluded_item d)
+leaf_of tables leaves.Function d = option_map function_read (function_of d)
 leaf_of tables (leaves.Small which) d = small_of which d
 
 -- the first of these, and the others
@@ -67,6 +68,8 @@ abbrev mutual
   read_as tables (many a) (array ds) = option_map (λ rs. list_read a (reads_of rs)) (each_as tables a ds)
   read_as tables order (array ds) = option_and_then order_says (these_as tables order_items ds)
   read_as tables order d = order_of_null d
+  read_as tables optional (array ds) = option_map (λ rs. many_read (reads_of rs)) (each_as tables expression ds)
+  read_as tables optional d = nothing_of d
   read_as tables _ _ = None
 
   -- a list of exactly these

@@ -8,12 +8,13 @@ use Rattle.plan_types.specs.Schemas.{Columns, Name as Text}
 use Rattle.plan_types.specs.Types.{Ty, Integer, Untyped}
 use Rattle.plan_types.specs.Values.{IntValue}
 use Rattle.plan_types.specs.declared.dtype.CastOptions.{CastOptions}
+use Rattle.plan_dsl.specs.declared.function_expr.FunctionExpr.{FunctionExpr}
 use Rattle.plan_dsl.specs.declared.operator.Operator.{Operator}
-use Rattle.plan_dsl.specs.Ops.{ColumnOp, LiteralOp, BinaryOp, CastOp, Expression, Op}
+use Rattle.plan_dsl.specs.Ops.{ColumnOp, LiteralOp, BinaryOp, CastOp, TernaryOp, FunctionOp, Expression, Op}
 use Rattle.plan_dsl.specs.Plans.{SourcePlan, scan_op}
 use Rattle.plan_dsl.specs.Sources.{Source, written}
 use Rattle.plan_dsl.specs.Samples.{written_select, written_filter}
-use Rattle.plan_dsl.specs.Trees.{node, no_more, more}
+use Rattle.plan_dsl.specs.Trees.{node, no_more, more, children_from}
 use Rattle.plan_json.specs.Bytes.{IsRefusalOf, WritesQuery}
 use Rattle.plan_json.specs.Faults.{FaultKind, BadShape, BadFloat, BadName, Form, Part, Path, Step, fault_at, key, number as at_number, own_fault, part, part_of, keyed_form, list_of, places_form}
 use Rattle.plan_json.specs.Forms.{Read, expression, expression_read, selector, selector_read, asks, leaf as leaf_of_form}
@@ -137,6 +138,14 @@ binary operator left right = node (BinaryOp operator) (more left (more right no_
 
 abbrev pub cast_to : Ty → CastOptions → Expression → Expression
 cast_to type mode operand = node (CastOp type mode) (more operand no_more)
+
+-- the second where the first is true, and else the third
+abbrev pub choice : Expression → Expression → Expression → Expression
+choice predicate truthy falsy = node TernaryOp (more truthy (more predicate (more falsy no_more)))
+
+-- a function of the values of these
+abbrev pub of_values : FunctionExpr → List Expression → Expression
+of_values function inputs = node (FunctionOp function []) (children_from inputs)
 
 abbrev pub scan : Option ℕ → Columns → SourcePlan
 scan table columns = node (scan_op table columns) no_more

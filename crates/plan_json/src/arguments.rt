@@ -1,18 +1,20 @@
 //! What is read of a key's value, item by item, and taking it apart again.
 ghost use Rattle.std.specs.Prelude.{◌≡◌, ◌∷◌, [], false, true, length, map, Some};
+ghost use Rattle.std.specs.Option.{option_map};
 ghost use Rattle.plan_dsl.specs.Expressions.{excluded_of, order_trees, selector_tree, selector_trees, tree_of, trees_of, way_of};
 ghost use Rattle.plan_dsl.specs.Literals.{literal_op};
 ghost use Rattle.plan_dsl.specs.Plans.{plan_tree};
 ghost use Rattle.plan_types.specs.Schemas.{columns};
 ghost use Rattle.plan_types.specs.Types.{ty};
 ghost use Rattle.plan_json.specs.Arguments.{arg_view, args_view, items_seen};
-ghost use Rattle.plan_json.specs.Forms.{AllFit, Asked, Fits, chosen_read, columns_read, expression, expression_read, leaf, leaves_read, literal_read, many, many_read, method_read, mode_read, name_read, operator_read, order, order_items, order_read, order_says, plan, plan_read, reads_of, selector, selector_read, table_read, type_read, nothing_read, flag_read, index_read, excluded_read, is_literal};
+ghost use Rattle.plan_json.specs.Forms.{AllFit, Asked, Fits, optional, optional_read, chosen_read, columns_read, expression, expression_read, leaf, leaves_read, literal_read, many, many_read, method_read, function_read, mode_read, name_read, operator_read, order, order_items, order_read, order_says, plan, plan_read, reads_of, selector, selector_read, table_read, type_read, nothing_read, flag_read, index_read, excluded_read, is_literal};
 ghost use Rattle.plan_json.specs.Queries.{has_flags};
 ghost use Rattle.plan_json.specs.declared.forms.Leaf.TheVariants as leaves;
 ghost use Rattle.plan_json.specs.declared.forms.SmallLeaf.TheVariants as smalls;
 
 use plan_dsl::aggregate::GroupByMethod;
 use plan_dsl::expr::{Expr, Exprs};
+use plan_dsl::function_expr::FunctionExpr;
 use plan_dsl::literal::LiteralValue;
 use plan_dsl::marker::Excluded;
 use plan_dsl::operator::Operator;
@@ -30,6 +32,7 @@ pub(crate) enum Arg {
     Literal(Box<LiteralValue>),
     Operator(Operator),
     Method(GroupByMethod),
+    Function(Box<FunctionExpr>),
     Dtype(Box<DataType>),
     Mode(CastOptions),
     Table(u32, Box<Schema>),
@@ -219,6 +222,16 @@ pub(crate) fn method(arg: Arg) -> GroupByMethod
     }
 }
 
+pub(crate) fn function(arg: Arg) -> FunctionExpr
+    requires { Fits (leaf leaves.Function) (arg_view arg) }
+    ensures { arg_view arg ≡ function_read result }
+{
+    match arg {
+        Arg::Function(function) => Box::into_inner(function),
+        _ => unreachable!(),
+    }
+}
+
 pub(crate) fn dtype(arg: Arg) -> DataType
     requires { Fits (leaf leaves.Dtype) (arg_view arg) }
     ensures { arg_view arg ≡ type_read (ty result) }
@@ -353,6 +366,18 @@ pub(crate) fn expressions(arg: Arg) -> Exprs
 {
     match arg {
         Arg::Expressions(exprs) => Box::into_inner(exprs),
+        _ => unreachable!(),
+    }
+}
+
+// A list of expressions, if there is one.
+pub(crate) fn some_expressions(arg: Arg) -> Option<Vec<Expr>>
+    requires { Fits optional (arg_view arg) }
+    ensures { arg_view arg ≡ optional_read (option_map (λ exprs. map tree_of exprs.items) result) }
+{
+    match arg {
+        Arg::Nothing => None,
+        Arg::Expressions(exprs) => Some(Box::into_inner(exprs).items),
         _ => unreachable!(),
     }
 }

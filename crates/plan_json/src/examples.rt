@@ -4,7 +4,9 @@
 pub mod aggregates;
 pub mod errors;
 pub mod faults;
+pub mod functions;
 pub mod markers;
+pub mod nulls;
 pub mod windows;
 
 ghost use Rattle.std.specs.Prelude.{◌≡◌, pos, [], ◌∷◌, Some, None, codes, nat_lt, true, false, ℕ, ℤ, negsuc, Float, List};

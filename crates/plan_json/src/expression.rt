@@ -1,5 +1,5 @@
 //! Expressions, from what was read of a key's value: one function for each key of more than one item.
-ghost use Rattle.std.specs.Prelude.{◌≡◌, [], ◌∷◌, Some};
+ghost use Rattle.std.specs.Prelude.{◌≡◌, [], ◌∷◌, Some, IfOk, IfErr};
 ghost use Rattle.plan_dsl.specs.Expressions.{tree_of};
 ghost use Rattle.plan_json.specs.Arguments.{arg_view, args_view};
 ghost use Rattle.plan_json.specs.Forms.{AllFit, Fits, asked_in, expression_asks, expression_says, leaf, many, marker_asks, marker_says};
@@ -9,41 +9,53 @@ ghost use Rattle.plan_json.specs.declared.forms.MarkerKey.TheVariants as marks;
 ghost use Rattle.plan_json.specs.declared.forms.SmallLeaf.TheVariants as smalls;
 
 use super::arguments::{
-    Arg, Args, dtype, excluded, expression, expressions, flag, flags, four, index, literal, method,
-    mode, name, nothing, one, operator, order, selector, three, two,
+    Arg, Args, dtype, excluded, expression, expressions, flag, flags, four, function, index,
+    literal, method, mode, name, nothing, one, operator, order, selector, three, two,
 };
+use super::error::JsonError;
 use super::forms::{ExpressionKey, MarkerKey, NamedKey};
 use plan_dsl::aggregate::AggExpr;
-use plan_dsl::expr::Expr;
+use plan_dsl::expr::{Expr, Exprs};
+use plan_dsl::function_expr::FunctionExpr;
 use plan_dsl::marker::RenameAliasFn;
 use plan_dsl::sort_options::{SortMultipleOptions, SortOptions};
 use plan_dsl::window::WindowType;
+use std::alloc::Global;
 
 // The expression of that key.
-pub(crate) fn assemble_expression(key: ExpressionKey, args: Args) -> Expr
+pub(crate) fn assemble_expression(
+    alloc: Global,
+    key: ExpressionKey,
+    args: Args,
+) -> Result<Expr, JsonError>
     requires { AllFit (asked_in (expression_asks key)) (args_view args) }
-    ensures { expression_says key (args_view args) ≡ Some (tree_of result) }
+    ensures ok { IfOk result (λ expr. expression_says key (args_view args) ≡ Some (tree_of expr)) }
+    ensures err { IfErr result (λ error. error ≡ JsonError.NoMemory) }
 {
     match key {
-        ExpressionKey::Col => Expr::Column(name(one(args))),
-        ExpressionKey::Literal(_) => Expr::Literal(literal(one(args))),
-        ExpressionKey::Bin => bin(args),
-        ExpressionKey::Cast => cast(args),
+        ExpressionKey::Col => Ok(Expr::Column(name(one(args)))),
+        ExpressionKey::Literal(_) => Ok(Expr::Literal(literal(one(args)))),
+        ExpressionKey::Bin => Ok(bin(args)),
+        ExpressionKey::Cast => Ok(cast(args)),
         ExpressionKey::Len => {
             nothing(one(args));
-            Expr::Len
+            Ok(Expr::Len)
         }
-        ExpressionKey::Slice => slice(args),
-        ExpressionKey::Explode => Expr::Explode(expression(one(args))),
-        ExpressionKey::Gather => gather(args),
-        ExpressionKey::Filter => filter(args),
-        ExpressionKey::Sort => sort(args),
-        ExpressionKey::SortBy => sort_by(args),
-        ExpressionKey::Agg => agg(args),
-        ExpressionKey::Over => over(args),
-        ExpressionKey::KeepName => Expr::KeepName(expression(one(args))),
-        ExpressionKey::Named(key) => named(key, args),
-        ExpressionKey::Marker(key) => marker(key, args),
+        ExpressionKey::Slice => Ok(slice(args)),
+        ExpressionKey::Explode => Ok(Expr::Explode(expression(one(args)))),
+        ExpressionKey::Gather => Ok(gather(args)),
+        ExpressionKey::Filter => Ok(filter(args)),
+        ExpressionKey::Sort => Ok(sort(args)),
+        ExpressionKey::SortBy => Ok(sort_by(args)),
+        ExpressionKey::Agg => Ok(agg(args)),
+        ExpressionKey::Over => Ok(over(args)),
+        ExpressionKey::If => Ok(ternary(args)),
+        ExpressionKey::Fn => Ok(apply(args)),
+        ExpressionKey::Field => field(alloc, args),
+        ExpressionKey::FieldAt => field_at(alloc, args),
+        ExpressionKey::KeepName => Ok(Expr::KeepName(expression(one(args)))),
+        ExpressionKey::Named(key) => Ok(named(key, args)),
+        ExpressionKey::Marker(key) => Ok(marker(key, args)),
     }
 }
 
@@ -154,6 +166,60 @@ fn over(args: Args) -> Expr
         order_by: order(by),
         options: WindowType::GroupsToRows,
     }
+}
+
+fn ternary(args: Args) -> Expr
+    requires { AllFit (asked_in (expression_asks of.If)) (args_view args) }
+    ensures { expression_says of.If (args_view args) ≡ Some (tree_of result) }
+{
+    let (predicate, truthy, falsy) = three(args);
+    Expr::Ternary {
+        predicate: expression(predicate),
+        truthy: expression(truthy),
+        falsy: expression(falsy),
+    }
+}
+
+// A function of expressions.
+fn apply(args: Args) -> Expr
+    requires { AllFit (asked_in (expression_asks of.Fn)) (args_view args) }
+    ensures { expression_says of.Fn (args_view args) ≡ Some (tree_of result) }
+{
+    let (applied, input) = two(args);
+    Expr::Function {
+        input: expressions(input),
+        function: function(applied),
+    }
+}
+
+// A field of a struct.
+fn field(alloc: Global, args: Args) -> Result<Expr, JsonError>
+    requires { AllFit (asked_in (expression_asks of.Field)) (args_view args) }
+    ensures ok { IfOk result (λ expr. expression_says of.Field (args_view args) ≡ Some (tree_of expr)) }
+    ensures err { IfErr result (λ error. error ≡ JsonError.NoMemory) }
+{
+    let (input, text) = two(args);
+    let mut items = Vec::with_capacity(alloc, 1)?;
+    items.push(Box::into_inner(expression(input)))?;
+    Ok(Expr::Function {
+        input: Exprs { items },
+        function: FunctionExpr::FieldByName(name(text)),
+    })
+}
+
+// The field of a struct at a place.
+fn field_at(alloc: Global, args: Args) -> Result<Expr, JsonError>
+    requires { AllFit (asked_in (expression_asks of.FieldAt)) (args_view args) }
+    ensures ok { IfOk result (λ expr. expression_says of.FieldAt (args_view args) ≡ Some (tree_of expr)) }
+    ensures err { IfErr result (λ error. error ≡ JsonError.NoMemory) }
+{
+    let (input, place) = two(args);
+    let mut items = Vec::with_capacity(alloc, 1)?;
+    items.push(Box::into_inner(expression(input)))?;
+    Ok(Expr::Function {
+        input: Exprs { items },
+        function: FunctionExpr::FieldByIndex(index(place)),
+    })
 }
 
 // An expression and a name.

@@ -26,6 +26,8 @@ pub(crate) enum Leaf {
     Columns,
     // What an exclude leaves out.
     Excluded,
+    // The name of a function.
+    Function,
     Small(SmallLeaf),
 }
 
@@ -77,6 +79,8 @@ pub(crate) enum Place {
     Selectors,
     // Null, or a list of an expression and two flags.
     Order,
+    // Null, or a list of any number of expressions.
+    Optional,
     // A list of any number of these.
     Leaves(ListLeaf),
 }
@@ -103,6 +107,10 @@ pub(crate) enum ExpressionKey {
     SortBy,
     Agg,
     Over,
+    If,
+    Fn,
+    Field,
+    FieldAt,
     KeepName,
     Named(NamedKey),
     Marker(MarkerKey),
@@ -152,6 +160,8 @@ pub(crate) enum PlanKey {
     WithColumns,
     GroupBy,
     Drop,
+    DropNulls,
+    FillNull,
 }
 
 // The keys of types that have parts.
@@ -187,6 +197,8 @@ const SELECTORS: Place = Place::Selectors;
 
 const ORDER: Place = Place::Order;
 
+const OPTIONAL: Place = Place::Optional;
+
 const NAMES: Place = Place::Leaves(ListLeaf::Name);
 
 const DTYPES: Place = Place::Leaves(ListLeaf::Dtype);
@@ -205,6 +217,8 @@ const OPERATOR: Place = Place::Leaf(Leaf::Small(SmallLeaf::Operator));
 
 const METHOD: Place = Place::Leaf(Leaf::Small(SmallLeaf::Method));
 
+const FUNCTION: Place = Place::Leaf(Leaf::Function);
+
 const DTYPE: Place = Place::Leaf(Leaf::Dtype);
 
 const MODE: Place = Place::Leaf(Leaf::Small(SmallLeaf::Mode));
@@ -220,7 +234,7 @@ const FLAG: Place = Place::Leaf(Leaf::Small(SmallLeaf::Flag));
 const INDEX: Place = Place::Leaf(Leaf::Small(SmallLeaf::Index));
 
 // A word is looked for from the first row on, so common ones stand in front.
-const EXPRESSION_ROWS: [(&'static str, ExpressionKey); 27] = [
+const EXPRESSION_ROWS: [(&'static str, ExpressionKey); 31] = [
     ("col", ExpressionKey::Col),
     ("bin", ExpressionKey::Bin),
     ("lit", ExpressionKey::Literal(Writing::AsIs)),
@@ -237,6 +251,10 @@ const EXPRESSION_ROWS: [(&'static str, ExpressionKey); 27] = [
     ("alias", ExpressionKey::Named(NamedKey::Alias)),
     ("agg", ExpressionKey::Agg),
     ("over", ExpressionKey::Over),
+    ("if", ExpressionKey::If),
+    ("fn", ExpressionKey::Fn),
+    ("field", ExpressionKey::Field),
+    ("field_at", ExpressionKey::FieldAt),
     ("cols", ExpressionKey::Marker(MarkerKey::Cols)),
     ("dtypes", ExpressionKey::Marker(MarkerKey::Dtypes)),
     ("at", ExpressionKey::Marker(MarkerKey::At)),
@@ -258,7 +276,7 @@ const SELECTOR_ROWS: [(&'static str, SelectorKey); 5] = [
     ("xor", SelectorKey::Joined(Joining::Xor)),
 ];
 
-const PLAN_ROWS: [(&'static str, PlanKey); 7] = [
+const PLAN_ROWS: [(&'static str, PlanKey); 9] = [
     ("scan", PlanKey::Scan),
     ("empty", PlanKey::Empty),
     ("filter", PlanKey::Filter),
@@ -266,6 +284,8 @@ const PLAN_ROWS: [(&'static str, PlanKey); 7] = [
     ("with_columns", PlanKey::WithColumns),
     ("group_by", PlanKey::GroupBy),
     ("drop", PlanKey::Drop),
+    ("drop_nulls", PlanKey::DropNulls),
+    ("fill_null", PlanKey::FillNull),
 ];
 
 const TYPE_ROWS: [(&'static str, TypeKey); 4] = [
@@ -370,6 +390,10 @@ fn expression_places(key: ExpressionKey) -> Places
         ExpressionKey::Bin => Places::Listed(&[OPERATOR, EXPRESSION, EXPRESSION]),
         ExpressionKey::Agg => Places::Listed(&[METHOD, EXPRESSION]),
         ExpressionKey::Over => Places::Listed(&[EXPRESSION, EXPRESSIONS, ORDER]),
+        ExpressionKey::If => Places::Listed(&[EXPRESSION, EXPRESSION, EXPRESSION]),
+        ExpressionKey::Fn => Places::Listed(&[FUNCTION, EXPRESSIONS]),
+        ExpressionKey::Field => Places::Listed(&[EXPRESSION, NAME]),
+        ExpressionKey::FieldAt => Places::Listed(&[EXPRESSION, INDEX]),
         ExpressionKey::Cast => Places::Listed(&[EXPRESSION, DTYPE, MODE]),
         ExpressionKey::Len => Places::One(NOTHING),
         ExpressionKey::Slice => Places::Listed(&[EXPRESSION, EXPRESSION, EXPRESSION]),
@@ -411,6 +435,8 @@ fn plan_places(key: PlanKey) -> Places
         PlanKey::WithColumns => Places::Listed(&[PLAN, EXPRESSIONS]),
         PlanKey::GroupBy => Places::Listed(&[PLAN, EXPRESSIONS, EXPRESSIONS]),
         PlanKey::Drop => Places::Listed(&[PLAN, SELECTORS, FLAG]),
+        PlanKey::DropNulls => Places::Listed(&[PLAN, OPTIONAL]),
+        PlanKey::FillNull => Places::Listed(&[PLAN, EXPRESSION]),
     }
 }
 

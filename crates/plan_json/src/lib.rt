@@ -13,6 +13,7 @@ mod examples;
 mod excluded;
 mod expression;
 mod forms;
+mod function;
 pub mod laws;
 mod lists;
 mod literal;

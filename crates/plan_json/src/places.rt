@@ -6,8 +6,8 @@ ghost use Rattle.plan_dsl.specs.Expressions.{selector_trees, trees_of};
 ghost use Rattle.plan_types.specs.Schemas.{columns, names_of};
 ghost use Rattle.plan_json.specs.Arguments.{arg_view, args_view, items_seen};
 ghost use Rattle.plan_json.specs.Errors.{IsErrorOf, IsListErrorOf};
-ghost use Rattle.plan_json.specs.Faults.{asked_form, a_scan, items_of, keyed_form, leaf_form, order_form, places_form, nothing_form, small_form};
-ghost use Rattle.plan_json.specs.Forms.{AllFit, a_form, asked_in, asks, expression, expression_read, leaf, listed_leaf, chosen_read, many, many_read, order, place_view, places_view, reads_of, says, selector, selector_read, nothing_read};
+ghost use Rattle.plan_json.specs.Faults.{asked_form, a_scan, items_of, keyed_form, leaf_form, order_form, places_form, nothing_form, optional_form, small_form};
+ghost use Rattle.plan_json.specs.Forms.{AllFit, a_form, asked_in, asks, expression, expression_read, leaf, listed_leaf, chosen_read, many, many_read, optional, order, place_view, places_view, reads_of, says, selector, selector_read, nothing_read};
 ghost use Rattle.plan_json.specs.Leaves.{table_at, text_of};
 ghost use Rattle.plan_json.specs.Queries.{IsItem, leaf_of, list_as, places_as, read_as, these_as, nothing_of, small_of};
 ghost use Rattle.plan_json.specs.Tables.{Declared, declared};
@@ -22,6 +22,7 @@ use super::forms::{
     ExpressionKey, Key, Kind, Leaf, ListLeaf, Place, Places, SmallLeaf, find_key, order_places,
     places_of,
 };
+use super::function::read_function;
 use super::lists::{read_flag, read_index, read_list};
 use super::literal::read_written;
 use super::method::read_method;
@@ -274,6 +275,10 @@ fn read_place(alloc: Global, tables: &Tables, place: Place, value: &Value) -> Re
             Ok(arg) => Ok(arg),
             Err(error) => Err(error),
         },
+        Place::Optional => match read_optional(alloc, tables, value) {
+            Ok(arg) => Ok(arg),
+            Err(error) => Err(error),
+        },
         Place::Leaves(which) => match read_leaves(alloc, which, value) {
             Ok(arg) => Ok(arg),
             Err(error) => Err(error),
@@ -310,6 +315,26 @@ fn read_order(alloc: Global, tables: &Tables, value: &Value) -> Result<Arg, Json
             Ok(items) => Ok(listed_order(items)),
             Err(error) => Err(error),
         },
+    }
+}
+
+// Null, or a list of any number of expressions.
+#[cycle(forms)]
+#[inline(never)]
+#[tactic(auto, using(crate::proofs::FormLemmas::optional_listed, crate::proofs::FormLemmas::optional_error))]
+fn read_optional(alloc: Global, tables: &Tables, value: &Value) -> Result<Arg, JsonError>
+    ensures ok { IfOk result (λ arg. read_as (declared tables.now) optional (view value.now) ≡ Some (arg_view arg)) }
+    ensures err { IfErr result (IsErrorOf (optional_form (names_of (declared tables.now))) (view value.now)) }
+{
+    match value.as_null() {
+        Some(()) => Ok(Arg::Nothing),
+        None => {
+            boxed!(
+                alloc,
+                read_expressions(alloc, tables, value),
+                Arg::Expressions
+            )
+        }
     }
 }
 
@@ -376,6 +401,7 @@ fn read_leaf(alloc: Global, tables: &Tables, which: Leaf, value: &Value) -> Resu
         },
         Leaf::Columns => boxed!(alloc, read_columns(alloc, value), Arg::Columns),
         Leaf::Excluded => boxed!(alloc, read_excluded(alloc, value), Arg::Excluded),
+        Leaf::Function => boxed!(alloc, read_function(alloc, value), Arg::Function),
         Leaf::Small(which) => match read_small(alloc, which, value) {
             Ok(arg) => Ok(arg),
             Err(error) => Err(error),
@@ -446,7 +472,8 @@ fn assemble(alloc: Global, key: Key, args: Args) -> Result<Arg, JsonError>
 {
     match key {
         Key::Expression(key) => {
-            let expr = Box::new(alloc, assemble_expression(key, args))?;
+            let expr = assemble_expression(alloc, key, args)?;
+            let expr = Box::new(alloc, expr)?;
             Ok(Arg::Expression(expr))
         }
         Key::Selector(key) => {
@@ -454,7 +481,8 @@ fn assemble(alloc: Global, key: Key, args: Args) -> Result<Arg, JsonError>
             Ok(Arg::Selector(selector))
         }
         Key::Plan(key) => {
-            let plan = Box::new(alloc, assemble_plan(key, args))?;
+            let plan = assemble_plan(alloc, key, args)?;
+            let plan = Box::new(alloc, plan)?;
             Ok(Arg::Plan(plan))
         }
     }

@@ -1,7 +1,7 @@
 //! Plans, from what was read of a key's value: one function for each key.
 #![tactic(auto, using(crate::proofs::FormLemmas::expressions_read))]
 
-ghost use Rattle.std.specs.Prelude.{◌≡◌, [], ◌∷◌, Some, false};
+ghost use Rattle.std.specs.Prelude.{◌≡◌, [], ◌∷◌, Some, false, IfOk, IfErr};
 ghost use Rattle.plan_dsl.specs.Plans.{plan_tree};
 ghost use Rattle.plan_json.specs.Arguments.{args_view};
 ghost use Rattle.plan_json.specs.Forms.{AllFit, asked_in, plan_asks, plan_says};
@@ -9,35 +9,42 @@ ghost use Rattle.plan_json.specs.Queries.{has_flags};
 ghost use Rattle.plan_json.specs.declared.forms.PlanKey.TheVariants as by;
 
 use super::arguments::{
-    Args, columns, expression, expressions, flag, one, plan, selectors, table, three, two,
+    Args, columns, expression, expressions, flag, one, plan, selectors, some_expressions, table,
+    three, two,
 };
+use super::error::JsonError;
 use super::forms::PlanKey;
+use plan_dsl::builder::DslBuilder;
 use plan_dsl::function::{DropFunction, DslFunction};
 use plan_dsl::plan::{DslPlan, ProjectionOptions};
+use std::alloc::Global;
 
 // The plan of that key.
-pub(crate) fn assemble_plan(key: PlanKey, args: Args) -> DslPlan
+pub(crate) fn assemble_plan(alloc: Global, key: PlanKey, args: Args) -> Result<DslPlan, JsonError>
     requires { AllFit (asked_in (plan_asks key)) (args_view args) }
-    ensures says { plan_says key (args_view args) ≡ Some (plan_tree result) }
-    ensures flags { has_flags result ≡ false }
+    ensures says { IfOk result (λ built. plan_says key (args_view args) ≡ Some (plan_tree built)) }
+    ensures flags { IfOk result (λ built. has_flags built ≡ false) }
+    ensures err { IfErr result (λ error. error ≡ JsonError.NoMemory) }
 {
     match key {
         PlanKey::Scan => {
             let (number, schema) = table(one(args));
-            DslPlan::DataFrameScan {
+            Ok(DslPlan::DataFrameScan {
                 table: Some(number),
                 schema,
-            }
+            })
         }
-        PlanKey::Empty => DslPlan::DataFrameScan {
+        PlanKey::Empty => Ok(DslPlan::DataFrameScan {
             table: None,
             schema: columns(one(args)),
-        },
-        PlanKey::Filter => filter(args),
-        PlanKey::Select => select(args),
-        PlanKey::WithColumns => with_columns(args),
-        PlanKey::GroupBy => group_by(args),
-        PlanKey::Drop => drop_columns(args),
+        }),
+        PlanKey::Filter => Ok(filter(args)),
+        PlanKey::Select => Ok(select(args)),
+        PlanKey::WithColumns => Ok(with_columns(args)),
+        PlanKey::GroupBy => Ok(group_by(args)),
+        PlanKey::Drop => Ok(drop_columns(args)),
+        PlanKey::DropNulls => drop_nulls(alloc, args),
+        PlanKey::FillNull => fill_null(alloc, args),
     }
 }
 
@@ -110,5 +117,37 @@ fn drop_columns(args: Args) -> DslPlan
             to_drop: selectors(to_drop),
             strict: flag(strict),
         }),
+    }
+}
+
+// Rows without a null in some expressions, or in any column.
+#[tactic(auto, using(crate::proofs::FormLemmas::expressions_read, crate::proofs::FormLemmas::same_flags))]
+fn drop_nulls(alloc: Global, args: Args) -> Result<DslPlan, JsonError>
+    requires { AllFit (asked_in (plan_asks by.DropNulls)) (args_view args) }
+    ensures says { IfOk result (λ built. plan_says by.DropNulls (args_view args) ≡ Some (plan_tree built)) }
+    ensures flags { IfOk result (λ built. has_flags built ≡ false) }
+    ensures err { IfErr result (λ error. error ≡ JsonError.NoMemory) }
+{
+    let (input, subset) = two(args);
+    let builder = DslBuilder::from(Box::into_inner(plan(input)));
+    match builder.drop_nulls(alloc, some_expressions(subset)) {
+        Ok(built) => Ok(built.build()),
+        Err(error) => Err(JsonError::out_of_memory(error)),
+    }
+}
+
+// A value in place of all nulls.
+#[tactic(auto, using(crate::proofs::FormLemmas::unset_flags))]
+fn fill_null(alloc: Global, args: Args) -> Result<DslPlan, JsonError>
+    requires { AllFit (asked_in (plan_asks by.FillNull)) (args_view args) }
+    ensures says { IfOk result (λ built. plan_says by.FillNull (args_view args) ≡ Some (plan_tree built)) }
+    ensures flags { IfOk result (λ built. has_flags built ≡ false) }
+    ensures err { IfErr result (λ error. error ≡ JsonError.NoMemory) }
+{
+    let (input, value) = two(args);
+    let builder = DslBuilder::from(Box::into_inner(plan(input)));
+    match builder.fill_null(alloc, Box::into_inner(expression(value))) {
+        Ok(built) => Ok(built.build()),
+        Err(error) => Err(JsonError::out_of_memory(error)),
     }
 }

@@ -1,5 +1,15 @@
--- The item on top of an expression's nodes.
-use Rattle.std.proofs.Common.{◌≡◌, ℕ, List, Some, slice_get}
+-- The item on top of an expression's nodes, and its field.
+use Rattle.std.proofs.Common.{◌≡◌, ℕ, true, List, Some, slice_get, ap, ◌∙◌}
+use Rattle.plan_types.specs.Schemas.{Columns}
+use Rattle.plan_types.specs.declared.field.Field.{Field}
+use Rattle.plan_dsl.specs.Aliases.{pruned}
+use Rattle.plan_dsl.specs.Names.{Label, name_of}
+use Rattle.plan_dsl.specs.Registry.{Registry}
+use Rattle.plan_dsl.specs.Literals.{settled}
+use Rattle.plan_dsl.proofs.AliasLemmas.{kept_label}
+use Rattle.plan_dsl.proofs.LiteralLemmas.{settled_label}
+use Rattle.plan_infer.specs.declared.field.Context.{Context}
+use Rattle.plan_infer.specs.Fields.{IsFieldOf}
 use Rattle.plan_dsl.specs.Ops.{Expression}
 use Rattle.plan_arena.specs.declared.aexpr.AExpr.{AExpr}
 use Rattle.plan_arena.specs.Denotation.{Denotes}
@@ -16,3 +26,7 @@ module _ (first : ℕ) (items : List AExpr) (n : ℕ) (item : AExpr) (got : slic
   -- and its inputs denote operands
   pub top_operands : HasOperands items (expression_layer item)
   top_operands = denoted_operands items n item got (record { tree = t; denotes = any_node first items n t d })
+
+-- the field of an expression's nodes has the expression's name
+pub field_name : (registry : Registry) (schema : Columns) (ctxt : Context) (tree : Expression) (field : Field) → IsFieldOf registry schema ctxt (pruned true (settled tree)) field → field.name ≡ name_of tree
+field_name registry schema ctxt tree field is = is.name ∙ ap (λ (label : Label). label.name) (kept_label (settled tree) ∙ settled_label tree)

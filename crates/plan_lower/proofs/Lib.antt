@@ -1,10 +1,12 @@
 pub mod BuiltLemmas
 pub mod DropLemmas
-pub mod ExpressionFieldLemmas
 pub mod ExamplePlanLemmas
+pub mod ExpressionFieldLemmas
 pub mod FilterLemmas
 pub mod GroupLemmas
+mod HorizontalLemmas
 pub mod NodeLemmas
 pub mod PlanLemmas
 pub mod ProjectionLemmas
 pub mod RecordedLemmas
+mod RecordingLemmas

@@ -1,25 +1,28 @@
 -- Nodes that lowering adds.
-use Rattle.std.proofs.Common.{◌≡◌, ◌≢◌, ℕ, Bool, true, refl, ◌≤◌, List, [], ◌∷◌, ◌++◌, length, map, sym, ap, ◌∙◌, subst, arith, append-nil, append_assoc}
+use Rattle.std.proofs.Common.{◌≡◌, ◌≢◌, ℕ, Bool, true, false, refl, ◌≤◌, List, [], ◌∷◌, ◌++◌, length, map, sym, ap, ◌∙◌, subst, arith, append-nil, append_assoc}
 use Rattle.std.specs.List.{AllByRecursion, list_all}
 use Rattle.std.proofs.lemmas.Bool.{and_from, and_parts, false≢true}
 use Rattle.std.proofs.lemmas.List.{map-append}
-use Rattle.plan_dsl.specs.Aliases.{all_pruned, inputs_pruned, pruned}
+use Rattle.plan_dsl.specs.Aliases.{all_pruned, prune_node, pruned}
 use Rattle.plan_dsl.specs.Copies.{has_several}
-use Rattle.plan_dsl.specs.Expressions.{plain_tree, tree_of}
+use Rattle.plan_dsl.specs.Expressions.{function_source, plain_tree, row_trees, tree_of}
 use Rattle.plan_dsl.specs.Sources.{Plain, SourceOp, Source, all_are_plain, all_unwritten, is_plain, unwritten}
 use Rattle.plan_dsl.proofs.ExprLemmas.{IsListed, listed_plain}
 use Rattle.plan_types.proofs.ListLemmas.{map-map}
-use Rattle.plan_dsl.specs.declared.expr.Expr.{Expr}
-use Rattle.plan_dsl.specs.declared.expr.Expr.TheVariants.{Alias, Alias', BinaryExpr, BinaryExpr', Filter, Filter', Gather, Gather', Literal, Slice, Slice'}
+use Rattle.plan_types.specs.Schemas.{Name}
+use Rattle.plan_dsl.specs.declared.expr.Expr as declared
+use Rattle.plan_dsl.specs.declared.expr.Expr.{Expr, roll-out-Expr}
+use Rattle.plan_dsl.specs.declared.function_expr.FunctionExpr.{FunctionExpr}
+use Rattle.plan_dsl.specs.declared.function_expr.FunctionExpr.TheVariants.{FieldByIndex}
+use Rattle.plan_dsl.specs.declared.expr.Expr.TheVariants.{Alias, Alias', BinaryExpr, BinaryExpr', Filter, Filter', Function, Function', rolls-Function, Gather, Gather', Literal, Slice, Slice', Ternary, Ternary'}
 use Rattle.plan_dsl.specs.Literals.{settled}
 use Rattle.plan_dsl.specs.Trees.{Trees, node, no_more, more, children_from, top_op}
-use Rattle.plan_dsl.specs.Ops.{Op, Expression}
+use Rattle.plan_dsl.specs.Ops.{Op, AliasOp, Expression}
 use Rattle.plan_arena.specs.declared.aexpr.AExpr.{AExpr}
-use Rattle.plan_arena.specs.declared.arena.Node.{Node}
 use Rattle.plan_arena.specs.Denotation.{Denotes, DenoteAll}
 use Rattle.plan_arena.specs.Layers.{op_of, inputs_of}
-use Rattle.plan_arena.specs.Items.{HoldsFrom, Grows, expression_layer, numbers}
-use Rattle.plan_lower.specs.Nodes.{IsItemOf}
+use Rattle.plan_arena.specs.Items.{HoldsFrom, Grows, expression_layer}
+use Rattle.plan_lower.specs.Nodes.{IsItemOf, over_inputs}
 use Rattle.plan_arena.proofs.ItemLemmas.{layer_parts, tree_grown, added_denotes, length-grown, grows_then}
 
 -- trees that were added one after the other, from the one arena to the other: after each there is an arena that has it
@@ -71,23 +74,43 @@ item_denotes first last new tree item n le of grown at =
     let operands = all_grown first first last new (inputs_of l) of.operands (omega arith) later of.denote in
     subst (Denotes (HoldsFrom first new) n) (sym of.is) (added_denotes first last new item n (op_of l) (inputs_of l) of.operands le grown at (layer_parts l) operands)
 
--- an expression that is no alias is what it is over its inputs
-pub pruned_item : (keep : Bool) (expr : Expr) → ((below : _) (name : _) → expr ≢ Alias below name) → inputs_pruned keep (plain_tree expr) ≡ pruned keep (plain_tree expr)
-pruned_item keep (Alias' p below name) apart = absurd (apart _ name refl)
-pruned_item keep _ apart = refl
+-- an expression that is neither an alias nor a function is what it is over its inputs
+pub pruned_item : (keep : Bool) (expr : Expr) → ((below : _) (name : _) → expr ≢ Alias below name) → ((input : _) (function : _) → expr ≢ Function input function) → over_inputs keep (plain_tree expr) ≡ pruned keep (plain_tree expr)
+unfolding declared.roll-Expr denote.Hole.Carrier.roll declared.out-Expr denote.Hole.Carrier.out
+pruned_item keep (Alias' p below name) alias function = absurd (alias _ name refl)
+pruned_item keep (Function' shape input called) alias function = absurd (function _ called (sym (rolls-Function _ called ∙ roll-out-Expr (Function' shape input called))))
+pruned_item true _ alias function = refl
+pruned_item false _ alias function = refl
+
+-- and an alias is, or what stands under it
+pub pruned_alias : (keep : Bool) (name : Name) (tree : Expression) → prune_node keep (AliasOp name) (more (pruned keep tree) no_more) ≡ pruned keep (node (AliasOp name) (more tree no_more))
+pruned_alias true name tree = refl
+pruned_alias false name tree = refl
+
+-- a function is neither a literal nor over several inputs, be it of its name or of a field's place
+function_settled : (function : FunctionExpr) (sources : Trees SourceOp) → unwritten (node (function_source function) sources) ≡ settled (unwritten (node (function_source function) sources))
+function_settled (FieldByIndex place) sources = refl
+function_settled _ sources = refl
+
+function_several : (function : FunctionExpr) → has_several (function_source function) ≡ true → ⊥
+function_several (FieldByIndex place) is = absurd (false≢true is)
+function_several _ is = absurd (false≢true is)
 
 -- the kinds that are over several inputs
-pub several_kinds : (expr : Expr) → has_several (top_op (tree_of expr)) ≡ true → ((left : _) (op : _) (right : _) → expr ≢ BinaryExpr left op right) → ((input : _) (offset : _) (length : _) → expr ≢ Slice input offset length) → ((input : _) (idx : _) (returns_scalar : _) → expr ≢ Gather input idx returns_scalar) → ((input : _) (by : _) → expr ≢ Filter input by) → ⊥
-several_kinds (BinaryExpr' p left op q right) is binary slice gather filter = binary _ op _ refl
-several_kinds (Slice' p input q offset r length) is binary slice gather filter = slice _ _ _ refl
-several_kinds (Gather' p input q idx returns_scalar) is binary slice gather filter = gather _ _ returns_scalar refl
-several_kinds (Filter' p input q by) is binary slice gather filter = filter _ _ refl
-several_kinds _ is binary slice gather filter = absurd (false≢true is)
+pub several_kinds : (expr : Expr) → has_several (top_op (tree_of expr)) ≡ true → ((left : _) (op : _) (right : _) → expr ≢ BinaryExpr left op right) → ((input : _) (offset : _) (length : _) → expr ≢ Slice input offset length) → ((input : _) (idx : _) (returns_scalar : _) → expr ≢ Gather input idx returns_scalar) → ((input : _) (by : _) → expr ≢ Filter input by) → ((predicate : _) (truthy : _) (falsy : _) → expr ≢ Ternary predicate truthy falsy) → ⊥
+several_kinds (BinaryExpr' p left op q right) is binary slice gather filter ternary = binary _ op _ refl
+several_kinds (Slice' p input q offset r length) is binary slice gather filter ternary = slice _ _ _ refl
+several_kinds (Gather' p input q idx returns_scalar) is binary slice gather filter ternary = gather _ _ returns_scalar refl
+several_kinds (Filter' p input q by) is binary slice gather filter ternary = filter _ _ refl
+several_kinds (Ternary' p predicate q truthy r falsy) is binary slice gather filter ternary = ternary _ _ _ refl
+several_kinds (Function' shape input function) is binary slice gather filter ternary = function_several function is
+several_kinds _ is binary slice gather filter ternary = absurd (false≢true is)
 
 -- what is neither a literal nor an alias stays as it is
 pub settled_item : (expr : Expr) → ((value : _) → expr ≢ Literal value) → ((below : _) (name : _) → expr ≢ Alias below name) → plain_tree expr ≡ settled (plain_tree expr)
 settled_item (Literal value) literal alias = absurd (literal value refl)
 settled_item (Alias' p below name) literal alias = absurd (alias _ name refl)
+settled_item (Function' shape input function) literal alias = function_settled function (row_trees input)
 settled_item _ literal alias = refl
 
 -- the second and the third operand of what has plans' ops alone
@@ -106,7 +129,7 @@ third_plain expr op first second third rest is plain =
 pub rest_plain : {tree : Source} {op : Op} {first : Source} {rest : List Source} → IsListed tree (Plain op) first rest → is_plain tree ≡ true → list_all is_plain rest ≡ true
 rest_plain {tree} {op} {first} {rest} listed plain = (and_parts (is_plain first) (list_all is_plain rest) (sym (listed_plain listed) ∙ plain)).1
 
-all_unwritten_from : (sources : List Source) → all_unwritten (children_from sources) ≡ children_from (map unwritten sources)
+pub all_unwritten_from : (sources : List Source) → all_unwritten (children_from sources) ≡ children_from (map unwritten sources)
 all_unwritten_from [] = refl
 all_unwritten_from (source ∷ sources) = ap (more (unwritten source)) (all_unwritten_from sources)
 
@@ -138,11 +161,11 @@ each_plain (expr ∷ exprs) plain =
     let parts = and_parts (is_plain (tree_of expr)) (list_all is_plain (map tree_of exprs)) plain in
     (parts.0, each_plain exprs parts.1)
 
--- nodes from a number on denote the expressions in front of those that are left, with their aliases or without
-pub record Adding (first : ℕ) (keep : Bool) (items : List AExpr) (all left : List Expression) (nodes : List Node) : Type 0 where
+-- nodes of these numbers, from one on, denote the expressions in front of those that are left, with their aliases or without
+pub record Adding (first : ℕ) (keep : Bool) (items : List AExpr) (all left : List Expression) (ns : List ℕ) : Type 0 where
   pub done : List Expression
   pub split : all ≡ done ++ left
-  pub denote : DenoteAll (HoldsFrom first items) (numbers nodes) (all_pruned keep (children_from done))
+  pub denote : DenoteAll (HoldsFrom first items) ns (all_pruned keep (children_from done))
 
 one_more : (first : ℕ) (keep : Bool) (items : List AExpr) (ns : List ℕ) (ts : List Expression) (n : ℕ) (t : Expression) → DenoteAll (HoldsFrom first items) ns (all_pruned keep (children_from ts)) → Denotes (HoldsFrom first items) n (pruned keep t) → DenoteAll (HoldsFrom first items) (ns ++ n ∷ []) (all_pruned keep (children_from (ts ++ t ∷ [])))
 one_more first keep items [] [] n t d one = (one, tt)
@@ -150,24 +173,23 @@ one_more first keep items (m ∷ ms) (u ∷ us) n t d one = (d.0, one_more first
 one_more first keep items [] (u ∷ us) n t d one = absurd d
 one_more first keep items (m ∷ ms) [] n t d one = absurd d
 
-pub adding_start : (first : ℕ) (keep : Bool) (items : List AExpr) (all : List Expression) (nodes : List Node) → nodes ≡ [] → Adding first keep items all all nodes
-adding_start first keep items all nodes none = record { done = []; split = refl; denote = subst (λ ns. DenoteAll (HoldsFrom first items) (numbers ns) no_more) (sym none) tt }
+pub adding_start : (first : ℕ) (keep : Bool) (items : List AExpr) (all : List Expression) (ns : List ℕ) → ns ≡ [] → Adding first keep items all all ns
+adding_start first keep items all ns none = record { done = []; split = refl; denote = subst (λ ns. DenoteAll (HoldsFrom first items) ns no_more) (sym none) tt }
 
-pub adding_step : (first : ℕ) (keep : Bool) (mid new : List AExpr) (all left rest : List Expression) (nodes longer : List Node) (tree : Expression) (top : Node) → Adding first keep mid all left nodes → left ≡ tree ∷ rest → first ≤ length mid → Grows mid new → Denotes (HoldsFrom (length mid) new) top.0 (pruned keep tree) → longer ≡ nodes ++ top ∷ [] → Adding first keep new all rest longer
-adding_step first keep mid new all left rest nodes longer tree top before is le grows one pushed =
-    let listed = ap numbers pushed ∙ map-append (λ n. n.0) nodes (top ∷ []) in
-    let earlier = all_grown first first mid new (numbers nodes) (all_pruned keep (children_from before.done)) (omega arith) grows before.denote in
-    let here = tree_grown (length mid) first new new le (nothing_added new) top.0 (pruned keep tree) one in
+pub adding_step : (first : ℕ) (keep : Bool) (mid new : List AExpr) (all left rest : List Expression) (ns longer : List ℕ) (tree : Expression) (top : ℕ) → Adding first keep mid all left ns → left ≡ tree ∷ rest → first ≤ length mid → Grows mid new → Denotes (HoldsFrom (length mid) new) top (pruned keep tree) → longer ≡ ns ++ top ∷ [] → Adding first keep new all rest longer
+adding_step first keep mid new all left rest ns longer tree top before is le grows one pushed =
+    let earlier = all_grown first first mid new ns (all_pruned keep (children_from before.done)) (omega arith) grows before.denote in
+    let here = tree_grown (length mid) first new new le (nothing_added new) top (pruned keep tree) one in
     record {
       done = before.done ++ tree ∷ [];
       split = before.split ∙ ap (λ l. before.done ++ l) is ∙ sym (append_assoc before.done (tree ∷ []) rest);
-      denote = subst (λ ns. DenoteAll (HoldsFrom first new) ns (all_pruned keep (children_from (before.done ++ tree ∷ [])))) (sym listed) (one_more first keep new (numbers nodes) before.done top.0 tree earlier here);
+      denote = subst (λ ns. DenoteAll (HoldsFrom first new) ns (all_pruned keep (children_from (before.done ++ tree ∷ [])))) (sym pushed) (one_more first keep new ns before.done top tree earlier here);
     }
 
-pub adding_end : (first : ℕ) (keep : Bool) (items : List AExpr) (all left : List Expression) (nodes : List Node) → Adding first keep items all left nodes → left ≡ [] → DenoteAll (HoldsFrom first items) (numbers nodes) (all_pruned keep (children_from all))
-adding_end first keep items all left nodes added none =
+pub adding_end : (first : ℕ) (keep : Bool) (items : List AExpr) (all left : List Expression) (ns : List ℕ) → Adding first keep items all left ns → left ≡ [] → DenoteAll (HoldsFrom first items) ns (all_pruned keep (children_from all))
+adding_end first keep items all left ns added none =
     let whole = added.split ∙ ap (λ l. added.done ++ l) none ∙ append-nil added.done in
-    subst (λ ts. DenoteAll (HoldsFrom first items) (numbers nodes) (all_pruned keep (children_from ts))) (sym whole) added.denote
+    subst (λ ts. DenoteAll (HoldsFrom first items) ns (all_pruned keep (children_from ts))) (sym whole) added.denote
 
 -- an item over one input, and a list of inputs that were added after it
 pub over_listed : (old mid last : List AExpr) (tree : Expression) (item : AExpr) (n : ℕ) (ns : List ℕ) (t : Expression) (ts : Trees Op) → tree ≡ node (op_of (expression_layer item)) (more t ts) → inputs_of (expression_layer item) ≡ n ∷ ns → Denotes (HoldsFrom (length old) mid) n t → Grows old mid → DenoteAll (HoldsFrom (length mid) last) ns ts → Grows mid last → IsItemOf (length old) last tree item

@@ -4,6 +4,7 @@ use Rattle.plan_types.specs.Errors.{IsMemoryOr, IsRefusal}
 use Rattle.plan_types.specs.Schemas.{Columns}
 use Rattle.plan_types.specs.declared.error.ErrorKind.TheVariants.{InvalidOperation}
 use Rattle.plan_types.specs.declared.error.PlanError.{PlanError}
+use Rattle.plan_dsl.specs.Aliases.{pruned}
 use Rattle.plan_dsl.specs.Literals.{settled, settles}
 use Rattle.plan_dsl.specs.Registry.{Registry}
 use Rattle.plan_dsl.specs.Sources.{Source, is_plain, unwritten}
@@ -13,4 +14,4 @@ use Rattle.plan_dsl.specs.Typing.{typing}
 -- its typing is.
 pub data IsFieldRefusal (registry : Registry) (schema : Columns) (source : Source) (error : PlanError) : Type 0 where
   has_no_node : IsMemoryOr InvalidOperation ((is_plain source ≡ false) ⊎ (settles (unwritten source) ≡ false)) error → IsFieldRefusal registry schema source error
-  has_no_type : is_plain source ≡ true → IsRefusal (typing registry schema (settled (unwritten source))) error → IsFieldRefusal registry schema source error
+  has_no_type : is_plain source ≡ true → IsRefusal (typing registry schema (pruned true (settled (unwritten source)))) error → IsFieldRefusal registry schema source error

@@ -1,11 +1,19 @@
 -- Items that stand for expressions.
-use Rattle.std.specs.Prelude.{◌≡◌, ℕ, List}
-use Rattle.plan_dsl.specs.Trees.{Trees, node}
-use Rattle.plan_dsl.specs.Ops.{Op, Expression}
+use Rattle.std.specs.Prelude.{◌≡◌, ℕ, Bool, false, List, []}
+use Rattle.plan_dsl.specs.Trees.{Trees, node, fold_all}
+use Rattle.plan_dsl.specs.Aliases.{all_pruned}
+use Rattle.plan_dsl.specs.Names.{op_label}
+use Rattle.plan_dsl.specs.Ops.{Op, FunctionOp, Expression}
 use Rattle.plan_arena.specs.declared.aexpr.AExpr.{AExpr}
 use Rattle.plan_arena.specs.Denotation.{DenoteAll}
 use Rattle.plan_arena.specs.Layers.{op_of, inputs_of}
 use Rattle.plan_arena.specs.Items.{HoldsFrom, expression_layer}
+
+-- an expression over its operands as nodes have them, with their aliases or without: a function has their names, and none
+-- of their aliases
+abbrev pub over_inputs : Bool → Expression → Expression
+over_inputs keep (node (FunctionOp function []) children) = node (FunctionOp function (fold_all op_label children)) (all_pruned false children)
+over_inputs keep (node op children) = node op (all_pruned keep children)
 
 -- the item does what the expression's top does, over nodes from that number on that denote its operands
 pub record IsItemOf (first : ℕ) (items : List AExpr) (tree : Expression) (item : AExpr) : Type 0 where

@@ -6,6 +6,7 @@ pub mod dsl_to_ir;
 pub mod expr_field;
 pub mod expr_to_ir;
 mod groups;
+mod horizontals;
 mod predicate;
 mod projection;
 mod put_copy;

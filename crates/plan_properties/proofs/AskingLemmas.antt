@@ -1,15 +1,18 @@
 -- What holds of an expression, from what is asked of its top and holds of its operands.
-use Rattle.std.proofs.Common.{◌≡◌, ◌≢◌, ℕ, zero, suc, ◌+◌, ◌<◌, ◌≤◌, get_or, max, Bool, true, false, ◌&&◌, ◌||◌, List, [], ◌∷◌, length, map, take, Some, slice_get, refl, sym, ap, ◌∙◌, subst, arith}
+use Rattle.std.proofs.Common.{◌≡◌, ◌≢◌, ℕ, zero, suc, ◌+◌, ◌<◌, ◌≤◌, get_or, max, Bool, true, false, ◌&&◌, ◌||◌, List, [], ◌∷◌, length, map, take, Option, Some, None, slice_get, refl, sym, ap, ◌∙◌, subst, arith}
 use Rattle.std.proofs.Math.Bool.{and-false}
 use Rattle.std.proofs.lemmas.List.{length-map, take_all}
-use Rattle.std.specs.List.{AllByRecursion, list_all}
+use Rattle.std.proofs.lemmas.Option.{slice_get-map}
+use Rattle.std.specs.List.{AllByRecursion}
+use Rattle.std.specs.Option.{option_map}
+use Rattle.plan_dsl.specs.declared.function_expr.FunctionExpr.TheVariants.{IsIn}
 use Rattle.plan_dsl.specs.Ops.{Op, AggOp, Expression}
-use Rattle.plan_dsl.specs.Trees.{Trees, node, no_more, more, fold_all}
+use Rattle.plan_dsl.specs.Trees.{Trees, node, no_more, more, top_op}
 use Rattle.plan_arena.specs.declared.aexpr.AExpr.{AExpr}
-use Rattle.plan_arena.specs.declared.aexpr.AExpr.TheVariants.{Agg, Alias, BinaryExpr, Cast, Column, Explode, Filter, Gather, Len, Literal, Slice, Sort, SortBy, Window}
+use Rattle.plan_arena.specs.declared.aexpr.AExpr.TheVariants.{Agg, Alias, BinaryExpr, Cast, Column, Explode, Filter, Function, Gather, Len, Literal, Slice, Sort, SortBy, Ternary, Window}
 use Rattle.plan_arena.specs.Denotation.{Denotes, DenoteAll, DenotesTree, depth_at, greatest}
 use Rattle.plan_arena.specs.Items.{HoldsExpression, expression_layer}
-use Rattle.plan_arena.specs.Layers.{Layer, op_of, inputs_of, shape_of}
+use Rattle.plan_arena.specs.Layers.{Layer, layer, op_of, inputs_of, shape_of}
 use Rattle.plan_arena.proofs.DenotationLemmas.{depth_of_inputs}
 use Rattle.plan_arena.proofs.ItemLemmas.{expression_inputs, expression_laws, held_top, one_child}
 use Rattle.plan_arena.proofs.NumberLemmas.{all_joined, all_weaker, taken_more}
@@ -17,8 +20,8 @@ use Rattle.plan_infer.specs.ItemTrees.{LayerDenotes}
 use Rattle.plan_infer.proofs.TableLemmas.{layer_held}
 use Rattle.plan_arena.specs.declared.arena.Node.{Node}
 use Rattle.plan_arena.specs.declared.expr_ir.ExprIR.{ExprIR}
-use Rattle.plan_properties.specs.Asking.{AllDenote, SaysOfNode, nodes_of}
-use Rattle.plan_properties.specs.Properties.{all_trees, can_pre_agg, has_column, holds_by, is_elementwise, merges}
+use Rattle.plan_properties.specs.Asking.{AllDenote, SaysOfNode, is_literal_item, literals_at, nodes_of}
+use Rattle.plan_properties.specs.Properties.{all_hold, all_trees, asks_literal, can_pre_agg, has_column, holds_by, is_elementwise, is_literal, literals, merges}
 
 -- ---- operands
 
@@ -57,27 +60,47 @@ at_most_greatest value (m ∷ ns) (suc i) n there = let rest = at_most_greatest 
 
 -- ---- the top
 
-abbrev step : (Op → Bool) → (Op → Bool) → Op → List Bool → Bool
-step settles hands_on op below = settles op || (hands_on op && list_all (λ b. b) below)
+held_by_all : (s : Op → Bool) (g : Op → List Bool → Bool) (ts : Trees Op) → all_hold s g ts ≡ all_trees (holds_by s g) ts
+held_by_all s g no_more = refl
+held_by_all s g (more t ts) = ap (λ b. holds_by s g t && b) (held_by_all s g ts)
 
-folded : (s g : Op → Bool) (ts : Trees Op) → list_all (λ b. b) (fold_all (step s g) ts) ≡ all_trees (holds_by s g) ts
-folded s g no_more = refl
-folded s g (more t ts) = ap (λ b. holds_by s g t && b) (folded s g ts)
+-- which operands are literals, in the arena and of what is denoted
+literal_at : (items : List AExpr) (n : ℕ) (t : Expression) → Denotes (HoldsExpression items) n t → is_literal_item (slice_get items n) ≡ is_literal (top_op t)
+literal_at items n (node op ts) d =
+    elim (slice_get items n) as (λ (o : Option AExpr). option_map expression_layer o ≡ Some (layer op d.0) → is_literal_item o ≡ is_literal op) [
+      | None ↦ λ e. cc
+      | Some item ↦ λ e. let same : expression_layer item ≡ layer op d.0 = cc in ap (λ l. is_literal (op_of l)) same
+    ] (sym (slice_get-map expression_layer items n) ∙ d.1)
 
-module _ (s g : Op → Bool) (items : List AExpr) (item : Layer Op) where
+literals_are : (items : List AExpr) (ns : List ℕ) (ts : Trees Op) → DenoteAll (HoldsExpression items) ns ts → literals_at items ns ≡ literals ts
+literals_are items [] no_more d = refl
+literals_are items [] (more t ts) d = absurd d
+literals_are items (n ∷ ns) no_more d = absurd d
+literals_are items (n ∷ ns) (more t ts) d = λ i. literal_at items n t d.0 i ∷ literals_are items ns ts d.1 i
+
+-- what is asked of the second operand
+pub second_asked : (items : List AExpr) (ns : List ℕ) (n : ℕ) → slice_get ns 1 ≡ Some n → is_literal_item (slice_get items n) ≡ asks_literal IsIn (literals_at items ns)
+second_asked items [] n there = cc
+second_asked items (value ∷ []) n there = cc
+second_asked items (value ∷ among ∷ others) n there = let same : among ≡ n = cc in ap (λ k. is_literal_item (slice_get items k)) (sym same)
+
+module _ (s : Op → Bool) (g : Op → List Bool → Bool) (items : List AExpr) (item : Layer Op) where
   -- it is settled
   pub settled : true ≡ s (op_of item) → (t : Expression) → LayerDenotes items item t → true ≡ holds_by s g t
-  settled is (node op ts) d = ap (λ b. b || (g op && list_all (λ b. b) (fold_all (step s g) ts))) (is ∙ ap s d.0)
+  settled is (node op ts) d = ap (λ b. b || (g op (literals ts) && all_hold s g ts)) (is ∙ ap s d.0)
+
+  handed : (answer : Bool) → answer ≡ g (op_of item) (literals_at items (inputs_of item)) → (op : Op) (ts : Trees Op) → LayerDenotes items item (node op ts) → answer ≡ g op (literals ts)
+  handed answer goes op ts d = goes ∙ (λ i. g (d.0 i) (literals_are items (inputs_of item) ts d.1 i))
 
   -- it is not handed on
-  pub stopped : false ≡ s (op_of item) → false ≡ g (op_of item) → (t : Expression) → LayerDenotes items item t → false ≡ holds_by s g t
-  stopped is stops (node op ts) d = λ i. (is ∙ ap s d.0) i || ((stops ∙ ap g d.0) i && list_all (λ b. b) (fold_all (step s g) ts))
+  pub stopped : false ≡ s (op_of item) → false ≡ g (op_of item) (literals_at items (inputs_of item)) → (t : Expression) → LayerDenotes items item t → false ≡ holds_by s g t
+  stopped is stops (node op ts) d = λ i. (is ∙ ap s d.0) i || (handed false stops op ts d i && all_hold s g ts)
 
   -- it is, and what holds of all operands holds
-  pub handed_on : (answer : Bool) → false ≡ s (op_of item) → true ≡ g (op_of item) → ((ts : Trees Op) → DenoteAll (HoldsExpression items) (inputs_of item) ts → answer ≡ all_trees (holds_by s g) ts)
+  pub handed_on : (answer : Bool) → false ≡ s (op_of item) → true ≡ g (op_of item) (literals_at items (inputs_of item)) → ((ts : Trees Op) → DenoteAll (HoldsExpression items) (inputs_of item) ts → answer ≡ all_trees (holds_by s g) ts)
       → (t : Expression) → LayerDenotes items item t → answer ≡ holds_by s g t
   handed_on answer is goes says (node op ts) d =
-      says ts d.1 ∙ sym (folded s g ts) ∙ (λ i. (is ∙ ap s d.0) i || ((goes ∙ ap g d.0) i && list_all (λ b. b) (fold_all (step s g) ts)))
+      says ts d.1 ∙ sym (held_by_all s g ts) ∙ (λ i. (is ∙ ap s d.0) i || (handed true goes op ts d i && all_hold s g ts))
 
 module _ (items : List AExpr) (n : ℕ) (item : AExpr) (got : slice_get items n ≡ Some item) where
   -- what is said of an item's expression is said of that at its node
@@ -121,6 +144,8 @@ no_aggregate items (Sort expr options) not_len not_agg (node op ts) d = ap (λ o
 no_aggregate items (SortBy expr by options) not_len not_agg (node op ts) d = ap (λ o. can_pre_agg (node o ts)) d.0
 no_aggregate items (Alias expr name) not_len not_agg (node op ts) d = ap (λ o. can_pre_agg (node o ts)) d.0
 no_aggregate items (Window function keys order options) not_len not_agg (node op ts) d = ap (λ o. can_pre_agg (node o ts)) d.0
+no_aggregate items (Ternary predicate truthy falsy) not_len not_agg (node op ts) d = ap (λ o. can_pre_agg (node o ts)) d.0
+no_aggregate items (Function input function) not_len not_agg (node op ts) d = ap (λ o. can_pre_agg (node o ts)) d.0
 
 -- ---- recorded expressions
 

@@ -16,7 +16,7 @@ use Rattle.plan_dsl.specs.Kernels.{given, kernel}
 use Rattle.plan_dsl.specs.Meaning.{meaning, meaning_all, node_meaning, ruled_meaning, taken_to}
 use Rattle.plan_dsl.specs.Operators.{bitwise, both_true, operator_value}
 use Rattle.plan_dsl.specs.OperatorTypes.{Taken, both_to, has_bits, is_truth_or_null, operator_types, pair_to, pair_types, with_types}
-use Rattle.plan_dsl.specs.Ops.{Op, ColumnOp, LiteralOp, BinaryOp, CastOp, LenOp, SliceOp, ExplodeOp, GatherOp, FilterOp, SortOp, SortByOp, WindowOp, AliasOp, AggOp, Expression}
+use Rattle.plan_dsl.specs.Ops.{Op, ColumnOp, LiteralOp, BinaryOp, CastOp, LenOp, SliceOp, ExplodeOp, GatherOp, FilterOp, SortOp, SortByOp, WindowOp, AliasOp, AggOp, TernaryOp, FunctionOp, Expression}
 use Rattle.plan_dsl.specs.Picks.{is_true}
 use Rattle.plan_dsl.specs.Registry.{Registry}
 use Rattle.plan_dsl.specs.Strictness.{are_strict, is_strict, is_strict_over}
@@ -241,3 +241,5 @@ module _ (registry : Registry) (schema : Columns) where
   both_conditions (WindowOp order) ts s c = cc
   both_conditions (AliasOp name) ts s c = cc
   both_conditions (AggOp method) ts s c = cc
+  both_conditions TernaryOp ts s c = cc
+  both_conditions (FunctionOp function recorded) ts s c = cc

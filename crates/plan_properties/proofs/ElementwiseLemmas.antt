@@ -1,35 +1,31 @@
 -- An elementwise expression gives on rows what each row gives by itself.
-use Rattle.std.proofs.Common.{◌≡◌, ℕ, ◌+◌, Bool, true, false, cond, ◌&&◌, ◌||◌, List, [], ◌∷◌, ◌++◌, length, map, replicate, Some, Result, Ok, refl, sym, ap, ◌∙◌, subst}
-use Rattle.std.proofs.lemmas.Bool.{and_parts}
-use Rattle.std.proofs.lemmas.List.{append-nil, length-append, map-append}
-use Rattle.std.specs.List.{list_all}
+use Rattle.std.proofs.Common.{◌≡◌, ℕ, suc, Bool, true, false, cond, List, [], ◌∷◌, ◌++◌, length, Result, Ok, refl, sym, ap, ◌∙◌, subst}
+use Rattle.std.proofs.lemmas.Bool.{and_parts, or_parts}
+use Rattle.std.proofs.lemmas.List.{append-nil}
 use Rattle.plan_types.specs.Casts.{Gives, Fails, cast}
 use Rattle.plan_types.specs.Frames.{Frame}
 use Rattle.plan_types.specs.Outcomes.{Outcome, Done, Fault, Stuck, then_do}
 use Rattle.plan_types.specs.Types.{Ty, same_type}
 use Rattle.plan_types.specs.Values.{Val}
 use Rattle.plan_types.specs.declared.dtype.CastOptions.{CastOptions}
-use Rattle.plan_types.specs.declared.dtype.CastOptions.TheVariants.{Strict, NonStrict}
+use Rattle.plan_types.specs.declared.dtype.CastOptions.TheVariants.{NonStrict}
 use Rattle.plan_types.specs.Schemas.{Name}
 use Rattle.plan_types.specs.declared.error.ErrorKind.{ErrorKind}
 use Rattle.plan_dsl.specs.Meaning.{applied, meaning, meaning_all, node_meaning, ruled_meaning, taken_to}
-use Rattle.plan_dsl.specs.Ops.{Op, ColumnOp, LiteralOp, BinaryOp, CastOp, LenOp, SliceOp, ExplodeOp, GatherOp, FilterOp, SortOp, SortByOp, WindowOp, AliasOp, AggOp, Expression}
+use Rattle.plan_dsl.specs.Ops.{Op, ColumnOp, Expression}
 use Rattle.plan_dsl.specs.OperatorTypes.{Taken}
 use Rattle.plan_dsl.specs.Registry.{Registry}
-use Rattle.plan_dsl.specs.Trees.{Trees, node, no_more, more, fold_all}
-use Rattle.plan_dsl.specs.Typing.{Typed, Ruling, aliased, rule, ruled_as, types_of, typing, typing_all}
+use Rattle.plan_dsl.specs.Trees.{Trees, node, no_more, more}
+use Rattle.plan_dsl.specs.Typing.{Typed, Ruling, rule, ruled_as, some_many, types_of, typing, typing_all}
 use Rattle.plan_dsl.proofs.OpLemmas.{keeps_rule}
 use Rattle.plan_dsl.proofs.SignatureLemmas.{AllBecome}
-use Rattle.plan_dsl.proofs.TypingLemmas.{by_children, by_no_children, ok_same, ruled_is, typed_parts}
-use Rattle.plan_dsl.specs.Operators.{operator_value}
-use Rattle.plan_dsl.specs.declared.operator.Operator.{Operator}
-use Rattle.plan_dsl.specs.Kernels.{Meaning, at_each, at_length, cast_column, cast_meaning, cast_values, common_length, given, kernel, operator_values, stretched, value_before}
+use Rattle.plan_dsl.proofs.TypingLemmas.{by_children, by_no_children, ruled_is, typed_parts}
+use Rattle.plan_dsl.specs.Kernels.{Meaning, cast_meaning, cast_values, given, kernel, value_before}
 use Rattle.plan_properties.specs.Laws.{ElementwiseGoesByRows, GoesByRows, HasValuesOr, by_rows, joined, row_count}
-use Rattle.plan_properties.proofs.HarmlessLemmas.{column_cast, common, has_values, operand_cast, values_cast}
-use Rattle.plan_properties.specs.Properties.{is_elementwise, is_own_elementwise, never}
-
-abbrev step : Op → List Bool → Bool
-step op below = never op || (is_own_elementwise op && list_all (λ b. b) below)
+use Rattle.plan_properties.proofs.HarmlessLemmas.{has_values, operand_cast, values_cast}
+use Rattle.plan_properties.proofs.RowOpLemmas.{GoesByRow, LiteralsAreOne, literals_are_one, row_goes}
+use Rattle.plan_properties.proofs.SideLemmas.{AllHave, AreLong, ColumnSplits, ColumnsSplit, all_first, all_rest, all_whole, by_row_joins, done_again, front, front_joined, front_next, given_agrees, given_has, one_row_has}
+use Rattle.plan_properties.specs.Properties.{all_hold, is_elementwise, is_own_elementwise, is_own_harmless, literals, never}
 
 length_is : (found : Result Taken ErrorKind) (many : Bool) (ruling : Ruling) → ruled_as found many ≡ Ok ruling → ruling.own.many ≡ many
 length_is found many ruling h = ruled_is (λ r. r.own.many ≡ many) found many ruling h (λ taken e. refl)
@@ -67,18 +63,6 @@ faulted Stuck count fine = absurd fine
 
 -- ---- casts
 
-done_again : (o : Outcome (List Val)) → o ≡ then_do o (λ values. Done values)
-done_again (Done values) = refl
-done_again Fault = refl
-done_again Stuck = refl
-
-front_joined : (value : Val) (a b : Outcome (List Val)) → then_do (joined a b) (λ values. Done (value ∷ values)) ≡ joined (then_do a (λ values. Done (value ∷ values))) b
-front_joined value (Done xs) (Done ys) = refl
-front_joined value (Done xs) Fault = refl
-front_joined value (Done xs) Stuck = refl
-front_joined value Fault b = refl
-front_joined value Stuck b = refl
-
 cast_joined : (from target : Ty) (options : CastOptions) (xs ys : List Val) → cast_values from target options (xs ++ ys) ≡ joined (cast_values from target options xs) (cast_values from target options ys)
 cast_joined from target options [] ys = done_again (cast_values from target options ys)
 cast_joined from target options (x ∷ xs) ys =
@@ -102,152 +86,26 @@ made_splits make joins fine true means splits each = λ row next rows.
     ap (λ o. then_do o make) (splits row next rows) ∙ then_joined make joins fine (means (row ∷ [])) (means (next ∷ rows)) _ _ (each (row ∷ [])) (each (next ∷ rows))
 made_splits make joins fine false means splits each = λ rows others. ap (λ o. then_do o make) (splits rows others)
 
--- ---- operators
-
-stretched_self : (values : List Val) → stretched (length values) values ≡ values
-stretched_self [] = refl
-stretched_self (value ∷ []) = refl
-stretched_self (first ∷ second ∷ rest) = refl
-
-each_joined : (f : Val → Val → Val) (xs ys us vs : List Val) → length xs ≡ 1 → length us ≡ 1 → at_each f (xs ++ ys) (us ++ vs) ≡ at_each f xs us ++ at_each f ys vs
-each_joined f [] ys us vs h k = cc
-each_joined f (x ∷ []) ys [] vs h k = cc
-each_joined f (x ∷ []) ys (u ∷ []) vs h k = refl
-each_joined f (x ∷ []) ys (u ∷ w ∷ us) vs h k = cc
-each_joined f (x ∷ z ∷ xs) ys us vs h k = cc
-
-each_right : (f : Val → Val → Val) (xs : List Val) (v : Val) → at_each f xs (replicate (length xs) v) ≡ map (λ x. f x v) xs
-each_right f [] v = refl
-each_right f (x ∷ xs) v = ap (λ ys. f x v ∷ ys) (each_right f xs v)
-
-each_left : (f : Val → Val → Val) (x : Val) (ys : List Val) → at_each f (replicate (length ys) x) ys ≡ map (f x) ys
-each_left f x [] = refl
-each_left f x (y ∷ ys) = ap (λ zs. f x y ∷ zs) (each_left f x ys)
-
-module _ (operator : Operator) (from type : Ty) where
-  abbrev each : Val → Val → Val
-  each = operator_value operator from type
-
-  -- columns of one length, and one of one value beside another
-  same_length : (xs us : List Val) → length xs ≡ length us → operator_values operator from type xs us ≡ Done (at_each each xs us)
-  same_length xs us h =
-      let found : common_length (length xs) (length us) ≡ Some (length us) = ap (λ n. common_length n (length us)) h ∙ common (length us) true true in
-      ap (λ o. at_length o (λ count. at_each each (stretched count xs) (stretched count us))) found
-      ∙ (λ i. Done (at_each each (((ap (λ n. stretched n xs) (sym h)) ∙ stretched_self xs) i) (stretched_self us i)))
-
-  one_right : (xs : List Val) (v : Val) → operator_values operator from type xs (v ∷ []) ≡ Done (map (λ x. each x v) xs)
-  one_right xs v =
-      ap (λ o. at_length o (λ count. at_each each (stretched count xs) (stretched count (v ∷ [])))) (common (length xs) true false)
-      ∙ ap Done ((λ i. at_each each (stretched_self xs i) (replicate (length xs) v)) ∙ each_right each xs v)
-
-  one_left : (x : Val) (us : List Val) → operator_values operator from type (x ∷ []) us ≡ Done (map (each x) us)
-  one_left x us =
-      ap (λ o. at_length o (λ count. at_each each (stretched count (x ∷ [])) (stretched count us))) (common (length us) false true)
-      ∙ ap Done ((λ i. at_each each (replicate (length us) x) (stretched_self us i)) ∙ each_left each x us)
-
-  abbrev pub two : Outcome (List Val) → Outcome (List Val) → Outcome (List Val)
-  two o p = then_do o (λ left. then_do p (λ right. operator_values operator from type left right))
-
-  -- both go row by row
-  both_rows : (n : ℕ) (xs ys us vs : List Val) → length xs ≡ 1 → length us ≡ 1 → length ys ≡ n → length vs ≡ n → operator_values operator from type (xs ++ ys) (us ++ vs) ≡ joined (operator_values operator from type xs us) (operator_values operator from type ys vs)
-  both_rows n xs ys us vs h k l m =
-      same_length (xs ++ ys) (us ++ vs) (length-append xs ys ∙ (λ i. (h ∙ sym k) i + (l ∙ sym m) i) ∙ sym (length-append us vs)) ∙ ap Done (each_joined each xs ys us vs h k)
-      ∙ sym (λ i. joined (same_length xs us (h ∙ sym k) i) (same_length ys vs (l ∙ sym m) i))
-
-  two_rows : (n : ℕ) (o p q r : Outcome (List Val)) → Fine 1 o → Fine n p → Fine 1 q → Fine n r → two (joined o p) (joined q r) ≡ joined (two o q) (two p r)
-  two_rows n Fault p q r a b c d = refl
-  two_rows n (Done xs) Fault (Done us) r a b c d = sym (ap (λ o. joined o Fault) (same_length xs us (a ∙ sym c)))
-  two_rows n (Done xs) Fault Fault r a b c d = refl
-  two_rows n (Done xs) (Done ys) Fault r a b c d = refl
-  two_rows n (Done xs) (Done ys) (Done us) Fault a b c d = sym (ap (λ o. joined o Fault) (same_length xs us (a ∙ sym c)))
-  two_rows n (Done xs) (Done ys) (Done us) (Done vs) a b c d = both_rows n xs ys us vs a c b d
-  two_rows n Stuck p q r a b c d = absurd a
-  two_rows n (Done xs) Stuck q r a b c d = absurd b
-  two_rows n (Done xs) Fault Stuck r a b c d = absurd c
-  two_rows n (Done xs) (Done ys) Stuck r a b c d = absurd c
-  two_rows n (Done xs) (Done ys) (Done us) Stuck a b c d = absurd d
-
-  -- the first does
-  left_rows : (xs ys us : List Val) → length us ≡ 1 → operator_values operator from type (xs ++ ys) us ≡ joined (operator_values operator from type xs us) (operator_values operator from type ys us)
-  left_rows xs ys [] h = cc
-  left_rows xs ys (v ∷ []) h = one_right (xs ++ ys) v ∙ ap Done (map-append (λ x. each x v) xs ys) ∙ sym (λ i. joined (one_right xs v i) (one_right ys v i))
-  left_rows xs ys (v ∷ w ∷ us) h = cc
-
-  left_fine : (xs us : List Val) → length us ≡ 1 → Fault ≡ joined (operator_values operator from type xs us) Fault
-  left_fine xs [] h = cc
-  left_fine xs (v ∷ []) h = sym (ap (λ o. joined o Fault) (one_right xs v))
-  left_fine xs (v ∷ w ∷ us) h = cc
-
-  two_left : (o p q : Outcome (List Val)) (count other : ℕ) → Fine count o → Fine other p → Fine 1 q → two (joined o p) q ≡ joined (two o q) (two p q)
-  two_left Fault p q count other a b c = refl
-  two_left (Done xs) Fault (Done us) count other a b c = left_fine xs us c
-  two_left (Done xs) Fault Fault count other a b c = refl
-  two_left (Done xs) (Done ys) Fault count other a b c = refl
-  two_left (Done xs) (Done ys) (Done us) count other a b c = left_rows xs ys us c
-  two_left Stuck p q count other a b c = absurd a
-  two_left (Done xs) Stuck q count other a b c = absurd b
-  two_left (Done xs) Fault Stuck count other a b c = absurd c
-  two_left (Done xs) (Done ys) Stuck count other a b c = absurd c
-
-  -- the second does
-  right_rows : (xs us vs : List Val) → length xs ≡ 1 → operator_values operator from type xs (us ++ vs) ≡ joined (operator_values operator from type xs us) (operator_values operator from type xs vs)
-  right_rows [] us vs h = cc
-  right_rows (x ∷ []) us vs h = one_left x (us ++ vs) ∙ ap Done (map-append (each x) us vs) ∙ sym (λ i. joined (one_left x us i) (one_left x vs i))
-  right_rows (x ∷ y ∷ xs) us vs h = cc
-
-  right_fine : (xs us : List Val) → length xs ≡ 1 → Fault ≡ joined (operator_values operator from type xs us) Fault
-  right_fine [] us h = cc
-  right_fine (x ∷ []) us h = sym (ap (λ o. joined o Fault) (one_left x us))
-  right_fine (x ∷ y ∷ xs) us h = cc
-
-  two_right : (o p q : Outcome (List Val)) (count other : ℕ) → Fine 1 o → Fine count p → Fine other q → two o (joined p q) ≡ joined (two o p) (two o q)
-  two_right Fault p q count other a b c = refl
-  two_right (Done xs) Fault q count other a b c = refl
-  two_right (Done xs) (Done us) Fault count other a b c = right_fine xs us a
-  two_right (Done xs) (Done us) (Done vs) count other a b c = right_rows xs us vs a
-  two_right Stuck p q count other a b c = absurd a
-  two_right (Done xs) Stuck q count other a b c = absurd b
-  two_right (Done xs) (Done us) Stuck count other a b c = absurd c
-
-  -- an operator over what goes row by row, or has one value
-  pub two_splits : (l r : Bool) (m k : Meaning) → Splits l m → Splits r k → ((rows : List ℕ) → Fine (row_count l (length rows)) (m rows)) → ((rows : List ℕ) → Fine (row_count r (length rows)) (k rows)) → Splits (l || (r || false)) (λ rows. two (m rows) (k rows))
-  two_splits true true m k s t f g = λ row next rows. (λ i. two (s row next rows i) (t row next rows i)) ∙ two_rows (length (next ∷ rows)) (m (row ∷ [])) (m (next ∷ rows)) (k (row ∷ [])) (k (next ∷ rows)) (f (row ∷ [])) (f (next ∷ rows)) (g (row ∷ [])) (g (next ∷ rows))
-  two_splits true false m k s t f g = λ row next rows.
-      let whole = k (row ∷ next ∷ rows) in
-      (λ i. two (s row next rows i) whole) ∙ two_left (m (row ∷ [])) (m (next ∷ rows)) whole _ _ (f (row ∷ [])) (f (next ∷ rows)) (g (row ∷ next ∷ rows))
-      ∙ (λ i. joined (two (m (row ∷ [])) (t (row ∷ next ∷ rows) (row ∷ []) i)) (two (m (next ∷ rows)) (t (row ∷ next ∷ rows) (next ∷ rows) i)))
-  two_splits false true m k s t f g = λ row next rows.
-      let whole = m (row ∷ next ∷ rows) in
-      (λ i. two whole (t row next rows i)) ∙ two_right whole (k (row ∷ [])) (k (next ∷ rows)) _ _ (f (row ∷ next ∷ rows)) (g (row ∷ [])) (g (next ∷ rows))
-      ∙ (λ i. joined (two (s (row ∷ next ∷ rows) (row ∷ []) i) (k (row ∷ []))) (two (s (row ∷ next ∷ rows) (next ∷ rows) i) (k (next ∷ rows))))
-  two_splits false false m k s t f g = λ rows others. λ i. two (s rows others i) (t rows others i)
-
 -- ---- operands
 
-abbrev no_more_than : (target : Ty) → is_own_elementwise (CastOp target Strict) ≡ true → Unit {0}
-no_more_than target h = tt
+-- there may be a fault
+abbrev own : (op : Op) (operands : List Bool) → is_own_elementwise op operands ≡ true → is_own_elementwise op operands ≡ true
+own op operands h = h
+
+abbrev any : (op : Op) (operands : List Bool) → is_own_elementwise op operands ≡ true → is_own_harmless op operands ≡ false → Unit {0}
+any op operands h e = tt
 
 values_fine : (from target : Ty) (options : CastOptions) (xs : List Val) → Fine (length xs) (cast_values from target options xs)
-values_fine from target options xs = values_cast (Unit {0}) is_own_elementwise (λ op h. h) no_more_than from target options (λ e. tt) xs
-
-column_fine : (from target : Ty) (options : CastOptions) (xs : List Val) → Fine (length xs) (cast_column from target options xs)
-column_fine from target options xs = column_cast (Unit {0}) is_own_elementwise (λ op h. h) no_more_than from target options (λ e. tt) xs
+values_fine from target options xs = values_cast (Unit {0}) is_own_elementwise own any from target options (λ e. tt) xs
 
 operand_fine : (from target : Ty) (many : Bool) (m : Meaning) → ((rows : List ℕ) → Fine (row_count many (length rows)) (m rows)) → (rows : List ℕ) → Fine (row_count many (length rows)) (cast_meaning from target NonStrict m rows)
-operand_fine from target many m fine rows = operand_cast (Unit {0}) is_own_elementwise (λ op h. h) no_more_than from target m rows _ (fine rows)
+operand_fine from target many m fine rows = operand_cast (Unit {0}) is_own_elementwise own any from target m rows _ (fine rows)
 
 operand_splits : (from target : Ty) (many : Bool) (m : Meaning) → Splits many m → ((rows : List ℕ) → Fine (row_count many (length rows)) (m rows)) → Splits many (cast_meaning from target NonStrict m)
 operand_splits from target many m splits fine =
     elim (same_type from target) as (λ b. Splits many (cond b m (λ rows. then_do (m rows) (cast_values from target NonStrict)))) [
       | true ↦ splits
       | false ↦ made_splits (cast_values from target NonStrict) (cast_joined from target NonStrict) (values_fine from target NonStrict) many m splits fine
-    ]
-
-column_joined : (from target : Ty) (options : CastOptions) (xs ys : List Val) → cast_column from target options (xs ++ ys) ≡ joined (cast_column from target options xs) (cast_column from target options ys)
-column_joined from target options xs ys =
-    elim (same_type from target) as (λ b. cond b (Done (xs ++ ys)) (cast_values from target options (xs ++ ys)) ≡ joined (cond b (Done xs) (cast_values from target options xs)) (cond b (Done ys) (cast_values from target options ys))) [
-      | true ↦ refl
-      | false ↦ cast_joined from target options xs ys
     ]
 
 -- each goes row by row, or has one value
@@ -257,24 +115,74 @@ AllSplit (t ∷ ts) (m ∷ ms) = (Splits t.many m × ((rows : List ℕ) → Fine
 AllSplit [] (m ∷ ms) = ⊥
 AllSplit (t ∷ ts) [] = ⊥
 
+-- the columns of all, of the first row and of the others
+abbrev Joins : ℕ → List Typed → Outcome (List (List Val)) → Outcome (List (List Val)) → Outcome (List (List Val)) → Type 0
+Joins n typed wholes firsts rests =
+    (whole first rest : List (List Val) → Outcome (List Val)) → ((w f r : List (List Val)) → ColumnsSplit n typed w f r → whole w ≡ joined (first f) (rest r)) → ((f : List (List Val)) → AreLong 1 typed f → Fine 1 (first f))
+    → then_do wholes whole ≡ joined (then_do firsts first) (then_do rests rest)
+
+-- and of one operand more, which has a value for each row
+module _ (n : ℕ) (wholes firsts rests : Outcome (List (List Val))) (whole first rest : List (List Val) → Outcome (List Val)) where
+  more_rows : (o p : Outcome (List Val)) → Fine 1 o → Fine n p
+      → ((x y : List Val) → length x ≡ 1 → length y ≡ n → then_do wholes (λ columns. whole ((x ++ y) ∷ columns)) ≡ joined (then_do firsts (λ columns. first (x ∷ columns))) (then_do rests (λ columns. rest (y ∷ columns))))
+      → ((x : List Val) → length x ≡ 1 → Fine 1 (then_do firsts (λ columns. first (x ∷ columns)))) → front (joined o p) wholes whole ≡ joined (front o firsts first) (front p rests rest)
+  more_rows Fault p a b joins fine = refl
+  more_rows Stuck p a b joins fine = absurd a
+  more_rows (Done x) Fault a b joins fine = faulted (front (Done x) firsts first) 1 (subst (Fine 1) (sym (front_next x firsts first)) (fine x a))
+  more_rows (Done x) Stuck a b joins fine = absurd b
+  more_rows (Done x) (Done y) a b joins fine = front_next (x ++ y) wholes whole ∙ joins x y a b ∙ sym (λ i. joined (front_next x firsts first i) (front_next y rests rest i))
+
+  -- or one value
+  one_more : (o : Outcome (List Val)) → Fine 1 o
+      → ((x : List Val) → length x ≡ 1 → then_do wholes (λ columns. whole (x ∷ columns)) ≡ joined (then_do firsts (λ columns. first (x ∷ columns))) (then_do rests (λ columns. rest (x ∷ columns)))) → front o wholes whole ≡ joined (front o firsts first) (front o rests rest)
+  one_more Fault a joins = refl
+  one_more Stuck a joins = absurd a
+  one_more (Done x) a joins = front_next x wholes whole ∙ joins x a ∙ sym (λ i. joined (front_next x firsts first i) (front_next x rests rest i))
+
+fine_all : (rows : List ℕ) (typed : List Typed) (ms : List Meaning) → AllSplit typed ms → AllHave (Unit {0}) (length rows) rows typed ms
+fine_all rows [] [] all = tt
+fine_all rows [] (m ∷ ms) all = absurd all
+fine_all rows (t ∷ ts) [] all = absurd all
+fine_all rows (t ∷ ts) (m ∷ ms) all = (all.0.1 rows, fine_all rows ts ms all.1)
+
+module _ (row next : ℕ) (rows : List ℕ) where
+  abbrev behind : ℕ
+  behind = length (next ∷ rows)
+
+  operand_joins : (many : Bool) (m : Meaning) (typed : List Typed) (ms : List Meaning) → Splits many m → ((rows : List ℕ) → Fine (row_count many (length rows)) (m rows)) → AllSplit typed ms
+      → Joins behind typed (given ms (row ∷ next ∷ rows)) (given ms (row ∷ [])) (given ms (next ∷ rows))
+      → (whole first rest : List (List Val) → Outcome (List Val))
+      → ((x y z : List Val) (w f r : List (List Val)) → ColumnSplits behind many x y z → ColumnsSplit behind typed w f r → whole (x ∷ w) ≡ joined (first (y ∷ f)) (rest (z ∷ r)))
+      → ((y : List Val) (f : List (List Val)) → length y ≡ row_count many 1 → AreLong 1 typed f → Fine 1 (first (y ∷ f)))
+      → front (m (row ∷ next ∷ rows)) (given ms (row ∷ next ∷ rows)) whole ≡ joined (front (m (row ∷ [])) (given ms (row ∷ [])) first) (front (m (next ∷ rows)) (given ms (next ∷ rows)) rest)
+  operand_joins true m typed ms splits fine all joins whole first rest makes has =
+      ap (λ o. front o (given ms (row ∷ next ∷ rows)) whole) (splits row next rows)
+      ∙ more_rows behind (given ms (row ∷ next ∷ rows)) (given ms (row ∷ [])) (given ms (next ∷ rows)) whole first rest (m (row ∷ [])) (m (next ∷ rows)) (fine (row ∷ [])) (fine (next ∷ rows))
+      (λ x y a b. joins (λ columns. whole ((x ++ y) ∷ columns)) (λ columns. first (x ∷ columns)) (λ columns. rest (y ∷ columns)) (λ w f r s. makes (x ++ y) x y w f r (refl, a, b) s) (λ f long. has x f a long))
+      (λ x a. given_has (Unit {0}) 1 1 (row ∷ []) typed ms (fine_all (row ∷ []) typed ms all) (λ columns. first (x ∷ columns)) (λ f long. has x f a long))
+  operand_joins false m typed ms splits fine all joins whole first rest makes has =
+      one_more behind (given ms (row ∷ next ∷ rows)) (given ms (row ∷ [])) (given ms (next ∷ rows)) whole first rest (m (row ∷ next ∷ rows)) (fine (row ∷ next ∷ rows))
+      (λ x a. joins (λ columns. whole (x ∷ columns)) (λ columns. first (x ∷ columns)) (λ columns. rest (x ∷ columns)) (λ w f r s. makes x x x w f r (a, refl, refl) s) (λ f long. has x f a long))
+      ∙ (λ i. joined (front (splits (row ∷ next ∷ rows) (row ∷ []) i) (given ms (row ∷ [])) first) (front (splits (row ∷ next ∷ rows) (next ∷ rows) i) (given ms (next ∷ rows)) rest))
+
+  given_joins : (typed : List Typed) (ms : List Meaning) → AllSplit typed ms → Joins behind typed (given ms (row ∷ next ∷ rows)) (given ms (row ∷ [])) (given ms (next ∷ rows))
+  given_joins [] [] all = λ whole first rest makes fine. makes [] [] [] tt
+  given_joins [] (m ∷ ms) all = absurd all
+  given_joins (t ∷ ts) [] all = absurd all
+  given_joins (t ∷ ts) (m ∷ ms) all = λ whole first rest makes fine.
+      operand_joins t.many m ts ms all.0.0 all.0.1 all.1 (given_joins ts ms all.1) whole first rest (λ x y z w f r own s. makes (x ∷ w) (y ∷ f) (z ∷ r) (own, s)) (λ y f own long. fine (y ∷ f) (own, long))
+
+-- operands of one value
+given_same : (typed : List Typed) (ms : List Meaning) → some_many typed ≡ false → AllSplit typed ms → (rows others : List ℕ) → given ms rows ≡ given ms others
+given_same [] [] single all rows others = refl
+given_same [] (m ∷ ms) single all rows others = absurd all
+given_same (t ∷ ts) [] single all rows others = absurd all
+given_same (t ∷ ts) (m ∷ ms) single all rows others =
+    let parts = or_parts t.many (some_many ts) single in
+    let own : m rows ≡ m others = subst (λ b. Splits b m) parts.0 all.0.0 rows others in
+    λ i. then_do (own i) (λ column. then_do (given_same ts ms parts.1 all.1 rows others i) (λ columns. Done (column ∷ columns)))
+
 -- ---- nodes
-
-given_one : (o : Outcome (List Val)) (next : List (List Val) → Outcome (List Val)) → then_do o (λ column. next (column ∷ [])) ≡ then_do (then_do o (λ column. Done (column ∷ []))) next
-given_one (Done column) next = refl
-given_one Fault next = refl
-given_one Stuck next = refl
-
-given_two : (o p : Outcome (List Val)) (next : List (List Val) → Outcome (List Val)) → then_do o (λ left. then_do p (λ right. next (left ∷ right ∷ []))) ≡ then_do (then_do o (λ left. then_do (then_do p (λ right. Done (right ∷ []))) (λ columns. Done (left ∷ columns)))) next
-given_two (Done left) (Done right) next = refl
-given_two (Done left) Fault next = refl
-given_two (Done left) Stuck next = refl
-given_two Fault p next = refl
-given_two Stuck p next = refl
-
-same_after : (o : Outcome (List Val)) → o ≡ then_do o (λ column. Done column)
-same_after (Done column) = refl
-same_after Fault = refl
-same_after Stuck = refl
 
 module _ (registry : Registry) (frame : Frame) where
   abbrev made : Op → List Ty → List Ty → Ty → List Meaning → Meaning
@@ -285,76 +193,58 @@ module _ (registry : Registry) (frame : Frame) where
   column_splits name own type [] (m ∷ ms) becomes all = absurd all
   column_splits name own type (a ∷ targets) ms becomes all = absurd becomes
 
-  literal_splits : (of : Ty) (value : Val) (own type : Ty) (targets : List Ty) (ms : List Meaning) → AllBecome own [] targets → AllSplit [] ms → Splits false (made (LiteralOp of value) [] targets type ms)
-  literal_splits of value own type [] [] becomes all = λ rows others. refl
-  literal_splits of value own type [] (m ∷ ms) becomes all = absurd all
-  literal_splits of value own type (a ∷ targets) ms becomes all = absurd becomes
+  -- what goes row by row
+  taken_split : (own : Ty) (below : List Typed) (targets : List Ty) (ms : List Meaning) → AllBecome own (types_of below) targets → AllSplit below ms → AllSplit below (taken_to (types_of below) targets ms)
+  taken_split own [] targets [] becomes all = tt
+  taken_split own [] targets (m ∷ ms) becomes all = absurd all
+  taken_split own (t ∷ ts) [] ms becomes all = absurd becomes
+  taken_split own (t ∷ ts) (target ∷ targets) [] becomes all = absurd all
+  taken_split own (t ∷ ts) (target ∷ targets) (m ∷ ms) becomes all =
+      ((operand_splits t.type target t.many m all.0.0 all.0.1, operand_fine t.type target t.many m all.0.1), taken_split own ts targets ms becomes.1 all.1)
 
-  pair_splits : (operator : Operator) (own type : Ty) (x y : Typed) (targets : List Ty) (ms : List Meaning) → AllBecome own (x.type ∷ y.type ∷ []) targets → AllSplit (x ∷ y ∷ []) ms → Splits (x.many || (y.many || false)) (made (BinaryOp operator) (x.type ∷ y.type ∷ []) targets type ms)
-  pair_splits operator own type x y (a ∷ b ∷ []) (m ∷ k ∷ []) becomes all =
-      let left = cast_meaning x.type a NonStrict m in
-      let right = cast_meaning y.type b NonStrict k in
-      subst (Splits (x.many || (y.many || false))) (λ i rows. given_two (left rows) (right rows) (kernel registry frame rows (BinaryOp operator) (a ∷ b ∷ []) type) i)
-      (two_splits operator a type x.many y.many left right (operand_splits x.type a x.many m all.0.0 all.0.1) (operand_splits y.type b y.many k all.1.0.0 all.1.0.1) (operand_fine x.type a x.many m all.0.1) (operand_fine y.type b y.many k all.1.0.1))
-  pair_splits operator own type x y [] ms becomes all = absurd becomes
-  pair_splits operator own type x y (a ∷ []) ms becomes all = absurd becomes.1
-  pair_splits operator own type x y (a ∷ b ∷ c ∷ targets) ms becomes all = absurd becomes.1.1
-  pair_splits operator own type x y (a ∷ b ∷ []) [] becomes all = absurd all
-  pair_splits operator own type x y (a ∷ b ∷ []) (m ∷ []) becomes all = absurd all.1
-  pair_splits operator own type x y (a ∷ b ∷ []) (m ∷ k ∷ l ∷ ms) becomes all = absurd all.1.1
+  rows_many : (op : Op) (operands : List Bool) (below : List Typed) (ruling : Ruling) → GoesByRow registry op operands below ruling → some_many below ≡ true → (ms : List Meaning) → AllSplit below ms
+      → Splits true (λ rows. then_do (given ms rows) (kernel registry frame rows op ruling.operands ruling.own.type))
+  rows_many op operands below ruling goes some ms all = λ row next rows.
+      let n = length (next ∷ rows) in
+      let on : List ℕ → List (List Val) → Outcome (List Val) = λ rows. kernel registry frame rows op ruling.operands ruling.own.type in
+      given_joins row next rows below ms all (on (row ∷ next ∷ rows)) (on (row ∷ [])) (on (next ∷ rows))
+      (λ wholes firsts rests s.
+      goes.makes frame (row ∷ next ∷ rows) (suc n) wholes (all_whole n below wholes firsts rests s) ∙ by_row_joins goes.value n below wholes firsts rests some s
+      ∙ sym (λ i. joined (goes.makes frame (row ∷ []) 1 firsts (all_first n below wholes firsts rests s) i) (goes.makes frame (next ∷ rows) n rests (all_rest n below wholes firsts rests s) i)))
+      (λ firsts long. subst (Fine 1) (sym (goes.makes frame (row ∷ []) 1 firsts long)) (one_row_has goes.value below firsts long))
 
-  cast_splits : (target : Ty) (options : CastOptions) (own type : Ty) (from : Typed) (targets : List Ty) (ms : List Meaning) → AllBecome own (from.type ∷ []) targets → AllSplit (from ∷ []) ms → Splits from.many (made (CastOp target options) (from.type ∷ []) targets type ms)
-  cast_splits target options own type from (a ∷ []) (m ∷ []) becomes all =
-      let input = cast_meaning from.type a NonStrict m in
-      subst (Splits from.many) (λ i rows. given_one (input rows) (kernel registry frame rows (CastOp target options) (a ∷ []) type) i)
-      (made_splits (cast_column a target options) (column_joined a target options) (column_fine a target options) from.many input (operand_splits from.type a from.many m all.0.0 all.0.1) (operand_fine from.type a from.many m all.0.1))
-  cast_splits target options own type from [] ms becomes all = absurd becomes
-  cast_splits target options own type from (a ∷ b ∷ targets) ms becomes all = absurd becomes.1
-  cast_splits target options own type from (a ∷ []) [] becomes all = absurd all
-  cast_splits target options own type from (a ∷ []) (m ∷ k ∷ ms) becomes all = absurd all.1
+  rows_one : (op : Op) (operands : List Bool) (below : List Typed) (ruling : Ruling) → GoesByRow registry op operands below ruling → some_many below ≡ false → (ms : List Meaning) → AllSplit below ms
+      → Splits false (λ rows. then_do (given ms rows) (kernel registry frame rows op ruling.operands ruling.own.type))
+  rows_one op operands below ruling goes single ms all = λ rows others.
+      let on : List ℕ → List (List Val) → Outcome (List Val) = λ rows. kernel registry frame rows op ruling.operands ruling.own.type in
+      ap (λ o. then_do o (on rows)) (given_same below ms single all rows others)
+      ∙ given_agrees (Unit {0}) (length others) others below ms (fine_all others below ms all) (on rows) (on others) (λ columns long.
+      goes.makes frame rows (length others) columns long ∙ sym (goes.makes frame others (length others) columns long))
 
-  alias_splits : (name : Name) (type : Ty) (input : Typed) (ms : List Meaning) → AllSplit (input ∷ []) ms → Splits input.many (made (AliasOp name) (input.type ∷ []) (input.type ∷ []) type ms)
-  alias_splits name type input (m ∷ []) all =
-      let own = cast_meaning input.type input.type NonStrict m in
-      subst (Splits input.many) (λ i rows. (same_after (own rows) ∙ given_one (own rows) (kernel registry frame rows (AliasOp name) (input.type ∷ []) type)) i) (operand_splits input.type input.type input.many m all.0.0 all.0.1)
-  alias_splits name type input [] all = absurd all
-  alias_splits name type input (m ∷ k ∷ ms) all = absurd all.1
+  abbrev Node : Op → List Typed → Ruling → List Meaning → Meaning
+  Node op below ruling ms = applied registry frame op ruling (taken_to (types_of below) ruling.operands ms)
 
-  abbrev Goes : Op → List Typed → Ruling → List Meaning → Type 0
-  Goes op below ruling ms = Splits ruling.own.many (applied registry frame op ruling (taken_to (types_of below) ruling.operands ms))
+  rows_split : (op : Op) (operands : List Bool) (below : List Typed) (ruling : Ruling) → GoesByRow registry op operands below ruling → AllBecome ruling.own.type (types_of below) ruling.operands → (ms : List Meaning) → AllSplit below ms → Splits ruling.own.many (Node op below ruling ms)
+  rows_split op operands below ruling goes becomes ms all =
+      let taken = taken_to (types_of below) ruling.operands ms in
+      let split = taken_split ruling.own.type below ruling.operands ms becomes all in
+      let made : Meaning = λ rows. then_do (given taken rows) (kernel registry frame rows op ruling.operands ruling.own.type) in
+      let applies : made ≡ Node op below ruling ms = λ i rows. sym (goes.applies frame taken rows) i in
+      subst (Splits ruling.own.many) applies
+      (subst (λ b. Splits b made) (sym goes.many) (elim (some_many below) as (λ b. some_many below ≡ b → Splits b made) [
+        | true ↦ λ e. rows_many op operands below ruling goes e taken split
+        | false ↦ λ e. rows_one op operands below ruling goes e taken split
+      ] refl))
 
-  own_splits : (op : Op) (below : List Typed) (ruling : Ruling) → rule registry frame.schema op below ≡ Ok ruling → AllBecome ruling.own.type (types_of below) ruling.operands → is_own_elementwise op ≡ true → (ms : List Meaning) → AllSplit below ms → Goes op below ruling ms
-  own_splits (ColumnOp name) [] ruling h becomes s ms all =
+  own_splits : (op : Op) (operands : List Bool) (below : List Typed) (ruling : Ruling) → rule registry frame.schema op below ≡ Ok ruling → AllBecome ruling.own.type (types_of below) ruling.operands → is_own_elementwise op operands ≡ true → LiteralsAreOne operands below → (ms : List Meaning) → AllSplit below ms
+      → Splits ruling.own.many (Node op below ruling ms)
+  own_splits (ColumnOp name) operands [] ruling h becomes s one ms all =
       subst (λ b. Splits b (made (ColumnOp name) [] ruling.operands ruling.own.type ms)) (sym (length_is _ true ruling h)) (column_splits name ruling.own.type ruling.own.type ruling.operands ms becomes all)
-  own_splits (ColumnOp name) (x ∷ xs) ruling h becomes s ms all = cc
-  own_splits (LiteralOp type value) [] ruling h becomes s ms all =
-      subst (λ b. Splits b (made (LiteralOp type value) [] ruling.operands ruling.own.type ms)) (sym (length_is _ false ruling h)) (literal_splits type value ruling.own.type ruling.own.type ruling.operands ms becomes all)
-  own_splits (LiteralOp type value) (x ∷ xs) ruling h becomes s ms all = cc
-  own_splits (BinaryOp operator) [] ruling h becomes s ms all = cc
-  own_splits (BinaryOp operator) (x ∷ []) ruling h becomes s ms all = cc
-  own_splits (BinaryOp operator) (x ∷ y ∷ []) ruling h becomes s ms all =
-      subst (λ b. Splits b (made (BinaryOp operator) (x.type ∷ y.type ∷ []) ruling.operands ruling.own.type ms)) (sym (length_is _ _ ruling h)) (pair_splits operator ruling.own.type ruling.own.type x y ruling.operands ms becomes all)
-  own_splits (BinaryOp operator) (x ∷ y ∷ z ∷ zs) ruling h becomes s ms all = cc
-  own_splits (CastOp target options) [] ruling h becomes s ms all = cc
-  own_splits (CastOp target options) (from ∷ []) ruling h becomes s ms all =
-      subst (λ b. Splits b (made (CastOp target options) (from.type ∷ []) ruling.operands ruling.own.type ms)) (sym (length_is _ from.many ruling h)) (cast_splits target options ruling.own.type ruling.own.type from ruling.operands ms becomes all)
-  own_splits (CastOp target options) (x ∷ y ∷ zs) ruling h becomes s ms all = cc
-  own_splits (AliasOp name) [] ruling h becomes s ms all = cc
-  own_splits (AliasOp name) (input ∷ []) ruling h becomes s ms all =
-      subst (λ r. Goes (AliasOp name) (input ∷ []) r ms) (ok_same (rule registry frame.schema (AliasOp name) (input ∷ [])) (aliased input) ruling refl h) (alias_splits name input.type input ms all)
-  own_splits (AliasOp name) (x ∷ y ∷ zs) ruling h becomes s ms all = cc
-  own_splits LenOp below ruling h becomes s ms all = cc
-  own_splits SliceOp below ruling h becomes s ms all = cc
-  own_splits ExplodeOp below ruling h becomes s ms all = cc
-  own_splits (GatherOp one) below ruling h becomes s ms all = cc
-  own_splits FilterOp below ruling h becomes s ms all = cc
-  own_splits (SortOp options) below ruling h becomes s ms all = cc
-  own_splits (SortByOp descending nulls_last) below ruling h becomes s ms all = cc
-  own_splits (WindowOp order) below ruling h becomes s ms all = cc
-  own_splits (AggOp method) below ruling h becomes s ms all = cc
+  own_splits (ColumnOp name) operands (x ∷ xs) ruling h becomes s one ms all = cc
+  own_splits op operands below ruling h becomes s one ms all = rows_split op operands below ruling (row_goes registry frame.schema op operands below ruling h becomes s refl one) becomes ms all
 
   expression_fine : (t : Expression) (typed : Typed) → typing registry frame.schema t ≡ Ok typed → is_elementwise t ≡ true → (rows : List ℕ) → Fine (row_count typed.many (length rows)) (meaning registry frame t rows)
-  expression_fine t typed h s rows = has_values (Unit {0}) is_own_elementwise (λ op h. h) no_more_than registry frame rows t typed h s
+  expression_fine t typed h s rows = has_values (Unit {0}) is_own_elementwise own any registry frame rows t typed h s
 
   mutual
     expression_splits : (t : Expression) (typed : Typed) → typing registry frame.schema t ≡ Ok typed → is_elementwise t ≡ true → Splits typed.many (meaning registry frame t)
@@ -362,15 +252,15 @@ module _ (registry : Registry) (frame : Frame) where
         let p = typed_parts registry frame.schema op ts typed h in
         let keeps = keeps_rule registry frame.schema op p.below p.ruling p.rules in
         let ms = meaning_all registry frame ts in
-        let both = and_parts (is_own_elementwise op) (list_all (λ b. b) (fold_all step ts)) s in
+        let both = and_parts (is_own_elementwise op (literals ts)) (all_hold never is_own_elementwise ts) s in
         let is = ap (λ r. node_meaning registry frame op r ms) p.children_typed ∙ ap (λ r. ruled_meaning registry frame op (types_of p.below) r ms) p.rules in
         subst (λ (own : Typed). Splits own.many (meaning registry frame (node op ts))) p.is
-        (subst (Splits p.ruling.own.many) (sym is) (own_splits op p.below p.ruling p.rules keeps.becomes both.0 ms (expressions_split ts p.below p.children_typed both.1)))
+        (subst (Splits p.ruling.own.many) (sym is) (own_splits op (literals ts) p.below p.ruling p.rules keeps.becomes both.0 (literals_are_one registry frame.schema ts p.below p.children_typed) ms (expressions_split ts p.below p.children_typed both.1)))
 
-    expressions_split : (ts : Trees Op) (below : List Typed) → typing_all registry frame.schema ts ≡ Ok below → list_all (λ b. b) (fold_all step ts) ≡ true → AllSplit below (meaning_all registry frame ts)
+    expressions_split : (ts : Trees Op) (below : List Typed) → typing_all registry frame.schema ts ≡ Ok below → all_hold never is_own_elementwise ts ≡ true → AllSplit below (meaning_all registry frame ts)
     expressions_split no_more below h s = by_no_children (λ ts. AllSplit ts []) below h tt
     expressions_split (more t ts) below h s =
-        let both = and_parts (is_elementwise t) (list_all (λ b. b) (fold_all step ts)) s in
+        let both = and_parts (is_elementwise t) (all_hold never is_own_elementwise ts) s in
         by_children (λ typed. AllSplit typed (meaning registry frame t ∷ meaning_all registry frame ts)) _ _ below h (λ own rest first others. ((expression_splits t own first both.0, expression_fine t own first both.0), expressions_split ts rest others both.1))
 
 pub elementwise_goes_by_rows : ElementwiseGoesByRows

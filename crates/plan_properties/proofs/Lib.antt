@@ -5,5 +5,7 @@ pub mod FilterLemmas
 mod HarmlessLemmas
 mod PartLemmas
 mod RowLemmas
+mod RowOpLemmas
 mod ScalarLemmas
+mod SideLemmas
 pub mod SplittingLemmas

@@ -1,7 +1,6 @@
 -- What an elementwise expression gives on a row hangs on that row alone.
-use Rattle.std.proofs.Common.{◌≡◌, ℕ, Bool, true, false, cond, ◌&&◌, ◌||◌, List, [], ◌∷◌, Ok, Err, refl, ap}
+use Rattle.std.proofs.Common.{◌≡◌, ℕ, Bool, true, false, cond, List, [], ◌∷◌, Ok, Err, refl, ap}
 use Rattle.std.proofs.lemmas.Bool.{and_parts}
-use Rattle.std.specs.List.{list_all}
 use Rattle.plan_types.specs.Frames.{Frame, Row, row_at, value_in}
 use Rattle.plan_types.specs.Outcomes.{Done, then_do}
 use Rattle.plan_types.specs.Schemas.{Columns}
@@ -10,15 +9,12 @@ use Rattle.plan_types.specs.Values.{Val}
 use Rattle.plan_types.specs.declared.dtype.CastOptions.TheVariants.{NonStrict}
 use Rattle.plan_dsl.specs.Kernels.{Meaning, cast_meaning, cast_values, given, kernel}
 use Rattle.plan_dsl.specs.Meaning.{applied, meaning, meaning_all, node_meaning, ruled_meaning, taken_to}
-use Rattle.plan_dsl.specs.Ops.{Op, ColumnOp, LiteralOp, BinaryOp, CastOp, LenOp, SliceOp, ExplodeOp, GatherOp, FilterOp, SortOp, SortByOp, WindowOp, AliasOp, AggOp, Expression}
+use Rattle.plan_dsl.specs.Ops.{Op, ColumnOp, LiteralOp, BinaryOp, CastOp, LenOp, SliceOp, ExplodeOp, GatherOp, FilterOp, SortOp, SortByOp, WindowOp, AliasOp, AggOp, TernaryOp, FunctionOp, Expression}
 use Rattle.plan_dsl.specs.Registry.{Registry}
-use Rattle.plan_dsl.specs.Trees.{Trees, node, no_more, more, fold_all}
+use Rattle.plan_dsl.specs.Trees.{Trees, node, no_more, more}
 use Rattle.plan_dsl.specs.Typing.{Ruling, rule, types_of, typing_all}
 use Rattle.plan_properties.specs.Laws.{RowsDecide}
-use Rattle.plan_properties.specs.Properties.{is_elementwise, is_own_elementwise, never}
-
-abbrev step : Op → List Bool → Bool
-step op below = never op || (is_own_elementwise op && list_all (λ b. b) below)
+use Rattle.plan_properties.specs.Properties.{all_hold, is_elementwise, is_own_elementwise, literals, never}
 
 module _ (registry : Registry) (schema : Columns) (rows others : List Row) (row other : ℕ) (same : row_at (record { schema = schema; rows = rows }) row ≡ row_at (record { schema = schema; rows = others }) other) where
   abbrev one : Frame
@@ -50,76 +46,80 @@ module _ (registry : Registry) (schema : Columns) (rows others : List Row) (row 
   given_agrees (from ∷ types) (target ∷ targets) (m ∷ ms) (k ∷ ks) all = λ i.
       then_do (cast_agrees from target m k all.0 i) (λ column. then_do (given_agrees types targets ms ks all.1 i) (λ columns. Done (column ∷ columns)))
 
-  kernel_agrees : (op : Op) (targets : List Ty) (type : Ty) (columns : List (List Val)) → is_own_elementwise op ≡ true → kernel registry one (row ∷ []) op targets type columns ≡ kernel registry two (other ∷ []) op targets type columns
-  kernel_agrees (ColumnOp name) [] type [] s = ap (λ values. Done (value_in schema name values ∷ [])) same
-  kernel_agrees (ColumnOp name) [] type (c ∷ cs) s = refl
-  kernel_agrees (ColumnOp name) (a ∷ targets) type columns s = refl
-  kernel_agrees (LiteralOp of value) [] type [] s = refl
-  kernel_agrees (LiteralOp of value) [] type (c ∷ cs) s = refl
-  kernel_agrees (LiteralOp of value) (a ∷ targets) type columns s = refl
-  kernel_agrees (BinaryOp operator) [] type columns s = refl
-  kernel_agrees (BinaryOp operator) (a ∷ targets) type [] s = refl
-  kernel_agrees (BinaryOp operator) (a ∷ targets) type (c ∷ []) s = refl
-  kernel_agrees (BinaryOp operator) (a ∷ targets) type (c ∷ d ∷ []) s = refl
-  kernel_agrees (BinaryOp operator) (a ∷ targets) type (c ∷ d ∷ e ∷ cs) s = refl
-  kernel_agrees (CastOp target options) [] type columns s = refl
-  kernel_agrees (CastOp target options) (a ∷ []) type [] s = refl
-  kernel_agrees (CastOp target options) (a ∷ []) type (c ∷ []) s = refl
-  kernel_agrees (CastOp target options) (a ∷ []) type (c ∷ d ∷ cs) s = refl
-  kernel_agrees (CastOp target options) (a ∷ b ∷ targets) type columns s = refl
-  kernel_agrees (AliasOp name) targets type [] s = refl
-  kernel_agrees (AliasOp name) targets type (c ∷ []) s = refl
-  kernel_agrees (AliasOp name) targets type (c ∷ d ∷ cs) s = refl
-  kernel_agrees LenOp targets type columns s = cc
-  kernel_agrees SliceOp targets type columns s = cc
-  kernel_agrees ExplodeOp targets type columns s = cc
-  kernel_agrees (GatherOp scalar) targets type columns s = cc
-  kernel_agrees FilterOp targets type columns s = cc
-  kernel_agrees (SortOp options) targets type columns s = cc
-  kernel_agrees (SortByOp descending nulls_last) targets type columns s = cc
-  kernel_agrees (WindowOp order) targets type columns s = cc
-  kernel_agrees (AggOp method) targets type columns s = cc
+  kernel_agrees : (op : Op) (operands : List Bool) (targets : List Ty) (type : Ty) (columns : List (List Val)) → is_own_elementwise op operands ≡ true → kernel registry one (row ∷ []) op targets type columns ≡ kernel registry two (other ∷ []) op targets type columns
+  kernel_agrees (ColumnOp name) operands [] type [] s = ap (λ values. Done (value_in schema name values ∷ [])) same
+  kernel_agrees (ColumnOp name) operands [] type (c ∷ cs) s = refl
+  kernel_agrees (ColumnOp name) operands (a ∷ targets) type columns s = refl
+  kernel_agrees (LiteralOp of value) operands [] type [] s = refl
+  kernel_agrees (LiteralOp of value) operands [] type (c ∷ cs) s = refl
+  kernel_agrees (LiteralOp of value) operands (a ∷ targets) type columns s = refl
+  kernel_agrees (BinaryOp operator) operands [] type columns s = refl
+  kernel_agrees (BinaryOp operator) operands (a ∷ targets) type [] s = refl
+  kernel_agrees (BinaryOp operator) operands (a ∷ targets) type (c ∷ []) s = refl
+  kernel_agrees (BinaryOp operator) operands (a ∷ targets) type (c ∷ d ∷ []) s = refl
+  kernel_agrees (BinaryOp operator) operands (a ∷ targets) type (c ∷ d ∷ e ∷ cs) s = refl
+  kernel_agrees (CastOp target options) operands [] type columns s = refl
+  kernel_agrees (CastOp target options) operands (a ∷ []) type [] s = refl
+  kernel_agrees (CastOp target options) operands (a ∷ []) type (c ∷ []) s = refl
+  kernel_agrees (CastOp target options) operands (a ∷ []) type (c ∷ d ∷ cs) s = refl
+  kernel_agrees (CastOp target options) operands (a ∷ b ∷ targets) type columns s = refl
+  kernel_agrees (AliasOp name) operands targets type [] s = refl
+  kernel_agrees (AliasOp name) operands targets type (c ∷ []) s = refl
+  kernel_agrees (AliasOp name) operands targets type (c ∷ d ∷ cs) s = refl
+  kernel_agrees LenOp operands targets type columns s = cc
+  kernel_agrees SliceOp operands targets type columns s = cc
+  kernel_agrees ExplodeOp operands targets type columns s = cc
+  kernel_agrees (GatherOp scalar) operands targets type columns s = cc
+  kernel_agrees FilterOp operands targets type columns s = cc
+  kernel_agrees (SortOp options) operands targets type columns s = cc
+  kernel_agrees (SortByOp descending nulls_last) operands targets type columns s = cc
+  kernel_agrees (WindowOp order) operands targets type columns s = cc
+  kernel_agrees (AggOp method) operands targets type columns s = cc
+  kernel_agrees TernaryOp operands targets type columns s = refl
+  kernel_agrees (FunctionOp function recorded) operands targets type columns s = refl
 
   -- an op that is no window's goes by columns
-  by_columns : (op : Op) (ruling : Ruling) (types : List Ty) (ms ks : List Meaning) → is_own_elementwise op ≡ true → AllAgree ms ks
+  by_columns : (op : Op) (operands : List Bool) (ruling : Ruling) (types : List Ty) (ms ks : List Meaning) → is_own_elementwise op operands ≡ true → AllAgree ms ks
       → then_do (given (taken_to types ruling.operands ms) (row ∷ [])) (kernel registry one (row ∷ []) op ruling.operands ruling.own.type) ≡ then_do (given (taken_to types ruling.operands ks) (other ∷ [])) (kernel registry two (other ∷ []) op ruling.operands ruling.own.type)
-  by_columns op ruling types ms ks s all = λ i. then_do (given_agrees types ruling.operands ms ks all i) (λ columns. kernel_agrees op ruling.operands ruling.own.type columns s i)
+  by_columns op operands ruling types ms ks s all = λ i. then_do (given_agrees types ruling.operands ms ks all i) (λ columns. kernel_agrees op operands ruling.operands ruling.own.type columns s i)
 
-  applied_agrees : (op : Op) (ruling : Ruling) (types : List Ty) (ms ks : List Meaning) → is_own_elementwise op ≡ true → AllAgree ms ks
+  applied_agrees : (op : Op) (operands : List Bool) (ruling : Ruling) (types : List Ty) (ms ks : List Meaning) → is_own_elementwise op operands ≡ true → AllAgree ms ks
       → applied registry one op ruling (taken_to types ruling.operands ms) (row ∷ []) ≡ applied registry two op ruling (taken_to types ruling.operands ks) (other ∷ [])
-  applied_agrees (ColumnOp name) ruling types ms ks s all = by_columns (ColumnOp name) ruling types ms ks s all
-  applied_agrees (LiteralOp of value) ruling types ms ks s all = by_columns (LiteralOp of value) ruling types ms ks s all
-  applied_agrees (BinaryOp operator) ruling types ms ks s all = by_columns (BinaryOp operator) ruling types ms ks s all
-  applied_agrees (CastOp target options) ruling types ms ks s all = by_columns (CastOp target options) ruling types ms ks s all
-  applied_agrees (AliasOp name) ruling types ms ks s all = by_columns (AliasOp name) ruling types ms ks s all
-  applied_agrees LenOp ruling types ms ks s all = cc
-  applied_agrees SliceOp ruling types ms ks s all = cc
-  applied_agrees ExplodeOp ruling types ms ks s all = cc
-  applied_agrees (GatherOp scalar) ruling types ms ks s all = cc
-  applied_agrees FilterOp ruling types ms ks s all = cc
-  applied_agrees (SortOp options) ruling types ms ks s all = cc
-  applied_agrees (SortByOp descending nulls_last) ruling types ms ks s all = cc
-  applied_agrees (WindowOp order) ruling types ms ks s all = cc
-  applied_agrees (AggOp method) ruling types ms ks s all = cc
+  applied_agrees (ColumnOp name) operands ruling types ms ks s all = by_columns (ColumnOp name) operands ruling types ms ks s all
+  applied_agrees (LiteralOp of value) operands ruling types ms ks s all = by_columns (LiteralOp of value) operands ruling types ms ks s all
+  applied_agrees (BinaryOp operator) operands ruling types ms ks s all = by_columns (BinaryOp operator) operands ruling types ms ks s all
+  applied_agrees (CastOp target options) operands ruling types ms ks s all = by_columns (CastOp target options) operands ruling types ms ks s all
+  applied_agrees (AliasOp name) operands ruling types ms ks s all = by_columns (AliasOp name) operands ruling types ms ks s all
+  applied_agrees LenOp operands ruling types ms ks s all = cc
+  applied_agrees SliceOp operands ruling types ms ks s all = cc
+  applied_agrees ExplodeOp operands ruling types ms ks s all = cc
+  applied_agrees (GatherOp scalar) operands ruling types ms ks s all = cc
+  applied_agrees FilterOp operands ruling types ms ks s all = cc
+  applied_agrees (SortOp options) operands ruling types ms ks s all = cc
+  applied_agrees (SortByOp descending nulls_last) operands ruling types ms ks s all = cc
+  applied_agrees (WindowOp order) operands ruling types ms ks s all = cc
+  applied_agrees (AggOp method) operands ruling types ms ks s all = cc
+  applied_agrees TernaryOp operands ruling types ms ks s all = by_columns TernaryOp operands ruling types ms ks s all
+  applied_agrees (FunctionOp function recorded) operands ruling types ms ks s all = by_columns (FunctionOp function recorded) operands ruling types ms ks s all
 
   mutual
     expression_agrees : (t : Expression) → is_elementwise t ≡ true → meaning registry one t (row ∷ []) ≡ meaning registry two t (other ∷ [])
     expression_agrees (node op ts) s =
-        let both = and_parts (is_own_elementwise op) (list_all (λ b. b) (fold_all step ts)) s in
+        let both = and_parts (is_own_elementwise op (literals ts)) (all_hold never is_own_elementwise ts) s in
         let ms = meaning_all registry one ts in
         let ks = meaning_all registry two ts in
         elim (typing_all registry schema ts) as (λ r. node_meaning registry one op r ms (row ∷ []) ≡ node_meaning registry two op r ks (other ∷ [])) [
           | Err kind ↦ refl
           | Ok typed ↦ elim (rule registry schema op typed) as (λ r. ruled_meaning registry one op (types_of typed) r ms (row ∷ []) ≡ ruled_meaning registry two op (types_of typed) r ks (other ∷ [])) [
             | Err kind ↦ refl
-            | Ok ruling ↦ applied_agrees op ruling (types_of typed) ms ks both.0 (expressions_agree ts both.1)
+            | Ok ruling ↦ applied_agrees op (literals ts) ruling (types_of typed) ms ks both.0 (expressions_agree ts both.1)
           ]
         ]
 
-    expressions_agree : (ts : Trees Op) → list_all (λ b. b) (fold_all step ts) ≡ true → AllAgree (meaning_all registry one ts) (meaning_all registry two ts)
+    expressions_agree : (ts : Trees Op) → all_hold never is_own_elementwise ts ≡ true → AllAgree (meaning_all registry one ts) (meaning_all registry two ts)
     expressions_agree no_more s = tt
     expressions_agree (more t ts) s =
-        let both = and_parts (is_elementwise t) (list_all (λ b. b) (fold_all step ts)) s in
+        let both = and_parts (is_elementwise t) (all_hold never is_own_elementwise ts) s in
         (expression_agrees t both.0, expressions_agree ts both.1)
 
 pub rows_decide : RowsDecide

@@ -3,7 +3,7 @@ use Rattle.std.proofs.Common.{◌≡◌, ℕ, zero, suc, ◌+◌, ◌<◌, Bool,
 use Rattle.std.proofs.Math.Bool.{and-false}
 use Rattle.std.proofs.lemmas.Bool.{and_parts, and_from}
 use Rattle.std.proofs.lemmas.List.{append-nil, length-map}
-use Rattle.std.specs.List.{AllByRecursion, list_all, range_with_len}
+use Rattle.std.specs.List.{AllByRecursion, range_with_len}
 use Rattle.plan_types.specs.Frames.{Frame, Row, row_at, row_numbers}
 use Rattle.plan_types.specs.Outcomes.{Outcome, Done, Fault, Stuck, then_do}
 use Rattle.plan_types.specs.Schemas.{Columns}
@@ -17,32 +17,30 @@ use Rattle.plan_dsl.specs.Ops.{Op, BinaryOp, Expression}
 use Rattle.plan_dsl.specs.Picks.{is_true, where_true}
 use Rattle.plan_dsl.specs.PlanKernels.{kept_rows}
 use Rattle.plan_dsl.specs.Registry.{Registry}
-use Rattle.plan_dsl.specs.Trees.{Trees, node, no_more, more, fold_all}
+use Rattle.plan_dsl.specs.Trees.{Trees, node, no_more, more}
 use Rattle.plan_dsl.specs.Typing.{Typed, typing}
 use Rattle.plan_properties.specs.Laws.{GoesByRows, HasValues, by_rows, joined, row_count}
-use Rattle.plan_properties.specs.Properties.{is_elementwise, is_own_elementwise, is_own_harmless, never, permits_pushdown}
+use Rattle.plan_properties.specs.Properties.{all_hold, is_elementwise, is_own_elementwise, is_own_harmless, literals, never, permits_pushdown}
 use Rattle.plan_properties.specs.Splitting.{IsCondition, PartsAreConditions, SplittingKeepsFrames, all_conjuncts, conjuncts, is_conjunction, is_whole, kept_by, kept_by_all}
 use Rattle.plan_properties.proofs.ConjunctLemmas.{BothConditions, both_conditions, conjunction_is_true}
 use Rattle.plan_properties.proofs.ElementwiseLemmas.{elementwise_goes_by_rows}
-use Rattle.plan_properties.proofs.HarmlessLemmas.{harmless_tells, own_equal, pushdowns_have_no_fault}
+use Rattle.plan_properties.proofs.HarmlessLemmas.{harmless_tells, pushdowns_have_no_fault}
+use Rattle.plan_properties.proofs.SideLemmas.{own_equal}
 use Rattle.plan_properties.proofs.RowLemmas.{rows_decide}
 
 -- ---- what permits pushdown is elementwise
 
-abbrev step : (Op → Bool) → Op → List Bool → Bool
-step g op below = never op || (g op && list_all (λ b. b) below)
-
 mutual
   harmless_is_elementwise : (t : Expression) → permits_pushdown t ≡ true → is_elementwise t ≡ true
   harmless_is_elementwise (node op ts) h =
-      let both = and_parts (is_own_harmless op) (list_all (λ b. b) (fold_all (step is_own_harmless) ts)) h in
-      and_from (is_own_elementwise op) (list_all (λ b. b) (fold_all (step is_own_elementwise) ts)) (harmless_tells op both.0) (harmless_are_elementwise ts both.1)
+      let both = and_parts (is_own_harmless op (literals ts)) (all_hold never is_own_harmless ts) h in
+      and_from (is_own_elementwise op (literals ts)) (all_hold never is_own_elementwise ts) (harmless_tells op (literals ts) both.0) (harmless_are_elementwise ts both.1)
 
-  harmless_are_elementwise : (ts : Trees Op) → list_all (λ b. b) (fold_all (step is_own_harmless) ts) ≡ true → list_all (λ b. b) (fold_all (step is_own_elementwise) ts) ≡ true
+  harmless_are_elementwise : (ts : Trees Op) → all_hold never is_own_harmless ts ≡ true → all_hold never is_own_elementwise ts ≡ true
   harmless_are_elementwise no_more h = refl
   harmless_are_elementwise (more t ts) h =
-      let both = and_parts (permits_pushdown t) (list_all (λ b. b) (fold_all (step is_own_harmless) ts)) h in
-      and_from (is_elementwise t) (list_all (λ b. b) (fold_all (step is_own_elementwise) ts)) (harmless_is_elementwise t both.0) (harmless_are_elementwise ts both.1)
+      let both = and_parts (permits_pushdown t) (all_hold never is_own_harmless ts) h in
+      and_from (is_elementwise t) (all_hold never is_own_elementwise ts) (harmless_is_elementwise t both.0) (harmless_are_elementwise ts both.1)
 
 -- ---- columns and rows
 
@@ -264,7 +262,7 @@ module _ (registry : Registry) (schema : Columns) where
         let both = both_conditions registry schema op (more left (more right no_more)) s c in
         let left_is = subst (IsCondition registry schema) (sym (left_same both.are)) both.left_is in
         let right_is = subst (IsCondition registry schema) (sym (right_same both.are)) both.right_is in
-        let harmless = (and_parts (is_own_harmless op) (permits_pushdown left && (permits_pushdown right && true)) permits).1 in
+        let harmless = (and_parts (is_own_harmless op (literals (more left (more right no_more)))) (permits_pushdown left && (permits_pushdown right && true)) permits).1 in
         let permits_left = and_parts (permits_pushdown left) (permits_pushdown right && true) harmless in
         let permits_right = and_parts (permits_pushdown right) true permits_left.1 in
         let value = both_true_on op left right both.operator both.type both.op_is s (means_both op left right both) left_is.own right_is.own left_is.typed right_is.typed permits_left.0 permits_right.0 in

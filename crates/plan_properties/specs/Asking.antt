@@ -1,17 +1,17 @@
 -- What is asked of expressions, and nodes of which something holds.
-use Rattle.std.specs.Prelude.{◌≡◌, ℕ, Bool, List, map}
+use Rattle.std.specs.Prelude.{◌≡◌, ℕ, Bool, false, List, map, Option, Some, None, slice_get}
 use Rattle.std.specs.List.{AllByRecursion}
 use Rattle.plan_dsl.specs.Ops.{Op, Expression}
 use Rattle.plan_dsl.specs.Trees.{Trees}
 use Rattle.plan_arena.specs.declared.aexpr.AExpr.{AExpr}
 use Rattle.plan_arena.specs.declared.expr_ir.ExprIR.{ExprIR}
 use Rattle.plan_arena.specs.Denotation.{Denotes, DenoteAll, DenotesTree}
-use Rattle.plan_arena.specs.Items.{HoldsExpression}
-use Rattle.plan_arena.specs.Layers.{Layer}
+use Rattle.plan_arena.specs.Items.{HoldsExpression, expression_layer}
+use Rattle.plan_arena.specs.Layers.{Layer, op_of}
 use Rattle.plan_infer.specs.ItemTrees.{LayerDenotes}
 use Rattle.plan_properties.specs.declared.asked.Asked.{Asked}
 use Rattle.plan_properties.specs.declared.asked.Asked.TheVariants.{Elementwise, Harmless, Scalar, Columnless}
-use Rattle.plan_properties.specs.Properties.{all_trees, gives_one, holds_by, is_no_column, is_own_elementwise, is_own_harmless, keeps_one, never}
+use Rattle.plan_properties.specs.Properties.{all_trees, gives_one, holds_by, is_literal, is_no_column, is_own_elementwise, is_own_harmless, keeps_one, never, over_any}
 
 -- the ops that settle what is asked, and those that hand it on
 abbrev pub settles : Asked → Op → Bool
@@ -20,11 +20,19 @@ settles Harmless = never
 settles Scalar = gives_one
 settles Columnless = never
 
-abbrev pub hands_on : Asked → Op → Bool
+abbrev pub hands_on : Asked → Op → List Bool → Bool
 hands_on Elementwise = is_own_elementwise
 hands_on Harmless = is_own_harmless
-hands_on Scalar = keeps_one
-hands_on Columnless = is_no_column
+hands_on Scalar = over_any keeps_one
+hands_on Columnless = over_any is_no_column
+
+-- which nodes of an arena are literals. One that isn't there is none
+abbrev pub is_literal_item : Option AExpr → Bool
+is_literal_item None = false
+is_literal_item (Some item) = is_literal (op_of (expression_layer item))
+
+abbrev pub literals_at : List AExpr → List ℕ → List Bool
+literals_at items ns = map (λ n. is_literal_item (slice_get items n)) ns
 
 -- what is asked holds of an expression
 abbrev pub holds_of : Asked → Expression → Bool

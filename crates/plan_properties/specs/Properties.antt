@@ -1,34 +1,63 @@
 -- Properties of expressions, node by node.
-use Rattle.std.specs.Prelude.{Bool, true, false, ◌&&◌, ◌||◌, not}
-use Rattle.std.specs.List.{list_all}
+use Rattle.std.specs.Prelude.{Bool, true, false, ◌&&◌, ◌||◌, not, List, [], ◌∷◌}
 use Rattle.plan_types.specs.declared.dtype.CastOptions.TheVariants.{Strict}
 use Rattle.plan_dsl.specs.declared.aggregate.GroupByMethod.{GroupByMethod}
 use Rattle.plan_dsl.specs.declared.aggregate.GroupByMethod.TheVariants.{Min, NanMin, Max, NanMax, First, Last, Sum, Count}
-use Rattle.plan_dsl.specs.Ops.{Op, ColumnOp, LiteralOp, BinaryOp, CastOp, LenOp, AliasOp, AggOp, Expression}
-use Rattle.plan_dsl.specs.Trees.{Trees, node, no_more, more, fold}
+use Rattle.plan_dsl.specs.declared.function_expr.FunctionExpr.{FunctionExpr}
+use Rattle.plan_dsl.specs.declared.function_expr.FunctionExpr.TheVariants.{IsIn, ListGet}
+use Rattle.plan_dsl.specs.Functions.{is_elementwise_function}
+use Rattle.plan_dsl.specs.Ops.{Op, ColumnOp, LiteralOp, BinaryOp, CastOp, LenOp, AliasOp, AggOp, TernaryOp, FunctionOp, Expression}
+use Rattle.plan_dsl.specs.Trees.{Trees, node, no_more, more, top_op}
 
--- it holds where a node settles it, or hands it on to its operands and it holds of each
-abbrev pub holds_by : (Op → Bool) → (Op → Bool) → Expression → Bool
-holds_by settles hands_on = fold (λ op below. settles op || (hands_on op && list_all (λ b. b) below))
+-- whether a node is a literal, and which of some are
+abbrev pub is_literal : Op → Bool
+is_literal (LiteralOp type value) = true
+is_literal op = false
+
+abbrev pub literals : Trees Op → List Bool
+literals no_more = []
+literals (more tree rest) = is_literal (top_op tree) ∷ literals rest
+
+abbrev mutual
+  -- it holds where a node settles it, or hands it on to its operands and it holds of each. It may be handed on only where
+  -- some of them are literals
+  pub holds_by : (Op → Bool) → (Op → List Bool → Bool) → Expression → Bool
+  holds_by settles hands_on (node op operands) = settles op || (hands_on op (literals operands) && all_hold settles hands_on operands)
+
+  pub all_hold : (Op → Bool) → (Op → List Bool → Bool) → Trees Op → Bool
+  all_hold settles hands_on no_more = true
+  all_hold settles hands_on (more tree rest) = holds_by settles hands_on tree && all_hold settles hands_on rest
 
 abbrev pub never : Op → Bool
 never op = false
 
+-- whichever operands are literals
+abbrev pub over_any : (Op → Bool) → Op → List Bool → Bool
+over_any test op operands = test op
+
 -- ---- what a node says of itself
 
--- a value for each row, which hangs on that row's values alone
-abbrev pub is_own_elementwise : Op → Bool
-is_own_elementwise (ColumnOp name) = true
-is_own_elementwise (LiteralOp type value) = true
-is_own_elementwise (BinaryOp operator) = true
-is_own_elementwise (CastOp target options) = true
-is_own_elementwise (AliasOp name) = true
-is_own_elementwise op = false
+-- whether a value is in a literal hangs on the row alone too
+abbrev pub asks_literal : FunctionExpr → List Bool → Bool
+asks_literal IsIn (value ∷ among ∷ others) = among
+asks_literal function operands = false
+
+-- a value for each row, which hangs on that row's values alone, over operands of which these are literals
+abbrev pub is_own_elementwise : Op → List Bool → Bool
+is_own_elementwise (ColumnOp name) operands = true
+is_own_elementwise (LiteralOp type value) operands = true
+is_own_elementwise (BinaryOp operator) operands = true
+is_own_elementwise (CastOp target options) operands = true
+is_own_elementwise (AliasOp name) operands = true
+is_own_elementwise TernaryOp operands = true
+is_own_elementwise (FunctionOp function recorded) operands = is_elementwise_function function || asks_literal function operands
+is_own_elementwise op operands = false
 
 -- and no data fault besides
-abbrev pub is_own_harmless : Op → Bool
-is_own_harmless (CastOp target Strict) = false
-is_own_harmless op = is_own_elementwise op
+abbrev pub is_own_harmless : Op → List Bool → Bool
+is_own_harmless (CastOp target Strict) operands = false
+is_own_harmless (FunctionOp (ListGet false) recorded) operands = false
+is_own_harmless op operands = is_own_elementwise op operands
 
 -- one value, whatever the operands
 abbrev pub gives_one : Op → Bool
@@ -42,6 +71,8 @@ abbrev pub keeps_one : Op → Bool
 keeps_one (BinaryOp operator) = true
 keeps_one (CastOp target options) = true
 keeps_one (AliasOp name) = true
+keeps_one TernaryOp = true
+keeps_one (FunctionOp function recorded) = true
 keeps_one op = false
 
 abbrev pub is_no_column : Op → Bool
@@ -60,11 +91,11 @@ permits_pushdown = holds_by never is_own_harmless
 
 -- its column has one value
 abbrev pub is_scalar : Expression → Bool
-is_scalar = holds_by gives_one keeps_one
+is_scalar = holds_by gives_one (over_any keeps_one)
 
 -- it names a column
 abbrev pub has_column : Expression → Bool
-has_column tree = not (holds_by never is_no_column tree)
+has_column tree = not (holds_by never (over_any is_no_column) tree)
 
 -- the values of parts can be merged
 abbrev pub merges : GroupByMethod → Bool

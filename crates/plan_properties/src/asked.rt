@@ -1,15 +1,16 @@
 //! What is asked of expressions, node by node.
-ghost use Rattle.std.specs.Prelude.{◌≡◌, true, false};
+ghost use Rattle.std.specs.Prelude.{◌≡◌, slice_get, true, false};
 ghost use Rattle.plan_dsl.specs.Ops.{Op};
 ghost use Rattle.plan_arena.specs.Denotation.{DenotesTree};
 ghost use Rattle.plan_arena.specs.Items.{HoldsExpression, expression_layer};
 ghost use Rattle.plan_arena.specs.Layers.{inputs_of, op_of};
-ghost use Rattle.plan_properties.specs.Asking.{AllDenote, SaysOfAll, SaysOfItem, SaysOfNode, hands_on, holds_of, settles};
-ghost use Rattle.plan_properties.specs.Properties.{gives_one, is_no_column, is_own_elementwise, is_own_harmless, keeps_one};
+ghost use Rattle.plan_properties.specs.Asking.{AllDenote, SaysOfAll, SaysOfItem, SaysOfNode, hands_on, holds_of, is_literal_item, literals_at, settles};
+ghost use Rattle.plan_properties.specs.Properties.{asks_literal, gives_one, is_no_column, is_own_elementwise, is_own_harmless, keeps_one};
 
 use plan_arena::aexpr::AExpr;
 use plan_arena::arena::{Arena, Node};
 use plan_arena::inputs::Inputs;
+use plan_dsl::function_expr::FunctionExpr;
 use plan_types::dtype::CastOptions;
 
 /// What is asked.
@@ -37,42 +38,68 @@ impl Asked {
     }
 
     /// Whether it holds where it holds of all inputs.
-    fn hands_on(self, item: &AExpr) -> bool
-        ensures { result ≡ hands_on self (op_of (expression_layer item.now)) }
+    fn hands_on(self, item: &AExpr, arena: &Arena<AExpr>) -> bool
+        ensures { result ≡ hands_on self (op_of (expression_layer item.now)) (literals_at arena.now (inputs_of (expression_layer item.now))) }
     {
         match self {
-            Asked::Elementwise => is_own_elementwise(item),
-            Asked::Harmless => is_own_harmless(item),
+            Asked::Elementwise => is_own_elementwise(item, arena),
+            Asked::Harmless => is_own_harmless(item, arena),
             Asked::Scalar => keeps_one(item),
             Asked::Columnless => !matches!(item, AExpr::Column(_)),
         }
     }
 }
 
-/// Whether a node has a value for each row, whatever its inputs are: the place where functions tell it of themselves.
-pub(crate) fn is_own_elementwise(item: &AExpr) -> bool
-    ensures { result ≡ is_own_elementwise (op_of (expression_layer item.now)) }
+/// Whether a node has a value for each row, whatever its inputs are. Of these it is asked only which are literals.
+pub(crate) fn is_own_elementwise(item: &AExpr, arena: &Arena<AExpr>) -> bool
+    ensures { result ≡ is_own_elementwise (op_of (expression_layer item.now)) (literals_at arena.now (inputs_of (expression_layer item.now))) }
 {
-    matches!(
-        item,
+    match item {
         AExpr::Column(_)
-            | AExpr::Literal(_)
-            | AExpr::BinaryExpr { .. }
-            | AExpr::Cast { .. }
-            | AExpr::Alias(_, _)
-    )
+        | AExpr::Literal(_)
+        | AExpr::BinaryExpr { .. }
+        | AExpr::Cast { .. }
+        | AExpr::Alias(_, _)
+        | AExpr::Ternary { .. } => true,
+        AExpr::Function { function, .. } => {
+            function.options().is_elementwise()
+                || asks_literal(function, &item.input_nodes(), arena)
+        }
+        _ => false,
+    }
+}
+
+// Whether the function asks if a value is in a literal.
+fn asks_literal(function: &FunctionExpr, inputs: &Inputs<'_>, arena: &Arena<AExpr>) -> bool
+    ensures { result ≡ asks_literal function.now (literals_at arena.now inputs.now) }
+{
+    match function {
+        FunctionExpr::IsIn => inputs.len() > 1 && is_literal(inputs.at(1), arena),
+        _ => false,
+    }
+}
+
+// Whether there is a literal at the node.
+fn is_literal(node: Node, arena: &Arena<AExpr>) -> bool
+    ensures { result ≡ is_literal_item (slice_get arena.now node.0) }
+{
+    node.0 < arena.len() && matches!(arena.get(node), AExpr::Literal(_))
 }
 
 // Whether it is so, and has no data fault of its own.
-fn is_own_harmless(item: &AExpr) -> bool
-    ensures { result ≡ is_own_harmless (op_of (expression_layer item.now)) }
+fn is_own_harmless(item: &AExpr, arena: &Arena<AExpr>) -> bool
+    ensures { result ≡ is_own_harmless (op_of (expression_layer item.now)) (literals_at arena.now (inputs_of (expression_layer item.now))) }
 {
     match item {
         AExpr::Cast { options, .. } => match options {
             CastOptions::Strict => false,
             CastOptions::NonStrict | CastOptions::Overflowing => true,
         },
-        _ => is_own_elementwise(item),
+        AExpr::Function { function, .. } => match function {
+            FunctionExpr::ListGet(null_on_oob) => *null_on_oob,
+            _ => is_own_elementwise(item, arena),
+        },
+        _ => is_own_elementwise(item, arena),
     }
 }
 
@@ -89,7 +116,11 @@ fn keeps_one(item: &AExpr) -> bool
 {
     matches!(
         item,
-        AExpr::BinaryExpr { .. } | AExpr::Cast { .. } | AExpr::Alias(_, _)
+        AExpr::BinaryExpr { .. }
+            | AExpr::Cast { .. }
+            | AExpr::Alias(_, _)
+            | AExpr::Ternary { .. }
+            | AExpr::Function { .. }
     )
 }
 
@@ -101,7 +132,7 @@ pub(crate) fn holds_of_item(asked: Asked, item: &AExpr, arena: &Arena<AExpr>) ->
     if asked.settles(item) {
         return true;
     }
-    if !asked.hands_on(item) {
+    if !asked.hands_on(item, arena) {
         return false;
     }
     holds_of_all(asked, &item.input_nodes(), arena)
@@ -117,7 +148,7 @@ pub(crate) fn holds_of(asked: Asked, node: Node, arena: &Arena<AExpr>) -> bool
     if asked.settles(item) {
         return true;
     }
-    if !asked.hands_on(item) {
+    if !asked.hands_on(item, arena) {
         return false;
     }
     holds_of_all(asked, &item.input_nodes(), arena)

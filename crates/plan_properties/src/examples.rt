@@ -1,49 +1,85 @@
 //! Worked examples of the definitions. The functions do nothing: their clauses are the examples.
 
-ghost use Rattle.std.specs.Prelude.{◌≡◌, [], ◌∷◌, map, true, false};
+ghost use Rattle.std.specs.Prelude.{◌≡◌, [], ◌∷◌, codes, map, pos, true, false};
 ghost use Rattle.plan_types.specs.Outcomes.{Done, Fault, Stuck};
 ghost use Rattle.plan_types.specs.declared.dtype.CastOptions.TheVariants.{Strict, NonStrict, Overflowing};
 ghost use Rattle.plan_dsl.specs.declared.aggregate.GroupByMethod.TheVariants.{Min, NanMax, First, Last, NUnique, Implode, Groups, Sum, Count};
 ghost use Rattle.std.specs.List.{AllByRecursion};
 ghost use Rattle.plan_types.specs.Types.{Truth};
-ghost use Rattle.plan_dsl.specs.Samples.{Gives, GivesAll, GivesOfTwo, a, b, c, alias, binary, cast_as, count, equal, int8, no, number, one, over, slice, sum, text, yes};
-ghost use Rattle.plan_dsl.specs.Ops.{AggOp, BinaryOp, LenOp};
+ghost use Rattle.plan_dsl.specs.Samples.{Gives, GivesAll, GivesOfTwo, a, b, c, alias, binary, call, cast_as, count, equal, int8, no, number, one, over, slice, sum, ternary, text, yes};
+ghost use Rattle.plan_dsl.specs.Ops.{AggOp, BinaryOp, ColumnOp, LenOp};
 ghost use Rattle.plan_dsl.specs.Plans.{empty_table};
+ghost use Rattle.plan_dsl.specs.declared.function_expr.FunctionExpr.TheVariants.{AllHorizontal, AnyHorizontal, IsNull, IsNotNull, FillNull, IsIn, ShiftAndFill, ListGet, FieldByName};
+ghost use Rattle.plan_dsl.specs.declared.literal.LiteralValue.TheVariants.{Int8};
 ghost use Rattle.plan_dsl.specs.declared.operator.Operator.TheVariants.{And, Eq, LogicalAnd, Or};
 ghost use Rattle.plan_dsl.specs.WindowLaws.{of_each};
 ghost use Rattle.plan_dsl.specs.Trees.{Trees, node, no_more, more};
 ghost use Rattle.plan_arena.specs.Layers.{layer};
+ghost use Rattle.plan_arena.specs.declared.aexpr.AExpr.TheVariants.{Literal};
 ghost use Rattle.plan_infer.specs.Samples.{a_items};
-ghost use Rattle.plan_properties.specs.Asking.{AllDenote, SaysOfAll, SaysOfItem, SaysOfNode};
+ghost use Rattle.plan_properties.specs.Asking.{AllDenote, SaysOfAll, SaysOfItem, SaysOfNode, literals_at};
 ghost use Rattle.plan_properties.specs.Laws.{GoesByRows, HasValues, HasValuesOr, by_rows, joined, row_count};
-ghost use Rattle.plan_properties.specs.Properties.{all_trees, can_pre_agg, has_column, is_elementwise, is_scalar, permits_pushdown};
+ghost use Rattle.plan_properties.specs.Properties.{all_hold, all_trees, asks_literal, can_pre_agg, has_column, is_elementwise, is_no_column, is_own_elementwise, is_scalar, literals, never, over_any, permits_pushdown};
 ghost use Rattle.plan_properties.specs.Samples.{above_beside_one, aggregate, both, filtered_by, frame_of, is_above, is_one, no_number, recorded_a, under_alias, words_and_numbers};
 ghost use Rattle.plan_properties.specs.Splitting.{AddsParts, IsCondition, IsSplitPlan, conjuncts, is_conjunction, is_whole, kept_by, kept_by_all, own_named, split_predicate};
 
-/// Columns, literals, operators, casts and aliases of these have a value for each row. What counts rows, picks them or
+/// Columns, literals, operators, casts, aliases and ternaries of these have a value for each row. What counts rows, picks them or
 /// takes them together has none. A strict cast may have a fault of its own.
 pub fn expressions_by_rows()
-    ensures elementwise { GivesAll is_elementwise true (a ∷ one ∷ sum a one ∷ cast_as Strict int8 a ∷ alias "x" (sum a b) ∷ []) }
-    ensures not_elementwise { GivesAll is_elementwise false (count ∷ slice a one one ∷ aggregate Sum a ∷ sum a (aggregate Sum a) ∷ alias "x" count ∷ over (b ∷ []) a ∷ []) }
+    ensures elementwise { GivesAll is_elementwise true (a ∷ one ∷ sum a one ∷ cast_as Strict int8 a ∷ alias "x" (sum a b) ∷ ternary b a one ∷ []) }
+    ensures not_elementwise { GivesAll is_elementwise false (
+        count ∷ slice a one one ∷ aggregate Sum a ∷ sum a (aggregate Sum a) ∷ alias "x" count ∷ over (b ∷ []) a ∷ ternary b count a ∷ ternary (aggregate Sum b) a a ∷ ternary b a count ∷ []) }
     ensures pushdown { Gives permits_pushdown (
         (sum a one, true) ∷ (cast_as Strict int8 a, false) ∷ (cast_as NonStrict int8 a, true) ∷ (cast_as Overflowing int8 a, true) ∷
-        (sum one (cast_as Strict int8 a), false) ∷ (count, false) ∷ []) }
+        (sum one (cast_as Strict int8 a), false) ∷ (count, false) ∷ (ternary b a one, true) ∷ (ternary b a (cast_as Strict int8 a), false) ∷ []) }
 {}
 
-/// Literals, counts of rows and aggregates have one value, and so have operators, casts and aliases of these alone.
+/// Functions of the values in a row have a value for each row, over operands that have. One that asks whether a value is in
+/// another operand has, where that is a literal itself. An item past a list may be a fault.
+pub fn functions_by_rows()
+    ensures asks_literal { GivesOfTwo asks_literal (
+        (IsIn, false ∷ true ∷ [], true) ∷ (IsIn, true ∷ false ∷ [], false) ∷ (IsIn, true ∷ [], false) ∷ (IsIn, [], false) ∷ (FillNull, false ∷ true ∷ [], false) ∷ []) }
+    ensures elementwise { GivesAll is_elementwise true (
+        call IsNull (a ∷ []) ∷ call IsNotNull (sum a one ∷ []) ∷ call FillNull (a ∷ b ∷ []) ∷ call (ListGet true) (a ∷ one ∷ []) ∷
+        call (ListGet false) (a ∷ b ∷ []) ∷ call (FieldByName (codes "x")) (a ∷ []) ∷ call IsIn (a ∷ one ∷ []) ∷
+        call AllHorizontal (a ∷ b ∷ []) ∷ call AnyHorizontal (a ∷ one ∷ c ∷ []) ∷ []) }
+    ensures not_elementwise { GivesAll is_elementwise false (
+        call IsIn (a ∷ b ∷ []) ∷ call IsIn (one ∷ a ∷ []) ∷ call IsIn (a ∷ alias "x" one ∷ []) ∷ call IsIn (a ∷ cast_as NonStrict int8 one ∷ []) ∷
+        call IsIn (count ∷ one ∷ []) ∷ call ShiftAndFill (a ∷ one ∷ one ∷ []) ∷ call IsNull (count ∷ []) ∷ call FillNull (a ∷ aggregate First a ∷ []) ∷
+        call AnyHorizontal (a ∷ count ∷ []) ∷ []) }
+    ensures pushdown { Gives permits_pushdown (
+        (call (ListGet true) (a ∷ one ∷ []), true) ∷ (call (ListGet false) (a ∷ one ∷ []), false) ∷ (call IsNull (call (ListGet false) (a ∷ one ∷ []) ∷ []), false) ∷
+        (call IsIn (a ∷ one ∷ []), true) ∷ (call IsIn (a ∷ b ∷ []), false) ∷ (call IsIn (cast_as Strict int8 a ∷ one ∷ []), false) ∷
+        (call ShiftAndFill (a ∷ one ∷ one ∷ []), false) ∷ (call FillNull (a ∷ b ∷ []), true) ∷ (call IsNotNull (a ∷ []), true) ∷ (call (FieldByName (codes "x")) (a ∷ []), true) ∷
+        (call AllHorizontal (a ∷ b ∷ []), true) ∷ (call AllHorizontal (a ∷ cast_as Strict Truth b ∷ []), false) ∷ []) }
+    ensures literals { Gives literals ((no_more, []) ∷ (more a (more one (more (alias "x" one) no_more)), false ∷ true ∷ false ∷ []) ∷ []) }
+    ensures over_any { GivesOfTwo (over_any is_no_column) ((LenOp, true ∷ [], true) ∷ (ColumnOp (codes "a"), [], false) ∷ []) }
+    ensures all { Gives (all_hold never is_own_elementwise) ((no_more, true) ∷ (more a (more one no_more), true) ∷ (more a (more count no_more), false) ∷ []) }
+{}
+
+/// Literals, counts of rows and aggregates have one value, and so have operators, casts, aliases, ternaries and functions of
+/// these alone.
 pub fn expressions_of_one_value()
     ensures one_value { GivesAll is_scalar true (one ∷ count ∷ aggregate Sum a ∷ sum (aggregate Sum a) one ∷ alias "x" (cast_as Strict int8 one) ∷ aggregate Implode a ∷ []) }
     ensures many_values { GivesAll is_scalar false (a ∷ sum a one ∷ sum one a ∷ slice one one one ∷ over (b ∷ []) count ∷ alias "x" a ∷ []) }
-    ensures columns { Gives has_column ((one, false) ∷ (a, true) ∷ (sum one one, false) ∷ (sum one (alias "x" a), true) ∷ (count, false) ∷ []) }
+    ensures ternaries { Gives is_scalar ((ternary (aggregate First a) one count, true) ∷ (ternary one a one, false) ∷ (ternary a one one, false) ∷ (ternary one one a, false) ∷ []) }
+    ensures functions { Gives is_scalar (
+        (call IsNull (one ∷ []), true) ∷ (call IsIn (one ∷ count ∷ []), true) ∷ (call ShiftAndFill (one ∷ one ∷ one ∷ []), true) ∷ (call IsNull [], true) ∷ (call AnyHorizontal (one ∷ count ∷ []), true) ∷ (call AnyHorizontal (one ∷ a ∷ []), false) ∷
+        (call IsIn (one ∷ a ∷ []), false) ∷ (call ShiftAndFill (a ∷ one ∷ one ∷ []), false) ∷ (call (FieldByName (codes "x")) (a ∷ []), false) ∷ []) }
+    ensures columns { Gives has_column (
+        (one, false) ∷ (a, true) ∷ (sum one one, false) ∷ (sum one (alias "x" a), true) ∷ (count, false) ∷ (ternary a one one, true) ∷ (ternary one one one, false) ∷
+        (call IsNull (one ∷ []), false) ∷ (call IsIn (one ∷ a ∷ []), true) ∷ []) }
 {}
 
 /// Aggregates of an elementwise expression over columns can be made of parts, where their values can be merged.
 pub fn aggregates_of_parts()
     ensures can { GivesAll can_pre_agg true (
-        count ∷ aggregate Min a ∷ aggregate NanMax a ∷ aggregate First a ∷ aggregate Last (sum a one) ∷ aggregate Sum a ∷ aggregate (Count true) a ∷ []) }
+        count ∷ aggregate Min a ∷ aggregate NanMax a ∷ aggregate First a ∷ aggregate Last (sum a one) ∷ aggregate Sum a ∷ aggregate (Count true) a ∷
+        aggregate Sum (ternary b a one) ∷ aggregate First (call IsIn (a ∷ one ∷ [])) ∷ []) }
     ensures can_not { GivesAll can_pre_agg false (
         a ∷ aggregate (Count false) a ∷ aggregate NUnique a ∷ aggregate Implode a ∷ aggregate Groups a ∷ aggregate Sum one ∷
-        aggregate Sum (aggregate Sum a) ∷ alias "x" (aggregate Sum a) ∷ sum count one ∷ []) }
+        aggregate Sum (aggregate Sum a) ∷ alias "x" (aggregate Sum a) ∷ sum count one ∷ aggregate First (call IsIn (a ∷ b ∷ [])) ∷ call IsNull (aggregate Sum a ∷ []) ∷
+        ternary count count count ∷ []) }
     ensures all { all_trees can_pre_agg (more count (more (aggregate Sum a) no_more)) ≡ true }
     ensures not_all { all_trees can_pre_agg (more count (more a no_more)) ≡ false }
     ensures none { all_trees can_pre_agg no_more ≡ true }
@@ -95,8 +131,8 @@ pub fn filters_in_parts()
     ensures not_strict { ¬ (IsCondition [] words_and_numbers (equal b one)) }
 {}
 
-/// What is said of a node's expression, of an item's, and of those of several nodes; nodes that denote some, and that stand
-/// for parts.
+/// What is said of a node's expression, of an item's, and of those of several nodes; nodes that are literals, that denote some,
+/// and that stand for parts.
 pub fn answers_of_nodes()
     ensures node { SaysOfNode a_items 0 is_elementwise true }
     ensures other_node { ¬ (SaysOfNode a_items 0 is_scalar true) }
@@ -104,6 +140,7 @@ pub fn answers_of_nodes()
     ensures other_item { ¬ (SaysOfItem a_items (layer LenOp []) is_elementwise true) }
     ensures all { SaysOfAll a_items (0 ∷ 0 ∷ []) is_elementwise true }
     ensures not_all { ¬ (SaysOfAll a_items (0 ∷ []) is_scalar true) }
+    ensures literals { literals_at (Literal (Int8 (pos 5)) ∷ a_items) (0 ∷ 1 ∷ 2 ∷ []) ≡ true ∷ false ∷ false ∷ [] }
     ensures denoted { AllDenote a_items (0 ∷ 0 ∷ []) }
     ensures not_denoted { ¬ (AllDenote a_items (0 ∷ 1 ∷ [])) }
     ensures parts { AddsParts a_items [] (recorded_a ∷ []) (a ∷ []) }

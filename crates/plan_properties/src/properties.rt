@@ -6,7 +6,7 @@ ghost use Rattle.plan_arena.specs.Aggregates.{input_at, method_at};
 ghost use Rattle.plan_arena.specs.Denotation.{DenotesTree};
 ghost use Rattle.plan_arena.specs.Items.{HoldsExpression, expression_layer, numbers, passed};
 ghost use Rattle.plan_arena.specs.Layers.{inputs_of, op_of};
-ghost use Rattle.plan_properties.specs.Asking.{AllDenote, SaysOfAll, SaysOfItem, SaysOfNode, nodes_of};
+ghost use Rattle.plan_properties.specs.Asking.{AllDenote, SaysOfAll, SaysOfItem, SaysOfNode, literals_at, nodes_of};
 ghost use Rattle.plan_properties.specs.Properties.{can_pre_agg, has_column, is_elementwise, is_own_elementwise, is_scalar, merges, permits_pushdown};
 
 use crate::asked::{Asked, holds_of, holds_of_item, is_own_elementwise};
@@ -18,20 +18,20 @@ use plan_dsl::aggregate::GroupByMethod;
 use plan_dsl::udfs::Udfs;
 use plan_types::error::PlanError;
 
-/// Whether the item has a value for each row, whatever its inputs are. Where it is so its inputs are appended, as passes
-/// go over them.
+/// Whether the item has a value for each row, whatever its inputs are, of which it is asked only which are literals. Where it
+/// is so its inputs are appended, as passes go over them.
 pub fn is_elementwise(
     stack: &mut Nodes,
     ae: &AExpr,
-    _arena: &Arena<AExpr>,
+    arena: &Arena<AExpr>,
     _udfs: &Udfs,
 ) -> Result<bool, PlanError>
-    ensures ok { IfOk result (λ yes. yes ≡ is_own_elementwise (op_of (expression_layer ae.now))) }
+    ensures ok { IfOk result (λ yes. yes ≡ is_own_elementwise (op_of (expression_layer ae.now)) (literals_at arena.now (inputs_of (expression_layer ae.now)))) }
     ensures pushed { IfOk result (λ yes. numbers stack.new.items ≡ (if yes then numbers stack.old.items ++ reverse (passed (expression_layer ae.now)) else numbers stack.old.items)) }
     ensures unchanged { OnErr result (stack.new.items ≡ stack.old.items) }
     ensures err { IfErr result (λ error. error ≡ no_memory) }
 {
-    if is_own_elementwise(ae) {
+    if is_own_elementwise(ae, arena) {
         ae.inputs_rev(stack)?;
         Ok(true)
     } else {

@@ -1,7 +1,7 @@
 use Rattle.std.proofs.Common.{◌≡◌, ◌+◌, ◌*◌, map, max, take}
 use Rattle.std.specs.Option.{option_map}
 use Rattle.plan_dsl.specs.Copies.{put}
-use Rattle.plan_dsl.specs.Expressions.{tree_of, trees_of}
+use Rattle.plan_dsl.specs.Expressions.{tree_of}
 use Rattle.plan_dsl.specs.declared.aggregate.AggExpr.TheViews.{size-Expr, size-Exprs, size-Selector}
 use Rattle.plan_dsl.proofs.+expr_copies.Given as goal
 

@@ -1,6 +1,6 @@
 use Rattle.std.proofs.Common.{◌&&◌, sym, ◌∙◌}
 use Rattle.plan_dsl.specs.Expressions.{trees_of}
-use Rattle.plan_dsl.proofs.ExprLemmas.{excludes_apart, excludes_compared, exprs_apart, listed_compared, sort_by_listed, types_compared, window_listed, windows_compared}
+use Rattle.plan_dsl.proofs.ExprLemmas.{each_compared, excludes_apart, excludes_compared, exprs_apart, function_listed, functions_compared, listed_compared, sort_by_listed, types_compared, window_listed, windows_compared}
 use Rattle.plan_dsl.proofs.+same_exprs.Goals as goal
 use Rattle.plan_dsl.proofs.+same_exprs.Goals.{expr::Expr::is_same-then-eq-5, expr::Expr::is_same-else-eq-5, expr::Expr::is_same-then-is_same_order, expr::Expr::is_same-else-is_same_order}
 
@@ -43,3 +43,8 @@ expr::Expr::is_same-returns-then-is_same-7 t c =
           (λ i. order i && (first i && c.is_same-then-is_same-7.ensures i)) ∙ sym whole
       | expr::Expr::is_same-else-is_same_order w ↦ cc
     ]
+
+pub expr::Expr::is_same-returns-then-eq-9 : goal.expr::Expr::is_same-returns-then-eq-9
+expr::Expr::is_same-returns-then-eq-9 t c =
+    let kind = c.in-Function-Function in
+    each_compared (function_listed c.args.self.now kind.input kind.function kind.is-0) (function_listed c.args.other.now kind.own kind.own_function kind.is-1) (functions_compared kind.function kind.own_function (sym c.if-eq-9.true ∙ c.eq-in-Function-Function.ensures)) c.is_same-then-eq-9.ensures

@@ -9,6 +9,7 @@ ghost use Rattle.plan_dsl.specs.declared.operator.Operator.TheVariants.{Plus};
 ghost use Rattle.plan_dsl.specs.declared.signature.Ask.TheVariants.{Any, Sortable, Boolean, Place, Length};
 ghost use Rattle.plan_dsl.specs.declared.signature.OwnType.TheVariants.{First, Item, ListOf, Count};
 ghost use Rattle.plan_dsl.specs.declared.signature.Many.TheVariants.{Never, Always, AsFirst, WhereAny};
+ghost use Rattle.plan_dsl.specs.declared.signature.Sharing.TheVariants.{Alone};
 ghost use Rattle.plan_dsl.specs.declared.signature.Signature.{Signature};
 ghost use Rattle.plan_dsl.specs.Ops.{BinaryOp, CastOp, LenOp, SliceOp, ExplodeOp, GatherOp, FilterOp, SortOp, SortByOp};
 ghost use Rattle.plan_dsl.specs.Signatures.{asked_at, asked_target, asks, asks_one, bare_kinds, is_asked, own_type, signature, takes};
@@ -34,16 +35,16 @@ pub fn types_that_are_asked()
 
 /// An operand is asked for the type that it has alone, and maybe to be one. The types to which all are taken, or none.
 pub fn operands_that_are_asked()
-    ensures alone { GivesOfTwo taken_by (
+    ensures alone { GivesOfTwo (taken_by None) (
         (asks Any, many_values TextType, Some TextType) ∷ (asks Any, one_value (Untyped (pos 5)), Some int32) ∷
         (asks Any, one_value (Untyped (pos 18446744073709551616)), None) ∷ (asks Sortable, many_values (ListType int8), None) ∷
         (asks Boolean, many_values NullType, Some Truth) ∷ (asks Boolean, one_value (Untyped (pos 1)), None) ∷
         (asks Place, many_values int8, Some int64) ∷ (asks_one Place, many_values int8, None) ∷ (asks_one Place, one_value int8, Some int64) ∷
         (asks_one Place, one_value (Untyped (pos 9223372036854775808)), Some int64) ∷ (asks_one Length, one_value NullType, Some int64) ∷ []) }
-    ensures places { let each : Signature = record { first = asks Any; second = asks_one Place; rest = asks Sortable; own = First; many = Never } in
+    ensures places { let each : Signature = record { first = asks Any; second = asks_one Place; rest = asks Sortable; own = First; many = Never; sharing = Alone } in
         map (asked_at each) (0 ∷ 1 ∷ 2 ∷ 7 ∷ []) ≡ asks Any ∷ asks_one Place ∷ asks Sortable ∷ asks Sortable ∷ [] }
-    ensures all { let keys : Signature = record { first = asks Any; second = asks Sortable; rest = asks Sortable; own = First; many = AsFirst } in
-        GivesOfTwo (taken_from keys) (
+    ensures all { let keys : Signature = record { first = asks Any; second = asks Sortable; rest = asks Sortable; own = First; many = AsFirst; sharing = Alone } in
+        GivesOfTwo (taken_from NullType keys) (
         (0, [], Some []) ∷ (0, many_values (ListType int8) ∷ one_value (Untyped (pos 1)) ∷ many_values TextType ∷ [], Some (ListType int8 ∷ int32 ∷ TextType ∷ [])) ∷
         (1, many_values (ListType int8) ∷ [], None) ∷ (0, many_values int8 ∷ many_values int8 ∷ many_values (ListType int8) ∷ [], None) ∷ []) }
     ensures many { GivesOfTwo many_of (
@@ -55,8 +56,8 @@ pub fn operands_that_are_asked()
 
 /// A signature's rule: the types to which it takes operands, and its own typing, or why it refuses them.
 pub fn rules_of_signatures()
-    ensures own { let filter : Signature = record { first = asks Any; second = asks Boolean; rest = asks Any; own = First; many = Always } in
-        let lists : Signature = record { first = asks Sortable; second = asks Any; rest = asks Any; own = ListOf; many = AsFirst } in
+    ensures own { let filter : Signature = record { first = asks Any; second = asks Boolean; rest = asks Any; own = First; many = Always; sharing = Alone } in
+        let lists : Signature = record { first = asks Sortable; second = asks Any; rest = asks Any; own = ListOf; many = AsFirst; sharing = Alone } in
         GivesOfTwo own_over (
         (filter, one_value int8 ∷ many_values Truth ∷ [], many_values int8) ∷ (lists, one_value int8 ∷ [], one_value (ListType int8)) ∷ []) }
     ensures ruled { let ruling : List Ty → Typed → Result Ruling ErrorKind = λ operands own. Ok (record { operands = operands; own = own }) in

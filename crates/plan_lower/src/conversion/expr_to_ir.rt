@@ -1,26 +1,28 @@
 //! Expressions to nodes of an arena.
-ghost use Rattle.std.specs.Prelude.{◌≡◌, ◌≢◌, ◌⊎◌, length, map, false, true, IfOk, IfErr, IfSome, MatchOption, OnOk};
+ghost use Rattle.std.specs.Prelude.{◌≡◌, ◌≢◌, ◌⊎◌, [], length, map, false, true, IfOk, IfErr, IfSome, MatchOption, OnOk};
 ghost use Rattle.std.specs.List.{list_all};
 ghost use Rattle.std.specs.Option.{option_map_or};
 ghost use Rattle.plan_types.specs.Errors.{IsMemoryOr, no_memory};
-ghost use Rattle.plan_dsl.specs.Aliases.{all_pruned, core, inputs_pruned, pruned};
+ghost use Rattle.plan_dsl.specs.Aliases.{all_pruned, chained, core, pruned};
 ghost use Rattle.plan_dsl.specs.Copies.{has_several};
 ghost use Rattle.plan_dsl.specs.Expressions.{order_trees, plain_tree, plain_trees, tree_of, trees_of, way_of};
 ghost use Rattle.plan_dsl.specs.Literals.{literal_op, settled, settled_op, settles};
 ghost use Rattle.plan_dsl.specs.Names.{alias_label, label_of};
-ghost use Rattle.plan_dsl.specs.Ops.{Expression};
+ghost use Rattle.plan_dsl.specs.Ops.{Expression, FunctionOp};
 ghost use Rattle.plan_dsl.specs.Sources.{is_plain, unwritten};
-ghost use Rattle.plan_dsl.specs.Trees.{children_from, top_op};
+ghost use Rattle.plan_dsl.specs.Trees.{children_from, node, top_op};
 ghost use Rattle.plan_arena.specs.Denotation.{Denotes, DenoteAll, DenotesTree};
-ghost use Rattle.plan_arena.specs.Items.{named_node, numbers, ordered, ordering, output_label, HoldsExpression, HoldsFrom, Grows};
-ghost use Rattle.plan_lower.specs.Nodes.{IsItemOf};
+ghost use Rattle.plan_arena.specs.Items.{named_node, numbers, numbers_named, ordered, ordering, output_label, recorded, HoldsExpression, HoldsFrom, Grows};
+ghost use Rattle.plan_lower.specs.Nodes.{IsItemOf, over_inputs};
 
+use crate::conversion::horizontals::{Chaining, first_written};
 use plan_arena::aexpr::AExpr;
 use plan_arena::aggregate::IRAggExpr;
 use plan_arena::arena::{Arena, Node};
-use plan_arena::expr_ir::{ExprIR, OutputName};
+use plan_arena::expr_ir::{ExprIR, ExprIRs, OutputName};
 use plan_arena::inputs::NodeList;
 use plan_dsl::expr::{Expr, Exprs};
+use plan_dsl::function_expr::FunctionExpr;
 use plan_dsl::literal::LiteralValue;
 use plan_dsl::sort_options::SortOptions;
 use plan_types::common_type::materialize_dyn_int;
@@ -41,17 +43,8 @@ pub fn to_expr_ir(expr: Expr, arena: &mut Arena<AExpr>) -> Result<ExprIR, PlanEr
         drop(expr);
         return Err(PlanError::at_top(ErrorKind::InvalidOperation));
     }
-    match alias_name(&expr, arena.allocator()) {
-        Ok(alias) => {
-            let node = add_nodes(expr, false, arena)?;
-            let expr_ir = under_name(node, alias, arena)?;
-            Ok(expr_ir)
-        }
-        Err(error) => {
-            drop(expr);
-            Err(error)
-        }
-    }
+    let expr_ir = add_under_name(expr, arena)?;
+    Ok(expr_ir)
 }
 
 /// The same without names of aliases. A number without a type at the top gets the one that it has alone.
@@ -68,10 +61,11 @@ pub fn to_expr_ir_ignore_alias(expr: Expr, arena: &mut Arena<AExpr>) -> Result<E
     Ok(expr_ir)
 }
 
-/// Adds an expression's nodes with its aliases. A number without a type at the top, maybe under aliases, gets the one
-/// that it has alone. A marker or a renaming form has no node.
+/// Adds an expression's nodes with its aliases, but those below a function, which keeps the names that they give. A
+/// number without a type at the top, maybe under aliases, gets the one that it has alone. A marker or a renaming form
+/// has no node.
 pub fn to_aexpr(expr: Expr, arena: &mut Arena<AExpr>) -> Result<Node, PlanError>
-    ensures denotes { IfOk result (λ node. Denotes (HoldsFrom (length arena.old) arena.new) node.0 (settled (plain_tree expr))) }
+    ensures denotes { IfOk result (λ node. Denotes (HoldsFrom (length arena.old) arena.new) node.0 (pruned true (settled (plain_tree expr)))) }
     ensures grows { Grows arena.old arena.new }
     ensures plain { OnOk result (is_plain (tree_of expr) ≡ true) }
     ensures typed { OnOk result (settles (plain_tree expr) ≡ true) }
@@ -140,7 +134,7 @@ pub(crate) fn alias_name(expr: &Expr, alloc: Global) -> Result<Option<OutputName
     }
 }
 
-// The topmost alias on the way down first operands.
+// The topmost alias on the way down first operands, but not below a function that stays, which keeps its operands' names.
 fn first_alias(expr: &Expr) -> Option<&PlSmallStr>
     ensures { MatchOption result (label_of (plain_tree expr.now) ≡ label_of (core (plain_tree expr.now))) (λ name. label_of (plain_tree expr.now) ≡ alias_label name.now) }
 {
@@ -156,6 +150,13 @@ fn first_alias(expr: &Expr) -> Option<&PlSmallStr>
         }
         Expr::Agg(aggregate) => first_alias(aggregate.as_ref()),
         Expr::Window { function, .. } => first_alias(function),
+        Expr::Ternary { truthy, .. } => first_alias(truthy),
+        Expr::Function { input, function } => {
+            match first_written(function, input) {
+                Some(first) => first_alias(first),
+                None => None,
+            }
+        }
         Expr::Column(_)
         | Expr::Literal(_)
         | Expr::Len
@@ -228,6 +229,7 @@ pub(crate) fn add_nodes(expr: Expr, keep: bool, arena: &mut Arena<AExpr>) -> Res
             let node = arena.add(AExpr::Alias(below, name))?;
             Ok(node)
         }
+        Expr::Function { input, function } => add_function(input, function, keep, arena),
         expr => {
             let item = add_inputs(expr, keep, arena)?;
             let node = arena.add(item)?;
@@ -250,11 +252,13 @@ macro_rules! item_over {
     };
 }
 
-// Adds the nodes of an expression's inputs, and answers its item over them. A marker or a renaming form has none.
+// Adds the nodes of an expression's inputs, and answers its item over them. A marker or a renaming form has none, and
+// functions are for `add_function`.
 #[cycle(nodes)]
 fn add_inputs(expr: Expr, keep: bool, arena: &mut Arena<AExpr>) -> Result<AExpr, PlanError>
     requires plain { is_plain (tree_of expr) ≡ true }
-    ensures ok { IfOk result (IsItemOf (length arena.old) arena.new (inputs_pruned keep (plain_tree expr))) }
+    requires other { (input : Exprs) (function : FunctionExpr) → expr ≢ Expr.Function input function }
+    ensures ok { IfOk result (IsItemOf (length arena.old) arena.new (over_inputs keep (plain_tree expr))) }
     ensures grows { Grows arena.old arena.new }
     ensures err { IfErr result (λ error. error ≡ no_memory) }
 {
@@ -290,8 +294,10 @@ fn add_inputs(expr: Expr, keep: bool, arena: &mut Arena<AExpr>) -> Result<AExpr,
             Expr::Slice { .. } => add_several(expr, keep, arena),
             Expr::Gather { .. } => add_several(expr, keep, arena),
             Expr::Filter { .. } => add_several(expr, keep, arena),
+            Expr::Ternary { .. } => add_several(expr, keep, arena),
             Expr::Columns(_) | Expr::DtypeColumn(_) | Expr::IndexColumn(_) | Expr::Nth(_) | Expr::Wildcard
-            | Expr::Exclude(_, _) | Expr::Selector(_) | Expr::KeepName(_) | Expr::RenameAlias { .. } => unreachable!()
+            | Expr::Exclude(_, _) | Expr::Selector(_) | Expr::KeepName(_) | Expr::RenameAlias { .. }
+            | Expr::Function { .. } => unreachable!()
         ],
         Cast { expr } [dtype, options]
         Sort { expr } [options]
@@ -303,7 +309,7 @@ fn add_inputs(expr: Expr, keep: bool, arena: &mut Arena<AExpr>) -> Result<AExpr,
 fn add_several(expr: Expr, keep: bool, arena: &mut Arena<AExpr>) -> Result<AExpr, PlanError>
     requires plain { is_plain (tree_of expr) ≡ true }
     requires several { has_several (top_op (tree_of expr)) ≡ true }
-    ensures ok { IfOk result (IsItemOf (length arena.old) arena.new (inputs_pruned keep (plain_tree expr))) }
+    ensures ok { IfOk result (IsItemOf (length arena.old) arena.new (over_inputs keep (plain_tree expr))) }
     ensures grows { Grows arena.old arena.new }
     ensures err { IfErr result (λ error. error ≡ no_memory) }
 {
@@ -312,6 +318,7 @@ fn add_several(expr: Expr, keep: bool, arena: &mut Arena<AExpr>) -> Result<AExpr
         Slice { input, offset, length } []
         Gather { expr, idx } [returns_scalar]
         Filter { input, by } []
+        Ternary { truthy, predicate, falsy } []
     )
 }
 
@@ -351,4 +358,90 @@ fn add_each(exprs: Exprs, keep: bool, arena: &mut Arena<AExpr>) -> Result<NodeLi
         items.push(node)?;
     }
     Ok(NodeList { items })
+}
+
+// Adds the nodes of a function over its operands. A horizontal over few of them is written out.
+#[cycle(nodes)]
+fn add_function(
+    input: Exprs,
+    function: FunctionExpr,
+    keep: bool,
+    arena: &mut Arena<AExpr>,
+) -> Result<Node, PlanError>
+    requires plain { list_all is_plain (trees_of input) ≡ true }
+    ensures denotes { IfOk result (λ top. Denotes (HoldsFrom (length arena.old) arena.new) top.0 (pruned keep (node (FunctionOp function []) (children_from (plain_trees input))))) }
+    ensures grows { Grows arena.old arena.new }
+    ensures err { IfErr result (λ error. error ≡ no_memory) }
+{
+    match Chaining::of(&function, input.items.as_slice().len()) {
+        Some(chaining) => add_chained(input, chaining, keep, arena),
+        None => {
+            let input = add_recorded(input, arena)?;
+            let node = arena.add(AExpr::Function { input, function })?;
+            Ok(node)
+        }
+    }
+}
+
+// Adds the nodes of a horizontal that is written out: each operator right behind its second operand.
+#[cycle(nodes)]
+fn add_chained(
+    exprs: Exprs,
+    chaining: Chaining,
+    keep: bool,
+    arena: &mut Arena<AExpr>,
+) -> Result<Node, PlanError>
+    requires plain { list_all is_plain (trees_of exprs) ≡ true }
+    ensures denotes { IfOk result (λ node. Denotes (HoldsFrom (length arena.old) arena.new) node.0 (chained chaining.operator chaining.nothing (all_pruned keep (children_from (plain_trees exprs))))) }
+    ensures grows { Grows arena.old arena.new }
+    ensures err { IfErr result (λ error. error ≡ no_memory) }
+{
+    let count = exprs.items.as_slice().len();
+    let mut so_far = None;
+    for expr in exprs.items {
+        let node = add_nodes(expr, keep, arena)?;
+        let top = chaining.put_behind(so_far, node, arena)?;
+        so_far = Some(top);
+    }
+    let node = chaining.whole(so_far, count, arena)?;
+    Ok(node)
+}
+
+// Adds the nodes of a function's operands without their aliases, one after the other, and keeps their names.
+#[cycle(nodes)]
+fn add_recorded(exprs: Exprs, arena: &mut Arena<AExpr>) -> Result<ExprIRs, PlanError>
+    requires plain { list_all is_plain (trees_of exprs) ≡ true }
+    ensures names { IfOk result (λ input. recorded input.items.items ≡ map label_of (plain_trees exprs)) }
+    ensures ok { IfOk result (λ input. DenoteAll (HoldsFrom (length arena.old) arena.new) (numbers_named input.items.items) (all_pruned false (children_from (plain_trees exprs)))) }
+    ensures grows { Grows arena.old arena.new }
+    ensures err { IfErr result (λ error. error ≡ no_memory) }
+{
+    let mut items = Vec::new(arena.allocator());
+    for expr in exprs.items {
+        let expr_ir = add_under_name(expr, arena)?;
+        items.push(expr_ir)?;
+    }
+    Ok(ExprIRs { items })
+}
+
+// Adds an expression's nodes without its aliases, and answers the top one with the expression's name.
+#[cycle(nodes)]
+fn add_under_name(expr: Expr, arena: &mut Arena<AExpr>) -> Result<ExprIR, PlanError>
+    requires plain { is_plain (tree_of expr) ≡ true }
+    ensures name { IfOk result (λ expr_ir. (named_node expr_ir).label ≡ label_of (plain_tree expr)) }
+    ensures denotes { IfOk result (λ expr_ir. Denotes (HoldsFrom (length arena.old) arena.new) (named_node expr_ir).expression (core (plain_tree expr))) }
+    ensures grows { Grows arena.old arena.new }
+    ensures err { IfErr result (λ error. error ≡ no_memory) }
+{
+    match alias_name(&expr, arena.allocator()) {
+        Ok(alias) => {
+            let node = add_nodes(expr, false, arena)?;
+            let expr_ir = under_name(node, alias, arena)?;
+            Ok(expr_ir)
+        }
+        Err(error) => {
+            drop(expr);
+            Err(error)
+        }
+    }
 }

@@ -3,7 +3,7 @@ use Rattle.std.specs.List.{list_all}
 use Rattle.std.proofs.lemmas.List.Folds.{list_all-append}
 use Rattle.plan_dsl.specs.Expressions.{order_trees, tree_of, trees_of}
 use Rattle.plan_dsl.specs.Sources.{is_plain}
-use Rattle.plan_dsl.proofs.ExprLemmas.{listed_plain, sort_by_listed, window_listed}
+use Rattle.plan_dsl.proofs.ExprLemmas.{function_listed, function_plain, listed_plain, sort_by_listed, window_listed}
 use Rattle.plan_dsl.proofs.expr.+plain_exprs.Goals as goal
 use Rattle.plan_dsl.proofs.expr.+plain_exprs.Goals.{Expr::is_plain-then-is_plain-7, Expr::is_plain-else-is_plain-7}
 
@@ -25,3 +25,8 @@ Expr::is_plain-returns-then-is_plain_order t c =
           c.are_plain-then-is_plain_order.ensures ∙ (λ i. first i && (order i && list_all is_plain (trees_of kind.partition_by))) ∙ ap (λ b. is_plain (tree_of kind.function.value) && b) (sym joined) ∙ sym whole
       | Expr::is_plain-else-is_plain-7 w ↦ cc
     ]
+
+pub Expr::is_plain-returns-then-is_expanded : goal.Expr::is_plain-returns-then-is_expanded
+Expr::is_plain-returns-then-is_expanded t c =
+    let kind = c.in-Function in
+    c.are_plain-then-is_expanded.ensures ∙ ap (λ b. b && list_all is_plain (trees_of kind.input)) (sym c.if-is_expanded.true ∙ c.is_expanded.ensures) ∙ sym (function_plain kind.function _ _ (function_listed c.args.self.now kind.input kind.function kind.is))

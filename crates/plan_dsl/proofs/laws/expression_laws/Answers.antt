@@ -1,4 +1,4 @@
-use Rattle.std.proofs.Common.{[], Ok, ap, ◌∙◌}
+use Rattle.std.proofs.Common.{refl, [], Ok, ap, ◌∙◌}
 use Rattle.plan_dsl.proofs.AliasLemmas.{core_same}
 use Rattle.plan_dsl.proofs.LiteralLemmas.{untyped_is_number}
 use Rattle.plan_dsl.proofs.OperandLemmas.{operands_same, operands_strict}
@@ -32,7 +32,7 @@ pub returns-clause-cores : goal.returns-clause-cores
 returns-clause-cores c registry schema tree typed typing =
     let same = core_same registry (record { schema = schema; rows = [] }) tree typed typing in
     record {
-      none = same.none;
+      none = same.none refl;
       typing = same.typing;
       meaning = λ rows. (core_same registry (record { schema = schema; rows = rows }) tree typed typing).meaning;
     }

@@ -6,7 +6,7 @@ use Rattle.plan_expand.proofs.walks.+root_name.Goals as goal
 
 pub loop-place-init : goal.loop-place-init
 loop-place-init t c =
-    sym (root_of_operands c.args.expr.now (operand_trees c.in_ok-operands.operands) c.in_ok-operands.ensures c.in_default.not-Column c.in_default.not-KeepName c.in_default.not-RenameAlias)
+    sym (root_of_operands c.args.expr.now (operand_trees c.in_ok-operands.operands) c.in_ok-operands.ensures c.in_default.not-Column c.if-not-is_of_plans.ensures)
 
 pub returns-in_err-operand : goal.returns-in_err-operand
 returns-in_err-operand t c =

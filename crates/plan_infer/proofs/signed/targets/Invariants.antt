@@ -8,5 +8,5 @@ use Rattle.plan_infer.proofs.signed.targets.Given as goal
 
 abbrev pub invariant-loop-index : goal.invariant-loop-index
 invariant-loop-index l = record {
-  taken : let all = typings_at l.types (numbers l.inputs) in taken_from l.signature 0 all ≡ types_before (map ty l.targets.items) (taken_from l.signature l.index (drop l.index all));
+  taken : let all = typings_at l.types (numbers l.inputs) in taken_from (ty l.shared) l.signature 0 all ≡ types_before (map ty l.targets.items) (taken_from (ty l.shared) l.signature l.index (drop l.index all));
 }

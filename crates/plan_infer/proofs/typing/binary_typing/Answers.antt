@@ -1,14 +1,13 @@
-use Rattle.std.proofs.Common.{arith, refl, sym, subst, ◌∷◌, [], map}
+use Rattle.std.proofs.Common.{arith, sym, ap, ◌∙◌, subst}
 use Rattle.plan_types.proofs.ResultLemmas.{passed_on}
 use Rattle.plan_types.specs.Errors.{IsRefusal}
-use Rattle.plan_types.specs.Types.{ty}
 use Rattle.plan_dsl.specs.Ops.{BinaryOp}
-use Rattle.plan_dsl.specs.Typing.{types_of, typing_rule}
+use Rattle.plan_dsl.specs.Typing.{ruled_as, some_many, types_of, typing_rule}
+use Rattle.plan_dsl.specs.OperatorTypes.{operator_types}
 use Rattle.plan_arena.specs.Items.{numbers}
-use Rattle.plan_infer.specs.declared.type_table.Inferred.{Inferred}
-use Rattle.plan_infer.specs.KeptTypes.{AreOperands, IsKept, IsRuled, typed_of, typings_at}
+use Rattle.plan_infer.specs.KeptTypes.{IsKept, Says, typed_of, typings_at}
 use Rattle.plan_infer.proofs.TableLemmas.{all_at}
-use Rattle.plan_infer.proofs.TypingLemmas.{binary_refused, binary_ruled}
+use Rattle.plan_infer.proofs.TypingLemmas.{binary_refused}
 use Rattle.plan_infer.proofs.SignedLemmas.{two_typings}
 use Rattle.plan_infer.proofs.typing.binary_typing.Goals as goal
 
@@ -28,9 +27,6 @@ pub returns-clause-ok : goal.returns-clause-ok
 returns-clause-ok c = λ registry schema.
     let left = c.get-left.result.now in
     let right = c.get-right.result.now in
-    let taken = c.in_ok-taken.taken in
-    let own : Inferred = record { name = left.name; dtype = taken.result; many = c.either.result; operands = c.unless_own.result } in
     let typed = two_typings c.args.types.now c.args.inputs.now (record { 0 = 0 }) left right c.requires.two c.get-left.ensures c.get-right.ensures in
-    let targets = c.in_ok-targets.ensures.ok in
-    let operands = subst (λ ts. AreOperands (map ty c.unless_own.result.items) (types_of ts) (ty taken.left ∷ ty taken.right ∷ [])) typed (subst (λ ts. AreOperands (map ty c.unless_own.result.items) (types_of (typings_at c.args.types.now (numbers c.args.inputs.now))) (map ty ts)) targets c.unless_own.ensures) in
-    subst (λ ts. IsRuled registry schema (BinaryOp c.args.op) ts own) (sym typed) (binary_ruled registry schema c.args.op (typed_of left) (typed_of right) _ own c.in_ok-taken.ensures.ok refl c.either.ensures operands)
+    let all = typings_at c.args.types.now (numbers c.args.inputs.now) in
+    subst (λ found. Says (ruled_as found (some_many all)) all c.in_ok-own.own) (sym (ap (λ ts. operator_types c.args.op (types_of ts)) typed ∙ c.in_ok-taken.ensures.ok)) c.in_ok-own.ensures.ok

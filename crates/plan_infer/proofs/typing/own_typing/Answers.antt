@@ -1,4 +1,5 @@
-use Rattle.std.proofs.Common.{[], ◌∷◌, IfOk, IfErr, sym, ap, ◌∙◌, subst}
+use Rattle.std.proofs.Common.{[], ◌∷◌, length, IfOk, IfErr, sym, ap, ◌∙◌, subst}
+use Rattle.std.proofs.lemmas.List.{length-map}
 use Rattle.plan_types.specs.Errors.{IsRefusal, no_room}
 use Rattle.plan_arena.specs.declared.arena.Node.{Node}
 use Rattle.plan_types.specs.Schemas.{columns}
@@ -6,11 +7,13 @@ use Rattle.plan_dsl.specs.Registry.{registry}
 use Rattle.plan_dsl.specs.Literals.{literal_op}
 use Rattle.plan_dsl.specs.Names.{op_label}
 use Rattle.plan_dsl.specs.Ops.{ColumnOp}
+use Rattle.plan_dsl.specs.Signatures.{function_signature, signature}
 use Rattle.plan_dsl.specs.Typing.{own_typed, typing_rule}
 use Rattle.plan_arena.specs.Layers.{op_of, inputs_of}
 use Rattle.plan_arena.specs.Items.{expression_layer, numbers}
 use Rattle.plan_infer.specs.KeptTypes.{IsRuled, Says, by_itself, typings_at}
-use Rattle.plan_infer.proofs.TypingLemmas.{if_err, if_ok, refused_so}
+use Rattle.plan_infer.proofs.TypingLemmas.{if_err, if_ok, if_ok_both, refused_so}
+use Rattle.plan_infer.proofs.FunctionTypeLemmas.{function_named}
 use Rattle.plan_infer.proofs.SignedLemmas.{IsSignedItem, item_signed, named_over, named_signed, over_item}
 use Rattle.plan_infer.proofs.typing.own_typing.Goals as goal
 
@@ -70,17 +73,39 @@ returns-in-Alias-clause-err c = if_err c.alias_typing.result _ _ (λ error none.
 
 pub returns-in_default-clause-ok : goal.returns-in_default-clause-ok
 returns-in_default-clause-ok c =
-    let is : IsSignedItem c.args.item.now = record { no_column = c.in_default.not-Column; no_literal = c.in_default.not-Literal; no_operator = c.in_default.not-BinaryExpr; no_cast = c.in_default.not-Cast; no_alias = c.in_default.not-Alias } in
+    let is : IsSignedItem c.args.item.now = record { no_column = c.in_default.not-Column; no_literal = c.in_default.not-Literal; no_operator = c.in_default.not-BinaryExpr; no_cast = c.in_default.not-Cast; no_alias = c.in_default.not-Alias; no_function = c.in_default.not-Function } in
     let typed = typings_at c.args.types.now (numbers c.args.inputs.now) in
-    subst (λ found. IfOk c.signed_typing.result (Says found typed)) (item_signed c.args.item.now is (registry c.args.udfs.now) (columns c.args.schema.now) c.args.types.now (numbers c.args.inputs.now) c.signature.result c.requires.listed c.signature.ensures) c.signed_typing.ensures.ok
+    subst (λ found. IfOk c.signed_typing.result (Says found typed)) (item_signed c.args.item.now is (registry c.args.udfs.now) (columns c.args.schema.now) c.args.types.now (numbers c.args.inputs.now) c.signature-in_default.result c.requires.listed c.signature-in_default.ensures) c.signed_typing.ensures.ok
 
 pub returns-in_default-clause-name : goal.returns-in_default-clause-name
 returns-in_default-clause-name c =
-    let is : IsSignedItem c.args.item.now = record { no_column = c.in_default.not-Column; no_literal = c.in_default.not-Literal; no_operator = c.in_default.not-BinaryExpr; no_cast = c.in_default.not-Cast; no_alias = c.in_default.not-Alias } in
+    let is : IsSignedItem c.args.item.now = record { no_column = c.in_default.not-Column; no_literal = c.in_default.not-Literal; no_operator = c.in_default.not-BinaryExpr; no_cast = c.in_default.not-Cast; no_alias = c.in_default.not-Alias; no_function = c.in_default.not-Function } in
     if_ok c.signed_typing.result _ _ (λ own named. named_signed c.args.item.now c.args.types.now c.args.node.0 own.name.0 (numbers c.args.inputs.now) is c.requires.listed c.requires.inputs named) c.signed_typing.ensures.name
 
 pub returns-in_default-clause-err : goal.returns-in_default-clause-err
 returns-in_default-clause-err c =
-    let is : IsSignedItem c.args.item.now = record { no_column = c.in_default.not-Column; no_literal = c.in_default.not-Literal; no_operator = c.in_default.not-BinaryExpr; no_cast = c.in_default.not-Cast; no_alias = c.in_default.not-Alias } in
-    let same = item_signed c.args.item.now is (registry c.args.udfs.now) (columns c.args.schema.now) c.args.types.now (numbers c.args.inputs.now) c.signature.result c.requires.listed c.signature.ensures in
+    let is : IsSignedItem c.args.item.now = record { no_column = c.in_default.not-Column; no_literal = c.in_default.not-Literal; no_operator = c.in_default.not-BinaryExpr; no_cast = c.in_default.not-Cast; no_alias = c.in_default.not-Alias; no_function = c.in_default.not-Function } in
+    let same = item_signed c.args.item.now is (registry c.args.udfs.now) (columns c.args.schema.now) c.args.types.now (numbers c.args.inputs.now) c.signature-in_default.result c.requires.listed c.signature-in_default.ensures in
     if_err c.signed_typing.result _ _ (λ error refused. refused_so _ _ error (λ kind e. ap own_typed (sym same ∙ e)) refused) c.signed_typing.ensures.err
+
+pub function_typing-requires-clause-found : goal.function_typing-requires-clause-found
+function_typing-requires-clause-found c =
+    let is = ap expression_layer c.in-Function.is in
+    c.signature.ensures ∙ ap (λ l. signature (op_of l) (length (inputs_of (expression_layer c.args.item.now)))) is ∙ ap (function_signature c.in-Function.function) (ap length (sym c.requires.listed) ∙ length-map c.args.inputs.now _)
+
+pub returns-in-Function-clause-ok : goal.returns-in-Function-clause-ok
+returns-in-Function-clause-ok c =
+    let typed = typings_at c.args.types.now (numbers c.args.inputs.now) in
+    subst (λ item. IfOk c.function_typing.result (IsRuled (registry c.args.udfs.now) (columns c.args.schema.now) (op_of (expression_layer item)) typed)) (sym c.in-Function.is) c.function_typing.ensures.ok
+
+pub returns-in-Function-clause-name : goal.returns-in-Function-clause-name
+returns-in-Function-clause-name c =
+    let is = ap expression_layer c.in-Function.is in
+    let inputs = c.requires.listed ∙ ap inputs_of is in
+    if_ok_both c.function_typing.result _ _ _ (λ own says named. function_named c.args.types.now c.in-Function.function c.in-Function.input c.args.node.0 (expression_layer c.args.item.now) (numbers c.args.inputs.now) own is inputs says (ap (λ (n : Node). n.0) named)) c.function_typing.ensures.ok c.function_typing.ensures.name
+
+pub returns-in-Function-clause-err : goal.returns-in-Function-clause-err
+returns-in-Function-clause-err c =
+    let typed = typings_at c.args.types.now (numbers c.args.inputs.now) in
+    subst (λ item. IfErr c.function_typing.result (IsRefusal (typing_rule (registry c.args.udfs.now) (columns c.args.schema.now) (op_of (expression_layer item)) typed))) (sym c.in-Function.is)
+    (if_err c.function_typing.result _ _ (λ error refused. refused_so _ _ error (λ kind e. ap own_typed e) refused) c.function_typing.ensures.err)

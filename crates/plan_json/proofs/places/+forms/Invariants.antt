@@ -15,6 +15,9 @@ decreases-read_place l = 7 * depth (view l.value.now) + 4
 abbrev pub decreases-read_order : goal.decreases-read_order
 decreases-read_order l = 7 * depth (view l.value.now) + 3
 
+abbrev pub decreases-read_optional : goal.decreases-read_optional
+decreases-read_optional l = 7 * depth (view l.value.now) + 3
+
 abbrev pub decreases-read_listed : goal.decreases-read_listed
 decreases-read_listed l = 7 * depth (view l.value.now) + 2
 

@@ -1,0 +1,107 @@
+//! Horizontals: written out where they are few, with values of their own where they are many. Their inputs are expanded in
+//! place. Fields of structs at places get their names.
+
+ghost use Rattle.std.specs.Prelude.{◌≡◌, ℕ, List, [], ◌∷◌, pos, neg_ℤ, map, replicate, codes, true, false, Some, None, Result, Ok, Err};
+ghost use Rattle.plan_types.specs.Types.{Ty, Truth, NullType, TextType};
+ghost use Rattle.plan_types.specs.Outcomes.{Done, Fault};
+ghost use Rattle.plan_types.specs.Schemas.{Columns};
+ghost use Rattle.plan_types.specs.declared.dtype.CastOptions.TheVariants.{NonStrict};
+ghost use Rattle.plan_types.specs.declared.error.ErrorKind.{ErrorKind};
+ghost use Rattle.plan_types.specs.declared.error.ErrorKind.TheVariants.{ColumnNotFound, SchemaMismatch, InvalidOperation, ComputeError};
+ghost use Rattle.plan_dsl.specs.declared.function_expr.FunctionExpr.{FunctionExpr};
+ghost use Rattle.plan_dsl.specs.declared.function_expr.FunctionExpr.TheVariants.{AllHorizontal, AnyHorizontal, FieldByName, FieldByIndex, FillNull, IsNull, IsNotNull};
+ghost use Rattle.plan_dsl.specs.declared.operator.Operator.TheVariants.{LogicalAnd, LogicalOr};
+ghost use Rattle.plan_dsl.specs.declared.signature.Signature.{Signature};
+ghost use Rattle.plan_dsl.specs.Aliases.{core, is_written_out, pruned};
+ghost use Rattle.plan_dsl.specs.Expansion.{expansion, field_at, in_place, predicate_expansion};
+ghost use Rattle.plan_dsl.specs.FunctionValues.{all_true, any_true, function_values};
+ghost use Rattle.plan_dsl.specs.Kernels.{operator_values};
+ghost use Rattle.plan_dsl.specs.Names.{alias_label, label_of, literal_label};
+ghost use Rattle.plan_dsl.specs.Ops.{Expression, FunctionOp, LiteralOp};
+ghost use Rattle.plan_dsl.specs.Plans.{all_known_values, nulls_filled, source_call};
+ghost use Rattle.plan_dsl.specs.Signatures.{function_signature};
+ghost use Rattle.plan_dsl.specs.Sources.{FieldAtOp, KeepRoot, Source, is_plain, written};
+ghost use Rattle.plan_dsl.specs.Trees.{node, no_more, more};
+ghost use Rattle.plan_dsl.specs.Typing.{typing};
+ghost use Rattle.plan_dsl.specs.Samples.{Gives, GivesOfTwo, GivesAll, int8, null, yes, no, struct_type, a, b, c, s, t, u, one, sum, binary, equal, cast_as, alias, call, of_many, of_one, schema_ab, schema_abc, all_names, all, columns_named, columns_of_type, nth, but_named, form, prefix, plus, equals, source_alias};
+
+/// Over nothing a horizontal is a literal, over one operand a cast, and over more a chain from the left. Aliases go, and are
+/// kept where they are. From 128 operands on it stays, and so does one that has recorded names.
+pub fn written_out_horizontals()
+    ensures cores { let literal : Expression = node (LiteralOp Truth yes) no_more in
+        let other : Expression = node (LiteralOp Truth no) no_more in
+        Gives core (
+        (call AllHorizontal [], literal) ∷ (call AnyHorizontal [], other) ∷ (call AllHorizontal (a ∷ []), cast_as NonStrict Truth a) ∷ (call AnyHorizontal (t ∷ []), cast_as NonStrict Truth t) ∷
+        (call AllHorizontal (a ∷ b ∷ []), binary LogicalAnd a b) ∷ (call AnyHorizontal (a ∷ b ∷ c ∷ []), binary LogicalOr (binary LogicalOr a b) c) ∷
+        (call AllHorizontal (a ∷ b ∷ c ∷ t ∷ []), binary LogicalAnd (binary LogicalAnd (binary LogicalAnd a b) c) t) ∷
+        (call AllHorizontal (alias "x" a ∷ call AnyHorizontal (b ∷ alias "y" c ∷ []) ∷ []), binary LogicalAnd a (binary LogicalOr b c)) ∷
+        (alias "z" (call AllHorizontal (a ∷ b ∷ [])), binary LogicalAnd a b) ∷ []) }
+    ensures kept { Gives (pruned true) (
+        (call AllHorizontal (alias "x" a ∷ b ∷ []), binary LogicalAnd (alias "x" a) b) ∷ (alias "z" (call AnyHorizontal (alias "x" a ∷ [])), alias "z" (cast_as NonStrict Truth (alias "x" a))) ∷ []) }
+    ensures names { Gives label_of ((call AllHorizontal (alias "x" a ∷ b ∷ []), alias_label (codes "x")) ∷ (call AllHorizontal [], literal_label (codes "literal")) ∷ []) }
+    ensures sizes { GivesOfTwo is_written_out (
+        (FunctionOp AllHorizontal [], 0, true) ∷ (FunctionOp AllHorizontal [], 127, true) ∷ (FunctionOp AllHorizontal [], 128, false) ∷ (FunctionOp AnyHorizontal [], 127, true) ∷ (FunctionOp AnyHorizontal [], 300, false) ∷
+        (FunctionOp AllHorizontal (alias_label (codes "x") ∷ []), 1, false) ∷ (FunctionOp IsNull [], 1, false) ∷ []) }
+    ensures signed { let none : Result Signature ErrorKind = Err ComputeError in GivesAll (function_signature AllHorizontal) none (0 ∷ 1 ∷ 2 ∷ 127 ∷ []) }
+    ensures untyped { Gives (typing [] schema_ab) ((call AllHorizontal (a ∷ b ∷ []), Err ComputeError) ∷ (core (call AllHorizontal (equal a one ∷ equal b one ∷ [])), of_many Truth) ∷ (core (call AllHorizontal (a ∷ [])), of_many Truth) ∷ (core (call AllHorizontal (a ∷ b ∷ [])), Err InvalidOperation) ∷ (core (call AnyHorizontal []), of_one Truth) ∷ []) }
+{}
+
+/// From 128 operands on each is of truth values or null.
+pub fn many_operands()
+    ensures typed { let columns : Columns = (codes "t", Truth) ∷ (codes "u", NullType) ∷ (codes "a", int8) ∷ [] in
+        Gives (λ operand. typing [] columns (core (call AllHorizontal (operand ∷ replicate 127 t)))) ((t, of_many Truth) ∷ (u, of_many Truth) ∷ (a, Err InvalidOperation) ∷ (one, Err InvalidOperation) ∷ (c, Err ColumnNotFound) ∷ []) }
+    ensures one_value { typing [] [] (core (call AnyHorizontal (replicate 128 (node (LiteralOp Truth yes) no_more)))) ≡ of_one Truth }
+{}
+
+/// All are true where none is false or null, and false where any is; any is true where one is. The chain gives the same.
+pub fn values_of_horizontals()
+    ensures all { Gives all_true (
+        ([], yes) ∷ (yes ∷ yes ∷ yes ∷ [], yes) ∷ (yes ∷ no ∷ null ∷ [], no) ∷ (null ∷ no ∷ yes ∷ [], no) ∷ (yes ∷ null ∷ yes ∷ [], null) ∷ (null ∷ null ∷ [], null) ∷ (no ∷ [], no) ∷ []) }
+    ensures any { Gives any_true (
+        ([], no) ∷ (no ∷ no ∷ [], no) ∷ (no ∷ yes ∷ null ∷ [], yes) ∷ (null ∷ yes ∷ no ∷ [], yes) ∷ (no ∷ null ∷ no ∷ [], null) ∷ (null ∷ null ∷ [], null) ∷ (yes ∷ [], yes) ∷ []) }
+    ensures chained { let left = yes ∷ yes ∷ yes ∷ no ∷ no ∷ no ∷ null ∷ null ∷ null ∷ [] in
+        let right = yes ∷ no ∷ null ∷ yes ∷ no ∷ null ∷ yes ∷ no ∷ null ∷ [] in
+        Gives (λ (function : FunctionExpr). function_values function (Truth ∷ Truth ∷ []) (left ∷ right ∷ [])) (
+        (AllHorizontal, operator_values LogicalAnd Truth Truth left right) ∷ (AnyHorizontal, operator_values LogicalOr Truth Truth left right) ∷ []) }
+    ensures lengths { Gives (function_values AllHorizontal []) (((yes ∷ no ∷ []) ∷ (yes ∷ []) ∷ [], Done (yes ∷ no ∷ [])) ∷ ((yes ∷ no ∷ []) ∷ (yes ∷ yes ∷ yes ∷ []) ∷ [], Fault) ∷ []) }
+{}
+
+/// What each input is expanded to stands in its place, also where the whole is then repeated for no name. So it is inside
+/// inputs, and in horizontals alone.
+pub fn inputs_in_place()
+    ensures one { Gives (expansion [] schema_ab) (
+        (source_call AllHorizontal (all ∷ []), Ok (call AllHorizontal (a ∷ b ∷ []) ∷ [])) ∷ (source_call AnyHorizontal (all ∷ written one ∷ all ∷ []), Ok (call AnyHorizontal (a ∷ b ∷ one ∷ a ∷ b ∷ []) ∷ [])) ∷
+        (source_call AllHorizontal (columns_of_type TextType ∷ []), Ok (call AllHorizontal [] ∷ [])) ∷ (source_call AllHorizontal [], Ok (call AllHorizontal [] ∷ [])) ∷
+        (source_call AllHorizontal (source_call IsNotNull (all ∷ []) ∷ []), Ok (call AllHorizontal (call IsNotNull (a ∷ []) ∷ call IsNotNull (b ∷ []) ∷ []) ∷ [])) ∷
+        (source_call AnyHorizontal (source_call AllHorizontal (all ∷ []) ∷ written a ∷ []), Ok (call AnyHorizontal (call AllHorizontal (a ∷ b ∷ []) ∷ a ∷ []) ∷ [])) ∷
+        (source_call AllHorizontal (prefix "p" (written a) ∷ form KeepRoot all ∷ []), Ok (call AllHorizontal (alias "pa" a ∷ alias "a" a ∷ alias "b" b ∷ []) ∷ [])) ∷ []) }
+    ensures beside { Gives (expansion [] schema_ab) (
+        (equals (source_call AnyHorizontal (all ∷ [])) all, Ok (equal (call AnyHorizontal (a ∷ b ∷ [])) a ∷ equal (call AnyHorizontal (a ∷ b ∷ [])) b ∷ [])) ∷
+        (source_call FillNull (all ∷ written one ∷ []), Ok (call FillNull (a ∷ one ∷ []) ∷ call FillNull (b ∷ one ∷ []) ∷ [])) ∷
+        (source_alias "x" (source_call AllHorizontal (all ∷ [])), Ok (alias "x" (call AllHorizontal (a ∷ b ∷ [])) ∷ [])) ∷ []) }
+    ensures refused { Gives (expansion [] schema_ab) (
+        (source_call AllHorizontal (nth (pos 9) ∷ []), Err ColumnNotFound) ∷ (plus (source_call AllHorizontal (nth (pos 9) ∷ [])) (columns_named []), Err ColumnNotFound) ∷
+        (source_call AllHorizontal (plus all (nth (pos 0)) ∷ []), Err InvalidOperation) ∷ (source_call AllHorizontal (form KeepRoot (written one) ∷ []), Err InvalidOperation) ∷
+        (source_call AllHorizontal (source_alias "x" (form KeepRoot (written a)) ∷ []), Err InvalidOperation) ∷ (source_call FillNull (prefix "p" (written a) ∷ []), Err InvalidOperation) ∷ []) }
+    ensures keys { expansion (all_names ("a" ∷ [])) schema_ab (source_call AllHorizontal (all ∷ [])) ≡ Ok (call AllHorizontal (b ∷ []) ∷ []) }
+    ensures inside_markers { in_place [] schema_ab (but_named "a" all) ≡ Ok (but_named "a" all) }
+    ensures predicates { Gives (predicate_expansion schema_ab) (
+        (all_known_values None, Ok (call AllHorizontal (call IsNotNull (a ∷ []) ∷ call IsNotNull (b ∷ []) ∷ []))) ∷ (all_known_values (Some []), Ok (call AllHorizontal [])) ∷
+        (all_known_values (Some (written b ∷ [])), Ok (call AllHorizontal (call IsNotNull (b ∷ []) ∷ []))) ∷ (nulls_filled (written one), Err ComputeError) ∷ []) }
+    ensures filled { expansion [] schema_ab (nulls_filled (written one)) ≡ Ok (call FillNull (a ∷ one ∷ []) ∷ call FillNull (b ∷ one ∷ []) ∷ []) }
+{}
+
+/// A field at a place of a column of structs gets its name; a place below 0 counts from the end. Nothing else has one.
+pub fn fields_at_places()
+    ensures plain { Gives is_plain ((node (FieldAtOp (pos 0)) (more (written a) no_more), false) ∷ (source_call (FieldByName (codes "x")) (written a ∷ []), true) ∷ []) }
+    ensures names { let pair : Ty = struct_type ((codes "x", int8) ∷ (codes "y", TextType) ∷ []) in
+        Gives (field_at (Some pair)) ((pos 0, Ok (codes "x")) ∷ (pos 1, Ok (codes "y")) ∷ (pos 2, Err InvalidOperation) ∷ (neg_ℤ (pos 1), Ok (codes "y")) ∷ (neg_ℤ (pos 2), Ok (codes "x")) ∷ (neg_ℤ (pos 3), Err InvalidOperation) ∷ []) }
+    ensures columns { let columns : Columns = (codes "s", struct_type ((codes "x", int8) ∷ (codes "y", TextType) ∷ [])) ∷ (codes "a", int8) ∷ [] in
+        let last : Source → Source = λ source. node (FieldAtOp (neg_ℤ (pos 1))) (more source no_more) in
+        let named = call (FieldByName (codes "y")) (s ∷ []) in
+        Gives (expansion [] columns) (
+        (last (written s), Ok (named ∷ [])) ∷ (last (written a), Err InvalidOperation) ∷ (last (written b), Err ColumnNotFound) ∷ (last (written (sum s s)), Err InvalidOperation) ∷ (last (last (written s)), Err InvalidOperation) ∷
+        (last (columns_named ("s" ∷ [])), Ok (named ∷ [])) ∷ (last all, Err InvalidOperation) ∷ (form KeepRoot (last (written s)), Ok (alias "s" named ∷ [])) ∷ (source_alias "z" (last (written s)), Ok (alias "z" named ∷ [])) ∷
+        (source_call AllHorizontal (last (written s) ∷ last all ∷ []), Err InvalidOperation) ∷ (source_call AllHorizontal (last (written s) ∷ []), Ok (call AllHorizontal (named ∷ []) ∷ [])) ∷
+        (node (FieldAtOp (pos 0)) no_more, Err InvalidOperation) ∷ (node (FieldAtOp (pos 0)) (more (written s) (more (written s) no_more)), Err InvalidOperation) ∷ []) }
+{}

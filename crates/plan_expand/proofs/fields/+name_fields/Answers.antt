@@ -1,0 +1,61 @@
+use Rattle.std.proofs.Common.{◌<◌, subst, ◌∙◌, arith}
+use Rattle.plan_types.proofs.ResultLemmas.{passed_on}
+use Rattle.plan_types.specs.Schemas.{columns}
+use Rattle.plan_dsl.specs.Expansion.{fields_named}
+use Rattle.plan_dsl.specs.Expressions.{tree_of}
+use Rattle.plan_expand.proofs.ChangeLemmas.{changed_end, changed_refused, changed_start, changed_step, operand_less_deep, operand_now, place_between, place_now, unmarked_count}
+use Rattle.plan_expand.proofs.ExpansionLemmas.{refused_as}
+use Rattle.plan_expand.proofs.FieldLemmas.{operand_unmarked, operands_refused, own_then}
+use Rattle.plan_expand.proofs.fields.+name_fields.Goals as goal
+
+pub loop-place-init : goal.loop-place-init
+loop-place-init t c =
+    let source = tree_of c.args.expr.now in
+    changed_start (fields_named (columns c.args.schema.now)) source (unmarked_count source c.in-Some.count c.in-Some.ensures).0
+
+pub swap_operand-requires : goal.swap_operand-requires
+swap_operand-requires t c =
+    let source = tree_of c.args.expr.now in
+    let place = c.loop-place.place in
+    place_now (fields_named (columns c.args.schema.now)) source (tree_of c.loop-place.expr) place c.loop-place.invariant (subst (λ n. place < n) (unmarked_count source c.in-Some.count c.in-Some.ensures).1 c.loop-place-test.true)
+
+pub name_fields-named-requires : goal.name_fields-named-requires
+name_fields-named-requires t c =
+    let named = fields_named (columns c.args.schema.now) in
+    let source = tree_of c.args.expr.now in
+    let now = tree_of c.loop-place.expr in
+    let place = c.loop-place.place in
+    let operand = tree_of c.swap_operand.new.other in
+    let less = operand_less_deep named source now place c.loop-place.invariant operand c.swap_operand.ensures.other in
+    (omega (arith, c.decreases, less), operand_unmarked source place operand c.loop-place.invariant.marks c.requires (operand_now named source now place c.loop-place.invariant operand c.swap_operand.ensures.other))
+
+pub swap_operand-requires-in-loop-place : goal.swap_operand-requires-in-loop-place
+swap_operand-requires-in-loop-place t c =
+    place_between (fields_named (columns c.args.schema.now)) (tree_of c.args.expr.now) (tree_of c.loop-place.expr) c.loop-place.place c.loop-place.invariant (tree_of c.swap_operand.new.other) c.swap_operand.ensures.other (tree_of c.swap_operand.new.expr) _ c.swap_operand.ensures.expr
+
+pub returns-in_err-named-clause-err : goal.returns-in_err-named-clause-err
+returns-in_err-named-clause-err t c =
+    let named = fields_named (columns c.args.schema.now) in
+    let source = tree_of c.args.expr.now in
+    passed_on c.from_residual.result c.in_err-named.field-0.0 _ c.from_residual.ensures.1
+    (operands_refused (columns c.args.schema.now) source _ (changed_refused named source (tree_of c.loop-place.expr) c.loop-place.place c.loop-place.invariant (tree_of c.swap_operand.new.other) c.swap_operand.ensures.other _ c.in_err-named.ensures.err))
+
+pub loop-place-preserved : goal.loop-place-preserved
+loop-place-preserved t c =
+    changed_step (fields_named (columns c.args.schema.now)) (tree_of c.args.expr.now) (tree_of c.loop-place.expr) c.loop-place.place c.loop-place.invariant (tree_of c.swap_operand.new.other) c.swap_operand.ensures.other (tree_of c.swap_operand.new.expr) _ c.swap_operand.ensures.expr (tree_of c.name_fields-named.new.expr) _ c.in_ok-named.ensures.ok c.swap_operand-in-loop-place.ensures.expr
+
+pub returns-in_err-name_field-clause-err : goal.returns-in_err-name_field-clause-err
+returns-in_err-name_field-clause-err t c =
+    let named = fields_named (columns c.args.schema.now) in
+    let source = tree_of c.args.expr.now in
+    let now = tree_of c.loop-place.expr in
+    let done = changed_end named source now c.loop-place.place c.loop-place.invariant c.in-Some.count (unmarked_count source c.in-Some.count c.in-Some.ensures).1 c.loop-place-test.false in
+    passed_on c.from_residual-in_err-name_field.result c.in_err-name_field.field-0.0 _ c.from_residual-in_err-name_field.ensures.1 (refused_as _ _ _ (own_then (columns c.args.schema.now) source now done) c.in_err-name_field.ensures.err)
+
+pub returns-clause-ok : goal.returns-clause-ok
+returns-clause-ok t c =
+    let named = fields_named (columns c.args.schema.now) in
+    let source = tree_of c.args.expr.now in
+    let now = tree_of c.loop-place.expr in
+    let done = changed_end named source now c.loop-place.place c.loop-place.invariant c.in-Some.count (unmarked_count source c.in-Some.count c.in-Some.ensures).1 c.loop-place-test.false in
+    own_then (columns c.args.schema.now) source now done ∙ c.in_ok-name_field.ensures.ok

@@ -1,0 +1,36 @@
+-- Horizontals over few operands, which are written out: what by, and the chain of an operator as it is put together.
+use Rattle.std.specs.Prelude.{◌≡◌, ℕ, Bool, true, List, [], Option, Some, None}
+use Rattle.plan_dsl.specs.declared.function_expr.FunctionExpr.{FunctionExpr}
+use Rattle.plan_dsl.specs.declared.operator.Operator.{Operator}
+use Rattle.plan_dsl.specs.Aliases.{chain, chained, core, is_written_out, written_out}
+use Rattle.plan_dsl.specs.declared.expr.Exprs.{Exprs}
+use Rattle.plan_dsl.specs.Expressions.{function_source, trees_of}
+use Rattle.plan_dsl.specs.Names.{label_of}
+use Rattle.plan_dsl.specs.Sources.{unwritten}
+use Rattle.plan_dsl.specs.Ops.{Op, FunctionOp, Expression}
+use Rattle.plan_dsl.specs.Trees.{Trees, node, more, children_from}
+use Rattle.plan_arena.specs.declared.aexpr.AExpr.{AExpr}
+use Rattle.plan_arena.specs.declared.arena.Node.{Node}
+use Rattle.plan_arena.specs.Denotation.{Denotes}
+use Rattle.plan_arena.specs.Items.{HoldsFrom}
+
+-- a function over so many operands is written out by the operator, and is that literal over none
+pub record IsWrittenBy (function : FunctionExpr) (count : ℕ) (operator : Operator) (nothing : Bool) : Type 0 where
+  pub out : is_written_out (FunctionOp function []) count ≡ true
+  pub by : (operands : Trees Op) → written_out (FunctionOp function []) operands ≡ chained operator nothing operands
+
+-- A node stands for the front of a chain over the operands: with those that are left behind it, it comes to the whole. There
+-- is none in front of the first.
+abbrev pub InChain : Operator → ℕ → List AExpr → Trees Op → Trees Op → Option Node → Type 0
+InChain operator from items all left None = all ≡ left
+InChain operator from items all left (Some top) =
+    (first : Expression) × (others : Trees Op) × (tree : Expression) × (all ≡ more first others) × (chain operator tree left ≡ chain operator first others) × Denotes (HoldsFrom from items) top.0 tree
+
+-- the expression of a function over its inputs
+abbrev pub called : FunctionExpr → Exprs → Expression
+called function input = unwritten (node (function_source function) (children_from (trees_of input)))
+
+-- an expression has the name of another, with aliases and without
+pub record IsNamedAs (tree other : Expression) : Type 0 where
+  pub own : label_of tree ≡ label_of other
+  pub without : label_of (core tree) ≡ label_of (core other)

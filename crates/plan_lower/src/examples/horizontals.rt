@@ -1,0 +1,64 @@
+//! Horizontals as they are lowered: written out over few operands, and else functions' nodes.
+
+ghost use Rattle.std.specs.Prelude.{◌≡◌, ◌≢◌, [], ◌∷◌, List, None, Some, codes, replicate, true, false};
+ghost use Rattle.plan_types.specs.Types.{Truth};
+ghost use Rattle.plan_types.specs.Errors.{at_top};
+ghost use Rattle.plan_types.specs.declared.dtype.CastOptions.TheVariants.{NonStrict};
+ghost use Rattle.plan_types.specs.declared.dtype.DataType.TheVariants.{Boolean};
+ghost use Rattle.plan_types.specs.declared.error.ErrorKind.TheVariants.{ComputeError, InvalidOperation};
+ghost use Rattle.plan_dsl.specs.declared.function_expr.FunctionExpr.TheVariants.{AllHorizontal, AnyHorizontal, IsNull};
+ghost use Rattle.plan_dsl.specs.declared.literal.LiteralValue.TheVariants.{Boolean as TruthLiteral};
+ghost use Rattle.plan_dsl.specs.declared.operator.Operator.TheVariants.{LogicalAnd, LogicalOr};
+ghost use Rattle.plan_dsl.specs.Aliases.{core, pruned};
+ghost use Rattle.plan_dsl.specs.Samples.{alias, binary, call};
+ghost use Rattle.plan_dsl.specs.Sources.{written};
+ghost use Rattle.plan_dsl.specs.Trees.{no_more, more};
+ghost use Rattle.plan_arena.specs.Denotation.{Denotes};
+ghost use Rattle.plan_arena.specs.Items.{HoldsFrom};
+ghost use Rattle.plan_arena.specs.declared.aexpr.AExpr.{AExpr};
+ghost use Rattle.plan_arena.specs.declared.aexpr.AExpr.TheVariants.{Alias, BinaryExpr, Cast, Column, Explode, Literal};
+ghost use Rattle.plan_arena.specs.Samples.{node_at};
+ghost use Rattle.plan_infer.specs.Samples.{int8, one_column, a, b, c, a_items};
+ghost use Rattle.plan_lower.specs.ExpressionFields.{IsFieldRefusal};
+ghost use Rattle.plan_lower.specs.Horizontals.{InChain, IsWrittenBy};
+
+/// What horizontals are written out by, where they are.
+pub fn horizontals_written_by()
+    ensures all { IsWrittenBy AllHorizontal 0 LogicalAnd true }
+    ensures any { IsWrittenBy AnyHorizontal 127 LogicalOr false }
+    ensures many { ¬ (IsWrittenBy AllHorizontal 128 LogicalAnd true) }
+    ensures other_function { ¬ (IsWrittenBy IsNull 1 LogicalAnd true) }
+{}
+
+/// Nodes of horizontals: a literal, a cast, and operators, each right behind its second operand.
+pub fn nodes_of_horizontals()
+    ensures none { Denotes (HoldsFrom 0 (Literal (TruthLiteral true) ∷ [])) 0 (pruned true (call AllHorizontal [])) }
+    ensures one { Denotes (HoldsFrom 0 (Column (codes "a") ∷ Cast (node_at 0) Boolean NonStrict ∷ [])) 1 (pruned true (call AnyHorizontal (a ∷ []))) }
+    ensures two { Denotes (HoldsFrom 0 (Column (codes "a") ∷ Column (codes "b") ∷ BinaryExpr (node_at 0) LogicalAnd (node_at 1) ∷ [])) 2 (core (call AllHorizontal (a ∷ b ∷ []))) }
+    ensures three { let items = Column (codes "a") ∷ Column (codes "b") ∷ BinaryExpr (node_at 0) LogicalOr (node_at 1) ∷ Column (codes "c") ∷ BinaryExpr (node_at 2) LogicalOr (node_at 3) ∷ [] in
+        Denotes (HoldsFrom 0 items) 4 (core (call AnyHorizontal (a ∷ b ∷ c ∷ []))) }
+    ensures aliases { let items = Column (codes "a") ∷ Alias (node_at 0) (codes "x") ∷ Column (codes "b") ∷ BinaryExpr (node_at 1) LogicalAnd (node_at 2) ∷ Alias (node_at 3) (codes "z") ∷ [] in
+        Denotes (HoldsFrom 0 items) 4 (pruned true (alias "z" (call AllHorizontal (alias "x" a ∷ b ∷ [])))) }
+    ensures no_aliases { let items = Column (codes "a") ∷ Column (codes "b") ∷ BinaryExpr (node_at 0) LogicalAnd (node_at 1) ∷ [] in
+        Denotes (HoldsFrom 0 items) 2 (core (alias "z" (call AllHorizontal (alias "x" a ∷ b ∷ [])))) }
+    ensures inside { let items = Column (codes "a") ∷ Column (codes "b") ∷ Column (codes "c") ∷ BinaryExpr (node_at 1) LogicalOr (node_at 2) ∷ BinaryExpr (node_at 0) LogicalAnd (node_at 3) ∷ [] in
+        Denotes (HoldsFrom 0 items) 4 (core (call AllHorizontal (a ∷ call AnyHorizontal (b ∷ c ∷ []) ∷ []))) }
+    ensures other_operator { let items = Column (codes "a") ∷ Column (codes "b") ∷ BinaryExpr (node_at 0) LogicalOr (node_at 1) ∷ [] in
+        ¬ (Denotes (HoldsFrom 0 items) 2 (core (call AllHorizontal (a ∷ b ∷ [])))) }
+{}
+
+/// A node stands for the front of a chain, or none does in front of the first operand.
+pub fn chains_so_far()
+    ensures start { InChain LogicalAnd 0 [] (more a (more b no_more)) (more a (more b no_more)) None }
+    ensures first { InChain LogicalAnd 0 a_items (more a (more b no_more)) (more b no_more) (Some (node_at 0)) }
+    ensures second { let items = Column (codes "a") ∷ Column (codes "b") ∷ BinaryExpr (node_at 0) LogicalAnd (node_at 1) ∷ [] in
+        InChain LogicalAnd 0 items (more a (more b no_more)) no_more (Some (node_at 2)) }
+    ensures none_behind_the_first { ¬ (InChain LogicalAnd 0 a_items (more a (more b no_more)) (more b no_more) None) }
+{}
+
+/// A horizontal has a field as it is written out.
+pub fn fields_of_horizontals()
+    ensures no_truth { IsFieldRefusal [] (one_column int8) (written (call AllHorizontal (a ∷ a ∷ []))) (at_top InvalidOperation) }
+    ensures as_it_is { ¬ (IsFieldRefusal [] (one_column int8) (written (call AllHorizontal (a ∷ a ∷ []))) (at_top ComputeError)) }
+    ensures cast { ¬ (IsFieldRefusal [] (one_column int8) (written (call AllHorizontal (a ∷ []))) (at_top ComputeError)) }
+{}
