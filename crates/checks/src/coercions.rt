@@ -361,7 +361,7 @@ fn an_operand_is_cast_once_at_each_of_many_sums(rt: HostRuntime) {
 
 #[test]
 fn an_operand_is_cast_below_any_number_of_sums(rt: HostRuntime) {
-    for sums in [1, 2, 1_500] {
+    for sums in [1, 2, 2_000] {
         let expr = chain(&rt, rt.alloc(), sums, "b");
         assert_coerced(&rt, rt.alloc(), expr, 1, 1, &DataType::Int32);
     }

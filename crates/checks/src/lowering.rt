@@ -6,6 +6,7 @@ use crate::plans::{filters_over, scan_of, select_of};
 use plan_arena::arena::Node;
 use plan_arena::plan::IRPlan;
 use plan_dsl::expr::Expr;
+use plan_dsl::literal::LiteralValue;
 use plan_dsl::plan::DslPlan;
 use plan_dsl::udfs::Udfs;
 use plan_lower::conversion::dsl_to_ir::PlanLowering;
@@ -167,4 +168,27 @@ fn a_lowered_plan_is_lent_from_any_node(rt: HostRuntime) {
         assert_text(&rt, name_at(&rt, &lowered, number), "selection");
     }
     drop(lowered);
+}
+
+// Of so many casts of a literal, one over another, so many are left.
+fn assert_casts(rt: &impl Abort, alloc: Global, levels: usize, value: LiteralValue, end: &str) {
+    let expr = nested(rt, alloc, Kind::Cast, levels, Expr::Literal(value));
+    let scan = scan_of(rt, alloc, None, 1, &DataType::Int8);
+    let found = answer(alloc, select(rt, alloc, expr, scan)).expect(rt, NO_MEMORY);
+    assert!(rt; found.as_str().ends_with(end));
+}
+
+#[test]
+fn casts_of_literals_go_at_any_depth(rt: HostRuntime) {
+    for levels in [1, 2, 1_000] {
+        let value = LiteralValue::Int(5);
+        assert_casts(&rt, rt.alloc(), levels, value, ")\ncasts 0\n");
+    }
+    for (levels, end) in &[
+        (1, ")\ncasts 1\n"),
+        (2, ")\ncasts 2\n"),
+        (1_000, ")\ncasts 1000\n"),
+    ] {
+        assert_casts(&rt, rt.alloc(), *levels, LiteralValue::Null, end);
+    }
 }

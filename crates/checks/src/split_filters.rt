@@ -54,7 +54,7 @@ fn assert_split(rt: &impl Abort, alloc: Global, more: usize, is_left: bool) {
 
 #[test]
 fn filters_are_split_into_any_number_of_parts(rt: HostRuntime) {
-    for more in [0, 1, 2, 1_499] {
+    for more in [0, 1, 2, 1_999] {
         assert_split(&rt, rt.alloc(), more, true);
         assert_split(&rt, rt.alloc(), more, false);
     }

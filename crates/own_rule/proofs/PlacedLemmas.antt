@@ -144,11 +144,11 @@ module _ {registry : Registry} {schema : Columns} {old : List AExpr} {table : Ty
   none_added n le lt = omega (arith, le, lt, length-set old at item)
 
   -- so it is replaced as the rule asks
-  pub replaced_cast : (t : Expression) → Denotes (HoldsExpression old) at t → IsReplacement (HasSameRelaxed registry schema) (until_relaxed registry schema) registry schema old (set old at item) at t
+  pub replaced_cast : (t : Expression) → Denotes (HoldsExpression old) at t → IsReplacement (HasSameRelaxed registry schema) (said (until_relaxed registry schema) registry schema) registry schema old (set old at item) at t
   replaced_cast t d =
       let c = cast_there t d in
       let one = falls c.operand c.typed in
-      subst (IsReplacement (HasSameRelaxed registry schema) (until_relaxed registry schema) registry schema old new at) (sym c.whole) (record {
+      subst (IsReplacement (HasSameRelaxed registry schema) (said (until_relaxed registry schema) registry schema) registry schema old new at) (sym c.whole) (record {
         tree = node loose (more c.operand no_more);
         denotes = c.denotes;
         like = λ before is. record {

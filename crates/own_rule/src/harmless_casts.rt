@@ -4,6 +4,8 @@ ghost use Rattle.plan_types.specs.Types.{ty};
 ghost use Rattle.plan_dsl.specs.Ops.{CastOp};
 ghost use Rattle.plan_arena.specs.Items.{expression_layer};
 ghost use Rattle.plan_arena.specs.Layers.{layer, op_of};
+ghost use Rattle.plan_coerce.specs.RuleLaws.{said_steady};
+ghost use Rattle.plan_coerce.specs.Rules.{said};
 ghost use Rattle.own_rule.specs.HarmlessCasts.{HasSameRelaxed, is_relaxed, is_strict_cast, until_relaxed};
 ghost use Rattle.own_rule.specs.HarmlessCastLaws.{relaxed_congruent, relaxed_transitive, until_relaxed_bounded};
 
@@ -25,12 +27,13 @@ use std::sync::ledger::Ledger;
 ///
 /// What a rule of one's own has to say, and what that is here:
 ///
-/// - which nodes stay as they are (`settled`), by what a node does and by the names and typings of its inputs: all but
-///   these casts;
+/// - which nodes stay as they are (`settled`), asked of the expression that a node denotes: all but these casts;
 /// - how often a node is replaced until it stays (`measure`, and `turns` at most): once;
 /// - what else both expressions have in common, beside type, name and meaning (`related`): they are one expression if all
 ///   these casts are replaced. That holds of nodes where it holds of their children, and of replacements in a row
 ///   (`congruent`, `transitive`);
+/// - that a node which stays does so where its inputs are put in place by related ones (`steady`). This rule goes by what a
+///   node does and by the names and typings of its inputs alone (`said`), so it has that for free (`said_steady`);
 /// - which nodes of plans stay (`settled_plan`): all.
 ///
 /// What is to be proved is then the contract of the two methods: a node for which they answer none is settled, and an item
@@ -39,9 +42,9 @@ use std::sync::ledger::Ledger;
 pub struct HarmlessCastRule;
 
 impl OptimizationRule for HarmlessCastRule {
-    ghost settled = { λ rule. is_relaxed };
+    ghost settled = { λ rule registry schema. said (is_relaxed registry schema) registry schema };
 
-    ghost measure = { λ rule. until_relaxed };
+    ghost measure = { λ rule registry schema. said (until_relaxed registry schema) registry schema };
 
     ghost turns = { λ rule. Some 1 };
 
@@ -54,6 +57,8 @@ impl OptimizationRule for HarmlessCastRule {
     ghost congruent = { λ rule. relaxed_congruent };
 
     ghost transitive = { λ rule. relaxed_transitive };
+
+    ghost steady = { λ rule registry schema. said_steady (is_relaxed registry schema) (HasSameRelaxed registry schema) registry schema };
 
     ghost bounded = { λ rule. until_relaxed_bounded };
 

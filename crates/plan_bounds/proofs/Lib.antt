@@ -1,3 +1,5 @@
+pub mod BoundLemmas
 mod CountLemmas
 mod PartLemmas
 mod StrictLemmas
+pub mod WideLemmas

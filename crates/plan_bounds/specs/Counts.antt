@@ -1,19 +1,22 @@
 -- What coercion adds to an expression, and how many casts and nodes there are.
-use Rattle.std.specs.Prelude.{ℕ, ◌+◌, sum, Bool, false, List, [], ◌∷◌, Result, Ok, Err, if◌then◌else◌}
+use Rattle.std.specs.Prelude.{ℕ, ◌+◌, sum, is_some, Bool, false, List, [], ◌∷◌, Result, Ok, Err, if◌then◌else◌}
 use Rattle.plan_types.specs.declared.error.ErrorKind.{ErrorKind}
 use Rattle.plan_types.specs.Types.{Ty, Untyped, same_type}
 use Rattle.plan_types.specs.Schemas.{Columns}
+use Rattle.plan_types.specs.Values.{IntValue}
+use Rattle.plan_types.specs.declared.dtype.CastOptions.TheVariants.{NonStrict}
 use Rattle.plan_dsl.specs.Registry.{Registry}
 use Rattle.plan_dsl.specs.Trees.{Trees, node, no_more, more, fold}
 use Rattle.plan_dsl.specs.Literals.{settled_type}
 use Rattle.plan_dsl.specs.Ops.{Op, CastOp, Expression}
 use Rattle.plan_dsl.specs.Counts.{expression_casts}
-use Rattle.plan_dsl.specs.Strictness.{integer_has}
 use Rattle.plan_dsl.specs.Typing.{Typed, Ruling, rule, types_of, typing_all}
+use Rattle.plan_coerce.specs.InlinedCasts.{literal_cast}
 
--- a cast stands round an operand that is made of another type, and for a number without a type only where the type lacks it
+-- a cast stands round an operand that is made of another type, and round a number without a type only where no literal of the
+-- type stands for it
 abbrev pub changed_casts : Ty → Ty → ℕ
-changed_casts (Untyped number) target = if integer_has target number then 0 else 1
+changed_casts (Untyped number) target = if is_some (literal_cast (settled_type (Untyped number)) (IntValue number) target NonStrict) then 0 else 1
 changed_casts from target = 1
 
 abbrev pub operand_casts : Ty → Ty → ℕ

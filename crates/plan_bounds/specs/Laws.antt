@@ -1,5 +1,5 @@
 -- Bounds on what coercion adds to an expression.
-use Rattle.std.specs.Prelude.{◌≡◌, ◌≤◌, ◌+◌, ℕ, List, length, Ok, sum_by}
+use Rattle.std.specs.Prelude.{◌≡◌, ◌≤◌, ◌+◌, ℕ, List, length, Ok, sum_by, IsTrue}
 use Rattle.plan_types.specs.Schemas.{Columns}
 use Rattle.plan_dsl.specs.Counts.{expression_casts, outputs_casts}
 use Rattle.plan_dsl.specs.Literals.{settled}
@@ -7,27 +7,34 @@ use Rattle.plan_dsl.specs.Ops.{Expression}
 use Rattle.plan_dsl.specs.Plans.{Named}
 use Rattle.plan_dsl.specs.Registry.{Registry}
 use Rattle.plan_dsl.specs.Typing.{Typed, typing}
-use Rattle.plan_coerce.specs.Coercion.{coerced}
+use Rattle.plan_coerce.specs.InlinedCasts.{written_out}
 use Rattle.plan_properties.specs.Splitting.{IsCondition, split_predicate}
 use Rattle.plan_bounds.specs.Counts.{needed_casts, other_nodes, idle_casts}
+use Rattle.plan_bounds.specs.LoweredPlans.{has_wide_horizontals}
 
--- a typed expression with every cast written out has the casts that it needs
-abbrev pub HasNeededCasts : Type 0
-HasNeededCasts =
+-- a typed expression with every cast written out, without those that can be told, has no more casts than it needs
+abbrev pub AddsNeededCasts : Type 0
+AddsNeededCasts =
     (registry : Registry) (schema : Columns) (tree : Expression) (typed : Typed) → typing registry schema tree ≡ Ok typed
-    → expression_casts (coerced registry schema tree) ≡ needed_casts registry schema tree
+    → expression_casts (written_out registry schema tree) ≤ needed_casts registry schema tree
 
--- as many other nodes as before
-abbrev pub KeepsOtherNodes : Type 0
-KeepsOtherNodes =
+-- no more other nodes than before
+abbrev pub AddsNoNode : Type 0
+AddsNoNode =
     (registry : Registry) (schema : Columns) (tree : Expression) (typed : Typed) → typing registry schema tree ≡ Ok typed
-    → other_nodes (coerced registry schema tree) ≡ other_nodes tree
+    → other_nodes (written_out registry schema tree) ≤ other_nodes tree
 
--- and as many casts to the type that is there
-abbrev pub KeepsIdleCasts : Type 0
-KeepsIdleCasts =
+-- no more casts to the type that is there
+abbrev pub AddsNoIdleCast : Type 0
+AddsNoIdleCast =
     (registry : Registry) (schema : Columns) (tree : Expression) (typed : Typed) → typing registry schema tree ≡ Ok typed
-    → idle_casts registry schema (coerced registry schema tree) ≡ idle_casts registry schema tree
+    → idle_casts registry schema (written_out registry schema tree) ≤ idle_casts registry schema tree
+
+-- and no horizontal but wide ones, as before
+abbrev pub LeavesWideHorizontals : Type 0
+LeavesWideHorizontals =
+    (registry : Registry) (schema : Columns) (tree : Expression) (typed : Typed) → typing registry schema tree ≡ Ok typed
+    → IsTrue (has_wide_horizontals tree) × IsTrue (has_wide_horizontals (written_out registry schema tree))
 
 -- a number without a type at the top that gets one, as a plan's node takes it, adds no cast, no node and no idle cast
 abbrev pub SettlingAddsNothing : Type 0

@@ -1,28 +1,36 @@
 //! Worked examples of the definitions. The functions do nothing: their clauses are the examples.
 
-ghost use Rattle.std.specs.Prelude.{◌≡◌, ◌+◌, [], ◌∷◌, length, pos, true, false, Some, None, Ok, Err};
+ghost use Rattle.std.specs.Prelude.{◌≡◌, ◌+◌, [], ◌∷◌, length, map, replicate, codes, pos, true, false, Some, None, Ok, Err};
 ghost use Rattle.plan_types.specs.Types.{TextType, Untyped};
 ghost use Rattle.plan_types.specs.declared.dtype.CastOptions.TheVariants.{NonStrict, Strict};
 ghost use Rattle.plan_types.specs.declared.error.ErrorKind.TheVariants.{InvalidOperation};
-ghost use Rattle.plan_dsl.specs.Ops.{BinaryOp, CastOp, LenOp};
-ghost use Rattle.plan_dsl.specs.Trees.{more, no_more};
+ghost use Rattle.plan_dsl.specs.declared.function_expr.FunctionExpr.TheVariants.{AllHorizontal, AnyHorizontal, IsNull};
+ghost use Rattle.plan_dsl.specs.Aliases.{core};
+ghost use Rattle.plan_dsl.specs.Names.{column_label};
+ghost use Rattle.plan_dsl.specs.Ops.{BinaryOp, CastOp, FunctionOp, LenOp};
+ghost use Rattle.plan_dsl.specs.Trees.{node, more, no_more};
 ghost use Rattle.plan_dsl.specs.declared.operator.Operator.TheVariants.{And, Eq, Plus};
 ghost use Rattle.plan_dsl.specs.Counts.{expression_casts};
-ghost use Rattle.plan_dsl.specs.Plans.{named, over_input};
-ghost use Rattle.plan_dsl.specs.Samples.{alias, cast_as, keep, scan, schema_ab, select, typed_literal};
+ghost use Rattle.plan_dsl.specs.Plans.{named, over_input, select_op};
+ghost use Rattle.plan_dsl.specs.Samples.{alias, call, cast_as, group_by, keep, project, scan, schema_ab, select, stack, typed_literal};
 ghost use Rattle.plan_infer.specs.Samples.{a, b, binary, c, cast_to, five, int16, int32, int8, of_type, sum, two_columns};
 ghost use Rattle.plan_properties.specs.Splitting.{split_predicate};
+ghost use Rattle.plan_bounds.specs.Bounds.{IsBounded};
 ghost use Rattle.plan_bounds.specs.Laws.{in_all};
+ghost use Rattle.plan_bounds.specs.LoweredPlans.{IsLoweredPlan, IsWidePlan, has_wide_horizontals, have_wide_horizontals, is_wide};
 ghost use Rattle.plan_bounds.specs.PlanCounts.{over_inputs, over_schema, plan_idle, plan_needs, plan_size, settled_needs};
+ghost use Rattle.plan_bounds.specs.Samples.{over_two, recorded_select};
+ghost use Rattle.plan_coerce.specs.Samples.{strict_sum};
 ghost use Rattle.plan_bounds.specs.Counts.{all_idle_casts, all_implicit_casts, changed_casts, idle_casts, implicit_casts, is_idle, needed_casts, node_casts, operand_casts, operands_casts, other_nodes, other_nodes_step, ruled_casts};
 
-/// An operand needs a cast where it is taken to another type. A number without a type needs one where the type lacks it.
+/// An operand needs a cast where it is taken to another type. A number without a type needs one where no literal of the type
+/// stands for it.
 pub fn casts_for_operands()
     ensures of_the_type { operand_casts int8 int8 ≡ 0 }
     ensures of_another { operand_casts int8 int32 ≡ 1 }
     ensures number_in_it { operand_casts (Untyped (pos 5)) int8 ≡ 0 }
     ensures number_past_it { operand_casts (Untyped (pos 300)) int8 ≡ 1 }
-    ensures number_as_text { operand_casts (Untyped (pos 5)) TextType ≡ 1 }
+    ensures number_as_text { operand_casts (Untyped (pos 5)) TextType ≡ 0 }
     ensures other_than_itself { changed_casts int8 int8 ≡ 1 }
     ensures each { operands_casts (int8 ∷ int32 ∷ Untyped (pos 5) ∷ int16 ∷ []) (int32 ∷ int32 ∷ int32 ∷ int32 ∷ []) ≡ 2 }
     ensures none { operands_casts [] [] ≡ 0 }
@@ -107,6 +115,17 @@ pub fn plans()
     ensures scan { plan_size (scan schema_ab) ≡ 1 }
 {}
 
+/// A horizontal over one operand is a cast when it is written out, which a query's plan then has: one without effect where
+/// the operand is a truth value. Over two it is a chain. Keys and aggregates count alike, and a simple projection is one node.
+pub fn plans_of_other_kinds()
+    ensures one_operand { plan_needs [] (select (call AnyHorizontal (binary Eq a b ∷ []) ∷ []) (scan schema_ab)) ≡ 2 }
+    ensures without_effect { plan_idle [] (select (call AnyHorizontal (binary Eq a b ∷ []) ∷ []) (scan schema_ab)) ≡ 1 }
+    ensures chain { plan_size (select (call AllHorizontal (binary Eq a b ∷ binary Eq b five ∷ []) ∷ []) (scan schema_ab)) ≡ 9 }
+    ensures hstack { plan_needs [] (stack (sum ∷ cast_to int16 a ∷ []) (scan schema_ab)) ≡ 2 }
+    ensures groups { plan_needs [] (group_by (sum ∷ []) (cast_to int8 b ∷ []) (scan schema_ab)) ≡ 2 }
+    ensures projection { plan_size (project schema_ab (scan schema_ab)) ≡ 2 }
+{}
+
 /// Over a schema, over none, and by the number of the input.
 pub fn expressions_over_inputs()
     ensures schema { over_schema settled_needs [] (Some two_columns) (named sum ∷ named five ∷ named (cast_to int32 five) ∷ []) ≡ 2 }
@@ -116,4 +135,41 @@ pub fn expressions_over_inputs()
     ensures no_such_input { over_inputs settled_needs [] (Some two_columns ∷ []) (over_input 1 (named sum ∷ []) ∷ []) ≡ 0 }
     ensures number { settled_needs [] two_columns five ≡ 0 }
     ensures number_under_an_alias { settled_needs [] two_columns (alias "x" five) ≡ 0 }
+{}
+
+/// A horizontal over 128 operands is wide, and one over fewer is in no expression that is typed: it is written out. Other
+/// nodes aren't asked.
+pub fn wide_horizontals()
+    ensures over_many { map (is_wide (FunctionOp AllHorizontal [])) (0 ∷ 1 ∷ 127 ∷ 128 ∷ 300 ∷ []) ≡ false ∷ false ∷ false ∷ true ∷ true ∷ [] }
+    ensures of_any { map (is_wide (FunctionOp AnyHorizontal (column_label (codes "a") ∷ []))) (1 ∷ 128 ∷ []) ≡ false ∷ true ∷ [] }
+    ensures other_nodes { is_wide (FunctionOp IsNull []) 1 ≡ true }
+    ensures no_functions { is_wide LenOp 0 ≡ true }
+    ensures sum { has_wide_horizontals sum ≡ true }
+    ensures few { has_wide_horizontals (call AllHorizontal (a ∷ b ∷ [])) ≡ false }
+    ensures few_below { has_wide_horizontals (alias "x" (call AnyHorizontal [])) ≡ false }
+    ensures written_out { has_wide_horizontals (core (call AllHorizontal (a ∷ call AnyHorizontal [] ∷ []))) ≡ true }
+    ensures many { has_wide_horizontals (call AllHorizontal (replicate 128 a)) ≡ true }
+    ensures each { have_wide_horizontals (more sum (more a no_more)) ≡ true }
+    ensures one_of_them { have_wide_horizontals (more sum (more (call AnyHorizontal []) no_more)) ≡ false }
+{}
+
+/// A select of the sum with its cast written out is a lowered plan. One without it isn't strict, and one with a horizontal
+/// over few operands isn't wide.
+pub fn lowered_plans()
+    ensures scan { IsLoweredPlan [] (scan schema_ab) }
+    ensures sum { IsLoweredPlan [] (recorded_select strict_sum int32 (scan schema_ab)) }
+    ensures wide { IsWidePlan (select (sum ∷ a ∷ []) (scan schema_ab)) }
+    ensures without_the_cast { ¬ (IsLoweredPlan [] (recorded_select sum int32 (scan schema_ab))) }
+    ensures narrow { ¬ (IsWidePlan (keep a (node (select_op (over_two ∷ []) None) (more (scan schema_ab) no_more)))) }
+{}
+
+/// A query's plan that needs one cast bounds those that have it or none, and no other casts, no cast to the type that is
+/// there, and no further node.
+pub fn bounded_plans()
+    ensures itself { IsBounded [] (scan schema_ab) (scan schema_ab) }
+    ensures sum { IsBounded [] (select (sum ∷ []) (scan schema_ab)) (select (strict_sum ∷ []) (scan schema_ab)) }
+    ensures smaller { IsBounded [] (select (sum ∷ []) (scan schema_ab)) (select (a ∷ []) (scan schema_ab)) }
+    ensures both_casts { ¬ (IsBounded [] (select (sum ∷ []) (scan schema_ab)) (select (binary Plus (cast_to int32 a) (cast_to int32 b) ∷ []) (scan schema_ab))) }
+    ensures idle_cast { ¬ (IsBounded [] (select (sum ∷ []) (scan schema_ab)) (select (cast_to int8 a ∷ []) (scan schema_ab))) }
+    ensures further_node { ¬ (IsBounded [] (scan schema_ab) (select (a ∷ []) (scan schema_ab))) }
 {}

@@ -1,18 +1,22 @@
 //! Laws of the definitions. The functions do nothing: their clauses are the laws.
-ghost use Rattle.plan_bounds.specs.Laws.{HasNeededCasts, KeepsIdleCasts, KeepsOtherNodes, SettlingAddsNothing, SplittingAddsNoNode, SplittingKeepsCasts, SplittingKeepsIdleCasts, SplittingKeepsSize};
-ghost use Rattle.plan_bounds.specs.PlanLaws.{StrictPlansHaveNeededCasts};
+ghost use Rattle.plan_bounds.specs.Laws.{AddsNeededCasts, AddsNoIdleCast, AddsNoNode, LeavesWideHorizontals, SettlingAddsNothing, SplittingAddsNoNode, SplittingKeepsCasts, SplittingKeepsIdleCasts, SplittingKeepsSize};
+ghost use Rattle.plan_bounds.specs.PlanLaws.{StrictPlansAreWide, StrictPlansHaveNeededCasts};
 
-/// A typed expression with every cast written out has the casts that it needs: those that the query wrote, and one for each
-/// operand of another type than the one to which it is taken, but for a number without a type that the type has. It has as
-/// many other nodes as before, and as many casts to the type that their operand has. A number without a type at the top that
-/// gets one, before it is coerced, adds nothing. So a plan whose expressions are strict, as a lowered one's are, needs no
-/// casts but those that it has.
+/// A typed expression with every cast written out, without those that can be told beforehand, has no more casts than it
+/// needs: those that the query wrote, and one for each operand of another type than the one to which it is taken, but for a
+/// number without a type for which a literal of the type stands. It has no more other nodes than before, and no more casts to
+/// the type that their operand has. Each horizontal in it is over 128 operands at least, as before: one over fewer has no
+/// type, and was written out. A number without a type at the top that gets one, before casts are written out, adds nothing. So
+/// a plan whose expressions are strict, as a lowered one's are, needs no casts but those that it has, and has no horizontal
+/// over fewer operands.
 pub fn coercion_bounds()
-    ensures casts { HasNeededCasts }
-    ensures other_nodes { KeepsOtherNodes }
-    ensures idle { KeepsIdleCasts }
+    ensures casts { AddsNeededCasts }
+    ensures other_nodes { AddsNoNode }
+    ensures idle { AddsNoIdleCast }
+    ensures written { LeavesWideHorizontals }
     ensures settled { SettlingAddsNothing }
     ensures plans { StrictPlansHaveNeededCasts }
+    ensures wide_plans { StrictPlansAreWide }
 {}
 
 /// The parts to which a filter is split have together the casts of the whole, no more other nodes, and as many casts to the

@@ -16,7 +16,6 @@ use Rattle.plan_arena.proofs.DenotationLemmas.{denotes_one, some_same}
 use Rattle.plan_arena.proofs.ItemLemmas.{expression_laws, layer_inputs}
 use Rattle.std.proofs.Common.{map}
 use Rattle.plan_coerce.specs.Reaching.{Among, IsReached, ReachedBy}
-use Rattle.plan_coerce.specs.Rules.{Inputs}
 use Rattle.plan_coerce.proofs.CountLemmas.{under as reached_under}
 use Rattle.plan_coerce.proofs.TurnLemmas.{AllSettledBut, SettledBut}
 
@@ -41,9 +40,9 @@ module _ (items items' : List AExpr) (at : ℕ) (keeps : (n : ℕ) (op : Op) (in
     all_unreached (n ∷ ns) no_more d away = absurd d
 
   -- and stays settled but for what waits
-  module _ (is_settled : Op → Inputs → Bool) (registry : Registry) (schema : Columns) (tops tops' : List ℕ) (waits : (n : ℕ) → n ≢ at → Among tops n → Among tops' n) where
+  module _ (is_settled : Expression → Bool) (tops tops' : List ℕ) (waits : (n : ℕ) → n ≢ at → Among tops n → Among tops' n) where
     mutual
-      pub settled_unreached : (n : ℕ) (t : Expression) → SettledBut is_settled registry schema items tops n t → (IsReached items (n ∷ []) at → ⊥) → SettledBut is_settled registry schema items' tops' n t
+      pub settled_unreached : (n : ℕ) (t : Expression) → SettledBut is_settled items tops n t → (IsReached items (n ∷ []) at → ⊥) → SettledBut is_settled items' tops' n t
       settled_unreached n (node op ts) s away =
           let other : n ≢ at = λ e. away (itself_reached items n at e) in
           ⊎_elim
@@ -51,7 +50,7 @@ module _ (items items' : List AExpr) (at : ℕ) (keeps : (n : ℕ) (op : Op) (in
           (λ h. inr (h.0, keeps n op h.0 other h.1, h.2, all_settled_unreached h.0 ts h.3 (λ m a r. away (input_reaches items n m at op h.0 h.1 a r))))
           s
 
-      all_settled_unreached : (ns : List ℕ) (ts : Trees Op) → AllSettledBut is_settled registry schema items tops ns ts → ((m : ℕ) → Among ns m → IsReached items (m ∷ []) at → ⊥) → AllSettledBut is_settled registry schema items' tops' ns ts
+      all_settled_unreached : (ns : List ℕ) (ts : Trees Op) → AllSettledBut is_settled items tops ns ts → ((m : ℕ) → Among ns m → IsReached items (m ∷ []) at → ⊥) → AllSettledBut is_settled items' tops' ns ts
       all_settled_unreached [] no_more s away = tt
       all_settled_unreached (n ∷ ns) (more t ts) s away = (settled_unreached n t s.0 (away n (inl refl)), all_settled_unreached ns ts s.1 (λ m a. away m (inr a)))
       all_settled_unreached [] (more t ts) s away = absurd s

@@ -200,7 +200,7 @@ module _ (registry : Registry) (schema : Columns) (old new : List AExpr) (table 
       (reached_near old (at ∷ []) (set new at item) (at ∷ []) n closed (root_near old at, tt) reached)
 
   -- a number that gets its type
-  pub number_replaced : (number : ℤ) → ty own.dtype ≡ Untyped number → IsClosed old [] new → (t : Expression) → Denotes (HoldsExpression old) at t → (HasType (typing registry schema t) (Untyped number) → Denotes (HoldsExpression (set new at item)) at (settled t)) → IsReplacement (HasSameCasts registry schema) (until_strict registry schema) registry schema old (set new at item) at t
+  pub number_replaced : (number : ℤ) → ty own.dtype ≡ Untyped number → IsClosed old [] new → (t : Expression) → Denotes (HoldsExpression old) at t → (HasType (typing registry schema t) (Untyped number) → Denotes (HoldsExpression (set new at item)) at (settled t)) → IsReplacement (HasSameCasts registry schema) (said (until_strict registry schema) registry schema) registry schema old (set new at item) at t
   number_replaced number is apart t d settles =
       let typed = kept_typing registry schema old table right at own keeps t d in
       let number_typed = typed ∙ ap (λ x. Ok (record { type = x; many = own.many })) is in
@@ -224,7 +224,7 @@ module _ (registry : Registry) (schema : Columns) (old new : List AExpr) (table 
       }
 
   -- a node over operands that were made of their types
-  pub node_replaced : is_known (ty own.dtype) ≡ true → own.operands.items ≢ [] → (over : IsOverOperands old new table table' at item) → false ≡ same_types (types_of (typings_at table (inputs_of (expression_layer over.before)))) (map ty own.operands.items) → IsRight registry schema (set new at item) table' → (t : Expression) → Denotes (HoldsExpression old) at t → IsReplacement (HasSameCasts registry schema) (until_strict registry schema) registry schema old (set new at item) at t
+  pub node_replaced : is_known (ty own.dtype) ≡ true → own.operands.items ≢ [] → (over : IsOverOperands old new table table' at item) → false ≡ same_types (types_of (typings_at table (inputs_of (expression_layer over.before)))) (map ty own.operands.items) → IsRight registry schema (set new at item) table' → (t : Expression) → Denotes (HoldsExpression old) at t → IsReplacement (HasSameCasts registry schema) (said (until_strict registry schema) registry schema) registry schema old (set new at item) at t
   node_replaced known some over differs placed t d =
       let typed = kept_typing registry schema old table right at own keeps t d in
       let loose = listed_strict registry schema old table right at own keeps over.before over.got some known false differs t d in

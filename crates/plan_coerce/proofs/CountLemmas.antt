@@ -19,7 +19,6 @@ use Rattle.plan_arena.proofs.DenotationLemmas.{denotes_one, some_same}
 use Rattle.plan_arena.proofs.ItemLemmas.{expression_laws, grown_held, layer_inputs, length-grown}
 use Rattle.plan_coerce.specs.Optimizer.{AreApart}
 use Rattle.plan_coerce.specs.Reaching.{Among, AreOnce, HasNodes, HaveNodes, IsReached, ReachedBy}
-use Rattle.plan_coerce.specs.Rules.{Inputs, said, seen}
 use Rattle.plan_coerce.specs.Turns.{IsFound, IsPlaced, IsTurn, finds, places}
 use Rattle.plan_coerce.proofs.OnceLemmas.{among_back, among_front, among_split, nodes_kept, nodes_unwritten, nodes_within, once_apart, once_back, once_front, once_joined}
 use Rattle.plan_coerce.proofs.ReachLemmas.{reached_near, root_near}
@@ -109,46 +108,43 @@ module _ (items : List AExpr) where
 
 -- Each node that waits has been replaced so often, and may be as often again as its measure says; together they come to
 -- the number, and these are the nodes of their trees.
-abbrev pub Owing : (Op → Inputs → ℕ) → Registry → Columns → ℕ → List AExpr → List ℕ → List ℕ → ℕ → Type 0
-Owing measure registry schema limit items [] ns owed = (ns ≡ []) × (owed ≡ 0)
-Owing measure registry schema limit items (n ∷ rest) ns owed =
-    (t : Expression) × (front : List ℕ) × (back : List ℕ) × (k : ℕ) × (others : ℕ) × (ns ≡ front ++ back) × (owed ≡ k + others) × HasNodes items n t front × (k + said measure registry schema t ≤ limit) × Owing measure registry schema limit items rest back others
+abbrev pub Owing : (Expression → ℕ) → ℕ → List AExpr → List ℕ → List ℕ → ℕ → Type 0
+Owing measure limit items [] ns owed = (ns ≡ []) × (owed ≡ 0)
+Owing measure limit items (n ∷ rest) ns owed =
+    (t : Expression) × (front : List ℕ) × (back : List ℕ) × (k : ℕ) × (others : ℕ) × (ns ≡ front ++ back) × (owed ≡ k + others) × HasNodes items n t front × (k + measure t ≤ limit) × Owing measure limit items rest back others
 
-module _ (measure : Op → Inputs → ℕ) (registry : Registry) (schema : Columns) (limit : ℕ) where
-  owing_joined : (items : List AExpr) (ms ns xs ys : List ℕ) (a b : ℕ) → Owing measure registry schema limit items ms xs a → Owing measure registry schema limit items ns ys b → Owing measure registry schema limit items (ms ++ ns) (xs ++ ys) (a + b)
+module _ (measure : Expression → ℕ) (limit : ℕ) where
+  owing_joined : (items : List AExpr) (ms ns xs ys : List ℕ) (a b : ℕ) → Owing measure limit items ms xs a → Owing measure limit items ns ys b → Owing measure limit items (ms ++ ns) (xs ++ ys) (a + b)
   owing_joined items [] ns xs ys a b h k =
       let sum : b ≡ a + b = omega (arith, h.1) in
-      subst (λ l. Owing measure registry schema limit items ns (l ++ ys) (a + b)) (sym h.0) (subst (Owing measure registry schema limit items ns ys) sum k)
+      subst (λ l. Owing measure limit items ns (l ++ ys) (a + b)) (sym h.0) (subst (Owing measure limit items ns ys) sum k)
   owing_joined items (m ∷ ms) ns xs ys a b h k =
       let rest = owing_joined items ms ns h.2 ys h.4 b h.9 k in
       (h.0, h.1, h.2 ++ ys, h.3, h.4 + b, ap (λ l. l ++ ys) h.5 ∙ append_assoc h.1 h.2 ys, omega (arith, h.6), h.7, h.8, rest)
 
   -- nodes that are kept
-  owing_kept : (items items' : List AExpr) → ((n : ℕ) (op : Op) (inputs : List ℕ) → HoldsExpression items n op inputs → HoldsExpression items' n op inputs) → (ns xs : List ℕ) (owed : ℕ) → Owing measure registry schema limit items ns xs owed → Owing measure registry schema limit items' ns xs owed
+  owing_kept : (items items' : List AExpr) → ((n : ℕ) (op : Op) (inputs : List ℕ) → HoldsExpression items n op inputs → HoldsExpression items' n op inputs) → (ns xs : List ℕ) (owed : ℕ) → Owing measure limit items ns xs owed → Owing measure limit items' ns xs owed
   owing_kept items items' keeps [] xs owed h = h
   owing_kept items items' keeps (n ∷ ns) xs owed h =
       (h.0, h.1, h.2, h.3, h.4, h.5, h.6, nodes_kept items items' keeps n h.0 h.1 h.7, h.8, owing_kept items items' keeps ns h.2 h.4 h.9)
 
-  owing_unwritten : (items : List AExpr) (at : ℕ) (item : AExpr) (ns xs : List ℕ) (owed : ℕ) → Owing measure registry schema limit items ns xs owed → (Among xs at → ⊥) → Owing measure registry schema limit (set items at item) ns xs owed
+  owing_unwritten : (items : List AExpr) (at : ℕ) (item : AExpr) (ns xs : List ℕ) (owed : ℕ) → Owing measure limit items ns xs owed → (Among xs at → ⊥) → Owing measure limit (set items at item) ns xs owed
   owing_unwritten items at item [] xs owed h apart = h
   owing_unwritten items at item (n ∷ ns) xs owed h apart =
       let front : Among h.1 at → ⊥ = λ a. apart (subst (λ l. Among l at) (sym h.5) (among_front h.1 h.2 at a)) in
       let back : Among h.2 at → ⊥ = λ a. apart (subst (λ l. Among l at) (sym h.5) (among_back h.1 h.2 at a)) in
       (h.0, h.1, h.2, h.3, h.4, h.5, h.6, nodes_unwritten items at item n h.0 h.1 h.7 front, h.8, owing_unwritten items at item ns h.2 h.4 h.9 back)
 
-  owing_within : (items : List AExpr) (ns xs : List ℕ) (owed : ℕ) → Owing measure registry schema limit items ns xs owed → (m : ℕ) → Among xs m → m < length items
+  owing_within : (items : List AExpr) (ns xs : List ℕ) (owed : ℕ) → Owing measure limit items ns xs owed → (m : ℕ) → Among xs m → m < length items
   owing_within items [] xs owed h m a = absurd (subst (λ l. Among l m) h.0 a)
   owing_within items (n ∷ ns) xs owed h m a =
       ⊎_elim (λ b. nodes_within items n h.0 h.1 h.7 m b) (λ b. owing_within items ns h.2 h.4 h.9 m b) (among_split h.1 h.2 m (subst (λ l. Among l m) h.5 a))
 
   -- new work owes nothing yet
-  module _ (bounded : (op : Op) (inputs : Inputs) → measure op inputs ≤ limit) where
-    said_bounded : (t : Expression) → said measure registry schema t ≤ limit
-    said_bounded (node op ts) = bounded op (seen registry schema ts)
-
-    owing_new : (items : List AExpr) (ns : List ℕ) (ts : Trees Op) (xs : List ℕ) → HaveNodes items ns ts xs → Owing measure registry schema limit items ns xs 0
+  module _ (bounded : (t : Expression) → measure t ≤ limit) where
+    owing_new : (items : List AExpr) (ns : List ℕ) (ts : Trees Op) (xs : List ℕ) → HaveNodes items ns ts xs → Owing measure limit items ns xs 0
     owing_new items [] no_more xs h = (h, refl)
-    owing_new items (n ∷ ns) (more t ts) xs h = (t, h.0, h.1, 0, 0, h.2, refl, h.3, omega (arith, said_bounded t), owing_new items ns ts h.1 h.4)
+    owing_new items (n ∷ ns) (more t ts) xs h = (t, h.0, h.1, 0, 0, h.2, refl, h.3, omega (arith, bounded t), owing_new items ns ts h.1 h.4)
     owing_new items [] (more t ts) xs h = absurd h
     owing_new items (n ∷ ns) no_more xs h = absurd h
 
@@ -156,7 +152,7 @@ module _ (measure : Op → Inputs → ℕ) (registry : Registry) (schema : Colum
   some_nodes items n (node op ts) ns h = omega (arith, ap length h.3)
 
   -- what is owed is little beside the nodes
-  owed_bound : (cost : ℕ) → cost ≡ 2 * limit + 2 → (items : List AExpr) (ns xs : List ℕ) (owed : ℕ) → Owing measure registry schema limit items ns xs owed → 2 * owed ≤ cost * length xs
+  owed_bound : (cost : ℕ) → cost ≡ 2 * limit + 2 → (items : List AExpr) (ns xs : List ℕ) (owed : ℕ) → Owing measure limit items ns xs owed → 2 * owed ≤ cost * length xs
   owed_bound cost is items [] xs owed h = omega (arith, h.1)
   owed_bound cost is items (n ∷ ns) xs owed h =
       let rest = owed_bound cost is items ns h.2 h.4 h.9 in
@@ -194,62 +190,62 @@ once_bounded : (ns : List ℕ) (bound : ℕ) → AreOnce ns → ((m : ℕ) → A
 once_bounded ns bound once below = length-le_from_distinct_below ns bound (once_distinct ns once) (λ q h. below q (any_among ns q h))
 
 -- the steps so far: the nodes that were visited and those of the trees that wait are in the arena, none twice
-pub record Counted (measure : Op → Inputs → ℕ) (registry : Registry) (schema : Columns) (limit cost : ℕ) (items : List AExpr) (tops : List ℕ) (start steps : ℕ) : Type 0 where
+pub record Counted (measure : Expression → ℕ) (limit cost : ℕ) (items : List AExpr) (tops : List ℕ) (start steps : ℕ) : Type 0 where
   pub visited : List ℕ
   pub ns : List ℕ
   pub owed : ℕ
-  pub owing : Owing measure registry schema limit items tops ns owed
+  pub owing : Owing measure limit items tops ns owed
   pub once : AreOnce (visited ++ ns)
   pub within : (m : ℕ) → Among visited m → m < length items
   pub bound : steps ≤ start + cost * length visited + 2 * owed
 
-module _ (measure : Op → Inputs → ℕ) (registry : Registry) (schema : Columns) (limit cost : ℕ) (cost_is : cost ≡ 2 * limit + 2) where
-  owing_turned : (items : List AExpr) (ns xs : List ℕ) (owed : ℕ) → Owing measure registry schema limit items ns xs owed → AreOnce xs → (ys : List ℕ) × Owing measure registry schema limit items (reverse ns) ys owed × AreOnce ys × ((m : ℕ) → Among ys m → Among xs m)
+module _ (measure : Expression → ℕ) (limit cost : ℕ) (cost_is : cost ≡ 2 * limit + 2) where
+  owing_turned : (items : List AExpr) (ns xs : List ℕ) (owed : ℕ) → Owing measure limit items ns xs owed → AreOnce xs → (ys : List ℕ) × Owing measure limit items (reverse ns) ys owed × AreOnce ys × ((m : ℕ) → Among ys m → Among xs m)
   owing_turned items [] xs owed h once = (xs, h, once, λ m a. a)
   owing_turned items (n ∷ ns) xs owed h once =
       let parted = subst AreOnce h.5 once in
       let r = owing_turned items ns h.2 h.4 h.9 (once_back h.1 h.2 parted) in
-      let one : Owing measure registry schema limit items (n ∷ []) h.1 h.3 = (h.0, h.1, [], h.3, 0, sym (append-nil h.1), omega arith, h.7, h.8, (refl, refl)) in
-      let both = owing_joined measure registry schema limit items (reverse ns) (n ∷ []) r.0 h.1 h.4 h.3 r.1 one in
+      let one : Owing measure limit items (n ∷ []) h.1 h.3 = (h.0, h.1, [], h.3, 0, sym (append-nil h.1), omega arith, h.7, h.8, (refl, refl)) in
+      let both = owing_joined measure limit items (reverse ns) (n ∷ []) r.0 h.1 h.4 h.3 r.1 one in
       let sum : h.4 + h.3 ≡ owed = omega (arith, h.6) in (
         r.0 ++ h.1,
-        subst (λ l. Owing measure registry schema limit items l (r.0 ++ h.1) owed) (sym (reverse_onto ns n [])) (subst (Owing measure registry schema limit items (reverse ns ++ n ∷ []) (r.0 ++ h.1)) sum both),
+        subst (λ l. Owing measure limit items l (r.0 ++ h.1) owed) (sym (reverse_onto ns n [])) (subst (Owing measure limit items (reverse ns ++ n ∷ []) (r.0 ++ h.1)) sum both),
         once_joined r.0 h.1 r.2 (once_front h.1 h.2 parted) (λ m a b. once_apart h.1 h.2 m parted b (r.3 m a)),
         λ m a. subst (λ l. Among l m) (sym h.5) (⊎_elim (λ b. among_back h.1 h.2 m (r.3 m b)) (λ b. among_front h.1 h.2 m b) (among_split r.0 h.1 m a)),
       )
 
-  pub counted_start : ((op : Op) (inputs : Inputs) → measure op inputs ≤ limit) → (items : List AExpr) (roots : List ℕ) (start : ℕ) → AreApart items roots → Counted measure registry schema limit cost items (reverse roots) start start
+  pub counted_start : ((t : Expression) → measure t ≤ limit) → (items : List AExpr) (roots : List ℕ) (start : ℕ) → AreApart items roots → Counted measure limit cost items (reverse roots) start start
   counted_start bounded items roots start apart =
-      let r = owing_turned items roots apart.nodes 0 (owing_new measure registry schema limit bounded items roots apart.trees apart.nodes apart.have) apart.once in
+      let r = owing_turned items roots apart.nodes 0 (owing_new measure limit bounded items roots apart.trees apart.nodes apart.have) apart.once in
       record { visited = []; ns = r.0; owed = 0; owing = r.1; once = r.2; within = λ m a. absurd a; bound = omega arith }
 
   -- the end, and a refusal
-  all_counted : (items : List AExpr) (tops : List ℕ) (start steps : ℕ) (c : Counted measure registry schema limit cost items tops start steps) → cost * length c.visited + cost * length c.ns ≤ cost * length items
+  all_counted : (items : List AExpr) (tops : List ℕ) (start steps : ℕ) (c : Counted measure limit cost items tops start steps) → cost * length c.visited + cost * length c.ns ≤ cost * length items
   all_counted items tops start steps c =
-      let count = once_bounded (c.visited ++ c.ns) (length items) c.once (λ m a. ⊎_elim (λ b. c.within m b) (λ b. owing_within measure registry schema limit items tops c.ns c.owed c.owing m b) (among_split c.visited c.ns m a)) in
+      let count = once_bounded (c.visited ++ c.ns) (length items) c.once (λ m a. ⊎_elim (λ b. c.within m b) (λ b. owing_within measure limit items tops c.ns c.owed c.owing m b) (among_split c.visited c.ns m a)) in
       let both = mul-le-mul_left cost count in
       let whole : cost * length (c.visited ++ c.ns) ≡ cost * length c.visited + cost * length c.ns = ap (λ k. cost * k) (length-append c.visited c.ns) ∙ mul-add cost (length c.visited) (length c.ns) in
       omega (arith, both, whole)
 
-  pub counted_end : (items : List AExpr) (tops : List ℕ) (start steps : ℕ) → Counted measure registry schema limit cost items tops start steps → steps ≤ start + cost * length items
+  pub counted_end : (items : List AExpr) (tops : List ℕ) (start steps : ℕ) → Counted measure limit cost items tops start steps → steps ≤ start + cost * length items
   counted_end items tops start steps c =
-      let owed = owed_bound measure registry schema limit cost cost_is items tops c.ns c.owed c.owing in
+      let owed = owed_bound measure limit cost cost_is items tops c.ns c.owed c.owing in
       let all = all_counted items tops start steps c in
       omega (arith, c.bound, owed, all)
 
-  pub counted_stops : (items items' : List AExpr) (at : ℕ) (rest : List ℕ) (start steps now : ℕ) → Counted measure registry schema limit cost items (at ∷ rest) start steps → length items ≤ length items' → now ≤ steps + 2 → now ≤ start + cost * length items'
+  pub counted_stops : (items items' : List AExpr) (at : ℕ) (rest : List ℕ) (start steps now : ℕ) → Counted measure limit cost items (at ∷ rest) start steps → length items ≤ length items' → now ≤ steps + 2 → now ≤ start + cost * length items'
   counted_stops items items' at rest start steps now c longer few =
       let h = c.owing in
-      let others = owed_bound measure registry schema limit cost cost_is items rest h.2 h.4 h.9 in
-      let some = some_nodes measure registry schema limit items at h.0 h.1 h.7 in
+      let others = owed_bound measure limit cost cost_is items rest h.2 h.4 h.9 in
+      let some = some_nodes measure limit items at h.0 h.1 h.7 in
       let front : cost * 1 ≤ cost * length h.1 = mul-le-mul_left cost some in
       let whole : cost * length c.ns ≡ cost * length h.1 + cost * length h.2 = ap (λ l. cost * length l) h.5 ∙ ap (λ k. cost * k) (length-append h.1 h.2) ∙ mul-add cost (length h.1) (length h.2) in
       let all = all_counted items (at ∷ rest) start steps c in
       let grown : cost * length items ≤ cost * length items' = mul-le-mul_left cost longer in
       omega (arith, c.bound, few, others, front, whole, all, grown, h.6, h.8, cost_is)
 
-  module _ (is_settled : Op → Inputs → Bool) (related : Expression → Expression → Type 0) (turns : Option ℕ) (is : turns ≡ Some limit) (bounded : (op : Op) (inputs : Inputs) → measure op inputs ≤ limit) (items items' : List AExpr) (at : ℕ) (rest : List ℕ) (start steps : ℕ) (c : Counted measure registry schema limit cost items (at ∷ rest) start steps) where
-    counted_places : IsPlaced is_settled measure related turns registry schema items items' at → Counted measure registry schema limit cost items' (at ∷ rest) start (steps + 2)
+  module _ (is_settled : Expression → Bool) (related : Expression → Expression → Type 0) (turns : Option ℕ) (is : turns ≡ Some limit) (registry : Registry) (schema : Columns) (bounded : (t : Expression) → measure t ≤ limit) (items items' : List AExpr) (at : ℕ) (rest : List ℕ) (start steps : ℕ) (c : Counted measure limit cost items (at ∷ rest) start steps) where
+    counted_places : IsPlaced is_settled measure related turns registry schema items items' at → Counted measure limit cost items' (at ∷ rest) start (steps + 2)
     counted_places p =
         let h = c.owing in
         let vs = c.visited in
@@ -258,16 +254,16 @@ module _ (measure : Op → Inputs → ℕ) (registry : Registry) (schema : Colum
         let u = p.once limit is h.0 h.1 h.7 (once_front h.1 h.2 waiting) in
         let rep = p.answer h.0 (nodes_denote items at h.0 h.1 h.7) in
         let one = denotes_one (shape_of (map expression_layer items')) (HoldsExpression items') (expression_laws items') at rep.tree u.0 rep.denotes (nodes_denote items' at u.0 u.1 u.2) in
-        let falls = subst (λ t. said measure registry schema t < said measure registry schema h.0) one rep.falls in
+        let falls = subst (λ t. measure t < measure h.0) one rep.falls in
         let near : (m : ℕ) → Among u.1 m → Among h.1 m ⊎ (length items ≤ m) = λ m a. ⊎_elim
         (λ le. inr le)
         (λ r. inl (reached_among items at h.0 h.1 h.7 m r))
         (reached_near items (at ∷ []) items' (at ∷ []) m (p.reaches limit is) (root_near items at, tt) (among_reached items' at u.0 u.1 u.2 m a)) in
         let longer : length items ≤ length items' = omega (arith, length-grown items p.grown p.grows, ap length p.is, length-set p.grown at p.item) in
         let apart : Among h.2 at → ⊥ = λ a. once_apart h.1 h.2 at waiting (root_among items at h.0 h.1 h.7) a in
-        let kept = owing_kept measure registry schema limit items p.grown (grown_held items p.grown p.grows) rest h.2 h.4 h.9 in
-        let others = subst (λ l. Owing measure registry schema limit l rest h.2 h.4) (sym p.is) (owing_unwritten measure registry schema limit p.grown at p.item rest h.2 h.4 kept apart) in
-        let lower : (m : ℕ) → Among h.2 m → m < length items = λ m b. owing_within measure registry schema limit items rest h.2 h.4 h.9 m b in
+        let kept = owing_kept measure limit items p.grown (grown_held items p.grown p.grows) rest h.2 h.4 h.9 in
+        let others = subst (λ l. Owing measure limit l rest h.2 h.4) (sym p.is) (owing_unwritten measure limit p.grown at p.item rest h.2 h.4 kept apart) in
+        let lower : (m : ℕ) → Among h.2 m → m < length items = λ m b. owing_within measure limit items rest h.2 h.4 h.9 m b in
         let ends : AreOnce (u.1 ++ h.2) = once_joined u.1 h.2 u.3 (once_back h.1 h.2 waiting) (λ m a b. ⊎_elim (λ f. once_apart h.1 h.2 m waiting f b) (λ le. omega (arith, le, lower m b)) (near m a)) in
         record {
           visited = vs;
@@ -282,7 +278,7 @@ module _ (measure : Op → Inputs → ℕ) (registry : Registry) (schema : Colum
           bound = omega (arith, c.bound, h.6);
         }
 
-    counted_found : (t : Expression) (front back : List ℕ) (k others : ℕ) → c.ns ≡ front ++ back → c.owed ≡ k + others → HasNodes items at t front → k + said measure registry schema t ≤ limit → Owing measure registry schema limit items rest back others → IsFound is_settled registry schema items items' at → (inputs : List ℕ) × (op : Op) × HoldsExpression items' at op inputs × Counted measure registry schema limit cost items' (inputs ++ rest) start (steps + 1)
+    counted_found : (t : Expression) (front back : List ℕ) (k others : ℕ) → c.ns ≡ front ++ back → c.owed ≡ k + others → HasNodes items at t front → k + measure t ≤ limit → Owing measure limit items rest back others → IsFound is_settled items items' at → (inputs : List ℕ) × (op : Op) × HoldsExpression items' at op inputs × Counted measure limit cost items' (inputs ++ rest) start (steps + 1)
     counted_found (node op ts) front back k others ns_is owed_is has most owing found =
         let keeps = grown_held items items' (found_grows found) in
         let vs = c.visited in
@@ -297,27 +293,27 @@ module _ (measure : Op → Inputs → ℕ) (registry : Registry) (schema : Colum
             visited = at ∷ vs;
             ns = here.1 ++ back;
             owed = others;
-            owing = let none : 0 + others ≡ others = omega arith in subst (Owing measure registry schema limit items' (here.0 ++ rest) (here.1 ++ back)) none (owing_joined measure registry schema limit items' here.0 rest here.1 back 0 others (owing_new measure registry schema limit bounded items' here.0 ts here.1 here.4) (owing_kept measure registry schema limit items items' keeps rest back others owing));
+            owing = let none : 0 + others ≡ others = omega arith in subst (Owing measure limit items' (here.0 ++ rest) (here.1 ++ back)) none (owing_joined measure limit items' here.0 rest here.1 back 0 others (owing_new measure limit bounded items' here.0 ts here.1 here.4) (owing_kept measure limit items items' keeps rest back others owing));
             once = once_moved vs at (here.1 ++ back) all;
             within = λ m a. ⊎_elim (λ e. omega (arith, e, nodes_within items at (node op ts) front has at (root_among items at (node op ts) front has), longer)) (λ b. omega (arith, c.within m b, longer)) a;
             bound = omega (arith, c.bound, owed_is, most, paid, cost_is);
           },
         )
 
-    counted_finds : (tops : List ℕ) → IsFound is_settled registry schema items items' at → ((op : Op) (inputs : List ℕ) → HoldsExpression items' at op inputs → tops ≡ inputs ++ rest) → Counted measure registry schema limit cost items' tops start (steps + 1)
+    counted_finds : (tops : List ℕ) → IsFound is_settled items items' at → ((op : Op) (inputs : List ℕ) → HoldsExpression items' at op inputs → tops ≡ inputs ++ rest) → Counted measure limit cost items' tops start (steps + 1)
     counted_finds tops found pushed =
         let h = c.owing in
         let r = counted_found h.0 h.1 h.2 h.3 h.4 h.5 h.6 h.7 h.8 h.9 found in
-        subst (λ l. Counted measure registry schema limit cost items' l start (steps + 1)) (sym (pushed r.1 r.0 r.2)) r.3
+        subst (λ l. Counted measure limit cost items' l start (steps + 1)) (sym (pushed r.1 r.0 r.2)) r.3
 
-  pub counted_turn : (is_settled : Op → Inputs → Bool) (related : Expression → Expression → Type 0) (turns : Option ℕ) → turns ≡ Some limit → ((op : Op) (inputs : Inputs) → measure op inputs ≤ limit) → (items items' : List AExpr) (at : ℕ) (rest stack : List ℕ) (start before steps : ℕ) → IsTurn is_settled measure related turns registry schema items items' at rest stack before steps → Counted measure registry schema limit cost items (reverse (rest ++ at ∷ [])) start before → Counted measure registry schema limit cost items' (reverse stack) start steps
-  counted_turn is_settled related turns is bounded items items' at rest stack start before steps turn c =
-      let q = subst (λ l. Counted measure registry schema limit cost items l start before) (top_first rest at) c in
-      elim turn as (λ _. Counted measure registry schema limit cost items' (reverse stack) start steps) [
+  pub counted_turn : (is_settled : Expression → Bool) (related : Expression → Expression → Type 0) (turns : Option ℕ) → turns ≡ Some limit → (registry : Registry) (schema : Columns) → ((t : Expression) → measure t ≤ limit) → (items items' : List AExpr) (at : ℕ) (rest stack : List ℕ) (start before steps : ℕ) → IsTurn is_settled measure related turns registry schema items items' at rest stack before steps → Counted measure limit cost items (reverse (rest ++ at ∷ [])) start before → Counted measure limit cost items' (reverse stack) start steps
+  counted_turn is_settled related turns is registry schema bounded items items' at rest stack start before steps turn c =
+      let q = subst (λ l. Counted measure limit cost items l start before) (top_first rest at) c in
+      elim turn as (λ _. Counted measure limit cost items' (reverse stack) start steps) [
         | places placed over counted ↦
-            let now = counted_places is_settled related turns is bounded items items' at (reverse rest) start before q placed in
-            subst (λ l. Counted measure registry schema limit cost items' l start steps) (sym (ap reverse over ∙ top_first rest at)) (subst (Counted measure registry schema limit cost items' (at ∷ reverse rest) start) (sym counted) now)
+            let now = counted_places is_settled related turns is registry schema bounded items items' at (reverse rest) start before q placed in
+            subst (λ l. Counted measure limit cost items' l start steps) (sym (ap reverse over ∙ top_first rest at)) (subst (Counted measure limit cost items' (at ∷ reverse rest) start) (sym counted) now)
         | finds found pushed counted ↦
-            let now = counted_finds is_settled related turns is bounded items items' at (reverse rest) start before q (reverse stack) found (λ op inputs held. ap reverse (pushed op inputs held) ∙ inputs_first rest inputs) in
-            subst (Counted measure registry schema limit cost items' (reverse stack) start) (sym counted) now
+            let now = counted_finds is_settled related turns is registry schema bounded items items' at (reverse rest) start before q (reverse stack) found (λ op inputs held. ap reverse (pushed op inputs held) ∙ inputs_first rest inputs) in
+            subst (Counted measure limit cost items' (reverse stack) start) (sym counted) now
       ]

@@ -135,7 +135,7 @@ no_numbers (suc (suc zero)) number value inputs h = cc
 no_numbers (suc (suc (suc zero))) number value inputs h = cc
 no_numbers (suc (suc (suc (suc n)))) number value inputs h = cc
 
-pub sum_replaced : IsReplacement (HasSameCasts [] two_columns) (until_strict [] two_columns) [] two_columns sum_items strict_items 2 sum
+pub sum_replaced : IsReplacement (HasSameCasts [] two_columns) (said (until_strict [] two_columns) [] two_columns) [] two_columns sum_items strict_items 2 sum
 sum_replaced = record {
   tree = strict_sum;
   denotes = strict_denotes;
@@ -163,7 +163,7 @@ sum_placed = record {
   grows = record { added = cast_of 0 Int32 ∷ []; longer = refl };
   item = pair 3 Plus 1;
   is = refl;
-  answer = λ t d. subst (IsReplacement (HasSameCasts [] two_columns) (until_strict [] two_columns) [] two_columns sum_items strict_items 2) (one_denoted sum_items 2 sum t sum_denotes d) sum_replaced;
+  answer = λ t d. subst (IsReplacement (HasSameCasts [] two_columns) (said (until_strict [] two_columns) [] two_columns) [] two_columns sum_items strict_items 2) (one_denoted sum_items 2 sum t sum_denotes d) sum_replaced;
   numbers = λ t typed d is unknown. settles_no_number [] two_columns;
   reaches = λ n is m op inputs near h. all_near_sum inputs;
   once = λ n is t ns h once. (strict_sum, 2 ∷ 3 ∷ 0 ∷ 1 ∷ [], strict_nodes, strict_once);
@@ -306,7 +306,7 @@ none_beside root [] back m is n among =
 none_beside root (f ∷ []) back m is n among = cc
 none_beside root (f ∷ g ∷ fs) back m is n among = cc
 
-pub number_alone : AreRoots (is_strict_node [] []) [] [] number_items (0 ∷ [])
+pub number_alone : AreRoots (said (is_strict_node [] []) [] []) [] [] number_items (0 ∷ [])
 number_alone = record { each = (inr number_root, tt); apart = λ front back m is number n among reaches. none_beside 0 front back m is n among }
 
 -- a column that isn't there has no type
@@ -315,5 +315,5 @@ no_column_typed t typed d is =
     let none : Err ColumnNotFound ≡ Ok typed = subst (λ u. typing [] [] u ≡ Ok typed) (one_denoted a_items 0 t a d ([], refl, tt)) is in
     cc
 
-pub no_column_root : AreRoots (is_strict_node [] []) [] [] a_items (0 ∷ []) → ⊥
-no_column_root roots = ⊎_elim (λ (r : IsTypedRoot (is_strict_node [] []) [] [] a_items 0). no_column_typed r.tree r.typed r.denotes r.is) (λ (r : IsNumberRoot [] [] a_items 0). no_column_typed r.tree (record { type = Untyped r.number; many = r.many }) r.denotes r.is) roots.each.0
+pub no_column_root : AreRoots (said (is_strict_node [] []) [] []) [] [] a_items (0 ∷ []) → ⊥
+no_column_root roots = ⊎_elim (λ (r : IsTypedRoot (said (is_strict_node [] []) [] []) [] [] a_items 0). no_column_typed r.tree r.typed r.denotes r.is) (λ (r : IsNumberRoot [] [] a_items 0). no_column_typed r.tree (record { type = Untyped r.number; many = r.many }) r.denotes r.is) roots.each.0

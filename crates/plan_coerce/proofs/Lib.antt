@@ -4,9 +4,11 @@ pub mod CoercionLemmas
 pub mod CoercionRuleLemmas
 pub mod CountLemmas
 pub mod ExampleLemmas
+pub mod InliningLemmas
 pub mod ManyRootLemmas
 pub mod NearLemmas
 pub mod NumberRootLemmas
+pub mod OnLiterals
 pub mod OnceLemmas
 pub mod PlanNodeLemmas
 pub mod ReachLemmas
@@ -14,4 +16,6 @@ pub mod RightLemmas
 pub mod RootLemmas
 pub mod SettledLemmas
 pub mod StackLemmas
+pub mod ToldLemmas
 pub mod TurnLemmas
+pub mod WrittenOutLemmas

@@ -19,7 +19,7 @@ use Rattle.plan_arena.proofs.ItemLemmas.{expression_laws, grown_held, tree_withi
 use Rattle.plan_arena.proofs.NumberLemmas.{all_joined, all_reversed, all_weaker}
 use Rattle.plan_coerce.specs.Optimizer.{AreRoots, AreTypedRoots, EndsSettled, IsNumberRoot, IsSettled, IsTypedRoot, StaysLike, StaysLikeBeside}
 use Rattle.plan_coerce.specs.Reaching.{Among, IsReached}
-use Rattle.plan_coerce.specs.Rules.{Inputs, IsCongruent, IsLike, IsTransitive, SettlesNoNumber, seen}
+use Rattle.plan_coerce.specs.Rules.{IsCongruent, IsLike, IsSteady, IsTransitive, SettlesNoNumber}
 use Rattle.plan_coerce.specs.Turns.{IsFound, IsPlaced, IsStopped, IsTurn, finds, places}
 use Rattle.plan_coerce.proofs.BesideLemmas.{known_beside, settled_unreached, unreached}
 use Rattle.plan_coerce.proofs.NearLemmas.{reach_kept}
@@ -34,18 +34,18 @@ abbrev pub NoNumber : Registry → Columns → List AExpr → ℕ → Type 0
 NoNumber registry schema items r = (number : ℤ) (many : Bool) (t : Expression) → Denotes (HoldsExpression items) r t → typing registry schema t ≡ Ok (record { type = Untyped number; many = many }) → ⊥
 
 -- a root that waits is as it was typed, or is a number that stays as it was
-pub data Rests (is_settled : Op → Inputs → Bool) (registry : Registry) (schema : Columns) (start items : List AExpr) (r : ℕ) : Type 0 where
+pub data Rests (is_settled : Expression → Bool) (registry : Registry) (schema : Columns) (start items : List AExpr) (r : ℕ) : Type 0 where
   typed_rests : NoNumber registry schema start r → IsTypedRoot is_settled registry schema items r → Rests is_settled registry schema start items r
   number_rests : (t : Expression) (number : ℤ) (many : Bool) → Denotes (HoldsExpression start) r t → Denotes (HoldsExpression items) r t → typing registry schema t ≡ Ok (record { type = Untyped number; many = many }) → Rests is_settled registry schema start items r
 
 -- and one that was begun is settled but for what waits
-pub data Begun (is_settled : Op → Inputs → Bool) (related : Expression → Expression → Type 0) (registry : Registry) (schema : Columns) (start items : List AExpr) (tops : List ℕ) (r : ℕ) : Type 0 where
-  typed_begun : NoNumber registry schema start r → IsTypedRoot is_settled registry schema items r → (t : Expression) → SettledBut is_settled registry schema items tops r t → Begun is_settled related registry schema start items tops r
-  number_begun : (t : Expression) (number : ℤ) (many : Bool) → Denotes (HoldsExpression start) r t → typing registry schema t ≡ Ok (record { type = Untyped number; many = many }) → (v : Expression) (own : Typed) → SettledBut is_settled registry schema items tops r v → IsLike related registry schema (settled t) v → typing registry schema v ≡ Ok own → is_known own.type ≡ true → Begun is_settled related registry schema start items tops r
-  number_found : (t : Expression) (number : ℤ) (many : Bool) → Denotes (HoldsExpression start) r t → typing registry schema t ≡ Ok (record { type = Untyped number; many = many }) → Denotes (HoldsExpression items) r t → IsSettled is_settled registry schema t → Begun is_settled related registry schema start items tops r
+pub data Begun (is_settled : Expression → Bool) (related : Expression → Expression → Type 0) (registry : Registry) (schema : Columns) (start items : List AExpr) (tops : List ℕ) (r : ℕ) : Type 0 where
+  typed_begun : NoNumber registry schema start r → IsTypedRoot is_settled registry schema items r → (t : Expression) → SettledBut is_settled items tops r t → Begun is_settled related registry schema start items tops r
+  number_begun : (t : Expression) (number : ℤ) (many : Bool) → Denotes (HoldsExpression start) r t → typing registry schema t ≡ Ok (record { type = Untyped number; many = many }) → (v : Expression) (own : Typed) → SettledBut is_settled items tops r v → IsLike related registry schema (settled t) v → typing registry schema v ≡ Ok own → is_known own.type ≡ true → Begun is_settled related registry schema start items tops r
+  number_found : (t : Expression) (number : ℤ) (many : Bool) → Denotes (HoldsExpression start) r t → typing registry schema t ≡ Ok (record { type = Untyped number; many = many }) → Denotes (HoldsExpression items) r t → IsSettled is_settled t → Begun is_settled related registry schema start items tops r
 
 -- the work so far: what is worked on waits above the roots that rest
-pub record Working (is_settled : Op → Inputs → Bool) (related : Expression → Expression → Type 0) (registry : Registry) (schema : Columns) (start items : List AExpr) (tops roots : List ℕ) : Type 0 where
+pub record Working (is_settled : Expression → Bool) (related : Expression → Expression → Type 0) (registry : Registry) (schema : Columns) (start items : List AExpr) (tops roots : List ℕ) : Type 0 where
   pub work : List ℕ
   pub rest : List ℕ
   pub done : List ℕ
@@ -69,7 +69,7 @@ all_with P Q [] each all = tt
 all_with P Q (n ∷ ns) each all = (each n (inl refl) all.0, all_with P Q ns (λ m a. each m (inr a)) all.1)
 
 -- what is at the top: something that is worked on, or a number that rests
-pub data TopIs (is_settled : Op → Inputs → Bool) (related : Expression → Expression → Type 0) (registry : Registry) (schema : Columns) (start items : List AExpr) (at : ℕ) (behind roots resting : List ℕ) : Type 0 where
+pub data TopIs (is_settled : Expression → Bool) (related : Expression → Expression → Type 0) (registry : Registry) (schema : Columns) (start items : List AExpr) (at : ℕ) (behind roots resting : List ℕ) : Type 0 where
   top_typed : (work rest done : List ℕ) → behind ≡ work ++ rest → IsTypedRoot is_settled registry schema items at → AreTypedRoots is_settled registry schema items work → AllByRecursion (Rests is_settled registry schema start items) rest → AllByRecursion (Begun is_settled related registry schema start items (at ∷ behind)) done → reverse roots ≡ done ++ rest → TopIs is_settled related registry schema start items at behind roots resting
   top_number : (rest : List ℕ) → resting ≡ at ∷ rest → behind ≡ rest → (t : Expression) (number : ℤ) (many : Bool) → Denotes (HoldsExpression start) at t → Denotes (HoldsExpression items) at t → typing registry schema t ≡ Ok (record { type = Untyped number; many = many }) → TopIs is_settled related registry schema start items at behind roots resting
 
@@ -90,7 +90,7 @@ back_empty : (xs ys : List ℕ) → [] ≡ xs ++ ys → ys ≡ []
 back_empty [] ys e = sym e
 back_empty (x ∷ xs) ys e = cc
 
-module _ (is_settled : Op → Inputs → Bool) (measure : Op → Inputs → ℕ) (related : Expression → Expression → Type 0) (turns : Option ℕ) (limit : ℕ) (is : turns ≡ Some limit) (registry : Registry) (schema : Columns) (congruent : IsCongruent related registry schema) (transitive : IsTransitive related) (none : SettlesNoNumber is_settled) (start : List AExpr) (roots : List ℕ) (are : AreRoots is_settled registry schema start roots) where
+module _ (is_settled : Expression → Bool) (measure : Expression → ℕ) (related : Expression → Expression → Type 0) (turns : Option ℕ) (limit : ℕ) (is : turns ≡ Some limit) (registry : Registry) (schema : Columns) (congruent : IsCongruent related registry schema) (transitive : IsTransitive related) (steady : IsSteady is_settled related registry schema) (none : SettlesNoNumber is_settled registry schema) (start : List AExpr) (roots : List ℕ) (are : AreRoots is_settled registry schema start roots) where
   typed_no_number : (r : ℕ) → IsTypedRoot is_settled registry schema start r → NoNumber registry schema start r
   typed_no_number r root number many t d h =
       let one = denotes_one (shape_of (map expression_layer start)) (HoldsExpression start) (expression_laws start) r root.tree t root.denotes d in
@@ -140,14 +140,14 @@ module _ (is_settled : Op → Inputs → Bool) (measure : Op → Inputs → ℕ)
         let two = becomes n one.tree one.denotes in
         record { tree = two.tree; denotes = two.denotes; like = like_then related registry schema congruent transitive t one.tree two.tree one.like two.like }
 
-    module _ (tops : List ℕ) (waits : (n : ℕ) → n ≢ at → Among (at ∷ (work ++ rest)) n → Among tops n) (here : (u : Expression) → Denotes (HoldsExpression items) at u → (v : Expression) × SettledBut is_settled registry schema items' tops at v × IsLike related registry schema u v) where
+    module _ (tops : List ℕ) (waits : (n : ℕ) → n ≢ at → Among (at ∷ (work ++ rest)) n → Among tops n) (here : (u : Expression) → Denotes (HoldsExpression items) at u → (v : Expression) × SettledBut is_settled items' tops at v × IsLike related registry schema u v) where
       still_begun : (r : ℕ) → Begun is_settled related registry schema start items (at ∷ (work ++ rest)) r → Begun is_settled related registry schema start items' tops r
       still_begun r state = elim state as (λ _. Begun is_settled related registry schema start items' tops r) [
         | typed_begun plain kind t s ↦
-            let now = step is_settled related registry schema congruent items items' at (at ∷ (work ++ rest)) tops keeps becomes waits here r t s in
+            let now = step is_settled related registry schema congruent steady items items' at (at ∷ (work ++ rest)) tops keeps becomes waits here r t s in
             typed_begun plain (typed_become is_settled related registry schema items items' becomes r kind) now.0 now.1
         | number_begun t number many before h v own s like is_typed known ↦
-            let now = step is_settled related registry schema congruent items items' at (at ∷ (work ++ rest)) tops keeps becomes waits here r v s in
+            let now = step is_settled related registry schema congruent steady items items' at (at ∷ (work ++ rest)) tops keeps becomes waits here r v s in
             number_begun t number many before h now.0 own now.1 (like_then related registry schema congruent transitive (settled t) v now.0 like now.2) (now.2.same.typing ∙ is_typed) known
         | number_found t number many before h now calm ↦ number_found t number many before h (number_stays r t number many now h) calm
       ]
@@ -159,7 +159,7 @@ module _ (is_settled : Op → Inputs → Bool) (measure : Op → Inputs → ℕ)
       let waits = subst (λ l. Among l at) (sym there) (inl refl) in (
         w.done ++ at ∷ [],
         w.order ∙ ap (λ l. w.done ++ l) comes ∙ sym (append_assoc w.done (at ∷ []) rest),
-        all_joined (Begun is_settled related registry schema start items tops) w.done (at ∷ []) w.begun (typed_begun plain root root.tree (waiting_settled is_settled registry schema items tops at root.tree waits root.denotes), tt),
+        all_joined (Begun is_settled related registry schema start items tops) w.done (at ∷ []) w.begun (typed_begun plain root root.tree (waiting_settled is_settled items tops at root.tree waits root.denotes), tt),
       )
 
   module _ (items items' : List AExpr) (at : ℕ) (finite : (n : ℕ) → DenotesTree (HoldsExpression start) n → DenotesTree (HoldsExpression items) n) (longer : length start ≤ length items) (rooted : (n : ℕ) → Among roots n → DenotesTree (HoldsExpression start) n) (stopped : IsStopped is_settled measure related turns registry schema items items' at) where
@@ -209,8 +209,8 @@ module _ (is_settled : Op → Inputs → Bool) (measure : Op → Inputs → ℕ)
         begun_beside n a state =
             let apart = other_root n (among_back (reverse rest) (reverse w.done) n (among_reversed w.done n a)) in
             elim state as (λ _. Begun is_settled related registry schema start items' tops' n) [
-              | typed_begun plain k u s ↦ typed_begun plain (record { tree = k.tree; denotes = unreached items items' at stops_keeps n k.tree k.denotes apart; typed = k.typed; is = k.is; known = k.known }) u (settled_unreached items items' at stops_keeps is_settled registry schema tops tops' waits n u s apart)
-              | number_begun u k m old g v own s like typed known ↦ number_begun u k m old g v own (settled_unreached items items' at stops_keeps is_settled registry schema tops tops' waits n v s apart) like typed known
+              | typed_begun plain k u s ↦ typed_begun plain (record { tree = k.tree; denotes = unreached items items' at stops_keeps n k.tree k.denotes apart; typed = k.typed; is = k.is; known = k.known }) u (settled_unreached items items' at stops_keeps is_settled tops tops' waits n u s apart)
+              | number_begun u k m old g v own s like typed known ↦ number_begun u k m old g v own (settled_unreached items items' at stops_keeps is_settled tops tops' waits n v s apart) like typed known
               | number_found u k m old g new calm ↦ number_found u k m old g (unreached items items' at stops_keeps n u new apart) calm
             ]
 
@@ -238,17 +238,17 @@ module _ (is_settled : Op → Inputs → Bool) (measure : Op → Inputs → ℕ)
         let typed = like.same.typing ∙ (number_settled registry schema number own.0 own.1 t many h).typed in
         let root : IsTypedRoot is_settled registry schema items' at = record { tree = rep.tree; denotes = rep.denotes; typed = _; is = typed; known = λ all. rep.known _ typed } in
         let waits = subst (λ l. Among l at) (sym over) (inl refl) in
-        goes_beside rest tops w comes t number many before now h tops (λ n other a. a) (at ∷ []) over (root, tt) (number_begun t number many before h rep.tree _ (waiting_settled is_settled registry schema items' tops at rep.tree waits rep.denotes) like typed (rep.known _ typed))
+        goes_beside rest tops w comes t number many before now h tops (λ n other a. a) (at ∷ []) over (root, tt) (number_begun t number many before h rep.tree _ (waiting_settled is_settled items' tops at rep.tree waits rep.denotes) like typed (rep.known _ typed))
 
-    number_finds : (rest tops tops' : List ℕ) (w : Working is_settled related registry schema start items tops roots) (comes : w.rest ≡ at ∷ rest) (t : Expression) (number : ℤ) (many : Bool) → Denotes (HoldsExpression start) at t → Denotes (HoldsExpression items) at t → typing registry schema t ≡ Ok (record { type = Untyped number; many = many }) → tops ≡ at ∷ rest → IsFound is_settled registry schema items items' at → ((op : Op) (inputs : List ℕ) → HoldsExpression items' at op inputs → tops' ≡ inputs ++ rest) → Working is_settled related registry schema start items' tops' roots
+    number_finds : (rest tops tops' : List ℕ) (w : Working is_settled related registry schema start items tops roots) (comes : w.rest ≡ at ∷ rest) (t : Expression) (number : ℤ) (many : Bool) → Denotes (HoldsExpression start) at t → Denotes (HoldsExpression items) at t → typing registry schema t ≡ Ok (record { type = Untyped number; many = many }) → tops ≡ at ∷ rest → IsFound is_settled items items' at → ((op : Op) (inputs : List ℕ) → HoldsExpression items' at op inputs → tops' ≡ inputs ++ rest) → Working is_settled related registry schema start items' tops' roots
     number_finds rest tops tops' w comes (node op ts) number many before now h over found pushed =
         let calm = found.is (node op ts) now in
-        let children = settled_bare is_settled measure related turns registry schema congruent transitive none at number many op ts h calm in
+        let children = settled_bare is_settled measure related turns registry schema congruent transitive steady none at number many op ts h calm in
         let there = kept (HoldsExpression items) (HoldsExpression items') (grown_held items items' (found_grows found)) at (node op ts) now in
         let inputs = no_inputs items' there.0 ts children there.2 in
         let left : tops' ≡ rest = pushed op there.0 there.1 ∙ ap (λ l. l ++ rest) inputs in
         let waits : (n : ℕ) → n ≢ at → Among tops n → Among tops' n = λ n other a. subst (λ l. Among l n) (sym left) (⊎_elim (λ e. absurd (other e)) (λ b. b) (subst (λ l. Among l n) over a)) in
-        let each : IsSettled is_settled registry schema (node op ts) = subst (λ us. IsSettled is_settled registry schema (node op us)) (sym children) (subst (λ us. is_settled op (seen registry schema us) ≡ true) children calm, tt) in
+        let each : IsSettled is_settled (node op ts) = subst (λ us. IsSettled is_settled (node op us)) (sym children) (subst (λ us. is_settled (node op us) ≡ true) children calm, tt) in
         goes_beside rest tops w comes (node op ts) number many before now h tops' waits [] left tt (number_found (node op ts) number many before h there each)
 
     -- ---- a turn at a typed node
@@ -257,7 +257,7 @@ module _ (is_settled : Op → Inputs → Bool) (measure : Op → Inputs → ℕ)
       typed_stops : StaysLikeBeside related registry schema start items' roots
       typed_stops = beside_on items items' at work rest done w root working resting begun order stopped
 
-      typed_goes : (tops work' : List ℕ) → tops ≡ work' ++ rest → AreTypedRoots is_settled registry schema items' work' → ((n : ℕ) → n ≢ at → Among (at ∷ (work ++ rest)) n → Among tops n) → ((u : Expression) → Denotes (HoldsExpression items) at u → (v : Expression) × SettledBut is_settled registry schema items' tops at v × IsLike related registry schema u v) → Working is_settled related registry schema start items' tops roots
+      typed_goes : (tops work' : List ℕ) → tops ≡ work' ++ rest → AreTypedRoots is_settled registry schema items' work' → ((n : ℕ) → n ≢ at → Among (at ∷ (work ++ rest)) n → Among tops n) → ((u : Expression) → Denotes (HoldsExpression items) at u → (v : Expression) × SettledBut is_settled items' tops at v × IsLike related registry schema u v) → Working is_settled related registry schema start items' tops roots
       typed_goes tops work' over typed waits here = record {
         work = work';
         rest = rest;
@@ -279,23 +279,23 @@ module _ (is_settled : Op → Inputs → Bool) (measure : Op → Inputs → ℕ)
           let now = typed_become is_settled related registry schema items items' (becomes items items' at work rest done w root working resting begun order stopped) at root in
           typed_goes (at ∷ (work ++ rest)) (at ∷ work) refl (now, others_typed) (λ n other a. a) (λ u e.
           let like = placed_like is_settled measure related turns registry schema congruent items items' at root p u e in
-          (like.tree, waiting_settled is_settled registry schema items' (at ∷ (work ++ rest)) at like.tree (inl refl) like.denotes, like.like))
+          (like.tree, waiting_settled is_settled items' (at ∷ (work ++ rest)) at like.tree (inl refl) like.denotes, like.like))
 
-      typed_found : (tops : List ℕ) (tree : Expression) → Denotes (HoldsExpression items) at tree → typing registry schema tree ≡ Ok root.typed → IsFound is_settled registry schema items items' at → ((op : Op) (inputs : List ℕ) → HoldsExpression items' at op inputs → tops ≡ inputs ++ (work ++ rest)) → Working is_settled related registry schema start items' tops roots
+      typed_found : (tops : List ℕ) (tree : Expression) → Denotes (HoldsExpression items) at tree → typing registry schema tree ≡ Ok root.typed → IsFound is_settled items items' at → ((op : Op) (inputs : List ℕ) → HoldsExpression items' at op inputs → tops ≡ inputs ++ (work ++ rest)) → Working is_settled related registry schema start items' tops roots
       typed_found tops (node op ts) d typed found pushed =
           let held = grown_held items items' (found_grows found) at op d.0 d.1 in
           let below = children_grown items items' (found_grows found) d.0 ts d.2 in
           let parts = typed_parts registry schema op ts root.typed typed in
           let calm = found.is (node op ts) d in
           let over = pushed op d.0 held in
-          let inputs = typed_inputs is_settled registry schema items' d.0 ts parts.below below parts.children_typed (λ all. all op (seen registry schema ts) parts.below calm parts.children_typed) in
+          let inputs = typed_inputs is_settled registry schema items' d.0 ts parts.below below parts.children_typed (λ all. all op ts parts.below calm parts.children_typed) in
           typed_goes tops (d.0 ++ work) (over ∙ sym (append_assoc d.0 work rest)) (all_joined (IsTypedRoot is_settled registry schema items') d.0 work inputs others_typed)
           (λ n other a. subst (λ l. Among l n) (sym over) (among_back d.0 (work ++ rest) n (⊎_elim (λ e. absurd (other e)) (λ b. b) a)))
           (λ u e.
           let one = denotes_one (shape_of (map expression_layer items)) (HoldsExpression items) (expression_laws items) at (node op ts) u d e in
           let waits : (n : ℕ) → Among d.0 n → Among tops n = λ n a. subst (λ l. Among l n) (sym over) (among_front d.0 (work ++ rest) n a) in
-          subst (λ t. (v : Expression) × SettledBut is_settled registry schema items' tops at v × IsLike related registry schema t v) one
-          (node op ts, inr (d.0, held, calm, all_waiting is_settled registry schema items' tops d.0 ts waits below), like_itself related registry schema congruent (node op ts)))
+          subst (λ t. (v : Expression) × SettledBut is_settled items' tops at v × IsLike related registry schema t v) one
+          (node op ts, inr (d.0, held, calm, all_waiting is_settled items' tops d.0 ts waits below), like_itself related registry schema congruent (node op ts)))
 
   -- ---- any turn
 
@@ -370,12 +370,12 @@ module _ (is_settled : Op → Inputs → Bool) (measure : Op → Inputs → ℕ)
   ends : (items : List AExpr) (r : ℕ) → Begun is_settled related registry schema start items [] r → EndsSettled is_settled related registry schema start items r
   ends items r state = elim state as (λ _. EndsSettled is_settled related registry schema start items r) [
     | typed_begun plain k t s ↦ record {
-      each = record { tree = t; denotes = settled_denotes is_settled registry schema items [] r t s; each = settled_all is_settled registry schema items r t s };
+      each = record { tree = t; denotes = settled_denotes is_settled items [] r t s; each = settled_all is_settled items r t s };
       number = λ number many u d h. absurd (plain number many u d h);
     }
     | number_begun t number many before h v own s like typed known ↦
-        let denotes = settled_denotes is_settled registry schema items [] r v s in
-        let each = settled_all is_settled registry schema items r v s in
+        let denotes = settled_denotes is_settled items [] r v s in
+        let each = settled_all is_settled items r v s in
         record {
           each = record { tree = v; denotes = denotes; each = each };
           number = λ k m u d g. record { tree = v; denotes = denotes; each = each; like = inl (subst (λ x. IsLike related registry schema (settled x) v) (one_tree start r t u before d) like) };

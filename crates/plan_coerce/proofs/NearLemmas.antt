@@ -13,7 +13,6 @@ use Rattle.plan_arena.proofs.ItemLemmas.{expression_inputs, grown_held}
 use Rattle.plan_arena.proofs.NumberLemmas.{all_joined, all_reversed, all_weaker}
 use Rattle.plan_coerce.specs.Optimizer.{AreTrees, ReachesNear, StaysApart}
 use Rattle.plan_coerce.specs.Reaching.{Among, IsClosed, IsReached, Near, ReachedBy}
-use Rattle.plan_coerce.specs.Rules.{Inputs}
 use Rattle.plan_coerce.specs.Turns.{IsFound, IsPlaced, IsStopped, IsTurn, finds, places}
 use Rattle.plan_coerce.proofs.OnceLemmas.{among_back, among_front, among_split}
 use Rattle.plan_coerce.proofs.ReachLemmas.{all_among, among_all, held_unwritten, not_near, reached_near, root_near}
@@ -69,7 +68,7 @@ module _ (items grown : List AExpr) (at : ℕ) (item : AExpr) (tops : List ℕ) 
       (written_path steps path.0 path.3)
 
 -- so a node reaches no more of what was there
-pub reach_kept : (is_settled : Op → Inputs → Bool) (measure : Op → Inputs → ℕ) (related : Expression → Expression → Type 0) (turns : Option ℕ) (limit : ℕ) → turns ≡ Some limit → (registry : Registry) (schema : Columns) (items items' : List AExpr) (at : ℕ) → IsStopped is_settled measure related turns registry schema items items' at → (n x : ℕ) → DenotesTree (HoldsExpression items) n → IsReached items' (n ∷ []) x → (length items ≤ x) ⊎ IsReached items (n ∷ []) x
+pub reach_kept : (is_settled : Expression → Bool) (measure : Expression → ℕ) (related : Expression → Expression → Type 0) (turns : Option ℕ) (limit : ℕ) → turns ≡ Some limit → (registry : Registry) (schema : Columns) (items items' : List AExpr) (at : ℕ) → IsStopped is_settled measure related turns registry schema items items' at → (n x : ℕ) → DenotesTree (HoldsExpression items) n → IsReached items' (n ∷ []) x → (length items ≤ x) ⊎ IsReached items (n ∷ []) x
 reach_kept is_settled measure related turns limit is registry schema items items' at s n x tree r = ⊎_elim
     (λ g. inr (record { steps = r.steps; path = grown_path items items' (n ∷ []) (tree, tt) g r.steps x r.path }))
     (λ p. ⊎_elim
@@ -103,7 +102,7 @@ here_near {start = start} {roots = roots} {items = items} {at = at} {rest = rest
 pub keeping_end : (start : List AExpr) (roots : List ℕ) (items : List AExpr) (tops : List ℕ) → Keeping start roots items tops → ReachesNear start items roots
 keeping_end start roots items tops k n r = k.near n (reached_from items roots (roots ++ tops) (λ m a. at_once items (roots ++ tops) m (among_front roots tops m a)) n r)
 
-module _ (is_settled : Op → Inputs → Bool) (measure : Op → Inputs → ℕ) (related : Expression → Expression → Type 0) (turns : Option ℕ) (limit : ℕ) (is : turns ≡ Some limit) (registry : Registry) (schema : Columns) (start items items' : List AExpr) (at : ℕ) (rest roots : List ℕ) (longer : length start ≤ length items) (trees : AreTrees items (roots ++ (at ∷ rest))) (k : Keeping start roots items (at ∷ rest)) where
+module _ (is_settled : Expression → Bool) (measure : Expression → ℕ) (related : Expression → Expression → Type 0) (turns : Option ℕ) (limit : ℕ) (is : turns ≡ Some limit) (registry : Registry) (schema : Columns) (start items items' : List AExpr) (at : ℕ) (rest roots : List ℕ) (longer : length start ≤ length items) (trees : AreTrees items (roots ++ (at ∷ rest))) (k : Keeping start roots items (at ∷ rest)) where
   -- the items that stay
   pub stops_apart : IsStopped is_settled measure related turns registry schema items items' at → StaysApart start items' roots
   stops_apart s n op inputs away held =
@@ -132,7 +131,7 @@ module _ (is_settled : Op → Inputs → Bool) (measure : Op → Inputs → ℕ)
   pub keeping_stops : IsStopped is_settled measure related turns registry schema items items' at → ReachesNear start items' roots
   keeping_stops s n r = stops_near s n (reached_from items' roots (roots ++ (at ∷ rest)) (λ m a. at_once items' (roots ++ (at ∷ rest)) m (among_front roots (at ∷ rest) m a)) n r)
 
-  pub keeping_finds : (op : Op) (inputs : List ℕ) → IsFound is_settled registry schema items items' at → HoldsExpression items' at op inputs → Keeping start roots items' (inputs ++ rest)
+  pub keeping_finds : (op : Op) (inputs : List ℕ) → IsFound is_settled items items' at → HoldsExpression items' at op inputs → Keeping start roots items' (inputs ++ rest)
   keeping_finds op inputs found held =
       let tops = roots ++ (at ∷ rest) in
       let first : (m : ℕ) → Among (roots ++ (inputs ++ rest)) m → IsReached items' tops m = λ m a. ⊎_elim
@@ -151,7 +150,7 @@ held_somehow items items' g at t = of_tree t.tree t.denotes where
   of_tree : (tree : Expression) → Denotes (HoldsExpression items) at tree → (op : Op) × (inputs : List ℕ) × HoldsExpression items' at op inputs
   of_tree (node op ts) d = (op, d.0, grown_held items items' g at op d.0 d.1)
 
-module _ (is_settled : Op → Inputs → Bool) (measure : Op → Inputs → ℕ) (related : Expression → Expression → Type 0) (turns : Option ℕ) (registry : Registry) (schema : Columns) (items items' : List AExpr) (at : ℕ) (rest stack : List ℕ) (before steps : ℕ) (turn : IsTurn is_settled measure related turns registry schema items items' at rest stack before steps) where
+module _ (is_settled : Expression → Bool) (measure : Expression → ℕ) (related : Expression → Expression → Type 0) (turns : Option ℕ) (registry : Registry) (schema : Columns) (items items' : List AExpr) (at : ℕ) (rest stack : List ℕ) (before steps : ℕ) (turn : IsTurn is_settled measure related turns registry schema items items' at rest stack before steps) where
   -- what waits denotes trees
   pub waiting_turn : AreTrees items (reverse (rest ++ at ∷ [])) → AreTrees items' (reverse stack)
   waiting_turn all =

@@ -18,16 +18,16 @@ use Rattle.plan_arena.specs.Items.{HoldsExpression, expression_layer}
 use Rattle.plan_arena.proofs.DenotationLemmas.{denotes_one, kept}
 use Rattle.plan_arena.proofs.ItemLemmas.{expression_laws, grown_held}
 use Rattle.plan_coerce.specs.Optimizer.{EndsTyped, IsSettled, IsTypedRoot}
-use Rattle.plan_coerce.specs.Rules.{Inputs, IsCongruent, IsLike, IsTransitive, SettlesNoNumber, seen}
+use Rattle.plan_coerce.specs.Rules.{IsCongruent, IsLike, IsSteady, IsTransitive, SettlesNoNumber}
 use Rattle.plan_coerce.specs.Turns.{IsFound, IsPlaced, IsTurn, finds, places}
 use Rattle.plan_coerce.proofs.SettledLemmas.{number_settled}
 use Rattle.plan_coerce.proofs.TurnLemmas.{found_grows, Pending, all_ended, like_then, pending_start, pending_turn, top_first, inputs_first}
 
 -- such a root waits, or it has got a type and is settled but for what waits, or it was found settled
-pub data Alone (is_settled : Op → Inputs → Bool) (related : Expression → Expression → Type 0) (registry : Registry) (schema : Columns) (items : List AExpr) (tops : List ℕ) (root : ℕ) (t : Expression) : Type 0 where
+pub data Alone (is_settled : Expression → Bool) (related : Expression → Expression → Type 0) (registry : Registry) (schema : Columns) (items : List AExpr) (tops : List ℕ) (root : ℕ) (t : Expression) : Type 0 where
   waits : tops ≡ root ∷ [] → Denotes (HoldsExpression items) root t → Alone is_settled related registry schema items tops root t
   goes_on : (mid : List AExpr) (v : Expression) (own : Typed) → Denotes (HoldsExpression mid) root v → IsLike related registry schema (settled t) v → typing registry schema v ≡ Ok own → is_known own.type ≡ true → Pending is_settled related registry schema mid items tops (root ∷ []) → Alone is_settled related registry schema items tops root t
-  is_found : tops ≡ [] → Denotes (HoldsExpression items) root t → IsSettled is_settled registry schema t → Alone is_settled related registry schema items tops root t
+  is_found : tops ≡ [] → Denotes (HoldsExpression items) root t → IsSettled is_settled t → Alone is_settled related registry schema items tops root t
 
 same_top : (a b : ℕ) (xs : List ℕ) → a ∷ xs ≡ b ∷ [] → a ≡ b
 same_top a b xs e = cc
@@ -44,12 +44,12 @@ no_inputs items [] ts e d = refl
 no_inputs items (n ∷ ns) no_more e d = absurd d
 no_inputs items (n ∷ ns) (more t ts) e d = cc
 
-module _ (is_settled : Op → Inputs → Bool) (measure : Op → Inputs → ℕ) (related : Expression → Expression → Type 0) (turns : Option ℕ) (registry : Registry) (schema : Columns) (congruent : IsCongruent related registry schema) (transitive : IsTransitive related) (none : SettlesNoNumber is_settled) (root : ℕ) (number : ℤ) (many : Bool) where
+module _ (is_settled : Expression → Bool) (measure : Expression → ℕ) (related : Expression → Expression → Type 0) (turns : Option ℕ) (registry : Registry) (schema : Columns) (congruent : IsCongruent related registry schema) (transitive : IsTransitive related) (steady : IsSteady is_settled related registry schema) (none : SettlesNoNumber is_settled registry schema) (root : ℕ) (number : ℤ) (many : Bool) where
   -- a number that is settled has no inputs
-  pub settled_bare : (op : Op) (ts : Trees Op) → typing registry schema (node op ts) ≡ Ok (record { type = Untyped number; many = many }) → is_settled op (seen registry schema ts) ≡ true → ts ≡ no_more
+  pub settled_bare : (op : Op) (ts : Trees Op) → typing registry schema (node op ts) ≡ Ok (record { type = Untyped number; many = many }) → is_settled (node op ts) ≡ true → ts ≡ no_more
   settled_bare op ts h calm =
       let parts = typed_parts registry schema op ts _ h in
-      let known = none op (seen registry schema ts) parts.below calm parts.children_typed in
+      let known = none op ts parts.below calm parts.children_typed in
       elim (number_node registry schema number op ts many h) as (λ _. ts ≡ no_more) [
         | bare op_is no_children single literal ↦ no_children
         | under name tree op_is over typed ↦
@@ -69,9 +69,9 @@ module _ (is_settled : Op → Inputs → Bool) (measure : Op → Inputs → ℕ)
         let typed = like.same.typing ∙ (number_settled registry schema number own.0 own.1 t many h).typed in
         let now = subst (λ k. Denotes (HoldsExpression items') k rep.tree) same rep.denotes in
         let start : IsTypedRoot is_settled registry schema items' root = record { tree = rep.tree; denotes = now; typed = _; is = typed; known = λ all. rep.known _ typed } in
-        goes_on items' rep.tree _ now like typed (rep.known _ typed) (pending_start is_settled measure related turns registry schema congruent transitive items' (root ∷ []) (start, tt))
+        goes_on items' rep.tree _ now like typed (rep.known _ typed) (pending_start is_settled measure related turns registry schema congruent transitive steady items' (root ∷ []) (start, tt))
 
-    found_alone : (t : Expression) → typing registry schema t ≡ Ok (record { type = Untyped number; many = many }) → Denotes (HoldsExpression items) root t → at ≡ root → reverse rest ≡ [] → IsFound is_settled registry schema items items' at → ((op : Op) (inputs : List ℕ) → HoldsExpression items' at op inputs → stack ≡ rest ++ reverse inputs) → Alone is_settled related registry schema items' (reverse stack) root t
+    found_alone : (t : Expression) → typing registry schema t ≡ Ok (record { type = Untyped number; many = many }) → Denotes (HoldsExpression items) root t → at ≡ root → reverse rest ≡ [] → IsFound is_settled items items' at → ((op : Op) (inputs : List ℕ) → HoldsExpression items' at op inputs → stack ≡ rest ++ reverse inputs) → Alone is_settled related registry schema items' (reverse stack) root t
     found_alone (node op ts) h d same empty found pushed =
         let there = subst (λ k. Denotes (HoldsExpression items) k (node op ts)) (sym same) d in
         let calm = found.is (node op ts) there in
@@ -79,7 +79,7 @@ module _ (is_settled : Op → Inputs → Bool) (measure : Op → Inputs → ℕ)
         let now = kept (HoldsExpression items) (HoldsExpression items') (grown_held items items' (found_grows found)) at (node op ts) there in
         let inputs = no_inputs items' now.0 ts children now.2 in
         let over = ap reverse (pushed op now.0 now.1) ∙ inputs_first rest now.0 ∙ ap (λ l. l ++ reverse rest) inputs ∙ empty in
-        is_found over (subst (λ k. Denotes (HoldsExpression items') k (node op ts)) same now) (subst (λ us. IsSettled is_settled registry schema (node op us)) (sym children) (subst (λ us. is_settled op (seen registry schema us) ≡ true) children calm, tt))
+        is_found over (subst (λ k. Denotes (HoldsExpression items') k (node op ts)) same now) (subst (λ us. IsSettled is_settled (node op us)) (sym children) (subst (λ us. is_settled (node op us) ≡ true) children calm, tt))
 
     pub alone_turn : (t : Expression) → typing registry schema t ≡ Ok (record { type = Untyped number; many = many }) → IsTurn is_settled measure related turns registry schema items items' at rest stack before steps → Alone is_settled related registry schema items (reverse (rest ++ at ∷ [])) root t → Alone is_settled related registry schema items' (reverse stack) root t
     alone_turn t h turn alone = elim alone as (λ _. Alone is_settled related registry schema items' (reverse stack) root t) [
@@ -90,7 +90,7 @@ module _ (is_settled : Op → Inputs → Bool) (measure : Op → Inputs → ℕ)
             | places placed over counted ↦ subst (λ l. Alone is_settled related registry schema items' l root t) (sym (ap reverse over ∙ is)) (placed_alone t h d same placed)
             | finds found pushed counted ↦ found_alone t h d same (no_rest at root (reverse rest) whole) found pushed
           ]
-      | goes_on mid v own d like is known pending ↦ goes_on mid v own d like is known (pending_turn is_settled measure related turns registry schema congruent transitive mid items items' at rest stack (root ∷ []) before steps turn pending)
+      | goes_on mid v own d like is known pending ↦ goes_on mid v own d like is known (pending_turn is_settled measure related turns registry schema congruent transitive steady mid items items' at rest stack (root ∷ []) before steps turn pending)
       | is_found empty d calm ↦ absurd (no_top at (reverse rest) (sym (top_first rest at) ∙ empty))
     ]
 
@@ -98,7 +98,7 @@ module _ (is_settled : Op → Inputs → Bool) (measure : Op → Inputs → ℕ)
   alone_end t items alone = elim alone as (λ _. EndsTyped is_settled related registry schema items root t) [
     | waits is d ↦ absurd (no_top root [] (sym is))
     | goes_on mid v own d like is known pending ↦
-        let ended = (all_ended is_settled registry schema items (root ∷ []) pending.settled).0 in
+        let ended = (all_ended is_settled items (root ∷ []) pending.settled).0 in
         let now = pending.trees root v d in
         let one = denotes_one (shape_of (map expression_layer items)) (HoldsExpression items) (expression_laws items) root now.tree ended.tree now.denotes ended.denotes in
         let whole = like_then related registry schema congruent transitive (settled t) v now.tree like now.like in

@@ -130,6 +130,6 @@ ruled_known registry schema op typed (Ok ruling) is h =
     let parts = and_parts (same_types (types_of typed) ruling.operands) (is_known ruling.own.type) h in
     become_known ruling.own.type typed ruling.operands parts.1 (keeps_rule registry schema op typed ruling is).becomes (same_types_exact (types_of typed) ruling.operands parts.0)
 
-pub settles_no_number : (registry : Registry) (schema : Columns) → SettlesNoNumber (is_strict_node registry schema)
-settles_no_number registry schema op inputs typed h is =
+pub settles_no_number : (registry : Registry) (schema : Columns) → SettlesNoNumber (said (is_strict_node registry schema) registry schema) registry schema
+settles_no_number registry schema op children typed h is =
     ruled_known registry schema op typed (rule registry schema op typed) refl (sym (ap (is_strict_over registry schema op) is) ∙ h)

@@ -11,12 +11,11 @@ use Rattle.plan_types.specs.Types.{Untyped, is_known, ty}
 use Rattle.plan_types.specs.Schemas.{Columns}
 use Rattle.plan_dsl.specs.Registry.{Registry}
 use Rattle.plan_dsl.specs.Literals.{settled}
-use Rattle.plan_dsl.specs.Names.{label_of, op_label}
-use Rattle.plan_dsl.specs.Trees.{Trees, node, no_more, more, fold_all, AllRelated}
+use Rattle.plan_dsl.specs.Trees.{Trees, node, no_more, more, AllRelated}
 use Rattle.plan_dsl.specs.Ops.{Op, Expression}
 use Rattle.plan_dsl.specs.Strictness.{IsSame}
 use Rattle.plan_dsl.specs.Typing.{Typed, typing, typing_all}
-use Rattle.plan_dsl.proofs.SameLemmas.{node_same, same_itself, same_then, typings_same}
+use Rattle.plan_dsl.proofs.SameLemmas.{node_same, same_itself, same_then}
 use Rattle.plan_dsl.proofs.TypingLemmas.{by_children, typed_parts}
 use Rattle.plan_arena.specs.declared.aexpr.AExpr.{AExpr}
 use Rattle.plan_arena.specs.Denotation.{Denotes, DenoteAll, DenotesTree}
@@ -27,7 +26,7 @@ use Rattle.plan_arena.proofs.ItemLemmas.{expression_laws, grown_held, length-gro
 use Rattle.plan_arena.proofs.NumberLemmas.{all_joined, all_reversed, all_weaker}
 use Rattle.plan_coerce.specs.Optimizer.{AreSettled, AreTypedRoots, DenotesLike, DenotesSettled, IsCoercionRefusal, IsSettled, IsTypedRoot, StaysFinite, StaysLike}
 use Rattle.plan_coerce.specs.Reaching.{Among, IsClosed, StaysOnce}
-use Rattle.plan_coerce.specs.Rules.{Inputs, IsCongruent, IsLike, IsReplacement, IsTransitive, KeepsNumber, SettlesNoNumber, said, seen}
+use Rattle.plan_coerce.specs.Rules.{IsCongruent, IsLike, IsReplacement, IsSteady, IsTransitive, KeepsNumber, SettlesNoNumber}
 use Rattle.plan_infer.specs.declared.type_table.Inferred.{Inferred}
 use Rattle.plan_infer.specs.declared.type_table.TypeTable.{TypeTable}
 use Rattle.plan_infer.specs.KeptTypes.{IsKept, KeepsEntry}
@@ -81,18 +80,6 @@ module _ (related : Expression → Expression → Type 0) (registry : Registry) 
   pub node_like : (op : Op) (ts us : Trees Op) → AllRelated (IsLike related registry schema) ts us → IsLike related registry schema (node op ts) (node op us)
   node_like op ts us a = record { same = node_same registry schema op ts us (all_same ts us a); relates = congruent op ts us a }
 
-  labels_same : (ts us : Trees Op) → AllRelated (IsLike related registry schema) ts us → fold_all op_label us ≡ fold_all op_label ts
-  labels_same no_more no_more a = refl
-  labels_same (more t ts) (more u us) a = ap (λ x. x ∷ fold_all op_label us) a.0.same.name ∙ ap (λ l. label_of t ∷ l) (labels_same ts us a.1)
-  labels_same no_more (more u us) a = absurd a
-  labels_same (more t ts) no_more a = absurd a
-
-  -- inputs that are like are seen as the same
-  pub seen_same : (ts us : Trees Op) → AllRelated (IsLike related registry schema) ts us → seen registry schema us ≡ seen registry schema ts
-  seen_same ts us a =
-      ap (λ labels. record { labels = labels; typings = typing_all registry schema us }) (labels_same ts us a)
-      ∙ ap (λ typings. record { labels = fold_all op_label ts; typings = typings }) (typings_same registry schema ts us (all_same ts us a))
-
   -- every tree becomes one that is like it, where one node's does and no other item changes
   pub become : (items items' : List AExpr) (at : ℕ) (before : Expression) → Denotes (HoldsExpression items) at before → DenotesLike related registry schema items' at before → ((n : ℕ) (op : Op) (inputs : List ℕ) → n ≢ at → HoldsExpression items n op inputs → HoldsExpression items' n op inputs) → StaysLike related registry schema items items'
   become items items' at before d after elsewhere n u e =
@@ -113,74 +100,74 @@ module _ (related : Expression → Expression → Type 0) (registry : Registry) 
 -- ---- each node of a tree is settled, or leads to one that waits
 
 abbrev mutual
-  pub SettledBut : (Op → Inputs → Bool) → Registry → Columns → List AExpr → List ℕ → ℕ → Expression → Type 0
-  SettledBut is_settled registry schema items tops n (node op ts) =
-      (Among tops n × Denotes (HoldsExpression items) n (node op ts)) ⊎ ((inputs : List ℕ) × HoldsExpression items n op inputs × (is_settled op (seen registry schema ts) ≡ true) × AllSettledBut is_settled registry schema items tops inputs ts)
+  pub SettledBut : (Expression → Bool) → List AExpr → List ℕ → ℕ → Expression → Type 0
+  SettledBut is_settled items tops n (node op ts) =
+      (Among tops n × Denotes (HoldsExpression items) n (node op ts)) ⊎ ((inputs : List ℕ) × HoldsExpression items n op inputs × (is_settled (node op ts) ≡ true) × AllSettledBut is_settled items tops inputs ts)
 
-  pub AllSettledBut : (Op → Inputs → Bool) → Registry → Columns → List AExpr → List ℕ → List ℕ → Trees Op → Type 0
-  AllSettledBut is_settled registry schema items tops [] no_more = Unit {0}
-  AllSettledBut is_settled registry schema items tops (n ∷ ns) (more t ts) = SettledBut is_settled registry schema items tops n t × AllSettledBut is_settled registry schema items tops ns ts
-  AllSettledBut is_settled registry schema items tops [] (more t ts) = ⊥
-  AllSettledBut is_settled registry schema items tops (n ∷ ns) no_more = ⊥
+  pub AllSettledBut : (Expression → Bool) → List AExpr → List ℕ → List ℕ → Trees Op → Type 0
+  AllSettledBut is_settled items tops [] no_more = Unit {0}
+  AllSettledBut is_settled items tops (n ∷ ns) (more t ts) = SettledBut is_settled items tops n t × AllSettledBut is_settled items tops ns ts
+  AllSettledBut is_settled items tops [] (more t ts) = ⊥
+  AllSettledBut is_settled items tops (n ∷ ns) no_more = ⊥
 
-module _ (is_settled : Op → Inputs → Bool) (registry : Registry) (schema : Columns) (items : List AExpr) (tops : List ℕ) where
+module _ (is_settled : Expression → Bool) (items : List AExpr) (tops : List ℕ) where
   mutual
-    pub settled_denotes : (n : ℕ) (t : Expression) → SettledBut is_settled registry schema items tops n t → Denotes (HoldsExpression items) n t
+    pub settled_denotes : (n : ℕ) (t : Expression) → SettledBut is_settled items tops n t → Denotes (HoldsExpression items) n t
     settled_denotes n (node op ts) s = ⊎_elim (λ w. w.1) (λ h. (h.0, h.1, all_settled_denotes h.0 ts h.3)) s
 
-    all_settled_denotes : (ns : List ℕ) (ts : Trees Op) → AllSettledBut is_settled registry schema items tops ns ts → DenoteAll (HoldsExpression items) ns ts
+    all_settled_denotes : (ns : List ℕ) (ts : Trees Op) → AllSettledBut is_settled items tops ns ts → DenoteAll (HoldsExpression items) ns ts
     all_settled_denotes [] no_more s = tt
     all_settled_denotes (n ∷ ns) (more t ts) s = (settled_denotes n t s.0, all_settled_denotes ns ts s.1)
     all_settled_denotes [] (more t ts) s = absurd s
     all_settled_denotes (n ∷ ns) no_more s = absurd s
 
-  pub waiting_settled : (n : ℕ) (t : Expression) → Among tops n → Denotes (HoldsExpression items) n t → SettledBut is_settled registry schema items tops n t
+  pub waiting_settled : (n : ℕ) (t : Expression) → Among tops n → Denotes (HoldsExpression items) n t → SettledBut is_settled items tops n t
   waiting_settled n (node op ts) w d = inl (w, d)
 
   -- nodes that wait are settled but for what waits
-  pub all_waiting : (ns : List ℕ) (ts : Trees Op) → ((n : ℕ) → Among ns n → Among tops n) → DenoteAll (HoldsExpression items) ns ts → AllSettledBut is_settled registry schema items tops ns ts
+  pub all_waiting : (ns : List ℕ) (ts : Trees Op) → ((n : ℕ) → Among ns n → Among tops n) → DenoteAll (HoldsExpression items) ns ts → AllSettledBut is_settled items tops ns ts
   all_waiting [] no_more w d = tt
   all_waiting (n ∷ ns) (more t ts) w d = (waiting_settled n t (w n (inl refl)) d.0, all_waiting ns ts (λ m v. w m (inr v)) d.1)
   all_waiting [] (more t ts) w d = absurd d
   all_waiting (n ∷ ns) no_more w d = absurd d
 
-module _ (is_settled : Op → Inputs → Bool) (registry : Registry) (schema : Columns) (items : List AExpr) where
+module _ (is_settled : Expression → Bool) (items : List AExpr) where
   -- where nothing waits, each node is settled
   mutual
-    pub settled_all : (n : ℕ) (t : Expression) → SettledBut is_settled registry schema items [] n t → IsSettled is_settled registry schema t
+    pub settled_all : (n : ℕ) (t : Expression) → SettledBut is_settled items [] n t → IsSettled is_settled t
     settled_all n (node op ts) s = ⊎_elim (λ w. absurd w.0) (λ h. (h.2, all_settled_all h.0 ts h.3)) s
 
-    all_settled_all : (ns : List ℕ) (ts : Trees Op) → AllSettledBut is_settled registry schema items [] ns ts → AreSettled is_settled registry schema ts
+    all_settled_all : (ns : List ℕ) (ts : Trees Op) → AllSettledBut is_settled items [] ns ts → AreSettled is_settled ts
     all_settled_all [] no_more s = tt
     all_settled_all (n ∷ ns) (more t ts) s = (settled_all n t s.0, all_settled_all ns ts s.1)
     all_settled_all [] (more t ts) s = absurd s
     all_settled_all (n ∷ ns) no_more s = absurd s
 
-  pub all_ended : (ns : List ℕ) → AllByRecursion (λ n. (t : Expression) × SettledBut is_settled registry schema items [] n t) ns → AllByRecursion (DenotesSettled is_settled registry schema items) ns
+  pub all_ended : (ns : List ℕ) → AllByRecursion (λ n. (t : Expression) × SettledBut is_settled items [] n t) ns → AllByRecursion (DenotesSettled is_settled items) ns
   all_ended [] all = tt
   all_ended (n ∷ ns) all =
-      (record { tree = all.0.0; denotes = settled_denotes is_settled registry schema items [] n all.0.0 all.0.1; each = settled_all n all.0.0 all.0.1 }, all_ended ns all.1)
+      (record { tree = all.0.0; denotes = settled_denotes is_settled items [] n all.0.0 all.0.1; each = settled_all n all.0.0 all.0.1 }, all_ended ns all.1)
 
 -- what a turn at a node leaves of this
-module _ (is_settled : Op → Inputs → Bool) (related : Expression → Expression → Type 0) (registry : Registry) (schema : Columns) (congruent : IsCongruent related registry schema) (items items' : List AExpr) (at : ℕ) (tops tops' : List ℕ) (keeps : (n : ℕ) (op : Op) (inputs : List ℕ) → n ≢ at → HoldsExpression items n op inputs → HoldsExpression items' n op inputs) (becomes : StaysLike related registry schema items items') (waits : (n : ℕ) → n ≢ at → Among tops n → Among tops' n) (here : (u : Expression) → Denotes (HoldsExpression items) at u → (w : Expression) × SettledBut is_settled registry schema items' tops' at w × IsLike related registry schema u w) where
+module _ (is_settled : Expression → Bool) (related : Expression → Expression → Type 0) (registry : Registry) (schema : Columns) (congruent : IsCongruent related registry schema) (steady : IsSteady is_settled related registry schema) (items items' : List AExpr) (at : ℕ) (tops tops' : List ℕ) (keeps : (n : ℕ) (op : Op) (inputs : List ℕ) → n ≢ at → HoldsExpression items n op inputs → HoldsExpression items' n op inputs) (becomes : StaysLike related registry schema items items') (waits : (n : ℕ) → n ≢ at → Among tops n → Among tops' n) (here : (u : Expression) → Denotes (HoldsExpression items) at u → (w : Expression) × SettledBut is_settled items' tops' at w × IsLike related registry schema u w) where
   mutual
-    pub step : (n : ℕ) (u : Expression) → SettledBut is_settled registry schema items tops n u → (w : Expression) × SettledBut is_settled registry schema items' tops' n w × IsLike related registry schema u w
+    pub step : (n : ℕ) (u : Expression) → SettledBut is_settled items tops n u → (w : Expression) × SettledBut is_settled items' tops' n w × IsLike related registry schema u w
     step n (node op us) s = ⊎_elim
         (λ e.
-        let d = subst (λ k. Denotes (HoldsExpression items) k (node op us)) e (settled_denotes is_settled registry schema items tops n (node op us) s) in
-        subst (λ k. (w : Expression) × SettledBut is_settled registry schema items' tops' k w × IsLike related registry schema (node op us) w) (sym e) (here (node op us) d))
+        let d = subst (λ k. Denotes (HoldsExpression items) k (node op us)) e (settled_denotes is_settled items tops n (node op us) s) in
+        subst (λ k. (w : Expression) × SettledBut is_settled items' tops' k w × IsLike related registry schema (node op us) w) (sym e) (here (node op us) d))
         (λ other. ⊎_elim
         (λ w.
         let r = becomes n (node op us) w.1 in
-        (r.tree, waiting_settled is_settled registry schema items' tops' n r.tree (waits n other w.0) r.denotes, r.like))
+        (r.tree, waiting_settled is_settled items' tops' n r.tree (waits n other w.0) r.denotes, r.like))
         (λ h.
         let kids = step_all h.0 us h.3 in
-        let still : is_settled op (seen registry schema kids.0) ≡ true = ap (is_settled op) (seen_same related registry schema congruent us kids.0 kids.2) ∙ h.2 in
+        let still : is_settled (node op kids.0) ≡ true = steady op us kids.0 kids.2 ∙ h.2 in
         (node op kids.0, inr (h.0, keeps n op h.0 other h.1, still, kids.1), node_like related registry schema congruent op us kids.0 kids.2))
         s)
         (same_or_other n at)
 
-    step_all : (ns : List ℕ) (us : Trees Op) → AllSettledBut is_settled registry schema items tops ns us → (ws : Trees Op) × AllSettledBut is_settled registry schema items' tops' ns ws × AllRelated (IsLike related registry schema) us ws
+    step_all : (ns : List ℕ) (us : Trees Op) → AllSettledBut is_settled items tops ns us → (ws : Trees Op) × AllSettledBut is_settled items' tops' ns ws × AllRelated (IsLike related registry schema) us ws
     step_all [] no_more s = (no_more, tt, tt)
     step_all (n ∷ ns) (more u us) s =
         let head = step n u s.0 in
@@ -189,23 +176,23 @@ module _ (is_settled : Op → Inputs → Bool) (related : Expression → Express
     step_all [] (more u us) s = absurd s
     step_all (n ∷ ns) no_more s = absurd s
 
-  roots_step : (roots : List ℕ) → AllByRecursion (λ n. (t : Expression) × SettledBut is_settled registry schema items tops n t) roots → AllByRecursion (λ n. (t : Expression) × SettledBut is_settled registry schema items' tops' n t) roots
+  roots_step : (roots : List ℕ) → AllByRecursion (λ n. (t : Expression) × SettledBut is_settled items tops n t) roots → AllByRecursion (λ n. (t : Expression) × SettledBut is_settled items' tops' n t) roots
   roots_step [] all = tt
   roots_step (n ∷ ns) all = let s = step n all.0.0 all.0.1 in ((s.0, s.1), roots_step ns all.1)
 
 -- ---- what waits is typed
 
 -- what is typed stays so
-pub typed_become : (is_settled : Op → Inputs → Bool) (related : Expression → Expression → Type 0) (registry : Registry) (schema : Columns) (items items' : List AExpr) → StaysLike related registry schema items items' → (n : ℕ) → IsTypedRoot is_settled registry schema items n → IsTypedRoot is_settled registry schema items' n
+pub typed_become : (is_settled : Expression → Bool) (related : Expression → Expression → Type 0) (registry : Registry) (schema : Columns) (items items' : List AExpr) → StaysLike related registry schema items items' → (n : ℕ) → IsTypedRoot is_settled registry schema items n → IsTypedRoot is_settled registry schema items' n
 typed_become is_settled related registry schema items items' becomes n t =
     let r = becomes n t.tree t.denotes in
     record { tree = r.tree; denotes = r.denotes; typed = t.typed; is = r.like.same.typing ∙ t.is; known = t.known }
 
 -- inputs of a typed node that is settled
-pub typed_inputs : (is_settled : Op → Inputs → Bool) (registry : Registry) (schema : Columns) (items : List AExpr) (ns : List ℕ) (ts : Trees Op) (typed : List Typed) → DenoteAll (HoldsExpression items) ns ts → typing_all registry schema ts ≡ Ok typed → (SettlesNoNumber is_settled → AllByRecursion (λ (t : Typed). is_known t.type ≡ true) typed) → AllByRecursion (IsTypedRoot is_settled registry schema items) ns
+pub typed_inputs : (is_settled : Expression → Bool) (registry : Registry) (schema : Columns) (items : List AExpr) (ns : List ℕ) (ts : Trees Op) (typed : List Typed) → DenoteAll (HoldsExpression items) ns ts → typing_all registry schema ts ≡ Ok typed → (SettlesNoNumber is_settled registry schema → AllByRecursion (λ (t : Typed). is_known t.type ≡ true) typed) → AllByRecursion (IsTypedRoot is_settled registry schema items) ns
 typed_inputs is_settled registry schema items [] no_more typed d e known = tt
 typed_inputs is_settled registry schema items (n ∷ ns) (more t ts) typed d e known =
-    by_children (λ xs. (SettlesNoNumber is_settled → AllByRecursion (λ (t : Typed). is_known t.type ≡ true) xs) → AllByRecursion (IsTypedRoot is_settled registry schema items) (n ∷ ns)) _ _ typed e (λ x xs is rest k.
+    by_children (λ xs. (SettlesNoNumber is_settled registry schema → AllByRecursion (λ (t : Typed). is_known t.type ≡ true) xs) → AllByRecursion (IsTypedRoot is_settled registry schema items) (n ∷ ns)) _ _ typed e (λ x xs is rest k.
     (record { tree = t; denotes = d.0; typed = x; is = is; known = λ all. (k all).0 }, typed_inputs is_settled registry schema items ns ts xs d.1 rest (λ all. (k all).1))) known
 typed_inputs is_settled registry schema items [] (more t ts) typed d e known = absurd d
 typed_inputs is_settled registry schema items (n ∷ ns) no_more typed d e known = absurd d
@@ -213,10 +200,10 @@ typed_inputs is_settled registry schema items (n ∷ ns) no_more typed d e known
 -- ---- what a turn does to trees
 
 -- what is found adds nothing
-pub found_grows : {is_settled : Op → Inputs → Bool} {registry : Registry} {schema : Columns} {old new : List AExpr} {at : ℕ} → IsFound is_settled registry schema old new at → Grows old new
+pub found_grows : {is_settled : Expression → Bool} {old new : List AExpr} {at : ℕ} → IsFound is_settled old new at → Grows old new
 found_grows {old = old} found = record { added = []; longer = found.same ∙ sym (append-nil old) }
 
-module _ (is_settled : Op → Inputs → Bool) (measure : Op → Inputs → ℕ) (related : Expression → Expression → Type 0) (turns : Option ℕ) (registry : Registry) (schema : Columns) (items items' : List AExpr) (at : ℕ) where
+module _ (is_settled : Expression → Bool) (measure : Expression → ℕ) (related : Expression → Expression → Type 0) (turns : Option ℕ) (registry : Registry) (schema : Columns) (items items' : List AExpr) (at : ℕ) where
   pub placed_elsewhere : IsPlaced is_settled measure related turns registry schema items items' at → (n : ℕ) (op : Op) (inputs : List ℕ) → n ≢ at → HoldsExpression items n op inputs → HoldsExpression items' n op inputs
   placed_elsewhere p n op inputs other h = subst (λ l. HoldsExpression l n op inputs) (sym p.is) (written_elsewhere items p.grown at p.item p.grows n op inputs other h)
 
@@ -236,7 +223,7 @@ module _ (is_settled : Op → Inputs → Bool) (measure : Op → Inputs → ℕ)
       record { tree = r.0; denotes = r.1 })
       s
 
-module _ (is_settled : Op → Inputs → Bool) (measure : Op → Inputs → ℕ) (related : Expression → Expression → Type 0) (turns : Option ℕ) (registry : Registry) (schema : Columns) (congruent : IsCongruent related registry schema) (items items' : List AExpr) (at : ℕ) where
+module _ (is_settled : Expression → Bool) (measure : Expression → ℕ) (related : Expression → Expression → Type 0) (turns : Option ℕ) (registry : Registry) (schema : Columns) (congruent : IsCongruent related registry schema) (items items' : List AExpr) (at : ℕ) where
   -- what is put in place of a typed node is like it
   pub placed_like : IsTypedRoot is_settled registry schema items at → IsPlaced is_settled measure related turns registry schema items items' at → (before : Expression) → Denotes (HoldsExpression items) at before → DenotesLike related registry schema items' at before
   placed_like root p before d =
@@ -255,17 +242,17 @@ module _ (is_settled : Op → Inputs → Bool) (measure : Op → Inputs → ℕ)
 -- ---- the work so far
 
 -- trees are like what they were, what waits is typed, and each root is settled but for what waits
-pub record Pending (is_settled : Op → Inputs → Bool) (related : Expression → Expression → Type 0) (registry : Registry) (schema : Columns) (old new : List AExpr) (tops roots : List ℕ) : Type 0 where
+pub record Pending (is_settled : Expression → Bool) (related : Expression → Expression → Type 0) (registry : Registry) (schema : Columns) (old new : List AExpr) (tops roots : List ℕ) : Type 0 where
   pub trees : StaysLike related registry schema old new
   pub waiting : AreTypedRoots is_settled registry schema new tops
-  pub settled : AllByRecursion (λ n. (t : Expression) × SettledBut is_settled registry schema new tops n t) roots
+  pub settled : AllByRecursion (λ n. (t : Expression) × SettledBut is_settled new tops n t) roots
 
-start_settled : (is_settled : Op → Inputs → Bool) (registry : Registry) (schema : Columns) (items : List AExpr) (tops ns : List ℕ) → ((n : ℕ) → Among ns n → Among tops n) → AreTypedRoots is_settled registry schema items ns → AllByRecursion (λ n. (t : Expression) × SettledBut is_settled registry schema items tops n t) ns
+start_settled : (is_settled : Expression → Bool) (registry : Registry) (schema : Columns) (items : List AExpr) (tops ns : List ℕ) → ((n : ℕ) → Among ns n → Among tops n) → AreTypedRoots is_settled registry schema items ns → AllByRecursion (λ n. (t : Expression) × SettledBut is_settled items tops n t) ns
 start_settled is_settled registry schema items tops [] w all = tt
 start_settled is_settled registry schema items tops (n ∷ ns) w all =
-    ((all.0.tree, waiting_settled is_settled registry schema items tops n all.0.tree (w n (inl refl)) all.0.denotes), start_settled is_settled registry schema items tops ns (λ m v. w m (inr v)) all.1)
+    ((all.0.tree, waiting_settled is_settled items tops n all.0.tree (w n (inl refl)) all.0.denotes), start_settled is_settled registry schema items tops ns (λ m v. w m (inr v)) all.1)
 
-module _ (is_settled : Op → Inputs → Bool) (measure : Op → Inputs → ℕ) (related : Expression → Expression → Type 0) (turns : Option ℕ) (registry : Registry) (schema : Columns) (congruent : IsCongruent related registry schema) (transitive : IsTransitive related) where
+module _ (is_settled : Expression → Bool) (measure : Expression → ℕ) (related : Expression → Expression → Type 0) (turns : Option ℕ) (registry : Registry) (schema : Columns) (congruent : IsCongruent related registry schema) (transitive : IsTransitive related) (steady : IsSteady is_settled related registry schema) where
   pub pending_start : (items : List AExpr) (roots : List ℕ) → AreTypedRoots is_settled registry schema items roots → Pending is_settled related registry schema items items (reverse roots) roots
   pending_start items roots all = record {
     trees = λ n t d. record { tree = t; denotes = d; like = like_itself related registry schema congruent t };
@@ -287,16 +274,16 @@ module _ (is_settled : Op → Inputs → Bool) (measure : Op → Inputs → ℕ)
     pending_places placed =
         let becomes = stopped_like is_settled measure related turns registry schema congruent items items' at root (inr placed) in
         let keeps = stopped_elsewhere is_settled measure related turns registry schema items items' at (inr placed) in
-        let here : (u : Expression) → Denotes (HoldsExpression items) at u → (w : Expression) × SettledBut is_settled registry schema items' (at ∷ rest) at w × IsLike related registry schema u w = λ u e.
+        let here : (u : Expression) → Denotes (HoldsExpression items) at u → (w : Expression) × SettledBut is_settled items' (at ∷ rest) at w × IsLike related registry schema u w = λ u e.
         let now = placed_like is_settled measure related turns registry schema congruent items items' at root placed u e in
-        (now.tree, waiting_settled is_settled registry schema items' (at ∷ rest) at now.tree (inl refl) now.denotes, now.like) in
+        (now.tree, waiting_settled is_settled items' (at ∷ rest) at now.tree (inl refl) now.denotes, now.like) in
         record {
           trees = pending_stops (inr placed);
           waiting = all_weaker (IsTypedRoot is_settled registry schema items) (IsTypedRoot is_settled registry schema items') (typed_become is_settled related registry schema items items' becomes) (at ∷ rest) p.waiting;
-          settled = roots_step is_settled related registry schema congruent items items' at (at ∷ rest) (at ∷ rest) keeps becomes (λ n other w. w) here roots p.settled;
+          settled = roots_step is_settled related registry schema congruent steady items items' at (at ∷ rest) (at ∷ rest) keeps becomes (λ n other w. w) here roots p.settled;
         }
 
-    found_there : (tree : Expression) → Denotes (HoldsExpression items) at tree → typing registry schema tree ≡ Ok root.typed → IsFound is_settled registry schema items items' at → (inputs : List ℕ) × (op : Op) × HoldsExpression items' at op inputs × AreTypedRoots is_settled registry schema items' inputs × ((u : Expression) → Denotes (HoldsExpression items) at u → (w : Expression) × SettledBut is_settled registry schema items' (inputs ++ rest) at w × IsLike related registry schema u w)
+    found_there : (tree : Expression) → Denotes (HoldsExpression items) at tree → typing registry schema tree ≡ Ok root.typed → IsFound is_settled items items' at → (inputs : List ℕ) × (op : Op) × HoldsExpression items' at op inputs × AreTypedRoots is_settled registry schema items' inputs × ((u : Expression) → Denotes (HoldsExpression items) at u → (w : Expression) × SettledBut is_settled items' (inputs ++ rest) at w × IsLike related registry schema u w)
     found_there (node op ts) d is found =
         let held = grown_held items items' (found_grows found) at op d.0 d.1 in
         let below = children_grown items items' (found_grows found) d.0 ts d.2 in
@@ -305,14 +292,14 @@ module _ (is_settled : Op → Inputs → Bool) (measure : Op → Inputs → ℕ)
           d.0,
           op,
           held,
-          typed_inputs is_settled registry schema items' d.0 ts parts.below below parts.children_typed (λ all. all op (seen registry schema ts) parts.below calm parts.children_typed),
+          typed_inputs is_settled registry schema items' d.0 ts parts.below below parts.children_typed (λ all. all op ts parts.below calm parts.children_typed),
           λ u e.
               let one = denotes_one (shape_of (map expression_layer items)) (HoldsExpression items) (expression_laws items) at (node op ts) u d e in
-              subst (λ t. (w : Expression) × SettledBut is_settled registry schema items' (d.0 ++ rest) at w × IsLike related registry schema t w) one
-              (node op ts, inr (d.0, held, calm, all_waiting is_settled registry schema items' (d.0 ++ rest) d.0 ts (among_front d.0 rest) below), like_itself related registry schema congruent (node op ts)),
+              subst (λ t. (w : Expression) × SettledBut is_settled items' (d.0 ++ rest) at w × IsLike related registry schema t w) one
+              (node op ts, inr (d.0, held, calm, all_waiting is_settled items' (d.0 ++ rest) d.0 ts (among_front d.0 rest) below), like_itself related registry schema congruent (node op ts)),
         )
 
-    pub pending_finds : (tops : List ℕ) → IsFound is_settled registry schema items items' at → ((op : Op) (inputs : List ℕ) → HoldsExpression items' at op inputs → tops ≡ inputs ++ rest) → Pending is_settled related registry schema old items' tops roots
+    pub pending_finds : (tops : List ℕ) → IsFound is_settled items items' at → ((op : Op) (inputs : List ℕ) → HoldsExpression items' at op inputs → tops ≡ inputs ++ rest) → Pending is_settled related registry schema old items' tops roots
     pending_finds tops found pushed =
         let becomes = like_grown related registry schema congruent items items' (found_grows found) in
         let h = found_there root.tree root.denotes root.is found in
@@ -321,7 +308,7 @@ module _ (is_settled : Op → Inputs → Bool) (measure : Op → Inputs → ℕ)
         let now : Pending is_settled related registry schema old items' (h.0 ++ rest) roots = record {
           trees = stays_then related registry schema congruent transitive old items items' p.trees becomes;
           waiting = all_joined (IsTypedRoot is_settled registry schema items') h.0 rest h.3 others;
-          settled = roots_step is_settled related registry schema congruent items items' at (at ∷ rest) (h.0 ++ rest) (λ n op inputs other held. grown_held items items' (found_grows found) n op inputs held) becomes (λ n other w. ⊎_elim (λ e. absurd (other e)) (λ a. among_back h.0 rest n a) w) h.4 roots p.settled;
+          settled = roots_step is_settled related registry schema congruent steady items items' at (at ∷ rest) (h.0 ++ rest) (λ n op inputs other held. grown_held items items' (found_grows found) n op inputs held) becomes (λ n other w. ⊎_elim (λ e. absurd (other e)) (λ a. among_back h.0 rest n a) w) h.4 roots p.settled;
         } in
         subst (λ l. Pending is_settled related registry schema old items' l roots) (sym is) now
 
@@ -335,7 +322,7 @@ module _ (is_settled : Op → Inputs → Bool) (measure : Op → Inputs → ℕ)
 
 -- ---- what waits denotes trees
 
-pub turn_stopped : (is_settled : Op → Inputs → Bool) (measure : Op → Inputs → ℕ) (related : Expression → Expression → Type 0) (turns : Option ℕ) (registry : Registry) (schema : Columns) (items items' : List AExpr) (at : ℕ) (rest stack : List ℕ) (before steps : ℕ) → IsTurn is_settled measure related turns registry schema items items' at rest stack before steps → IsStopped is_settled measure related turns registry schema items items' at
+pub turn_stopped : (is_settled : Expression → Bool) (measure : Expression → ℕ) (related : Expression → Expression → Type 0) (turns : Option ℕ) (registry : Registry) (schema : Columns) (items items' : List AExpr) (at : ℕ) (rest stack : List ℕ) (before steps : ℕ) → IsTurn is_settled measure related turns registry schema items items' at rest stack before steps → IsStopped is_settled measure related turns registry schema items items' at
 turn_stopped is_settled measure related turns registry schema items items' at rest stack before steps turn =
     elim turn as (λ _. IsStopped is_settled measure related turns registry schema items items' at) [ places placed is counted ↦ inr placed | finds found pushed counted ↦ inl (found_grows found) ]
 
@@ -353,10 +340,10 @@ on_refusal (Err e) p = p
 pub memory_alone : (answer : Result Typed ErrorKind) (typed : Typed) (error : PlanError) → answer ≡ Ok typed → IsRefusal answer error → error ≡ no_memory
 memory_alone answer typed error is refused = elim refused as (λ _. error ≡ no_memory) [ no_room e ↦ e | broken kind e of ↦ cc ]
 
-pub no_memory_left : (is_settled : Op → Inputs → Bool) (turns : Option ℕ) (registry : Registry) (schema : Columns) (old new : List AExpr) (roots : List ℕ) → IsCoercionRefusal is_settled turns registry schema old new roots no_memory
+pub no_memory_left : (is_settled : Expression → Bool) (turns : Option ℕ) (registry : Registry) (schema : Columns) (old new : List AExpr) (roots : List ℕ) → IsCoercionRefusal is_settled turns registry schema old new roots no_memory
 no_memory_left is_settled turns registry schema old new roots = record { cause = inl refl; typed = λ all. refl; numbers = λ n e none all. refl }
 
-pub found_now : (is_settled : Op → Inputs → Bool) (measure : Op → Inputs → ℕ) (related : Expression → Expression → Type 0) (registry : Registry) (schema : Columns) (old grown : List AExpr) (at : ℕ) (answer : Option AExpr) → answer ≡ None → (answer ≡ None → grown ≡ old) → ((t : Expression) → Denotes (HoldsExpression old) at t → MatchOption answer (said is_settled registry schema t ≡ true) (λ item. IsReplacement related measure registry schema old (set grown at item) at t)) → IsFound is_settled registry schema old grown at
+pub found_now : (is_settled : Expression → Bool) (measure : Expression → ℕ) (related : Expression → Expression → Type 0) (registry : Registry) (schema : Columns) (old grown : List AExpr) (at : ℕ) (answer : Option AExpr) → answer ≡ None → (answer ≡ None → grown ≡ old) → ((t : Expression) → Denotes (HoldsExpression old) at t → MatchOption answer (is_settled t ≡ true) (λ item. IsReplacement related measure registry schema old (set grown at item) at t)) → IsFound is_settled old grown at
 found_now is_settled measure related registry schema old grown at None is g said_so = record { same = g is; is = said_so }
 found_now is_settled measure related registry schema old grown at (Some item) is g said_so = cc
 
@@ -364,8 +351,8 @@ pub some_said : {T : Type 0} (P : Type 0) (Q : T → Type 0) (answer : Option T)
 some_said P Q None x is h = cc
 some_said P Q (Some y) x is h = let same : y ≡ x = cc in subst Q same h
 
-module _ (is_settled : Op → Inputs → Bool) (measure : Op → Inputs → ℕ) (related : Expression → Expression → Type 0) (turns : Option ℕ) (registry : Registry) (schema : Columns) (old grown : List AExpr) (at : ℕ) where
-  pub placed_now : (new : List AExpr) (item : AExpr) (answer : Option AExpr) → answer ≡ Some item → Grows old grown → new ≡ set grown at item → ((t : Expression) → Denotes (HoldsExpression old) at t → MatchOption answer (said is_settled registry schema t ≡ true) (λ item. IsReplacement related measure registry schema old (set grown at item) at t)) → ((t : Expression) (typed : Typed) → answer ≢ None → Denotes (HoldsExpression old) at t → typing registry schema t ≡ Ok typed → is_known typed.type ≡ false → SettlesNoNumber is_settled) → MatchOption answer Unit (λ item. (n : ℕ) → turns ≡ Some n → IsClosed old (at ∷ []) (set grown at item)) → MatchOption answer Unit (λ item. (n : ℕ) → turns ≡ Some n → StaysOnce old (set grown at item) at) → IsPlaced is_settled measure related turns registry schema old new at
+module _ (is_settled : Expression → Bool) (measure : Expression → ℕ) (related : Expression → Expression → Type 0) (turns : Option ℕ) (registry : Registry) (schema : Columns) (old grown : List AExpr) (at : ℕ) where
+  pub placed_now : (new : List AExpr) (item : AExpr) (answer : Option AExpr) → answer ≡ Some item → Grows old grown → new ≡ set grown at item → ((t : Expression) → Denotes (HoldsExpression old) at t → MatchOption answer (is_settled t ≡ true) (λ item. IsReplacement related measure registry schema old (set grown at item) at t)) → ((t : Expression) (typed : Typed) → answer ≢ None → Denotes (HoldsExpression old) at t → typing registry schema t ≡ Ok typed → is_known typed.type ≡ false → SettlesNoNumber is_settled registry schema) → MatchOption answer Unit (λ item. (n : ℕ) → turns ≡ Some n → IsClosed old (at ∷ []) (set grown at item)) → MatchOption answer Unit (λ item. (n : ℕ) → turns ≡ Some n → StaysOnce old (set grown at item) at) → IsPlaced is_settled measure related turns registry schema old new at
   placed_now new item None is g put answered numbers reaches once = cc
   placed_now new item (Some one) is g put answered numbers reaches once =
       let same : one ≡ item = cc in

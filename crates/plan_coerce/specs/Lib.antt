@@ -1,8 +1,11 @@
 -- What the contracts of this crate cite.
 pub mod CoercedLaws
 pub mod Coercion
+pub mod InlinedCasts
+pub mod InliningLaws
 pub mod Optimizer
 pub mod Reaching
+pub mod RuleLaws
 pub mod Rules
 pub mod Samples
 pub mod Turns

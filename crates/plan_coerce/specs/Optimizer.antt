@@ -10,7 +10,7 @@ use Rattle.plan_dsl.specs.Registry.{Registry}
 use Rattle.plan_dsl.specs.Ops.{Op, Expression}
 use Rattle.plan_dsl.specs.Trees.{Trees, node, no_more, more}
 use Rattle.plan_dsl.specs.Plans.{Named, PlanKind, FilterKind}
-use Rattle.plan_dsl.specs.Strictness.{IsStrict}
+use Rattle.plan_dsl.specs.Strictness.{IsSame, IsStrict}
 use Rattle.plan_dsl.specs.Typing.{Typed, typing}
 use Rattle.plan_arena.specs.declared.aexpr.AExpr.{AExpr}
 use Rattle.plan_arena.specs.declared.ir.IR.{IR}
@@ -18,8 +18,9 @@ use Rattle.plan_arena.specs.Denotation.{Denotes, DenotesTree}
 use Rattle.plan_arena.specs.Items.{HoldsExpression, expression_layer, numbers, passed}
 use Rattle.plan_coerce.specs.declared.stack_opt.ConversionOptimizer.{ConversionOptimizer}
 use Rattle.plan_coerce.specs.Coercion.{KeepsBelow}
+use Rattle.plan_coerce.specs.InlinedCasts.{written_out}
 use Rattle.plan_coerce.specs.Reaching.{Among, AreOnce, HaveNodes, IsReached, Near}
-use Rattle.plan_coerce.specs.Rules.{HasSameCasts, Inputs, IsLike, IsPlanReplacement, IsSettledPlan, SettlesNoNumber, StandsOver, seen}
+use Rattle.plan_coerce.specs.Rules.{HasSameCasts, IsLike, IsPlanReplacement, IsSettledPlan, SettlesNoNumber, StandsOver}
 
 -- the nodes at which coercion starts, and these with their inputs
 abbrev pub roots_of : ConversionOptimizer → List ℕ
@@ -39,18 +40,18 @@ all_with_inputs items (n ∷ ns) = with_inputs items n ++ all_with_inputs items 
 
 -- each node of the expression is settled
 abbrev mutual
-  pub IsSettled : (Op → Inputs → Bool) → Registry → Columns → Expression → Type 0
-  IsSettled settled registry schema (node op children) = (settled op (seen registry schema children) ≡ true) × AreSettled settled registry schema children
+  pub IsSettled : (Expression → Bool) → Expression → Type 0
+  IsSettled settled (node op children) = (settled (node op children) ≡ true) × AreSettled settled children
 
-  pub AreSettled : (Op → Inputs → Bool) → Registry → Columns → Trees Op → Type 0
-  AreSettled settled registry schema no_more = Unit
-  AreSettled settled registry schema (more child rest) = IsSettled settled registry schema child × AreSettled settled registry schema rest
+  pub AreSettled : (Expression → Bool) → Trees Op → Type 0
+  AreSettled settled no_more = Unit
+  AreSettled settled (more child rest) = IsSettled settled child × AreSettled settled rest
 
 -- the node denotes an expression of which each node is settled
-pub record DenotesSettled (settled : Op → Inputs → Bool) (registry : Registry) (schema : Columns) (items : List AExpr) (n : ℕ) : Type 0 where
+pub record DenotesSettled (settled : Expression → Bool) (items : List AExpr) (n : ℕ) : Type 0 where
   pub tree : Expression
   pub denotes : Denotes (HoldsExpression items) n tree
-  pub each : IsSettled settled registry schema tree
+  pub each : IsSettled settled tree
 
 -- the node denotes an expression of the same type, name and meaning that is related
 pub record DenotesLike (related : Expression → Expression → Type 0) (registry : Registry) (schema : Columns) (items : List AExpr) (n : ℕ) (before : Expression) : Type 0 where
@@ -64,29 +65,29 @@ StaysLike related registry schema old new =
     (n : ℕ) (t : Expression) → Denotes (HoldsExpression old) n t → DenotesLike related registry schema new n t
 
 -- a root that is typed; where no node over a number without a type is settled, it is no such number
-pub record IsTypedRoot (settled : Op → Inputs → Bool) (registry : Registry) (schema : Columns) (items : List AExpr) (n : ℕ) : Type 0 where
+pub record IsTypedRoot (settled : Expression → Bool) (registry : Registry) (schema : Columns) (items : List AExpr) (n : ℕ) : Type 0 where
   pub tree : Expression
   pub denotes : Denotes (HoldsExpression items) n tree
   pub typed : Typed
   pub is : typing registry schema tree ≡ Ok typed
-  pub known : SettlesNoNumber settled → is_known typed.type ≡ true
+  pub known : SettlesNoNumber settled registry schema → is_known typed.type ≡ true
 
 -- all of them are
-abbrev pub AreTypedRoots : (Op → Inputs → Bool) → Registry → Columns → List AExpr → List ℕ → Type 0
+abbrev pub AreTypedRoots : (Expression → Bool) → Registry → Columns → List AExpr → List ℕ → Type 0
 AreTypedRoots settled registry schema items roots = AllByRecursion (IsTypedRoot settled registry schema items) roots
 
 -- What becomes of a root that is a number without a type, or stands over one by aliases: each node is settled, and the
 -- expression is like the one that has the type that the number has alone, or it was settled as it was.
-pub record EndsTyped (settled : Op → Inputs → Bool) (related : Expression → Expression → Type 0) (registry : Registry) (schema : Columns) (items : List AExpr) (n : ℕ) (before : Expression) : Type 0 where
+pub record EndsTyped (settled : Expression → Bool) (related : Expression → Expression → Type 0) (registry : Registry) (schema : Columns) (items : List AExpr) (n : ℕ) (before : Expression) : Type 0 where
   pub tree : Expression
   pub denotes : Denotes (HoldsExpression items) n tree
-  pub each : IsSettled settled registry schema tree
+  pub each : IsSettled settled tree
   pub like : IsLike related registry schema (with_own_type before) tree ⊎ (tree ≡ before)
 
 -- so of a root that stands alone, where no node over such a number is settled
-abbrev pub TypesNumber : (Op → Inputs → Bool) → (Expression → Expression → Type 0) → Registry → Columns → List AExpr → List AExpr → List ℕ → Type 0
+abbrev pub TypesNumber : (Expression → Bool) → (Expression → Expression → Type 0) → Registry → Columns → List AExpr → List AExpr → List ℕ → Type 0
 TypesNumber settled related registry schema old new roots =
-    (root : ℕ) (number : ℤ) (many : Bool) (t : Expression) → SettlesNoNumber settled → roots ≡ root ∷ [] → Denotes (HoldsExpression old) root t → typing registry schema t ≡ Ok (record { type = Untyped number; many = many }) → EndsTyped settled related registry schema new root t
+    (root : ℕ) (number : ℤ) (many : Bool) (t : Expression) → SettlesNoNumber settled registry schema → roots ≡ root ∷ [] → Denotes (HoldsExpression old) root t → typing registry schema t ≡ Ok (record { type = Untyped number; many = many }) → EndsTyped settled related registry schema new root t
 
 -- the node denotes a number without a type, or what stands over one by aliases
 pub record IsNumberRoot (registry : Registry) (schema : Columns) (items : List AExpr) (n : ℕ) : Type 0 where
@@ -97,7 +98,7 @@ pub record IsNumberRoot (registry : Registry) (schema : Columns) (items : List A
   pub is : typing registry schema tree ≡ Ok (record { type = Untyped number; many = many })
 
 -- roots that are typed, and numbers without a type to which no other root leads
-pub record AreRoots (settled : Op → Inputs → Bool) (registry : Registry) (schema : Columns) (items : List AExpr) (roots : List ℕ) : Type 0 where
+pub record AreRoots (settled : Expression → Bool) (registry : Registry) (schema : Columns) (items : List AExpr) (roots : List ℕ) : Type 0 where
   pub each : AllByRecursion (λ n. IsTypedRoot settled registry schema items n ⊎ IsNumberRoot registry schema items n) roots
   pub apart : (front back : List ℕ) (m : ℕ) → roots ≡ front ++ m ∷ back → IsNumberRoot registry schema items m → (n : ℕ) → Among (front ++ back) n → ¬ (IsReached items (n ∷ []) m)
 
@@ -107,8 +108,8 @@ StaysLikeBeside related registry schema old new roots =
     (n : ℕ) (t : Expression) → Denotes (HoldsExpression old) n t → ((m : ℕ) → Among roots m → IsNumberRoot registry schema old m → ¬ (IsReached old (n ∷ []) m)) → DenotesLike related registry schema new n t
 
 -- a root ends settled, and where it was such a number, as one of the type that the number has alone
-pub record EndsSettled (settled : Op → Inputs → Bool) (related : Expression → Expression → Type 0) (registry : Registry) (schema : Columns) (old new : List AExpr) (n : ℕ) : Type 0 where
-  pub each : DenotesSettled settled registry schema new n
+pub record EndsSettled (settled : Expression → Bool) (related : Expression → Expression → Type 0) (registry : Registry) (schema : Columns) (old new : List AExpr) (n : ℕ) : Type 0 where
+  pub each : DenotesSettled settled new n
   pub number : (number : ℤ) (many : Bool) (t : Expression) → Denotes (HoldsExpression old) n t → typing registry schema t ≡ Ok (record { type = Untyped number; many = many }) → EndsTyped settled related registry schema new n t
 
 -- the nodes denote finite trees
@@ -146,10 +147,10 @@ pub record IsRefusedAt (turns : Option ℕ) (registry : Registry) (schema : Colu
 
 -- Why coercion is refused: memory is wanting, or such a typing is refused. Over typed roots it is the former, and so where
 -- some are numbers without a type that stand apart, by a rule that says how often a node is replaced.
-pub record IsCoercionRefusal (settled : Op → Inputs → Bool) (turns : Option ℕ) (registry : Registry) (schema : Columns) (old new : List AExpr) (roots : List ℕ) (error : PlanError) : Type 0 where
+pub record IsCoercionRefusal (settled : Expression → Bool) (turns : Option ℕ) (registry : Registry) (schema : Columns) (old new : List AExpr) (roots : List ℕ) (error : PlanError) : Type 0 where
   pub cause : (error ≡ no_memory) ⊎ IsRefusedAt turns registry schema old new roots error
   pub typed : AreTypedRoots settled registry schema old roots → error ≡ no_memory
-  pub numbers : (n : ℕ) → turns ≡ Some n → SettlesNoNumber settled → AreRoots settled registry schema old roots → error ≡ no_memory
+  pub numbers : (n : ℕ) → turns ≡ Some n → SettlesNoNumber settled registry schema → AreRoots settled registry schema old roots → error ≡ no_memory
 
 -- where the plan's node is a filter, the schema is the one that goes into it
 abbrev pub StaysOver : Registry → List AExpr → List IR → ℕ → Columns → Type 0
@@ -167,3 +168,17 @@ pub record IsCoerced (registry : Registry) (schema : Columns) (first : ℕ) (old
   pub below : KeepsBelow first old new
   pub trees : StaysLike (HasSameCasts registry schema) registry schema old new
   pub strict : AllByRecursion (λ n. (t : Expression) × Denotes (HoldsExpression new) n t × IsStrict registry schema t) roots
+
+-- the node denotes the expression with every cast written out, without those that go. It says the same, and is strict
+pub record IsWrittenOut (registry : Registry) (schema : Columns) (items : List AExpr) (n : ℕ) (before : Expression) : Type 0 where
+  pub tree : Expression
+  pub denotes : Denotes (HoldsExpression items) n tree
+  pub same : IsSame registry schema before tree
+  pub strict : IsStrict registry schema tree
+  pub is : tree ≡ written_out registry schema before
+
+-- What both rules leave of these roots, one behind the other: items below the number stay, and each root denotes what it
+-- did, written out.
+pub record AreWrittenOut (registry : Registry) (schema : Columns) (first : ℕ) (old new : List AExpr) (roots : List ℕ) : Type 0 where
+  pub below : KeepsBelow first old new
+  pub each : AllByRecursion (λ n. (t : Expression) → Denotes (HoldsExpression old) n t → IsWrittenOut registry schema new n t) roots

@@ -1,6 +1,7 @@
 -- Rules that put nodes in place of others.
--- What a rule says of a node of an expression goes by what the node does, and by what is seen of its inputs: their names
--- and typings. Of a plan's node it goes by the node's kind, and by the schema that goes into it.
+-- What a rule says of a node goes by the expression that it denotes. Where it goes by what the node does and by what is
+-- seen of its inputs alone, their names and typings, it stays so where inputs are put in place by others that are like them.
+-- What is said of a plan's node goes by the node's kind, and by the schema that goes into it.
 use Rattle.std.specs.Prelude.{◌≡◌, ◌<◌, ◌≤◌, ℕ, ℤ, Bool, true, false, List, [], ◌∷◌, length, Some, Result, Ok, Err, if◌then◌else◌}
 use Rattle.std.specs.List.{AllByRecursion}
 use Rattle.plan_types.specs.Types.{Untyped, is_known, is_truth}
@@ -55,22 +56,27 @@ IsCongruent related registry schema =
 abbrev pub IsTransitive : (Expression → Expression → Type 0) → Type 0
 IsTransitive related = (t u w : Expression) → related t u → related u w → related t w
 
+-- a node over children that are so related is settled just where the node over the others is
+abbrev pub IsSteady : (Expression → Bool) → (Expression → Expression → Type 0) → Registry → Columns → Type 0
+IsSteady settled related registry schema =
+    (op : Op) (before after : Trees Op) → AllRelated (IsLike related registry schema) before after → settled (node op after) ≡ settled (node op before)
+
 -- no node is called settled of which an input is a number without a type
-abbrev pub SettlesNoNumber : (Op → Inputs → Bool) → Type 0
-SettlesNoNumber settled =
-    (op : Op) (inputs : Inputs) (typed : List Typed) → settled op inputs ≡ true → inputs.typings ≡ Ok typed → AllByRecursion (λ (t : Typed). is_known t.type ≡ true) typed
+abbrev pub SettlesNoNumber : (Expression → Bool) → Registry → Columns → Type 0
+SettlesNoNumber settled registry schema =
+    (op : Op) (children : Trees Op) (typed : List Typed) → settled (node op children) ≡ true → typing_all registry schema children ≡ Ok typed → AllByRecursion (λ (t : Typed). is_known t.type ≡ true) typed
 
 -- What is put in place of a node that denoted the tree: the arena with it denotes a finite tree there, which has the type,
 -- name and meaning of the old one, is related to it, and is no number without a type. A number without a type that was
 -- there counts as one of the type that it has alone. The measure falls, that of each new node below is smaller too, and
 -- each number without a type below was there before.
-pub record IsReplacement (related : Expression → Expression → Type 0) (measure : Op → Inputs → ℕ) (registry : Registry) (schema : Columns) (old new : List AExpr) (at : ℕ) (before : Expression) : Type 0 where
+pub record IsReplacement (related : Expression → Expression → Type 0) (measure : Expression → ℕ) (registry : Registry) (schema : Columns) (old new : List AExpr) (at : ℕ) (before : Expression) : Type 0 where
   pub tree : Expression
   pub denotes : Denotes (HoldsExpression new) at tree
   pub like : (typed : Typed) → typing registry schema before ≡ Ok typed → IsLike related registry schema (settled before) tree
   pub known : (typed : Typed) → typing registry schema tree ≡ Ok typed → is_known typed.type ≡ true
-  pub falls : said measure registry schema tree < said measure registry schema before
-  pub fresh : (n : ℕ) (t : Expression) → length old ≤ n → IsReached new (at ∷ []) n → Denotes (HoldsExpression new) n t → said measure registry schema t < said measure registry schema before
+  pub falls : measure tree < measure before
+  pub fresh : (n : ℕ) (t : Expression) → length old ≤ n → IsReached new (at ∷ []) n → Denotes (HoldsExpression new) n t → measure t < measure before
   pub numbers : (n : ℕ) (number : ℤ) (value : Val) (inputs : List ℕ) → IsReached new (at ∷ []) n → HoldsExpression new n (LiteralOp (Untyped number) value) inputs → IsReached old (at ∷ []) n
 
 -- the table keeps a number's own type for the node

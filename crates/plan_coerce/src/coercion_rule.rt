@@ -21,6 +21,7 @@ ghost use Rattle.plan_coerce.specs.CoercedLaws.{same_casts_congruent, same_casts
 ghost use Rattle.plan_coerce.specs.Coercion.{AllReady, AllStrictFrom, IsOverOperands};
 ghost use Rattle.plan_coerce.specs.Reaching.{AreMadeOnce, IsClosed, Near, StaysOnce};
 ghost use Rattle.plan_coerce.specs.Rules.{HasSameCasts, IsReplacement, KeepsNumber, is_strict_node, said, until_strict};
+ghost use Rattle.plan_coerce.specs.RuleLaws.{said_steady};
 
 use crate::rule::OptimizationRule;
 use crate::type_coercion::{number_under, operands_to};
@@ -43,9 +44,9 @@ use std::sync::ledger::Ledger;
 pub struct TypeCoercionRule;
 
 impl OptimizationRule for TypeCoercionRule {
-    ghost settled = { λ rule. is_strict_node };
+    ghost settled = { λ rule registry schema. said (is_strict_node registry schema) registry schema };
 
-    ghost measure = { λ rule. until_strict };
+    ghost measure = { λ rule registry schema. said (until_strict registry schema) registry schema };
 
     ghost turns = { λ rule. Some 8 };
 
@@ -58,6 +59,8 @@ impl OptimizationRule for TypeCoercionRule {
     ghost congruent = { λ rule. same_casts_congruent };
 
     ghost transitive = { λ rule. same_casts_transitive };
+
+    ghost steady = { λ rule registry schema. said_steady (is_strict_node registry schema) (HasSameCasts registry schema) registry schema };
 
     ghost bounded = { λ rule. until_strict_bounded };
 
@@ -127,7 +130,7 @@ fn item_for(
     requires kept { IsKept types.old node.0 }
     ensures answer { IfOk result (λ answer. (registry : Registry) (schema : Columns) (t : Expression) → IsRight registry schema arena.old types.old →
         Denotes (HoldsExpression arena.old) node.0 t → MatchOption answer (said (is_strict_node registry schema) registry schema t ≡ true)
-        (λ item. IsReplacement (HasSameCasts registry schema) (until_strict registry schema) registry schema arena.old (set arena.new node.0 item) node.0 t)) }
+        (λ item. IsReplacement (HasSameCasts registry schema) (said (until_strict registry schema) registry schema) registry schema arena.old (set arena.new node.0 item) node.0 t)) }
     ensures reaches { IfOk result (λ answer. MatchOption answer Unit (λ item. IsClosed arena.old (node.0 ∷ []) (set arena.new node.0 item))) }
     ensures once { IfOk result (λ answer. MatchOption answer Unit (λ item. StaysOnce arena.old (set arena.new node.0 item) node.0)) }
     ensures placed { IfOk result (λ answer. MatchOption answer Unit (λ item. (registry : Registry) (schema : Columns) → IsRight registry schema arena.old types.old →

@@ -1,6 +1,7 @@
 //! Casts round operands, so that each node has operands of the types to which it takes them.
 #![tactic(auto)]
 
+pub mod cast_inlining;
 pub mod coercion_rule;
 mod examples;
 pub mod rule;

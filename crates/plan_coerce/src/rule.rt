@@ -3,7 +3,7 @@ ghost use Rattle.std.specs.Prelude.{◌≡◌, ◌≢◌, ◌≤◌, ℕ, Bool, 
 ghost use Rattle.plan_types.specs.Errors.{IsRefusal, no_memory};
 ghost use Rattle.plan_types.specs.Types.{is_known};
 ghost use Rattle.plan_types.specs.Schemas.{Columns, columns};
-ghost use Rattle.plan_dsl.specs.Ops.{Op, Expression};
+ghost use Rattle.plan_dsl.specs.Ops.{Expression};
 ghost use Rattle.plan_dsl.specs.Plans.{Named, PlanKind, FilterKind};
 ghost use Rattle.plan_dsl.specs.Registry.{Registry, registry};
 ghost use Rattle.plan_dsl.specs.Typing.{Typed, typing};
@@ -11,7 +11,7 @@ ghost use Rattle.plan_arena.specs.Denotation.{Denotes, DenotesTree};
 ghost use Rattle.plan_arena.specs.Items.{Grows, HoldsExpression};
 ghost use Rattle.plan_infer.specs.KeptTypes.{IsRight};
 ghost use Rattle.plan_coerce.specs.Reaching.{IsClosed, StaysOnce};
-ghost use Rattle.plan_coerce.specs.Rules.{HasAcceptedInputs, Inputs, IsCongruent, IsPlanReplacement, IsReplacement, IsSettledPlan, IsTransitive, KeepsNumber, RefusesPredicate, SettlesNoNumber, StandsOver, said};
+ghost use Rattle.plan_coerce.specs.Rules.{HasAcceptedInputs, IsCongruent, IsPlanReplacement, IsReplacement, IsSettledPlan, IsSteady, IsTransitive, KeepsNumber, RefusesPredicate, SettlesNoNumber, StandsOver};
 
 use plan_arena::aexpr::AExpr;
 use plan_arena::arena::{Arena, Node};
@@ -25,11 +25,11 @@ use std::sync::ledger::Ledger;
 
 /// A rule that answers for a node what is to be put in its place, if anything.
 pub trait OptimizationRule {
-    // Whether a node of an expression is settled.
-    ghost settled: { Self → Registry → Columns → Op → Inputs → Bool };
+    // Whether a node that denotes the expression is settled.
+    ghost settled: { Self → Registry → Columns → Expression → Bool };
 
     // The measure of such a node, which falls as it is replaced.
-    ghost measure: { Self → Registry → Columns → Op → Inputs → ℕ };
+    ghost measure: { Self → Registry → Columns → Expression → ℕ };
 
     // How often a node may be replaced, if that is known.
     ghost turns: { Self → Option ℕ };
@@ -86,11 +86,11 @@ pub trait OptimizationRule {
         requires tree { DenotesTree (HoldsExpression expr_arena.old) node.0 }
         requires right { IsRight (registry udfs.now) (columns schema.now) expr_arena.old types.old }
         ensures answer { IfOk result (λ answer. (t : Expression) → Denotes (HoldsExpression expr_arena.old) node.0 t → MatchOption answer
-            (said (settled self.now (registry udfs.now) (columns schema.now)) (registry udfs.now) (columns schema.now) t ≡ true)
+            (settled self.now (registry udfs.now) (columns schema.now) t ≡ true)
             (λ item. IsReplacement (related self.now (registry udfs.now) (columns schema.now)) (measure self.now (registry udfs.now) (columns schema.now)) (registry udfs.now) (columns schema.now)
             expr_arena.old (set expr_arena.new node.0 item) node.0 t)) }
         ensures numbers { IfOk result (λ answer. (t : Expression) (typed : Typed) → answer ≢ None → Denotes (HoldsExpression expr_arena.old) node.0 t →
-            typing (registry udfs.now) (columns schema.now) t ≡ Ok typed → is_known typed.type ≡ false → SettlesNoNumber (settled self.now (registry udfs.now) (columns schema.now))) }
+            typing (registry udfs.now) (columns schema.now) t ≡ Ok typed → is_known typed.type ≡ false → SettlesNoNumber (settled self.now (registry udfs.now) (columns schema.now)) (registry udfs.now) (columns schema.now)) }
         ensures reaches { IfOk result (λ answer. MatchOption answer Unit (λ item. (n : ℕ) → turns self.now ≡ Some n →
             IsClosed expr_arena.old (node.0 ∷ []) (set expr_arena.new node.0 item))) }
         ensures once { IfOk result (λ answer. MatchOption answer Unit (λ item. (n : ℕ) → turns self.now ≡ Some n →
@@ -108,7 +108,11 @@ pub trait OptimizationRule {
 
     ghost transitive: { (rule : Self) (registry : Registry) (schema : Columns) → IsTransitive (related rule registry schema) };
 
+    // A node that is settled stays so while its inputs are replaced. Where that is said of nodes by their ops and by the names
+    // and typings of their inputs, it holds by `said_steady`.
+    ghost steady: { (rule : Self) (registry : Registry) (schema : Columns) → IsSteady (settled rule registry schema) (related rule registry schema) registry schema };
+
     // A measure is at most the number of turns, where there is one.
-    ghost bounded: { (rule : Self) (registry : Registry) (schema : Columns) (op : Op) (inputs : Inputs) (n : ℕ) →
-        turns rule ≡ Some n → measure rule registry schema op inputs ≤ n };
+    ghost bounded: { (rule : Self) (registry : Registry) (schema : Columns) (t : Expression) (n : ℕ) →
+        turns rule ≡ Some n → measure rule registry schema t ≤ n };
 }

@@ -1,6 +1,6 @@
 //! The rule that a filter's predicate has the type of truth values.
 ghost use Rattle.std.specs.Prelude.{◌≡◌, true, Some, IfErr, OnOk, false};
-ghost use Rattle.std.proofs.Common.{zero-le};
+ghost use Rattle.std.proofs.Common.{refl, zero-le};
 ghost use Rattle.plan_types.specs.Errors.{IsRefusal};
 ghost use Rattle.plan_types.specs.Schemas.{columns};
 ghost use Rattle.plan_types.specs.Types.{is_truth, ty};
@@ -30,9 +30,9 @@ use std::sync::ledger::Ledger;
 pub struct TypeCheckRule;
 
 impl OptimizationRule for TypeCheckRule {
-    ghost settled = { λ rule registry schema op inputs. true };
+    ghost settled = { λ rule registry schema t. true };
 
-    ghost measure = { λ rule registry schema op inputs. 0 };
+    ghost measure = { λ rule registry schema t. 0 };
 
     ghost turns = { λ rule. Some 1 };
 
@@ -46,7 +46,9 @@ impl OptimizationRule for TypeCheckRule {
 
     ghost transitive = { λ rule registry schema t u w a b. tt };
 
-    ghost bounded = { λ rule registry schema op inputs n is. zero-le };
+    ghost steady = { λ rule registry schema op before after all. refl };
+
+    ghost bounded = { λ rule registry schema t n is. zero-le };
 
     fn optimize_plan<M: Ledger>(
         &self,

@@ -16,7 +16,7 @@ use Rattle.plan_dsl.specs.Registry.{Registry}
 use Rattle.plan_dsl.specs.Trees.{node, no_more, more}
 use Rattle.plan_dsl.specs.Ops.{Expression}
 use Rattle.plan_dsl.specs.Names.{Label, label_of, name_of}
-use Rattle.plan_dsl.specs.Plans.{PlanOp, Plan, SourcePlan, Named, named, RefusedKind, scan_op, select_op, hstack_op, filter_op, expressions_of, own_scans}
+use Rattle.plan_dsl.specs.Plans.{PlanOp, Plan, SourcePlan, Named, named, RefusedKind, scan_op, select_op, hstack_op, filter_op, over_input, expressions_of, own_scans}
 use Rattle.plan_dsl.specs.Sources.{Source}
 use Rattle.plan_dsl.specs.Refusals.{then_ok, with_kinds}
 use Rattle.plan_dsl.specs.Resolving.{expanded_kind, resolved}
@@ -31,11 +31,14 @@ use Rattle.plan_dsl.proofs.FrameLemmas.{fits_input, fits_over}
 use Rattle.plan_dsl.proofs.KernelLemmas.{AgreeOn, selected_agrees, hstacked_agrees, filtered_agrees}
 use Rattle.plan_dsl.proofs.LiteralLemmas.{strict_settled, settled_label}
 use Rattle.plan_dsl.proofs.AliasLemmas.{core_label, core_none}
+use Rattle.plan_coerce.specs.Coercion.{coerced}
 use Rattle.plan_coerce.proofs.CoercedLemmas.{coerced_core}
+use Rattle.plan_coerce.proofs.InliningLemmas.{inlined_core}
 use Rattle.plan_dsl.proofs.RunLemmas.{strict_is_meaning}
 use Rattle.plan_dsl.proofs.RuleLemmas.{scan_schema, scan_unknown_kind, select_schema, select_refused_kind, select_repeated_name, hstack_schema, hstack_refused_kind, hstack_repeated_name, filter_schema, filter_refused_kind, filter_other_type, broken_is_ill_formed}
 use Rattle.plan_arena.specs.Runs.{AreStrict, HasOwnName, HasRecorded, HaveOwnNames, IsStrictCore, by_running, plan_run}
 use Rattle.plan_arena.proofs.RunLemmas.{runs_soundly, sound_top}
+use Rattle.plan_bounds.proofs.BoundLemmas.{AreWithin, AllWithin, none_within, more_within, nothing_within, all_within, over_bounded, over_nothing, scan_bounded, split_bounded}
 use Rattle.plan_expand.specs.Refusals.{IsUnexpanded, no_room as no_place, unexpanded}
 use Rattle.plan_lower.specs.Outputs.{Lowered, IsLowered, lowered_named, lowered_column, lowered_select, lowered_hstack, SelectsTo}
 use Rattle.plan_lower.specs.Projection.{IsOutputRefusal, no_room, untyped, repeated, IsProjectionRefusal, out_of_memory as no_space, refused}
@@ -74,6 +77,7 @@ module _ (registry : Registry) where
         split = (tt, tt);
         fits = λ tables f. f;
         same = λ tables f. refl;
+        bounds = scan_bounded registry table schema;
       }
 
   pub each_typed : (schema : Columns) (outputs : List Lowered) → AllByRecursion (IsLowered registry schema) outputs → AllByRecursion (λ (o : Lowered). typing registry schema (settled (core o.tree)) ≡ Ok o.typed) outputs
@@ -90,7 +94,7 @@ module _ (registry : Registry) where
   -- what stands for an expression has no aliases
   after_core : (schema : Columns) (o : Lowered) → IsLowered registry schema o → IsCore o.after
   after_core schema o is =
-      subst IsCore (sym is.casts) (coerced_core registry schema (settled (core o.tree)) (core_none registry schema o.tree o.typed is.typed))
+      subst IsCore (sym is.casts) (inlined_core (coerced registry schema (settled (core o.tree))) (coerced_core registry schema (settled (core o.tree)) (core_none registry schema o.tree o.typed is.typed)))
 
   strict_core : (schema : Columns) (o : Lowered) → IsLowered registry schema o → IsStrictCore registry schema o.after
   strict_core schema o is = (after_core schema o is, is.strict)
@@ -122,6 +126,14 @@ module _ (registry : Registry) where
   built_meets source lowered schema tables built fits =
       subst (λ s. MeetsWhere s (plan_run registry tables lowered)) built.lowered_schema (sound_top registry tables lowered built.accepted (runs_soundly registry tables lowered built.accepted built.strict (built.fits tables fits)))
 
+  -- what stands for expressions has no more casts and nodes than they call for
+  pub each_within : (schema : Columns) (outputs : List Lowered) → AllByRecursion (IsLowered registry schema) outputs → AreWithin registry schema (map (λ (o : Lowered). named o.tree) outputs) (map lowered_named outputs)
+  each_within schema [] each = none_within registry schema
+  each_within schema (o ∷ os) each = more_within registry schema (named o.tree) (lowered_named o) o.typed _ _ each.0.typed each.0.casts (each_within schema os each.1)
+
+  only_within : (schema : Columns) (outputs : List Lowered) → AllByRecursion (IsLowered registry schema) outputs → AllWithin registry schema (over_input 0 (map (λ (o : Lowered). named o.tree) outputs) ∷ []) (over_input 0 (map lowered_named outputs) ∷ [])
+  only_within schema outputs each = all_within registry schema _ _ [] [] (each_within schema outputs each) (nothing_within registry schema)
+
   abbrev source_outputs : List Lowered → List (Named Expression)
   source_outputs outputs = map (λ (o : Lowered). named o.tree) outputs
 
@@ -132,9 +144,10 @@ module _ (registry : Registry) where
   over_schema op input schema own there rule = ap (λ s. plan_rule registry op (s ∷ [])) there ∙ rule
 
   -- a node over what was built from its input: both have the schema over the input's, and it records that or none; its
-  -- expressions are strict and named, and give over frames of the input's schema what those of the query's node give
-  pub over_built : (before op : PlanOp (Named Expression)) (source lowered : Plan) (schema own : Columns) → IsBuilt registry source lowered schema → plan_rule registry before (Some schema ∷ []) ≡ Some own → plan_rule registry op (Some schema ∷ []) ≡ Some own → HasRecorded op.recorded (Some own) → AreStrict registry (Some schema ∷ []) (expressions_of op.kind) → HaveOwnNames (expressions_of op.kind) → IsWhole op.kind → own_scans op.kind ≡ [] → ((tables : List Frame) (input : Outcome Frame) → Meets (IsFrameOf schema) input → plan_kernel tables (by_running registry) op (input ∷ []) ≡ plan_kernel tables (by_meaning registry) before (input ∷ [])) → IsBuilt registry (node before (more source no_more)) (node op (more lowered no_more)) own
-  over_built before op source lowered schema own built rule_before rule_op recorded strict names whole scans agrees =
+  -- expressions are strict and named, have no more casts and nodes than those of the query's node call for, and give over
+  -- frames of the input's schema what those give
+  pub over_built : (before op : PlanOp (Named Expression)) (source lowered : Plan) (schema own : Columns) → IsBuilt registry source lowered schema → plan_rule registry before (Some schema ∷ []) ≡ Some own → plan_rule registry op (Some schema ∷ []) ≡ Some own → HasRecorded op.recorded (Some own) → AreStrict registry (Some schema ∷ []) (expressions_of op.kind) → HaveOwnNames (expressions_of op.kind) → IsWhole op.kind → own_scans op.kind ≡ [] → AllWithin registry schema (expressions_of before.kind) (expressions_of op.kind) → ((tables : List Frame) (input : Outcome Frame) → Meets (IsFrameOf schema) input → plan_kernel tables (by_running registry) op (input ∷ []) ≡ plan_kernel tables (by_meaning registry) before (input ∷ [])) → IsBuilt registry (node before (more source no_more)) (node op (more lowered no_more)) own
+  over_built before op source lowered schema own built rule_before rule_op recorded strict names whole scans within agrees =
       let there = over_schema before source schema own built.source_schema rule_before in
       let here = over_schema op lowered schema own built.lowered_schema rule_op in
       record {
@@ -150,6 +163,7 @@ module _ (registry : Registry) where
             let under = fits_input tables before source f in
             agrees tables (plan_run registry tables lowered) (built_meets source lowered schema tables built under)
             ∙ ap (λ input. plan_kernel tables (by_meaning registry) before (input ∷ [])) (built.same tables under);
+        bounds = over_bounded registry before op source lowered schema built.source_schema built.lowered_schema within built.bounds;
       }
 
   select_columns : (schema : Columns) (recorded : Option Columns) (outputs : List Lowered) → AllByRecursion (IsLowered registry schema) outputs → HasDistinctNames (map lowered_column outputs) → plan_rule registry (select_op (source_outputs outputs) recorded) (Some schema ∷ []) ≡ Some (map lowered_column outputs)
@@ -170,12 +184,13 @@ module _ (registry : Registry) where
         split = (tt, ((tt, tt), tt));
         fits = λ tables f. tt;
         same = λ tables f. refl;
+        bounds = over_nothing registry (select_op [] None) (select_op [] (Some [])) source refl refl refl;
       }
   built_over source lowered schema built (o ∷ os) each distinct =
       let outputs = o ∷ os in
       let own = map lowered_column outputs in
       let here = select_schema registry schema output_label (λ (o : Lowered). o.after) output_typed (Some own) outputs (each_after_typed schema outputs each) distinct in
-      over_built (select_op (source_outputs outputs) None) (select_op (map lowered_named outputs) (Some own)) source lowered schema own built (select_columns schema None outputs each distinct) here refl (each_strict schema outputs each, tt) (each_named schema outputs each, tt) tt refl
+      over_built (select_op (source_outputs outputs) None) (select_op (map lowered_named outputs) (Some own)) source lowered schema own built (select_columns schema None outputs each distinct) here refl (each_strict schema outputs each, tt) (each_named schema outputs each, tt) tt refl (only_within schema outputs each)
       (λ tables input meets. selected_agrees (by_running registry) (by_meaning registry) (map lowered_named outputs) (source_outputs outputs) schema input (agree schema outputs each) meets)
 
   -- the same of a select of expressions that become the outputs
@@ -191,7 +206,7 @@ module _ (registry : Registry) where
       let own = with_columns schema (map lowered_column outputs) in
       let there = hstack_schema registry schema output_label (λ (o : Lowered). core o.tree) output_typed None outputs (each_typed schema outputs each) distinct in
       let here = hstack_schema registry schema output_label (λ (o : Lowered). o.after) output_typed (Some own) outputs (each_after_typed schema outputs each) distinct in
-      over_built (hstack_op (source_outputs outputs) None) (hstack_op (map lowered_named outputs) (Some own)) source lowered schema own built there here refl (each_strict schema outputs each, tt) (each_named schema outputs each, tt) tt refl
+      over_built (hstack_op (source_outputs outputs) None) (hstack_op (map lowered_named outputs) (Some own)) source lowered schema own built there here refl (each_strict schema outputs each, tt) (each_named schema outputs each, tt) tt refl (only_within schema outputs each)
       (λ tables input meets. hstacked_agrees (by_running registry) (by_meaning registry) (map lowered_named outputs) (source_outputs outputs) schema input (agree schema outputs each) meets)
 
   -- the same of an hstack of expressions that become the outputs
@@ -225,6 +240,7 @@ module _ (registry : Registry) where
             ∙ split_runs registry schema (lowered_named o) condition core (plan_run registry tables lowered) meets
             ∙ filtered_agrees (by_running registry) (by_meaning registry) (lowered_named o) (named o.tree) schema (plan_run registry tables lowered) (agree schema (o ∷ []) (is, tt)) meets
             ∙ ap (λ input. plan_kernel tables (by_meaning registry) before (input ∷ [])) (built.same tables under);
+        bounds = split_bounded registry schema (named o.tree) (lowered_named o) source lowered built.source_schema built.lowered_schema (each_within schema (o ∷ []) (is, tt)) condition predicates built.bounds;
       }
 
   -- the same of a filter by an expression that becomes the output

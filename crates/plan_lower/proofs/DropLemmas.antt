@@ -24,6 +24,7 @@ use Rattle.plan_dsl.specs.Drops.{have_names, columns_but, left_but, drop_leaves}
 use Rattle.plan_dsl.proofs.DropLemmas.{drops_have_schemas}
 use Rattle.plan_dsl.proofs.MarkerLemmas.{distinct_kept}
 use Rattle.plan_dsl.proofs.ResolvingLemmas.{drop_resolved}
+use Rattle.plan_bounds.proofs.BoundLemmas.{nothing_within, over_nothing}
 use Rattle.plan_expand.specs.Refusals.{IsUnexpanded, unexpanded}
 use Rattle.plan_arena.specs.declared.aexpr.AExpr.{AExpr}
 use Rattle.plan_arena.specs.declared.ir.IR.{IR}
@@ -101,10 +102,11 @@ module _ (registry : Registry) where
         split = (tt, ((tt, tt), tt));
         fits = λ tables f. tt;
         same = λ tables f. refl;
+        bounds = over_nothing registry (simple_projection_op [] None) (simple_projection_op [] (Some [])) source refl refl refl;
       }
   projection_built source lowered schema (column ∷ columns) built rule =
       let own = column ∷ columns in
-      over_built registry (simple_projection_op own None) (simple_projection_op own (Some own)) source lowered schema own built rule rule refl tt tt tt refl (λ tables input meets. refl)
+      over_built registry (simple_projection_op own None) (simple_projection_op own (Some own)) source lowered schema own built rule rule refl tt tt tt refl (nothing_within registry schema) (λ tables input meets. refl)
 
   under_denoted : (items : List AExpr) (plans : List IR) (n input : ℕ) (own : Columns) (t : Plan) → (length own ≡ 0 → IsEmptyTableAt plans n) → (0 < length own → n ≡ input) → Denotes (HoldsPlan items plans) input t → Denotes (HoldsPlan items plans) n (under own t)
   under_denoted items plans n input [] t nothing something d = empty_denoted items plans n (nothing refl)

@@ -1,7 +1,8 @@
 -- What the worked examples of plans rest on: one plan a node, scans, and the lowering of a sum.
-use Rattle.std.proofs.Common.{inr, ◌≡◌, ℕ, List, [], ◌∷◌, map, codes, Option, Some, slice_get, refl, sym, ap, ◌∙◌, subst}
+use Rattle.std.proofs.Common.{inr, ◌≡◌, ℕ, List, [], ◌∷◌, map, codes, Option, Some, slice_get, refl, sym, ap, ◌∙◌, subst, arith}
 use Rattle.plan_types.specs.Schemas.{Columns}
 use Rattle.plan_types.specs.Frames.{Frame}
+use Rattle.plan_dsl.specs.Counts.{cast_count}
 use Rattle.plan_dsl.specs.Trees.{node, no_more}
 use Rattle.plan_dsl.specs.Plans.{Named, PlanOp, Plan, named, scan_op, select_op}
 use Rattle.plan_dsl.specs.PlanMeaning.{source_meaning, FitsPlan}
@@ -15,6 +16,8 @@ use Rattle.plan_arena.proofs.DenotationLemmas.{denotes_one}
 use Rattle.plan_arena.proofs.ItemLemmas.{plan_laws}
 use Rattle.plan_dsl.specs.Samples.{all}
 use Rattle.plan_dsl.specs.Sources.{written}
+use Rattle.plan_bounds.specs.Bounds.{IsBounded}
+use Rattle.plan_bounds.specs.PlanCounts.{plan_needs, plan_idle, plan_size}
 use Rattle.plan_lower.specs.Groups.{GroupsTo, HasExpandedGroups}
 use Rattle.plan_lower.specs.Lowering.{IsBuilt}
 use Rattle.plan_infer.specs.Samples.{int8, int32, one_column, two_columns, a, b, columns_and}
@@ -53,6 +56,16 @@ same_frame : (tables : List Frame) → FitsPlan tables query → plan_run [] tab
 same_frame [] fits = absurd fits.0
 same_frame (frame ∷ rest) fits = same_on two_columns refl frame rest fits.0.schema_is
 
+-- the sum needs the one cast that it has
+bounded : IsBounded [] query lowered_query
+bounded =
+    let casts : cast_count lowered_query ≡ 1 = refl in
+    let needs : plan_needs [] query ≡ 1 = refl in
+    let idle : plan_idle [] lowered_query ≡ 0 = refl in
+    let size : plan_size lowered_query ≡ 5 = refl in
+    let whole : plan_size query ≡ 5 = refl in
+    record { casts = omega (arith, casts, needs); idle = omega (arith, idle); size = omega (arith, size, whole) }
+
 pub built : IsBuilt [] query lowered_query (one_column int32)
 built = record {
   well_formed = (refl, ((refl, tt), tt));
@@ -64,6 +77,7 @@ built = record {
   split = (tt, ((tt, tt), tt));
   fits = λ tables fits. fits;
   same = same_frame;
+  bounds = bounded;
 }
 
 -- groups by column a, with column b

@@ -40,6 +40,7 @@ use Rattle.plan_arena.specs.Items.{Grows, HoldsExpression, named_node, plan_laye
 use Rattle.plan_arena.specs.Runs.{by_running}
 use Rattle.plan_arena.proofs.ItemLemmas.{any_node, named_kept, plan_added, plan_tree_kept}
 use Rattle.plan_dsl.specs.PlanMeaning.{by_meaning}
+use Rattle.plan_bounds.proofs.BoundLemmas.{all_within, nothing_within}
 use Rattle.plan_expand.specs.Refusals.{IsUnexpanded}
 use Rattle.plan_infer.specs.KeptTypes.{AllKept, IsKept, IsRight, KeepsEntry, KeepsTyped, typed_of}
 use Rattle.plan_infer.specs.declared.type_table.Inferred.{Inferred}
@@ -49,7 +50,7 @@ use Rattle.plan_lower.specs.Groups.{GroupsTo, HasAggregates, HasExpandedGroups, 
 use Rattle.plan_lower.specs.Lowering.{IsBuilt, IsGroupByAt, IsPlanRefusal, out_of_memory, StandsFor, resolved_groups}
 use Rattle.plan_lower.specs.Outputs.{HasOutputs, IsLowered, Lowered, lowered_column, lowered_named}
 use Rattle.plan_lower.specs.Projection.{IsOutput, IsOutputRefusal, no_room, untyped, repeated, IsProjectionRefusal, out_of_memory as no_space, refused, Output, output_node, Projects}
-use Rattle.plan_lower.proofs.BuiltLemmas.{agree, each_after_typed, each_named, each_strict, each_typed, output_label, output_typed, over_built, refused_over, unexpanded_then, unresolved_refused}
+use Rattle.plan_lower.proofs.BuiltLemmas.{agree, each_after_typed, each_named, each_strict, each_typed, each_within, output_label, output_typed, over_built, refused_over, unexpanded_then, unresolved_refused}
 
 -- ---- names
 
@@ -293,6 +294,7 @@ module _ (registry : Registry) where
       let there = group_schema registry schema output_label (λ (o : Lowered). core o.tree) output_typed None k ks aggs (each_typed registry schema keys each) (each_typed registry schema aggs also) distinct in
       let here = group_schema registry schema output_label (λ (o : Lowered). o.after) output_typed (Some own) k ks aggs (each_after_typed registry schema keys each) (each_after_typed registry schema aggs also) distinct in
       over_built registry (group_by_op (source_outputs keys) (source_outputs aggs) None) (group_by_op (map lowered_named keys) (map lowered_named aggs) (Some own)) source lowered schema own built there here refl (each_strict registry schema keys each, (each_strict registry schema aggs also, tt)) (each_named registry schema keys each, (each_named registry schema aggs also, tt)) tt refl
+      (all_within registry schema _ _ _ _ (each_within registry schema keys each) (all_within registry schema _ _ [] [] (each_within registry schema aggs also) (nothing_within registry schema)))
       (λ tables input meets. grouped_agrees (by_running registry) (by_meaning registry) (map lowered_named keys) (source_outputs keys) (map lowered_named aggs) (source_outputs aggs) schema input (agree registry schema keys each) (agree registry schema aggs also) meets)
 
   -- the same of a group-by of expressions that become keys and aggregates

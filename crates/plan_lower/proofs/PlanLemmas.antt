@@ -20,14 +20,16 @@ use Rattle.plan_arena.specs.declared.ir.IR.{IR}
 use Rattle.plan_arena.specs.declared.plan.IRPlan.{IRPlan}
 use Rattle.plan_arena.specs.Denotation.{Denotes}
 use Rattle.plan_arena.specs.Layers.{layer}
-use Rattle.plan_arena.specs.Items.{HoldsExpression, HoldsPlan, DenoteNamed, Grows, named_node, plan_layer}
+use Rattle.plan_arena.specs.Items.{HoldsExpression, HoldsPlan, DenotesPlan, DenoteNamed, Grows, named_node, plan_layer}
 use Rattle.plan_arena.proofs.DenotationLemmas.{denotes_one}
 use Rattle.plan_arena.proofs.ItemLemmas.{plan_added, plan_stays, plan_tree_kept, plan_laws}
 use Rattle.plan_arena.proofs.RunLemmas.{runs_soundly}
+use Rattle.plan_bounds.specs.LoweredPlans.{IsWidePlan}
+use Rattle.plan_bounds.proofs.WideLemmas.{strict_plan_wide}
 use Rattle.plan_lower.specs.Outputs.{Lowered, lowered_named, lowered_column, over, lowered_select, lowered_hstack, HasExpandedOutputs}
 use Rattle.plan_lower.specs.Predicates.{HasExpandedPredicate, IsUnfiltered, not_expanded as unreduced, no_predicate, lowered_filter}
 use Rattle.plan_lower.specs.Projection.{IsUnprojected, not_expanded, not_projected}
-use Rattle.plan_lower.specs.Lowering.{IsBuilt, IsPlanRefusal, IsSelectAt, IsHStackAt, IsFilterAt, StandsFor, IsEmptyTableAt, AreFilters, IsTyped, IsSplit, IsSound, GivesSameFrame}
+use Rattle.plan_lower.specs.Lowering.{IsBuilt, IsPlanRefusal, IsSelectAt, IsHStackAt, IsFilterAt, StandsFor, IsEmptyTableAt, AreFilters, IsTyped, HasLoweredTop, HasBoundedTop, IsSplit, IsSound, GivesSameFrame}
 use Rattle.plan_properties.specs.Splitting.{split_predicate}
 use Rattle.plan_lower.proofs.FilterLemmas.{filters_denoted}
 use Rattle.plan_lower.proofs.BuiltLemmas.{unexpanded_then, unexpanded_kind, unresolved_refused, scan_built, scan_refused_at, select_built, select_refused_at, hstack_built, hstack_refused_at, filter_built, filter_refused_at, refused_in_input}
@@ -185,3 +187,14 @@ module _ (registry : Registry) where
   stands_same lowering schema plan s tree d tables fits =
       let built = built_one lowering.expr_arena lowering.lp_arena lowering.lp_top.0 schema plan tree s d in
       built.same tables fits
+
+  pub stands_lowered : (lowering : IRPlan) (schema : Columns) (plan : Plan) → StandsFor registry lowering.expr_arena lowering.lp_arena lowering.lp_top.0 schema plan → HasLoweredTop registry lowering
+  stands_lowered lowering schema plan s tree d =
+      let built = built_one lowering.expr_arena lowering.lp_arena lowering.lp_top.0 schema plan tree s d in
+      record { accepted = built.accepted; strict = built.strict; names = built.names; wide = strict_plan_wide registry tree built.strict }
+
+  pub stands_bounded : (lowering : IRPlan) (schema : Columns) (plan : Plan) → StandsFor registry lowering.expr_arena lowering.lp_arena lowering.lp_top.0 schema plan → HasBoundedTop registry plan lowering
+  stands_bounded lowering schema plan s tree d = (built_one lowering.expr_arena lowering.lp_arena lowering.lp_top.0 schema plan tree s d).bounds
+
+  pub top_wide : (lowering : IRPlan) → HasLoweredTop registry lowering → (tree : Plan) → DenotesPlan lowering tree → IsWidePlan tree
+  top_wide lowering top tree d = (top tree d).wide

@@ -30,14 +30,12 @@ use Rattle.plan_arena.proofs.DenotationLemmas.{denotes_one}
 use Rattle.plan_arena.proofs.ItemLemmas.{any_node, from_zero, within, tree_grown, expression_laws, grown_held}
 use Rattle.plan_infer.specs.Typed.{DenotesKnown}
 use Rattle.plan_coerce.specs.Coercion.{KeepsBelow}
-use Rattle.plan_coerce.specs.Optimizer.{IsCoerced, StaysLike}
-use Rattle.plan_coerce.specs.Rules.{HasSameCasts}
+use Rattle.plan_coerce.specs.Optimizer.{AreWrittenOut, IsWrittenOut}
 use Rattle.plan_infer.proofs.TableLemmas.{still_kept}
 use Rattle.plan_infer.specs.KeptTypes.{IsKept, Extends}
 use Rattle.plan_lower.specs.Outputs.{Lowered, lowered_named, lowered_column, IsLowered, HasOutputs}
 use Rattle.plan_infer.specs.declared.type_table.TypeTable.{TypeTable}
 use Rattle.plan_arena.proofs.NumberLemmas.{all_weaker, all_joined}
-use Rattle.plan_coerce.proofs.CoercedLemmas.{strict_coerced}
 use Rattle.plan_types.specs.Errors.{IsRefusal, no_room as short, broken}
 use Rattle.plan_infer.specs.Typed.{HasType}
 use Rattle.plan_lower.specs.Predicates.{HasPredicate, IsPredicateRefusal, without_room, without_type, of_other_type}
@@ -170,21 +168,16 @@ record HasLowered (registry : Registry) (schema : Columns) (items : List AExpr) 
   denotes : DenoteNamed items (map output_node outputs) (map lowered_named lowered)
 
 -- what stands for one output after coercion
-lowered_as : (registry : Registry) (schema : Columns) (first : ℕ) (old new : List AExpr) → StaysLike (HasSameCasts registry schema) registry schema old new → (o : Output) → IsOutput registry schema first old o → ((t : Expression) × Denotes (HoldsExpression new) o.node t × IsStrict registry schema t) → (after : Expression) × IsLowered registry schema (record { tree = o.tree; typed = o.typed; after = after }) × Denotes (HoldsExpression new) o.node after
-lowered_as registry schema first old new become o is strict =
-    let same = become o.node (settled (core o.tree)) (any_node first old o.node (settled (core o.tree)) is.denotes) in
-    let one = denotes_one _ (HoldsExpression new) (expression_laws new) o.node strict.0 same.tree strict.1 same.denotes in
-    let own = subst (IsStrict registry schema) one strict.2 in (
-      same.tree,
-      record { typed = is.typed; same = same.like.same; strict = own; casts = sym (strict_coerced registry schema same.tree own) ∙ same.like.relates },
-      same.denotes,
-    )
+lowered_as : (registry : Registry) (schema : Columns) (first : ℕ) (old new : List AExpr) (o : Output) → IsOutput registry schema first old o → ((t : Expression) → Denotes (HoldsExpression old) o.node t → IsWrittenOut registry schema new o.node t) → (after : Expression) × IsLowered registry schema (record { tree = o.tree; typed = o.typed; after = after }) × Denotes (HoldsExpression new) o.node after
+lowered_as registry schema first old new o is each =
+    let w = each (settled (core o.tree)) (any_node first old o.node (settled (core o.tree)) is.denotes) in
+    (w.tree, record { typed = is.typed; same = w.same; strict = w.strict; casts = w.is }, w.denotes)
 
-has_lowered : (registry : Registry) (schema : Columns) (first : ℕ) (old new : List AExpr) → StaysLike (HasSameCasts registry schema) registry schema old new → (outputs : List Output) → AllByRecursion (IsOutput registry schema first old) outputs → AllByRecursion (λ n. (t : Expression) × Denotes (HoldsExpression new) n t × IsStrict registry schema t) (map (λ (o : Output). o.node) outputs) → HasLowered registry schema new outputs
-has_lowered registry schema first old new become [] all strict = record { lowered = []; trees_are = refl; columns_are = refl; each = tt; denotes = tt }
-has_lowered registry schema first old new become (o ∷ os) all strict =
-    let here = lowered_as registry schema first old new become o all.0 strict.0 in
-    let rest = has_lowered registry schema first old new become os all.1 strict.1 in
+has_lowered : (registry : Registry) (schema : Columns) (first : ℕ) (old new : List AExpr) → (outputs : List Output) → AllByRecursion (IsOutput registry schema first old) outputs → AllByRecursion (λ n. (t : Expression) → Denotes (HoldsExpression old) n t → IsWrittenOut registry schema new n t) (map (λ (o : Output). o.node) outputs) → HasLowered registry schema new outputs
+has_lowered registry schema first old new [] all written = record { lowered = []; trees_are = refl; columns_are = refl; each = tt; denotes = tt }
+has_lowered registry schema first old new (o ∷ os) all written =
+    let here = lowered_as registry schema first old new o all.0 written.0 in
+    let rest = has_lowered registry schema first old new os all.1 written.1 in
     let l : Lowered = record { tree = o.tree; typed = o.typed; after = here.0 } in
     record {
       lowered = l ∷ rest.lowered;
@@ -195,9 +188,9 @@ has_lowered registry schema first old new become (o ∷ os) all strict =
     }
 
 -- a projection that was coerced
-pub has_outputs : (registry : Registry) (schema : Columns) (first : ℕ) (old new : List AExpr) (trees : List Expression) (nodes : List (Named ℕ)) (columns : Columns) → (p : Projects registry schema first old trees nodes columns) → IsCoerced registry schema first old new (map (λ (o : Output). o.node) p.outputs) → HasOutputs registry schema new trees nodes columns
+pub has_outputs : (registry : Registry) (schema : Columns) (first : ℕ) (old new : List AExpr) (trees : List Expression) (nodes : List (Named ℕ)) (columns : Columns) → (p : Projects registry schema first old trees nodes columns) → AreWrittenOut registry schema first old new (map (λ (o : Output). o.node) p.outputs) → HasOutputs registry schema new trees nodes columns
 has_outputs registry schema first old new trees nodes columns p coerced =
-    let h = has_lowered registry schema first old new coerced.trees p.outputs p.each coerced.strict in
+    let h = has_lowered registry schema first old new p.outputs p.each coerced.each in
     let columns_are = sym p.columns_are ∙ sym h.columns_are in
     record {
       outputs = h.lowered;
@@ -213,9 +206,9 @@ one_output registry schema first items tree n asked type d at typed =
     (has.many, record { denotes = d; typed = has.is })
 
 -- a predicate of the type of truth values that was coerced
-pub has_predicate : (registry : Registry) (schema : Columns) (first : ℕ) (old new : List AExpr) (o : Output) (node : Named ℕ) → IsOutput registry schema first old o → o.typed.type ≡ Truth → node.label ≡ label_of o.tree → node.expression ≡ o.node → IsCoerced registry schema first old new (o.node ∷ []) → HasPredicate registry schema new o.tree node
+pub has_predicate : (registry : Registry) (schema : Columns) (first : ℕ) (old new : List AExpr) (o : Output) (node : Named ℕ) → IsOutput registry schema first old o → o.typed.type ≡ Truth → node.label ≡ label_of o.tree → node.expression ≡ o.node → AreWrittenOut registry schema first old new (o.node ∷ []) → HasPredicate registry schema new o.tree node
 has_predicate registry schema first old new o node is truth name at coerced =
-    let here = lowered_as registry schema first old new coerced.trees o is coerced.strict.0 in
+    let here = lowered_as registry schema first old new o is coerced.each.0 in
     record {
       output = record { tree = o.tree; typed = o.typed; after = here.0 };
       filters = record { tree_is = refl; is = here.1; truth = truth };

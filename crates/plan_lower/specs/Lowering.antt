@@ -1,6 +1,7 @@
 -- Lowered plans.
 -- A lowered plan is built from a query's plan where it is accepted, strict and named, has the schema that the
--- query's plan has, and gives on all fitting tables what the query means. A refusal names a broken rule.
+-- query's plan has, gives on all fitting tables what the query means, and has no more casts and nodes than the query's plan
+-- calls for. A refusal names a broken rule.
 use Rattle.std.specs.Prelude.{◌≡◌, Bool, ◌<◌, ℕ, List, [], ◌∷◌, length, map, Option, Some, None, is_some, unwrap_or, slice_get, IsTrue, Result, Ok, Err}
 use Rattle.plan_types.specs.Schemas.{Columns, HasDistinctNames}
 use Rattle.plan_types.specs.Frames.{Frame}
@@ -24,6 +25,8 @@ use Rattle.plan_arena.specs.Denotation.{Denotes}
 use Rattle.plan_arena.specs.Layers.{Layer, layer, op_of}
 use Rattle.plan_arena.specs.Items.{DenoteNamed, HoldsPlan, DenotesPlan, plan_layer}
 use Rattle.plan_arena.specs.Runs.{IsAccepted, IsStrictPlan, IsNamedPlan, plan_run, RunsSoundly}
+use Rattle.plan_bounds.specs.Bounds.{IsBounded}
+use Rattle.plan_bounds.specs.LoweredPlans.{IsLoweredPlan, IsWidePlan}
 use Rattle.plan_expand.specs.Refusals.{IsUnexpanded}
 use Rattle.plan_properties.specs.Splitting.{IsSplitPlan, split_predicate}
 use Rattle.plan_lower.specs.Groups.{HasExpandedGroups}
@@ -41,6 +44,7 @@ pub record IsBuilt (registry : Registry) (source lowered : Plan) (schema : Colum
   pub fits : (tables : List Frame) → FitsPlan tables source → FitsPlan tables lowered
   pub split : IsSplitPlan lowered
   pub same : (tables : List Frame) → FitsPlan tables source → plan_run registry tables lowered ≡ source_meaning registry tables source
+  pub bounds : IsBounded registry source lowered
 
 -- the node denotes what was built from the plan, and both have the schema
 pub record StandsFor (registry : Registry) (expressions : List AExpr) (plans : List IR) (n : ℕ) (schema : Columns) (plan : Plan) : Type 0 where
@@ -72,6 +76,14 @@ pub record IsTyped (registry : Registry) (plan : Plan) (lowering : IRPlan) : Typ
 abbrev pub IsSplit : IRPlan → Type 0
 IsSplit lowering = (tree : Plan) → DenotesPlan lowering tree → IsSplitPlan tree
 
+-- the plan that the top denotes is a lowered one
+abbrev pub HasLoweredTop : Registry → IRPlan → Type 0
+HasLoweredTop registry lowering = (tree : Plan) → DenotesPlan lowering tree → IsLoweredPlan registry tree
+
+-- it has no more casts than the query's plan needs, no more of them to the type that is there, and no more nodes
+abbrev pub HasBoundedTop : Registry → Plan → IRPlan → Type 0
+HasBoundedTop registry plan lowering = (tree : Plan) → DenotesPlan lowering tree → IsBounded registry plan tree
+
 -- on tables that fit the query's plan no node is stuck, and the frame of each has the node's own schema
 abbrev pub IsSound : Registry → Plan → IRPlan → Type 0
 IsSound registry plan lowering =
@@ -93,6 +105,8 @@ pub record IsLoweringOf (registry : Registry) (plan : Plan) (lowering : IRPlan) 
   pub schema : schema_of registry plan ≡ schema_of registry tree
   pub sound : (tables : List Frame) → FitsPlan tables plan → RunsSoundly registry tables tree
   pub same_frame : (tables : List Frame) → FitsPlan tables plan → plan_run registry tables tree ≡ source_meaning registry tables plan
+  pub wide : IsWidePlan tree
+  pub bounds : IsBounded registry plan tree
 
 -- a select in a query, resolved
 abbrev pub resolved_select : List Expression → Plan → Plan

@@ -13,7 +13,8 @@ use Rattle.plan_dsl.specs.Registry.{Registry}
 use Rattle.plan_dsl.specs.Resolving.{resolved}
 use Rattle.plan_arena.specs.Items.{DenotesPlan}
 use Rattle.plan_arena.specs.declared.plan.IRPlan.{IRPlan}
-use Rattle.plan_lower.specs.Lowering.{IsTyped, IsSplit, IsSound, GivesSameFrame, IsLoweringOf}
+use Rattle.plan_lower.specs.Lowering.{IsTyped, HasLoweredTop, HasBoundedTop, IsSplit, IsSound, GivesSameFrame, IsLoweringOf}
+use Rattle.plan_lower.proofs.PlanLemmas.{top_wide}
 use Rattle.plan_dsl.specs.PlanRules.{IsWellFormed}
 use Rattle.plan_arena.specs.Runs.{IsAccepted}
 use Rattle.plan_report.specs.Report.{report_text}
@@ -29,8 +30,8 @@ of_answer P answer ending text bytes made told p =
     subst (λ a. P a.done (string_bytes a.text)) (sym made) (subst (λ b. P (without_plan ending) b) (sym told) p)
 
 -- a report of what was lowered
-pub reported : (registry : Registry) (plan : Plan) (lowering : IRPlan) (text : List ℕ) → IsWellFormed registry plan → (t : IsTyped registry plan lowering) → IsSplit lowering → IsSound registry plan lowering → GivesSameFrame registry plan lowering → ((r : Registry) (tree : Plan) → DenotesPlan lowering tree → IsAccepted r tree → text ≡ report_text r tree) → IsPlanAnswer registry plan (record { status = status.Lowered; plan = Some lowering }) text
-reported registry plan lowering text well_formed t split sound same_frame tells =
+pub reported : (registry : Registry) (plan : Plan) (lowering : IRPlan) (text : List ℕ) → IsWellFormed registry plan → (t : IsTyped registry plan lowering) → IsSplit lowering → IsSound registry plan lowering → GivesSameFrame registry plan lowering → HasLoweredTop registry lowering → HasBoundedTop registry plan lowering → ((r : Registry) (tree : Plan) → DenotesPlan lowering tree → IsAccepted r tree → text ≡ report_text r tree) → IsPlanAnswer registry plan (record { status = status.Lowered; plan = Some lowering }) text
+reported registry plan lowering text well_formed t split sound same_frame top bounds tells =
     let is : IsLoweringOf registry plan lowering t.tree = record {
       well_formed = well_formed;
       denotes = t.denotes;
@@ -41,6 +42,8 @@ reported registry plan lowering text well_formed t split sound same_frame tells 
       schema = t.schema;
       sound = sound t.tree t.denotes;
       same_frame = same_frame t.tree t.denotes;
+      wide = top_wide registry lowering top t.tree t.denotes;
+      bounds = bounds t.tree t.denotes;
     } in
     subst (λ b. IsPlanAnswer registry plan (record { status = status.Lowered; plan = Some lowering }) b) (sym (tells registry t.tree t.denotes t.accepted)) (lowered lowering t.tree is)
 

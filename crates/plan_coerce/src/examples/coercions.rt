@@ -10,11 +10,13 @@ ghost use Rattle.plan_dsl.specs.declared.operator.Operator.TheVariants.{Eq, Plus
 ghost use Rattle.plan_arena.specs.declared.aexpr.AExpr.TheVariants.{Column, Literal};
 ghost use Rattle.plan_infer.specs.Typed.{DenotesTyped, DenotesKnown};
 ghost use Rattle.plan_coerce.specs.Coercion.{KeepsBelow, coerced};
-ghost use Rattle.plan_coerce.specs.Optimizer.{DenotesLike, IsCoerced, StaysLike};
+ghost use Rattle.plan_coerce.specs.InlinedCasts.{written_out};
+ghost use Rattle.plan_coerce.specs.Optimizer.{AreWrittenOut, DenotesLike, IsCoerced, StaysLike};
 ghost use Rattle.plan_coerce.specs.Rules.{HasSameCasts};
 ghost use Rattle.plan_coerce.specs.Reaching.{IsReached, Near};
 ghost use Rattle.plan_infer.specs.Samples.{int8, int32, int64, one_column, columns_of, two_columns, struct_of, a, b, literal, number, five, binary, cast_to, sum, pair, columns_and, sum_items, a_items};
-ghost use Rattle.plan_coerce.specs.Samples.{cast_of, strict_items, strict_sum};
+ghost use Rattle.plan_coerce.specs.Samples.{cast_of, of, strict_items, strict_sum};
+ghost use Rattle.plan_dsl.specs.Samples.{text};
 
 /// With every cast written out an operand of another type stands under one, a number without a type has become a
 /// literal, and nothing else has changed: what is strict stays, and so does what has no type.
@@ -70,4 +72,13 @@ pub fn reached_nodes()
     ensures other { ¬ (IsReached sum_items (0 ∷ []) 1) }
     ensures added { Near sum_items (0 ∷ []) 3 }
     ensures not_near { ¬ (Near sum_items (0 ∷ []) 1) }
+{}
+
+/// Both rules leave items below a number, and of each root what it denoted, with its casts written out.
+#[tactic(auto, unfolding(crate::proofs::OnLiterals::texts_on_literals))]
+pub fn sums_written_out()
+    ensures cast { AreWrittenOut [] two_columns 0 sum_items strict_items (2 ∷ []) }
+    ensures none { written_out [] two_columns strict_sum ≡ strict_sum }
+    ensures literal_cast { written_out [] two_columns (binary Plus b (literal int8 (pos 5))) ≡ binary Plus b (literal int32 (pos 5)) }
+    ensures number_cast_to_a_text { written_out [] (one_column TextType) (cast_to TextType five) ≡ of TextType (text "5") }
 {}

@@ -48,11 +48,11 @@ pub fn predicates_that_are_checked()
 /// A node that stays as it is is put in place of none, and neither is one that says another thing. A rule that calls every
 /// node settled settles numbers without a type.
 pub fn what_is_no_replacement()
-    ensures unchanged { ¬ (IsReplacement (HasSameCasts [] two_columns) (until_strict [] two_columns) [] two_columns sum_items sum_items 2 sum) }
+    ensures unchanged { ¬ (IsReplacement (HasSameCasts [] two_columns) (said (until_strict [] two_columns) [] two_columns) [] two_columns sum_items sum_items 2 sum) }
     ensures other_casts { ¬ (HasSameCasts [] two_columns sum a) }
     ensures same_casts { HasSameCasts [] two_columns sum strict_sum }
-    ensures any_node { ¬ (SettlesNoNumber (λ op inputs. true)) }
-    ensures no_node { SettlesNoNumber (λ op inputs. false) }
+    ensures any_node { ¬ (SettlesNoNumber (λ t. true) [] two_columns) }
+    ensures no_node { SettlesNoNumber (λ t. false) [] two_columns }
     ensures same { IsTransitive (λ before after. before ≡ after) }
 {}
 

@@ -1,5 +1,5 @@
-//! Casts round the operands of what is lowered, by the rule of coercion.
-ghost use Rattle.std.specs.Prelude.{◌≡◌, ◌<◌, ℕ, [], ◌∷◌, map, IfErr, OnOk};
+//! Casts round the operands of what is lowered, by the rule of coercion. Those that can be told beforehand go, by a second rule.
+ghost use Rattle.std.specs.Prelude.{◌≡◌, ◌<◌, ℕ, [], ◌∷◌, length, map, IfErr, IfOk, OnOk};
 ghost use Rattle.std.specs.List.{AllByRecursion};
 ghost use Rattle.plan_types.specs.Errors.{no_memory};
 ghost use Rattle.plan_types.specs.Schemas.{columns};
@@ -8,11 +8,13 @@ ghost use Rattle.plan_arena.specs.Items.{named_node};
 ghost use Rattle.plan_infer.specs.KeptTypes.{IsRight};
 ghost use Rattle.plan_infer.specs.Typed.{DenotesKnown};
 ghost use Rattle.plan_coerce.specs.Coercion.{KeepsBelow};
-ghost use Rattle.plan_coerce.specs.Optimizer.{IsCoerced, roots_of};
+ghost use Rattle.plan_coerce.specs.InlinedCasts.{HasSameInlined, stays};
+ghost use Rattle.plan_coerce.specs.Optimizer.{AreTrees, AreTypedRoots, AreWrittenOut, DenotesSettled, StaysApart, StaysLike, roots_of};
 
 use plan_arena::aexpr::AExpr;
 use plan_arena::arena::{Arena, Node};
 use plan_arena::expr_ir::ExprIRs;
+use plan_coerce::cast_inlining::CastInliningRule;
 use plan_coerce::coercion_rule::TypeCoercionRule;
 use plan_coerce::stack_opt::ConversionOptimizer;
 use plan_dsl::udfs::Udfs;
@@ -23,7 +25,7 @@ use plan_types::schema::Schema;
 use std::marker::Brand;
 use std::sync::ledger::{Blank, Ledger};
 
-/// Puts casts round the operands of each node that the expressions reach.
+/// Puts casts round the operands of each node that the expressions reach, but for those that can be told beforehand.
 pub(crate) fn coerce_all(
     exprs: &ExprIRs,
     arena: &mut Arena<AExpr>,
@@ -34,14 +36,14 @@ pub(crate) fn coerce_all(
     requires right { IsRight (registry udfs.now) (columns schema.now) arena.old types.old }
     requires known { AllByRecursion (DenotesKnown (registry udfs.now) (columns schema.now) 0 arena.old) (map (λ e. (named_node e).expression) exprs.now.items.items) }
     ensures ok { OnOk result ((first : ℕ) → AllByRecursion (DenotesKnown (registry udfs.now) (columns schema.now) first arena.old) (map (λ e. (named_node e).expression) exprs.now.items.items) →
-        IsCoerced (registry udfs.now) (columns schema.now) first arena.old arena.new (map (λ e. (named_node e).expression) exprs.now.items.items)) }
+        AreWrittenOut (registry udfs.now) (columns schema.now) first arena.old arena.new (map (λ e. (named_node e).expression) exprs.now.items.items)) }
     ensures below { (first : ℕ) → AllByRecursion (DenotesKnown (registry udfs.now) (columns schema.now) first arena.old) (map (λ e. (named_node e).expression) exprs.now.items.items) →
         KeepsBelow first arena.old arena.new }
     ensures err { IfErr result (λ error. error ≡ no_memory) }
 {
-    let mut optimizer = ConversionOptimizer::new(arena.allocator());
-    optimizer.fill_scratch(exprs.items.as_slice(), arena)?;
-    coerce_stacked(optimizer, arena, schema, udfs, types)
+    let optimizer = stacked_all(exprs, arena)?;
+    let inliner = stacked_all(exprs, arena)?;
+    coerce_stacked(optimizer, inliner, arena, schema, udfs, types)
 }
 
 /// The same of each node that a root reaches.
@@ -55,19 +57,42 @@ pub(crate) fn coerce_root(
     requires right { IsRight (registry udfs.now) (columns schema.now) arena.old types.old }
     requires known { AllByRecursion (DenotesKnown (registry udfs.now) (columns schema.now) 0 arena.old) (root.0 ∷ []) }
     ensures ok { OnOk result ((first : ℕ) → AllByRecursion (DenotesKnown (registry udfs.now) (columns schema.now) first arena.old) (root.0 ∷ []) →
-        IsCoerced (registry udfs.now) (columns schema.now) first arena.old arena.new (root.0 ∷ [])) }
+        AreWrittenOut (registry udfs.now) (columns schema.now) first arena.old arena.new (root.0 ∷ [])) }
     ensures below { (first : ℕ) → AllByRecursion (DenotesKnown (registry udfs.now) (columns schema.now) first arena.old) (root.0 ∷ []) →
         KeepsBelow first arena.old arena.new }
     ensures err { IfErr result (λ error. error ≡ no_memory) }
 {
-    let mut optimizer = ConversionOptimizer::new(arena.allocator());
-    optimizer.push_scratch(root, arena)?;
-    coerce_stacked(optimizer, arena, schema, udfs, types)
+    let optimizer = stacked_root(root, arena)?;
+    let inliner = stacked_root(root, arena)?;
+    coerce_stacked(optimizer, inliner, arena, schema, udfs, types)
 }
 
-// The same of what the stacked roots reach. Nobody counts the steps.
+// An optimizer on which the expressions' nodes are stacked.
+fn stacked_all(exprs: &ExprIRs, arena: &Arena<AExpr>) -> Result<ConversionOptimizer, PlanError>
+    requires { AllByRecursion (λ n. n < length arena.now) (map (λ e. (named_node e).expression) exprs.now.items.items) }
+    ensures ok { IfOk result (λ optimizer. roots_of optimizer ≡ map (λ e. (named_node e).expression) exprs.now.items.items) }
+    ensures err { IfErr result (λ error. error ≡ no_memory) }
+{
+    let mut optimizer = ConversionOptimizer::new(arena.allocator());
+    optimizer.fill_scratch(exprs.items.as_slice(), arena)?;
+    Ok(optimizer)
+}
+
+// One on which a node is.
+fn stacked_root(root: Node, arena: &Arena<AExpr>) -> Result<ConversionOptimizer, PlanError>
+    requires { root.0 < length arena.now }
+    ensures ok { IfOk result (λ optimizer. roots_of optimizer ≡ root.0 ∷ []) }
+    ensures err { IfErr result (λ error. error ≡ no_memory) }
+{
+    let mut optimizer = ConversionOptimizer::new(arena.allocator());
+    optimizer.push_scratch(root, arena)?;
+    Ok(optimizer)
+}
+
+// The same of what the roots reach that were stacked for each rule. Nobody counts the steps.
 fn coerce_stacked(
     optimizer: ConversionOptimizer,
+    inliner: ConversionOptimizer,
     arena: &mut Arena<AExpr>,
     schema: &Schema,
     udfs: &Udfs,
@@ -75,20 +100,24 @@ fn coerce_stacked(
 ) -> Result<(), PlanError>
     requires right { IsRight (registry udfs.now) (columns schema.now) arena.old types.old }
     requires known { AllByRecursion (DenotesKnown (registry udfs.now) (columns schema.now) 0 arena.old) (roots_of optimizer) }
+    requires both { roots_of inliner ≡ roots_of optimizer }
     ensures ok { OnOk result ((first : ℕ) → AllByRecursion (DenotesKnown (registry udfs.now) (columns schema.now) first arena.old) (roots_of optimizer) →
-        IsCoerced (registry udfs.now) (columns schema.now) first arena.old arena.new (roots_of optimizer)) }
+        AreWrittenOut (registry udfs.now) (columns schema.now) first arena.old arena.new (roots_of optimizer)) }
     ensures below { (first : ℕ) → AllByRecursion (DenotesKnown (registry udfs.now) (columns schema.now) first arena.old) (roots_of optimizer) →
         KeepsBelow first arena.old arena.new }
     ensures err { IfErr result (λ error. error ≡ no_memory) }
 {
     let typings = Blank::new(1);
     let steps = Blank::new(1);
-    coerce_by::<Brand, Brand>(optimizer, arena, schema, udfs, types, typings, steps)
+    coerce_by::<Brand, Brand>(
+        optimizer, inliner, arena, schema, udfs, types, typings, steps,
+    )
 }
 
 // The same, with ledgers of its own.
 fn coerce_by<M: Ledger, L: Ledger>(
     optimizer: ConversionOptimizer,
+    inliner: ConversionOptimizer,
     arena: &mut Arena<AExpr>,
     schema: &Schema,
     udfs: &Udfs,
@@ -104,8 +133,9 @@ fn coerce_by<M: Ledger, L: Ledger>(
     requires some_steps { 0 < steps.parts }
     requires right { IsRight (registry udfs.now) (columns schema.now) arena.old types.old }
     requires known { AllByRecursion (DenotesKnown (registry udfs.now) (columns schema.now) 0 arena.old) (roots_of optimizer) }
+    requires both { roots_of inliner ≡ roots_of optimizer }
     ensures ok { OnOk result ((first : ℕ) → AllByRecursion (DenotesKnown (registry udfs.now) (columns schema.now) first arena.old) (roots_of optimizer) →
-        IsCoerced (registry udfs.now) (columns schema.now) first arena.old arena.new (roots_of optimizer)) }
+        AreWrittenOut (registry udfs.now) (columns schema.now) first arena.old arena.new (roots_of optimizer)) }
     ensures below { (first : ℕ) → AllByRecursion (DenotesKnown (registry udfs.now) (columns schema.now) first arena.old) (roots_of optimizer) →
         KeepsBelow first arena.old arena.new }
     ensures err { IfErr result (λ error. error ≡ no_memory) }
@@ -121,5 +151,44 @@ fn coerce_by<M: Ledger, L: Ledger>(
         types,
         &mut typings,
         &mut steps,
+    )?;
+    inline_by(
+        inliner,
+        arena,
+        schema,
+        udfs,
+        types,
+        &mut typings,
+        &mut steps,
+    )
+}
+
+// Leaves out the casts that can be told beforehand, of what the stacked roots reach.
+fn inline_by<M: Ledger, L: Ledger>(
+    inliner: ConversionOptimizer,
+    arena: &mut Arena<AExpr>,
+    schema: &Schema,
+    udfs: &Udfs,
+    types: &mut TypeTable,
+    typings: &mut Steps<M>,
+    steps: &mut Steps<L>,
+) -> Result<(), PlanError>
+    requires trees { AreTrees arena.old (roots_of inliner) }
+    requires right { IsRight (registry udfs.now) (columns schema.now) arena.old types.old }
+    requires typed { AreTypedRoots stays (registry udfs.now) (columns schema.now) arena.old (roots_of inliner) }
+    ensures like { StaysLike HasSameInlined (registry udfs.now) (columns schema.now) arena.old arena.new }
+    ensures settled { OnOk result (AllByRecursion (DenotesSettled stays arena.new) (roots_of inliner)) }
+    ensures apart { StaysApart arena.old arena.new (roots_of inliner) }
+    ensures err { IfErr result (λ error. error ≡ no_memory) }
+{
+    let mut inliner = inliner;
+    inliner.coerce_expressions(
+        &CastInliningRule,
+        arena,
+        schema,
+        udfs,
+        types,
+        typings,
+        steps,
     )
 }

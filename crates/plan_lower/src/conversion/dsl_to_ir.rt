@@ -15,7 +15,7 @@ ghost use Rattle.plan_arena.specs.Items.{HoldsExpression, Grows, named_node, pla
 ghost use Rattle.plan_arena.specs.Layers.{layer};
 ghost use Rattle.plan_expand.specs.Refusals.{IsUnexpanded};
 ghost use Rattle.plan_lower.specs.Groups.{IsUngrouped};
-ghost use Rattle.plan_lower.specs.Lowering.{IsDropAt, IsFunctionAt, IsFunctionRefusal, AreFilters, IsFilterAt, IsGroupByAt, IsHStackAt, IsSelectAt, StandsFor, IsPlanRefusal, IsEmptyTableAt, Records, recorded_at, columns_at, Answers, IsTyped, IsSplit, IsSound, GivesSameFrame};
+ghost use Rattle.plan_lower.specs.Lowering.{IsDropAt, IsFunctionAt, IsFunctionRefusal, AreFilters, IsFilterAt, IsGroupByAt, IsHStackAt, IsSelectAt, StandsFor, IsPlanRefusal, IsEmptyTableAt, Records, recorded_at, columns_at, Answers, IsTyped, HasLoweredTop, HasBoundedTop, IsSplit, IsSound, GivesSameFrame};
 ghost use Rattle.plan_lower.specs.Predicates.{IsUnfiltered};
 ghost use Rattle.plan_lower.specs.Projection.{IsUnprojected};
 
@@ -50,7 +50,9 @@ pub trait PlanLowering {
         ensures typed { IfOk result (IsTyped (registry udfs.now) (resolved (registry udfs.now) (tree self))) }
         ensures split { IfOk result IsSplit }
         ensures sound { IfOk result (IsSound (registry udfs.now) (resolved (registry udfs.now) (tree self))) }
-        ensures same_frame { IfOk result (GivesSameFrame (registry udfs.now) (resolved (registry udfs.now) (tree self))) };
+        ensures same_frame { IfOk result (GivesSameFrame (registry udfs.now) (resolved (registry udfs.now) (tree self))) }
+        ensures lowered { IfOk result (HasLoweredTop (registry udfs.now)) }
+        ensures bounds { IfOk result (HasBoundedTop (registry udfs.now) (resolved (registry udfs.now) (tree self))) };
 }
 
 impl PlanLowering for DslPlan {

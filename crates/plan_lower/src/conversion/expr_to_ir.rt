@@ -244,12 +244,23 @@ macro_rules! item_over {
     ($expr:ident, $keep:ident, $arena:ident, [$($pattern:pat => $made:expr),*], $($kind:ident { $($input:ident),* } [$($other:ident),*])*) => {
         match $expr {
             $(Expr::$kind { $($input,)* $($other),* } => {
-                $(let $input = add_nodes(Box::into_inner($input), $keep, $arena)?;)*
+                $(let $input = add_below($input, $keep, $arena)?;)*
                 Ok(AExpr::$kind { $($input,)* $($other),* })
             })*
             $($pattern => $made),*
         }
     };
+}
+
+// Adds the nodes of an expression in a box, so that no caller keeps an expression on the stack.
+#[cycle(nodes)]
+fn add_below(expr: Box<Expr>, keep: bool, arena: &mut Arena<AExpr>) -> Result<Node, PlanError>
+    requires plain { is_plain (tree_of expr.value) ≡ true }
+    ensures denotes { IfOk result (λ node. Denotes (HoldsFrom (length arena.old) arena.new) node.0 (pruned keep (plain_tree expr.value))) }
+    ensures grows { Grows arena.old arena.new }
+    ensures err { IfErr result (λ error. error ≡ no_memory) }
+{
+    add_nodes(Box::into_inner(expr), keep, arena)
 }
 
 // Adds the nodes of an expression's inputs, and answers its item over them. A marker or a renaming form has none, and
@@ -262,40 +273,67 @@ fn add_inputs(expr: Expr, keep: bool, arena: &mut Arena<AExpr>) -> Result<AExpr,
     ensures grows { Grows arena.old arena.new }
     ensures err { IfErr result (λ error. error ≡ no_memory) }
 {
+    if has_several(&expr) {
+        add_several(expr, keep, arena)
+    } else {
+        add_others(expr, keep, arena)
+    }
+}
+
+// Whether it is over two inputs or three.
+fn has_several(expr: &Expr) -> bool
+    ensures { result ≡ has_several (top_op (tree_of expr.now)) }
+{
+    matches!(
+        expr,
+        Expr::BinaryExpr { .. }
+            | Expr::Slice { .. }
+            | Expr::Gather { .. }
+            | Expr::Filter { .. }
+            | Expr::Ternary { .. }
+    )
+}
+
+// The same of an expression over none, over one, or over one and lists.
+#[cycle(nodes)]
+fn add_others(expr: Expr, keep: bool, arena: &mut Arena<AExpr>) -> Result<AExpr, PlanError>
+    requires plain { is_plain (tree_of expr) ≡ true }
+    requires other { (input : Exprs) (function : FunctionExpr) → expr ≢ Expr.Function input function }
+    requires few { has_several (top_op (tree_of expr)) ≡ false }
+    ensures ok { IfOk result (IsItemOf (length arena.old) arena.new (over_inputs keep (plain_tree expr))) }
+    ensures grows { Grows arena.old arena.new }
+    ensures err { IfErr result (λ error. error ≡ no_memory) }
+{
     item_over!(expr, keep, arena, [
             Expr::Column(name) => Ok(AExpr::Column(name)),
             Expr::Literal(value) => Ok(AExpr::Literal(value)),
             Expr::Len => Ok(AExpr::Len),
             Expr::Explode(input) => {
-                let input = add_nodes(Box::into_inner(input), keep, arena)?;
+                let input = add_below(input, keep, arena)?;
                 Ok(AExpr::Explode(input))
             },
             Expr::Alias(input, name) => {
-                let input = add_nodes(Box::into_inner(input), keep, arena)?;
+                let input = add_below(input, keep, arena)?;
                 Ok(AExpr::Alias(input, name))
             },
             Expr::Agg(aggregate) => {
                 let method = aggregate.method();
-                let input = add_nodes(Box::into_inner(aggregate.into_input()), keep, arena)?;
+                let input = add_below(aggregate.into_input(), keep, arena)?;
                 Ok(AExpr::Agg(IRAggExpr::of(method, input)))
             },
             Expr::SortBy { expr, by, sort_options } => {
-                let expr = add_nodes(Box::into_inner(expr), keep, arena)?;
+                let expr = add_below(expr, keep, arena)?;
                 let by = add_each(by, keep, arena)?;
                 Ok(AExpr::SortBy { expr, by, sort_options })
             },
             Expr::Window { function, partition_by, order_by, options } => {
-                let function = add_nodes(Box::into_inner(function), keep, arena)?;
+                let function = add_below(function, keep, arena)?;
                 let order_by = add_order(order_by, keep, arena)?;
                 let partition_by = add_each(partition_by, keep, arena)?;
                 Ok(AExpr::Window { function, partition_by, order_by, options })
             },
-            Expr::BinaryExpr { .. } => add_several(expr, keep, arena),
-            Expr::Slice { .. } => add_several(expr, keep, arena),
-            Expr::Gather { .. } => add_several(expr, keep, arena),
-            Expr::Filter { .. } => add_several(expr, keep, arena),
-            Expr::Ternary { .. } => add_several(expr, keep, arena),
-            Expr::Columns(_) | Expr::DtypeColumn(_) | Expr::IndexColumn(_) | Expr::Nth(_) | Expr::Wildcard
+            Expr::BinaryExpr { .. } | Expr::Slice { .. } | Expr::Gather { .. } | Expr::Filter { .. } | Expr::Ternary { .. }
+            | Expr::Columns(_) | Expr::DtypeColumn(_) | Expr::IndexColumn(_) | Expr::Nth(_) | Expr::Wildcard
             | Expr::Exclude(_, _) | Expr::Selector(_) | Expr::KeepName(_) | Expr::RenameAlias { .. }
             | Expr::Function { .. } => unreachable!()
         ],

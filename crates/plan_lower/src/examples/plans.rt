@@ -12,7 +12,7 @@ ghost use Rattle.plan_arena.specs.declared.aexpr.AExpr.TheVariants.{Column};
 ghost use Rattle.plan_arena.specs.declared.ir.IR.{IR};
 ghost use Rattle.plan_arena.specs.declared.plan.IRPlan.{IRPlan};
 ghost use Rattle.plan_arena.specs.Layers.{layer};
-ghost use Rattle.plan_lower.specs.Lowering.{IsBuilt, StandsFor, IsPlanRefusal, Answers, IsTyped, IsSplit, IsSound, GivesSameFrame, IsLoweringOf, resolved_select, resolved_hstack, resolved_filter, IsSelectAt, IsHStackAt, AreFilters, IsFilterAt, IsEmptyTableAt, recorded_in, recorded_at, columns_at, Records};
+ghost use Rattle.plan_lower.specs.Lowering.{IsBuilt, StandsFor, IsPlanRefusal, Answers, IsTyped, HasLoweredTop, HasBoundedTop, IsSplit, IsSound, GivesSameFrame, IsLoweringOf, resolved_select, resolved_hstack, resolved_filter, IsSelectAt, IsHStackAt, AreFilters, IsFilterAt, IsEmptyTableAt, recorded_in, recorded_at, columns_at, Records};
 ghost use Rattle.plan_infer.specs.Samples.{int8, int32, one_column, two_columns, a, c, sum, a_items, refused};
 ghost use Rattle.plan_lower.specs.Samples.{truths, keep, keep_items, node_named, scan_of, select_over, filter_over, query, lowered_query, scan_layer, select_layer, ForPlans, ForScan, ForSum};
 
@@ -29,12 +29,15 @@ pub fn refusals_of_plans()
     ensures not_refused { ¬ (Answers [] (scan_of (one_column int8)) (Err (refused Duplicate []))) }
 {}
 
-/// A query of a sum with its two arenas, for which all holds that lowering promises.
+/// A query of a sum with its two arenas, for which all holds that lowering promises. A query of a scan alone needs no cast.
 pub fn lowering_of_a_sum()
     ensures typed { ForSum (λ lowering. IsTyped [] query lowering) }
     ensures split { ForSum IsSplit }
     ensures sound { ForSum (λ lowering. IsSound [] query lowering) }
     ensures same_frame { ForSum (λ lowering. GivesSameFrame [] query lowering) }
+    ensures lowered { ForSum (HasLoweredTop []) }
+    ensures bounds { ForSum (HasBoundedTop [] query) }
+    ensures of_a_scan { ForSum (λ lowering. ¬ (HasBoundedTop [] (scan_of two_columns) lowering)) }
     ensures all { ForSum (λ lowering. IsLoweringOf [] query lowering lowered_query) }
 {}
 

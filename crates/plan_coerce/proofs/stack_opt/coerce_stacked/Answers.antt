@@ -29,11 +29,11 @@ loop-turn-init g c =
       waiting = all_reversed (DenotesTree (HoldsExpression c.args.arena.now)) roots c.requires.trees;
       longer = omega arith;
       right = c.requires.right;
-      pending = pending_start (rule.settled c.args.rule.now r s) (rule.measure c.args.rule.now r s) (rule.related c.args.rule.now r s) (rule.turns c.args.rule.now) r s (laws.congruent c.args.rule.now r s) (laws.transitive c.args.rule.now r s) c.args.arena.now roots;
+      pending = pending_start (rule.settled c.args.rule.now r s) (rule.measure c.args.rule.now r s) (rule.related c.args.rule.now r s) (rule.turns c.args.rule.now) r s (laws.congruent c.args.rule.now r s) (laws.transitive c.args.rule.now r s) (laws.steady c.args.rule.now r s) c.args.arena.now roots;
       alone = λ root number many t none is d h. waits (ap reverse is) d;
-      many = λ n e none are. working_start (rule.settled c.args.rule.now r s) (rule.measure c.args.rule.now r s) (rule.related c.args.rule.now r s) (rule.turns c.args.rule.now) n e r s (laws.congruent c.args.rule.now r s) (laws.transitive c.args.rule.now r s) none c.args.arena.now roots are;
+      many = λ n e none are. working_start (rule.settled c.args.rule.now r s) (rule.measure c.args.rule.now r s) (rule.related c.args.rule.now r s) (rule.turns c.args.rule.now) n e r s (laws.congruent c.args.rule.now r s) (laws.transitive c.args.rule.now r s) (laws.steady c.args.rule.now r s) none c.args.arena.now roots are;
       keeping = λ n e. keeping_start c.args.arena.now roots;
-      counted = λ n e. counted_start (rule.measure c.args.rule.now r s) r s n (2 * n + 2) refl (λ op inputs. laws.bounded c.args.rule.now r s op inputs n e) c.args.arena.now roots c.args.steps.now;
+      counted = λ n e. counted_start (rule.measure c.args.rule.now r s) n (2 * n + 2) refl (λ t. laws.bounded c.args.rule.now r s t n e) c.args.arena.now roots c.args.steps.now;
     }
 
 pub visit-requires-clause-tree : goal.visit-requires-clause-tree
@@ -69,11 +69,11 @@ loop-turn-preserved g c =
       waiting = waiting_turn settled measure related turns r s c.loop-turn.arena c.visit.new.arena at rest (numbers c.visit.new.stack.items) c.loop-turn.steps c.visit.new.steps turn waiting;
       longer = omega (arith, inv.longer, longer);
       right = c.in_ok-visit.ensures.right;
-      pending = λ typed. pending_turn settled measure related turns r s (laws.congruent c.args.rule.now r s) (laws.transitive c.args.rule.now r s) c.args.arena.now c.loop-turn.arena c.visit.new.arena at rest (numbers c.visit.new.stack.items) roots c.loop-turn.steps c.visit.new.steps turn (subst (λ l. Pending settled related r s c.args.arena.now c.loop-turn.arena l roots) popped (inv.pending typed));
-      alone = λ root number many t none is d h. alone_turn settled measure related turns r s (laws.congruent c.args.rule.now r s) (laws.transitive c.args.rule.now r s) none root number many c.loop-turn.arena c.visit.new.arena at rest (numbers c.visit.new.stack.items) c.loop-turn.steps c.visit.new.steps t h turn (subst (λ l. Alone settled related r s c.loop-turn.arena l root t) popped (inv.alone root number many t none is d h));
-      many = λ n e none are. working_turn settled measure related turns n e r s (laws.congruent c.args.rule.now r s) (laws.transitive c.args.rule.now r s) none c.args.arena.now roots are c.loop-turn.arena c.visit.new.arena at inv.finite inv.longer (λ m a. among_all (DenotesTree (HoldsExpression c.args.arena.now)) roots m c.requires.trees a) rest (numbers c.visit.new.stack.items) c.loop-turn.steps c.visit.new.steps turn (subst (λ l. Working settled related r s c.args.arena.now c.loop-turn.arena l roots) popped (inv.many n e none are));
+      pending = λ typed. pending_turn settled measure related turns r s (laws.congruent c.args.rule.now r s) (laws.transitive c.args.rule.now r s) (laws.steady c.args.rule.now r s) c.args.arena.now c.loop-turn.arena c.visit.new.arena at rest (numbers c.visit.new.stack.items) roots c.loop-turn.steps c.visit.new.steps turn (subst (λ l. Pending settled related r s c.args.arena.now c.loop-turn.arena l roots) popped (inv.pending typed));
+      alone = λ root number many t none is d h. alone_turn settled measure related turns r s (laws.congruent c.args.rule.now r s) (laws.transitive c.args.rule.now r s) (laws.steady c.args.rule.now r s) none root number many c.loop-turn.arena c.visit.new.arena at rest (numbers c.visit.new.stack.items) c.loop-turn.steps c.visit.new.steps t h turn (subst (λ l. Alone settled related r s c.loop-turn.arena l root t) popped (inv.alone root number many t none is d h));
+      many = λ n e none are. working_turn settled measure related turns n e r s (laws.congruent c.args.rule.now r s) (laws.transitive c.args.rule.now r s) (laws.steady c.args.rule.now r s) none c.args.arena.now roots are c.loop-turn.arena c.visit.new.arena at inv.finite inv.longer (λ m a. among_all (DenotesTree (HoldsExpression c.args.arena.now)) roots m c.requires.trees a) rest (numbers c.visit.new.stack.items) c.loop-turn.steps c.visit.new.steps turn (subst (λ l. Working settled related r s c.args.arena.now c.loop-turn.arena l roots) popped (inv.many n e none are));
       keeping = λ n e. keeping_turn settled measure related turns r s c.loop-turn.arena c.visit.new.arena at rest (numbers c.visit.new.stack.items) c.loop-turn.steps c.visit.new.steps turn n e c.args.arena.now roots inv.longer rooted waiting (subst (Keeping c.args.arena.now roots c.loop-turn.arena) popped (inv.keeping n e));
-      counted = λ n e apart. counted_turn measure r s n (2 * n + 2) refl settled related turns e (λ op inputs. laws.bounded c.args.rule.now r s op inputs n e) c.loop-turn.arena c.visit.new.arena at rest (numbers c.visit.new.stack.items) c.args.steps.now c.loop-turn.steps c.visit.new.steps turn (subst (λ l. Counted measure r s n (2 * n + 2) c.loop-turn.arena l c.args.steps.now c.loop-turn.steps) popped (inv.counted n e apart));
+      counted = λ n e apart. counted_turn measure n (2 * n + 2) refl settled related turns e r s (λ t. laws.bounded c.args.rule.now r s t n e) c.loop-turn.arena c.visit.new.arena at rest (numbers c.visit.new.stack.items) c.args.steps.now c.loop-turn.steps c.visit.new.steps turn (subst (λ l. Counted measure n (2 * n + 2) c.loop-turn.arena l c.args.steps.now c.loop-turn.steps) popped (inv.counted n e apart));
     }
 
 pub returns-in-None-clause-settled : goal.returns-in-None-clause-settled
@@ -85,11 +85,11 @@ returns-in-None-clause-settled g c = λ typed.
     let related = rule.related c.args.rule.now r s in
     let roots = numbers c.args.stack.now.items in
     let none = ap reverse (no_numbers c.loop-turn.stack.items c.in-None.ensures.variant.1) in
-    all_ended settled r s c.loop-turn.arena roots (subst (λ l. Pending settled related r s c.args.arena.now c.loop-turn.arena l roots) none (c.loop-turn.invariant.pending typed)).settled
+    all_ended settled c.loop-turn.arena roots (subst (λ l. Pending settled related r s c.args.arena.now c.loop-turn.arena l roots) none (c.loop-turn.invariant.pending typed)).settled
 
 pub returns-in-None-clause-bounded : goal.returns-in-None-clause-bounded
 returns-in-None-clause-bounded g c = λ n e apart.
-    counted_end (g.R.OptimizationRule.measure c.args.rule.now (registry c.args.udfs.now) (columns c.args.schema.now)) (registry c.args.udfs.now) (columns c.args.schema.now) n (2 * n + 2) refl c.loop-turn.arena (reverse (numbers c.loop-turn.stack.items)) c.args.steps.now c.loop-turn.steps (c.loop-turn.invariant.counted n e apart)
+    counted_end (g.R.OptimizationRule.measure c.args.rule.now (registry c.args.udfs.now) (columns c.args.schema.now)) n (2 * n + 2) refl c.loop-turn.arena (reverse (numbers c.loop-turn.stack.items)) c.args.steps.now c.loop-turn.steps (c.loop-turn.invariant.counted n e apart)
 
 pub returns-clause-reaches : goal.returns-clause-reaches
 returns-clause-reaches g c = λ n e.
@@ -97,7 +97,7 @@ returns-clause-reaches g c = λ n e.
 
 pub returns-clause-bounded : goal.returns-clause-bounded
 returns-clause-bounded g c = λ n e apart.
-    counted_end (g.R.OptimizationRule.measure c.args.rule.now (registry c.args.udfs.now) (columns c.args.schema.now)) (registry c.args.udfs.now) (columns c.args.schema.now) n (2 * n + 2) refl c.loop-turn.arena (reverse (numbers c.loop-turn.stack.items)) c.args.steps.now c.loop-turn.steps (c.loop-turn.invariant.counted n e apart)
+    counted_end (g.R.OptimizationRule.measure c.args.rule.now (registry c.args.udfs.now) (columns c.args.schema.now)) n (2 * n + 2) refl c.loop-turn.arena (reverse (numbers c.loop-turn.stack.items)) c.args.steps.now c.loop-turn.steps (c.loop-turn.invariant.counted n e apart)
 
 pub returns-clause-err : goal.returns-clause-err
 returns-clause-err g c =
@@ -123,7 +123,7 @@ returns-in_err-visit-clause-like g c = λ typed.
     let popped = ap reverse (pushed_one c.pop.new.self.items c.loop-turn.stack.items c.in-Some.node c.in-Some.ensures.items) ∙ top_first rest at in
     let inv = c.loop-turn.invariant in
     let now = subst (λ l. Pending settled related r s c.args.arena.now c.loop-turn.arena l roots) popped (inv.pending typed) in
-    pending_stops settled measure related turns r s (laws.congruent c.args.rule.now r s) (laws.transitive c.args.rule.now r s) c.args.arena.now c.loop-turn.arena c.visit.new.arena at (reverse rest) roots now c.in_err-visit.ensures.stopped
+    pending_stops settled measure related turns r s (laws.congruent c.args.rule.now r s) (laws.transitive c.args.rule.now r s) (laws.steady c.args.rule.now r s) c.args.arena.now c.loop-turn.arena c.visit.new.arena at (reverse rest) roots now c.in_err-visit.ensures.stopped
 
 pub returns-in_err-visit-clause-finite : goal.returns-in_err-visit-clause-finite
 returns-in_err-visit-clause-finite g c = λ n t.
@@ -184,8 +184,8 @@ returns-in_err-visit-clause-bounded g c = λ n e apart.
     let at = c.in-Some.node.0 in
     let popped = ap reverse (pushed_one c.pop.new.self.items c.loop-turn.stack.items c.in-Some.node c.in-Some.ensures.items) ∙ top_first rest at in
     let inv = c.loop-turn.invariant in
-    let now = subst (λ l. Counted measure r s n (2 * n + 2) c.loop-turn.arena l c.args.steps.now c.loop-turn.steps) popped (inv.counted n e apart) in
-    counted_stops measure r s n (2 * n + 2) refl c.loop-turn.arena c.visit.new.arena at (reverse rest) c.args.steps.now c.loop-turn.steps c.visit.new.steps now (stopped_longer (g.R.OptimizationRule.settled c.args.rule.now (registry c.args.udfs.now) (columns c.args.schema.now)) (g.R.OptimizationRule.measure c.args.rule.now (registry c.args.udfs.now) (columns c.args.schema.now)) (g.R.OptimizationRule.related c.args.rule.now (registry c.args.udfs.now) (columns c.args.schema.now)) (g.R.OptimizationRule.turns c.args.rule.now) (registry c.args.udfs.now) (columns c.args.schema.now) c.loop-turn.arena c.visit.new.arena at c.in_err-visit.ensures.stopped) c.in_err-visit.ensures.steps
+    let now = subst (λ l. Counted measure n (2 * n + 2) c.loop-turn.arena l c.args.steps.now c.loop-turn.steps) popped (inv.counted n e apart) in
+    counted_stops measure n (2 * n + 2) refl c.loop-turn.arena c.visit.new.arena at (reverse rest) c.args.steps.now c.loop-turn.steps c.visit.new.steps now (stopped_longer (g.R.OptimizationRule.settled c.args.rule.now (registry c.args.udfs.now) (columns c.args.schema.now)) (g.R.OptimizationRule.measure c.args.rule.now (registry c.args.udfs.now) (columns c.args.schema.now)) (g.R.OptimizationRule.related c.args.rule.now (registry c.args.udfs.now) (columns c.args.schema.now)) (g.R.OptimizationRule.turns c.args.rule.now) (registry c.args.udfs.now) (columns c.args.schema.now) c.loop-turn.arena c.visit.new.arena at c.in_err-visit.ensures.stopped) c.in_err-visit.ensures.steps
 
 pub returns-in_err-visit-clause-err : goal.returns-in_err-visit-clause-err
 returns-in_err-visit-clause-err g c =
@@ -217,7 +217,7 @@ returns-in_err-visit-clause-err g c =
       numbers = λ n e none are.
           let laws = g.met.R.OptimizationRule in
           let now = subst (λ l. Working settled related r s c.args.arena.now c.loop-turn.arena l roots) popped (inv.many n e none are) in
-          let top = working_typed settled (rule.measure c.args.rule.now r s) related (rule.turns c.args.rule.now) n e r s (laws.congruent c.args.rule.now r s) (laws.transitive c.args.rule.now r s) none c.args.arena.now roots are c.loop-turn.arena at (reverse rest) now in
+          let top = working_typed settled (rule.measure c.args.rule.now r s) related (rule.turns c.args.rule.now) n e r s (laws.congruent c.args.rule.now r s) (laws.transitive c.args.rule.now r s) (laws.steady c.args.rule.now r s) none c.args.arena.now roots are c.loop-turn.arena at (reverse rest) now in
           memory_alone _ top.1 c.in_err-visit.field-0.0 top.3 (c.in_err-visit.ensures.err top.0 top.2);
     })
 
@@ -230,7 +230,7 @@ returns-in-None-clause-alone g c = λ root number many t none is d h.
     let settled = rule.settled c.args.rule.now r s in
     let related = rule.related c.args.rule.now r s in
     let empty = ap reverse (no_numbers c.loop-turn.stack.items c.in-None.ensures.variant.1) in
-    alone_end settled (rule.measure c.args.rule.now r s) related (rule.turns c.args.rule.now) r s (laws.congruent c.args.rule.now r s) (laws.transitive c.args.rule.now r s) none root number many t c.loop-turn.arena (subst (λ l. Alone settled related r s c.loop-turn.arena l root t) empty (c.loop-turn.invariant.alone root number many t none is d h))
+    alone_end settled (rule.measure c.args.rule.now r s) related (rule.turns c.args.rule.now) r s (laws.congruent c.args.rule.now r s) (laws.transitive c.args.rule.now r s) (laws.steady c.args.rule.now r s) none root number many t c.loop-turn.arena (subst (λ l. Alone settled related r s c.loop-turn.arena l root t) empty (c.loop-turn.invariant.alone root number many t none is d h))
 
 pub returns-in-None-clause-beside : goal.returns-in-None-clause-beside
 returns-in-None-clause-beside g c = λ n e none are. (c.loop-turn.invariant.many n e none are).trees
@@ -245,7 +245,7 @@ returns-in-None-clause-ends g c = λ n e none are.
     let related = rule.related c.args.rule.now r s in
     let roots = numbers c.args.stack.now.items in
     let empty = ap reverse (no_numbers c.loop-turn.stack.items c.in-None.ensures.variant.1) in
-    working_end settled (rule.measure c.args.rule.now r s) related (rule.turns c.args.rule.now) n e r s (laws.congruent c.args.rule.now r s) (laws.transitive c.args.rule.now r s) none c.args.arena.now roots are c.loop-turn.arena (subst (λ l. Working settled related r s c.args.arena.now c.loop-turn.arena l roots) empty (c.loop-turn.invariant.many n e none are))
+    working_end settled (rule.measure c.args.rule.now r s) related (rule.turns c.args.rule.now) n e r s (laws.congruent c.args.rule.now r s) (laws.transitive c.args.rule.now r s) (laws.steady c.args.rule.now r s) none c.args.arena.now roots are c.loop-turn.arena (subst (λ l. Working settled related r s c.args.arena.now c.loop-turn.arena l roots) empty (c.loop-turn.invariant.many n e none are))
 
 pub returns-clause-beside : goal.returns-clause-beside
 returns-clause-beside g c = λ n e none are. (c.loop-turn.invariant.many n e none are).trees
@@ -265,4 +265,4 @@ returns-in_err-visit-clause-beside g c = λ n e none are.
     let at = c.in-Some.node.0 in
     let popped = ap reverse (pushed_one c.pop.new.self.items c.loop-turn.stack.items c.in-Some.node c.in-Some.ensures.items) ∙ top_first rest at in
     let inv = c.loop-turn.invariant in
-    working_stops settled measure related turns n e r s (laws.congruent c.args.rule.now r s) (laws.transitive c.args.rule.now r s) none c.args.arena.now roots are c.loop-turn.arena c.visit.new.arena at inv.finite inv.longer (λ m a. among_all (DenotesTree (HoldsExpression c.args.arena.now)) roots m c.requires.trees a) (reverse rest) c.in_err-visit.ensures.stopped (subst (λ l. Working settled related r s c.args.arena.now c.loop-turn.arena l roots) popped (inv.many n e none are))
+    working_stops settled measure related turns n e r s (laws.congruent c.args.rule.now r s) (laws.transitive c.args.rule.now r s) (laws.steady c.args.rule.now r s) none c.args.arena.now roots are c.loop-turn.arena c.visit.new.arena at inv.finite inv.longer (λ m a. among_all (DenotesTree (HoldsExpression c.args.arena.now)) roots m c.requires.trees a) (reverse rest) c.in_err-visit.ensures.stopped (subst (λ l. Working settled related r s c.args.arena.now c.loop-turn.arena l roots) popped (inv.many n e none are))

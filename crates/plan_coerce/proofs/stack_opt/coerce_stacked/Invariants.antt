@@ -28,8 +28,8 @@ invariant-loop-turn g l =
       longer : length l.initial.arena ≤ length l.arena;
       right : IsRight registry schema l.arena l.types;
       pending : AreTypedRoots settled registry schema l.initial.arena roots → Pending settled (g.R.OptimizationRule.related l.rule registry schema) registry schema l.initial.arena l.arena (reverse (numbers l.stack.items)) roots;
-      alone : (root : ℕ) (number : ℤ) (many : Bool) (t : Expression) → SettlesNoNumber settled → roots ≡ root ∷ [] → Denotes (HoldsExpression l.initial.arena) root t → typing registry schema t ≡ Ok (record { type = Untyped number; many = many }) → Alone settled (g.R.OptimizationRule.related l.rule registry schema) registry schema l.arena (reverse (numbers l.stack.items)) root t;
-      many : (n : ℕ) → g.R.OptimizationRule.turns l.rule ≡ Some n → SettlesNoNumber settled → AreRoots settled registry schema l.initial.arena roots → Working settled (g.R.OptimizationRule.related l.rule registry schema) registry schema l.initial.arena l.arena (reverse (numbers l.stack.items)) roots;
+      alone : (root : ℕ) (number : ℤ) (many : Bool) (t : Expression) → SettlesNoNumber settled registry schema → roots ≡ root ∷ [] → Denotes (HoldsExpression l.initial.arena) root t → typing registry schema t ≡ Ok (record { type = Untyped number; many = many }) → Alone settled (g.R.OptimizationRule.related l.rule registry schema) registry schema l.arena (reverse (numbers l.stack.items)) root t;
+      many : (n : ℕ) → g.R.OptimizationRule.turns l.rule ≡ Some n → SettlesNoNumber settled registry schema → AreRoots settled registry schema l.initial.arena roots → Working settled (g.R.OptimizationRule.related l.rule registry schema) registry schema l.initial.arena l.arena (reverse (numbers l.stack.items)) roots;
       keeping : (n : ℕ) → g.R.OptimizationRule.turns l.rule ≡ Some n → Keeping l.initial.arena roots l.arena (reverse (numbers l.stack.items));
-      counted : (n : ℕ) → g.R.OptimizationRule.turns l.rule ≡ Some n → AreApart l.initial.arena roots → Counted (g.R.OptimizationRule.measure l.rule registry schema) registry schema n (2 * n + 2) l.arena (reverse (numbers l.stack.items)) l.initial.steps l.steps;
+      counted : (n : ℕ) → g.R.OptimizationRule.turns l.rule ≡ Some n → AreApart l.initial.arena roots → Counted (g.R.OptimizationRule.measure l.rule registry schema) n (2 * n + 2) l.arena (reverse (numbers l.stack.items)) l.initial.steps l.steps;
     }

@@ -1,11 +1,21 @@
-use Rattle.std.proofs.Common.{arith, inr}
+use Rattle.std.proofs.Common.{◌<◌, length, arith, inr}
 use Rattle.plan_types.specs.Schemas.{columns}
 use Rattle.plan_dsl.specs.Registry.{registry}
 use Rattle.plan_arena.specs.Items.{numbers}
+use Rattle.plan_arena.proofs.ItemLemmas.{length-grown, tree_within}
 use Rattle.plan_coerce.specs.Turns.{finds, places}
 use Rattle.plan_coerce.proofs.StackLemmas.{pushed, pushed_one}
 use Rattle.plan_coerce.proofs.TurnLemmas.{found_now, on_ok, on_refusal, placed_now, some_said}
 use Rattle.plan_coerce.proofs.stack_opt.visit.Goals as goal
+
+pub get-requires : goal.get-requires
+get-requires g c =
+    omega (arith, tree_within c.args.arena.now c.args.node.0 c.requires.tree, length-grown c.args.arena.now c.optimize_expr.new.expr_arena c.in_ok-optimize_expr.ensures.grows)
+
+pub put_in_place-requires : goal.put_in_place-requires
+put_in_place-requires g c =
+    let there : c.args.node.0 < length c.optimize_expr.new.expr_arena = omega (arith, tree_within c.args.arena.now c.args.node.0 c.requires.tree, length-grown c.args.arena.now c.optimize_expr.new.expr_arena c.in_ok-optimize_expr.ensures.grows) in
+    record { there = there }
 
 pub returns-in-None-clause-ok : goal.returns-in-None-clause-ok
 returns-in-None-clause-ok g c = on_ok c.push_inputs.result c.push_inputs.ensures.ok (λ stacked. finds

@@ -8,7 +8,7 @@ use Rattle.query_run.proofs.answer.answer_plan.Goals as goal
 
 pub returns-in_ok-text-in-Ok : goal.returns-in_ok-text-in-Ok
 returns-in_ok-text-in-Ok c =
-    reported (registry c.args.udfs.now) (resolved (registry c.args.udfs.now) (plan_tree c.args.plan)) c.in-Ok.plan _ c.in-Ok.ensures.answers c.in-Ok.ensures.typed c.in-Ok.ensures.split c.in-Ok.ensures.sound c.in-Ok.ensures.same_frame c.in_ok-text-in-Ok.ensures
+    reported (registry c.args.udfs.now) (resolved (registry c.args.udfs.now) (plan_tree c.args.plan)) c.in-Ok.plan _ c.in-Ok.ensures.answers c.in-Ok.ensures.typed c.in-Ok.ensures.split c.in-Ok.ensures.sound c.in-Ok.ensures.same_frame c.in-Ok.ensures.lowered c.in-Ok.ensures.bounds c.in_ok-text-in-Ok.ensures
 
 pub returns-in_ok-text-in-Err : goal.returns-in_ok-text-in-Err
 returns-in_ok-text-in-Err c =

@@ -1,14 +1,20 @@
-use Rattle.std.proofs.Common.{◌≡◌, [], refl}
+use Rattle.std.proofs.Common.{◌≡◌, true, false, [], refl}
 use Rattle.plan_types.specs.declared.dtype.CastOptions.TheVariants.{NonStrict}
 use Rattle.plan_dsl.specs.Ops.{CastOp}
 use Rattle.plan_dsl.specs.Trees.{no_more, more}
-use Rattle.plan_infer.specs.Samples.{int32, two_columns, a, cast_to}
+use Rattle.plan_infer.specs.Samples.{int8, int32, two_columns, a, cast_to, sum}
 use Rattle.plan_coerce.specs.CoercedLaws.{same_casts_congruent}
+use Rattle.plan_coerce.specs.RuleLaws.{said_steady}
+use Rattle.plan_coerce.specs.Rules.{HasSameCasts, IsLike, is_strict_node}
+use Rattle.plan_coerce.specs.Samples.{strict_sum}
 use Rattle.plan_coerce.proofs.ExampleLemmas.{other_label}
 use Rattle.plan_coerce.proofs.examples.optimizer.expressions_that_are_alike.Goals as goal
 
+sums_alike : IsLike (HasSameCasts [] two_columns) [] two_columns sum strict_sum
+sums_alike = record { same = record { typing = refl; name = refl; meaning = λ rows. refl }; relates = refl }
+
 pub returns-clause-cast : goal.returns-clause-cast
-returns-clause-cast c = record { same = record { typing = refl; name = refl; meaning = λ rows. refl }; relates = refl }
+returns-clause-cast c = sums_alike
 
 pub returns-clause-unrelated : goal.returns-clause-unrelated
 returns-clause-unrelated c = λ like. like.relates
@@ -25,3 +31,11 @@ no_column e = cc
 pub returns-clause-one_column_alone : goal.returns-clause-one_column_alone
 returns-clause-one_column_alone c = λ congruent.
     no_column (congruent (CastOp int32 NonStrict) (more a no_more) (more a no_more) (record { same = record { typing = refl; name = refl; meaning = λ rows. refl }; relates = refl }, tt))
+
+pub returns-clause-strict_nodes : goal.returns-clause-strict_nodes
+returns-clause-strict_nodes c = said_steady (is_strict_node [] two_columns) (HasSameCasts [] two_columns) [] two_columns
+
+pub returns-clause-strict_throughout : goal.returns-clause-strict_throughout
+returns-clause-strict_throughout c = λ steady.
+    let same : true ≡ false = steady (CastOp int8 NonStrict) (more sum no_more) (more strict_sum no_more) (sums_alike, tt) in
+    cc

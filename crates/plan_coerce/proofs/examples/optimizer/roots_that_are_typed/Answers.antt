@@ -4,6 +4,7 @@ use Rattle.plan_types.specs.Types.{Untyped, is_known}
 use Rattle.plan_types.specs.declared.error.ErrorKind.TheVariants.{ColumnNotFound}
 use Rattle.plan_dsl.specs.declared.literal.LiteralValue.TheVariants.{Int}
 use Rattle.plan_dsl.specs.Ops.{LenOp}
+use Rattle.plan_dsl.specs.Trees.{no_more, more}
 use Rattle.plan_dsl.specs.Typing.{Typed, typing}
 use Rattle.plan_dsl.proofs.TypingLemmas.{ok_same}
 use Rattle.plan_arena.specs.declared.aexpr.AExpr.TheVariants.{Literal}
@@ -22,10 +23,10 @@ returns-clause-number c = λ root.
     let known : false ≡ true = subst (λ (t : Typed). is_known t.type ≡ true) (ok_same (typing [] [] five) root.typed (of_one (Untyped (pos 5))) is refl) (root.known (settles_no_number [] [])) in
     cc
 
-any_settled : SettlesNoNumber (λ op inputs. true) → ⊥
+any_settled : SettlesNoNumber (λ t. true) [] [] → ⊥
 any_settled settles =
     let number : Typed = of_one (Untyped (pos 5)) in
-    false≢true (settles LenOp (record { labels = []; typings = Ok (number ∷ []) }) (number ∷ []) refl refl).0
+    false≢true (settles LenOp (more five no_more) (number ∷ []) refl refl).0
 
 pub returns-clause-number_of_another_rule : goal.returns-clause-number_of_another_rule
 returns-clause-number_of_another_rule c = record { tree = five; denotes = ([], refl, tt); typed = of_one (Untyped (pos 5)); is = refl; known = λ settles. absurd (any_settled settles) }

@@ -2,8 +2,9 @@ use Rattle.std.proofs.Common.{◌<◌, [], ◌∷◌, Ok, pos, false, refl, subs
 use Rattle.std.proofs.lemmas.Bool.{false≢true}
 use Rattle.plan_types.specs.Types.{Untyped}
 use Rattle.plan_dsl.specs.Ops.{Expression, LenOp}
+use Rattle.plan_dsl.specs.Trees.{no_more, more}
 use Rattle.plan_dsl.specs.Typing.{Typed}
-use Rattle.plan_infer.specs.Samples.{two_columns, sum, sum_items}
+use Rattle.plan_infer.specs.Samples.{two_columns, five, sum, sum_items}
 use Rattle.plan_infer.proofs.ExampleLemmas.{one_expression}
 use Rattle.plan_coerce.specs.Rules.{said, until_strict}
 use Rattle.plan_coerce.proofs.examples.rules.what_is_no_replacement.Goals as goal
@@ -17,5 +18,5 @@ returns-clause-unchanged c = λ r.
 pub returns-clause-any_node : goal.returns-clause-any_node
 returns-clause-any_node c = λ settles.
     let number : Typed = record { type = Untyped (pos 5); many = false } in
-    let known = settles LenOp (record { labels = []; typings = Ok (number ∷ []) }) (number ∷ []) refl refl in
+    let known = settles LenOp (more five no_more) (number ∷ []) refl refl in
     false≢true known.0

@@ -69,74 +69,45 @@ add_function-returns-in_ok-node-in-None-clause-denotes t c =
     item_denotes _ c.add_recorded.new.arena _ whole _ top.node.0 (length-grown c.args.arena.now c.add_recorded.new.arena operands.ensures.grows) item top.ensures.ok top.ensures.node
 
 -- what is over several inputs
-pub add_inputs-add_several-requires : goal.add_inputs-add_several-requires
-add_inputs-add_several-requires t c = (omega (arith, c.decreases), (c.requires.plain, ap (λ e. has_several (top_op (tree_of e))) c.in-BinaryExpr.is))
-
-pub add_inputs-add_several-requires-in-Slice : goal.add_inputs-add_several-requires-in-Slice
-add_inputs-add_several-requires-in-Slice t c = (omega (arith, c.decreases), (c.requires.plain, ap (λ e. has_several (top_op (tree_of e))) c.in-Slice.is))
-
-pub add_inputs-add_several-requires-in-Gather : goal.add_inputs-add_several-requires-in-Gather
-add_inputs-add_several-requires-in-Gather t c = (omega (arith, c.decreases), (c.requires.plain, ap (λ e. has_several (top_op (tree_of e))) c.in-Gather.is))
-
-pub add_inputs-add_several-requires-in-Filter : goal.add_inputs-add_several-requires-in-Filter
-add_inputs-add_several-requires-in-Filter t c = (omega (arith, c.decreases), (c.requires.plain, ap (λ e. has_several (top_op (tree_of e))) c.in-Filter.is))
-
-pub add_inputs-add_several-requires-in-Ternary : goal.add_inputs-add_several-requires-in-Ternary
-add_inputs-add_several-requires-in-Ternary t c = (omega (arith, c.decreases), (c.requires.plain, ap (λ e. has_several (top_op (tree_of e))) c.in-Ternary.is))
-
 pub add_several-unreachable-requires : goal.add_several-unreachable-requires
 add_several-unreachable-requires t c =
     several_kinds c.args.expr c.requires.several c.in_default.not-BinaryExpr c.in_default.not-Slice c.in_default.not-Gather c.in_default.not-Filter c.in_default.not-Ternary
 
 -- the operands behind the first are less deep, and have plans' ops alone
-pub add_several-add_nodes-requires-in-BinaryExpr : goal.add_several-add_nodes-requires-in-BinaryExpr
-add_several-add_nodes-requires-in-BinaryExpr t c =
-    let size = ap size-Expr c.in-BinaryExpr.is ∙ sized-BinaryExpr _ _ _ in (
-      omega (arith, c.decreases, size, ap size-Expr c.into_inner-in-BinaryExpr.ensures),
-      rw (c.into_inner-in-BinaryExpr.ensures) (second_plain c.args.expr _ _ _ _ (ap tree_of c.in-BinaryExpr.is) c.requires.plain),
-    )
+pub add_several-add_below-requires-in-BinaryExpr : goal.add_several-add_below-requires-in-BinaryExpr
+add_several-add_below-requires-in-BinaryExpr t c =
+    let size = ap size-Expr c.in-BinaryExpr.is ∙ sized-BinaryExpr _ _ _ in
+    (omega (arith, c.decreases, size), second_plain c.args.expr _ _ _ _ (ap tree_of c.in-BinaryExpr.is) c.requires.plain)
 
-pub add_several-add_nodes-requires-in-Slice-2 : goal.add_several-add_nodes-requires-in-Slice-2
-add_several-add_nodes-requires-in-Slice-2 t c =
-    let size = ap size-Expr c.in-Slice.is ∙ sized-Slice _ _ _ in (
-      omega (arith, c.decreases, size, ap size-Expr c.into_inner-in-Slice-2.ensures),
-      rw (c.into_inner-in-Slice-2.ensures) (second_plain c.args.expr _ _ _ _ (ap tree_of c.in-Slice.is) c.requires.plain),
-    )
+pub add_several-add_below-requires-in-Slice-2 : goal.add_several-add_below-requires-in-Slice-2
+add_several-add_below-requires-in-Slice-2 t c =
+    let size = ap size-Expr c.in-Slice.is ∙ sized-Slice _ _ _ in
+    (omega (arith, c.decreases, size), second_plain c.args.expr _ _ _ _ (ap tree_of c.in-Slice.is) c.requires.plain)
 
-pub add_several-add_nodes-requires-in-Slice-3 : goal.add_several-add_nodes-requires-in-Slice-3
-add_several-add_nodes-requires-in-Slice-3 t c =
-    let size = ap size-Expr c.in-Slice.is ∙ sized-Slice _ _ _ in (
-      omega (arith, c.decreases, size, ap size-Expr c.into_inner-in-Slice-3.ensures),
-      rw (c.into_inner-in-Slice-3.ensures) (third_plain c.args.expr _ _ _ _ _ (ap tree_of c.in-Slice.is) c.requires.plain),
-    )
+pub add_several-add_below-requires-in-Slice-3 : goal.add_several-add_below-requires-in-Slice-3
+add_several-add_below-requires-in-Slice-3 t c =
+    let size = ap size-Expr c.in-Slice.is ∙ sized-Slice _ _ _ in
+    (omega (arith, c.decreases, size), third_plain c.args.expr _ _ _ _ _ (ap tree_of c.in-Slice.is) c.requires.plain)
 
-pub add_several-add_nodes-requires-in-Gather-2 : goal.add_several-add_nodes-requires-in-Gather-2
-add_several-add_nodes-requires-in-Gather-2 t c =
-    let size = ap size-Expr c.in-Gather.is ∙ sized-Gather _ _ _ in (
-      omega (arith, c.decreases, size, ap size-Expr c.into_inner-in-Gather-2.ensures),
-      rw (c.into_inner-in-Gather-2.ensures) (second_plain c.args.expr _ _ _ _ (ap tree_of c.in-Gather.is) c.requires.plain),
-    )
+pub add_several-add_below-requires-in-Gather-2 : goal.add_several-add_below-requires-in-Gather-2
+add_several-add_below-requires-in-Gather-2 t c =
+    let size = ap size-Expr c.in-Gather.is ∙ sized-Gather _ _ _ in
+    (omega (arith, c.decreases, size), second_plain c.args.expr _ _ _ _ (ap tree_of c.in-Gather.is) c.requires.plain)
 
-pub add_several-add_nodes-requires-in-Filter-2 : goal.add_several-add_nodes-requires-in-Filter-2
-add_several-add_nodes-requires-in-Filter-2 t c =
-    let size = ap size-Expr c.in-Filter.is ∙ sized-Filter _ _ in (
-      omega (arith, c.decreases, size, ap size-Expr c.into_inner-in-Filter-2.ensures),
-      rw (c.into_inner-in-Filter-2.ensures) (second_plain c.args.expr _ _ _ _ (ap tree_of c.in-Filter.is) c.requires.plain),
-    )
+pub add_several-add_below-requires-in-Filter-2 : goal.add_several-add_below-requires-in-Filter-2
+add_several-add_below-requires-in-Filter-2 t c =
+    let size = ap size-Expr c.in-Filter.is ∙ sized-Filter _ _ in
+    (omega (arith, c.decreases, size), second_plain c.args.expr _ _ _ _ (ap tree_of c.in-Filter.is) c.requires.plain)
 
-pub add_several-add_nodes-requires-in-Ternary-2 : goal.add_several-add_nodes-requires-in-Ternary-2
-add_several-add_nodes-requires-in-Ternary-2 t c =
-    let size = ap size-Expr c.in-Ternary.is ∙ sized-Ternary _ _ _ in (
-      omega (arith, c.decreases, size, ap size-Expr c.into_inner-in-Ternary-2.ensures),
-      rw (c.into_inner-in-Ternary-2.ensures) (second_plain c.args.expr _ _ _ _ (ap tree_of c.in-Ternary.is) c.requires.plain),
-    )
+pub add_several-add_below-requires-in-Ternary-2 : goal.add_several-add_below-requires-in-Ternary-2
+add_several-add_below-requires-in-Ternary-2 t c =
+    let size = ap size-Expr c.in-Ternary.is ∙ sized-Ternary _ _ _ in
+    (omega (arith, c.decreases, size), second_plain c.args.expr _ _ _ _ (ap tree_of c.in-Ternary.is) c.requires.plain)
 
-pub add_several-add_nodes-requires-in-Ternary-3 : goal.add_several-add_nodes-requires-in-Ternary-3
-add_several-add_nodes-requires-in-Ternary-3 t c =
-    let size = ap size-Expr c.in-Ternary.is ∙ sized-Ternary _ _ _ in (
-      omega (arith, c.decreases, size, ap size-Expr c.into_inner-in-Ternary-3.ensures),
-      rw (c.into_inner-in-Ternary-3.ensures) (third_plain c.args.expr _ _ _ _ _ (ap tree_of c.in-Ternary.is) c.requires.plain),
-    )
+pub add_several-add_below-requires-in-Ternary-3 : goal.add_several-add_below-requires-in-Ternary-3
+add_several-add_below-requires-in-Ternary-3 t c =
+    let size = ap size-Expr c.in-Ternary.is ∙ sized-Ternary _ _ _ in
+    (omega (arith, c.decreases, size), third_plain c.args.expr _ _ _ _ _ (ap tree_of c.in-Ternary.is) c.requires.plain)
 
 pub add_nodes-add_function-requires : goal.add_nodes-add_function-requires
 add_nodes-add_function-requires t c =
@@ -144,8 +115,8 @@ add_nodes-add_function-requires t c =
     let size = ap size-Expr kind.is ∙ sized-Function _ _ in
     (omega (arith, c.decreases, size), (plain_function c.args.expr kind.input kind.function kind.is c.requires.plain).0)
 
-pub add_inputs-add_each-requires : goal.add_inputs-add_each-requires
-add_inputs-add_each-requires t c =
+pub add_others-add_each-requires : goal.add_others-add_each-requires
+add_others-add_each-requires t c =
     let kind = c.in-SortBy in
     let size = ap size-Expr kind.is ∙ sized-SortBy _ _ _ in
     (omega (arith, c.decreases, size), rest_plain (sort_by_listed c.args.expr kind.expr kind.by kind.sort_options kind.is) c.requires.plain)
@@ -156,7 +127,7 @@ pub add_several-returns-in_ok-right-in-BinaryExpr-clause-ok :
 add_several-returns-in_ok-right-in-BinaryExpr-clause-ok t c =
     let left = c.in_ok-left-in-BinaryExpr.ensures in
     let right = c.in_ok-right-in-BinaryExpr.ensures in
-    rw (c.in-BinaryExpr.is, ← c.into_inner.ensures, ← c.into_inner-in-BinaryExpr.ensures) (over_added _ _ _ _ (more _ (more _ no_more)) refl (_, left.denotes, left.grows, (_, right.denotes, right.grows, refl)))
+    rw (c.in-BinaryExpr.is) (over_added _ _ _ _ (more _ (more _ no_more)) refl (_, left.denotes, left.grows, (_, right.denotes, right.grows, refl)))
 
 pub add_several-returns-in_ok-length-in-Slice-clause-ok :
     goal.add_several-returns-in_ok-length-in-Slice-clause-ok
@@ -164,21 +135,21 @@ add_several-returns-in_ok-length-in-Slice-clause-ok t c =
     let input = c.in_ok-input-in-Slice.ensures in
     let offset = c.in_ok-offset-in-Slice.ensures in
     let length = c.in_ok-length-in-Slice.ensures in
-    rw (c.in-Slice.is, ← c.into_inner-in-Slice.ensures, ← c.into_inner-in-Slice-2.ensures, ← c.into_inner-in-Slice-3.ensures) (over_added _ _ _ _ (more _ (more _ (more _ no_more))) refl (_, input.denotes, input.grows, (_, offset.denotes, offset.grows, (_, length.denotes, length.grows, refl))))
+    rw (c.in-Slice.is) (over_added _ _ _ _ (more _ (more _ (more _ no_more))) refl (_, input.denotes, input.grows, (_, offset.denotes, offset.grows, (_, length.denotes, length.grows, refl))))
 
 pub add_several-returns-in_ok-idx-in-Gather-clause-ok :
     goal.add_several-returns-in_ok-idx-in-Gather-clause-ok
 add_several-returns-in_ok-idx-in-Gather-clause-ok t c =
     let expr = c.in_ok-expr-in-Gather.ensures in
     let idx = c.in_ok-idx-in-Gather.ensures in
-    rw (c.in-Gather.is, ← c.into_inner-in-Gather.ensures, ← c.into_inner-in-Gather-2.ensures) (over_added _ _ _ _ (more _ (more _ no_more)) refl (_, expr.denotes, expr.grows, (_, idx.denotes, idx.grows, refl)))
+    rw (c.in-Gather.is) (over_added _ _ _ _ (more _ (more _ no_more)) refl (_, expr.denotes, expr.grows, (_, idx.denotes, idx.grows, refl)))
 
 pub add_several-returns-in_ok-by-in-Filter-clause-ok :
     goal.add_several-returns-in_ok-by-in-Filter-clause-ok
 add_several-returns-in_ok-by-in-Filter-clause-ok t c =
     let input = c.in_ok-input-in-Filter.ensures in
     let by = c.in_ok-by-in-Filter.ensures in
-    rw (c.in-Filter.is, ← c.into_inner-in-Filter.ensures, ← c.into_inner-in-Filter-2.ensures) (over_added _ _ _ _ (more _ (more _ no_more)) refl (_, input.denotes, input.grows, (_, by.denotes, by.grows, refl)))
+    rw (c.in-Filter.is) (over_added _ _ _ _ (more _ (more _ no_more)) refl (_, input.denotes, input.grows, (_, by.denotes, by.grows, refl)))
 
 pub add_several-returns-in_ok-falsy-in-Ternary-clause-ok :
     goal.add_several-returns-in_ok-falsy-in-Ternary-clause-ok
@@ -186,46 +157,45 @@ add_several-returns-in_ok-falsy-in-Ternary-clause-ok t c =
     let truthy = c.in_ok-truthy-in-Ternary.ensures in
     let predicate = c.in_ok-predicate-in-Ternary.ensures in
     let falsy = c.in_ok-falsy-in-Ternary.ensures in
-    rw (c.in-Ternary.is, ← c.into_inner-in-Ternary.ensures, ← c.into_inner-in-Ternary-2.ensures, ← c.into_inner-in-Ternary-3.ensures) (over_added _ _ _ _ (more _ (more _ (more _ no_more))) refl (_, truthy.denotes, truthy.grows, (_, predicate.denotes, predicate.grows, (_, falsy.denotes, falsy.grows, refl))))
+    rw (c.in-Ternary.is) (over_added _ _ _ _ (more _ (more _ (more _ no_more))) refl (_, truthy.denotes, truthy.grows, (_, predicate.denotes, predicate.grows, (_, falsy.denotes, falsy.grows, refl))))
 
 -- one over an input and a list, which was added behind it
-pub add_inputs-returns-in_ok-by-in-SortBy-clause-ok :
-    goal.add_inputs-returns-in_ok-by-in-SortBy-clause-ok
-add_inputs-returns-in_ok-by-in-SortBy-clause-ok t c =
+pub add_others-returns-in_ok-by-in-SortBy-clause-ok :
+    goal.add_others-returns-in_ok-by-in-SortBy-clause-ok
+add_others-returns-in_ok-by-in-SortBy-clause-ok t c =
     let kind = c.in-SortBy in
     let first = c.in_ok-expr-in-SortBy.ensures in
     let rest = c.in_ok-by-in-SortBy.ensures in
     let keys = all_pruned c.args.keep (children_from (plain_trees kind.by)) in
-    let whole = ap (over_inputs c.args.keep) (unwritten_listed kind.by.items.items (sort_by_listed c.args.expr kind.expr kind.by kind.sort_options kind.is)) in
-    let tree = whole ∙ ap (λ e. node (sort_by_op kind.sort_options) (more (pruned c.args.keep (plain_tree e)) keys)) (sym c.into_inner-in-SortBy.ensures) in
-    over_listed c.args.arena.now c.add_nodes-in-SortBy.new.arena c.add_each.new.arena _ (SortBy c.in_ok-expr-in-SortBy.expr c.in_ok-by-in-SortBy.by kind.sort_options) _ _ _ keys tree refl first.denotes first.grows rest.ok rest.grows
+    let tree = ap (over_inputs c.args.keep) (unwritten_listed kind.by.items.items (sort_by_listed c.args.expr kind.expr kind.by kind.sort_options kind.is)) in
+    over_listed c.args.arena.now c.add_below-in-SortBy.new.arena c.add_each.new.arena _ (SortBy c.in_ok-expr-in-SortBy.expr c.in_ok-by-in-SortBy.by kind.sort_options) _ _ _ keys tree refl first.denotes first.grows rest.ok rest.grows
 
 -- what orders the groups of a window, and its keys, are less deep and have plans' ops alone
-pub add_inputs-add_order-requires : goal.add_inputs-add_order-requires
-add_inputs-add_order-requires t c =
+pub add_others-add_order-requires : goal.add_others-add_order-requires
+add_others-add_order-requires t c =
     let kind = c.in-Window in
     let size = ap size-Expr kind.is ∙ sized-Window _ _ _ _ in
     let plain = rest_plain (window_listed c.args.expr kind.function kind.partition_by kind.order_by kind.options kind.is) c.requires.plain in
     (omega (arith, c.decreases, size), (both_plain (order_trees kind.order_by) (trees_of kind.partition_by) plain).0)
 
-pub add_inputs-add_each-requires-in-Window : goal.add_inputs-add_each-requires-in-Window
-add_inputs-add_each-requires-in-Window t c =
+pub add_others-add_each-requires-in-Window : goal.add_others-add_each-requires-in-Window
+add_others-add_each-requires-in-Window t c =
     let kind = c.in-Window in
     let size = ap size-Expr kind.is ∙ sized-Window _ _ _ _ in
     let plain = rest_plain (window_listed c.args.expr kind.function kind.partition_by kind.order_by kind.options kind.is) c.requires.plain in
     (omega (arith, c.decreases, size), (both_plain (order_trees kind.order_by) (trees_of kind.partition_by) plain).1)
 
 -- a window's item, over its function, what orders its groups, and its keys
-pub add_inputs-returns-in_ok-partition_by-in-Window-clause-ok : goal.add_inputs-returns-in_ok-partition_by-in-Window-clause-ok
-add_inputs-returns-in_ok-partition_by-in-Window-clause-ok t c =
+pub add_others-returns-in_ok-partition_by-in-Window-clause-ok : goal.add_others-returns-in_ok-partition_by-in-Window-clause-ok
+add_others-returns-in_ok-partition_by-in-Window-clause-ok t c =
     let kind = c.in-Window in
     let first = c.in_ok-function-in-Window.ensures in
     let order = c.in_ok-order_by-in-Window in
     let keys = c.in_ok-partition_by-in-Window.ensures in
     let orders = map unwritten (order_trees kind.order_by) in
     let whole = ap (over_inputs c.args.keep) (unwritten_both (order_trees kind.order_by) kind.partition_by.items.items (window_listed c.args.expr kind.function kind.partition_by kind.order_by kind.options kind.is)) in
-    let tree = whole ∙ (λ i. node (WindowOp (sym order.ensures.way i)) (more (pruned c.args.keep (plain_tree (sym c.into_inner-in-Window.ensures i))) (all_pruned c.args.keep (children_from (orders ++ plain_trees kind.partition_by))))) in
-    over_both c.args.keep c.args.arena.now c.add_nodes-in-Window.new.arena c.add_order.new.arena c.add_each-in-Window.new.arena _ (Window c.in_ok-function-in-Window.function c.in_ok-partition_by-in-Window.partition_by order.order_by kind.options) _ _ _ _ orders (plain_trees kind.partition_by) tree refl first.denotes first.grows order.ensures.ok order.ensures.grows keys.ok keys.grows
+    let tree = whole ∙ (λ i. node (WindowOp (sym order.ensures.way i)) (more (pruned c.args.keep (plain_tree kind.function.value)) (all_pruned c.args.keep (children_from (orders ++ plain_trees kind.partition_by))))) in
+    over_both c.args.keep c.args.arena.now c.add_below-in-Window.new.arena c.add_order.new.arena c.add_each-in-Window.new.arena _ (Window c.in_ok-function-in-Window.function c.in_ok-partition_by-in-Window.partition_by order.order_by kind.options) _ _ _ _ orders (plain_trees kind.partition_by) tree refl first.denotes first.grows order.ensures.ok order.ensures.grows keys.ok keys.grows
 
 pub add_each-loop-expr-init : goal.add_each-loop-expr-init
 add_each-loop-expr-init t c =

@@ -5,7 +5,7 @@ use Rattle.plan_types.specs.Schemas.{Name, columns, names_of, repeats}
 use Rattle.plan_dsl.specs.Registry.{registry}
 use Rattle.plan_arena.proofs.ItemLemmas.{grown_held}
 use Rattle.plan_infer.specs.Typed.{DenotesKnown}
-use Rattle.plan_coerce.specs.Optimizer.{IsCoerced}
+use Rattle.plan_coerce.specs.Optimizer.{AreWrittenOut}
 use Rattle.plan_lower.specs.Groups.{not_typed, twice}
 use Rattle.plan_lower.specs.Projection.{out_of_memory}
 use Rattle.plan_lower.proofs.GroupLemmas.{has_aggregates, name_at, named_names, projected_names}
@@ -34,7 +34,7 @@ returns-clause-ok c =
     let roots = own in
     let typed = subst (AllByRecursion (DenotesKnown r schema first c.project.new.arena)) (sym roots) (roots_typed r schema first first c.project.new.arena (omega arith) p.outputs p.each) in
     let coerced = c.in_ok-coerce_all.ensures.ok first typed in
-    let outputs = has_outputs r schema first c.project.new.arena c.coerce_all.new.arena _ _ _ p (subst (IsCoerced r schema first c.project.new.arena c.coerce_all.new.arena) roots coerced) in
+    let outputs = has_outputs r schema first c.project.new.arena c.coerce_all.new.arena _ _ _ p (subst (AreWrittenOut r schema first c.project.new.arena c.coerce_all.new.arena) roots coerced) in
     has_aggregates r schema first c.project.new.arena c.coerce_all.new.arena c.project.new.types _ _ _ _ (columns c.args.keys) (columns c.in_ok-whole.whole) p outputs own c.in_ok-projection.ensures.right c.in_ok-projection.ensures.kept c.in_ok-whole.ensures.ok
 
 pub returns-clause-kept : goal.returns-clause-kept

@@ -7,7 +7,7 @@ use Rattle.plan_dsl.specs.Expressions.{plain_tree}
 use Rattle.plan_dsl.specs.Registry.{registry}
 use Rattle.plan_arena.specs.Items.{named_node}
 use Rattle.plan_arena.proofs.ItemLemmas.{grown_held}
-use Rattle.plan_coerce.specs.Optimizer.{IsCoerced}
+use Rattle.plan_coerce.specs.Optimizer.{AreWrittenOut}
 use Rattle.plan_lower.proofs.ProjectionLemmas.{known_lower, one_output, root_typed, has_predicate, refused_predicate, other_type_refused, not_true, not_false, earlier_kept}
 use Rattle.plan_infer.proofs.TableLemmas.{kept_type, type_of}
 use Rattle.plan_lower.proofs.conversion.predicate.lower_typed.Goals as goal
@@ -35,7 +35,7 @@ returns-in-Ok-clause-ok c =
     let truth = same_type_exact (ty c.get.result.now.dtype) Truth (not_false _ (sym c.ne.ensures ∙ c.if-ne.false)) in
     let roots = ap (λ k. k ∷ []) c.node-2.ensures in
     let coerced = c.in-Ok.ensures.ok first (root_typed r schema first c.add_typed.new.arena _ _ is.1 roots) in
-    has_predicate r schema first c.add_typed.new.arena c.coerce_root.new.arena _ (named_node c.in_ok-expr_ir.expr_ir) is.1 truth c.in_ok-expr_ir.ensures.name refl (subst (IsCoerced r schema first c.add_typed.new.arena c.coerce_root.new.arena) roots coerced)
+    has_predicate r schema first c.add_typed.new.arena c.coerce_root.new.arena _ (named_node c.in_ok-expr_ir.expr_ir) is.1 truth c.in_ok-expr_ir.ensures.name refl (subst (AreWrittenOut r schema first c.add_typed.new.arena c.coerce_root.new.arena) roots coerced)
 
 pub returns-in-Ok-clause-kept : goal.returns-in-Ok-clause-kept
 returns-in-Ok-clause-kept c =

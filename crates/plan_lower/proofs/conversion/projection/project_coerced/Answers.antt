@@ -4,7 +4,7 @@ use Rattle.plan_types.specs.Schemas.{columns}
 use Rattle.plan_dsl.specs.Registry.{registry}
 use Rattle.plan_arena.proofs.ItemLemmas.{grown_held}
 use Rattle.plan_infer.specs.Typed.{DenotesKnown}
-use Rattle.plan_coerce.specs.Optimizer.{IsCoerced}
+use Rattle.plan_coerce.specs.Optimizer.{AreWrittenOut}
 use Rattle.plan_lower.proofs.ProjectionLemmas.{roots_are, roots_typed, has_outputs, earlier_kept}
 use Rattle.plan_lower.proofs.conversion.projection.project_coerced.Goals as goal
 
@@ -26,7 +26,7 @@ returns-in-Ok-clause-ok c =
     let roots = roots_are c.in_ok-projection.projection.expr.items.items p.outputs p.nodes_are in
     let typed = subst (AllByRecursion (DenotesKnown (registry c.args.udfs.now) (columns c.args.schema.now) first c.project.new.arena)) (sym roots) (roots_typed (registry c.args.udfs.now) (columns c.args.schema.now) first first c.project.new.arena (omega arith) p.outputs p.each) in
     let coerced = c.in-Ok.ensures.ok first typed in
-    has_outputs (registry c.args.udfs.now) (columns c.args.schema.now) first c.project.new.arena c.coerce_all.new.arena _ _ _ p (subst (IsCoerced (registry c.args.udfs.now) (columns c.args.schema.now) first c.project.new.arena c.coerce_all.new.arena) roots coerced)
+    has_outputs (registry c.args.udfs.now) (columns c.args.schema.now) first c.project.new.arena c.coerce_all.new.arena _ _ _ p (subst (AreWrittenOut (registry c.args.udfs.now) (columns c.args.schema.now) first c.project.new.arena c.coerce_all.new.arena) roots coerced)
 
 pub returns-in-Ok-clause-kept : goal.returns-in-Ok-clause-kept
 returns-in-Ok-clause-kept c =

@@ -1,4 +1,4 @@
-use Rattle.std.proofs.Common.{◌≡◌, List, [], map, refl, sym, subst}
+use Rattle.std.proofs.Common.{◌≡◌, List, [], map, refl, sym, subst, arith}
 use Rattle.plan_types.specs.Frames.{Frame}
 use Rattle.plan_dsl.specs.PlanMeaning.{source_meaning, FitsPlan}
 use Rattle.plan_arena.specs.declared.plan.IRPlan.{IRPlan}
@@ -6,9 +6,14 @@ use Rattle.plan_arena.specs.Denotation.{Denotes}
 use Rattle.plan_arena.specs.Items.{HoldsPlan, DenotesPlan, plan_layer}
 use Rattle.plan_arena.specs.Runs.{plan_run, RunsSoundly}
 use Rattle.plan_arena.proofs.RunLemmas.{runs_soundly}
+use Rattle.plan_bounds.specs.Bounds.{IsBounded}
+use Rattle.plan_bounds.specs.LoweredPlans.{IsLoweredPlan, IsWidePlan}
+use Rattle.plan_bounds.specs.PlanCounts.{plan_needs}
 use Rattle.plan_coerce.specs.Samples.{strict_items}
+use Rattle.plan_dsl.specs.Counts.{cast_count}
+use Rattle.plan_infer.specs.Samples.{two_columns}
 use Rattle.plan_properties.specs.Splitting.{IsSplitPlan}
-use Rattle.plan_lower.specs.Samples.{query, lowered_query, sum_layers}
+use Rattle.plan_lower.specs.Samples.{query, lowered_query, scan_of, sum_layers}
 use Rattle.plan_lower.proofs.ExamplePlanLemmas.{one_plan, lowered_denotes, built}
 use Rattle.plan_lower.proofs.examples.plans.lowering_of_a_sum.Goals as goal
 
@@ -19,6 +24,9 @@ denotes lowering top expressions plans =
 
 sound : (tables : List Frame) → FitsPlan tables query → RunsSoundly [] tables lowered_query
 sound tables fits = runs_soundly [] tables lowered_query built.accepted built.strict (built.fits tables fits)
+
+wide : IsWidePlan lowered_query
+wide = (((refl, tt), tt), ((tt, tt), tt))
 
 pub returns-clause-typed : goal.returns-clause-typed
 returns-clause-typed c = λ lowering top expressions plans.
@@ -47,4 +55,21 @@ returns-clause-all c = λ lowering top expressions plans. record {
   schema = refl;
   sound = sound;
   same_frame = built.same;
+  wide = wide;
+  bounds = built.bounds;
 }
+
+pub returns-clause-lowered : goal.returns-clause-lowered
+returns-clause-lowered c = λ lowering top expressions plans tree d.
+    subst (IsLoweredPlan []) (one_plan lowering.expr_arena lowering.lp_arena lowering.lp_top.0 lowered_query tree (denotes lowering top expressions plans) d) (record { accepted = built.accepted; strict = built.strict; names = built.names; wide = wide })
+
+pub returns-clause-bounds : goal.returns-clause-bounds
+returns-clause-bounds c = λ lowering top expressions plans tree d.
+    subst (IsBounded [] query) (one_plan lowering.expr_arena lowering.lp_arena lowering.lp_top.0 lowered_query tree (denotes lowering top expressions plans) d) built.bounds
+
+pub returns-clause-of_a_scan : goal.returns-clause-of_a_scan
+returns-clause-of_a_scan c = λ lowering top expressions plans bounded.
+    let most = (bounded lowered_query (denotes lowering top expressions plans)).casts in
+    let casts : cast_count lowered_query ≡ 1 = refl in
+    let needs : plan_needs [] (scan_of two_columns) ≡ 0 = refl in
+    absurd (omega (arith, most, casts, needs))

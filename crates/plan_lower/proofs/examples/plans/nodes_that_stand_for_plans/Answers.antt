@@ -8,6 +8,7 @@ use Rattle.plan_dsl.specs.Expansion.{expansions}
 use Rattle.plan_dsl.specs.Samples.{all}
 use Rattle.plan_dsl.specs.Sources.{Source, written}
 use Rattle.plan_infer.specs.Samples.{a, a_items}
+use Rattle.plan_bounds.proofs.BoundLemmas.{scan_bounded}
 use Rattle.plan_lower.specs.Outputs.{Lowered, IsLowered, HasExpandedOutputs}
 use Rattle.plan_lower.specs.Samples.{node_named}
 use Rattle.plan_lower.proofs.ExamplePlanLemmas.{item_at, scan_denotes, built}
@@ -79,5 +80,5 @@ pub returns-clause-scan : goal.returns-clause-scan
 returns-clause-scan c = λ plans is. record {
   lowered = node (scan_op None []) no_more;
   denotes = scan_denotes [] plans 0 None [] (item_at plans _ 0 _ is refl);
-  built = record { well_formed = (refl, tt); source_schema = refl; lowered_schema = refl; accepted = (refl, tt); strict = (tt, tt); names = (tt, tt); split = (tt, tt); fits = λ tables fits. fits; same = λ tables fits. refl };
+  built = record { well_formed = (refl, tt); source_schema = refl; lowered_schema = refl; accepted = (refl, tt); strict = (tt, tt); names = (tt, tt); split = (tt, tt); fits = λ tables fits. fits; same = λ tables fits. refl; bounds = scan_bounded [] None [] };
 }

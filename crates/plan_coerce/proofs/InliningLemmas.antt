@@ -1,0 +1,267 @@
+-- Casts that can be told beforehand: what stands for one says the same, and what stays is as it was.
+use Rattle.std.proofs.Common.{◌≡◌, ℕ, Bool, true, false, cond, List, [], ◌∷◌, Option, Some, None, is_some, Ok, Err, refl, sym, ap, ◌∙◌, subst}
+use Rattle.std.specs.Prelude.{◌&&◌, not, unwrap_or}
+use Rattle.std.proofs.lemmas.Bool.{and_parts, and_from}
+use Rattle.plan_types.specs.Types.{Ty, Truth, is_known, same_type}
+use Rattle.plan_types.specs.TypeLaws.{same_type_exact, same_type_own}
+use Rattle.plan_types.specs.Casts.{Converted, Gives, Fails, can_cast, cast}
+use Rattle.plan_types.specs.CommonTypes.{type_alone}
+use Rattle.plan_types.specs.Frames.{Frame}
+use Rattle.plan_types.specs.Outcomes.{Outcome, Done, Fault, Stuck, then_do}
+use Rattle.plan_types.specs.Schemas.{Columns}
+use Rattle.plan_types.specs.Values.{Val, NullValue}
+use Rattle.plan_types.specs.declared.dtype.CastOptions.{CastOptions}
+use Rattle.plan_types.specs.declared.dtype.CastOptions.TheVariants.{NonStrict}
+use Rattle.plan_types.specs.declared.error.ErrorKind.TheVariants.{InvalidOperation}
+use Rattle.plan_types.proofs.CastLemmas.{source_known}
+use Rattle.plan_types.proofs.CommonLemmas.{alone_itself}
+use Rattle.plan_dsl.specs.declared.operator.Operator.{Operator}
+use Rattle.plan_dsl.specs.declared.operator.Operator.TheVariants.{LogicalAnd, LogicalOr}
+use Rattle.plan_dsl.specs.Aliases.{IsCore, are_core, is_core, is_core_op}
+use Rattle.plan_dsl.specs.Kernels.{Meaning, cast_column, cast_meaning, cast_values, given, kernel, value_before}
+use Rattle.plan_dsl.specs.Literals.{is_literal}
+use Rattle.plan_dsl.specs.Meaning.{meaning, applied, node_meaning, ruled_meaning}
+use Rattle.plan_dsl.specs.OperatorTypes.{is_truth_or_null, pair_to, truth_types, with_types}
+use Rattle.plan_dsl.specs.Ops.{Op, LiteralOp, BinaryOp, CastOp, Expression}
+use Rattle.plan_dsl.specs.Registry.{Registry}
+use Rattle.plan_dsl.specs.Strictness.{IsSame, IsStrict, AllStrict, is_strict, are_strict, is_strict_over, is_strict_rule}
+use Rattle.plan_dsl.specs.Trees.{Trees, node, no_more, more, AllRelated}
+use Rattle.plan_dsl.specs.Typing.{Typed, Ruling, cast_taken, own_typed, rule, ruled_as, some_many, then_typed, typed_before, types_of, typing, typing_all, typing_rule}
+use Rattle.plan_dsl.proofs.CastMeaningLemmas.{cast_own, if_true, if_false}
+use Rattle.plan_dsl.proofs.LiteralLemmas.{literal_means, literal_typing}
+use Rattle.plan_dsl.proofs.SameLemmas.{node_same, same_itself, same_then, typings_same}
+use Rattle.plan_dsl.proofs.SignatureLemmas.{target_known}
+use Rattle.plan_dsl.proofs.StrictLemmas.{strict_parts}
+use Rattle.plan_dsl.proofs.TypingLemmas.{by_children, by_no_children, ok_same, typed_parts}
+use Rattle.plan_coerce.specs.InlinedCasts.{all_inlined, cast_of, cast_of_top, converted, in_place_of, inlined, is_logical, literal_cast, literal_given, literal_with, stays}
+
+-- ---- what a literal in place of a cast is
+
+pub record GivesLiteral (from : Ty) (value : Val) (target : Ty) (options : CastOptions) (e : Expression) : Type 0 where
+  pub literal : is_literal from value ≡ true
+  pub casts : can_cast from target ≡ true
+  pub made : Val
+  pub gives : converted from value target options ≡ Gives made
+  pub fits : is_literal target made ≡ true
+  pub is : e ≡ node (LiteralOp target made) no_more
+
+pub some_where : {A : Type 0} (b : Bool) (x e : A) → cond b (Some x) None ≡ Some e → (b ≡ true) × (e ≡ x)
+some_where true x e h = (refl, cc)
+some_where false x e h = cc
+
+with_facts : (target : Ty) (value : Val) (e : Expression) → literal_with target value ≡ Some e → (is_literal target value ≡ true) × (e ≡ node (LiteralOp target value) no_more)
+with_facts target NullValue e h = cc
+with_facts target value e h = some_where (is_literal target value) (node (LiteralOp target value) no_more) e h
+
+given_facts : (target : Ty) (found : Converted) (e : Expression) → literal_given target found ≡ Some e → (made : Val) × (found ≡ Gives made) × (is_literal target made ≡ true) × (e ≡ node (LiteralOp target made) no_more)
+given_facts target Fails e h = cc
+given_facts target (Gives value) e h = let facts = with_facts target value e h in (value, refl, facts.0, facts.1)
+
+pub gives_literal : (from : Ty) (value : Val) (target : Ty) (options : CastOptions) (e : Expression) → literal_cast from value target options ≡ Some e → GivesLiteral from value target options e
+gives_literal from value target options e =
+    elim (is_literal from value && can_cast from target) as (λ b. (is_literal from value && can_cast from target) ≡ b → cond b (literal_given target (converted from value target options)) None ≡ Some e → GivesLiteral from value target options e) [
+      | true ↦ λ both h.
+          let parts = and_parts (is_literal from value) (can_cast from target) both in
+          let facts = given_facts target (converted from value target options) e h in
+          record { literal = parts.0; casts = parts.1; made = facts.0; gives = facts.1; fits = facts.2; is = facts.3 }
+      | false ↦ λ none h. cc
+    ] refl
+
+-- ---- a cast and what stands for it say the same
+
+module _ (registry : Registry) (schema : Columns) (target : Ty) (options : CastOptions) where
+  cast_ruled : (from : Ty) (many : Bool) → can_cast from target ≡ true → rule registry schema (CastOp target options) (record { type = from; many = many } ∷ []) ≡ Ok (record { operands = from ∷ []; own = record { type = target; many = many } })
+  cast_ruled from many casts =
+      ap (λ r. ruled_as r many) (ap (cast_taken target) (alone_itself from (source_known from target casts)) ∙ if_true (can_cast from target) (Ok (record { operands = from ∷ []; type = target })) (Err InvalidOperation) casts)
+
+  cast_typing : (from : Ty) (many : Bool) (x : Expression) → can_cast from target ≡ true → typing registry schema x ≡ Ok (record { type = from; many = many }) → typing registry schema (node (CastOp target options) (more x no_more)) ≡ Ok (record { type = target; many = many })
+  cast_typing from many x casts h =
+      ap (λ r. then_typed (typed_before r (Ok [])) (typing_rule registry schema (CastOp target options))) h ∙ ap own_typed (cast_ruled from many casts)
+
+  -- a cast means what its kernel makes of what the operand means
+  cast_means : (frame : Frame) (from : Ty) (many : Bool) (x : Expression) (m : Meaning) → frame.schema ≡ schema → can_cast from target ≡ true → typing registry frame.schema x ≡ Ok (record { type = from; many = many }) → rule registry frame.schema (CastOp target options) (record { type = from; many = many } ∷ []) ≡ Ok (record { operands = from ∷ []; own = record { type = target; many = many } }) → meaning registry frame x ≡ m → meaning registry frame (node (CastOp target options) (more x no_more)) ≡ (λ rows. then_do (given (m ∷ []) rows) (kernel registry frame rows (CastOp target options) (from ∷ []) target))
+  cast_means frame from many x m over casts h ruled is =
+      let ruling : Ruling = record { operands = from ∷ []; own = record { type = target; many = many } } in
+      ap (λ r. node_meaning registry frame (CastOp target options) (typed_before r (Ok [])) (meaning registry frame x ∷ [])) h
+      ∙ ap (λ r. ruled_meaning registry frame (CastOp target options) (from ∷ []) r (meaning registry frame x ∷ [])) ruled
+      ∙ ap (λ n. applied registry frame (CastOp target options) ruling (n ∷ [])) (cast_own from (meaning registry frame x) ∙ is)
+
+  -- a column stays in a cast to its own type
+  own_column : (same : same_type target target ≡ true) (frame : Frame) (rows : List ℕ) (o : Outcome (List Val)) → then_do (then_do o (λ column. then_do (Done []) (λ columns. Done (column ∷ columns)))) (kernel registry frame rows (CastOp target options) (target ∷ []) target) ≡ o
+  own_column same frame rows (Done values) = if_true (same_type target target) (Done values) (cast_values target target options values) same
+  own_column same frame rows Fault = refl
+  own_column same frame rows Stuck = refl
+
+  -- so a cast to the own type says the same
+  pub own_cast_same : (many : Bool) (x : Expression) → can_cast target target ≡ true → typing registry schema x ≡ Ok (record { type = target; many = many }) → IsSame registry schema (node (CastOp target options) (more x no_more)) x
+  own_cast_same many x casts h = record {
+    typing = h ∙ sym (cast_typing target many x casts h);
+    name = refl;
+    meaning = λ rows.
+        let frame : Frame = record { schema = schema; rows = rows } in
+        let m = meaning registry frame x in
+        sym (cast_means frame target many x m refl casts h (cast_ruled target many casts) refl ∙ (λ i rows. own_column (same_type_own target) frame rows (m rows) i));
+  }
+
+  one_converted : (from : Ty) (value made : Val) → converted from value target options ≡ Gives made → cast_column from target options (value ∷ []) ≡ Done (made ∷ [])
+  one_converted from value made =
+      elim (same_type from target) as (λ b. cond b (Gives value) (cast value from target options) ≡ Gives made → cond b (Done (value ∷ [])) (cast_values from target options (value ∷ [])) ≡ Done (made ∷ [])) [ true ↦ λ e. cc | false ↦ λ e. ap (λ c. value_before c (Done [])) e ]
+
+  literal_same : (from : Ty) (value made : Val) → is_literal from value ≡ true → can_cast from target ≡ true → converted from value target options ≡ Gives made → is_literal target made ≡ true → IsSame registry schema (node (CastOp target options) (more (node (LiteralOp from value) no_more) no_more)) (node (LiteralOp target made) no_more)
+  literal_same from value made literal casts gives fits =
+      let h = literal_typing registry schema from value literal in
+      record {
+        typing = literal_typing registry schema target made fits ∙ sym (cast_typing from false (node (LiteralOp from value) no_more) casts h);
+        name = refl;
+        meaning = λ rows.
+            let frame : Frame = record { schema = schema; rows = rows } in
+            literal_means registry frame target made fits
+            ∙ sym (cast_means frame from false (node (LiteralOp from value) no_more) (λ rows. Done (value ∷ [])) refl casts h (cast_ruled from false casts) (literal_means registry frame from value literal) ∙ ap (λ o. λ rows. o) (one_converted from value made gives));
+      }
+
+-- ---- casts of logical operators
+
+truths_typed : (left right : Option Ty) (many : Bool) (ruling : Ruling) → ruled_as (with_types left right truth_types) many ≡ Ok ruling → ruling.own.type ≡ Truth
+truths_typed None right many ruling h = cc
+truths_typed (Some a) None many ruling h = cc
+truths_typed (Some a) (Some b) many ruling h =
+    elim (is_truth_or_null a && is_truth_or_null b) as (λ t. ruled_as (cond t (Ok (pair_to Truth Truth Truth)) (Err InvalidOperation)) many ≡ Ok ruling → ruling.own.type ≡ Truth) [
+      | true ↦ λ e. ap (λ (r : Ruling). r.own.type) (ok_same _ ruling (record { operands = Truth ∷ Truth ∷ []; own = record { type = Truth; many = many } }) e refl)
+      | false ↦ λ e. cc
+    ] h
+
+pub logical_truth : (registry : Registry) (schema : Columns) (operator : Operator) (typed : List Typed) (ruling : Ruling) → is_logical operator ≡ true → rule registry schema (BinaryOp operator) typed ≡ Ok ruling → ruling.own.type ≡ Truth
+logical_truth registry schema LogicalAnd (a ∷ b ∷ []) ruling l h = truths_typed _ _ (some_many (a ∷ b ∷ [])) ruling h
+logical_truth registry schema LogicalOr (a ∷ b ∷ []) ruling l h = truths_typed _ _ (some_many (a ∷ b ∷ [])) ruling h
+logical_truth registry schema LogicalAnd [] ruling l h = cc
+logical_truth registry schema LogicalAnd (a ∷ []) ruling l h = cc
+logical_truth registry schema LogicalAnd (a ∷ b ∷ c ∷ rest) ruling l h = cc
+logical_truth registry schema LogicalOr [] ruling l h = cc
+logical_truth registry schema LogicalOr (a ∷ []) ruling l h = cc
+logical_truth registry schema LogicalOr (a ∷ b ∷ c ∷ rest) ruling l h = cc
+logical_truth registry schema operator typed ruling l h = cc
+
+-- ---- an expression without these casts says the same
+
+no_typings : (registry : Registry) (schema : Columns) (trees : Trees Op) → typing_all registry schema trees ≡ Ok [] → trees ≡ no_more
+no_typings registry schema no_more h = refl
+no_typings registry schema (more child rest) h =
+    by_children (λ ts. [] ≡ ts → more child rest ≡ no_more) _ _ [] h (λ t ts first others e. cc) refl
+
+literal_bare : (registry : Registry) (schema : Columns) (type : Ty) (value : Val) (below : List Typed) (ruling : Ruling) → rule registry schema (LiteralOp type value) below ≡ Ok ruling → below ≡ []
+literal_bare registry schema type value [] ruling h = refl
+literal_bare registry schema type value (t ∷ ts) ruling h = cc
+
+module _ (registry : Registry) (schema : Columns) where
+  -- the operand of a typed cast is typed
+  operand_typed : (target : Ty) (options : CastOptions) (x : Expression) (typed : Typed) → typing registry schema (node (CastOp target options) (more x no_more)) ≡ Ok typed → (own : Typed) × (typing registry schema x ≡ Ok own)
+  operand_typed target options x typed h =
+      elim (typing registry schema x) as (λ r. then_typed (typed_before r (Ok [])) (typing_rule registry schema (CastOp target options)) ≡ Ok typed → (own : Typed) × (r ≡ Ok own)) [ Ok own ↦ λ e. (own, refl) | Err kind ↦ λ e. cc ] h
+
+  module _ (target : Ty) (options : CastOptions) (typed : Typed) where
+    abbrev over : Expression → Expression
+    over x = node (CastOp target options) (more x no_more)
+
+    of_literal : (from : Ty) (value : Val) (operands : Trees Op) → typing registry schema (over (node (LiteralOp from value) operands)) ≡ Ok typed → (found : Option Expression) → literal_cast from value target options ≡ found → IsSame registry schema (over (node (LiteralOp from value) operands)) (unwrap_or found (over (node (LiteralOp from value) operands)))
+    of_literal from value operands h None is = same_itself registry schema _
+    of_literal from value operands h (Some e) is =
+        let g = gives_literal from value target options e is in
+        let own = operand_typed target options (node (LiteralOp from value) operands) typed h in
+        let p = typed_parts registry schema (LiteralOp from value) operands own.0 own.1 in
+        let none = no_typings registry schema operands (p.children_typed ∙ ap Ok (literal_bare registry schema from value p.below p.ruling p.rules)) in
+        subst (λ ts. IsSame registry schema (over (node (LiteralOp from value) ts)) e) (sym none) (subst (IsSame registry schema (over (node (LiteralOp from value) no_more))) (sym g.is) (literal_same registry schema target options from value g.made g.literal g.casts g.gives g.fits))
+
+    of_operator : (operator : Operator) (operands : Trees Op) → typing registry schema (over (node (BinaryOp operator) operands)) ≡ Ok typed → (found : Bool) → (is_logical operator && same_type Truth target) ≡ found → IsSame registry schema (over (node (BinaryOp operator) operands)) (unwrap_or (cond found (Some (node (BinaryOp operator) operands)) None) (over (node (BinaryOp operator) operands)))
+    of_operator operator operands h false is = same_itself registry schema _
+    of_operator operator operands h true is =
+        let parts = and_parts (is_logical operator) (same_type Truth target) is in
+        let own = operand_typed target options (node (BinaryOp operator) operands) typed h in
+        let p = typed_parts registry schema (BinaryOp operator) operands own.0 own.1 in
+        let same : Truth ≡ target = same_type_exact Truth target parts.1 in
+        let type : own.0.type ≡ target = ap (λ (t : Typed). t.type) (sym p.is) ∙ logical_truth registry schema operator p.below p.ruling parts.0 p.rules ∙ same in
+        own_cast_same registry schema target options own.0.many (node (BinaryOp operator) operands) (subst (λ t. can_cast t t ≡ true) same refl) (own.1 ∙ ap (λ t. Ok (record { type = t; many = own.0.many })) type)
+
+    pub cast_in_place : (x : Expression) → typing registry schema (over x) ≡ Ok typed → IsSame registry schema (over x) (unwrap_or (cast_of target options x) (over x))
+    cast_in_place (node (LiteralOp from value) operands) h = of_literal from value operands h (literal_cast from value target options) refl
+    cast_in_place (node (BinaryOp operator) operands) h = of_operator operator operands h (is_logical operator && same_type Truth target) refl
+    cast_in_place (node op operands) h = same_itself registry schema _
+
+  node_in_place : (op : Op) (ts : Trees Op) (typed : Typed) → typing registry schema (node op ts) ≡ Ok typed → IsSame registry schema (node op ts) (unwrap_or (in_place_of op ts) (node op ts))
+  node_in_place (CastOp target options) (more x no_more) typed h = cast_in_place target options typed x h
+  node_in_place op ts typed h = same_itself registry schema (node op ts)
+
+  mutual
+    pub inlined_same : (tree : Expression) (typed : Typed) → typing registry schema tree ≡ Ok typed → IsSame registry schema tree (inlined tree)
+    inlined_same (node op ts) typed h =
+        let p = typed_parts registry schema op ts typed h in
+        let each = all_inlined_same ts p.below p.children_typed in
+        let mid = node_same registry schema op ts (all_inlined ts) each in
+        same_then registry schema (node op ts) (node op (all_inlined ts)) (inlined (node op ts)) mid (node_in_place op (all_inlined ts) typed (mid.typing ∙ h))
+
+    pub all_inlined_same : (trees : Trees Op) (typed : List Typed) → typing_all registry schema trees ≡ Ok typed → AllRelated (IsSame registry schema) trees (all_inlined trees)
+    all_inlined_same no_more typed h = tt
+    all_inlined_same (more tree trees) typed h =
+        by_children (λ _. AllRelated (IsSame registry schema) (more tree trees) (all_inlined (more tree trees))) _ _ typed h (λ t ts first rest. (inlined_same tree t first, all_inlined_same trees ts rest))
+
+  -- what is strict stays so
+  literal_strict : (target : Ty) (made : Val) → is_known target ≡ true → is_literal target made ≡ true → IsStrict registry schema (node (LiteralOp target made) no_more)
+  literal_strict target made known fits =
+      let ruled : rule registry schema (LiteralOp target made) [] ≡ Ok (record { operands = []; own = record { type = target; many = false } }) = ap (λ b. ruled_as (cond b (Ok (record { operands = []; type = target })) (Err InvalidOperation)) false) fits in
+      and_from (is_strict_over registry schema (LiteralOp target made) (Ok [])) true (ap (is_strict_rule []) ruled ∙ known) refl
+
+  cast_strict : (target : Ty) (options : CastOptions) (x : Expression) → IsStrict registry schema x → (e : Expression) → cast_of target options x ≡ Some e → IsStrict registry schema e
+  cast_strict target options (node (LiteralOp from value) operands) strict e h =
+      let g = gives_literal from value target options e h in
+      subst (IsStrict registry schema) (sym g.is) (literal_strict target g.made (target_known from target g.casts) g.fits)
+  cast_strict target options (node (BinaryOp operator) operands) strict e h =
+      subst (IsStrict registry schema) (sym (some_where (is_logical operator && same_type Truth target) (node (BinaryOp operator) operands) e h).1) strict
+  cast_strict target options (node op operands) strict e h = cc
+
+  placed_strict : (op : Op) (us : Trees Op) → IsStrict registry schema (node op us) → AllStrict registry schema us → (found : Option Expression) → in_place_of op us ≡ found → IsStrict registry schema (unwrap_or found (node op us))
+  placed_strict op us strict below None is = strict
+  placed_strict (CastOp target options) (more x no_more) strict below (Some e) is =
+      cast_strict target options x (and_parts (is_strict registry schema x) true below).0 e is
+  placed_strict op us strict below (Some e) is = cc
+
+  mutual
+    pub inlined_strict : (tree : Expression) → IsStrict registry schema tree → IsStrict registry schema (inlined tree)
+    inlined_strict (node op ts) strict =
+        let parts = and_parts (is_strict_over registry schema op (typing_all registry schema ts)) (are_strict registry schema ts) strict in
+        let s = strict_parts registry schema op ts parts.0 in
+        let below = all_inlined_strict ts parts.1 in
+        let same = typings_same registry schema ts (all_inlined ts) (all_inlined_same ts s.typed s.types) in
+        let over = ap (is_strict_over registry schema op) same ∙ parts.0 in
+        placed_strict op (all_inlined ts) (and_from (is_strict_over registry schema op (typing_all registry schema (all_inlined ts))) (are_strict registry schema (all_inlined ts)) over below) below (in_place_of op (all_inlined ts)) refl
+
+    pub all_inlined_strict : (trees : Trees Op) → AllStrict registry schema trees → AllStrict registry schema (all_inlined trees)
+    all_inlined_strict no_more strict = refl
+    all_inlined_strict (more tree trees) strict =
+        let parts = and_parts (is_strict registry schema tree) (are_strict registry schema trees) strict in
+        and_from (is_strict registry schema (inlined tree)) (are_strict registry schema (all_inlined trees)) (inlined_strict tree parts.0) (all_inlined_strict trees parts.1)
+
+-- ---- casts that go leave no alias behind
+
+cast_core : (target : Ty) (options : CastOptions) (x : Expression) → IsCore x → (e : Expression) → cast_of target options x ≡ Some e → IsCore e
+cast_core target options (node (LiteralOp from value) operands) core e h =
+    subst IsCore (sym (gives_literal from value target options e h).is) refl
+cast_core target options (node (BinaryOp operator) operands) core e h =
+    subst IsCore (sym (some_where (is_logical operator && same_type Truth target) (node (BinaryOp operator) operands) e h).1) core
+cast_core target options (node op operands) core e h = cc
+
+placed_core : (op : Op) (us : Trees Op) → IsCore (node op us) → are_core us ≡ true → (found : Option Expression) → in_place_of op us ≡ found → IsCore (unwrap_or found (node op us))
+placed_core op us core below None is = core
+placed_core (CastOp target options) (more x no_more) core below (Some e) is = cast_core target options x (and_parts (is_core x) true below).0 e is
+placed_core op us core below (Some e) is = cc
+
+mutual
+  pub inlined_core : (tree : Expression) → IsCore tree → IsCore (inlined tree)
+  inlined_core (node op ts) core =
+      let parts = and_parts (is_core_op op) (are_core ts) core in
+      let below = all_inlined_core ts parts.1 in
+      placed_core op (all_inlined ts) (and_from (is_core_op op) (are_core (all_inlined ts)) parts.0 below) below (in_place_of op (all_inlined ts)) refl
+
+  pub all_inlined_core : (trees : Trees Op) → are_core trees ≡ true → are_core (all_inlined trees) ≡ true
+  all_inlined_core no_more core = refl
+  all_inlined_core (more tree trees) core =
+      let parts = and_parts (is_core tree) (are_core trees) core in
+      and_from (is_core (inlined tree)) (are_core (all_inlined trees)) (inlined_core tree parts.0) (all_inlined_core trees parts.1)

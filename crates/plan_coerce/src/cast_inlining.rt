@@ -1,0 +1,265 @@
+//! The rule by which casts that can be told beforehand go.
+ghost use Rattle.std.specs.Prelude.{◌≡◌, ◌≢◌, ℕ, List, [], ◌∷◌, None, Some, set, true, false, MatchOption, IfOk, IfErr};
+ghost use Rattle.plan_types.specs.Errors.{no_memory};
+ghost use Rattle.plan_types.specs.Types.{is_known, ty};
+ghost use Rattle.plan_types.specs.Schemas.{Columns};
+ghost use Rattle.plan_types.specs.ValueViews.{val_of};
+ghost use Rattle.plan_dsl.specs.Literals.{literal_op, literal_type, literal_value};
+ghost use Rattle.plan_dsl.specs.Ops.{CastOp, Expression};
+ghost use Rattle.plan_dsl.specs.Registry.{Registry};
+ghost use Rattle.plan_dsl.specs.Trees.{node, no_more, more};
+ghost use Rattle.plan_arena.specs.declared.aexpr.AExpr.{AExpr};
+ghost use Rattle.plan_arena.specs.Denotation.{Denotes, DenotesTree};
+ghost use Rattle.plan_arena.specs.Items.{HoldsExpression, expression_layer};
+ghost use Rattle.plan_arena.specs.Layers.{op_of};
+ghost use Rattle.plan_coerce.specs.InlinedCasts.{HasSameInlined, IsToldBy, is_cast_op, is_cast, is_logical, literal_cast, literal_with, stays, until_stays};
+ghost use Rattle.plan_coerce.specs.InliningLaws.{same_inlined_congruent, same_inlined_transitive, stays_steady, until_stays_bounded};
+ghost use Rattle.plan_coerce.specs.Reaching.{IsClosed, StaysOnce};
+ghost use Rattle.plan_coerce.specs.Rules.{IsReplacement};
+
+use crate::rule::OptimizationRule;
+use plan_arena::aexpr::AExpr;
+use plan_arena::arena::{Arena, Node};
+use plan_arena::ir::IR;
+use plan_dsl::literal::LiteralValue;
+use plan_dsl::operator::Operator;
+use plan_dsl::udfs::Udfs;
+use plan_infer::steps::Steps;
+use plan_infer::type_table::TypeTable;
+use plan_types::cast::{CastError, can_cast, cast_value};
+use plan_types::dtype::{CastOptions, DataType};
+use plan_types::error::{ErrorKind, PlanError};
+use plan_types::schema::Schema;
+use plan_types::value::Value;
+use std::alloc::Global;
+use std::sync::ledger::Ledger;
+
+/// Puts a literal in place of a cast of one, where the type has a literal of the value and that isn't null, and what stands
+/// under a cast of `LogicalAnd` or `LogicalOr` to truth values in place of that cast. Casts further in go first.
+#[derive(Clone, Copy, Drop)]
+pub struct CastInliningRule;
+
+impl OptimizationRule for CastInliningRule {
+    ghost settled = { λ rule registry schema. stays };
+
+    ghost measure = { λ rule registry schema. until_stays };
+
+    ghost turns = { λ rule. Some 1 };
+
+    ghost related = { λ rule registry schema. HasSameInlined };
+
+    ghost replaces_plans = { λ rule. false };
+
+    ghost settled_plan = { λ rule registry schema kind. true };
+
+    ghost congruent = { λ rule. same_inlined_congruent };
+
+    ghost transitive = { λ rule. same_inlined_transitive };
+
+    ghost steady = { λ rule. stays_steady };
+
+    ghost bounded = { λ rule. until_stays_bounded };
+
+    fn optimize_plan<M: Ledger>(
+        &self,
+        _expr_arena: &Arena<AExpr>,
+        _lp_arena: &Arena<IR>,
+        _node: Node,
+        _udfs: &Udfs,
+        _types: &mut TypeTable,
+        _typings: &mut Steps<M>,
+    ) -> Result<Option<IR>, PlanError> {
+        Ok(None)
+    }
+
+    fn optimize_expr<M: Ledger>(
+        &self,
+        expr_arena: &mut Arena<AExpr>,
+        node: Node,
+        _schema: &Schema,
+        _udfs: &Udfs,
+        types: &mut TypeTable,
+        _typings: &mut Steps<M>,
+    ) -> Result<Option<AExpr>, PlanError> {
+        match in_place_of(node, expr_arena)? {
+            None => Ok(None),
+            Some(item) => {
+                types.clear();
+                Ok(Some(item))
+            }
+        }
+    }
+}
+
+// What stands at a node, without casts above it that go.
+#[derive(Drop)]
+enum Told {
+    // A literal.
+    Literal(LiteralValue),
+    // The node of a `LogicalAnd` or a `LogicalOr`.
+    Logical(Node),
+    // Anything else.
+    Neither,
+}
+
+// The item that is to be put in place of a cast, unless that stays.
+fn in_place_of(node: Node, arena: &Arena<AExpr>) -> Result<Option<AExpr>, PlanError>
+    requires { DenotesTree (HoldsExpression arena.now) node.0 }
+    ensures answer { IfOk result (λ answer. (registry : Registry) (schema : Columns) (t : Expression) → Denotes (HoldsExpression arena.now) node.0 t → MatchOption answer
+        (stays t ≡ true)
+        (λ item. IsReplacement HasSameInlined until_stays registry schema arena.now (set arena.now node.0 item) node.0 t)) }
+    ensures cast { IfOk result (λ answer. (t : Expression) → answer ≢ None → Denotes (HoldsExpression arena.now) node.0 t → is_cast t ≡ true) }
+    ensures reaches { IfOk result (λ answer. MatchOption answer Unit (λ item. IsClosed arena.now (node.0 ∷ []) (set arena.now node.0 item))) }
+    ensures once { IfOk result (λ answer. MatchOption answer Unit (λ item. StaysOnce arena.now (set arena.now node.0 item) node.0)) }
+    ensures err { IfErr result (λ error. error ≡ no_memory) }
+{
+    if !is_cast(arena.get(node)) {
+        return Ok(None);
+    }
+    match told_at(node, arena)? {
+        Told::Neither => Ok(None),
+        Told::Literal(value) => Ok(Some(AExpr::Literal(value))),
+        Told::Logical(below) => {
+            let item = arena.get(below).try_clone(arena.allocator())?;
+            Ok(Some(item))
+        }
+    }
+}
+
+fn is_cast(item: &AExpr) -> bool
+    ensures { result ≡ is_cast_op (op_of (expression_layer item.now)) }
+{
+    matches!(item, AExpr::Cast { .. })
+}
+
+// What stands at a node, without casts that go.
+fn told_at(node: Node, arena: &Arena<AExpr>) -> Result<Told, PlanError>
+    requires { DenotesTree (HoldsExpression arena.now) node.0 }
+    ensures ok { IfOk result (λ told. (t : Expression) → Denotes (HoldsExpression arena.now) node.0 t → IsToldBy arena.now node.0 t told) }
+    ensures err { IfErr result (λ error. error ≡ no_memory) }
+{
+    match arena.get(node) {
+        AExpr::Literal(value) => {
+            let value = value.try_clone(arena.allocator())?;
+            Ok(Told::Literal(value))
+        }
+        AExpr::BinaryExpr { op, .. } => {
+            if is_logical(*op) {
+                return Ok(Told::Logical(node));
+            }
+            Ok(Told::Neither)
+        }
+        AExpr::Cast {
+            expr,
+            dtype,
+            options,
+        } => {
+            let told = told_at(*expr, arena)?;
+            let cast = cast_of(arena.allocator(), told, dtype, *options)?;
+            Ok(cast)
+        }
+        _ => Ok(Told::Neither),
+    }
+}
+
+fn is_logical(op: Operator) -> bool
+    ensures { result ≡ is_logical op }
+{
+    matches!(op, Operator::LogicalAnd | Operator::LogicalOr)
+}
+
+// What stands for a cast of it.
+fn cast_of(
+    alloc: Global,
+    told: Told,
+    dtype: &DataType,
+    options: CastOptions,
+) -> Result<Told, PlanError>
+    ensures ok { IfOk result (λ found. (items : List AExpr) (n k : ℕ) (x : Expression) → HoldsExpression items n (CastOp (ty dtype.now) options) (k ∷ []) → IsToldBy items k x told →
+        IsToldBy items n (node (CastOp (ty dtype.now) options) (more x no_more)) found) }
+    ensures err { IfErr result (λ error. error ≡ no_memory) }
+{
+    match told {
+        Told::Neither => Ok(Told::Neither),
+        Told::Logical(node) => match dtype {
+            DataType::Boolean => Ok(Told::Logical(node)),
+            _ => Ok(Told::Neither),
+        },
+        Told::Literal(value) => match literal_cast(alloc, value, dtype, options)? {
+            None => Ok(Told::Neither),
+            Some(made) => Ok(Told::Literal(made)),
+        },
+    }
+}
+
+// What stands for a cast of a literal, if that is a literal.
+fn literal_cast(
+    alloc: Global,
+    value: LiteralValue,
+    dtype: &DataType,
+    options: CastOptions,
+) -> Result<Option<LiteralValue>, PlanError>
+    ensures ok { IfOk result (λ found. MatchOption found
+        (literal_cast (literal_type value) (literal_value value) (ty dtype.now) options ≡ None)
+        (λ made. literal_cast (literal_type value) (literal_value value) (ty dtype.now) options ≡ Some (node (literal_op made) no_more))) }
+    ensures err { IfErr result (λ error. error ≡ no_memory) }
+{
+    let from = value.get_datatype();
+    if !value.is_in_range() || !can_cast(&from, dtype) {
+        return Ok(None);
+    }
+    let value = value_of(value);
+    if from == *dtype {
+        return Ok(literal_with(dtype, value));
+    }
+    match cast_value(alloc, &value, &from, dtype, options) {
+        Ok(converted) => Ok(literal_with(dtype, converted)),
+        Err(CastError::Failing) => Ok(None),
+        Err(CastError::NoMemory) => Err(PlanError::at_top(ErrorKind::NoMemory)),
+    }
+}
+
+// The value of a literal.
+fn value_of(value: LiteralValue) -> Value
+    ensures { val_of result ≡ literal_value value }
+{
+    match value {
+        LiteralValue::Null => Value::Null,
+        LiteralValue::Boolean(truth) => Value::Boolean(truth),
+        LiteralValue::String(text) => Value::Text(text),
+        LiteralValue::Int(number) => Value::Int(number),
+        LiteralValue::Int8(number) => Value::Int(i128::from(number)),
+        LiteralValue::Int16(number) => Value::Int(i128::from(number)),
+        LiteralValue::Int32(number) => Value::Int(i128::from(number)),
+        LiteralValue::Int64(number) => Value::Int(i128::from(number)),
+        LiteralValue::UInt8(number) => Value::Int(i128::from(number)),
+        LiteralValue::UInt16(number) => Value::Int(i128::from(number)),
+        LiteralValue::UInt32(number) => Value::Int(i128::from(number)),
+        LiteralValue::UInt64(number) => Value::Int(i128::from(number)),
+        LiteralValue::Date(days) => Value::Int(i128::from(days)),
+        LiteralValue::Time(nanoseconds) => Value::Int(i128::from(nanoseconds)),
+        LiteralValue::DateTime(count, _) => Value::Int(i128::from(count)),
+        LiteralValue::Duration(count, _) => Value::Int(i128::from(count)),
+    }
+}
+
+// The literal of the type with the value, if there is one and it isn't null.
+fn literal_with(dtype: &DataType, value: Value) -> Option<LiteralValue>
+    requires { is_known (ty dtype.now) ≡ true }
+    ensures { MatchOption result
+        (literal_with (ty dtype.now) (val_of value) ≡ None)
+        (λ made. literal_with (ty dtype.now) (val_of value) ≡ Some (node (literal_op made) no_more)) }
+{
+    match value {
+        Value::Boolean(truth) => match dtype {
+            DataType::Boolean => Some(LiteralValue::Boolean(truth)),
+            _ => None,
+        },
+        Value::Int(number) => LiteralValue::of_number(dtype, number),
+        Value::Text(text) => match dtype {
+            DataType::String => Some(LiteralValue::String(text)),
+            _ => None,
+        },
+        Value::Null | Value::List(_) | Value::Struct(_) => None,
+    }
+}

@@ -1,0 +1,17 @@
+use Rattle.std.proofs.Common.{refl}
+use Rattle.plan_lower.proofs.ProjectionLemmas.{refused_as}
+use Rattle.plan_coerce.proofs.TurnLemmas.{on_ok}
+use Rattle.plan_lower.proofs.conversion.coercion.inline_by.Goals as goal
+
+pub returns-clause-like : goal.returns-clause-like
+returns-clause-like g c = c.coerce_expressions.ensures.like c.requires.typed
+
+pub returns-clause-settled : goal.returns-clause-settled
+returns-clause-settled g c = on_ok c.coerce_expressions.result c.coerce_expressions.ensures.settled (λ settled. settled c.requires.typed)
+
+pub returns-clause-apart : goal.returns-clause-apart
+returns-clause-apart g c = c.coerce_expressions.ensures.elsewhere 1 refl
+
+pub returns-clause-err : goal.returns-clause-err
+returns-clause-err g c =
+    refused_as c.coerce_expressions.result _ _ (λ error refusal. refusal.typed c.requires.typed) c.coerce_expressions.ensures.err
