@@ -11,7 +11,7 @@ use Rattle.plan_types.specs.declared.error.ErrorKind.TheVariants.{InvalidOperati
 use Rattle.plan_dsl.specs.Trees.{node, no_more, more}
 use Rattle.plan_dsl.specs.Refusals.{then_ok, lists_joined}
 use Rattle.plan_dsl.specs.Sources.{Excluded, WildcardOp, DtypeColumnOp, NthOp, ExcludeOp, SelectorOp}
-use Rattle.plan_dsl.specs.Markers.{without, once, names_of_types, name_at, excludes, without_excluded, is_exclude, marker_names, selector_names}
+use Rattle.plan_dsl.specs.Markers.{without, once, names_of_types, name_at, excludes, without_excluded, marker_names, selector_names}
 use Rattle.plan_dsl.specs.Laws.{MarkersNameOnce, SelectorsNameOnce}
 
 -- ---- lists of names
@@ -82,7 +82,7 @@ markers_name_once keys schema (node (NthOp place) no_more) names distinct listed
 markers_name_once keys schema (node (ExcludeOp excluded) (more marker no_more)) names distinct listed h =
     let below : (found : List Name) → marker_names keys schema marker ≡ Ok found → repeats (without keys (without_excluded schema excluded found)) ≡ false =
     λ found there. without_distinct keys (without_excluded schema excluded found) (excluded_distinct schema excluded found (markers_name_once keys schema marker found distinct listed there)) in
-    elim (is_exclude marker) as (λ b. cond b (Err InvalidOperation) (then_ok (marker_names keys schema marker) (λ found. Ok (without keys (without_excluded schema excluded found)))) ≡ Ok names → repeats names ≡ false) [ true ↦ λ h. absurd cc | false ↦ λ h. found_once (marker_names keys schema marker) (λ found. without keys (without_excluded schema excluded found)) names below h ] h
+    found_once (marker_names keys schema marker) (λ found. without keys (without_excluded schema excluded found)) names below h
 markers_name_once keys schema (node SelectorOp (more selector no_more)) names distinct listed h =
     found_once (selector_names keys schema selector) (λ found. once (without keys found)) names (λ found there. once_distinct (without keys found)) h
 markers_name_once keys schema tree names distinct listed h = absurd cc

@@ -56,10 +56,6 @@ set_of ExclusiveOr first second = without second first ++ without first second
 
 -- ---- markers
 
-abbrev pub is_exclude : Source → Bool
-is_exclude (node (ExcludeOp excluded) children) = true
-is_exclude tree = false
-
 abbrev mutual
   -- the names for which a marker stands, in order
   pub marker_names : List Name → Columns → Source → Result (List Name) ErrorKind
@@ -69,7 +65,7 @@ abbrev mutual
   marker_names keys schema (node (IndexColumnOp places) no_more) = each_ok (name_at (names_of schema)) places
   marker_names keys schema (node (NthOp place) no_more) = each_ok (name_at (names_of schema)) (place ∷ [])
   marker_names keys schema (node (ExcludeOp excluded) (more marker no_more)) =
-      if is_exclude marker then Err InvalidOperation else then_ok (marker_names keys schema marker) (λ names. Ok (without keys (without_excluded schema excluded names)))
+      then_ok (marker_names keys schema marker) (λ names. Ok (without keys (without_excluded schema excluded names)))
   marker_names keys schema (node SelectorOp (more selector no_more)) =
       then_ok (selector_names keys schema selector) (λ names. Ok (once (without keys names)))
   marker_names keys schema tree = Err InvalidOperation

@@ -16,7 +16,7 @@ use Rattle.plan_types.specs.declared.error.ErrorKind.TheVariants.{InvalidOperati
 use Rattle.plan_types.specs.declared.error.PlanError.{PlanError}
 use Rattle.plan_dsl.specs.Expansion.{all_in_place, as_expression, expanded_alone, in_place, is_marker, over_inputs, spread, spreads, markers_in, with_column_put, repeated_for, plain, root_name, name_given, under_alias, aliased, key_name, key_names, expansion, expansions, only_one, predicate_expansion}
 use Rattle.plan_dsl.specs.Expressions.{tree_of, plain_tree, renaming_of}
-use Rattle.plan_dsl.specs.Markers.{once, names_of_types, without_excluded, is_exclude, set_of, marker_names, selector_names}
+use Rattle.plan_dsl.specs.Markers.{once, names_of_types, without_excluded, set_of, marker_names, selector_names}
 use Rattle.plan_dsl.specs.Ops.{ColumnOp, AliasOp, Expression}
 use Rattle.plan_dsl.specs.Refusals.{then_ok, each_ok, joined, with_kinds}
 use Rattle.plan_dsl.specs.SourceLaws.{same_source_decides}
@@ -56,7 +56,7 @@ mutual
   marker_once keys schema (node (NthOp place) no_more) = refl
   marker_once keys schema (node (DtypeColumnOp types) no_more) = ap Ok (without_once keys (names_of_types schema types))
   marker_once keys schema (node (ExcludeOp excluded) (more marker no_more)) =
-      λ i. cond (is_exclude marker) (Err InvalidOperation) (then_ok (marker_once keys schema marker i) (λ names. Ok (without_once keys (without_excluded schema excluded names) i)))
+      λ i. then_ok (marker_once keys schema marker i) (λ names. Ok (without_once keys (without_excluded schema excluded names) i))
   marker_once keys schema (node SelectorOp (more selector no_more)) =
       λ i. then_ok (selector_once keys schema selector i) (λ names. Ok (once (without_once keys names i)))
   marker_once keys schema tree = refl

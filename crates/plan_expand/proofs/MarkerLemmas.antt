@@ -16,7 +16,7 @@ use Rattle.plan_types.specs.declared.error.ErrorKind.{ErrorKind}
 use Rattle.plan_types.specs.declared.error.ErrorKind.TheVariants.{InvalidOperation}
 use Rattle.plan_types.specs.declared.error.PlanError.{PlanError}
 use Rattle.plan_dsl.specs.Expressions.{tree_of, selector_tree}
-use Rattle.plan_dsl.specs.Markers.{without, once, names_of_types, excludes, without_excluded, is_exclude, set_of, marker_names, selector_names}
+use Rattle.plan_dsl.specs.Markers.{without, once, names_of_types, excludes, without_excluded, set_of, marker_names, selector_names}
 use Rattle.plan_dsl.specs.Refusals.{then_ok}
 use Rattle.plan_dsl.specs.Sources.{Excluded, ExcludedName, ExcludedType, SetRule, Source, RootOp, of_two}
 use Rattle.plan_dsl.specs.Trees.{node, no_more, more}
@@ -95,9 +95,6 @@ no_type schema name (type ∷ types) none =
 -- ---- markers
 
 module _ (keys : List Name) (schema : Columns) where
-  pub exclude_refused : (expr : Expr) (marker : Box Expr) (excluded : Vec ExcludedValue) → expr ≡ Exclude marker excluded → is_exclude (tree_of marker.value) ≡ true → marker_names keys schema (tree_of expr) ≡ Err InvalidOperation
-  exclude_refused expr marker excluded is nested = ap (λ e. marker_names keys schema (tree_of e)) is ∙ cond-true (is_exclude (tree_of marker.value)) _ _ nested
-
   pub no_marker : (expr : Expr) → ((names : Vec PlSmallStr) → expr ≡ Named names → ⊥) → ((types : Vec DataType) → expr ≡ DtypeColumn types → ⊥) → ((places : Vec ℤ) → expr ≡ IndexColumn places → ⊥) → ((place : ℤ) → expr ≡ Nth place → ⊥) → (expr ≡ Wildcard → ⊥)
       → ((marker : Box Expr) (excluded : Vec ExcludedValue) → expr ≡ Exclude marker excluded → ⊥) → ((selector : SelectorValue) → expr ≡ Selector selector → ⊥) → marker_names keys schema (tree_of expr) ≡ Err InvalidOperation
   no_marker (Named names) columns types places place all excluded selector = absurd (columns names refl)

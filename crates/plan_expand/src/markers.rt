@@ -6,7 +6,7 @@ ghost use Rattle.plan_types.specs.Errors.{no_memory, IsRefusal};
 ghost use Rattle.plan_types.specs.Schemas.{columns, is_among, names_of};
 ghost use Rattle.plan_types.specs.Types.{same_type, ty};
 ghost use Rattle.plan_dsl.specs.Expressions.{excluded_of, tree_of};
-ghost use Rattle.plan_dsl.specs.Markers.{is_exclude, marker_names, name_at, names_of_types, once, without, without_excluded};
+ghost use Rattle.plan_dsl.specs.Markers.{marker_names, name_at, names_of_types, once, without, without_excluded};
 ghost use Rattle.plan_dsl.specs.Refusals.{each_ok};
 ghost use Rattle.plan_dsl.specs.Slices.{slice_start};
 ghost use Rattle.plan_expand.specs.Names.{as_number, excluded_name, excluded_type, is_of_type};
@@ -39,9 +39,6 @@ pub(crate) fn marker_names(
         Expr::IndexColumn(places) => Ok(names_at(alloc, places, schema)?),
         Expr::Nth(place) => Ok(names_at(alloc, &[*place], schema)?),
         Expr::Exclude(inner, excluded) => {
-            if is_exclude(inner) {
-                return Err(PlanError::at_top(ErrorKind::InvalidOperation));
-            }
             let names = marker_names(alloc, inner, schema, keys)?;
             let kept = without_excluded(alloc, names, excluded, schema, keys)?;
             Ok(kept)
@@ -53,12 +50,6 @@ pub(crate) fn marker_names(
         }
         _ => Err(PlanError::at_top(ErrorKind::InvalidOperation)),
     }
-}
-
-fn is_exclude(marker: &Expr) -> bool
-    ensures { result ≡ is_exclude (tree_of marker.now) }
-{
-    matches!(marker, Expr::Exclude(_, _))
 }
 
 // The names of all columns but keys.

@@ -58,7 +58,7 @@ pub fn names_of_markers()
 {}
 
 /// An exclude leaves out columns of names and of types. A name that no column has is of no type. It stands over a
-/// marker, a selector's among them, and not over an exclude.
+/// marker, a selector's and an exclude among them, and over nothing else.
 pub fn names_of_excludes()
     ensures left_out { Gives (λ excluded. marker_names [] schema_abc (but excluded all)) (
         ([], these ("a" ∷ "b" ∷ "c" ∷ [])) ∷
@@ -73,9 +73,12 @@ pub fn names_of_excludes()
         (but_named "a" (columns_of_type int8), these ("b" ∷ [])) ∷
         (but_named "a" (nth (pos 0)), these []) ∷
         (but_named "a" (selecting (root all)), these ("b" ∷ "c" ∷ [])) ∷
-        (but_named "a" (nth (pos 3)), Err ColumnNotFound) ∷ []) }
+        (but_named "a" (nth (pos 3)), Err ColumnNotFound) ∷
+        (but_named "a" (but_named "b" all), these ("c" ∷ [])) ∷
+        (but_of_type TextType (but_named "b" (columns_named ("b" ∷ "c" ∷ "z" ∷ "a" ∷ []))), these ("z" ∷ "a" ∷ [])) ∷
+        (but [] (but [] all), these ("a" ∷ "b" ∷ "c" ∷ [])) ∷ []) }
     ensures refused { GivesAll (marker_names [] schema_abc) (Err InvalidOperation) (
-        but_named "a" (written a) ∷ but_named "a" (plus all all) ∷ but_named "a" (but_named "b" all) ∷ but [] (but [] all) ∷ []) }
+        but_named "a" (written a) ∷ but_named "a" (plus all all) ∷ but_named "a" (but_named "b" (written a)) ∷ []) }
 {}
 
 /// Selectors make one list of names of two, each once, at its first place.

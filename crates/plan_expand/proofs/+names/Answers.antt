@@ -7,14 +7,8 @@ use Rattle.plan_dsl.specs.Expressions.{selector_tree}
 use Rattle.plan_expand.specs.Names.{selected, set_rule}
 use Rattle.plan_expand.proofs.EachLemmas.{nothing_found}
 use Rattle.plan_expand.proofs.NameLemmas.{once_distinct}
-use Rattle.plan_expand.proofs.MarkerLemmas.{exclude_refused, no_marker, selector_listed, rooted, root_refused, two_selected}
+use Rattle.plan_expand.proofs.MarkerLemmas.{no_marker, selector_listed, rooted, root_refused, two_selected}
 use Rattle.plan_expand.proofs.+names.Goals as goal
-
-pub markers::marker_names-returns-then-is_exclude-clause-err :
-    goal.markers::marker_names-returns-then-is_exclude-clause-err
-markers::marker_names-returns-then-is_exclude-clause-err t c =
-    let nested = sym (rw c.deref-in-Exclude.ensures at c.if-is_exclude.ensures) in
-    broken InvalidOperation c.at_top.ensures (exclude_refused c.args.keys.now.keys (columns c.args.schema.now) c.args.marker.now c.in-Exclude.inner c.in-Exclude.excluded c.in-Exclude.is nested)
 
 pub markers::marker_names-returns-in_ok-list-in-Selector-clause-ok :
     goal.markers::marker_names-returns-in_ok-list-in-Selector-clause-ok
