@@ -21,7 +21,7 @@ use Rattle.plan_infer.proofs.TableLemmas.{layer_held}
 use Rattle.plan_arena.specs.declared.arena.Node.{Node}
 use Rattle.plan_arena.specs.declared.expr_ir.ExprIR.{ExprIR}
 use Rattle.plan_properties.specs.Asking.{AllDenote, SaysOfNode, is_literal_item, literals_at, nodes_of}
-use Rattle.plan_properties.specs.Properties.{all_hold, all_trees, asks_literal, can_pre_agg, has_column, holds_by, is_elementwise, is_literal, literals, merges}
+use Rattle.plan_properties.specs.Properties.{all_hold, all_trees, asks_literal, can_pre_agg, has_column, has_single_functions, holds_by, is_elementwise, is_literal, literals, merges}
 
 -- ---- operands
 
@@ -123,7 +123,7 @@ counts_rows items item is (node op ts) d = ap (λ o. can_pre_agg (node o ts)) (s
 
 -- by its method and its operand
 pub aggregates : (items : List AExpr) (item : Layer Op) (method : _) (n : ℕ) (answer : Bool) → op_of item ≡ AggOp method → inputs_of item ≡ n ∷ []
-    → ((t : Expression) → Denotes (HoldsExpression items) n t → answer ≡ (merges method && (is_elementwise t && has_column t)))
+    → ((t : Expression) → Denotes (HoldsExpression items) n t → answer ≡ (merges method && (is_elementwise t && (has_single_functions t && has_column t))))
     → (t : Expression) → LayerDenotes items item t → answer ≡ can_pre_agg t
 aggregates items item method n answer op_is inputs_are says (node op ts) d =
     let only = one_child (HoldsExpression items) n ts (subst (λ ns. DenoteAll (HoldsExpression items) ns ts) inputs_are d.1) in

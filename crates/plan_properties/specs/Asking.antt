@@ -10,20 +10,22 @@ use Rattle.plan_arena.specs.Items.{HoldsExpression, expression_layer}
 use Rattle.plan_arena.specs.Layers.{Layer, op_of}
 use Rattle.plan_infer.specs.ItemTrees.{LayerDenotes}
 use Rattle.plan_properties.specs.declared.asked.Asked.{Asked}
-use Rattle.plan_properties.specs.declared.asked.Asked.TheVariants.{Elementwise, Harmless, Scalar, Columnless}
-use Rattle.plan_properties.specs.Properties.{all_trees, gives_one, holds_by, is_literal, is_no_column, is_own_elementwise, is_own_harmless, keeps_one, never, over_any}
+use Rattle.plan_properties.specs.declared.asked.Asked.TheVariants.{Elementwise, Harmless, Scalar, Single, Columnless}
+use Rattle.plan_properties.specs.Properties.{all_trees, gives_one, holds_by, is_literal, is_no_column, is_own_elementwise, is_own_harmless, is_own_single, keeps_one, never, over_any}
 
 -- the ops that settle what is asked, and those that hand it on
 abbrev pub settles : Asked → Op → Bool
 settles Elementwise = never
 settles Harmless = never
 settles Scalar = gives_one
+settles Single = never
 settles Columnless = never
 
 abbrev pub hands_on : Asked → Op → List Bool → Bool
 hands_on Elementwise = is_own_elementwise
 hands_on Harmless = is_own_harmless
 hands_on Scalar = over_any keeps_one
+hands_on Single = is_own_single
 hands_on Columnless = over_any is_no_column
 
 -- which nodes of an arena are literals. One that isn't there is none

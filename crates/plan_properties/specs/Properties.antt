@@ -1,5 +1,5 @@
 -- Properties of expressions, node by node.
-use Rattle.std.specs.Prelude.{Bool, true, false, ◌&&◌, ◌||◌, not, List, [], ◌∷◌}
+use Rattle.std.specs.Prelude.{Bool, true, false, ◌&&◌, ◌||◌, not, List, [], ◌∷◌, length, nat_eq}
 use Rattle.plan_types.specs.declared.dtype.CastOptions.TheVariants.{Strict}
 use Rattle.plan_dsl.specs.declared.aggregate.GroupByMethod.{GroupByMethod}
 use Rattle.plan_dsl.specs.declared.aggregate.GroupByMethod.TheVariants.{Min, NanMin, Max, NanMax, First, Last, Sum, Count}
@@ -75,6 +75,11 @@ keeps_one TernaryOp = true
 keeps_one (FunctionOp function recorded) = true
 keeps_one op = false
 
+-- a function is asked over one operand
+abbrev pub is_own_single : Op → List Bool → Bool
+is_own_single (FunctionOp function recorded) operands = nat_eq (length operands) 1
+is_own_single op operands = true
+
 abbrev pub is_no_column : Op → Bool
 is_no_column (ColumnOp name) = false
 is_no_column op = true
@@ -93,6 +98,10 @@ permits_pushdown = holds_by never is_own_harmless
 abbrev pub is_scalar : Expression → Bool
 is_scalar = holds_by gives_one (over_any keeps_one)
 
+-- each of its functions has one operand
+abbrev pub has_single_functions : Expression → Bool
+has_single_functions = holds_by never is_own_single
+
 -- it names a column
 abbrev pub has_column : Expression → Bool
 has_column tree = not (holds_by never (over_any is_no_column) tree)
@@ -109,10 +118,11 @@ merges Sum = true
 merges (Count include_nulls) = include_nulls
 merges method = false
 
--- a count of rows, or an aggregate by such a method of an elementwise expression that names a column
+-- a count of rows, or an aggregate by such a method of an elementwise expression that names a column and whose functions
+-- have one operand each
 abbrev pub can_pre_agg : Expression → Bool
 can_pre_agg (node LenOp operands) = true
-can_pre_agg (node (AggOp method) (more input no_more)) = merges method && (is_elementwise input && has_column input)
+can_pre_agg (node (AggOp method) (more input no_more)) = merges method && (is_elementwise input && (has_single_functions input && has_column input))
 can_pre_agg tree = false
 
 -- all of some expressions

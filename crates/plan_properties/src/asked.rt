@@ -1,11 +1,12 @@
 //! What is asked of expressions, node by node.
-ghost use Rattle.std.specs.Prelude.{◌≡◌, slice_get, true, false};
+ghost use Rattle.std.specs.Prelude.{◌≡◌, List, slice_get, true, false};
 ghost use Rattle.plan_dsl.specs.Ops.{Op};
+ghost use Rattle.plan_arena.specs.declared.aexpr.AExpr.{AExpr};
 ghost use Rattle.plan_arena.specs.Denotation.{DenotesTree};
 ghost use Rattle.plan_arena.specs.Items.{HoldsExpression, expression_layer};
 ghost use Rattle.plan_arena.specs.Layers.{inputs_of, op_of};
 ghost use Rattle.plan_properties.specs.Asking.{AllDenote, SaysOfAll, SaysOfItem, SaysOfNode, hands_on, holds_of, is_literal_item, literals_at, settles};
-ghost use Rattle.plan_properties.specs.Properties.{asks_literal, gives_one, is_no_column, is_own_elementwise, is_own_harmless, keeps_one};
+ghost use Rattle.plan_properties.specs.Properties.{asks_literal, gives_one, is_no_column, is_own_elementwise, is_own_harmless, is_own_single, keeps_one};
 
 use plan_arena::aexpr::AExpr;
 use plan_arena::arena::{Arena, Node};
@@ -22,6 +23,8 @@ pub(crate) enum Asked {
     Harmless,
     /// Whether there is one value.
     Scalar,
+    /// Whether each function has one input.
+    Single,
     /// Whether no column is named.
     Columnless,
 }
@@ -33,7 +36,7 @@ impl Asked {
     {
         match self {
             Asked::Scalar => gives_one(item),
-            Asked::Elementwise | Asked::Harmless | Asked::Columnless => false,
+            Asked::Elementwise | Asked::Harmless | Asked::Single | Asked::Columnless => false,
         }
     }
 
@@ -45,6 +48,7 @@ impl Asked {
             Asked::Elementwise => is_own_elementwise(item, arena),
             Asked::Harmless => is_own_harmless(item, arena),
             Asked::Scalar => keeps_one(item),
+            Asked::Single => is_own_single(item),
             Asked::Columnless => !matches!(item, AExpr::Column(_)),
         }
     }
@@ -122,6 +126,16 @@ fn keeps_one(item: &AExpr) -> bool
             | AExpr::Ternary { .. }
             | AExpr::Function { .. }
     )
+}
+
+// Whether a node is no function of another number of inputs than one.
+fn is_own_single(item: &AExpr) -> bool
+    ensures { (items : List AExpr) → result ≡ is_own_single (op_of (expression_layer item.now)) (literals_at items (inputs_of (expression_layer item.now))) }
+{
+    match item {
+        AExpr::Function { .. } => item.input_nodes().len() == 1,
+        _ => true,
+    }
 }
 
 /// Whether it holds of the expression of an item.

@@ -6,7 +6,7 @@ ghost use Rattle.plan_types.specs.declared.dtype.CastOptions.TheVariants.{Strict
 ghost use Rattle.plan_dsl.specs.declared.aggregate.GroupByMethod.TheVariants.{Min, NanMax, First, Last, NUnique, Implode, Groups, Sum, Count};
 ghost use Rattle.std.specs.List.{AllByRecursion};
 ghost use Rattle.plan_types.specs.Types.{Truth};
-ghost use Rattle.plan_dsl.specs.Samples.{Gives, GivesAll, GivesOfTwo, a, b, c, alias, binary, call, cast_as, count, equal, int8, no, number, one, over, slice, sum, ternary, text, yes};
+ghost use Rattle.plan_dsl.specs.Samples.{Gives, GivesAll, GivesOfTwo, a, b, c, alias, binary, call, cast_as, count, equal, explode, gather, gather_one, int8, keep_where, no, number, one, over, rising, rising_by, slice, sort_as, sum, ternary, text, yes};
 ghost use Rattle.plan_dsl.specs.Ops.{AggOp, BinaryOp, ColumnOp, LenOp};
 ghost use Rattle.plan_dsl.specs.Plans.{empty_table};
 ghost use Rattle.plan_dsl.specs.declared.function_expr.FunctionExpr.TheVariants.{AllHorizontal, AnyHorizontal, IsNull, IsNotNull, FillNull, IsIn, ShiftAndFill, ListGet, FieldByName};
@@ -28,7 +28,8 @@ ghost use Rattle.plan_properties.specs.Splitting.{AddsParts, IsCondition, IsSpli
 pub fn expressions_by_rows()
     ensures elementwise { GivesAll is_elementwise true (a ∷ one ∷ sum a one ∷ cast_as Strict int8 a ∷ alias "x" (sum a b) ∷ ternary b a one ∷ []) }
     ensures not_elementwise { GivesAll is_elementwise false (
-        count ∷ slice a one one ∷ aggregate Sum a ∷ sum a (aggregate Sum a) ∷ alias "x" count ∷ over (b ∷ []) a ∷ ternary b count a ∷ ternary (aggregate Sum b) a a ∷ ternary b a count ∷ []) }
+        count ∷ slice a one one ∷ aggregate Sum a ∷ sum a (aggregate Sum a) ∷ alias "x" count ∷ over (b ∷ []) a ∷ ternary b count a ∷ ternary (aggregate Sum b) a a ∷ ternary b a count ∷
+        gather a one ∷ gather_one a one ∷ keep_where a b ∷ sort_as rising a ∷ rising_by (b ∷ []) a ∷ explode a ∷ []) }
     ensures pushdown { Gives permits_pushdown (
         (sum a one, true) ∷ (cast_as Strict int8 a, false) ∷ (cast_as NonStrict int8 a, true) ∷ (cast_as Overflowing int8 a, true) ∷
         (sum one (cast_as Strict int8 a), false) ∷ (count, false) ∷ (ternary b a one, true) ∷ (ternary b a (cast_as Strict int8 a), false) ∷ []) }
@@ -62,6 +63,7 @@ pub fn functions_by_rows()
 pub fn expressions_of_one_value()
     ensures one_value { GivesAll is_scalar true (one ∷ count ∷ aggregate Sum a ∷ sum (aggregate Sum a) one ∷ alias "x" (cast_as Strict int8 one) ∷ aggregate Implode a ∷ []) }
     ensures many_values { GivesAll is_scalar false (a ∷ sum a one ∷ sum one a ∷ slice one one one ∷ over (b ∷ []) count ∷ alias "x" a ∷ []) }
+    ensures one_picked { GivesAll is_scalar false (sort_as rising one ∷ rising_by (one ∷ []) one ∷ gather_one one one ∷ gather_one a one ∷ explode one ∷ keep_where one one ∷ []) }
     ensures ternaries { Gives is_scalar ((ternary (aggregate First a) one count, true) ∷ (ternary one a one, false) ∷ (ternary a one one, false) ∷ (ternary one one a, false) ∷ []) }
     ensures functions { Gives is_scalar (
         (call IsNull (one ∷ []), true) ∷ (call IsIn (one ∷ count ∷ []), true) ∷ (call ShiftAndFill (one ∷ one ∷ one ∷ []), true) ∷ (call IsNull [], true) ∷ (call AnyHorizontal (one ∷ count ∷ []), true) ∷ (call AnyHorizontal (one ∷ a ∷ []), false) ∷
@@ -71,14 +73,17 @@ pub fn expressions_of_one_value()
         (call IsNull (one ∷ []), false) ∷ (call IsIn (one ∷ a ∷ []), true) ∷ []) }
 {}
 
-/// Aggregates of an elementwise expression over columns can be made of parts, where their values can be merged.
+/// Aggregates of an elementwise expression over columns can be made of parts, where their values can be merged and no
+/// function has more than one operand.
 pub fn aggregates_of_parts()
     ensures can { GivesAll can_pre_agg true (
         count ∷ aggregate Min a ∷ aggregate NanMax a ∷ aggregate First a ∷ aggregate Last (sum a one) ∷ aggregate Sum a ∷ aggregate (Count true) a ∷
-        aggregate Sum (ternary b a one) ∷ aggregate First (call IsIn (a ∷ one ∷ [])) ∷ []) }
+        aggregate Sum (ternary b a one) ∷ aggregate First (call IsNull (a ∷ [])) ∷ aggregate Last (call (FieldByName (codes "x")) (a ∷ [])) ∷
+        aggregate First (call IsNotNull (call IsNull (a ∷ []) ∷ [])) ∷ []) }
     ensures can_not { GivesAll can_pre_agg false (
         a ∷ aggregate (Count false) a ∷ aggregate NUnique a ∷ aggregate Implode a ∷ aggregate Groups a ∷ aggregate Sum one ∷
         aggregate Sum (aggregate Sum a) ∷ alias "x" (aggregate Sum a) ∷ sum count one ∷ aggregate First (call IsIn (a ∷ b ∷ [])) ∷ call IsNull (aggregate Sum a ∷ []) ∷
+        aggregate First (call IsIn (a ∷ one ∷ [])) ∷ aggregate Sum (call FillNull (a ∷ one ∷ [])) ∷ aggregate Sum (sum a (call FillNull (a ∷ b ∷ []))) ∷ aggregate Max (call (ListGet true) (a ∷ one ∷ [])) ∷
         ternary count count count ∷ []) }
     ensures all { all_trees can_pre_agg (more count (more (aggregate Sum a) no_more)) ≡ true }
     ensures not_all { all_trees can_pre_agg (more count (more a no_more)) ≡ false }

@@ -7,7 +7,7 @@ ghost use Rattle.plan_arena.specs.Denotation.{DenotesTree};
 ghost use Rattle.plan_arena.specs.Items.{HoldsExpression, expression_layer, numbers, passed};
 ghost use Rattle.plan_arena.specs.Layers.{inputs_of, op_of};
 ghost use Rattle.plan_properties.specs.Asking.{AllDenote, SaysOfAll, SaysOfItem, SaysOfNode, literals_at, nodes_of};
-ghost use Rattle.plan_properties.specs.Properties.{can_pre_agg, has_column, is_elementwise, is_own_elementwise, is_scalar, merges, permits_pushdown};
+ghost use Rattle.plan_properties.specs.Properties.{can_pre_agg, has_column, has_single_functions, is_elementwise, is_own_elementwise, is_scalar, merges, permits_pushdown};
 
 use crate::asked::{Asked, holds_of, holds_of_item, is_own_elementwise};
 use plan_arena::aexpr::{AExpr, Nodes};
@@ -104,7 +104,7 @@ impl ExprIRProperties for ExprIR {
 }
 
 /// Whether an aggregate of the rows can be made of those of parts of them: a count of rows, or one by a method whose
-/// values can be merged, of an expression that has a value for each row and names a column.
+/// values can be merged, of an expression that has a value for each row, names a column, and has functions of one input alone.
 pub fn can_pre_agg(agg: Node, arena: &Arena<AExpr>, _udfs: &Udfs) -> bool
     requires { DenotesTree (HoldsExpression arena.now) agg.0 }
     ensures { SaysOfNode arena.now agg.0 can_pre_agg result }
@@ -119,13 +119,16 @@ pub fn can_pre_agg(agg: Node, arena: &Arena<AExpr>, _udfs: &Udfs) -> bool
 // Whether it is by such a method and of such an expression.
 fn is_made_of_parts(aggregate: IRAggExpr, arena: &Arena<AExpr>) -> bool
     requires { DenotesTree (HoldsExpression arena.now) (input_at aggregate).0 }
-    ensures { SaysOfNode arena.now (input_at aggregate).0 (λ t. merges (method_at aggregate) && (is_elementwise t && has_column t)) result }
+    ensures { SaysOfNode arena.now (input_at aggregate).0 (λ t. merges (method_at aggregate) && (is_elementwise t && (has_single_functions t && has_column t))) result }
 {
     let input = aggregate.get_input().first();
     if !merges(GroupByMethod::from(aggregate)) {
         return false;
     }
     if !holds_of(Asked::Elementwise, input, arena) {
+        return false;
+    }
+    if !holds_of(Asked::Single, input, arena) {
         return false;
     }
     !holds_of(Asked::Columnless, input, arena)
