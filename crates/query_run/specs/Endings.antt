@@ -88,6 +88,10 @@ IsOfInput status.TooLong = ⊥
 abbrev pub TookTooMany : Option (List ℕ) → Option (List ℕ) → Type 0
 TookTooMany before after = Took before after (λ taken. length taken ≡ INPUT_LIMIT + 1)
 
+-- they are no more than the limit
+abbrev pub TookWithin : Option (List ℕ) → Option (List ℕ) → Type 0
+TookWithin before after = Took before after (λ taken. length taken ≤ INPUT_LIMIT)
+
 -- the status is a fault of reading or writing
 abbrev pub IsFault : Status → Type 0
 IsFault status.ReadFault = Unit {0}

@@ -6,7 +6,7 @@ ghost use Rattle.plan_dsl.specs.Resolving.{resolved};
 ghost use Rattle.byte_streams.specs.Streams.{Rose};
 ghost use Rattle.std.specs.Io.KnownBytes.{IsAtEnd};
 ghost use Rattle.query_run.specs.Answers.{IsAnswer, IsPlanAnswer, IsQueryAnswer, bad_query_text, right_words};
-ghost use Rattle.query_run.specs.Endings.{IsOfInput, TookTooMany};
+ghost use Rattle.query_run.specs.Endings.{IsOfInput, TookTooMany, TookWithin};
 
 use crate::status::{Done, Status};
 use byte_streams::source::Source;
@@ -48,6 +48,7 @@ pub(crate) fn answer_to<S: Source>(
     ensures answers { IsAnswer (registry udfs.now) words.now (S.left source.old) result.done (string_bytes result.text) }
     ensures end { IsOfInput result.done.status → IsAtEnd (S.left source.new) }
     ensures past { result.done.status ≡ Status.TooLong → TookTooMany (S.left source.old) (S.left source.new) }
+    ensures within { result.done.status ≡ Status.ReadFault → TookWithin (S.left source.old) (S.left source.new) }
     ensures untouched { (¬ (words.now ≡ right_words)) → source.new ≡ source.old }
     ensures fault { result.done.status ≡ Status.ReadFault → Rose (S.faults source.old) (S.faults source.new) }
     ensures later { S.faults source.old ≤ S.faults source.new }
@@ -67,6 +68,7 @@ fn answer_words<S: Source>(
     ensures answers { IfOk result (λ answer. IsAnswer (registry udfs.now) words.now (S.left source.old) answer.done (string_bytes answer.text)) }
     ensures end { IfOk result (λ answer. IsOfInput answer.done.status → IsAtEnd (S.left source.new)) }
     ensures past { IfOk result (λ answer. answer.done.status ≡ Status.TooLong → TookTooMany (S.left source.old) (S.left source.new)) }
+    ensures within { IfOk result (λ answer. answer.done.status ≡ Status.ReadFault → TookWithin (S.left source.old) (S.left source.new)) }
     ensures untouched { (¬ (words.now ≡ right_words)) → source.new ≡ source.old }
     ensures fault { IfOk result (λ answer. answer.done.status ≡ Status.ReadFault → Rose (S.faults source.old) (S.faults source.new)) }
     ensures later { S.faults source.old ≤ S.faults source.new }

@@ -5,7 +5,7 @@ ghost use Rattle.plan_dsl.specs.Registry.{registry};
 ghost use Rattle.byte_streams.specs.Streams.{IsFull, Rose};
 ghost use Rattle.byte_streams.specs.declared.stream.TheConstants.{INPUT_LIMIT};
 ghost use Rattle.query_run.specs.Answers.{Ended, right_words};
-ghost use Rattle.query_run.specs.Endings.{SaysLowered, SaysRefused, SaysUsage, SaysBadQuery, SaysTooLong, SaysWriteFault, UsageCalledFor, TooLongCalledFor, BadQueryCalledFor, RefusalCalledFor, LoweringCalledFor, IsComplete, IsOfInput, TookTooMany};
+ghost use Rattle.query_run.specs.Endings.{SaysLowered, SaysRefused, SaysUsage, SaysBadQuery, SaysTooLong, SaysWriteFault, UsageCalledFor, TooLongCalledFor, BadQueryCalledFor, RefusalCalledFor, LoweringCalledFor, IsComplete, IsOfInput, TookTooMany, TookWithin};
 
 use crate::answer::{Answer, answer_to};
 use crate::status::{Done, Status};
@@ -42,6 +42,7 @@ pub fn run<S: Source, K: Sink>(
     ensures nothing_written { (result.status ≡ Status.ReadFault) ⊎ (result.status ≡ Status.NoMemory) → Appends (K.written sink.old) (K.written sink.new) [] }
     ensures end { IsOfInput result.status → IsAtEnd (S.left source.new) }
     ensures past { result.status ≡ Status.TooLong → TookTooMany (S.left source.old) (S.left source.new) }
+    ensures within { result.status ≡ Status.ReadFault → TookWithin (S.left source.old) (S.left source.new) }
     ensures untouched { (¬ (words.now ≡ right_words)) → source.new ≡ source.old }
     ensures no_plan { (¬ (result.status ≡ Status.Lowered)) → result.plan ≡ None }
 

@@ -31,3 +31,7 @@ returns-in_ok-answer-in-Bytes-clause-past g c e =
 pub returns-in_ok-answer-in-Bytes-clause-fault : goal.returns-in_ok-answer-in-Bytes-clause-fault
 returns-in_ok-answer-in-Bytes-clause-fault g c e =
     absurd (query_not_read_fault (registry c.args.udfs.now) c.as_slice.result.now c.in_ok-answer-in-Bytes.answer.done (string_bytes c.in_ok-answer-in-Bytes.answer.text) c.in_ok-answer-in-Bytes.ensures e)
+
+pub returns-in_ok-answer-in-Bytes-clause-within : goal.returns-in_ok-answer-in-Bytes-clause-within
+returns-in_ok-answer-in-Bytes-clause-within g c e =
+    absurd (query_not_read_fault (registry c.args.udfs.now) c.as_slice.result.now c.in_ok-answer-in-Bytes.answer.done (string_bytes c.in_ok-answer-in-Bytes.answer.text) c.in_ok-answer-in-Bytes.ensures e)
