@@ -6,6 +6,9 @@ use plan_json::read::read_query;
 use std::alloc::Global;
 use std::process::Abort;
 
+// So many items are in a long list.
+const MANY: usize = 100_000;
+
 // So many selects reach from the second level to the last but one, of the 127 that a text may have.
 const STACKED: usize = 62;
 
@@ -28,6 +31,34 @@ fn assert_read(rt: &impl Abort, alloc: Global, text: &str) {
     let answer = read_query(alloc, text.as_bytes());
     assert!(rt; answer.is_ok());
     drop(answer);
+}
+
+// Reads a list of many items between two texts, in a select.
+fn assert_long(rt: &impl Abort, alloc: Global, front: &str, item: &str, back: &str) {
+    let each = format!(in alloc; "{item},").expect(rt, NO_MEMORY);
+    let items = repeated(rt, alloc, each.as_str(), MANY - 1, item);
+    let list = format!(in alloc; "{front}{items}{back}").expect(rt, NO_MEMORY);
+    let text = select_of(rt, alloc, list.as_str());
+    assert_read(rt, alloc, text.as_str());
+}
+
+// Many items between two texts, of which each is a number between two others.
+fn numbered(
+    rt: &impl Abort,
+    alloc: Global,
+    front: &str,
+    before: &str,
+    behind: &str,
+    back: &str,
+) -> String {
+    let mut text = String::from_str(alloc, front).expect(rt, NO_MEMORY);
+    for number in 1..MANY {
+        let item = format!(in alloc; "{before}{number}{behind},").expect(rt, NO_MEMORY);
+        text.push_str(item.as_str()).expect(rt, NO_MEMORY);
+    }
+    let last = format!(in alloc; "{before}0{behind}{back}").expect(rt, NO_MEMORY);
+    text.push_str(last.as_str()).expect(rt, NO_MEMORY);
+    text
 }
 
 fn assert_shape_at(rt: &impl Abort, alloc: Global, text: &str, pointer: &str) {
@@ -66,4 +97,71 @@ fn queries_of_all_levels_are_read(rt: HostRuntime) {
     text.push_str(ends.as_str()).expect(&rt, NO_MEMORY);
     let whole = format!(in rt.alloc(); "{{\"tables\":[],\"plan\":{text}").expect(&rt, NO_MEMORY);
     assert_read(&rt, rt.alloc(), whole.as_str());
+}
+
+#[test]
+fn long_lists_of_each_kind_are_read(rt: HostRuntime) {
+    let alloc = rt.alloc();
+    assert_long(&rt, alloc, "{\"cols\":[", "\"a\"", "]}");
+    assert_long(&rt, alloc, "{\"dtypes\":[", "\"Int8\"", "]}");
+    assert_long(&rt, alloc, "{\"at\":[", "-1", "]}");
+    assert_long(
+        &rt,
+        alloc,
+        "{\"exclude\":[{\"all\":null},[",
+        "{\"name\":\"a\"}",
+        "]]}",
+    );
+    assert_long(
+        &rt,
+        alloc,
+        "{\"sort_by\":[{\"len\":null},[{\"len\":null}],[true],[",
+        "false",
+        "]]}",
+    );
+    assert_long(
+        &rt,
+        alloc,
+        "{\"cast\":[{\"len\":null},{\"Struct\":[",
+        "[\"a\",\"Int8\"]",
+        "]},\"Strict\"]}",
+    );
+    assert_long(
+        &rt,
+        alloc,
+        "{\"fn\":[\"AllHorizontal\",[",
+        "{\"len\":null}",
+        "]]}",
+    );
+}
+
+#[test]
+fn many_tables_columns_and_selectors_are_read(rt: HostRuntime) {
+    let tables = numbered(
+        &rt,
+        rt.alloc(),
+        "{\"tables\":[",
+        "{\"name\":\"t",
+        "\",\"columns\":[]}",
+        "],\"plan\":{\"scan\":\"t0\"}}",
+    );
+    assert_read(&rt, rt.alloc(), tables.as_str());
+    let columns = numbered(
+        &rt,
+        rt.alloc(),
+        "{\"tables\":[],\"plan\":{\"empty\":[",
+        "[\"c",
+        "\",\"Int8\"]",
+        "]}}",
+    );
+    assert_read(&rt, rt.alloc(), columns.as_str());
+    let selectors = numbered(
+        &rt,
+        rt.alloc(),
+        "{\"tables\":[],\"plan\":{\"drop\":[{\"empty\":[]},[",
+        "{\"root\":{\"col\":\"c",
+        "\"}}",
+        "],false]}}",
+    );
+    assert_read(&rt, rt.alloc(), selectors.as_str());
 }
