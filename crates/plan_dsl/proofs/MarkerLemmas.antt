@@ -7,7 +7,6 @@ use Rattle.std.proofs.lemmas.List.{map-id}
 use Rattle.plan_types.specs.Types.{Ty, same_type}
 use Rattle.plan_types.specs.Schemas.{Name, Columns, same_name, is_among, repeats, names_of}
 use Rattle.plan_types.specs.declared.error.ErrorKind.{ErrorKind}
-use Rattle.plan_types.specs.declared.error.ErrorKind.TheVariants.{InvalidOperation}
 use Rattle.plan_dsl.specs.Trees.{node, no_more, more}
 use Rattle.plan_dsl.specs.Refusals.{then_ok, lists_joined}
 use Rattle.plan_dsl.specs.Sources.{Excluded, WildcardOp, DtypeColumnOp, NthOp, ExcludeOp, SelectorOp}

@@ -11,7 +11,7 @@ ghost use Rattle.plan_types.specs.declared.error.ErrorKind.TheVariants.{ColumnNo
 ghost use Rattle.plan_dsl.specs.declared.aggregate.AggExpr as agg_expr;
 ghost use Rattle.plan_dsl.specs.declared.aggregate.GroupByMethod.TheVariants.{Min, NanMin, Max, NanMax, NUnique, First, Last, Implode, Sum, Count, Groups};
 ghost use Rattle.plan_dsl.specs.declared.expr.Expr.{Expr, Agg};
-ghost use Rattle.plan_dsl.specs.Aggregates.{aggregate_value};
+ghost use Rattle.plan_dsl.specs.Aggregates.{aggregate_value, count_value};
 ghost use Rattle.plan_dsl.specs.Expressions.{aggregated, tree_of};
 ghost use Rattle.plan_dsl.specs.Meaning.{meaning};
 ghost use Rattle.plan_dsl.specs.Names.{name_of};
@@ -51,12 +51,15 @@ pub fn types_that_are_aggregated()
     ensures lists { Gives (λ type. typing [] ((codes "a", type) ∷ []) (agg Last a)) ((ListType int8, of_one (ListType int8)) ∷ (one_field "x" int8, of_one (one_field "x" int8)) ∷ []) }
 {}
 
-/// Nulls are left out of the least, the greatest and the sum, and count once among distinct values.
+/// Nulls are left out of the least, the greatest and the sum, and count once among distinct values. A list is no
+/// null, whatever is in it.
 pub fn values_of_aggregates()
     ensures some { map (λ method. aggregate_value method int64 (4 ∷ 0 ∷ 2 ∷ 1 ∷ []) (number 3 ∷ null ∷ negative 1 ∷ number 3 ∷ [])) (Min ∷ Max ∷ First ∷ Last ∷ Implode ∷ Sum ∷ [])
         ≡ negative 1 ∷ number 3 ∷ number 3 ∷ number 3 ∷ list (number 3 ∷ null ∷ negative 1 ∷ number 3 ∷ []) ∷ number 5 ∷ [] }
     ensures counts { map (λ method. aggregate_value method uint32 (4 ∷ 0 ∷ 2 ∷ 1 ∷ []) (number 3 ∷ null ∷ null ∷ number 3 ∷ [])) (NUnique ∷ Count false ∷ Count true ∷ Groups ∷ [])
         ≡ number 2 ∷ number 2 ∷ number 4 ∷ list (number 4 ∷ number 0 ∷ number 2 ∷ number 1 ∷ []) ∷ [] }
+    ensures nulls_in_lists { map (λ method. aggregate_value method uint32 (0 ∷ 1 ∷ 2 ∷ 3 ∷ []) (list [] ∷ null ∷ list (null ∷ []) ∷ list (null ∷ []) ∷ [])) (Count false ∷ Count true ∷ NUnique ∷ [])
+        ≡ number 3 ∷ number 4 ∷ number 3 ∷ [] }
     ensures none { map (λ method. aggregate_value method uint32 [] []) all_methods
         ≡ null ∷ null ∷ null ∷ null ∷ number 0 ∷ null ∷ null ∷ list [] ∷ number 0 ∷ number 0 ∷ number 0 ∷ list [] ∷ [] }
     ensures nulls { map (λ method. aggregate_value method int64 (0 ∷ 1 ∷ []) (null ∷ null ∷ [])) (Min ∷ NanMax ∷ First ∷ NUnique ∷ Sum ∷ Count false ∷ [])
@@ -71,13 +74,14 @@ pub fn least_texts()
     ensures { map (λ method. aggregate_value method TextType (0 ∷ 1 ∷ 2 ∷ []) (text "b" ∷ text "" ∷ text "é" ∷ [])) (Min ∷ Max ∷ []) ≡ text "" ∷ text "é" ∷ [] }
 {}
 
-/// A sum wraps around in its type, of which those of small integers are wide. Row numbers are given modulo 2^32.
+/// A sum wraps around in its type, of which those of small integers are wide. Counts and row numbers are given modulo 2^32.
 pub fn sums_that_wrap()
     ensures int32 { aggregate_value Sum int32 (0 ∷ 1 ∷ []) (number 2147483647 ∷ number 1 ∷ []) ≡ negative 2147483648 }
     ensures uint64 { aggregate_value Sum uint64 (0 ∷ 1 ∷ []) (number 18446744073709551615 ∷ number 2 ∷ []) ≡ number 1 }
     ensures span { aggregate_value Sum span (0 ∷ 1 ∷ []) (number 9223372036854775807 ∷ number 1 ∷ []) ≡ negative 9223372036854775808 }
     ensures small { means (alone int8 (number 100 ∷ number 100 ∷ null ∷ [])) (agg Sum a) ≡ Done (number 200 ∷ []) }
     ensures rows { aggregate_value Groups (ListType uint32) (4294967297 ∷ []) (null ∷ []) ≡ list (number 1 ∷ []) }
+    ensures counts { Gives (count_value uint32) ((4294967295, number 4294967295) ∷ (4294967296, number 0) ∷ []) }
 {}
 
 /// What aggregates mean and how they run: of no rows too, and at rows in any order.

@@ -3,6 +3,7 @@
 ghost use Rattle.std.specs.Prelude.{◌≡◌, pos, neg_ℤ, [], ◌∷◌, map, codes, true, false, Some, None, Ok, Err};
 ghost use Rattle.plan_types.specs.Types.{TextType, DateType};
 ghost use Rattle.plan_types.specs.declared.error.ErrorKind.TheVariants.{ColumnNotFound, InvalidOperation, ComputeError};
+ghost use Rattle.plan_dsl.specs.declared.function_expr.FunctionExpr.TheVariants.{IsNull, FieldByName};
 ghost use Rattle.plan_dsl.specs.Trees.{node, no_more, more, top_op};
 ghost use Rattle.plan_dsl.specs.Names.{name_of};
 ghost use Rattle.plan_dsl.specs.Refusals.{joined};
@@ -10,7 +11,7 @@ ghost use Rattle.plan_dsl.specs.Sources.{written, ExcludedName, ExcludedType, Ke
 ghost use Rattle.plan_dsl.specs.Markers.{without, once, set_of, marker_names, names_of_selectors};
 ghost use Rattle.plan_dsl.specs.Copies.{has_list, has_one, has_several, put, put_below};
 ghost use Rattle.plan_dsl.specs.Expansion.{markers_in, root_name, name_given, expansion, expansions, predicate_expansion};
-ghost use Rattle.plan_dsl.specs.Samples.{Gives, GivesAll, GivesOfTwo, over, int8, int16, a, b, c, x, one, five, below, count, sum, equal, alias, column, slice, schema_abc, all_names, these, all, columns_named, columns_of_type, columns_at, nth, but, but_named, but_of_type, selecting, root, form, prefix, suffix, fixed, plus, equals, source_alias};
+ghost use Rattle.plan_dsl.specs.Samples.{Gives, GivesAll, GivesOfTwo, over, over_by, int8, int16, a, b, c, s, x, one, five, below, count, sum, equal, alias, call, column, gather, rising, rising_by, slice, ternary, schema_abc, all_names, these, all, columns_named, columns_of_type, columns_at, nth, but, but_named, but_of_type, selecting, root, form, prefix, suffix, fixed, plus, equals, source_alias};
 
 /// Lists of names: without others, each once, and one of two.
 pub fn lists_of_names()
@@ -200,7 +201,10 @@ pub fn renaming_forms()
         plus (written one) (prefix "p_" (written a)) ∷ source_alias "x" (form KeepRoot (written a)) ∷ form KeepRoot (prefix "p_" (written a)) ∷ fixed "f" (fixed "g" (written one)) ∷ plus (fixed "f" all) (written one) ∷ []) }
     ensures roots { Gives root_name (
         (one, None) ∷ (count, None) ∷ (a, Some (codes "a")) ∷ (sum b a, Some (codes "b")) ∷ (alias "x" (sum one c), Some (codes "c")) ∷
-        (slice five (sum one b) a, Some (codes "b")) ∷ []) }
+        (slice five (sum one b) a, Some (codes "b")) ∷ (gather one b, Some (codes "b")) ∷ (rising_by (b ∷ a ∷ []) one, Some (codes "b")) ∷
+        (ternary a b c, Some (codes "b")) ∷ (ternary b one a, Some (codes "b")) ∷ (ternary (equal c one) one a, Some (codes "c")) ∷ (ternary a one one, Some (codes "a")) ∷
+        (over (a ∷ []) count, Some (codes "a")) ∷ (over (c ∷ []) one, Some (codes "c")) ∷ (over_by rising b (a ∷ []) count, Some (codes "b")) ∷
+        (call (FieldByName (codes "x")) (s ∷ []), Some (codes "s")) ∷ (call IsNull [], None) ∷ []) }
     ensures given { GivesOfTwo name_given (
         (KeepRoot, Some (codes "a"), Ok (codes "a")) ∷ (AddPrefix (codes "p"), Some (codes "a"), Ok (codes "pa")) ∷ (AddSuffix (codes "s"), Some (codes "a"), Ok (codes "as")) ∷
         (SetName (codes "f"), Some (codes "a"), Ok (codes "f")) ∷ (SetName (codes "f"), None, Ok (codes "f")) ∷ (KeepRoot, None, Err InvalidOperation) ∷ []) }

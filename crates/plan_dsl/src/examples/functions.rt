@@ -78,7 +78,8 @@ pub fn shifted_columns()
         (literal (pos 0), Done (number 1 ∷ number 2 ∷ number 3 ∷ number 4 ∷ number 5 ∷ [])) ∷ (literal (pos 5), Done (number 9 ∷ number 9 ∷ number 9 ∷ number 9 ∷ number 9 ∷ [])) ∷
         (literal (pos 7), Done (number 9 ∷ number 9 ∷ number 9 ∷ number 9 ∷ number 9 ∷ [])) ∷ (literal (neg_ℤ (pos 7)), Done (number 9 ∷ number 9 ∷ number 9 ∷ number 9 ∷ number 9 ∷ [])) ∷
         (literal (neg_ℤ (pos 4)), Done (number 5 ∷ number 9 ∷ number 9 ∷ number 9 ∷ number 9 ∷ [])) ∷
-        (cast_as NonStrict int64 nothing, Done (null ∷ null ∷ null ∷ null ∷ null ∷ [])) ∷ []) }
+        (cast_as NonStrict int64 nothing, Done (null ∷ null ∷ null ∷ null ∷ null ∷ [])) ∷
+        (typed_literal uint64 (pos 9223372036854775808), Done (null ∷ null ∷ null ∷ null ∷ null ∷ [])) ∷ []) }
     ensures filled { Gives (means one_to_five) (
         (call ShiftAndFill (a ∷ two ∷ nothing ∷ []), Done (null ∷ null ∷ number 1 ∷ number 2 ∷ number 3 ∷ [])) ∷ (call ShiftAndFill (five ∷ one ∷ two ∷ []), Done (number 2 ∷ [])) ∷ []) }
     ensures no_rows { means (alone int8 []) (call ShiftAndFill (a ∷ one ∷ five ∷ [])) ≡ Done [] }
@@ -87,7 +88,7 @@ pub fn shifted_columns()
     ensures others { GivesAll shift_values Stuck ([] ∷ ((number 1 ∷ []) ∷ [] ∷ (null ∷ []) ∷ []) ∷ ((number 1 ∷ []) ∷ (number 1 ∷ []) ∷ (null ∷ null ∷ []) ∷ []) ∷ []) }
 {}
 
-/// An item of a list: an index below 0 counts from the end, and one outside gives null or is a fault.
+/// An item of a list: an index below 0 counts from the end, and one outside gives null or is a fault. One past Int64 is null.
 pub fn items_of_lists()
     ensures types { let columns : Columns = (codes "a", ListType int8) ∷ (codes "b", ListType (ListType TextType)) ∷ (codes "c", int8) ∷ [] in
         let text_literal = node (LiteralOp TextType (text "x")) no_more in
@@ -105,6 +106,7 @@ pub fn items_of_lists()
         (true, list (number 7 ∷ []) ∷ negative 2 ∷ [], GivesValue null) ∷ (false, null ∷ number 1 ∷ [], GivesValue null) ∷ (false, list [] ∷ null ∷ [], GivesValue null) ∷
         (false, list (list (number 1 ∷ []) ∷ []) ∷ negative 1 ∷ [], GivesValue (list (number 1 ∷ []))) ∷ []) }
     ensures each { means (beside (ListType int8) int8 ((list (number 7 ∷ number 8 ∷ []), number 1) ∷ (list (number 9 ∷ []), negative 1) ∷ (null, number 5) ∷ (list [], null) ∷ [])) (call (ListGet false) (a ∷ b ∷ [])) ≡ Done (number 8 ∷ number 9 ∷ null ∷ null ∷ []) }
+    ensures past_int64 { means (beside (ListType int8) uint64 ((list (number 7 ∷ []), number 9223372036854775808) ∷ [])) (call (ListGet false) (a ∷ b ∷ [])) ≡ Done (null ∷ []) }
 {}
 
 /// A field of a struct by its name: the first so named, and null of a null struct.

@@ -12,6 +12,7 @@ ghost use Rattle.plan_types.specs.Outcomes.{Done, Fault, Stuck};
 ghost use Rattle.plan_types.specs.Frames.{empty_frame};
 ghost use Rattle.plan_types.specs.declared.dtype.CastOptions.TheVariants.{Strict, NonStrict};
 ghost use Rattle.plan_types.specs.declared.error.ErrorKind.TheVariants.{ColumnNotFound, Duplicate, SchemaMismatch, InvalidOperation, ComputeError};
+ghost use Rattle.plan_dsl.specs.declared.aggregate.GroupByMethod.TheVariants.{Groups};
 ghost use Rattle.plan_dsl.specs.Plans.{GroupByKind, OrderOption, Named, named, expressions_of, group_by_op, options_in, plan_tree, source_group_by, scans_in};
 ghost use Rattle.plan_dsl.specs.Ops.{Expression};
 ghost use Rattle.plan_dsl.specs.Sources.{written, KeepRoot};
@@ -21,7 +22,7 @@ ghost use Rattle.plan_dsl.specs.PlanKernels.{Evaluated, plan_kernel};
 ghost use Rattle.plan_dsl.specs.PlanMeaning.{by_meaning, source_meaning, FitsPlan};
 ghost use Rattle.plan_dsl.specs.Resolving.{over_keys, resolution, resolved};
 ghost use Rattle.plan_dsl.specs.Counts.{cast_count, node_count};
-ghost use Rattle.plan_dsl.specs.Samples.{Gives, GivesOfTwo, GivesAll, int32, int64, uint32, null, yes, no, number, text, list, group, column, k, v, d, one, two, five, literal, count, alias, sum, less, cast_as, slice, gather_one, keep_where, one_value, many_values, of_one, of_many, frame_with, keyed, schema_kv, scan, empty_scan, select, group_by, all, columns_named, columns_at, form, but_named, series};
+ghost use Rattle.plan_dsl.specs.Samples.{Gives, GivesOfTwo, GivesAll, int32, int64, uint32, null, yes, no, number, text, list, group, agg, column, k, v, d, one, two, five, literal, count, alias, sum, less, cast_as, slice, gather_one, keep_where, one_value, many_values, of_one, of_many, frame_with, keyed, schema_kv, scan, empty_scan, select, group_by, all, columns_named, columns_at, form, but_named, series};
 
 /// A group-by has a row for each group: its keys, then of each aggregate its one value, or the list of its values.
 pub fn frames_of_groups()
@@ -30,6 +31,8 @@ pub fn frames_of_groups()
     ensures values { source_meaning [] (keyed ∷ []) (group_by (k ∷ []) (count ∷ gather_one v (literal (pos 0)) ∷ one ∷ []) (scan schema_kv))
         ≡ Done (frame_with ((codes "k", TextType) ∷ (codes "len", uint32) ∷ (codes "v", int64) ∷ (codes "literal", int32) ∷ []) (
         (text "x" ∷ number 3 ∷ number 1 ∷ number 1 ∷ []) ∷ (text "y" ∷ number 1 ∷ number 2 ∷ number 1 ∷ []) ∷ (null ∷ number 2 ∷ number 4 ∷ number 1 ∷ []) ∷ [])) }
+    ensures row_numbers { source_meaning [] (keyed ∷ []) (group_by (k ∷ []) (agg Groups v ∷ []) (scan schema_kv)) ≡ Done (frame_with ((codes "k", TextType) ∷ (codes "v", ListType uint32) ∷ []) (
+        (text "x" ∷ list (number 0 ∷ number 2 ∷ number 5 ∷ []) ∷ []) ∷ (text "y" ∷ list (number 1 ∷ []) ∷ []) ∷ (null ∷ list (number 3 ∷ number 4 ∷ []) ∷ []) ∷ [])) }
     ensures other_lengths { source_meaning [] (keyed ∷ []) (group_by (k ∷ []) (keep_where v (less v two) ∷ []) (scan schema_kv)) ≡ Done (frame_with ((codes "k", TextType) ∷ (codes "v", ListType int64) ∷ []) (
         (text "x" ∷ list (number 1 ∷ number 1 ∷ []) ∷ []) ∷ (text "y" ∷ list [] ∷ []) ∷ (null ∷ list [] ∷ []) ∷ [])) }
     ensures two_keys { source_meaning [] (keyed ∷ []) (group_by (v ∷ k ∷ []) (count ∷ []) (scan schema_kv)) ≡ Done (frame_with ((codes "v", int64) ∷ (codes "k", TextType) ∷ (codes "len", uint32) ∷ []) (

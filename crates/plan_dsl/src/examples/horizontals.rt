@@ -23,7 +23,7 @@ ghost use Rattle.plan_dsl.specs.Signatures.{function_signature};
 ghost use Rattle.plan_dsl.specs.Sources.{FieldAtOp, KeepRoot, Source, is_plain, written};
 ghost use Rattle.plan_dsl.specs.Trees.{node, no_more, more};
 ghost use Rattle.plan_dsl.specs.Typing.{typing};
-ghost use Rattle.plan_dsl.specs.Samples.{Gives, GivesOfTwo, GivesAll, int8, null, yes, no, struct_type, a, b, c, s, t, u, one, sum, binary, equal, cast_as, alias, call, of_many, of_one, schema_ab, schema_abc, all_names, all, columns_named, columns_of_type, nth, but_named, form, prefix, plus, equals, source_alias};
+ghost use Rattle.plan_dsl.specs.Samples.{Gives, GivesOfTwo, GivesAll, int8, null, yes, no, struct_type, a, b, c, s, t, u, one, nothing, sum, binary, equal, cast_as, alias, call, of_many, of_one, means, alone, schema_ab, schema_abc, all_names, all, columns_named, columns_of_type, nth, but_named, form, prefix, plus, equals, source_alias};
 
 /// Over nothing a horizontal is a literal, over one operand a cast, and over more a chain from the left. Aliases go, and are
 /// kept where they are. From 128 operands on it stays, and so does one that has recorded names.
@@ -46,10 +46,12 @@ pub fn written_out_horizontals()
     ensures untyped { Gives (typing [] schema_ab) ((call AllHorizontal (a ∷ b ∷ []), Err ComputeError) ∷ (core (call AllHorizontal (equal a one ∷ equal b one ∷ [])), of_many Truth) ∷ (core (call AllHorizontal (a ∷ [])), of_many Truth) ∷ (core (call AllHorizontal (a ∷ b ∷ [])), Err InvalidOperation) ∷ (core (call AnyHorizontal []), of_one Truth) ∷ []) }
 {}
 
-/// From 128 operands on each is of truth values or null.
+/// From 128 operands on each is of truth values or null. They have a common length.
 pub fn many_operands()
     ensures typed { let columns : Columns = (codes "t", Truth) ∷ (codes "u", NullType) ∷ (codes "a", int8) ∷ [] in
-        Gives (λ operand. typing [] columns (core (call AllHorizontal (operand ∷ replicate 127 t)))) ((t, of_many Truth) ∷ (u, of_many Truth) ∷ (a, Err InvalidOperation) ∷ (one, Err InvalidOperation) ∷ (c, Err ColumnNotFound) ∷ []) }
+        Gives (λ operand. typing [] columns (core (call AllHorizontal (operand ∷ replicate 127 t)))) ((t, of_many Truth) ∷ (u, of_many Truth) ∷ (nothing, of_many Truth) ∷ (a, Err InvalidOperation) ∷ (one, Err InvalidOperation) ∷ (c, Err ColumnNotFound) ∷ []) }
+    ensures values { let truths = alone Truth (yes ∷ null ∷ no ∷ []) in
+        Gives (λ function. means truths (core (call function (nothing ∷ replicate 127 a)))) ((AllHorizontal, Done (null ∷ null ∷ no ∷ [])) ∷ (AnyHorizontal, Done (yes ∷ null ∷ null ∷ [])) ∷ []) }
     ensures one_value { typing [] [] (core (call AnyHorizontal (replicate 128 (node (LiteralOp Truth yes) no_more)))) ≡ of_one Truth }
 {}
 

@@ -69,10 +69,13 @@ pub fn values_of_slices()
         (two, nothing, Done (number 3 ∷ number 4 ∷ number 5 ∷ [])) ∷ (literal (neg_ℤ (pos 2)), nothing, Done (number 4 ∷ number 5 ∷ [])) ∷
         (literal (neg_ℤ (pos 7)), nothing, Done (number 1 ∷ number 2 ∷ number 3 ∷ number 4 ∷ number 5 ∷ [])) ∷
         (cast_as NonStrict int8 nothing, two, Done (number 1 ∷ number 2 ∷ [])) ∷ []) }
-    ensures past_int64 { let past = literal (pos 9223372036854775808) in
+    ensures at_the_ends_of_int64 { let past = literal (pos 9223372036854775808) in
+        let least = literal (neg_ℤ (pos 9223372036854775808)) in
+        let greatest = literal (pos 9223372036854775807) in
         GivesOfTwo (λ offset size. means one_to_five (slice a offset size)) (
         (past, two, Done (number 1 ∷ number 2 ∷ [])) ∷ (typed_literal uint64 (pos 9223372036854775808), two, Done (number 1 ∷ number 2 ∷ [])) ∷
-        (literal (pos 9223372036854775807), two, Done []) ∷ (two, past, Done (number 3 ∷ number 4 ∷ number 5 ∷ [])) ∷ []) }
+        (greatest, two, Done []) ∷ (two, past, Done (number 3 ∷ number 4 ∷ number 5 ∷ [])) ∷ (greatest, greatest, Done []) ∷ (one, least, Done []) ∷
+        (least, greatest, Done (number 1 ∷ number 2 ∷ number 3 ∷ number 4 ∷ [])) ∷ (least, nothing, Done (number 1 ∷ number 2 ∷ number 3 ∷ number 4 ∷ number 5 ∷ [])) ∷ []) }
     ensures no_rows { GivesOfTwo (λ offset size. means (alone int8 []) (slice a offset size)) ((literal (pos 0), one, Done []) ∷ (below, one, Done []) ∷ (below, nothing, Done []) ∷ []) }
     ensures one_value { Gives (λ tree. meaning [] one_to_five tree []) (
         (slice five (literal (pos 0)) one, Done (number 5 ∷ [])) ∷ (slice five one one, Done []) ∷ (slice five below one, Done (number 5 ∷ [])) ∷ []) }

@@ -5,6 +5,7 @@ ghost use Rattle.plan_types.specs.Types.{DateType};
 ghost use Rattle.plan_types.specs.Outcomes.{Done, Stuck};
 ghost use Rattle.plan_types.specs.Frames.{empty_frame};
 ghost use Rattle.plan_types.specs.declared.error.ErrorKind.TheVariants.{ColumnNotFound, Duplicate, InvalidOperation, ComputeError};
+ghost use Rattle.plan_dsl.specs.declared.aggregate.GroupByMethod.TheVariants.{Sum};
 ghost use Rattle.plan_dsl.specs.Trees.{node, no_more, more};
 ghost use Rattle.plan_dsl.specs.Plans.{ScanKind, SelectKind, FilterKind, RefusedKind, PlanOp, Named, named, select_op, filter_op, scans_in, source_select};
 ghost use Rattle.plan_dsl.specs.Ops.{Expression};
@@ -13,7 +14,7 @@ ghost use Rattle.plan_dsl.specs.PlanRules.{plan_rule, schema_of, broken_kinds, I
 ghost use Rattle.plan_dsl.specs.PlanKernels.{plan_kernel};
 ghost use Rattle.plan_dsl.specs.PlanMeaning.{by_meaning, source_meaning};
 ghost use Rattle.plan_dsl.specs.Resolving.{resolution, resolved_kind, resolved_op, resolved};
-ghost use Rattle.plan_dsl.specs.Samples.{Gives, GivesOfTwo, int8, int32, a, b, c, one, sum, less, equal, alias, schema_ab, schema_abc, scan, select, keep, all, columns_named, columns_of_type, nth, but_named, form, prefix, plus, equals, table, written_select, written_filter};
+ghost use Rattle.plan_dsl.specs.Samples.{Gives, GivesOfTwo, int8, int32, a, b, c, one, agg, sum, less, equal, alias, schema_ab, schema_abc, scan, select, keep, all, columns_named, columns_of_type, nth, but_named, form, prefix, plus, equals, table, written_select, written_filter};
 
 /// A kind over inputs that have schemas has its expressions expanded, and one over an input without schema is refused by no kind.
 pub fn kinds_that_are_resolved()
@@ -29,6 +30,7 @@ pub fn kinds_that_are_resolved()
         (SelectKind (written a ∷ []), Some schema_ab ∷ None ∷ [], Err []) ∷ []) }
     ensures unexpanded { GivesOfTwo resolution (
         (SelectKind (nth (pos 3) ∷ all ∷ prefix "p_" (written one) ∷ []), Some schema_abc ∷ [], Err (ColumnNotFound ∷ InvalidOperation ∷ [])) ∷
+        (SelectKind (written (agg Sum c) ∷ nth (pos 9) ∷ []), Some schema_abc ∷ [], Err (ColumnNotFound ∷ [])) ∷
         (FilterKind (plus all (nth (pos 0))), Some schema_abc ∷ [], Err (InvalidOperation ∷ [])) ∷
         (FilterKind (equals (columns_of_type DateType) (written one)), Some schema_abc ∷ [], Err (ComputeError ∷ [])) ∷
         (FilterKind (equals (columns_named ("a" ∷ "b" ∷ [])) (written one)), Some schema_abc ∷ [], Err (ComputeError ∷ [])) ∷

@@ -85,6 +85,7 @@ pub fn types_of_columns_sorted_by_keys()
     ensures kinds { Gives (kinds_in [] ((codes "a", ListType int8) ∷ (codes "b", int8) ∷ [])) (
         (rising_by (b ∷ []) a, []) ∷ (rising_by (a ∷ []) b, InvalidOperation ∷ []) ∷ (rising_by (c ∷ []) b, ColumnNotFound ∷ []) ∷
         (sort_by [] [] (b ∷ []) a, ComputeError ∷ []) ∷ (sort_by [] [] (c ∷ []) a, ColumnNotFound ∷ ComputeError ∷ []) ∷ (sort_by [] [] (a ∷ []) b, ComputeError ∷ []) ∷
+        (sort_by (true ∷ false ∷ []) (false ∷ []) (c ∷ []) a, ColumnNotFound ∷ ComputeError ∷ []) ∷
         (sort_by [] [] (b ∷ []) (sum c huge), ColumnNotFound ∷ InvalidOperation ∷ ComputeError ∷ []) ∷ []) }
     ensures operands { Gives (λ typed. rule [] [] (SortByOp (true ∷ []) (true ∷ [])) typed) (
         (many_values int8 ∷ one_value (Untyped (pos 5)) ∷ many_values TextType ∷ [], Ok (record { operands = int8 ∷ int32 ∷ TextType ∷ []; own = many_values int8 })) ∷

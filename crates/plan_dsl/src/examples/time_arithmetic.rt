@@ -5,7 +5,7 @@ ghost use Rattle.plan_types.specs.Types.{NullType, Truth, TextType, DateType, Ti
 ghost use Rattle.plan_types.specs.declared.dtype.TimeUnit.TheVariants.{Nanoseconds, Milliseconds};
 ghost use Rattle.plan_types.specs.declared.error.ErrorKind.TheVariants.{SchemaMismatch, InvalidOperation};
 ghost use Rattle.plan_dsl.specs.declared.operator.Operator.TheVariants.{Minus, Multiply};
-ghost use Rattle.plan_dsl.specs.Samples.{Take, Refuse, ComputeEach, quotients, both_as, taken, int8, int64, uint32, uint64, moment, span, times, no_times, null, number, negative};
+ghost use Rattle.plan_dsl.specs.Samples.{Take, Refuse, ComputeEach, Mean, quotients, both_as, taken, int8, int64, uint32, uint64, moment, span, times, no_times, null, number, negative};
 
 /// Between two times lies a span, in the coarser unit, and a span before a moment is a moment. No other times have a
 /// difference, whichever side they are on.
@@ -71,4 +71,12 @@ pub fn differences_and_products_of_times()
         (span, span, number 5, negative 7, negative 35) ∷
         (int64, span, number 4611686018427387904, number 2, negative 9223372036854775808) ∷
         (int64, span, number 2, null, null) ∷ []) }
+{}
+
+/// A day beside a moment is a moment in its unit, and null where it is out of range there. The integer of a product is cast.
+pub fn meanings_of_differences_and_products_of_times()
+    ensures day_first { Mean Minus DateType (DatetimeType Milliseconds) ((number 1, number 86400001, negative 1) ∷ (null, number 0, null) ∷ []) }
+    ensures moment_first { Mean Minus moment DateType ((number 86400000005, number 1, number 5) ∷ []) }
+    ensures out_of_range { Mean Minus DateType (DatetimeType Nanoseconds) ((number 200000, number 0, null) ∷ []) }
+    ensures products { Mean Multiply int8 span ((negative 3, number 5, negative 15) ∷ []) }
 {}

@@ -12,7 +12,7 @@ ghost use Rattle.plan_dsl.specs.declared.sort_options.SortOptions.{SortOptions};
 ghost use Rattle.plan_dsl.specs.declared.window.WindowType.{WindowType};
 ghost use Rattle.plan_dsl.specs.Expressions.{tree_of, trees_of};
 ghost use Rattle.plan_dsl.specs.Sources.{Plain};
-ghost use Rattle.plan_dsl.specs.declared.aggregate.GroupByMethod.TheVariants.{First, Implode, Sum};
+ghost use Rattle.plan_dsl.specs.declared.aggregate.GroupByMethod.TheVariants.{First, Implode, Sum, Groups};
 ghost use Rattle.plan_dsl.specs.Meaning.{meaning};
 ghost use Rattle.plan_dsl.specs.Names.{name_of};
 ghost use Rattle.plan_dsl.specs.Ops.{LiteralOp, WindowOp};
@@ -21,7 +21,7 @@ ghost use Rattle.plan_dsl.specs.Trees.{children_from, more, node, no_more};
 ghost use Rattle.plan_dsl.specs.Typing.{typing, kinds_in};
 ghost use Rattle.plan_dsl.specs.WindowLaws.{AreOfGroups, HaveWhatIsGiven, are_for_rows, of_each};
 ghost use Rattle.plan_dsl.specs.Windows.{put_in_order, spots_from, value_at, window_values};
-ghost use Rattle.plan_dsl.specs.Samples.{Gives, GivesAll, GivesOfTwo, int8, int32, uint32, null, number, a, b, c, agg, beside, cast_as, count, five, huge, literal, means, of_many, one, over, over_by, rising, runs, schema_ab, slice, sort_as, spot, sum, text, turns, way, yes, no};
+ghost use Rattle.plan_dsl.specs.Samples.{Gives, GivesAll, GivesOfTwo, int8, int32, uint32, null, number, a, b, c, agg, beside, cast_as, count, five, huge, list, literal, means, of_many, one, over, over_by, rising, runs, schema_ab, slice, sort_as, spot, sum, text, turns, way, yes, no};
 
 /// A window has its function as the first child, then what orders its groups, if anything does, and the keys behind it, in order.
 pub fn trees_of_windows()
@@ -63,7 +63,10 @@ pub fn values_of_windows()
         (over_by rising b (a ∷ []) (agg First b), Done (null ∷ null ∷ number 20 ∷ null ∷ [])) ∷
         (over_by (way true true) b (a ∷ []) (agg First b), Done (number 30 ∷ number 30 ∷ number 20 ∷ number 30 ∷ [])) ∷
         (over_by (way true true) b (a ∷ []) b, Done (number 10 ∷ null ∷ number 20 ∷ number 30 ∷ [])) ∷
-        (over_by rising one (a ∷ []) (agg First b), Done (number 10 ∷ number 10 ∷ number 20 ∷ number 10 ∷ [])) ∷ []) }
+        (over_by rising one (a ∷ []) (agg First b), Done (number 10 ∷ number 10 ∷ number 20 ∷ number 10 ∷ [])) ∷ (
+          over_by (way true false) b (a ∷ []) (agg Groups b),
+          Done (list (number 1 ∷ number 3 ∷ number 0 ∷ []) ∷ list (number 1 ∷ number 3 ∷ number 0 ∷ []) ∷ list (number 2 ∷ []) ∷ list (number 1 ∷ number 3 ∷ number 0 ∷ []) ∷ []),
+        ) ∷ []) }
     ensures some_rows { meaning [] (beside int8 int32 ((number 1, number 10) ∷ (number 2, number 20) ∷ (number 1, number 30) ∷ [])) (over (a ∷ []) (agg Sum b)) (2 ∷ 1 ∷ 2 ∷ [])
         ≡ Done (number 60 ∷ number 20 ∷ number 60 ∷ []) }
     ensures runs { let rows = beside int8 int32 ((number 1, number 10) ∷ (number 1, number 30) ∷ []) in
