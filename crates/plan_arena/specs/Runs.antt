@@ -1,17 +1,17 @@
 -- Lowered plans: which are accepted, strict and named, and how they run on tables.
 -- A plan is accepted where each of its nodes has a schema by the rules, which is the one that it records where
 -- it records one, strict where each of its expressions is, without aliases, and named where each has its own name or an
--- alias. It runs by what its expressions give as they are written.
-use Rattle.std.specs.Prelude.{◌≡◌, ◌⊎◌, List, Option, Some, None, is_some, IsTrue}
+-- alias, and so has each operand of a function. It runs by what its expressions give as they are written.
+use Rattle.std.specs.Prelude.{◌≡◌, ◌⊎◌, List, [], ◌∷◌, Option, Some, None, is_some, IsTrue}
 use Rattle.std.specs.List.{AllByRecursion}
 use Rattle.plan_types.specs.Schemas.{Columns}
 use Rattle.plan_types.specs.Outcomes.{Outcome}
 use Rattle.plan_types.specs.Frames.{Frame}
 use Rattle.plan_dsl.specs.Registry.{Registry}
 use Rattle.plan_dsl.specs.Aliases.{IsCore}
-use Rattle.plan_dsl.specs.Trees.{Trees, node, no_more, more, fold}
-use Rattle.plan_dsl.specs.Ops.{Expression}
-use Rattle.plan_dsl.specs.Names.{FromAlias, label_of}
+use Rattle.plan_dsl.specs.Trees.{Trees, node, no_more, more, fold, fold_all}
+use Rattle.plan_dsl.specs.Ops.{Op, FunctionOp, Expression}
+use Rattle.plan_dsl.specs.Names.{FromAlias, Label, label_of, op_label}
 use Rattle.plan_dsl.specs.Plans.{Named, OverInput, PlanOp, Plan, expressions_of}
 use Rattle.plan_dsl.specs.PlanRules.{input_schema, schema_of, schemas_of}
 use Rattle.plan_dsl.specs.PlanMeaning.{MeetsWhere}
@@ -62,9 +62,34 @@ abbrev mutual
   AllStrictPlans registry no_more = Unit {0}
   AllStrictPlans registry (more plan rest) = IsStrictPlan registry plan × AllStrictPlans registry rest
 
--- an expression is under an alias, or under the name that the rules give it, from what they say
+-- a name that is recorded is an alias, or the name that the rules give, from what they say
+abbrev pub IsNameFor : Label → Label → Type 0
+IsNameFor recorded own = (recorded.origin ≡ FromAlias) ⊎ (recorded ≡ own)
+
+-- so are names one by one, and there are as many of them
+abbrev pub AreNamesFor : List Label → List Label → Type 0
+AreNamesFor [] [] = Unit {0}
+AreNamesFor (name ∷ names) (own ∷ owns) = IsNameFor name own × AreNamesFor names owns
+AreNamesFor [] (own ∷ owns) = ⊥
+AreNamesFor (name ∷ names) [] = ⊥
+
+-- a function records a name for each of its operands, which have these by the rules
+abbrev pub NamesOver : Op → List Label → Type 0
+NamesOver (FunctionOp function recorded) owns = AreNamesFor recorded owns
+NamesOver op owns = Unit {0}
+
+abbrev mutual
+  -- each function in an expression does
+  pub NamesOperands : Expression → Type 0
+  NamesOperands (node op children) = NamesOver op (fold_all op_label children) × AllNameOperands children
+
+  pub AllNameOperands : Trees Op → Type 0
+  AllNameOperands no_more = Unit {0}
+  AllNameOperands (more child rest) = NamesOperands child × AllNameOperands rest
+
+-- an expression is under such a name, and so are the operands of each function in it
 abbrev pub HasOwnName : Named Expression → Type 0
-HasOwnName output = (output.label.origin ≡ FromAlias) ⊎ (output.label ≡ label_of output.expression)
+HasOwnName output = IsNameFor output.label (label_of output.expression) × NamesOperands output.expression
 
 -- the expressions of a node are
 abbrev pub HaveOwnNames : List (OverInput (Named Expression)) → Type 0

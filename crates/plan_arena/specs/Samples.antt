@@ -6,10 +6,11 @@ use Rattle.plan_types.specs.Schemas.{Columns}
 use Rattle.plan_types.specs.Frames.{Frame}
 use Rattle.plan_types.specs.declared.dtype.CastOptions.TheVariants.{Strict, NonStrict}
 use Rattle.plan_types.specs.declared.dtype.DataType.TheVariants.{Int32}
+use Rattle.plan_dsl.specs.declared.function_expr.FunctionExpr.TheVariants.{FillNull}
 use Rattle.plan_dsl.specs.declared.operator.Operator.TheVariants.{Plus}
 use Rattle.plan_dsl.specs.Trees.{node, no_more, more}
-use Rattle.plan_dsl.specs.Names.{column_label, literal_label}
-use Rattle.plan_dsl.specs.Ops.{Expression}
+use Rattle.plan_dsl.specs.Names.{Label, column_label, literal_label}
+use Rattle.plan_dsl.specs.Ops.{FunctionOp, Expression}
 use Rattle.plan_dsl.specs.Plans.{Named, Plan, named, select_op, hstack_op, group_by_op, simple_projection_op}
 use Rattle.plan_dsl.specs.Samples.{int8, int32, number, null, yes, no, a, b, sum, cast_as, frame_with, scan, empty_scan, schema_ab, schema_flagged}
 use Rattle.plan_arena.specs.declared.arena.Node.{Node}
@@ -40,6 +41,10 @@ strict_sum = sum wide_a b
 
 abbrev pub sum_items : List AExpr
 sum_items = Column (codes "a") ∷ Column (codes "b") ∷ Cast (node_at 0) Int32 NonStrict ∷ BinaryExpr (node_at 2) Plus (node_at 1) ∷ []
+
+-- a with b in place of nulls, where these names are recorded of the two
+abbrev pub filled_under : List Label → Expression
+filled_under labels = node (FunctionOp FillNull labels) (more a (more b no_more))
 
 -- an expression that is its own input
 abbrev pub circle : List AExpr

@@ -6,6 +6,7 @@ pub mod CountLemmas
 pub mod ExampleLemmas
 pub mod InliningLemmas
 pub mod ManyRootLemmas
+pub mod NameLemmas
 pub mod NearLemmas
 pub mod NumberRootLemmas
 pub mod OnLiterals

@@ -103,9 +103,9 @@ module _ (registry : Registry) where
   each_strict schema [] each = tt
   each_strict schema (o ∷ os) each = (strict_core schema o each.0, each_strict schema os each.1)
 
-  -- what stands for an expression has its name, from the same, or an alias
+  -- what stands for an expression has its name, from the same, or an alias, and so have the operands of its functions
   own_named : (schema : Columns) (o : Lowered) → IsLowered registry schema o → HasOwnName (lowered_named o)
-  own_named schema o is = ⊎_elim (λ alias. inl alias) (λ e. inr (e ∙ sym (is.same.name ∙ settled_label (core o.tree)))) (core_label o.tree)
+  own_named schema o is = (⊎_elim (λ alias. inl alias) (λ e. inr (e ∙ sym (is.same.name ∙ settled_label (core o.tree)))) (core_label o.tree), is.names)
 
   pub each_named : (schema : Columns) (outputs : List Lowered) → AllByRecursion (IsLowered registry schema) outputs → AllByRecursion HasOwnName (map lowered_named outputs)
   each_named schema [] each = tt

@@ -17,6 +17,7 @@ use Rattle.plan_dsl.specs.Typing.{Typed, typing}
 use Rattle.plan_dsl.specs.Strictness.{IsSame, IsStrict}
 use Rattle.plan_arena.specs.declared.aexpr.AExpr.{AExpr}
 use Rattle.plan_arena.specs.Items.{DenoteNamed}
+use Rattle.plan_arena.specs.Runs.{NamesOperands}
 use Rattle.plan_coerce.specs.InlinedCasts.{written_out}
 
 -- an expression of the query, its type, and what stands for it in the lowered plan
@@ -31,13 +32,15 @@ lowered_named output = record { label = label_of output.tree; expression = outpu
 abbrev pub lowered_column : Lowered → Name × Ty
 lowered_column output = (name_of output.tree, output.typed.type)
 
--- the expression, as a plan takes it, is typed, and what stands for it says the same and is strict: it is that expression
--- with every implicit cast written out, without the casts that can be told beforehand
+-- the expression, as a plan takes it, is typed, and what stands for it says the same, is strict and has names for the
+-- operands of its functions: it is that expression with every implicit cast written out, without the casts that can be told
+-- beforehand
 pub record IsLowered (registry : Registry) (schema : Columns) (output : Lowered) : Type 0 where
   pub typed : typing registry schema (settled (core output.tree)) ≡ Ok output.typed
   pub same : IsSame registry schema (settled (core output.tree)) output.after
   pub strict : IsStrict registry schema output.after
   pub casts : output.after ≡ written_out registry schema (settled (core output.tree))
+  pub names : NamesOperands output.after
 
 -- the outputs are those of the expressions, under distinct names
 pub record SelectsTo (registry : Registry) (schema : Columns) (trees : List Expression) (outputs : List Lowered) : Type 0 where

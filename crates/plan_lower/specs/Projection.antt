@@ -18,6 +18,7 @@ use Rattle.plan_dsl.specs.Typing.{Typed, typing}
 use Rattle.plan_arena.specs.declared.aexpr.AExpr.{AExpr}
 use Rattle.plan_arena.specs.Denotation.{Denotes}
 use Rattle.plan_arena.specs.Items.{HoldsFrom}
+use Rattle.plan_arena.specs.Runs.{NamesOperands}
 use Rattle.plan_expand.specs.Refusals.{IsUnexpanded}
 
 -- an expression, its node and its type
@@ -32,10 +33,11 @@ output_node output = record { label = label_of output.tree; expression = output.
 abbrev pub output_column : Output → Name × Ty
 output_column output = (name_of output.tree, output.typed.type)
 
--- the node denotes the expression as a plan takes it, which has the type
+-- the node denotes the expression as a plan takes it, which has the type, and names for the operands of its functions
 pub record IsOutput (registry : Registry) (schema : Columns) (first : ℕ) (items : List AExpr) (output : Output) : Type 0 where
   pub denotes : Denotes (HoldsFrom first items) output.node (settled (core output.tree))
   pub typed : typing registry schema (settled (core output.tree)) ≡ Ok output.typed
+  pub names : NamesOperands (settled (core output.tree))
 
 -- the nodes are those of the expressions, and the columns their names and types
 pub record Projects (registry : Registry) (schema : Columns) (first : ℕ) (items : List AExpr) (trees : List Expression) (nodes : List (Named ℕ)) (columns : Columns) : Type 0 where

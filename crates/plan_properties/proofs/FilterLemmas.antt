@@ -18,10 +18,10 @@ use Rattle.plan_dsl.proofs.FrameLemmas.{fits_over}
 use Rattle.plan_dsl.proofs.LiteralLemmas.{strict_settled}
 use Rattle.plan_dsl.proofs.RuleLemmas.{filter_schema}
 use Rattle.plan_dsl.proofs.RunLemmas.{strict_is_meaning}
-use Rattle.plan_arena.specs.Runs.{AreStrict, HasOwnName, IsAccepted, IsNamedPlan, IsStrictPlan, by_running, plan_run}
+use Rattle.plan_arena.specs.Runs.{AreStrict, HasOwnName, IsAccepted, IsNamedPlan, IsStrictPlan, NamesOperands, by_running, plan_run}
 use Rattle.plan_properties.specs.Properties.{permits_pushdown}
 use Rattle.plan_properties.specs.Splitting.{IsCondition, IsSplitPlan, SplittingKeepsPlans, SplittingKeepsSchemas, conjuncts, filters_over, is_whole, kept_by, kept_by_all, own_named, split_predicate}
-use Rattle.plan_properties.proofs.SplittingLemmas.{KeepsSchema, kept_all_schema, parts_are_conditions, parts_are_core, parts_are_whole, splitting_keeps_frames, whole_where_stays}
+use Rattle.plan_properties.proofs.SplittingLemmas.{KeepsSchema, kept_all_schema, parts_are_conditions, parts_are_core, parts_are_whole, parts_name_operands, splitting_keeps_frames, whole_where_stays}
 
 module _ (registry : Registry) (schema : Columns) where
   -- a predicate of a lowered filter
@@ -31,17 +31,17 @@ module _ (registry : Registry) (schema : Columns) where
     pub name : HasOwnName predicate
     pub whole : IsTrue (is_whole predicate.expression)
 
-  own_predicates : (trees : List Expression) → AllByRecursion (IsCondition registry schema) trees → AllByRecursion IsCore trees → AllByRecursion (λ t. IsTrue (is_whole t)) trees → AllByRecursion IsPredicate (map own_named trees)
-  own_predicates [] conditions cores wholes = tt
-  own_predicates (t ∷ ts) conditions cores wholes =
-      (record { condition = conditions.0; core = cores.0; name = inr refl; whole = wholes.0 }, own_predicates ts conditions.1 cores.1 wholes.1)
+  own_predicates : (trees : List Expression) → AllByRecursion (IsCondition registry schema) trees → AllByRecursion IsCore trees → AllByRecursion NamesOperands trees → AllByRecursion (λ t. IsTrue (is_whole t)) trees → AllByRecursion IsPredicate (map own_named trees)
+  own_predicates [] conditions cores names wholes = tt
+  own_predicates (t ∷ ts) conditions cores names wholes =
+      (record { condition = conditions.0; core = cores.0; name = (inr refl, names.0); whole = wholes.0 }, own_predicates ts conditions.1 cores.1 names.1 wholes.1)
 
   -- those to which one is split
   pub split_predicates : (predicate : Named Expression) → IsCondition registry schema predicate.expression → IsCore predicate.expression → HasOwnName predicate → AllByRecursion IsPredicate (split_predicate predicate)
   split_predicates predicate condition core name =
       let tree = predicate.expression in
       elim (permits_pushdown tree) as (λ b. permits_pushdown tree ≡ b → AllByRecursion IsPredicate (cond b (map own_named (conjuncts tree)) (predicate ∷ []))) [
-        | true ↦ λ e. own_predicates (conjuncts tree) (parts_are_conditions registry schema tree condition) (parts_are_core tree core) (parts_are_whole tree)
+        | true ↦ λ e. own_predicates (conjuncts tree) (parts_are_conditions registry schema tree condition) (parts_are_core tree core) (parts_name_operands tree name.1) (parts_are_whole tree)
         | false ↦ λ e. (record { condition = condition; core = core; name = name; whole = whole_where_stays tree e }, tt)
       ] refl
 
@@ -97,18 +97,26 @@ module _ (registry : Registry) (schema : Columns) where
   abbrev expressions : List (Named Expression) → List Expression
   expressions predicates = map (λ (p : Named Expression). p.expression) predicates
 
-  -- on a frame of the schema one keeps what its expression means
-  on_frame : (p : Named Expression) → IsPredicate p → (frame : Frame) → frame.schema ≡ schema → filtered_on (by_running registry frame p) frame ≡ kept_by registry p.expression frame
-  on_frame p is frame same =
-      let strict = subst (λ s. IsStrict registry s p.expression) (sym same) is.condition.strict in
-      ap (λ means. then_do (means (row_numbers frame)) (kept_rows frame)) (strict_is_meaning registry frame p.expression is.core strict)
+  -- a condition without aliases, and parts that are
+  abbrev IsCoreCondition : Named Expression → Type 0
+  IsCoreCondition p = IsCondition registry schema p.expression × IsCore p.expression
 
-  goes_on : (o : Outcome Frame) (p : Named Expression) → IsPredicate p → KeepsSchema schema o → then_do o (λ frame. filtered_on (by_running registry frame p) frame) ≡ then_do o (kept_by registry p.expression)
+  core_conditions : (trees : List Expression) → AllByRecursion (IsCondition registry schema) trees → AllByRecursion IsCore trees → AllByRecursion IsCoreCondition (map own_named trees)
+  core_conditions [] conditions cores = tt
+  core_conditions (t ∷ ts) conditions cores = ((conditions.0, cores.0), core_conditions ts conditions.1 cores.1)
+
+  -- on a frame of the schema one keeps what its expression means
+  on_frame : (p : Named Expression) → IsCoreCondition p → (frame : Frame) → frame.schema ≡ schema → filtered_on (by_running registry frame p) frame ≡ kept_by registry p.expression frame
+  on_frame p is frame same =
+      let strict = subst (λ s. IsStrict registry s p.expression) (sym same) is.0.strict in
+      ap (λ means. then_do (means (row_numbers frame)) (kept_rows frame)) (strict_is_meaning registry frame p.expression is.1 strict)
+
+  goes_on : (o : Outcome Frame) (p : Named Expression) → IsCoreCondition p → KeepsSchema schema o → then_do o (λ frame. filtered_on (by_running registry frame p) frame) ≡ then_do o (kept_by registry p.expression)
   goes_on (Done frame) p is meets = on_frame p is frame meets
   goes_on Fault p is meets = refl
   goes_on Stuck p is meets = refl
 
-  all_on_frame : (ps : List (Named Expression)) → AllByRecursion IsPredicate ps → (frame : Frame) → frame.schema ≡ schema → filtered_all ps (Done frame) ≡ kept_by_all registry (expressions ps) frame
+  all_on_frame : (ps : List (Named Expression)) → AllByRecursion IsCoreCondition ps → (frame : Frame) → frame.schema ≡ schema → filtered_all ps (Done frame) ≡ kept_by_all registry (expressions ps) frame
   all_on_frame [] each frame same = refl
   all_on_frame (p ∷ ps) each frame same =
       ap (filtered (by_running registry) p) (all_on_frame ps each.1 frame same)
@@ -126,7 +134,7 @@ module _ (registry : Registry) (schema : Columns) where
   parts_on_frame predicate condition core permits frame same =
       let tree = predicate.expression in
       let there = subst (λ s. IsCondition registry s tree) (sym same) condition in
-      let each = own_predicates (conjuncts tree) (parts_are_conditions registry schema tree condition) (parts_are_core tree core) (parts_are_whole tree) in
+      let each = core_conditions (conjuncts tree) (parts_are_conditions registry schema tree condition) (parts_are_core tree core) in
       all_on_frame (map own_named (conjuncts tree)) each frame same
       ∙ ap (λ l. kept_by_all registry l frame) (own_expressions (conjuncts tree))
       ∙ splitting_keeps_frames registry frame tree there permits

@@ -19,6 +19,7 @@ use Rattle.plan_dsl.specs.PlanKernels.{kept_rows}
 use Rattle.plan_dsl.specs.Registry.{Registry}
 use Rattle.plan_dsl.specs.Trees.{Trees, node, no_more, more}
 use Rattle.plan_dsl.specs.Typing.{Typed, typing}
+use Rattle.plan_arena.specs.Runs.{AllNameOperands, NamesOperands}
 use Rattle.plan_properties.specs.Laws.{GoesByRows, HasValues, by_rows, joined, row_count}
 use Rattle.plan_properties.specs.Properties.{all_hold, is_elementwise, is_own_elementwise, is_own_harmless, literals, never, permits_pushdown}
 use Rattle.plan_properties.specs.Splitting.{IsCondition, PartsAreConditions, SplittingKeepsFrames, all_conjuncts, conjuncts, is_conjunction, is_whole, kept_by, kept_by_all}
@@ -326,6 +327,16 @@ mutual
   all_parts_are_core (more t ts) h =
       let both = and_parts (is_core t) (are_core ts) h in
       all_of_both IsCore (conjuncts t) (all_conjuncts ts) (parts_are_core t both.0) (all_parts_are_core ts both.1)
+
+mutual
+  pub parts_name_operands : (t : Expression) → NamesOperands t → AllByRecursion NamesOperands (conjuncts t)
+  parts_name_operands (node op ts) h =
+      elim (is_conjunction op) as (λ b. AllByRecursion NamesOperands (cond b (all_conjuncts ts) (node op ts ∷ []))) [ true ↦ all_parts_name_operands ts h.1 | false ↦ (h, tt) ]
+
+  all_parts_name_operands : (ts : Trees Op) → AllNameOperands ts → AllByRecursion NamesOperands (all_conjuncts ts)
+  all_parts_name_operands no_more h = tt
+  all_parts_name_operands (more t ts) h =
+      all_of_both NamesOperands (conjuncts t) (all_conjuncts ts) (parts_name_operands t h.0) (all_parts_name_operands ts h.1)
 
 -- a frame of the schema, if there is one
 abbrev pub KeepsSchema : Columns → Outcome Frame → Type 0

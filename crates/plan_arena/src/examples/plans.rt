@@ -1,6 +1,6 @@
 //! Worked examples on lowered plans: which are accepted and strict, what they give, and which run soundly.
 
-ghost use Rattle.std.specs.Prelude.{◌≡◌, [], ◌∷◌, pos, codes, true, false, Option, Some, None};
+ghost use Rattle.std.specs.Prelude.{◌≡◌, List, [], ◌∷◌, pos, codes, true, false, Option, Some, None};
 ghost use Rattle.std.specs.List.{AllByRecursion};
 ghost use Rattle.plan_types.specs.Schemas.{Columns};
 ghost use Rattle.plan_types.specs.Types.{Truth, ListType};
@@ -13,8 +13,8 @@ ghost use Rattle.plan_dsl.specs.Names.{Label, alias_label, column_label, literal
 ghost use Rattle.plan_dsl.specs.Plans.{drop_op, empty_table, select_op, filter_op, simple_projection_op};
 ghost use Rattle.plan_dsl.specs.PlanMeaning.{source_meaning};
 ghost use Rattle.plan_dsl.specs.Samples.{Gives, GivesOfTwo, int8, int16, int32, int64, number, null, yes, a, alias, b, cast_as, column, empty_scan, frame_with, group_by, keep, less, list, literal, scan, scan_of, schema_ab, schema_flagged, select, stack, sum, table, typed_literal, project};
-ghost use Rattle.plan_arena.specs.Runs.{own_schema, HasRecorded, IsAccepted, IsStrictPlan, IsNamedPlan, plan_run, RunsSoundly};
-ghost use Rattle.plan_arena.specs.Samples.{lowered_groups, lowered_hstack, lowered_number, lowered_select, lowered_sum, narrowed, schema_of_one, strict_sum, sums, three_flagged, three_numbers, lowered_projection};
+ghost use Rattle.plan_arena.specs.Runs.{own_schema, HasRecorded, IsAccepted, IsStrictPlan, IsNamedPlan, NamesOperands, plan_run, RunsSoundly};
+ghost use Rattle.plan_arena.specs.Samples.{filled_under, lowered_groups, lowered_hstack, lowered_number, lowered_select, lowered_sum, narrowed, schema_of_one, strict_sum, sums, three_flagged, three_numbers, lowered_projection};
 
 /// A lowered plan runs by its written casts alone, and gives what the query means.
 pub fn plans_run_as_written()
@@ -109,6 +109,17 @@ pub fn named_plans()
     ensures aliases { AllByRecursion IsNamedPlan (select (alias "x" (sum a b) ∷ b ∷ []) (scan schema_ab) ∷
         node (filter_op (record { label = alias_label (codes "a"); expression = column "keep" })) (more (scan schema_flagged) no_more) ∷ []) }
     ensures filter_by_another_name { ¬ (IsNamedPlan (node (filter_op (record { label = column_label (codes "a"); expression = column "keep" })) (more (scan schema_flagged) no_more))) }
+{}
+
+/// A function has as many recorded names as operands, each of them the operand's own, from what the rules say, or an alias: so has each in a plan that is named.
+pub fn functions_that_name_their_operands()
+    ensures named { AllByRecursion {X = List Label} (λ labels. NamesOperands (filled_under labels) × NamesOperands (sum b (filled_under labels)) × IsNamedPlan (select (filled_under labels ∷ []) (scan schema_ab)))
+        ((column_label (codes "a") ∷ column_label (codes "b") ∷ []) ∷ (column_label (codes "a") ∷ alias_label (codes "zzz") ∷ []) ∷ (alias_label (codes "x") ∷ column_label (codes "b") ∷ []) ∷ []) }
+    ensures others { AllByRecursion {X = List Label} (λ labels. ¬ (NamesOperands (filled_under labels)) × ¬ (NamesOperands (sum b (filled_under labels))) × ¬ (IsNamedPlan (select (filled_under labels ∷ []) (scan schema_ab))))
+        ((column_label (codes "a") ∷ column_label (codes "zzz") ∷ []) ∷ (column_label (codes "a") ∷ literal_label (codes "b") ∷ []) ∷ (column_label (codes "b") ∷ column_label (codes "a") ∷ [])
+        ∷ (column_label (codes "a") ∷ []) ∷ (column_label (codes "a") ∷ column_label (codes "b") ∷ column_label (codes "b") ∷ []) ∷ []) }
+    ensures none_recorded { ¬ (NamesOperands (filled_under [])) × IsNamedPlan (select (filled_under [] ∷ []) (scan schema_ab)) }
+    ensures no_function { NamesOperands (sum a b) }
 {}
 
 /// A plan runs soundly where no node is stuck, and each node's frame has exactly the node's own schema.

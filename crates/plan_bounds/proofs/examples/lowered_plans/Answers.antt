@@ -8,7 +8,7 @@ pub returns-clause-sum : goal.returns-clause-sum
 returns-clause-sum c = record {
   accepted = (refl, ((refl, tt), tt));
   strict = ((((refl, refl), tt), tt), ((tt, tt), tt));
-  names = (((inr refl, tt), tt), ((tt, tt), tt));
+  names = ((((inr refl, (tt, ((tt, ((tt, tt), tt)), ((tt, tt), tt)))), tt), tt), ((tt, tt), tt));
   wide = (((refl, tt), tt), ((tt, tt), tt));
 }
 

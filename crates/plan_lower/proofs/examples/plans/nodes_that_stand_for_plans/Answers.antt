@@ -24,10 +24,10 @@ abbrev output : Name → Lowered
 output name = let column : Expression = node (ColumnOp name) no_more in record { tree = column; typed = record { type = Truth; many = true }; after = column }
 
 keep_lowered : IsLowered [] (truths (codes "keep")) (output (codes "keep"))
-keep_lowered = record { typed = refl; same = record { typing = refl; name = refl; meaning = λ rows. refl }; strict = refl; casts = refl }
+keep_lowered = record { typed = refl; same = record { typing = refl; name = refl; meaning = λ rows. refl }; strict = refl; casts = refl; names = (tt, tt) }
 
 a_lowered : IsLowered [] (truths (codes "a")) (output (codes "a"))
-a_lowered = record { typed = refl; same = record { typing = refl; name = refl; meaning = λ rows. refl }; strict = refl; casts = refl }
+a_lowered = record { typed = refl; same = record { typing = refl; name = refl; meaning = λ rows. refl }; strict = refl; casts = refl; names = (tt, tt) }
 
 a_expanded : (sources : List Source) → expansions [] (truths (codes "a")) sources ≡ Ok (a ∷ []) → HasExpandedOutputs [] (truths (codes "a")) a_items sources (node_named (codes "a") 0 ∷ []) (truths (codes "a"))
 a_expanded sources expanded = record {
