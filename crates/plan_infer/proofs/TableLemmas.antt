@@ -25,7 +25,7 @@ use Rattle.plan_arena.specs.Layers.{Layer, layer, op_of, inputs_of}
 use Rattle.plan_arena.specs.Items.{HoldsExpression, Grows, expression_layer, numbers}
 use Rattle.plan_arena.proofs.DenotationLemmas.{some_same, denotes_one, kept, same_or_other}
 use Rattle.plan_arena.proofs.ItemLemmas.{layer_op, layer_inputs, held_top, expression_laws, any_node, from_zero, grown_held, expression_got}
-use Rattle.plan_arena.proofs.NumberLemmas.{all_weaker}
+use Rattle.plan_arena.proofs.NumberLemmas.{all_joined, all_weaker, taken_more}
 use Rattle.plan_infer.specs.declared.type_table.Inferred.{Inferred}
 use Rattle.plan_infer.specs.declared.type_table.TypeTable.{TypeTable}
 use Rattle.plan_infer.specs.Typed.{DenotesTyped}
@@ -74,6 +74,34 @@ place_added old new first grown n own =
       λ k. (omega (arith, first), item_before old.entries.items (n - old.first) own (ap (slice_get (old.entries.items ++ None ∷ [])) (sym place) ∙ ap (λ l. slice_get l (n - new.first)) (sym grown) ∙ k.1)),
     )
 
+-- an entry that was added behind the others
+item_earlier : {A : Type 0} (xs : List A) (x y : A) (i : ℕ) → i < length xs → slice_get (xs ++ x ∷ []) i ≡ Some y → slice_get xs i ≡ Some y
+item_earlier xs x y i lt h =
+    let got = slice_get-get_or xs i y lt in
+    got ∙ sym (slice_get-append xs (x ∷ []) i (get_or xs i y) got) ∙ h
+
+module _ (old new : TypeTable) (at : ℕ) (own : Inferred) (place : at ≡ old.first + length old.entries.items) (first : new.first ≡ old.first) (grown : new.entries.items ≡ old.entries.items ++ Some own ∷ []) where
+  pub next_kept : KeepsEntry new at own
+  next_kept =
+      let index : at - new.first ≡ length old.entries.items = omega (arith, place, first) in
+      (omega (arith, place, first), ap (λ l. slice_get l (at - new.first)) grown ∙ ap (slice_get (old.entries.items ++ Some own ∷ [])) index ∙ slice_get-seam old.entries.items (Some own) [])
+
+  pub next_stays : (n : ℕ) (other : Inferred) → KeepsEntry old n other → KeepsEntry new n other
+  next_stays n other k =
+      (omega (arith, first, k.0), ap (λ l. slice_get l (n - new.first)) grown ∙ ap (λ m. slice_get (old.entries.items ++ Some own ∷ []) (n - m)) first ∙ slice_get-append old.entries.items (Some own ∷ []) (n - old.first) (Some other) k.1)
+
+  pub next_only : (n : ℕ) (other : Inferred) → KeepsEntry new n other → KeepsEntry old n other ⊎ ((n ≡ at) × (other ≡ own))
+  next_only n other k = ⊎_elim
+      (λ e. inr (e, keeps_one new at other own (subst (λ m. KeepsEntry new m other) e k) next_kept))
+      (λ differs.
+      let from : old.first ≤ n = omega (arith, first, k.0) in
+      let got = ap (λ m. slice_get (old.entries.items ++ Some own ∷ []) (n - m)) (sym first) ∙ ap (λ l. slice_get l (n - new.first)) (sym grown) ∙ k.1 in
+      let within = slice_get_within (old.entries.items ++ Some own ∷ []) (n - old.first) (Some other) got in
+      let apart : (n ≡ at) → ⊥ = differs in
+      let lt : n - old.first < length old.entries.items = omega (arith, within, length-append old.entries.items (Some own ∷ []), apart, place, from) in
+      inl (from, item_earlier old.entries.items (Some own) (Some other) (n - old.first) lt got))
+      (same_or_other n at)
+
 -- the same places
 pub places_same : (old new : TypeTable) → new.first ≡ old.first → new.entries.items ≡ old.entries.items → (n : ℕ) (own : Inferred) → KeepsEntry old n own ↔ KeepsEntry new n own
 places_same old new first same n own =
@@ -110,6 +138,11 @@ pub none_behind : {A : Type 0} (xs : List (Option A)) → some_count (xs ++ None
 none_behind [] = refl
 none_behind (None ∷ xs) = none_behind xs
 none_behind (Some x ∷ xs) = ap suc (none_behind xs)
+
+pub some_behind : {A : Type 0} (xs : List (Option A)) (x : A) → some_count (xs ++ Some x ∷ []) ≡ some_count xs + 1
+some_behind [] x = refl
+some_behind (None ∷ xs) x = some_behind xs x
+some_behind (Some y ∷ xs) x = let e = some_behind xs x in omega (arith, e)
 
 some_none : {A : Type 0} (x : A) → Some x ≡ None → ⊥
 some_none x e = cc
@@ -439,6 +472,15 @@ all_taken P (m ∷ ns) (suc i) k n e all lt p = subst (λ k. AllByRecursion P (n
 pub all_whole : (P : ℕ → Type 0) (ns : List Node) (i : ℕ) → i ≡ length ns → AllByRecursion P (numbers (take i ns)) → AllByRecursion P (numbers ns)
 all_whole P ns i whole all = subst (λ (l : List Node). AllByRecursion P (numbers l)) (ap (λ k. take k ns) whole ∙ take-length ns) all
 
+-- the same of numbers
+pub all_more : (P : ℕ → Type 0) (ns : List ℕ) (i n : ℕ) → slice_get ns i ≡ Some n → AllByRecursion P (take i ns) → P n → AllByRecursion P (take (i + 1) ns)
+all_more P ns i n at all p =
+    let next : i + 1 ≡ suc i = omega arith in
+    subst (AllByRecursion P) (sym (ap (λ k. take k ns) next ∙ taken_more ns i n at)) (all_joined P (take i ns) (n ∷ []) all (p, tt))
+
+pub all_ended : (P : ℕ → Type 0) (ns : List ℕ) (i : ℕ) → i ≡ length ns → AllByRecursion P (take i ns) → AllByRecursion P ns
+all_ended P ns i whole all = subst (AllByRecursion P) (ap (λ k. take k ns) whole ∙ take-length ns) all
+
 -- the first child that is refused refuses the node
 module _ (registry : Registry) (schema : Columns) (items : List AExpr) (table : TypeTable) (right : IsRight registry schema items table) (error : PlanError) where
   pub child_refused : (ns : List Node) (i : ℕ) (n : Node) → AllByRecursion (IsKept table) (numbers (take i ns)) → i < length ns → AllRefused items registry schema (get_or ns i n).0 error → (ts : Trees Op) → DenoteAll (HoldsExpression items) (numbers ns) ts → IsRefusal (typing_all registry schema ts) error
@@ -451,10 +493,22 @@ module _ (registry : Registry) (schema : Columns) (items : List AExpr) (table : 
       let rest = child_refused ns i n all.1 (omega (arith, lt)) refused ts d.1 in
       refused_so _ _ error (λ kind e. ap (λ r. typed_before r (typing_all registry schema ts)) here ∙ ap (typed_before (Ok (typed_of all.0.own))) e) rest
 
-  pub input_refused : (at : ℕ) (op : Op) (inputs : List ℕ) (ns : List Node) (i : ℕ) (n : Node) → HoldsExpression items at op inputs → numbers ns ≡ inputs → AllByRecursion (IsKept table) (numbers (take i ns)) → i < length ns → AllRefused items registry schema (get_or ns i n).0 error → AllRefused items registry schema at error
-  input_refused at op inputs ns i n held listed all lt refused t d =
-      let top = held_top items at op inputs held t d in
-      let below = child_refused ns i n all lt refused top.0 (subst (λ ms. DenoteAll (HoldsExpression items) ms top.0) (sym listed) top.2) in
+  -- the same of numbers
+  place_refused : (ns : List ℕ) (i n : ℕ) → AllByRecursion (IsKept table) (take i ns) → slice_get ns i ≡ Some n → AllRefused items registry schema n error → (ts : Trees Op) → DenoteAll (HoldsExpression items) ns ts → IsRefusal (typing_all registry schema ts) error
+  place_refused [] i n all at refused ts d = cc
+  place_refused (m ∷ ns) i n all at refused no_more d = absurd d
+  place_refused (m ∷ ns) zero n all at refused (more t ts) d =
+      let same : n ≡ m = cc in
+      refused_so _ _ error (λ kind e. ap (λ r. typed_before r (typing_all registry schema ts)) e) (refused t (subst (λ k. Denotes (HoldsExpression items) k t) (sym same) d.0))
+  place_refused (m ∷ ns) (suc i) n all at refused (more t ts) d =
+      let here = kept_typing registry schema items table right m all.0.own all.0.keeps t d.0 in
+      let rest = place_refused ns i n all.1 at refused ts d.1 in
+      refused_so _ _ error (λ kind e. ap (λ r. typed_before r (typing_all registry schema ts)) here ∙ ap (typed_before (Ok (typed_of all.0.own))) e) rest
+
+  pub input_refused : (at : ℕ) (op : Op) (ns : List ℕ) (i n : ℕ) → HoldsExpression items at op ns → AllByRecursion (IsKept table) (take i ns) → slice_get ns i ≡ Some n → AllRefused items registry schema n error → AllRefused items registry schema at error
+  input_refused at op ns i n held all there refused t d =
+      let top = held_top items at op ns held t d in
+      let below = place_refused ns i n all there refused top.0 top.2 in
       refused_so _ _ error (λ kind e. ap (typing registry schema) top.1 ∙ ap (λ r. then_typed r (typing_rule registry schema op)) e) below
 
   -- and so does its own rule

@@ -1,5 +1,5 @@
 //! What is inferred of nodes, kept by node.
-ghost use Rattle.std.specs.Prelude.{◌≡◌, ◌<◌, ◌≤◌, ◌↔◌, ◌⊎◌, ◌+◌, ℕ, [], IsTrue, Some, length, slice_get, if◌then◌else◌, MatchOption, IfOk, IfErr, OnOk, OnErr};
+ghost use Rattle.std.specs.Prelude.{◌≡◌, ◌<◌, ◌≤◌, ◌↔◌, ◌⊎◌, ◌+◌, ℕ, true, [], IsTrue, Some, length, slice_get, if◌then◌else◌, MatchOption, IfOk, IfErr, OnOk, OnErr};
 ghost use Rattle.plan_types.specs.Errors.{no_memory};
 ghost use Rattle.plan_infer.specs.declared.type_table.Inferred.{Inferred};
 ghost use Rattle.plan_infer.specs.KeptTypes.{KeepsEntry, IsKept, kept_count, some_count};
@@ -137,11 +137,22 @@ impl TypeTable {
         ensures count_stays { OnErr result (kept_count self.new ≡ kept_count self.old) }
         ensures err { IfErr result (λ error. error ≡ no_memory) }
     {
+        if self.is_next(node) {
+            self.entries.push(Some(own))?;
+            return Ok(());
+        }
         self.start_at(node.0)?;
         let index = node.0 - self.first;
         self.make_room(index)?;
         self.entries[index] = Some(own);
         Ok(())
+    }
+
+    // Whether the node's entry is the one behind those that there are.
+    fn is_next(&self, node: Node) -> bool
+        ensures { result ≡ true → node.0 ≡ self.now.first + length self.now.entries.items }
+    {
+        self.first <= node.0 && node.0 - self.first == self.entries.len()
     }
 
     // Sets the first number of an empty table, and makes room in front of others.

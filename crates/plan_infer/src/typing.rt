@@ -60,12 +60,11 @@ pub(crate) fn type_node<M: Ledger>(
     if is_leaf(item) {
         return type_over(node, item, &[], arena, schema, udfs, types, typings);
     }
-    let nodes = item.inputs(arena.allocator())?;
-    let inputs = nodes.as_slice();
+    let inputs = item.input_nodes();
     for index in 0..inputs.len() {
-        type_node(inputs[index], arena, schema, udfs, types, typings)?;
+        type_node(inputs.at(index), arena, schema, udfs, types, typings)?;
     }
-    type_over(node, item, inputs, arena, schema, udfs, types, typings)
+    type_ready(node, item, arena, schema, udfs, types, typings)
 }
 
 // Whether an item is known to have no inputs, so that no list of them is made.
@@ -73,6 +72,47 @@ fn is_leaf(item: &AExpr) -> bool
     ensures { result ≡ true → inputs_of (expression_layer item.now) ≡ [] }
 {
     matches!(item, AExpr::Column(_) | AExpr::Literal(_))
+}
+
+// Types a node of which each input is typed. Of two operands no list is made.
+fn type_ready<M: Ledger>(
+    node: Node,
+    item: &AExpr,
+    arena: &Arena<AExpr>,
+    schema: &Schema,
+    udfs: &Udfs,
+    types: &mut TypeTable,
+    typings: &mut Steps<M>,
+) -> Result<(), PlanError>
+    requires tree { DenotesTree (HoldsExpression arena.now) node.0 }
+    requires item { slice_get arena.now node.0 ≡ Some item.now }
+    requires inputs { AllByRecursion (IsKept types.old) (inputs_of (expression_layer item.now)) }
+    requires none { ¬ (IsKept types.old node.0) }
+    requires right { IsRight (registry udfs.now) (columns schema.now) arena.now types.old }
+    ensures kept { OnOk result (IsKept types.new node.0) }
+    ensures right { IsRight (registry udfs.now) (columns schema.now) arena.now types.new }
+    ensures extends { Extends types.old types.new }
+    ensures only { (n : ℕ) → IsKept types.new n → IsKept types.old n ⊎ (n ≡ node.0) }
+    ensures counted { OnOk result (typings.new + kept_count types.old ≤ typings.old + kept_count types.new) }
+    ensures refused { OnErr result (typings.new + kept_count types.old ≤ typings.old + kept_count types.new + 1) }
+    ensures err { IfErr result (λ error. (t : Expression) → Denotes (HoldsExpression arena.now) node.0 t →
+        IsRefusal (typing (registry udfs.now) (columns schema.now) t) error) }
+{
+    if let AExpr::BinaryExpr { left, right, .. } = item {
+        let inputs = [*left, *right];
+        return type_over(node, item, &inputs, arena, schema, udfs, types, typings);
+    }
+    let nodes = item.inputs(arena.allocator())?;
+    type_over(
+        node,
+        item,
+        nodes.as_slice(),
+        arena,
+        schema,
+        udfs,
+        types,
+        typings,
+    )
 }
 
 // Types a node over inputs of which each is typed.

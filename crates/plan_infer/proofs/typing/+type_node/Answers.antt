@@ -1,15 +1,15 @@
-use Rattle.std.proofs.Common.{◌+◌, ◌<◌, get_or, map, take, sym, ap, ◌∙◌, subst, arith}
+use Rattle.std.proofs.Common.{◌<◌, map, take, sym, ◌∙◌, subst, arith}
 use Rattle.std.specs.List.{AllByRecursion}
 use Rattle.plan_types.specs.Schemas.{columns}
 use Rattle.plan_types.proofs.ResultLemmas.{passed_on}
 use Rattle.plan_dsl.specs.Registry.{registry}
 use Rattle.plan_arena.specs.Denotation.{DenotesTree, depth_at}
-use Rattle.plan_arena.specs.Layers.{shape_of}
-use Rattle.plan_arena.specs.Items.{HoldsExpression, expression_layer, numbers}
+use Rattle.plan_arena.specs.Layers.{op_of, shape_of}
+use Rattle.plan_arena.specs.Items.{HoldsExpression, expression_layer}
 use Rattle.plan_arena.proofs.ItemLemmas.{expression_inputs, tree_within}
-use Rattle.plan_arena.proofs.NumberLemmas.{all_weaker}
+use Rattle.plan_arena.proofs.NumberLemmas.{all_there, all_weaker}
 use Rattle.plan_infer.specs.KeptTypes.{IsKept}
-use Rattle.plan_infer.proofs.TableLemmas.{all_at, all_taken, all_whole, below_more, below_over, extends_then, found_kept, input_refused, layer_held, no_deeper, none_found, not_yet, still_kept}
+use Rattle.plan_infer.proofs.TableLemmas.{all_ended, all_more, below_more, below_over, extends_then, found_kept, input_refused, layer_held, no_deeper, none_found, not_yet, still_kept}
 use Rattle.plan_infer.proofs.typing.+type_node.Goals as goal
 
 pub returns-then-is_some-clause-kept : goal.returns-then-is_some-clause-kept
@@ -25,9 +25,8 @@ type_node-requires g t c =
     let n = c.args.node.0 in
     let depth = depth_at (shape_of (map expression_layer items)) in
     let held = layer_held items n c.get-item.result.now c.get-item.ensures in
-    let listed = ap numbers c.as_slice-inputs.ensures ∙ c.in_ok-nodes.ensures.ok in
-    let all = subst (AllByRecursion (λ m. DenotesTree (HoldsExpression items) m × (depth m < depth n))) (sym listed) (expression_inputs items n _ _ held c.requires.tree) in
-    let here = all_at (λ m. DenotesTree (HoldsExpression items) m × (depth m < depth n)) c.as_slice-inputs.result.now c.loop-index.index (record { 0 = 0 }) all c.loop-index-test.true in
+    let all = subst (AllByRecursion (λ m. DenotesTree (HoldsExpression items) m × (depth m < depth n))) (sym c.input_nodes-inputs.ensures) (expression_inputs items n _ _ held c.requires.tree) in
+    let here = all_there (λ m. DenotesTree (HoldsExpression items) m × (depth m < depth n)) c.input_nodes-inputs.result all c.loop-index.index c.at.result.0 c.at.ensures in
     λ κs out. (omega (arith, here.1, c.decreases), (out, (here.0, c.loop-index.invariant.right)))
 
 pub returns-in_err-type_node-clause-extends : goal.returns-in_err-type_node-clause-extends
@@ -37,30 +36,29 @@ returns-in_err-type_node-clause-extends g t c =
 pub returns-in_err-type_node-clause-err : goal.returns-in_err-type_node-clause-err
 returns-in_err-type_node-clause-err g t c =
     let items = c.args.arena.now in
+    let op = op_of (expression_layer c.get-item.result.now) in
     let error = c.in_err-type_node.field-0.0 in
-    let handed = c.from_residual-in_err-type_node in
-    let held = layer_held items c.args.node.0 c.get-item.result.now c.get-item.ensures in
-    let listed = ap numbers c.as_slice-inputs.ensures ∙ c.in_ok-nodes.ensures.ok in
+    let handed = c.from_residual in
+    let held = subst (HoldsExpression items c.args.node.0 op) (sym c.input_nodes-inputs.ensures) (layer_held items c.args.node.0 c.get-item.result.now c.get-item.ensures) in
     let before = c.loop-index.invariant in
-    passed_on handed.result error _ handed.ensures.1 (input_refused (registry c.args.udfs.now) (columns c.args.schema.now) items c.loop-index.types before.right error c.args.node.0 _ _ c.as_slice-inputs.result.now c.loop-index.index (record { 0 = 0 }) held listed before.kept c.loop-index-test.true c.in_err-type_node.ensures.err)
+    passed_on handed.result error _ handed.ensures.1 (input_refused (registry c.args.udfs.now) (columns c.args.schema.now) items c.loop-index.types before.right error c.args.node.0 op c.input_nodes-inputs.result c.loop-index.index c.at.result.0 held before.kept c.at.ensures c.in_err-type_node.ensures.err)
 
 pub loop-index-preserved : goal.loop-index-preserved
 loop-index-preserved g t c =
     let items = c.args.arena.now in
     let depth = depth_at (shape_of (map expression_layer items)) in
     let held = layer_held items c.args.node.0 c.get-item.result.now c.get-item.ensures in
-    let listed = ap numbers c.as_slice-inputs.ensures ∙ c.in_ok-nodes.ensures.ok in
-    let all = subst (AllByRecursion (λ m. DenotesTree (HoldsExpression items) m × (depth m < depth c.args.node.0))) (sym listed) (expression_inputs items c.args.node.0 _ _ held c.requires.tree) in
-    let here = all_at (λ m. DenotesTree (HoldsExpression items) m × (depth m < depth c.args.node.0)) c.as_slice-inputs.result.now c.loop-index.index (record { 0 = 0 }) all c.loop-index-test.true in
+    let all = subst (AllByRecursion (λ m. DenotesTree (HoldsExpression items) m × (depth m < depth c.args.node.0))) (sym c.input_nodes-inputs.ensures) (expression_inputs items c.args.node.0 _ _ held c.requires.tree) in
+    let ns = c.input_nodes-inputs.result in
+    let here = all_there (λ m. DenotesTree (HoldsExpression items) m × (depth m < depth c.args.node.0)) ns all c.loop-index.index c.at.result.0 c.at.ensures in
     let before = c.loop-index.invariant in
     let one = c.in_ok-type_node.ensures in
-    let ns = c.as_slice-inputs.result.now in
     let new = c.type_node.new.types in
     record {
       right = one.right;
       extends = extends_then c.args.types.now c.loop-index.types new before.extends one.extends;
-      kept = all_taken (IsKept new) ns c.loop-index.index (c.loop-index.index + 1) (record { 0 = 0 }) (omega arith) (all_weaker (IsKept c.loop-index.types) (IsKept new) (still_kept c.loop-index.types new one.extends) (numbers (take c.loop-index.index ns)) before.kept) c.loop-index-test.true one.kept;
-      below = below_more items c.args.types.now c.loop-index.types new c.args.node.0 before.below (get_or ns c.loop-index.index (record { 0 = 0 })).0 here.1 one.below;
+      kept = all_more (IsKept new) ns c.loop-index.index c.at.result.0 c.at.ensures (all_weaker (IsKept c.loop-index.types) (IsKept new) (still_kept c.loop-index.types new one.extends) (take c.loop-index.index ns) before.kept) one.kept;
+      below = below_more items c.args.types.now c.loop-index.types new c.args.node.0 before.below c.at.result.0 here.1 one.below;
       counted = omega (arith, before.counted, one.counted);
     }
 
@@ -69,33 +67,31 @@ returns-in_err-type_node-clause-below g t c =
     let items = c.args.arena.now in
     let depth = depth_at (shape_of (map expression_layer items)) in
     let held = layer_held items c.args.node.0 c.get-item.result.now c.get-item.ensures in
-    let listed = ap numbers c.as_slice-inputs.ensures ∙ c.in_ok-nodes.ensures.ok in
-    let all = subst (AllByRecursion (λ m. DenotesTree (HoldsExpression items) m × (depth m < depth c.args.node.0))) (sym listed) (expression_inputs items c.args.node.0 _ _ held c.requires.tree) in
-    let here = all_at (λ m. DenotesTree (HoldsExpression items) m × (depth m < depth c.args.node.0)) c.as_slice-inputs.result.now c.loop-index.index (record { 0 = 0 }) all c.loop-index-test.true in
-    λ n k. no_deeper items c.args.types.now c.args.node.0 n (below_more items c.args.types.now c.loop-index.types c.type_node.new.types c.args.node.0 c.loop-index.invariant.below (get_or c.as_slice-inputs.result.now c.loop-index.index (record { 0 = 0 })).0 here.1 c.in_err-type_node.ensures.below n k)
+    let all = subst (AllByRecursion (λ m. DenotesTree (HoldsExpression items) m × (depth m < depth c.args.node.0))) (sym c.input_nodes-inputs.ensures) (expression_inputs items c.args.node.0 _ _ held c.requires.tree) in
+    let here = all_there (λ m. DenotesTree (HoldsExpression items) m × (depth m < depth c.args.node.0)) c.input_nodes-inputs.result all c.loop-index.index c.at.result.0 c.at.ensures in
+    λ n k. no_deeper items c.args.types.now c.args.node.0 n (below_more items c.args.types.now c.loop-index.types c.type_node.new.types c.args.node.0 c.loop-index.invariant.below c.at.result.0 here.1 c.in_err-type_node.ensures.below n k)
 
 pub type_over-requires : goal.type_over-requires
 type_over-requires g t c =
     let none = none_found c.args.types.now c.args.node.0 (λ own. own.now) c.kept.result c.kept.ensures (sym c.is_some.ensures ∙ c.if-is_some.false) in
     record { tree = c.requires.tree; item = c.get-item.ensures; listed = sym (c.is_leaf.ensures c.if-is_leaf.true); inputs = tt; none = none; right = c.requires.right }
 
-pub type_over-requires-2 : goal.type_over-requires-2
-type_over-requires-2 g t c =
+pub type_ready-requires : goal.type_ready-requires
+type_ready-requires g t c =
     let none = none_found c.args.types.now c.args.node.0 (λ own. own.now) c.kept.result c.kept.ensures (sym c.is_some.ensures ∙ c.if-is_some.false) in
     let mid = c.loop-index.types in
     record {
       tree = c.requires.tree;
       item = c.get-item.ensures;
-      listed = ap numbers c.as_slice-inputs.ensures ∙ c.in_ok-nodes.ensures.ok;
-      inputs = all_whole (IsKept mid) c.as_slice-inputs.result.now c.loop-index.index (omega (arith, c.loop-index-test.false, c.loop-index.auto.index-end)) c.loop-index.invariant.kept;
+      inputs = subst (AllByRecursion (IsKept mid)) c.input_nodes-inputs.ensures (all_ended (IsKept mid) c.input_nodes-inputs.result c.loop-index.index (omega (arith, c.loop-index-test.false, c.loop-index.auto.index-end)) c.loop-index.invariant.kept);
       none = not_yet c.args.arena.now c.args.types.now mid mid c.args.node.0 c.loop-index.invariant.below none;
       right = c.loop-index.invariant.right;
     }
 
 pub returns-clause-extends : goal.returns-clause-extends
 returns-clause-extends g t c =
-    extends_then c.args.types.now c.loop-index.types c.type_over-2.new.types c.loop-index.invariant.extends c.type_over-2.ensures.extends
+    extends_then c.args.types.now c.loop-index.types c.type_ready.new.types c.loop-index.invariant.extends c.type_ready.ensures.extends
 
 pub returns-clause-below : goal.returns-clause-below
 returns-clause-below g t c =
-    below_over c.args.arena.now c.args.types.now c.loop-index.types c.type_over-2.new.types c.args.node.0 c.loop-index.invariant.below c.type_over-2.ensures.only
+    below_over c.args.arena.now c.args.types.now c.loop-index.types c.type_ready.new.types c.args.node.0 c.loop-index.invariant.below c.type_ready.ensures.only

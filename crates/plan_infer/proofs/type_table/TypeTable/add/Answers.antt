@@ -1,9 +1,27 @@
 use Rattle.std.proofs.Common.{◌≡◌, ◌≤◌, ◌+◌, ◌-◌, Some, inl, refl, ap, ◌∙◌, arith}
 use Rattle.std.specs.Vec.{with_item}
-use Rattle.plan_infer.specs.KeptTypes.{IsKept}
+use Rattle.plan_infer.specs.KeptTypes.{IsKept, some_count}
 use Rattle.plan_infer.specs.declared.type_table.TypeTable.{TypeTable}
-use Rattle.plan_infer.proofs.TableLemmas.{empty_there, keeps_then, others_unwritten, some_written, type_written, written_only, written_stays}
+use Rattle.plan_infer.proofs.TableLemmas.{empty_there, keeps_then, next_kept, next_only, next_stays, others_unwritten, some_behind, some_written, type_written, written_only, written_stays}
 use Rattle.plan_infer.proofs.type_table.TypeTable.add.Goals as goal
+
+pub returns-then-is_next-clause-kept : goal.returns-then-is_next-clause-kept
+returns-then-is_next-clause-kept c =
+    let new : TypeTable = record { first = c.args.self.now.first; entries = c.push.new.self } in
+    record { own = c.args.own; keeps = next_kept c.args.self.now new c.args.node.0 c.args.own (c.is_next.ensures c.if-is_next.true) refl c.in_ok-push.ensures.items }
+
+pub returns-then-is_next-clause-stays : goal.returns-then-is_next-clause-stays
+returns-then-is_next-clause-stays c =
+    let new : TypeTable = record { first = c.args.self.now.first; entries = c.push.new.self } in
+    next_stays c.args.self.now new c.args.node.0 c.args.own (c.is_next.ensures c.if-is_next.true) refl c.in_ok-push.ensures.items
+
+pub returns-then-is_next-clause-only : goal.returns-then-is_next-clause-only
+returns-then-is_next-clause-only c =
+    let new : TypeTable = record { first = c.args.self.now.first; entries = c.push.new.self } in
+    next_only c.args.self.now new c.args.node.0 c.args.own (c.is_next.ensures c.if-is_next.true) refl c.in_ok-push.ensures.items
+
+pub returns-then-is_next-clause-count : goal.returns-then-is_next-clause-count
+returns-then-is_next-clause-count c = ap some_count c.in_ok-push.ensures.items ∙ some_behind c.args.self.now.entries.items c.args.own
 
 pub returns-in_err-start_at-clause-stays : goal.returns-in_err-start_at-clause-stays
 returns-in_err-start_at-clause-stays c = λ n other k. (c.in_err-start_at.ensures.kept n other).0 k
