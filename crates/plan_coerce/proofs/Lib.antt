@@ -19,4 +19,5 @@ pub mod SettledLemmas
 pub mod StackLemmas
 pub mod ToldLemmas
 pub mod TurnLemmas
+pub mod UntoldLemmas
 pub mod WrittenOutLemmas

@@ -5,15 +5,16 @@ ghost use Rattle.plan_types.specs.Types.{is_known, ty};
 ghost use Rattle.plan_types.specs.Schemas.{Columns};
 ghost use Rattle.plan_types.specs.ValueViews.{val_of};
 ghost use Rattle.plan_dsl.specs.Literals.{literal_op, literal_type, literal_value};
-ghost use Rattle.plan_dsl.specs.Ops.{CastOp, Expression};
+ghost use Rattle.plan_dsl.specs.Ops.{CastOp, Expression, Op};
 ghost use Rattle.plan_dsl.specs.Registry.{Registry};
 ghost use Rattle.plan_dsl.specs.Trees.{node, no_more, more};
 ghost use Rattle.plan_arena.specs.declared.aexpr.AExpr.{AExpr};
 ghost use Rattle.plan_arena.specs.Denotation.{Denotes, DenotesTree};
-ghost use Rattle.plan_arena.specs.Items.{HoldsExpression, expression_layer};
+ghost use Rattle.plan_arena.specs.Items.{HoldsExpression, HoldsFrom, expression_layer};
 ghost use Rattle.plan_arena.specs.Layers.{op_of};
-ghost use Rattle.plan_coerce.specs.InlinedCasts.{HasSameInlined, IsToldBy, is_cast_op, is_cast, is_logical, literal_cast, literal_with, stays, until_stays};
+ghost use Rattle.plan_coerce.specs.InlinedCasts.{HasSameInlined, IsToldBy, is_cast_op, is_cast, is_logical, is_told_top, literal_cast, literal_with, stays, until_stays};
 ghost use Rattle.plan_coerce.specs.InliningLaws.{same_inlined_congruent, same_inlined_transitive, stays_steady, until_stays_bounded};
+ghost use Rattle.plan_coerce.specs.Optimizer.{IsSettled};
 ghost use Rattle.plan_coerce.specs.Reaching.{IsClosed, StaysOnce};
 ghost use Rattle.plan_coerce.specs.Rules.{IsReplacement};
 
@@ -38,6 +39,22 @@ use std::sync::ledger::Ledger;
 /// under a cast of `LogicalAnd` or `LogicalOr` to truth values in place of that cast. Casts further in go first.
 #[derive(Clone, Copy, Drop)]
 pub struct CastInliningRule;
+
+impl CastInliningRule {
+    /// Whether a node from the number on is a literal, a `LogicalAnd` or a `LogicalOr`. Where none is, the rule changes no
+    /// expression of such nodes.
+    pub fn may_change(first: usize, expr_arena: &Arena<AExpr>) -> bool
+        ensures told { result ≡ true → (n : ℕ) × (op : Op) × (inputs : List ℕ) × HoldsFrom first expr_arena.now n op inputs × (is_told_top op ≡ true) }
+        ensures stays { result ≡ false → (n : ℕ) (t : Expression) → Denotes (HoldsFrom first expr_arena.now) n t → IsSettled stays t }
+    {
+        for number in first..expr_arena.len() {
+            if is_told(expr_arena.get(Node(number))) {
+                return true;
+            }
+        }
+        false
+    }
+}
 
 impl OptimizationRule for CastInliningRule {
     ghost settled = { λ rule registry schema. stays };
@@ -130,6 +147,17 @@ fn is_cast(item: &AExpr) -> bool
     ensures { result ≡ is_cast_op (op_of (expression_layer item.now)) }
 {
     matches!(item, AExpr::Cast { .. })
+}
+
+// Whether a cast of it can be told beforehand.
+fn is_told(item: &AExpr) -> bool
+    ensures { result ≡ is_told_top (op_of (expression_layer item.now)) }
+{
+    match item {
+        AExpr::Literal(_) => true,
+        AExpr::BinaryExpr { op, .. } => is_logical(*op),
+        _ => false,
+    }
 }
 
 // What stands at a node, without casts that go.

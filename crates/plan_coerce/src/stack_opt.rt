@@ -121,6 +121,47 @@ impl ConversionOptimizer {
         Ok(())
     }
 
+    /// Stacks a root alone, without its inputs. `coerce_expressions` starts from roots.
+    pub fn push_root_alone(&mut self, node: Node) -> Result<(), PlanError>
+        ensures roots { OnOk result (roots_of self.new ≡ roots_of self.old ++ node.0 ∷ []) }
+        ensures same_roots { OnErr result (roots_of self.new ≡ roots_of self.old) }
+        ensures same_stack { stacked self.new ≡ stacked self.old }
+        ensures err { IfErr result (λ error. error ≡ no_memory) }
+    {
+        self.roots.push(node)?;
+        Ok(())
+    }
+
+    /// Stacks the expressions' nodes in turn, without their inputs.
+    pub fn fill_roots(&mut self, exprs: &[ExprIR]) -> Result<(), PlanError>
+        ensures roots { OnOk result (roots_of self.new ≡ roots_of self.old ++ map (λ e. (named_node e).expression) exprs.now) }
+        ensures same_roots { OnErr result (roots_of self.new ≡ roots_of self.old) }
+        ensures same_stack { stacked self.new ≡ stacked self.old }
+        ensures err { IfErr result (λ error. error ≡ no_memory) }
+    {
+        let before = self.roots.len();
+        match self.push_roots(exprs) {
+            Ok(()) => Ok(()),
+            Err(error) => {
+                self.roots.truncate(before);
+                Err(error)
+            }
+        }
+    }
+
+    // The same. After a refusal more may be stacked.
+    fn push_roots(&mut self, exprs: &[ExprIR]) -> Result<(), PlanError>
+        ensures roots { OnOk result (roots_of self.new ≡ roots_of self.old ++ map (λ e. (named_node e).expression) exprs.now) }
+        ensures more_roots { Grows (roots_of self.old) (roots_of self.new) }
+        ensures same_stack { stacked self.new ≡ stacked self.old }
+        ensures err { IfErr result (λ error. error ≡ no_memory) }
+    {
+        for expr in exprs {
+            self.push_root_alone(expr.node())?;
+        }
+        Ok(())
+    }
+
     /// Goes from the stacked roots on over what they reach, a node before its inputs: what the rule answers for a node
     /// is put in its place, and the rule is asked again; where it answers none, the inputs are next. The types that are
     /// kept are those over a frame of the schema. Afterwards nothing is stacked. `steps` counts each visit of a node, and

@@ -28,7 +28,7 @@ use Rattle.plan_arena.specs.Items.{HoldsFrom, HoldsExpression, Grows, DenoteName
 use Rattle.plan_arena.specs.Layers.{shape_of, inputs_of}
 use Rattle.plan_arena.specs.Runs.{NamesOperands}
 use Rattle.plan_arena.proofs.DenotationLemmas.{denotes_one}
-use Rattle.plan_arena.proofs.ItemLemmas.{any_node, from_zero, within, tree_grown, expression_laws, grown_held}
+use Rattle.plan_arena.proofs.ItemLemmas.{any_node, tree_grown, expression_laws, grown_held}
 use Rattle.plan_infer.specs.Typed.{DenotesKnown}
 use Rattle.plan_coerce.specs.Coercion.{KeepsBelow}
 use Rattle.plan_coerce.specs.Optimizer.{AreWrittenOut, IsWrittenOut}
@@ -227,17 +227,6 @@ root_typed registry schema first items o roots is at =
 pub refused_as : {T E : Type 0} (r : Result T E) (P Q : E → Type 0) → ((error : E) → P error → Q error) → IfErr r P → IfErr r Q
 refused_as (Ok x) P Q each h = tt
 refused_as (Err error) P Q each h = each error h
-
--- typed nodes are in the arena
-pub known_within : (registry : Registry) (schema : Columns) (items : List AExpr) (roots : List ℕ) → AllByRecursion (DenotesKnown registry schema 0 items) roots → AllByRecursion (λ n. n < length items) roots
-known_within registry schema items [] all = tt
-known_within registry schema items (n ∷ ns) all = (within items n all.0.tree (any_node 0 items n all.0.tree all.0.denotes), known_within registry schema items ns all.1)
-
--- nodes from a number on are nodes
-pub known_lower : (registry : Registry) (schema : Columns) (first : ℕ) (items : List AExpr) (roots : List ℕ) → AllByRecursion (DenotesKnown registry schema first items) roots → AllByRecursion (DenotesKnown registry schema 0 items) roots
-known_lower registry schema first items [] all = tt
-known_lower registry schema first items (n ∷ ns) all =
-    (record { tree = all.0.tree; denotes = from_zero items n all.0.tree (any_node first items n all.0.tree all.0.denotes); has = all.0.has }, known_lower registry schema first items ns all.1)
 
 pub refused_predicate : (registry : Registry) (schema : Columns) (tree : Expression) (error : PlanError) → IsRefusal (typing registry schema (settled (core tree))) error → IsPredicateRefusal registry schema tree error
 refused_predicate registry schema tree error (short e) = without_room e

@@ -1,5 +1,5 @@
 //! Casts round the operands of what is lowered, by the rule of coercion. Those that can be told beforehand go, by a second rule.
-ghost use Rattle.std.specs.Prelude.{◌≡◌, ◌<◌, ℕ, [], ◌∷◌, length, map, IfErr, IfOk, OnOk};
+ghost use Rattle.std.specs.Prelude.{◌≡◌, ◌<◌, ◌≤◌, ℕ, [], ◌∷◌, length, map, IfErr, IfOk, OnOk};
 ghost use Rattle.std.specs.List.{AllByRecursion};
 ghost use Rattle.plan_types.specs.Errors.{no_memory};
 ghost use Rattle.plan_types.specs.Schemas.{columns};
@@ -10,6 +10,7 @@ ghost use Rattle.plan_infer.specs.Typed.{DenotesKnown};
 ghost use Rattle.plan_coerce.specs.Coercion.{KeepsBelow};
 ghost use Rattle.plan_coerce.specs.InlinedCasts.{HasSameInlined, stays};
 ghost use Rattle.plan_coerce.specs.Optimizer.{AreTrees, AreTypedRoots, AreWrittenOut, DenotesSettled, StaysApart, StaysLike, roots_of};
+ghost use Rattle.plan_coerce.specs.Reaching.{IsReached};
 
 use plan_arena::aexpr::AExpr;
 use plan_arena::arena::{Arena, Node};
@@ -22,70 +23,74 @@ use plan_infer::steps::Steps;
 use plan_infer::type_table::TypeTable;
 use plan_types::error::PlanError;
 use plan_types::schema::Schema;
+use std::alloc::Global;
 use std::marker::Brand;
 use std::sync::ledger::{Blank, Ledger};
 
-/// Puts casts round the operands of each node that the expressions reach, but for those that can be told beforehand.
+/// Puts casts round the operands of each node that the expressions reach, but for those that can be told beforehand. Each
+/// of these nodes has the number or a greater one.
 pub(crate) fn coerce_all(
     exprs: &ExprIRs,
+    start: usize,
     arena: &mut Arena<AExpr>,
     schema: &Schema,
     udfs: &Udfs,
     types: &mut TypeTable,
 ) -> Result<(), PlanError>
     requires right { IsRight (registry udfs.now) (columns schema.now) arena.old types.old }
-    requires known { AllByRecursion (DenotesKnown (registry udfs.now) (columns schema.now) 0 arena.old) (map (λ e. (named_node e).expression) exprs.now.items.items) }
+    requires within { start ≤ length arena.old }
+    requires known { AllByRecursion (DenotesKnown (registry udfs.now) (columns schema.now) start arena.old) (map (λ e. (named_node e).expression) exprs.now.items.items) }
     ensures ok { OnOk result ((first : ℕ) → AllByRecursion (DenotesKnown (registry udfs.now) (columns schema.now) first arena.old) (map (λ e. (named_node e).expression) exprs.now.items.items) →
         AreWrittenOut (registry udfs.now) (columns schema.now) first arena.old arena.new (map (λ e. (named_node e).expression) exprs.now.items.items)) }
     ensures below { (first : ℕ) → AllByRecursion (DenotesKnown (registry udfs.now) (columns schema.now) first arena.old) (map (λ e. (named_node e).expression) exprs.now.items.items) →
         KeepsBelow first arena.old arena.new }
     ensures err { IfErr result (λ error. error ≡ no_memory) }
 {
-    let optimizer = stacked_all(exprs, arena)?;
-    let inliner = stacked_all(exprs, arena)?;
-    coerce_stacked(optimizer, inliner, arena, schema, udfs, types)
+    let optimizer = stacked_all(exprs, arena.allocator())?;
+    let inliner = stacked_all(exprs, arena.allocator())?;
+    coerce_stacked(optimizer, inliner, start, arena, schema, udfs, types)
 }
 
 /// The same of each node that a root reaches.
 pub(crate) fn coerce_root(
     root: Node,
+    start: usize,
     arena: &mut Arena<AExpr>,
     schema: &Schema,
     udfs: &Udfs,
     types: &mut TypeTable,
 ) -> Result<(), PlanError>
     requires right { IsRight (registry udfs.now) (columns schema.now) arena.old types.old }
-    requires known { AllByRecursion (DenotesKnown (registry udfs.now) (columns schema.now) 0 arena.old) (root.0 ∷ []) }
+    requires within { start ≤ length arena.old }
+    requires known { AllByRecursion (DenotesKnown (registry udfs.now) (columns schema.now) start arena.old) (root.0 ∷ []) }
     ensures ok { OnOk result ((first : ℕ) → AllByRecursion (DenotesKnown (registry udfs.now) (columns schema.now) first arena.old) (root.0 ∷ []) →
         AreWrittenOut (registry udfs.now) (columns schema.now) first arena.old arena.new (root.0 ∷ [])) }
     ensures below { (first : ℕ) → AllByRecursion (DenotesKnown (registry udfs.now) (columns schema.now) first arena.old) (root.0 ∷ []) →
         KeepsBelow first arena.old arena.new }
     ensures err { IfErr result (λ error. error ≡ no_memory) }
 {
-    let optimizer = stacked_root(root, arena)?;
-    let inliner = stacked_root(root, arena)?;
-    coerce_stacked(optimizer, inliner, arena, schema, udfs, types)
+    let optimizer = stacked_root(root, arena.allocator())?;
+    let inliner = stacked_root(root, arena.allocator())?;
+    coerce_stacked(optimizer, inliner, start, arena, schema, udfs, types)
 }
 
 // An optimizer on which the expressions' nodes are stacked.
-fn stacked_all(exprs: &ExprIRs, arena: &Arena<AExpr>) -> Result<ConversionOptimizer, PlanError>
-    requires { AllByRecursion (λ n. n < length arena.now) (map (λ e. (named_node e).expression) exprs.now.items.items) }
+fn stacked_all(exprs: &ExprIRs, alloc: Global) -> Result<ConversionOptimizer, PlanError>
     ensures ok { IfOk result (λ optimizer. roots_of optimizer ≡ map (λ e. (named_node e).expression) exprs.now.items.items) }
     ensures err { IfErr result (λ error. error ≡ no_memory) }
 {
-    let mut optimizer = ConversionOptimizer::new(arena.allocator());
-    optimizer.fill_scratch(exprs.items.as_slice(), arena)?;
+    let mut optimizer = ConversionOptimizer::new(alloc);
+    optimizer.fill_roots(exprs.items.as_slice())?;
     Ok(optimizer)
 }
 
 // One on which a node is.
-fn stacked_root(root: Node, arena: &Arena<AExpr>) -> Result<ConversionOptimizer, PlanError>
-    requires { root.0 < length arena.now }
+fn stacked_root(root: Node, alloc: Global) -> Result<ConversionOptimizer, PlanError>
     ensures ok { IfOk result (λ optimizer. roots_of optimizer ≡ root.0 ∷ []) }
     ensures err { IfErr result (λ error. error ≡ no_memory) }
 {
-    let mut optimizer = ConversionOptimizer::new(arena.allocator());
-    optimizer.push_scratch(root, arena)?;
+    let mut optimizer = ConversionOptimizer::new(alloc);
+    optimizer.push_root_alone(root)?;
     Ok(optimizer)
 }
 
@@ -93,13 +98,15 @@ fn stacked_root(root: Node, arena: &Arena<AExpr>) -> Result<ConversionOptimizer,
 fn coerce_stacked(
     optimizer: ConversionOptimizer,
     inliner: ConversionOptimizer,
+    start: usize,
     arena: &mut Arena<AExpr>,
     schema: &Schema,
     udfs: &Udfs,
     types: &mut TypeTable,
 ) -> Result<(), PlanError>
     requires right { IsRight (registry udfs.now) (columns schema.now) arena.old types.old }
-    requires known { AllByRecursion (DenotesKnown (registry udfs.now) (columns schema.now) 0 arena.old) (roots_of optimizer) }
+    requires within { start ≤ length arena.old }
+    requires known { AllByRecursion (DenotesKnown (registry udfs.now) (columns schema.now) start arena.old) (roots_of optimizer) }
     requires both { roots_of inliner ≡ roots_of optimizer }
     ensures ok { OnOk result ((first : ℕ) → AllByRecursion (DenotesKnown (registry udfs.now) (columns schema.now) first arena.old) (roots_of optimizer) →
         AreWrittenOut (registry udfs.now) (columns schema.now) first arena.old arena.new (roots_of optimizer)) }
@@ -110,7 +117,7 @@ fn coerce_stacked(
     let typings = Blank::new(1);
     let steps = Blank::new(1);
     coerce_by::<Brand, Brand>(
-        optimizer, inliner, arena, schema, udfs, types, typings, steps,
+        optimizer, inliner, start, arena, schema, udfs, types, typings, steps,
     )
 }
 
@@ -118,6 +125,7 @@ fn coerce_stacked(
 fn coerce_by<M: Ledger, L: Ledger>(
     optimizer: ConversionOptimizer,
     inliner: ConversionOptimizer,
+    start: usize,
     arena: &mut Arena<AExpr>,
     schema: &Schema,
     udfs: &Udfs,
@@ -132,7 +140,8 @@ fn coerce_by<M: Ledger, L: Ledger>(
     requires steps_parts { steps.parts ≡ L.parts }
     requires some_steps { 0 < steps.parts }
     requires right { IsRight (registry udfs.now) (columns schema.now) arena.old types.old }
-    requires known { AllByRecursion (DenotesKnown (registry udfs.now) (columns schema.now) 0 arena.old) (roots_of optimizer) }
+    requires within { start ≤ length arena.old }
+    requires known { AllByRecursion (DenotesKnown (registry udfs.now) (columns schema.now) start arena.old) (roots_of optimizer) }
     requires both { roots_of inliner ≡ roots_of optimizer }
     ensures ok { OnOk result ((first : ℕ) → AllByRecursion (DenotesKnown (registry udfs.now) (columns schema.now) first arena.old) (roots_of optimizer) →
         AreWrittenOut (registry udfs.now) (columns schema.now) first arena.old arena.new (roots_of optimizer)) }
@@ -154,6 +163,7 @@ fn coerce_by<M: Ledger, L: Ledger>(
     )?;
     inline_by(
         inliner,
+        start,
         arena,
         schema,
         udfs,
@@ -163,9 +173,11 @@ fn coerce_by<M: Ledger, L: Ledger>(
     )
 }
 
-// Leaves out the casts that can be told beforehand, of what the stacked roots reach.
+// Leaves out the casts that can be told beforehand, of what the stacked roots reach. Where no node from the number on is one
+// of which a cast can be told, there are none.
 fn inline_by<M: Ledger, L: Ledger>(
     inliner: ConversionOptimizer,
+    start: usize,
     arena: &mut Arena<AExpr>,
     schema: &Schema,
     udfs: &Udfs,
@@ -176,11 +188,15 @@ fn inline_by<M: Ledger, L: Ledger>(
     requires trees { AreTrees arena.old (roots_of inliner) }
     requires right { IsRight (registry udfs.now) (columns schema.now) arena.old types.old }
     requires typed { AreTypedRoots stays (registry udfs.now) (columns schema.now) arena.old (roots_of inliner) }
+    requires from { (n : ℕ) → IsReached arena.old (roots_of inliner) n → start ≤ n }
     ensures like { StaysLike HasSameInlined (registry udfs.now) (columns schema.now) arena.old arena.new }
     ensures settled { OnOk result (AllByRecursion (DenotesSettled stays arena.new) (roots_of inliner)) }
     ensures apart { StaysApart arena.old arena.new (roots_of inliner) }
     ensures err { IfErr result (λ error. error ≡ no_memory) }
 {
+    if !CastInliningRule::may_change(start, arena) {
+        return Ok(());
+    }
     let mut inliner = inliner;
     inliner.coerce_expressions(
         &CastInliningRule,

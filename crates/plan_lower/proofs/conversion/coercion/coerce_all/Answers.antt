@@ -6,21 +6,13 @@ use Rattle.plan_arena.specs.Items.{named_node}
 use Rattle.plan_infer.specs.Typed.{DenotesKnown}
 use Rattle.plan_coerce.specs.Coercion.{KeepsBelow}
 use Rattle.plan_coerce.specs.Optimizer.{AreWrittenOut}
-use Rattle.plan_lower.proofs.ProjectionLemmas.{known_within}
 use Rattle.plan_lower.proofs.conversion.coercion.coerce_all.Goals as goal
-
-pub stacked_all-requires : goal.stacked_all-requires
-stacked_all-requires c =
-    known_within (registry c.args.udfs.now) (columns c.args.schema.now) c.args.arena.now (map (λ e. (named_node e).expression) c.args.exprs.now.items.items) c.requires.known
-
-pub stacked_all-requires-2 : goal.stacked_all-requires-2
-stacked_all-requires-2 c =
-    known_within (registry c.args.udfs.now) (columns c.args.schema.now) c.args.arena.now (map (λ e. (named_node e).expression) c.args.exprs.now.items.items) c.requires.known
 
 pub coerce_stacked-requires : goal.coerce_stacked-requires
 coerce_stacked-requires c = record {
   right = c.requires.right;
-  known = subst (AllByRecursion (DenotesKnown (registry c.args.udfs.now) (columns c.args.schema.now) 0 c.args.arena.now)) (sym c.in_ok-optimizer.ensures.ok) c.requires.known;
+  within = c.requires.within;
+  known = subst (AllByRecursion (DenotesKnown (registry c.args.udfs.now) (columns c.args.schema.now) c.args.start c.args.arena.now)) (sym c.in_ok-optimizer.ensures.ok) c.requires.known;
   both = c.in_ok-inliner.ensures.ok ∙ sym c.in_ok-optimizer.ensures.ok;
 }
 

@@ -1,7 +1,18 @@
 use Rattle.std.proofs.Common.{refl}
+use Rattle.plan_types.specs.Schemas.{columns}
+use Rattle.plan_dsl.specs.Registry.{registry}
+use Rattle.plan_coerce.specs.Optimizer.{roots_of}
 use Rattle.plan_lower.proofs.ProjectionLemmas.{refused_as}
 use Rattle.plan_coerce.proofs.TurnLemmas.{on_ok}
+use Rattle.plan_coerce.proofs.UntoldLemmas.{roots_settled, stays_like_itself}
 use Rattle.plan_lower.proofs.conversion.coercion.inline_by.Goals as goal
+
+pub returns-then-not-may_change-clause-like : goal.returns-then-not-may_change-clause-like
+returns-then-not-may_change-clause-like g c = stays_like_itself (registry c.args.udfs.now) (columns c.args.schema.now) c.args.arena.now
+
+pub returns-then-not-may_change-clause-settled : goal.returns-then-not-may_change-clause-settled
+returns-then-not-may_change-clause-settled g c =
+    roots_settled c.args.start c.args.arena.now (roots_of c.args.inliner) c.requires.from (c.may_change.ensures.stays c.if-not-may_change.true) c.requires.trees
 
 pub returns-clause-like : goal.returns-clause-like
 returns-clause-like g c = c.coerce_expressions.ensures.like c.requires.typed
