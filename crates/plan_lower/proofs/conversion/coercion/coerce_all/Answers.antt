@@ -1,8 +1,7 @@
-use Rattle.std.proofs.Common.{ℕ, OnOk, map, sym, ◌∙◌, subst}
+use Rattle.std.proofs.Common.{ℕ, OnOk, sym, ◌∙◌, subst}
 use Rattle.std.specs.List.{AllByRecursion}
 use Rattle.plan_types.specs.Schemas.{columns}
 use Rattle.plan_dsl.specs.Registry.{registry}
-use Rattle.plan_arena.specs.Items.{named_node}
 use Rattle.plan_infer.specs.Typed.{DenotesKnown}
 use Rattle.plan_coerce.specs.Coercion.{KeepsBelow}
 use Rattle.plan_coerce.specs.Optimizer.{AreWrittenOut}
