@@ -18,7 +18,7 @@ markers::marker_names-returns-in_ok-list-in-Selector-clause-ok t c =
 pub markers::marker_names-returns-in_default : goal.markers::marker_names-returns-in_default
 markers::marker_names-returns-in_default t c = record {
   ok = tt;
-  err = broken InvalidOperation c.at_top-in_default.ensures (no_marker c.args.keys.now.keys (columns c.args.schema.now) c.args.marker.now c.in_default.not-Columns c.in_default.not-DtypeColumn c.in_default.not-IndexColumn c.in_default.not-Nth c.in_default.not-Wildcard c.in_default.not-Exclude c.in_default.not-Selector);
+  err = broken InvalidOperation c.at_top.ensures (no_marker c.args.keys.now.keys (columns c.args.schema.now) c.args.marker.now c.in_default.not-Columns c.in_default.not-DtypeColumn c.in_default.not-IndexColumn c.in_default.not-Nth c.in_default.not-Wildcard c.in_default.not-Exclude c.in_default.not-Selector);
 }
 
 pub selectors::rooted-returns-in_err-listed : goal.selectors::rooted-returns-in_err-listed
