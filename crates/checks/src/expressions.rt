@@ -354,3 +354,12 @@ fn markers_and_renaming_forms_of_any_depth_are_copied(rt: HostRuntime) {
         }
     }
 }
+
+#[test]
+fn aggregates_are_copied(rt: HostRuntime) {
+    let input = boxed(&rt, rt.alloc(), column(&rt, rt.alloc(), "part 0"));
+    let aggregate = AggExpr::Count(input, true);
+    let copy = aggregate.try_clone(rt.alloc()).expect(&rt, NO_MEMORY);
+    assert_alike(&rt, copy, &aggregate);
+    drop(aggregate);
+}

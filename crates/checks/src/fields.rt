@@ -1,13 +1,17 @@
 //! Fields of expressions of any size.
+ghost use Rattle.plan_arena.specs.Items.{expression_layer};
+ghost use Rattle.plan_infer.specs.ItemTrees.{HasOperands};
 
-use crate::fixtures::NO_MEMORY;
+use crate::fixtures::{NO_MEMORY, assert_number};
 use crate::schemas::schema_of;
 use crate::sums::sum_of;
-use plan_arena::arena::Arena;
+use plan_arena::aexpr::AExpr;
+use plan_arena::arena::{Arena, Node};
 use plan_dsl::udfs::Udfs;
-use plan_infer::aexpr_field::{AExprTyping, ToFieldContext};
+use plan_infer::aexpr_field::{AExprFields, AExprTyping, ToFieldContext};
 use plan_infer::expr_ir_field::ExprIRTyping;
 use plan_infer::field::Context;
+use plan_infer::type_table::{Inferred, TypeTable};
 use plan_lower::conversion::expr_field::ExprTyping;
 use plan_lower::conversion::expr_to_ir::{to_aexpr, to_expr_ir};
 use plan_types::dtype::DataType;
@@ -49,6 +53,25 @@ fn ask_recorded(rt: &impl Abort, alloc: Global, schema: &Schema, additions: usiz
     drop(arena);
 }
 
+// The type and the field of an item are told, alone and in groups.
+fn ask_types(
+    rt: &impl Abort,
+    alloc: Global,
+    item: &AExpr,
+    schema: &Schema,
+    arena: &Arena<AExpr>,
+    udfs: &Udfs,
+)
+    requires { HasOperands arena.now (expression_layer item.now) }
+{
+    let dtype = item.to_dtype(alloc, schema, Context::Default, arena, udfs);
+    drop(dtype.expect(rt, NO_MEMORY));
+    let dtype = item.get_type(alloc, schema, Context::Aggregation, arena, udfs);
+    drop(dtype.expect(rt, NO_MEMORY));
+    let field = item.to_field_and_validate(alloc, schema, Context::Default, arena, udfs);
+    drop(field.expect(rt, NO_MEMORY));
+}
+
 // The field of so many additions is told of the item on top, which is many.
 fn ask_item(rt: &impl Abort, alloc: Global, schema: &Schema, additions: usize) {
     let udfs = Udfs::new(alloc);
@@ -65,6 +88,7 @@ fn ask_item(rt: &impl Abort, alloc: Global, schema: &Schema, additions: usize) {
             };
             let mut many = true;
             assert!(rt; node.0 < arena.len());
+            ask_types(rt, alloc, arena.get(node), schema, &arena, &udfs);
             let field = arena.get(node).to_field_impl(alloc, &context, &mut many);
             drop(field.expect(rt, NO_MEMORY));
             assert!(rt; many);
@@ -81,4 +105,28 @@ fn fields_of_nodes_of_any_depth_are_told(rt: HostRuntime) {
         ask_item(&rt, rt.alloc(), &schema, additions);
     }
     drop(schema);
+}
+
+// A type that is kept for a node, in front of all that are.
+fn keep_in_front(rt: &impl Abort, alloc: Global, node: usize, types: &mut TypeTable) {
+    let own = Inferred {
+        name: Node(node),
+        dtype: DataType::Int8,
+        many: true,
+        operands: Vec::new(alloc),
+    };
+    types.keep(Node(node), own).expect(rt, NO_MEMORY);
+}
+
+#[test]
+fn types_are_kept_in_front_of_any_number(rt: HostRuntime) {
+    for count in [1, 2, 1_000] {
+        let mut types = TypeTable::new(rt.alloc());
+        for number in 0..count {
+            keep_in_front(&rt, rt.alloc(), 2 * (count - number), &mut types);
+        }
+        assert_number(&rt, types.len(), count);
+        drop(types);
+    }
+    assert!(&rt; matches!(Context::default(), Context::Default));
 }

@@ -18,7 +18,7 @@ use plan_types::dtype::DataType;
 use std::alloc::Global;
 use std::process::Abort;
 
-fn function_of(function: FunctionExpr, items: Vec<Expr>) -> Expr {
+pub(crate) fn function_of(function: FunctionExpr, items: Vec<Expr>) -> Expr {
     Expr::Function {
         input: Exprs { items },
         function,
@@ -31,8 +31,8 @@ fn assert_ends(rt: &impl Abort, alloc: Global, plan: DslPlan, end: &str) {
     assert!(rt; found.as_str().ends_with(end));
 }
 
-// So many columns.
-fn columns(rt: &impl Abort, alloc: Global, count: usize) -> Vec<Expr> {
+/// So many columns.
+pub(crate) fn columns(rt: &impl Abort, alloc: Global, count: usize) -> Vec<Expr> {
     let mut columns = Vec::new(alloc);
     for number in 0..count {
         let name = numbered(rt, alloc, number);
@@ -175,8 +175,8 @@ fn horizontals_of_any_depth_are_lowered(rt: HostRuntime) {
     }
 }
 
-// So many ternaries, each the predicate of the one above it.
-fn predicates(rt: &impl Abort, alloc: Global, levels: usize) -> Expr {
+/// So many ternaries, each the predicate of the one above it.
+pub(crate) fn predicates(rt: &impl Abort, alloc: Global, levels: usize) -> Expr {
     let mut expr = column(rt, alloc, "part 0");
     for _ in 0..levels {
         let truthy = Expr::Literal(LiteralValue::Boolean(true));

@@ -1,9 +1,12 @@
 //! Schemas of nodes of lowered plans, at any depth and of any number of columns.
 
 use crate::fixtures::{NO_MEMORY, assert_number};
-use crate::plans::{filters_over, scan_of};
+use crate::functions::columns;
+use crate::plans::{filters_over, scan_of, select_of};
 use plan_arena::ir::IR;
 use plan_arena::plan::IRPlan;
+use plan_dsl::builder::DslBuilder;
+use plan_dsl::plan::{DslPlan, ProjectionOptions};
 use plan_dsl::udfs::Udfs;
 use plan_lower::conversion::dsl_to_ir::PlanLowering;
 use plan_types::dtype::DataType;
@@ -45,5 +48,48 @@ fn assert_schemas(rt: &impl Abort, alloc: Global, filters: usize, columns: usize
 fn schemas_of_nodes_of_any_depth_are_told(rt: HostRuntime) {
     for (filters, columns) in &[(0, 0), (0, 1), (1, 1), (2, 2), (200, 1), (1, 1_000)] {
         assert_schemas(&rt, rt.alloc(), *filters, *columns);
+    }
+}
+
+// The item on top of the lowered plan is copied.
+fn assert_copied(rt: &impl Abort, alloc: Global, plan: DslPlan) {
+    let udfs = Udfs::new(alloc);
+    match plan.to_alp(alloc, &udfs) {
+        Err(_) => panic!(rt; "{NO_MEMORY}"),
+        Ok(plan) => {
+            assert!(rt; plan.lp_top.0 < plan.lp_arena.len());
+            let copy = plan.lp_arena.get(plan.lp_top).try_clone(alloc);
+            drop(copy.expect(rt, NO_MEMORY));
+            drop(plan);
+        }
+    }
+}
+
+#[test]
+fn items_of_plans_of_any_size_are_copied(rt: HostRuntime) {
+    let alloc = rt.alloc();
+    for count in [1, 2, 300] {
+        let scan = scan_of(&rt, alloc, Some(3), count, &DataType::Boolean);
+        assert_copied(&rt, alloc, scan);
+        let scan = scan_of(&rt, alloc, Some(3), count, &DataType::Boolean);
+        assert_copied(&rt, alloc, filters_over(&rt, alloc, scan, 1));
+        let scan = scan_of(&rt, alloc, Some(3), count, &DataType::Boolean);
+        assert_copied(
+            &rt,
+            alloc,
+            select_of(&rt, alloc, columns(&rt, alloc, count), scan),
+        );
+        let scan = scan_of(&rt, alloc, Some(3), count, &DataType::Boolean);
+        let options = ProjectionOptions::default();
+        let stacked = DslBuilder::from(scan).with_columns(
+            alloc,
+            columns(&rt, alloc, count),
+            options,
+        );
+        assert_copied(&rt, alloc, stacked.expect(&rt, NO_MEMORY).build());
+        let scan = scan_of(&rt, alloc, Some(3), count, &DataType::Boolean);
+        let keys = columns(&rt, alloc, count);
+        let grouped = DslBuilder::from(scan).group_by(alloc, keys, Vec::new(alloc), true);
+        assert_copied(&rt, alloc, grouped.expect(&rt, NO_MEMORY).build());
     }
 }

@@ -1,9 +1,11 @@
 //! Properties of expressions that take memory.
 
 use crate::fixtures::{NO_MEMORY, column};
+use crate::functions::{columns, function_of, predicates};
 use crate::sums::sum_of;
 use plan_arena::arena::Arena;
 use plan_dsl::expr::Expr;
+use plan_dsl::function_expr::FunctionExpr;
 use plan_dsl::udfs::Udfs;
 use plan_lower::conversion::expr_to_ir::to_aexpr;
 use plan_properties::properties::is_elementwise;
@@ -36,5 +38,15 @@ fn inputs_of_elementwise_nodes_are_appended(rt: HostRuntime) {
         append_inputs(&rt, rt.alloc(), column(&rt, rt.alloc(), "part 0"), times);
         let sum = sum_of(rt.alloc(), "part 0", 1).expect(&rt, NO_MEMORY);
         append_inputs(&rt, rt.alloc(), sum, times);
+    }
+}
+
+#[test]
+fn any_number_of_inputs_is_appended(rt: HostRuntime) {
+    append_inputs(&rt, rt.alloc(), predicates(&rt, rt.alloc(), 1), 2);
+    for count in [128, 1_000] {
+        let input = columns(&rt, rt.alloc(), count);
+        let all = function_of(FunctionExpr::AllHorizontal, input);
+        append_inputs(&rt, rt.alloc(), all, 2);
     }
 }
