@@ -1,0 +1,5 @@
+pub mod ArenaLemmas
+pub mod PredicateLemmas
+pub mod QueryLemmas
+pub mod SplitLemmas
+pub mod StandsLemmas
