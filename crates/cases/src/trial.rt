@@ -64,7 +64,7 @@ fn run_whole(alloc: Global, case: &Case<'_>, udfs: &Udfs) -> Result<Seen, AllocE
     let done = run_in_memory(alloc, case.words.as_slice(), &mut source, &mut sink, udfs);
     let text = sink.written().to_vec(alloc)?;
     Ok(Seen {
-        status: done.status.number(),
+        status: done.number(),
         text,
     })
 }
@@ -83,7 +83,7 @@ fn run_in_steps(
     let done = run(alloc, case.words.as_slice(), &mut source, &mut sink, udfs);
     let text = sink.written().to_vec(alloc)?;
     Ok(Seen {
-        status: done.status.number(),
+        status: done.number(),
         text,
     })
 }

@@ -30,8 +30,7 @@ fn main(rt: HostRuntime) -> ExitCode {
     let mut source = ReadAdapter::new(rt.stdin());
     let mut sink = WriteAdapter::new(rt.stdout());
     let udfs = Udfs::new(alloc);
-    let done = run(alloc, words.as_slice(), &mut source, &mut sink, &udfs);
-    done.status.exit_code()
+    run(alloc, words.as_slice(), &mut source, &mut sink, &udfs).exit_code()
 }
 
 // The arguments behind the program's name.

@@ -60,3 +60,19 @@ pub struct Done {
     pub status: Status,
     pub plan: Option<IRPlan>,
 }
+
+impl Done {
+    /// The number that the process ends with. The plan is let go.
+    pub fn number(self) -> u8
+        ensures { result ≡ status_number self.status }
+    {
+        self.status.number()
+    }
+
+    /// What the process ends with. The plan is let go.
+    pub fn exit_code(self) -> ExitCode
+        ensures { exit_status result ≡ status_number self.status }
+    {
+        self.status.exit_code()
+    }
+}
