@@ -3,7 +3,7 @@
 ghost use Rattle.std.specs.Prelude.{◌≡◌, [], ◌∷◌, codes, map, pos, true, false};
 ghost use Rattle.plan_types.specs.Outcomes.{Done, Fault, Stuck};
 ghost use Rattle.plan_types.specs.declared.dtype.CastOptions.TheVariants.{Strict, NonStrict, Overflowing};
-ghost use Rattle.plan_dsl.specs.declared.aggregate.GroupByMethod.TheVariants.{Min, Max, NanMax, First, Last, NUnique, Implode, Groups, Sum, Count};
+ghost use Rattle.plan_dsl.specs.declared.aggregate.GroupByMethod.TheVariants.{Min, NanMin, Max, NanMax, First, Last, NUnique, Implode, Groups, Sum, Count};
 ghost use Rattle.std.specs.List.{AllByRecursion};
 ghost use Rattle.plan_types.specs.Types.{Truth};
 ghost use Rattle.plan_dsl.specs.Samples.{Gives, GivesAll, GivesOfTwo, a, b, c, alias, binary, call, cast_as, count, equal, explode, gather, gather_one, int8, keep_where, no, number, one, over, rising, rising_by, slice, sort_as, sum, ternary, text, yes};
@@ -77,7 +77,7 @@ pub fn expressions_of_one_value()
 /// function has more than one operand.
 pub fn aggregates_of_parts()
     ensures can { GivesAll can_pre_agg true (
-        count ∷ aggregate Min a ∷ aggregate NanMax a ∷ aggregate First a ∷ aggregate Last (sum a one) ∷ aggregate Sum a ∷ aggregate (Count true) a ∷
+        count ∷ aggregate Min a ∷ aggregate NanMin a ∷ aggregate Max a ∷ aggregate NanMax a ∷ aggregate First a ∷ aggregate Last (sum a one) ∷ aggregate Sum a ∷ aggregate (Count true) a ∷
         aggregate Sum (ternary b a one) ∷ aggregate First (call IsNull (a ∷ [])) ∷ aggregate Last (call (FieldByName (codes "x")) (a ∷ [])) ∷
         aggregate First (call IsNotNull (call IsNull (a ∷ []) ∷ [])) ∷ []) }
     ensures can_not { GivesAll can_pre_agg false (

@@ -66,6 +66,7 @@ pub fn values_of_aggregates()
         ≡ null ∷ null ∷ null ∷ number 1 ∷ number 0 ∷ number 0 ∷ [] }
     ensures ends { map (λ method. aggregate_value method int8 (0 ∷ 1 ∷ 2 ∷ []) (null ∷ number 7 ∷ number 9 ∷ [])) (First ∷ Last ∷ Min ∷ NanMin ∷ Max ∷ NanMax ∷ [])
         ≡ null ∷ number 9 ∷ number 7 ∷ number 7 ∷ number 9 ∷ number 9 ∷ [] }
+    ensures null_at_the_end { map (λ method. aggregate_value method int8 (0 ∷ 1 ∷ 2 ∷ []) (number 9 ∷ number 7 ∷ null ∷ [])) (First ∷ Last ∷ Min ∷ Max ∷ []) ≡ number 9 ∷ null ∷ number 7 ∷ number 9 ∷ [] }
     ensures truths { map (λ method. aggregate_value method uint32 (0 ∷ 1 ∷ 2 ∷ []) (yes ∷ no ∷ yes ∷ [])) (Sum ∷ Min ∷ Max ∷ NUnique ∷ []) ≡ number 2 ∷ no ∷ yes ∷ number 2 ∷ [] }
 {}
 

@@ -7,11 +7,11 @@ ghost use Rattle.plan_dsl.specs.declared.function_expr.FunctionExpr.TheVariants.
 ghost use Rattle.plan_dsl.specs.Trees.{node, no_more, more, top_op};
 ghost use Rattle.plan_dsl.specs.Names.{name_of};
 ghost use Rattle.plan_dsl.specs.Refusals.{joined};
-ghost use Rattle.plan_dsl.specs.Sources.{written, ExcludedName, ExcludedType, KeepRoot, AddPrefix, AddSuffix, SetName, Add, Sub, Intersect, ExclusiveOr, WildcardOp, SetOp, same_source, of_two};
+ghost use Rattle.plan_dsl.specs.Sources.{written, ExcludedName, ExcludedType, KeepRoot, AddPrefix, AddSuffix, SetName, Add, Sub, Intersect, ExclusiveOr, DtypeColumnOp, WildcardOp, SetOp, same_source, of_two};
 ghost use Rattle.plan_dsl.specs.Markers.{without, once, set_of, marker_names, names_of_selectors};
 ghost use Rattle.plan_dsl.specs.Copies.{has_list, has_one, has_several, put, put_below};
 ghost use Rattle.plan_dsl.specs.Expansion.{markers_in, root_name, name_given, expansion, expansions, predicate_expansion};
-ghost use Rattle.plan_dsl.specs.Samples.{Gives, GivesAll, GivesOfTwo, over, over_by, int8, int16, a, b, c, s, x, one, five, below, count, sum, equal, alias, call, column, gather, rising, rising_by, slice, ternary, schema_abc, all_names, these, all, columns_named, columns_of_type, columns_at, nth, but, but_named, but_of_type, selecting, root, form, prefix, suffix, fixed, plus, equals, source_alias};
+ghost use Rattle.plan_dsl.specs.Samples.{Gives, GivesAll, GivesOfTwo, over, over_by, int8, int16, int32, uint64, a, b, c, s, x, one, five, below, count, sum, equal, alias, call, column, gather, rising, rising_by, slice, ternary, schema_abc, schema_abu, all_names, these, all, columns_named, columns_of_type, columns_at, nth, but, but_named, but_of_type, selecting, root, form, prefix, suffix, fixed, plus, equals, source_alias};
 
 /// Lists of names: without others, each once, and one of two.
 pub fn lists_of_names()
@@ -37,6 +37,10 @@ pub fn names_of_markers()
         (columns_of_type int8, these ("a" ∷ "b" ∷ [])) ∷
         (columns_of_type TextType, these ("c" ∷ [])) ∷
         (columns_of_type int16, these []) ∷ []) }
+    ensures some_types { Gives (λ types. marker_names [] schema_abu (node (DtypeColumnOp types) no_more)) (
+        (uint64 ∷ int8 ∷ [], these ("a" ∷ "u" ∷ [])) ∷
+        (TextType ∷ int32 ∷ [], these ("b" ∷ [])) ∷
+        ([], these []) ∷ []) }
     ensures places { Gives (λ place. marker_names [] schema_abc (nth place)) (
         (pos 0, these ("a" ∷ [])) ∷
         (pos 2, these ("c" ∷ [])) ∷
@@ -165,6 +169,7 @@ pub fn expressions_that_are_repeated()
     ensures repeated { Gives (expansion [] schema_abc) (
         (plus (columns_of_type int8) (written one), Ok (sum a one ∷ sum b one ∷ [])) ∷
         (plus all all, Ok (sum a a ∷ sum b b ∷ sum c c ∷ [])) ∷
+        (plus (plus all all) all, Ok (sum (sum a a) a ∷ sum (sum b b) b ∷ sum (sum c c) c ∷ [])) ∷
         (plus (but_named "b" all) (but_named "b" all), Ok (sum a a ∷ sum c c ∷ [])) ∷
         (plus (columns_named ("a" ∷ "a" ∷ [])) (written one), Ok (sum a one ∷ sum a one ∷ [])) ∷
         (columns_named ("z" ∷ []), Ok (column "z" ∷ [])) ∷
@@ -173,7 +178,8 @@ pub fn expressions_that_are_repeated()
     ensures names { map name_of (sum a one ∷ sum b one ∷ []) ≡ all_names ("a" ∷ "b" ∷ []) }
     ensures once { Gives (expansion [] schema_abc) ((written (sum a b), Ok (sum a b ∷ [])) ∷ (written one, Ok (one ∷ [])) ∷ (written (column "z"), Ok (column "z" ∷ [])) ∷ []) }
     ensures others { GivesAll (expansion [] schema_abc) (Err InvalidOperation) (
-        plus all (nth (pos 0)) ∷ plus (nth (pos 0)) (columns_at (pos 0 ∷ [])) ∷ plus (but_named "a" all) all ∷ plus (nth (pos 3)) all ∷ plus (written one) (plus all (nth (pos 0))) ∷ []) }
+        plus all (nth (pos 0)) ∷ plus (nth (pos 0)) (columns_at (pos 0 ∷ [])) ∷ plus (but_named "a" all) all ∷ plus (nth (pos 3)) all ∷ plus (written one) (plus all (nth (pos 0))) ∷ plus (plus all all) (nth (pos 0)) ∷
+        plus (plus all (nth (pos 0))) all ∷ []) }
     ensures refused { Gives (expansion [] schema_abc) (
         (nth (pos 3), Err ColumnNotFound) ∷
         (plus (written one) (nth (neg_ℤ (pos 4))), Err ColumnNotFound) ∷

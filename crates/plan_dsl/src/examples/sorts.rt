@@ -116,10 +116,13 @@ pub fn values_sorted_by_keys()
 
 /// Keys come before others where the first that are apart do, and none where all are the same.
 pub fn keys_in_order()
-    ensures { let each = way false false ∷ way true true ∷ [] in
+    ensures two { let each = way false false ∷ way true true ∷ [] in
         GivesOfTwo (keys_before each) (
         (number 1 ∷ number 1 ∷ [], number 2 ∷ number 1 ∷ [], true) ∷ (number 2 ∷ number 1 ∷ [], number 1 ∷ number 2 ∷ [], false) ∷ (number 1 ∷ number 2 ∷ [], number 1 ∷ number 1 ∷ [], true) ∷
         (number 1 ∷ number 1 ∷ [], number 1 ∷ number 1 ∷ [], false) ∷ (null ∷ number 1 ∷ [], number 1 ∷ number 2 ∷ [], true) ∷ (number 1 ∷ null ∷ [], number 1 ∷ number 2 ∷ [], false) ∷ []) }
+    ensures three { GivesOfTwo (keys_before (rising ∷ way true true ∷ way true false ∷ [])) (
+        (number 1 ∷ null ∷ number 2 ∷ [], number 1 ∷ null ∷ number 1 ∷ [], true) ∷ (number 1 ∷ null ∷ number 1 ∷ [], number 1 ∷ null ∷ number 2 ∷ [], false) ∷
+        (null ∷ number 1 ∷ null ∷ [], null ∷ number 1 ∷ null ∷ [], false) ∷ (number 1 ∷ number 1 ∷ number 2 ∷ [], number 1 ∷ number 2 ∷ number 1 ∷ [], false) ∷ []) }
 {}
 
 /// What a sort by keys means and how it runs: keys are cast to the types to which they are taken, and each has a value for each row.
