@@ -81,7 +81,7 @@ pub fn sums_that_wrap()
     ensures uint64 { aggregate_value Sum uint64 (0 ∷ 1 ∷ []) (number 18446744073709551615 ∷ number 2 ∷ []) ≡ number 1 }
     ensures span { aggregate_value Sum span (0 ∷ 1 ∷ []) (number 9223372036854775807 ∷ number 1 ∷ []) ≡ negative 9223372036854775808 }
     ensures small { means (alone int8 (number 100 ∷ number 100 ∷ null ∷ [])) (agg Sum a) ≡ Done (number 200 ∷ []) }
-    ensures rows { aggregate_value Groups (ListType uint32) (4294967297 ∷ []) (null ∷ []) ≡ list (number 1 ∷ []) }
+    ensures rows { aggregate_value Groups (ListType uint32) (4294967297 ∷ 4294967295 ∷ []) (null ∷ null ∷ []) ≡ list (number 1 ∷ number 4294967295 ∷ []) }
     ensures counts { Gives (count_value uint32) ((4294967295, number 4294967295) ∷ (4294967296, number 0) ∷ []) }
 {}
 

@@ -23,7 +23,7 @@ ghost use Rattle.plan_dsl.specs.Signatures.{function_signature};
 ghost use Rattle.plan_dsl.specs.Sources.{FieldAtOp, KeepRoot, Source, is_plain, written};
 ghost use Rattle.plan_dsl.specs.Trees.{node, no_more, more};
 ghost use Rattle.plan_dsl.specs.Typing.{typing};
-ghost use Rattle.plan_dsl.specs.Samples.{Gives, GivesOfTwo, GivesAll, int8, null, yes, no, struct_type, a, b, c, s, t, u, one, nothing, sum, binary, equal, cast_as, alias, call, of_many, of_one, means, alone, schema_ab, schema_abc, all_names, all, columns_named, columns_of_type, nth, but_named, form, prefix, plus, equals, source_alias};
+ghost use Rattle.plan_dsl.specs.Samples.{Gives, GivesOfTwo, GivesAll, int8, null, yes, no, struct_type, a, b, c, s, t, u, one, nothing, sum, binary, equal, cast_as, alias, call, of_many, of_one, means, alone, schema_ab, schema_abc, all_names, all, columns_named, columns_of_type, nth, but_named, selecting, root, form, prefix, plus, equals, source_alias};
 
 /// Over nothing a horizontal is a literal, over one operand a cast, and over more a chain from the left. Aliases go, and are
 /// kept where they are. From 128 operands on it stays, and so does one that has recorded names.
@@ -79,14 +79,19 @@ pub fn inputs_in_place()
         (source_call AllHorizontal (prefix "p" (written a) ∷ form KeepRoot all ∷ []), Ok (call AllHorizontal (alias "pa" a ∷ alias "a" a ∷ alias "b" b ∷ []) ∷ [])) ∷ []) }
     ensures beside { Gives (expansion [] schema_ab) (
         (equals (source_call AnyHorizontal (all ∷ [])) all, Ok (equal (call AnyHorizontal (a ∷ b ∷ [])) a ∷ equal (call AnyHorizontal (a ∷ b ∷ [])) b ∷ [])) ∷
+        (equals all (source_call AnyHorizontal (all ∷ [])), Ok (equal a (call AnyHorizontal (a ∷ b ∷ [])) ∷ equal b (call AnyHorizontal (a ∷ b ∷ [])) ∷ [])) ∷
         (source_call FillNull (all ∷ written one ∷ []), Ok (call FillNull (a ∷ one ∷ []) ∷ call FillNull (b ∷ one ∷ []) ∷ [])) ∷
         (source_alias "x" (source_call AllHorizontal (all ∷ [])), Ok (alias "x" (call AllHorizontal (a ∷ b ∷ [])) ∷ [])) ∷ []) }
     ensures refused { Gives (expansion [] schema_ab) (
         (source_call AllHorizontal (nth (pos 9) ∷ []), Err ColumnNotFound) ∷ (plus (source_call AllHorizontal (nth (pos 9) ∷ [])) (columns_named []), Err ColumnNotFound) ∷
         (source_call AllHorizontal (plus all (nth (pos 0)) ∷ []), Err InvalidOperation) ∷ (source_call AllHorizontal (form KeepRoot (written one) ∷ []), Err InvalidOperation) ∷
         (source_call AllHorizontal (source_alias "x" (form KeepRoot (written a)) ∷ []), Err InvalidOperation) ∷ (source_call FillNull (prefix "p" (written a) ∷ []), Err InvalidOperation) ∷ []) }
-    ensures keys { expansion (all_names ("a" ∷ [])) schema_ab (source_call AllHorizontal (all ∷ [])) ≡ Ok (call AllHorizontal (b ∷ []) ∷ []) }
-    ensures inside_markers { in_place [] schema_ab (but_named "a" all) ≡ Ok (but_named "a" all) }
+    ensures keys { Gives (expansion (all_names ("a" ∷ [])) schema_ab) (
+        (source_call AllHorizontal (all ∷ []), Ok (call AllHorizontal (b ∷ []) ∷ [])) ∷ (source_call AllHorizontal (written one ∷ all ∷ []), Ok (call AllHorizontal (one ∷ b ∷ []) ∷ [])) ∷
+        (equals (written a) (source_call AllHorizontal (all ∷ [])), Ok (equal a (call AllHorizontal (b ∷ [])) ∷ [])) ∷ []) }
+    ensures inside_markers { Gives (in_place [] schema_ab) (
+        (but_named "a" all, Ok (but_named "a" all)) ∷
+        (selecting (root (source_call AllHorizontal (nth (pos 9) ∷ []))), Ok (selecting (root (source_call AllHorizontal (nth (pos 9) ∷ []))))) ∷ []) }
     ensures predicates { Gives (predicate_expansion schema_ab) (
         (all_known_values None, Ok (call AllHorizontal (call IsNotNull (a ∷ []) ∷ call IsNotNull (b ∷ []) ∷ []))) ∷ (all_known_values (Some []), Ok (call AllHorizontal [])) ∷
         (all_known_values (Some (written b ∷ [])), Ok (call AllHorizontal (call IsNotNull (b ∷ []) ∷ []))) ∷ (nulls_filled (written one), Err ComputeError) ∷ []) }
@@ -104,6 +109,7 @@ pub fn fields_at_places()
         Gives (expansion [] columns) (
         (last (written s), Ok (named ∷ [])) ∷ (last (written a), Err InvalidOperation) ∷ (last (written b), Err ColumnNotFound) ∷ (last (written (sum s s)), Err InvalidOperation) ∷ (last (last (written s)), Err InvalidOperation) ∷
         (last (columns_named ("s" ∷ [])), Ok (named ∷ [])) ∷ (last all, Err InvalidOperation) ∷ (form KeepRoot (last (written s)), Ok (alias "s" named ∷ [])) ∷ (source_alias "z" (last (written s)), Ok (alias "z" named ∷ [])) ∷
+        (plus (written a) (last (written s)), Ok (sum a named ∷ [])) ∷ (plus (last (written s)) (last (written b)), Err ColumnNotFound) ∷
         (source_call AllHorizontal (last (written s) ∷ last all ∷ []), Err InvalidOperation) ∷ (source_call AllHorizontal (last (written s) ∷ []), Ok (call AllHorizontal (named ∷ []) ∷ [])) ∷
         (node (FieldAtOp (pos 0)) no_more, Err InvalidOperation) ∷ (node (FieldAtOp (pos 0)) (more (written s) (more (written s) no_more)), Err InvalidOperation) ∷ []) }
 {}

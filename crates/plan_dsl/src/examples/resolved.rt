@@ -7,7 +7,7 @@ ghost use Rattle.plan_types.specs.Frames.{empty_frame};
 ghost use Rattle.plan_types.specs.declared.error.ErrorKind.TheVariants.{ColumnNotFound, Duplicate, InvalidOperation, ComputeError};
 ghost use Rattle.plan_dsl.specs.declared.aggregate.GroupByMethod.TheVariants.{Sum};
 ghost use Rattle.plan_dsl.specs.Trees.{node, no_more, more};
-ghost use Rattle.plan_dsl.specs.Plans.{ScanKind, SelectKind, FilterKind, RefusedKind, PlanOp, Named, named, select_op, filter_op, scans_in, source_select};
+ghost use Rattle.plan_dsl.specs.Plans.{ScanKind, SelectKind, HStackKind, FilterKind, RefusedKind, PlanOp, Named, named, select_op, filter_op, scans_in, source_select};
 ghost use Rattle.plan_dsl.specs.Ops.{Expression};
 ghost use Rattle.plan_dsl.specs.Sources.{written, KeepRoot};
 ghost use Rattle.plan_dsl.specs.PlanRules.{plan_rule, schema_of, broken_kinds, IsWellFormed, Breaks};
@@ -24,7 +24,9 @@ pub fn kinds_that_are_resolved()
         (FilterKind (written a), Some schema_ab ∷ [], Ok (FilterKind (named a))) ∷
         (SelectKind (all ∷ written one ∷ []), Some schema_abc ∷ [], Ok (SelectKind (map named (a ∷ b ∷ c ∷ one ∷ [])))) ∷
         (SelectKind (columns_of_type DateType ∷ []), Some schema_abc ∷ [], Ok (SelectKind [])) ∷
+        (HStackKind (columns_of_type int8 ∷ written one ∷ []), Some schema_abc ∷ [], Ok (HStackKind (map named (a ∷ b ∷ one ∷ [])))) ∷
         (FilterKind (equals (nth (pos 1)) (written one)), Some schema_abc ∷ [], Ok (FilterKind (named (equal b one)))) ∷
+        (RefusedKind (Duplicate ∷ []), Some schema_ab ∷ [], Ok (RefusedKind (Duplicate ∷ []))) ∷
         (FilterKind (form KeepRoot (written (alias "x" a))), Some schema_abc ∷ [], Ok (FilterKind (named (alias "a" a)))) ∷
         (FilterKind (written a), None ∷ [], Err []) ∷
         (SelectKind (written a ∷ []), Some schema_ab ∷ None ∷ [], Err []) ∷ []) }

@@ -109,6 +109,8 @@ pub fn values_sorted_by_keys()
         (each, (number 1 ∷ []) ∷ (number 1 ∷ number 2 ∷ number 3 ∷ []) ∷ [], Done (number 9 ∷ null ∷ number 7 ∷ [])) ∷
         (each, (number 1 ∷ number 2 ∷ []) ∷ [], Fault) ∷ (each, [] ∷ [], Fault) ∷ (each, (number 1 ∷ []) ∷ (number 1 ∷ number 2 ∷ []) ∷ [], Fault) ∷
         ([], (number 1 ∷ []) ∷ [], Done []) ∷ (null ∷ [], (number 1 ∷ []) ∷ [], Done (null ∷ [])) ∷ (number 5 ∷ [], (number 1 ∷ number 2 ∷ []) ∷ [], Fault) ∷ []) }
+    ensures more_keys_than_values { let keys : List (List Val) = (number 1 ∷ []) ∷ (yes ∷ yes ∷ []) ∷ (number 5 ∷ number 4 ∷ []) ∷ [] in
+        Gives (λ flag. sort_by_values (flag ∷ []) (false ∷ []) (text "p" ∷ text "q" ∷ []) keys) ((false, Done (text "q" ∷ text "p" ∷ [])) ∷ (true, Done (text "p" ∷ text "q" ∷ [])) ∷ []) }
     ensures parts { let keys : List (List Val) = (number 1 ∷ null ∷ []) ∷ (yes ∷ []) ∷ [] in
         (key_rows 2 keys ≡ Done ((number 1 ∷ yes ∷ []) ∷ (null ∷ yes ∷ []) ∷ []))
         × (key_options 2 (true ∷ []) (false ∷ true ∷ []) ≡ way true false ∷ way true true ∷ []) × (key_options 0 (true ∷ []) [] ≡ []) }

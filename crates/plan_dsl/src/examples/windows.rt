@@ -102,6 +102,7 @@ pub fn windows_over_functions()
         ((null ∷ yes ∷ null ∷ yes ∷ []) ∷ (null ∷ null ∷ yes ∷ null ∷ []) ∷ [], Done (number 0 ∷ number 0 ∷ number 0 ∷ number 1 ∷ [])) ∷ []) }
     ensures turned { Gives (λ order. window_values (Some order) turns (7 ∷ 5 ∷ 7 ∷ 6 ∷ []) ((number 1 ∷ number 2 ∷ null ∷ number 3 ∷ []) ∷ (no ∷ yes ∷ no ∷ no ∷ []) ∷ [])) (
         (rising, Done (number 1 ∷ number 0 ∷ number 0 ∷ number 2 ∷ [])) ∷ (way true true, Done (number 1 ∷ number 0 ∷ number 2 ∷ number 0 ∷ [])) ∷ []) }
+    ensures without_order { window_values (Some rising) turns (7 ∷ []) [] ≡ Stuck }
     ensures columns { let rows = 7 ∷ 5 ∷ 7 ∷ [] in let keys = (null ∷ yes ∷ null ∷ []) ∷ [] in
         (of_each number rows ≡ Done (number 7 ∷ number 5 ∷ number 7 ∷ [])) × (window_values None (of_each number) rows keys ≡ of_each number rows) ×
         (window_values (Some (way true true)) (of_each number) rows ((number 1 ∷ number 2 ∷ number 3 ∷ []) ∷ keys) ≡ of_each number rows) }
