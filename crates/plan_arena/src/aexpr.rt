@@ -207,7 +207,12 @@ impl AExpr {
         ensures unchanged { OnErr result (nodes.new.items ≡ nodes.old.items) }
         ensures err { IfErr result (λ error. error ≡ no_memory) }
     {
-        push_reversed(nodes, &self.input_nodes())
+        match self {
+            AExpr::Column(_) | AExpr::Literal(_) => Ok(()),
+            AExpr::BinaryExpr { left, right, .. } => push_two(nodes, *right, *left),
+            AExpr::Cast { expr, .. } => push_one(nodes, *expr),
+            _ => push_reversed(nodes, &self.input_nodes()),
+        }
     }
 
     /// The inputs in order.
@@ -216,6 +221,10 @@ impl AExpr {
         ensures err { IfErr result (λ error. error ≡ no_memory) }
     {
         let mut nodes: Nodes = SmallVec::new(alloc);
+        if let AExpr::BinaryExpr { left, right, .. } = self {
+            push_two(&mut nodes, *left, *right)?;
+            return Ok(nodes);
+        }
         self.push_inputs(&mut nodes)?;
         nodes.as_mut_slice().reverse();
         Ok(nodes)
@@ -507,6 +516,28 @@ fn push_passed(
             Ok(())
         }
     }
+}
+
+// Appends a node.
+fn push_one(nodes: &mut Nodes, node: Node) -> Result<(), PlanError>
+    ensures ok { OnOk result (numbers nodes.new.items ≡ numbers nodes.old.items ++ (node.0 ∷ [])) }
+    ensures unchanged { OnErr result (nodes.new.items ≡ nodes.old.items) }
+    ensures err { IfErr result (λ error. error ≡ no_memory) }
+{
+    nodes.push(node)?;
+    Ok(())
+}
+
+// Appends two nodes, both or none.
+fn push_two(nodes: &mut Nodes, first: Node, second: Node) -> Result<(), PlanError>
+    ensures ok { OnOk result (numbers nodes.new.items ≡ numbers nodes.old.items ++ (first.0 ∷ second.0 ∷ [])) }
+    ensures unchanged { OnErr result (nodes.new.items ≡ nodes.old.items) }
+    ensures err { IfErr result (λ error. error ≡ no_memory) }
+{
+    nodes.reserve(2)?;
+    nodes.push_reserved(first);
+    nodes.push_reserved(second);
+    Ok(())
 }
 
 // Appends a node's inputs in reverse, all or none.
