@@ -5,6 +5,8 @@ pub mod LabelLemmas
 mod NamedLemmas
 pub mod NumberLemmas
 pub mod OperandNameLemmas
+pub mod OptionLemmas
 pub mod PlanSchemaLemmas
+pub mod RecordedSchemaLemmas
 pub mod RunLemmas
 pub mod WindowLemmas

@@ -66,7 +66,7 @@ equal_so Equal e = refl
 equal_so Greater e = cc
 
 -- nodes that compare as equal have one number
-same_number : (m n : Node) → is_at ((node_order.ghosts).cmp m) n ≡ true → m.0 ≡ n.0
+pub same_number : (m n : Node) → is_at ((node_order.ghosts).cmp m) n ≡ true → m.0 ≡ n.0
 same_number m n e = exact_unsigned m.0 n.0 (equal_so ((node_order.ghosts).cmp m n) e)
 
 by_test : (plans : List IR) (test : Bool) (m n : ℕ) (kept schema : Schema) (before now : Option Schema) → (test ≡ true → m ≡ n) → now ≡ cond test (Some kept) before → IsSchemaAt plans m (columns kept) → (before ≡ Some schema → IsSchemaAt plans n (columns schema)) → now ≡ Some schema → IsSchemaAt plans n (columns schema)

@@ -7,6 +7,8 @@ ghost use Rattle.plan_dsl.specs.PlanRules.{schema_of};
 ghost use Rattle.plan_dsl.specs.Registry.{Registry};
 ghost use Rattle.plan_arena.specs.Items.{node_name, plan_layer, DenotesItem, HasInputs};
 ghost use Rattle.plan_arena.specs.Layers.{op_of};
+ghost use Rattle.plan_arena.specs.Options.{option_of};
+ghost use Rattle.plan_arena.specs.RecordedSchemas.{schema_recorded};
 ghost use Rattle.plan_arena.specs.Runs.{IsAccepted};
 ghost use Rattle.plan_arena.specs.declared.aexpr.AExpr.{AExpr};
 
@@ -64,9 +66,10 @@ pub enum IR {
 }
 
 impl IR {
-    /// The same node, over the same inputs and expressions.
+    /// The same node, over the same inputs and expressions, with the same options.
     pub fn try_clone(&self, alloc: Global) -> Result<IR, PlanError>
         ensures ok { IfOk result (λ copy. plan_layer copy ≡ plan_layer self.now) }
+        ensures options { IfOk result (λ copy. option_of copy ≡ option_of self.now) }
         ensures err { IfErr result (λ error. error ≡ no_memory) }
     {
         match self {
@@ -111,8 +114,8 @@ impl IR {
         }
     }
 
-    /// The schema of the node's frame: the one that it records, and of a plan that is accepted the one that the
-    /// rules give it. The node's inputs lie in the arena.
+    /// The schema of the node's frame: the one that it records, or else a node below, and of a plan that is accepted
+    /// the one that the rules give it. The node's inputs lie in the arena.
     pub fn schema(
         &self,
         alloc: Global,
@@ -121,6 +124,8 @@ impl IR {
     ) -> Result<Schema, PlanError>
         requires { HasInputs arena.now self.now }
         ensures recorded { IfOk result (λ schema. IfSome (op_of (plan_layer self.now)).recorded (λ own. columns schema ≡ own)) }
+        ensures denoted { IfOk result (λ schema. (expressions : List AExpr) (plan : Plan) →
+            DenotesItem expressions arena.now self.now plan → schema_recorded plan ≡ Some (columns schema)) }
         ensures rule { IfOk result (λ schema. (expressions : List AExpr) (registry : Registry) (plan : Plan) →
             DenotesItem expressions arena.now self.now plan → IsAccepted registry plan → schema_of registry plan ≡ Some (columns schema)) }
         ensures err { IfErr result (λ error. error ≡ no_memory) }
@@ -132,6 +137,8 @@ impl IR {
     pub fn schema_ref<'a>(&'a self, arena: &'a Arena<IR>) -> &'a Schema
         requires { HasInputs arena.now self.now }
         ensures recorded { IfSome (op_of (plan_layer self.now)).recorded (λ own. columns result.now ≡ own) }
+        ensures denoted { (expressions : List AExpr) (plan : Plan) →
+            DenotesItem expressions arena.now self.now plan → schema_recorded plan ≡ Some (columns result.now) }
         ensures rule { (expressions : List AExpr) (registry : Registry) (plan : Plan) →
             DenotesItem expressions arena.now self.now plan → IsAccepted registry plan → schema_of registry plan ≡ Some (columns result.now) }
     {
@@ -161,6 +168,7 @@ impl IR {
 
 fn scan_copy(table: Option<u32>, schema: &Schema, alloc: Global) -> Result<IR, PlanError>
     ensures ok { IfOk result (λ copy. plan_layer copy ≡ plan_layer (IR.DataFrameScan table schema.now)) }
+    ensures options { IfOk result (λ copy. option_of copy ≡ option_of (IR.DataFrameScan table schema.now)) }
     ensures err { IfErr result (λ error. error ≡ no_memory) }
 {
     let schema = schema.try_clone(alloc)?;
@@ -169,6 +177,7 @@ fn scan_copy(table: Option<u32>, schema: &Schema, alloc: Global) -> Result<IR, P
 
 fn filter_copy(input: Node, predicate: &ExprIR, alloc: Global) -> Result<IR, PlanError>
     ensures ok { IfOk result (λ copy. plan_layer copy ≡ plan_layer (IR.Filter input predicate.now)) }
+    ensures options { IfOk result (λ copy. option_of copy ≡ option_of (IR.Filter input predicate.now)) }
     ensures err { IfErr result (λ error. error ≡ no_memory) }
 {
     let predicate = predicate.try_clone(alloc)?;
@@ -184,6 +193,7 @@ fn group_by_copy(
     alloc: Global,
 ) -> Result<IR, PlanError>
     ensures ok { IfOk result (λ copy. plan_layer copy ≡ plan_layer (IR.GroupBy input keys.now aggs.now schema.now maintain_order)) }
+    ensures options { IfOk result (λ copy. option_of copy ≡ option_of (IR.GroupBy input keys.now aggs.now schema.now maintain_order)) }
     ensures err { IfErr result (λ error. error ≡ no_memory) }
 {
     let keys = keys.try_clone(alloc)?;
@@ -206,6 +216,7 @@ fn hstack_copy(
     alloc: Global,
 ) -> Result<IR, PlanError>
     ensures ok { IfOk result (λ copy. plan_layer copy ≡ plan_layer (IR.HStack exprs.now input schema.now options)) }
+    ensures options { IfOk result (λ copy. option_of copy ≡ option_of (IR.HStack exprs.now input schema.now options)) }
     ensures err { IfErr result (λ error. error ≡ no_memory) }
 {
     let exprs = exprs.try_clone(alloc)?;
@@ -226,6 +237,7 @@ fn select_copy(
     alloc: Global,
 ) -> Result<IR, PlanError>
     ensures ok { IfOk result (λ copy. plan_layer copy ≡ plan_layer (IR.Select expr.now input schema.now options)) }
+    ensures options { IfOk result (λ copy. option_of copy ≡ option_of (IR.Select expr.now input schema.now options)) }
     ensures err { IfErr result (λ error. error ≡ no_memory) }
 {
     let expr = expr.try_clone(alloc)?;
@@ -240,6 +252,7 @@ fn select_copy(
 
 fn projection_copy(input: Node, columns: &Schema, alloc: Global) -> Result<IR, PlanError>
     ensures ok { IfOk result (λ copy. plan_layer copy ≡ plan_layer (IR.SimpleProjection input columns.now)) }
+    ensures options { IfOk result (λ copy. option_of copy ≡ option_of (IR.SimpleProjection input columns.now)) }
     ensures err { IfErr result (λ error. error ≡ no_memory) }
 {
     let columns = columns.try_clone(alloc)?;

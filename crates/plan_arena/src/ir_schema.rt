@@ -1,5 +1,6 @@
 //! Schemas that go into nodes of a lowered plan, and schemas that are kept by node.
-ghost use Rattle.std.specs.Prelude.{◌≡◌, [], List, MatchOption, IfOk, IfErr, Some, slice_get};
+ghost use Rattle.std.specs.Prelude.{◌≡◌, ◌≢◌, [], List, MatchOption, IfOk, IfErr, OnErr, Some, slice_get};
+ghost use Rattle.std.specs.BTreeMap.{IsUnchanged};
 ghost use Rattle.std.specs.Option.{option_map};
 ghost use Rattle.plan_types.specs.Errors.{no_memory};
 ghost use Rattle.plan_types.specs.Schemas.{columns};
@@ -11,6 +12,7 @@ ghost use Rattle.plan_dsl.specs.Registry.{Registry};
 ghost use Rattle.plan_arena.specs.Items.{plan_layer, DenotesItem, HasInputs};
 ghost use Rattle.plan_arena.specs.Layers.{inputs_of, op_of};
 ghost use Rattle.plan_arena.specs.PlanSchemas.{cached_at, scanned, schema_into, DenotesSomePlan, IsRightCache, IsSchemaAt};
+ghost use Rattle.plan_arena.specs.RecordedSchemas.{recorded_into, IsRecordedAt, KeepsRecorded};
 ghost use Rattle.plan_arena.specs.Runs.{AllAccepted};
 ghost use Rattle.plan_arena.specs.declared.aexpr.AExpr.{AExpr};
 
@@ -32,6 +34,8 @@ impl IR {
         udfs: &Udfs,
     ) -> Result<Option<Schema>, PlanError>
         requires { HasInputs arena.now self.now }
+        ensures denoted { IfOk result (λ schema. (expressions : List AExpr) (op : PlanOp (Named Expression)) (inputs : Trees (PlanOp (Named Expression))) →
+            DenotesItem expressions arena.now self.now (node op inputs) → option_map columns schema ≡ recorded_into op.kind inputs) }
         ensures rule { IfOk result (λ schema. (expressions : List AExpr) (registry : Registry) (op : PlanOp (Named Expression)) (inputs : Trees (PlanOp (Named Expression))) →
             DenotesItem expressions arena.now self.now (node op inputs) → AllAccepted registry inputs → option_map columns schema ≡ schema_into registry op.kind inputs) }
         ensures err { IfErr result (λ error. error ≡ no_memory) }
@@ -76,8 +80,8 @@ impl IR {
         }
     }
 
-    /// The schema of the frame of the node, by what is kept of it or else by `schema`, and then kept. What was kept
-    /// stays.
+    /// The schema of the frame of the node, by what is kept of it or else by `schema`, and then kept. What is kept of
+    /// other nodes stays, and nothing more is kept of them; after a refusal the cache is as it was.
     pub fn schema_with_cache(
         alloc: Global,
         node: Node,
@@ -90,6 +94,10 @@ impl IR {
         ensures ok { IfOk result (λ schema. IsSchemaAt arena.now node.0 (columns schema)) }
         ensures kept { IfOk result (λ schema. option_map columns (cached_at cache.new node) ≡ Some (columns schema)) }
         ensures stays { (n : Node) (kept : Schema) → cached_at cache.old n ≡ Some kept → cached_at cache.new n ≡ Some kept }
+        ensures denoted { KeepsRecorded arena.now cache.old → IfOk result (λ schema. IsRecordedAt arena.now node.0 (columns schema)) }
+        ensures recorded { KeepsRecorded arena.now cache.old → KeepsRecorded arena.now cache.new }
+        ensures others { (n : Node) → n ≢ node → cached_at cache.new n ≡ cached_at cache.old n }
+        ensures unchanged { OnErr result (IsUnchanged cache.old cache.new) }
         ensures right { IsRightCache arena.now cache.new }
         ensures err { IfErr result (λ error. error ≡ no_memory) }
     {

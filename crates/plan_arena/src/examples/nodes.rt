@@ -17,7 +17,7 @@ ghost use Rattle.plan_dsl.specs.declared.window.WindowType.TheVariants.{GroupsTo
 ghost use Rattle.plan_dsl.specs.Trees.{node, no_more, more};
 ghost use Rattle.plan_dsl.specs.Names.{FromField, FromNothing, alias_label, column_label, literal_label};
 ghost use Rattle.plan_dsl.specs.Ops.{ColumnOp, LiteralOp, BinaryOp, CastOp, LenOp, SliceOp, AliasOp, ExplodeOp, GatherOp, FilterOp, SortOp, SortByOp, WindowOp, Expression};
-ghost use Rattle.plan_dsl.specs.Plans.{FilterKind, GroupByKind, HStackKind, Named, RefusedKind, ScanKind, SelectKind, named, scan_op, select_op, hstack_op, group_by_op, simple_projection_op, filter_op, DropKind, SimpleProjectionKind};
+ghost use Rattle.plan_dsl.specs.Plans.{FilterKind, GroupByKind, HStackKind, Named, OrderOption, ProjectionOption, RefusedKind, ScanKind, SelectKind, named, scan_op, select_op, hstack_op, group_by_op, simple_projection_op, filter_op, DropKind, SimpleProjectionKind};
 ghost use Rattle.plan_dsl.specs.Samples.{Gives, GivesOfTwo, int8, int32, a, alias, b, cast_as, column, count, keep, literal, over, over_by, slice, sort_by, sum, typed_literal, way, schema_ab};
 ghost use Rattle.plan_arena.specs.declared.aexpr.AExpr.{AExpr};
 ghost use Rattle.plan_arena.specs.declared.aexpr.AExpr.TheVariants.{Column, Literal, BinaryExpr, Cast, Len, Slice, Alias, Explode, Gather, Filter as FilterBy, Sort, SortBy, Window};
@@ -33,6 +33,7 @@ ghost use Rattle.plan_arena.specs.Layers.{layer, op_of, inputs_of, shape_of};
 ghost use Rattle.plan_arena.specs.Denotation.{Denotes, DenotesTree, depth_at, greatest, inputs_at};
 ghost use Rattle.plan_arena.specs.Items.{expression_layer, kind_text, output_label, named_node, node_name, ordered, ordering, passed, plan_layer, DenoteNamed, DenotesItem, DenotesKind, DenotesPlan, Grows, HasInputs, HoldsExpression, HoldsFrom, HoldsPlan, Rewired};
 ghost use Rattle.plan_arena.specs.NamedNodes.{same_named};
+ghost use Rattle.plan_arena.specs.Options.{option_of, options_of};
 ghost use Rattle.plan_arena.specs.Samples.{a_at, circle, literal_at, named_at, node_at, strict_sum, sum_items, wide_a};
 
 /// The layer of an item is what it does, with its expressions' names and its schema, and the numbers of its inputs.
@@ -69,6 +70,20 @@ pub fn layers_of_items()
     ensures names { (schema : Schema) (input : Node) (predicate : ExprIR) (exprs : ExprIRs) (options : ProjectionOptions) → Gives node_name
         ((DataFrameScan (Some 0) schema, codes "df") ∷ (DataFrameScan None schema, codes "df") ∷ (Filter input predicate, codes "selection")
         ∷ (GroupBy input exprs exprs schema false, codes "aggregate") ∷ (HStack exprs input schema options, codes "hstack") ∷ (Select exprs input schema options, codes "projection") ∷ (SimpleProjection input schema, codes "simple_projection") ∷ (Invalid, codes "invalid") ∷ []) }
+{}
+
+/// The option of an item, and those of an arena's items in the order of their numbers.
+pub fn options_of_items()
+    ensures items { (exprs aggs : ExprIRs) (schema : Schema) → let checked : ProjectionOptions = record { duplicate_check = true } in
+        let unchecked : ProjectionOptions = record { duplicate_check = false } in Gives option_of (
+        (Select exprs (node_at 5) schema checked, ProjectionOption checked ∷ []) ∷ (Select exprs (node_at 5) schema unchecked, ProjectionOption unchecked ∷ []) ∷
+        (HStack exprs (node_at 5) schema checked, ProjectionOption checked ∷ []) ∷ (HStack exprs (node_at 5) schema unchecked, ProjectionOption unchecked ∷ []) ∷
+        (GroupBy (node_at 5) exprs aggs schema true, OrderOption true ∷ []) ∷ (GroupBy (node_at 5) exprs aggs schema false, OrderOption false ∷ []) ∷
+        (DataFrameScan (Some 2) schema, []) ∷ (Filter (node_at 5) (a_at 3), []) ∷ (SimpleProjection (node_at 5) schema, []) ∷ (Invalid, []) ∷ []) }
+    ensures arena { (exprs aggs : ExprIRs) (schema : Schema) → let checked : ProjectionOptions = record { duplicate_check = true } in
+        options_of (DataFrameScan None schema ∷ Select exprs (node_at 0) schema checked ∷ Filter (node_at 1) (a_at 3) ∷ GroupBy (node_at 2) exprs aggs schema true ∷ [])
+        ≡ ProjectionOption checked ∷ OrderOption true ∷ [] }
+    ensures nothing { options_of [] ≡ [] }
 {}
 
 /// The name that an item keeps, with what it comes from.

@@ -7,12 +7,13 @@ ghost use Rattle.plan_types.specs.declared.schema.Schema.{Schema};
 ghost use Rattle.plan_dsl.specs.Trees.{no_more, more};
 ghost use Rattle.plan_dsl.specs.Ops.{Expression};
 ghost use Rattle.plan_dsl.specs.Plans.{FilterKind, Named, ScanKind, SelectKind, SimpleProjectionKind, empty_table, named};
-ghost use Rattle.plan_dsl.specs.Samples.{Gives, GivesOfTwo, a, int8, scan, schema_ab};
+ghost use Rattle.plan_dsl.specs.Samples.{Gives, GivesOfTwo, a, b, column, int8, keep, scan, schema_ab, schema_flagged};
 ghost use Rattle.plan_arena.specs.declared.arena.Node.{Node};
 ghost use Rattle.plan_arena.specs.declared.ir.IR.{IR};
 ghost use Rattle.plan_arena.specs.declared.ir.IR.TheVariants.{DataFrameScan, Invalid};
 ghost use Rattle.plan_arena.specs.PlanSchemas.{cached_at, scanned, schema_into, DenotesSomePlan, IsRightCache, IsSchemaAt};
-ghost use Rattle.plan_arena.specs.Samples.{narrowed, node_at, schema_of_one};
+ghost use Rattle.plan_arena.specs.RecordedSchemas.{recorded_into, schema_recorded, IsRecordedAt, KeepsRecorded};
+ghost use Rattle.plan_arena.specs.Samples.{lowered_projection, narrowed, node_at, schema_of_one};
 
 /// What goes into a node has the schema of its first input, and what goes into a scan its own.
 pub fn schemas_into_nodes()
@@ -30,6 +31,17 @@ pub fn schemas_of_nodes()
     ensures denotes { (schema : Schema) → DenotesSomePlan (DataFrameScan (Some 0) schema ∷ []) 0 }
     ensures no_such_node { ¬ (DenotesSomePlan [] 0) }
     ensures taken_out { ¬ (DenotesSomePlan (Invalid ∷ []) 0) }
+{}
+
+/// The schema that is recorded of a plan's frame, at the top or below: also of a filter by a number, which no rule allows.
+pub fn schemas_that_are_recorded()
+    ensures plans { Gives schema_recorded ((scan schema_ab, Some schema_ab) ∷ (empty_table, Some []) ∷ (narrowed, Some (schema_of_one "b" int8))
+        ∷ (lowered_projection (schema_of_one "b" int8) (scan schema_ab), Some (schema_of_one "b" int8))
+        ∷ (keep (column "keep") (scan schema_flagged), Some schema_flagged) ∷ (keep a (scan schema_flagged), Some schema_flagged) ∷ (keep a (keep b narrowed), Some (schema_of_one "b" int8)) ∷ []) }
+    ensures into { GivesOfTwo recorded_into ((ScanKind None schema_ab, no_more, Some schema_ab) ∷ (SelectKind [], more (keep a narrowed) no_more, Some (schema_of_one "b" int8))
+        ∷ (FilterKind (named a), more (scan schema_ab) no_more, Some schema_ab) ∷ (SelectKind [], no_more, None) ∷ []) }
+    ensures scan { (schema : Schema) → IsRecordedAt (DataFrameScan (Some 0) schema ∷ []) 0 (columns schema) }
+    ensures empty { (plans : List IR) (cache : BTreeMap Node Schema) → cache.entries ≡ [] → KeepsRecorded plans cache }
 {}
 
 /// A cache is right where what it keeps of a node is its schema.

@@ -1,6 +1,7 @@
 use Rattle.plan_types.specs.Schemas.{columns}
 use Rattle.plan_arena.proofs.ItemLemmas.{plan_within, item_inputs}
 use Rattle.plan_arena.proofs.PlanSchemaLemmas.{first_plan, first_schema}
+use Rattle.plan_arena.proofs.RecordedSchemaLemmas.{first_records}
 use Rattle.plan_arena.proofs.ir.IR.input_schema.Goals as goal
 
 pub get-requires : goal.get-requires
@@ -14,3 +15,7 @@ schema-requires c =
 pub returns-in_ok-schema-in-Some-clause-rule : goal.returns-in_ok-schema-in-Some-clause-rule
 returns-in_ok-schema-in-Some-clause-rule c =
     first_schema c.args.arena.now c.args.self.now c.get.result.now c.in-Some.first.0 (columns c.in_ok-schema-in-Some.schema) c.in-Some.ensures c.get.ensures c.in_ok-schema-in-Some.ensures.rule
+
+pub returns-in_ok-schema-in-Some-clause-denoted : goal.returns-in_ok-schema-in-Some-clause-denoted
+returns-in_ok-schema-in-Some-clause-denoted c =
+    first_records c.args.arena.now c.args.self.now c.get.result.now c.in-Some.first.0 (columns c.in_ok-schema-in-Some.schema) c.in-Some.ensures c.get.ensures c.in_ok-schema-in-Some.ensures.denoted

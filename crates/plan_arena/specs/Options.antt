@@ -1,0 +1,20 @@
+-- The options that items of a lowered plan carry: what they do has none of them, since they mean nothing.
+use Rattle.std.specs.Prelude.{List, [], ◌∷◌}
+use Rattle.std.specs.List.{flat_map}
+use Rattle.plan_dsl.specs.Plans.{PlanOption, OrderOption, ProjectionOption}
+use Rattle.plan_arena.specs.declared.ir.IR.{IR}
+use Rattle.plan_arena.specs.declared.ir.IR.TheVariants.{DataFrameScan, Filter, GroupBy, HStack, Select, SimpleProjection, Invalid}
+
+-- the option of an item, if it has one
+abbrev pub option_of : IR → List PlanOption
+option_of (DataFrameScan table schema) = []
+option_of (Select expr input schema options) = ProjectionOption options ∷ []
+option_of (HStack exprs input schema options) = ProjectionOption options ∷ []
+option_of (GroupBy input keys aggs schema maintain_order) = OrderOption maintain_order ∷ []
+option_of (Filter input predicate) = []
+option_of (SimpleProjection input schema) = []
+option_of Invalid = []
+
+-- the options of an arena's items, in the order of their numbers
+abbrev pub options_of : List IR → List PlanOption
+options_of items = flat_map option_of items
