@@ -36,7 +36,7 @@ pub enum Context {
 impl TypeTable {
     /// The name and type of the column of a node over a frame of the schema. In an aggregation a column that may have
     /// another length than one is a list. A node of which something is kept is not typed anew: `typings` counts the uses of
-    /// the rule, at most one for each entry that is added, and one more where the answer is a refusal.
+    /// the rule, one for each entry that is added, and at most one more where the answer is a refusal.
     pub fn field_of<M: Ledger>(
         &mut self,
         node: Node,
@@ -53,7 +53,7 @@ impl TypeTable {
         ensures kept { OnOk result (IsKept self.new node.0) }
         ensures right { IsRight (registry udfs.now) (columns schema.now) arena.now self.new }
         ensures extends { Extends self.old self.new }
-        ensures counted { OnOk result (typings.new + kept_count self.old ≤ typings.old + kept_count self.new) }
+        ensures counted { OnOk result (typings.new + kept_count self.old ≡ typings.old + kept_count self.new) }
         ensures refused { OnErr result (typings.new + kept_count self.old ≤ typings.old + kept_count self.new + 1) }
         ensures err { IfErr result (λ error. (t : Expression) → Denotes (HoldsExpression arena.now) node.0 t →
             IsRefusal (typing (registry udfs.now) (columns schema.now) t) error) }

@@ -48,7 +48,7 @@ pub(crate) fn type_node<M: Ledger>(
     ensures right { IsRight (registry udfs.now) (columns schema.now) arena.now types.new }
     ensures extends { Extends types.old types.new }
     ensures below { (n : ℕ) → IsKept types.new n → IsKept types.old n ⊎ (node_depth arena.now n ≤ node_depth arena.now node.0) }
-    ensures counted { OnOk result (typings.new + kept_count types.old ≤ typings.old + kept_count types.new) }
+    ensures counted { OnOk result (typings.new + kept_count types.old ≡ typings.old + kept_count types.new) }
     ensures refused { OnErr result (typings.new + kept_count types.old ≤ typings.old + kept_count types.new + 1) }
     ensures err { IfErr result (λ error. (t : Expression) → Denotes (HoldsExpression arena.now) node.0 t →
         IsRefusal (typing (registry udfs.now) (columns schema.now) t) error) }
@@ -93,7 +93,7 @@ fn type_ready<M: Ledger>(
     ensures right { IsRight (registry udfs.now) (columns schema.now) arena.now types.new }
     ensures extends { Extends types.old types.new }
     ensures only { (n : ℕ) → IsKept types.new n → IsKept types.old n ⊎ (n ≡ node.0) }
-    ensures counted { OnOk result (typings.new + kept_count types.old ≤ typings.old + kept_count types.new) }
+    ensures counted { OnOk result (typings.new + kept_count types.old ≡ typings.old + kept_count types.new) }
     ensures refused { OnErr result (typings.new + kept_count types.old ≤ typings.old + kept_count types.new + 1) }
     ensures err { IfErr result (λ error. (t : Expression) → Denotes (HoldsExpression arena.now) node.0 t →
         IsRefusal (typing (registry udfs.now) (columns schema.now) t) error) }
@@ -136,7 +136,7 @@ fn type_over<M: Ledger>(
     ensures right { IsRight (registry udfs.now) (columns schema.now) arena.now types.new }
     ensures extends { Extends types.old types.new }
     ensures only { (n : ℕ) → IsKept types.new n → IsKept types.old n ⊎ (n ≡ node.0) }
-    ensures counted { OnOk result (typings.new + kept_count types.old ≤ typings.old + kept_count types.new) }
+    ensures counted { OnOk result (typings.new + kept_count types.old ≡ typings.old + kept_count types.new) }
     ensures refused { OnErr result (typings.new + kept_count types.old ≤ typings.old + kept_count types.new + 1) }
     ensures err { IfErr result (λ error. (t : Expression) → Denotes (HoldsExpression arena.now) node.0 t →
         IsRefusal (typing (registry udfs.now) (columns schema.now) t) error) }

@@ -1,4 +1,4 @@
-use Rattle.std.proofs.Common.{◌⊎◌, ◌+◌, ◌<◌, ◌≤◌, ℕ, map, take}
+use Rattle.std.proofs.Common.{◌≡◌, ◌⊎◌, ◌+◌, ◌<◌, ℕ, map, take}
 use Rattle.std.specs.List.{AllByRecursion}
 use Rattle.plan_types.specs.Schemas.{columns}
 use Rattle.plan_dsl.specs.Registry.{registry}
@@ -17,5 +17,5 @@ invariant-loop-index g l = record {
   extends : Extends l.initial.types l.types;
   kept : AllByRecursion (IsKept l.types) (take l.index l.inputs);
   below : (n : ℕ) → IsKept l.types n → IsKept l.initial.types n ⊎ (node_depth l.arena n < node_depth l.arena l.node.0);
-  counted : l.typings + kept_count l.initial.types ≤ l.initial.typings + kept_count l.types;
+  counted : l.typings + kept_count l.initial.types ≡ l.initial.typings + kept_count l.types;
 }
