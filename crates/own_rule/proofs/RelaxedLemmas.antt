@@ -61,8 +61,7 @@ module _ (registry : Registry) (schema : Columns) where
   -- a count of rows over a number without a type would stay
   settles_numbers : SettlesNoNumber (said (is_relaxed registry schema) registry schema) registry schema → ⊥
   settles_numbers none =
-      let number : Typed = record { type = Untyped (pos 5); many = false } in
-      false≢true (none LenOp (more five no_more) (number ∷ []) refl refl).0
+      false≢true ((none LenOp (more five no_more) refl).0 (record { type = Untyped (pos 5); many = false }) refl)
 
 -- a node of which something is kept is all that is asked of roots
 module _ {registry : Registry} {schema : Columns} {items : List AExpr} {table : TypeTable} {n : ℕ} {roots : List ℕ} (right : IsRight registry schema items table) (k : IsKept table n) (only : roots ≡ n ∷ []) where

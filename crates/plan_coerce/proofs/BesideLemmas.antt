@@ -58,7 +58,7 @@ module _ (items items' : List AExpr) (at : ℕ) (keeps : (n : ℕ) (op : Op) (in
 
 -- what a number without a type leads to is one
 module _ (registry : Registry) (schema : Columns) (items : List AExpr) (number : ℤ) (many : Bool) where
-  abbrev NumberAt : ℕ → Type 0
+  abbrev pub NumberAt : ℕ → Type 0
   NumberAt n = (t : Expression) × Denotes (HoldsExpression items) n t × (typing registry schema t ≡ Ok (record { type = Untyped number; many = many }))
 
   number_below : (n : ℕ) (op : Op) (inputs : List ℕ) (m : ℕ) (t : Expression) → Denotes (HoldsExpression items) n t → typing registry schema t ≡ Ok (record { type = Untyped number; many = many }) → HoldsExpression items n op inputs → Among inputs m → NumberAt m
@@ -81,7 +81,7 @@ module _ (registry : Registry) (schema : Columns) (items : List AExpr) (number :
           one (x ∷ []) b c = ⊎_elim (λ e. (u, subst (λ j. Denotes (HoldsExpression items) j u) (sym e) b.0, is)) (λ n. absurd n) c
           one (x ∷ y ∷ ys) b c = absurd b.1
 
-  chain : (m : ℕ) → NumberAt m → (steps x : ℕ) → ReachedBy items (m ∷ []) steps x → NumberAt x
+  pub chain : (m : ℕ) → NumberAt m → (steps x : ℕ) → ReachedBy items (m ∷ []) steps x → NumberAt x
   chain m is zero x path = ⊎_elim (λ e. subst NumberAt (sym e) is) (λ b. absurd b) path
   chain m is (suc steps) x path =
       let above = chain m is steps path.0 path.3 in

@@ -1,6 +1,7 @@
 -- What the examples share.
 use Rattle.std.proofs.Common.{◌≡◌, ◌<◌, ◌≤◌, ℕ, ℤ, zero, suc, List, [], ◌∷◌, ◌++◌, length, map, slice_get, codes, pos, true, false, Some, Result, Ok, Err, refl, sym, subst, ap, ◌∙◌, arith, inl, inr, ⊎_elim}
 use Rattle.std.specs.List.{AllByRecursion}
+use Rattle.std.proofs.lemmas.Bool.{false≢true}
 use Rattle.plan_types.specs.Schemas.{Columns, columns, same_name}
 use Rattle.plan_types.specs.declared.schema.Schema.{Schema}
 use Rattle.plan_types.specs.Types.{Untyped, is_known}
@@ -12,7 +13,7 @@ use Rattle.plan_dsl.specs.Names.{Label, column_label, label_of}
 use Rattle.plan_dsl.specs.Plans.{Named, PlanKind, PlanOp, Plan, FilterKind, ScanKind, named, filter_op, scan_op}
 use Rattle.plan_dsl.specs.Samples.{keep, scan_of}
 use Rattle.plan_dsl.specs.Registry.{Registry}
-use Rattle.plan_dsl.specs.Ops.{Op, BinaryOp, LiteralOp, Expression}
+use Rattle.plan_dsl.specs.Ops.{Op, BinaryOp, LenOp, LiteralOp, Expression}
 use Rattle.plan_dsl.specs.declared.operator.Operator.TheVariants.{Eq, Plus}
 use Rattle.plan_dsl.specs.Trees.{Trees, node, no_more, more}
 use Rattle.plan_dsl.specs.Strictness.{IsSame, IsStrict}
@@ -32,7 +33,7 @@ use Rattle.plan_arena.proofs.DenotationLemmas.{denotes_one, some_same}
 use Rattle.plan_arena.proofs.ItemLemmas.{expression_laws, layer_inputs, plan_got, plan_laws, within}
 use Rattle.plan_coerce.specs.Optimizer.{AreRoots, DenotesLike, IsNumberRoot, IsTypedRoot}
 use Rattle.plan_coerce.specs.Reaching.{Among, AreOnce, HasNodes, HaveNodes, Near, ReachedBy}
-use Rattle.plan_coerce.specs.Rules.{IsSettledPlan, HasAcceptedInputs, HasSameCasts, IsReplacement, StandsOver, has_truth, is_strict_node, said, until_strict}
+use Rattle.plan_coerce.specs.Rules.{IsSettledPlan, HasAcceptedInputs, HasSameCasts, IsReplacement, SettlesNoNumber, StandsOver, has_truth, is_strict_node, said, until_strict}
 use Rattle.plan_coerce.specs.Samples.{wide, cast_of, strict_items, strict_sum, equal_items, filter_by, filters, scan_and, IsSumFound, IsSumPlaced}
 use Rattle.plan_coerce.proofs.SettledLemmas.{settles_no_number}
 use Rattle.plan_infer.specs.Typed.{HasKnownType}
@@ -317,3 +318,7 @@ no_column_typed t typed d is =
 
 pub no_column_root : AreRoots (said (is_strict_node [] []) [] []) [] [] a_items (0 ∷ []) → ⊥
 no_column_root roots = ⊎_elim (λ (r : IsTypedRoot (said (is_strict_node [] []) [] []) [] [] a_items 0). no_column_typed r.tree r.typed r.denotes r.is) (λ (r : IsNumberRoot [] [] a_items 0). no_column_typed r.tree (record { type = Untyped r.number; many = r.many }) r.denotes r.is) roots.each.0
+
+-- a rule that calls every node settled settles numbers without a type
+pub any_settled : SettlesNoNumber (λ t. true) [] [] → ⊥
+any_settled settles = false≢true ((settles LenOp (more five no_more) refl).0 (record { type = Untyped (pos 5); many = false }) refl)

@@ -19,5 +19,6 @@ pub mod SettledLemmas
 pub mod StackLemmas
 pub mod ToldLemmas
 pub mod TurnLemmas
+pub mod TypedNodeLemmas
 pub mod UntoldLemmas
 pub mod WrittenOutLemmas

@@ -26,7 +26,7 @@ use Rattle.plan_coerce.proofs.NearLemmas.{reach_kept}
 use Rattle.plan_coerce.proofs.NumberRootLemmas.{no_inputs, settled_bare}
 use Rattle.plan_coerce.proofs.CoercionRuleLemmas.{number_alone}
 use Rattle.plan_coerce.proofs.OnceLemmas.{among_back, among_front, among_split}
-use Rattle.plan_coerce.proofs.SettledLemmas.{number_settled}
+use Rattle.plan_coerce.proofs.SettledLemmas.{known_typings, number_settled}
 use Rattle.plan_coerce.proofs.TurnLemmas.{found_grows, SettledBut, all_waiting, among_reversed, children_grown, inputs_first, like_itself, like_then, placed_like, settled_all, settled_denotes, step, stopped_elsewhere, stopped_like, top_first, turn_stopped, typed_become, typed_inputs, waiting_settled}
 
 -- the node denotes no number without a type
@@ -288,7 +288,7 @@ module _ (is_settled : Expression → Bool) (measure : Expression → ℕ) (rela
           let parts = typed_parts registry schema op ts root.typed typed in
           let calm = found.is (node op ts) d in
           let over = pushed op d.0 held in
-          let inputs = typed_inputs is_settled registry schema items' d.0 ts parts.below below parts.children_typed (λ all. all op ts parts.below calm parts.children_typed) in
+          let inputs = typed_inputs is_settled registry schema items' d.0 ts parts.below below parts.children_typed (λ all. known_typings registry schema ts parts.below (all op ts calm) parts.children_typed) in
           typed_goes tops (d.0 ++ work) (over ∙ sym (append_assoc d.0 work rest)) (all_joined (IsTypedRoot is_settled registry schema items') d.0 work inputs others_typed)
           (λ n other a. subst (λ l. Among l n) (sym over) (among_back d.0 (work ++ rest) n (⊎_elim (λ e. absurd (other e)) (λ b. b) a)))
           (λ u e.

@@ -20,7 +20,7 @@ use Rattle.plan_arena.proofs.ItemLemmas.{expression_laws, grown_held}
 use Rattle.plan_coerce.specs.Optimizer.{EndsTyped, IsSettled, IsTypedRoot}
 use Rattle.plan_coerce.specs.Rules.{IsCongruent, IsLike, IsSteady, IsTransitive, SettlesNoNumber}
 use Rattle.plan_coerce.specs.Turns.{IsFound, IsPlaced, IsTurn, finds, places}
-use Rattle.plan_coerce.proofs.SettledLemmas.{number_settled}
+use Rattle.plan_coerce.proofs.SettledLemmas.{known_typings, number_settled}
 use Rattle.plan_coerce.proofs.TurnLemmas.{found_grows, Pending, all_ended, like_then, pending_start, pending_turn, top_first, inputs_first}
 
 -- such a root waits, or it has got a type and is settled but for what waits, or it was found settled
@@ -49,7 +49,7 @@ module _ (is_settled : Expression → Bool) (measure : Expression → ℕ) (rela
   pub settled_bare : (op : Op) (ts : Trees Op) → typing registry schema (node op ts) ≡ Ok (record { type = Untyped number; many = many }) → is_settled (node op ts) ≡ true → ts ≡ no_more
   settled_bare op ts h calm =
       let parts = typed_parts registry schema op ts _ h in
-      let known = none op ts parts.below calm parts.children_typed in
+      let known = known_typings registry schema ts parts.below (none op ts calm) parts.children_typed in
       elim (number_node registry schema number op ts many h) as (λ _. ts ≡ no_more) [
         | bare op_is no_children single literal ↦ no_children
         | under name tree op_is over typed ↦

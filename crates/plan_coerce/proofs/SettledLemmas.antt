@@ -2,7 +2,7 @@
 use Rattle.std.specs.Prelude.{unwrap_or}
 use Rattle.std.proofs.Common.{◌≡◌, ℤ, Bool, true, false, cond, List, [], ◌∷◌, Some, Result, Ok, Err, refl, sym, ap, ◌∙◌, subst}
 use Rattle.std.specs.List.{AllByRecursion}
-use Rattle.std.proofs.lemmas.Bool.{and_from, and_parts}
+use Rattle.std.proofs.lemmas.Bool.{and_from, and_parts, false≢true}
 use Rattle.plan_types.specs.Types.{Ty, Untyped, is_known}
 use Rattle.plan_types.specs.Values.{IntValue}
 use Rattle.plan_types.specs.CommonTypes.{type_alone}
@@ -20,15 +20,15 @@ use Rattle.plan_dsl.specs.Strictness.{CanBecome, integer_has, is_strict_over, is
 use Rattle.plan_dsl.specs.Trees.{Trees, node, no_more, more}
 use Rattle.plan_types.specs.Values.{Val}
 use Rattle.plan_dsl.specs.OperatorTypes.{Taken}
-use Rattle.plan_dsl.specs.Typing.{Ruling, Typed, literal_taken, rule, ruled_as, then_typed, typed_before, types_of, typing, typing_rule}
-use Rattle.plan_dsl.proofs.TypingLemmas.{ok_where, ruled_is, typed_parts}
+use Rattle.plan_dsl.specs.Typing.{Ruling, Typed, literal_taken, rule, ruled_as, then_typed, typed_before, types_of, typing, typing_all, typing_rule}
+use Rattle.plan_dsl.proofs.TypingLemmas.{by_children, by_no_children, ok_same, ok_where, ruled_is, typed_parts}
 use Rattle.plan_dsl.proofs.AliasLemmas.{alias_typing}
 use Rattle.plan_dsl.proofs.CastMeaningLemmas.{if_true}
 use Rattle.plan_dsl.proofs.LiteralLemmas.{bare, becomes_literal, child_is, literal_typing, number_node, under}
 use Rattle.plan_dsl.proofs.OpLemmas.{keeps_rule}
 use Rattle.plan_dsl.proofs.SignatureLemmas.{AllBecome, takes_known}
 use Rattle.plan_dsl.proofs.StrictLemmas.{same_types_exact}
-use Rattle.plan_coerce.specs.Rules.{SettlesNoNumber, is_strict_node, said}
+use Rattle.plan_coerce.specs.Rules.{AllKnown, SettlesNoNumber, is_strict_node, said}
 
 -- a number can become of the type that it has alone, which has it
 pub number_becomes : (number : ℤ) (own : Ty) → type_alone (Untyped number) ≡ Some own → CanBecome (Untyped number) own
@@ -130,6 +130,21 @@ ruled_known registry schema op typed (Ok ruling) is h =
     let parts = and_parts (same_types (types_of typed) ruling.operands) (is_known ruling.own.type) h in
     become_known ruling.own.type typed ruling.operands parts.1 (keeps_rule registry schema op typed ruling is).becomes (same_types_exact (types_of typed) ruling.operands parts.0)
 
+-- children of which each typing is one of columns
+all_known : (registry : Registry) (schema : Columns) (trees : Trees Op) (typed : List Typed) → typing_all registry schema trees ≡ Ok typed → AllByRecursion (λ (t : Typed). is_known t.type ≡ true) typed → AllKnown registry schema trees
+all_known registry schema no_more typed is known = tt
+all_known registry schema (more tree trees) typed is known =
+    by_children (λ xs. AllByRecursion (λ (t : Typed). is_known t.type ≡ true) xs → AllKnown registry schema (more tree trees)) _ _ typed is (λ x xs first rest k.
+    (λ own h. ap (λ (t : Typed). is_known t.type) (ok_same (typing registry schema tree) own x h first) ∙ k.0, all_known registry schema trees xs rest k.1)) known
+
+pub known_typings : (registry : Registry) (schema : Columns) (trees : Trees Op) (typed : List Typed) → AllKnown registry schema trees → typing_all registry schema trees ≡ Ok typed → AllByRecursion (λ (t : Typed). is_known t.type ≡ true) typed
+known_typings registry schema no_more typed known is = by_no_children (AllByRecursion (λ (t : Typed). is_known t.type ≡ true)) typed is tt
+known_typings registry schema (more tree trees) typed known is =
+    by_children (AllByRecursion (λ (t : Typed). is_known t.type ≡ true)) _ _ typed is (λ x xs first rest. (known.0 x first, known_typings registry schema trees xs known.1 rest))
+
 pub settles_no_number : (registry : Registry) (schema : Columns) → SettlesNoNumber (said (is_strict_node registry schema) registry schema) registry schema
-settles_no_number registry schema op children typed h is =
-    ruled_known registry schema op typed (rule registry schema op typed) refl (sym (ap (is_strict_over registry schema op) is) ∙ h)
+settles_no_number registry schema op children h =
+    elim (typing_all registry schema children) as (λ r. typing_all registry schema children ≡ r → is_strict_over registry schema op r ≡ true → AllKnown registry schema children) [
+      | Err kind ↦ λ is strict. absurd (false≢true strict)
+      | Ok typed ↦ λ is strict. all_known registry schema children typed is (ruled_known registry schema op typed (rule registry schema op typed) refl strict)
+    ] refl h

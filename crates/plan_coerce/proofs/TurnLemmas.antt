@@ -34,7 +34,7 @@ use Rattle.plan_infer.proofs.TableLemmas.{keeps_one}
 use Rattle.plan_coerce.specs.Turns.{IsFound, IsPlaced, IsStopped, IsTurn, finds, places}
 use Rattle.plan_coerce.proofs.CoercionLemmas.{written_elsewhere}
 use Rattle.plan_coerce.proofs.OnceLemmas.{among_back, among_front}
-use Rattle.plan_coerce.proofs.SettledLemmas.{known_settled}
+use Rattle.plan_coerce.proofs.SettledLemmas.{known_settled, known_typings}
 use Rattle.std.proofs.Math.ListN.{length-set}
 
 -- ---- the stack from its top on
@@ -292,7 +292,7 @@ module _ (is_settled : Expression → Bool) (measure : Expression → ℕ) (rela
           d.0,
           op,
           held,
-          typed_inputs is_settled registry schema items' d.0 ts parts.below below parts.children_typed (λ all. all op ts parts.below calm parts.children_typed),
+          typed_inputs is_settled registry schema items' d.0 ts parts.below below parts.children_typed (λ all. known_typings registry schema ts parts.below (all op ts calm) parts.children_typed),
           λ u e.
               let one = denotes_one (shape_of (map expression_layer items)) (HoldsExpression items) (expression_laws items) at (node op ts) u d e in
               subst (λ t. (w : Expression) × SettledBut is_settled items' (d.0 ++ rest) at w × IsLike related registry schema t w) one

@@ -107,6 +107,17 @@ abbrev pub StaysLikeBeside : (Expression → Expression → Type 0) → Registry
 StaysLikeBeside related registry schema old new roots =
     (n : ℕ) (t : Expression) → Denotes (HoldsExpression old) n t → ((m : ℕ) → Among roots m → IsNumberRoot registry schema old m → ¬ (IsReached old (n ∷ []) m)) → DenotesLike related registry schema new n t
 
+-- A node that leads to no root that gets a type: to no number without a type, by a rule that says how often a node is
+-- replaced; by another rule no root is such a number. A rule that calls a node over such a number settled gives it no type.
+abbrev pub LeadsToNoNumber : (Expression → Bool) → Option ℕ → Registry → Columns → List AExpr → List ℕ → ℕ → Type 0
+LeadsToNoNumber settled turns registry schema items roots n =
+    SettlesNoNumber settled registry schema → (m : ℕ) → Among roots m → IsNumberRoot registry schema items m → (limit : ℕ) × (turns ≡ Some limit) × ¬ (IsReached items (n ∷ []) m)
+
+-- each such node that denoted a typed expression denotes one that is like it, whatever the other roots are
+abbrev pub StaysLikeTyped : (Expression → Bool) → (Expression → Expression → Type 0) → Option ℕ → Registry → Columns → List AExpr → List AExpr → List ℕ → Type 0
+StaysLikeTyped settled related turns registry schema old new roots =
+    (n : ℕ) (t : Expression) (typed : Typed) → Denotes (HoldsExpression old) n t → typing registry schema t ≡ Ok typed → LeadsToNoNumber settled turns registry schema old roots n → DenotesLike related registry schema new n t
+
 -- a root ends settled, and where it was such a number, as one of the type that the number has alone
 pub record EndsSettled (settled : Expression → Bool) (related : Expression → Expression → Type 0) (registry : Registry) (schema : Columns) (old new : List AExpr) (n : ℕ) : Type 0 where
   pub each : DenotesSettled settled new n

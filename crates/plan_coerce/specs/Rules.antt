@@ -3,7 +3,6 @@
 -- seen of its inputs alone, their names and typings, it stays so where inputs are put in place by others that are like them.
 -- What is said of a plan's node goes by the node's kind, and by the schema that goes into it.
 use Rattle.std.specs.Prelude.{◌≡◌, ◌<◌, ◌≤◌, ℕ, ℤ, Bool, true, false, List, [], ◌∷◌, length, Some, Result, Ok, Err, if◌then◌else◌}
-use Rattle.std.specs.List.{AllByRecursion}
 use Rattle.plan_types.specs.Types.{Untyped, is_known, is_truth}
 use Rattle.plan_types.specs.Schemas.{Columns}
 use Rattle.plan_types.specs.Values.{Val}
@@ -15,7 +14,7 @@ use Rattle.plan_dsl.specs.Names.{Label, op_label}
 use Rattle.plan_dsl.specs.Ops.{Op, LiteralOp, Expression}
 use Rattle.plan_dsl.specs.Plans.{Named, PlanKind, FilterKind, PlanOp}
 use Rattle.plan_dsl.specs.Strictness.{IsSame, is_strict_over}
-use Rattle.plan_dsl.specs.Trees.{Trees, node, fold_all, AllRelated}
+use Rattle.plan_dsl.specs.Trees.{Trees, node, no_more, more, fold_all, AllRelated}
 use Rattle.plan_dsl.specs.Typing.{Typed, typing, typing_all}
 use Rattle.plan_arena.specs.declared.aexpr.AExpr.{AExpr}
 use Rattle.plan_arena.specs.declared.ir.IR.{IR}
@@ -61,10 +60,15 @@ abbrev pub IsSteady : (Expression → Bool) → (Expression → Expression → T
 IsSteady settled related registry schema =
     (op : Op) (before after : Trees Op) → AllRelated (IsLike related registry schema) before after → settled (node op after) ≡ settled (node op before)
 
--- no node is called settled of which an input is a number without a type
+-- each that has a typing has a type of columns, and is no number without a type
+abbrev pub AllKnown : Registry → Columns → Trees Op → Type 0
+AllKnown registry schema no_more = Unit
+AllKnown registry schema (more child rest) = ((typed : Typed) → typing registry schema child ≡ Ok typed → is_known typed.type ≡ true) × AllKnown registry schema rest
+
+-- no node is called settled of which an input is a number without a type, whatever stands beside it
 abbrev pub SettlesNoNumber : (Expression → Bool) → Registry → Columns → Type 0
 SettlesNoNumber settled registry schema =
-    (op : Op) (children : Trees Op) (typed : List Typed) → settled (node op children) ≡ true → typing_all registry schema children ≡ Ok typed → AllByRecursion (λ (t : Typed). is_known t.type ≡ true) typed
+    (op : Op) (children : Trees Op) → settled (node op children) ≡ true → AllKnown registry schema children
 
 -- What is put in place of a node that denoted the tree: the arena with it denotes a finite tree there, which has the type,
 -- name and meaning of the old one, is related to it, and is no number without a type. A number without a type that was

@@ -10,7 +10,7 @@ ghost use Rattle.plan_dsl.specs.Typing.{typing};
 ghost use Rattle.plan_arena.specs.Denotation.{Denotes, DenotesTree};
 ghost use Rattle.plan_arena.specs.Items.{Grows, HoldsExpression, named_node, numbers};
 ghost use Rattle.plan_infer.specs.KeptTypes.{IsRight};
-ghost use Rattle.plan_coerce.specs.Optimizer.{AreApart, AreRoots, AreTrees, AreTypedRoots, DenotesSettled, EndsSettled, IsCoercionRefusal, IsPlanTurn, ReachesNear, StaysApart, StaysFinite, StaysLike, StaysLikeBeside, StaysOver, TypesNumber, all_with_inputs, roots_of, stacked, with_inputs};
+ghost use Rattle.plan_coerce.specs.Optimizer.{AreApart, AreRoots, AreTrees, AreTypedRoots, DenotesSettled, EndsSettled, IsCoercionRefusal, IsPlanTurn, ReachesNear, StaysApart, StaysFinite, StaysLike, StaysLikeBeside, StaysLikeTyped, StaysOver, TypesNumber, all_with_inputs, roots_of, stacked, with_inputs};
 ghost use Rattle.plan_coerce.specs.Rules.{HasAcceptedInputs, KeepsNumber, RefusesPredicate, SettlesNoNumber, StandsOver};
 ghost use Rattle.plan_coerce.specs.Turns.{IsStopped, IsTurn};
 
@@ -178,6 +178,7 @@ impl ConversionOptimizer {
     ) -> Result<(), PlanError>
         requires trees { AreTrees expr_arena.old (roots_of self.old) }
         requires right { IsRight (registry udfs.now) (columns schema.now) expr_arena.old types.old }
+        ensures typed { StaysLikeTyped (R.settled rule.now (registry udfs.now) (columns schema.now)) (R.related rule.now (registry udfs.now) (columns schema.now)) (R.turns rule.now) (registry udfs.now) (columns schema.now) expr_arena.old expr_arena.new (roots_of self.old) }
         ensures like { AreTypedRoots (R.settled rule.now (registry udfs.now) (columns schema.now)) (registry udfs.now) (columns schema.now) expr_arena.old (roots_of self.old) → StaysLike (R.related rule.now (registry udfs.now) (columns schema.now)) (registry udfs.now) (columns schema.now) expr_arena.old expr_arena.new }
         ensures settled { OnOk result (AreTypedRoots (R.settled rule.now (registry udfs.now) (columns schema.now)) (registry udfs.now) (columns schema.now) expr_arena.old (roots_of self.old) → AllByRecursion (DenotesSettled (R.settled rule.now (registry udfs.now) (columns schema.now)) expr_arena.new) (roots_of self.old)) }
         ensures alone { OnOk result (TypesNumber (R.settled rule.now (registry udfs.now) (columns schema.now)) (R.related rule.now (registry udfs.now) (columns schema.now)) (registry udfs.now) (columns schema.now) expr_arena.old expr_arena.new (roots_of self.old)) }
@@ -229,6 +230,7 @@ impl ConversionOptimizer {
         requires over { StaysOver (registry udfs.now) expr_arena.old lp_arena.old node.0 (columns schema.now) }
         requires trees { AreTrees expr_arena.old (roots_of self.old) }
         requires right { IsRight (registry udfs.now) (columns schema.now) expr_arena.old types.old }
+        ensures typed { StaysLikeTyped (R.settled rule.now (registry udfs.now) (columns schema.now)) (R.related rule.now (registry udfs.now) (columns schema.now)) (R.turns rule.now) (registry udfs.now) (columns schema.now) expr_arena.old expr_arena.new (roots_of self.old) }
         ensures like { AreTypedRoots (R.settled rule.now (registry udfs.now) (columns schema.now)) (registry udfs.now) (columns schema.now) expr_arena.old (roots_of self.old) → StaysLike (R.related rule.now (registry udfs.now) (columns schema.now)) (registry udfs.now) (columns schema.now) expr_arena.old expr_arena.new }
         ensures settled { OnOk result (AreTypedRoots (R.settled rule.now (registry udfs.now) (columns schema.now)) (registry udfs.now) (columns schema.now) expr_arena.old (roots_of self.old) → AllByRecursion (DenotesSettled (R.settled rule.now (registry udfs.now) (columns schema.now)) expr_arena.new) (roots_of self.old)) }
         ensures alone { OnOk result (TypesNumber (R.settled rule.now (registry udfs.now) (columns schema.now)) (R.related rule.now (registry udfs.now) (columns schema.now)) (registry udfs.now) (columns schema.now) expr_arena.old expr_arena.new (roots_of self.old)) }
@@ -315,6 +317,7 @@ fn coerce_stacked<R: OptimizationRule, M: Ledger, L: Ledger>(
 ) -> Result<(), PlanError>
     requires trees { AreTrees arena.old (numbers stack.old.items) }
     requires right { IsRight (registry udfs.now) (columns schema.now) arena.old types.old }
+    ensures typed { StaysLikeTyped (R.settled rule.now (registry udfs.now) (columns schema.now)) (R.related rule.now (registry udfs.now) (columns schema.now)) (R.turns rule.now) (registry udfs.now) (columns schema.now) arena.old arena.new (numbers stack.old.items) }
     ensures like { AreTypedRoots (R.settled rule.now (registry udfs.now) (columns schema.now)) (registry udfs.now) (columns schema.now) arena.old (numbers stack.old.items) → StaysLike (R.related rule.now (registry udfs.now) (columns schema.now)) (registry udfs.now) (columns schema.now) arena.old arena.new }
     ensures settled { OnOk result (AreTypedRoots (R.settled rule.now (registry udfs.now) (columns schema.now)) (registry udfs.now) (columns schema.now) arena.old (numbers stack.old.items) → AllByRecursion (DenotesSettled (R.settled rule.now (registry udfs.now) (columns schema.now)) arena.new) (numbers stack.old.items)) }
     ensures alone { OnOk result (TypesNumber (R.settled rule.now (registry udfs.now) (columns schema.now)) (R.related rule.now (registry udfs.now) (columns schema.now)) (registry udfs.now) (columns schema.now) arena.old arena.new (numbers stack.old.items)) }

@@ -21,7 +21,7 @@ ghost use Rattle.plan_arena.specs.declared.ir.IR.TheVariants.{DataFrameScan};
 ghost use Rattle.plan_infer.specs.declared.type_table.TypeTable.{TypeTable};
 ghost use Rattle.plan_infer.specs.Samples.{int8, int32, two_columns, a, b, five, binary, cast_to, sum, pair, columns_and, sum_items, a_items, at, refused, ForEntry, ForTable};
 ghost use Rattle.plan_coerce.specs.Coercion.{AllReady, AllStrictFrom, AreChanged, IsChanged, IsOverOperands, IsReady, KeepsStrict};
-ghost use Rattle.plan_coerce.specs.Optimizer.{AreApart, AreRoots, AreSettled, AreTrees, AreTypedRoots, DenotesSettled, EndsSettled, EndsTyped, IsCoercionRefusal, IsNumberRoot, IsPlanTurn, IsSettled, IsTypedRoot, ReachesNear, StaysApart, StaysFinite, StaysLikeBeside, StaysOver, TypesNumber, all_with_inputs, with_inputs};
+ghost use Rattle.plan_coerce.specs.Optimizer.{AreApart, AreRoots, AreSettled, AreTrees, AreTypedRoots, DenotesSettled, EndsSettled, EndsTyped, IsCoercionRefusal, IsNumberRoot, IsPlanTurn, IsSettled, IsTypedRoot, LeadsToNoNumber, ReachesNear, StaysApart, StaysFinite, StaysLikeBeside, StaysLikeTyped, StaysOver, TypesNumber, all_with_inputs, with_inputs};
 ghost use Rattle.plan_coerce.specs.Reaching.{AreMadeOnce, HasNewNodes, IsClosed, IsMadeOnce, IsPutOnce, StaysOnce};
 ghost use Rattle.plan_coerce.specs.Rules.{IsSettledPlan, HasAcceptedInputs, HasSameCasts, IsCongruent, IsLike, IsPlanNode, IsPlanReplacement, IsReplacement, IsSteady, KeepsNumber, RefusesPredicate, StandsOver, has_truth, is_strict_node, said, until_strict};
 ghost use Rattle.plan_coerce.specs.Samples.{cast_of, strict_items, strict_sum, equal_items, filter_by, scan_and, filters, ForSchema, IsSumFound, IsSumPlaced, IsSumStopped, IsSumTurn};
@@ -84,6 +84,18 @@ pub fn roots_that_are_numbers()
     ensures beside { StaysLikeBeside (HasSameCasts [] []) [] [] (Literal (Int (pos 5)) ∷ []) (Literal (Int32 (pos 5)) ∷ []) (0 ∷ []) }
     ensures no_root { ¬ (StaysLikeBeside (HasSameCasts [] []) [] [] (Literal (Int (pos 5)) ∷ []) (Literal (Int32 (pos 5)) ∷ []) []) }
     ensures without_a_type { ¬ (EndsTyped (said (is_strict_node [] []) [] []) (HasSameCasts [] []) [] [] (Literal (Int (pos 5)) ∷ []) 0 five) }
+{}
+
+/// What a node denotes that is typed stays, whatever else is stacked: a column that isn't there may become anything. A number
+/// without a type may get one where it is a root, and the rule calls no node over such a number settled.
+pub fn nodes_beside_other_roots()
+    ensures not_typed { StaysLikeTyped (said (is_strict_node [] []) [] []) (HasSameCasts [] []) (Some 1) [] [] a_items (Literal (Int32 (pos 5)) ∷ []) (0 ∷ []) }
+    ensures typed { ¬ (StaysLikeTyped (said (is_strict_node [] two_columns) [] two_columns) (HasSameCasts [] two_columns) (Some 1) [] two_columns a_items (Literal (Int32 (pos 5)) ∷ []) []) }
+    ensures number { StaysLikeTyped (said (is_strict_node [] []) [] []) (HasSameCasts [] []) (Some 1) [] [] (Literal (Int (pos 5)) ∷ []) (Literal (Int32 (pos 5)) ∷ []) (0 ∷ []) }
+    ensures number_of_another_rule { ¬ (StaysLikeTyped (λ t. true) (HasSameCasts [] []) (Some 1) [] [] (Literal (Int (pos 5)) ∷ []) (Literal (Int32 (pos 5)) ∷ []) (0 ∷ [])) }
+    ensures leads { ¬ (LeadsToNoNumber (said (is_strict_node [] []) [] []) (Some 1) [] [] (Literal (Int (pos 5)) ∷ []) (0 ∷ []) 0) }
+    ensures without_turns { ¬ (LeadsToNoNumber (said (is_strict_node [] []) [] []) None [] [] (Literal (Int (pos 5)) ∷ []) (0 ∷ []) 1) }
+    ensures no_root { LeadsToNoNumber (said (is_strict_node [] []) [] []) None [] [] (Literal (Int (pos 5)) ∷ []) [] 0 }
 {}
 
 /// Coercion is refused as an expression's typing is, or for want of memory, and over typed roots for that alone, or

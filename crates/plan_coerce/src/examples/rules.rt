@@ -10,7 +10,7 @@ ghost use Rattle.plan_dsl.specs.Names.{column_label, literal_label};
 ghost use Rattle.plan_dsl.specs.declared.operator.Operator.TheVariants.{Eq, Plus};
 ghost use Rattle.plan_infer.specs.Samples.{int8, two_columns, a, b, c, five, literal, binary, sum, pair, columns_and, sum_items, strictly_cast_to};
 ghost use Rattle.plan_coerce.specs.Reaching.{AreOnce, HasNodes};
-ghost use Rattle.plan_coerce.specs.Rules.{HasSameCasts, IsReplacement, IsTransitive, SettlesNoNumber, has_truth, is_strict_node, said, seen, truth_of, until_strict};
+ghost use Rattle.plan_coerce.specs.Rules.{AllKnown, HasSameCasts, IsReplacement, IsTransitive, SettlesNoNumber, has_truth, is_strict_node, said, seen, truth_of, until_strict};
 ghost use Rattle.plan_coerce.specs.Samples.{strict_sum};
 
 /// A node is strict where its operands have the types to which it takes them. A number without a type is not, nor what
@@ -54,6 +54,14 @@ pub fn what_is_no_replacement()
     ensures any_node { ¬ (SettlesNoNumber (λ t. true) [] two_columns) }
     ensures no_node { SettlesNoNumber (λ t. false) [] two_columns }
     ensures same { IsTransitive (λ before after. before ≡ after) }
+{}
+
+/// A child without a typing has no type that isn't one of columns; what stands beside it may have one.
+pub fn children_of_known_types()
+    ensures column { AllKnown [] two_columns (more a no_more) }
+    ensures number { ¬ (AllKnown [] two_columns (more a (more five no_more))) }
+    ensures no_such_column { AllKnown [] [] (more a no_more) }
+    ensures number_beside { ¬ (AllKnown [] [] (more a (more five no_more))) }
 {}
 
 /// The nodes of a tree are listed as often as each stands there.

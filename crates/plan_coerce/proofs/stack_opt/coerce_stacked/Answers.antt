@@ -15,6 +15,7 @@ use Rattle.plan_coerce.proofs.StackLemmas.{no_numbers, pushed_one}
 use Rattle.plan_coerce.proofs.TurnLemmas.{Pending, all_ended, memory_alone, no_memory_left, pending_start, pending_stops, pending_turn, stopped_finite, stopped_longer, top_first, turn_stopped}
 use Rattle.plan_coerce.proofs.ManyRootLemmas.{Working, working_end, working_start, working_stops, working_turn, working_typed}
 use Rattle.plan_coerce.proofs.ReachLemmas.{among_all}
+use Rattle.plan_coerce.proofs.TypedNodeLemmas.{Standing, standing_start, standing_turn, stops_typed}
 use Rattle.plan_coerce.proofs.stack_opt.coerce_stacked.Goals as goal
 
 pub loop-turn-init : goal.loop-turn-init
@@ -32,6 +33,7 @@ loop-turn-init g c =
       pending = pending_start (rule.settled c.args.rule.now r s) (rule.measure c.args.rule.now r s) (rule.related c.args.rule.now r s) (rule.turns c.args.rule.now) r s (laws.congruent c.args.rule.now r s) (laws.transitive c.args.rule.now r s) (laws.steady c.args.rule.now r s) c.args.arena.now roots;
       alone = λ root number many t none is d h. waits (ap reverse is) d;
       many = λ n e none are. working_start (rule.settled c.args.rule.now r s) (rule.measure c.args.rule.now r s) (rule.related c.args.rule.now r s) (rule.turns c.args.rule.now) n e r s (laws.congruent c.args.rule.now r s) (laws.transitive c.args.rule.now r s) (laws.steady c.args.rule.now r s) none c.args.arena.now roots are;
+      standing = standing_start (rule.settled c.args.rule.now r s) (rule.measure c.args.rule.now r s) (rule.related c.args.rule.now r s) (rule.turns c.args.rule.now) r s (laws.congruent c.args.rule.now r s) (laws.transitive c.args.rule.now r s) c.args.arena.now roots;
       keeping = λ n e. keeping_start c.args.arena.now roots;
       counted = λ n e. counted_start (rule.measure c.args.rule.now r s) n (2 * n + 2) refl (λ t. laws.bounded c.args.rule.now r s t n e) c.args.arena.now roots c.args.steps.now;
     }
@@ -72,6 +74,7 @@ loop-turn-preserved g c =
       pending = λ typed. pending_turn settled measure related turns r s (laws.congruent c.args.rule.now r s) (laws.transitive c.args.rule.now r s) (laws.steady c.args.rule.now r s) c.args.arena.now c.loop-turn.arena c.visit.new.arena at rest (numbers c.visit.new.stack.items) roots c.loop-turn.steps c.visit.new.steps turn (subst (λ l. Pending settled related r s c.args.arena.now c.loop-turn.arena l roots) popped (inv.pending typed));
       alone = λ root number many t none is d h. alone_turn settled measure related turns r s (laws.congruent c.args.rule.now r s) (laws.transitive c.args.rule.now r s) (laws.steady c.args.rule.now r s) none root number many c.loop-turn.arena c.visit.new.arena at rest (numbers c.visit.new.stack.items) c.loop-turn.steps c.visit.new.steps t h turn (subst (λ l. Alone settled related r s c.loop-turn.arena l root t) popped (inv.alone root number many t none is d h));
       many = λ n e none are. working_turn settled measure related turns n e r s (laws.congruent c.args.rule.now r s) (laws.transitive c.args.rule.now r s) (laws.steady c.args.rule.now r s) none c.args.arena.now roots are c.loop-turn.arena c.visit.new.arena at inv.finite inv.longer (λ m a. among_all (DenotesTree (HoldsExpression c.args.arena.now)) roots m c.requires.trees a) rest (numbers c.visit.new.stack.items) c.loop-turn.steps c.visit.new.steps turn (subst (λ l. Working settled related r s c.args.arena.now c.loop-turn.arena l roots) popped (inv.many n e none are));
+      standing = standing_turn settled measure related turns r s (laws.congruent c.args.rule.now r s) (laws.transitive c.args.rule.now r s) c.args.arena.now roots c.loop-turn.arena c.visit.new.arena at rest (numbers c.visit.new.stack.items) c.loop-turn.steps c.visit.new.steps inv.finite inv.longer turn waiting (subst (λ l. Standing settled related turns r s c.args.arena.now c.loop-turn.arena l roots) popped inv.standing);
       keeping = λ n e. keeping_turn settled measure related turns r s c.loop-turn.arena c.visit.new.arena at rest (numbers c.visit.new.stack.items) c.loop-turn.steps c.visit.new.steps turn n e c.args.arena.now roots inv.longer rooted waiting (subst (Keeping c.args.arena.now roots c.loop-turn.arena) popped (inv.keeping n e));
       counted = λ n e apart. counted_turn measure n (2 * n + 2) refl settled related turns e r s (λ t. laws.bounded c.args.rule.now r s t n e) c.loop-turn.arena c.visit.new.arena at rest (numbers c.visit.new.stack.items) c.args.steps.now c.loop-turn.steps c.visit.new.steps turn (subst (λ l. Counted measure n (2 * n + 2) c.loop-turn.arena l c.args.steps.now c.loop-turn.steps) popped (inv.counted n e apart));
     }
@@ -266,3 +269,21 @@ returns-in_err-visit-clause-beside g c = λ n e none are.
     let popped = ap reverse (pushed_one c.pop.new.self.items c.loop-turn.stack.items c.in-Some.node c.in-Some.ensures.items) ∙ top_first rest at in
     let inv = c.loop-turn.invariant in
     working_stops settled measure related turns n e r s (laws.congruent c.args.rule.now r s) (laws.transitive c.args.rule.now r s) (laws.steady c.args.rule.now r s) none c.args.arena.now roots are c.loop-turn.arena c.visit.new.arena at inv.finite inv.longer (λ m a. among_all (DenotesTree (HoldsExpression c.args.arena.now)) roots m c.requires.trees a) (reverse rest) c.in_err-visit.ensures.stopped (subst (λ l. Working settled related r s c.args.arena.now c.loop-turn.arena l roots) popped (inv.many n e none are))
+
+pub returns-in_err-visit-clause-typed : goal.returns-in_err-visit-clause-typed
+returns-in_err-visit-clause-typed g c =
+    let r = registry c.args.udfs.now in
+    let s = columns c.args.schema.now in
+    let rule = g.R.OptimizationRule in
+    let laws = g.met.R.OptimizationRule in
+    let settled = rule.settled c.args.rule.now r s in
+    let related = rule.related c.args.rule.now r s in
+    let turns = rule.turns c.args.rule.now in
+    let roots = numbers c.args.stack.now.items in
+    let rest = numbers c.pop.new.self.items in
+    let at = c.in-Some.node.0 in
+    let popped = ap reverse (pushed_one c.pop.new.self.items c.loop-turn.stack.items c.in-Some.node c.in-Some.ensures.items) ∙ top_first rest at in
+    let inv = c.loop-turn.invariant in
+    let trees = subst (AreTrees c.loop-turn.arena) popped inv.waiting in
+    let now = subst (λ l. Standing settled related turns r s c.args.arena.now c.loop-turn.arena l roots) popped inv.standing in
+    stops_typed settled (rule.measure c.args.rule.now r s) related turns r s (laws.congruent c.args.rule.now r s) (laws.transitive c.args.rule.now r s) c.args.arena.now roots c.loop-turn.arena c.visit.new.arena at (reverse rest) inv.finite inv.longer trees now c.in_err-visit.ensures.stopped

@@ -14,6 +14,7 @@ use Rattle.plan_coerce.specs.Optimizer.{AreApart, AreRoots, AreTrees, AreTypedRo
 use Rattle.plan_coerce.proofs.CountLemmas.{Counted}
 use Rattle.plan_coerce.proofs.NearLemmas.{Keeping}
 use Rattle.plan_coerce.proofs.TurnLemmas.{Pending}
+use Rattle.plan_coerce.proofs.TypedNodeLemmas.{Standing}
 use Rattle.plan_coerce.proofs.stack_opt.coerce_stacked.Given as goal
 
 abbrev pub invariant-loop-turn : goal.invariant-loop-turn
@@ -30,6 +31,7 @@ invariant-loop-turn g l =
       pending : AreTypedRoots settled registry schema l.initial.arena roots → Pending settled (g.R.OptimizationRule.related l.rule registry schema) registry schema l.initial.arena l.arena (reverse (numbers l.stack.items)) roots;
       alone : (root : ℕ) (number : ℤ) (many : Bool) (t : Expression) → SettlesNoNumber settled registry schema → roots ≡ root ∷ [] → Denotes (HoldsExpression l.initial.arena) root t → typing registry schema t ≡ Ok (record { type = Untyped number; many = many }) → Alone settled (g.R.OptimizationRule.related l.rule registry schema) registry schema l.arena (reverse (numbers l.stack.items)) root t;
       many : (n : ℕ) → g.R.OptimizationRule.turns l.rule ≡ Some n → SettlesNoNumber settled registry schema → AreRoots settled registry schema l.initial.arena roots → Working settled (g.R.OptimizationRule.related l.rule registry schema) registry schema l.initial.arena l.arena (reverse (numbers l.stack.items)) roots;
+      standing : Standing settled (g.R.OptimizationRule.related l.rule registry schema) (g.R.OptimizationRule.turns l.rule) registry schema l.initial.arena l.arena (reverse (numbers l.stack.items)) roots;
       keeping : (n : ℕ) → g.R.OptimizationRule.turns l.rule ≡ Some n → Keeping l.initial.arena roots l.arena (reverse (numbers l.stack.items));
       counted : (n : ℕ) → g.R.OptimizationRule.turns l.rule ≡ Some n → AreApart l.initial.arena roots → Counted (g.R.OptimizationRule.measure l.rule registry schema) n (2 * n + 2) l.arena (reverse (numbers l.stack.items)) l.initial.steps l.steps;
     }

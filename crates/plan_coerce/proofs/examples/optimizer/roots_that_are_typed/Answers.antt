@@ -1,16 +1,12 @@
 use Rattle.std.proofs.Common.{◌≡◌, [], ◌∷◌, Ok, Err, pos, true, false, refl, subst, arith}
-use Rattle.std.proofs.lemmas.Bool.{false≢true}
 use Rattle.plan_types.specs.Types.{Untyped, is_known}
 use Rattle.plan_types.specs.declared.error.ErrorKind.TheVariants.{ColumnNotFound}
 use Rattle.plan_dsl.specs.declared.literal.LiteralValue.TheVariants.{Int}
-use Rattle.plan_dsl.specs.Ops.{LenOp}
-use Rattle.plan_dsl.specs.Trees.{no_more, more}
 use Rattle.plan_dsl.specs.Typing.{Typed, typing}
 use Rattle.plan_dsl.proofs.TypingLemmas.{ok_same}
 use Rattle.plan_arena.specs.declared.aexpr.AExpr.TheVariants.{Literal}
 use Rattle.plan_infer.specs.Samples.{int8, int32, of_type, of_one, a, five, sum, sum_items, a_items}
-use Rattle.plan_coerce.specs.Rules.{SettlesNoNumber}
-use Rattle.plan_coerce.proofs.ExampleLemmas.{no_node, one_denoted, sum_denotes}
+use Rattle.plan_coerce.proofs.ExampleLemmas.{any_settled, no_node, one_denoted, sum_denotes}
 use Rattle.plan_coerce.proofs.SettledLemmas.{settles_no_number}
 use Rattle.plan_coerce.proofs.examples.optimizer.roots_that_are_typed.Goals as goal
 
@@ -22,11 +18,6 @@ returns-clause-number c = λ root.
     let is = subst (λ t. typing [] [] t ≡ Ok root.typed) (one_denoted (Literal (Int (pos 5)) ∷ []) 0 root.tree five root.denotes ([], refl, tt)) root.is in
     let known : false ≡ true = subst (λ (t : Typed). is_known t.type ≡ true) (ok_same (typing [] [] five) root.typed (of_one (Untyped (pos 5))) is refl) (root.known (settles_no_number [] [])) in
     cc
-
-any_settled : SettlesNoNumber (λ t. true) [] [] → ⊥
-any_settled settles =
-    let number : Typed = of_one (Untyped (pos 5)) in
-    false≢true (settles LenOp (more five no_more) (number ∷ []) refl refl).0
 
 pub returns-clause-number_of_another_rule : goal.returns-clause-number_of_another_rule
 returns-clause-number_of_another_rule c = record { tree = five; denotes = ([], refl, tt); typed = of_one (Untyped (pos 5)); is = refl; known = λ settles. absurd (any_settled settles) }

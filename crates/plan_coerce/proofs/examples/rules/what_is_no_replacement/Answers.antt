@@ -1,4 +1,4 @@
-use Rattle.std.proofs.Common.{◌<◌, [], ◌∷◌, Ok, pos, false, refl, subst, arith}
+use Rattle.std.proofs.Common.{◌<◌, [], ◌∷◌, pos, false, refl, subst, arith}
 use Rattle.std.proofs.lemmas.Bool.{false≢true}
 use Rattle.plan_types.specs.Types.{Untyped}
 use Rattle.plan_dsl.specs.Ops.{Expression, LenOp}
@@ -18,5 +18,4 @@ returns-clause-unchanged c = λ r.
 pub returns-clause-any_node : goal.returns-clause-any_node
 returns-clause-any_node c = λ settles.
     let number : Typed = record { type = Untyped (pos 5); many = false } in
-    let known = settles LenOp (more five no_more) (number ∷ []) refl refl in
-    false≢true known.0
+    false≢true ((settles LenOp (more five no_more) refl).0 number refl)

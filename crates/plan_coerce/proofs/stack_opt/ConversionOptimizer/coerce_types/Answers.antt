@@ -15,6 +15,12 @@ returns-in-Err-clause-like g c = λ typed n t d.
     let s = columns c.args.schema.now in
     record { tree = t; denotes = d; like = like_itself (g.R.OptimizationRule.related c.args.rule.now r s) r s (g.met.R.OptimizationRule.congruent c.args.rule.now r s) t }
 
+pub returns-in-Err-clause-typed : goal.returns-in-Err-clause-typed
+returns-in-Err-clause-typed g c = λ n t typed d is apart.
+    let r = registry c.args.udfs.now in
+    let s = columns c.args.schema.now in
+    record { tree = t; denotes = d; like = like_itself (g.R.OptimizationRule.related c.args.rule.now r s) r s (g.met.R.OptimizationRule.congruent c.args.rule.now r s) t }
+
 pub returns-in-Err-clause-beside : goal.returns-in-Err-clause-beside
 returns-in-Err-clause-beside g c = λ turns is none are n t d away.
     let r = registry c.args.udfs.now in
