@@ -1,23 +1,20 @@
-//! Expressions with markers and renaming forms, and what they are expanded to.
+//! Expressions with markers and renaming forms: copies, and expansion at any depth.
 
 use crate::expressions::{Kind, assert_copied, boxed, nested};
-use crate::fixtures::{LENGTHS, NO_MEMORY, assert_refused, column, long_name, numbered};
+use crate::fixtures::{LENGTHS, NO_MEMORY, long_name, numbered};
 use crate::schemas::schema_of;
 use plan_dsl::expr::Expr;
 use plan_dsl::marker::{Excluded, RenameAliasFn};
-use plan_dsl::operator::Operator;
 use plan_dsl::selector::Selector;
 use plan_dsl::udfs::Udfs;
 use plan_expand::expr_expansion::{expand_filter, rewrite_projections};
-use plan_expand::selectors::expand_selectors;
 use plan_types::dtype::DataType;
-use plan_types::error::ErrorKind;
 use plan_types::schema::Schema;
 use plan_types::text::PlSmallStr;
 use std::alloc::Global;
 use std::process::Abort;
 
-// How many parts the tests give to a marker, and how many columns to a schema.
+// How many parts the tests give to a marker.
 const PARTS: [usize; 4] = [0, 1, 2, 1_000];
 
 // How many levels the tests give to what has markers.
@@ -92,7 +89,7 @@ fn excluded(rt: &impl Abort, alloc: Global, start: usize, end: usize) -> Vec<Exc
     excluded
 }
 
-// A marker of so many parts, which stands for all columns of a schema of as many.
+// A marker of so many parts.
 fn marker_of(rt: &impl Abort, alloc: Global, kind: Marker, count: usize) -> Expr {
     match kind {
         Marker::All => Expr::Wildcard,
@@ -137,94 +134,11 @@ fn renaming_forms_of_any_length_are_copied(rt: HostRuntime) {
     }
 }
 
-// The sum of two expressions under a text and the name of its first column.
-fn renamed_sum(rt: &impl Abort, alloc: Global, left: Expr, right: Expr) -> Expr {
-    let sum = Expr::BinaryExpr {
-        left: boxed(rt, alloc, left),
-        op: Operator::Plus,
-        right: boxed(rt, alloc, right),
-    };
-    let text = long_name(rt, alloc, 1_001);
-    Expr::RenameAlias {
-        function: RenameAliasFn::Prefix(text),
-        expr: boxed(rt, alloc, sum),
-    }
-}
-
 // One expression is expanded over a schema.
 fn assert_expanded(rt: &impl Abort, alloc: Global, expr: Expr, schema: &Schema) {
     let exprs = vec![in alloc; expr].expect(rt, NO_MEMORY);
     let answer = rewrite_projections(alloc, exprs, schema, &[], &Udfs::new(alloc));
     drop(answer.expect(rt, NO_MEMORY));
-}
-
-// A marker of all columns, in two places, is expanded over a schema of so many.
-fn assert_repeated(rt: &impl Abort, alloc: Global, kind: Marker, count: usize) {
-    let schema = schema_of(rt, alloc, count, &DataType::Int8);
-    let left = marker_of(rt, alloc, kind, count);
-    let right = marker_of(rt, alloc, kind, count);
-    assert_expanded(rt, alloc, renamed_sum(rt, alloc, left, right), &schema);
-    drop(schema);
-}
-
-#[test]
-fn expressions_are_repeated_for_any_number_of_names(rt: HostRuntime) {
-    for kind in &MARKERS {
-        for count in PARTS {
-            assert_repeated(&rt, rt.alloc(), *kind, count);
-        }
-    }
-}
-
-// So many expressions, each of the two columns of the schema.
-fn wildcards(rt: &impl Abort, alloc: Global, count: usize) -> Vec<Expr> {
-    let mut exprs = Vec::new(alloc);
-    for _ in 0..count {
-        let expr = Expr::KeepName(boxed(rt, alloc, Expr::Wildcard));
-        exprs.push(expr).expect(rt, NO_MEMORY);
-    }
-    exprs
-}
-
-// So many keys, of columns.
-fn keys(rt: &impl Abort, alloc: Global, count: usize) -> Vec<Expr> {
-    let mut keys = Vec::new(alloc);
-    for number in 0..count {
-        let name = numbered(rt, alloc, number);
-        keys.push(Expr::Column(name)).expect(rt, NO_MEMORY);
-    }
-    keys
-}
-
-// So many expressions are expanded, beside so many keys.
-fn assert_listed(rt: &impl Abort, alloc: Global, count: usize, key_count: usize) {
-    let schema = schema_of(rt, alloc, 2, &DataType::Int8);
-    let exprs = wildcards(rt, alloc, count);
-    let keys = keys(rt, alloc, key_count);
-    let answer = rewrite_projections(alloc, exprs, &schema, keys.as_slice(), &Udfs::new(alloc));
-    drop(answer.expect(rt, NO_MEMORY));
-    drop(keys);
-    drop(schema);
-}
-
-#[test]
-fn any_number_of_expressions_are_expanded(rt: HostRuntime) {
-    for count in PARTS {
-        assert_listed(&rt, rt.alloc(), count, 0);
-        assert_listed(&rt, rt.alloc(), 2, count);
-    }
-}
-
-#[test]
-fn an_expression_behind_others_is_refused(rt: HostRuntime) {
-    let schema = schema_of(&rt, rt.alloc(), 2, &DataType::Int8);
-    let mut exprs = wildcards(&rt, rt.alloc(), 1_000);
-    let lowest = column(&rt, rt.alloc(), "a");
-    let expr = nested(&rt, rt.alloc(), Kind::Excluded, 1, lowest);
-    exprs.push(expr).expect(&rt, NO_MEMORY);
-    let answer = rewrite_projections(rt.alloc(), exprs, &schema, &[], &Udfs::new(rt.alloc()));
-    assert_refused(&rt, answer, ErrorKind::InvalidOperation);
-    drop(schema);
 }
 
 // So many expressions of the kind, one over another and over a marker, keep their name: as an expression over two
@@ -274,73 +188,9 @@ fn assert_predicate(rt: &impl Abort, alloc: Global, predicate: Expr, count: usiz
     drop(schema);
 }
 
-// A predicate of a marker of so many columns is refused; one from which all but the first are excluded isn't.
-fn assert_one(rt: &impl Abort, alloc: Global, kind: Marker, count: usize) {
-    let schema = schema_of(rt, alloc, count, &DataType::Int8);
-    let several = marker_of(rt, alloc, kind, count);
-    let answer = expand_filter(alloc, several, &schema, &Udfs::new(alloc));
-    assert_refused(rt, answer, ErrorKind::ComputeError);
-    drop(schema);
-    let several = marker_of(rt, alloc, kind, count);
-    let marker = nested(rt, alloc, Kind::Selected, 1, several);
-    let marker = boxed(rt, alloc, marker);
-    let one = Expr::Exclude(marker, excluded(rt, alloc, 1, count));
-    assert_predicate(rt, alloc, one, count);
-}
-
-#[test]
-fn predicates_of_any_number_of_names_are_expanded(rt: HostRuntime) {
-    for kind in &MARKERS {
-        for count in [2, 1_000] {
-            assert_one(&rt, rt.alloc(), *kind, count);
-        }
-    }
-}
-
-// The names of the selectors are made, over a schema of so many columns.
-fn assert_selectors(rt: &impl Abort, alloc: Global, selectors: Vec<Selector>, count: usize) {
-    let schema = schema_of(rt, alloc, count, &DataType::Int8);
-    drop(expand_selectors(alloc, selectors, &schema).expect(rt, NO_MEMORY));
-    drop(schema);
-}
-
-// A selector of a marker of so many columns.
-fn assert_root(rt: &impl Abort, alloc: Global, kind: Marker, count: usize) {
-    let root = Selector::Root(boxed(rt, alloc, marker_of(rt, alloc, kind, count)));
-    let selectors = vec![in alloc; root].expect(rt, NO_MEMORY);
-    assert_selectors(rt, alloc, selectors, count);
-}
-
-#[test]
-fn selectors_of_markers_make_any_number_of_names(rt: HostRuntime) {
-    for kind in &MARKERS {
-        for count in PARTS {
-            assert_root(&rt, rt.alloc(), *kind, count);
-        }
-    }
-}
-
 // The column at that place.
 fn root_at(rt: &impl Abort, alloc: Global, number: usize) -> Selector {
     Selector::Root(boxed(rt, alloc, Expr::Nth(place(number))))
-}
-
-// So many selectors, each of the column at a place of its own.
-fn roots(rt: &impl Abort, alloc: Global, count: usize) -> Vec<Selector> {
-    let mut selectors = Vec::new(alloc);
-    for number in 0..count {
-        let root = root_at(rt, alloc, number);
-        selectors.push(root).expect(rt, NO_MEMORY);
-    }
-    selectors
-}
-
-#[test]
-fn any_number_of_selectors_of_markers_make_names(rt: HostRuntime) {
-    for count in PARTS {
-        let selectors = roots(&rt, rt.alloc(), count);
-        assert_selectors(&rt, rt.alloc(), selectors, count);
-    }
 }
 
 // What the selector has and the column at the place hasn't, or the other way round.

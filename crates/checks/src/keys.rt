@@ -1,17 +1,12 @@
 //! Sorts by keys, and nodes with lists.
 
-use crate::fixtures::{NO_MEMORY, SIZES, assert_alike, assert_number};
+use crate::fixtures::{NO_MEMORY, SIZES, assert_alike};
 use plan_arena::aexpr::AExpr;
 use plan_arena::arena::Node;
-use plan_arena::expr_ir::{ExprIR, ExprIRs, OutputName};
 use plan_arena::inputs::NodeList;
-use plan_arena::ir::IR;
 use plan_dsl::expr::{Expr, Exprs};
 use plan_dsl::literal::LiteralValue;
-use plan_dsl::plan::ProjectionOptions;
 use plan_dsl::sort_options::{Flags, SortMultipleOptions};
-use plan_types::schema::Schema;
-use plan_types::text::PlSmallStr;
 use std::alloc::Global;
 use std::process::Abort;
 
@@ -89,41 +84,6 @@ fn nodes_of_any_number_of_inputs_are_copied(rt: HostRuntime) {
         assert!(rt; inputs.as_slice() == own.as_slice());
         drop(inputs);
         drop(own);
-        drop(copy);
-        drop(item);
-    }
-}
-
-// A select of so many outputs.
-fn select_of(rt: &impl Abort, alloc: Global, count: usize) -> IR {
-    let mut items = Vec::new(alloc);
-    for number in 0..count {
-        let name = PlSmallStr::new(alloc, "a").expect(rt, NO_MEMORY);
-        let expr_ir = ExprIR::new(Node(number), OutputName::ColumnLhs(name));
-        items.push(expr_ir).expect(rt, NO_MEMORY);
-    }
-    IR::Select {
-        expr: ExprIRs { items },
-        input: Node(0),
-        schema: Schema::new(alloc),
-        options: ProjectionOptions::default(),
-    }
-}
-
-// How many outputs a select has.
-fn output_count(item: &IR) -> usize {
-    match item {
-        IR::Select { expr, .. } => expr.items.len(),
-        _ => 0,
-    }
-}
-
-#[test]
-fn selects_of_any_number_of_outputs_are_copied(rt: HostRuntime) {
-    for count in SIZES {
-        let item = select_of(&rt, rt.alloc(), count);
-        let copy = item.try_clone(rt.alloc()).expect(&rt, NO_MEMORY);
-        assert_number(&rt, output_count(&copy), count);
         drop(copy);
         drop(item);
     }

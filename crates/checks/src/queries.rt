@@ -1,4 +1,4 @@
-//! Queries that are read, of many parts and of many levels.
+//! Queries that are read, of many parts.
 
 use crate::fixtures::{NO_MEMORY, assert_text};
 use plan_json::error::JsonError;
@@ -8,9 +8,6 @@ use std::process::Abort;
 
 // So many items are in a long list.
 const MANY: usize = 100_000;
-
-// So many selects reach from the second level to the last but one, of the 127 that a text may have.
-const STACKED: usize = 62;
 
 // A select of the text's items, over the empty table.
 fn select_of(rt: &impl Abort, alloc: Global, items: &str) -> String {
@@ -88,15 +85,6 @@ fn the_last_of_many_items_is_found_at_fault(rt: HostRuntime) {
     let items = repeated(&rt, rt.alloc(), "{\"len\":null},", 99_999, "{\"len\":1}");
     let text = select_of(&rt, rt.alloc(), items.as_str());
     assert_shape_at(&rt, rt.alloc(), text.as_str(), "/plan/select/1/99999/len");
-}
-
-#[test]
-fn queries_of_all_levels_are_read(rt: HostRuntime) {
-    let mut text = repeated(&rt, rt.alloc(), "{\"select\":[", STACKED, "{\"empty\":[]}");
-    let ends = repeated(&rt, rt.alloc(), ",[]]}", STACKED, "}");
-    text.push_str(ends.as_str()).expect(&rt, NO_MEMORY);
-    let whole = format!(in rt.alloc(); "{{\"tables\":[],\"plan\":{text}").expect(&rt, NO_MEMORY);
-    assert_read(&rt, rt.alloc(), whole.as_str());
 }
 
 #[test]
