@@ -123,25 +123,6 @@ fn aliased_number(rt: &impl Abort, alloc: Global, number: i128, aliases: usize) 
     nested(rt, alloc, Kind::Alias, aliases, lowest)
 }
 
-// The number stays without a type.
-fn assert_untyped(rt: &impl Abort, alloc: Global, number: i128, aliases: usize) {
-    let mut arena = Arena::new(alloc);
-    let expr = aliased_number(rt, alloc, number, aliases);
-    drop(to_expr_ir(expr, &mut arena).expect(rt, NO_MEMORY));
-    let value = LiteralValue::Int(number);
-    assert_literal(rt, &arena, 1, &value);
-    drop(value);
-    drop(arena);
-}
-
-#[test]
-fn numbers_stay_without_a_type(rt: HostRuntime) {
-    for (aliases, _) in ALIASES {
-        assert_untyped(&rt, rt.alloc(), 7, aliases);
-        assert_untyped(&rt, rt.alloc(), PAST, aliases);
-    }
-}
-
 #[test]
 fn a_number_gets_a_type_without_its_aliases(rt: HostRuntime) {
     for (aliases, _) in ALIASES {
