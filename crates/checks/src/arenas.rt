@@ -34,6 +34,33 @@ fn last_items_are_taken_away(rt: HostRuntime) {
     }
 }
 
+// The item of the number is replaced by 5, which is taken, and then set to 7.
+fn change(rt: &impl Abort, arena: &mut Arena<usize>, number: usize) {
+    assert!(rt; number < arena.len());
+    let before = arena.replace(Node(number), 5);
+    assert!(rt; before == number);
+    assert!(rt; number < arena.len());
+    let taken = arena.take(Node(number));
+    assert!(rt; taken == 5);
+    assert!(rt; number < arena.len());
+    let item = arena.get_mut(Node(number));
+    assert!(rt; *item == 0);
+    *item = 7;
+}
+
+#[test]
+fn items_are_changed_one_by_one(rt: HostRuntime) {
+    for count in COUNTS {
+        let mut arena = numbers_below(&rt, rt.alloc(), count);
+        for number in 0..count {
+            change(&rt, &mut arena, number);
+        }
+        for _ in 0..count {
+            assert!(rt; arena.pop() == Some(7));
+        }
+    }
+}
+
 // Inputs of a slice are appended from the last on, behind those that stand there.
 #[test]
 fn inputs_are_appended_in_reverse(rt: HostRuntime) {

@@ -10,7 +10,7 @@ ghost use Rattle.plan_infer.specs.KeptTypes.{IsRight};
 ghost use Rattle.plan_coerce.specs.Optimizer.{AreTrees, StaysFinite, roots_of};
 
 use crate::expressions::{Kind, boxed, nested, plus};
-use crate::fixtures::{NO_MEMORY, assert_number, column};
+use crate::fixtures::{NO_MEMORY, assert_number, assert_refused, column};
 use crate::keys::flags;
 use plan_arena::aexpr::{AExpr, Nodes};
 use plan_arena::arena::{Arena, Node};
@@ -26,7 +26,7 @@ use plan_infer::steps::Steps;
 use plan_infer::type_table::{Inferred, TypeTable};
 use plan_lower::conversion::expr_to_ir::to_aexpr;
 use plan_types::dtype::DataType;
-use plan_types::error::PlanError;
+use plan_types::error::{ErrorKind, PlanError};
 use plan_types::schema::Schema;
 use plan_types::text::PlSmallStr;
 use std::alloc::Global;
@@ -394,5 +394,99 @@ fn nodes_of_any_number_of_inputs_are_coerced(rt: HostRuntime) {
             assert_coerced(&rt, rt.alloc(), expr, more, more, &DataType::Int8);
         }
         drop(key);
+    }
+}
+
+// Both roots are coerced in one call, and once more by the same optimizer.
+fn assert_both(rt: &impl Abort, alloc: Global, left: Expr, right: Expr) {
+    let scope = typing_scope(rt, alloc);
+    let mut arena = Arena::new(alloc);
+    let first = added(rt, left, &mut arena);
+    let second = added(rt, right, &mut arena);
+    let mut types = no_types(&arena);
+    let mut optimizer = ConversionOptimizer::new(alloc);
+    for _ in 0..2 {
+        push(rt, &mut optimizer, first, &arena);
+        push(rt, &mut optimizer, second, &arena);
+        let done = coerce(
+            &TypeCoercionRule,
+            &mut optimizer,
+            &mut arena,
+            &scope,
+            &mut types,
+        );
+        done.expect(rt, NO_MEMORY);
+        assert_strict(rt, first, &arena, &scope, 1, &DataType::Int32);
+        assert_strict(rt, second, &arena, &scope, 2, &DataType::Int32);
+    }
+    assert_number(rt, arena.len(), 11);
+    drop(arena);
+    drop(scope);
+    drop(types);
+    drop(optimizer);
+}
+
+#[test]
+fn two_roots_are_coerced_at_once(rt: HostRuntime) {
+    let left = chain(&rt, rt.alloc(), 1, "a");
+    let right = chain(&rt, rt.alloc(), 2, "a");
+    assert_both(&rt, rt.alloc(), left, right);
+}
+
+// Beside a + b a root without a type is refused, in front of it or behind it. Then a + b has its type still, and the same
+// optimizer puts in its cast.
+fn assert_refused_beside(
+    rt: &impl Abort,
+    alloc: Global,
+    name: &str,
+    kind: ErrorKind,
+    is_first: bool,
+) {
+    let scope = typing_scope(rt, alloc);
+    let mut arena = Arena::new(alloc);
+    let root = added(rt, a_plus(rt, alloc, "b"), &mut arena);
+    let other = added(rt, a_plus(rt, alloc, name), &mut arena);
+    let mut types = no_types(&arena);
+    let mut optimizer = ConversionOptimizer::new(alloc);
+    let (first, second) = if is_first {
+        (root, other)
+    } else {
+        (other, root)
+    };
+    push(rt, &mut optimizer, first, &arena);
+    push(rt, &mut optimizer, second, &arena);
+    let answer = coerce(
+        &TypeCoercionRule,
+        &mut optimizer,
+        &mut arena,
+        &scope,
+        &mut types,
+    );
+    assert_refused(rt, answer, kind);
+    drop(typed(rt, root, &arena, &scope, &DataType::Int32));
+    push(rt, &mut optimizer, root, &arena);
+    let done = coerce(
+        &TypeCoercionRule,
+        &mut optimizer,
+        &mut arena,
+        &scope,
+        &mut types,
+    );
+    done.expect(rt, NO_MEMORY);
+    assert_strict(rt, root, &arena, &scope, 1, &DataType::Int32);
+    drop(arena);
+    drop(scope);
+    drop(types);
+    drop(optimizer);
+}
+
+#[test]
+fn a_refusal_leaves_other_roots_typed(rt: HostRuntime) {
+    for (name, kind) in [
+        ("d", ErrorKind::InvalidOperation),
+        ("missing", ErrorKind::ColumnNotFound),
+    ] {
+        assert_refused_beside(&rt, rt.alloc(), name, kind, true);
+        assert_refused_beside(&rt, rt.alloc(), name, kind, false);
     }
 }

@@ -2,6 +2,7 @@
 
 use crate::expressions::{Kind, nested};
 use crate::fixtures::{NO_MEMORY, assert_number, assert_text, column};
+use crate::sums::sum_of;
 use plan_arena::aexpr::AExpr;
 use plan_arena::arena::{Arena, Node};
 use plan_arena::expr_ir::OutputName;
@@ -18,6 +19,19 @@ const ALIASES: [(usize, usize); 5] = [(0, 1), (1, 2), (2, 3), (99, 100), (1_000,
 
 /// A number that no type has: one past the greatest of UInt64.
 const PAST: i128 = 18_446_744_073_709_551_616;
+
+#[test]
+fn sums_of_any_length_are_named(rt: HostRuntime) {
+    for additions in [0, 1, 2, 1_000] {
+        let mut arena = Arena::new(rt.alloc());
+        let sum = sum_of(rt.alloc(), "a", additions).expect(&rt, NO_MEMORY);
+        let expr_ir = to_expr_ir(sum, &mut arena).expect(&rt, NO_MEMORY);
+        assert!(rt; expr_ir.output_name().as_str() == "a");
+        assert!(rt; arena.last_node() == Some(expr_ir.node()));
+        drop(expr_ir);
+        drop(arena);
+    }
+}
 
 // The expression and b.
 fn plus_b(rt: &impl Abort, alloc: Global, left: Expr) -> Expr {
@@ -123,6 +137,25 @@ fn aliased_number(rt: &impl Abort, alloc: Global, number: i128, aliases: usize) 
     nested(rt, alloc, Kind::Alias, aliases, lowest)
 }
 
+// The number stays without a type.
+fn assert_untyped(rt: &impl Abort, alloc: Global, number: i128, aliases: usize) {
+    let mut arena = Arena::new(alloc);
+    let expr = aliased_number(rt, alloc, number, aliases);
+    drop(to_expr_ir(expr, &mut arena).expect(rt, NO_MEMORY));
+    let value = LiteralValue::Int(number);
+    assert_literal(rt, &arena, 1, &value);
+    drop(value);
+    drop(arena);
+}
+
+#[test]
+fn numbers_stay_without_a_type(rt: HostRuntime) {
+    for (aliases, _) in ALIASES {
+        assert_untyped(&rt, rt.alloc(), 7, aliases);
+        assert_untyped(&rt, rt.alloc(), PAST, aliases);
+    }
+}
+
 #[test]
 fn a_number_gets_a_type_without_its_aliases(rt: HostRuntime) {
     for (aliases, _) in ALIASES {
@@ -164,4 +197,16 @@ fn a_number_past_each_type_is_refused(rt: HostRuntime) {
         assert_invalid(&rt, to_aexpr(expr, &mut arena));
         drop(arena);
     }
+}
+
+#[test]
+fn a_count_of_rows_names_a_sum(rt: HostRuntime) {
+    let mut arena = Arena::new(rt.alloc());
+    let sum = plus_b(&rt, rt.alloc(), Expr::Len);
+    let expr_ir = to_expr_ir_ignore_alias(sum, &mut arena).expect(&rt, NO_MEMORY);
+    assert!(rt; matches!(expr_ir.output_name_inner(), OutputName::LiteralLhs(_)));
+    assert!(rt; expr_ir.output_name().as_str() == "len");
+    drop(expr_ir);
+    assert_sum(&rt, &arena, 3);
+    drop(arena);
 }

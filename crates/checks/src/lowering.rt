@@ -3,6 +3,8 @@
 use crate::expressions::{Kind, nested};
 use crate::fixtures::{NO_MEMORY, assert_text, column};
 use crate::plans::{filters_over, scan_of, select_of};
+use plan_arena::arena::Node;
+use plan_arena::plan::IRPlan;
 use plan_dsl::expr::Expr;
 use plan_dsl::literal::LiteralValue;
 use plan_dsl::plan::DslPlan;
@@ -144,6 +146,28 @@ fn a_missing_column_is_refused_at_any_depth(rt: HostRuntime) {
     for filters in [0, 1, 2, 3, 200] {
         assert_refused(&rt, rt.alloc(), filters);
     }
+}
+
+// What the node of that number is called, of the plan that is lent.
+fn name_at(rt: &impl Abort, plan: &IRPlan, number: usize) -> &'static str {
+    let lent = plan.as_ref().with_root(Node(number));
+    assert!(rt; lent.lp_top.0 < lent.lp_arena.len());
+    lent.root().name()
+}
+
+#[test]
+fn a_lowered_plan_is_lent_from_any_node(rt: HostRuntime) {
+    let scan = scan_of(&rt, rt.alloc(), None, 1, &DataType::Boolean);
+    let plan = filters_over(&rt, rt.alloc(), scan, 200);
+    let udfs = Udfs::new(rt.alloc());
+    let lowered = plan.to_alp(rt.alloc(), &udfs).expect(&rt, NO_MEMORY);
+    assert!(rt; lowered.lp_top.0 < lowered.lp_arena.len());
+    assert_text(&rt, lowered.root().name(), "selection");
+    assert_text(&rt, name_at(&rt, &lowered, 0), "df");
+    for number in 1..lowered.lp_arena.len() {
+        assert_text(&rt, name_at(&rt, &lowered, number), "selection");
+    }
+    drop(lowered);
 }
 
 // Of so many casts of a literal, one over another, so many are left.

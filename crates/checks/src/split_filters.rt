@@ -1,7 +1,9 @@
-//! Filters that are split into any number of parts.
+//! Filters that are split into parts: in which order, and into any number.
 
-use crate::fixtures::{NO_MEMORY, assert_number, column};
+use crate::fixtures::{NO_MEMORY, assert_number, assert_text, column};
 use crate::plans::scan_of;
+use plan_arena::arena::{Arena, Node};
+use plan_arena::ir::IR;
 use plan_arena::plan::IRPlan;
 use plan_dsl::builder::DslBuilder;
 use plan_dsl::expr::Expr;
@@ -56,4 +58,26 @@ fn filters_are_split_into_any_number_of_parts(rt: HostRuntime) {
         assert_split(&rt, rt.alloc(), more, true);
         assert_split(&rt, rt.alloc(), more, false);
     }
+}
+
+// The node of that number is a filter by the column, over the node.
+fn assert_filter(rt: &impl Abort, arena: &Arena<IR>, number: usize, name: &str, below: usize) {
+    assert!(rt; number < arena.len());
+    match arena.get(Node(number)) {
+        IR::Filter { input, predicate } => {
+            assert_text(rt, predicate.output_name().as_str(), name);
+            assert_number(rt, input.0, below);
+        }
+        _ => panic!(rt; "it is a filter"),
+    }
+}
+
+#[test]
+fn the_last_part_is_the_innermost_filter(rt: HostRuntime) {
+    let first = column(&rt, rt.alloc(), "part 0");
+    let second = column(&rt, rt.alloc(), "part 1");
+    let plan = lowered(&rt, rt.alloc(), both(&rt, rt.alloc(), first, second));
+    assert_filter(&rt, &plan.lp_arena, plan.lp_top.0, "part 0", 1);
+    assert_filter(&rt, &plan.lp_arena, 1, "part 1", 0);
+    drop(plan);
 }

@@ -1,9 +1,10 @@
-//! Names and types: copies.
+//! Names and types: copies, and common types of operands.
 
 use crate::fixtures::{
     LENGTHS, LEVELS, NO_MEMORY, SIZES, assert_alike, bare_types, deep_type, long_name, struct_type,
 };
-use plan_types::dtype::DataType;
+use plan_types::common_type::try_get_common_type;
+use plan_types::dtype::{DataType, UnknownKind};
 use plan_types::field::Field;
 use std::alloc::Global;
 use std::process::Abort;
@@ -50,5 +51,24 @@ fn assert_copied_field(rt: &impl Abort, alloc: Global, length: usize) {
 fn fields_of_long_names_are_copied(rt: HostRuntime) {
     for length in LENGTHS {
         assert_copied_field(&rt, rt.alloc(), length);
+    }
+}
+
+fn assert_common(rt: &impl Abort, alloc: Global, left: &DataType, right: &DataType) {
+    let common = try_get_common_type(alloc, left, right).expect(rt, NO_MEMORY);
+    drop(common);
+}
+
+#[test]
+fn operands_of_any_size_have_a_common_type(rt: HostRuntime) {
+    let number = DataType::Unknown(UnknownKind::Int(5));
+    assert_common(&rt, rt.alloc(), &number, &number);
+    drop(number);
+    for count in SIZES {
+        let left = struct_type(&rt, rt.alloc(), count, &DataType::Int8);
+        let right = struct_type(&rt, rt.alloc(), count, &DataType::UInt8);
+        assert_common(&rt, rt.alloc(), &left, &right);
+        drop(left);
+        drop(right);
     }
 }
