@@ -1,11 +1,11 @@
 //! Plans to nodes of an arena.
-ghost use Rattle.std.specs.Prelude.{◌≡◌, ◌<◌, ◌⊎◌, ℕ, true, false, List, [], ◌∷◌, map, slice_get, Some, OnOk, IfOk, IfErr};
+ghost use Rattle.std.specs.Prelude.{◌≡◌, ◌<◌, ◌⊎◌, ◌++◌, ℕ, true, false, List, [], ◌∷◌, map, reverse, slice_get, Some, OnOk, IfOk, IfErr};
 ghost use Rattle.plan_types.specs.Errors.{no_memory, IsMemoryOr};
 ghost use Rattle.plan_types.specs.Schemas.{columns, all_known};
 ghost use Rattle.plan_dsl.specs.Drops.{drop_leaves};
 ghost use Rattle.plan_dsl.specs.Expressions.{selector_trees, tree_of, trees_of};
 ghost use Rattle.plan_dsl.specs.Ops.{Op};
-ghost use Rattle.plan_dsl.specs.Plans.{PlanOp, SourcePlan, plan_tree, scan_op, source_filter, source_function, source_group_by, source_hstack, source_select};
+ghost use Rattle.plan_dsl.specs.Plans.{OrderOption, PlanOp, PlanOption, ProjectionOption, SourcePlan, options_in, plan_tree, scan_op, source_filter, source_function, source_group_by, source_hstack, source_select};
 ghost use Rattle.plan_dsl.specs.PlanRules.{with_columns};
 ghost use Rattle.plan_dsl.specs.Registry.{registry};
 ghost use Rattle.plan_dsl.specs.Resolving.{resolved};
@@ -13,6 +13,7 @@ ghost use Rattle.plan_dsl.specs.Sources.{Source};
 ghost use Rattle.plan_dsl.specs.Trees.{node, no_more, more};
 ghost use Rattle.plan_arena.specs.Items.{HoldsExpression, Grows, named_node, plan_layer};
 ghost use Rattle.plan_arena.specs.Layers.{layer};
+ghost use Rattle.plan_arena.specs.Options.{options_of};
 ghost use Rattle.plan_expand.specs.Refusals.{IsUnexpanded};
 ghost use Rattle.plan_lower.specs.Groups.{IsUngrouped};
 ghost use Rattle.plan_lower.specs.Lowering.{IsDropAt, IsFunctionAt, IsFunctionRefusal, AreFilters, IsFilterAt, IsGroupByAt, IsHStackAt, IsSelectAt, StandsFor, IsPlanRefusal, IsEmptyTableAt, Records, recorded_at, columns_at, Answers, IsTyped, HasLoweredTop, HasBoundedTop, IsSplit, IsSound, GivesSameFrame};
@@ -42,9 +43,11 @@ use std::alloc::Global;
 pub trait PlanLowering {
     // The plan that is lowered, as it is written.
     ghost tree: { Self → SourcePlan };
+    // The options of its nodes, from the top down.
+    ghost carried: { Self → List PlanOption };
 
     /// The typed plan in two arenas of its own: a plan for each query that is well formed, else the kind and
-    /// the place of a rule that it breaks.
+    /// the place of a rule that it breaks. Its items carry the options of the query's nodes, from the bottom up.
     fn to_alp(self, alloc: Global, udfs: &Udfs) -> Result<IRPlan, PlanError>
         ensures answers { Answers (registry udfs.now) (resolved (registry udfs.now) (tree self)) result }
         ensures typed { IfOk result (IsTyped (registry udfs.now) (resolved (registry udfs.now) (tree self))) }
@@ -52,11 +55,14 @@ pub trait PlanLowering {
         ensures sound { IfOk result (IsSound (registry udfs.now) (resolved (registry udfs.now) (tree self))) }
         ensures same_frame { IfOk result (GivesSameFrame (registry udfs.now) (resolved (registry udfs.now) (tree self))) }
         ensures lowered { IfOk result (HasLoweredTop (registry udfs.now)) }
-        ensures bounds { IfOk result (HasBoundedTop (registry udfs.now) (resolved (registry udfs.now) (tree self))) };
+        ensures bounds { IfOk result (HasBoundedTop (registry udfs.now) (resolved (registry udfs.now) (tree self))) }
+        ensures options { IfOk result (λ lowering. options_of lowering.lp_arena ≡ reverse (carried self)) };
 }
 
 impl PlanLowering for DslPlan {
     ghost tree = { plan_tree };
+
+    ghost carried = { options_in };
 
     fn to_alp(self, alloc: Global, udfs: &Udfs) -> Result<IRPlan, PlanError> {
         let mut lp_arena = Arena::new(alloc);
@@ -95,6 +101,7 @@ fn lower(
     ensures kept { (n : ℕ) (op : Op) (inputs : List ℕ) →
         HoldsExpression expr_arena.old n op inputs → HoldsExpression expr_arena.new n op inputs }
     ensures grows { Grows lp_arena.old lp_arena.new }
+    ensures options { OnOk result (options_of lp_arena.new ≡ options_of lp_arena.old ++ reverse (options_in plan)) }
 {
     match plan {
         DslPlan::DataFrameScan { table, schema } => {
@@ -141,6 +148,7 @@ fn add_filter(
     ensures kept { (n : ℕ) (op : Op) (inputs : List ℕ) →
         HoldsExpression expr_arena.old n op inputs → HoldsExpression expr_arena.new n op inputs }
     ensures grows { Grows lp_arena.old lp_arena.new }
+    ensures options { OnOk result (options_of lp_arena.new ≡ options_of lp_arena.old ++ reverse (options_in input.value)) }
 {
     match lower_input(input, expr_arena, lp_arena, udfs) {
         Ok(input) => {
@@ -170,6 +178,7 @@ fn add_select(
     ensures kept { (n : ℕ) (op : Op) (inputs : List ℕ) →
         HoldsExpression expr_arena.old n op inputs → HoldsExpression expr_arena.new n op inputs }
     ensures grows { Grows lp_arena.old lp_arena.new }
+    ensures options { OnOk result (options_of lp_arena.new ≡ options_of lp_arena.old ++ reverse (ProjectionOption options ∷ options_in input.value)) }
 {
     let input = lower_input(input, expr_arena, lp_arena, udfs)?;
     let lowered = lower_select(expr, input, options, expr_arena, lp_arena, udfs)?;
@@ -192,6 +201,7 @@ fn add_hstack(
     ensures kept { (n : ℕ) (op : Op) (inputs : List ℕ) →
         HoldsExpression expr_arena.old n op inputs → HoldsExpression expr_arena.new n op inputs }
     ensures grows { Grows lp_arena.old lp_arena.new }
+    ensures options { OnOk result (options_of lp_arena.new ≡ options_of lp_arena.old ++ reverse (ProjectionOption options ∷ options_in input.value)) }
 {
     let input = lower_input(input, expr_arena, lp_arena, udfs)?;
     let lowered = lower_hstack(exprs, input, options, expr_arena, lp_arena, udfs)?;
@@ -215,6 +225,7 @@ fn add_groups(
     ensures kept { (n : ℕ) (op : Op) (inputs : List ℕ) →
         HoldsExpression expr_arena.old n op inputs → HoldsExpression expr_arena.new n op inputs }
     ensures grows { Grows lp_arena.old lp_arena.new }
+    ensures options { OnOk result (options_of lp_arena.new ≡ options_of lp_arena.old ++ reverse (OrderOption order ∷ options_in input.value)) }
 {
     let input = lower_input(input, expr_arena, lp_arena, udfs)?;
     let lowered = lower_groups(input, keys, aggs, order, expr_arena, lp_arena, udfs)?;
@@ -236,6 +247,7 @@ fn add_function(
     ensures kept { (n : ℕ) (op : Op) (inputs : List ℕ) →
         HoldsExpression expr_arena.old n op inputs → HoldsExpression expr_arena.new n op inputs }
     ensures grows { Grows lp_arena.old lp_arena.new }
+    ensures options { OnOk result (options_of lp_arena.new ≡ options_of lp_arena.old ++ reverse (options_in input.value)) }
 {
     let input = lower_input(input, expr_arena, lp_arena, udfs)?;
     let lowered = lower_function(input, function, lp_arena)?;
@@ -256,6 +268,7 @@ fn lower_input(
     ensures kept { (n : ℕ) (op : Op) (inputs : List ℕ) →
         HoldsExpression expr_arena.old n op inputs → HoldsExpression expr_arena.new n op inputs }
     ensures grows { Grows lp_arena.old lp_arena.new }
+    ensures options { OnOk result (options_of lp_arena.new ≡ options_of lp_arena.old ++ reverse (options_in input.value)) }
 {
     match lower(Box::into_inner(input), expr_arena, lp_arena, udfs) {
         Ok(lowered) => Ok(lowered),
@@ -274,6 +287,7 @@ fn lower_scan(
     ensures schema { IfOk result (λ lowered. recorded_at lp_arena.new lowered.schema_node.0 ≡ Some (columns schema)) }
     ensures err { IfErr result (IsMemoryOr ErrorKind.InvalidOperation (all_known (columns schema) ≡ false)) }
     ensures grows { Grows lp_arena.old lp_arena.new }
+    ensures options { OnOk result (options_of lp_arena.new ≡ options_of lp_arena.old) }
 {
     if !schema.is_known() {
         return Err(PlanError::at_top(ErrorKind::InvalidOperation));
@@ -315,6 +329,7 @@ fn lower_filter(
     ensures kept { (n : ℕ) (op : Op) (inputs : List ℕ) →
         HoldsExpression expr_arena.old n op inputs → HoldsExpression expr_arena.new n op inputs }
     ensures grows { Grows lp_arena.old lp_arena.new }
+    ensures options { OnOk result (options_of lp_arena.new ≡ options_of lp_arena.old) }
 {
     let schema = recorded_schema(lp_arena, input.schema_node);
     let predicate = lower_predicate(predicate, schema, expr_arena, udfs)?;
@@ -335,6 +350,7 @@ fn add_filters(
     ensures ok { IfOk result (λ node. AreFilters lp_arena.new node.0 (map named_node predicates.items) input.0) }
     ensures err { IfErr result (λ error. error ≡ no_memory) }
     ensures grows { Grows lp_arena.old lp_arena.new }
+    ensures options { OnOk result (options_of lp_arena.new ≡ options_of lp_arena.old) }
 {
     let mut node = input;
     let mut predicates = predicates;
@@ -364,6 +380,7 @@ fn lower_select(
     ensures kept { (n : ℕ) (op : Op) (inputs : List ℕ) →
         HoldsExpression expr_arena.old n op inputs → HoldsExpression expr_arena.new n op inputs }
     ensures grows { Grows lp_arena.old lp_arena.new }
+    ensures options { OnOk result (options_of lp_arena.new ≡ options_of lp_arena.old ++ ProjectionOption options ∷ []) }
 {
     let schema = recorded_schema(lp_arena, input.schema_node);
     let projection = project_strictly(expr, schema, expr_arena, udfs, ErrorKind::Duplicate)?;
@@ -397,6 +414,7 @@ fn lower_hstack(
     ensures kept { (n : ℕ) (op : Op) (inputs : List ℕ) →
         HoldsExpression expr_arena.old n op inputs → HoldsExpression expr_arena.new n op inputs }
     ensures grows { Grows lp_arena.old lp_arena.new }
+    ensures options { OnOk result (options_of lp_arena.new ≡ options_of lp_arena.old ++ ProjectionOption options ∷ []) }
 {
     let before = recorded_schema(lp_arena, input.schema_node);
     let projection = project_strictly(exprs, before, expr_arena, udfs, ErrorKind::ComputeError)?;
@@ -431,6 +449,7 @@ fn lower_groups(
     ensures kept { (n : ℕ) (op : Op) (inputs : List ℕ) →
         HoldsExpression expr_arena.old n op inputs → HoldsExpression expr_arena.new n op inputs }
     ensures grows { Grows lp_arena.old lp_arena.new }
+    ensures options { OnOk result (options_of lp_arena.new ≡ options_of lp_arena.old ++ OrderOption maintain_order ∷ []) }
 {
     let schema = recorded_schema(lp_arena, input.schema_node);
     let groups = group_strictly(keys, aggs, schema, expr_arena, udfs)?;
@@ -459,6 +478,7 @@ fn lower_function(
     ensures recorded { IfOk result (λ lowered. Records lp_arena.new lowered.schema_node.0) }
     ensures err { IfErr result (IsFunctionRefusal (columns_at lp_arena.old input.schema_node.0) function) }
     ensures grows { Grows lp_arena.old lp_arena.new }
+    ensures options { OnOk result (options_of lp_arena.new ≡ options_of lp_arena.old) }
 {
     match function {
         DslFunction::Drop(function) => lower_drop(input, function, lp_arena),
@@ -477,6 +497,7 @@ fn lower_drop(
     ensures recorded { IfOk result (λ lowered. Records lp_arena.new lowered.schema_node.0) }
     ensures err { IfErr result (IsUnexpanded (drop_leaves (columns_at lp_arena.old input.schema_node.0) (selector_trees function.to_drop) function.strict)) }
     ensures grows { Grows lp_arena.old lp_arena.new }
+    ensures options { OnOk result (options_of lp_arena.new ≡ options_of lp_arena.old) }
 {
     let schema = recorded_schema(lp_arena, input.schema_node);
     let columns = columns_left(lp_arena.allocator(), function, schema)?;
@@ -510,6 +531,7 @@ fn input_of(width: usize, input: Node, lp_arena: &mut Arena<IR>) -> Result<Node,
     ensures nothing { IfOk result (λ node. width ≡ 0 → IsEmptyTableAt lp_arena.new node.0) }
     ensures something { IfOk result (λ node. 0 < width → node.0 ≡ input.0) }
     ensures grows { Grows lp_arena.old lp_arena.new }
+    ensures options { OnOk result (options_of lp_arena.new ≡ options_of lp_arena.old) }
     ensures err { IfErr result (λ error. error ≡ no_memory) }
 {
     if width == 0 {
@@ -523,6 +545,7 @@ fn input_of(width: usize, input: Node, lp_arena: &mut Arena<IR>) -> Result<Node,
 fn add_empty_table(arena: &mut Arena<IR>) -> Result<Node, PlanError>
     ensures ok { IfOk result (λ node. IsEmptyTableAt arena.new node.0) }
     ensures grows { Grows arena.old arena.new }
+    ensures options { OnOk result (options_of arena.new ≡ options_of arena.old) }
     ensures err { IfErr result (λ error. error ≡ no_memory) }
 {
     let schema = Schema::new(arena.allocator());

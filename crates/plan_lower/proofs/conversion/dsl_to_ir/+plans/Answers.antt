@@ -3,7 +3,7 @@ use Rattle.plan_types.specs.Schemas.{columns}
 use Rattle.plan_types.proofs.ResultLemmas.{passed_on}
 use Rattle.plan_types.proofs.SchemaLemmas.{schema_has_distinct_names}
 use Rattle.plan_dsl.specs.Expressions.{tree_of, trees_of}
-use Rattle.plan_dsl.specs.Plans.{plan_tree, filter_op, select_op, group_by_op, hstack_op}
+use Rattle.plan_dsl.specs.Plans.{OrderOption, ProjectionOption, options_in, plan_tree, filter_op, select_op, group_by_op, hstack_op}
 use Rattle.plan_dsl.specs.PlanRules.{schema_of}
 use Rattle.plan_dsl.specs.Registry.{registry}
 use Rattle.plan_dsl.specs.Resolving.{resolved_op, resolved}
@@ -13,6 +13,7 @@ use Rattle.plan_lower.proofs.DropLemmas.{function_below, function_stands, functi
 use Rattle.plan_lower.proofs.GroupLemmas.{groups_stand, groups_refused}
 use Rattle.plan_lower.proofs.PlanLemmas.{scan_stands, scan_refused, filter_stands, filter_refused, select_stands, select_refused, hstack_stands, hstack_refused, refused_below}
 use Rattle.plan_lower.proofs.RecordedLemmas.{columns_of_recorded, columns_stay, records_stay}
+use Rattle.plan_arena.proofs.OptionLemmas.{options_over}
 use Rattle.plan_lower.proofs.conversion.dsl_to_ir.+plans.Goals as goal
 
 pub lower-returns-in_err-lowered-in-DataFrameScan-clause-err :
@@ -128,3 +129,15 @@ lower_input-returns-in-Err-clause-err t c op =
     let r = registry c.args.udfs.now in
     let source = resolved r (plan_tree c.into_inner.result) in
     refused_below r (resolved_op op (schema_of r source ∷ [])) source _ c.in-Err.error c.below.result c.in-Err.ensures.err c.below.ensures (ap (λ p. resolved r (node op (more (plan_tree p) no_more))) (sym c.into_inner.ensures))
+
+pub add_select-returns-clause-options : goal.add_select-returns-clause-options
+add_select-returns-clause-options t c =
+    options_over (ProjectionOption c.args.options) (options_in c.args.input.value) _ _ _ c.in_ok-input.ensures.options c.in_ok-lowered.ensures.options
+
+pub add_hstack-returns-clause-options : goal.add_hstack-returns-clause-options
+add_hstack-returns-clause-options t c =
+    options_over (ProjectionOption c.args.options) (options_in c.args.input.value) _ _ _ c.in_ok-input.ensures.options c.in_ok-lowered.ensures.options
+
+pub add_groups-returns-clause-options : goal.add_groups-returns-clause-options
+add_groups-returns-clause-options t c =
+    options_over (OrderOption c.args.order) (options_in c.args.input.value) _ _ _ c.in_ok-input.ensures.options c.in_ok-lowered.ensures.options

@@ -8,6 +8,7 @@ use Rattle.plan_expand.specs.Refusals.{IsUnexpanded}
 use Rattle.plan_lower.specs.Lowering.{IsDropAt, columns_at}
 use Rattle.plan_lower.proofs.DropLemmas.{drop_at}
 use Rattle.plan_lower.proofs.RecordedLemmas.{recorded_added, columns_of_recorded}
+use Rattle.plan_arena.proofs.OptionLemmas.{options_stay}
 use Rattle.plan_lower.proofs.conversion.dsl_to_ir.lower_drop.Goals as goal
 
 pub returns-clause-ok : goal.returns-clause-ok
@@ -32,3 +33,7 @@ pub returns-in_err-columns-clause-err : goal.returns-in_err-columns-clause-err
 returns-in_err-columns-clause-err c =
     let selectors = selector_trees c.args.function.to_drop in
     passed_on c.from_residual.result c.in_err-columns.field-0.0 _ c.from_residual.ensures.1 (subst (λ (s : Columns). IsUnexpanded (drop_leaves s selectors c.args.function.strict) c.in_err-columns.field-0.0) c.recorded_schema-schema.ensures c.in_err-columns.ensures.err)
+
+pub returns-clause-options : goal.returns-clause-options
+returns-clause-options c =
+    options_stay c.input_of.new.lp_arena c.add.new.self _ c.in_ok-node.ensures.ok refl ∙ c.in_ok-under.ensures.options

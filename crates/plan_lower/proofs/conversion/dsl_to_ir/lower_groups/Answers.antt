@@ -7,6 +7,7 @@ use Rattle.plan_lower.specs.Groups.{HasExpandedGroups}
 use Rattle.plan_lower.specs.Lowering.{IsGroupByAt, columns_at}
 use Rattle.plan_lower.proofs.GroupLemmas.{groups_at}
 use Rattle.plan_lower.proofs.RecordedLemmas.{recorded_added, columns_of_recorded}
+use Rattle.plan_arena.proofs.OptionLemmas.{options_added}
 use Rattle.plan_lower.proofs.conversion.dsl_to_ir.lower_groups.Goals as goal
 
 pub returns-clause-ok : goal.returns-clause-ok
@@ -29,3 +30,7 @@ returns-clause-ok c =
 pub returns-clause-recorded : goal.returns-clause-recorded
 returns-clause-recorded c =
     ap is_some (recorded_added c.args.lp_arena.now c.add.new.self _ c.in_ok-node.node.0 (columns c.in_ok-groups.groups.schema) c.in_ok-node.ensures.ok c.in_ok-node.ensures.node refl)
+
+pub returns-clause-options : goal.returns-clause-options
+returns-clause-options c =
+    options_added c.args.lp_arena.now c.add.new.self _ c.in_ok-node.ensures.ok

@@ -1,13 +1,15 @@
-use Rattle.std.proofs.Common.{is_some, map, sym, ap, refl, subst, arith}
+use Rattle.std.proofs.Common.{[], ◌∷◌, ◌++◌, is_some, map, sym, ap, refl, subst, ◌∙◌, arith}
 use Rattle.std.proofs.lemmas.List.{length-map}
 use Rattle.plan_types.specs.Schemas.{Columns, columns}
 use Rattle.plan_dsl.specs.Expressions.{trees_of}
+use Rattle.plan_dsl.specs.Plans.{ProjectionOption}
 use Rattle.plan_dsl.specs.Registry.{registry}
 use Rattle.plan_arena.specs.Items.{named_node}
 use Rattle.plan_lower.specs.Lowering.{IsSelectAt, columns_at}
 use Rattle.plan_lower.specs.Outputs.{HasExpandedOutputs}
 use Rattle.plan_lower.proofs.PlanLemmas.{select_at}
 use Rattle.plan_lower.proofs.RecordedLemmas.{recorded_added, columns_of_recorded}
+use Rattle.plan_arena.proofs.OptionLemmas.{options_added}
 use Rattle.plan_lower.proofs.conversion.dsl_to_ir.lower_select.Goals as goal
 
 pub returns-clause-ok : goal.returns-clause-ok
@@ -27,3 +29,8 @@ returns-clause-ok c =
 pub returns-clause-recorded : goal.returns-clause-recorded
 returns-clause-recorded c =
     ap is_some (recorded_added c.input_of.new.lp_arena c.add.new.self _ c.in_ok-node.node.0 (columns c.in_ok-projection.projection.schema) c.in_ok-node.ensures.ok c.in_ok-node.ensures.node refl)
+
+pub returns-clause-options : goal.returns-clause-options
+returns-clause-options c =
+    options_added c.input_of.new.lp_arena c.add.new.self _ c.in_ok-node.ensures.ok
+    ∙ ap (λ l. l ++ ProjectionOption c.args.options ∷ []) c.in_ok-input.ensures.options
