@@ -13,6 +13,7 @@ pub mod SchemaCalls
 pub mod Schemas
 pub mod Supertypes
 pub mod TypeLaws
+pub mod Texts
 pub mod Types
 pub mod ValueLaws
 pub mod Values

@@ -4,25 +4,37 @@ ghost use Rattle.std.specs.Str.{chars};
 ghost use Rattle.plan_types.specs.Errors.{no_memory};
 
 use crate::error::PlanError;
+use arrayvec::ArrayString;
 use std::alloc::Global;
 use std::cmp::Ordering;
 use std::fmt;
 use std::hash::{Hash, Hasher};
 use std::marker::Model;
 
+/// The most bytes of a text that stands in the value itself, and so takes no memory.
+const SHORT: usize = 15;
+
 /// An owned text. Contracts see the list of its characters.
 #[derive(Debug, Drop)]
 pub struct PlSmallStr {
-    inner: String,
+    kept: Kept,
+}
+
+// Where the bytes of a text are.
+#[derive(Debug, Drop)]
+enum Kept {
+    Short(ArrayString<SHORT>),
+    Long(String),
 }
 
 impl Model for PlSmallStr {
-    ghost use Rattle.std.specs.Prelude.{ℕ, List, string_bytes};
+    ghost use Rattle.std.specs.Prelude.{ℕ, List};
     ghost use Rattle.std.specs.Str.{chars};
+    ghost use Rattle.plan_types.specs.Texts.{kept_bytes};
 
     ghost Value = { List ℕ };
 
-    ghost view = { λ text. chars (string_bytes text.inner) };
+    ghost view = { λ text. chars (kept_bytes text.kept) };
 }
 
 impl PlSmallStr {
@@ -31,21 +43,31 @@ impl PlSmallStr {
         ensures ok { IfOk result (λ copy. copy ≡ chars text.now) }
         ensures err { IfErr result (λ error. error ≡ no_memory) }
     {
-        let inner = String::from_str(alloc, text)?;
-        Ok(PlSmallStr { inner })
+        let kept = match ArrayString::from(text) {
+            Ok(short) => Kept::Short(short),
+            Err(_) => Kept::Long(String::from_str(alloc, text)?),
+        };
+        Ok(PlSmallStr { kept })
     }
 
     pub fn as_str(&self) -> &str
         ensures { chars result.now ≡ self.now }
     {
-        self.inner.as_str()
+        match &self.kept {
+            Kept::Short(text) => text.as_str(),
+            Kept::Long(text) => text.as_str(),
+        }
     }
 
     pub fn try_clone(&self, alloc: Global) -> Result<PlSmallStr, PlanError>
         ensures ok { IfOk result (λ copy. copy ≡ self.now) }
         ensures err { IfErr result (λ error. error ≡ no_memory) }
     {
-        PlSmallStr::new(alloc, self.as_str())
+        let kept = match &self.kept {
+            Kept::Short(text) => Kept::Short(*text),
+            Kept::Long(text) => Kept::Long(String::from_str(alloc, text.as_str())?),
+        };
+        Ok(PlSmallStr { kept })
     }
 }
 
