@@ -4,13 +4,13 @@ pub use Rattle.plan_json.proofs.FaultLemmas.{part_in, item_in, key_in, IsErrorOf
 pub use Rattle.plan_json.proofs.FormLemmas.{form_read, key_part, item_part_at, other_count, each_read}
 pub use Rattle.plan_json.proofs.ItemLemmas.{all_of-more, all_taken, all_of-mapped, names_apart}
 pub use Rattle.plan_json.proofs.LiteralLemmas.{other_kind, number_place}
-pub use Rattle.plan_json.proofs.LookingLemmas.{depth-item, array-from_as_array, of_object, of_array, one_entry, other_entries, two_members-two, two_members-other, none_second, two_others, depth-only_member, depth-two_items}
+pub use Rattle.plan_json.proofs.LookingLemmas.{depth-item, array-from_as_array, of_object, of_array, one_entry, other_entries, two_members-two, two_members-other, none_second, two_others, three_others, depth-only_member, depth-two_items}
 
 -- the tables' map
 pub ruleset of_tables = (is_among-entries, table_at-some, table_at-none, declared-insert)
 
 -- objects of one or two members, and lists of two
-pub ruleset looking = (of_object, of_array, one_entry, other_entries, two_members-two, two_members-other, none_second, two_others)
+pub ruleset looking = (of_object, of_array, one_entry, other_entries, two_members-two, two_members-other, none_second, two_others, three_others)
 
 -- one more item of a list is read
 pub ruleset growing = (all_of-more, all_taken)

@@ -1,4 +1,5 @@
 pub mod DeclarationLemmas
+pub mod BinLemmas
 pub mod FaultLemmas
 pub mod FloatLaws
 pub mod FitLemmas

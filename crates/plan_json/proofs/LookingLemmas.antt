@@ -1,5 +1,5 @@
 -- Looking into a value, beside what the value's type holds.
-use Rattle.plan_json.proofs.Names.{Global, List, None, Option, Some, String, [], ap, arith, cond, get_or, length, ne_eqb, option_map, refl, slice_get, string_bytes, subst, suc, sym, zero, ℕ, ◌<◌, ◌==◌, ◌∙◌, ◌∷◌, ◌≡◌, ◌≤◌, both, only_member, two_items, two_members, items_view, members_view, view, Data, Items, Members, array, depth, item, items_depth, member, no_items, no_members, object, as_array, as_object, at, get, get_member, Value, members_len-members_view, eq-eqb, same_Some}
+use Rattle.plan_json.proofs.Names.{Global, List, None, Option, Some, String, [], ap, arith, cond, get_or, length, ne_eqb, option_map, refl, slice_get, string_bytes, subst, suc, sym, zero, ℕ, ◌<◌, ◌==◌, ◌∙◌, ◌∷◌, ◌≡◌, ◌≤◌, both, only_member, three_items, two_items, two_members, items_view, members_view, view, Data, Items, Members, array, depth, item, items_depth, member, no_items, no_members, object, as_array, as_object, at, get, get_member, Value, members_len-members_view, eq-eqb, same_Some}
 
 abbrev pub Entry : Type 0
 Entry = String Global × Value
@@ -46,6 +46,15 @@ none_second (Some x) = refl
 pub two_others : (vs : List Value) → (length vs ≡ 2 → ⊥) → None ≡ two_items (array (items_view vs))
 two_others (a ∷ b ∷ []) other = absurd (other refl)
 two_others _ other = refl
+
+pub three_others : (vs : List Value) → (length vs ≡ 3 → ⊥) → None ≡ three_items (array (items_view vs))
+three_others (a ∷ b ∷ c ∷ []) other = absurd (other refl)
+three_others _ other = refl
+
+pub array-from_three_items : (d first second third : Data) → Some (first, (second, third)) ≡ three_items d → d ≡ array (item first (item second (item third no_items)))
+array-from_three_items (array (item a (item b (item c no_items)))) first second third e =
+    ap (λ (q : Data × (Data × Data)). array (item q.0 (item q.1.0 (item q.1.1 no_items)))) (sym (same_Some (first, (second, third)) (a, (b, c)) e))
+array-from_three_items _ first second third e = cc
 
 -- ---- parts are less deep
 

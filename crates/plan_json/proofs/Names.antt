@@ -1,7 +1,7 @@
 -- The names that most proofs of this crate cite, passed on from one place. Declares nothing.
 pub use Rattle.std.proofs.Common.{Bool, Err, FitsSigned, Global, List, None, Ok, Option, Result, Some, String, Vec, [], ap, arith, bytes_eq, codes, cond, drop, false, get_or, is_some, length, length-append, map, max, nat_lt, ne_eqb, not, option_and_then, option_map, position, refl, rules, slice_get, slice_index, string_bytes, subst, suc, sym, take, true, zero, ℕ, ℤ, ◌&&◌, ◌*◌, ◌++◌, ◌+◌, ◌<◌, ◌==◌, ◌^◌, ◌||◌, ◌∙◌, ◌∷◌, ◌≡◌, ◌≤◌, Box, negsuc, pos}
 pub use Rattle.plan_json.specs.Faults.{an_excluded, excluded_form, excluded_key_form, leaf_form, BadFloat, BadName, BadShape, FaultKind, Form, IsBadAt, Part, Path, Step, a_column, a_counted_type, a_new_name, a_number_of, a_plan, a_query, a_scan, a_table, a_text, a_type, a_typed_literal, asked_form, column_list, column_part, declared_names, either_part, fault_at, field_list, has_shape, has_type_shape, items_of, key, key_form, keyed_form, keyed_part, list_of, may_be_counted, name_fault, number, own_fault, part, part_if, part_of, places_form, query_part, shape_fault, table_item, table_list, table_part, type_form, type_key_form, typed_part, unless}
-pub use Rattle.plan_json.specs.Looking.{all_of, both, first_items, is_float, only_member, some_of, two_items, two_members, whole_number}
+pub use Rattle.plan_json.specs.Looking.{all_of, both, first_items, is_float, only_member, some_of, three_items, two_items, two_members, whole_number}
 pub use Rattle.serde_json.specs.View.{items_view, members_view, view}
 pub use Rattle.plan_types.specs.Schemas.{Columns, Name, columns, is_among, names_of, repeats, same_name, type_at}
 pub use Rattle.serde_json.specs.Data.{Data, Items, Members, Num, array, depth, float, item, items_depth, member, negative, no_items, no_members, object, string, unsigned, number as numeral}

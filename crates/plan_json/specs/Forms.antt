@@ -211,6 +211,10 @@ excluded_rows =
 
 -- ---- what a value says
 
+-- the key of an operator
+abbrev pub bin_key : Key
+bin_key = keys.Expression of.Bin
+
 -- what is read of an item, and of a list of them
 mutual
   pub data Read : Type 0 where

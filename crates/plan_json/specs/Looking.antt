@@ -34,6 +34,11 @@ abbrev pub two_items : Data → Option (Data × Data)
 two_items (array (item first (item second no_items))) = Some (first, second)
 two_items _ = None
 
+-- the items of a list of three
+abbrev pub three_items : Data → Option (Data × (Data × Data))
+three_items (array (item first (item second (item third no_items)))) = Some (first, (second, third))
+three_items _ = None
+
 -- what each item reads to, if each does
 abbrev pub all_of : {A : Type 0} → (Data → Option A) → Items → Option (List A)
 all_of read no_items = Some []

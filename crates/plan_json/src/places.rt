@@ -7,7 +7,7 @@ ghost use Rattle.plan_types.specs.Schemas.{columns, names_of};
 ghost use Rattle.plan_json.specs.Arguments.{arg_view, args_view, items_seen};
 ghost use Rattle.plan_json.specs.Errors.{IsErrorOf, IsListErrorOf};
 ghost use Rattle.plan_json.specs.Faults.{asked_form, a_scan, items_of, keyed_form, leaf_form, order_form, places_form, nothing_form, optional_form, small_form};
-ghost use Rattle.plan_json.specs.Forms.{AllFit, a_form, asked_in, asks, expression, expression_read, leaf, listed_leaf, chosen_read, many, many_read, optional, order, place_view, places_view, reads_of, says, selector, selector_read, nothing_read};
+ghost use Rattle.plan_json.specs.Forms.{AllFit, a_form, asked_in, asks, bin_key, expression, expression_read, leaf, listed_leaf, chosen_read, many, many_read, optional, order, place_view, places_view, reads_of, says, selector, selector_read, nothing_read};
 ghost use Rattle.plan_json.specs.Leaves.{table_at, text_of};
 ghost use Rattle.plan_json.specs.Queries.{IsItem, leaf_of, list_as, places_as, read_as, these_as, nothing_of, small_of};
 ghost use Rattle.plan_json.specs.Tables.{Declared, declared};
@@ -30,7 +30,7 @@ use super::operator::{read_mode, read_operator};
 use super::plan::assemble_plan;
 use super::selector::assemble_selector;
 use super::tables::Tables;
-use super::value::{items, only_member};
+use super::value::{items, only_member, three_items};
 use plan_dsl::expr::{Expr, Exprs};
 use plan_dsl::selector::Selectors;
 use plan_types::schema::Schema;
@@ -78,6 +78,7 @@ fn read_keyed(alloc: Global, tables: &Tables, key: Key, value: &Value) -> Result
                 Ok(Arg::Expression(expr))
             }
         },
+        Key::Expression(ExpressionKey::Bin) => read_bin(alloc, tables, value),
         Key::Expression(_) | Key::Selector(_) | Key::Plan(_) => {
             match read_places(alloc, tables, places_of(key), value) {
                 Err(error) => Err(error),
@@ -86,6 +87,42 @@ fn read_keyed(alloc: Global, tables: &Tables, key: Key, value: &Value) -> Result
                     Ok(arg)
                 }
             }
+        }
+    }
+}
+
+// An operator and its two operands, which go through no arguments.
+#[cycle(forms)]
+#[tactic(auto, using(crate::proofs::BinLemmas::less_deep))]
+fn read_bin(alloc: Global, tables: &Tables, value: &Value) -> Result<Arg, JsonError>
+    ensures ok { IfOk result (λ arg. option_and_then (says bin_key) (places_as (declared tables.now) (asks bin_key) (view value.now))
+        ≡ Some (arg_view arg)) }
+    ensures err { IfErr result (IsErrorOf (places_form (names_of (declared tables.now)) (asks bin_key)) (view value.now)) }
+{
+    let Some((op, left, right)) = three_items(value) else {
+        return Err(JsonError::shape(alloc, value));
+    };
+    let op = match read_operator(alloc, op) {
+        Ok(op) => op,
+        Err(error) => return Err(error.below(alloc, Step::Item(0))),
+    };
+    let left = match read_form(alloc, tables, Kind::Expression, left) {
+        Ok(left) => left,
+        Err(error) => return Err(error.below(alloc, Step::Item(1))),
+    };
+    match read_form(alloc, tables, Kind::Expression, right) {
+        Ok(right) => {
+            let expr = Expr::BinaryExpr {
+                left: expression(left),
+                op,
+                right: expression(right),
+            };
+            let expr = Box::new(alloc, expr)?;
+            Ok(Arg::Expression(expr))
+        }
+        Err(error) => {
+            discard(left);
+            Err(error.below(alloc, Step::Item(2)))
         }
     }
 }

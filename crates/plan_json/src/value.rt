@@ -3,7 +3,7 @@ ghost use Rattle.std.specs.Prelude.{◌≡◌};
 ghost use Rattle.std.specs.Option.{option_map};
 ghost use Rattle.serde_json.specs.Find.{as_array};
 ghost use Rattle.serde_json.specs.View.{view, items_view};
-ghost use Rattle.plan_json.specs.Looking.{whole_number, only_member, two_members, two_items};
+ghost use Rattle.plan_json.specs.Looking.{whole_number, only_member, two_members, two_items, three_items};
 
 use serde_json::Value;
 
@@ -88,6 +88,22 @@ pub(crate) fn two_items(value: &Value) -> Option<(&Value, &Value)>
                 return None;
             }
             Some((&items[0], &items[1]))
+        }
+    }
+}
+
+// The items of a list of three.
+#[tactic(auto, using(crate::proofs::Lemmas::looking))]
+pub(crate) fn three_items(value: &Value) -> Option<(&Value, &Value, &Value)>
+    ensures { option_map (λ m. (view m.0.now, (view m.1.now, view m.2.now))) result ≡ three_items (view value.now) }
+{
+    match items(value) {
+        None => None,
+        Some(items) => {
+            if items.len() != 3 {
+                return None;
+            }
+            Some((&items[0], &items[1], &items[2]))
         }
     }
 }

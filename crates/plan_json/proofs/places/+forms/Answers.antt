@@ -6,6 +6,7 @@ use Rattle.plan_json.specs.Forms.{AllFit, asked_in}
 use Rattle.plan_json.specs.Arguments.{args_view, items_seen}
 use Rattle.plan_json.specs.declared.forms.Kind.TheVariants as kinds
 use Rattle.plan_json.proofs.FitLemmas.{form_fits, list_fits, places_fit}
+use Rattle.plan_json.proofs.BinLemmas.{bin_read, depth-right, left_part, op_part, right_part}
 use Rattle.plan_json.proofs.places.+forms.Goals as goal
 
 -- ---- what was read fits what was asked
@@ -29,6 +30,33 @@ read_selectors-selector-requires t c = form_fits (declared c.args.tables.now) ki
 pub read_form-returns-in-Ok-clause-ok : goal.read_form-returns-in-Ok-clause-ok
 read_form-returns-in-Ok-clause-ok t c =
     form_read (declared c.args.tables.now) c.args.kind _ _ _ (c.in-Some-find_key.word.now, c.in-Some-find_key.key) _ c.in-Some.ensures c.in-Some-find_key.ensures.row c.in-Ok.ensures.ok
+
+-- ---- an operator and its operands
+
+pub read_bin-expression-requires : goal.read_bin-expression-requires
+read_bin-expression-requires t c = form_fits (declared c.args.tables.now) kinds.Expression (view c.in-Some.left.now) _ c.in-Ok-read_form.ensures.ok
+
+pub read_bin-expression-requires-in-Ok-read_form-2 : goal.read_bin-expression-requires-in-Ok-read_form-2
+read_bin-expression-requires-in-Ok-read_form-2 t c = form_fits (declared c.args.tables.now) kinds.Expression (view c.in-Some.right.now) _ c.in-Ok-read_form-2.ensures.ok
+
+pub read_bin-read_form-requires-2 : goal.read_bin-read_form-requires-2
+read_bin-read_form-requires-2 t c =
+    let below = depth-right (view c.args.value.now) _ _ (view c.in-Some.right.now) c.in-Some.ensures in (omega (arith, c.decreases, below), tt)
+
+pub read_bin-returns-in-Err-clause-err : goal.read_bin-returns-in-Err-clause-err
+read_bin-returns-in-Err-clause-err t c = c.below.ensures _ _ _ _ (op_part (names_of (declared c.args.tables.now)) _ _ _ _ c.in-Some.ensures) c.in-Err.ensures.err
+
+pub read_bin-returns-in-Err-read_form-clause-err : goal.read_bin-returns-in-Err-read_form-clause-err
+read_bin-returns-in-Err-read_form-clause-err t c = c.below-in-Err-read_form.ensures _ _ _ _ (left_part (names_of (declared c.args.tables.now)) _ _ _ _ c.in-Some.ensures) c.in-Err-read_form.ensures.err
+
+pub read_bin-returns-in-Err-read_form-2-clause-err : goal.read_bin-returns-in-Err-read_form-2-clause-err
+read_bin-returns-in-Err-read_form-2-clause-err t c = c.below-in-Err-read_form-2.ensures _ _ _ _ (right_part (names_of (declared c.args.tables.now)) _ _ _ _ c.in-Some.ensures) c.in-Err-read_form-2.ensures.err
+
+pub read_bin-returns-in_ok-expr-in-Ok-read_form-2-clause-ok : goal.read_bin-returns-in_ok-expr-in-Ok-read_form-2-clause-ok
+read_bin-returns-in_ok-expr-in-Ok-read_form-2-clause-ok t c =
+    bin_read (declared c.args.tables.now) _ _ _ _ c.in-Ok.op _ _ c.in-Some.ensures c.in-Ok.ensures.ok
+    (c.in-Ok-read_form.ensures.ok ∙ ap Some c.expression.ensures) (c.in-Ok-read_form-2.ensures.ok ∙ ap Some c.expression-in-Ok-read_form-2.ensures)
+    ∙ ap (λ e. Some (expression_read (tree_of e))) (sym c.in_ok-expr-in-Ok-read_form-2.ensures.ok)
 
 -- ---- a list of exactly these
 

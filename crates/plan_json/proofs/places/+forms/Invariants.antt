@@ -30,6 +30,9 @@ decreases-read_item l = 7 * depth (array (items_view l.values.now))
 abbrev pub decreases-read_keyed : goal.decreases-read_keyed
 decreases-read_keyed l = 7 * depth (view l.value.now) + 6
 
+abbrev pub decreases-read_bin : goal.decreases-read_bin
+decreases-read_bin l = 7 * depth (view l.value.now) + 5
+
 abbrev pub decreases-read_places : goal.decreases-read_places
 decreases-read_places l = 7 * depth (view l.value.now) + 5
 
