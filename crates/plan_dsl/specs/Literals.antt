@@ -69,12 +69,6 @@ abbrev pub settled_op : Op → Op
 settled_op (LiteralOp type value) = LiteralOp (settled_type type) value
 settled_op op = op
 
--- whether a number without a type at the top, maybe under aliases, has one alone
-abbrev pub settles : Expression → Bool
-settles (node (AliasOp name) (more tree no_more)) = settles tree
-settles (node (LiteralOp type value) children) = is_some (type_alone type)
-settles tree = true
-
 -- an expression as a plan's node takes it: a number without a type at its top, maybe under aliases, gets one
 abbrev pub settled : Expression → Expression
 settled (node (AliasOp name) (more tree no_more)) = node (AliasOp name) (more (settled tree) no_more)

@@ -5,9 +5,9 @@ use Rattle.plan_types.specs.declared.field.Field.{Field}
 use Rattle.plan_dsl.specs.Aliases.{pruned}
 use Rattle.plan_dsl.specs.Names.{Label, name_of}
 use Rattle.plan_dsl.specs.Registry.{Registry}
-use Rattle.plan_dsl.specs.Literals.{settled}
+use Rattle.plan_lower.specs.TopNumbers.{settled_at_top}
 use Rattle.plan_dsl.proofs.AliasLemmas.{kept_label}
-use Rattle.plan_dsl.proofs.LiteralLemmas.{settled_label}
+use Rattle.plan_lower.proofs.TopNumberLemmas.{settled_at_top_label}
 use Rattle.plan_infer.specs.declared.field.Context.{Context}
 use Rattle.plan_infer.specs.Fields.{IsFieldOf}
 use Rattle.plan_dsl.specs.Ops.{Expression}
@@ -28,5 +28,5 @@ module _ (first : ℕ) (items : List AExpr) (n : ℕ) (item : AExpr) (got : slic
   top_operands = denoted_operands items n item got (record { tree = t; denotes = any_node first items n t d })
 
 -- the field of an expression's nodes has the expression's name
-pub field_name : (registry : Registry) (schema : Columns) (ctxt : Context) (tree : Expression) (field : Field) → IsFieldOf registry schema ctxt (pruned true (settled tree)) field → field.name ≡ name_of tree
-field_name registry schema ctxt tree field is = is.name ∙ ap (λ (label : Label). label.name) (kept_label (settled tree) ∙ settled_label tree)
+pub field_name : (registry : Registry) (schema : Columns) (ctxt : Context) (tree : Expression) (field : Field) → IsFieldOf registry schema ctxt (pruned true (settled_at_top tree)) field → field.name ≡ name_of tree
+field_name registry schema ctxt tree field is = is.name ∙ ap (λ (label : Label). label.name) (kept_label (settled_at_top tree) ∙ settled_at_top_label tree)

@@ -10,3 +10,4 @@ pub mod PlanLemmas
 pub mod ProjectionLemmas
 pub mod RecordedLemmas
 mod RecordingLemmas
+mod TopNumberLemmas

@@ -5,13 +5,13 @@ use Rattle.plan_types.specs.Schemas.{Columns}
 use Rattle.plan_types.specs.declared.error.ErrorKind.TheVariants.{InvalidOperation}
 use Rattle.plan_types.specs.declared.error.PlanError.{PlanError}
 use Rattle.plan_dsl.specs.Aliases.{pruned}
-use Rattle.plan_dsl.specs.Literals.{settled, settles}
 use Rattle.plan_dsl.specs.Registry.{Registry}
 use Rattle.plan_dsl.specs.Sources.{Source, is_plain, unwritten}
 use Rattle.plan_dsl.specs.Typing.{typing}
+use Rattle.plan_lower.specs.TopNumbers.{settled_at_top, settles_at_top}
 
 -- A marker or a renaming form is left in the source expression, or a number at its top fits no type; or it is refused as
 -- its typing is.
 pub data IsFieldRefusal (registry : Registry) (schema : Columns) (source : Source) (error : PlanError) : Type 0 where
-  has_no_node : IsMemoryOr InvalidOperation ((is_plain source ≡ false) ⊎ (settles (unwritten source) ≡ false)) error → IsFieldRefusal registry schema source error
-  has_no_type : is_plain source ≡ true → IsRefusal (typing registry schema (pruned true (settled (unwritten source)))) error → IsFieldRefusal registry schema source error
+  has_no_node : IsMemoryOr InvalidOperation ((is_plain source ≡ false) ⊎ (settles_at_top (unwritten source) ≡ false)) error → IsFieldRefusal registry schema source error
+  has_no_type : is_plain source ≡ true → IsRefusal (typing registry schema (pruned true (settled_at_top (unwritten source)))) error → IsFieldRefusal registry schema source error

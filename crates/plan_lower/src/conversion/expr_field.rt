@@ -3,7 +3,7 @@ ghost use Rattle.std.specs.Prelude.{◌≡◌, true, IfOk, IfErr, OnOk};
 ghost use Rattle.plan_types.specs.Schemas.{columns};
 ghost use Rattle.plan_dsl.specs.Aliases.{pruned};
 ghost use Rattle.plan_dsl.specs.Expressions.{tree_of};
-ghost use Rattle.plan_dsl.specs.Literals.{settled, settles};
+ghost use Rattle.plan_lower.specs.TopNumbers.{settled_at_top, settles_at_top};
 ghost use Rattle.plan_dsl.specs.Names.{name_of};
 ghost use Rattle.plan_dsl.specs.Registry.{registry};
 ghost use Rattle.plan_dsl.specs.Sources.{Source, is_plain, unwritten};
@@ -27,8 +27,8 @@ pub trait ExprTyping {
     ghost source: { Self → Source };
 
     /// The name and type of the column over a frame of the schema. In an aggregation a column that may have another
-    /// length than one is a list. A horizontal over few operands is typed as it is written out. A number without a type at the top, maybe under aliases, gets the one that it has
-    /// alone. A marker or a renaming form has no field.
+    /// length than one is a list. A horizontal over few operands is typed as it is written out. A number without a type at
+    /// the top, or directly under an alias there, gets the one that it has alone. A marker or a renaming form has no field.
     fn to_field(
         &self,
         alloc: Global,
@@ -36,10 +36,10 @@ pub trait ExprTyping {
         ctxt: Context,
         udfs: &Udfs,
     ) -> Result<Field, PlanError>
-        ensures ok { IfOk result (IsFieldOf (registry udfs.now) (columns schema.now) ctxt (pruned true (settled (unwritten (source self.now))))) }
+        ensures ok { IfOk result (IsFieldOf (registry udfs.now) (columns schema.now) ctxt (pruned true (settled_at_top (unwritten (source self.now))))) }
         ensures name { IfOk result (λ field. field.name ≡ name_of (unwritten (source self.now))) }
         ensures plain { OnOk result (is_plain (source self.now) ≡ true) }
-        ensures settles { OnOk result (settles (unwritten (source self.now)) ≡ true) }
+        ensures settles { OnOk result (settles_at_top (unwritten (source self.now)) ≡ true) }
         ensures err { IfErr result (IsFieldRefusal (registry udfs.now) (columns schema.now) (source self.now)) };
 }
 

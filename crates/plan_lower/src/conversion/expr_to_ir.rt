@@ -6,7 +6,8 @@ ghost use Rattle.plan_types.specs.Errors.{IsMemoryOr, no_memory};
 ghost use Rattle.plan_dsl.specs.Aliases.{all_pruned, chained, core, pruned};
 ghost use Rattle.plan_dsl.specs.Copies.{has_several};
 ghost use Rattle.plan_dsl.specs.Expressions.{order_trees, plain_tree, plain_trees, tree_of, trees_of, way_of};
-ghost use Rattle.plan_dsl.specs.Literals.{literal_op, settled, settled_op, settles};
+ghost use Rattle.plan_dsl.specs.Literals.{literal_op, settled, settled_op};
+ghost use Rattle.plan_lower.specs.TopNumbers.{settled_at_top, settled_own, settles_at_top, settles_own};
 ghost use Rattle.plan_dsl.specs.Names.{alias_label, label_of};
 ghost use Rattle.plan_dsl.specs.Ops.{Expression, FunctionOp};
 ghost use Rattle.plan_dsl.specs.Sources.{is_plain, unwritten};
@@ -47,14 +48,15 @@ pub fn to_expr_ir(expr: Expr, arena: &mut Arena<AExpr>) -> Result<ExprIR, PlanEr
     Ok(expr_ir)
 }
 
-/// The same without names of aliases. A number without a type at the top gets the one that it has alone.
+/// The same without names of aliases. A number without a type at the top, or directly under an alias there, gets the one
+/// that it has alone.
 pub fn to_expr_ir_ignore_alias(expr: Expr, arena: &mut Arena<AExpr>) -> Result<ExprIR, PlanError>
     ensures name { IfOk result (λ expr_ir. (named_node expr_ir).label ≡ label_of (core (plain_tree expr))) }
-    ensures denotes { IfOk result (λ expr_ir. Denotes (HoldsFrom (length arena.old) arena.new) (named_node expr_ir).expression (settled (core (plain_tree expr)))) }
+    ensures denotes { IfOk result (λ expr_ir. Denotes (HoldsFrom (length arena.old) arena.new) (named_node expr_ir).expression (core (settled_at_top (plain_tree expr)))) }
     ensures grows { Grows arena.old arena.new }
     ensures plain { OnOk result (is_plain (tree_of expr) ≡ true) }
-    ensures typed { OnOk result (settles (plain_tree expr) ≡ true) }
-    ensures err { IfErr result (IsMemoryOr ErrorKind.InvalidOperation ((is_plain (tree_of expr) ≡ false) ⊎ (settles (plain_tree expr) ≡ false))) }
+    ensures typed { OnOk result (settles_at_top (plain_tree expr) ≡ true) }
+    ensures err { IfErr result (IsMemoryOr ErrorKind.InvalidOperation ((is_plain (tree_of expr) ≡ false) ⊎ (settles_at_top (plain_tree expr) ≡ false))) }
 {
     let node = add_settled(expr, false, arena)?;
     let expr_ir = ExprIR::from_node(arena.allocator(), node, arena)?;
@@ -62,37 +64,37 @@ pub fn to_expr_ir_ignore_alias(expr: Expr, arena: &mut Arena<AExpr>) -> Result<E
 }
 
 /// Adds an expression's nodes with its aliases, but those below a function, which keeps the names that they give. A
-/// number without a type at the top, maybe under aliases, gets the one that it has alone. A marker or a renaming form
-/// has no node.
+/// number without a type at the top, or directly under an alias there, gets the one that it has alone. A marker or a
+/// renaming form has no node.
 pub fn to_aexpr(expr: Expr, arena: &mut Arena<AExpr>) -> Result<Node, PlanError>
-    ensures denotes { IfOk result (λ node. Denotes (HoldsFrom (length arena.old) arena.new) node.0 (pruned true (settled (plain_tree expr)))) }
+    ensures denotes { IfOk result (λ node. Denotes (HoldsFrom (length arena.old) arena.new) node.0 (pruned true (settled_at_top (plain_tree expr)))) }
     ensures grows { Grows arena.old arena.new }
     ensures plain { OnOk result (is_plain (tree_of expr) ≡ true) }
-    ensures typed { OnOk result (settles (plain_tree expr) ≡ true) }
-    ensures err { IfErr result (IsMemoryOr ErrorKind.InvalidOperation ((is_plain (tree_of expr) ≡ false) ⊎ (settles (plain_tree expr) ≡ false))) }
+    ensures typed { OnOk result (settles_at_top (plain_tree expr) ≡ true) }
+    ensures err { IfErr result (IsMemoryOr ErrorKind.InvalidOperation ((is_plain (tree_of expr) ≡ false) ⊎ (settles_at_top (plain_tree expr) ≡ false))) }
 {
     let node = add_settled(expr, true, arena)?;
     Ok(node)
 }
 
-// Adds the nodes of an expression as a plan takes it, with its aliases or without.
+// Adds the nodes of an expression by itself, with its aliases or without.
 fn add_settled(expr: Expr, keep: bool, arena: &mut Arena<AExpr>) -> Result<Node, PlanError>
-    ensures denotes { IfOk result (λ node. Denotes (HoldsFrom (length arena.old) arena.new) node.0 (pruned keep (settled (plain_tree expr)))) }
+    ensures denotes { IfOk result (λ node. Denotes (HoldsFrom (length arena.old) arena.new) node.0 (pruned keep (settled_at_top (plain_tree expr)))) }
     ensures grows { Grows arena.old arena.new }
     ensures plain { OnOk result (is_plain (tree_of expr) ≡ true) }
-    ensures typed { OnOk result (settles (plain_tree expr) ≡ true) }
-    ensures err { IfErr result (IsMemoryOr ErrorKind.InvalidOperation ((is_plain (tree_of expr) ≡ false) ⊎ (settles (plain_tree expr) ≡ false))) }
+    ensures typed { OnOk result (settles_at_top (plain_tree expr) ≡ true) }
+    ensures err { IfErr result (IsMemoryOr ErrorKind.InvalidOperation ((is_plain (tree_of expr) ≡ false) ⊎ (settles_at_top (plain_tree expr) ≡ false))) }
 {
     if !expr.is_plain() {
         drop(expr);
         return Err(PlanError::at_top(ErrorKind::InvalidOperation));
     }
-    if !settles(&expr) {
+    if !settles_at_top(&expr) {
         drop(expr);
         return Err(PlanError::at_top(ErrorKind::InvalidOperation));
     }
     let mut expr = expr;
-    settle(&mut expr);
+    settle_at_top(&mut expr);
     let node = add_nodes(expr, keep, arena)?;
     Ok(node)
 }
@@ -172,14 +174,46 @@ fn first_alias(expr: &Expr) -> Option<&PlSmallStr>
     }
 }
 
-// Whether a number without a type at the top, maybe under aliases, has one alone.
-fn settles(expr: &Expr) -> bool
-    ensures { result ≡ settles (plain_tree expr.now) }
+// Whether a number without a type at the top, or directly under an alias there, has one alone.
+fn settles_at_top(expr: &Expr) -> bool
+    ensures { result ≡ settles_at_top (plain_tree expr.now) }
 {
     match expr {
-        Expr::Alias(expr, _) => settles(expr),
+        Expr::Alias(expr, _) => settles_own(expr),
+        _ => settles_own(expr),
+    }
+}
+
+// Whether a number without a type at the top has one alone.
+fn settles_own(expr: &Expr) -> bool
+    ensures { result ≡ settles_own (plain_tree expr.now) }
+{
+    match expr {
         Expr::Literal(LiteralValue::Int(number)) => materialize_dyn_int(*number).is_some(),
         _ => true,
+    }
+}
+
+// Makes of an expression what is added by itself: a number without a type at the top, or directly under an alias there,
+// gets the one that it has alone.
+fn settle_at_top(expr: &mut Expr)
+    ensures settled { plain_tree expr.new ≡ settled_at_top (plain_tree expr.old) }
+    ensures plain { is_plain (tree_of expr.new) ≡ is_plain (tree_of expr.old) }
+{
+    match expr {
+        Expr::Alias(expr, _) => settle_own(expr),
+        _ => settle_own(expr),
+    }
+}
+
+// The same of a number at the top alone.
+fn settle_own(expr: &mut Expr)
+    ensures settled { plain_tree expr.new ≡ settled_own (plain_tree expr.old) }
+    ensures plain { is_plain (tree_of expr.new) ≡ is_plain (tree_of expr.old) }
+{
+    match expr {
+        Expr::Literal(value) => settle_literal(value),
+        _ => {}
     }
 }
 
