@@ -196,6 +196,23 @@ fn assert_invalid<T: Drop>(rt: &impl Abort, answer: Result<T, PlanError>) {
     }
 }
 
+// Where a number gets no type, none is asked for.
+#[test]
+fn a_number_past_each_type_stays_under_two_aliases(rt: HostRuntime) {
+    for (aliases, nodes) in [(2, 3), (99, 100), (1_000, 1_001)] {
+        let mut arena = Arena::new(rt.alloc());
+        let expr = aliased_number(&rt, rt.alloc(), PAST, aliases);
+        drop(to_expr_ir_ignore_alias(expr, &mut arena).expect(&rt, NO_MEMORY));
+        assert_literal(&rt, &arena, 1, &LiteralValue::Int(PAST));
+        drop(arena);
+        let mut arena = Arena::new(rt.alloc());
+        let expr = aliased_number(&rt, rt.alloc(), PAST, aliases);
+        to_aexpr(expr, &mut arena).expect(&rt, NO_MEMORY);
+        assert_literal(&rt, &arena, nodes, &LiteralValue::Int(PAST));
+        drop(arena);
+    }
+}
+
 #[test]
 fn a_number_past_each_type_is_refused(rt: HostRuntime) {
     for aliases in [0, 1] {

@@ -1,5 +1,5 @@
 -- An operator and its operands, from a list of three.
-use Rattle.plan_json.proofs.Names.{List, None, Option, Some, [], ap, arith, option_and_then, option_map, refl, subst, sym, ◌<◌, ◌∙◌, ◌∷◌, ◌≡◌, asked_form, items_len, ne_eqb, number, own_fault, part, part_of, places_form, shape_fault, three_items, unless, Name, Data, array, depth, item, no_items, Declared, asks, expression_read, places_as, read_as, says}
+use Rattle.plan_json.proofs.Names.{List, Option, Some, [], ap, arith, option_and_then, option_map, subst, sym, ◌<◌, ◌∙◌, ◌≡◌, asked_form, number, part, part_of, places_form, three_items, Name, Data, depth, Declared, asks, expression_read, places_as, read_as, says}
 use Rattle.plan_dsl.specs.Ops.{BinaryOp}
 use Rattle.plan_dsl.specs.Sources.{Plain, Source}
 use Rattle.plan_dsl.specs.Trees.{node, more, no_more}
@@ -40,13 +40,3 @@ pub depth-right : (d a b c : Data) → Some (a, (b, c)) ≡ three_items d → de
 depth-right d a b c is = subst (λ x. depth c < depth x) (sym (array-from_three_items d a b c is)) (omega arith)
 
 pub ruleset less_deep = (depth-left, depth-right)
-
--- what is no list of three is wrong in shape
-pub no_three : (names : List Name) (d : Data) → None ≡ three_items d → own_fault (places_form names (asks bin_key)) d ≡ Some (shape_fault d)
-no_three names (array no_items) none = refl
-no_three names (array (item a no_items)) none = refl
-no_three names (array (item a (item b no_items))) none = refl
-no_three names (array (item a (item b (item c no_items)))) none = cc
-no_three names (array (item a (item b (item c (item e rest))))) none =
-    ap (unless (shape_fault (array (item a (item b (item c (item e rest))))))) (ne_eqb (items_len (item a (item b (item c (item e rest))))) 3 (λ same. omega (arith, same)))
-no_three names _ none = refl

@@ -1,5 +1,5 @@
-pub mod DeclarationLemmas
 pub mod BinLemmas
+pub mod DeclarationLemmas
 pub mod FaultLemmas
 pub mod FloatLaws
 pub mod FitLemmas

@@ -17,7 +17,7 @@ use Rattle.plan_dsl.specs.Samples.{written_select, written_filter}
 use Rattle.plan_dsl.specs.Trees.{node, no_more, more, children_from}
 use Rattle.plan_json.specs.Bytes.{IsRefusalOf, WritesQuery}
 use Rattle.plan_json.specs.Faults.{FaultKind, BadShape, BadFloat, BadName, Form, Part, Path, Step, fault_at, key, number as at_number, own_fault, part, part_of, keyed_form, list_of, places_form}
-use Rattle.plan_json.specs.Forms.{Read, expression, expression_read, selector, selector_read, asks, leaf as leaf_of_form}
+use Rattle.plan_json.specs.Forms.{Read, bin_key, expression, expression_read, selector, selector_read, asks, leaf as leaf_of_form}
 use Rattle.plan_json.specs.Queries.{QueryModel, read_as}
 use Rattle.plan_json.specs.declared.forms.Kind.TheVariants as kinds
 use Rattle.plan_json.specs.declared.forms.Leaf.{Leaf}
@@ -254,7 +254,7 @@ abbrev pub expression_list : List Text → Form
 expression_list names = list_of names expression
 
 abbrev pub operands : Form
-operands = places_form [] (asks (keys.Expression of.Bin))
+operands = places_form [] (asks bin_key)
 
 abbrev pub a_cast : Form
 a_cast = places_form [] (asks (keys.Expression of.Cast))

@@ -17,6 +17,7 @@ ghost use Rattle.plan_dsl.specs.Plans.{empty_table, source_group_by, source_sele
 ghost use Rattle.plan_dsl.specs.declared.operator.Operator.TheVariants.{Lt, GtEq, Plus, Eq, EqValidity, NotEq, NotEqValidity, LtEq, Gt, Minus, Multiply, Divide, FloorDivide, Modulus, And, Or, Xor, LogicalAnd, LogicalOr};
 ghost use Rattle.serde_json.specs.Data.{Items, array, boolean, member, no_members, null, object, float, negative, number, string, unsigned};
 ghost use Rattle.serde_json.specs.Events.{items_len};
+ghost use Rattle.plan_json.specs.Looking.{first_items, only_member, three_items, two_items, two_members};
 ghost use Rattle.plan_json.specs.Leaves.{columns_of, table_limit, tables_of, type_of, unit_of, literal_of, number_text_of, number_written, operator_of, typed_of};
 ghost use Rattle.plan_json.specs.Forms.{Read, flag_read, leaf as one};
 ghost use Rattle.plan_json.specs.Queries.{IsItem, plan_of, query_of, QueryModel};
@@ -30,6 +31,16 @@ ghost use Rattle.plan_dsl.specs.Ops.{LiteralOp};
 ghost use Rattle.plan_json.specs.Bytes.{IsRefusalOf, WritesQuery};
 ghost use Rattle.plan_json.specs.Faults.{BadFloat, BadName, BadShape, key};
 ghost use Rattle.plan_json.specs.declared.error.JsonError.TheVariants.{NoMemory};
+
+/// The parts of an object or of a list of exactly that size, and the items before that of a number.
+pub fn looking_examples()
+    ensures only_member { (d e : Data) → Gives only_member ((keyed "a" d, Some (codes "a", d)) ∷ (keyed_twice "a" d "b" e, None) ∷ (object no_members, None) ∷ (list (d ∷ []), None) ∷ []) }
+    ensures two_members { (d e : Data) → Gives (two_members (codes "a") (codes "b")) ((keyed_twice "a" d "b" e, Some (d, e)) ∷ (keyed_twice "b" e "a" d, Some (d, e)) ∷
+        (keyed "a" d, None) ∷ (keyed_twice "a" d "c" e, None) ∷ (object (member (codes "a") d (member (codes "b") e (member (codes "c") d no_members))), None) ∷ (list (d ∷ e ∷ []), None) ∷ []) }
+    ensures two_items { (d e f : Data) → Gives two_items ((list (d ∷ e ∷ []), Some (d, e)) ∷ (list [], None) ∷ (list (d ∷ []), None) ∷ (list (d ∷ e ∷ f ∷ []), None) ∷ (keyed_twice "a" d "b" e, None) ∷ []) }
+    ensures three_items { (d e f g : Data) → Gives three_items ((list (d ∷ e ∷ f ∷ []), Some (d, (e, f))) ∷ (list [], None) ∷ (list (d ∷ e ∷ []), None) ∷ (list (d ∷ e ∷ f ∷ g ∷ []), None) ∷ (keyed "a" d, None) ∷ (null, None) ∷ []) }
+    ensures first_items { (d e : Data) → let items : List Data → Items = items_of in Gives (λ n. first_items n (items (d ∷ e ∷ []))) ((0, items []) ∷ (1, items (d ∷ [])) ∷ (2, items (d ∷ e ∷ [])) ∷ (3, items (d ∷ e ∷ [])) ∷ []) }
+{}
 
 /// Queries, and the tables and columns that they declare: tables by name and columns, no two of one name, and a plan over them.
 pub fn declaration_examples()

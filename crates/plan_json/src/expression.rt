@@ -22,7 +22,7 @@ use plan_dsl::sort_options::{SortMultipleOptions, SortOptions};
 use plan_dsl::window::WindowType;
 use std::alloc::Global;
 
-// The expression of that key.
+// The expression of that key. Of columns and operators none is asked for: they are read without arguments.
 pub(crate) fn assemble_expression(
     alloc: Global,
     key: ExpressionKey,

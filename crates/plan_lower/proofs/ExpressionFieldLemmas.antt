@@ -5,9 +5,7 @@ use Rattle.plan_types.specs.declared.field.Field.{Field}
 use Rattle.plan_dsl.specs.Aliases.{pruned}
 use Rattle.plan_dsl.specs.Names.{Label, name_of}
 use Rattle.plan_dsl.specs.Registry.{Registry}
-use Rattle.plan_lower.specs.TopNumbers.{settled_at_top}
 use Rattle.plan_dsl.proofs.AliasLemmas.{kept_label}
-use Rattle.plan_lower.proofs.TopNumberLemmas.{settled_at_top_label}
 use Rattle.plan_infer.specs.declared.field.Context.{Context}
 use Rattle.plan_infer.specs.Fields.{IsFieldOf}
 use Rattle.plan_dsl.specs.Ops.{Expression}
@@ -17,6 +15,8 @@ use Rattle.plan_arena.specs.Items.{HoldsFrom, expression_layer}
 use Rattle.plan_arena.proofs.ItemLemmas.{any_node}
 use Rattle.plan_infer.specs.ItemTrees.{HasOperands, LayerDenotes}
 use Rattle.plan_infer.proofs.ItemTreeLemmas.{denoted_layer, denoted_operands}
+use Rattle.plan_lower.specs.TopNumbers.{settled_at_top}
+use Rattle.plan_lower.proofs.TopNumberLemmas.{settled_at_top_label}
 
 module _ (first : ℕ) (items : List AExpr) (n : ℕ) (item : AExpr) (got : slice_get items n ≡ Some item) (t : Expression) (d : Denotes (HoldsFrom first items) n t) where
   -- denotes the expression

@@ -15,7 +15,6 @@ use Rattle.plan_dsl.specs.declared.expr.Expr.{Expr, roll-out-Expr}
 use Rattle.plan_dsl.specs.declared.function_expr.FunctionExpr.{FunctionExpr}
 use Rattle.plan_dsl.specs.declared.function_expr.FunctionExpr.TheVariants.{FieldByIndex}
 use Rattle.plan_dsl.specs.declared.expr.Expr.TheVariants.{Alias, Alias', BinaryExpr, BinaryExpr', Filter, Filter', Function, Function', rolls-Function, Gather, Gather', Literal, Slice, Slice', Ternary, Ternary'}
-use Rattle.plan_dsl.specs.Literals.{settled}
 use Rattle.plan_dsl.specs.Trees.{Trees, node, no_more, more, children_from, top_op}
 use Rattle.plan_dsl.specs.Ops.{Op, AliasOp, Expression}
 use Rattle.plan_arena.specs.declared.aexpr.AExpr.{AExpr}
@@ -87,11 +86,7 @@ pub pruned_alias : (keep : Bool) (name : Name) (tree : Expression) → prune_nod
 pruned_alias true name tree = refl
 pruned_alias false name tree = refl
 
--- a function is neither a literal nor over several inputs, be it of its name or of a field's place
-function_settled : (function : FunctionExpr) (sources : Trees SourceOp) → unwritten (node (function_source function) sources) ≡ settled (unwritten (node (function_source function) sources))
-function_settled (FieldByIndex place) sources = refl
-function_settled _ sources = refl
-
+-- a function is not over several inputs, be it of its name or of a field's place
 function_several : (function : FunctionExpr) → has_several (function_source function) ≡ true → ⊥
 function_several (FieldByIndex place) is = absurd (false≢true is)
 function_several _ is = absurd (false≢true is)
@@ -105,13 +100,6 @@ several_kinds (Filter' p input q by) is binary slice gather filter ternary = fil
 several_kinds (Ternary' p predicate q truthy r falsy) is binary slice gather filter ternary = ternary _ _ _ refl
 several_kinds (Function' shape input function) is binary slice gather filter ternary = function_several function is
 several_kinds _ is binary slice gather filter ternary = absurd (false≢true is)
-
--- what is neither a literal nor an alias stays as it is
-pub settled_item : (expr : Expr) → ((value : _) → expr ≢ Literal value) → ((below : _) (name : _) → expr ≢ Alias below name) → plain_tree expr ≡ settled (plain_tree expr)
-settled_item (Literal value) literal alias = absurd (literal value refl)
-settled_item (Alias' p below name) literal alias = absurd (alias _ name refl)
-settled_item (Function' shape input function) literal alias = function_settled function (row_trees input)
-settled_item _ literal alias = refl
 
 -- the second and the third operand of what has plans' ops alone
 pub second_plain : (expr : Expr) (op : Op) (first second : Source) (rest : Trees SourceOp) → tree_of expr ≡ node (Plain op) (more first (more second rest)) → is_plain (tree_of expr) ≡ true → is_plain second ≡ true

@@ -1,7 +1,8 @@
--- A number at the top of an expression that is added by itself.
+-- A number at the top of an expression.
 use Rattle.std.proofs.Common.{◌≡◌, ◌≢◌, refl}
 use Rattle.plan_dsl.specs.Aliases.{core}
 use Rattle.plan_dsl.specs.Expressions.{function_source, plain_tree, row_trees}
+use Rattle.plan_dsl.specs.Literals.{settled}
 use Rattle.plan_dsl.specs.Names.{label_of}
 use Rattle.plan_dsl.specs.Ops.{AliasOp, Expression, LiteralOp}
 use Rattle.plan_dsl.specs.Sources.{SourceOp, unwritten}
@@ -40,11 +41,12 @@ own_item _ literal = refl
 
 -- what is no alias has its number at the top
 function_at_top : (function : FunctionExpr) (sources : Trees SourceOp) → let tree = unwritten (node (function_source function) sources) in
-    (settles_at_top tree ≡ settles_own tree) × (settled_at_top tree ≡ settled_own tree)
-function_at_top (FieldByIndex place) sources = (refl, refl)
-function_at_top _ sources = (refl, refl)
+    (settles_at_top tree ≡ settles_own tree) × (settled_at_top tree ≡ settled_own tree) × (settled tree ≡ settled_own tree)
+function_at_top (FieldByIndex place) sources = (refl, refl, refl)
+function_at_top _ sources = (refl, refl, refl)
 
-pub at_top : (expr : Expr) → ((below : _) (name : _) → expr ≢ Alias below name) → (settles_at_top (plain_tree expr) ≡ settles_own (plain_tree expr)) × (settled_at_top (plain_tree expr) ≡ settled_own (plain_tree expr))
+pub at_top : (expr : Expr) → ((below : _) (name : _) → expr ≢ Alias below name) → let tree = plain_tree expr in
+    (settles_at_top tree ≡ settles_own tree) × (settled_at_top tree ≡ settled_own tree) × (settled tree ≡ settled_own tree)
 at_top (Alias' p below name) alias = absurd (alias _ name refl)
 at_top (Function' shape input function) alias = function_at_top function (row_trees input)
-at_top _ alias = (refl, refl)
+at_top _ alias = (refl, refl, refl)

@@ -12,8 +12,8 @@ pub mod Samples
 pub mod SchemaCalls
 pub mod Schemas
 pub mod Supertypes
-pub mod TypeLaws
 pub mod Texts
+pub mod TypeLaws
 pub mod Types
 pub mod ValueLaws
 pub mod Values

@@ -3,12 +3,12 @@ ghost use Rattle.std.specs.Prelude.{◌≡◌, true, IfOk, IfErr, OnOk};
 ghost use Rattle.plan_types.specs.Schemas.{columns};
 ghost use Rattle.plan_dsl.specs.Aliases.{pruned};
 ghost use Rattle.plan_dsl.specs.Expressions.{tree_of};
-ghost use Rattle.plan_lower.specs.TopNumbers.{settled_at_top, settles_at_top};
 ghost use Rattle.plan_dsl.specs.Names.{name_of};
 ghost use Rattle.plan_dsl.specs.Registry.{registry};
 ghost use Rattle.plan_dsl.specs.Sources.{Source, is_plain, unwritten};
 ghost use Rattle.plan_infer.specs.Fields.{IsFieldOf};
 ghost use Rattle.plan_lower.specs.ExpressionFields.{IsFieldRefusal};
+ghost use Rattle.plan_lower.specs.TopNumbers.{settled_at_top, settles_at_top};
 
 use crate::conversion::expr_to_ir::to_aexpr;
 use plan_arena::arena::Arena;

@@ -7,7 +7,6 @@ ghost use Rattle.plan_dsl.specs.Aliases.{all_pruned, chained, core, pruned};
 ghost use Rattle.plan_dsl.specs.Copies.{has_several};
 ghost use Rattle.plan_dsl.specs.Expressions.{order_trees, plain_tree, plain_trees, tree_of, trees_of, way_of};
 ghost use Rattle.plan_dsl.specs.Literals.{literal_op, settled, settled_op};
-ghost use Rattle.plan_lower.specs.TopNumbers.{settled_at_top, settled_own, settles_at_top, settles_own};
 ghost use Rattle.plan_dsl.specs.Names.{alias_label, label_of};
 ghost use Rattle.plan_dsl.specs.Ops.{Expression, FunctionOp};
 ghost use Rattle.plan_dsl.specs.Sources.{is_plain, unwritten};
@@ -15,6 +14,7 @@ ghost use Rattle.plan_dsl.specs.Trees.{children_from, node, top_op};
 ghost use Rattle.plan_arena.specs.Denotation.{Denotes, DenoteAll, DenotesTree};
 ghost use Rattle.plan_arena.specs.Items.{named_node, numbers, numbers_named, ordered, ordering, output_label, recorded, HoldsExpression, HoldsFrom, Grows};
 ghost use Rattle.plan_lower.specs.Nodes.{IsItemOf, over_inputs};
+ghost use Rattle.plan_lower.specs.TopNumbers.{settled_at_top, settled_own, settles_at_top, settles_own};
 
 use crate::conversion::horizontals::{Chaining, first_written};
 use plan_arena::aexpr::AExpr;
@@ -206,7 +206,7 @@ fn settle_at_top(expr: &mut Expr)
     }
 }
 
-// The same of a number at the top alone.
+// A number without a type at the top, but not under an alias, gets the one that it has alone.
 fn settle_own(expr: &mut Expr)
     ensures settled { plain_tree expr.new ≡ settled_own (plain_tree expr.old) }
     ensures plain { is_plain (tree_of expr.new) ≡ is_plain (tree_of expr.old) }
@@ -225,8 +225,7 @@ pub(crate) fn settle(expr: &mut Expr)
 {
     match expr {
         Expr::Alias(expr, _) => settle(expr),
-        Expr::Literal(value) => settle_literal(value),
-        _ => {}
+        _ => settle_own(expr),
     }
 }
 

@@ -1,11 +1,20 @@
-//! Worked examples on values: ranges of types, which values fit a type, and when two are one.
+//! Worked examples on texts and on values: ranges of types, which values fit a type, and when two are one.
 
-ghost use Rattle.std.specs.Prelude.{◌≡◌, ℤ, ◌+ℤ◌, ◌-ℤ◌, ◌++◌, List, [], ◌∷◌, pos, map, true, false};
+ghost use Rattle.std.specs.Prelude.{◌≡◌, ℤ, ◌+ℤ◌, ◌-ℤ◌, ◌++◌, List, [], ◌∷◌, String, codes, pos, map, string_bytes, true, false};
+ghost use Rattle.std.specs.Global.{Global};
 ghost use Rattle.std.specs.List.{filter};
+ghost use Rattle.plan_types.specs.Texts.{kept_bytes};
+ghost use Rattle.plan_types.specs.declared.text.Kept.TheVariants.{Short, Long};
 ghost use Rattle.plan_types.specs.Types.{Ty, NullType, Truth, TextType, DateType, TimeType, DatetimeType, DurationType, ListType, Untyped};
 ghost use Rattle.plan_types.specs.Values.{TruthValue, IntValue, in_range, fits, all_fit, same_value};
 ghost use Rattle.plan_types.specs.Samples.{Maps, MapsPairs, distinct_values, int16, int32, int64, int8, integers, list_value, list_values, minus, negative, no, null, number, signed_integers, struct_a, struct_ab, struct_none, struct_value, text, text_values, times, types, uint16, uint32, uint64, uint8, unsigned_integers, yes};
 ghost use Rattle.plan_types.specs.declared.dtype.TimeUnit.{TimeUnit};
+
+/// A short text has the bytes that were put in, and not those of the room behind them; a long one those of its memory.
+pub fn bytes_of_texts()
+    ensures short { kept_bytes (Short (record { bytes = codes "ab"; spare = codes "cde" })) ≡ codes "ab" }
+    ensures long { (text : String Global) → string_bytes text ≡ codes "ab" → kept_bytes (Long text) ≡ codes "ab" }
+{}
 
 /// The first and the last number of a type are in its range, and the numbers beside them aren't. Days have the range of
 /// Int32, nanoseconds of a day end before midnight, and moments and spans have the range of Int64 in each unit.

@@ -1,11 +1,11 @@
 use Rattle.std.proofs.Common.{length, subst, sym, ◌∙◌}
 use Rattle.plan_dsl.specs.Aliases.{core}
 use Rattle.plan_dsl.specs.Expressions.{plain_tree}
-use Rattle.plan_lower.specs.TopNumbers.{settled_at_top}
-use Rattle.plan_lower.proofs.TopNumberLemmas.{core_label_at_top}
 use Rattle.plan_arena.specs.Denotation.{Denotes}
 use Rattle.plan_arena.specs.Items.{HoldsFrom}
 use Rattle.plan_arena.proofs.ItemLemmas.{any_node}
+use Rattle.plan_lower.specs.TopNumbers.{settled_at_top}
+use Rattle.plan_lower.proofs.TopNumberLemmas.{core_label_at_top}
 use Rattle.plan_lower.proofs.conversion.expr_to_ir.to_expr_ir_ignore_alias.Goals as goal
 
 pub from_node-requires : goal.from_node-requires

@@ -4,7 +4,6 @@ use Rattle.plan_types.specs.Schemas.{columns}
 use Rattle.plan_types.proofs.ResultLemmas.{passed_on}
 use Rattle.plan_dsl.specs.Aliases.{pruned}
 use Rattle.plan_dsl.specs.Expressions.{plain_tree}
-use Rattle.plan_lower.specs.TopNumbers.{settled_at_top}
 use Rattle.plan_dsl.specs.Names.{name_of}
 use Rattle.plan_dsl.specs.Registry.{registry}
 use Rattle.plan_dsl.specs.Sources.{Source, is_plain, unwritten}
@@ -12,6 +11,7 @@ use Rattle.plan_dsl.specs.Typing.{typing}
 use Rattle.plan_infer.specs.Fields.{IsFieldOf}
 use Rattle.plan_arena.proofs.ItemLemmas.{any_node, within}
 use Rattle.plan_lower.specs.ExpressionFields.{has_no_type}
+use Rattle.plan_lower.specs.TopNumbers.{settled_at_top}
 use Rattle.plan_lower.proofs.ExpressionFieldLemmas.{field_name, top_layer, top_operands}
 use Rattle.plan_lower.proofs.conversion.expr_field.ExprExprTyping.to_field.Goals as goal
 
