@@ -61,12 +61,9 @@ fn run_whole(alloc: Global, case: &Case<'_>, udfs: &Udfs) -> Result<Seen, AllocE
 {
     let mut source = PlainSource::new(case.input);
     let mut sink = PlainSink::new(alloc, room_for(case))?;
-    let done = run_in_memory(alloc, case.words.as_slice(), &mut source, &mut sink, udfs);
+    let status = run_in_memory(alloc, case.words.as_slice(), &mut source, &mut sink, udfs).number();
     let text = sink.written().to_vec(alloc)?;
-    Ok(Seen {
-        status: done.number(),
-        text,
-    })
+    Ok(Seen { status, text })
 }
 
 fn run_in_steps(
@@ -80,12 +77,9 @@ fn run_in_steps(
 {
     let mut source = MemSource::new(case.input, Vec::new(alloc)).in_steps(step);
     let mut sink = MemSink::new(alloc, room_for(case), Vec::new(alloc))?.in_steps(step);
-    let done = run(alloc, case.words.as_slice(), &mut source, &mut sink, udfs);
+    let status = run(alloc, case.words.as_slice(), &mut source, &mut sink, udfs).number();
     let text = sink.written().to_vec(alloc)?;
-    Ok(Seen {
-        status: done.number(),
-        text,
-    })
+    Ok(Seen { status, text })
 }
 
 fn room_for(case: &Case<'_>) -> usize {

@@ -4,7 +4,7 @@ use Rattle.std.proofs.Math.Bool.{and-true}
 use Rattle.std.specs.Global.{Box}
 use Rattle.std.specs.List.{list_all}
 use Rattle.std.specs.Result.{IfOk, IfErr}
-use Rattle.std.proofs.lemmas.Bool.{and_from}
+use Rattle.std.proofs.lemmas.Bool.{and_from, and_parts}
 use Rattle.std.proofs.lemmas.List.{map-append}
 use Rattle.std.proofs.lemmas.List.Folds.{list_all-append}
 use Rattle.indexmap.specs.IndexSet.{insert_all}
@@ -149,6 +149,12 @@ module _ (source : Source) where
 
 pub plain_alone : (keys : List Name) (schema : Columns) (source : Source) → is_plain source ≡ true → expansion keys schema source ≡ Ok (unwritten source ∷ [])
 plain_alone keys schema source is = ap (expansion keys schema) (sym (plain_is_written source is)) ∙ written_is_expanded keys schema (unwritten source)
+
+pub all_plain_alone : (keys : List Name) (schema : Columns) (exprs : List Expr) → list_all is_plain (map tree_of exprs) ≡ true → expansions keys schema (map tree_of exprs) ≡ Ok (map plain_tree exprs)
+all_plain_alone keys schema [] are = refl
+all_plain_alone keys schema (expr ∷ exprs) are =
+    let parts = and_parts (is_plain (tree_of expr)) (list_all is_plain (map tree_of exprs)) are in
+    λ i. joined (with_kinds (plain_alone keys schema (tree_of expr) parts.0 i)) (all_plain_alone keys schema exprs parts.1 i)
 
 pub plain_predicate : (schema : Columns) (source : Source) → is_plain source ≡ true → predicate_expansion schema source ≡ Ok (unwritten source)
 plain_predicate schema source is = ap (λ r. then_ok r only_one) (plain_alone [] schema source is)

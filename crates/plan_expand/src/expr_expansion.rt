@@ -44,7 +44,7 @@ pub fn rewrite_projections(
     Ok(expanded)
 }
 
-// The same, by the names of keys.
+// The same, by the names of keys. Where all are plain, they stay where they are.
 fn all_expanded(
     alloc: Global,
     exprs: Vec<Expr>,
@@ -55,11 +55,26 @@ fn all_expanded(
     ensures plain { IfOk result (λ expanded. list_all is_plain (map tree_of expanded.items) ≡ true) }
     ensures err { IfErr result (IsUnexpanded (expansions keys.now.keys (columns schema.now) (map tree_of exprs.items))) }
 {
+    if are_plain(exprs.as_slice()) {
+        return Ok(exprs);
+    }
     let mut expanded = Vec::with_capacity(alloc, exprs.len())?;
     for expr in exprs {
         add_expansion(alloc, &mut expanded, expr, schema, keys)?;
     }
     Ok(expanded)
+}
+
+// Whether each has plans' ops alone.
+fn are_plain(exprs: &[Expr]) -> bool
+    ensures { result ≡ list_all is_plain (map tree_of exprs.now) }
+{
+    for expr in exprs {
+        if !expr.is_plain() {
+            return false;
+        }
+    }
+    true
 }
 
 // Adds what an expression is expanded to behind others.

@@ -15,7 +15,7 @@ ghost use Rattle.plan_types.specs.declared.dtype.CastOptions.TheVariants.{Strict
 ghost use Rattle.plan_types.specs.declared.dtype.TimeUnit.TheVariants.{Nanoseconds, Microseconds, Milliseconds};
 ghost use Rattle.plan_dsl.specs.Plans.{empty_table, source_group_by, source_select};
 ghost use Rattle.plan_dsl.specs.declared.operator.Operator.TheVariants.{Lt, GtEq, Plus, Eq, EqValidity, NotEq, NotEqValidity, LtEq, Gt, Minus, Multiply, Divide, FloorDivide, Modulus, And, Or, Xor, LogicalAnd, LogicalOr};
-ghost use Rattle.serde_json.specs.Data.{Items, array, boolean, member, no_members, null, object, float, negative, number, string, unsigned};
+ghost use Rattle.serde_json.specs.Data.{Data, Items, array, boolean, member, no_members, null, object, float, negative, number, string, unsigned};
 ghost use Rattle.serde_json.specs.Events.{items_len};
 ghost use Rattle.plan_json.specs.Looking.{first_items, only_member, three_items, two_items, two_members};
 ghost use Rattle.plan_json.specs.Leaves.{columns_of, table_limit, tables_of, type_of, unit_of, literal_of, number_text_of, number_written, operator_of, typed_of};

@@ -5,7 +5,7 @@ use Rattle.std.proofs.lemmas.Bool.{and_from, and_parts, false≢true}
 use Rattle.std.proofs.lemmas.List.{map-append}
 use Rattle.plan_dsl.specs.Aliases.{all_pruned, prune_node, pruned}
 use Rattle.plan_dsl.specs.Copies.{has_several}
-use Rattle.plan_dsl.specs.Expressions.{function_source, plain_tree, row_trees, tree_of}
+use Rattle.plan_dsl.specs.Expressions.{function_source, plain_tree, tree_of}
 use Rattle.plan_dsl.specs.Sources.{Plain, SourceOp, Source, all_are_plain, all_unwritten, is_plain, unwritten}
 use Rattle.plan_dsl.proofs.ExprLemmas.{IsListed, listed_plain}
 use Rattle.plan_types.proofs.ListLemmas.{map-map}
@@ -14,7 +14,7 @@ use Rattle.plan_dsl.specs.declared.expr.Expr as declared
 use Rattle.plan_dsl.specs.declared.expr.Expr.{Expr, roll-out-Expr}
 use Rattle.plan_dsl.specs.declared.function_expr.FunctionExpr.{FunctionExpr}
 use Rattle.plan_dsl.specs.declared.function_expr.FunctionExpr.TheVariants.{FieldByIndex}
-use Rattle.plan_dsl.specs.declared.expr.Expr.TheVariants.{Alias, Alias', BinaryExpr, BinaryExpr', Filter, Filter', Function, Function', rolls-Function, Gather, Gather', Literal, Slice, Slice', Ternary, Ternary'}
+use Rattle.plan_dsl.specs.declared.expr.Expr.TheVariants.{Alias, Alias', BinaryExpr, BinaryExpr', Filter, Filter', Function, Function', rolls-Function, Gather, Gather', Slice, Slice', Ternary, Ternary'}
 use Rattle.plan_dsl.specs.Trees.{Trees, node, no_more, more, children_from, top_op}
 use Rattle.plan_dsl.specs.Ops.{Op, AliasOp, Expression}
 use Rattle.plan_arena.specs.declared.aexpr.AExpr.{AExpr}

@@ -263,6 +263,11 @@ pub(crate) fn add_nodes(expr: Expr, keep: bool, arena: &mut Arena<AExpr>) -> Res
             Ok(node)
         }
         Expr::Function { input, function } => add_function(input, function, keep, arena),
+        // Most expressions are columns, whose item goes through no other function.
+        Expr::Column(name) => {
+            let node = arena.add(AExpr::Column(name))?;
+            Ok(node)
+        }
         expr => {
             let item = add_inputs(expr, keep, arena)?;
             let node = arena.add(item)?;

@@ -5,14 +5,13 @@ use Rattle.plan_dsl.specs.Sources.{is_plain, unwritten}
 use Rattle.std.specs.Vec.Iter.{into_iter_items}
 use Rattle.plan_dsl.specs.declared.expr.Expr.{Expr}
 use Rattle.plan_dsl.specs.Aliases.{all_pruned, core, is_written_out, prune_node, pruned}
-use Rattle.plan_dsl.specs.Copies.{has_several}
-use Rattle.plan_dsl.specs.Expressions.{order_trees, plain_tree, plain_trees, sort_by_op, tree_of, trees_of}
+use Rattle.plan_dsl.specs.Expressions.{order_trees, plain_tree, plain_trees, tree_of, trees_of}
 use Rattle.plan_dsl.specs.declared.aggregate.AggExpr.TheViews.{size-Expr, sized-BinaryExpr, sized-Filter, sized-Function, sized-Gather, sized-Slice, sized-SortBy, sized-Ternary, sized-Window}
 use Rattle.plan_dsl.specs.Names.{label_of}
-use Rattle.plan_dsl.specs.Ops.{AliasOp, FunctionOp, WindowOp}
-use Rattle.plan_dsl.specs.Trees.{node, no_more, more, children_from, top_op}
+use Rattle.plan_dsl.specs.Ops.{AliasOp, ColumnOp, FunctionOp, WindowOp}
+use Rattle.plan_dsl.specs.Trees.{node, no_more, more, children_from}
 use Rattle.plan_dsl.proofs.ExprLemmas.{sort_by_listed, window_listed}
-use Rattle.plan_arena.specs.declared.aexpr.AExpr.TheVariants.{Alias, Function, SortBy, Window}
+use Rattle.plan_arena.specs.declared.aexpr.AExpr.TheVariants.{Alias, Column, Function, SortBy, Window}
 use Rattle.plan_arena.specs.Denotation.{Denotes}
 use Rattle.plan_arena.specs.Items.{HoldsFrom, named_node, numbers, numbers_named, recorded}
 use Rattle.plan_lower.specs.Nodes.{IsItemOf, over_inputs}
@@ -32,6 +31,13 @@ add_nodes-returns-in_ok-node-in-Alias-clause-denotes t c =
     let kept = subst (λ keep. Denotes (HoldsFrom (length c.args.arena.now) c.add.new.self) top.node.0 (prune_node keep (AliasOp c.in-Alias.name) (more tree no_more))) (sym c.if-not-keep.false) added in
     let whole = subst (Denotes (HoldsFrom (length c.args.arena.now) c.add.new.self) top.node.0) (pruned_alias c.args.keep c.in-Alias.name (plain_tree c.into_inner.result)) kept in
     rw (c.in-Alias.is, ← c.into_inner.ensures) whole
+
+pub add_nodes-returns-in_ok-node-in-Column-clause-denotes : goal.add_nodes-returns-in_ok-node-in-Column-clause-denotes
+add_nodes-returns-in_ok-node-in-Column-clause-denotes t c =
+    let arena = c.args.arena.now in
+    let top = c.in_ok-node-in-Column in
+    let item : IsItemOf (length arena) arena (node (ColumnOp c.in-Column.name) no_more) (Column c.in-Column.name) = record { operands = no_more; is = refl; denote = tt } in
+    rw (c.in-Column.is) (item_denotes _ arena _ _ _ top.node.0 (omega arith) item top.ensures.ok top.ensures.node)
 
 pub add_nodes-returns-in_ok-node-in_default-clause-denotes : goal.add_nodes-returns-in_ok-node-in_default-clause-denotes
 add_nodes-returns-in_ok-node-in_default-clause-denotes t c =
