@@ -83,6 +83,31 @@ expression_counted items n item got ns are i own count past by_own all (node op 
     let by_op = sym (by_own counts) ∙ ap (λ l. op_casts (op_of l) counts) same in
     whole_count ∙ ap (λ k. own + k) whole ∙ by_op
 
+-- the count of an expression, from those of its inputs
+over_counted : (items : List AExpr) (n : ℕ) (item : AExpr) → slice_get items n ≡ Some item → (op : Op) (inputs : List ℕ) (own : ℕ) (cs : List ℕ) → expression_layer item ≡ layer op inputs → ((below : List ℕ) → op_casts op below ≡ own + sum below) → CountAll (HoldsExpression items) expression_casts inputs cs → (t : Expression) → Denotes (HoldsExpression items) n t → own + sum cs ≡ expression_casts t
+over_counted items n item got op inputs own cs is by_own each (node o ts) d =
+    let same : layer op inputs ≡ layer o d.0 = sym is ∙ some_same (slice_get (map expression_layer items) n) (expression_layer item) (layer o d.0) (expression_got items n item got) d.1 in
+    let children = subst (λ ms. DenoteAll (HoldsExpression items) ms ts) (sym (ap inputs_of same)) d.2 in
+    let counts = fold_all op_casts ts in
+    ap (λ l. own + sum l) (counts_of (HoldsExpression items) op_casts inputs cs ts each children) ∙ sym (by_own counts) ∙ ap (λ l. op_casts (op_of l) counts) same
+
+-- a leaf that is no cast has none
+pub leaf_counted : (items : List AExpr) (n : ℕ) (item : AExpr) → slice_get items n ≡ Some item → (op : Op) → expression_layer item ≡ layer op [] → ((below : List ℕ) → op_casts op below ≡ sum below) → (t : Expression) → Denotes (HoldsExpression items) n t → 0 ≡ expression_casts t
+leaf_counted items n item got op is none t d =
+    over_counted items n item got op [] 0 [] is (λ below. omega (arith, none below)) tt t d
+
+-- a node over one input has those of the input, and its own
+pub one_counted : (items : List AExpr) (n : ℕ) (item : AExpr) → slice_get items n ≡ Some item → (op : Op) (input own casts count : ℕ) → expression_layer item ≡ layer op (input ∷ []) → ((below : List ℕ) → op_casts op below ≡ own + sum below) → ((t : Expression) → Denotes (HoldsExpression items) input t → casts ≡ expression_casts t) → count ≡ own + casts → (t : Expression) → Denotes (HoldsExpression items) n t → count ≡ expression_casts t
+one_counted items n item got op input own casts count is by_own one added t d =
+    let whole = over_counted items n item got op (input ∷ []) own (casts ∷ []) is by_own (one, tt) t d in
+    omega (arith, added, whole)
+
+-- a node over two inputs that is no cast has those of both
+pub two_counted : (items : List AExpr) (n : ℕ) (item : AExpr) → slice_get items n ≡ Some item → (op : Op) (left right first second count : ℕ) → expression_layer item ≡ layer op (left ∷ right ∷ []) → ((below : List ℕ) → op_casts op below ≡ sum below) → ((t : Expression) → Denotes (HoldsExpression items) left t → first ≡ expression_casts t) → ((t : Expression) → Denotes (HoldsExpression items) right t → second ≡ expression_casts t) → count ≡ first + second → (t : Expression) → Denotes (HoldsExpression items) n t → count ≡ expression_casts t
+two_counted items n item got op left right first second count is none one other added t d =
+    let whole = over_counted items n item got op (left ∷ right ∷ []) 0 (first ∷ second ∷ []) is (λ below. omega (arith, none below)) (one, (other, tt)) t d in
+    omega (arith, added, whole)
+
 -- the inputs of an expression denote expressions, and lead less far down
 inputs_lead : (items : List AExpr) (n : ℕ) (item : AExpr) → slice_get items n ≡ Some item → (t : Expression) → Denotes (HoldsExpression items) n t → LeadsDown (HoldsExpression items) (shape_of (map expression_layer items)) n (inputs_of (expression_layer item))
 inputs_lead items n item got (node op ts) d =

@@ -8,12 +8,12 @@ use Rattle.std.proofs.lemmas.Str.{encodes-chars}
 use Rattle.serde_json.specs.Data.{string}
 use Rattle.serde_json.specs.Written.{compact_text}
 use Rattle.plan_types.specs.Schemas.{Columns}
-use Rattle.plan_types.specs.Types.{StructType, ty, field_of, fields_from}
+use Rattle.plan_types.specs.Types.{Ty, StructType, ty, field_of, fields_from}
 use Rattle.plan_types.specs.declared.dtype.DataType.{DataType, Struct}
 use Rattle.plan_types.specs.declared.dtype.Fields.{Fields as StructFields, out-Fields}
 use Rattle.plan_types.specs.declared.field.Field.{Field}
 use Rattle.plan_types.proofs.FieldLemmas.{struct_type}
-use Rattle.plan_report.specs.Texts.{name_text, in_parentheses, field_text, field_texts, separator, schema_text, type_text, variant_text}
+use Rattle.plan_report.specs.Texts.{name_text, in_parentheses, field_text, field_texts, separator, schema_text, type_text, parts_text, variant_text}
 
 -- the text of a name, from its bytes
 pub name_text-chars : (bytes : List ℕ) → IsUtf8 bytes → compact_text (string bytes) ≡ name_text (chars bytes)
@@ -42,11 +42,11 @@ module _ {X : Type 0} (f : X → List ℕ) (before : List ℕ) where
       ∙ ap (λ t. before ++ t) (flat_map_more (λ z. codes ", " ++ f z) (f y) ys x)
 
   -- one more item is appended
-  pub joined_more : (xs : List X) (i : ℕ) (x : X) (old separated new : List ℕ) → slice_get xs i ≡ Some x → old ≡ before ++ join_by f (codes ", ") (take i xs) → separated ≡ old ++ separator i → new ≡ separated ++ f x → new ≡ before ++ join_by f (codes ", ") (take (i + 1) xs)
-  joined_more xs i x old separated new at so_far apart put =
+  pub joined_more : (xs : List X) (i : ℕ) (x : X) (old new : List ℕ) → slice_get xs i ≡ Some x → old ≡ before ++ join_by f (codes ", ") (take i xs) → new ≡ old ++ (separator i ++ f x) → new ≡ before ++ join_by f (codes ", ") (take (i + 1) xs)
+  joined_more xs i x old new at so_far put =
       let within = slice_get_within xs i x at in
       let long : length (take i xs) ≡ i = length-take-le i xs (omega arith) in
-      put ∙ ap (λ t. t ++ f x) apart ∙ joined i (take i xs) long so_far ∙ ap (λ l. before ++ join_by f (codes ", ") l) (sym (item_more xs i x at))
+      put ∙ sym (append_assoc old (separator i) (f x)) ∙ joined i (take i xs) long so_far ∙ ap (λ l. before ++ join_by f (codes ", ") l) (sym (item_more xs i x at))
     where
       joined : (n : ℕ) (some : List X) → length some ≡ n → old ≡ before ++ join_by f (codes ", ") some → (old ++ separator n) ++ f x ≡ before ++ join_by f (codes ", ") (some ++ x ∷ [])
       joined zero some long all = ap (λ t. t ++ f x) (append-nil old ∙ all) ∙ none_before some x (omega (arith, long))
@@ -69,19 +69,30 @@ fields_joined : (columns : Columns) → join_by (λ text. text) (codes ", ") (fi
 fields_joined [] = refl
 fields_joined (first ∷ rest) = ap (λ t. field_text first ++ t) (later_fields rest)
 
+parts_as_schema : (columns : Columns) → parts_text (StructType (fields_from columns)) ≡ schema_text columns
+parts_as_schema columns = ap in_parentheses (fields_joined columns)
+
 pub fields_as_schema : (columns : Columns) → type_text (StructType (fields_from columns)) ≡ codes "Struct" ++ schema_text columns
-fields_as_schema columns = ap (λ t. codes "Struct" ++ in_parentheses t) (fields_joined columns)
+fields_as_schema columns = ap (λ t. codes "Struct" ++ t) (parts_as_schema columns)
 
-pub struct_text : (dtype : DataType) (fields : StructFields) (items : List Field) → dtype ≡ Struct fields → items ≡ (out-Fields fields).items.items → type_text (ty dtype) ≡ codes "Struct" ++ schema_text (map field_of items)
+pub struct_text : (dtype : DataType) (fields : StructFields) (items : List Field) → dtype ≡ Struct fields → items ≡ (out-Fields fields).items.items → parts_text (ty dtype) ≡ schema_text (map field_of items)
 struct_text dtype fields items is shown =
-    ap type_text (struct_type dtype fields items is shown) ∙ fields_as_schema (map field_of items)
+    ap parts_text (struct_type dtype fields items is shown) ∙ parts_as_schema (map field_of items)
 
--- a type of structs is appended: its variant's name, and its fields
-pub struct_pushed : {X E : Type 0} (result : Result X E) (dtype : DataType) (fields : StructFields) (items : List Field) (before named after : List ℕ) → dtype ≡ Struct fields → items ≡ (out-Fields fields).items.items → named ≡ before ++ variant_text (ty dtype) → OnOk result (after ≡ named ++ schema_text (map field_of items)) → OnOk result (after ≡ before ++ type_text (ty dtype))
-struct_pushed (Err e) dtype fields items before named after is shown so_far put = tt
-struct_pushed (Ok x) dtype fields items before named after is shown so_far put =
-    let schema = schema_text (map field_of items) in
+-- the fields of a type of structs are appended
+pub struct_pushed : {X E : Type 0} (result : Result X E) (dtype : DataType) (fields : StructFields) (items : List Field) (before after : List ℕ) → dtype ≡ Struct fields → items ≡ (out-Fields fields).items.items → OnOk result (after ≡ before ++ schema_text (map field_of items)) → OnOk result (after ≡ before ++ parts_text (ty dtype))
+struct_pushed (Err e) dtype fields items before after is shown put = tt
+struct_pushed (Ok x) dtype fields items before after is shown put =
+    put ∙ ap (λ t. before ++ t) (sym (struct_text dtype fields items is shown))
+
+regrouped : (a b c d e f : List ℕ) → (a ++ (b ++ (c ++ (d ++ e)))) ++ f ≡ a ++ (b ++ ((c ++ d) ++ (e ++ f)))
+regrouped a b c d e f = simp append_assoc
+
+-- a field is appended: all up to the parts of its type, and then these
+pub field_pushed : {X E : Type 0} (result : Result X E) (old named new before name : List ℕ) (type : Ty) → IsUtf8 name → named ≡ old ++ (before ++ (compact_text (string name) ++ (codes " " ++ variant_text type))) → OnOk result (new ≡ named ++ parts_text type) → OnOk result (new ≡ old ++ (before ++ field_text (chars name, type)))
+field_pushed (Err e) old named new before name type of_text front put = tt
+field_pushed (Ok x) old named new before name type of_text front put =
     put
-    ∙ ap (λ t. t ++ schema) (so_far ∙ ap (λ d. before ++ variant_text (ty d)) is)
-    ∙ append_assoc before (codes "Struct") schema
-    ∙ ap (λ t. before ++ t) (sym (struct_text dtype fields items is shown))
+    ∙ ap (λ t. t ++ parts_text type) front
+    ∙ regrouped old before (compact_text (string name)) (codes " ") (variant_text type) (parts_text type)
+    ∙ ap (λ n. old ++ (before ++ (n ++ codes " " ++ type_text type))) (name_text-chars name of_text)

@@ -39,13 +39,30 @@ pub(crate) fn expression_casts(arena: &Arena<AExpr>, node: Node) -> Result<u64, 
         → count ≡ expression_casts tree) }
 {
     let item = arena.get(node);
-    let inputs = item.input_nodes();
-    let mut count = own_casts(item);
-    for index in 0..inputs.len() {
-        let casts = expression_casts(arena, inputs.at(index))?;
-        count = add(count, casts)?;
+    match item {
+        AExpr::Column(_) => Ok(0),
+        AExpr::Literal(_) => Ok(0),
+        AExpr::BinaryExpr { left, right, .. } => {
+            let first = expression_casts(arena, *left)?;
+            let second = expression_casts(arena, *right)?;
+            let count = add(first, second)?;
+            Ok(count)
+        }
+        AExpr::Cast { expr, .. } => {
+            let below = expression_casts(arena, *expr)?;
+            let count = add(1, below)?;
+            Ok(count)
+        }
+        _ => {
+            let inputs = item.input_nodes();
+            let mut count = own_casts(item);
+            for index in 0..inputs.len() {
+                let casts = expression_casts(arena, inputs.at(index))?;
+                count = add(count, casts)?;
+            }
+            Ok(count)
+        }
     }
-    Ok(count)
 }
 
 /// How many casts the expressions of a node have.

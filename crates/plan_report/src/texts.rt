@@ -1,11 +1,11 @@
 //! Texts of names, types, schemas and places.
-ghost use Rattle.std.specs.Prelude.{◌≡◌, [], ◌∷◌, ◌++◌, decimal, map, string_bytes, IsTrue, OnOk};
+ghost use Rattle.std.specs.Prelude.{◌≡◌, [], ◌∷◌, ◌++◌, codes, decimal, map, string_bytes, IsTrue, OnOk};
 ghost use Rattle.json.specs.Print.{escape, escape_byte};
 ghost use Rattle.serde_json.specs.Data.{string};
 ghost use Rattle.serde_json.specs.Written.{compact_text};
 ghost use Rattle.plan_types.specs.Schemas.{columns};
 ghost use Rattle.plan_types.specs.Types.{field_of, ty};
-ghost use Rattle.plan_report.specs.Texts.{name_text, in_parentheses, unit_text, variant_text, type_text, field_text, separator, schema_text, step_text, path_text, error_kind_text};
+ghost use Rattle.plan_report.specs.Texts.{in_parentheses, unit_text, variant_text, parts_text, type_text, field_text, separator, schema_text, step_text, path_text, error_kind_text};
 
 use plan_types::dtype::{DataType, TimeUnit};
 use plan_types::error::ErrorKind;
@@ -29,31 +29,46 @@ pub(crate) fn kind_name(kind: ErrorKind) -> &'static str
     }
 }
 
+// The name of the type's variant, behind a text.
+macro_rules! variant_behind {
+    ($front:literal, $dtype:expr) => {
+        match $dtype {
+            DataType::Null => concat!($front, "Null"),
+            DataType::Boolean => concat!($front, "Boolean"),
+            DataType::Int8 => concat!($front, "Int8"),
+            DataType::Int16 => concat!($front, "Int16"),
+            DataType::Int32 => concat!($front, "Int32"),
+            DataType::Int64 => concat!($front, "Int64"),
+            DataType::UInt8 => concat!($front, "UInt8"),
+            DataType::UInt16 => concat!($front, "UInt16"),
+            DataType::UInt32 => concat!($front, "UInt32"),
+            DataType::UInt64 => concat!($front, "UInt64"),
+            DataType::String => concat!($front, "String"),
+            DataType::Date => concat!($front, "Date"),
+            DataType::Time => concat!($front, "Time"),
+            DataType::Datetime(_) => concat!($front, "Datetime"),
+            DataType::Duration(_) => concat!($front, "Duration"),
+            DataType::List(_) => concat!($front, "List"),
+            DataType::Struct(_) => concat!($front, "Struct"),
+            DataType::Unknown(_) => concat!($front, "Unknown"),
+        }
+    };
+}
+
 /// The name of the type's variant.
 #[tactic(auto, unfolding(crate::proofs::OnLiterals::texts_on_literals))]
 pub(crate) fn variant_name(dtype: &DataType) -> &'static str
     ensures { result.now ≡ variant_text (ty dtype.now) }
 {
-    match dtype {
-        DataType::Null => "Null",
-        DataType::Boolean => "Boolean",
-        DataType::Int8 => "Int8",
-        DataType::Int16 => "Int16",
-        DataType::Int32 => "Int32",
-        DataType::Int64 => "Int64",
-        DataType::UInt8 => "UInt8",
-        DataType::UInt16 => "UInt16",
-        DataType::UInt32 => "UInt32",
-        DataType::UInt64 => "UInt64",
-        DataType::String => "String",
-        DataType::Date => "Date",
-        DataType::Time => "Time",
-        DataType::Datetime(_) => "Datetime",
-        DataType::Duration(_) => "Duration",
-        DataType::List(_) => "List",
-        DataType::Struct(_) => "Struct",
-        DataType::Unknown(_) => "Unknown",
-    }
+    variant_behind!("", dtype)
+}
+
+// What stands between a plain name and the parts of its type: the closing quote, and the name of the type's variant.
+#[tactic(auto, unfolding(crate::proofs::OnLiterals::texts_on_literals))]
+fn closing(dtype: &DataType) -> &'static str
+    ensures { result.now ≡ codes "\" " ++ variant_text (ty dtype.now) }
+{
+    variant_behind!("\" ", dtype)
 }
 
 /// The name of the unit.
@@ -67,26 +82,10 @@ pub(crate) fn unit_name(unit: TimeUnit) -> &'static str
     }
 }
 
-/// Appends the name as a JSON string.
-pub(crate) fn push_name(
-    alloc: Global,
-    text: &mut String,
-    name: &PlSmallStr,
-) -> Result<(), AllocError>
-    ensures { OnOk result (string_bytes text.new ≡ string_bytes text.old ++ name_text name.now) }
-{
-    push_quoted(alloc, text, name.as_str())
-}
-
 // Appends a part as a JSON string.
 fn push_quoted(alloc: Global, text: &mut String, part: &str) -> Result<(), AllocError>
     ensures { OnOk result (string_bytes text.new ≡ string_bytes text.old ++ compact_text (string part.now)) }
 {
-    if is_plain(part) {
-        text.push_str("\"")?;
-        text.push_str(part)?;
-        return text.push_str("\"");
-    }
     let part = String::from_str(alloc, part)?;
     let quoted = Value::String(part).to_string(alloc)?;
     text.push_str(quoted.as_str())
@@ -165,6 +164,14 @@ pub(crate) fn push_type(
     ensures { OnOk result (string_bytes text.new ≡ string_bytes text.old ++ type_text (ty dtype.now)) }
 {
     text.push_str(variant_name(dtype))?;
+    push_parts(alloc, text, dtype)
+}
+
+// Appends the parts of the type.
+#[cycle(type_texts)]
+fn push_parts(alloc: Global, text: &mut String, dtype: &DataType) -> Result<(), AllocError>
+    ensures { OnOk result (string_bytes text.new ≡ string_bytes text.old ++ parts_text (ty dtype.now)) }
+{
     match dtype {
         DataType::Datetime(unit) => push_unit(text, *unit),
         DataType::Duration(unit) => push_unit(text, *unit),
@@ -188,19 +195,49 @@ fn push_separator(text: &mut String, number: usize) -> Result<(), AllocError>
     Ok(())
 }
 
-/// Appends a column's name and type.
+// What stands before a plain name in the field of that number.
+fn opening(number: usize) -> &'static str
+    ensures { result.now ≡ separator number ++ codes "\"" }
+{
+    if number > 0 { ", \"" } else { "\"" }
+}
+
+// Appends a field up to the parts of its type, with what stands before it.
+fn push_name(
+    alloc: Global,
+    text: &mut String,
+    number: usize,
+    name: &str,
+    dtype: &DataType,
+) -> Result<(), AllocError>
+    ensures { OnOk result (string_bytes text.new
+        ≡ string_bytes text.old ++ (separator number ++ (compact_text (string name.now) ++ (codes " " ++ variant_text (ty dtype.now))))) }
+{
+    if is_plain(name) {
+        text.push_str(opening(number))?;
+        text.push_str(name)?;
+        return text.push_str(closing(dtype));
+    }
+    push_separator(text, number)?;
+    push_quoted(alloc, text, name)?;
+    text.push_str(" ")?;
+    text.push_str(variant_name(dtype))
+}
+
+/// Appends the field of that number, with what stands before it: a column's name and type.
 #[cycle(type_texts)]
 pub(crate) fn push_field(
     alloc: Global,
     text: &mut String,
+    number: usize,
     name: &PlSmallStr,
     dtype: &DataType,
 ) -> Result<(), AllocError>
-    ensures { OnOk result (string_bytes text.new ≡ string_bytes text.old ++ field_text (name.now, ty dtype.now)) }
+    ensures { OnOk result (string_bytes text.new
+        ≡ string_bytes text.old ++ (separator number ++ field_text (name.now, ty dtype.now))) }
 {
-    push_name(alloc, text, name)?;
-    text.push_str(" ")?;
-    push_type(alloc, text, dtype)
+    push_name(alloc, text, number, name.as_str(), dtype)?;
+    push_parts(alloc, text, dtype)
 }
 
 /// Appends the fields of a type of structs, as those of a schema.
@@ -210,9 +247,8 @@ fn push_fields(alloc: Global, text: &mut String, fields: &[Field]) -> Result<(),
 {
     text.push_str("(")?;
     for index in 0..fields.len() {
-        push_separator(text, index)?;
         let field = &fields[index];
-        push_field(alloc, text, &field.name, &field.dtype)?;
+        push_field(alloc, text, index, &field.name, &field.dtype)?;
     }
     text.push_str(")")
 }
@@ -227,9 +263,8 @@ pub(crate) fn push_schema(
 {
     text.push_str("(")?;
     for index in 0..schema.len() {
-        push_separator(text, index)?;
         if let Some((name, dtype)) = schema.get_at_index(index) {
-            push_field(alloc, text, name, dtype)?;
+            push_field(alloc, text, index, name, dtype)?;
         }
     }
     text.push_str(")")

@@ -10,6 +10,6 @@ loop-index-preserved c =
     let cols = columns c.args.schema.now in
     let within : c.loop-index.index < length cols = omega (arith, c.len-index-end.ensures) in
     elim c.match-get_at_index.branch [
-      | in-Some+in_ok-push_field w ↦ joined_more field_text _ cols c.loop-index.index _ _ _ _ (sym w.in-Some.ensures) c.loop-index.invariant c.in_ok-push_separator.ensures (ap string_bytes w.text-is ∙ w.in_ok-push_field.ensures)
+      | in-Some+in_ok-push_field w ↦ joined_more field_text _ cols c.loop-index.index _ _ _ (sym w.in-Some.ensures) c.loop-index.invariant (ap string_bytes w.text-is ∙ w.in_ok-push_field.ensures)
       | in_default w ↦ absurd (no_item cols c.loop-index.index within (sym w.in_default.ensures))
     ]
