@@ -1,8 +1,10 @@
+pub mod CommonTypeLemmas
 pub mod ExampleLemmas
 pub mod FieldLemmas
 pub mod FunctionTypeLemmas
 pub mod ItemTreeLemmas
 pub mod OperandTypeLemmas
+pub mod OperatorLemmas
 pub mod SignedLemmas
 pub mod TableLemmas
 pub mod TimeTypeLemmas

@@ -74,6 +74,11 @@ some_there (x ∷ xs) h = omega arith
 pub or_other : (kind : ErrorKind) (P Q : Type 0) (error : PlanError) → (P → Q) → IsMemoryOr kind P error → IsMemoryOr kind Q error
 or_other kind P Q error so b = ⊎_elim (λ e. inl e) (λ p. inr (p.0, so p.1)) b
 
+-- the first of two names a node over them
+pub first_named : (table : TypeTable) (ns : List Node) (d : Node) (own : Inferred) → length ns ≡ 2 → KeepsEntry table (get_or ns 0 d).0 own → own.name.0 ≡ name_at table 0 (numbers ns)
+first_named table [] d own two k = absurd (omega (arith, two))
+first_named table (n ∷ ns) d own two k = sym (ap (named_by 0) k.1)
+
 -- ---- the types to which they are taken
 
 -- types in front of those of the others

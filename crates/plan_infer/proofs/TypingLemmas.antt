@@ -14,14 +14,14 @@ use Rattle.plan_dsl.specs.declared.operator.Operator.{Operator}
 use Rattle.plan_dsl.specs.Registry.{Registry}
 use Rattle.plan_dsl.specs.Ops.{Op, ColumnOp, LiteralOp, BinaryOp, CastOp, Expression}
 use Rattle.plan_dsl.specs.Literals.{is_literal}
-use Rattle.plan_dsl.specs.Typing.{Typed, column_type, literal_taken, cast_taken, own_typed, ruled_as, typing_rule, types_of, typing, rule}
-use Rattle.plan_dsl.specs.OperatorTypes.{Taken, operator_types}
+use Rattle.plan_dsl.specs.Typing.{Typed, column_type, literal_taken, cast_taken, own_typed, ruled_as, some_many, typing_rule, types_of, typing, rule}
+use Rattle.plan_dsl.specs.OperatorTypes.{Taken, operator_types, pair_to}
 use Rattle.plan_dsl.proofs.TypingLemmas.{ruling_of}
 use Rattle.plan_arena.specs.declared.aexpr.AExpr.{AExpr}
 use Rattle.plan_arena.specs.Denotation.{Denotes}
 use Rattle.plan_arena.specs.Items.{HoldsExpression}
 use Rattle.plan_infer.specs.declared.type_table.Inferred.{Inferred}
-use Rattle.plan_infer.specs.KeptTypes.{AreOperands, IsRuled}
+use Rattle.plan_infer.specs.KeptTypes.{AreOperands, IsRuled, Says}
 use Rattle.plan_infer.specs.Typed.{HasType}
 
 -- a refusal below is one here, where the kinds are the same
@@ -71,6 +71,15 @@ module _ (registry : Registry) (schema : Columns) (op : Op) (typed : List Typed)
 
   pub rule_refused : (error : PlanError) → IsRefusal found error → IsRefusal (typing_rule registry schema op typed) error
   rule_refused error refused = refused_so _ _ error (λ kind e. ap own_typed (is ∙ ap (λ f. ruled_as f many) e)) refused
+
+-- and of a node that takes two inputs to these types
+pub pair_says : (left right : Typed) (own : Inferred) (first second : Ty) → own.many ≡ some_many (left ∷ right ∷ []) → AreOperands (map ty own.operands.items) (left.type ∷ right.type ∷ []) (first ∷ second ∷ []) → Says (ruled_as (Ok (pair_to first second (ty own.dtype))) (some_many (left ∷ right ∷ []))) (left ∷ right ∷ []) own
+pair_says left right own first second many operands = record {
+  ruling = ruling_of (pair_to first second (ty own.dtype)) (some_many (left ∷ right ∷ []));
+  rules = refl;
+  is = λ i. record { type = ty own.dtype; many = sym many i };
+  operands = operands;
+}
 
 -- a column has the type that the schema gives it
 pub column_ruled : (registry : Registry) (schema : Columns) (name : Name) (type : Ty) (own : Inferred) → type_at schema name ≡ Some type → is_known type ≡ true → ty own.dtype ≡ type → own.many ≡ true → own.operands.items ≡ [] → IsRuled registry schema (ColumnOp name) [] own

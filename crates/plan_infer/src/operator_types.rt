@@ -2,7 +2,9 @@
 ghost use Rattle.std.specs.Prelude.{◌≡◌, [], ◌∷◌, Ok, IfOk, IfErr};
 ghost use Rattle.plan_types.specs.Errors.{IsRefusal, no_memory};
 ghost use Rattle.plan_types.specs.Types.{ty};
+ghost use Rattle.std.specs.Option.{option_map};
 ghost use Rattle.plan_dsl.specs.OperatorTypes.{operator_types, pair_to, pair_types};
+ghost use Rattle.plan_infer.specs.Operands.{common_integer};
 
 mod arithmetic;
 mod bits;
@@ -16,6 +18,7 @@ use plan_dsl::operator::Operator;
 use plan_types::common_type::type_beside;
 use plan_types::dtype::DataType;
 use plan_types::error::PlanError;
+use plan_types::supertype::get_numeric_upcast_supertype_lossless;
 use std::alloc::Global;
 
 /// The types to which an operator takes its operands, and the type of its result.
@@ -66,6 +69,25 @@ pub fn operand_types(
     let own_right = type_beside(alloc, right, left)?;
     let taken = pair_types(alloc, &own_left, op, &own_right)?;
     Ok(taken)
+}
+
+/// The common type of two integer types that differ, where the operator takes both operands to it and gives it too.
+#[inline(always)]
+pub(crate) fn common_integer(left: &DataType, op: Operator, right: &DataType) -> Option<DataType>
+    ensures { option_map ty result ≡ common_integer op (ty left.now) (ty right.now) }
+{
+    match op {
+        Operator::Plus
+        | Operator::Minus
+        | Operator::Multiply
+        | Operator::Divide
+        | Operator::FloorDivide
+        | Operator::Modulus
+        | Operator::And
+        | Operator::Or
+        | Operator::Xor => get_numeric_upcast_supertype_lossless(left, right),
+        _ => None,
+    }
 }
 
 // The same of operands that have types.

@@ -100,6 +100,7 @@ impl TypeTable {
     }
 
     /// What is kept for a node of which something is.
+    #[inline]
     pub fn get(&self, node: Node) -> &Inferred
         requires { IsKept self.now node.0 }
         ensures { KeepsEntry self.now node.0 result.now }
@@ -127,6 +128,7 @@ impl TypeTable {
     }
 
     /// Keeps what is inferred of a node of which nothing is kept.
+    #[inline(always)]
     pub(crate) fn add(&mut self, node: Node, own: Inferred) -> Result<(), PlanError>
         requires { ¬ (IsKept self.old node.0) }
         ensures kept { OnOk result (IsKept self.new node.0) }

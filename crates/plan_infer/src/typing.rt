@@ -15,10 +15,10 @@ ghost use Rattle.plan_arena.specs.Items.{HoldsExpression, expression_layer, numb
 ghost use Rattle.plan_infer.specs.KeptTypes.{Extends, IsKept, IsNamedBy, IsRight, IsRuled, kept_count, name_at, node_depth, typings_at};
 
 use crate::function_types::function_typing;
-use crate::operator_types::operand_types;
+use crate::operator_types::{common_integer, operand_types};
 use crate::signed::{signature, signed_typing, type_alone, unless_own};
 use crate::steps::Steps;
-use crate::taken::taken_typing;
+use crate::taken::{taken_typing, widened};
 use crate::type_table::{Inferred, TypeTable};
 use plan_arena::aexpr::AExpr;
 use plan_arena::arena::{Arena, Node};
@@ -59,6 +59,11 @@ pub(crate) fn type_node<M: Ledger>(
     let item = arena.get(node);
     if is_leaf(item) {
         return type_over(node, item, &[], arena, schema, udfs, types, typings);
+    }
+    if let AExpr::BinaryExpr { left, right, .. } = item {
+        type_node(*left, arena, schema, udfs, types, typings)?;
+        type_node(*right, arena, schema, udfs, types, typings)?;
+        return type_ready(node, item, arena, schema, udfs, types, typings);
     }
     let inputs = item.input_nodes();
     for index in 0..inputs.len() {
@@ -116,6 +121,7 @@ fn type_ready<M: Ledger>(
 }
 
 // Types a node over inputs of which each is typed.
+#[inline(always)]
 fn type_over<M: Ledger>(
     node: Node,
     item: &AExpr,
@@ -147,6 +153,7 @@ fn type_over<M: Ledger>(
 }
 
 /// What the rule of a node says, whose inputs are typed.
+#[inline(always)]
 pub(crate) fn own_typing(
     node: Node,
     item: &AExpr,
@@ -181,6 +188,7 @@ pub(crate) fn own_typing(
 }
 
 // A column has the type that the schema gives it, which is one of columns.
+#[inline(always)]
 fn column_typing(
     node: Node,
     name: &PlSmallStr,
@@ -205,6 +213,7 @@ fn column_typing(
 }
 
 // A literal has its own type, which has its value.
+#[inline(always)]
 fn literal_typing(node: Node, value: &LiteralValue, alloc: Global) -> Result<Inferred, PlanError>
     ensures ok { IfOk result (λ own. (registry : Registry) (schema : Columns) → IsRuled registry schema (literal_op value.now) [] own) }
     ensures name { IfOk result (λ own. own.name ≡ node) }
@@ -220,6 +229,7 @@ fn literal_typing(node: Node, value: &LiteralValue, alloc: Global) -> Result<Inf
 }
 
 // An operator over two operands.
+#[inline(always)]
 fn binary_typing(
     op: Operator,
     inputs: &[Node],
@@ -234,6 +244,9 @@ fn binary_typing(
 {
     let left = types.get(inputs[0]);
     let right = types.get(inputs[1]);
+    if let Some(common) = common_integer(&left.dtype, op, &right.dtype) {
+        return widened(left, right, common, alloc);
+    }
     let taken = operand_types(alloc, &left.dtype, op, &right.dtype)?;
     let own = taken_typing(left.name, taken, inputs, types, alloc)?;
     Ok(own)
