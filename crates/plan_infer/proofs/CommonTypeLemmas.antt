@@ -1,7 +1,7 @@
 -- Operands of two integer types that differ, which an operator takes to their common type.
 use Rattle.std.proofs.Common.{◌≡◌, ◌*◌, ℕ, nat_lt, Bool, true, false, cond, [], ◌∷◌, Option, Some, None, Ok, Err, refl, sym, ap, ◌∙◌}
 use Rattle.plan_types.specs.Types.{Ty, Integer, Truth, is_integer, is_truth}
-use Rattle.plan_types.specs.Supertypes.{signed_above, supertype, upcast}
+use Rattle.plan_types.specs.Supertypes.{supertype, upcast}
 use Rattle.plan_types.specs.declared.error.ErrorKind.TheVariants.{InvalidOperation}
 use Rattle.plan_dsl.specs.OperatorTypes.{both_to, number_types, operator_types, pair_to, pair_types, sum_type}
 use Rattle.plan_dsl.specs.declared.operator.Operator.{Operator}

@@ -441,7 +441,7 @@ fn is_many(many: Many, inputs: &[Node], types: &TypeTable) -> bool
 }
 
 // Whether some input may have another length than one.
-pub(crate) fn some_many(inputs: &[Node], types: &TypeTable) -> bool
+fn some_many(inputs: &[Node], types: &TypeTable) -> bool
     requires inputs { AllByRecursion (IsKept types.now) (numbers inputs.now) }
     ensures { result ≡ some_many (typings_at types.now (numbers inputs.now)) }
 {

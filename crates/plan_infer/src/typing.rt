@@ -199,7 +199,9 @@ fn column_typing(
     ensures name { IfOk result (λ own. own.name ≡ node) }
     ensures err { IfErr result (λ error. (registry : Registry) → IsRefusal (typing_rule registry (columns schema.now) (ColumnOp name.now) []) error) }
 {
-    let found = schema.try_get(name)?;
+    let Some(found) = schema.get(name) else {
+        return Err(PlanError::at_top(ErrorKind::ColumnNotFound));
+    };
     if !found.is_known() {
         return Err(PlanError::at_top(ErrorKind::InvalidOperation));
     }

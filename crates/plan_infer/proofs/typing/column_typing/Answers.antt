@@ -1,17 +1,15 @@
 use Rattle.std.proofs.Common.{inr, refl, sym, ◌∙◌}
 use Rattle.plan_types.specs.Schemas.{columns}
-use Rattle.plan_types.proofs.ResultLemmas.{passed_on}
 use Rattle.plan_infer.proofs.TypingLemmas.{column_missing, column_ruled, column_unknown}
 use Rattle.plan_infer.proofs.typing.column_typing.Goals as goal
 
-pub returns-in_err-found-clause-err : goal.returns-in_err-found-clause-err
-returns-in_err-found-clause-err c =
-    passed_on c.from_residual.result c.in_err-found.field-0.0 _ c.from_residual.ensures.1 (λ registry. column_missing registry (columns c.args.schema.now) c.args.name.now _ (inr c.in_err-found.ensures.err))
+pub returns-in_default-clause-err : goal.returns-in_default-clause-err
+returns-in_default-clause-err c = λ registry. column_missing registry (columns c.args.schema.now) c.args.name.now _ (inr (c.at_top.ensures, sym c.in_default.ensures))
 
 pub returns-then-not-is_known-clause-err : goal.returns-then-not-is_known-clause-err
 returns-then-not-is_known-clause-err c = λ registry.
-    column_unknown registry (columns c.args.schema.now) c.args.name.now _ _ c.at_top.ensures c.in_ok-found.ensures.ok (sym c.is_known.ensures ∙ c.if-not-is_known.true)
+    column_unknown registry (columns c.args.schema.now) c.args.name.now _ _ c.at_top-then-not-is_known.ensures (sym c.in-Some.ensures) (sym c.is_known.ensures ∙ c.if-not-is_known.true)
 
 pub returns-clause-ok : goal.returns-clause-ok
 returns-clause-ok c = λ registry.
-    column_ruled registry (columns c.args.schema.now) c.args.name.now _ _ c.in_ok-found.ensures.ok (sym c.is_known.ensures ∙ c.if-not-is_known.false) c.in_ok-dtype.ensures.ok refl c.new.ensures.items
+    column_ruled registry (columns c.args.schema.now) c.args.name.now _ _ (sym c.in-Some.ensures) (sym c.is_known.ensures ∙ c.if-not-is_known.false) c.in_ok-dtype.ensures.ok refl c.new.ensures.items
