@@ -205,13 +205,15 @@ fn column_typing(
     if !found.is_known() {
         return Err(PlanError::at_top(ErrorKind::InvalidOperation));
     }
-    let dtype = found.try_clone(alloc)?;
-    Ok(Inferred {
-        name: node,
-        dtype,
-        many: true,
-        operands: Vec::new(alloc),
-    })
+    match found.try_clone(alloc) {
+        Ok(dtype) => Ok(Inferred {
+            name: node,
+            dtype,
+            many: true,
+            operands: Vec::new(alloc),
+        }),
+        Err(error) => Err(error),
+    }
 }
 
 // A literal has its own type, which has its value.

@@ -10,6 +10,6 @@ pub returns-then-not-is_known-clause-err : goal.returns-then-not-is_known-clause
 returns-then-not-is_known-clause-err c = λ registry.
     column_unknown registry (columns c.args.schema.now) c.args.name.now _ _ c.at_top-then-not-is_known.ensures (sym c.in-Some.ensures) (sym c.is_known.ensures ∙ c.if-not-is_known.true)
 
-pub returns-clause-ok : goal.returns-clause-ok
-returns-clause-ok c = λ registry.
-    column_ruled registry (columns c.args.schema.now) c.args.name.now _ _ (sym c.in-Some.ensures) (sym c.is_known.ensures ∙ c.if-not-is_known.false) c.in_ok-dtype.ensures.ok refl c.new.ensures.items
+pub returns-in-Ok-clause-ok : goal.returns-in-Ok-clause-ok
+returns-in-Ok-clause-ok c = λ registry.
+    column_ruled registry (columns c.args.schema.now) c.args.name.now _ _ (sym c.in-Some.ensures) (sym c.is_known.ensures ∙ c.if-not-is_known.false) c.in-Ok.ensures.ok refl c.new.ensures.items
