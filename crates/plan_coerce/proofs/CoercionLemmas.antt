@@ -35,7 +35,7 @@ use Rattle.plan_arena.proofs.ItemLemmas.{held_top, tree_grown, added_denotes, le
 use Rattle.plan_infer.specs.Typed.{HasKnownType}
 use Rattle.plan_coerce.specs.Rules.{is_strict_node, said}
 use Rattle.plan_coerce.proofs.CoercedLemmas.{DenotesSame, IsAlike, node_alike_over}
-use Rattle.plan_coerce.specs.Coercion.{Operand, IsChanged, AreChanged, IsReady, AllReady}
+use Rattle.plan_coerce.specs.Coercion.{Operand, IsChanged, AreChanged, IsReady, IsReadyAt, AllReady}
 use Rattle.plan_infer.specs.declared.type_table.TypeTable.{TypeTable}
 use Rattle.plan_types.proofs.CastLemmas.{source_known}
 use Rattle.plan_types.proofs.ListLemmas.{mapped_more}
@@ -45,7 +45,7 @@ use Rattle.std.specs.List.{AllByRecursion}
 use Rattle.plan_infer.specs.declared.type_table.Inferred.{Inferred}
 use Rattle.plan_infer.specs.KeptTypes.{Keeps, KeepsEntry, IsKept, Extends, AllKept, AreOperands, IsRight, TakesTo, typed_of}
 use Rattle.plan_arena.proofs.NumberLemmas.{all_joined, all_weaker}
-use Rattle.plan_infer.proofs.TableLemmas.{children_kept, kept_type, kept_typing, layer_held, listed_operands, ruled_inputs, still_keeps, still_kept, kept_of, type_of, type_one}
+use Rattle.plan_infer.proofs.TableLemmas.{children_kept, keeps_one, kept_type, kept_typing, layer_held, listed_operands, ruled_inputs, still_keeps, still_kept, kept_of, type_of, type_one}
 use Rattle.plan_dsl.proofs.OpLemmas.{keeps_rule}
 use Rattle.plan_dsl.proofs.SignatureLemmas.{AllBecome, IsTakenTo, makes, passes}
 
@@ -308,17 +308,22 @@ ready_length table (n ∷ ns) [] all = absurd all
 pub ready_within : (table : TypeTable) (ns : List ℕ) (ts : List DataType) (i : ℕ) → AllReady table ns (map ty ts) → i < length ns → i < length ts
 ready_within table ns ts i all lt = omega (arith, lt, ready_length table ns ts all)
 
-pub ready_there : (table : TypeTable) (ns : List ℕ) (ts : List DataType) (i n : ℕ) (t : DataType) → AllReady table ns (map ty ts) → slice_get ns i ≡ Some n → IsReady table n (ty (get_or ts i t))
-ready_there table [] ts i n t all at = cc
-ready_there table (m ∷ ns) (u ∷ ts) zero n t all at = let same : m ≡ n = cc in subst (λ k. IsReady table k (ty u)) same all.0
-ready_there table (m ∷ ns) (u ∷ ts) (suc i) n t all at = ready_there table ns ts i n t all.1 at
-ready_there table (m ∷ ns) [] i n t all at = absurd all
+-- the type to which a node takes the operand at a place is one
+pub same_target : (table : TypeTable) (n : ℕ) (own other : Inferred) (i : ℕ) (t u : DataType) → KeepsEntry table n own → KeepsEntry table n other → slice_get own.operands.items i ≡ Some t → slice_get other.operands.items i ≡ Some u → t ≡ u
+same_target table n own other i t u k l at there =
+    some_same (slice_get own.operands.items i) t u at (ap (λ (x : Inferred). slice_get x.operands.items i) (keeps_one table n own other k l) ∙ there)
 
--- one operand can be made of its type, of which there is a copy
-pub ready_at : (old new : TypeTable) (ns : List ℕ) (ts : List DataType) (i n : ℕ) (t copy : DataType) → AllReady old ns (map ty ts) → slice_get ns i ≡ Some n → t ≡ get_or ts i t → ty copy ≡ ty t → Extends old new → IsReady new n (ty copy)
-ready_at old new ns ts i n t copy all at is_t same extends =
-    let one = subst (λ (u : DataType). IsReady old n (ty u)) (sym is_t) (ready_there old ns ts i n t all at) in
-    record { dtype = one.dtype; keeps = still_keeps old new extends n one.dtype one.keeps; becomes = subst (λ t. (ty one.dtype ≡ t) ⊎ CanBecome (ty one.dtype) t) (sym same) one.becomes }
+-- the operand at a place, where the table keeps more
+pub ready_here : (old new : TypeTable) (ns : List ℕ) (ts : List DataType) (i n : ℕ) → AllReady old ns (map ty ts) → slice_get ns i ≡ Some n → Extends old new → IsReadyAt new n ts i
+ready_here old new [] ts i n all at extends = cc
+ready_here old new (m ∷ ns) (u ∷ ts) zero n all at extends =
+    let same : m ≡ n = cc in
+    let one = subst (λ k. IsReady old k (ty u)) same all.0 in
+    record { target = u; there = refl; ready = record { dtype = one.dtype; keeps = still_keeps old new extends n one.dtype one.keeps; becomes = one.becomes } }
+ready_here old new (m ∷ ns) (u ∷ ts) (suc i) n all at extends =
+    let rest = ready_here old new ns ts i n all.1 at extends in
+    record { target = rest.target; there = rest.there; ready = rest.ready }
+ready_here old new (m ∷ ns) [] i n all at extends = absurd all
 
 grown_changed : (old mid new : List AExpr) (table : TypeTable) (os : List Operand) → Grows mid new → AllByRecursion (IsChanged old mid table) os → AllByRecursion (IsChanged old new table) os
 grown_changed old mid new table [] g all = tt

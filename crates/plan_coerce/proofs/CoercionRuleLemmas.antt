@@ -1,6 +1,7 @@
 -- The rule of coercion: nodes that are strict, and what is put in place of others.
-use Rattle.std.proofs.Common.{◌≡◌, ◌≢◌, ◌&&◌, not, ℕ, zero, suc, None, is_some, ℤ, ◌<◌, ◌≤◌, Bool, true, false, cond, List, [], ◌∷◌, length, map, set, Option, Some, Ok, slice_get, refl, sym, ap, ◌∙◌, subst, arith, zero-le, inl, ⊎_elim}
+use Rattle.std.proofs.Common.{◌≡◌, ◌≢◌, ◌&&◌, not, ℕ, zero, suc, None, is_some, ℤ, ◌<◌, ◌≤◌, Bool, true, false, cond, List, [], ◌∷◌, length, map, set, Option, Some, Ok, slice_get, slice_index_or, refl, sym, ap, ◌∙◌, subst, arith, zero-le, inl, ⊎_elim}
 use Rattle.std.specs.List.{AllByRecursion}
+use Rattle.std.specs.Prelude.{MatchOption}
 use Rattle.std.proofs.Math.ListN.{length-set}
 use Rattle.std.proofs.lemmas.Bool.{and_parts, false≢true}
 use Rattle.plan_types.specs.Types.{Ty, Untyped, ty, is_known, same_type}
@@ -25,18 +26,19 @@ use Rattle.plan_arena.specs.declared.aexpr.AExpr.{AExpr}
 use Rattle.plan_arena.specs.declared.aexpr.AExpr.TheVariants.{Literal, Alias}
 use Rattle.plan_arena.specs.Denotation.{Denotes}
 use Rattle.plan_arena.specs.Layers.{inputs_of, op_of, layer, shape_of}
-use Rattle.plan_arena.specs.Items.{Grows, HoldsExpression, HoldsFrom, Rewired, expression_layer}
+use Rattle.plan_arena.specs.Items.{Grows, HoldsExpression, HoldsFrom, Rewired, expression_layer, numbers}
 use Rattle.plan_arena.proofs.DenotationLemmas.{denotes_one, some_same}
-use Rattle.plan_arena.proofs.ItemLemmas.{any_node, expression_laws, expression_written, from_zero, held_top, length-grown, within}
+use Rattle.plan_arena.proofs.ItemLemmas.{any_node, expression_got, expression_laws, expression_written, from_zero, held_top, length-grown, within}
 use Rattle.plan_infer.specs.declared.type_table.Inferred.{Inferred}
 use Rattle.plan_infer.specs.declared.type_table.TypeTable.{TypeTable}
 use Rattle.plan_infer.specs.KeptTypes.{Extends, HasRightTypes, IsKept, IsRight, KeepsEntry, typed_of, typings_at}
 use Rattle.plan_infer.specs.Typed.{HasType}
 use Rattle.plan_infer.proofs.TableLemmas.{children_kept, kept_typing, layer_held, over_kept, ruled_inputs}
-use Rattle.plan_coerce.specs.Coercion.{AllStrictFrom, IsOverOperands, KeepsStrict}
-use Rattle.plan_coerce.specs.Reaching.{IsClosed, IsReached, Near}
-use Rattle.plan_coerce.specs.Rules.{HasSameCasts, IsLike, IsReplacement, is_strict_node, said, until_strict}
+use Rattle.plan_coerce.specs.Coercion.{AllStrictFrom, AreChanged, IsOver, IsOverOperands, KeepsStrict, TakesOperands}
+use Rattle.plan_coerce.specs.Reaching.{AreMadeOnce, IsClosed, IsReached, Near}
+use Rattle.plan_coerce.specs.Rules.{CanReplace, HasSameCasts, IsLike, IsReplacement, is_strict_node, said, until_strict}
 use Rattle.plan_coerce.proofs.CoercionLemmas.{not_renamed, own_literal, rewritten, plain_strict, takes_listed, under_alias}
+use Rattle.plan_coerce.proofs.OnceLemmas.{over_once}
 use Rattle.plan_coerce.proofs.ReachLemmas.{changed_near, closed_put, closed_start, held_unwritten, inputs_near, new_kept, reached_near, root_near}
 use Rattle.plan_coerce.proofs.SettledLemmas.{known_settled, literal_typed, number_settled, own_number}
 use Rattle.plan_coerce.proofs.RightLemmas.{kept_within, node_within, right_rewritten}
@@ -264,9 +266,10 @@ module _ (registry : Registry) (schema : Columns) (items : List AExpr) (table : 
       let e = right.each n own keeps in
       number_alone registry schema number e.tree own.many (e.typed ∙ ap (λ x. Ok (record { type = x; many = own.many })) is)
 
-pub same_before : (items : List AExpr) (n : ℕ) (a b : AExpr) (table : TypeTable) (own : Inferred) → slice_get items n ≡ Some a → slice_get items n ≡ Some b → false ≡ same_types (types_of (typings_at table (inputs_of (expression_layer a)))) (map ty own.operands.items) → false ≡ same_types (types_of (typings_at table (inputs_of (expression_layer b)))) (map ty own.operands.items)
-same_before items n a b table own at bt h =
-    subst (λ (x : AExpr). false ≡ same_types (types_of (typings_at table (inputs_of (expression_layer x)))) (map ty own.operands.items)) (some_same (slice_get items n) a b at bt) h
+-- a type of which no number is found is none of a number alone
+pub no_number : (found : Option ℤ) (none : Bool) (type : Ty) → is_some found ≡ not none → none ≡ true → MatchOption found ((number : ℤ) → type ≢ Untyped number) (λ number. type ≡ Untyped number) → (number : ℤ) → type ≢ Untyped number
+no_number None none type is told h = h
+no_number (Some k) none type is told h = absurd (false≢true (sym (is ∙ ap not told)))
 
 -- nodes that an item over changed operands reaches
 pub over_near : (old new : List AExpr) (table table' : TypeTable) (at : ℕ) (item : AExpr) → HasRightTypes old table → IsKept table at → Grows old new → (over : IsOverOperands old new table table' at item) → (((before : AExpr) → slice_get old at ≡ Some before → AllByRecursion (Near old (at ∷ [])) (inputs_of (expression_layer before))) → IsClosed old (at ∷ []) new) → IsClosed old (at ∷ []) (set new at item)
@@ -276,3 +279,42 @@ over_near old new table table' at item is k g over closed =
     let below = λ (before : AExpr) (got : slice_get old at ≡ Some before). inputs_near old roots old at before got (closed_start old roots) (root_near old at) in
     let near = changed_near old roots old new table (inputs_of (expression_layer over.before)) over.nodes (map ty k.own.operands.items) (omega arith) (over.changed k.own k.keeps) (below over.before over.got) in
     closed_put old roots new at item (omega (arith, here, length-grown old new g)) (subst (AllByRecursion (Near old roots)) (sym (ap inputs_of over.is)) near) (closed below)
+
+-- the item at a node stays as the arena grows
+pub item_stays : (old new : List AExpr) (n : ℕ) (item now : AExpr) → slice_get old n ≡ Some item → Grows old new → slice_get new n ≡ Some now → now ≡ item
+item_stays old new n item now got g there = some_same (slice_get new n) now item there (ap (λ l. slice_get l n) g.longer ∙ slice_get-append old g.added n item got)
+
+-- two nodes of a list
+pub two_listed : (nodes : List Node) (default : Node) → length nodes ≡ 2 → numbers nodes ≡ (slice_index_or nodes 0 default).0 ∷ (slice_index_or nodes 1 default).0 ∷ []
+two_listed [] default e = cc
+two_listed (a ∷ []) default e = absurd (omega (arith, e))
+two_listed (a ∷ b ∷ []) default e = refl
+two_listed (a ∷ b ∷ c ∷ rest) default e = absurd (omega (arith, e))
+
+-- what can be put in place of a node that takes its operands to other types
+module _ (old new : List AExpr) (table table' : TypeTable) (at : ℕ) (own : Inferred) (inputs made : List ℕ) (is : HasRightTypes old table) (keeps : KeepsEntry table at own) (takes : TakesOperands own) (g : Grows old new) (listed : (before : AExpr) → slice_get old at ≡ Some before → inputs ≡ inputs_of (expression_layer before)) (differs : false ≡ same_types (types_of (typings_at table inputs)) (map ty own.operands.items)) where
+  pub can_replace : ((other : Inferred) → KeepsEntry table at other → AreChanged old new table inputs made (map ty other.operands.items)) → AllByRecursion (IsKept table') made → ((registry : Registry) (schema : Columns) → IsRight registry schema old table → IsRight registry schema new table') → ((start : List AExpr) (roots : List ℕ) → length start ≤ length old → AllByRecursion (Near start roots) inputs → IsClosed start roots old → IsClosed start roots new) → ((registry : Registry) (schema : Columns) (start : ℕ) → start ≤ length old → IsRight registry schema old table → AllStrictFrom start old table → AllStrictFrom start new table') → AreMadeOnce old new inputs made → Extends table table' → (item : AExpr) → IsOver old at item made → CanReplace old new table table' at item
+  can_replace changed kept right closed added once extends item o =
+      let k : IsKept table at = record { own = own; keeps = keeps } in
+      let roots = at ∷ [] in
+      let here = kept_within old table at is k in
+      let longer : at < length new = omega (arith, here, length-grown old new g) in
+      let ins = listed o.before o.got in
+      let over : IsOverOperands old new table table' at item = record {
+        before = o.before;
+        got = o.got;
+        nodes = made;
+        is = o.is;
+        changed = λ other keeps. subst (λ ns. AreChanged old new table ns made (map ty other.operands.items)) ins (changed other keeps);
+        kept = kept;
+      } in
+      let reaches = over_near old new table table' at item is k g over (λ near. closed old roots (omega arith) (subst (AllByRecursion (Near old roots)) (sym ins) (near o.before o.got)) (closed_start old roots)) in
+      let apart = differs ∙ ap (λ ns. same_types (types_of (typings_at table ns)) (map ty own.operands.items)) ins in
+      let strict = λ (registry : Registry) (schema : Columns) (r : IsRight registry schema old table). added registry schema (length old) (omega arith) r (λ n le lt. absurd (omega (arith, le, lt))) in
+      let placed = λ (registry : Registry) (schema : Columns) (r : IsRight registry schema old table). node_placed registry schema old new table table' at item own r keeps g (right registry schema r) (strict registry schema r) reaches takes.some extends over in
+      record {
+        answer = λ registry schema t r d. node_replaced registry schema old new table table' at item own r keeps g (right registry schema r) (strict registry schema r) reaches (known_not_number registry schema old table r at own keeps takes.typed) takes.some over apart (placed registry schema r) t d;
+        reaches = reaches;
+        once = over_once old new at o.before item made here longer (expression_got old at o.before o.got) (ap inputs_of o.is) (expression_written new at item longer) (subst (λ ns. AreMadeOnce old new ns made) ins once);
+        placed = placed;
+      }

@@ -1,6 +1,6 @@
 -- What is on a work stack.
-use Rattle.std.proofs.Common.{◌≡◌, ℕ, ◌<◌, List, [], ◌∷◌, ◌++◌, length, map, reverse, Some, slice_get, take, get_or, option_map, unwrap_or, ◌+◌, refl, sym, ap, ◌∙◌, arith, true, false}
-use Rattle.std.proofs.lemmas.List.{append-nil, append_assoc, length-map, map-append, take_more}
+use Rattle.std.proofs.Common.{◌≡◌, ℕ, zero, suc, ◌<◌, List, [], ◌∷◌, ◌++◌, length, map, reverse, Some, slice_get, take, drop, set, get_or, option_map, unwrap_or, ◌+◌, refl, sym, ap, ◌∙◌, arith, true, false}
+use Rattle.std.proofs.lemmas.List.{append-nil, append_assoc, drop-drop, drop-set-lt, drop_more, length-map, map-append, take_more}
 use Rattle.std.proofs.lemmas.Option.{slice_get-get_or, slice_get-map}
 use Rattle.std.proofs.lemmas.Bool.{false≢true}
 use Rattle.std.proofs.Math.Seq.{take-append_seam}
@@ -60,3 +60,19 @@ module _ (exprs : List ExprIR) (i : ℕ) (expr : ExprIR) (within : i < length ex
   stacked_next items start old new n is before now =
       let done = map (λ e. (named_node e).expression) (take i exprs) in
       now ∙ ap (λ l. l ++ with_inputs items n) before ∙ append_assoc start (all_with_inputs items done) (with_inputs items n) ∙ ap (λ k. start ++ (all_with_inputs items done ++ with_inputs items k)) is ∙ ap (λ l. start ++ l) (sym (with_one_more items done (named_node expr).expression) ∙ ap (all_with_inputs items) (sym exprs_next))
+
+-- ---- nodes that others take the place of, from the front on
+
+-- the node at the head of what is left stands there
+pub node_left : (nodes : List Node) (i : ℕ) (x : Node) (rest : List Node) → drop i nodes ≡ x ∷ rest → slice_get (numbers nodes) i ≡ Some x.0
+node_left [] zero x rest e = cc
+node_left [] (suc i) x rest e = cc
+node_left (y ∷ nodes) zero x rest e = let same : y ≡ x = cc in ap (λ (n : Node). Some n.0) same
+node_left (y ∷ nodes) (suc i) x rest e = node_left nodes i x rest e
+
+module _ (nodes first : List Node) (i : ℕ) (default : Node) (within : i < length nodes) (left : drop i nodes ≡ drop i first) where
+  pub node_there : slice_get (numbers first) i ≡ Some (get_or nodes i default).0
+  node_there = node_left first i (get_or nodes i default) (drop (i + 1) nodes) (sym left ∙ drop_more nodes i default within)
+
+  pub one_less : (x : Node) → drop (i + 1) (set nodes i x) ≡ drop (i + 1) first
+  one_less x = drop-set-lt (i + 1) nodes i x (omega arith) ∙ sym (drop-drop 1 i nodes) ∙ ap (drop 1) left ∙ drop-drop 1 i first

@@ -1,9 +1,9 @@
 -- Expressions with every cast written out, and operands that are made of other types.
-use Rattle.std.specs.Prelude.{◌≡◌, ◌<◌, ◌≤◌, ◌⊎◌, ℕ, true, false, List, [], ◌∷◌, length, map, Result, Ok, Err, Some, slice_get}
+use Rattle.std.specs.Prelude.{◌≡◌, ◌≢◌, ◌<◌, ◌≤◌, ◌⊎◌, ℕ, ℤ, true, false, List, [], ◌∷◌, length, map, Result, Ok, Err, Some, slice_get}
 use Rattle.plan_types.specs.declared.error.ErrorKind.{ErrorKind}
 use Rattle.plan_dsl.specs.Typing.{Typed, Ruling, rule, types_of, typing_all}
 use Rattle.std.specs.List.{AllByRecursion}
-use Rattle.plan_types.specs.Types.{Ty, ty, is_known, same_type}
+use Rattle.plan_types.specs.Types.{Ty, Untyped, ty, is_known, same_type}
 use Rattle.plan_types.specs.Schemas.{Columns}
 use Rattle.plan_types.specs.declared.dtype.DataType.{DataType}
 use Rattle.plan_dsl.specs.Registry.{Registry}
@@ -46,6 +46,12 @@ pub record IsReady (table : TypeTable) (n : ℕ) (target : Ty) : Type 0 where
   pub keeps : Keeps table n dtype
   pub becomes : (ty dtype ≡ target) ⊎ CanBecome (ty dtype) target
 
+-- the same of the type at a place of a list
+pub record IsReadyAt (table : TypeTable) (n : ℕ) (targets : List DataType) (index : ℕ) : Type 0 where
+  pub target : DataType
+  pub there : slice_get targets index ≡ Some target
+  pub ready : IsReady table n (ty target)
+
 -- operands at nodes, one by one
 abbrev pub AllReady : TypeTable → List ℕ → List Ty → Type 0
 AllReady table [] [] = Unit {0}
@@ -86,6 +92,17 @@ pub record KeepsStrict (table : TypeTable) (n : ℕ) : Type 0 where
 -- the same of each node of an arena from a number on
 abbrev pub AllStrictFrom : ℕ → List AExpr → TypeTable → Type 0
 AllStrictFrom start items table = (n : ℕ) → start ≤ n → n < length items → KeepsStrict table n
+
+-- what is kept of a node that has a type of columns, and takes its operands to types that are listed
+pub record TakesOperands (own : Inferred) : Type 0 where
+  pub some : own.operands.items ≢ []
+  pub typed : (number : ℤ) → ty own.dtype ≢ Untyped number
+
+-- an item does what the one at the node does, over these nodes
+pub record IsOver (items : List AExpr) (at : ℕ) (item : AExpr) (nodes : List ℕ) : Type 0 where
+  pub before : AExpr
+  pub got : slice_get items at ≡ Some before
+  pub is : expression_layer item ≡ layer (op_of (expression_layer before)) nodes
 
 -- An item does what the one at the node does, over nodes that stand for its operands, made of the types that are kept as
 -- those to which it takes them.

@@ -2,7 +2,7 @@
 -- What a rule says of a node goes by the expression that it denotes. Where it goes by what the node does and by what is
 -- seen of its inputs alone, their names and typings, it stays so where inputs are put in place by others that are like them.
 -- What is said of a plan's node goes by the node's kind, and by the schema that goes into it.
-use Rattle.std.specs.Prelude.{◌≡◌, ◌<◌, ◌≤◌, ℕ, ℤ, Bool, true, false, List, [], ◌∷◌, length, Some, Result, Ok, Err, if◌then◌else◌}
+use Rattle.std.specs.Prelude.{◌≡◌, ◌<◌, ◌≤◌, ℕ, ℤ, Bool, true, false, List, [], ◌∷◌, length, set, Some, Result, Ok, Err, if◌then◌else◌}
 use Rattle.plan_types.specs.Types.{Untyped, is_known, is_truth}
 use Rattle.plan_types.specs.Schemas.{Columns}
 use Rattle.plan_types.specs.Values.{Val}
@@ -24,9 +24,9 @@ use Rattle.plan_arena.specs.PlanSchemas.{schema_into}
 use Rattle.plan_arena.specs.Runs.{AllAccepted}
 use Rattle.plan_infer.specs.declared.type_table.Inferred.{Inferred}
 use Rattle.plan_infer.specs.declared.type_table.TypeTable.{TypeTable}
-use Rattle.plan_infer.specs.KeptTypes.{KeepsEntry, typed_of}
+use Rattle.plan_infer.specs.KeptTypes.{IsRight, KeepsEntry, typed_of}
 use Rattle.plan_coerce.specs.Coercion.{coerced}
-use Rattle.plan_coerce.specs.Reaching.{IsReached}
+use Rattle.plan_coerce.specs.Reaching.{IsClosed, IsReached, StaysOnce}
 
 -- ---- nodes of expressions
 
@@ -102,6 +102,13 @@ until_strict registry schema op inputs = if is_strict_node registry schema op in
 -- both are one expression with every cast written out
 abbrev pub HasSameCasts : Registry → Columns → Expression → Expression → Type 0
 HasSameCasts registry schema before after = coerced registry schema after ≡ coerced registry schema before
+
+-- an item can be put in place of the one at a node, in the arena as it has grown
+pub record CanReplace (old new : List AExpr) (table table' : TypeTable) (at : ℕ) (item : AExpr) : Type 0 where
+  pub answer : (registry : Registry) (schema : Columns) (t : Expression) → IsRight registry schema old table → Denotes (HoldsExpression old) at t → IsReplacement (HasSameCasts registry schema) (said (until_strict registry schema) registry schema) registry schema old (set new at item) at t
+  pub reaches : IsClosed old (at ∷ []) (set new at item)
+  pub once : StaysOnce old (set new at item) at
+  pub placed : (registry : Registry) (schema : Columns) → IsRight registry schema old table → IsRight registry schema (set new at item) table'
 
 -- ---- nodes of plans
 

@@ -1,5 +1,5 @@
 //! The rule that each node has operands of the types to which it takes them.
-ghost use Rattle.std.specs.Prelude.{◌≡◌, ℕ, ◌≤◌, List, [], ◌∷◌, Some, length, slice_get, map, set, true, MatchOption, IfOk, IfErr, OnOk, false};
+ghost use Rattle.std.specs.Prelude.{◌≡◌, ◌≢◌, ℕ, ℤ, ◌≤◌, List, [], ◌∷◌, Some, length, slice_get, map, set, true, MatchOption, IfOk, IfErr, OnOk, false};
 ghost use Rattle.std.specs.List.{AllByRecursion};
 ghost use Rattle.plan_types.specs.CommonTypes.{type_alone};
 ghost use Rattle.plan_types.specs.Errors.{IsRefusal, no_memory};
@@ -18,9 +18,9 @@ ghost use Rattle.plan_infer.specs.declared.type_table.Inferred.{Inferred};
 ghost use Rattle.plan_infer.specs.KeptTypes.{Extends, HasRightTypes, IsKept, IsRight, KeepsEntry, typings_at};
 ghost use Rattle.plan_infer.specs.Typed.{HasType};
 ghost use Rattle.plan_coerce.specs.CoercedLaws.{same_casts_congruent, same_casts_transitive, until_strict_bounded};
-ghost use Rattle.plan_coerce.specs.Coercion.{AllReady, AllStrictFrom, IsOverOperands};
-ghost use Rattle.plan_coerce.specs.Reaching.{AreMadeOnce, IsClosed, Near, StaysOnce};
-ghost use Rattle.plan_coerce.specs.Rules.{HasSameCasts, IsReplacement, KeepsNumber, is_strict_node, said, until_strict};
+ghost use Rattle.plan_coerce.specs.Coercion.{AllStrictFrom, IsOver, TakesOperands};
+ghost use Rattle.plan_coerce.specs.Reaching.{IsClosed, StaysOnce};
+ghost use Rattle.plan_coerce.specs.Rules.{CanReplace, HasSameCasts, IsReplacement, KeepsNumber, is_strict_node, said, until_strict};
 ghost use Rattle.plan_coerce.specs.RuleLaws.{said_steady};
 
 use crate::rule::OptimizationRule;
@@ -85,6 +85,9 @@ impl OptimizationRule for TypeCoercionRule {
         types: &mut TypeTable,
         typings: &mut Steps<M>,
     ) -> Result<Option<AExpr>, PlanError> {
+        if is_settled(node, types) {
+            return Ok(None);
+        }
         infer_once(node, schema, expr_arena, udfs, types, typings)?;
         match item_for(node, expr_arena, types) {
             Ok(answer) => Ok(answer),
@@ -93,6 +96,16 @@ impl OptimizationRule for TypeCoercionRule {
                 Err(error)
             }
         }
+    }
+}
+
+// Whether it is kept of a node that it has a type of columns and takes its operands as they are.
+fn is_settled(node: Node, types: &TypeTable) -> bool
+    ensures { result ≡ true → (own : Inferred) × KeepsEntry types.now node.0 own × (own.operands.items ≡ []) × ((number : ℤ) → ty own.dtype ≢ Untyped number) }
+{
+    match types.kept(node) {
+        None => false,
+        Some(own) => own.is_strict() && own.dtype.untyped_number().is_none(),
     }
 }
 
@@ -150,15 +163,79 @@ fn item_for(
             if own.is_strict() {
                 return Ok(None);
             }
-            let nodes = arena.get(node).inputs(arena.allocator())?;
-            let inputs = nodes.as_slice();
-            if takes_own(own, inputs, types) {
-                return Ok(None);
-            }
-            let item = over_operands(node, inputs, arena, types)?;
-            Ok(Some(item))
+            let item = item_over(node, arena, types)?;
+            Ok(item)
         }
     }
+}
+
+// The same of a node that may take its operands to other types. Of two operands no list is made.
+fn item_over(
+    node: Node,
+    arena: &mut Arena<AExpr>,
+    types: &mut TypeTable,
+) -> Result<Option<AExpr>, PlanError>
+    requires right { HasRightTypes arena.old types.old }
+    requires kept { IsKept types.old node.0 }
+    requires takes { (own : Inferred) → KeepsEntry types.old node.0 own → TakesOperands own }
+    ensures answer { IfOk result (λ answer. (registry : Registry) (schema : Columns) (t : Expression) → IsRight registry schema arena.old types.old →
+        Denotes (HoldsExpression arena.old) node.0 t → MatchOption answer (said (is_strict_node registry schema) registry schema t ≡ true)
+        (λ item. IsReplacement (HasSameCasts registry schema) (said (until_strict registry schema) registry schema) registry schema arena.old (set arena.new node.0 item) node.0 t)) }
+    ensures reaches { IfOk result (λ answer. MatchOption answer Unit (λ item. IsClosed arena.old (node.0 ∷ []) (set arena.new node.0 item))) }
+    ensures once { IfOk result (λ answer. MatchOption answer Unit (λ item. StaysOnce arena.old (set arena.new node.0 item) node.0)) }
+    ensures placed { IfOk result (λ answer. MatchOption answer Unit (λ item. (registry : Registry) (schema : Columns) → IsRight registry schema arena.old types.old →
+        IsRight registry schema (set arena.new node.0 item) types.new)) }
+    ensures right { OnOk result ((registry : Registry) (schema : Columns) → IsRight registry schema arena.old types.old → IsRight registry schema arena.new types.new) }
+    ensures grows { Grows arena.old arena.new }
+    ensures same { IfOk result (λ answer. answer ≡ None → arena.new ≡ arena.old) }
+    ensures err { IfErr result (λ error. error ≡ no_memory) }
+{
+    if let AExpr::BinaryExpr { left, op, right } = arena.get(node) {
+        let op = *op;
+        let mut operands = [*left, *right];
+        if !change_operands(node, &mut operands, arena, types)? {
+            return Ok(None);
+        }
+        return Ok(Some(AExpr::BinaryExpr {
+            left: operands[0],
+            op,
+            right: operands[1],
+        }));
+    }
+    let mut operands = arena.get(node).inputs(arena.allocator())?;
+    if !change_operands(node, operands.as_mut_slice(), arena, types)? {
+        return Ok(None);
+    }
+    let mut item = arena.get(node).try_clone(arena.allocator())?;
+    item.set_inputs(operands.as_slice());
+    Ok(Some(item))
+}
+
+// Puts in place of a node's operands those that it takes, unless it takes them as they are. Answers whether it did.
+fn change_operands(
+    node: Node,
+    operands: &mut [Node],
+    arena: &mut Arena<AExpr>,
+    types: &mut TypeTable,
+) -> Result<bool, PlanError>
+    requires right { HasRightTypes arena.old types.old }
+    requires kept { IsKept types.old node.0 }
+    requires listed { (item : AExpr) → slice_get arena.old node.0 ≡ Some item → numbers operands.old ≡ inputs_of (expression_layer item) }
+    requires takes { (own : Inferred) → KeepsEntry types.old node.0 own → TakesOperands own }
+    ensures stays { IfOk result (λ changed. changed ≡ false → (registry : Registry) (schema : Columns) (t : Expression) → IsRight registry schema arena.old types.old →
+        Denotes (HoldsExpression arena.old) node.0 t → said (is_strict_node registry schema) registry schema t ≡ true) }
+    ensures same { IfOk result (λ changed. changed ≡ false → arena.new ≡ arena.old) }
+    ensures over { IfOk result (λ changed. changed ≡ true → (item : AExpr) → IsOver arena.old node.0 item (numbers operands.new) → CanReplace arena.old arena.new types.old types.new node.0 item) }
+    ensures count { OnOk result (length operands.new ≡ length operands.old) }
+    ensures right { OnOk result ((registry : Registry) (schema : Columns) → IsRight registry schema arena.old types.old → IsRight registry schema arena.new types.new) }
+    ensures grows { Grows arena.old arena.new }
+    ensures err { IfErr result (λ error. error ≡ no_memory) }
+{
+    if takes_own(types.get(node), operands, types) {
+        return Ok(false);
+    }
+    operands_to(node, operands, arena, types)?;
+    Ok(true)
 }
 
 // Whether a node takes its operands as they are.
@@ -173,35 +250,6 @@ fn takes_own(own: &Inferred, inputs: &[Node], types: &TypeTable) -> bool
         }
     }
     true
-}
-
-// What the item at a node does, over operands made of the types to which it takes them.
-fn over_operands(
-    node: Node,
-    inputs: &[Node],
-    arena: &mut Arena<AExpr>,
-    types: &mut TypeTable,
-) -> Result<AExpr, PlanError>
-    requires right { HasRightTypes arena.old types.old }
-    requires kept { IsKept types.old node.0 }
-    requires listed { (item : AExpr) → slice_get arena.old node.0 ≡ Some item → numbers inputs.now ≡ inputs_of (expression_layer item) }
-    requires ready { (own : Inferred) → KeepsEntry types.old node.0 own → AllReady types.old (numbers inputs.now) (map ty own.operands.items) }
-    ensures over { IfOk result (IsOverOperands arena.old arena.new types.old types.new node.0) }
-    ensures once { IfOk result (λ item. AreMadeOnce arena.old arena.new (numbers inputs.now) (inputs_of (expression_layer item))) }
-    ensures right { OnOk result ((registry : Registry) (schema : Columns) →
-        IsRight registry schema arena.old types.old → IsRight registry schema arena.new types.new) }
-    ensures closed { OnOk result ((start : List AExpr) (roots : List ℕ) → length start ≤ length arena.old →
-        AllByRecursion (Near start roots) (numbers inputs.now) → IsClosed start roots arena.old → IsClosed start roots arena.new) }
-    ensures added { OnOk result ((registry : Registry) (schema : Columns) (start : ℕ) → start ≤ length arena.old → IsRight registry schema arena.old types.old →
-        AllStrictFrom start arena.old types.old → AllStrictFrom start arena.new types.new) }
-    ensures extends { OnOk result (Extends types.old types.new) }
-    ensures grows { Grows arena.old arena.new }
-    ensures err { IfErr result (λ error. error ≡ no_memory) }
-{
-    let mut item = arena.get(node).try_clone(arena.allocator())?;
-    let operands = operands_to(node, inputs, arena, types)?;
-    item.set_inputs(operands.as_slice());
-    Ok(item)
 }
 
 // What gives a number without a type the one that it has alone, under the aliases that the node has.

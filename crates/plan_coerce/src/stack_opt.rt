@@ -8,7 +8,8 @@ ghost use Rattle.plan_dsl.specs.Plans.{FilterKind, Named, PlanKind};
 ghost use Rattle.plan_dsl.specs.Registry.{Registry, registry};
 ghost use Rattle.plan_dsl.specs.Typing.{typing};
 ghost use Rattle.plan_arena.specs.Denotation.{Denotes, DenotesTree};
-ghost use Rattle.plan_arena.specs.Items.{Grows, HoldsExpression, named_node, numbers};
+ghost use Rattle.plan_arena.specs.Items.{Grows, HoldsExpression, expression_layer, named_node, numbers};
+ghost use Rattle.plan_arena.specs.Layers.{inputs_of};
 ghost use Rattle.plan_infer.specs.KeptTypes.{IsRight};
 ghost use Rattle.plan_coerce.specs.Optimizer.{AreApart, AreRoots, AreTrees, AreTypedRoots, DenotesSettled, EndsSettled, IsCoercionRefusal, IsPlanTurn, ReachesNear, StaysApart, StaysFinite, StaysLike, StaysLikeBeside, StaysLikeTyped, StaysOver, TypesNumber, all_with_inputs, roots_of, stacked, with_inputs};
 ghost use Rattle.plan_coerce.specs.Rules.{HasAcceptedInputs, KeepsNumber, RefusesPredicate, SettlesNoNumber, StandsOver};
@@ -139,27 +140,20 @@ impl ConversionOptimizer {
         ensures same_stack { stacked self.new ≡ stacked self.old }
         ensures err { IfErr result (λ error. error ≡ no_memory) }
     {
-        let before = self.roots.len();
-        match self.push_roots(exprs) {
-            Ok(()) => Ok(()),
-            Err(error) => {
-                self.roots.truncate(before);
-                Err(error)
-            }
-        }
+        self.roots.reserve(exprs.len())?;
+        self.push_roots(exprs);
+        Ok(())
     }
 
-    // The same. After a refusal more may be stacked.
-    fn push_roots(&mut self, exprs: &[ExprIR]) -> Result<(), PlanError>
-        ensures roots { OnOk result (roots_of self.new ≡ roots_of self.old ++ map (λ e. (named_node e).expression) exprs.now) }
-        ensures more_roots { Grows (roots_of self.old) (roots_of self.new) }
+    // The same, where there is room for them.
+    fn push_roots(&mut self, exprs: &[ExprIR])
+        requires { length self.old.roots.items + length exprs.now ≤ self.old.roots.capacity }
+        ensures roots { roots_of self.new ≡ roots_of self.old ++ map (λ e. (named_node e).expression) exprs.now }
         ensures same_stack { stacked self.new ≡ stacked self.old }
-        ensures err { IfErr result (λ error. error ≡ no_memory) }
     {
         for expr in exprs {
-            self.push_root_alone(expr.node())?;
+            self.roots.push_reserved(expr.node());
         }
-        Ok(())
     }
 
     /// Goes from the stacked roots on over what they reach, a node before its inputs: what the rule answers for a node
@@ -370,13 +364,28 @@ fn visit<R: OptimizationRule, M: Ledger, L: Ledger>(
 {
     steps.tick();
     match rule.optimize_expr(arena, node, schema, udfs, types, typings)? {
-        None => arena.get(node).push_inputs(stack),
+        None => push_below(arena.get(node), stack),
         Some(item) => {
             steps.tick();
             put_in_place(node, item, arena, types);
             stack.push(node)?;
             Ok(())
         }
+    }
+}
+
+// Stacks the inputs of an item. A column or a literal has none.
+fn push_below(item: &AExpr, stack: &mut Nodes) -> Result<(), PlanError>
+    ensures ok { OnOk result (numbers stack.new.items ≡ numbers stack.old.items ++ reverse (inputs_of (expression_layer item.now))) }
+    ensures err { IfErr result (λ error. error ≡ no_memory) }
+{
+    match item {
+        AExpr::Column(_) | AExpr::Literal(_) => Ok(()),
+        AExpr::Cast { expr, .. } => {
+            stack.push(*expr)?;
+            Ok(())
+        }
+        _ => item.push_inputs(stack),
     }
 }
 

@@ -1,10 +1,10 @@
 //! Operands are made of the types to which their node takes them: by casts, or as literals.
-ghost use Rattle.std.specs.Prelude.{◌≡◌, ◌≢◌, ℕ, ◌≤◌, List, Some, length, map, true, is_some, IfOk, IfErr, IfSome, OnErr, OnOk};
+ghost use Rattle.std.specs.Prelude.{◌≡◌, ◌≢◌, ℕ, ◌≤◌, List, Some, length, map, slice_get, true, false, is_some, IfOk, IfErr, IfSome, OnErr, OnOk};
 ghost use Rattle.std.specs.List.{AllByRecursion};
 ghost use Rattle.plan_types.specs.Errors.{no_memory};
 ghost use Rattle.plan_types.specs.Schemas.{Columns};
 ghost use Rattle.plan_types.specs.CommonTypes.{type_alone};
-ghost use Rattle.plan_types.specs.Types.{Ty, Untyped, is_known, ty};
+ghost use Rattle.plan_types.specs.Types.{Ty, Untyped, is_known, same_type, ty};
 ghost use Rattle.plan_types.specs.Values.{IntValue};
 ghost use Rattle.plan_types.specs.Casts.{can_cast};
 ghost use Rattle.plan_types.specs.declared.dtype.CastOptions.TheVariants.{NonStrict};
@@ -22,10 +22,10 @@ ghost use Rattle.plan_arena.specs.Items.{Grows, HoldsExpression, HoldsFrom, numb
 ghost use Rattle.plan_infer.specs.declared.type_table.Inferred.{Inferred};
 ghost use Rattle.plan_infer.specs.KeptTypes.{Extends, HasRightTypes, IsKept, IsRight, Keeps, KeepsEntry};
 ghost use Rattle.plan_infer.specs.Typed.{HasKnownType};
-ghost use Rattle.plan_coerce.specs.Coercion.{AllReady, AllStrictFrom, AreChanged, IsChanged, IsReady, KeepsStrict};
+ghost use Rattle.plan_coerce.specs.Coercion.{AllReady, AllStrictFrom, AreChanged, IsChanged, IsReady, IsReadyAt, KeepsStrict};
 ghost use Rattle.plan_coerce.specs.Reaching.{AreMadeOnce, HasNewNodes, IsClosed, IsMadeOnce, IsPutOnce, Near};
 
-use plan_arena::aexpr::{AExpr, Nodes};
+use plan_arena::aexpr::AExpr;
 use plan_arena::arena::{Arena, Node};
 use plan_dsl::literal::LiteralValue;
 use plan_infer::type_table::{Inferred, TypeTable};
@@ -33,43 +33,75 @@ use plan_types::common_type::materialize_dyn_int;
 use plan_types::dtype::{CastOptions, DataType};
 use plan_types::error::PlanError;
 use plan_types::text::PlSmallStr;
-use smallvec::SmallVec;
 
-/// The nodes that stand for the operands of a node, made of the types to which it takes them.
+/// Puts in place of a node's operands the nodes that stand for them, made of the types to which it takes them.
 pub(crate) fn operands_to(
     node: Node,
-    inputs: &[Node],
+    operands: &mut [Node],
     arena: &mut Arena<AExpr>,
     types: &mut TypeTable,
-) -> Result<Nodes, PlanError>
+) -> Result<(), PlanError>
     requires right { HasRightTypes arena.old types.old }
     requires kept { IsKept types.old node.0 }
-    requires ready { (own : Inferred) → KeepsEntry types.old node.0 own → AllReady types.old (numbers inputs.now) (map ty own.operands.items) }
-    ensures changed { IfOk result (λ operands. (own : Inferred) → KeepsEntry types.old node.0 own →
-        AreChanged arena.old arena.new types.old (numbers inputs.now) (numbers operands.items) (map ty own.operands.items)) }
-    ensures kept { IfOk result (λ operands. AllByRecursion (IsKept types.new) (numbers operands.items)) }
+    requires ready { (own : Inferred) → KeepsEntry types.old node.0 own → AllReady types.old (numbers operands.old) (map ty own.operands.items) }
+    ensures changed { OnOk result ((own : Inferred) → KeepsEntry types.old node.0 own →
+        AreChanged arena.old arena.new types.old (numbers operands.old) (numbers operands.new) (map ty own.operands.items)) }
+    ensures kept { OnOk result (AllByRecursion (IsKept types.new) (numbers operands.new)) }
     ensures right { OnOk result ((registry : Registry) (schema : Columns) →
         IsRight registry schema arena.old types.old → IsRight registry schema arena.new types.new) }
     ensures closed { OnOk result ((start : List AExpr) (roots : List ℕ) → length start ≤ length arena.old →
-        AllByRecursion (Near start roots) (numbers inputs.now) → IsClosed start roots arena.old → IsClosed start roots arena.new) }
+        AllByRecursion (Near start roots) (numbers operands.old) → IsClosed start roots arena.old → IsClosed start roots arena.new) }
     ensures added { OnOk result ((registry : Registry) (schema : Columns) (start : ℕ) → start ≤ length arena.old → IsRight registry schema arena.old types.old →
         AllStrictFrom start arena.old types.old → AllStrictFrom start arena.new types.new) }
-    ensures once { IfOk result (λ operands. AreMadeOnce arena.old arena.new (numbers inputs.now) (numbers operands.items)) }
+    ensures once { OnOk result (AreMadeOnce arena.old arena.new (numbers operands.old) (numbers operands.new)) }
     ensures extends { OnOk result (Extends types.old types.new) }
     ensures grows { Grows arena.old arena.new }
     ensures err { IfErr result (λ error. error ≡ no_memory) }
 {
-    let mut operands = SmallVec::new(arena.allocator());
-    for index in 0..inputs.len() {
-        let target = types.get(node).operand(index).try_clone(arena.allocator())?;
-        let changed = operand_to(inputs[index], target, arena, types)?;
-        operands.push(changed)?;
+    for index in 0..operands.len() {
+        let made = operand_to(node, index, operands[index], arena, types)?;
+        operands[index] = made;
     }
-    Ok(operands)
+    Ok(())
 }
 
-// The node that stands for the operand, made of the type.
+// The node that stands for the operand of that number, made of the type to which the node takes it.
 fn operand_to(
+    node: Node,
+    index: usize,
+    input: Node,
+    arena: &mut Arena<AExpr>,
+    types: &mut TypeTable,
+) -> Result<Node, PlanError>
+    requires right { HasRightTypes arena.old types.old }
+    requires kept { IsKept types.old node.0 }
+    requires ready { (own : Inferred) → KeepsEntry types.old node.0 own → IsReadyAt types.old input.0 own.operands.items index }
+    ensures changed { IfOk result (λ changed. (own : Inferred) (target : DataType) (from : DataType) → KeepsEntry types.old node.0 own →
+        slice_get own.operands.items index ≡ Some target → Keeps types.old input.0 from → IsChanged arena.old arena.new types.old
+        (record { input = input.0; changed = changed.0; from = ty from; target = ty target })) }
+    ensures kept { IfOk result (λ changed. IsKept types.new changed.0) }
+    ensures right { OnOk result ((registry : Registry) (schema : Columns) →
+        IsRight registry schema arena.old types.old → IsRight registry schema arena.new types.new) }
+    ensures closed { OnOk result ((start : List AExpr) (roots : List ℕ) → length start ≤ length arena.old → Near start roots input.0 →
+        IsClosed start roots arena.old → IsClosed start roots arena.new) }
+    ensures added { OnOk result ((registry : Registry) (schema : Columns) (start : ℕ) → start ≤ length arena.old → IsRight registry schema arena.old types.old →
+        AllStrictFrom start arena.old types.old → AllStrictFrom start arena.new types.new) }
+    ensures once { IfOk result (λ changed. IsMadeOnce arena.old arena.new input.0 changed.0) }
+    ensures extends { OnOk result (Extends types.old types.new) }
+    ensures grows { Grows arena.old arena.new }
+    ensures err { IfErr result (λ error. error ≡ no_memory) }
+{
+    let target = types.get(node).operand(index);
+    if types.get(input).dtype == *target {
+        return Ok(input);
+    }
+    let target = target.try_clone(arena.allocator())?;
+    let changed = made_of(input, target, arena, types)?;
+    Ok(changed)
+}
+
+// The node that stands for the operand, made of another type.
+fn made_of(
     node: Node,
     target: DataType,
     arena: &mut Arena<AExpr>,
@@ -77,6 +109,7 @@ fn operand_to(
 ) -> Result<Node, PlanError>
     requires right { HasRightTypes arena.old types.old }
     requires ready { IsReady types.old node.0 (ty target) }
+    requires other { (from : DataType) → Keeps types.old node.0 from → same_type (ty from) (ty target) ≡ false }
     ensures changed { IfOk result (λ changed. (from : DataType) → Keeps types.old node.0 from → IsChanged arena.old arena.new types.old
         (record { input = node.0; changed = changed.0; from = ty from; target = ty target })) }
     ensures kept { IfOk result (λ changed. IsKept types.new changed.0) }
@@ -91,11 +124,7 @@ fn operand_to(
     ensures grows { Grows arena.old arena.new }
     ensures err { IfErr result (λ error. error ≡ no_memory) }
 {
-    let from = types.get(node);
-    if from.dtype == target {
-        return Ok(node);
-    }
-    match from.dtype.untyped_number() {
+    match types.get(node).dtype.untyped_number() {
         None => {
             let cast = add_cast(node, target, arena, types)?;
             Ok(cast)

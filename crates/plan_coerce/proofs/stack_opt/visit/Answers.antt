@@ -18,9 +18,9 @@ put_in_place-requires g c =
     record { there = there }
 
 pub returns-in-None-clause-ok : goal.returns-in-None-clause-ok
-returns-in-None-clause-ok g c = on_ok c.push_inputs.result c.push_inputs.ensures.ok (λ stacked. finds
+returns-in-None-clause-ok g c = on_ok c.push_below.result c.push_below.ensures.ok (λ stacked. finds
     (found_now _ _ _ _ _ _ _ _ _ c.in-None.is c.in_ok-optimize_expr.ensures.same c.in_ok-optimize_expr.ensures.answer)
-    (pushed c.optimize_expr.new.expr_arena c.args.node.0 c.get.result.now (numbers c.args.stack.now.items) (numbers c.push_inputs.new.nodes.items) c.get.ensures stacked)
+    (pushed c.optimize_expr.new.expr_arena c.args.node.0 c.get.result.now (numbers c.args.stack.now.items) (numbers c.push_below.new.stack.items) c.get.ensures stacked)
     c.tick.ensures)
 
 pub returns-in_ok-push-in-Some-clause-ok : goal.returns-in_ok-push-in-Some-clause-ok

@@ -1,66 +1,45 @@
-use Rattle.plan_coerce.proofs.OnceLemmas.{cast_once, number_once}
-use Rattle.std.proofs.Common.{sym, ap, ◌∙◌, subst, rules}
-use Rattle.std.specs.Int.{w128}
-use Rattle.std.specs.Prelude.{FitsSigned}
-use Rattle.std.proofs.lemmas.Int.{to_z-of_z}
-use Rattle.plan_types.specs.Types.{Untyped, ty}
-use Rattle.plan_dsl.specs.Strictness.{CanBecome}
-use Rattle.plan_coerce.proofs.CoercionLemmas.{becomes_cast, becomes_of, cast_round, changed_from, number_for}
-use Rattle.plan_infer.proofs.TableLemmas.{known_typed, plain_tree, type_of}
+use Rattle.std.proofs.Common.{slice_get, sym, ap, ◌∙◌, subst}
+use Rattle.std.proofs.lemmas.Option.{slice_get_within}
+use Rattle.plan_types.specs.Types.{same_type, ty}
+use Rattle.plan_types.specs.declared.dtype.DataType.{DataType}
+use Rattle.plan_arena.proofs.DenotationLemmas.{some_same}
+use Rattle.plan_infer.proofs.TableLemmas.{type_of, type_one}
+use Rattle.plan_coerce.specs.Coercion.{IsChanged, IsReady}
+use Rattle.plan_coerce.proofs.CoercionLemmas.{changed_from, same_target, stays_as}
+use Rattle.plan_coerce.proofs.OnceLemmas.{itself_once}
 use Rattle.plan_coerce.proofs.type_coercion.operand_to.Goals as goal
 
-pub returns-in_ok-cast-in-None-clause-changed : goal.returns-in_ok-cast-in-None-clause-changed
-returns-in_ok-cast-in-None-clause-changed c = λ from keeps.
-    let target = ty c.args.target in
-    let own = c.get-from.result.now.dtype in
-    let is = type_of c.args.types.now c.args.node.0 c.get-from.result.now c.get-from.ensures in
-    let cast = c.in_ok-cast-in-None in
-    let can = becomes_of c.args.types.now c.args.node.0 own target is c.requires.ready (sym c.eq.ensures ∙ c.if-eq.false) in
-    let casts = becomes_cast (ty own) target can c.in-None.ensures in
-    changed_from c.args.arena.now c.add_cast.new.arena c.args.types.now c.args.node.0 cast.cast.0 own from target is keeps (cast_round c.args.arena.now c.add_cast.new.arena c.args.types.now c.args.node.0 cast.cast.0 own target is (sym c.eq.ensures ∙ c.if-eq.false) casts.0 cast.ensures.fresh cast.ensures.denotes)
+pub operand-target-requires : goal.operand-target-requires
+operand-target-requires c =
+    let here = c.requires.ready c.get.result.now c.get.ensures in
+    slice_get_within c.get.result.now.operands.items c.args.index here.target here.there
 
-pub returns-in_ok-cast-in-None-clause-right : goal.returns-in_ok-cast-in-None-clause-right
-returns-in_ok-cast-in-None-clause-right c = λ registry schema right.
-    let target = ty c.args.target in
-    let own = c.get-from.result.now.dtype in
-    let is = type_of c.args.types.now c.args.node.0 c.get-from.result.now c.get-from.ensures in
-    let can = becomes_of c.args.types.now c.args.node.0 own target is c.requires.ready (sym c.eq.ensures ∙ c.if-eq.false) in
-    let casts = becomes_cast (ty own) target can c.in-None.ensures in
-    c.in_ok-cast-in-None.ensures.right registry schema own is casts.0 casts.1 right
+pub get-requires-2 : goal.get-requires-2
+get-requires-2 c =
+    let keeps = (c.requires.ready c.get.result.now c.get.ensures).ready.keeps in
+    record { own = keeps.own; keeps = keeps.keeps }
 
-pub number_under-requires-clause-becomes : goal.number_under-requires-clause-becomes
-number_under-requires-clause-becomes c =
-    let own = c.get-from.result.now.dtype in
-    let is = type_of c.args.types.now c.args.node.0 c.get-from.result.now c.get-from.ensures in
-    let fits : FitsSigned w128 c.in-Some.number = search rules in
-    let untyped = c.in-Some.ensures ∙ ap Untyped (sym (to_z-of_z w128 c.in-Some.number fits)) in
-    subst (λ from. CanBecome from (ty c.args.target)) untyped (becomes_of c.args.types.now c.args.node.0 own (ty c.args.target) is c.requires.ready (sym c.eq.ensures ∙ c.if-eq.false))
+pub returns-then-eq-clause-changed : goal.returns-then-eq-clause-changed
+returns-then-eq-clause-changed c = λ own target from keeps there known.
+    let is = same_target c.args.types.now c.args.node.0 c.get.result.now own c.args.index c.operand-target.result.now target c.get.ensures keeps c.operand-target.ensures there in
+    let stays = stays_as c.args.arena.now c.args.types.now c.args.input.0 c.get-2.result.now.dtype (ty c.operand-target.result.now) (type_of c.args.types.now c.args.input.0 c.get-2.result.now c.get-2.ensures) (sym c.eq.ensures ∙ c.if-eq.true) in
+    subst (λ (t : DataType). IsChanged c.args.arena.now c.args.arena.now c.args.types.now (record { input = c.args.input.0; changed = c.args.input.0; from = ty from; target = ty t })) is (changed_from c.args.arena.now c.args.arena.now c.args.types.now c.args.input.0 c.args.input.0 c.get-2.result.now.dtype from (ty c.operand-target.result.now) (type_of c.args.types.now c.args.input.0 c.get-2.result.now c.get-2.ensures) known stays)
 
-pub number_under-requires-clause-tree : goal.number_under-requires-clause-tree
-number_under-requires-clause-tree c =
-    let is = c.requires.right in
-    plain_tree (known_typed is.registry is.schema c.args.arena.now c.args.types.now is.right c.args.node.0 (record { own = c.get-from.result.now; keeps = c.get-from.ensures }))
+pub returns-then-eq-clause-once : goal.returns-then-eq-clause-once
+returns-then-eq-clause-once c = itself_once c.args.arena.now c.args.input.0
 
-pub returns-in_ok-made-in-Some-clause-changed : goal.returns-in_ok-made-in-Some-clause-changed
-returns-in_ok-made-in-Some-clause-changed c = λ from keeps.
-    let target = ty c.args.target in
-    let own = c.get-from.result.now.dtype in
-    let is = type_of c.args.types.now c.args.node.0 c.get-from.result.now c.get-from.ensures in
-    let made = c.in_ok-made-in-Some in
-    let fits : FitsSigned w128 c.in-Some.number = search rules in
-    let untyped = c.in-Some.ensures ∙ ap Untyped (sym (to_z-of_z w128 c.in-Some.number fits)) in
-    changed_from c.args.arena.now c.number_under.new.arena c.args.types.now c.args.node.0 made.made.0 own from target is keeps (number_for c.args.arena.now c.number_under.new.arena c.args.types.now c.args.node.0 made.made.0 own target _ is (sym c.eq.ensures ∙ c.if-eq.false) untyped made.ensures.fresh made.ensures.denotes)
+pub made_of-requires-clause-ready : goal.made_of-requires-clause-ready
+made_of-requires-clause-ready c =
+    let here = c.requires.ready c.get.result.now c.get.ensures in
+    let is = some_same (slice_get c.get.result.now.operands.items c.args.index) here.target c.operand-target.result.now here.there c.operand-target.ensures in
+    subst (IsReady c.args.types.now c.args.input.0) (ap ty is ∙ sym c.in_ok-target.ensures.ok) here.ready
 
-pub returns-in_ok-cast-in-None-clause-added : goal.returns-in_ok-cast-in-None-clause-added
-returns-in_ok-cast-in-None-clause-added c = λ registry schema start le right before.
-    let target = ty c.args.target in
-    let own = c.get-from.result.now.dtype in
-    let is = type_of c.args.types.now c.args.node.0 c.get-from.result.now c.get-from.ensures in
-    let can = becomes_of c.args.types.now c.args.node.0 own target is c.requires.ready (sym c.eq.ensures ∙ c.if-eq.false) in
-    c.in_ok-cast-in-None.ensures.added registry schema start le right can.known before
+pub made_of-requires-clause-other : goal.made_of-requires-clause-other
+made_of-requires-clause-other c = λ from keeps.
+    let is = type_one c.args.types.now c.args.input.0 c.get-2.result.now.dtype from (type_of c.args.types.now c.args.input.0 c.get-2.result.now c.get-2.ensures) keeps in
+    ap (λ (d : DataType). same_type (ty d) (ty c.in_ok-target.target)) (sym is) ∙ ap (same_type (ty c.get-2.result.now.dtype)) c.in_ok-target.ensures.ok ∙ sym c.eq.ensures ∙ c.if-eq.false
 
-pub returns-in_ok-cast-in-None-clause-once : goal.returns-in_ok-cast-in-None-clause-once
-returns-in_ok-cast-in-None-clause-once c = cast_once c.args.arena.now c.add_cast.new.arena c.args.node.0 c.in_ok-cast-in-None.cast.0 c.in_ok-cast-in-None.ensures.once
-
-pub returns-in_ok-made-in-Some-clause-once : goal.returns-in_ok-made-in-Some-clause-once
-returns-in_ok-made-in-Some-clause-once c = number_once c.args.arena.now c.number_under.new.arena c.args.node.0 c.in_ok-made-in-Some.made.0 c.in_ok-made-in-Some.ensures.once
+pub returns-clause-changed : goal.returns-clause-changed
+returns-clause-changed c = λ own target from keeps there known.
+    let is = same_target c.args.types.now c.args.node.0 c.get.result.now own c.args.index c.operand-target.result.now target c.get.ensures keeps c.operand-target.ensures there in
+    subst (λ t. IsChanged c.args.arena.now c.made_of.new.arena c.args.types.now (record { input = c.args.input.0; changed = c.in_ok-changed.changed.0; from = ty from; target = t })) (c.in_ok-target.ensures.ok ∙ ap ty is) (c.in_ok-changed.ensures.changed from known)

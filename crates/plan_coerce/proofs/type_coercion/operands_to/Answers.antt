@@ -1,92 +1,103 @@
-use Rattle.std.proofs.Common.{refl}
+use Rattle.std.proofs.Common.{◌≡◌, ◌<◌, ◌≤◌, [], ◌∷◌, ◌++◌, ◌+◌, get_or, length, map, set, take, refl, sym, subst, arith}
 use Rattle.std.specs.List.{AllByRecursion}
-use Rattle.std.proofs.lemmas.List.{append-nil}
-use Rattle.plan_infer.specs.KeptTypes.{IsKept}
-use Rattle.plan_infer.proofs.TableLemmas.{extends_itself}
-use Rattle.plan_coerce.specs.Coercion.{AreChanged}
-use Rattle.std.proofs.Common.{take, [], ◌∷◌, ◌++◌}
-use Rattle.plan_coerce.specs.Reaching.{AreMadeOnce}
-use Rattle.plan_coerce.proofs.OnceLemmas.{more_once, none_once, taken_next, taken_whole}
-use Rattle.plan_coerce.proofs.StackLemmas.{pushed_one}
-use Rattle.std.proofs.Common.{◌<◌, get_or, length, slice_get, sym, ap, ◌∙◌, subst, arith}
+use Rattle.std.proofs.lemmas.List.{append-nil, length-map, take_all, take_more_set}
 use Rattle.std.proofs.lemmas.Option.{get_or_from_slice_get}
-use Rattle.plan_arena.proofs.ItemLemmas.{grows_then, length-grown}
-use Rattle.std.proofs.lemmas.List.{length-map}
+use Rattle.plan_types.specs.Types.{ty}
 use Rattle.plan_arena.specs.Items.{numbers}
-use Rattle.plan_arena.proofs.NumberLemmas.{all_there, number_at}
+use Rattle.plan_arena.proofs.ItemLemmas.{grows_then, length-grown}
+use Rattle.plan_arena.proofs.NumberLemmas.{all_there}
 use Rattle.plan_infer.specs.declared.type_table.Inferred.{Inferred}
-use Rattle.plan_infer.proofs.TableLemmas.{extends_then, keeps_one, still_keeps, still_kept}
-use Rattle.plan_coerce.proofs.CoercionLemmas.{all_changed, changed_more, kept_more, ready_at, ready_length, ready_there, ready_within}
-use Rattle.plan_coerce.specs.Reaching.{Near}
+use Rattle.plan_infer.specs.KeptTypes.{IsKept}
+use Rattle.plan_infer.proofs.TableLemmas.{extends_itself, extends_then, keeps_one, still_keeps, still_kept}
+use Rattle.plan_coerce.specs.Coercion.{AreChanged, IsReadyAt}
+use Rattle.plan_coerce.specs.Reaching.{AreMadeOnce, Near}
+use Rattle.plan_coerce.proofs.CoercionLemmas.{all_changed, changed_more, kept_more, ready_here, ready_length, ready_within}
+use Rattle.plan_coerce.proofs.OnceLemmas.{more_once, none_once, taken_next, taken_whole}
+use Rattle.plan_coerce.proofs.StackLemmas.{node_there, one_less, pushed_one}
 use Rattle.plan_coerce.proofs.type_coercion.operands_to.Goals as goal
 
-pub get-requires : goal.get-requires
-get-requires c = still_kept c.args.types.now c.loop-index.types c.loop-index.invariant.extends c.args.node.0 c.requires.kept
-
-pub operand-requires : goal.operand-requires
-operand-requires c =
-    let own = c.requires.kept.own in
-    let keeps = c.requires.kept.keeps in
-    let same = keeps_one c.loop-index.types c.args.node.0 c.get.result.now own c.get.ensures (c.loop-index.invariant.extends.entries c.args.node.0 own keeps) in
-    let listed = ap (λ (x : Inferred). x.operands.items) same in
-    let within = ready_within c.args.types.now (numbers c.args.inputs.now) own.operands.items c.loop-index.index (c.requires.ready own keeps) (omega (arith, c.loop-index-test.true, length-map c.args.inputs.now (λ n. n.0))) in
-    subst (λ l. c.loop-index.index < length l) (sym listed) within
+pub operand_to-requires-clause-kept : goal.operand_to-requires-clause-kept
+operand_to-requires-clause-kept c = still_kept c.args.types.now c.loop-index.types c.loop-index.invariant.extends c.args.node.0 c.requires.kept
 
 pub operand_to-requires-clause-ready : goal.operand_to-requires-clause-ready
-operand_to-requires-clause-ready c =
-    let own = c.requires.kept.own in
-    let keeps = c.requires.kept.keeps in
-    let same = keeps_one c.loop-index.types c.args.node.0 c.get.result.now own c.get.ensures (c.loop-index.invariant.extends.entries c.args.node.0 own keeps) in
-    let listed = ap (λ (x : Inferred). x.operands.items) same in
-    let t = c.operand.result.now in
-    let is = sym (get_or_from_slice_get own.operands.items c.loop-index.index t t (ap (λ l. slice_get l c.loop-index.index) (sym listed) ∙ c.operand.ensures)) in
-    ready_at c.args.types.now c.loop-index.types (numbers c.args.inputs.now) own.operands.items c.loop-index.index (get_or c.args.inputs.now c.loop-index.index (record { 0 = 0 })).0 t c.in_ok-target.target (c.requires.ready own keeps) (number_at c.args.inputs.now c.loop-index.index (record { 0 = 0 }) c.loop-index-test.true) is c.in_ok-target.ensures.ok c.loop-index.invariant.extends
+operand_to-requires-clause-ready c = λ own keeps.
+    let first = c.requires.kept.own in
+    let base = c.requires.kept.keeps in
+    let mid = c.loop-index.types in
+    let same = keeps_one mid c.args.node.0 first own (c.loop-index.invariant.extends.entries c.args.node.0 first base) keeps in
+    let within : c.loop-index.index < length c.loop-index.operands = omega (arith, c.loop-index-test.true, c.loop-index.auto.operands) in
+    let at = node_there c.loop-index.operands c.args.operands.now c.loop-index.index (record { 0 = 0 }) within c.loop-index.invariant.left in
+    let input = (get_or c.loop-index.operands c.loop-index.index (record { 0 = 0 })).0 in
+    subst (λ (x : Inferred). IsReadyAt mid input x.operands.items c.loop-index.index) same (ready_here c.args.types.now mid (numbers c.args.operands.now) first.operands.items c.loop-index.index input (c.requires.ready first base) at c.loop-index.invariant.extends)
 
 pub loop-index-init : goal.loop-index-init
 loop-index-init c =
-    let arena = c.args.arena.now in
-    let types = c.args.types.now in
-    let none = sym c.new-operands.ensures.items in
     record {
-      grows = record { added = []; longer = sym (append-nil arena) };
-      extends = extends_itself types;
+      grows = record { added = []; longer = sym (append-nil c.args.arena.now) };
+      extends = extends_itself c.args.types.now;
       right = λ registry schema right. right;
       added = λ registry schema start le right strict. strict;
       closed = λ start roots le near closed. closed;
-      once = subst (λ ns. AreMadeOnce arena arena [] (numbers ns)) none (none_once arena);
-      kept = subst (λ ns. AllByRecursion (IsKept types) (numbers ns)) none tt;
-      changed = λ own keeps. subst (λ ns. AreChanged arena arena types [] (numbers ns) []) none (record { operands = []; inputs_are = refl; changed_are = refl; targets_are = refl; each = tt });
+      once = none_once c.args.arena.now;
+      kept = tt;
+      changed = λ own keeps. record { operands = []; inputs_are = refl; changed_are = refl; targets_are = refl; each = tt };
+      left = refl;
     }
 
 pub loop-index-preserved : goal.loop-index-preserved
 loop-index-preserved c =
     let before = c.loop-index.invariant in
-    let one = c.in_ok-changed.ensures in
-    let n = (get_or c.args.inputs.now c.loop-index.index (record { 0 = 0 })).0 in
-    let ns = numbers c.args.inputs.now in
-    let at = number_at c.args.inputs.now c.loop-index.index (record { 0 = 0 }) c.loop-index-test.true in
+    let one = c.in_ok-made.ensures in
+    let made = c.in_ok-made.made in
+    let i = c.loop-index.index in
+    let nodes = c.loop-index.operands in
+    let n = (get_or nodes i (record { 0 = 0 })).0 in
+    let ns = numbers c.args.operands.now in
+    let old = c.args.arena.now in
+    let mid = c.loop-index.arena in
+    let new = c.operand_to.new.arena in
+    let within : i < length nodes = omega (arith, c.loop-index-test.true, c.loop-index.auto.operands) in
+    let at = node_there nodes c.args.operands.now i (record { 0 = 0 }) within before.left in
+    let longer = take_more_set nodes i made within in
+    let after = take (i + 1) (set nodes i made) in
     record {
-      grows = grows_then c.args.arena.now c.loop-index.arena c.operand_to.new.arena before.grows one.grows;
+      grows = grows_then old mid new before.grows one.grows;
       extends = extends_then c.args.types.now c.loop-index.types c.operand_to.new.types before.extends one.extends;
       right = λ registry schema right. one.right registry schema (before.right registry schema right);
-      added = λ registry schema start le right strict. one.added registry schema start (omega (arith, le, length-grown c.args.arena.now c.loop-index.arena before.grows)) (before.right registry schema right) (before.added registry schema start le right strict);
-      closed = λ start roots le near closed. one.closed start roots (omega (arith, le, length-grown c.args.arena.now c.loop-index.arena before.grows)) (all_there (Near start roots) ns near c.loop-index.index n at) (before.closed start roots le near closed);
-      once = subst (λ ns. AreMadeOnce c.args.arena.now c.operand_to.new.arena ns (numbers c.push.new.self.items)) (sym (taken_next ns c.loop-index.index n at)) (subst (AreMadeOnce c.args.arena.now c.operand_to.new.arena (take c.loop-index.index ns ++ n ∷ [])) (sym (pushed_one c.loop-index.operands.items c.push.new.self.items c.in_ok-changed.changed c.in_ok-push.ensures.ok)) (more_once c.args.arena.now c.loop-index.arena c.operand_to.new.arena (take c.loop-index.index ns) (numbers c.loop-index.operands.items) n c.in_ok-changed.changed.0 before.grows one.grows before.once one.once));
-      kept = kept_more c.loop-index.types c.operand_to.new.types c.loop-index.operands.items c.push.new.self.items c.in_ok-changed.changed one.extends before.kept one.kept c.in_ok-push.ensures.ok;
+      added = λ registry schema start le right strict. one.added registry schema start (omega (arith, le, length-grown old mid before.grows)) (before.right registry schema right) (before.added registry schema start le right strict);
+      closed = λ start roots le near closed. one.closed start roots (omega (arith, le, length-grown old mid before.grows)) (all_there (Near start roots) ns near i n at) (before.closed start roots le near closed);
+      once = subst (λ ins. AreMadeOnce old new ins (numbers after)) (sym (taken_next ns i n at)) (subst (AreMadeOnce old new (take i ns ++ n ∷ [])) (sym (pushed_one (take i nodes) after made longer)) (more_once old mid new (take i ns) (numbers (take i nodes)) n made.0 before.grows one.grows before.once one.once));
+      kept = kept_more c.loop-index.types c.operand_to.new.types (take i nodes) after made one.extends before.kept one.kept longer;
       changed = λ own keeps.
-          let same = keeps_one c.loop-index.types c.args.node.0 c.get.result.now own c.get.ensures (before.extends.entries c.args.node.0 own keeps) in
-          let listed = ap (λ (x : Inferred). x.operands.items) same in
-          let t = c.operand.result.now in
-          let is = sym (get_or_from_slice_get own.operands.items c.loop-index.index t t (ap (λ l. slice_get l c.loop-index.index) (sym listed) ∙ c.operand.ensures)) in
-          let ready = ready_there c.args.types.now ns own.operands.items c.loop-index.index n t (c.requires.ready own keeps) at in
-          let also = ready_within c.args.types.now ns own.operands.items c.loop-index.index (c.requires.ready own keeps) (omega (arith, c.loop-index-test.true, length-map c.args.inputs.now (λ n. n.0))) in
-          changed_more c.args.arena.now c.loop-index.arena c.operand_to.new.arena c.args.types.now c.loop-index.types ns c.loop-index.operands.items c.push.new.self.items own.operands.items c.loop-index.index n c.in_ok-changed.changed t c.in_ok-target.target (before.changed own keeps) at also is c.in_ok-target.ensures.ok c.in_ok-push.ensures.ok before.grows one.grows ready.dtype ready.keeps (one.changed ready.dtype (still_keeps c.args.types.now c.loop-index.types before.extends n ready.dtype ready.keeps));
+          let ready = c.requires.ready own keeps in
+          let here = ready_here c.args.types.now c.args.types.now ns own.operands.items i n ready at (extends_itself c.args.types.now) in
+          let t = here.target in
+          let is = sym (get_or_from_slice_get own.operands.items i t t here.there) in
+          let also = ready_within c.args.types.now ns own.operands.items i ready (omega (arith, c.loop-index-test.true, c.loop-index.auto.operands, length-map c.args.operands.now (λ n. n.0))) in
+          let dtype = here.ready.dtype in
+          changed_more old mid new c.args.types.now c.loop-index.types ns (take i nodes) after own.operands.items i n made t t (before.changed own keeps) at also is refl longer before.grows one.grows dtype here.ready.keeps (one.changed own t dtype (before.extends.entries c.args.node.0 own keeps) here.there (still_keeps c.args.types.now c.loop-index.types before.extends n dtype here.ready.keeps));
+      left = one_less nodes c.args.operands.now i (record { 0 = 0 }) within before.left made;
     }
 
 pub returns-clause-changed : goal.returns-clause-changed
 returns-clause-changed c = λ own keeps.
-    all_changed c.args.arena.now c.loop-index.arena c.args.types.now (numbers c.args.inputs.now) c.loop-index.operands.items own.operands.items c.loop-index.index (omega (arith, c.loop-index-test.false, c.loop-index.auto.index-end, length-map c.args.inputs.now (λ n. n.0))) (ready_length c.args.types.now (numbers c.args.inputs.now) own.operands.items (c.requires.ready own keeps)) (c.loop-index.invariant.changed own keeps)
+    let old = c.args.arena.now in
+    let nodes = c.loop-index.operands in
+    let ns = numbers c.args.operands.now in
+    let done : length nodes ≤ c.loop-index.index = omega (arith, c.loop-index-test.false, c.loop-index.auto.operands) in
+    let whole = take_all c.loop-index.index nodes done in
+    let end : c.loop-index.index ≡ length ns = omega (arith, c.loop-index-test.false, c.loop-index.auto.index-end, c.loop-index.auto.operands, length-map c.args.operands.now (λ n. n.0)) in
+    subst (λ made. AreChanged old c.loop-index.arena c.args.types.now ns (numbers made) (map ty own.operands.items)) whole (all_changed old c.loop-index.arena c.args.types.now ns (take c.loop-index.index nodes) own.operands.items c.loop-index.index end (ready_length c.args.types.now ns own.operands.items (c.requires.ready own keeps)) (c.loop-index.invariant.changed own keeps))
+
+pub returns-clause-kept : goal.returns-clause-kept
+returns-clause-kept c =
+    let done : length c.loop-index.operands ≤ c.loop-index.index = omega (arith, c.loop-index-test.false, c.loop-index.auto.operands) in
+    subst (λ made. AllByRecursion (IsKept c.loop-index.types) (numbers made)) (take_all c.loop-index.index c.loop-index.operands done) c.loop-index.invariant.kept
 
 pub returns-clause-once : goal.returns-clause-once
 returns-clause-once c =
-    subst (λ ns. AreMadeOnce c.args.arena.now c.loop-index.arena ns (numbers c.loop-index.operands.items)) (taken_whole (numbers c.args.inputs.now) c.loop-index.index (omega (arith, c.loop-index-test.false, c.loop-index.auto.index-end, length-map c.args.inputs.now (λ n. n.0)))) c.loop-index.invariant.once
+    let old = c.args.arena.now in
+    let ns = numbers c.args.operands.now in
+    let done : length c.loop-index.operands ≤ c.loop-index.index = omega (arith, c.loop-index-test.false, c.loop-index.auto.operands) in
+    let end : c.loop-index.index ≡ length ns = omega (arith, c.loop-index-test.false, c.loop-index.auto.index-end, c.loop-index.auto.operands, length-map c.args.operands.now (λ n. n.0)) in
+    subst (λ made. AreMadeOnce old c.loop-index.arena ns (numbers made)) (take_all c.loop-index.index c.loop-index.operands done) (subst (λ ins. AreMadeOnce old c.loop-index.arena ins (numbers (take c.loop-index.index c.loop-index.operands))) (taken_whole ns c.loop-index.index end) c.loop-index.invariant.once)

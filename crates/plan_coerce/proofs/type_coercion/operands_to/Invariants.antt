@@ -1,4 +1,4 @@
-use Rattle.std.proofs.Common.{ℕ, ◌≤◌, List, length, map, take}
+use Rattle.std.proofs.Common.{◌≡◌, ℕ, ◌≤◌, List, length, map, take, drop}
 use Rattle.std.specs.List.{AllByRecursion}
 use Rattle.plan_types.specs.Schemas.{Columns}
 use Rattle.plan_types.specs.Types.{ty}
@@ -18,8 +18,9 @@ invariant-loop-index l =
       extends : Extends l.initial.types l.types;
       right : (registry : Registry) (schema : Columns) → IsRight registry schema l.initial.arena l.initial.types → IsRight registry schema l.arena l.types;
       added : (registry : Registry) (schema : Columns) (start : ℕ) → start ≤ length l.initial.arena → IsRight registry schema l.initial.arena l.initial.types → AllStrictFrom start l.initial.arena l.initial.types → AllStrictFrom start l.arena l.types;
-      closed : (start : List AExpr) (roots : List ℕ) → length start ≤ length l.initial.arena → AllByRecursion (Near start roots) (numbers l.inputs) → IsClosed start roots l.initial.arena → IsClosed start roots l.arena;
-      once : AreMadeOnce l.initial.arena l.arena (take l.index (numbers l.inputs)) (numbers l.operands.items);
-      kept : AllByRecursion (IsKept l.types) (numbers l.operands.items);
-      changed : (own : Inferred) → KeepsEntry l.initial.types l.node.0 own → AreChanged l.initial.arena l.arena l.initial.types (take l.index (numbers l.inputs)) (numbers l.operands.items) (map ty (take l.index own.operands.items));
+      closed : (start : List AExpr) (roots : List ℕ) → length start ≤ length l.initial.arena → AllByRecursion (Near start roots) (numbers l.initial.operands) → IsClosed start roots l.initial.arena → IsClosed start roots l.arena;
+      once : AreMadeOnce l.initial.arena l.arena (take l.index (numbers l.initial.operands)) (numbers (take l.index l.operands));
+      kept : AllByRecursion (IsKept l.types) (numbers (take l.index l.operands));
+      changed : (own : Inferred) → KeepsEntry l.initial.types l.node.0 own → AreChanged l.initial.arena l.arena l.initial.types (take l.index (numbers l.initial.operands)) (numbers (take l.index l.operands)) (map ty (take l.index own.operands.items));
+      left : drop l.index l.operands ≡ drop l.index l.initial.operands;
     }
