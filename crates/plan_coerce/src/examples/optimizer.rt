@@ -20,7 +20,7 @@ ghost use Rattle.plan_arena.specs.declared.inputs.NodeList.{NodeList};
 ghost use Rattle.plan_arena.specs.declared.ir.IR.TheVariants.{DataFrameScan};
 ghost use Rattle.plan_infer.specs.declared.type_table.TypeTable.{TypeTable};
 ghost use Rattle.plan_infer.specs.Samples.{int8, int32, two_columns, a, b, five, binary, cast_to, sum, pair, columns_and, sum_items, a_items, at, refused, ForEntry, ForTable};
-ghost use Rattle.plan_coerce.specs.Coercion.{AllReady, AllStrictFrom, AreChanged, IsChanged, IsOverOperands, IsReady, KeepsStrict};
+ghost use Rattle.plan_coerce.specs.Coercion.{AllReady, AllStrictFrom, AreChanged, IsChanged, IsOver, IsOverOperands, IsReady, IsReadyAt, KeepsStrict, TakesOperands};
 ghost use Rattle.plan_coerce.specs.Optimizer.{AreApart, AreRoots, AreSettled, AreTrees, AreTypedRoots, DenotesSettled, EndsSettled, EndsTyped, IsCoercionRefusal, IsNumberRoot, IsPlanTurn, IsSettled, IsTypedRoot, LeadsToNoNumber, ReachesNear, StaysApart, StaysFinite, StaysLikeBeside, StaysLikeTyped, StaysOver, TypesNumber, all_with_inputs, with_inputs};
 ghost use Rattle.plan_coerce.specs.Reaching.{AreMadeOnce, HasNewNodes, IsClosed, IsMadeOnce, IsPutOnce, StaysOnce};
 ghost use Rattle.plan_coerce.specs.Rules.{IsSettledPlan, HasAcceptedInputs, HasSameCasts, IsCongruent, IsLike, IsPlanNode, IsPlanReplacement, IsReplacement, IsSteady, KeepsNumber, RefusesPredicate, StandsOver, has_truth, is_strict_node, said, until_strict};
@@ -238,6 +238,11 @@ pub fn plan_nodes_that_are_put_in_place()
 /// An item stands over nodes for its operands: the sum over the cast does, for which types are kept. One of another operator
 /// doesn't, nor one over the column as it is.
 pub fn items_over_operands()
+    ensures over { IsOver sum_items 2 (pair 3 Plus 1) (3 ∷ 1 ∷ []) }
+    ensures over_others { ¬ (IsOver sum_items 2 (pair 3 Plus 1) (0 ∷ 1 ∷ [])) }
+    ensures takes { ForEntry 0 dtype.Int32 true (dtype.Int32 ∷ dtype.Int32 ∷ []) (λ own. TakesOperands own) }
+    ensures takes_none { ForEntry 0 dtype.Int32 true [] (λ own. ¬ (TakesOperands own)) }
+    ensures number { ForEntry 0 (dtype.Unknown (Number (pos 5))) false (dtype.Int32 ∷ []) (λ own. ¬ (TakesOperands own)) }
     ensures cast { ForEntry 0 dtype.Int8 true [] (λ left. ForEntry 1 dtype.Int32 true [] (λ right. ForEntry 0 dtype.Int32 true (dtype.Int32 ∷ dtype.Int32 ∷ []) (λ own. ForEntry 0 dtype.Int32 true [] (λ cast.
         ForTable 0 (Some left ∷ Some right ∷ Some own ∷ []) (λ table. ForTable 0 (Some left ∷ Some right ∷ Some own ∷ Some cast ∷ []) (λ table'.
         IsOverOperands sum_items (columns_and (pair 0 Plus 1 ∷ cast_of 0 dtype.Int32 ∷ [])) table table' 2 (pair 3 Plus 1))))))) }
@@ -256,6 +261,8 @@ pub fn operands_that_are_changed()
     ensures nothing_kept { ForTable 0 [] (λ table. ¬ (IsReady table 0 int32)) }
     ensures all_ready { ForEntry 0 dtype.Int8 true [] (λ own. ForTable 0 (Some own ∷ []) (λ table. AllReady table (0 ∷ 0 ∷ []) (int32 ∷ int8 ∷ []))) }
     ensures too_few { (table : TypeTable) → ¬ (AllReady table (0 ∷ []) []) }
+    ensures at_a_place { ForEntry 0 dtype.Int8 true [] (λ own. ForTable 0 (Some own ∷ []) (λ table. IsReadyAt table 0 (dtype.Int64 ∷ dtype.Int32 ∷ []) 1)) }
+    ensures past_the_list { (table : TypeTable) → ¬ (IsReadyAt table 0 (dtype.Int32 ∷ []) 1) }
     ensures cast { ForEntry 0 dtype.Int8 true [] (λ own. ForTable 0 (Some own ∷ []) (λ table.
         IsChanged a_items (Column (codes "a") ∷ cast_of 0 dtype.Int32 ∷ []) table (record { input = 0; changed = 1; from = int8; target = int32 }))) }
     ensures other_cast { (table : TypeTable) → ¬ (IsChanged a_items (Column (codes "a") ∷ cast_of 0 dtype.Int64 ∷ []) table (record { input = 0; changed = 1; from = int8; target = int32 })) }

@@ -1,6 +1,7 @@
-use Rattle.std.proofs.Common.{◌≡◌, ℕ, List, [], ◌∷◌, map, Some, slice_get, refl, sym, ap, ◌∙◌, subst, arith}
+use Rattle.std.proofs.Common.{◌≡◌, ℕ, pos, List, [], ◌∷◌, map, Some, slice_get, refl, sym, ap, ◌∙◌, subst, arith}
 use Rattle.std.specs.List.{AllByRecursion}
-use Rattle.plan_types.specs.Types.{Ty, ty, same_type}
+use Rattle.std.proofs.lemmas.Bool.{false≢true}
+use Rattle.plan_types.specs.Types.{Ty, ty, is_known, same_type}
 use Rattle.plan_types.specs.declared.dtype.DataType.{DataType}
 use Rattle.plan_types.specs.declared.dtype.DataType.TheVariants as dtype
 use Rattle.plan_dsl.specs.declared.operator.Operator.{Operator}
@@ -64,6 +65,30 @@ module _ (table : TypeTable) where
     targets_are = refl;
     each = (first_cast left, (second_stays right, tt));
   }
+
+pub returns-clause-over : goal.returns-clause-over
+returns-clause-over c = record { before = pair 0 Plus 1; got = refl; is = refl }
+
+other_nodes : ◌≡◌ {A = List ℕ} (3 ∷ 1 ∷ []) (0 ∷ 1 ∷ []) → ⊥
+other_nodes e = cc
+
+pub returns-clause-over_others : goal.returns-clause-over_others
+returns-clause-over_others c = λ r. other_nodes (layer_inputs (BinaryOp Plus) (op_of (expression_layer r.before)) (3 ∷ 1 ∷ []) (0 ∷ 1 ∷ []) r.is)
+
+some_types : (types : List DataType) → types ≡ dtype.Int32 ∷ dtype.Int32 ∷ [] → types ≡ [] → ⊥
+some_types types is none = cc
+
+pub returns-clause-takes : goal.returns-clause-takes
+returns-clause-takes c = λ own n d m o. record {
+  some = some_types own.operands.items o;
+  typed = λ number e. false≢true (sym (ap is_known (ap ty (sym d) ∙ e)));
+}
+
+pub returns-clause-takes_none : goal.returns-clause-takes_none
+returns-clause-takes_none c = λ own n d m o takes. takes.some o
+
+pub returns-clause-number : goal.returns-clause-number
+returns-clause-number c = λ own n d m o takes. takes.typed (pos 5) (ap ty d)
 
 pub returns-clause-cast : goal.returns-clause-cast
 returns-clause-cast c = λ left ln ld lm lo right rn rd rm ro own n d m o cast cn cd cm co table first entries table' first' entries'.

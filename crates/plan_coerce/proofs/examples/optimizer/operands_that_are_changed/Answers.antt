@@ -77,6 +77,14 @@ returns-clause-nothing_kept c = λ table first entries r. none_kept table r.keep
 pub returns-clause-all_ready : goal.returns-clause-all_ready
 returns-clause-all_ready c = λ own n d m o table first entries. (ready table own first entries d, (own_ready table own first entries d, tt))
 
+pub returns-clause-at_a_place : goal.returns-clause-at_a_place
+returns-clause-at_a_place c = λ own n d m o table first entries. record { target = dtype.Int32; there = refl; ready = ready table own first entries d }
+
+pub returns-clause-past_the_list : goal.returns-clause-past_the_list
+returns-clause-past_the_list c = λ table r.
+    let there = r.there in
+    cc
+
 pub returns-clause-cast : goal.returns-clause-cast
 returns-clause-cast c = λ own n d m o table first entries. changed table own first entries d
 
