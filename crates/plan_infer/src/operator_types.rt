@@ -1,8 +1,8 @@
 //! The types to which operators take their operands, and those of their results.
 ghost use Rattle.std.specs.Prelude.{◌≡◌, [], ◌∷◌, Ok, IfOk, IfErr};
+ghost use Rattle.std.specs.Option.{option_map};
 ghost use Rattle.plan_types.specs.Errors.{IsRefusal, no_memory};
 ghost use Rattle.plan_types.specs.Types.{ty};
-ghost use Rattle.std.specs.Option.{option_map};
 ghost use Rattle.plan_dsl.specs.OperatorTypes.{operator_types, pair_to, pair_types};
 ghost use Rattle.plan_infer.specs.Operands.{common_integer};
 
