@@ -374,19 +374,13 @@ fn visit<R: OptimizationRule, M: Ledger, L: Ledger>(
     }
 }
 
-// Stacks the inputs of an item: those of the commonest kinds here, without a call.
+// Stacks the inputs of an item. A column or a literal has none.
 fn push_below(item: &AExpr, stack: &mut Nodes) -> Result<(), PlanError>
     ensures ok { OnOk result (numbers stack.new.items ≡ numbers stack.old.items ++ reverse (inputs_of (expression_layer item.now))) }
     ensures err { IfErr result (λ error. error ≡ no_memory) }
 {
     match item {
         AExpr::Column(_) | AExpr::Literal(_) => Ok(()),
-        AExpr::BinaryExpr { left, right, .. } => {
-            stack.reserve(2)?;
-            stack.push_reserved(*right);
-            stack.push_reserved(*left);
-            Ok(())
-        }
         AExpr::Cast { expr, .. } => {
             stack.push(*expr)?;
             Ok(())
