@@ -1,11 +1,11 @@
 -- An operator and its operands, from a list of three.
-use Rattle.plan_json.proofs.Names.{List, Option, Some, [], ap, arith, option_and_then, option_map, subst, sym, ◌<◌, ◌∙◌, ◌≡◌, asked_form, number, part, part_of, places_form, three_items, Name, Data, depth, Declared, asks, expression_read, places_as, read_as, says}
+use Rattle.plan_json.proofs.Names.{List, Some, [], ap, arith, option_and_then, option_map, subst, sym, ◌<◌, ◌∙◌, ◌≡◌, asked_form, number, part, part_of, places_form, three_items, Name, Data, depth, Declared, asks, expression_read, places_as, read_as, says}
 use Rattle.plan_dsl.specs.Ops.{BinaryOp}
 use Rattle.plan_dsl.specs.Sources.{Plain, Source}
 use Rattle.plan_dsl.specs.Trees.{node, more, no_more}
 use Rattle.plan_dsl.specs.declared.operator.Operator.{Operator}
 use Rattle.plan_json.specs.Faults.{an_operator}
-use Rattle.plan_json.specs.Forms.{Read, bin_key, expression, operator_read}
+use Rattle.plan_json.specs.Forms.{bin_key, expression, operator_read}
 use Rattle.plan_json.specs.Leaves.{operator_of}
 use Rattle.plan_json.specs.Queries.{front}
 use Rattle.plan_json.proofs.LookingLemmas.{array-from_three_items}
