@@ -8,6 +8,7 @@ pub mod ItemLemmas
 pub mod Lemmas
 pub mod LiteralLemmas
 pub mod LookingLemmas
+pub mod NameLemmas
 pub mod Names
 pub mod NoFaults
 pub mod OnLiterals

@@ -139,15 +139,15 @@ fn type_named(name: &str) -> Option<DataType>
 fn integer_named(name: &str) -> Option<DataType>
     ensures { option_map ty result ≡ integer_named name.now }
 {
-    match name {
-        "Int8" => Some(DataType::Int8),
-        "Int16" => Some(DataType::Int16),
-        "Int32" => Some(DataType::Int32),
-        "Int64" => Some(DataType::Int64),
-        "UInt8" => Some(DataType::UInt8),
-        "UInt16" => Some(DataType::UInt16),
-        "UInt32" => Some(DataType::UInt32),
-        "UInt64" => Some(DataType::UInt64),
+    match name.as_bytes() {
+        b"Int8" => Some(DataType::Int8),
+        b"Int16" => Some(DataType::Int16),
+        b"Int32" => Some(DataType::Int32),
+        b"Int64" => Some(DataType::Int64),
+        b"UInt8" => Some(DataType::UInt8),
+        b"UInt16" => Some(DataType::UInt16),
+        b"UInt32" => Some(DataType::UInt32),
+        b"UInt64" => Some(DataType::UInt64),
         _ => None,
     }
 }
@@ -156,12 +156,12 @@ fn integer_named(name: &str) -> Option<DataType>
 fn plain_named(name: &str) -> Option<DataType>
     ensures { option_map ty result ≡ plain_named name.now }
 {
-    match name {
-        "Null" => Some(DataType::Null),
-        "Boolean" => Some(DataType::Boolean),
-        "String" => Some(DataType::String),
-        "Date" => Some(DataType::Date),
-        "Time" => Some(DataType::Time),
+    match name.as_bytes() {
+        b"Null" => Some(DataType::Null),
+        b"Boolean" => Some(DataType::Boolean),
+        b"String" => Some(DataType::String),
+        b"Date" => Some(DataType::Date),
+        b"Time" => Some(DataType::Time),
         _ => None,
     }
 }

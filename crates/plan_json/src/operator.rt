@@ -42,15 +42,15 @@ fn operator_named(name: &str) -> Option<Operator>
 fn comparison_named(name: &str) -> Option<Operator>
     ensures { result ≡ comparison_named name.now }
 {
-    match name {
-        "Eq" => Some(Operator::Eq),
-        "EqValidity" => Some(Operator::EqValidity),
-        "NotEq" => Some(Operator::NotEq),
-        "NotEqValidity" => Some(Operator::NotEqValidity),
-        "Lt" => Some(Operator::Lt),
-        "LtEq" => Some(Operator::LtEq),
-        "Gt" => Some(Operator::Gt),
-        "GtEq" => Some(Operator::GtEq),
+    match name.as_bytes() {
+        b"Eq" => Some(Operator::Eq),
+        b"EqValidity" => Some(Operator::EqValidity),
+        b"NotEq" => Some(Operator::NotEq),
+        b"NotEqValidity" => Some(Operator::NotEqValidity),
+        b"Lt" => Some(Operator::Lt),
+        b"LtEq" => Some(Operator::LtEq),
+        b"Gt" => Some(Operator::Gt),
+        b"GtEq" => Some(Operator::GtEq),
         _ => None,
     }
 }
@@ -59,13 +59,13 @@ fn comparison_named(name: &str) -> Option<Operator>
 fn arithmetic_named(name: &str) -> Option<Operator>
     ensures { result ≡ arithmetic_named name.now }
 {
-    match name {
-        "Plus" => Some(Operator::Plus),
-        "Minus" => Some(Operator::Minus),
-        "Multiply" => Some(Operator::Multiply),
-        "Divide" => Some(Operator::Divide),
-        "FloorDivide" => Some(Operator::FloorDivide),
-        "Modulus" => Some(Operator::Modulus),
+    match name.as_bytes() {
+        b"Plus" => Some(Operator::Plus),
+        b"Minus" => Some(Operator::Minus),
+        b"Multiply" => Some(Operator::Multiply),
+        b"Divide" => Some(Operator::Divide),
+        b"FloorDivide" => Some(Operator::FloorDivide),
+        b"Modulus" => Some(Operator::Modulus),
         _ => None,
     }
 }
@@ -74,12 +74,12 @@ fn arithmetic_named(name: &str) -> Option<Operator>
 fn logic_named(name: &str) -> Option<Operator>
     ensures { result ≡ logic_named name.now }
 {
-    match name {
-        "And" => Some(Operator::And),
-        "Or" => Some(Operator::Or),
-        "Xor" => Some(Operator::Xor),
-        "LogicalAnd" => Some(Operator::LogicalAnd),
-        "LogicalOr" => Some(Operator::LogicalOr),
+    match name.as_bytes() {
+        b"And" => Some(Operator::And),
+        b"Or" => Some(Operator::Or),
+        b"Xor" => Some(Operator::Xor),
+        b"LogicalAnd" => Some(Operator::LogicalAnd),
+        b"LogicalOr" => Some(Operator::LogicalOr),
         _ => None,
     }
 }
