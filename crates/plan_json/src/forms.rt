@@ -321,7 +321,7 @@ pub(crate) fn find_key(kind: Kind, word: &str) -> Option<(&'static str, Key)>
     ensures plain { IfSome result (λ row. escaped row.0.now ≡ row.0.now) }
 {
     match kind {
-        Kind::Expression => match find(&EXPRESSION_ROWS, word) {
+        Kind::Expression => match find_expression(word) {
             None => None,
             Some((word, key)) => Some((word, Key::Expression(key))),
         },
@@ -332,6 +332,22 @@ pub(crate) fn find_key(kind: Kind, word: &str) -> Option<(&'static str, Key)>
         Kind::Selector => match find(&SELECTOR_ROWS, word) {
             None => None,
             Some((word, key)) => Some((word, Key::Selector(key))),
+        },
+    }
+}
+
+// The key of expressions of that word. Most forms are columns and operators, whose words are told by their bytes.
+pub(crate) fn find_expression(word: &str) -> Option<(&'static str, ExpressionKey)>
+    ensures row { option_map (λ row. (row.0.now, row.1)) result ≡ row_named expression_rows word.now }
+    ensures word { IfSome result (λ row. row.0.now ≡ word.now) }
+    ensures plain { IfSome result (λ row. escaped row.0.now ≡ row.0.now) }
+{
+    match word.as_bytes() {
+        b"col" => Some(("col", ExpressionKey::Col)),
+        b"bin" => Some(("bin", ExpressionKey::Bin)),
+        _ => match find(&EXPRESSION_ROWS, word) {
+            None => None,
+            Some((word, key)) => Some((word, key)),
         },
     }
 }
@@ -380,7 +396,7 @@ pub(crate) fn places_of(key: Key) -> Places
     }
 }
 
-fn expression_places(key: ExpressionKey) -> Places
+pub(crate) fn expression_places(key: ExpressionKey) -> Places
     ensures asks { places_view result ≡ expression_asks key }
     ensures short { length (asked_in (places_view result)) ≤ 4 }
 {

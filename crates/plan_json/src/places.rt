@@ -2,7 +2,7 @@
 ghost use Rattle.std.specs.Prelude.{◌≡◌, ◌≤◌, Some, length, map, option_and_then, IfOk, IfErr};
 ghost use Rattle.serde_json.specs.Data.{array};
 ghost use Rattle.serde_json.specs.View.{view, items_view};
-ghost use Rattle.plan_dsl.specs.Expressions.{selector_trees, trees_of};
+ghost use Rattle.plan_dsl.specs.Expressions.{selector_trees, tree_of, trees_of};
 ghost use Rattle.plan_types.specs.Schemas.{columns, names_of};
 ghost use Rattle.plan_json.specs.Arguments.{arg_view, args_view, items_seen};
 ghost use Rattle.plan_json.specs.Errors.{IsErrorOf, IsListErrorOf};
@@ -11,6 +11,7 @@ ghost use Rattle.plan_json.specs.Forms.{AllFit, a_form, asked_in, asks, bin_key,
 ghost use Rattle.plan_json.specs.Leaves.{table_at, text_of};
 ghost use Rattle.plan_json.specs.Queries.{IsItem, leaf_of, list_as, places_as, read_as, these_as, nothing_of, small_of};
 ghost use Rattle.plan_json.specs.Tables.{Declared, declared};
+ghost use Rattle.plan_json.specs.declared.forms.Key.TheVariants as keys;
 
 use super::arguments::{Arg, Args, Items, discard, expression, listed_order, selector};
 use super::columns::read_columns;
@@ -19,8 +20,8 @@ use super::error::{JsonError, Step};
 use super::excluded::read_excluded;
 use super::expression::assemble_expression;
 use super::forms::{
-    ExpressionKey, Key, Kind, Leaf, ListLeaf, Place, Places, SmallLeaf, find_key, order_places,
-    places_of,
+    ExpressionKey, Key, Kind, Leaf, ListLeaf, Place, Places, SmallLeaf, expression_places,
+    find_expression, find_key, order_places, places_of,
 };
 use super::function::read_function;
 use super::lists::{read_flag, read_index, read_list};
@@ -36,6 +37,29 @@ use plan_dsl::selector::Selectors;
 use plan_types::schema::Schema;
 use serde_json::Value;
 use std::alloc::Global;
+
+// What was read, as the argument of its kind.
+macro_rules! plain {
+    ($read:expr, $kind:path) => {
+        match $read {
+            Ok(read) => Ok($kind(read)),
+            Err(error) => Err(error),
+        }
+    };
+}
+
+// The same in a box, since it is wide.
+macro_rules! boxed {
+    ($alloc:ident, $read:expr, $kind:path) => {
+        match $read {
+            Ok(read) => {
+                let read = Box::new($alloc, read)?;
+                Ok($kind(read))
+            }
+            Err(error) => Err(error),
+        }
+    };
+}
 
 // An object of one key, which names a form of the kind.
 #[cycle(forms)]
@@ -70,16 +94,14 @@ fn read_keyed(alloc: Global, tables: &Tables, key: Key, value: &Value) -> Result
     ensures err { IfErr result (IsErrorOf (places_form (names_of (declared tables.now)) (asks key)) (view value.now)) }
 {
     match key {
-        // Most forms are columns, whose name goes through no arguments.
-        Key::Expression(ExpressionKey::Col) => match read_text(alloc, value) {
-            Err(error) => Err(error),
-            Ok(name) => {
-                let expr = Box::new(alloc, Expr::Column(name))?;
-                Ok(Arg::Expression(expr))
-            }
-        },
-        Key::Expression(ExpressionKey::Bin) => read_bin(alloc, tables, value),
-        Key::Expression(_) | Key::Selector(_) | Key::Plan(_) => {
+        Key::Expression(key) => {
+            boxed!(
+                alloc,
+                read_expression_of(alloc, tables, key, value),
+                Arg::Expression
+            )
+        }
+        Key::Selector(_) | Key::Plan(_) => {
             match read_places(alloc, tables, places_of(key), value) {
                 Err(error) => Err(error),
                 Ok(args) => {
@@ -91,12 +113,62 @@ fn read_keyed(alloc: Global, tables: &Tables, key: Key, value: &Value) -> Result
     }
 }
 
+// An expression, without a box: an object of one key, which names its form.
+#[cycle(forms)]
+#[tactic(auto, using(crate::proofs::Lemmas::less_deep))]
+fn read_expression(alloc: Global, tables: &Tables, value: &Value) -> Result<Expr, JsonError>
+    ensures ok { IfOk result (λ expr. read_as (declared tables.now) expression (view value.now)
+        ≡ Some (expression_read (tree_of expr))) }
+    ensures err { IfErr result (IsErrorOf (asked_form (names_of (declared tables.now)) expression) (view value.now)) }
+{
+    match only_member(value) {
+        None => Err(JsonError::shape(alloc, value)),
+        Some((word, inner)) => match find_expression(word) {
+            None => Err(JsonError::shape(alloc, value)),
+            Some((word, key)) => match read_expression_of(alloc, tables, key, inner) {
+                Err(error) => Err(error.below(alloc, Step::Key(word))),
+                Ok(expr) => Ok(expr),
+            },
+        },
+    }
+}
+
+// What a key of expressions says of its value.
+#[cycle(forms)]
+fn read_expression_of(
+    alloc: Global,
+    tables: &Tables,
+    key: ExpressionKey,
+    value: &Value,
+) -> Result<Expr, JsonError>
+    ensures ok { IfOk result (λ expr. option_and_then (says (keys.Expression key))
+        (places_as (declared tables.now) (asks (keys.Expression key)) (view value.now)) ≡ Some (expression_read (tree_of expr))) }
+    ensures err { IfErr result (IsErrorOf (places_form (names_of (declared tables.now)) (asks (keys.Expression key)))
+        (view value.now)) }
+{
+    match key {
+        // Most forms are columns, whose name goes through no arguments.
+        ExpressionKey::Col => match read_text(alloc, value) {
+            Err(error) => Err(error),
+            Ok(name) => Ok(Expr::Column(name)),
+        },
+        ExpressionKey::Bin => read_bin(alloc, tables, value),
+        _ => match read_places(alloc, tables, expression_places(key), value) {
+            Err(error) => Err(error),
+            Ok(args) => {
+                let expr = assemble_expression(alloc, key, args)?;
+                Ok(expr)
+            }
+        },
+    }
+}
+
 // An operator and its two operands, which go through no arguments.
 #[cycle(forms)]
 #[tactic(auto, using(crate::proofs::BinLemmas::less_deep))]
-fn read_bin(alloc: Global, tables: &Tables, value: &Value) -> Result<Arg, JsonError>
-    ensures ok { IfOk result (λ arg. option_and_then (says bin_key) (places_as (declared tables.now) (asks bin_key) (view value.now))
-        ≡ Some (arg_view arg)) }
+fn read_bin(alloc: Global, tables: &Tables, value: &Value) -> Result<Expr, JsonError>
+    ensures ok { IfOk result (λ expr. option_and_then (says bin_key) (places_as (declared tables.now) (asks bin_key) (view value.now))
+        ≡ Some (expression_read (tree_of expr))) }
     ensures err { IfErr result (IsErrorOf (places_form (names_of (declared tables.now)) (asks bin_key)) (view value.now)) }
 {
     let Some((op, left, right)) = three_items(value) else {
@@ -111,15 +183,11 @@ fn read_bin(alloc: Global, tables: &Tables, value: &Value) -> Result<Arg, JsonEr
         Err(error) => return Err(error.below(alloc, Step::Item(1))),
     };
     match read_form(alloc, tables, Kind::Expression, right) {
-        Ok(right) => {
-            let expr = Expr::BinaryExpr {
-                left: expression(left),
-                op,
-                right: expression(right),
-            };
-            let expr = Box::new(alloc, expr)?;
-            Ok(Arg::Expression(expr))
-        }
+        Ok(right) => Ok(Expr::BinaryExpr {
+            left: expression(left),
+            op,
+            right: expression(right),
+        }),
         Err(error) => {
             discard(left);
             Err(error.below(alloc, Step::Item(2)))
@@ -260,29 +328,6 @@ fn read_item(
     }
 }
 
-// What was read, as the argument of its kind.
-macro_rules! plain {
-    ($read:expr, $kind:path) => {
-        match $read {
-            Ok(read) => Ok($kind(read)),
-            Err(error) => Err(error),
-        }
-    };
-}
-
-// The same in a box, since it is wide.
-macro_rules! boxed {
-    ($alloc:ident, $read:expr, $kind:path) => {
-        match $read {
-            Ok(read) => {
-                let read = Box::new($alloc, read)?;
-                Ok($kind(read))
-            }
-            Err(error) => Err(error),
-        }
-    };
-}
-
 // What is at one place.
 #[cycle(forms)]
 fn read_place(alloc: Global, tables: &Tables, place: Place, value: &Value) -> Result<Arg, JsonError>
@@ -389,8 +434,8 @@ fn read_expressions(alloc: Global, tables: &Tables, value: &Value) -> Result<Exp
         Some(values) => {
             let mut items = Vec::with_capacity(alloc, values.len())?;
             for (number, value) in values.iter().enumerate() {
-                match read_form(alloc, tables, Kind::Expression, value) {
-                    Ok(arg) => items.push(Box::into_inner(expression(arg)))?,
+                match read_expression(alloc, tables, value) {
+                    Ok(expr) => items.push(expr)?,
                     Err(error) => return Err(error.below(alloc, Step::Item(number))),
                 }
             }

@@ -1,15 +1,21 @@
-use Rattle.plan_json.proofs.Names.{Some, ap, arith, map, refl, subst, sym, ◌<◌, ◌∙◌, asked_form, list_of, places_form, all_of, items_view, view, names_of, array, declared, expression, expression_read, place_view, read_as, IsErrorOf, map-append, tree_of}
+use Rattle.plan_json.proofs.Names.{List, Some, ap, arith, map, option_map, refl, ℕ, subst, sym, ◌<◌, ◌∙◌, asked_form, list_of, places_form, all_of, items_view, view, names_of, array, declared, expression, expression_read, place_view, read_as, IsErrorOf, map-append, tree_of}
 use Rattle.plan_dsl.specs.Expressions.{selector_tree}
 use Rattle.plan_json.specs.Forms.{selector, selector_read}
 use Rattle.plan_json.proofs.Lemmas.{IsErrorOf-own, item_in, form_read, key_part, item_part_at, other_count, each_read, all_of-more, all_taken, depth-item}
 use Rattle.plan_json.specs.Forms.{AllFit, asked_in}
 use Rattle.plan_json.specs.Arguments.{args_view, items_seen}
+use Rattle.plan_json.specs.declared.forms.ExpressionKey.{ExpressionKey}
+use Rattle.plan_json.specs.declared.forms.Key.TheVariants as keys
 use Rattle.plan_json.specs.declared.forms.Kind.TheVariants as kinds
 use Rattle.plan_json.proofs.FitLemmas.{form_fits, list_fits, places_fit}
 use Rattle.plan_json.proofs.BinLemmas.{bin_read, depth-right, left_part, op_part, right_part}
 use Rattle.plan_json.proofs.places.+forms.Goals as goal
 
 -- ---- what was read fits what was asked
+
+pub read_expression_of-assemble_expression-requires : goal.read_expression_of-assemble_expression-requires
+read_expression_of-assemble_expression-requires t c =
+    subst (λ p. AllFit (asked_in p) (args_view c.in-Ok-read_places.args)) c.expression_places.ensures.asks (places_fit (declared c.args.tables.now) c.expression_places.result _ _ c.in-Ok-read_places.ensures.ok)
 
 pub read_keyed-assemble-requires : goal.read_keyed-assemble-requires
 read_keyed-assemble-requires t c =
@@ -19,9 +25,6 @@ pub read_order-listed_order-requires : goal.read_order-listed_order-requires
 read_order-listed_order-requires t c =
     subst (λ p. AllFit p (items_seen c.in-Ok.items)) c.order_places.ensures.asks (list_fits (declared c.args.tables.now) c.order_places.result.now _ _ c.in-Ok.ensures.ok)
 
-pub read_expressions-expression-requires : goal.read_expressions-expression-requires
-read_expressions-expression-requires t c = form_fits (declared c.args.tables.now) kinds.Expression (view c.index-values-number.result) _ c.in-Ok.ensures.ok
-
 pub read_selectors-selector-requires : goal.read_selectors-selector-requires
 read_selectors-selector-requires t c = form_fits (declared c.args.tables.now) kinds.Selector (view c.index-values-number.result) _ c.in-Ok.ensures.ok
 
@@ -30,6 +33,11 @@ read_selectors-selector-requires t c = form_fits (declared c.args.tables.now) ki
 pub read_form-returns-in-Ok-clause-ok : goal.read_form-returns-in-Ok-clause-ok
 read_form-returns-in-Ok-clause-ok t c =
     form_read (declared c.args.tables.now) c.args.kind _ _ _ (c.in-Some-find_key.word.now, c.in-Some-find_key.key) _ c.in-Some.ensures c.in-Some-find_key.ensures.row c.in-Ok.ensures.ok
+
+pub read_expression-returns-in-Ok-clause-ok : goal.read_expression-returns-in-Ok-clause-ok
+read_expression-returns-in-Ok-clause-ok t c =
+    form_read (declared c.args.tables.now) kinds.Expression _ _ _ (c.in-Some-find_expression.word.now, keys.Expression c.in-Some-find_expression.key) _ c.in-Some.ensures
+    (ap (option_map (λ (row : List ℕ × ExpressionKey). (row.0, keys.Expression row.1))) c.in-Some-find_expression.ensures.row) c.in-Ok.ensures.ok
 
 -- ---- an operator and its operands
 
@@ -52,11 +60,10 @@ read_bin-returns-in-Err-read_form-clause-err t c = c.below-in-Err-read_form.ensu
 pub read_bin-returns-in-Err-read_form-2-clause-err : goal.read_bin-returns-in-Err-read_form-2-clause-err
 read_bin-returns-in-Err-read_form-2-clause-err t c = c.below-in-Err-read_form-2.ensures _ _ _ _ (right_part (names_of (declared c.args.tables.now)) _ _ _ _ c.in-Some.ensures) c.in-Err-read_form-2.ensures.err
 
-pub read_bin-returns-in_ok-expr-in-Ok-read_form-2-clause-ok : goal.read_bin-returns-in_ok-expr-in-Ok-read_form-2-clause-ok
-read_bin-returns-in_ok-expr-in-Ok-read_form-2-clause-ok t c =
+pub read_bin-returns-in-Ok-read_form-2-clause-ok : goal.read_bin-returns-in-Ok-read_form-2-clause-ok
+read_bin-returns-in-Ok-read_form-2-clause-ok t c =
     bin_read (declared c.args.tables.now) _ _ _ _ c.in-Ok.op _ _ c.in-Some.ensures c.in-Ok.ensures.ok
     (c.in-Ok-read_form.ensures.ok ∙ ap Some c.expression.ensures) (c.in-Ok-read_form-2.ensures.ok ∙ ap Some c.expression-in-Ok-read_form-2.ensures)
-    ∙ ap (λ e. Some (expression_read (tree_of e))) (sym c.in_ok-expr-in-Ok-read_form-2.ensures.ok)
 
 -- ---- a list of exactly these
 
@@ -83,7 +90,7 @@ read_place-returns-in-Err-read_leaves-clause-err t c =
 pub read_expressions-loop-number-preserved : goal.read_expressions-loop-number-preserved
 read_expressions-loop-number-preserved t c =
     let items = c.loop-number.items.items in
-    all_of-more (read_as (declared c.args.tables.now) expression) c.in-Some.values.now c.loop-number.number _ _ _ c.loop-number-test.true c.index-values-number.is c.loop-number.invariant (c.in-Ok.ensures.ok ∙ ap Some c.expression.ensures ∙ ap (λ x. Some (expression_read (tree_of x))) (sym c.into_inner.ensures))
+    all_of-more (read_as (declared c.args.tables.now) expression) c.in-Some.values.now c.loop-number.number _ _ _ c.loop-number-test.true c.index-values-number.is c.loop-number.invariant c.in-Ok.ensures.ok
     ∙ ap Some (sym (ap (λ l. map expression_read (map tree_of l)) c.in_ok-push-in-Ok.ensures.items ∙ ap (map expression_read) (map-append tree_of items _) ∙ map-append expression_read (map tree_of items) _))
 
 pub read_expressions-returns-after-loop-number-clause-ok : goal.read_expressions-returns-after-loop-number-clause-ok
@@ -111,6 +118,12 @@ read_form-returns-in-Err-clause-err t c =
     c.below.ensures _ _ _ (view c.in-Some.inner.now)
     (key_part (names_of (declared c.args.tables.now)) c.args.kind _ _ _ (c.in-Some-find_key.word.now, c.in-Some-find_key.key) c.in-Some.ensures c.in-Some-find_key.ensures.row c.in-Some-find_key.ensures.word) c.in-Err.ensures.err
 
+pub read_expression-returns-in-Err-clause-err : goal.read_expression-returns-in-Err-clause-err
+read_expression-returns-in-Err-clause-err t c =
+    c.below.ensures _ _ _ (view c.in-Some.inner.now)
+    (key_part (names_of (declared c.args.tables.now)) kinds.Expression _ _ _ (c.in-Some-find_expression.word.now, keys.Expression c.in-Some-find_expression.key) c.in-Some.ensures
+    (ap (option_map (λ (row : List ℕ × ExpressionKey). (row.0, keys.Expression row.1))) c.in-Some-find_expression.ensures.row) c.in-Some-find_expression.ensures.word) c.in-Err.ensures.err
+
 pub read_expressions-returns-in-Err-clause-err : goal.read_expressions-returns-in-Err-clause-err
 read_expressions-returns-in-Err-clause-err t c =
     let asked = asked_form (names_of (declared c.args.tables.now)) expression in
@@ -126,3 +139,7 @@ read_selectors-returns-in-Err-clause-err t c =
 pub read_keyed-returns-in-Err-read_places-clause-err : goal.read_keyed-returns-in-Err-read_places-clause-err
 read_keyed-returns-in-Err-read_places-clause-err t c =
     subst (λ p. IsErrorOf (places_form (names_of (declared c.args.tables.now)) p) (view c.args.value.now) c.in-Err-read_places.error) c.places_of.ensures.asks c.in-Err-read_places.ensures.err
+
+pub read_expression_of-returns-in-Err-read_places-clause-err : goal.read_expression_of-returns-in-Err-read_places-clause-err
+read_expression_of-returns-in-Err-read_places-clause-err t c =
+    subst (λ p. IsErrorOf (places_form (names_of (declared c.args.tables.now)) p) (view c.args.value.now) c.in-Err-read_places.error) c.expression_places.ensures.asks c.in-Err-read_places.ensures.err
