@@ -1,19 +1,21 @@
 //! Coercion under a rule: what it leaves at the nodes that roots reach, at any depth and of any number of inputs.
 //!
 //! How many steps it takes is a clause of its contract, `bounded`, and isn't asked here.
-ghost use Rattle.std.specs.Prelude.{◌≡◌, ◌<◌, []};
+ghost use Rattle.std.specs.Prelude.{◌≡◌, ◌<◌, [], length, map};
+ghost use Rattle.std.specs.List.{AllByRecursion};
 ghost use Rattle.plan_types.specs.Schemas.{Columns, columns};
 ghost use Rattle.plan_dsl.specs.Registry.{Registry, registry};
 ghost use Rattle.plan_arena.specs.Denotation.{DenotesTree};
-ghost use Rattle.plan_arena.specs.Items.{HoldsExpression};
+ghost use Rattle.plan_arena.specs.Items.{HoldsExpression, named_node};
 ghost use Rattle.plan_infer.specs.KeptTypes.{IsRight};
 ghost use Rattle.plan_coerce.specs.Optimizer.{AreTrees, StaysFinite, roots_of};
 
 use crate::expressions::{Kind, boxed, nested, plus};
-use crate::fixtures::{NO_MEMORY, assert_number, assert_refused, column};
+use crate::fixtures::{NO_MEMORY, assert_number, assert_refused, column, numbered};
 use crate::keys::flags;
 use plan_arena::aexpr::{AExpr, Nodes};
 use plan_arena::arena::{Arena, Node};
+use plan_arena::expr_ir::{ExprIR, OutputName};
 use plan_coerce::coercion_rule::TypeCoercionRule;
 use plan_coerce::rule::OptimizationRule;
 use plan_coerce::stack_opt::ConversionOptimizer;
@@ -489,4 +491,41 @@ fn a_refusal_leaves_other_roots_typed(rt: HostRuntime) {
         assert_refused_beside(&rt, rt.alloc(), name, kind, true);
         assert_refused_beside(&rt, rt.alloc(), name, kind, false);
     }
+}
+
+// So many expressions at the node.
+fn expressions_at(rt: &impl Abort, node: Node, arena: &Arena<AExpr>, count: usize) -> Vec<ExprIR>
+    requires { node.0 < length arena.now }
+    ensures { AllByRecursion (λ n. n < length arena.now) (map (λ e. (named_node e).expression) result.items) }
+{
+    let alloc = arena.allocator();
+    let mut exprs = Vec::new(alloc);
+    for number in 0..count {
+        let name = OutputName::Alias(numbered(rt, alloc, number));
+        exprs.push(ExprIR::new(node, name)).expect(rt, NO_MEMORY);
+    }
+    exprs
+}
+
+// So many expressions at the node are stacked, each with its inputs, and once more by the same optimizer.
+fn stack_all(rt: &impl Abort, node: Node, arena: &Arena<AExpr>, count: usize) {
+    assert!(rt; node.0 < arena.len());
+    let exprs = expressions_at(rt, node, arena, count);
+    let mut optimizer = ConversionOptimizer::new(arena.allocator());
+    for _ in 0..2 {
+        let done = optimizer.fill_scratch(exprs.as_slice(), arena);
+        done.expect(rt, NO_MEMORY);
+    }
+    drop(exprs);
+    drop(optimizer);
+}
+
+#[test]
+fn any_number_of_expressions_is_stacked_with_its_inputs(rt: HostRuntime) {
+    let mut arena = Arena::new(rt.alloc());
+    let sum = added(&rt, a_plus(&rt, rt.alloc(), "b"), &mut arena);
+    for count in &[0, 1, 2, 300] {
+        stack_all(&rt, sum, &arena, *count);
+    }
+    drop(arena);
 }

@@ -1,8 +1,10 @@
 //! Schemas of nodes of lowered plans, at any depth and of any number of columns.
+ghost use Rattle.plan_arena.specs.PlanSchemas.{DenotesSomePlan, IsRightCache};
 
 use crate::fixtures::{NO_MEMORY, assert_number};
 use crate::functions::columns;
 use crate::plans::{filters_over, scan_of, select_of};
+use plan_arena::arena::{Arena, Node};
 use plan_arena::ir::IR;
 use plan_arena::plan::IRPlan;
 use plan_dsl::builder::DslBuilder;
@@ -20,7 +22,40 @@ fn assert_columns(rt: &impl Abort, schema: Schema, want: usize) {
     drop(schema);
 }
 
-// The schema of the frame of the top is told, and told once more of what was kept; and that of what goes into the top.
+// The input of the filter at the node. Any other node has none below it that is asked.
+fn node_below(arena: &Arena<IR>, node: Node) -> Node
+    requires { DenotesSomePlan arena.now node.0 }
+    ensures { DenotesSomePlan arena.now result.0 }
+{
+    match arena.get(node) {
+        IR::Filter { input, .. } => *input,
+        _ => node,
+    }
+}
+
+// With one cache the schema of the frame of the node is told, and of each node below it.
+fn assert_each(
+    rt: &impl Abort,
+    alloc: Global,
+    top: Node,
+    arena: &Arena<IR>,
+    cache: &mut BTreeMap<Node, Schema, Global>,
+    columns: usize,
+)
+    requires plan { DenotesSomePlan arena.now top.0 }
+    requires right { IsRightCache arena.now cache.old }
+    ensures { IsRightCache arena.now cache.new }
+{
+    let udfs = Udfs::new(alloc);
+    let mut node = top;
+    for _ in 0..arena.len() {
+        let told = IR::schema_with_cache(alloc, node, arena, cache, &udfs);
+        assert_columns(rt, told.expect(rt, NO_MEMORY), columns);
+        node = node_below(arena, node);
+    }
+}
+
+// The schemas of the nodes' frames are told, and told once more of what was kept; and that of what goes into the top.
 fn assert_schemas(rt: &impl Abort, alloc: Global, filters: usize, columns: usize) {
     let udfs = Udfs::new(alloc);
     let scan = scan_of(rt, alloc, Some(3), columns, &DataType::Boolean);
@@ -29,11 +64,9 @@ fn assert_schemas(rt: &impl Abort, alloc: Global, filters: usize, columns: usize
         Ok(plan) => {
             let (node, arena) = (plan.lp_top, &plan.lp_arena);
             let mut cache = BTreeMap::new(alloc);
-            let told = IR::schema_with_cache(alloc, node, arena, &mut cache, &udfs);
-            assert_columns(rt, told.expect(rt, NO_MEMORY), columns);
-            let kept = IR::schema_with_cache(alloc, node, arena, &mut cache, &udfs);
-            assert_columns(rt, kept.expect(rt, NO_MEMORY), columns);
-            assert_number(rt, cache.len(), 1);
+            assert_each(rt, alloc, node, arena, &mut cache, columns);
+            assert_each(rt, alloc, node, arena, &mut cache, columns);
+            assert_number(rt, cache.len(), arena.len());
             drop(cache);
             assert!(rt; node.0 < arena.len());
             let input = arena.get(node).input_schema(alloc, arena, &udfs);
