@@ -6,6 +6,7 @@ use plan_types::dtype::{DataType, Fields, UnknownKind};
 use plan_types::error::{ErrorKind, PlanError};
 use plan_types::field::Field;
 use plan_types::text::PlSmallStr;
+use plan_types::whole_number::WholeNumber;
 use std::alloc::Global;
 use std::hash::{FoldHasher, Hash, Hasher};
 use std::process::Abort;
@@ -80,8 +81,8 @@ pub(crate) fn bare_types() -> [DataType; 21] {
         DataType::Duration(Nanoseconds),
         DataType::Duration(Microseconds),
         DataType::Duration(Milliseconds),
-        DataType::Unknown(UnknownKind::Int(1)),
-        DataType::Unknown(UnknownKind::Int(-1)),
+        DataType::Unknown(UnknownKind::Int(WholeNumber::new(1))),
+        DataType::Unknown(UnknownKind::Int(WholeNumber::new(-1))),
     ]
 }
 

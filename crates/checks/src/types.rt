@@ -61,7 +61,7 @@ fn assert_common(rt: &impl Abort, alloc: Global, left: &DataType, right: &DataTy
 
 #[test]
 fn operands_of_any_size_have_a_common_type(rt: HostRuntime) {
-    let number = DataType::Unknown(UnknownKind::Int(5));
+    let number = DataType::Unknown(UnknownKind::Int(WholeNumber::new(5)));
     assert_common(&rt, rt.alloc(), &number, &number);
     drop(number);
     for count in SIZES {

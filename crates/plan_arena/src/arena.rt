@@ -39,7 +39,7 @@ impl<T> Arena<T> {
         }
     }
 
-    /// Makes room for so many more items, so that adding them takes no memory.
+    /// Asks for room for so many more items. No clause speaks of room.
     pub fn reserve(&mut self, additional: usize) -> Result<(), PlanError>
         ensures same { self.new ≡ self.old }
         ensures err { IfErr result (λ error. error ≡ no_memory) }

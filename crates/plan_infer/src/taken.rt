@@ -59,11 +59,9 @@ pub(crate) fn widened(
     ensures name { IfOk result (λ own. own.name ≡ left.now.name) }
     ensures err { IfErr result (λ error. error ≡ no_memory) }
 {
-    let mut operands = Vec::with_capacity(alloc, 2)?;
     let first = common.try_clone(alloc)?;
-    operands.push_reserved(first);
     let second = common.try_clone(alloc)?;
-    operands.push_reserved(second);
+    let operands = pair(first, second, alloc)?;
     Ok(Inferred {
         name: left.name,
         dtype: common,

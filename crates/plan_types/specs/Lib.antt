@@ -18,3 +18,4 @@ pub mod Types
 pub mod ValueLaws
 pub mod Values
 pub mod ValueViews
+pub mod WholeNumbers

@@ -7,6 +7,7 @@ ghost use Rattle.plan_types.specs.Values.{in_range};
 
 use crate::error::PlanError;
 use crate::field::Field;
+use crate::whole_number::WholeNumber;
 use std::alloc::Global;
 use std::hash::{Hash, Hasher};
 
@@ -76,7 +77,7 @@ pub fn get_time_units(left: TimeUnit, right: TimeUnit) -> TimeUnit
 #[derive(Clone, Copy, PartialEq, Eq, Hash)]
 pub enum UnknownKind {
     /// That of a whole number which is written without a type.
-    Int(i128),
+    Int(WholeNumber),
 }
 
 /// The fields of a type of structs, in order. Names may stand twice.
@@ -201,7 +202,7 @@ impl DataType {
         ensures { MatchOption result ((number : ℤ) → ty self.now ≢ Untyped number) (λ number. ty self.now ≡ Untyped number) }
     {
         match self {
-            DataType::Unknown(UnknownKind::Int(number)) => Some(*number),
+            DataType::Unknown(UnknownKind::Int(number)) => Some(number.get()),
             _ => None,
         }
     }
@@ -227,7 +228,7 @@ impl DataType {
             DataType::UInt32 => u32::try_from(number).is_ok(),
             DataType::UInt64 => u64::try_from(number).is_ok(),
             DataType::Time => number >= 0 && number < TimeUnit::Nanoseconds.per_day(),
-            DataType::Unknown(UnknownKind::Int(own)) => *own == number,
+            DataType::Unknown(UnknownKind::Int(own)) => own.get() == number,
         }
     }
 
@@ -273,7 +274,7 @@ impl DataType {
         match self {
             DataType::List(item) => item.feed(state),
             DataType::Struct(fields) => feed_fields(fields.items.as_slice(), state),
-            DataType::Unknown(UnknownKind::Int(number)) => number.hash(state),
+            DataType::Unknown(UnknownKind::Int(number)) => number.get().hash(state),
             _ => {}
         }
     }
@@ -306,7 +307,10 @@ impl DataType {
             (DataType::Struct(fields), DataType::Struct(own)) => {
                 same_fields(fields.items.as_slice(), own.items.as_slice())
             }
-            (DataType::Unknown(kind), DataType::Unknown(own)) => kind == own,
+            (
+                DataType::Unknown(UnknownKind::Int(number)),
+                DataType::Unknown(UnknownKind::Int(own)),
+            ) => number.get() == own.get(),
             _ => self.is_same_integer(other),
         }
     }

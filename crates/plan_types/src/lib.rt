@@ -17,3 +17,4 @@ pub mod schema;
 pub mod supertype;
 pub mod text;
 pub mod value;
+pub mod whole_number;

@@ -1,4 +1,4 @@
-use Rattle.std.proofs.Common.{[], ◌∷◌, ◌++◌, map, ap, ◌∙◌, inl}
+use Rattle.std.proofs.Common.{[], ◌∷◌, map, ap, ◌∙◌, inl}
 use Rattle.plan_types.specs.Types.{ty}
 use Rattle.plan_infer.specs.declared.type_table.Inferred.{Inferred}
 use Rattle.plan_infer.specs.KeptTypes.{typed_of}
@@ -8,11 +8,7 @@ use Rattle.plan_infer.proofs.taken.widened.Goals as goal
 pub returns-clause-ok : goal.returns-clause-ok
 returns-clause-ok c =
     let common = ty c.args.common in
-    let first = c.in_ok-first.first in
     let second = c.in_ok-second.second in
-    let operands = c.push_reserved-2.new.self in
-    let own : Inferred = record { name = c.args.left.now.name; dtype = c.args.common; many = c.either_many.result; operands = operands } in
-    let one = c.push_reserved.ensures.items ∙ ap (λ types. types ++ first ∷ []) c.in_ok-operands.ensures.items in
-    let both = c.push_reserved-2.ensures.items ∙ ap (λ types. types ++ second ∷ []) one in
-    let listed = ap (map ty) both ∙ ap (λ type. type ∷ ty second ∷ []) c.in_ok-first.ensures.ok ∙ ap (λ type. common ∷ type ∷ []) c.in_ok-second.ensures.ok in
+    let own : Inferred = record { name = c.args.left.now.name; dtype = c.args.common; many = c.either_many.result; operands = c.in_ok-operands.operands } in
+    let listed = ap (map ty) c.in_ok-operands.ensures.ok ∙ ap (λ type. type ∷ ty second ∷ []) c.in_ok-first.ensures.ok ∙ ap (λ type. common ∷ type ∷ []) c.in_ok-second.ensures.ok in
     pair_says (typed_of c.args.left.now) (typed_of c.args.right.now) own common common c.either_many.ensures (inl listed)
