@@ -6,6 +6,7 @@ use crate::fixtures::{
 use plan_types::common_type::try_get_common_type;
 use plan_types::dtype::{DataType, UnknownKind};
 use plan_types::field::Field;
+use plan_types::whole_number::WholeNumber;
 use std::alloc::Global;
 use std::process::Abort;
 
