@@ -15,19 +15,21 @@ pub struct WholeNumber {
 }
 
 impl Model for WholeNumber {
-    ghost use Rattle.std.specs.Prelude.{ℤ, ◌+◌, ◌*◌, ◌<◌, ◌/◌, ◌%◌};
-    ghost use Rattle.std.specs.Int.{w128, cast_signed, cast_unsigned};
-    ghost use Rattle.plan_types.specs.WholeNumbers.{half, high_again, low_again};
+    ghost use Rattle.std.specs.Prelude.{ℤ, ◌<◌};
+    ghost use Rattle.plan_types.specs.WholeNumbers.{half, whole_of, high_of, low_of, high_again, low_again};
 
     ghost Value = { ℤ };
 
-    ghost view = { λ number. cast_signed w128 (number.high * half + number.low) };
+    ghost view = { λ number. whole_of number.high number.low };
 
     ghost invariant = { λ number. (number.high < half) × (number.low < half) };
 
-    ghost inverse = { λ number. record { high = cast_unsigned w128 number / half; low = cast_unsigned w128 number % half } };
+    ghost inverse = { λ number. record { high = high_of number; low = low_of number } };
 
-    ghost inverse_ok = { λ number within. λ i. record { high = high_again number.high number.low within.0 within.1 i; low = low_again number.high number.low within.0 within.1 i } };
+    ghost inverse_ok = { λ number within. λ i. record {
+        high = high_again number.high number.low within.0 within.1 i;
+        low = low_again number.high number.low within.0 within.1 i
+    } };
 }
 
 impl WholeNumber {

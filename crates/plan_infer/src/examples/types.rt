@@ -1,18 +1,19 @@
 //! Types and refusals of expressions, and tables that keep types by node.
 
 ghost use Rattle.std.specs.Prelude.{◌≡◌, ℕ, [], ◌∷◌, map, true, false, pos, codes, Some, None};
-ghost use Rattle.plan_types.specs.Types.{NullType, Truth, TextType, DateType, TimeType, DatetimeType, DurationType, ListType, StructType, Untyped, no_field, with_field};
+ghost use Rattle.plan_types.specs.Types.{NullType, Truth, Integer, TextType, DateType, TimeType, DatetimeType, DurationType, ListType, StructType, Untyped, no_field, with_field};
 ghost use Rattle.plan_types.specs.Errors.{IsRefusal, no_memory, at_top};
 ghost use Rattle.plan_types.specs.declared.dtype.DataType.TheVariants.{Int8, Int16, Int32};
 ghost use Rattle.plan_types.specs.declared.dtype.TimeUnit.TheVariants.{Nanoseconds, Microseconds};
 ghost use Rattle.plan_types.specs.declared.error.ErrorKind.TheVariants.{ColumnNotFound, SchemaMismatch, InvalidOperation};
-ghost use Rattle.plan_dsl.specs.declared.operator.Operator.TheVariants.{Eq, Lt, GtEq, Plus};
+ghost use Rattle.plan_dsl.specs.declared.operator.Operator.TheVariants.{And, Eq, Lt, GtEq, Plus};
 ghost use Rattle.plan_dsl.specs.Typing.{typing};
 ghost use Rattle.plan_dsl.specs.Ops.{BinaryOp, ColumnOp};
 ghost use Rattle.plan_dsl.specs.Samples.{over, over_by, rising};
 ghost use Rattle.plan_infer.specs.declared.type_table.TypeTable.{TypeTable};
 ghost use Rattle.plan_infer.specs.KeptTypes.{AllKept, AreOperands, Extends, GivesName, HasRightTypes, IsKept, IsNamedBy, IsRight, IsRuled, IsTypedNode, Keeps, KeepsEntry, KeepsTyped, TakesTo, kept_count, name_at, node_depth, some_count, typings_at};
 ghost use Rattle.plan_infer.specs.Fields.{IsFieldOf, type_in};
+ghost use Rattle.plan_infer.specs.Operands.{common_integer};
 ghost use Rattle.plan_infer.specs.declared.field.Context.TheVariants.{Default, Aggregation};
 ghost use Rattle.plan_types.specs.declared.field.Field.{Field};
 ghost use Rattle.plan_infer.specs.Typed.{HasType, HasKnownType};
@@ -37,6 +38,17 @@ pub fn types_of_expressions()
         HaveTypes ((one_column two, a, two) ∷ (one_column (struct_of (codes "x") int8), strictly_cast_to target a, target) ∷ []) }
     ensures windows { HaveTypes ((columns_of int8 TextType, over (b ∷ []) a, int8) ∷ (columns_of int8 TextType, over_by rising a (b ∷ []) b, TextType) ∷
         (columns_of int8 (ListType int8), over (a ∷ []) b, ListType int8) ∷ []) }
+{}
+
+/// Two integer types that differ have a common type where the operator gives it. Of unsigned and signed ones that is a
+/// wider signed one, and there is none over 64 bits.
+pub fn common_types_of_integers()
+    ensures wider { common_integer Plus int8 int64 ≡ Some int64 }
+    ensures of_two_signs { common_integer And (Integer false 8) int8 ≡ Some int16 }
+    ensures no_wider { common_integer Plus (Integer false 64) int64 ≡ None }
+    ensures one_type { common_integer Plus int8 int8 ≡ None }
+    ensures comparison { common_integer Lt int8 int64 ≡ None }
+    ensures no_integers { common_integer Plus TextType TextType ≡ None }
 {}
 
 /// A refusal of an expression is the kind that its typing gives, at the top, or want of memory.

@@ -8,12 +8,24 @@ ghost use Rattle.plan_types.specs.declared.text.Kept.TheVariants.{Short, Long};
 ghost use Rattle.plan_types.specs.Types.{Ty, NullType, Truth, TextType, DateType, TimeType, DatetimeType, DurationType, ListType, Untyped};
 ghost use Rattle.plan_types.specs.Values.{TruthValue, IntValue, in_range, fits, all_fit, same_value};
 ghost use Rattle.plan_types.specs.Samples.{Maps, MapsPairs, distinct_values, int16, int32, int64, int8, integers, list_value, list_values, minus, negative, no, null, number, signed_integers, struct_a, struct_ab, struct_none, struct_value, text, text_values, times, types, uint16, uint32, uint64, uint8, unsigned_integers, yes};
+ghost use Rattle.plan_types.specs.WholeNumbers.{whole_of, high_of, low_of};
 ghost use Rattle.plan_types.specs.declared.dtype.TimeUnit.{TimeUnit};
 
 /// A short text has the bytes that were put in, and not those of the room behind them; a long one those of its memory.
 pub fn bytes_of_texts()
     ensures short { kept_bytes (Short (record { bytes = codes "ab"; spare = codes "cde" })) ≡ codes "ab" }
     ensures long { (text : String Global) → string_bytes text ≡ codes "ab" → kept_bytes (Long text) ≡ codes "ab" }
+{}
+
+/// Of a number in two halves the high one has the sign, as in 128 bits.
+pub fn numbers_in_two_halves()
+    ensures small { whole_of 0 5 ≡ pos 5 }
+    ensures past_a_half { whole_of 1 0 ≡ pos 18446744073709551616 }
+    ensures ends { whole_of 9223372036854775807 18446744073709551615 ≡ pos 170141183460469231731687303715884105727 }
+    ensures below { whole_of 9223372036854775808 0 ≡ minus 170141183460469231731687303715884105728 }
+    ensures minus_one { whole_of 18446744073709551615 18446744073709551615 ≡ minus 1 }
+    ensures high { high_of (minus 1) ≡ 18446744073709551615 }
+    ensures low { low_of (pos 18446744073709551621) ≡ 5 }
 {}
 
 /// The first and the last number of a type are in its range, and the numbers beside them aren't. Days have the range of
