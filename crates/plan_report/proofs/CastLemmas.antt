@@ -12,7 +12,12 @@ use Rattle.plan_types.specs.Schemas.{Columns}
 use Rattle.plan_arena.specs.Denotation.{Denotes, DenoteAll, DenotesTree, depth_at}
 use Rattle.plan_arena.specs.Layers.{layer, op_of, inputs_of, shape_of}
 use Rattle.plan_arena.specs.Items.{named_node, expression_layer, plan_layer, HoldsExpression, DenoteNamed, DenotesKind, HoldsPlan}
+use Rattle.plan_types.specs.declared.dtype.CastOptions.{CastOptions}
+use Rattle.plan_types.specs.declared.dtype.DataType.{DataType}
+use Rattle.plan_dsl.specs.declared.literal.LiteralValue.{LiteralValue}
 use Rattle.plan_arena.specs.declared.aexpr.AExpr.{AExpr}
+use Rattle.plan_arena.specs.declared.aexpr.AExpr.TheVariants.{Cast, Literal}
+use Rattle.plan_arena.specs.declared.arena.Node.{Node}
 use Rattle.plan_arena.specs.declared.expr_ir.ExprIR.{ExprIR}
 use Rattle.plan_arena.specs.declared.ir.IR.{IR}
 use Rattle.plan_arena.proofs.DenotationLemmas.{some_same}
@@ -82,6 +87,12 @@ expression_counted items n item got ns are i own count past by_own all (node op 
     let whole_count = all ts children in
     let by_op = sym (by_own counts) ∙ ap (λ l. op_casts (op_of l) counts) same in
     whole_count ∙ ap (λ k. own + k) whole ∙ by_op
+
+-- a node that is no cast adds none
+pub other_casts : (item : AExpr) → ((expr : Node) (dtype : DataType) (options : CastOptions) → item ≡ Cast expr dtype options → ⊥) → ((value : LiteralValue) → item ≡ Literal value → ⊥) → (below : List ℕ) → op_casts (op_of (expression_layer item)) below ≡ 0 + sum below
+other_casts (Cast expr dtype options) cast literal below = absurd (cast expr dtype options refl)
+other_casts (Literal value) cast literal below = absurd (literal value refl)
+other_casts _ cast literal below = omega arith
 
 -- the count of an expression, from those of its inputs
 over_counted : (items : List AExpr) (n : ℕ) (item : AExpr) → slice_get items n ≡ Some item → (op : Op) (inputs : List ℕ) (own : ℕ) (cs : List ℕ) → expression_layer item ≡ layer op inputs → ((below : List ℕ) → op_casts op below ≡ own + sum below) → CountAll (HoldsExpression items) expression_casts inputs cs → (t : Expression) → Denotes (HoldsExpression items) n t → own + sum cs ≡ expression_casts t

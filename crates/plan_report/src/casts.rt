@@ -1,11 +1,10 @@
 //! How many casts the expressions of a lowered plan have.
-ghost use Rattle.std.specs.Prelude.{◌≡◌, ◌+◌, ℕ, List, map, sum, IfOk};
+ghost use Rattle.std.specs.Prelude.{◌≡◌, ◌+◌, List, map, IfOk};
 ghost use Rattle.plan_dsl.specs.Ops.{Expression};
 ghost use Rattle.plan_dsl.specs.Plans.{Plan, Named};
 ghost use Rattle.plan_arena.specs.Denotation.{Denotes, DenotesTree};
-ghost use Rattle.plan_arena.specs.Items.{named_node, expression_layer, HoldsExpression, DenoteNamed, HoldsPlan};
-ghost use Rattle.plan_dsl.specs.Counts.{op_casts, expression_casts, outputs_casts, cast_count};
-ghost use Rattle.plan_arena.specs.Layers.{op_of};
+ghost use Rattle.plan_arena.specs.Items.{named_node, HoldsExpression, DenoteNamed, HoldsPlan};
+ghost use Rattle.plan_dsl.specs.Counts.{expression_casts, outputs_casts, cast_count};
 ghost use Rattle.plan_report.specs.Casts.{DenoteOutputs};
 
 use plan_arena::aexpr::AExpr;
@@ -20,16 +19,6 @@ fn add(left: u64, right: u64) -> Result<u64, AllocError>
     ensures { IfOk result (λ sum. sum ≡ left + right) }
 {
     left.checked_add(right).ok_or(AllocError)
-}
-
-// One for a cast, and none for any other node.
-fn own_casts(item: &AExpr) -> u64
-    ensures { (below : List ℕ) → op_casts (op_of (expression_layer item.now)) below ≡ result + sum below }
-{
-    match item {
-        AExpr::Cast { .. } => 1,
-        _ => 0,
-    }
 }
 
 /// How many casts the expression at the node has.
@@ -55,7 +44,7 @@ pub(crate) fn expression_casts(arena: &Arena<AExpr>, node: Node) -> Result<u64, 
         }
         _ => {
             let inputs = item.input_nodes();
-            let mut count = own_casts(item);
+            let mut count = 0;
             for index in 0..inputs.len() {
                 let casts = expression_casts(arena, inputs.at(index))?;
                 count = add(count, casts)?;

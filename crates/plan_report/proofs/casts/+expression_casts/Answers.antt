@@ -2,7 +2,7 @@ use Rattle.std.proofs.Common.{refl, ap, arith}
 use Rattle.plan_arena.specs.Items.{expression_layer}
 use Rattle.plan_arena.proofs.ItemLemmas.{tree_within}
 use Rattle.plan_report.proofs.NodeLemmas.{expression_inputs}
-use Rattle.plan_report.proofs.CastLemmas.{expression_counted, input_counted, input_leads, leaf_counted, one_counted, two_counted}
+use Rattle.plan_report.proofs.CastLemmas.{expression_counted, input_counted, input_leads, leaf_counted, one_counted, other_casts, two_counted}
 use Rattle.plan_report.proofs.casts.+expression_casts.Goals as goal
 
 pub get-item-requires : goal.get-item-requires
@@ -30,7 +30,7 @@ expression_casts-requires-in-loop-index t c =
 
 pub loop-index-preserved : goal.loop-index-preserved
 loop-index-preserved t c =
-    input_counted c.args.arena.now c.input_nodes-inputs.result c.loop-index.index c.own_casts-count.result c.loop-index.count c.in_ok-casts-in_default.casts _ c.at.result.0 c.at.ensures c.loop-index.invariant c.in_ok-casts-in_default.ensures c.in_ok-count-in_default.ensures
+    input_counted c.args.arena.now c.input_nodes-inputs.result c.loop-index.index 0 c.loop-index.count c.in_ok-casts-in_default.casts _ c.at.result.0 c.at.ensures c.loop-index.invariant c.in_ok-casts-in_default.ensures c.in_ok-count-in_default.ensures
 
 pub returns-in-Column : goal.returns-in-Column
 returns-in-Column t c =
@@ -50,4 +50,4 @@ returns-in_ok-count-in-Cast t c =
 
 pub returns-after-loop-index : goal.returns-after-loop-index
 returns-after-loop-index t c =
-    expression_counted c.args.arena.now c.args.node.0 c.get-item.result.now c.get-item.ensures c.input_nodes-inputs.result c.input_nodes-inputs.ensures c.loop-index.index c.own_casts-count.result c.loop-index.count (omega (arith, c.loop-index-test.false)) c.own_casts-count.ensures c.loop-index.invariant
+    expression_counted c.args.arena.now c.args.node.0 c.get-item.result.now c.get-item.ensures c.input_nodes-inputs.result c.input_nodes-inputs.ensures c.loop-index.index 0 c.loop-index.count (omega (arith, c.loop-index-test.false)) (other_casts c.get-item.result.now c.in_default.not-Cast c.in_default.not-Literal) c.loop-index.invariant
