@@ -13,7 +13,7 @@ ghost use Rattle.plan_json.specs.Queries.{IsItem, leaf_of, list_as, places_as, r
 ghost use Rattle.plan_json.specs.Tables.{Declared, declared};
 ghost use Rattle.plan_json.specs.declared.forms.Key.TheVariants as keys;
 
-use super::arguments::{Arg, Args, Items, discard, expression, listed_order, selector};
+use super::arguments::{Arg, Args, Items, discard, listed_order, selector};
 use super::columns::read_columns;
 use super::dtype::{read_text, read_type};
 use super::error::{JsonError, Step};
@@ -94,13 +94,7 @@ fn read_keyed(alloc: Global, tables: &Tables, key: Key, value: &Value) -> Result
     ensures err { IfErr result (IsErrorOf (places_form (names_of (declared tables.now)) (asks key)) (view value.now)) }
 {
     match key {
-        Key::Expression(key) => {
-            boxed!(
-                alloc,
-                read_expression_of(alloc, tables, key, value),
-                Arg::Expression
-            )
-        }
+        Key::Expression(key) => plain!(read_boxed_of(alloc, tables, key, value), Arg::Expression),
         Key::Selector(_) | Key::Plan(_) => {
             match read_places(alloc, tables, places_of(key), value) {
                 Err(error) => Err(error),
@@ -163,6 +157,57 @@ fn read_expression_of(
     }
 }
 
+// An expression, in a box.
+#[cycle(forms)]
+#[tactic(auto, using(crate::proofs::Lemmas::less_deep))]
+fn read_boxed(alloc: Global, tables: &Tables, value: &Value) -> Result<Box<Expr>, JsonError>
+    ensures ok { IfOk result (λ expr. read_as (declared tables.now) expression (view value.now)
+        ≡ Some (expression_read (tree_of expr.value))) }
+    ensures err { IfErr result (IsErrorOf (asked_form (names_of (declared tables.now)) expression) (view value.now)) }
+{
+    match only_member(value) {
+        None => Err(JsonError::shape(alloc, value)),
+        Some((word, inner)) => match find_expression(word) {
+            None => Err(JsonError::shape(alloc, value)),
+            Some((word, key)) => match read_boxed_of(alloc, tables, key, inner) {
+                Err(error) => Err(error.below(alloc, Step::Key(word))),
+                Ok(expr) => Ok(expr),
+            },
+        },
+    }
+}
+
+// What a key of expressions says of its value, in a box. A column is put there at once.
+#[cycle(forms)]
+fn read_boxed_of(
+    alloc: Global,
+    tables: &Tables,
+    key: ExpressionKey,
+    value: &Value,
+) -> Result<Box<Expr>, JsonError>
+    ensures ok { IfOk result (λ expr. option_and_then (says (keys.Expression key))
+        (places_as (declared tables.now) (asks (keys.Expression key)) (view value.now)) ≡ Some (expression_read (tree_of expr.value))) }
+    ensures err { IfErr result (IsErrorOf (places_form (names_of (declared tables.now)) (asks (keys.Expression key)))
+        (view value.now)) }
+{
+    match key {
+        ExpressionKey::Col => match read_text(alloc, value) {
+            Err(error) => Err(error),
+            Ok(name) => {
+                let column = Box::new(alloc, Expr::Column(name))?;
+                Ok(column)
+            }
+        },
+        _ => match read_expression_of(alloc, tables, key, value) {
+            Err(error) => Err(error),
+            Ok(expr) => {
+                let expr = Box::new(alloc, expr)?;
+                Ok(expr)
+            }
+        },
+    }
+}
+
 // An operator and its two operands, which go through no arguments.
 #[cycle(forms)]
 #[tactic(auto, using(crate::proofs::BinLemmas::less_deep))]
@@ -178,18 +223,14 @@ fn read_bin(alloc: Global, tables: &Tables, value: &Value) -> Result<Expr, JsonE
         Ok(op) => op,
         Err(error) => return Err(error.below(alloc, Step::Item(0))),
     };
-    let left = match read_form(alloc, tables, Kind::Expression, left) {
+    let left = match read_boxed(alloc, tables, left) {
         Ok(left) => left,
         Err(error) => return Err(error.below(alloc, Step::Item(1))),
     };
-    match read_form(alloc, tables, Kind::Expression, right) {
-        Ok(right) => Ok(Expr::BinaryExpr {
-            left: expression(left),
-            op,
-            right: expression(right),
-        }),
+    match read_boxed(alloc, tables, right) {
+        Ok(right) => Ok(Expr::BinaryExpr { left, op, right }),
         Err(error) => {
-            discard(left);
+            drop(left);
             Err(error.below(alloc, Step::Item(2)))
         }
     }

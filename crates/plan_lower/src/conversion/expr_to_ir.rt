@@ -263,9 +263,15 @@ pub(crate) fn add_nodes(expr: Expr, keep: bool, arena: &mut Arena<AExpr>) -> Res
             Ok(node)
         }
         Expr::Function { input, function } => add_function(input, function, keep, arena),
-        // Most expressions are columns, whose item goes through no other function.
+        // Most expressions are columns and operators, whose items go through no other function.
         Expr::Column(name) => {
             let node = arena.add(AExpr::Column(name))?;
+            Ok(node)
+        }
+        Expr::BinaryExpr { left, op, right } => {
+            let left = add_below(left, keep, arena)?;
+            let right = add_below(right, keep, arena)?;
+            let node = arena.add(AExpr::BinaryExpr { left, op, right })?;
             Ok(node)
         }
         expr => {

@@ -41,29 +41,23 @@ read_expression-returns-in-Ok-clause-ok t c =
 
 -- ---- an operator and its operands
 
-pub read_bin-expression-requires : goal.read_bin-expression-requires
-read_bin-expression-requires t c = form_fits (declared c.args.tables.now) kinds.Expression (view c.in-Some.left.now) _ c.in-Ok-read_form.ensures.ok
-
-pub read_bin-expression-requires-in-Ok-read_form-2 : goal.read_bin-expression-requires-in-Ok-read_form-2
-read_bin-expression-requires-in-Ok-read_form-2 t c = form_fits (declared c.args.tables.now) kinds.Expression (view c.in-Some.right.now) _ c.in-Ok-read_form-2.ensures.ok
-
-pub read_bin-read_form-requires-2 : goal.read_bin-read_form-requires-2
-read_bin-read_form-requires-2 t c =
+pub read_bin-read_boxed-requires-2 : goal.read_bin-read_boxed-requires-2
+read_bin-read_boxed-requires-2 t c =
     let below = depth-right (view c.args.value.now) _ _ (view c.in-Some.right.now) c.in-Some.ensures in (omega (arith, c.decreases, below), tt)
 
 pub read_bin-returns-in-Err-clause-err : goal.read_bin-returns-in-Err-clause-err
 read_bin-returns-in-Err-clause-err t c = c.below.ensures _ _ _ _ (op_part (names_of (declared c.args.tables.now)) _ _ _ _ c.in-Some.ensures) c.in-Err.ensures.err
 
-pub read_bin-returns-in-Err-read_form-clause-err : goal.read_bin-returns-in-Err-read_form-clause-err
-read_bin-returns-in-Err-read_form-clause-err t c = c.below-in-Err-read_form.ensures _ _ _ _ (left_part (names_of (declared c.args.tables.now)) _ _ _ _ c.in-Some.ensures) c.in-Err-read_form.ensures.err
+pub read_bin-returns-in-Err-read_boxed-clause-err : goal.read_bin-returns-in-Err-read_boxed-clause-err
+read_bin-returns-in-Err-read_boxed-clause-err t c = c.below-in-Err-read_boxed.ensures _ _ _ _ (left_part (names_of (declared c.args.tables.now)) _ _ _ _ c.in-Some.ensures) c.in-Err-read_boxed.ensures.err
 
-pub read_bin-returns-in-Err-read_form-2-clause-err : goal.read_bin-returns-in-Err-read_form-2-clause-err
-read_bin-returns-in-Err-read_form-2-clause-err t c = c.below-in-Err-read_form-2.ensures _ _ _ _ (right_part (names_of (declared c.args.tables.now)) _ _ _ _ c.in-Some.ensures) c.in-Err-read_form-2.ensures.err
+pub read_bin-returns-in-Err-read_boxed-2-clause-err : goal.read_bin-returns-in-Err-read_boxed-2-clause-err
+read_bin-returns-in-Err-read_boxed-2-clause-err t c = c.below-in-Err-read_boxed-2.ensures _ _ _ _ (right_part (names_of (declared c.args.tables.now)) _ _ _ _ c.in-Some.ensures) c.in-Err-read_boxed-2.ensures.err
 
-pub read_bin-returns-in-Ok-read_form-2-clause-ok : goal.read_bin-returns-in-Ok-read_form-2-clause-ok
-read_bin-returns-in-Ok-read_form-2-clause-ok t c =
+pub read_bin-returns-in-Ok-read_boxed-2-clause-ok : goal.read_bin-returns-in-Ok-read_boxed-2-clause-ok
+read_bin-returns-in-Ok-read_boxed-2-clause-ok t c =
     bin_read (declared c.args.tables.now) _ _ _ _ c.in-Ok.op _ _ c.in-Some.ensures c.in-Ok.ensures.ok
-    (c.in-Ok-read_form.ensures.ok ∙ ap Some c.expression.ensures) (c.in-Ok-read_form-2.ensures.ok ∙ ap Some c.expression-in-Ok-read_form-2.ensures)
+    c.in-Ok-read_boxed.ensures.ok c.in-Ok-read_boxed-2.ensures.ok
 
 -- ---- a list of exactly these
 
@@ -120,6 +114,17 @@ read_form-returns-in-Err-clause-err t c =
 
 pub read_expression-returns-in-Err-clause-err : goal.read_expression-returns-in-Err-clause-err
 read_expression-returns-in-Err-clause-err t c =
+    c.below.ensures _ _ _ (view c.in-Some.inner.now)
+    (key_part (names_of (declared c.args.tables.now)) kinds.Expression _ _ _ (c.in-Some-find_expression.word.now, keys.Expression c.in-Some-find_expression.key) c.in-Some.ensures
+    (ap (option_map (λ (row : List ℕ × ExpressionKey). (row.0, keys.Expression row.1))) c.in-Some-find_expression.ensures.row) c.in-Some-find_expression.ensures.word) c.in-Err.ensures.err
+
+pub read_boxed-returns-in-Ok-clause-ok : goal.read_boxed-returns-in-Ok-clause-ok
+read_boxed-returns-in-Ok-clause-ok t c =
+    form_read (declared c.args.tables.now) kinds.Expression _ _ _ (c.in-Some-find_expression.word.now, keys.Expression c.in-Some-find_expression.key) _ c.in-Some.ensures
+    (ap (option_map (λ (row : List ℕ × ExpressionKey). (row.0, keys.Expression row.1))) c.in-Some-find_expression.ensures.row) c.in-Ok.ensures.ok
+
+pub read_boxed-returns-in-Err-clause-err : goal.read_boxed-returns-in-Err-clause-err
+read_boxed-returns-in-Err-clause-err t c =
     c.below.ensures _ _ _ (view c.in-Some.inner.now)
     (key_part (names_of (declared c.args.tables.now)) kinds.Expression _ _ _ (c.in-Some-find_expression.word.now, keys.Expression c.in-Some-find_expression.key) c.in-Some.ensures
     (ap (option_map (λ (row : List ℕ × ExpressionKey). (row.0, keys.Expression row.1))) c.in-Some-find_expression.ensures.row) c.in-Some-find_expression.ensures.word) c.in-Err.ensures.err

@@ -39,6 +39,19 @@ add_nodes-returns-in_ok-node-in-Column-clause-denotes t c =
     let item : IsItemOf (length arena) arena (node (ColumnOp c.in-Column.name) no_more) (Column c.in-Column.name) = record { operands = no_more; is = refl; denote = tt } in
     rw (c.in-Column.is) (item_denotes _ arena _ _ _ top.node.0 (omega arith) item top.ensures.ok top.ensures.node)
 
+pub add_nodes-add_below-requires-in-BinaryExpr : goal.add_nodes-add_below-requires-in-BinaryExpr
+add_nodes-add_below-requires-in-BinaryExpr t c =
+    let size = ap size-Expr c.in-BinaryExpr.is ∙ sized-BinaryExpr _ _ _ in
+    (omega (arith, c.decreases, size), second_plain c.args.expr _ _ _ _ (ap tree_of c.in-BinaryExpr.is) c.requires.plain)
+
+pub add_nodes-returns-in_ok-node-in-BinaryExpr-clause-denotes : goal.add_nodes-returns-in_ok-node-in-BinaryExpr-clause-denotes
+add_nodes-returns-in_ok-node-in-BinaryExpr-clause-denotes t c =
+    let left = c.in_ok-left-in-BinaryExpr.ensures in
+    let right = c.in_ok-right-in-BinaryExpr.ensures in
+    let top = c.in_ok-node-in-BinaryExpr in
+    let item = over_added _ _ _ _ (more _ (more _ no_more)) refl (_, left.denotes, left.grows, (_, right.denotes, right.grows, refl)) in
+    rw (c.in-BinaryExpr.is) (item_denotes _ _ _ _ _ top.node.0 (omega (arith, length-grown _ _ left.grows, length-grown _ _ right.grows)) item top.ensures.ok top.ensures.node)
+
 pub add_nodes-returns-in_ok-node-in_default-clause-denotes : goal.add_nodes-returns-in_ok-node-in_default-clause-denotes
 add_nodes-returns-in_ok-node-in_default-clause-denotes t c =
     let item = c.in_ok-item-in_default.ensures in
