@@ -11,7 +11,7 @@ use Rattle.plan_dsl.specs.Names.{label_of}
 use Rattle.plan_dsl.specs.Ops.{AliasOp, ColumnOp, FunctionOp, WindowOp}
 use Rattle.plan_dsl.specs.Trees.{node, no_more, more, children_from}
 use Rattle.plan_dsl.proofs.ExprLemmas.{sort_by_listed, window_listed}
-use Rattle.plan_arena.specs.declared.aexpr.AExpr.TheVariants.{Alias, Column, Function, SortBy, Window}
+use Rattle.plan_arena.specs.declared.aexpr.AExpr.TheVariants.{Alias, BinaryExpr, Column, Function, SortBy, Window}
 use Rattle.plan_arena.specs.Denotation.{Denotes}
 use Rattle.plan_arena.specs.Items.{HoldsFrom, named_node, numbers, numbers_named, recorded}
 use Rattle.plan_lower.specs.Nodes.{IsItemOf, over_inputs}
@@ -46,11 +46,14 @@ add_nodes-add_below-requires-in-BinaryExpr t c =
 
 pub add_nodes-returns-in_ok-node-in-BinaryExpr-clause-denotes : goal.add_nodes-returns-in_ok-node-in-BinaryExpr-clause-denotes
 add_nodes-returns-in_ok-node-in-BinaryExpr-clause-denotes t c =
-    let left = c.in_ok-left-in-BinaryExpr.ensures in
-    let right = c.in_ok-right-in-BinaryExpr.ensures in
+    let kind = c.in-BinaryExpr in
+    let left = c.in_ok-left-in-BinaryExpr in
+    let right = c.in_ok-right-in-BinaryExpr in
     let top = c.in_ok-node-in-BinaryExpr in
-    let item = over_added _ _ _ _ (more _ (more _ no_more)) refl (_, left.denotes, left.grows, (_, right.denotes, right.grows, refl)) in
-    rw (c.in-BinaryExpr.is) (item_denotes _ _ _ _ _ top.node.0 (omega (arith, length-grown _ _ left.grows, length-grown _ _ right.grows)) item top.ensures.ok top.ensures.node)
+    let item : IsItemOf (length c.args.arena.now) _ (over_inputs c.args.keep (plain_tree c.args.expr)) (BinaryExpr left.left kind.op right.right) =
+        rw (kind.is) (over_added _ _ _ _ (more _ (more _ no_more)) refl (_, left.ensures.denotes, left.ensures.grows, (_, right.ensures.denotes, right.ensures.grows, refl))) in
+    let added = item_denotes _ _ _ _ _ top.node.0 (omega (arith, length-grown _ _ left.ensures.grows, length-grown _ _ right.ensures.grows)) item top.ensures.ok top.ensures.node in
+    subst (Denotes (HoldsFrom (length c.args.arena.now) c.add-in-BinaryExpr.new.self) top.node.0) (pruned_item c.args.keep c.args.expr (λ below name is. cc) (λ input function is. cc)) added
 
 pub add_nodes-returns-in_ok-node-in_default-clause-denotes : goal.add_nodes-returns-in_ok-node-in_default-clause-denotes
 add_nodes-returns-in_ok-node-in_default-clause-denotes t c =
