@@ -315,14 +315,26 @@ impl DataType {
         }
     }
 
+    /// A copy. That of a type without parts is made at once, and takes no memory.
     #[cycle(type_copies)]
+    #[inline(always)]
     pub fn try_clone(&self, alloc: Global) -> Result<DataType, PlanError>
         ensures ok { IfOk result (λ copy. ty copy ≡ ty self.now) }
         ensures err { IfErr result (λ error. error ≡ no_memory) }
     {
-        if let Some(copy) = self.bare_copy() {
-            return Ok(copy);
+        match self.bare_copy() {
+            Some(copy) => Ok(copy),
+            None => self.copy_with_parts(alloc),
         }
+    }
+
+    // A copy of a type of lists or of structs.
+    #[cycle(type_copies)]
+    fn copy_with_parts(&self, alloc: Global) -> Result<DataType, PlanError>
+        requires { is_bare (ty self.now) ≡ false }
+        ensures ok { IfOk result (λ copy. ty copy ≡ ty self.now) }
+        ensures err { IfErr result (λ error. error ≡ no_memory) }
+    {
         match self {
             DataType::List(item) => {
                 let item = item.try_clone(alloc)?;
@@ -347,6 +359,7 @@ impl DataType {
     }
 
     /// A copy of a type without parts.
+    #[inline(always)]
     pub(crate) fn bare_copy(&self) -> Option<DataType>
         ensures { MatchOption result (is_bare (ty self.now) ≡ false) (λ copy. ty copy ≡ ty self.now) }
     {
