@@ -29,11 +29,11 @@ pub(crate) fn read_columns(alloc: Global, value: &Value) -> Result<Schema, JsonE
                     Ok(column) => column,
                     Err(error) => return Err(error.below(alloc, Step::Item(number))),
                 };
-                let before = match schema.with_column(name, dtype) {
+                let before = match schema.put(name, dtype) {
                     Ok(before) => before,
                     Err(error) => return Err(JsonError::out_of_memory(error)),
                 };
-                if before.is_some() {
+                if before {
                     return Err(JsonError::shape(alloc, value));
                 }
             }

@@ -130,13 +130,15 @@ impl Schema {
         Ok(before)
     }
 
-    // `with_column`, without the type before.
-    fn put(&mut self, name: PlSmallStr, dtype: DataType) -> Result<(), PlanError>
+    /// `with_column`, whose answer is only whether there was a column of that name.
+    pub fn put(&mut self, name: PlSmallStr, dtype: DataType) -> Result<bool, PlanError>
         ensures ok { OnOk result (columns self.new ≡ with_column (columns self.old) name (ty dtype)) }
+        ensures before { IfOk result (λ before. before ≡ is_some (type_at (columns self.old) name)) }
+        ensures unchanged { OnErr result (columns self.new ≡ columns self.old) }
         ensures err { IfErr result (λ error. error ≡ no_memory) }
     {
-        let _before = self.with_column(name, dtype)?;
-        Ok(())
+        let before = self.fields.insert(name, dtype)?;
+        Ok(before.is_some())
     }
 
     /// Puts a new column at that place; the later ones move.

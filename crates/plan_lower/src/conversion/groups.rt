@@ -184,8 +184,8 @@ fn put_aggregate(
 {
     let name = expr.output_name().try_clone(alloc)?;
     let dtype = dtype_in(Context::Aggregation, own, alloc)?;
-    let before = whole.with_column(name, dtype)?;
-    if before.is_some() {
+    let before = whole.put(name, dtype)?;
+    if before {
         return Err(PlanError::at_top(ErrorKind::Duplicate));
     }
     Ok(())

@@ -198,8 +198,8 @@ fn project_one(
         .get(expr_ir.node())
         .dtype
         .try_clone(arena.allocator())?;
-    let before = output.with_column(name, dtype)?;
-    if before.is_some() {
+    let before = output.put(name, dtype)?;
+    if before {
         return Err(PlanError::at_top(twice));
     }
     Ok(expr_ir)

@@ -22,6 +22,6 @@ pub(crate) fn put_copy(
 {
     let name = name.try_clone(alloc)?;
     let dtype = dtype.try_clone(alloc)?;
-    let _before = schema.with_column(name, dtype)?;
+    schema.put(name, dtype)?;
     Ok(())
 }
