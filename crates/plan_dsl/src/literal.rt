@@ -9,9 +9,9 @@ ghost use Rattle.plan_types.specs.Values.{IntValue, in_range, same_value};
 
 use plan_types::common_type::materialize_dyn_int;
 use plan_types::dtype::{DataType, TimeUnit, UnknownKind};
-use plan_types::whole_number::WholeNumber;
 use plan_types::error::PlanError;
 use plan_types::text::PlSmallStr;
+use plan_types::whole_number::WholeNumber;
 use std::alloc::Global;
 use std::hash::{Hash, Hasher};
 
@@ -51,7 +51,9 @@ impl LiteralValue {
             LiteralValue::Null => DataType::Null,
             LiteralValue::Boolean(_) => DataType::Boolean,
             LiteralValue::String(_) => DataType::String,
-            LiteralValue::Int(number) => DataType::Unknown(UnknownKind::Int(WholeNumber::new(*number))),
+            LiteralValue::Int(number) => DataType::Unknown(UnknownKind::Int(WholeNumber::new(
+                *number,
+            ))),
             LiteralValue::Int8(_) => DataType::Int8,
             LiteralValue::Int16(_) => DataType::Int16,
             LiteralValue::Int32(_) => DataType::Int32,

@@ -32,6 +32,6 @@ pub use Rattle.plan_json.specs.declared.error.JsonError.TheVariants.{Float, NoMe
 pub use Rattle.plan_json.specs.Bytes.{IsRefusalOf, IsTextOf, WritesQuery}
 pub use Rattle.plan_json.specs.declared.forms.TypeKey.{TypeKey}
 pub use Rattle.std.specs.Str.{IsUtf8, chars, is_utf8}
-pub use Rattle.plan_types.proofs.SchemaLemmas.{IsNewName-test, is_among-type_at, is_some-option_map, with_column-new}
+pub use Rattle.plan_types.proofs.SchemaLemmas.{IsNewName-test, is_among-type_at, with_column-new}
 pub use Rattle.plan_dsl.specs.Expressions.{tree_of, trees_of}
 pub use Rattle.std.proofs.lemmas.Option.{none-some, same_Some, slice_get-get_or, slice_get-map}

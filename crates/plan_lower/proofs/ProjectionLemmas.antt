@@ -3,9 +3,7 @@ use Rattle.std.proofs.Common.{◌≡◌, ℕ, ◌<◌, ◌≤◌, IfErr, Result,
 use Rattle.std.specs.List.{AllByRecursion}
 use Rattle.std.proofs.lemmas.List.{map-append, length-map}
 use Rattle.plan_types.proofs.ListLemmas.{map-map}
-use Rattle.std.specs.Option.{option_map}
 use Rattle.plan_types.specs.Types.{Ty, Truth, same_type, ty}
-use Rattle.plan_types.specs.declared.dtype.DataType.{DataType}
 use Rattle.plan_types.specs.Schemas.{Name, Columns, type_at, with_column, HasDistinctNames}
 use Rattle.plan_types.specs.Errors.{at_top}
 use Rattle.plan_types.specs.declared.error.ErrorKind.{ErrorKind}
@@ -58,11 +56,6 @@ column_added old new seen copy name type absent s c e =
 
 abbrev record_of : Label → ℕ → Named ℕ
 record_of label expression = record { label = label; expression = expression }
-
--- whether a name had a type
-pub had_type : (before : Option DataType) (type : Option Ty) → option_map ty before ≡ type → is_some type ≡ is_some before
-had_type None type is = ap is_some (sym is)
-had_type (Some dtype) type is = ap is_some (sym is)
 
 -- a node of an expression that has a type, and a column of its name
 pub adds_output : (registry : Registry) (schema : Columns) (first : ℕ) (items : List AExpr) (tree : Expression) (node : Named ℕ) (asked : ℕ) (old new : Columns) (seen copy : Name) (type : Ty) → node.label ≡ label_of tree → Denotes (HoldsFrom first items) node.expression (settled (core tree)) → NamesOperands (settled (core tree)) → asked ≡ node.expression → ((t : Expression) → Denotes (HoldsExpression items) asked t → HasType (typing registry schema t) type) → is_some (type_at old seen) ≡ false → seen ≡ node.label.name → copy ≡ node.label.name → new ≡ with_column old copy type → AddsOutput registry schema first items tree node old new

@@ -137,8 +137,8 @@ impl Schema {
         ensures unchanged { OnErr result (columns self.new ≡ columns self.old) }
         ensures err { IfErr result (λ error. error ≡ no_memory) }
     {
-        let before = self.fields.insert(name, dtype)?;
-        Ok(before.is_some())
+        let replaced = self.fields.insert(name, dtype)?;
+        Ok(replaced.is_some())
     }
 
     /// Puts a new column at that place; the later ones move.

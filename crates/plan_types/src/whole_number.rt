@@ -27,8 +27,8 @@ impl Model for WholeNumber {
     ghost inverse = { λ number. record { high = high_of number; low = low_of number } };
 
     ghost inverse_ok = { λ number within. λ i. record {
-        high = high_again number.high number.low within.0 within.1 i;
-        low = low_again number.high number.low within.0 within.1 i
+      high = high_again number.high number.low within.0 within.1 i;
+      low = low_again number.high number.low within.0 within.1 i;
     } };
 }
 

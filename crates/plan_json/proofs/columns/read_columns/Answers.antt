@@ -1,18 +1,18 @@
-use Rattle.plan_json.proofs.Names.{Some, ap, arith, is_some, sym, ◌∙◌, a_column, column_list, all_of, columns, names_of, repeats, column_of, ty, IsNewName-test, is_among-type_at, is_some-option_map, with_column-new}
+use Rattle.plan_json.proofs.Names.{Some, ap, arith, sym, ◌∙◌, a_column, column_list, all_of, columns, names_of, repeats, column_of, IsNewName-test, is_among-type_at, with_column-new}
 use Rattle.plan_json.proofs.Lemmas.{columns_all, column_repeated, IsErrorOf-own, item_in, all_of-more, all_taken, names_apart}
 use Rattle.plan_json.proofs.columns.read_columns.Goals as goal
 
-pub returns-then-is_some-clause-err : goal.returns-then-is_some-clause-err
-returns-then-is_some-clause-err c =
-    let there = ap is_some (sym c.in-Ok-with_column.ensures.before) ∙ is_some-option_map ty _ ∙ sym c.is_some.ensures ∙ c.if-is_some.true in
-    IsErrorOf-own column_list _ _ _ c.shape-then-is_some.ensures
+pub returns-then-before-clause-err : goal.returns-then-before-clause-err
+returns-then-before-clause-err c =
+    let there = sym c.in-Ok-put.ensures.before ∙ c.if-before.true in
+    IsErrorOf-own column_list _ _ _ c.shape-then-before.ensures
     (column_repeated _ c.in-Some.items.now c.loop-number.number _ _ _ c.in-Some.ensures c.loop-number-test.true c.index-items-number.is c.loop-number.invariant.read c.in-Ok.ensures.ok there)
 
 pub loop-number-preserved : goal.loop-number-preserved
 loop-number-preserved c =
     let cs = columns c.loop-number.schema in
-    let apart = is_among-type_at cs _ ∙ ap is_some (sym c.in-Ok-with_column.ensures.before) ∙ is_some-option_map ty _ ∙ sym c.is_some.ensures ∙ c.if-is_some.false in
-    let all = c.in-Ok-with_column.ensures.ok ∙ with_column-new cs _ _ (IsNewName-test cs _ apart) in
+    let apart = is_among-type_at cs _ ∙ sym c.in-Ok-put.ensures.before ∙ c.if-before.false in
+    let all = c.in-Ok-put.ensures.ok ∙ with_column-new cs _ _ (IsNewName-test cs _ apart) in
     record {
       read = all_of-more column_of c.in-Some.items.now c.loop-number.number _ _ _ c.loop-number-test.true c.index-items-number.is c.loop-number.invariant.read c.in-Ok.ensures.ok ∙ ap Some (sym all);
       distinct = ap (λ cs. repeats (names_of cs)) all ∙ names_apart cs _ apart c.loop-number.invariant.distinct;

@@ -8,7 +8,7 @@ use Rattle.plan_dsl.specs.Expressions.{plain_tree}
 use Rattle.plan_dsl.specs.Registry.{registry}
 use Rattle.plan_arena.specs.Items.{named_node}
 use Rattle.plan_arena.proofs.OperandNameLemmas.{plan_names}
-use Rattle.plan_lower.proofs.ProjectionLemmas.{refused_output, adds_output, had_type}
+use Rattle.plan_lower.proofs.ProjectionLemmas.{refused_output, adds_output}
 use Rattle.plan_infer.proofs.TypingLemmas.{AllHaveType}
 use Rattle.plan_infer.proofs.TableLemmas.{kept_type, type_of}
 use Rattle.plan_lower.proofs.conversion.projection.project_one.Goals as goal
@@ -21,13 +21,13 @@ pub returns-clause-ok : goal.returns-clause-ok
 returns-clause-ok c =
     let typed : AllHaveType c.add_typed.new.arena (registry c.args.udfs.now) (columns c.args.schema.now) c.node.result.0 (ty c.in_ok-dtype.dtype) = subst (AllHaveType c.add_typed.new.arena (registry c.args.udfs.now) (columns c.args.schema.now) c.node.result.0) (sym c.in_ok-dtype.ensures.ok) (kept_type (registry c.args.udfs.now) (columns c.args.schema.now) c.add_typed.new.arena c.add_typed.new.types c.in_ok-expr_ir.ensures.right c.node.result.0 _ (type_of c.add_typed.new.types c.node.result.0 c.get.result.now c.get.ensures)) in
     let before = c.in_ok-before.ensures in
-    let absent = had_type c.in_ok-before.before _ before.before ∙ sym c.is_some.ensures ∙ c.if-is_some.false in
+    let absent = sym before.before ∙ c.if-before.false in
     let named = c.in_ok-name.ensures.ok ∙ c.output_name.ensures in
-    adds_output (registry c.args.udfs.now) (columns c.args.schema.now) _ c.add_typed.new.arena (plain_tree c.args.expr) (named_node c.in_ok-expr_ir.expr_ir) c.node.result.0 (columns c.args.output.now) (columns c.with_column.new.self) _ _ _ c.in_ok-expr_ir.ensures.name c.in_ok-expr_ir.ensures.denotes (plan_names c.args.expr) c.node.ensures typed absent named named before.ok
+    adds_output (registry c.args.udfs.now) (columns c.args.schema.now) _ c.add_typed.new.arena (plain_tree c.args.expr) (named_node c.in_ok-expr_ir.expr_ir) c.node.result.0 (columns c.args.output.now) (columns c.put.new.self) _ _ _ c.in_ok-expr_ir.ensures.name c.in_ok-expr_ir.ensures.denotes (plan_names c.args.expr) c.node.ensures typed absent named named before.ok
 
-pub returns-then-is_some-clause-err : goal.returns-then-is_some-clause-err
-returns-then-is_some-clause-err c =
+pub returns-then-before-clause-err : goal.returns-then-before-clause-err
+returns-then-before-clause-err c =
     let before = c.in_ok-before.ensures in
-    let there = had_type c.in_ok-before.before _ before.before ∙ sym c.is_some.ensures ∙ c.if-is_some.true in
+    let there = sym before.before ∙ c.if-before.true in
     let named = c.in_ok-name.ensures.ok ∙ c.output_name.ensures ∙ ap (λ (l : Label). l.name) c.in_ok-expr_ir.ensures.name in
     repeated c.at_top.ensures (subst (λ name. is_some (type_at (columns c.args.output.now) name) ≡ true) named there)
