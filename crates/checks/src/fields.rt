@@ -11,6 +11,7 @@ use plan_dsl::udfs::Udfs;
 use plan_infer::aexpr_field::{AExprFields, AExprTyping, ToFieldContext};
 use plan_infer::expr_ir_field::ExprIRTyping;
 use plan_infer::field::Context;
+use plan_infer::taken_types::TakenTypes;
 use plan_infer::type_table::{Inferred, TypeTable};
 use plan_lower::conversion::expr_field::ExprTyping;
 use plan_lower::conversion::expr_to_ir::{to_aexpr, to_expr_ir};
@@ -113,7 +114,7 @@ fn keep_in_front(rt: &impl Abort, alloc: Global, node: usize, types: &mut TypeTa
         name: Node(node),
         dtype: DataType::Int8,
         many: true,
-        operands: Vec::new(alloc),
+        operands: TakenTypes::none(),
     };
     types.keep(Node(node), own).expect(rt, NO_MEMORY);
 }

@@ -271,14 +271,14 @@ as_they_are type listed own targets none are become = ⊎_elim
 
 module _ (registry : Registry) (schema : Columns) (items : List AExpr) (table : TypeTable) (right : IsRight registry schema items table) (n : ℕ) (item : AExpr) (own : Inferred) (got : slice_get items n ≡ Some item) (keeps : KeepsEntry table n own) where
   -- a node takes operands to the types that are kept with it, where there are some
-  pub takes_listed : own.operands.items ≢ [] → TakesTo registry schema table item (map ty own.operands.items)
+  pub takes_listed : own.operands ≢ [] → TakesTo registry schema table item (map ty own.operands)
   takes_listed some typed ruling all rules = ⊎_elim
       (λ e. sym e)
-      (λ p. absurd (some (no_items own.operands.items p.0)))
+      (λ p. absurd (some (no_items own.operands p.0)))
       (listed_operands registry schema items table right n item own got keeps typed ruling all rules)
 
   -- its operands are ready for them
-  pub takes_ready : own.operands.items ≢ [] → AllReady table (inputs_of (expression_layer item)) (map ty own.operands.items)
+  pub takes_ready : own.operands ≢ [] → AllReady table (inputs_of (expression_layer item)) (map ty own.operands)
   takes_ready some =
       let e = ruled_inputs registry schema items table right n item own got keeps in
       let same = takes_listed some e.typed e.ruling e.kept e.rules in
@@ -286,7 +286,7 @@ module _ (registry : Registry) (schema : Columns) (items : List AExpr) (table : 
       subst (AllReady table (inputs_of (expression_layer item))) same (all_ready e.ruling.own.type table (inputs_of (expression_layer item)) e.typed e.ruling.operands e.kept becomes)
 
   -- and where there are none the node is strict as it is
-  pub plain_strict : own.operands.items ≡ [] → (t : Expression) → Denotes (HoldsExpression items) n t → HasKnownType (typing registry schema t) → said (is_strict_node registry schema) registry schema t ≡ true
+  pub plain_strict : own.operands ≡ [] → (t : Expression) → Denotes (HoldsExpression items) n t → HasKnownType (typing registry schema t) → said (is_strict_node registry schema) registry schema t ≡ true
   plain_strict none t d has =
       let op = op_of (expression_layer item) in
       let inputs = inputs_of (expression_layer item) in
@@ -294,7 +294,7 @@ module _ (registry : Registry) (schema : Columns) (items : List AExpr) (table : 
       let e = ruled_inputs registry schema items table right n item own got keeps in
       let typed = children_kept registry schema items table right inputs top.0 e.typed top.2 e.kept in
       let becomes = (keeps_rule registry schema op e.typed e.ruling e.rules).becomes in
-      let same = as_they_are e.ruling.own.type (map ty own.operands.items) (types_of e.typed) e.ruling.operands (ap (map ty) none) (listed_operands registry schema items table right n item own got keeps e.typed e.ruling e.kept e.rules) becomes in
+      let same = as_they_are e.ruling.own.type (map ty own.operands) (types_of e.typed) e.ruling.operands (ap (map ty) none) (listed_operands registry schema items table right n item own got keeps e.typed e.ruling e.kept e.rules) becomes in
       let whole = ap (λ r. then_typed r (typing_rule registry schema op)) typed ∙ ap own_typed e.rules in
       let is = ok_same (typing registry schema t) e.ruling.own has.typed (ap (typing registry schema) top.1 ∙ whole) has.is in
       subst (λ u. said (is_strict_node registry schema) registry schema u ≡ true) (sym top.1) (strict_from registry schema op top.0 e.typed e.ruling typed e.rules same (ap (λ (x : Typed). is_known x.type) is ∙ has.known))
@@ -309,9 +309,9 @@ pub ready_within : (table : TypeTable) (ns : List ℕ) (ts : List DataType) (i :
 ready_within table ns ts i all lt = omega (arith, lt, ready_length table ns ts all)
 
 -- the type to which a node takes the operand at a place is one
-pub same_target : (table : TypeTable) (n : ℕ) (own other : Inferred) (i : ℕ) (t u : DataType) → KeepsEntry table n own → KeepsEntry table n other → slice_get own.operands.items i ≡ Some t → slice_get other.operands.items i ≡ Some u → t ≡ u
+pub same_target : (table : TypeTable) (n : ℕ) (own other : Inferred) (i : ℕ) (t u : DataType) → KeepsEntry table n own → KeepsEntry table n other → slice_get own.operands i ≡ Some t → slice_get other.operands i ≡ Some u → t ≡ u
 same_target table n own other i t u k l at there =
-    some_same (slice_get own.operands.items i) t u at (ap (λ (x : Inferred). slice_get x.operands.items i) (keeps_one table n own other k l) ∙ there)
+    some_same (slice_get own.operands i) t u at (ap (λ (x : Inferred). slice_get x.operands i) (keeps_one table n own other k l) ∙ there)
 
 -- the operand at a place, where the table keeps more
 pub ready_here : (old new : TypeTable) (ns : List ℕ) (ts : List DataType) (i n : ℕ) → AllReady old ns (map ty ts) → slice_get ns i ≡ Some n → Extends old new → IsReadyAt new n ts i

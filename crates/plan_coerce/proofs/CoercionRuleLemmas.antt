@@ -66,12 +66,12 @@ module _ (all : Bool) (ts : List Typed) (ds : List DataType) (t : Typed) (d : Da
 module _ (registry : Registry) (schema : Columns) (items : List AExpr) (table : TypeTable) (right : IsRight registry schema items table) (n : ℕ) (own : Inferred) (keeps : KeepsEntry table n own) where
   module _ (item : AExpr) (got : slice_get items n ≡ Some item) where
     -- one that takes its operands as they are
-    pub kept_strict : own.operands.items ≡ [] → is_known (ty own.dtype) ≡ true → (t : Expression) → Denotes (HoldsExpression items) n t → said (is_strict_node registry schema) registry schema t ≡ true
+    pub kept_strict : own.operands ≡ [] → is_known (ty own.dtype) ≡ true → (t : Expression) → Denotes (HoldsExpression items) n t → said (is_strict_node registry schema) registry schema t ≡ true
     kept_strict none known t d =
         plain_strict registry schema items table right n item own got keeps none t d (record { typed = typed_of own; is = kept_typing registry schema items table right n own keeps t d; known = known })
 
     -- whether its operands are of the types that are listed tells whether it is strict
-    pub listed_strict : own.operands.items ≢ [] → is_known (ty own.dtype) ≡ true → (b : Bool) → b ≡ same_types (types_of (typings_at table (inputs_of (expression_layer item)))) (map ty own.operands.items) → (t : Expression) → Denotes (HoldsExpression items) n t → said (is_strict_node registry schema) registry schema t ≡ b
+    pub listed_strict : own.operands ≢ [] → is_known (ty own.dtype) ≡ true → (b : Bool) → b ≡ same_types (types_of (typings_at table (inputs_of (expression_layer item)))) (map ty own.operands) → (t : Expression) → Denotes (HoldsExpression items) n t → said (is_strict_node registry schema) registry schema t ≡ b
     listed_strict some known b same t d =
         let op = op_of (expression_layer item) in
         let inputs = inputs_of (expression_layer item) in
@@ -79,14 +79,14 @@ module _ (registry : Registry) (schema : Columns) (items : List AExpr) (table : 
         let e = ruled_inputs registry schema items table right n item own got keeps in
         let targets = takes_listed registry schema items table right n item own got keeps some e.typed e.ruling e.kept e.rules in
         let typed = children_kept registry schema items table right inputs top.0 e.typed top.2 e.kept in
-        let here = over_kept (λ ts. b ≡ same_types (types_of ts) (map ty own.operands.items)) table inputs inputs refl same e.typed e.kept in
+        let here = over_kept (λ ts. b ≡ same_types (types_of ts) (map ty own.operands)) table inputs inputs refl same e.typed e.kept in
         let own_known : is_known e.ruling.own.type ≡ true = ap (λ (x : Typed). is_known x.type) e.is ∙ known in
         ap (said (is_strict_node registry schema) registry schema) top.1
         ∙ ap (is_strict_over registry schema op) typed
         ∙ ap (is_strict_rule (types_of e.typed)) e.rules
         ∙ ap (λ l. same_types (types_of e.typed) l && is_known e.ruling.own.type) targets
-        ∙ ap (λ k. same_types (types_of e.typed) (map ty own.operands.items) && k) own_known
-        ∙ and_true (same_types (types_of e.typed) (map ty own.operands.items))
+        ∙ ap (λ k. same_types (types_of e.typed) (map ty own.operands) && k) own_known
+        ∙ and_true (same_types (types_of e.typed) (map ty own.operands))
         ∙ sym here
 
     -- a number without a type is not
@@ -226,13 +226,13 @@ module _ (registry : Registry) (schema : Columns) (old new : List AExpr) (table 
       }
 
   -- a node over operands that were made of their types
-  pub node_replaced : is_known (ty own.dtype) ≡ true → own.operands.items ≢ [] → (over : IsOverOperands old new table table' at item) → false ≡ same_types (types_of (typings_at table (inputs_of (expression_layer over.before)))) (map ty own.operands.items) → IsRight registry schema (set new at item) table' → (t : Expression) → Denotes (HoldsExpression old) at t → IsReplacement (HasSameCasts registry schema) (said (until_strict registry schema) registry schema) registry schema old (set new at item) at t
+  pub node_replaced : is_known (ty own.dtype) ≡ true → own.operands ≢ [] → (over : IsOverOperands old new table table' at item) → false ≡ same_types (types_of (typings_at table (inputs_of (expression_layer over.before)))) (map ty own.operands) → IsRight registry schema (set new at item) table' → (t : Expression) → Denotes (HoldsExpression old) at t → IsReplacement (HasSameCasts registry schema) (said (until_strict registry schema) registry schema) registry schema old (set new at item) at t
   node_replaced known some over differs placed t d =
       let typed = kept_typing registry schema old table right at own keeps t d in
       let loose = listed_strict registry schema old table right at own keeps over.before over.got some known false differs t d in
       let takes = takes_listed registry schema old table right at over.before own over.got keeps some in
       let rew = rewired old new table table' at item g over in
-      let r = rewritten registry schema old new (set new at item) table at over.before over.nodes (map ty own.operands.items) right over.got g (over.changed own keeps) takes rew 0 t (typed_of own) zero-le (from_zero old at t d) typed in
+      let r = rewritten registry schema old new (set new at item) table at over.before over.nodes (map ty own.operands) right over.got g (over.changed own keeps) takes rew 0 t (typed_of own) zero-le (from_zero old at t d) typed in
       let stays = known_settled registry schema t (typed_of own) typed known in
       record {
         tree = node r.op r.children;
@@ -250,7 +250,7 @@ module _ (registry : Registry) (schema : Columns) (old new : List AExpr) (table 
       }
 
   -- what is kept is right of it
-  pub node_placed : own.operands.items ≢ [] → Extends table table' → IsOverOperands old new table table' at item → IsRight registry schema (set new at item) table'
+  pub node_placed : own.operands ≢ [] → Extends table table' → IsOverOperands old new table table' at item → IsRight registry schema (set new at item) table'
   node_placed some extends over =
       let takes = takes_listed registry schema old table right at over.before own over.got keeps some in
       right_rewritten registry schema old new (set new at item) table table' at over.before own over.nodes right keeps over.got g (over.changed own keeps) takes (rewired old new table table' at item g over) over.kept extends right'
@@ -277,7 +277,7 @@ over_near old new table table' at item is k g over closed =
     let roots = at ∷ [] in
     let here = kept_within old table at is k in
     let below = λ (before : AExpr) (got : slice_get old at ≡ Some before). inputs_near old roots old at before got (closed_start old roots) (root_near old at) in
-    let near = changed_near old roots old new table (inputs_of (expression_layer over.before)) over.nodes (map ty k.own.operands.items) (omega arith) (over.changed k.own k.keeps) (below over.before over.got) in
+    let near = changed_near old roots old new table (inputs_of (expression_layer over.before)) over.nodes (map ty k.own.operands) (omega arith) (over.changed k.own k.keeps) (below over.before over.got) in
     closed_put old roots new at item (omega (arith, here, length-grown old new g)) (subst (AllByRecursion (Near old roots)) (sym (ap inputs_of over.is)) near) (closed below)
 
 -- the item at a node stays as the arena grows
@@ -292,8 +292,8 @@ two_listed (a ∷ b ∷ []) default e = refl
 two_listed (a ∷ b ∷ c ∷ rest) default e = absurd (omega (arith, e))
 
 -- what can be put in place of a node that takes its operands to other types
-module _ (old new : List AExpr) (table table' : TypeTable) (at : ℕ) (own : Inferred) (inputs made : List ℕ) (is : HasRightTypes old table) (keeps : KeepsEntry table at own) (takes : TakesOperands own) (g : Grows old new) (listed : (before : AExpr) → slice_get old at ≡ Some before → inputs ≡ inputs_of (expression_layer before)) (differs : false ≡ same_types (types_of (typings_at table inputs)) (map ty own.operands.items)) where
-  pub can_replace : ((other : Inferred) → KeepsEntry table at other → AreChanged old new table inputs made (map ty other.operands.items)) → AllByRecursion (IsKept table') made → ((registry : Registry) (schema : Columns) → IsRight registry schema old table → IsRight registry schema new table') → ((start : List AExpr) (roots : List ℕ) → length start ≤ length old → AllByRecursion (Near start roots) inputs → IsClosed start roots old → IsClosed start roots new) → ((registry : Registry) (schema : Columns) (start : ℕ) → start ≤ length old → IsRight registry schema old table → AllStrictFrom start old table → AllStrictFrom start new table') → AreMadeOnce old new inputs made → Extends table table' → (item : AExpr) → IsOver old at item made → CanReplace old new table table' at item
+module _ (old new : List AExpr) (table table' : TypeTable) (at : ℕ) (own : Inferred) (inputs made : List ℕ) (is : HasRightTypes old table) (keeps : KeepsEntry table at own) (takes : TakesOperands own) (g : Grows old new) (listed : (before : AExpr) → slice_get old at ≡ Some before → inputs ≡ inputs_of (expression_layer before)) (differs : false ≡ same_types (types_of (typings_at table inputs)) (map ty own.operands)) where
+  pub can_replace : ((other : Inferred) → KeepsEntry table at other → AreChanged old new table inputs made (map ty other.operands)) → AllByRecursion (IsKept table') made → ((registry : Registry) (schema : Columns) → IsRight registry schema old table → IsRight registry schema new table') → ((start : List AExpr) (roots : List ℕ) → length start ≤ length old → AllByRecursion (Near start roots) inputs → IsClosed start roots old → IsClosed start roots new) → ((registry : Registry) (schema : Columns) (start : ℕ) → start ≤ length old → IsRight registry schema old table → AllStrictFrom start old table → AllStrictFrom start new table') → AreMadeOnce old new inputs made → Extends table table' → (item : AExpr) → IsOver old at item made → CanReplace old new table table' at item
   can_replace changed kept right closed added once extends item o =
       let k : IsKept table at = record { own = own; keeps = keeps } in
       let roots = at ∷ [] in
@@ -305,11 +305,11 @@ module _ (old new : List AExpr) (table table' : TypeTable) (at : ℕ) (own : Inf
         got = o.got;
         nodes = made;
         is = o.is;
-        changed = λ other keeps. subst (λ ns. AreChanged old new table ns made (map ty other.operands.items)) ins (changed other keeps);
+        changed = λ other keeps. subst (λ ns. AreChanged old new table ns made (map ty other.operands)) ins (changed other keeps);
         kept = kept;
       } in
       let reaches = over_near old new table table' at item is k g over (λ near. closed old roots (omega arith) (subst (AllByRecursion (Near old roots)) (sym ins) (near o.before o.got)) (closed_start old roots)) in
-      let apart = differs ∙ ap (λ ns. same_types (types_of (typings_at table ns)) (map ty own.operands.items)) ins in
+      let apart = differs ∙ ap (λ ns. same_types (types_of (typings_at table ns)) (map ty own.operands)) ins in
       let strict = λ (registry : Registry) (schema : Columns) (r : IsRight registry schema old table). added registry schema (length old) (omega arith) r (λ n le lt. absurd (omega (arith, le, lt))) in
       let placed = λ (registry : Registry) (schema : Columns) (r : IsRight registry schema old table). node_placed registry schema old new table table' at item own r keeps g (right registry schema r) (strict registry schema r) reaches takes.some extends over in
       record {

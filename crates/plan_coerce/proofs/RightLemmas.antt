@@ -61,7 +61,7 @@ names_written old new at op ns ms before after elsewhere n t w name same = ⊎_e
 
 -- what is kept stays right where one item is written
 module _ (registry : Registry) (schema : Columns) (old new : List AExpr) (table : TypeTable) (at : ℕ) (op : Op) (ns ms : List ℕ) (before : Expression) where
-  right_written : Denotes (HoldsFrom 0 old) at before → DenotesSame registry schema 0 new at before → ((n : ℕ) (op : Op) (inputs : List ℕ) → n ≢ at → HoldsExpression old n op inputs → HoldsExpression new n op inputs) → HoldsExpression old at op ns → HoldsExpression new at op ms → AllByRecursion (IsKept table) ms → ((own : Inferred) → KeepsEntry table at own → (typed : List Typed) (ruling : Ruling) → AllKept table ms typed → rule registry schema op typed ≡ Ok ruling → AreOperands (map ty own.operands.items) (types_of typed) ruling.operands) → IsRight registry schema old table → IsRight registry schema new table
+  right_written : Denotes (HoldsFrom 0 old) at before → DenotesSame registry schema 0 new at before → ((n : ℕ) (op : Op) (inputs : List ℕ) → n ≢ at → HoldsExpression old n op inputs → HoldsExpression new n op inputs) → HoldsExpression old at op ns → HoldsExpression new at op ms → AllByRecursion (IsKept table) ms → ((own : Inferred) → KeepsEntry table at own → (typed : List Typed) (ruling : Ruling) → AllKept table ms typed → rule registry schema op typed ≡ Ok ruling → AreOperands (map ty own.operands) (types_of typed) ruling.operands) → IsRight registry schema old table → IsRight registry schema new table
   right_written d same elsewhere was held known operands right = record {
     each = λ n own k.
         let e = right.each n own k in
@@ -93,7 +93,7 @@ node_within items n op inputs h =
     omega (arith, (expression_laws items).below n op inputs h, short)
 
 -- a node that was written over other inputs: what is right stays so, where something is kept of them
-right_over : (registry : Registry) (schema : Columns) (old new final : List AExpr) (table : TypeTable) (at : ℕ) (op : Op) (ns ms : List ℕ) → HoldsExpression old at op ns → Grows old new → Rewired new final at ms → (d : DenotesTyped registry schema 0 old at) → DenotesSame registry schema 0 final at d.tree → AllByRecursion (IsKept table) ms → ((own : Inferred) → KeepsEntry table at own → (typed : List Typed) (ruling : Ruling) → AllKept table ms typed → rule registry schema op typed ≡ Ok ruling → AreOperands (map ty own.operands.items) (types_of typed) ruling.operands) → IsRight registry schema new table → IsRight registry schema final table
+right_over : (registry : Registry) (schema : Columns) (old new final : List AExpr) (table : TypeTable) (at : ℕ) (op : Op) (ns ms : List ℕ) → HoldsExpression old at op ns → Grows old new → Rewired new final at ms → (d : DenotesTyped registry schema 0 old at) → DenotesSame registry schema 0 final at d.tree → AllByRecursion (IsKept table) ms → ((own : Inferred) → KeepsEntry table at own → (typed : List Typed) (ruling : Ruling) → AllKept table ms typed → rule registry schema op typed ≡ Ok ruling → AreOperands (map ty own.operands) (types_of typed) ruling.operands) → IsRight registry schema new table → IsRight registry schema final table
 right_over registry schema old new final table at op ns ms held g rew d same below operands right =
     let before = grown_held old new g at op ns held in
     let is = item_is old new final at op ns ms held g rew in
@@ -120,7 +120,7 @@ module _ (registry : Registry) (schema : Columns) (old new : List AExpr) (table 
   changed_typings type (o ∷ os) (t ∷ ts) [] k k' all become = absurd k'
 
   -- so the node's rule takes them to the same
-  operands_after : (at : ℕ) (item : AExpr) (own : Inferred) (ms : List ℕ) → slice_get old at ≡ Some item → KeepsEntry table at own → TakesTo registry schema table item (map ty own.operands.items) → AreChanged old new table (inputs_of (expression_layer item)) ms (map ty own.operands.items) → (typed : List Typed) (ruling : Ruling) → AllKept table' ms typed → rule registry schema (op_of (expression_layer item)) typed ≡ Ok ruling → AreOperands (map ty own.operands.items) (types_of typed) ruling.operands
+  operands_after : (at : ℕ) (item : AExpr) (own : Inferred) (ms : List ℕ) → slice_get old at ≡ Some item → KeepsEntry table at own → TakesTo registry schema table item (map ty own.operands) → AreChanged old new table (inputs_of (expression_layer item)) ms (map ty own.operands) → (typed : List Typed) (ruling : Ruling) → AllKept table' ms typed → rule registry schema (op_of (expression_layer item)) typed ≡ Ok ruling → AreOperands (map ty own.operands) (types_of typed) ruling.operands
   operands_after at item own ms got k takes c typed ruling kept rules =
       let op = op_of (expression_layer item) in
       let e = ruled_inputs registry schema old table right at item own got k in
@@ -144,7 +144,7 @@ module _ (registry : Registry) (schema : Columns) (old new : List AExpr) (table 
       right_kept registry schema new table table' n op inputs own held_there tree below ruled named stays only (right_grown registry schema old new table (record { added = item ∷ []; longer = grown }) right)
 
 -- a cast that was added round a node
-pub right_cast : (registry : Registry) (schema : Columns) (old new : List AExpr) (table table' : TypeTable) (input n : Node) (from own : Inferred) (target : DataType) → new ≡ old ++ Cast input target NonStrict ∷ [] → n.0 ≡ length old → KeepsEntry table input.0 from → ty own.dtype ≡ ty target → own.name ≡ from.name → own.many ≡ from.many → own.operands.items ≡ [] → is_known (ty from.dtype) ≡ true → can_cast (ty from.dtype) (ty target) ≡ true → ((n : ℕ) (other : Inferred) → KeepsEntry table n other → KeepsEntry table' n other) → ((m : ℕ) (other : Inferred) → KeepsEntry table' m other → KeepsEntry table m other ⊎ ((m ≡ n.0) × (other ≡ own))) → IsRight registry schema old table → IsRight registry schema new table'
+pub right_cast : (registry : Registry) (schema : Columns) (old new : List AExpr) (table table' : TypeTable) (input n : Node) (from own : Inferred) (target : DataType) → new ≡ old ++ Cast input target NonStrict ∷ [] → n.0 ≡ length old → KeepsEntry table input.0 from → ty own.dtype ≡ ty target → own.name ≡ from.name → own.many ≡ from.many → own.operands ≡ [] → is_known (ty from.dtype) ≡ true → can_cast (ty from.dtype) (ty target) ≡ true → ((n : ℕ) (other : Inferred) → KeepsEntry table n other → KeepsEntry table' n other) → ((m : ℕ) (other : Inferred) → KeepsEntry table' m other → KeepsEntry table m other ⊎ ((m ≡ n.0) × (other ≡ own))) → IsRight registry schema old table → IsRight registry schema new table'
 right_cast registry schema old new table table' input n from own target grown at keeps same name many none known casts stays only right =
     let g : Grows old new = record { added = Cast input target NonStrict ∷ []; longer = grown } in
     let below = (right_grown registry schema old new table g right).each input.0 from keeps in
@@ -154,7 +154,7 @@ right_cast registry schema old new table table' input n from own target grown at
     right_added registry schema old new table table' n.0 (Cast input target NonStrict) (CastOp (ty target) NonStrict) (input.0 ∷ []) own grown at refl stays only tree (record { own = from; keeps = keeps }, tt) (λ typed k. subst (λ ts. IsRuled registry schema (CastOp (ty target) NonStrict) ts own) (kept_one table (input.0 ∷ []) (typed_of from ∷ []) typed (record { own = from; keeps = keeps; is = refl }, tt) k) ruled) (by_first input.0 [] from refl keeps (ap (λ (m : Node). m.0) name) (λ names. refl)) right
 
 -- an alias that was added of a node
-pub right_alias : (registry : Registry) (schema : Columns) (old new : List AExpr) (table table' : TypeTable) (input n : Node) (name : Name) (from own : Inferred) → new ≡ old ++ Alias input name ∷ [] → n.0 ≡ length old → KeepsEntry table input.0 from → ty own.dtype ≡ ty from.dtype → own.name ≡ n → own.many ≡ from.many → own.operands.items ≡ [] → ((n : ℕ) (other : Inferred) → KeepsEntry table n other → KeepsEntry table' n other) → ((m : ℕ) (other : Inferred) → KeepsEntry table' m other → KeepsEntry table m other ⊎ ((m ≡ n.0) × (other ≡ own))) → IsRight registry schema old table → IsRight registry schema new table'
+pub right_alias : (registry : Registry) (schema : Columns) (old new : List AExpr) (table table' : TypeTable) (input n : Node) (name : Name) (from own : Inferred) → new ≡ old ++ Alias input name ∷ [] → n.0 ≡ length old → KeepsEntry table input.0 from → ty own.dtype ≡ ty from.dtype → own.name ≡ n → own.many ≡ from.many → own.operands ≡ [] → ((n : ℕ) (other : Inferred) → KeepsEntry table n other → KeepsEntry table' n other) → ((m : ℕ) (other : Inferred) → KeepsEntry table' m other → KeepsEntry table m other ⊎ ((m ≡ n.0) × (other ≡ own))) → IsRight registry schema old table → IsRight registry schema new table'
 right_alias registry schema old new table table' input n name from own grown at keeps same called many none stays only right =
     let g : Grows old new = record { added = Alias input name ∷ []; longer = grown } in
     let below = (right_grown registry schema old new table g right).each input.0 from keeps in
@@ -165,7 +165,7 @@ right_alias registry schema old new table table' input n name from own grown at 
     right_added registry schema old new table table' n.0 (Alias input name) (AliasOp name) (input.0 ∷ []) own grown at refl stays only tree (record { own = from; keeps = keeps }, tt) (λ typed k. subst (λ ts. IsRuled registry schema (AliasOp name) ts own) (kept_one table (input.0 ∷ []) (typed_of from ∷ []) typed (record { own = from; keeps = keeps; is = refl }, tt) k) ruled) (by_itself (ap (λ (m : Node). m.0) called) (λ names. refl)) right
 
 -- a literal that was added
-pub right_literal : (registry : Registry) (schema : Columns) (old new : List AExpr) (table table' : TypeTable) (n : Node) (value : LiteralValue) (own : Inferred) → new ≡ old ++ Literal value ∷ [] → n.0 ≡ length old → ty own.dtype ≡ literal_type value → own.name ≡ n → own.many ≡ false → own.operands.items ≡ [] → is_literal (literal_type value) (literal_value value) ≡ true → ((n : ℕ) (other : Inferred) → KeepsEntry table n other → KeepsEntry table' n other) → ((m : ℕ) (other : Inferred) → KeepsEntry table' m other → KeepsEntry table m other ⊎ ((m ≡ n.0) × (other ≡ own))) → IsRight registry schema old table → IsRight registry schema new table'
+pub right_literal : (registry : Registry) (schema : Columns) (old new : List AExpr) (table table' : TypeTable) (n : Node) (value : LiteralValue) (own : Inferred) → new ≡ old ++ Literal value ∷ [] → n.0 ≡ length old → ty own.dtype ≡ literal_type value → own.name ≡ n → own.many ≡ false → own.operands ≡ [] → is_literal (literal_type value) (literal_value value) ≡ true → ((n : ℕ) (other : Inferred) → KeepsEntry table n other → KeepsEntry table' n other) → ((m : ℕ) (other : Inferred) → KeepsEntry table' m other → KeepsEntry table m other ⊎ ((m ≡ n.0) × (other ≡ own))) → IsRight registry schema old table → IsRight registry schema new table'
 right_literal registry schema old new table table' n value own grown at same name many none literal stays only right =
     let held = held_there registry schema old new table table' n.0 (Literal value) (literal_op value) [] own grown at refl stays only in
     let tree : DenotesTree (HoldsExpression new) n.0 = record { tree = node (literal_op value) no_more; denotes = ([], held, tt) } in
@@ -188,12 +188,12 @@ pub kept_within : (items : List AExpr) (table : TypeTable) (n : ℕ) → HasRigh
 kept_within items table n is k = tree_within items n (plain_tree (known_typed is.registry is.schema items table is.right n k))
 
 -- what coercion leaves of a node that was written over its operands
-pub right_rewritten : (registry : Registry) (schema : Columns) (old new final : List AExpr) (table table' : TypeTable) (at : ℕ) (item : AExpr) (own : Inferred) (ms : List ℕ) → IsRight registry schema old table → KeepsEntry table at own → slice_get old at ≡ Some item → Grows old new → AreChanged old new table (inputs_of (expression_layer item)) ms (map ty own.operands.items) → TakesTo registry schema table item (map ty own.operands.items) → Rewired new final at ms → AllByRecursion (IsKept table') ms → Extends table table' → IsRight registry schema new table' → IsRight registry schema final table'
+pub right_rewritten : (registry : Registry) (schema : Columns) (old new final : List AExpr) (table table' : TypeTable) (at : ℕ) (item : AExpr) (own : Inferred) (ms : List ℕ) → IsRight registry schema old table → KeepsEntry table at own → slice_get old at ≡ Some item → Grows old new → AreChanged old new table (inputs_of (expression_layer item)) ms (map ty own.operands) → TakesTo registry schema table item (map ty own.operands) → Rewired new final at ms → AllByRecursion (IsKept table') ms → Extends table table' → IsRight registry schema new table' → IsRight registry schema final table'
 right_rewritten registry schema old new final table table' at item own ms right k got g c takes rew below extends now =
     let d = known_typed registry schema old table right at (record { own = own; keeps = k }) in
-    let made = rewritten registry schema old new final table at item ms (map ty own.operands.items) right got g c takes rew 0 d.tree d.typed zero-le d.denotes d.is in
+    let made = rewritten registry schema old new final table at item ms (map ty own.operands) right got g c takes rew 0 d.tree d.typed zero-le d.denotes d.is in
     let operands = operands_after registry schema old new table table' right now at item own ms got k takes c in
-    right_over registry schema old new final table' at (op_of (expression_layer item)) (inputs_of (expression_layer item)) ms (layer_held old at item got) g rew d (rewritten_same registry schema 0 final at d.tree d.typed made) below (λ other k' typed ruling kept rules. subst (λ (x : Inferred). AreOperands (map ty x.operands.items) (types_of typed) ruling.operands) (keeps_one table' at own other (extends.entries at own k) k') (operands typed ruling kept rules)) now
+    right_over registry schema old new final table' at (op_of (expression_layer item)) (inputs_of (expression_layer item)) ms (layer_held old at item got) g rew d (rewritten_same registry schema 0 final at d.tree d.typed made) below (λ other k' typed ruling kept rules. subst (λ (x : Inferred). AreOperands (map ty x.operands) (types_of typed) ruling.operands) (keeps_one table' at own other (extends.entries at own k) k') (operands typed ruling kept rules)) now
 
 -- a literal that was added has its type
 pub literal_kept : (registry : Registry) (schema : Columns) (items : List AExpr) (table : TypeTable) (n : ℕ) (value : LiteralValue) (k : IsKept table n) → Denotes (HoldsExpression items) n (node (literal_op value) no_more) → is_literal (literal_type value) (literal_value value) ≡ true → IsRight registry schema items table → ty k.own.dtype ≡ literal_type value
@@ -205,7 +205,7 @@ literal_kept registry schema items table n value k d literal right =
 -- ---- nodes that take their operands as they are
 
 -- a node that was added so, behind others
-pub strict_added : (registry : Registry) (schema : Columns) (start : ℕ) (old new : List AExpr) (item : AExpr) (table table' : TypeTable) (n : ℕ) (own : Inferred) → IsRight registry schema old table → new ≡ old ++ item ∷ [] → n ≡ length old → own.operands.items ≡ [] → is_known (ty own.dtype) ≡ true → IsKept table' n → ((n : ℕ) (other : Inferred) → KeepsEntry table n other → KeepsEntry table' n other) → ((m : ℕ) (other : Inferred) → KeepsEntry table' m other → KeepsEntry table m other ⊎ ((m ≡ n) × (other ≡ own))) → AllStrictFrom start old table → AllStrictFrom start new table'
+pub strict_added : (registry : Registry) (schema : Columns) (start : ℕ) (old new : List AExpr) (item : AExpr) (table table' : TypeTable) (n : ℕ) (own : Inferred) → IsRight registry schema old table → new ≡ old ++ item ∷ [] → n ≡ length old → own.operands ≡ [] → is_known (ty own.dtype) ≡ true → IsKept table' n → ((n : ℕ) (other : Inferred) → KeepsEntry table n other → KeepsEntry table' n other) → ((m : ℕ) (other : Inferred) → KeepsEntry table' m other → KeepsEntry table m other ⊎ ((m ≡ n) × (other ≡ own))) → AllStrictFrom start old table → AllStrictFrom start new table'
 strict_added registry schema start old new item table table' n own right grown at none known kept stays only before m from within =
     let is : HasRightTypes old table = record { registry = registry; schema = schema; right = right } in
     let count = ap length grown ∙ length-append old (item ∷ []) in
@@ -218,7 +218,7 @@ strict_added registry schema start old new item table table' n own right grown a
     (λ e. record {
       own = kept.own;
       keeps = subst (λ k. KeepsEntry table' k kept.own) (sym here) kept.keeps;
-      none = ap (λ (x : Inferred). x.operands.items) e.1 ∙ none;
+      none = ap (λ (x : Inferred). x.operands) e.1 ∙ none;
       known = ap (λ (x : Inferred). is_known (ty x.dtype)) e.1 ∙ known;
     })
     (only n kept.own kept.keeps))

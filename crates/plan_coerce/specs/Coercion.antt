@@ -86,7 +86,7 @@ pub record AreChanged (old new : List AExpr) (table : TypeTable) (inputs changed
 pub record KeepsStrict (table : TypeTable) (n : ℕ) : Type 0 where
   pub own : Inferred
   pub keeps : KeepsEntry table n own
-  pub none : own.operands.items ≡ []
+  pub none : own.operands ≡ []
   pub known : is_known (ty own.dtype) ≡ true
 
 -- the same of each node of an arena from a number on
@@ -95,7 +95,7 @@ AllStrictFrom start items table = (n : ℕ) → start ≤ n → n < length items
 
 -- what is kept of a node that has a type of columns, and takes its operands to types that are listed
 pub record TakesOperands (own : Inferred) : Type 0 where
-  pub some : own.operands.items ≢ []
+  pub some : own.operands ≢ []
   pub typed : (number : ℤ) → ty own.dtype ≢ Untyped number
 
 -- an item does what the one at the node does, over these nodes
@@ -111,5 +111,5 @@ pub record IsOverOperands (old new : List AExpr) (table table' : TypeTable) (at 
   pub got : slice_get old at ≡ Some before
   pub nodes : List ℕ
   pub is : expression_layer item ≡ layer (op_of (expression_layer before)) nodes
-  pub changed : (own : Inferred) → KeepsEntry table at own → AreChanged old new table (inputs_of (expression_layer before)) nodes (map ty own.operands.items)
+  pub changed : (own : Inferred) → KeepsEntry table at own → AreChanged old new table (inputs_of (expression_layer before)) nodes (map ty own.operands)
   pub kept : AllByRecursion (IsKept table') nodes

@@ -101,7 +101,7 @@ impl OptimizationRule for TypeCoercionRule {
 
 // Whether it is kept of a node that it has a type of columns and takes its operands as they are.
 fn is_settled(node: Node, types: &TypeTable) -> bool
-    ensures { result ≡ true → (own : Inferred) × KeepsEntry types.now node.0 own × (own.operands.items ≡ []) × ((number : ℤ) → ty own.dtype ≢ Untyped number) }
+    ensures { result ≡ true → (own : Inferred) × KeepsEntry types.now node.0 own × (own.operands ≡ []) × ((number : ℤ) → ty own.dtype ≢ Untyped number) }
 {
     match types.kept(node) {
         None => false,
@@ -241,11 +241,11 @@ fn change_operands(
 // Whether a node takes its operands as they are.
 fn takes_own(own: &Inferred, inputs: &[Node], types: &TypeTable) -> bool
     requires inputs { AllByRecursion (IsKept types.now) (numbers inputs.now) }
-    requires count { length own.now.operands.items ≡ length inputs.now }
-    ensures { result ≡ same_types (types_of (typings_at types.now (numbers inputs.now))) (map ty own.now.operands.items) }
+    requires count { length own.now.operands ≡ length inputs.now }
+    ensures { result ≡ same_types (types_of (typings_at types.now (numbers inputs.now))) (map ty own.now.operands) }
 {
     for index in 0..inputs.len() {
-        if types.get(inputs[index]).dtype != own.operands[index] {
+        if types.get(inputs[index]).dtype != *own.operands.get(index) {
             return false;
         }
     }

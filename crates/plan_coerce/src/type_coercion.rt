@@ -28,6 +28,7 @@ ghost use Rattle.plan_coerce.specs.Reaching.{AreMadeOnce, HasNewNodes, IsClosed,
 use plan_arena::aexpr::AExpr;
 use plan_arena::arena::{Arena, Node};
 use plan_dsl::literal::LiteralValue;
+use plan_infer::taken_types::TakenTypes;
 use plan_infer::type_table::{Inferred, TypeTable};
 use plan_types::common_type::materialize_dyn_int;
 use plan_types::dtype::{CastOptions, DataType};
@@ -43,9 +44,9 @@ pub(crate) fn operands_to(
 ) -> Result<(), PlanError>
     requires right { HasRightTypes arena.old types.old }
     requires kept { IsKept types.old node.0 }
-    requires ready { (own : Inferred) → KeepsEntry types.old node.0 own → AllReady types.old (numbers operands.old) (map ty own.operands.items) }
+    requires ready { (own : Inferred) → KeepsEntry types.old node.0 own → AllReady types.old (numbers operands.old) (map ty own.operands) }
     ensures changed { OnOk result ((own : Inferred) → KeepsEntry types.old node.0 own →
-        AreChanged arena.old arena.new types.old (numbers operands.old) (numbers operands.new) (map ty own.operands.items)) }
+        AreChanged arena.old arena.new types.old (numbers operands.old) (numbers operands.new) (map ty own.operands)) }
     ensures kept { OnOk result (AllByRecursion (IsKept types.new) (numbers operands.new)) }
     ensures right { OnOk result ((registry : Registry) (schema : Columns) →
         IsRight registry schema arena.old types.old → IsRight registry schema arena.new types.new) }
@@ -75,9 +76,9 @@ fn operand_to(
 ) -> Result<Node, PlanError>
     requires right { HasRightTypes arena.old types.old }
     requires kept { IsKept types.old node.0 }
-    requires ready { (own : Inferred) → KeepsEntry types.old node.0 own → IsReadyAt types.old input.0 own.operands.items index }
+    requires ready { (own : Inferred) → KeepsEntry types.old node.0 own → IsReadyAt types.old input.0 own.operands index }
     ensures changed { IfOk result (λ changed. (own : Inferred) (target : DataType) (from : DataType) → KeepsEntry types.old node.0 own →
-        slice_get own.operands.items index ≡ Some target → Keeps types.old input.0 from → IsChanged arena.old arena.new types.old
+        slice_get own.operands index ≡ Some target → Keeps types.old input.0 from → IsChanged arena.old arena.new types.old
         (record { input = input.0; changed = changed.0; from = ty from; target = ty target })) }
     ensures kept { IfOk result (λ changed. IsKept types.new changed.0) }
     ensures right { OnOk result ((registry : Registry) (schema : Columns) →
@@ -285,7 +286,7 @@ fn add_cast(
         name: from.name,
         dtype,
         many: from.many,
-        operands: Vec::new(arena.allocator()),
+        operands: TakenTypes::none(),
     };
     let cast = arena.add(AExpr::Cast {
         expr: input,
@@ -327,7 +328,7 @@ fn add_alias(
         name: alias,
         dtype,
         many,
-        operands: Vec::new(arena.allocator()),
+        operands: TakenTypes::none(),
     };
     types.keep(alias, own)?;
     Ok(alias)
@@ -361,7 +362,7 @@ fn add_literal(
         name: literal,
         dtype: target,
         many: false,
-        operands: Vec::new(arena.allocator()),
+        operands: TakenTypes::none(),
     };
     types.keep(literal, own)?;
     Ok(literal)

@@ -155,7 +155,7 @@ signed_so : (found : Result Signature ErrorKind) (s : Signature) (typed : List T
 signed_so found s typed shared taken is shares takes =
     ap (λ f. signed f typed) is ∙ ap (signed_sharing s typed) shares ∙ ap (signed_to s typed) takes
 
-pub signed_says : (found : Result Signature ErrorKind) (s : Signature) (typed : List Typed) (shared : Ty) (targets : List Ty) (own : Inferred) → found ≡ Ok s → shared_type s.sharing typed ≡ Ok shared → taken_from shared s 0 typed ≡ Some targets → ty own.dtype ≡ own_type s.own (get_or targets 0 NullType) → own.many ≡ many_of s.many typed → AreOperands (map ty own.operands.items) (types_of typed) targets → Says (signed found typed) typed own
+pub signed_says : (found : Result Signature ErrorKind) (s : Signature) (typed : List Typed) (shared : Ty) (targets : List Ty) (own : Inferred) → found ≡ Ok s → shared_type s.sharing typed ≡ Ok shared → taken_from shared s 0 typed ≡ Some targets → ty own.dtype ≡ own_type s.own (get_or targets 0 NullType) → own.many ≡ many_of s.many typed → AreOperands (map ty own.operands) (types_of typed) targets → Says (signed found typed) typed own
 signed_says found s typed shared targets own is shares taken type many operands =
     let own_typing = own_over s (typed_to typed targets) in
     let rules = signed_so found s typed shared (Some targets) is shares taken in

@@ -348,7 +348,7 @@ module _ (registry : Registry) (schema : Columns) (items : List AExpr) (table : 
       first_names op m rest top.0 first name top.2 keeps at same t top.1
 
   -- the operand types of a node by its item
-  pub listed_operands : (n : ℕ) (item : AExpr) (own : Inferred) → slice_get items n ≡ Some item → KeepsEntry table n own → (typed : List Typed) (ruling : Ruling) → AllKept table (inputs_of (expression_layer item)) typed → rule registry schema (op_of (expression_layer item)) typed ≡ Ok ruling → AreOperands (map ty own.operands.items) (types_of typed) ruling.operands
+  pub listed_operands : (n : ℕ) (item : AExpr) (own : Inferred) → slice_get items n ≡ Some item → KeepsEntry table n own → (typed : List Typed) (ruling : Ruling) → AllKept table (inputs_of (expression_layer item)) typed → rule registry schema (op_of (expression_layer item)) typed ≡ Ok ruling → AreOperands (map ty own.operands) (types_of typed) ruling.operands
   listed_operands n item own got k typed ruling all rules =
       (right.each n own k).operands (op_of (expression_layer item)) (inputs_of (expression_layer item)) typed ruling (layer_held items n item got) all rules
 
@@ -442,7 +442,7 @@ ruled_node registry schema items old new n op ns own held d known extends ruled 
           let before = typings_before old new extends ns typed known (subst (λ ns. AllKept new ns typed) ins kept) in
           let own' = ruled typed before in
           let one = ok_same (rule registry schema op typed) own'.ruling ruling own'.rules (ap (λ o. rule registry schema o typed) (sym is) ∙ rules) in
-          subst (λ (x : Ruling). AreOperands (map ty own.operands.items) (types_of typed) x.operands) one own'.operands;
+          subst (λ (x : Ruling). AreOperands (map ty own.operands) (types_of typed) x.operands) one own'.operands;
     }
 
 -- so what is kept stays right as it is kept

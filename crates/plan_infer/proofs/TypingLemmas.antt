@@ -61,7 +61,7 @@ module _ (items : List AExpr) (registry : Registry) (schema : Columns) where
 
 -- what a table of types says of a node is what its rule says
 module _ (registry : Registry) (schema : Columns) (op : Op) (typed : List Typed) (found : Result Taken ErrorKind) (many : Bool) (is : rule registry schema op typed ≡ ruled_as found many) where
-  pub ruled_taken : (taken : Taken) (own : Inferred) → found ≡ Ok taken → taken.type ≡ ty own.dtype → many ≡ own.many → AreOperands (map ty own.operands.items) (types_of typed) taken.operands → IsRuled registry schema op typed own
+  pub ruled_taken : (taken : Taken) (own : Inferred) → found ≡ Ok taken → taken.type ≡ ty own.dtype → many ≡ own.many → AreOperands (map ty own.operands) (types_of typed) taken.operands → IsRuled registry schema op typed own
   ruled_taken taken own e type same operands = record {
     ruling = ruling_of taken many;
     rules = is ∙ ap (λ f. ruled_as f many) e;
@@ -73,7 +73,7 @@ module _ (registry : Registry) (schema : Columns) (op : Op) (typed : List Typed)
   rule_refused error refused = refused_so _ _ error (λ kind e. ap own_typed (is ∙ ap (λ f. ruled_as f many) e)) refused
 
 -- and of a node that takes two inputs to these types
-pub pair_says : (left right : Typed) (own : Inferred) (first second : Ty) → own.many ≡ some_many (left ∷ right ∷ []) → AreOperands (map ty own.operands.items) (left.type ∷ right.type ∷ []) (first ∷ second ∷ []) → Says (ruled_as (Ok (pair_to first second (ty own.dtype))) (some_many (left ∷ right ∷ []))) (left ∷ right ∷ []) own
+pub pair_says : (left right : Typed) (own : Inferred) (first second : Ty) → own.many ≡ some_many (left ∷ right ∷ []) → AreOperands (map ty own.operands) (left.type ∷ right.type ∷ []) (first ∷ second ∷ []) → Says (ruled_as (Ok (pair_to first second (ty own.dtype))) (some_many (left ∷ right ∷ []))) (left ∷ right ∷ []) own
 pair_says left right own first second many operands = record {
   ruling = ruling_of (pair_to first second (ty own.dtype)) (some_many (left ∷ right ∷ []));
   rules = refl;
@@ -82,7 +82,7 @@ pair_says left right own first second many operands = record {
 }
 
 -- a column has the type that the schema gives it
-pub column_ruled : (registry : Registry) (schema : Columns) (name : Name) (type : Ty) (own : Inferred) → type_at schema name ≡ Some type → is_known type ≡ true → ty own.dtype ≡ type → own.many ≡ true → own.operands.items ≡ [] → IsRuled registry schema (ColumnOp name) [] own
+pub column_ruled : (registry : Registry) (schema : Columns) (name : Name) (type : Ty) (own : Inferred) → type_at schema name ≡ Some type → is_known type ≡ true → ty own.dtype ≡ type → own.many ≡ true → own.operands ≡ [] → IsRuled registry schema (ColumnOp name) [] own
 column_ruled registry schema name type own at known same many none =
     let found = ap column_type at ∙ ap (λ b. cond b (Ok (record { operands = []; type = type })) (Err InvalidOperation)) known in
     ruled_taken registry schema (ColumnOp name) [] (column_type (type_at schema name)) true refl (record { operands = []; type = type }) own found (sym same) (sym many) (inl (ap (map ty) none))
@@ -97,7 +97,7 @@ column_unknown registry schema name type error e at unknown =
     rule_refused registry schema (ColumnOp name) [] (column_type (type_at schema name)) true refl error (broken InvalidOperation e found)
 
 -- a literal has its own type
-pub literal_ruled : (registry : Registry) (schema : Columns) (type : Ty) (value : Val) (own : Inferred) → literal_taken type value ≡ Ok (record { operands = []; type = ty own.dtype }) → own.many ≡ false → own.operands.items ≡ [] → IsRuled registry schema (LiteralOp type value) [] own
+pub literal_ruled : (registry : Registry) (schema : Columns) (type : Ty) (value : Val) (own : Inferred) → literal_taken type value ≡ Ok (record { operands = []; type = ty own.dtype }) → own.many ≡ false → own.operands ≡ [] → IsRuled registry schema (LiteralOp type value) [] own
 literal_ruled registry schema type value own found many none =
     ruled_taken registry schema (LiteralOp type value) [] (literal_taken type value) false refl (record { operands = []; type = ty own.dtype }) own found refl (sym many) (inl (ap (map ty) none))
 
@@ -111,7 +111,7 @@ binary_refused registry schema operator left right error refused =
     rule_refused registry schema (BinaryOp operator) (left ∷ right ∷ []) (operator_types operator (left.type ∷ right.type ∷ [])) (left.many || (right.many || false)) refl error refused
 
 -- a cast of an operand
-pub cast_ruled : (registry : Registry) (schema : Columns) (target : Ty) (options : CastOptions) (from : Typed) (alone : Ty) (own : Inferred) → type_alone from.type ≡ Some alone → can_cast alone target ≡ true → ty own.dtype ≡ target → own.many ≡ from.many → AreOperands (map ty own.operands.items) (from.type ∷ []) (alone ∷ []) → IsRuled registry schema (CastOp target options) (from ∷ []) own
+pub cast_ruled : (registry : Registry) (schema : Columns) (target : Ty) (options : CastOptions) (from : Typed) (alone : Ty) (own : Inferred) → type_alone from.type ≡ Some alone → can_cast alone target ≡ true → ty own.dtype ≡ target → own.many ≡ from.many → AreOperands (map ty own.operands) (from.type ∷ []) (alone ∷ []) → IsRuled registry schema (CastOp target options) (from ∷ []) own
 cast_ruled registry schema target options from alone own is casts type many operands =
     let found = ap (cast_taken target) is ∙ ap (λ b. cond b (Ok (record { operands = alone ∷ []; type = target })) (Err InvalidOperation)) casts in
     ruled_taken registry schema (CastOp target options) (from ∷ []) (cast_taken target (type_alone from.type)) from.many refl (record { operands = alone ∷ []; type = target }) own found (sym type) (sym many) operands

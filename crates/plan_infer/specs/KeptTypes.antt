@@ -78,7 +78,7 @@ pub record Says (found : Result Ruling ErrorKind) (typed : List Typed) (own : In
   pub ruling : Ruling
   pub rules : found ≡ Ok ruling
   pub is : ruling.own ≡ typed_of own
-  pub operands : AreOperands (map ty own.operands.items) (types_of typed) ruling.operands
+  pub operands : AreOperands (map ty own.operands) (types_of typed) ruling.operands
 
 -- so it is what its rule says
 abbrev pub IsRuled : Registry → Columns → Op → List Typed → Inferred → Type 0
@@ -125,7 +125,7 @@ pub record IsTypedNode (registry : Registry) (schema : Columns) (items : List AE
   pub typed : typing registry schema tree ≡ Ok (typed_of own)
   pub name : GivesName items own.name.0 tree
   pub inputs : (op : Op) (inputs : List ℕ) → HoldsExpression items n op inputs → AllByRecursion (IsKept table) inputs
-  pub operands : (op : Op) (inputs : List ℕ) (typed : List Typed) (ruling : Ruling) → HoldsExpression items n op inputs → AllKept table inputs typed → rule registry schema op typed ≡ Ok ruling → AreOperands (map ty own.operands.items) (types_of typed) ruling.operands
+  pub operands : (op : Op) (inputs : List ℕ) (typed : List Typed) (ruling : Ruling) → HoldsExpression items n op inputs → AllKept table inputs typed → rule registry schema op typed ≡ Ok ruling → AreOperands (map ty own.operands) (types_of typed) ruling.operands
 
 -- each entry that the table keeps is right of its node
 pub record IsRight (registry : Registry) (schema : Columns) (items : List AExpr) (table : TypeTable) : Type 0 where

@@ -4,4 +4,5 @@ pub mod ItemTrees
 pub mod KeptTypes
 pub mod Operands
 pub mod Samples
+pub mod TakenTypes
 pub mod Typed

@@ -85,7 +85,7 @@ refused kind place = record { kind = kind; place = place }
 -- a property of each entry that says this: the node that gives the name, the type, whether there are many, and the types
 -- to which operands are taken
 abbrev pub ForEntry : ℕ → DataType → Bool → List DataType → (Inferred → Type 0) → Type 0
-ForEntry name dtype many operands Has = (own : Inferred) → own.name.0 ≡ name → own.dtype ≡ dtype → own.many ≡ many → own.operands.items ≡ operands → Has own
+ForEntry name dtype many operands Has = (own : Inferred) → own.name.0 ≡ name → own.dtype ≡ dtype → own.many ≡ many → own.operands ≡ operands → Has own
 
 -- a property of each table that keeps these entries from that node on
 abbrev pub ForTable : ℕ → List (Option Inferred) → (TypeTable → Type 0) → Type 0

@@ -16,6 +16,7 @@ ghost use Rattle.plan_infer.specs.Operands.{is_finer};
 use crate::operator_types::OperandTypes;
 use crate::signed::{signed_typing, type_alone};
 use crate::taken::taken_typing;
+use crate::taken_types::TakenTypes;
 use crate::type_table::{Inferred, TypeTable};
 use plan_arena::arena::Node;
 use plan_dsl::function_expr::FunctionExpr;
@@ -227,7 +228,7 @@ fn field_typing(
         name: node,
         dtype,
         many: from.many,
-        operands: Vec::new(alloc),
+        operands: TakenTypes::none(),
     })
 }
 

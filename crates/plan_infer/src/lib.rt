@@ -11,5 +11,6 @@ pub mod operator_types;
 mod signed;
 pub mod steps;
 mod taken;
+pub mod taken_types;
 pub mod type_table;
 pub mod typing;

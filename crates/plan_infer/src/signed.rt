@@ -14,6 +14,7 @@ ghost use Rattle.plan_arena.specs.Items.{expression_layer, numbers, numbers_name
 ghost use Rattle.plan_infer.specs.KeptTypes.{AreOperands, IsKept, Says, name_at, typed_of, typings_at};
 ghost use Rattle.plan_infer.specs.Operands.{common_with};
 
+use crate::taken_types::TakenTypes;
 use crate::type_table::{Inferred, TypeTable};
 use plan_arena::aexpr::AExpr;
 use plan_arena::arena::Node;
@@ -458,19 +459,17 @@ pub(crate) fn unless_own(
     targets: Vec<DataType>,
     inputs: &[Node],
     types: &TypeTable,
-) -> Vec<DataType>
+) -> TakenTypes
     requires inputs { AllByRecursion (IsKept types.now) (numbers inputs.now) }
     requires targets { length targets.items ≡ length inputs.now }
-    ensures { AreOperands (map ty result.items) (types_of (typings_at types.now (numbers inputs.now))) (map ty targets.items) }
+    ensures { AreOperands (map ty result) (types_of (typings_at types.now (numbers inputs.now))) (map ty targets.items) }
 {
     for index in 0..inputs.len() {
         if types.get(inputs[index]).dtype != targets[index] {
-            return targets;
+            return TakenTypes::listed(targets);
         }
     }
-    let mut none = targets;
-    none.clear();
-    none
+    TakenTypes::none()
 }
 
 /// The type that an operand has alone: of columns, or the one that a number without a type gets.

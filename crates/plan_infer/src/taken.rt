@@ -9,6 +9,7 @@ ghost use Rattle.plan_arena.specs.Items.{numbers};
 ghost use Rattle.plan_infer.specs.KeptTypes.{AreOperands, IsKept, Says, typed_of, typings_at};
 
 use crate::operator_types::OperandTypes;
+use crate::taken_types::TakenTypes;
 use crate::type_table::{Inferred, TypeTable};
 use plan_arena::arena::Node;
 use plan_types::dtype::DataType;
@@ -59,14 +60,12 @@ pub(crate) fn widened(
     ensures name { IfOk result (λ own. own.name ≡ left.now.name) }
     ensures err { IfErr result (λ error. error ≡ no_memory) }
 {
-    let first = common.try_clone(alloc)?;
-    let second = common.try_clone(alloc)?;
-    let operands = pair(first, second, alloc)?;
+    let operand = common.try_clone(alloc)?;
     Ok(Inferred {
         name: left.name,
         dtype: common,
         many: either_many(left, right),
-        operands,
+        operands: TakenTypes::both(operand),
     })
 }
 
@@ -84,15 +83,15 @@ fn pair_unless_own(
     first: &Inferred,
     second: &Inferred,
     alloc: Global,
-) -> Result<Vec<DataType>, PlanError>
-    ensures ok { IfOk result (λ types. AreOperands (map ty types.items) (ty first.now.dtype ∷ ty second.now.dtype ∷ []) (ty left ∷ ty right ∷ [])) }
+) -> Result<TakenTypes, PlanError>
+    ensures ok { IfOk result (λ types. AreOperands (map ty types) (ty first.now.dtype ∷ ty second.now.dtype ∷ []) (ty left ∷ ty right ∷ [])) }
     ensures err { IfErr result (λ error. error ≡ no_memory) }
 {
     if first.dtype == left && second.dtype == right {
-        return Ok(Vec::new(alloc));
+        return Ok(TakenTypes::none());
     }
     let types = pair(left, right, alloc)?;
-    Ok(types)
+    Ok(TakenTypes::listed(types))
 }
 
 // Two types in a list that has room for no more.

@@ -4,6 +4,7 @@ ghost use Rattle.plan_types.specs.Errors.{no_memory};
 ghost use Rattle.plan_infer.specs.declared.type_table.Inferred.{Inferred};
 ghost use Rattle.plan_infer.specs.KeptTypes.{KeepsEntry, IsKept, kept_count, some_count};
 
+use crate::taken_types::TakenTypes;
 use plan_arena::arena::Node;
 use plan_types::dtype::DataType;
 use plan_types::error::PlanError;
@@ -18,23 +19,23 @@ pub struct Inferred {
     /// Whether its column may have another length than one.
     pub many: bool,
     /// The types to which the node takes its operands. There are none where it takes them as they are.
-    pub operands: Vec<DataType>,
+    pub operands: TakenTypes,
 }
 
 impl Inferred {
     /// Whether the node takes its operands as they are.
     pub fn is_strict(&self) -> bool
-        ensures { IsTrue result ↔ (self.now.operands.items ≡ []) }
+        ensures { IsTrue result ↔ (self.now.operands ≡ []) }
     {
         self.operands.is_empty()
     }
 
     /// The type to which the node takes the operand of that number.
     pub fn operand(&self, index: usize) -> &DataType
-        requires { index < length self.now.operands.items }
-        ensures { slice_get self.now.operands.items index ≡ Some result.now }
+        requires { index < length self.now.operands }
+        ensures { slice_get self.now.operands index ≡ Some result.now }
     {
-        &self.operands[index]
+        self.operands.get(index)
     }
 }
 

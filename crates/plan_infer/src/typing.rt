@@ -19,6 +19,7 @@ use crate::operator_types::{common_integer, operand_types};
 use crate::signed::{signature, signed_typing, type_alone, unless_own};
 use crate::steps::Steps;
 use crate::taken::{taken_typing, widened};
+use crate::taken_types::TakenTypes;
 use crate::type_table::{Inferred, TypeTable};
 use plan_arena::aexpr::AExpr;
 use plan_arena::arena::{Arena, Node};
@@ -210,7 +211,7 @@ fn column_typing(
             name: node,
             dtype,
             many: true,
-            operands: Vec::new(alloc),
+            operands: TakenTypes::none(),
         }),
         Err(error) => Err(error),
     }
@@ -228,7 +229,7 @@ fn literal_typing(node: Node, value: &LiteralValue, alloc: Global) -> Result<Inf
         name: node,
         dtype,
         many: false,
-        operands: Vec::new(alloc),
+        operands: TakenTypes::none(),
     })
 }
 
@@ -304,7 +305,7 @@ fn alias_typing(
         name: node,
         dtype,
         many: from.many,
-        operands: Vec::new(alloc),
+        operands: TakenTypes::none(),
     })
 }
 

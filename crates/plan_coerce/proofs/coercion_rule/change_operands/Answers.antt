@@ -29,7 +29,7 @@ takes_own-requires-clause-count c =
     let item = item_there c.args.arena.now c.args.node.0 e.tree e.denotes in
     let some = (c.requires.takes own c.get.ensures).some in
     let ready = takes_ready is.registry is.schema c.args.arena.now c.args.types.now is.right c.args.node.0 item.0 own item.1 c.get.ensures some in
-    sym (ready_length c.args.types.now (inputs_of (expression_layer item.0)) own.operands.items ready) ∙ sym (ap length (c.requires.listed item.0 item.1)) ∙ length-map c.args.operands.now (λ n. n.0)
+    sym (ready_length c.args.types.now (inputs_of (expression_layer item.0)) own.operands ready) ∙ sym (ap length (c.requires.listed item.0 item.1)) ∙ length-map c.args.operands.now (λ n. n.0)
 
 pub returns-then-takes_own-clause-stays : goal.returns-then-takes_own-clause-stays
 returns-then-takes_own-clause-stays c = λ stays registry schema t right d.
@@ -37,7 +37,7 @@ returns-then-takes_own-clause-stays c = λ stays registry schema t right d.
     let item = item_there c.args.arena.now c.args.node.0 t d in
     let takes = c.requires.takes own c.get.ensures in
     let known = known_not_number registry schema c.args.arena.now c.args.types.now right c.args.node.0 own c.get.ensures takes.typed in
-    let same = sym c.if-takes_own.true ∙ c.takes_own.ensures ∙ ap (λ ns. same_types (types_of (typings_at c.args.types.now ns)) (map ty own.operands.items)) (c.requires.listed item.0 item.1) in
+    let same = sym c.if-takes_own.true ∙ c.takes_own.ensures ∙ ap (λ ns. same_types (types_of (typings_at c.args.types.now ns)) (map ty own.operands)) (c.requires.listed item.0 item.1) in
     listed_strict registry schema c.args.arena.now c.args.types.now right c.args.node.0 own c.get.ensures item.0 item.1 takes.some known true same t d
 
 pub operands_to-requires-clause-ready : goal.operands_to-requires-clause-ready
@@ -46,7 +46,7 @@ operands_to-requires-clause-ready c = λ own keeps.
     let e = is.right.each c.args.node.0 own keeps in
     let item = item_there c.args.arena.now c.args.node.0 e.tree e.denotes in
     let ready = takes_ready is.registry is.schema c.args.arena.now c.args.types.now is.right c.args.node.0 item.0 own item.1 keeps (c.requires.takes own keeps).some in
-    subst (λ ns. AllReady c.args.types.now ns (map ty own.operands.items)) (sym (c.requires.listed item.0 item.1)) ready
+    subst (λ ns. AllReady c.args.types.now ns (map ty own.operands)) (sym (c.requires.listed item.0 item.1)) ready
 
 pub returns-clause-over : goal.returns-clause-over
 returns-clause-over c = λ changed.

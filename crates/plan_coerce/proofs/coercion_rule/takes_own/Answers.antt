@@ -18,19 +18,19 @@ pub returns-then-ne : goal.returns-then-ne
 returns-then-ne c =
     let i = c.loop-index.index in
     let left = typings_left c.args.types.now c.args.inputs.now i (i + 1) (record { 0 = 0 }) c.get.result.now c.loop-index-test.true c.get.ensures (omega arith) in
-    let target = drop_item c.args.own.now.operands.items i (i + 1) c.index.result.now (omega (arith, c.loop-index-test.true, c.requires.count)) c.index.ensures (omega arith) in
-    one_apart _ _ _ (typed_of c.get.result.now) c.index.result.now (drop (i + 1) (typings_at c.args.types.now (numbers c.args.inputs.now))) (drop (i + 1) c.args.own.now.operands.items) left target (ne_is _ (sym c.if-ne.ensures)) c.loop-index.invariant.left
+    let target = drop_item c.args.own.now.operands i (i + 1) c.index.result.now (omega (arith, c.loop-index-test.true, c.requires.count)) c.index.ensures (omega arith) in
+    one_apart _ _ _ (typed_of c.get.result.now) c.index.result.now (drop (i + 1) (typings_at c.args.types.now (numbers c.args.inputs.now))) (drop (i + 1) c.args.own.now.operands) left target (ne_is _ (sym c.if-ne.ensures)) c.loop-index.invariant.left
 
 pub loop-index-preserved : goal.loop-index-preserved
 loop-index-preserved c =
     let i = c.loop-index.index in
     let left = typings_left c.args.types.now c.args.inputs.now i (i + 1) (record { 0 = 0 }) c.get.result.now c.loop-index-test.true c.get.ensures (omega arith) in
-    let target = drop_item c.args.own.now.operands.items i (i + 1) c.index.result.now (omega (arith, c.loop-index-test.true, c.requires.count)) c.index.ensures (omega arith) in
-    record { left = one_same _ _ _ (typed_of c.get.result.now) c.index.result.now (drop (i + 1) (typings_at c.args.types.now (numbers c.args.inputs.now))) (drop (i + 1) c.args.own.now.operands.items) left target (not-false _ (sym c.if-ne.ensures)) c.loop-index.invariant.left }
+    let target = drop_item c.args.own.now.operands i (i + 1) c.index.result.now (omega (arith, c.loop-index-test.true, c.requires.count)) c.index.ensures (omega arith) in
+    record { left = one_same _ _ _ (typed_of c.get.result.now) c.index.result.now (drop (i + 1) (typings_at c.args.types.now (numbers c.args.inputs.now))) (drop (i + 1) c.args.own.now.operands) left target (not-false _ (sym c.if-ne.ensures)) c.loop-index.invariant.left }
 
 pub returns : goal.returns
 returns c =
     let i = c.loop-index.index in
     let whole : i ≡ length c.args.inputs.now = omega (arith, c.loop-index-test.false, c.loop-index.auto.index-end) in
     let none = none_left c.args.types.now c.args.inputs.now i whole in
-    sym (ap (λ ts. same_types (types_of ts) (map ty (drop i c.args.own.now.operands.items))) none ∙ ap (λ ds. same_types [] (map ty ds)) (drop_all c.args.own.now.operands.items i (whole ∙ sym c.requires.count))) ∙ c.loop-index.invariant.left
+    sym (ap (λ ts. same_types (types_of ts) (map ty (drop i c.args.own.now.operands))) none ∙ ap (λ ds. same_types [] (map ty ds)) (drop_all c.args.own.now.operands i (whole ∙ sym c.requires.count))) ∙ c.loop-index.invariant.left

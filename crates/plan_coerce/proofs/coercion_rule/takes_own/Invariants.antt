@@ -8,5 +8,5 @@ use Rattle.plan_coerce.proofs.coercion_rule.takes_own.Given as goal
 
 abbrev pub invariant-loop-index : goal.invariant-loop-index
 invariant-loop-index l = record {
-  left : let all = typings_at l.types (numbers l.inputs) in same_types (types_of (drop l.index all)) (map ty (drop l.index l.own.operands.items)) ≡ same_types (types_of all) (map ty l.own.operands.items);
+  left : let all = typings_at l.types (numbers l.inputs) in same_types (types_of (drop l.index all)) (map ty (drop l.index l.own.operands)) ≡ same_types (types_of all) (map ty l.own.operands);
 }

@@ -12,7 +12,7 @@ use Rattle.plan_coerce.proofs.type_coercion.operand_to.Goals as goal
 pub operand-target-requires : goal.operand-target-requires
 operand-target-requires c =
     let here = c.requires.ready c.get.result.now c.get.ensures in
-    slice_get_within c.get.result.now.operands.items c.args.index here.target here.there
+    slice_get_within c.get.result.now.operands c.args.index here.target here.there
 
 pub get-requires-2 : goal.get-requires-2
 get-requires-2 c =
@@ -31,7 +31,7 @@ returns-then-eq-clause-once c = itself_once c.args.arena.now c.args.input.0
 pub made_of-requires-clause-ready : goal.made_of-requires-clause-ready
 made_of-requires-clause-ready c =
     let here = c.requires.ready c.get.result.now c.get.ensures in
-    let is = some_same (slice_get c.get.result.now.operands.items c.args.index) here.target c.operand-target.result.now here.there c.operand-target.ensures in
+    let is = some_same (slice_get c.get.result.now.operands c.args.index) here.target c.operand-target.result.now here.there c.operand-target.ensures in
     subst (IsReady c.args.types.now c.args.input.0) (ap ty is ∙ sym c.in_ok-target.ensures.ok) here.ready
 
 pub made_of-requires-clause-other : goal.made_of-requires-clause-other

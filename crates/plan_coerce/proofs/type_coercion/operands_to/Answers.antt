@@ -28,7 +28,7 @@ operand_to-requires-clause-ready c = λ own keeps.
     let within : c.loop-index.index < length c.loop-index.operands = omega (arith, c.loop-index-test.true, c.loop-index.auto.operands) in
     let at = node_there c.loop-index.operands c.args.operands.now c.loop-index.index (record { 0 = 0 }) within c.loop-index.invariant.left in
     let input = (get_or c.loop-index.operands c.loop-index.index (record { 0 = 0 })).0 in
-    subst (λ (x : Inferred). IsReadyAt mid input x.operands.items c.loop-index.index) same (ready_here c.args.types.now mid (numbers c.args.operands.now) first.operands.items c.loop-index.index input (c.requires.ready first base) at c.loop-index.invariant.extends)
+    subst (λ (x : Inferred). IsReadyAt mid input x.operands c.loop-index.index) same (ready_here c.args.types.now mid (numbers c.args.operands.now) first.operands c.loop-index.index input (c.requires.ready first base) at c.loop-index.invariant.extends)
 
 pub loop-index-init : goal.loop-index-init
 loop-index-init c =
@@ -70,12 +70,12 @@ loop-index-preserved c =
       kept = kept_more c.loop-index.types c.operand_to.new.types (take i nodes) after made one.extends before.kept one.kept longer;
       changed = λ own keeps.
           let ready = c.requires.ready own keeps in
-          let here = ready_here c.args.types.now c.args.types.now ns own.operands.items i n ready at (extends_itself c.args.types.now) in
+          let here = ready_here c.args.types.now c.args.types.now ns own.operands i n ready at (extends_itself c.args.types.now) in
           let t = here.target in
-          let is = sym (get_or_from_slice_get own.operands.items i t t here.there) in
-          let also = ready_within c.args.types.now ns own.operands.items i ready (omega (arith, c.loop-index-test.true, c.loop-index.auto.operands, length-map c.args.operands.now (λ n. n.0))) in
+          let is = sym (get_or_from_slice_get own.operands i t t here.there) in
+          let also = ready_within c.args.types.now ns own.operands i ready (omega (arith, c.loop-index-test.true, c.loop-index.auto.operands, length-map c.args.operands.now (λ n. n.0))) in
           let dtype = here.ready.dtype in
-          changed_more old mid new c.args.types.now c.loop-index.types ns (take i nodes) after own.operands.items i n made t t (before.changed own keeps) at also is refl longer before.grows one.grows dtype here.ready.keeps (one.changed own t dtype (before.extends.entries c.args.node.0 own keeps) here.there (still_keeps c.args.types.now c.loop-index.types before.extends n dtype here.ready.keeps));
+          changed_more old mid new c.args.types.now c.loop-index.types ns (take i nodes) after own.operands i n made t t (before.changed own keeps) at also is refl longer before.grows one.grows dtype here.ready.keeps (one.changed own t dtype (before.extends.entries c.args.node.0 own keeps) here.there (still_keeps c.args.types.now c.loop-index.types before.extends n dtype here.ready.keeps));
       left = one_less nodes c.args.operands.now i (record { 0 = 0 }) within before.left made;
     }
 
@@ -87,7 +87,7 @@ returns-clause-changed c = λ own keeps.
     let done : length nodes ≤ c.loop-index.index = omega (arith, c.loop-index-test.false, c.loop-index.auto.operands) in
     let whole = take_all c.loop-index.index nodes done in
     let end : c.loop-index.index ≡ length ns = omega (arith, c.loop-index-test.false, c.loop-index.auto.index-end, c.loop-index.auto.operands, length-map c.args.operands.now (λ n. n.0)) in
-    subst (λ made. AreChanged old c.loop-index.arena c.args.types.now ns (numbers made) (map ty own.operands.items)) whole (all_changed old c.loop-index.arena c.args.types.now ns (take c.loop-index.index nodes) own.operands.items c.loop-index.index end (ready_length c.args.types.now ns own.operands.items (c.requires.ready own keeps)) (c.loop-index.invariant.changed own keeps))
+    subst (λ made. AreChanged old c.loop-index.arena c.args.types.now ns (numbers made) (map ty own.operands)) whole (all_changed old c.loop-index.arena c.args.types.now ns (take c.loop-index.index nodes) own.operands c.loop-index.index end (ready_length c.args.types.now ns own.operands (c.requires.ready own keeps)) (c.loop-index.invariant.changed own keeps))
 
 pub returns-clause-kept : goal.returns-clause-kept
 returns-clause-kept c =

@@ -21,6 +21,6 @@ invariant-loop-index l =
       closed : (start : List AExpr) (roots : List ℕ) → length start ≤ length l.initial.arena → AllByRecursion (Near start roots) (numbers l.initial.operands) → IsClosed start roots l.initial.arena → IsClosed start roots l.arena;
       once : AreMadeOnce l.initial.arena l.arena (take l.index (numbers l.initial.operands)) (numbers (take l.index l.operands));
       kept : AllByRecursion (IsKept l.types) (numbers (take l.index l.operands));
-      changed : (own : Inferred) → KeepsEntry l.initial.types l.node.0 own → AreChanged l.initial.arena l.arena l.initial.types (take l.index (numbers l.initial.operands)) (numbers (take l.index l.operands)) (map ty (take l.index own.operands.items));
+      changed : (own : Inferred) → KeepsEntry l.initial.types l.node.0 own → AreChanged l.initial.arena l.arena l.initial.types (take l.index (numbers l.initial.operands)) (numbers (take l.index l.operands)) (map ty (take l.index own.operands));
       left : drop l.index l.operands ≡ drop l.index l.initial.operands;
     }

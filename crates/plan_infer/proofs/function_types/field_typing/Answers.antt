@@ -31,11 +31,11 @@ returns-in_err-dtype-clause-err c =
 pub returns-clause-ok : goal.returns-clause-ok
 returns-clause-ok c =
     let from = c.get-from.result.now in
-    let own : Inferred = record { name = c.args.node; dtype = c.in_ok-dtype.dtype; many = from.many; operands = c.new.result } in
+    let own : Inferred = record { name = c.args.node; dtype = c.in_ok-dtype.dtype; many = from.many; operands = c.none.result } in
     let typed = one_typing c.args.types.now c.args.inputs.now (record { 0 = 0 }) from c.if-inputs-ne1.false c.get-from.ensures in
     subst (λ ts. Says (function_rule (FieldByName c.args.name.now) ts) ts own) (sym typed) (record {
       ruling = ruling_of (record { operands = ty from.dtype ∷ []; type = ty c.in_ok-dtype.dtype }) from.many;
       rules = ap (λ f. ruled_as f from.many) c.in_ok-dtype.ensures.ok;
       is = refl;
-      operands = inr (ap (map ty) c.new.ensures.items, refl);
+      operands = inr (ap (map ty) c.none.ensures, refl);
     })

@@ -25,4 +25,4 @@ returns c =
     let i = c.loop-index.index in
     let whole : i ≡ length c.args.inputs.now = omega (arith, c.loop-index-test.false, c.loop-index.auto.index-end) in
     let none = none_left c.args.types.now c.args.inputs.now i whole in
-    inr (ap (map ty) c.clear.ensures.items, c.loop-index.invariant.left (ap types_of none ∙ sym (ap (map ty) (drop_all c.args.targets.items i (whole ∙ sym c.requires.targets)))))
+    inr (ap (map ty) c.none.ensures, c.loop-index.invariant.left (ap types_of none ∙ sym (ap (map ty) (drop_all c.args.targets.items i (whole ∙ sym c.requires.targets)))))

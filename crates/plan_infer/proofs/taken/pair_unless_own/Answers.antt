@@ -9,4 +9,4 @@ returns-then-eq-2-clause-ok c =
     let second = ty c.args.second.now.dtype in
     let one = same_type_exact first (ty c.args.left) (sym c.eq.ensures ∙ c.if-eq.true) in
     let other = same_type_exact second (ty c.args.right) (sym c.eq-then-eq.ensures ∙ c.if-eq-2.true) in
-    inr (ap (map ty) c.new.ensures.items, ap (λ type. type ∷ second ∷ []) one ∙ ap (λ type. ty c.args.left ∷ type ∷ []) other)
+    inr (ap (map ty) c.none.ensures, ap (λ type. type ∷ second ∷ []) one ∙ ap (λ type. ty c.args.left ∷ type ∷ []) other)

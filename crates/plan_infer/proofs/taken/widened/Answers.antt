@@ -8,7 +8,6 @@ use Rattle.plan_infer.proofs.taken.widened.Goals as goal
 pub returns-clause-ok : goal.returns-clause-ok
 returns-clause-ok c =
     let common = ty c.args.common in
-    let second = c.in_ok-second.second in
-    let own : Inferred = record { name = c.args.left.now.name; dtype = c.args.common; many = c.either_many.result; operands = c.in_ok-operands.operands } in
-    let listed = ap (map ty) c.in_ok-operands.ensures.ok ∙ ap (λ type. type ∷ ty second ∷ []) c.in_ok-first.ensures.ok ∙ ap (λ type. common ∷ type ∷ []) c.in_ok-second.ensures.ok in
+    let own : Inferred = record { name = c.args.left.now.name; dtype = c.args.common; many = c.either_many.result; operands = c.both.result } in
+    let listed = ap (map ty) c.both.ensures ∙ ap (λ type. type ∷ type ∷ []) c.in_ok-operand.ensures.ok in
     pair_says (typed_of c.args.left.now) (typed_of c.args.right.now) own common common c.either_many.ensures (inl listed)

@@ -14,7 +14,7 @@ get-from-requires c = all_at (IsKept c.args.types.now) c.args.inputs.now 0 (reco
 pub returns-clause-ok : goal.returns-clause-ok
 returns-clause-ok c = λ registry schema name.
     let from = c.get-from.result.now in
-    let own : Inferred = record { name = c.args.node; dtype = c.in_ok-dtype.dtype; many = from.many; operands = c.new.result } in
+    let own : Inferred = record { name = c.args.node; dtype = c.in_ok-dtype.dtype; many = from.many; operands = c.none.result } in
     let typed = one_typing c.args.types.now c.args.inputs.now (record { 0 = 0 }) from c.requires.one c.get-from.ensures in
     let same = c.in_ok-dtype.ensures.ok in
-    subst (λ ts. IsRuled registry schema (AliasOp name) ts own) (sym typed) (record { ruling = aliased (typed_of from); rules = refl; is = λ i. record { type = sym same i; many = from.many }; operands = inr (ap (map ty) c.new.ensures.items, refl) })
+    subst (λ ts. IsRuled registry schema (AliasOp name) ts own) (sym typed) (record { ruling = aliased (typed_of from); rules = refl; is = λ i. record { type = sym same i; many = from.many }; operands = inr (ap (map ty) c.none.ensures, refl) })

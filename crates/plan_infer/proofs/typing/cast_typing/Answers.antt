@@ -35,5 +35,5 @@ returns-clause-ok c = λ registry schema options.
     let own : Inferred = record { name = from.name; dtype = c.in_ok-dtype.dtype; many = from.many; operands = c.unless_own.result } in
     let typed = one_typing c.args.types.now c.args.inputs.now (record { 0 = 0 }) from c.requires.one c.get-from.ensures in
     let targets = c.in_ok-push.ensures.items ∙ ap (λ ts. ts ++ c.in_ok-own.own ∷ []) c.new-targets.ensures.items in
-    let operands = subst (λ ts. AreOperands (map ty c.unless_own.result.items) (types_of ts) (ty c.in_ok-own.own ∷ [])) typed (subst (λ ts. AreOperands (map ty c.unless_own.result.items) (types_of (typings_at c.args.types.now (numbers c.args.inputs.now))) (map ty ts)) targets c.unless_own.ensures) in
+    let operands = subst (λ ts. AreOperands (map ty c.unless_own.result) (types_of ts) (ty c.in_ok-own.own ∷ [])) typed (subst (λ ts. AreOperands (map ty c.unless_own.result) (types_of (typings_at c.args.types.now (numbers c.args.inputs.now))) (map ty ts)) targets c.unless_own.ensures) in
     subst (λ ts. IsRuled registry schema (CastOp target options) ts own) (sym typed) (cast_ruled registry schema target options (typed_of from) (ty c.in_ok-own.own) own c.in_ok-own.ensures.ok (sym c.can_cast.ensures ∙ c.if-not-can_cast.false) c.in_ok-dtype.ensures.ok refl operands)

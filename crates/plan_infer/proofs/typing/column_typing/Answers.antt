@@ -12,4 +12,4 @@ returns-then-not-is_known-clause-err c = λ registry.
 
 pub returns-in-Ok-clause-ok : goal.returns-in-Ok-clause-ok
 returns-in-Ok-clause-ok c = λ registry.
-    column_ruled registry (columns c.args.schema.now) c.args.name.now _ _ (sym c.in-Some.ensures) (sym c.is_known.ensures ∙ c.if-not-is_known.false) c.in-Ok.ensures.ok refl c.new.ensures.items
+    column_ruled registry (columns c.args.schema.now) c.args.name.now _ _ (sym c.in-Some.ensures) (sym c.is_known.ensures ∙ c.if-not-is_known.false) c.in-Ok.ensures.ok refl c.none.ensures

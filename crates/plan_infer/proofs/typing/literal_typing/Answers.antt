@@ -10,4 +10,4 @@ returns-in_err-dtype-clause-err c =
 
 pub returns-clause-ok : goal.returns-clause-ok
 returns-clause-ok c = λ registry schema.
-    literal_ruled registry schema (literal_type c.args.value.now) (literal_value c.args.value.now) _ c.in_ok-dtype.ensures.ok refl c.new.ensures.items
+    literal_ruled registry schema (literal_type c.args.value.now) (literal_value c.args.value.now) _ c.in_ok-dtype.ensures.ok refl c.none.ensures

@@ -22,7 +22,7 @@ none_kept table own first entries keeps =
 keeps_one : (table : TypeTable) (own : Inferred) → table.first ≡ 2 → table.entries.items ≡ Some own ∷ [] → KeepsEntry table 2 own
 keeps_one table own first entries = rw (first, entries) (omega arith, refl)
 
-keeps_strict : (table : TypeTable) (own : Inferred) → table.first ≡ 2 → table.entries.items ≡ Some own ∷ [] → own.dtype ≡ dtype.Int32 → own.operands.items ≡ [] → KeepsStrict table 2
+keeps_strict : (table : TypeTable) (own : Inferred) → table.first ≡ 2 → table.entries.items ≡ Some own ∷ [] → own.dtype ≡ dtype.Int32 → own.operands ≡ [] → KeepsStrict table 2
 keeps_strict table own first entries d o = record { own = own; keeps = keeps_one table own first entries; none = o; known = ap (λ t. is_known (ty t)) d }
 
 pub returns-clause-strict : goal.returns-clause-strict
@@ -33,7 +33,7 @@ some_types t ts e = cc
 
 pub returns-clause-taken_to_another : goal.returns-clause-taken_to_another
 returns-clause-taken_to_another c = λ own n d m o table first entries strict.
-    some_types dtype.Int32 (dtype.Int32 ∷ []) (sym o ∙ ap (λ (e : Inferred). e.operands.items) (one_kept table own strict.own first entries strict.keeps) ∙ strict.none)
+    some_types dtype.Int32 (dtype.Int32 ∷ []) (sym o ∙ ap (λ (e : Inferred). e.operands) (one_kept table own strict.own first entries strict.keeps) ∙ strict.none)
 
 pub returns-clause-number : goal.returns-clause-number
 returns-clause-number c = λ own n d m o table first entries strict.

@@ -80,7 +80,7 @@ some_types types is none = cc
 
 pub returns-clause-takes : goal.returns-clause-takes
 returns-clause-takes c = λ own n d m o. record {
-  some = some_types own.operands.items o;
+  some = some_types own.operands o;
   typed = λ number e. false≢true (sym (ap is_known (ap ty (sym d) ∙ e)));
 }
 
@@ -102,7 +102,7 @@ returns-clause-cast c = λ left ln ld lm lo right rn rd rm ro own n d m o cast c
       got = refl;
       nodes = 3 ∷ 1 ∷ [];
       is = refl;
-      changed = λ found keeps. subst (λ ts. AreChanged sum_items grown_items table (0 ∷ 1 ∷ []) (3 ∷ 1 ∷ []) (map ty ts)) (sym o ∙ ap (λ (e : Inferred). e.operands.items) (last_kept table left right own found first entries keeps)) changed;
+      changed = λ found keeps. subst (λ ts. AreChanged sum_items grown_items table (0 ∷ 1 ∷ []) (3 ∷ 1 ∷ []) (map ty ts)) (sym o ∙ ap (λ (e : Inferred). e.operands) (last_kept table left right own found first entries keeps)) changed;
       kept = (record { own = cast; keeps = keeps_cast }, (record { own = right; keeps = kept_right }, tt));
     }
 

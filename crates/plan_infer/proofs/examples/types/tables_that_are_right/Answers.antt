@@ -32,7 +32,7 @@ column_op op inputs h = cc
 column_inputs : (op : Op) (inputs : List ℕ) → HoldsExpression a_items 0 op inputs → inputs ≡ []
 column_inputs op inputs h = cc
 
-column_typed : (own : Inferred) (table : TypeTable) → own.name.0 ≡ 0 → own.dtype ≡ dtype.Int8 → own.many ≡ true → own.operands.items ≡ [] → IsTypedNode [] (one_column int8) a_items table 0 own
+column_typed : (own : Inferred) (table : TypeTable) → own.name.0 ≡ 0 → own.dtype ≡ dtype.Int8 → own.many ≡ true → own.operands ≡ [] → IsTypedNode [] (one_column int8) a_items table 0 own
 column_typed own table n d m o = record {
   tree = a;
   denotes = ([], refl, tt);
@@ -135,7 +135,7 @@ returns-clause-node_of_a_sum c = λ left ln ld lm lo right rn rd rm ro own n d m
 no_types : [] ≡ int32 ∷ int32 ∷ [] → ⊥
 no_types e = cc
 
-none_or_apart : (own : Inferred) → own.operands.items ≡ [] → AreOperands (map ty own.operands.items) (int8 ∷ int32 ∷ []) (int32 ∷ int32 ∷ []) → ⊥
+none_or_apart : (own : Inferred) → own.operands ≡ [] → AreOperands (map ty own.operands) (int8 ∷ int32 ∷ []) (int32 ∷ int32 ∷ []) → ⊥
 none_or_apart own none are = ⊎_elim
     (λ e. no_types (sym (ap (map ty) none) ∙ e))
     (λ p. let differs : true ≡ false = ap (same_types (int8 ∷ int32 ∷ [])) p.1 in cc)
