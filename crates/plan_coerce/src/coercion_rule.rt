@@ -245,7 +245,7 @@ fn takes_own(own: &Inferred, inputs: &[Node], types: &TypeTable) -> bool
     ensures { result ≡ same_types (types_of (typings_at types.now (numbers inputs.now))) (map ty own.now.operands) }
 {
     for index in 0..inputs.len() {
-        if types.get(inputs[index]).dtype != *own.operands.get(index) {
+        if types.get(inputs[index]).dtype != *own.operand(index) {
             return false;
         }
     }

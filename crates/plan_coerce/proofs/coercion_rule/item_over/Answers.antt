@@ -52,7 +52,7 @@ pub set_inputs-requires : goal.set_inputs-requires
 set_inputs-requires c =
     let stays = item_stays c.args.arena.now c.change_operands-2.new.arena c.args.node.0 c.get-2.result.now c.get-3.result.now c.get-2.ensures c.in_ok-change_operands-2.ensures.grows c.get-3.ensures in
     let same = ap inputs_of c.in_ok-item.ensures.ok ∙ ap (λ (x : AExpr). inputs_of (expression_layer x)) stays in
-    let items = c.in_ok-operands.operands in
+    let items = c.in_ok-operands.operands.items in
     let made = c.change_operands-2.new.operands in
     let count : length made ≡ length items = c.in_ok-change_operands-2.ensures.count ∙ ap length c.as_mut_slice.ensures.value in
     let whole = c.as_slice.ensures ∙ take_at made (drop (length made) items) (length items) count in
@@ -63,7 +63,7 @@ returns c =
     let made = c.change_operands-2.new.operands in
     let changed = c.in_ok-change_operands-2.ensures in
     let stays = item_stays c.args.arena.now c.change_operands-2.new.arena c.args.node.0 c.get-2.result.now c.get-3.result.now c.get-2.ensures changed.grows c.get-3.ensures in
-    let items = c.in_ok-operands.operands in
+    let items = c.in_ok-operands.operands.items in
     let count : length made ≡ length items = changed.count ∙ ap length c.as_mut_slice.ensures.value in
     let whole = c.as_slice.ensures ∙ take_at made (drop (length made) items) (length items) count in
     let is = c.set_inputs.ensures.layer ∙ ap (λ l. layer (op_of l) (numbers c.as_slice.result.now)) (c.in_ok-item.ensures.ok ∙ ap expression_layer stays) ∙ ap (λ ns. layer (op_of (expression_layer c.get-2.result.now)) (numbers ns)) whole in

@@ -1,5 +1,6 @@
 use Rattle.std.proofs.Common.{◌≡◌, ◌+◌, [], length, drop, map, sym, ap, ◌∙◌, arith}
 use Rattle.std.proofs.lemmas.Bool.{not-false}
+use Rattle.std.proofs.lemmas.Option.{get_or_from_slice_get}
 use Rattle.plan_types.proofs.ListLemmas.{drop_item}
 use Rattle.plan_types.specs.Types.{ty}
 use Rattle.plan_arena.specs.Items.{numbers}
@@ -18,15 +19,15 @@ pub returns-then-ne : goal.returns-then-ne
 returns-then-ne c =
     let i = c.loop-index.index in
     let left = typings_left c.args.types.now c.args.inputs.now i (i + 1) (record { 0 = 0 }) c.get.result.now c.loop-index-test.true c.get.ensures (omega arith) in
-    let target = drop_item c.args.own.now.operands i (i + 1) c.index.result.now (omega (arith, c.loop-index-test.true, c.requires.count)) c.index.ensures (omega arith) in
-    one_apart _ _ _ (typed_of c.get.result.now) c.index.result.now (drop (i + 1) (typings_at c.args.types.now (numbers c.args.inputs.now))) (drop (i + 1) c.args.own.now.operands) left target (ne_is _ (sym c.if-ne.ensures)) c.loop-index.invariant.left
+    let target = drop_item c.args.own.now.operands i (i + 1) c.operand.result.now (omega (arith, c.loop-index-test.true, c.requires.count)) (sym (get_or_from_slice_get _ i _ _ c.operand.ensures)) (omega arith) in
+    one_apart _ _ _ (typed_of c.get.result.now) c.operand.result.now (drop (i + 1) (typings_at c.args.types.now (numbers c.args.inputs.now))) (drop (i + 1) c.args.own.now.operands) left target (ne_is _ (sym c.if-ne.ensures)) c.loop-index.invariant.left
 
 pub loop-index-preserved : goal.loop-index-preserved
 loop-index-preserved c =
     let i = c.loop-index.index in
     let left = typings_left c.args.types.now c.args.inputs.now i (i + 1) (record { 0 = 0 }) c.get.result.now c.loop-index-test.true c.get.ensures (omega arith) in
-    let target = drop_item c.args.own.now.operands i (i + 1) c.index.result.now (omega (arith, c.loop-index-test.true, c.requires.count)) c.index.ensures (omega arith) in
-    record { left = one_same _ _ _ (typed_of c.get.result.now) c.index.result.now (drop (i + 1) (typings_at c.args.types.now (numbers c.args.inputs.now))) (drop (i + 1) c.args.own.now.operands) left target (not-false _ (sym c.if-ne.ensures)) c.loop-index.invariant.left }
+    let target = drop_item c.args.own.now.operands i (i + 1) c.operand.result.now (omega (arith, c.loop-index-test.true, c.requires.count)) (sym (get_or_from_slice_get _ i _ _ c.operand.ensures)) (omega arith) in
+    record { left = one_same _ _ _ (typed_of c.get.result.now) c.operand.result.now (drop (i + 1) (typings_at c.args.types.now (numbers c.args.inputs.now))) (drop (i + 1) c.args.own.now.operands) left target (not-false _ (sym c.if-ne.ensures)) c.loop-index.invariant.left }
 
 pub returns : goal.returns
 returns c =

@@ -21,7 +21,7 @@ returns-clause-right c = λ registry schema from keeps known casts right.
     let cast = c.in_ok-cast in
     let own = c.get-from.result.now in
     let is = type_one c.args.types.now c.args.input.0 from own.dtype keeps (type_of c.args.types.now c.args.input.0 own c.get-from.ensures) in
-    right_cast registry schema c.args.arena.now c.add.new.self c.args.types.now c.keep.new.self c.args.input cast.cast own _ c.args.target cast.ensures.ok cast.ensures.node c.get-from.ensures c.in_ok-dtype.ensures.ok refl refl c.new.ensures.items (ap (λ (d : DataType). is_known (ty d)) (sym is) ∙ known) (ap (λ (d : DataType). can_cast (ty d) (ty c.args.target)) (sym is) ∙ casts) c.in_ok-keep.ensures.stays c.in_ok-keep.ensures.only right
+    right_cast registry schema c.args.arena.now c.add.new.self c.args.types.now c.keep.new.self c.args.input cast.cast own _ c.args.target cast.ensures.ok cast.ensures.node c.get-from.ensures c.in_ok-dtype.ensures.ok refl refl c.none.ensures (ap (λ (d : DataType). is_known (ty d)) (sym is) ∙ known) (ap (λ (d : DataType). can_cast (ty d) (ty c.args.target)) (sym is) ∙ casts) c.in_ok-keep.ensures.stays c.in_ok-keep.ensures.only right
 
 pub returns-clause-extends : goal.returns-clause-extends
 returns-clause-extends c = record { entries = c.in_ok-keep.ensures.stays }
@@ -33,7 +33,7 @@ returns-clause-closed c = λ start roots near closed.
 
 pub returns-clause-added : goal.returns-clause-added
 returns-clause-added c = λ registry schema start le right known before.
-    strict_added registry schema start c.args.arena.now c.add.new.self _ c.args.types.now c.keep.new.self c.in_ok-cast.cast.0 _ right c.in_ok-cast.ensures.ok c.in_ok-cast.ensures.node c.new.ensures.items (ap is_known c.in_ok-dtype.ensures.ok ∙ known) c.in_ok-keep.ensures.kept c.in_ok-keep.ensures.stays c.in_ok-keep.ensures.only before
+    strict_added registry schema start c.args.arena.now c.add.new.self _ c.args.types.now c.keep.new.self c.in_ok-cast.cast.0 _ right c.in_ok-cast.ensures.ok c.in_ok-cast.ensures.node c.none.ensures (ap is_known c.in_ok-dtype.ensures.ok ∙ known) c.in_ok-keep.ensures.kept c.in_ok-keep.ensures.stays c.in_ok-keep.ensures.only before
 
 pub returns-clause-once : goal.returns-clause-once
 returns-clause-once c = put_once c.args.arena.now c.add.new.self (Cast c.args.input c.args.target NonStrict) _ c.args.input.0 c.in_ok-cast.cast.0 c.in_ok-cast.ensures.ok c.in_ok-cast.ensures.node refl
