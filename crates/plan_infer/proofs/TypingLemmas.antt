@@ -7,7 +7,7 @@ use Rattle.plan_types.specs.CommonTypes.{type_alone}
 use Rattle.plan_types.specs.Casts.{can_cast}
 use Rattle.plan_types.specs.Errors.{at_top, IsMemoryOr, IsRefusal, no_room, broken}
 use Rattle.plan_types.specs.declared.error.ErrorKind.{ErrorKind}
-use Rattle.plan_types.specs.declared.error.ErrorKind.TheVariants.{ColumnNotFound, InvalidOperation}
+use Rattle.plan_types.specs.declared.error.ErrorKind.TheVariants.{InvalidOperation}
 use Rattle.plan_types.specs.declared.error.PlanError.{PlanError}
 use Rattle.plan_types.specs.declared.dtype.CastOptions.{CastOptions}
 use Rattle.plan_dsl.specs.declared.operator.Operator.{Operator}
@@ -87,14 +87,13 @@ column_ruled registry schema name type own at known same many none =
     let found = ap column_type at ∙ ap (λ b. cond b (Ok (record { operands = []; type = type })) (Err InvalidOperation)) known in
     ruled_taken registry schema (ColumnOp name) [] (column_type (type_at schema name)) true refl (record { operands = []; type = type }) own found (sym same) (sym many) (inl (ap (map ty) none))
 
-pub column_missing : (registry : Registry) (schema : Columns) (name : Name) (error : PlanError) → IsMemoryOr ColumnNotFound (type_at schema name ≡ None) error → IsRefusal (typing_rule registry schema (ColumnOp name) []) error
-column_missing registry schema name error b =
-    rule_refused registry schema (ColumnOp name) [] (column_type (type_at schema name)) true refl error (⊎_elim (λ e. no_room e) (λ p. broken ColumnNotFound p.0 (ap column_type p.1)) b)
+pub column_unknown : (schema : Columns) (name : Name) (type : Ty) → type_at schema name ≡ Some type → is_known type ≡ false → column_type (type_at schema name) ≡ Err InvalidOperation
+column_unknown schema name type at unknown =
+    ap column_type at ∙ ap (λ b. cond b (Ok (record { operands = []; type = type })) (Err InvalidOperation)) unknown
 
-pub column_unknown : (registry : Registry) (schema : Columns) (name : Name) (type : Ty) (error : PlanError) → error ≡ at_top InvalidOperation → type_at schema name ≡ Some type → is_known type ≡ false → IsRefusal (typing_rule registry schema (ColumnOp name) []) error
-column_unknown registry schema name type error e at unknown =
-    let found = ap column_type at ∙ ap (λ b. cond b (Ok (record { operands = []; type = type })) (Err InvalidOperation)) unknown in
-    rule_refused registry schema (ColumnOp name) [] (column_type (type_at schema name)) true refl error (broken InvalidOperation e found)
+pub column_refused : (registry : Registry) (schema : Columns) (name : Name) (kind : ErrorKind) (error : PlanError) → error ≡ at_top kind → column_type (type_at schema name) ≡ Err kind → IsRefusal (typing_rule registry schema (ColumnOp name) []) error
+column_refused registry schema name kind error e found =
+    rule_refused registry schema (ColumnOp name) [] (column_type (type_at schema name)) true refl error (broken kind e found)
 
 -- a literal has its own type
 pub literal_ruled : (registry : Registry) (schema : Columns) (type : Ty) (value : Val) (own : Inferred) → literal_taken type value ≡ Ok (record { operands = []; type = ty own.dtype }) → own.many ≡ false → own.operands ≡ [] → IsRuled registry schema (LiteralOp type value) [] own

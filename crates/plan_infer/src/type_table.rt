@@ -113,7 +113,25 @@ impl TypeTable {
     }
 
     /// Keeps what is inferred of a node, unless something is kept of it.
+    #[inline(always)]
     pub fn keep(&mut self, node: Node, own: Inferred) -> Result<(), PlanError>
+        ensures kept { OnOk result (IsKept self.new node.0) }
+        ensures stays { (n : ℕ) (other : Inferred) → KeepsEntry self.old n other → KeepsEntry self.new n other }
+        ensures only { (n : ℕ) (other : Inferred) → KeepsEntry self.new n other →
+            KeepsEntry self.old n other ⊎ ((n ≡ node.0) × (other ≡ own)) }
+        ensures count { OnOk result (¬ (IsKept self.old node.0) → kept_count self.new ≡ kept_count self.old + 1) }
+        ensures count_stays { OnErr result (kept_count self.new ≡ kept_count self.old) }
+        ensures err { IfErr result (λ error. error ≡ no_memory) }
+    {
+        if self.is_next(node) {
+            self.entries.push(Some(own))?;
+            return Ok(());
+        }
+        self.keep_within(node, own)
+    }
+
+    // Keeps what is inferred of a node whose entry isn't the next, unless something is kept of it.
+    fn keep_within(&mut self, node: Node, own: Inferred) -> Result<(), PlanError>
         ensures kept { OnOk result (IsKept self.new node.0) }
         ensures stays { (n : ℕ) (other : Inferred) → KeepsEntry self.old n other → KeepsEntry self.new n other }
         ensures only { (n : ℕ) (other : Inferred) → KeepsEntry self.new n other →
@@ -125,7 +143,7 @@ impl TypeTable {
         if self.kept(node).is_some() {
             return Ok(());
         }
-        self.add(node, own)
+        self.add_within(node, own)
     }
 
     /// Keeps what is inferred of a node of which nothing is kept.
@@ -144,6 +162,20 @@ impl TypeTable {
             self.entries.push(Some(own))?;
             return Ok(());
         }
+        self.add_within(node, own)
+    }
+
+    // Keeps what is inferred of a node whose entry isn't the next, and of which nothing is kept.
+    fn add_within(&mut self, node: Node, own: Inferred) -> Result<(), PlanError>
+        requires { ¬ (IsKept self.old node.0) }
+        ensures kept { OnOk result (IsKept self.new node.0) }
+        ensures stays { (n : ℕ) (other : Inferred) → KeepsEntry self.old n other → KeepsEntry self.new n other }
+        ensures only { (n : ℕ) (other : Inferred) → KeepsEntry self.new n other →
+            KeepsEntry self.old n other ⊎ ((n ≡ node.0) × (other ≡ own)) }
+        ensures count { OnOk result (kept_count self.new ≡ kept_count self.old + 1) }
+        ensures count_stays { OnErr result (kept_count self.new ≡ kept_count self.old) }
+        ensures err { IfErr result (λ error. error ≡ no_memory) }
+    {
         self.start_at(node.0)?;
         let index = node.0 - self.first;
         self.make_room(index)?;
@@ -152,6 +184,7 @@ impl TypeTable {
     }
 
     // Whether the node's entry is the one behind those that there are.
+    #[inline(always)]
     fn is_next(&self, node: Node) -> bool
         ensures { result ≡ true → node.0 ≡ self.now.first + length self.now.entries.items }
     {

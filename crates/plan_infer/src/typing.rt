@@ -1,14 +1,14 @@
 //! Types of expressions in an arena.
-ghost use Rattle.std.specs.Prelude.{◌≡◌, ◌≤◌, ◌+◌, ◌⊎◌, ℕ, true, length, slice_get, OnErr, [], ◌∷◌, Some, Ok, IfOk, IfErr, OnOk};
+ghost use Rattle.std.specs.Prelude.{◌≡◌, ◌≤◌, ◌+◌, ◌⊎◌, ℕ, true, length, slice_get, OnErr, [], ◌∷◌, Some, Ok, Err, IfOk, IfErr, OnOk};
 ghost use Rattle.std.specs.List.{AllByRecursion};
 ghost use Rattle.plan_types.specs.Errors.{IsRefusal, no_memory};
-ghost use Rattle.plan_types.specs.Schemas.{Columns, Name, columns};
-ghost use Rattle.plan_types.specs.Types.{ty};
+ghost use Rattle.plan_types.specs.Schemas.{Columns, Name, columns, type_at};
+ghost use Rattle.plan_types.specs.Types.{is_known, ty};
 ghost use Rattle.plan_types.specs.declared.dtype.CastOptions.{CastOptions};
 ghost use Rattle.plan_dsl.specs.Ops.{AliasOp, ColumnOp, BinaryOp, CastOp, Expression};
 ghost use Rattle.plan_dsl.specs.Registry.{Registry, registry};
 ghost use Rattle.plan_dsl.specs.Literals.{literal_op, literal_type, literal_value};
-ghost use Rattle.plan_dsl.specs.Typing.{typing, typing_rule, literal_taken};
+ghost use Rattle.plan_dsl.specs.Typing.{column_type, typing, typing_rule, literal_taken};
 ghost use Rattle.plan_arena.specs.Denotation.{Denotes, DenotesTree};
 ghost use Rattle.plan_arena.specs.Layers.{op_of, inputs_of};
 ghost use Rattle.plan_arena.specs.Items.{HoldsExpression, expression_layer, numbers};
@@ -58,13 +58,16 @@ pub(crate) fn type_node<M: Ledger>(
         return Ok(());
     }
     let item = arena.get(node);
-    if is_leaf(item) {
+    if let AExpr::Column(name) = item {
+        return type_column(node, name, arena, schema, types, typings);
+    }
+    if let AExpr::Literal(_) = item {
         return type_over(node, item, &[], arena, schema, udfs, types, typings);
     }
-    if let AExpr::BinaryExpr { left, right, .. } = item {
+    if let AExpr::BinaryExpr { left, op, right } = item {
         type_node(*left, arena, schema, udfs, types, typings)?;
         type_node(*right, arena, schema, udfs, types, typings)?;
-        return type_ready(node, item, arena, schema, udfs, types, typings);
+        return type_operator(node, *op, *left, *right, arena, types, typings);
     }
     let inputs = item.input_nodes();
     for index in 0..inputs.len() {
@@ -73,14 +76,74 @@ pub(crate) fn type_node<M: Ledger>(
     type_ready(node, item, arena, schema, udfs, types, typings)
 }
 
-// Whether an item is known to have no inputs, so that no list of them is made.
-fn is_leaf(item: &AExpr) -> bool
-    ensures { result ≡ true → inputs_of (expression_layer item.now) ≡ [] }
+// Types a column.
+fn type_column<M: Ledger>(
+    node: Node,
+    name: &PlSmallStr,
+    arena: &Arena<AExpr>,
+    schema: &Schema,
+    types: &mut TypeTable,
+    typings: &mut Steps<M>,
+) -> Result<(), PlanError>
+    requires tree { DenotesTree (HoldsExpression arena.now) node.0 }
+    requires held { HoldsExpression arena.now node.0 (ColumnOp name.now) [] }
+    requires none { ¬ (IsKept types.old node.0) }
+    ensures kept { OnOk result (IsKept types.new node.0) }
+    ensures right { (registry : Registry) → IsRight registry (columns schema.now) arena.now types.old → IsRight registry (columns schema.now) arena.now types.new }
+    ensures extends { Extends types.old types.new }
+    ensures only { (n : ℕ) → IsKept types.new n → IsKept types.old n ⊎ (n ≡ node.0) }
+    ensures counted { OnOk result (typings.new + kept_count types.old ≡ typings.old + kept_count types.new) }
+    ensures refused { OnErr result (typings.new + kept_count types.old ≤ typings.old + kept_count types.new + 1) }
+    ensures err { IfErr result (λ error. (registry : Registry) → IsRight registry (columns schema.now) arena.now types.old → (t : Expression) →
+        Denotes (HoldsExpression arena.now) node.0 t → IsRefusal (typing registry (columns schema.now) t) error) }
 {
-    matches!(item, AExpr::Column(_) | AExpr::Literal(_))
+    typings.tick();
+    let found = match column_dtype(name, schema) {
+        Ok(found) => found,
+        Err(kind) => return Err(PlanError::at_top(kind)),
+    };
+    let alloc = arena.allocator();
+    let dtype = found.try_clone(alloc)?;
+    types.add(
+        node,
+        Inferred {
+            name: node,
+            dtype,
+            many: true,
+            operands: TakenTypes::none(),
+        },
+    )
 }
 
-// Types a node of which each input is typed. Of two operands no list is made.
+// Types an operator of which both operands are typed. Of them no list is made.
+fn type_operator<M: Ledger>(
+    node: Node,
+    op: Operator,
+    left: Node,
+    right: Node,
+    arena: &Arena<AExpr>,
+    types: &mut TypeTable,
+    typings: &mut Steps<M>,
+) -> Result<(), PlanError>
+    requires tree { DenotesTree (HoldsExpression arena.now) node.0 }
+    requires held { HoldsExpression arena.now node.0 (BinaryOp op) (left.0 ∷ right.0 ∷ []) }
+    requires inputs { IsKept types.old left.0 × IsKept types.old right.0 }
+    requires none { ¬ (IsKept types.old node.0) }
+    ensures kept { OnOk result (IsKept types.new node.0) }
+    ensures right { (registry : Registry) (schema : Columns) → IsRight registry schema arena.now types.old → IsRight registry schema arena.now types.new }
+    ensures extends { Extends types.old types.new }
+    ensures only { (n : ℕ) → IsKept types.new n → IsKept types.old n ⊎ (n ≡ node.0) }
+    ensures counted { OnOk result (typings.new + kept_count types.old ≡ typings.old + kept_count types.new) }
+    ensures refused { OnErr result (typings.new + kept_count types.old ≤ typings.old + kept_count types.new + 1) }
+    ensures err { IfErr result (λ error. (registry : Registry) (schema : Columns) → IsRight registry schema arena.now types.old → (t : Expression) →
+        Denotes (HoldsExpression arena.now) node.0 t → IsRefusal (typing registry schema t) error) }
+{
+    typings.tick();
+    let own = binary_typing(op, &[left, right], types, arena.allocator())?;
+    types.add(node, own)
+}
+
+// Types a node of which each input is typed.
 fn type_ready<M: Ledger>(
     node: Node,
     item: &AExpr,
@@ -104,10 +167,6 @@ fn type_ready<M: Ledger>(
     ensures err { IfErr result (λ error. (t : Expression) → Denotes (HoldsExpression arena.now) node.0 t →
         IsRefusal (typing (registry udfs.now) (columns schema.now) t) error) }
 {
-    if let AExpr::BinaryExpr { left, right, .. } = item {
-        let inputs = [*left, *right];
-        return type_over(node, item, &inputs, arena, schema, udfs, types, typings);
-    }
     let nodes = item.inputs(arena.allocator())?;
     type_over(
         node,
@@ -122,7 +181,6 @@ fn type_ready<M: Ledger>(
 }
 
 // Types a node over inputs of which each is typed.
-#[inline(always)]
 fn type_over<M: Ledger>(
     node: Node,
     item: &AExpr,
@@ -188,8 +246,7 @@ pub(crate) fn own_typing(
     }
 }
 
-// A column has the type that the schema gives it, which is one of columns.
-#[inline(always)]
+// A column has the type that the schema gives it.
 fn column_typing(
     node: Node,
     name: &PlSmallStr,
@@ -200,21 +257,32 @@ fn column_typing(
     ensures name { IfOk result (λ own. own.name ≡ node) }
     ensures err { IfErr result (λ error. (registry : Registry) → IsRefusal (typing_rule registry (columns schema.now) (ColumnOp name.now) []) error) }
 {
+    let found = match column_dtype(name, schema) {
+        Ok(found) => found,
+        Err(kind) => return Err(PlanError::at_top(kind)),
+    };
+    let dtype = found.try_clone(alloc)?;
+    Ok(Inferred {
+        name: node,
+        dtype,
+        many: true,
+        operands: TakenTypes::none(),
+    })
+}
+
+// The type of a column in the schema, which must be one of columns.
+#[inline(always)]
+fn column_dtype<'a>(name: &PlSmallStr, schema: &'a Schema) -> Result<&'a DataType, ErrorKind>
+    ensures ok { IfOk result (λ dtype. (type_at (columns schema.now) name.now ≡ Some (ty dtype.now)) × (is_known (ty dtype.now) ≡ true)) }
+    ensures err { IfErr result (λ kind. column_type (type_at (columns schema.now) name.now) ≡ Err kind) }
+{
     let Some(found) = schema.get(name) else {
-        return Err(PlanError::at_top(ErrorKind::ColumnNotFound));
+        return Err(ErrorKind::ColumnNotFound);
     };
     if !found.is_known() {
-        return Err(PlanError::at_top(ErrorKind::InvalidOperation));
+        return Err(ErrorKind::InvalidOperation);
     }
-    match found.try_clone(alloc) {
-        Ok(dtype) => Ok(Inferred {
-            name: node,
-            dtype,
-            many: true,
-            operands: TakenTypes::none(),
-        }),
-        Err(error) => Err(error),
-    }
+    Ok(found)
 }
 
 // A literal has its own type, which has its value.

@@ -2,15 +2,17 @@ use Rattle.std.proofs.Common.{◌<◌, [], ◌∷◌, map, take, refl, sym, ap, 
 use Rattle.std.specs.List.{AllByRecursion}
 use Rattle.plan_types.specs.Schemas.{columns}
 use Rattle.plan_types.proofs.ResultLemmas.{passed_on}
+use Rattle.plan_dsl.specs.Ops.{BinaryOp, ColumnOp}
 use Rattle.plan_dsl.specs.Registry.{registry}
 use Rattle.plan_arena.specs.Denotation.{DenotesTree, depth_at}
 use Rattle.plan_arena.specs.Layers.{inputs_of, op_of, shape_of}
 use Rattle.plan_arena.specs.Items.{HoldsExpression, expression_layer}
-use Rattle.plan_arena.proofs.ItemLemmas.{expression_inputs, tree_within}
+use Rattle.plan_arena.proofs.ItemLemmas.{expression_inputs, got_held, tree_within}
 use Rattle.plan_arena.proofs.NumberLemmas.{all_there, all_weaker}
 use Rattle.plan_infer.specs.KeptTypes.{IsKept}
 use Rattle.plan_infer.proofs.OperatorLemmas.{below_first, below_second, operands_below}
 use Rattle.plan_infer.proofs.TableLemmas.{all_ended, all_more, below_more, below_over, extends_then, found_kept, input_refused, layer_held, no_deeper, none_found, not_yet, still_kept}
+use Rattle.plan_infer.proofs.TypingLemmas.{if_err}
 use Rattle.plan_infer.proofs.typing.+type_node.Goals as goal
 
 pub returns-then-is_some-clause-kept : goal.returns-then-is_some-clause-kept
@@ -73,11 +75,12 @@ returns-in_err-type_node-2-clause-err g t c =
     let first = c.in_ok-type_node.ensures in
     passed_on handed.result error _ handed.ensures.1 (input_refused (registry c.args.udfs.now) (columns c.args.schema.now) items c.type_node.new.types first.right error c.args.node.0 op (b.left.0 ∷ b.right.0 ∷ []) 1 b.right.0 held (first.kept, tt) refl c.in_err-type_node-2.ensures.err)
 
-pub type_ready-requires : goal.type_ready-requires
-type_ready-requires g t c =
+pub type_operator-requires : goal.type_operator-requires
+type_operator-requires g t c =
     let b = c.in-BinaryExpr in
     let items = c.args.arena.now in
     let here = operands_below items c.args.node.0 c.get-item.result.now b.left b.op b.right c.get-item.ensures c.requires.tree b.is in
+    let held = got_held items c.args.node.0 c.get-item.result.now (BinaryOp b.op) (b.left.0 ∷ b.right.0 ∷ []) c.get-item.ensures (ap expression_layer b.is) in
     let none = none_found c.args.types.now c.args.node.0 (λ own. own.now) c.kept.result c.kept.ensures (sym c.is_some.ensures ∙ c.if-is_some.false) in
     let mid = c.type_node.new.types in
     let new = c.type_node-in-BinaryExpr.new.types in
@@ -85,17 +88,16 @@ type_ready-requires g t c =
     let second = c.in_ok-type_node-2.ensures in
     record {
       tree = c.requires.tree;
-      item = c.get-item.ensures;
-      inputs = subst (AllByRecursion (IsKept new)) (sym (ap (λ i. inputs_of (expression_layer i)) b.is)) (still_kept mid new second.extends b.left.0 first.kept, (second.kept, tt));
+      held = held;
+      inputs = (still_kept mid new second.extends b.left.0 first.kept, second.kept);
       none = not_yet items c.args.types.now new new c.args.node.0 (below_second items c.args.types.now mid c.args.node.0 b.left.0 here.0.1 first.below new b.right.0 here.1.1 second.below) none;
-      right = second.right;
     }
 
 pub returns-in-BinaryExpr-clause-extends : goal.returns-in-BinaryExpr-clause-extends
 returns-in-BinaryExpr-clause-extends g t c =
     let mid = c.type_node.new.types in
     let new = c.type_node-in-BinaryExpr.new.types in
-    extends_then c.args.types.now new c.type_ready.new.types (extends_then c.args.types.now mid new c.in_ok-type_node.ensures.extends c.in_ok-type_node-2.ensures.extends) c.type_ready.ensures.extends
+    extends_then c.args.types.now new c.type_operator.new.types (extends_then c.args.types.now mid new c.in_ok-type_node.ensures.extends c.in_ok-type_node-2.ensures.extends) c.type_operator.ensures.extends
 
 pub returns-in-BinaryExpr-clause-below : goal.returns-in-BinaryExpr-clause-below
 returns-in-BinaryExpr-clause-below g t c =
@@ -104,7 +106,11 @@ returns-in-BinaryExpr-clause-below g t c =
     let here = operands_below items c.args.node.0 c.get-item.result.now b.left b.op b.right c.get-item.ensures c.requires.tree b.is in
     let mid = c.type_node.new.types in
     let new = c.type_node-in-BinaryExpr.new.types in
-    below_over items c.args.types.now new c.type_ready.new.types c.args.node.0 (below_second items c.args.types.now mid c.args.node.0 b.left.0 here.0.1 c.in_ok-type_node.ensures.below new b.right.0 here.1.1 c.in_ok-type_node-2.ensures.below) c.type_ready.ensures.only
+    below_over items c.args.types.now new c.type_operator.new.types c.args.node.0 (below_second items c.args.types.now mid c.args.node.0 b.left.0 here.0.1 c.in_ok-type_node.ensures.below new b.right.0 here.1.1 c.in_ok-type_node-2.ensures.below) c.type_operator.ensures.only
+
+pub returns-in-BinaryExpr-clause-err : goal.returns-in-BinaryExpr-clause-err
+returns-in-BinaryExpr-clause-err g t c =
+    if_err c.type_operator.result _ _ (λ error refused. refused (registry c.args.udfs.now) (columns c.args.schema.now) c.in_ok-type_node-2.ensures.right) c.type_operator.ensures.err
 
 -- ---- any inputs
 
@@ -160,13 +166,23 @@ returns-in_err-type_node-3-clause-below g t c =
     let here = all_there (λ m. DenotesTree (HoldsExpression items) m × (depth m < depth c.args.node.0)) c.input_nodes-inputs.result all c.loop-index.index c.at.result.0 c.at.ensures in
     λ n k. no_deeper items c.args.types.now c.args.node.0 n (below_more items c.args.types.now c.loop-index.types c.type_node-in-loop-index.new.types c.args.node.0 c.loop-index.invariant.below c.at.result.0 here.1 c.in_err-type_node-3.ensures.below n k)
 
+pub type_column-requires : goal.type_column-requires
+type_column-requires g t c =
+    let none = none_found c.args.types.now c.args.node.0 (λ own. own.now) c.kept.result c.kept.ensures (sym c.is_some.ensures ∙ c.if-is_some.false) in
+    let held = got_held c.args.arena.now c.args.node.0 c.get-item.result.now (ColumnOp c.in-Column.name) [] c.get-item.ensures (ap expression_layer c.in-Column.is) in
+    record { tree = c.requires.tree; held = held; none = none }
+
+pub returns-in-Column-clause-err : goal.returns-in-Column-clause-err
+returns-in-Column-clause-err g t c =
+    if_err c.type_column.result _ _ (λ error refused. refused (registry c.args.udfs.now) c.requires.right) c.type_column.ensures.err
+
 pub type_over-requires : goal.type_over-requires
 type_over-requires g t c =
     let none = none_found c.args.types.now c.args.node.0 (λ own. own.now) c.kept.result c.kept.ensures (sym c.is_some.ensures ∙ c.if-is_some.false) in
-    record { tree = c.requires.tree; item = c.get-item.ensures; listed = sym (c.is_leaf.ensures c.if-is_leaf.true); inputs = tt; none = none; right = c.requires.right }
+    record { tree = c.requires.tree; item = c.get-item.ensures; listed = sym (ap (λ i. inputs_of (expression_layer i)) c.in-Literal.is); inputs = tt; none = none; right = c.requires.right }
 
-pub type_ready-requires-2 : goal.type_ready-requires-2
-type_ready-requires-2 g t c =
+pub type_ready-requires : goal.type_ready-requires
+type_ready-requires g t c =
     let none = none_found c.args.types.now c.args.node.0 (λ own. own.now) c.kept.result c.kept.ensures (sym c.is_some.ensures ∙ c.if-is_some.false) in
     let mid = c.loop-index.types in
     record {
@@ -179,8 +195,8 @@ type_ready-requires-2 g t c =
 
 pub returns-clause-extends : goal.returns-clause-extends
 returns-clause-extends g t c =
-    extends_then c.args.types.now c.loop-index.types c.type_ready-2.new.types c.loop-index.invariant.extends c.type_ready-2.ensures.extends
+    extends_then c.args.types.now c.loop-index.types c.type_ready.new.types c.loop-index.invariant.extends c.type_ready.ensures.extends
 
 pub returns-clause-below : goal.returns-clause-below
 returns-clause-below g t c =
-    below_over c.args.arena.now c.args.types.now c.loop-index.types c.type_ready-2.new.types c.args.node.0 c.loop-index.invariant.below c.type_ready-2.ensures.only
+    below_over c.args.arena.now c.args.types.now c.loop-index.types c.type_ready.new.types c.args.node.0 c.loop-index.invariant.below c.type_ready.ensures.only

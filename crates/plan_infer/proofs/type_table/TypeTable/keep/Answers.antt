@@ -1,14 +1,23 @@
-use Rattle.std.proofs.Common.{sym, ◌∙◌}
-use Rattle.plan_infer.proofs.TableLemmas.{found_kept, none_found}
+use Rattle.std.proofs.Common.{refl, ap, ◌∙◌}
+use Rattle.plan_infer.specs.KeptTypes.{some_count}
+use Rattle.plan_infer.specs.declared.type_table.TypeTable.{TypeTable}
+use Rattle.plan_infer.proofs.TableLemmas.{next_kept, next_only, next_stays, some_behind}
 use Rattle.plan_infer.proofs.type_table.TypeTable.keep.Goals as goal
 
-pub returns-then-is_some-clause-kept : goal.returns-then-is_some-clause-kept
-returns-then-is_some-clause-kept c =
-    found_kept c.args.self.now c.args.node.0 (λ own. own.now) c.kept.result c.kept.ensures (sym c.is_some.ensures ∙ c.if-is_some.true)
+pub returns-then-is_next-clause-kept : goal.returns-then-is_next-clause-kept
+returns-then-is_next-clause-kept c =
+    let new : TypeTable = record { first = c.args.self.now.first; entries = c.push.new.self } in
+    record { own = c.args.own; keeps = next_kept c.args.self.now new c.args.node.0 c.args.own (c.is_next.ensures c.if-is_next.true) refl c.in_ok-push.ensures.items }
 
-pub returns-then-is_some-clause-count : goal.returns-then-is_some-clause-count
-returns-then-is_some-clause-count c = λ none.
-    absurd (none (found_kept c.args.self.now c.args.node.0 (λ own. own.now) c.kept.result c.kept.ensures (sym c.is_some.ensures ∙ c.if-is_some.true)))
+pub returns-then-is_next-clause-stays : goal.returns-then-is_next-clause-stays
+returns-then-is_next-clause-stays c =
+    let new : TypeTable = record { first = c.args.self.now.first; entries = c.push.new.self } in
+    next_stays c.args.self.now new c.args.node.0 c.args.own (c.is_next.ensures c.if-is_next.true) refl c.in_ok-push.ensures.items
 
-pub add-requires : goal.add-requires
-add-requires c = none_found c.args.self.now c.args.node.0 (λ own. own.now) c.kept.result c.kept.ensures (sym c.is_some.ensures ∙ c.if-is_some.false)
+pub returns-then-is_next-clause-only : goal.returns-then-is_next-clause-only
+returns-then-is_next-clause-only c =
+    let new : TypeTable = record { first = c.args.self.now.first; entries = c.push.new.self } in
+    next_only c.args.self.now new c.args.node.0 c.args.own (c.is_next.ensures c.if-is_next.true) refl c.in_ok-push.ensures.items
+
+pub returns-then-is_next-clause-count : goal.returns-then-is_next-clause-count
+returns-then-is_next-clause-count c = λ none. ap some_count c.in_ok-push.ensures.items ∙ some_behind c.args.self.now.entries.items c.args.own
