@@ -3,6 +3,8 @@
 ghost use Rattle.std.specs.Prelude.{◌≡◌, ℕ, [], ◌∷◌, map, true, false, pos, codes, Some, None};
 ghost use Rattle.plan_types.specs.Types.{NullType, Truth, Integer, TextType, DateType, TimeType, DatetimeType, DurationType, ListType, StructType, Untyped, no_field, with_field};
 ghost use Rattle.plan_types.specs.Errors.{IsRefusal, no_memory, at_top};
+ghost use Rattle.std.specs.Global.{Vec};
+ghost use Rattle.plan_types.specs.declared.dtype.DataType.{DataType};
 ghost use Rattle.plan_types.specs.declared.dtype.DataType.TheVariants.{Int8, Int16, Int32};
 ghost use Rattle.plan_types.specs.declared.dtype.TimeUnit.TheVariants.{Nanoseconds, Microseconds};
 ghost use Rattle.plan_types.specs.declared.error.ErrorKind.TheVariants.{ColumnNotFound, SchemaMismatch, InvalidOperation};
@@ -14,6 +16,8 @@ ghost use Rattle.plan_infer.specs.declared.type_table.TypeTable.{TypeTable};
 ghost use Rattle.plan_infer.specs.KeptTypes.{AllKept, AreOperands, Extends, GivesName, HasRightTypes, IsKept, IsNamedBy, IsRight, IsRuled, IsTypedNode, Keeps, KeepsEntry, KeepsTyped, TakesTo, kept_count, name_at, node_depth, some_count, typings_at};
 ghost use Rattle.plan_infer.specs.Fields.{IsFieldOf, type_in};
 ghost use Rattle.plan_infer.specs.Operands.{common_integer};
+ghost use Rattle.plan_infer.specs.TakenTypes.{kept_types};
+ghost use Rattle.plan_infer.specs.declared.taken_types.Kept.TheVariants.{Nothing, Both, Listed};
 ghost use Rattle.plan_infer.specs.declared.field.Context.TheVariants.{Default, Aggregation};
 ghost use Rattle.plan_types.specs.declared.field.Field.{Field};
 ghost use Rattle.plan_infer.specs.Typed.{HasType, HasKnownType};
@@ -49,6 +53,13 @@ pub fn common_types_of_integers()
     ensures one_type { common_integer Plus int8 int8 ≡ None }
     ensures comparison { common_integer Lt int8 int64 ≡ None }
     ensures no_integers { common_integer Plus TextType TextType ≡ None }
+{}
+
+/// The types to which operands are taken are none, one of both, or those of a list.
+pub fn types_that_operands_are_taken_to()
+    ensures none { kept_types Nothing ≡ [] }
+    ensures both { kept_types (Both Int8) ≡ Int8 ∷ Int8 ∷ [] }
+    ensures listed { (types : Vec DataType) → types.items ≡ Int8 ∷ Int16 ∷ Int32 ∷ [] → kept_types (Listed types) ≡ Int8 ∷ Int16 ∷ Int32 ∷ [] }
 {}
 
 /// A refusal of an expression is the kind that its typing gives, at the top, or want of memory.
