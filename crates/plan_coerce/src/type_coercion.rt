@@ -1,10 +1,10 @@
 //! Operands are made of the types to which their node takes them: by casts, or as literals.
-ghost use Rattle.std.specs.Prelude.{◌≡◌, ◌≢◌, ℕ, ◌≤◌, List, Some, length, map, slice_get, true, false, is_some, IfOk, IfErr, IfSome, OnErr, OnOk};
+ghost use Rattle.std.specs.Prelude.{◌≡◌, ◌≢◌, ℕ, ◌≤◌, List, [], Some, length, map, slice_get, true, false, is_some, IfOk, IfErr, IfSome, OnErr, OnOk};
 ghost use Rattle.std.specs.List.{AllByRecursion};
 ghost use Rattle.plan_types.specs.Errors.{no_memory};
 ghost use Rattle.plan_types.specs.Schemas.{Columns};
 ghost use Rattle.plan_types.specs.CommonTypes.{type_alone};
-ghost use Rattle.plan_types.specs.Types.{Ty, Untyped, is_known, same_type, ty};
+ghost use Rattle.plan_types.specs.Types.{Ty, Untyped, is_known, ty};
 ghost use Rattle.plan_types.specs.Values.{IntValue};
 ghost use Rattle.plan_types.specs.Casts.{can_cast};
 ghost use Rattle.plan_types.specs.declared.dtype.CastOptions.TheVariants.{NonStrict};
@@ -22,7 +22,7 @@ ghost use Rattle.plan_arena.specs.Items.{Grows, HoldsExpression, HoldsFrom, numb
 ghost use Rattle.plan_infer.specs.declared.type_table.Inferred.{Inferred};
 ghost use Rattle.plan_infer.specs.KeptTypes.{Extends, HasRightTypes, IsKept, IsRight, Keeps, KeepsEntry};
 ghost use Rattle.plan_infer.specs.Typed.{HasKnownType};
-ghost use Rattle.plan_coerce.specs.Coercion.{AllReady, AllStrictFrom, AreChanged, IsChanged, IsReady, IsReadyAt, KeepsStrict};
+ghost use Rattle.plan_coerce.specs.Coercion.{AllReady, AllStrictFrom, AreChanged, IsChanged, IsReadyAt, KeepsStrict};
 ghost use Rattle.plan_coerce.specs.Reaching.{AreMadeOnce, HasNewNodes, IsClosed, IsMadeOnce, IsPutOnce, Near};
 
 use plan_arena::aexpr::AExpr;
@@ -93,45 +93,26 @@ fn operand_to(
     ensures err { IfErr result (λ error. error ≡ no_memory) }
 {
     let target = types.get(node).operand(index);
-    if types.get(input).dtype == *target {
+    let from = types.get(input);
+    if from.dtype == *target {
         return Ok(input);
     }
-    let target = target.try_clone(arena.allocator())?;
-    let changed = made_of(input, target, arena, types)?;
-    Ok(changed)
-}
-
-// The node that stands for the operand, made of another type.
-fn made_of(
-    node: Node,
-    target: DataType,
-    arena: &mut Arena<AExpr>,
-    types: &mut TypeTable,
-) -> Result<Node, PlanError>
-    requires right { HasRightTypes arena.old types.old }
-    requires ready { IsReady types.old node.0 (ty target) }
-    requires other { (from : DataType) → Keeps types.old node.0 from → same_type (ty from) (ty target) ≡ false }
-    ensures changed { IfOk result (λ changed. (from : DataType) → Keeps types.old node.0 from → IsChanged arena.old arena.new types.old
-        (record { input = node.0; changed = changed.0; from = ty from; target = ty target })) }
-    ensures kept { IfOk result (λ changed. IsKept types.new changed.0) }
-    ensures right { OnOk result ((registry : Registry) (schema : Columns) →
-        IsRight registry schema arena.old types.old → IsRight registry schema arena.new types.new) }
-    ensures closed { OnOk result ((start : List AExpr) (roots : List ℕ) → length start ≤ length arena.old → Near start roots node.0 →
-        IsClosed start roots arena.old → IsClosed start roots arena.new) }
-    ensures added { OnOk result ((registry : Registry) (schema : Columns) (start : ℕ) → start ≤ length arena.old → IsRight registry schema arena.old types.old →
-        AllStrictFrom start arena.old types.old → AllStrictFrom start arena.new types.new) }
-    ensures once { IfOk result (λ changed. IsMadeOnce arena.old arena.new node.0 changed.0) }
-    ensures extends { OnOk result (Extends types.old types.new) }
-    ensures grows { Grows arena.old arena.new }
-    ensures err { IfErr result (λ error. error ≡ no_memory) }
-{
-    match types.get(node).dtype.untyped_number() {
+    let alloc = arena.allocator();
+    match from.dtype.untyped_number() {
         None => {
-            let cast = add_cast(node, target, arena, types)?;
+            let own = Inferred {
+                name: from.name,
+                dtype: target.try_clone(alloc)?,
+                many: from.many,
+                operands: TakenTypes::none(),
+            };
+            let target = target.try_clone(alloc)?;
+            let cast = put_cast(input, target, own, arena, types)?;
             Ok(cast)
         }
         Some(number) => {
-            let made = number_under(node, number, target, arena, types)?;
+            let target = target.try_clone(alloc)?;
+            let made = number_under(input, number, target, arena, types)?;
             Ok(made)
         }
     }
@@ -280,14 +261,42 @@ fn add_cast(
     ensures grows { Grows arena.old arena.new }
     ensures err { IfErr result (λ error. error ≡ no_memory) }
 {
-    let dtype = target.try_clone(arena.allocator())?;
     let from = types.get(input);
     let own = Inferred {
         name: from.name,
-        dtype,
+        dtype: target.try_clone(arena.allocator())?,
         many: from.many,
         operands: TakenTypes::none(),
     };
+    let cast = put_cast(input, target, own, arena, types)?;
+    Ok(cast)
+}
+
+// Adds a cast round a node, and keeps what is inferred of it.
+fn put_cast(
+    input: Node,
+    target: DataType,
+    own: Inferred,
+    arena: &mut Arena<AExpr>,
+    types: &mut TypeTable,
+) -> Result<Node, PlanError>
+    requires { (from : Inferred) × KeepsEntry types.old input.0 from × (ty own.dtype ≡ ty target) × (own.name ≡ from.name) × (own.many ≡ from.many) × (own.operands ≡ []) }
+    ensures denotes { IfOk result (λ cast. (first : ℕ) (t : Expression) → first ≤ length arena.old → Denotes (HoldsFrom first arena.old) input.0 t →
+        Denotes (HoldsFrom first arena.new) cast.0 (node (CastOp (ty target) NonStrict) (more t no_more))) }
+    ensures fresh { IfOk result (λ cast. cast.0 ≡ length arena.old) }
+    ensures right { OnOk result ((registry : Registry) (schema : Columns) (from : DataType) → Keeps types.old input.0 from →
+        is_known (ty from) ≡ true → can_cast (ty from) (ty target) ≡ true →
+        IsRight registry schema arena.old types.old → IsRight registry schema arena.new types.new) }
+    ensures kept { IfOk result (λ cast. IsKept types.new cast.0) }
+    ensures closed { OnOk result ((start : List AExpr) (roots : List ℕ) → Near start roots input.0 →
+        IsClosed start roots arena.old → IsClosed start roots arena.new) }
+    ensures added { OnOk result ((registry : Registry) (schema : Columns) (start : ℕ) → start ≤ length arena.old → IsRight registry schema arena.old types.old →
+        is_known (ty target) ≡ true → AllStrictFrom start arena.old types.old → AllStrictFrom start arena.new types.new) }
+    ensures once { IfOk result (λ cast. IsPutOnce arena.old arena.new input.0 cast.0) }
+    ensures extends { OnOk result (Extends types.old types.new) }
+    ensures grows { Grows arena.old arena.new }
+    ensures err { IfErr result (λ error. error ≡ no_memory) }
+{
     let cast = arena.add(AExpr::Cast {
         expr: input,
         dtype: target,

@@ -455,11 +455,7 @@ fn some_many(inputs: &[Node], types: &TypeTable) -> bool
 }
 
 /// The types to which inputs are taken, or none where they have them.
-pub(crate) fn unless_own(
-    targets: Vec<DataType>,
-    inputs: &[Node],
-    types: &TypeTable,
-) -> TakenTypes
+pub(crate) fn unless_own(targets: Vec<DataType>, inputs: &[Node], types: &TypeTable) -> TakenTypes
     requires inputs { AllByRecursion (IsKept types.now) (numbers inputs.now) }
     requires targets { length targets.items ≡ length inputs.now }
     ensures { AreOperands (map ty result) (types_of (typings_at types.now (numbers inputs.now))) (map ty targets.items) }
