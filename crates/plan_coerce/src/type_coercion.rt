@@ -107,8 +107,8 @@ fn operand_to(
                 operands: TakenTypes::none(),
             };
             let target = target.try_clone(alloc)?;
-            let cast = put_cast(input, target, own, arena, types)?;
-            Ok(cast)
+            let made = put_cast(input, target, own, arena, types)?;
+            Ok(made)
         }
         Some(number) => {
             let target = target.try_clone(alloc)?;

@@ -61,8 +61,8 @@ pub(crate) fn type_node<M: Ledger>(
     if let AExpr::Column(name) = item {
         return type_column(node, name, arena, schema, types, typings);
     }
-    if let AExpr::Literal(_) = item {
-        return type_over(node, item, &[], arena, schema, udfs, types, typings);
+    if let AExpr::Literal(value) = item {
+        return type_literal(node, value, arena, types, typings);
     }
     if let AExpr::BinaryExpr { left, op, right } = item {
         type_node(*left, arena, schema, udfs, types, typings)?;
@@ -110,6 +110,39 @@ fn type_column<M: Ledger>(
             name: node,
             dtype,
             many: true,
+            operands: TakenTypes::none(),
+        },
+    )
+}
+
+// Types a literal.
+fn type_literal<M: Ledger>(
+    node: Node,
+    value: &LiteralValue,
+    arena: &Arena<AExpr>,
+    types: &mut TypeTable,
+    typings: &mut Steps<M>,
+) -> Result<(), PlanError>
+    requires tree { DenotesTree (HoldsExpression arena.now) node.0 }
+    requires held { HoldsExpression arena.now node.0 (literal_op value.now) [] }
+    requires none { ¬ (IsKept types.old node.0) }
+    ensures kept { OnOk result (IsKept types.new node.0) }
+    ensures right { (registry : Registry) (schema : Columns) → IsRight registry schema arena.now types.old → IsRight registry schema arena.now types.new }
+    ensures extends { Extends types.old types.new }
+    ensures only { (n : ℕ) → IsKept types.new n → IsKept types.old n ⊎ (n ≡ node.0) }
+    ensures counted { OnOk result (typings.new + kept_count types.old ≡ typings.old + kept_count types.new) }
+    ensures refused { OnErr result (typings.new + kept_count types.old ≤ typings.old + kept_count types.new + 1) }
+    ensures err { IfErr result (λ error. (registry : Registry) (schema : Columns) → IsRight registry schema arena.now types.old → (t : Expression) →
+        Denotes (HoldsExpression arena.now) node.0 t → IsRefusal (typing registry schema t) error) }
+{
+    typings.tick();
+    let dtype = literal_dtype(value)?;
+    types.add(
+        node,
+        Inferred {
+            name: node,
+            dtype,
+            many: false,
             operands: TakenTypes::none(),
         },
     )
@@ -286,7 +319,6 @@ fn column_dtype<'a>(name: &PlSmallStr, schema: &'a Schema) -> Result<&'a DataTyp
 }
 
 // A literal has its own type, which has its value.
-#[inline(always)]
 fn literal_typing(node: Node, value: &LiteralValue, alloc: Global) -> Result<Inferred, PlanError>
     ensures ok { IfOk result (λ own. (registry : Registry) (schema : Columns) → IsRuled registry schema (literal_op value.now) [] own) }
     ensures name { IfOk result (λ own. own.name ≡ node) }

@@ -34,8 +34,8 @@ returns-then-eq-clause-once c = itself_once c.args.arena.now c.args.input.0
 pub put_cast-requires : goal.put_cast-requires
 put_cast-requires c = (c.get-from.result.now, c.get-from.ensures, c.in_ok-try_clone-in-None.ensures.ok ∙ sym c.in_ok-target-in-None.ensures.ok, refl, refl, c.none.ensures)
 
-pub returns-in_ok-cast-in-None-clause-changed : goal.returns-in_ok-cast-in-None-clause-changed
-returns-in_ok-cast-in-None-clause-changed c = λ own target from keeps there known.
+pub returns-in_ok-made-in-None-clause-changed : goal.returns-in_ok-made-in-None-clause-changed
+returns-in_ok-made-in-None-clause-changed c = λ own target from keeps there known.
     let types = c.args.types.now in
     let from0 = c.get-from.result.now in
     let is0 = type_of types c.args.input.0 from0 c.get-from.ensures in
@@ -44,14 +44,14 @@ returns-in_ok-cast-in-None-clause-changed c = λ own target from keeps there kno
     let copied = c.in_ok-target-in-None.ensures.ok in
     let can = ready_becomes types c.args.input.0 c.get.result.now.operands c.args.index from0.dtype c.operand-target.result.now (ty c.in_ok-target-in-None.target) at c.operand-target.ensures copied is0 apart in
     let casts = becomes_cast (ty from0.dtype) (ty c.in_ok-target-in-None.target) can c.in-None.ensures in
-    let cast = c.in_ok-cast-in-None in
+    let made = c.in_ok-made-in-None in
     let is = same_target types c.args.node.0 c.get.result.now own c.args.index c.operand-target.result.now target c.get.ensures keeps c.operand-target.ensures there in
     let other = ap (same_type (ty from0.dtype)) copied ∙ apart in
-    let here = changed_from c.args.arena.now c.put_cast.new.arena types c.args.input.0 cast.cast.0 from0.dtype from (ty c.in_ok-target-in-None.target) is0 known (cast_round c.args.arena.now c.put_cast.new.arena types c.args.input.0 cast.cast.0 from0.dtype (ty c.in_ok-target-in-None.target) is0 other casts.0 cast.ensures.fresh cast.ensures.denotes) in
-    subst (λ t. IsChanged c.args.arena.now c.put_cast.new.arena types (record { input = c.args.input.0; changed = cast.cast.0; from = ty from; target = t })) (copied ∙ ap ty is) here
+    let here = changed_from c.args.arena.now c.put_cast.new.arena types c.args.input.0 made.made.0 from0.dtype from (ty c.in_ok-target-in-None.target) is0 known (cast_round c.args.arena.now c.put_cast.new.arena types c.args.input.0 made.made.0 from0.dtype (ty c.in_ok-target-in-None.target) is0 other casts.0 made.ensures.fresh made.ensures.denotes) in
+    subst (λ t. IsChanged c.args.arena.now c.put_cast.new.arena types (record { input = c.args.input.0; changed = made.made.0; from = ty from; target = t })) (copied ∙ ap ty is) here
 
-pub returns-in_ok-cast-in-None-clause-right : goal.returns-in_ok-cast-in-None-clause-right
-returns-in_ok-cast-in-None-clause-right c = λ registry schema right.
+pub returns-in_ok-made-in-None-clause-right : goal.returns-in_ok-made-in-None-clause-right
+returns-in_ok-made-in-None-clause-right c = λ registry schema right.
     let types = c.args.types.now in
     let from0 = c.get-from.result.now in
     let is0 = type_of types c.args.input.0 from0 c.get-from.ensures in
@@ -60,10 +60,10 @@ returns-in_ok-cast-in-None-clause-right c = λ registry schema right.
     let copied = c.in_ok-target-in-None.ensures.ok in
     let can = ready_becomes types c.args.input.0 c.get.result.now.operands c.args.index from0.dtype c.operand-target.result.now (ty c.in_ok-target-in-None.target) at c.operand-target.ensures copied is0 apart in
     let casts = becomes_cast (ty from0.dtype) (ty c.in_ok-target-in-None.target) can c.in-None.ensures in
-    c.in_ok-cast-in-None.ensures.right registry schema from0.dtype is0 casts.0 casts.1 right
+    c.in_ok-made-in-None.ensures.right registry schema from0.dtype is0 casts.0 casts.1 right
 
-pub returns-in_ok-cast-in-None-clause-added : goal.returns-in_ok-cast-in-None-clause-added
-returns-in_ok-cast-in-None-clause-added c = λ registry schema start le right before.
+pub returns-in_ok-made-in-None-clause-added : goal.returns-in_ok-made-in-None-clause-added
+returns-in_ok-made-in-None-clause-added c = λ registry schema start le right before.
     let types = c.args.types.now in
     let from0 = c.get-from.result.now in
     let is0 = type_of types c.args.input.0 from0 c.get-from.ensures in
@@ -71,13 +71,13 @@ returns-in_ok-cast-in-None-clause-added c = λ registry schema start le right be
     let apart = sym c.eq.ensures ∙ c.if-eq.false in
     let copied = c.in_ok-target-in-None.ensures.ok in
     let can = ready_becomes types c.args.input.0 c.get.result.now.operands c.args.index from0.dtype c.operand-target.result.now (ty c.in_ok-target-in-None.target) at c.operand-target.ensures copied is0 apart in
-    c.in_ok-cast-in-None.ensures.added registry schema start le right can.known before
+    c.in_ok-made-in-None.ensures.added registry schema start le right can.known before
 
-pub returns-in_ok-cast-in-None-clause-closed : goal.returns-in_ok-cast-in-None-clause-closed
-returns-in_ok-cast-in-None-clause-closed c = λ start roots le near closed. c.in_ok-cast-in-None.ensures.closed start roots near closed
+pub returns-in_ok-made-in-None-clause-closed : goal.returns-in_ok-made-in-None-clause-closed
+returns-in_ok-made-in-None-clause-closed c = λ start roots le near closed. c.in_ok-made-in-None.ensures.closed start roots near closed
 
-pub returns-in_ok-cast-in-None-clause-once : goal.returns-in_ok-cast-in-None-clause-once
-returns-in_ok-cast-in-None-clause-once c = cast_once c.args.arena.now c.put_cast.new.arena c.args.input.0 c.in_ok-cast-in-None.cast.0 c.in_ok-cast-in-None.ensures.once
+pub returns-in_ok-made-in-None-clause-once : goal.returns-in_ok-made-in-None-clause-once
+returns-in_ok-made-in-None-clause-once c = cast_once c.args.arena.now c.put_cast.new.arena c.args.input.0 c.in_ok-made-in-None.made.0 c.in_ok-made-in-None.ensures.once
 
 -- ---- a number without a type
 

@@ -3,6 +3,7 @@ use Rattle.std.specs.List.{AllByRecursion}
 use Rattle.plan_types.specs.Schemas.{columns}
 use Rattle.plan_types.proofs.ResultLemmas.{passed_on}
 use Rattle.plan_dsl.specs.Ops.{BinaryOp, ColumnOp}
+use Rattle.plan_dsl.specs.Literals.{literal_op}
 use Rattle.plan_dsl.specs.Registry.{registry}
 use Rattle.plan_arena.specs.Denotation.{DenotesTree, depth_at}
 use Rattle.plan_arena.specs.Layers.{inputs_of, op_of, shape_of}
@@ -176,10 +177,15 @@ pub returns-in-Column-clause-err : goal.returns-in-Column-clause-err
 returns-in-Column-clause-err g t c =
     if_err c.type_column.result _ _ (λ error refused. refused (registry c.args.udfs.now) c.requires.right) c.type_column.ensures.err
 
-pub type_over-requires : goal.type_over-requires
-type_over-requires g t c =
+pub type_literal-requires : goal.type_literal-requires
+type_literal-requires g t c =
     let none = none_found c.args.types.now c.args.node.0 (λ own. own.now) c.kept.result c.kept.ensures (sym c.is_some.ensures ∙ c.if-is_some.false) in
-    record { tree = c.requires.tree; item = c.get-item.ensures; listed = sym (ap (λ i. inputs_of (expression_layer i)) c.in-Literal.is); inputs = tt; none = none; right = c.requires.right }
+    let held = got_held c.args.arena.now c.args.node.0 c.get-item.result.now (literal_op c.in-Literal.value) [] c.get-item.ensures (ap expression_layer c.in-Literal.is) in
+    record { tree = c.requires.tree; held = held; none = none }
+
+pub returns-in-Literal-clause-err : goal.returns-in-Literal-clause-err
+returns-in-Literal-clause-err g t c =
+    if_err c.type_literal.result _ _ (λ error refused. refused (registry c.args.udfs.now) (columns c.args.schema.now) c.requires.right) c.type_literal.ensures.err
 
 pub type_ready-requires : goal.type_ready-requires
 type_ready-requires g t c =
