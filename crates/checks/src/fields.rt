@@ -109,7 +109,7 @@ fn fields_of_nodes_of_any_depth_are_told(rt: HostRuntime) {
 }
 
 // A type that is kept for a node, in front of all that are.
-fn keep_in_front(rt: &impl Abort, alloc: Global, node: usize, types: &mut TypeTable) {
+fn keep_in_front(rt: &impl Abort, node: usize, types: &mut TypeTable) {
     let own = Inferred {
         name: Node(node),
         dtype: DataType::Int8,
@@ -124,7 +124,7 @@ fn types_are_kept_in_front_of_any_number(rt: HostRuntime) {
     for count in [1, 2, 1_000] {
         let mut types = TypeTable::new(rt.alloc());
         for number in 0..count {
-            keep_in_front(&rt, rt.alloc(), 2 * (count - number), &mut types);
+            keep_in_front(&rt, 2 * (count - number), &mut types);
         }
         assert_number(&rt, types.len(), count);
         drop(types);
