@@ -50,7 +50,7 @@ add_nodes-returns-in_ok-node-in-BinaryExpr-clause-denotes t c =
     let left = c.in_ok-left-in-BinaryExpr in
     let right = c.in_ok-right-in-BinaryExpr in
     let top = c.in_ok-node-in-BinaryExpr in
-    let item : IsItemOf (length c.args.arena.now) c.add_below-2.new.arena (over_inputs c.args.keep (plain_tree c.args.expr)) (BinaryExpr left.left kind.op right.right) =
+    let item : IsItemOf (length c.args.arena.now) c.add_below-in-BinaryExpr.new.arena (over_inputs c.args.keep (plain_tree c.args.expr)) (BinaryExpr left.left kind.op right.right) =
     rw (kind.is) (over_added _ _ _ _ (more _ (more _ no_more)) refl (_, left.ensures.denotes, left.ensures.grows, (_, right.ensures.denotes, right.ensures.grows, refl))) in
     let added = item_denotes _ _ _ _ _ top.node.0 (omega (arith, length-grown _ _ left.ensures.grows, length-grown _ _ right.ensures.grows)) item top.ensures.ok top.ensures.node in
     subst (Denotes (HoldsFrom (length c.args.arena.now) c.add-in-BinaryExpr.new.self) top.node.0) (pruned_item c.args.keep c.args.expr (λ below name is. cc) (λ input function is. cc)) added
