@@ -167,12 +167,9 @@ impl Tally {
         }
     }
 
-    // Counts an operand of another type than the one to which its node takes it.
-    fn count_operand(&mut self, own: &Inferred, index: usize, operand: &DataType) {
-        if own.is_strict() {
-            return;
-        }
-        if own.operands.get(index) != Some(operand) {
+    // Counts a node that takes operands to other types than they have.
+    fn count_own(&mut self, own: &Inferred) {
+        if !own.is_strict() {
             self.loose = self.loose.saturating_add(1);
         }
     }
@@ -206,12 +203,10 @@ fn visit(
 ) {
     assert!(rt; node.0 < arena.len());
     tally.count(arena.get(node));
-    let own = own_of(rt, types, node);
+    tally.count_own(own_of(rt, types, node));
     let inputs = inputs_at(rt, arena, node);
     for index in 0..inputs.len() {
-        let operand = inputs[index];
-        tally.count_operand(own, index, &own_of(rt, types, operand).dtype);
-        nodes.push(operand).expect(rt, NO_MEMORY);
+        nodes.push(inputs[index]).expect(rt, NO_MEMORY);
     }
     drop(inputs);
 }
@@ -255,8 +250,8 @@ fn typed(
     types
 }
 
-// The root has that type, and reaches so many casts. Each node that it reaches has a type, and operands of the types to
-// which it takes them.
+// The root has that type, and reaches so many casts. Each node that it reaches has a type, and takes its operands as they
+// are.
 fn assert_strict(
     rt: &impl Abort,
     root: Node,
