@@ -50,9 +50,6 @@ and_false : (b : Bool) → (b && false) ≡ false
 and_false b = elim b as (λ x. (x && false) ≡ false) [ true ↦ refl | false ↦ refl ]
 
 -- types side by side, one at a time
-pub ne_is : (b : Bool) → not b ≡ true → b ≡ false
-ne_is b h = elim b as (λ x. not x ≡ true → x ≡ false) [ true ↦ λ e. cc | false ↦ λ e. refl ] h
-
 module _ (all : Bool) (ts : List Typed) (ds : List DataType) (t : Typed) (d : DataType) (ts' : List Typed) (ds' : List DataType) (left : ts ≡ t ∷ ts') (target : ds ≡ d ∷ ds') where
   pub one_apart : same_type t.type (ty d) ≡ false → same_types (types_of ts) (map ty ds) ≡ all → false ≡ all
   one_apart apart same =

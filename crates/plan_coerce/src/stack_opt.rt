@@ -364,7 +364,13 @@ fn visit<R: OptimizationRule, M: Ledger, L: Ledger>(
 {
     steps.tick();
     match rule.optimize_expr(arena, node, schema, udfs, types, typings)? {
-        None => push_below(arena.get(node), stack),
+        None => {
+            if push_below(arena.get(node), stack) {
+                Ok(())
+            } else {
+                Err(PlanError::at_top(ErrorKind::NoMemory))
+            }
+        }
         Some(item) => {
             steps.tick();
             put_in_place(node, item, arena, types);
@@ -374,18 +380,18 @@ fn visit<R: OptimizationRule, M: Ledger, L: Ledger>(
     }
 }
 
-// Stacks the inputs of an item. A column or a literal has none.
-fn push_below(item: &AExpr, stack: &mut Nodes) -> Result<(), PlanError>
-    ensures ok { OnOk result (numbers stack.new.items ≡ numbers stack.old.items ++ reverse (inputs_of (expression_layer item.now))) }
-    ensures err { IfErr result (λ error. error ≡ no_memory) }
+// Stacks the inputs of an item. Answers whether it did: it doesn't where there is no memory.
+#[inline(always)]
+fn push_below(item: &AExpr, stack: &mut Nodes) -> bool
+    ensures ok { result ≡ true → numbers stack.new.items ≡ numbers stack.old.items ++ reverse (inputs_of (expression_layer item.now)) }
 {
     match item {
-        AExpr::Column(_) | AExpr::Literal(_) => Ok(()),
-        AExpr::Cast { expr, .. } => {
-            stack.push(*expr)?;
-            Ok(())
+        AExpr::Column(_) | AExpr::Literal(_) => true,
+        AExpr::Cast { expr, .. } => stack.push(*expr).is_ok(),
+        AExpr::BinaryExpr { left, right, .. } => {
+            stack.push(*right).is_ok() && stack.push(*left).is_ok()
         }
-        _ => item.push_inputs(stack),
+        _ => item.push_inputs(stack).is_ok(),
     }
 }
 

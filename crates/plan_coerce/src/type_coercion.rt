@@ -1,27 +1,25 @@
 //! Operands are made of the types to which their node takes them: by casts, or as literals.
-ghost use Rattle.std.specs.Prelude.{◌≡◌, ◌≢◌, ℕ, ◌≤◌, List, [], Some, length, map, slice_get, true, false, is_some, IfOk, IfErr, IfSome, OnErr, OnOk};
+ghost use Rattle.std.specs.Prelude.{◌≡◌, ℕ, ◌≤◌, List, [], Some, length, map, slice_get, true, false, is_some, IfOk, IfErr, IfSome, OnOk};
 ghost use Rattle.std.specs.List.{AllByRecursion};
 ghost use Rattle.plan_types.specs.Errors.{no_memory};
 ghost use Rattle.plan_types.specs.Schemas.{Columns};
 ghost use Rattle.plan_types.specs.CommonTypes.{type_alone};
-ghost use Rattle.plan_types.specs.Types.{Ty, Untyped, is_known, ty};
+ghost use Rattle.plan_types.specs.Types.{Ty, Untyped, is_known, same_type, ty};
 ghost use Rattle.plan_types.specs.Values.{IntValue};
 ghost use Rattle.plan_types.specs.Casts.{can_cast};
 ghost use Rattle.plan_types.specs.declared.dtype.CastOptions.TheVariants.{NonStrict};
 ghost use Rattle.plan_types.specs.declared.dtype.DataType.{DataType};
 ghost use Rattle.plan_dsl.specs.Literals.{is_literal, literal_op, literal_type, literal_value, settled_type};
 ghost use Rattle.plan_dsl.specs.Aliases.{renamed};
-ghost use Rattle.plan_dsl.specs.Ops.{AliasOp, CastOp, Expression, LiteralOp, Op};
+ghost use Rattle.plan_dsl.specs.Ops.{AliasOp, CastOp, Expression, LiteralOp};
 ghost use Rattle.plan_dsl.specs.Strictness.{CanBecome, cast_to, integer_has, number_as, number_literal};
 ghost use Rattle.plan_dsl.specs.Registry.{Registry};
 ghost use Rattle.plan_dsl.specs.Trees.{node, no_more, more};
-ghost use Rattle.plan_dsl.specs.Typing.{typing};
 ghost use Rattle.plan_arena.specs.declared.aexpr.AExpr.{AExpr};
 ghost use Rattle.plan_arena.specs.Denotation.{Denotes, DenotesTree};
 ghost use Rattle.plan_arena.specs.Items.{Grows, HoldsExpression, HoldsFrom, numbers};
 ghost use Rattle.plan_infer.specs.declared.type_table.Inferred.{Inferred};
 ghost use Rattle.plan_infer.specs.KeptTypes.{Extends, HasRightTypes, IsKept, IsRight, Keeps, KeepsEntry};
-ghost use Rattle.plan_infer.specs.Typed.{HasKnownType};
 ghost use Rattle.plan_coerce.specs.Coercion.{AllReady, AllStrictFrom, AreChanged, IsChanged, IsReadyAt, KeepsStrict};
 ghost use Rattle.plan_coerce.specs.Reaching.{AreMadeOnce, HasNewNodes, IsClosed, IsMadeOnce, IsPutOnce, Near};
 
@@ -66,6 +64,24 @@ pub(crate) fn operands_to(
     Ok(())
 }
 
+// Whether both are one type. Of integers of one type it is told at once.
+#[inline(always)]
+pub(crate) fn is_same_type(left: &DataType, right: &DataType) -> bool
+    ensures { result ≡ same_type (ty left.now) (ty right.now) }
+{
+    match (left, right) {
+        (DataType::Int8, DataType::Int8)
+        | (DataType::Int16, DataType::Int16)
+        | (DataType::Int32, DataType::Int32)
+        | (DataType::Int64, DataType::Int64)
+        | (DataType::UInt8, DataType::UInt8)
+        | (DataType::UInt16, DataType::UInt16)
+        | (DataType::UInt32, DataType::UInt32)
+        | (DataType::UInt64, DataType::UInt64) => true,
+        _ => left.is_same(right),
+    }
+}
+
 // The node that stands for the operand of that number, made of the type to which the node takes it.
 fn operand_to(
     node: Node,
@@ -94,7 +110,7 @@ fn operand_to(
 {
     let target = types.get(node).operand(index);
     let from = types.get(input);
-    if from.dtype == *target {
+    if is_same_type(&from.dtype, target) {
         return Ok(input);
     }
     let alloc = arena.allocator();
@@ -273,6 +289,7 @@ fn add_cast(
 }
 
 // Adds a cast round a node, and keeps what is inferred of it.
+#[inline(always)]
 fn put_cast(
     input: Node,
     target: DataType,

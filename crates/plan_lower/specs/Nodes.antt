@@ -1,5 +1,7 @@
 -- Items that stand for expressions.
-use Rattle.std.specs.Prelude.{◌≡◌, ℕ, Bool, false, List, []}
+use Rattle.std.specs.Prelude.{◌≡◌, ◌≢◌, ℕ, Bool, false, List, []}
+use Rattle.plan_dsl.specs.declared.expr.Expr.{Expr}
+use Rattle.plan_dsl.specs.declared.expr.Expr.TheVariants.{BinaryExpr, Column}
 use Rattle.plan_dsl.specs.Trees.{Trees, node, fold_all}
 use Rattle.plan_dsl.specs.Aliases.{all_pruned}
 use Rattle.plan_dsl.specs.Names.{op_label}
@@ -14,6 +16,10 @@ use Rattle.plan_arena.specs.Items.{HoldsFrom, expression_layer}
 abbrev pub over_inputs : Bool → Expression → Expression
 over_inputs keep (node (FunctionOp function []) children) = node (FunctionOp function (fold_all op_label children)) (all_pruned false children)
 over_inputs keep (node op children) = node op (all_pruned keep children)
+
+-- an expression that is no column and no operator
+abbrev pub IsRarer : Expr → Type 0
+IsRarer expr = ((name : _) → expr ≢ Column name) × ((left : _) (op : _) (right : _) → expr ≢ BinaryExpr left op right)
 
 -- the item does what the expression's top does, over nodes from that number on that denote its operands
 pub record IsItemOf (first : ℕ) (items : List AExpr) (tree : Expression) (item : AExpr) : Type 0 where

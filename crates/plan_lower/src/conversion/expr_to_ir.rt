@@ -13,7 +13,7 @@ ghost use Rattle.plan_dsl.specs.Sources.{is_plain, unwritten};
 ghost use Rattle.plan_dsl.specs.Trees.{children_from, node, top_op};
 ghost use Rattle.plan_arena.specs.Denotation.{Denotes, DenoteAll, DenotesTree};
 ghost use Rattle.plan_arena.specs.Items.{named_node, numbers, numbers_named, ordered, ordering, output_label, recorded, HoldsExpression, HoldsFrom, Grows};
-ghost use Rattle.plan_lower.specs.Nodes.{IsItemOf, over_inputs};
+ghost use Rattle.plan_lower.specs.Nodes.{IsItemOf, IsRarer, over_inputs};
 ghost use Rattle.plan_lower.specs.TopNumbers.{settled_at_top, settled_own, settles_at_top, settles_own};
 
 use crate::conversion::horizontals::{Chaining, first_written};
@@ -253,17 +253,8 @@ pub(crate) fn add_nodes(expr: Expr, keep: bool, arena: &mut Arena<AExpr>) -> Res
     ensures grows { Grows arena.old arena.new }
     ensures err { IfErr result (λ error. error ≡ no_memory) }
 {
+    // Most expressions are columns and operators. What the others need in wide places is in a function of its own.
     match expr {
-        Expr::Alias(below, name) => {
-            let below = add_nodes(Box::into_inner(below), keep, arena)?;
-            if !keep {
-                return Ok(below);
-            }
-            let node = arena.add(AExpr::Alias(below, name))?;
-            Ok(node)
-        }
-        Expr::Function { input, function } => add_function(input, function, keep, arena),
-        // Most expressions are columns and operators, whose items go through no other function.
         Expr::Column(name) => {
             let node = arena.add(AExpr::Column(name))?;
             Ok(node)
@@ -274,6 +265,30 @@ pub(crate) fn add_nodes(expr: Expr, keep: bool, arena: &mut Arena<AExpr>) -> Res
             let node = arena.add(AExpr::BinaryExpr { left, op, right })?;
             Ok(node)
         }
+        expr => add_rarer(expr, keep, arena),
+    }
+}
+
+// The same of what is no column and no operator.
+#[cycle(nodes)]
+#[inline(never)]
+fn add_rarer(expr: Expr, keep: bool, arena: &mut Arena<AExpr>) -> Result<Node, PlanError>
+    requires plain { is_plain (tree_of expr) ≡ true }
+    requires rarer { IsRarer expr }
+    ensures denotes { IfOk result (λ node. Denotes (HoldsFrom (length arena.old) arena.new) node.0 (pruned keep (plain_tree expr))) }
+    ensures grows { Grows arena.old arena.new }
+    ensures err { IfErr result (λ error. error ≡ no_memory) }
+{
+    match expr {
+        Expr::Alias(below, name) => {
+            let below = add_nodes(Box::into_inner(below), keep, arena)?;
+            if !keep {
+                return Ok(below);
+            }
+            let node = arena.add(AExpr::Alias(below, name))?;
+            Ok(node)
+        }
+        Expr::Function { input, function } => add_function(input, function, keep, arena),
         expr => {
             let item = add_inputs(expr, keep, arena)?;
             let node = arena.add(item)?;
@@ -307,11 +322,12 @@ fn add_below(expr: Box<Expr>, keep: bool, arena: &mut Arena<AExpr>) -> Result<No
     add_nodes(Box::into_inner(expr), keep, arena)
 }
 
-// Adds the nodes of an expression's inputs, and answers its item over them. A marker or a renaming form has none, and
-// functions are for `add_function`.
+// Adds the nodes of an expression's inputs, and answers its item over them. A marker or a renaming form has none, functions
+// are for `add_function`, columns and operators for `add_nodes`.
 #[cycle(nodes)]
 fn add_inputs(expr: Expr, keep: bool, arena: &mut Arena<AExpr>) -> Result<AExpr, PlanError>
     requires plain { is_plain (tree_of expr) ≡ true }
+    requires rarer { IsRarer expr }
     requires other { (input : Exprs) (function : FunctionExpr) → expr ≢ Expr.Function input function }
     ensures ok { IfOk result (IsItemOf (length arena.old) arena.new (over_inputs keep (plain_tree expr))) }
     ensures grows { Grows arena.old arena.new }
@@ -342,6 +358,7 @@ fn has_several(expr: &Expr) -> bool
 #[cycle(nodes)]
 fn add_others(expr: Expr, keep: bool, arena: &mut Arena<AExpr>) -> Result<AExpr, PlanError>
     requires plain { is_plain (tree_of expr) ≡ true }
+    requires rarer { IsRarer expr }
     requires other { (input : Exprs) (function : FunctionExpr) → expr ≢ Expr.Function input function }
     requires few { has_several (top_op (tree_of expr)) ≡ false }
     ensures ok { IfOk result (IsItemOf (length arena.old) arena.new (over_inputs keep (plain_tree expr))) }
@@ -349,7 +366,6 @@ fn add_others(expr: Expr, keep: bool, arena: &mut Arena<AExpr>) -> Result<AExpr,
     ensures err { IfErr result (λ error. error ≡ no_memory) }
 {
     item_over!(expr, keep, arena, [
-            Expr::Column(name) => Ok(AExpr::Column(name)),
             Expr::Literal(value) => Ok(AExpr::Literal(value)),
             Expr::Len => Ok(AExpr::Len),
             Expr::Explode(input) => {
@@ -376,8 +392,8 @@ fn add_others(expr: Expr, keep: bool, arena: &mut Arena<AExpr>) -> Result<AExpr,
                 let partition_by = add_each(partition_by, keep, arena)?;
                 Ok(AExpr::Window { function, partition_by, order_by, options })
             },
-            Expr::BinaryExpr { .. } | Expr::Slice { .. } | Expr::Gather { .. } | Expr::Filter { .. } | Expr::Ternary { .. }
-            | Expr::Columns(_) | Expr::DtypeColumn(_) | Expr::IndexColumn(_) | Expr::Nth(_) | Expr::Wildcard
+            Expr::Column(_) | Expr::BinaryExpr { .. } | Expr::Slice { .. } | Expr::Gather { .. } | Expr::Filter { .. }
+            | Expr::Ternary { .. } | Expr::Columns(_) | Expr::DtypeColumn(_) | Expr::IndexColumn(_) | Expr::Nth(_) | Expr::Wildcard
             | Expr::Exclude(_, _) | Expr::Selector(_) | Expr::KeepName(_) | Expr::RenameAlias { .. }
             | Expr::Function { .. } => unreachable!()
         ],
@@ -386,17 +402,17 @@ fn add_others(expr: Expr, keep: bool, arena: &mut Arena<AExpr>) -> Result<AExpr,
     )
 }
 
-// The same of an expression over two inputs or three.
+// The same of an expression over two inputs or three that is no operator.
 #[cycle(nodes)]
 fn add_several(expr: Expr, keep: bool, arena: &mut Arena<AExpr>) -> Result<AExpr, PlanError>
     requires plain { is_plain (tree_of expr) ≡ true }
+    requires rarer { IsRarer expr }
     requires several { has_several (top_op (tree_of expr)) ≡ true }
     ensures ok { IfOk result (IsItemOf (length arena.old) arena.new (over_inputs keep (plain_tree expr))) }
     ensures grows { Grows arena.old arena.new }
     ensures err { IfErr result (λ error. error ≡ no_memory) }
 {
     item_over!(expr, keep, arena, [_ => unreachable!()],
-        BinaryExpr { left, right } [op]
         Slice { input, offset, length } []
         Gather { expr, idx } [returns_scalar]
         Filter { input, by } []

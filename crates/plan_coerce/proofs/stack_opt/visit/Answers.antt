@@ -5,7 +5,7 @@ use Rattle.plan_arena.specs.Items.{numbers}
 use Rattle.plan_arena.proofs.ItemLemmas.{length-grown, tree_within}
 use Rattle.plan_coerce.specs.Turns.{finds, places}
 use Rattle.plan_coerce.proofs.StackLemmas.{pushed, pushed_one}
-use Rattle.plan_coerce.proofs.TurnLemmas.{found_now, on_ok, on_refusal, placed_now, some_said}
+use Rattle.plan_coerce.proofs.TurnLemmas.{found_now, on_refusal, placed_now, some_said}
 use Rattle.plan_coerce.proofs.stack_opt.visit.Goals as goal
 
 pub get-requires : goal.get-requires
@@ -17,11 +17,11 @@ put_in_place-requires g c =
     let there : c.args.node.0 < length c.optimize_expr.new.expr_arena = omega (arith, tree_within c.args.arena.now c.args.node.0 c.requires.tree, length-grown c.args.arena.now c.optimize_expr.new.expr_arena c.in_ok-optimize_expr.ensures.grows) in
     record { there = there }
 
-pub returns-in-None-clause-ok : goal.returns-in-None-clause-ok
-returns-in-None-clause-ok g c = on_ok c.push_below.result c.push_below.ensures.ok (λ stacked. finds
+pub returns-then-push_below-clause-ok : goal.returns-then-push_below-clause-ok
+returns-then-push_below-clause-ok g c = finds
     (found_now _ _ _ _ _ _ _ _ _ c.in-None.is c.in_ok-optimize_expr.ensures.same c.in_ok-optimize_expr.ensures.answer)
-    (pushed c.optimize_expr.new.expr_arena c.args.node.0 c.get.result.now (numbers c.args.stack.now.items) (numbers c.push_below.new.stack.items) c.get.ensures stacked)
-    c.tick.ensures)
+    (pushed c.optimize_expr.new.expr_arena c.args.node.0 c.get.result.now (numbers c.args.stack.now.items) (numbers c.push_below.new.stack.items) c.get.ensures (c.push_below.ensures.ok c.if-push_below.true))
+    c.tick.ensures
 
 pub returns-in_ok-push-in-Some-clause-ok : goal.returns-in_ok-push-in-Some-clause-ok
 returns-in_ok-push-in-Some-clause-ok g c =

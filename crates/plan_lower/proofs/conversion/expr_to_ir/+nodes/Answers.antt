@@ -21,8 +21,8 @@ use Rattle.plan_lower.proofs.NodeLemmas.{Adding, adding_start, adding_step, both
 use Rattle.plan_lower.proofs.RecordingLemmas.{function_over, name_recorded}
 use Rattle.plan_lower.proofs.conversion.expr_to_ir.+nodes.Goals as goal
 
-pub add_nodes-returns-in_ok-node-in-Alias-clause-denotes : goal.add_nodes-returns-in_ok-node-in-Alias-clause-denotes
-add_nodes-returns-in_ok-node-in-Alias-clause-denotes t c =
+pub add_rarer-returns-in_ok-node-in-Alias-clause-denotes : goal.add_rarer-returns-in_ok-node-in-Alias-clause-denotes
+add_rarer-returns-in_ok-node-in-Alias-clause-denotes t c =
     let below = c.in_ok-below-in-Alias.ensures in
     let top = c.in_ok-node-in-Alias in
     let tree = pruned c.args.keep (plain_tree c.into_inner.result) in
@@ -55,16 +55,16 @@ add_nodes-returns-in_ok-node-in-BinaryExpr-clause-denotes t c =
     let added = item_denotes _ _ _ _ _ top.node.0 (omega (arith, length-grown _ _ left.ensures.grows, length-grown _ _ right.ensures.grows)) item top.ensures.ok top.ensures.node in
     subst (Denotes (HoldsFrom (length c.args.arena.now) c.add-in-BinaryExpr.new.self) top.node.0) (pruned_item c.args.keep c.args.expr (λ below name is. cc) (λ input function is. cc)) added
 
-pub add_nodes-returns-in_ok-node-in_default-clause-denotes : goal.add_nodes-returns-in_ok-node-in_default-clause-denotes
-add_nodes-returns-in_ok-node-in_default-clause-denotes t c =
+pub add_rarer-returns-in_ok-node-in_default-clause-denotes : goal.add_rarer-returns-in_ok-node-in_default-clause-denotes
+add_rarer-returns-in_ok-node-in_default-clause-denotes t c =
     let item = c.in_ok-item-in_default.ensures in
     let top = c.in_ok-node-in_default in
     let added = item_denotes _ c.add_inputs.new.arena _ _ c.in_ok-item-in_default.item top.node.0 (length-grown c.args.arena.now c.add_inputs.new.arena item.grows) item.ok top.ensures.ok top.ensures.node in
     subst (Denotes (HoldsFrom (length c.args.arena.now) c.add-in_default.new.self) top.node.0) (pruned_item c.args.keep c.args.expr c.in_default.not-Alias c.in_default.not-Function) added
 
 -- a function, which is written out or keeps the names of its operands
-pub add_nodes-returns-in-Function-clause-denotes : goal.add_nodes-returns-in-Function-clause-denotes
-add_nodes-returns-in-Function-clause-denotes t c =
+pub add_rarer-returns-in-Function-clause-denotes : goal.add_rarer-returns-in-Function-clause-denotes
+add_rarer-returns-in-Function-clause-denotes t c =
     let kind = c.in-Function in
     let whole = (plain_function c.args.expr kind.input kind.function kind.is c.requires.plain).1 in
     subst (λ tree. IfOk c.add_function.result (λ top. Denotes (HoldsFrom (length c.args.arena.now) c.add_function.new.arena) top.0 (pruned c.args.keep tree))) (sym whole) c.add_function.ensures.denotes
@@ -93,21 +93,16 @@ add_function-returns-in_ok-node-in-None-clause-denotes t c =
 -- what is over several inputs
 pub add_several-unreachable-requires : goal.add_several-unreachable-requires
 add_several-unreachable-requires t c =
-    several_kinds c.args.expr c.requires.several c.in_default.not-BinaryExpr c.in_default.not-Slice c.in_default.not-Gather c.in_default.not-Filter c.in_default.not-Ternary
+    several_kinds c.args.expr c.requires.several c.requires.rarer.1 c.in_default.not-Slice c.in_default.not-Gather c.in_default.not-Filter c.in_default.not-Ternary
 
 -- the operands behind the first are less deep, and have plans' ops alone
-pub add_several-add_below-requires-in-BinaryExpr : goal.add_several-add_below-requires-in-BinaryExpr
-add_several-add_below-requires-in-BinaryExpr t c =
-    let size = ap size-Expr c.in-BinaryExpr.is ∙ sized-BinaryExpr _ _ _ in
-    (omega (arith, c.decreases, size), second_plain c.args.expr _ _ _ _ (ap tree_of c.in-BinaryExpr.is) c.requires.plain)
-
-pub add_several-add_below-requires-in-Slice-2 : goal.add_several-add_below-requires-in-Slice-2
-add_several-add_below-requires-in-Slice-2 t c =
+pub add_several-add_below-requires-in-Slice : goal.add_several-add_below-requires-in-Slice
+add_several-add_below-requires-in-Slice t c =
     let size = ap size-Expr c.in-Slice.is ∙ sized-Slice _ _ _ in
     (omega (arith, c.decreases, size), second_plain c.args.expr _ _ _ _ (ap tree_of c.in-Slice.is) c.requires.plain)
 
-pub add_several-add_below-requires-in-Slice-3 : goal.add_several-add_below-requires-in-Slice-3
-add_several-add_below-requires-in-Slice-3 t c =
+pub add_several-add_below-requires-in-Slice-2 : goal.add_several-add_below-requires-in-Slice-2
+add_several-add_below-requires-in-Slice-2 t c =
     let size = ap size-Expr c.in-Slice.is ∙ sized-Slice _ _ _ in
     (omega (arith, c.decreases, size), third_plain c.args.expr _ _ _ _ _ (ap tree_of c.in-Slice.is) c.requires.plain)
 
@@ -131,8 +126,8 @@ add_several-add_below-requires-in-Ternary-3 t c =
     let size = ap size-Expr c.in-Ternary.is ∙ sized-Ternary _ _ _ in
     (omega (arith, c.decreases, size), third_plain c.args.expr _ _ _ _ _ (ap tree_of c.in-Ternary.is) c.requires.plain)
 
-pub add_nodes-add_function-requires : goal.add_nodes-add_function-requires
-add_nodes-add_function-requires t c =
+pub add_rarer-add_function-requires : goal.add_rarer-add_function-requires
+add_rarer-add_function-requires t c =
     let kind = c.in-Function in
     let size = ap size-Expr kind.is ∙ sized-Function _ _ in
     (omega (arith, c.decreases, size), (plain_function c.args.expr kind.input kind.function kind.is c.requires.plain).0)
@@ -144,13 +139,6 @@ add_others-add_each-requires t c =
     (omega (arith, c.decreases, size), rest_plain (sort_by_listed c.args.expr kind.expr kind.by kind.sort_options kind.is) c.requires.plain)
 
 -- an item over two inputs or more, of which each was added behind those before it
-pub add_several-returns-in_ok-right-in-BinaryExpr-clause-ok :
-    goal.add_several-returns-in_ok-right-in-BinaryExpr-clause-ok
-add_several-returns-in_ok-right-in-BinaryExpr-clause-ok t c =
-    let left = c.in_ok-left-in-BinaryExpr.ensures in
-    let right = c.in_ok-right-in-BinaryExpr.ensures in
-    rw (c.in-BinaryExpr.is) (over_added _ _ _ _ (more _ (more _ no_more)) refl (_, left.denotes, left.grows, (_, right.denotes, right.grows, refl)))
-
 pub add_several-returns-in_ok-length-in-Slice-clause-ok :
     goal.add_several-returns-in_ok-length-in-Slice-clause-ok
 add_several-returns-in_ok-length-in-Slice-clause-ok t c =
