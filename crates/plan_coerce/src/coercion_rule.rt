@@ -24,7 +24,7 @@ ghost use Rattle.plan_coerce.specs.Rules.{CanReplace, HasSameCasts, IsReplacemen
 ghost use Rattle.plan_coerce.specs.RuleLaws.{said_steady};
 
 use crate::rule::OptimizationRule;
-use crate::type_coercion::{is_same_type, number_under, operands_to};
+use crate::type_coercion::{number_under, operands_to};
 use plan_arena::aexpr::AExpr;
 use plan_arena::arena::{Arena, Node};
 use plan_arena::ir::IR;
@@ -245,7 +245,7 @@ fn takes_own(own: &Inferred, inputs: &[Node], types: &TypeTable) -> bool
     ensures { result ≡ same_types (types_of (typings_at types.now (numbers inputs.now))) (map ty own.now.operands) }
 {
     for index in 0..inputs.len() {
-        if !is_same_type(&types.get(inputs[index]).dtype, own.operand(index)) {
+        if !types.get(inputs[index]).dtype.is_same(own.operand(index)) {
             return false;
         }
     }

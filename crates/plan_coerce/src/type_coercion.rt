@@ -4,7 +4,7 @@ ghost use Rattle.std.specs.List.{AllByRecursion};
 ghost use Rattle.plan_types.specs.Errors.{no_memory};
 ghost use Rattle.plan_types.specs.Schemas.{Columns};
 ghost use Rattle.plan_types.specs.CommonTypes.{type_alone};
-ghost use Rattle.plan_types.specs.Types.{Ty, Untyped, is_known, same_type, ty};
+ghost use Rattle.plan_types.specs.Types.{Ty, Untyped, is_known, ty};
 ghost use Rattle.plan_types.specs.Values.{IntValue};
 ghost use Rattle.plan_types.specs.Casts.{can_cast};
 ghost use Rattle.plan_types.specs.declared.dtype.CastOptions.TheVariants.{NonStrict};
@@ -64,24 +64,6 @@ pub(crate) fn operands_to(
     Ok(())
 }
 
-// Whether both are one type. Of integers of one type it is told at once.
-#[inline(always)]
-pub(crate) fn is_same_type(left: &DataType, right: &DataType) -> bool
-    ensures { result ≡ same_type (ty left.now) (ty right.now) }
-{
-    match (left, right) {
-        (DataType::Int8, DataType::Int8)
-        | (DataType::Int16, DataType::Int16)
-        | (DataType::Int32, DataType::Int32)
-        | (DataType::Int64, DataType::Int64)
-        | (DataType::UInt8, DataType::UInt8)
-        | (DataType::UInt16, DataType::UInt16)
-        | (DataType::UInt32, DataType::UInt32)
-        | (DataType::UInt64, DataType::UInt64) => true,
-        _ => left.is_same(right),
-    }
-}
-
 // The node that stands for the operand of that number, made of the type to which the node takes it.
 fn operand_to(
     node: Node,
@@ -110,7 +92,7 @@ fn operand_to(
 {
     let target = types.get(node).operand(index);
     let from = types.get(input);
-    if is_same_type(&from.dtype, target) {
+    if from.dtype.is_same(target) {
         return Ok(input);
     }
     let alloc = arena.allocator();

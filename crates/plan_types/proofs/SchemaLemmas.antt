@@ -1,7 +1,7 @@
 -- The columns of a schema follow its map's entries. Names that are new, distinct, or repeated.
 use Rattle.std.proofs.Common.{◌≡◌, List, [], ◌∷◌, ◌++◌, map, Option, Some, None, true, false, ◌||◌, cond, is_some, refl, sym, ap, ◌∙◌, subst, Bor, append_assoc}
 use Rattle.std.specs.Option.{option_map, option_copied}
-use Rattle.std.specs.List.{IsDistinct, AllByRecursion}
+use Rattle.std.specs.List.{AllByRecursion, AllZip, IsDistinct}
 use Rattle.std.specs.Map.{lookup, keys_of}
 use Rattle.std.proofs.lemmas.Bool.{or_parts}
 use Rattle.std.proofs.lemmas.Cmp.{nat_list_eq_equiv}
@@ -125,3 +125,19 @@ unrepeated es h =
 pub schema_has_distinct_names : (schema : Schema) → HasDistinctNames (columns schema)
 schema_has_distinct_names schema =
     distinct_from_test (columns schema) (ap repeats (map-map (λ entry. entry.0) column_of schema.fields.entries) ∙ schema.distinct)
+
+-- ---- columns that are cloned one by one
+
+pub cloned_columns : (old new : List (Name × DataType)) → AllZip (λ p q. (q.0 ≡ p.0) × (ty q.1 ≡ ty p.1)) old new → map column_of new ≡ map column_of old
+cloned_columns [] [] z = refl
+cloned_columns [] (q ∷ new) z = elim z [ ]
+cloned_columns (p ∷ old) [] z = elim z [ ]
+cloned_columns (p ∷ old) (q ∷ new) z =
+    let rest = cloned_columns old new z.1 in
+    ap (λ n. (n, ty q.1) ∷ map column_of new) z.0.0 ∙ ap (λ t. (p.0, t) ∷ map column_of new) z.0.1 ∙ ap (λ l. column_of p ∷ l) rest
+
+pub cloned_names : (old new : List (Name × DataType)) → AllZip (λ p q. (q.0 ≡ p.0) × (ty q.1 ≡ ty p.1)) old new → names_of new ≡ names_of old
+cloned_names [] [] z = refl
+cloned_names [] (q ∷ new) z = elim z [ ]
+cloned_names (p ∷ old) [] z = elim z [ ]
+cloned_names (p ∷ old) (q ∷ new) z = ap (λ n. n ∷ names_of new) z.0.0 ∙ ap (λ l. p.0 ∷ l) (cloned_names old new z.1)

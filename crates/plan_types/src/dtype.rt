@@ -8,7 +8,7 @@ ghost use Rattle.plan_types.specs.Values.{in_range};
 use crate::error::PlanError;
 use crate::field::Field;
 use crate::whole_number::WholeNumber;
-use std::alloc::Global;
+use std::alloc::{AllocError, Global};
 use std::hash::{Hash, Hasher};
 
 /// How a cast treats a value that has no place in its target: of a list or a struct each item or part for itself.
@@ -185,8 +185,21 @@ impl DataType {
 
     /// Whether it is the type of a column: no number's own type stands in it, at any depth.
     #[cycle(known_types)]
-    #[tactic(auto, using(crate::proofs::FieldLemmas::listed_fields))]
+    #[inline(always)]
     pub fn is_known(&self) -> bool
+        ensures { result ≡ is_known (ty self.now) }
+    {
+        match self {
+            DataType::List(_) | DataType::Struct(_) | DataType::Unknown(_) =>
+                self.is_known_within(),
+            _ => true,
+        }
+    }
+
+    // The same, out of line.
+    #[cycle(known_types)]
+    #[tactic(auto, using(crate::proofs::FieldLemmas::listed_fields))]
+    fn is_known_within(&self) -> bool
         ensures { result ≡ is_known (ty self.now) }
     {
         match self {
@@ -289,10 +302,48 @@ impl DataType {
             && self.width() == other.width()
     }
 
-    /// Whether both are one type: structs by the names and types of their fields, in order.
+    /// Whether both are one type: structs by the names and types of their fields, in order. Of two integers it is told at
+    /// once.
+    #[cycle(same_types)]
+    #[inline(always)]
+    pub fn is_same(&self, other: &DataType) -> bool
+        ensures { result ≡ same_type (ty self.now) (ty other.now) }
+    {
+        match (self, other) {
+            (DataType::Int8, DataType::Int8)
+            | (DataType::Int16, DataType::Int16)
+            | (DataType::Int32, DataType::Int32)
+            | (DataType::Int64, DataType::Int64)
+            | (DataType::UInt8, DataType::UInt8)
+            | (DataType::UInt16, DataType::UInt16)
+            | (DataType::UInt32, DataType::UInt32)
+            | (DataType::UInt64, DataType::UInt64) => true,
+            (
+                DataType::Int8
+                | DataType::Int16
+                | DataType::Int32
+                | DataType::Int64
+                | DataType::UInt8
+                | DataType::UInt16
+                | DataType::UInt32
+                | DataType::UInt64,
+                DataType::Int8
+                | DataType::Int16
+                | DataType::Int32
+                | DataType::Int64
+                | DataType::UInt8
+                | DataType::UInt16
+                | DataType::UInt32
+                | DataType::UInt64,
+            ) => false,
+            _ => self.is_same_other(other),
+        }
+    }
+
+    // The same, of any types.
     #[cycle(same_types)]
     #[tactic(auto, using(crate::proofs::FieldLemmas::listed_fields))]
-    pub fn is_same(&self, other: &DataType) -> bool
+    fn is_same_other(&self, other: &DataType) -> bool
         ensures { result ≡ same_type (ty self.now) (ty other.now) }
     {
         match (self, other) {
@@ -349,6 +400,22 @@ impl DataType {
         }
     }
 
+    // The same in the memory that its own parts' allocator gives.
+    fn clone_with_parts(&self) -> Result<DataType, AllocError>
+        requires { is_bare (ty self.now) ≡ false }
+        ensures { IfOk result (λ copy. ty copy ≡ ty self.now) }
+    {
+        let alloc = match self {
+            DataType::List(item) => *Box::allocator(item),
+            DataType::Struct(fields) => *fields.items.allocator(),
+            _bare => unreachable!(),
+        };
+        match self.copy_with_parts(alloc) {
+            Ok(copy) => Ok(copy),
+            Err(_) => Err(AllocError),
+        }
+    }
+
     /// The type of lists of its values.
     pub fn implode(self, alloc: Global) -> Result<DataType, PlanError>
         ensures ok { IfOk result (λ list. ty list ≡ ListType (ty self)) }
@@ -400,6 +467,20 @@ impl Fields {
             items.push(copy)?;
         }
         Ok(Fields { items })
+    }
+}
+
+impl Clone for DataType {
+    ghost use Rattle.plan_types.specs.Types.{ty};
+
+    ghost is_clone = { λ dtype copy. ty copy ≡ ty dtype };
+
+    #[inline(always)]
+    fn clone(&self) -> Result<DataType, AllocError> {
+        match self.bare_copy() {
+            Some(copy) => Ok(copy),
+            None => self.clone_with_parts(),
+        }
     }
 }
 

@@ -249,16 +249,12 @@ impl Schema {
         }
     }
 
-    pub fn try_clone(&self, alloc: Global) -> Result<Schema, PlanError>
+    /// A copy, in the memory that the schema's own allocator gives. Its index is copied as it is.
+    pub fn try_clone(&self, _alloc: Global) -> Result<Schema, PlanError>
         ensures ok { IfOk result (λ copy. columns copy ≡ columns self.now) }
         ensures err { IfErr result (λ error. error ≡ no_memory) }
     {
-        let mut copy = Schema::with_capacity(alloc, self.len())?;
-        for (name, dtype) in self.fields.iter() {
-            let name = name.try_clone(alloc)?;
-            let dtype = dtype.try_clone(alloc)?;
-            copy.put(name, dtype)?;
-        }
-        Ok(copy)
+        let fields = self.fields.clone()?;
+        Ok(Schema { fields })
     }
 }

@@ -5,7 +5,7 @@ ghost use Rattle.plan_types.specs.Errors.{no_memory};
 
 use crate::error::PlanError;
 use arrayvec::ArrayString;
-use std::alloc::Global;
+use std::alloc::{AllocError, Global};
 use std::cmp::Ordering;
 use std::fmt;
 use std::hash::{Hash, Hasher};
@@ -66,6 +66,19 @@ impl PlSmallStr {
         let kept = match &self.kept {
             Kept::Short(text) => Kept::Short(*text),
             Kept::Long(text) => Kept::Long(String::from_str(alloc, text.as_str())?),
+        };
+        Ok(PlSmallStr { kept })
+    }
+}
+
+impl Clone for PlSmallStr {
+    ghost is_clone = { λ text copy. copy ≡ text };
+
+    #[inline(always)]
+    fn clone(&self) -> Result<PlSmallStr, AllocError> {
+        let kept = match &self.kept {
+            Kept::Short(text) => Kept::Short(*text),
+            Kept::Long(text) => Kept::Long(text.clone()?),
         };
         Ok(PlSmallStr { kept })
     }

@@ -14,19 +14,19 @@ use Rattle.plan_coerce.proofs.coercion_rule.takes_own.Goals as goal
 pub get-requires : goal.get-requires
 get-requires c = all_at (IsKept c.args.types.now) c.args.inputs.now c.loop-index.index (record { 0 = 0 }) c.requires.inputs c.loop-index-test.true
 
-pub returns-then-not-is_same_type : goal.returns-then-not-is_same_type
-returns-then-not-is_same_type c =
+pub returns-then-not-is_same : goal.returns-then-not-is_same
+returns-then-not-is_same c =
     let i = c.loop-index.index in
     let left = typings_left c.args.types.now c.args.inputs.now i (i + 1) (record { 0 = 0 }) c.get.result.now c.loop-index-test.true c.get.ensures (omega arith) in
     let target = drop_item c.args.own.now.operands i (i + 1) c.operand.result.now (omega (arith, c.loop-index-test.true, c.requires.count)) (sym (get_or_from_slice_get _ i _ _ c.operand.ensures)) (omega arith) in
-    one_apart _ _ _ (typed_of c.get.result.now) c.operand.result.now (drop (i + 1) (typings_at c.args.types.now (numbers c.args.inputs.now))) (drop (i + 1) c.args.own.now.operands) left target (sym c.is_same_type.ensures ∙ c.if-not-is_same_type.true) c.loop-index.invariant.left
+    one_apart _ _ _ (typed_of c.get.result.now) c.operand.result.now (drop (i + 1) (typings_at c.args.types.now (numbers c.args.inputs.now))) (drop (i + 1) c.args.own.now.operands) left target (sym c.is_same.ensures ∙ c.if-not-is_same.true) c.loop-index.invariant.left
 
 pub loop-index-preserved : goal.loop-index-preserved
 loop-index-preserved c =
     let i = c.loop-index.index in
     let left = typings_left c.args.types.now c.args.inputs.now i (i + 1) (record { 0 = 0 }) c.get.result.now c.loop-index-test.true c.get.ensures (omega arith) in
     let target = drop_item c.args.own.now.operands i (i + 1) c.operand.result.now (omega (arith, c.loop-index-test.true, c.requires.count)) (sym (get_or_from_slice_get _ i _ _ c.operand.ensures)) (omega arith) in
-    record { left = one_same _ _ _ (typed_of c.get.result.now) c.operand.result.now (drop (i + 1) (typings_at c.args.types.now (numbers c.args.inputs.now))) (drop (i + 1) c.args.own.now.operands) left target (sym c.is_same_type.ensures ∙ c.if-not-is_same_type.false) c.loop-index.invariant.left }
+    record { left = one_same _ _ _ (typed_of c.get.result.now) c.operand.result.now (drop (i + 1) (typings_at c.args.types.now (numbers c.args.inputs.now))) (drop (i + 1) c.args.own.now.operands) left target (sym c.is_same.ensures ∙ c.if-not-is_same.false) c.loop-index.invariant.left }
 
 pub returns : goal.returns
 returns c =

@@ -22,14 +22,14 @@ get-from-requires c =
     let keeps = (c.requires.ready c.get.result.now c.get.ensures).ready.keeps in
     record { own = keeps.own; keeps = keeps.keeps }
 
-pub returns-then-is_same_type-clause-changed : goal.returns-then-is_same_type-clause-changed
-returns-then-is_same_type-clause-changed c = λ own target from keeps there known.
+pub returns-then-is_same-clause-changed : goal.returns-then-is_same-clause-changed
+returns-then-is_same-clause-changed c = λ own target from keeps there known.
     let is = same_target c.args.types.now c.args.node.0 c.get.result.now own c.args.index c.operand-target.result.now target c.get.ensures keeps c.operand-target.ensures there in
-    let stays = stays_as c.args.arena.now c.args.types.now c.args.input.0 c.get-from.result.now.dtype (ty c.operand-target.result.now) (type_of c.args.types.now c.args.input.0 c.get-from.result.now c.get-from.ensures) (sym c.is_same_type.ensures ∙ c.if-is_same_type.true) in
+    let stays = stays_as c.args.arena.now c.args.types.now c.args.input.0 c.get-from.result.now.dtype (ty c.operand-target.result.now) (type_of c.args.types.now c.args.input.0 c.get-from.result.now c.get-from.ensures) (sym c.is_same.ensures ∙ c.if-is_same.true) in
     subst (λ (t : DataType). IsChanged c.args.arena.now c.args.arena.now c.args.types.now (record { input = c.args.input.0; changed = c.args.input.0; from = ty from; target = ty t })) is (changed_from c.args.arena.now c.args.arena.now c.args.types.now c.args.input.0 c.args.input.0 c.get-from.result.now.dtype from (ty c.operand-target.result.now) (type_of c.args.types.now c.args.input.0 c.get-from.result.now c.get-from.ensures) known stays)
 
-pub returns-then-is_same_type-clause-once : goal.returns-then-is_same_type-clause-once
-returns-then-is_same_type-clause-once c = itself_once c.args.arena.now c.args.input.0
+pub returns-then-is_same-clause-once : goal.returns-then-is_same-clause-once
+returns-then-is_same-clause-once c = itself_once c.args.arena.now c.args.input.0
 
 pub put_cast-requires : goal.put_cast-requires
 put_cast-requires c = (c.get-from.result.now, c.get-from.ensures, c.in_ok-try_clone-in-None.ensures.ok ∙ sym c.in_ok-target-in-None.ensures.ok, refl, refl, c.none.ensures)
@@ -40,7 +40,7 @@ returns-in_ok-made-in-None-clause-changed c = λ own target from keeps there kno
     let from0 = c.get-from.result.now in
     let is0 = type_of types c.args.input.0 from0 c.get-from.ensures in
     let at = c.requires.ready c.get.result.now c.get.ensures in
-    let apart = sym c.is_same_type.ensures ∙ c.if-is_same_type.false in
+    let apart = sym c.is_same.ensures ∙ c.if-is_same.false in
     let copied = c.in_ok-target-in-None.ensures.ok in
     let can = ready_becomes types c.args.input.0 c.get.result.now.operands c.args.index from0.dtype c.operand-target.result.now (ty c.in_ok-target-in-None.target) at c.operand-target.ensures copied is0 apart in
     let casts = becomes_cast (ty from0.dtype) (ty c.in_ok-target-in-None.target) can c.in-None.ensures in
@@ -56,7 +56,7 @@ returns-in_ok-made-in-None-clause-right c = λ registry schema right.
     let from0 = c.get-from.result.now in
     let is0 = type_of types c.args.input.0 from0 c.get-from.ensures in
     let at = c.requires.ready c.get.result.now c.get.ensures in
-    let apart = sym c.is_same_type.ensures ∙ c.if-is_same_type.false in
+    let apart = sym c.is_same.ensures ∙ c.if-is_same.false in
     let copied = c.in_ok-target-in-None.ensures.ok in
     let can = ready_becomes types c.args.input.0 c.get.result.now.operands c.args.index from0.dtype c.operand-target.result.now (ty c.in_ok-target-in-None.target) at c.operand-target.ensures copied is0 apart in
     let casts = becomes_cast (ty from0.dtype) (ty c.in_ok-target-in-None.target) can c.in-None.ensures in
@@ -68,7 +68,7 @@ returns-in_ok-made-in-None-clause-added c = λ registry schema start le right be
     let from0 = c.get-from.result.now in
     let is0 = type_of types c.args.input.0 from0 c.get-from.ensures in
     let at = c.requires.ready c.get.result.now c.get.ensures in
-    let apart = sym c.is_same_type.ensures ∙ c.if-is_same_type.false in
+    let apart = sym c.is_same.ensures ∙ c.if-is_same.false in
     let copied = c.in_ok-target-in-None.ensures.ok in
     let can = ready_becomes types c.args.input.0 c.get.result.now.operands c.args.index from0.dtype c.operand-target.result.now (ty c.in_ok-target-in-None.target) at c.operand-target.ensures copied is0 apart in
     c.in_ok-made-in-None.ensures.added registry schema start le right can.known before
@@ -87,7 +87,7 @@ number_under-requires-clause-becomes c =
     let from0 = c.get-from.result.now in
     let is0 = type_of types c.args.input.0 from0 c.get-from.ensures in
     let at = c.requires.ready c.get.result.now c.get.ensures in
-    let apart = sym c.is_same_type.ensures ∙ c.if-is_same_type.false in
+    let apart = sym c.is_same.ensures ∙ c.if-is_same.false in
     let copied = c.in_ok-target-in-Some.ensures.ok in
     let can = ready_becomes types c.args.input.0 c.get.result.now.operands c.args.index from0.dtype c.operand-target.result.now (ty c.in_ok-target-in-Some.target) at c.operand-target.ensures copied is0 apart in
     let fits : FitsSigned w128 c.in-Some.number = search rules in
@@ -105,7 +105,7 @@ returns-in_ok-made-in-Some-clause-changed c = λ own target from keeps there kno
     let from0 = c.get-from.result.now in
     let is0 = type_of types c.args.input.0 from0 c.get-from.ensures in
     let at = c.requires.ready c.get.result.now c.get.ensures in
-    let apart = sym c.is_same_type.ensures ∙ c.if-is_same_type.false in
+    let apart = sym c.is_same.ensures ∙ c.if-is_same.false in
     let copied = c.in_ok-target-in-Some.ensures.ok in
     let fits : FitsSigned w128 c.in-Some.number = search rules in
     let untyped = c.in-Some.ensures ∙ ap Untyped (sym (to_z-of_z w128 c.in-Some.number fits)) in

@@ -1,11 +1,12 @@
-use Rattle.std.proofs.Common.{◌++◌, map, sym, ap, ◌∙◌}
-use Rattle.plan_types.specs.Types.{ty}
-use Rattle.plan_types.specs.Schemas.{columns, column_of}
-use Rattle.plan_types.proofs.SchemaLemmas.{copied_more, schema_has_distinct_names}
+use Rattle.std.proofs.Common.{◌∙◌, false, ap}
+use Rattle.plan_types.specs.Columns.{repeats}
+use Rattle.plan_types.proofs.SchemaLemmas.{cloned_columns, cloned_names}
 use Rattle.plan_types.proofs.schema.Schema.try_clone.Goals as goal
 
-pub loop-name-preserved : goal.loop-name-preserved
-loop-name-preserved c =
-    let distinct = schema_has_distinct_names c.args.self.now in
-    let before = ap (λ l. columns c.loop-name.copy ++ map column_of l) (sym c.in-Some.ensures.steps) ∙ c.loop-name.invariant in
-    rw (c.in_ok-put.ensures.ok, c.in_ok-name.ensures.ok, c.in_ok-dtype.ensures.ok) (copied_more (columns c.loop-name.copy) (c.in-Some.name.now, ty c.in-Some.dtype.now) (map column_of c.next.new.self) _ distinct before)
+pub invariant_of-result : goal.invariant_of-result
+invariant_of-result c = record {
+  distinct = ap repeats (cloned_names c.args.self.now.fields.entries c.in_ok-fields.fields.entries c.in_ok-fields.ensures.cases) ∙ c.args.self.now.distinct;
+}
+
+pub returns-clause-ok : goal.returns-clause-ok
+returns-clause-ok c = cloned_columns c.args.self.now.fields.entries c.in_ok-fields.fields.entries c.in_ok-fields.ensures.cases
