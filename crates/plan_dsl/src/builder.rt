@@ -133,12 +133,13 @@ impl DslBuilder {
         ensures options { IfOk result (λ built. options_in built.0 ≡ options_in self.0) }
         ensures err { IfErr result (λ error. error ≡ no_memory) }
     {
-        let input = each_not_null(alloc, exprs)?;
-        let predicate = Expr::Function {
-            input: Exprs { items: input },
-            function: FunctionExpr::AllHorizontal,
-        };
-        self.filter(alloc, predicate)
+        match each_not_null(alloc, exprs) {
+            Ok(tests) => self.filter(alloc, all_of(tests)),
+            Err(error) => {
+                drop(self);
+                Err(error)
+            }
+        }
     }
 
     /// Each column, with the value in place of its nulls.
@@ -183,6 +184,16 @@ impl DslBuilder {
         ensures { result ≡ self.0 }
     {
         self.0
+    }
+}
+
+// That each of the expressions is true.
+fn all_of(tests: Vec<Expr>) -> Expr
+    ensures { tree_of result ≡ source_call FunctionExpr.AllHorizontal (map tree_of tests.items) }
+{
+    Expr::Function {
+        input: Exprs { items: tests },
+        function: FunctionExpr::AllHorizontal,
     }
 }
 

@@ -42,6 +42,16 @@ pub enum LiteralValue {
     Duration(i64, TimeUnit),
 }
 
+// The literal of that kind and number, where the kind's numbers have it.
+macro_rules! literal_within {
+    ($number:expr, $numbers:ident, $kind:ident $(, $unit:expr)?) => {
+        match $numbers::try_from($number) {
+            Ok(number) => Some(LiteralValue::$kind(number $(, $unit)?)),
+            Err(_) => None,
+        }
+    };
+}
+
 impl LiteralValue {
     /// The literal's type: a whole number without one has its own, `Unknown`.
     pub fn get_datatype(&self) -> DataType
@@ -89,24 +99,18 @@ impl LiteralValue {
         ensures literal { IfSome result (λ value. literal_op value ≡ LiteralOp (ty dtype.now) (IntValue number)) }
     {
         match dtype {
-            DataType::Int8 => Some(LiteralValue::Int8(i8::try_from(number).ok()?)),
-            DataType::Int16 => Some(LiteralValue::Int16(i16::try_from(number).ok()?)),
-            DataType::Int32 => Some(LiteralValue::Int32(i32::try_from(number).ok()?)),
-            DataType::Int64 => Some(LiteralValue::Int64(i64::try_from(number).ok()?)),
-            DataType::UInt8 => Some(LiteralValue::UInt8(u8::try_from(number).ok()?)),
-            DataType::UInt16 => Some(LiteralValue::UInt16(u16::try_from(number).ok()?)),
-            DataType::UInt32 => Some(LiteralValue::UInt32(u32::try_from(number).ok()?)),
-            DataType::UInt64 => Some(LiteralValue::UInt64(u64::try_from(number).ok()?)),
-            DataType::Date => Some(LiteralValue::Date(i32::try_from(number).ok()?)),
+            DataType::Int8 => literal_within!(number, i8, Int8),
+            DataType::Int16 => literal_within!(number, i16, Int16),
+            DataType::Int32 => literal_within!(number, i32, Int32),
+            DataType::Int64 => literal_within!(number, i64, Int64),
+            DataType::UInt8 => literal_within!(number, u8, UInt8),
+            DataType::UInt16 => literal_within!(number, u16, UInt16),
+            DataType::UInt32 => literal_within!(number, u32, UInt32),
+            DataType::UInt64 => literal_within!(number, u64, UInt64),
+            DataType::Date => literal_within!(number, i32, Date),
             DataType::Time => time_of(number),
-            DataType::Datetime(unit) => {
-                let count = i64::try_from(number).ok()?;
-                Some(LiteralValue::DateTime(count, *unit))
-            }
-            DataType::Duration(unit) => {
-                let count = i64::try_from(number).ok()?;
-                Some(LiteralValue::Duration(count, *unit))
-            }
+            DataType::Datetime(unit) => literal_within!(number, i64, DateTime, *unit),
+            DataType::Duration(unit) => literal_within!(number, i64, Duration, *unit),
             DataType::Null
             | DataType::Boolean
             | DataType::String
