@@ -131,7 +131,8 @@ impl<T: Drop> Arena<T> {
         ensures err { IfErr result (λ error. error ≡ no_memory) }
     {
         let node = Node(self.items.len());
-        self.items.push(item)?;
+        self.items.reserve(1)?;
+        self.items.push_reserved(item);
         Ok(node)
     }
 }

@@ -124,7 +124,8 @@ impl TypeTable {
         ensures err { IfErr result (λ error. error ≡ no_memory) }
     {
         if self.is_next(node) {
-            self.entries.push(Some(own))?;
+            self.entries.reserve(1)?;
+            self.entries.push_reserved(Some(own));
             return Ok(());
         }
         self.keep_within(node, own)
@@ -159,7 +160,8 @@ impl TypeTable {
         ensures err { IfErr result (λ error. error ≡ no_memory) }
     {
         if self.is_next(node) {
-            self.entries.push(Some(own))?;
+            self.entries.reserve(1)?;
+            self.entries.push_reserved(Some(own));
             return Ok(());
         }
         self.add_within(node, own)
