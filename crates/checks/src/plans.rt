@@ -98,7 +98,8 @@ fn assert_hstack(rt: &impl Abort, alloc: Global, count: usize) {
     let options = ProjectionOptions::default();
     let built = DslBuilder::from(input).with_columns(alloc, columns, options);
     let plan = built.expect(rt, NO_MEMORY).build();
-    plan.try_clone(alloc).expect(rt, NO_MEMORY);
+    drop(plan.try_clone(alloc).expect(rt, NO_MEMORY));
+    drop(plan);
 }
 
 #[test]

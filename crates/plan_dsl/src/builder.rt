@@ -4,7 +4,7 @@ ghost use Rattle.std.specs.Option.{option_map};
 ghost use Rattle.plan_types.specs.Errors.{no_memory};
 ghost use Rattle.plan_types.specs.Schemas.{columns};
 ghost use Rattle.plan_dsl.specs.Expressions.{selector_tree, tree_of};
-ghost use Rattle.plan_dsl.specs.Plans.{OrderOption, ProjectionOption, all_known_values, is_known_value, nulls_filled, source_call, plan_tree, options_in, scan_op, source_drop, source_filter, source_group_by, source_hstack, source_select};
+ghost use Rattle.plan_dsl.specs.Plans.{OrderOption, ProjectionOption, all_known_values, any_column, is_known_value, nulls_filled, source_call, plan_tree, options_in, scan_op, source_drop, source_filter, source_group_by, source_hstack, source_select};
 ghost use Rattle.plan_dsl.specs.Trees.{node, no_more};
 
 use crate::expr::{Expr, Exprs};
@@ -120,10 +120,13 @@ impl DslBuilder {
     {
         match subset {
             Some(exprs) => self.known_in(alloc, exprs),
-            None => {
-                let all = vec![in alloc; Expr::Wildcard]?;
-                self.known_in(alloc, all)
-            }
+            None => match every_column(alloc) {
+                Ok(all) => self.known_in(alloc, all),
+                Err(error) => {
+                    drop(self);
+                    Err(error)
+                }
+            },
         }
     }
 
@@ -148,16 +151,16 @@ impl DslBuilder {
         ensures options { IfOk result (λ built. options_in built.0 ≡ ProjectionOption (record { duplicate_check = false }) ∷ options_in self.0) }
         ensures err { IfErr result (λ error. error ≡ no_memory) }
     {
-        let input = vec![in alloc; Expr::Wildcard, value]?;
-        let filled = Expr::Function {
-            input: Exprs { items: input },
-            function: FunctionExpr::FillNull,
-        };
-        let exprs = vec![in alloc; filled]?;
         let options = ProjectionOptions {
             duplicate_check: false,
         };
-        self.project(alloc, exprs, options)
+        match filled(alloc, value) {
+            Ok(exprs) => self.project(alloc, exprs, options),
+            Err(error) => {
+                drop(self);
+                Err(error)
+            }
+        }
     }
 
     /// Without the columns that the selectors name. Where it is strict, each of them must stand.
@@ -185,6 +188,29 @@ impl DslBuilder {
     {
         self.0
     }
+}
+
+// Each column.
+fn every_column(alloc: Global) -> Result<Vec<Expr>, PlanError>
+    ensures ok { IfOk result (λ all. map tree_of all.items ≡ any_column ∷ []) }
+    ensures err { IfErr result (λ error. error ≡ no_memory) }
+{
+    let all = vec![in alloc; Expr::Wildcard]?;
+    Ok(all)
+}
+
+// Each column, with the value in place of its nulls.
+fn filled(alloc: Global, value: Expr) -> Result<Vec<Expr>, PlanError>
+    ensures ok { IfOk result (λ exprs. map tree_of exprs.items ≡ nulls_filled (tree_of value) ∷ []) }
+    ensures err { IfErr result (λ error. error ≡ no_memory) }
+{
+    let input = vec![in alloc; Expr::Wildcard, value]?;
+    let filled = Expr::Function {
+        input: Exprs { items: input },
+        function: FunctionExpr::FillNull,
+    };
+    let exprs = vec![in alloc; filled]?;
+    Ok(exprs)
 }
 
 // That each of the expressions is true.
