@@ -2,12 +2,13 @@
 
 use crate::fixtures::{LENGTHS, LEVELS, NO_MEMORY, SIZES, deep_type, long_name, struct_type};
 use crate::values::{deep_value, parts_of};
-use plan_types::cast::{CastError, can_cast, cast_value};
+use plan_types::cast::{can_cast, cast_value};
 use plan_types::dtype::CastOptions;
 use plan_types::dtype::DataType::{
     self, Boolean, Date, Datetime, Duration, Int8, Int64, Null, String as Text, Time, UInt8,
 };
 use plan_types::dtype::TimeUnit::{Milliseconds, Nanoseconds};
+use plan_types::error::CastError;
 use plan_types::text::PlSmallStr;
 use plan_types::value::Value;
 use std::alloc::Global;

@@ -124,6 +124,7 @@ impl<T: Default> Arena<T> {
 
 impl<T: Drop> Arena<T> {
     /// Adds the item at the end, and answers its number.
+    #[inline(always)]
     pub fn add(&mut self, item: T) -> Result<Node, PlanError>
         ensures ok { OnOk result (self.new ≡ self.old ++ item ∷ []) }
         ensures node { IfOk result (λ node. node.0 ≡ length self.old) }

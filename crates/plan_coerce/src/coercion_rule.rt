@@ -212,6 +212,7 @@ fn item_over(
 }
 
 // Puts in place of a node's operands those that it takes, unless it takes them as they are. Answers whether it did.
+#[inline(always)]
 fn change_operands(
     node: Node,
     operands: &mut [Node],
@@ -239,6 +240,7 @@ fn change_operands(
 }
 
 // Whether a node takes its operands as they are.
+#[inline(always)]
 fn takes_own(own: &Inferred, inputs: &[Node], types: &TypeTable) -> bool
     requires inputs { AllByRecursion (IsKept types.now) (numbers inputs.now) }
     requires count { length own.now.operands ≡ length inputs.now }

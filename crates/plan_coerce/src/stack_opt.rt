@@ -396,6 +396,7 @@ fn push_below(item: &AExpr, stack: &mut Nodes) -> bool
 }
 
 // Puts an item in place of a node. Where a number's type is kept for the node, what is kept is forgotten.
+#[inline(always)]
 fn put_in_place(node: Node, item: AExpr, arena: &mut Arena<AExpr>, types: &mut TypeTable)
     requires there { node.0 < length arena.old }
     ensures item { arena.new ≡ set arena.old node.0 item }

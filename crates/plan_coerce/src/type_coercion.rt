@@ -34,6 +34,7 @@ use plan_types::error::PlanError;
 use plan_types::text::PlSmallStr;
 
 /// Puts in place of a node's operands the nodes that stand for them, made of the types to which it takes them.
+#[inline(never)]
 pub(crate) fn operands_to(
     node: Node,
     operands: &mut [Node],

@@ -124,9 +124,7 @@ impl TypeTable {
         ensures err { IfErr result (λ error. error ≡ no_memory) }
     {
         if self.is_next(node) {
-            self.entries.reserve(1)?;
-            self.entries.push_reserved(Some(own));
-            return Ok(());
+            return self.push_next(own);
         }
         self.keep_within(node, own)
     }
@@ -160,9 +158,7 @@ impl TypeTable {
         ensures err { IfErr result (λ error. error ≡ no_memory) }
     {
         if self.is_next(node) {
-            self.entries.reserve(1)?;
-            self.entries.push_reserved(Some(own));
-            return Ok(());
+            return self.push_next(own);
         }
         self.add_within(node, own)
     }
@@ -182,6 +178,22 @@ impl TypeTable {
         let index = node.0 - self.first;
         self.make_room(index)?;
         self.entries[index] = Some(own);
+        Ok(())
+    }
+
+    // Keeps what is inferred of the node whose entry is the next.
+    #[inline(always)]
+    fn push_next(&mut self, own: Inferred) -> Result<(), PlanError>
+        ensures kept { OnOk result (IsKept self.new (self.old.first + length self.old.entries.items)) }
+        ensures stays { (n : ℕ) (other : Inferred) → KeepsEntry self.old n other → KeepsEntry self.new n other }
+        ensures only { (n : ℕ) (other : Inferred) → KeepsEntry self.new n other →
+            KeepsEntry self.old n other ⊎ ((n ≡ self.old.first + length self.old.entries.items) × (other ≡ own)) }
+        ensures count { OnOk result (kept_count self.new ≡ kept_count self.old + 1) }
+        ensures count_stays { OnErr result (kept_count self.new ≡ kept_count self.old) }
+        ensures err { IfErr result (λ error. error ≡ no_memory) }
+    {
+        self.entries.reserve(1)?;
+        self.entries.push_reserved(Some(own));
         Ok(())
     }
 

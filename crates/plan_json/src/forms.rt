@@ -337,6 +337,7 @@ pub(crate) fn find_key(kind: Kind, word: &str) -> Option<(&'static str, Key)>
 }
 
 // The key of expressions of that word. Most forms are columns and operators, whose words are told by their bytes.
+#[inline(always)]
 pub(crate) fn find_expression(word: &str) -> Option<(&'static str, ExpressionKey)>
     ensures row { option_map (λ row. (row.0.now, row.1)) result ≡ row_named expression_rows word.now }
     ensures word { IfSome result (λ row. row.0.now ≡ word.now) }

@@ -179,6 +179,7 @@ fn read_boxed(alloc: Global, tables: &Tables, value: &Value) -> Result<Box<Expr>
 
 // What a key of expressions says of its value, in a box. A column is put there at once.
 #[cycle(forms)]
+#[inline(always)]
 fn read_boxed_of(
     alloc: Global,
     tables: &Tables,

@@ -5,6 +5,7 @@ use Rattle.std.specs.Str.{chars, IsUtf8}
 use Rattle.std.proofs.lemmas.List.{flat_map_more, take_more, append-nil, length-take-le}
 use Rattle.std.proofs.lemmas.Option.{slice_get_within, slice_get-get_or, get_or_from_slice_get}
 use Rattle.std.proofs.lemmas.Str.{encodes-chars}
+use Rattle.json.specs.Print.{escape}
 use Rattle.serde_json.specs.Data.{string}
 use Rattle.serde_json.specs.Written.{compact_text}
 use Rattle.plan_types.specs.Schemas.{Columns}
@@ -88,11 +89,27 @@ struct_pushed (Ok x) dtype fields items before after is shown put =
 regrouped : (a b c d e f : List ℕ) → (a ++ (b ++ (c ++ (d ++ e)))) ++ f ≡ a ++ (b ++ ((c ++ d) ++ (e ++ f)))
 regrouped a b c d e f = simp append_assoc
 
--- a field is appended: all up to the parts of its type, and then these
-pub field_pushed : {X E : Type 0} (result : Result X E) (old named new before name : List ℕ) (type : Ty) → IsUtf8 name → named ≡ old ++ (before ++ (compact_text (string name) ++ (codes " " ++ variant_text type))) → OnOk result (new ≡ named ++ parts_text type) → OnOk result (new ≡ old ++ (before ++ field_text (chars name, type)))
-field_pushed (Err e) old named new before name type of_text front put = tt
-field_pushed (Ok x) old named new before name type of_text front put =
+field_appended : (old named new before name : List ℕ) (type : Ty) → IsUtf8 name → named ≡ old ++ (before ++ (compact_text (string name) ++ (codes " " ++ variant_text type))) → new ≡ named ++ parts_text type → new ≡ old ++ (before ++ field_text (chars name, type))
+field_appended old named new before name type of_text front put =
     put
     ∙ ap (λ t. t ++ parts_text type) front
     ∙ regrouped old before (compact_text (string name)) (codes " ") (variant_text type) (parts_text type)
     ∙ ap (λ n. old ++ (before ++ (n ++ codes " " ++ type_text type))) (name_text-chars name of_text)
+
+-- a field is appended: all up to the parts of its type, and then these
+pub field_pushed : {X E : Type 0} (result : Result X E) (old named new before name : List ℕ) (type : Ty) → IsUtf8 name → named ≡ old ++ (before ++ (compact_text (string name) ++ (codes " " ++ variant_text type))) → OnOk result (new ≡ named ++ parts_text type) → OnOk result (new ≡ old ++ (before ++ field_text (chars name, type)))
+field_pushed (Err e) old named new before name type of_text front put = tt
+field_pushed (Ok x) old named new before name type of_text front put = field_appended old named new before name type of_text front put
+
+quoted : (old before name type : List ℕ) → ((old ++ (before ++ codes "\"")) ++ name) ++ (codes "\" " ++ type) ≡ old ++ (before ++ ((codes "\"" ++ (name ++ codes "\"")) ++ (codes " " ++ type)))
+quoted old before name type = simp append_assoc
+
+-- a field up to the end of a plain name, and what it lacks where its type has no parts
+pub field_closed : (old opened new before name : List ℕ) (type : Ty) → IsUtf8 name → escape name ≡ name → parts_text type ≡ [] → opened ≡ old ++ (before ++ codes "\"") → new ≡ opened ++ name → new ++ (codes "\" " ++ variant_text type) ≡ old ++ (before ++ field_text (chars name, type))
+field_closed old opened new before name type of_text plain bare front put =
+    let closed = new ++ (codes "\" " ++ variant_text type) in
+    let whole : closed ≡ old ++ (before ++ (compact_text (string name) ++ (codes " " ++ variant_text type))) =
+    ap (λ t. t ++ (codes "\" " ++ variant_text type)) (put ∙ ap (λ t. t ++ name) front)
+    ∙ quoted old before name (variant_text type)
+    ∙ ap (λ e. old ++ (before ++ ((codes "\"" ++ (e ++ codes "\"")) ++ (codes " " ++ variant_text type)))) (sym plain) in
+    field_appended old closed closed before name type of_text whole (sym (append-nil closed) ∙ ap (λ t. closed ++ t) (sym bare))

@@ -1,5 +1,5 @@
 -- Texts of names, types, schemas, places and kinds.
-use Rattle.std.specs.Prelude.{ℕ, zero, suc, true, false, List, [], ◌∷◌, ◌++◌, codes, decimal, flat_map, encode_utf8_all}
+use Rattle.std.specs.Prelude.{ℕ, zero, suc, true, false, List, [], ◌∷◌, ◌++◌, Option, None, Some, codes, decimal, flat_map, encode_utf8_all}
 use Rattle.std.specs.List.{join_by}
 use Rattle.serde_json.specs.Data.{string}
 use Rattle.serde_json.specs.Written.{compact_text}
@@ -56,6 +56,12 @@ type_text type = variant_text type ++ parts_text type
 
 abbrev pub field_text : Name × Ty → List ℕ
 field_text column = name_text column.0 ++ codes " " ++ type_text column.1
+
+-- what a column lacks that was written up to the end of its name, by its type: the closing quote, and the type, which has no
+-- parts
+abbrev pub closing_text : Option Ty → List ℕ
+closing_text None = []
+closing_text (Some type) = codes "\" " ++ variant_text type
 
 -- what stands before the field of that number
 abbrev pub separator : ℕ → List ℕ

@@ -14,7 +14,7 @@ ghost use Rattle.plan_arena.specs.Items.{kind_text};
 ghost use Rattle.plan_report.specs.Casts.{DenoteOutputs};
 ghost use Rattle.plan_report.specs.Report.{shown, casts_line, line_text, report_text, refusal_text};
 ghost use Rattle.plan_report.specs.Samples.{int8, int32, int64, one_column, two_columns, struct_of, struct_of_two, a, b, five, binary, cast_to, truth_of, scan_of, filter_over, select_over, one_column_scan, two_column_scan, node_named};
-ghost use Rattle.plan_report.specs.Texts.{name_text, type_text, schema_text, separator, path_text};
+ghost use Rattle.plan_report.specs.Texts.{closing_text, name_text, type_text, schema_text, separator, path_text};
 
 /// A place is a dot, or a dot and a number for each step.
 pub fn path_examples()
@@ -71,6 +71,7 @@ pub fn line_examples()
     ensures names { map (kind_text {E = Named ℕ}) (ScanKind (Some 7) [] ∷ SelectKind [] ∷ HStackKind [] ∷ FilterKind (node_named (codes "a") 0) ∷ []) ≡ map codes ("df" ∷ "projection" ∷ "hstack" ∷ "selection" ∷ []) }
     ensures schemas { map shown (None ∷ Some (one_column Truth) ∷ []) ≡ [] ∷ one_column Truth ∷ [] }
     ensures separators { map separator (0 ∷ 1 ∷ 11 ∷ []) ≡ map codes ("" ∷ ", " ∷ ", " ∷ []) }
+    ensures closings { map closing_text (None ∷ Some int8 ∷ Some (ListType int8) ∷ []) ≡ map codes ("" ∷ "\" Int8" ∷ "\" List" ∷ []) }
     ensures casts { map casts_line (0 ∷ 4096 ∷ []) ≡ map codes ("casts 0\n" ∷ "casts 4096\n" ∷ []) }
 {}
 

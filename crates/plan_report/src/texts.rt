@@ -1,11 +1,12 @@
 //! Texts of names, types, schemas and places.
-ghost use Rattle.std.specs.Prelude.{◌≡◌, [], ◌∷◌, ◌++◌, codes, decimal, map, string_bytes, IsTrue, OnOk};
+ghost use Rattle.std.specs.Prelude.{◌≡◌, [], ◌∷◌, ◌++◌, ◌≢◌, ◌<◌, None, codes, decimal, map, string_bytes, IfOk, IsFalse, IsTrue, OnOk};
+ghost use Rattle.std.specs.Option.{option_map};
 ghost use Rattle.json.specs.Print.{escape, escape_byte};
 ghost use Rattle.serde_json.specs.Data.{string};
 ghost use Rattle.serde_json.specs.Written.{compact_text};
 ghost use Rattle.plan_types.specs.Schemas.{columns};
 ghost use Rattle.plan_types.specs.Types.{field_of, ty};
-ghost use Rattle.plan_report.specs.Texts.{in_parentheses, unit_text, variant_text, parts_text, type_text, field_text, separator, schema_text, step_text, path_text, error_kind_text};
+ghost use Rattle.plan_report.specs.Texts.{in_parentheses, unit_text, variant_text, parts_text, type_text, field_text, separator, schema_text, closing_text, step_text, path_text, error_kind_text};
 
 use plan_types::dtype::{DataType, TimeUnit};
 use plan_types::error::ErrorKind;
@@ -29,28 +30,28 @@ pub(crate) fn kind_name(kind: ErrorKind) -> &'static str
     }
 }
 
-// The name of the type's variant, behind a text.
-macro_rules! variant_behind {
-    ($front:literal, $dtype:expr) => {
+// The name of the type's variant, between two texts.
+macro_rules! variant_within {
+    ($front:literal, $dtype:expr, $back:literal) => {
         match $dtype {
-            DataType::Null => concat!($front, "Null"),
-            DataType::Boolean => concat!($front, "Boolean"),
-            DataType::Int8 => concat!($front, "Int8"),
-            DataType::Int16 => concat!($front, "Int16"),
-            DataType::Int32 => concat!($front, "Int32"),
-            DataType::Int64 => concat!($front, "Int64"),
-            DataType::UInt8 => concat!($front, "UInt8"),
-            DataType::UInt16 => concat!($front, "UInt16"),
-            DataType::UInt32 => concat!($front, "UInt32"),
-            DataType::UInt64 => concat!($front, "UInt64"),
-            DataType::String => concat!($front, "String"),
-            DataType::Date => concat!($front, "Date"),
-            DataType::Time => concat!($front, "Time"),
-            DataType::Datetime(_) => concat!($front, "Datetime"),
-            DataType::Duration(_) => concat!($front, "Duration"),
-            DataType::List(_) => concat!($front, "List"),
-            DataType::Struct(_) => concat!($front, "Struct"),
-            DataType::Unknown(_) => concat!($front, "Unknown"),
+            DataType::Null => concat!($front, "Null", $back),
+            DataType::Boolean => concat!($front, "Boolean", $back),
+            DataType::Int8 => concat!($front, "Int8", $back),
+            DataType::Int16 => concat!($front, "Int16", $back),
+            DataType::Int32 => concat!($front, "Int32", $back),
+            DataType::Int64 => concat!($front, "Int64", $back),
+            DataType::UInt8 => concat!($front, "UInt8", $back),
+            DataType::UInt16 => concat!($front, "UInt16", $back),
+            DataType::UInt32 => concat!($front, "UInt32", $back),
+            DataType::UInt64 => concat!($front, "UInt64", $back),
+            DataType::String => concat!($front, "String", $back),
+            DataType::Date => concat!($front, "Date", $back),
+            DataType::Time => concat!($front, "Time", $back),
+            DataType::Datetime(_) => concat!($front, "Datetime", $back),
+            DataType::Duration(_) => concat!($front, "Duration", $back),
+            DataType::List(_) => concat!($front, "List", $back),
+            DataType::Struct(_) => concat!($front, "Struct", $back),
+            DataType::Unknown(_) => concat!($front, "Unknown", $back),
         }
     };
 }
@@ -60,7 +61,7 @@ macro_rules! variant_behind {
 pub(crate) fn variant_name(dtype: &DataType) -> &'static str
     ensures { result.now ≡ variant_text (ty dtype.now) }
 {
-    variant_behind!("", dtype)
+    variant_within!("", dtype, "")
 }
 
 // What stands between a plain name and the parts of its type: the closing quote, and the name of the type's variant.
@@ -68,7 +69,15 @@ pub(crate) fn variant_name(dtype: &DataType) -> &'static str
 fn closing(dtype: &DataType) -> &'static str
     ensures { result.now ≡ codes "\" " ++ variant_text (ty dtype.now) }
 {
-    variant_behind!("\" ", dtype)
+    variant_within!("\" ", dtype, "")
+}
+
+// What stands between two plain names, where the first has that type and the type has no parts.
+#[tactic(auto, unfolding(crate::proofs::OnLiterals::texts_on_literals))]
+fn between(dtype: &DataType) -> &'static str
+    ensures { result.now ≡ (codes "\" " ++ variant_text (ty dtype.now)) ++ codes ", \"" }
+{
+    variant_within!("\" ", dtype, ", \"")
 }
 
 /// The name of the unit.
@@ -224,9 +233,19 @@ fn push_name(
     text.push_str(variant_name(dtype))
 }
 
-/// Appends the field of that number, with what stands before it: a column's name and type.
+// Whether the type has a text behind its variant's name.
+fn has_parts(dtype: &DataType) -> bool
+    ensures { IsFalse result → parts_text (ty dtype.now) ≡ [] }
+{
+    matches!(
+        dtype,
+        DataType::Datetime(_) | DataType::Duration(_) | DataType::List(_) | DataType::Struct(_)
+    )
+}
+
+// Appends the field of that number, with what stands before it: a column's name and type.
 #[cycle(type_texts)]
-pub(crate) fn push_field(
+fn push_field(
     alloc: Global,
     text: &mut String,
     number: usize,
@@ -253,6 +272,59 @@ fn push_fields(alloc: Global, text: &mut String, fields: &[Field]) -> Result<(),
     text.push_str(")")
 }
 
+// Appends what a column lacks, if there is one that lacks something.
+fn push_closing(text: &mut String, column: Option<&DataType>) -> Result<(), AllocError>
+    ensures { OnOk result (string_bytes text.new ≡ string_bytes text.old ++ closing_text (option_map (λ dtype. ty dtype.now) column.entry)) }
+{
+    match column {
+        None => Ok(()),
+        Some(dtype) => text.push_str(closing(dtype)),
+    }
+}
+
+// Appends what stands before a plain name in the column of that number, with what the one before it lacks.
+#[inline(always)]
+fn push_opening(
+    text: &mut String,
+    number: usize,
+    before: Option<&DataType>,
+) -> Result<(), AllocError>
+    requires { before ≢ None → 0 < number }
+    ensures { OnOk result (string_bytes text.new
+        ≡ (string_bytes text.old ++ closing_text (option_map (λ dtype. ty dtype.now) before.entry)) ++ (separator number ++ codes "\"")) }
+{
+    match before {
+        None => text.push_str(opening(number)),
+        Some(before) => text.push_str(between(before)),
+    }
+}
+
+// Appends the column of that number. Of the one before it the type is given where it lacks its closing quote and the type,
+// which has no parts; the answer is the same of this one. So what stands between two plain names is one piece.
+#[inline(always)]
+fn push_column<'a>(
+    alloc: Global,
+    text: &mut String,
+    number: usize,
+    name: &PlSmallStr,
+    dtype: &'a DataType,
+    before: Option<&'a DataType>,
+) -> Result<Option<&'a DataType>, AllocError>
+    requires { before ≢ None → 0 < number }
+    ensures { IfOk result (λ left. string_bytes text.new ++ closing_text (option_map (λ dtype. ty dtype.now) left)
+        ≡ (string_bytes text.old ++ closing_text (option_map (λ dtype. ty dtype.now) before.entry)) ++ (separator number ++ field_text (name.now, ty dtype.now))) }
+{
+    let plain = name.as_str();
+    if has_parts(dtype) || !is_plain(plain) {
+        push_closing(text, before)?;
+        push_field(alloc, text, number, name, dtype)?;
+        return Ok(None);
+    }
+    push_opening(text, number, before)?;
+    text.push_str(plain)?;
+    Ok(Some(dtype))
+}
+
 /// Appends the columns of a schema.
 pub(crate) fn push_schema(
     alloc: Global,
@@ -262,10 +334,12 @@ pub(crate) fn push_schema(
     ensures { OnOk result (string_bytes text.new ≡ string_bytes text.old ++ schema_text (columns schema.now)) }
 {
     text.push_str("(")?;
+    let mut before = None;
     for index in 0..schema.len() {
         if let Some((name, dtype)) = schema.get_at_index(index) {
-            push_field(alloc, text, index, name, dtype)?;
+            before = push_column(alloc, text, index, name, dtype, before)?;
         }
     }
+    push_closing(text, before)?;
     text.push_str(")")
 }

@@ -10,8 +10,8 @@ use Rattle.plan_types.specs.ValueViews.{val_of, values_from, values_in, IsCastEr
 use Rattle.plan_types.specs.Casts.{Converted, Gives, can_cast, can_cast_fields, cast, cast_items, cast_parts, converted_in_front, gathered}
 use Rattle.plan_types.specs.declared.field.Field.{Field}
 use Rattle.plan_types.specs.declared.value.Value.{Value}
-use Rattle.plan_types.specs.declared.cast.CastError.{CastError}
-use Rattle.plan_types.specs.declared.cast.CastError.TheVariants.{Failing, NoMemory}
+use Rattle.plan_types.specs.declared.error.CastError.{CastError}
+use Rattle.plan_types.specs.declared.error.CastError.TheVariants.{Failing, NoMemory}
 use Rattle.plan_types.specs.declared.dtype.CastOptions.{CastOptions}
 
 and_first : (a b : Bool) → (a && b) ≡ true → a ≡ true

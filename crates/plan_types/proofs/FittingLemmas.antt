@@ -1,5 +1,5 @@
 -- Whether the values of lists and structs fit, one by one.
-use Rattle.std.proofs.Common.{◌≡◌, ℕ, suc, Bool, true, false, ◌&&◌, List, [], ◌∷◌, length, map, drop, refl, sym, ap, ◌∙◌}
+use Rattle.std.proofs.Common.{◌≡◌, ℕ, suc, Bool, false, ◌&&◌, List, [], ◌∷◌, length, map, drop, refl, sym, ap, ◌∙◌}
 use Rattle.std.proofs.Math.Bool.{and-false}
 use Rattle.plan_types.specs.Types.{Ty, Fields, ListType, StructType, ty, field_of, fields_from, fields_in}
 use Rattle.plan_types.specs.Values.{fits, items_fit, parts_fit}

@@ -6,8 +6,8 @@ use Rattle.plan_types.specs.Casts.{Converted, Fails}
 use Rattle.plan_types.specs.declared.value.Value.{Value, Row_of-Value, end_of-Value, more_of-Value}
 use Rattle.plan_types.specs.declared.value.Value.TheVariants.{Null, Boolean, Int, Text, List', Struct'}
 use Rattle.plan_types.specs.declared.value.Parts.{Parts}
-use Rattle.plan_types.specs.declared.cast.CastError.{CastError}
-use Rattle.plan_types.specs.declared.cast.CastError.TheVariants.{Failing, NoMemory}
+use Rattle.plan_types.specs.declared.error.CastError.{CastError}
+use Rattle.plan_types.specs.declared.error.CastError.TheVariants.{Failing, NoMemory}
 
 -- the value that the code keeps
 abbrev mutual

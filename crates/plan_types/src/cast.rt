@@ -9,45 +9,11 @@ ghost use Rattle.plan_types.specs.Values.{fits, in_range, items_fit, parts_fit};
 ghost use Rattle.plan_types.specs.ValueViews.{parts_of, val_of, values_in, IsCastError, IsPartsError};
 
 use crate::dtype::{CastOptions, DataType, TimeUnit};
-use crate::error::{ErrorKind, PlanError};
+use crate::error::{CastError, ErrorKind, PlanError};
 use crate::field::Field;
 use crate::text::PlSmallStr;
 use crate::value::{Parts, Value};
-use std::alloc::{AllocError, AllocFailed, Global};
-use thiserror::Error;
-
-/// Why a cast of a value gives none.
-#[derive(Debug, Drop, Error)]
-pub enum CastError {
-    /// The value has no place in the target, and the cast is strict.
-    #[error("the value has no place in the type that it is cast to")]
-    Failing,
-    /// Memory ran out. It may stand in place of any other answer.
-    #[error("no memory")]
-    NoMemory,
-}
-
-impl From<AllocError> for CastError {
-    ghost use Rattle.std.specs.Prelude.{◌≡◌};
-    ghost use Rattle.plan_types.specs.declared.cast.CastError.TheVariants.{NoMemory};
-
-    ghost from_gives = { λ _ error. error ≡ NoMemory };
-
-    fn from(_error: AllocError) -> CastError {
-        CastError::NoMemory
-    }
-}
-
-impl<T: Drop> From<AllocFailed<T>> for CastError {
-    ghost use Rattle.std.specs.Prelude.{◌≡◌};
-    ghost use Rattle.plan_types.specs.declared.cast.CastError.TheVariants.{NoMemory};
-
-    ghost from_gives = { λ _ error. error ≡ NoMemory };
-
-    fn from(_error: AllocFailed<T>) -> CastError {
-        CastError::NoMemory
-    }
-}
+use std::alloc::Global;
 
 // Want of memory, where nothing else can come.
 fn out_of_memory(error: PlanError) -> CastError

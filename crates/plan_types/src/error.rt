@@ -1,4 +1,4 @@
-//! Refusals of a plan: which rule is broken, and where.
+//! Refusals: of a plan, which rule is broken, and where; of a cast of a value, why.
 ghost use Rattle.std.specs.Prelude.{◌≡◌, ◌<◌, [], ◌∷◌, IfOk, length, slice_index};
 
 use std::alloc::{AllocError, AllocFailed, Global};
@@ -133,5 +133,38 @@ impl<T: Drop> From<AllocFailed<T>> for PlanError {
 
     fn from(_error: AllocFailed<T>) -> PlanError {
         PlanError::at_top(ErrorKind::NoMemory)
+    }
+}
+
+/// Why a cast of a value gives none.
+#[derive(Debug, Drop, Error)]
+pub enum CastError {
+    /// The value has no place in the target, and the cast is strict.
+    #[error("the value has no place in the type that it is cast to")]
+    Failing,
+    /// Memory ran out. It may stand in place of any other answer.
+    #[error("no memory")]
+    NoMemory,
+}
+
+impl From<AllocError> for CastError {
+    ghost use Rattle.std.specs.Prelude.{◌≡◌};
+    ghost use Rattle.plan_types.specs.declared.error.CastError.TheVariants.{NoMemory};
+
+    ghost from_gives = { λ _ error. error ≡ NoMemory };
+
+    fn from(_error: AllocError) -> CastError {
+        CastError::NoMemory
+    }
+}
+
+impl<T: Drop> From<AllocFailed<T>> for CastError {
+    ghost use Rattle.std.specs.Prelude.{◌≡◌};
+    ghost use Rattle.plan_types.specs.declared.error.CastError.TheVariants.{NoMemory};
+
+    ghost from_gives = { λ _ error. error ≡ NoMemory };
+
+    fn from(_error: AllocFailed<T>) -> CastError {
+        CastError::NoMemory
     }
 }

@@ -131,6 +131,7 @@ impl Schema {
     }
 
     /// `with_column`, whose answer is only whether there was a column of that name.
+    #[inline(always)]
     pub fn put(&mut self, name: PlSmallStr, dtype: DataType) -> Result<bool, PlanError>
         ensures ok { OnOk result (columns self.new ≡ with_column (columns self.old) name (ty dtype)) }
         ensures before { IfOk result (λ before. before ≡ is_some (type_at (columns self.old) name)) }

@@ -13,7 +13,7 @@ ghost use Rattle.plan_types.specs.Frames.{IsFrame, IsFrameOf, value_in, row_at, 
 ghost use Rattle.plan_types.specs.FrameFaults.{IsFault, count_of, shown, height_of, heads_of, row_of, framed, repeated_name, other_length, misfit_from, else_fault, misfit, frame_fault};
 ghost use Rattle.plan_types.specs.Places.{outermost_first};
 ghost use Rattle.plan_types.specs.Samples.{Maps, MapsPairs, column_with, frame_with, int32, int8, minus, negative, no, null, number, schema_a, schema_ab, text, times, uint8, yes};
-ghost use Rattle.plan_types.specs.declared.cast.CastError.TheVariants.{Failing, NoMemory as NoRoom};
+ghost use Rattle.plan_types.specs.declared.error.CastError.TheVariants.{Failing, NoMemory as NoRoom};
 ghost use Rattle.plan_types.specs.declared.column.Values.{Values};
 ghost use Rattle.plan_types.specs.declared.error.ErrorKind.TheVariants.{SchemaMismatch, NoMemory, Duplicate as Twice};
 ghost use Rattle.plan_types.specs.declared.frame.FrameError.{FrameError};

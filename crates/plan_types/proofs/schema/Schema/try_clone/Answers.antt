@@ -1,4 +1,4 @@
-use Rattle.std.proofs.Common.{◌∙◌, false, ap}
+use Rattle.std.proofs.Common.{◌∙◌, ap}
 use Rattle.plan_types.specs.Columns.{repeats}
 use Rattle.plan_types.proofs.SchemaLemmas.{cloned_columns, cloned_names}
 use Rattle.plan_types.proofs.schema.Schema.try_clone.Goals as goal
