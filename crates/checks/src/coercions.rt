@@ -120,7 +120,7 @@ fn coerce<R: OptimizationRule>(
     coerce_by::<R, Brand, Brand>(rule, optimizer, arena, scope, types, typings, steps)
 }
 
-// The same, with ledgers of its own.
+// The rule goes over what the stacked roots reach, with ledgers of its own.
 fn coerce_by<R: OptimizationRule, M: Ledger, L: Ledger>(
     rule: &R,
     optimizer: &mut ConversionOptimizer,

@@ -1,6 +1,6 @@
 //! Tests of what a proof can't show: with ample memory each call gives its answer, at any size.
 //!
-//! A contract lets want of memory stand in place of any answer. So each call that takes memory is made here, with no
+//! A contract lets *out of memory* stand in place of any answer. So each call that takes memory is made here, with no
 //! part, with one, two and many, unless the cases of the program reach it so.
 //!
 //! A value of many variants ends in a call that takes it, `drop` where no other does: at the end of a block each variant

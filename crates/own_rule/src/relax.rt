@@ -51,7 +51,7 @@ pub fn relax_casts(
     )
 }
 
-// The same of a node that is typed, with ledgers of its own.
+// Makes strict casts from a typed node on casts that aren't strict, with ledgers of its own.
 fn relax_by<M: Ledger, L: Ledger>(
     node: Node,
     arena: &mut Arena<AExpr>,

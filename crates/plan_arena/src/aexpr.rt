@@ -133,7 +133,7 @@ macro_rules! copied {
 }
 
 impl AExpr {
-    /// The same node, over the same inputs.
+    /// A copy of the node, over its inputs.
     pub fn try_clone(&self, alloc: Global) -> Result<AExpr, PlanError>
         ensures ok { IfOk result (λ copy. expression_layer copy ≡ expression_layer self.now) }
         ensures err { IfErr result (λ error. error ≡ no_memory) }
@@ -470,7 +470,7 @@ fn set_nodes(exprs: &mut [ExprIR], inputs: &[Node])
     }
 }
 
-// The same, with what its rows are ordered by behind the keys.
+// Writes a window's inputs as passes go over them: its function, its keys, and what its rows are ordered by.
 fn set_passed_window(
     function: &mut Node,
     keys: &mut NodeList,
@@ -551,7 +551,7 @@ fn push_reversed(nodes: &mut Nodes, inputs: &Inputs<'_>) -> Result<(), PlanError
     Ok(())
 }
 
-// The same, where there is room for them.
+// Appends a node's inputs in reverse, where there is room for them.
 fn push_in_room(nodes: &mut Nodes, inputs: &Inputs<'_>)
     requires { length nodes.old.items + length inputs.now ≤ nodes.old.capacity }
     ensures { numbers nodes.new.items ≡ numbers nodes.old.items ++ reverse inputs.now }

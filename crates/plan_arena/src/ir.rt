@@ -66,7 +66,7 @@ pub enum IR {
 }
 
 impl IR {
-    /// The same node, over the same inputs and expressions, with the same options.
+    /// A copy of the node, over its inputs and expressions, with its options.
     pub fn try_clone(&self, alloc: Global) -> Result<IR, PlanError>
         ensures ok { IfOk result (λ copy. plan_layer copy ≡ plan_layer self.now) }
         ensures options { IfOk result (λ copy. option_of copy ≡ option_of self.now) }

@@ -63,7 +63,7 @@ impl<'a> IRPlanRef<'a> {
         self.lp_arena.get(self.lp_top)
     }
 
-    /// The same arenas, from another node.
+    /// The arenas as they are lent, from another node.
     pub fn with_root(self, root: Node) -> IRPlanRef<'a>
         ensures top { result.lp_top ≡ root }
         ensures plans { result.lp_arena.now ≡ self.entry.lp_arena.now }

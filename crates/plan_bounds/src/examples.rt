@@ -163,8 +163,8 @@ pub fn lowered_plans()
     ensures narrow { ¬ (IsWidePlan (keep a (node (select_op (over_two ∷ []) None) (more (scan schema_ab) no_more)))) }
 {}
 
-/// A query's plan that needs one cast bounds those that have it or none, and no other casts, no cast to the type that is
-/// there, and no further node.
+/// A query's plan that needs one cast bounds plans that have it or none. It bounds none with two casts, with a cast to the
+/// type that is there, or with a further node.
 pub fn bounded_plans()
     ensures itself { IsBounded [] (scan schema_ab) (scan schema_ab) }
     ensures sum { IsBounded [] (select (sum ∷ []) (scan schema_ab)) (select (strict_sum ∷ []) (scan schema_ab)) }

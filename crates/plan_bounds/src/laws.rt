@@ -6,9 +6,9 @@ ghost use Rattle.plan_bounds.specs.PlanLaws.{StrictPlansAreWide, StrictPlansHave
 /// needs: those that the query wrote, and one for each operand of another type than the one to which it is taken, but for a
 /// number without a type for which a literal of the type stands. It has no more other nodes than before, and no more casts to
 /// the type that their operand has. Each horizontal in it is over 128 operands at least, as before: one over fewer has no
-/// type, and was written out. A number without a type at the top that gets one, before casts are written out, adds nothing. So
-/// a plan whose expressions are strict, as a lowered one's are, needs no casts but those that it has, and has no horizontal
-/// over fewer operands.
+/// type, and was written out. A number without a type at the top that gets one, before casts are written out, changes none of
+/// these counts. So a plan whose expressions are strict, as a lowered one's are, needs just as many casts as it has, and has
+/// no horizontal over fewer operands.
 pub fn coercion_bounds()
     ensures casts { AddsNeededCasts }
     ensures other_nodes { AddsNoNode }

@@ -1,4 +1,4 @@
-//! Bounds on what coercion adds: the casts that an expression needs, no cast without effect, and no other node.
+//! Bounds on what coercion leaves: no more casts than an expression needs, no more without effect, and no more other nodes.
 #![tactic(auto)]
 
 mod examples;

@@ -156,7 +156,7 @@ pub record IsRefusedAt (turns : Option ℕ) (registry : Registry) (schema : Colu
   pub is : IsRefusal (typing registry schema tree) error
   pub near : (n : ℕ) → turns ≡ Some n → Near old roots node
 
--- Why coercion is refused: memory is wanting, or such a typing is refused. Over typed roots it is the former, and so where
+-- Why coercion is refused: it is out of memory, or such a typing is refused. Over typed roots it is the former, and so where
 -- some are numbers without a type that stand apart, by a rule that says how often a node is replaced.
 pub record IsCoercionRefusal (settled : Expression → Bool) (turns : Option ℕ) (registry : Registry) (schema : Columns) (old new : List AExpr) (roots : List ℕ) (error : PlanError) : Type 0 where
   pub cause : (error ≡ no_memory) ⊎ IsRefusedAt turns registry schema old new roots error

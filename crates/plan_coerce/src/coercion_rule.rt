@@ -169,7 +169,8 @@ fn item_for(
     }
 }
 
-// The same of a node that may take its operands to other types. Of two operands no list is made.
+// The item that is to be put in place of a node that may take its operands to other types. Of two operands no list is
+// made.
 fn item_over(
     node: Node,
     arena: &mut Arena<AExpr>,

@@ -67,7 +67,7 @@ impl ConversionOptimizer {
         }
     }
 
-    // The same. After a refusal more may be stacked.
+    // Stacks a root, and then its inputs. After a refusal more may be stacked.
     fn push_root(&mut self, node: Node, expr_arena: &Arena<AExpr>) -> Result<(), PlanError>
         requires { node.0 < length expr_arena.now }
         ensures roots { OnOk result (roots_of self.new ≡ roots_of self.old ++ node.0 ∷ []) }
@@ -107,7 +107,7 @@ impl ConversionOptimizer {
         }
     }
 
-    // The same. After a refusal more may be stacked.
+    // Stacks the expressions' nodes in turn, each with its inputs. After a refusal more may be stacked.
     fn push_all(&mut self, exprs: &[ExprIR], expr_arena: &Arena<AExpr>) -> Result<(), PlanError>
         requires { AllByRecursion (λ n. n < length expr_arena.now) (map (λ e. (named_node e).expression) exprs.now) }
         ensures roots { OnOk result (roots_of self.new ≡ roots_of self.old ++ map (λ e. (named_node e).expression) exprs.now) }
@@ -145,7 +145,7 @@ impl ConversionOptimizer {
         Ok(())
     }
 
-    // The same, where there is room for them.
+    // Stacks the expressions' nodes in turn, where there is room for them.
     fn push_roots(&mut self, exprs: &[ExprIR])
         requires { length self.old.roots.items + length exprs.now ≤ self.old.roots.capacity }
         ensures roots { roots_of self.new ≡ roots_of self.old ++ map (λ e. (named_node e).expression) exprs.now }

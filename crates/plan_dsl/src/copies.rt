@@ -42,7 +42,7 @@ pub(crate) fn copied(
     }
 }
 
-// The same in a box.
+// A copy in a box, with the column of that name, if there is one, in place of all markers.
 #[cycle(expr_copies)]
 pub(crate) fn boxed_copy(
     expr: &Expr,
@@ -353,7 +353,7 @@ fn two_copied(
     Ok((first, second))
 }
 
-// The same of three.
+// Copies of three operands, with that column in place of all markers.
 #[cycle(expr_copies)]
 fn three_copied(
     first: &Expr,
@@ -372,7 +372,7 @@ fn three_copied(
     Ok((first, second, third))
 }
 
-// The same of one and of a list.
+// Copies of an operand and of those in a list, with that column in place of all markers.
 #[cycle(expr_copies)]
 fn listed_copied(
     first: &Expr,
@@ -389,7 +389,7 @@ fn listed_copied(
     Ok((first, rest))
 }
 
-// The same of what orders the groups of a window, if anything does.
+// A copy of what orders the groups of a window, if anything does, with that column in place of all markers.
 #[cycle(expr_copies)]
 fn order_copied(
     order: &Option<(Box<Expr>, SortOptions)>,

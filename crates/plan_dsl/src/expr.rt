@@ -138,7 +138,7 @@ pub enum Expr {
         by: Exprs,
         sort_options: SortMultipleOptions,
     },
-    /// The same under another name.
+    /// An expression under another name.
     Alias(Box<Expr>, PlSmallStr),
     /// One value that is made of an expression's.
     Agg(AggExpr),
@@ -175,9 +175,9 @@ pub enum Expr {
     Exclude(Box<Expr>, Vec<Excluded>),
     /// A marker: the columns that the selector names.
     Selector(Selector),
-    /// The same under the name of its first column.
+    /// An expression under the name of its first column.
     KeepName(Box<Expr>),
-    /// The same under a name made of that of its first column.
+    /// An expression under a name made of that of its first column.
     RenameAlias {
         function: RenameAliasFn,
         expr: Box<Expr>,

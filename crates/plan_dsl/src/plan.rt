@@ -142,7 +142,7 @@ impl DslPlan {
         }
     }
 
-    // The same in a box.
+    // A copy in a box.
     #[cycle(plan_copies)]
     fn boxed_copy(&self, alloc: Global) -> Result<Box<DslPlan>, PlanError>
         ensures ok { IfOk result (λ copy. plan_tree copy.value ≡ plan_tree self.now) }

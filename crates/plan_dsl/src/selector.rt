@@ -101,7 +101,7 @@ impl Selector {
         copied!(self, alloc, Add Sub ExclusiveOr Intersect)
     }
 
-    // The same in a box.
+    // A copy in a box.
     #[cycle(expr_copies)]
     fn boxed_copy(&self, alloc: Global) -> Result<Box<Selector>, PlanError>
         ensures ok { IfOk result (λ copy. selector_tree copy.value ≡ selector_tree self.now) }

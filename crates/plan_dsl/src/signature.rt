@@ -129,7 +129,8 @@ pub fn takes(
     })
 }
 
-/// The same of a kind whose first operand has a common type with another, which is its own.
+/// The signature of a kind whose first operand has a common type with another, which is its own: what it asks of its
+/// first operand, of its second and of each other.
 pub fn shares(
     sharing: Sharing,
     first: Asked,

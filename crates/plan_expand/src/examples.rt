@@ -12,7 +12,7 @@ ghost use Rattle.plan_expand.specs.Refusals.{IsUnexpanded};
 ghost use Rattle.plan_expand.specs.Changes.{only_column, own_field_named};
 ghost use Rattle.plan_expand.specs.Walks.{first_marker, first_marker_of, first_root_of, is_of_plans, operand_list, operands_in, over};
 
-/// A refusal is want of memory, or one of the kinds that the answer tells, at the empty place.
+/// A refusal is out of memory, or one of the kinds that the answer tells, at the empty place.
 pub fn refusals_of_selectors()
     ensures memory { IsUnexpanded {A = ℕ} (Ok 3) no_memory × IsUnexpanded {A = ℕ} (Err (InvalidOperation ∷ [])) no_memory }
     ensures told { IsUnexpanded {A = ℕ} (Err (ColumnNotFound ∷ InvalidOperation ∷ [])) (at_top InvalidOperation) }

@@ -44,7 +44,7 @@ pub fn rewrite_projections(
     Ok(expanded)
 }
 
-// The same, by the names of keys. Where all are plain, they stay where they are.
+// What the expressions are expanded to, by the names of keys. Where all are plain, they stay where they are.
 fn all_expanded(
     alloc: Global,
     exprs: Vec<Expr>,

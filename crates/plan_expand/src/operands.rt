@@ -53,7 +53,7 @@ pub(crate) fn swap_operand(expr: &mut Expr, place: usize, other: &mut Expr)
     }
 }
 
-// The same of a node with a list.
+// Exchanges the other and the operand at a place of a node with a list.
 fn swap_in_list(expr: &mut Expr, place: usize, other: &mut Expr)
     requires list { has_list (top_op (tree_of expr.old)) ≡ true }
     requires within { place < length (operand_list (tree_of expr.old)) }
@@ -113,7 +113,7 @@ fn list_swapped(expr: Expr, place: usize, other: &mut Expr) -> Expr
     }
 }
 
-// The same of what an aggregate is made of.
+// Exchanges the other and the expression of which an aggregate is made.
 fn swap_input(aggregate: &mut AggExpr, other: &mut Expr)
     ensures other { tree_of other.new ≡ input_tree aggregate.old }
     ensures input { input_tree aggregate.new ≡ tree_of other.old }
@@ -132,7 +132,7 @@ fn swap_input(aggregate: &mut AggExpr, other: &mut Expr)
     }
 }
 
-// The same of two operands.
+// Exchanges the other and one of two operands.
 fn swap_of_two(first: &mut Expr, second: &mut Expr, place: usize, other: &mut Expr)
     requires { place < 2 }
     ensures other { Some (tree_of other.new) ≡ slice_get (tree_of first.old ∷ tree_of second.old ∷ []) place }
@@ -145,7 +145,7 @@ fn swap_of_two(first: &mut Expr, second: &mut Expr, place: usize, other: &mut Ex
     }
 }
 
-// The same of three.
+// Exchanges the other and one of three operands.
 fn swap_of_three(
     first: &mut Expr,
     second: &mut Expr,
@@ -164,7 +164,7 @@ fn swap_of_three(
     }
 }
 
-// The same of a list.
+// Exchanges the other and the operand at a place of a list.
 fn swap_each(all: Exprs, place: usize, other: &mut Expr) -> Exprs
     requires { place < length (trees_of all) }
     ensures other { Some (tree_of other.new) ≡ slice_get (trees_of all) place }
@@ -175,7 +175,7 @@ fn swap_each(all: Exprs, place: usize, other: &mut Expr) -> Exprs
     Exprs { items }
 }
 
-// The same of a first one and a list.
+// Exchanges the other and the first operand, or one of the list behind it.
 fn swap_listed(first: &mut Expr, others: Exprs, place: usize, other: &mut Expr) -> Exprs
     requires { place < length (tree_of first.old ∷ trees_of others) }
     ensures other { Some (tree_of other.new) ≡ slice_get (tree_of first.old ∷ trees_of others) place }
@@ -189,7 +189,7 @@ fn swap_listed(first: &mut Expr, others: Exprs, place: usize, other: &mut Expr) 
     }
 }
 
-// The same of two and a list.
+// Exchanges the other and the first operand, the second, or one of the list behind them.
 fn swap_ordered(
     first: &mut Expr,
     second: &mut Expr,
@@ -209,7 +209,8 @@ fn swap_ordered(
     }
 }
 
-// The same of a window: its function, what orders its groups, if anything does, and its keys.
+// Exchanges the other and an operand of a window: its function, what orders its groups, if anything does, or one of its
+// keys.
 fn swap_of_window(
     function: &mut Expr,
     order: &mut Option<(Box<Expr>, SortOptions)>,

@@ -34,7 +34,7 @@ pub fn expand_selectors(
     Ok(list)
 }
 
-/// The same names as a set.
+/// The names that the selectors make, as a set in order.
 pub fn selected_names(
     alloc: Global,
     selectors: Vec<Selector>,
@@ -49,7 +49,7 @@ pub fn selected_names(
     names
 }
 
-// The same, of selectors that are lent, where there are no keys.
+// The names of selectors that are lent, where there are no keys.
 fn all_selected(
     alloc: Global,
     selectors: &[Selector],

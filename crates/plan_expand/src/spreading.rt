@@ -115,7 +115,7 @@ fn spread_each(
     Ok(Exprs { items })
 }
 
-// The same of a list.
+// What each input of a list is expanded to, in order.
 fn spread_list(
     alloc: Global,
     inputs: Vec<Expr>,

@@ -35,7 +35,7 @@ pub struct ToFieldContext<'a> {
     pub udfs: &'a Udfs,
 }
 
-/// Fields of items. An item's inputs denote expressions, and it needs no number of its own. Each input is typed once.
+/// Fields of items. An item's inputs denote expressions, and it needs no number of its own.
 pub trait AExprFields {
     // What the item does, and over which nodes.
     ghost item: { Self → Layer Op };
@@ -54,7 +54,7 @@ pub trait AExprFields {
         ensures ok { IfOk result (IsItemField (registry udfs.now) (columns schema.now) ctxt arena.now (item self.now)) }
         ensures err { IfErr result (IsItemRefusal (registry udfs.now) (columns schema.now) arena.now (item self.now)) };
 
-    /// The same: a field is never asked for without typing every input.
+    /// The name and type of the column, by `to_field`: a field is never asked for without typing every input.
     fn to_field_and_validate(
         &self,
         alloc: Global,
@@ -130,7 +130,7 @@ pub trait AExprTyping {
         ensures ok { IfOk result (IsItemType (registry udfs.now) (columns schema.now) ctxt arena.now (item self.now)) }
         ensures err { IfErr result (IsItemRefusal (registry udfs.now) (columns schema.now) arena.now (item self.now)) };
 
-    /// The same.
+    /// The type of the column, by `to_dtype`.
     fn get_type(
         &self,
         alloc: Global,
@@ -231,7 +231,7 @@ fn item_name(
     Ok(name)
 }
 
-// The same, with what the name comes from.
+// The name of an item whose inputs are typed, with what it comes from.
 fn item_label(
     item: &AExpr,
     alloc: Global,

@@ -35,8 +35,8 @@ pub enum Context {
 
 impl TypeTable {
     /// The name and type of the column of a node over a frame of the schema. In an aggregation a column that may have
-    /// another length than one is a list. A node of which something is kept is not typed anew: `typings` counts the uses of
-    /// the rule, one for each entry that is added, and at most one more where the answer is a refusal.
+    /// another length than one is a list. `typings` is ticked where the rule is used, and rises by the
+    /// number of entries that are added, and by at most one more where the answer is a refusal.
     pub fn field_of<M: Ledger>(
         &mut self,
         node: Node,
@@ -84,7 +84,7 @@ impl TypeTable {
         self.infer_by::<Brand>(node, schema, arena, udfs, Blank::new(1))
     }
 
-    // The same, with a ledger of its own.
+    // Keeps what is inferred of a node, with a ledger of its own.
     fn infer_by<M: Ledger>(
         &mut self,
         node: Node,

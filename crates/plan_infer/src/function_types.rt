@@ -146,8 +146,8 @@ fn member_type(value: &DataType, item: &DataType, alloc: Global) -> Result<DataT
     Ok(found)
 }
 
-// The same where the types are two: integers have a common one, and moments or spans are looked for among those of a
-// coarser unit.
+// The type in which a value is looked for among values of another type: integers have a common one, and moments or
+// spans are looked for among those of a coarser unit.
 fn apart_type(value: &DataType, item: &DataType, alloc: Global) -> Result<DataType, PlanError>
     ensures ok { IfOk result (λ found. apart_type (ty value.now) (ty item.now) ≡ Ok (ty found)) }
     ensures err { IfErr result (IsRefusal (apart_type (ty value.now) (ty item.now))) }

@@ -90,7 +90,7 @@ pub(crate) fn common_integer(left: &DataType, op: Operator, right: &DataType) ->
     }
 }
 
-// The same of operands that have types.
+// The types to which an operator takes two operands that have types, and its own.
 fn pair_types(
     alloc: Global,
     left: &DataType,

@@ -1,4 +1,4 @@
--- A value that is a query has no fault, along any path, and bytes that write one are refused for want of memory alone: what is of its form has no fault of its own, and each part of it is of the
+-- A value that is a query has no fault, along any path, and bytes that write one are refused as out of memory alone: what is of its form has no fault of its own, and each part of it is of the
 -- form that its place asks for.
 use Rattle.plan_json.proofs.Names.{Bool, List, None, Option, Some, [], ap, bytes_eq, codes, cond, false, is_some, length, nat_lt, not, option_and_then, option_map, refl, slice_get, subst, suc, sym, true, zero, ℕ, ◌&&◌, ◌==◌, ◌||◌, ◌∙◌, ◌∷◌, ◌≡◌, Form, Part, Path, Step, an_excluded, excluded_form, excluded_key_form, a_column, a_counted_type, a_new_name, a_number_of, a_plan, a_query, a_scan, a_table, a_text, a_type, a_typed_literal, asked_form, column_list, declared_names, either_part, fault_at, field_list, has_shape, has_type_shape, items_of, key, key_form, keyed_form, keyed_part, list_of, number, own_fault, part, part_if, part_of, places_form, query_part, shape_fault, table_list, table_part, type_form, type_key_form, typed_part, unless, all_of, both, first_items, some_of, two_items, two_members, Columns, Name, is_among, names_of, repeats, Data, Items, array, item, member, no_items, no_members, object, string, Declared, column_name, column_of, columns_of, counted, counted_of, each_column, number_of, struct_of, table_at, table_limit, table_name, table_of, tables_of, text_of, type_of, type_says, typed_from, typed_of, unit_of, at, get_item, Asked, Places, Read, a_form, asks, columns_read, key_named, leaf, list_read, listed, literal_read, many, reads_of, row_named, says, single, table_read, type_read, type_rows, IsQueryOf, QueryModel, each_as, list_as, places_as, plan_in, plan_of, query_from, query_of, read_as, these_as, option_map_or, ListType, StructType, Ty, fields_from, is_counted, IsErrorOf, and_from, and_parts, eq-eqb, JsonError, items_len, repeats-apart, Key, NoMemory, NotJson, IsRefusalOf, WritesQuery, TypeKey, plan_asked, not-true, same_Some, none-some}
 use Rattle.plan_json.specs.declared.forms.TypeKey.TheVariants as types
@@ -231,7 +231,7 @@ no_fault form d h [] = own form d h
 no_fault form d h (step ∷ path) =
     unchained (λ below. fault_at below.form below.value path) (part_of form step d) (λ p here. no_fault p.form p.value (parts form step d h p here) path)
 
--- an error of a value that is a query is want of memory
+-- an error of a value that is a query is out of memory
 pub query_has_no_fault : (d : Data) (query : QueryModel) (error : JsonError) → IsQueryOf d query → IsErrorOf a_query d error → error ≡ NoMemory
 query_has_no_fault d query NotJson is bad = absurd bad
 query_has_no_fault d query NoMemory is bad = refl

@@ -17,7 +17,7 @@ abbrev pub WritesQuery : List ℕ → QueryModel → Type 0
 WritesQuery bytes query = (d : Data) × IsTextOf bytes d × IsQueryOf d query
 
 -- The error says why the bytes write no query: they are no JSON text, or a part of their value is at
--- fault. Want of memory may come always.
+-- fault. Out of memory may come always.
 abbrev pub IsRefusalOf : List ℕ → JsonError → Type 0
 IsRefusalOf bytes NotJson = (d : Data) → ¬ IsTextOf bytes d
 IsRefusalOf bytes (Shape path) = (d : Data) × IsTextOf bytes d × IsErrorOf a_query d (Shape path)

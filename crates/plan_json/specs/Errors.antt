@@ -42,7 +42,7 @@ IsPlain (number n) = Unit {0}
 abbrev pub IsBadAtPointer : Form → Data → FaultKind → List ℕ → Type 0
 IsBadAtPointer form d kind text = (path : Path) × (text ≡ pointer_text path) × IsBadAt form d kind path
 
--- The error tells a fault of a value that is to be of the form. Want of memory may come always.
+-- The error tells a fault of a value that is to be of the form. Out of memory may come always.
 abbrev pub IsErrorOf : Form → Data → JsonError → Type 0
 IsErrorOf form d NotJson = ⊥
 IsErrorOf form d (Shape path) = IsBadAtPointer form d BadShape (string_bytes path)
@@ -61,7 +61,7 @@ IsOwn BadFloat (Float path) = string_bytes path ≡ []
 IsOwn BadName (Name path) = string_bytes path ≡ []
 IsOwn _ _ = ⊥
 
--- the error of a part, told with the step to the part, or want of memory
+-- the error of a part, told with the step to the part, or out of memory
 abbrev pub IsBelow : Step → JsonError → JsonError → Type 0
 IsBelow step NotJson NotJson = Unit {0}
 IsBelow step (Shape path) (Shape longer) = string_bytes longer ≡ step_text step ++ string_bytes path

@@ -54,7 +54,7 @@ impl JsonError {
         }
     }
 
-    // Want of memory. No other refusal of `plan_types` can be turned into it.
+    // Out of memory. No other refusal of `plan_types` can be turned into it.
     pub(crate) fn out_of_memory(_error: PlanError) -> JsonError
         requires { _error ≡ no_memory }
         ensures { result ≡ JsonError.NoMemory }

@@ -9,7 +9,7 @@ ghost use Rattle.plan_json.specs.Queries.{QueryModel};
 ghost use Rattle.plan_json.specs.declared.error.JsonError.{JsonError};
 ghost use Rattle.plan_json.specs.declared.error.JsonError.TheVariants.{NoMemory};
 
-/// Bytes write one query at most. Those that write one are refused by no error but want of memory.
+/// Bytes write one query at most. Those that write one are refused by no error but out of memory.
 pub fn query_laws()
     ensures one_query { (bytes : List ℕ) (query other : QueryModel)
         → WritesQuery bytes query → WritesQuery bytes other → query ≡ other }

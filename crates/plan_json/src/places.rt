@@ -48,7 +48,7 @@ macro_rules! plain {
     };
 }
 
-// The same in a box, since it is wide.
+// What was read, in a box as the argument of its kind, since it is wide.
 macro_rules! boxed {
     ($alloc:ident, $read:expr, $kind:path) => {
         match $read {

@@ -33,7 +33,7 @@ pub fn read_query(alloc: Global, bytes: &[u8]) -> Result<Query, JsonError>
     // An option that no query can write is off.
     ensures flags { IfOk result (λ query. has_flags query.plan ≡ false) }
     ensures err { IfErr result (IsRefusalOf bytes.now) }
-    // The bytes of a query are refused for want of memory alone.
+    // The bytes of a query are refused as out of memory alone.
     ensures complete { (query : QueryModel) → WritesQuery bytes.now query
         → IfErr result (λ error. error ≡ JsonError.NoMemory) }
 {

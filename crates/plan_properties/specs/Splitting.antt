@@ -91,7 +91,7 @@ pub record IsCondition (registry : Registry) (schema : Columns) (tree : Expressi
   pub truth : own.type ≡ Truth
   pub strict : IsStrict registry schema tree
 
--- a filter by parts that can be moved keeps what one by the whole does, and has no fault either
+-- filters by the parts of a condition that can be moved give of a frame what the one by the whole gives
 abbrev pub SplittingKeepsFrames : Type 0
 SplittingKeepsFrames =
     (registry : Registry) (frame : Frame) (tree : Expression) → IsCondition registry frame.schema tree → permits_pushdown tree ≡ true

@@ -47,7 +47,7 @@ pub fn is_elementwise_rec(ae: &AExpr, arena: &Arena<AExpr>, _udfs: &Udfs) -> boo
     holds_of_item(Asked::Elementwise, ae, arena)
 }
 
-/// The same: there are no categories to which a cast could lead.
+/// Whether each row has a value of its own, whatever casts there are: there are no categories to which one could lead.
 pub fn is_elementwise_rec_no_cat_cast(ae: &AExpr, arena: &Arena<AExpr>, udfs: &Udfs) -> bool
     requires { AllDenote arena.now (inputs_of (expression_layer ae.now)) }
     ensures { SaysOfItem arena.now (expression_layer ae.now) is_elementwise result }

@@ -14,7 +14,7 @@ use plan_arena::ir::IR;
 use plan_arena::plan::IRPlan;
 use std::alloc::AllocError;
 
-// The sum. A count past the counter's range is answered as want of memory.
+// The sum. A count past the counter's range is answered as out of memory.
 fn add(left: u64, right: u64) -> Result<u64, AllocError>
     ensures { IfOk result (λ sum. sum ≡ left + right) }
 {

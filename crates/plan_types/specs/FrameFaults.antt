@@ -77,6 +77,6 @@ misfit (column ∷ columns) = else_fault (misfit_from 0 column.name (ty column.d
 abbrev pub frame_fault : List Column → Option FrameError
 frame_fault columns = else_fault (repeated_name [] columns) (else_fault (other_length (height_of columns) columns) (misfit columns))
 
--- the refusal is want of memory, which may stand in place of any answer, or that fault
+-- the refusal is out of memory, which may stand in place of any answer, or that fault
 abbrev pub IsFault : Option FrameError → FrameError → Type 0
 IsFault fault error = (error ≡ NoMemory) ⊎ (fault ≡ Some error)

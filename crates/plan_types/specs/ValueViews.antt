@@ -35,7 +35,7 @@ values_in values = values_from (map val_of values)
 abbrev pub parts_of : Parts → Vals
 parts_of parts = values_in parts.items.items
 
--- the refusal is want of memory, which may stand in place of any answer, or the cast fails
+-- the refusal is out of memory, which may stand in place of any answer, or the cast fails
 abbrev pub IsCastError : Converted → CastError → Type 0
 IsCastError converted NoMemory = Unit {0}
 IsCastError converted Failing = converted ≡ Fails

@@ -15,7 +15,7 @@ use crate::text::PlSmallStr;
 use crate::value::{Parts, Value};
 use std::alloc::Global;
 
-// Want of memory, where nothing else can come.
+// Out of memory, where nothing else can come.
 fn out_of_memory(error: PlanError) -> CastError
     requires { error ≡ no_memory }
     ensures { result ≡ CastError.NoMemory }

@@ -196,7 +196,7 @@ impl DataType {
         }
     }
 
-    // The same, out of line.
+    // Whether it is the type of a column, out of line.
     #[cycle(known_types)]
     #[tactic(auto, using(crate::proofs::FieldLemmas::listed_fields))]
     fn is_known_within(&self) -> bool
@@ -340,7 +340,7 @@ impl DataType {
         }
     }
 
-    // The same, of any types.
+    // Whether two types of any kinds are one.
     #[cycle(same_types)]
     #[tactic(auto, using(crate::proofs::FieldLemmas::listed_fields))]
     fn is_same_other(&self, other: &DataType) -> bool
@@ -400,7 +400,7 @@ impl DataType {
         }
     }
 
-    // The same in the memory that its own parts' allocator gives.
+    // A copy of a type of lists or of structs, in the memory that its own parts' allocator gives.
     fn clone_with_parts(&self) -> Result<DataType, AllocError>
         requires { is_bare (ty self.now) ≡ false }
         ensures { IfOk result (λ copy. ty copy ≡ ty self.now) }

@@ -47,7 +47,7 @@ impl Place {
         Place { steps: None }
     }
 
-    /// The same node, as a plan sees it that has the place's plan as its child of that number.
+    /// The place as a plan sees it that has the place's plan as its child of that number.
     pub fn below(self, alloc: Global, child: u64) -> Result<Place, AllocError>
         ensures { IfOk result (λ place. place ≡ child ∷ self) }
     {

@@ -156,7 +156,7 @@ fn add_head(alloc: Global, schema: &mut Schema, column: &Column) -> Result<(), P
     Ok(())
 }
 
-// Want of memory, where nothing else can come.
+// Out of memory, where nothing else can come.
 fn out_of_memory(error: PlanError) -> FrameError
     requires { error ≡ no_memory }
     ensures { result ≡ FrameError.NoMemory }

@@ -62,7 +62,7 @@ module _ (registry : Registry) (schema : Columns) where
   relaxed_same new n t like d =
       subst (IsSame registry schema t) (denotes_one (shape_of (map expression_layer new)) (HoldsExpression new) (expression_laws new) n like.tree (relaxed registry schema t) like.denotes d) like.like.same
 
-  -- a refusal of what is typed is want of memory
+  -- a refusal of what is typed is out of memory
   pub typed_refusal : (t : Expression) (own : Typed) (error : PlanError) → typing registry schema t ≡ Ok own → IsRefusal (typing registry schema t) error → error ≡ no_memory
   typed_refusal t own error is (no_room e) = e
   typed_refusal t own error is (broken kind e refused) = cc
@@ -170,7 +170,7 @@ split_stands registry source old new table schema s stays is =
     let same = relaxed_same registry (columns schema) new.expr_arena node tree (stays node tree f.2.1) (s.relaxes tree f.2.1) in
     filter_stands registry (columns schema) f.0 table source old new is f.1 same (split_denoted s f.0 table (columns schema) (subst (DenotesPlan old) f.1 is.typed.denotes))
 
--- and relaxing its predicate is refused for want of memory alone
+-- and relaxing its predicate is refused as out of memory alone
 pub relaxing_refused : (registry : Registry) (source : Plan) (old : IRPlan) (table : Option ℕ) (schema : Schema) (input : Node) (predicate : ExprIR) (at : ℕ) (error : PlanError) → slice_get old.lp_arena old.lp_top.0 ≡ Some (Filter input predicate) → slice_get old.lp_arena input.0 ≡ Some (DataFrameScan table schema) → at ≡ (named_node predicate).expression → ((t : Expression) → Denotes (HoldsExpression old.expr_arena) at t → IsRefusal (typing registry (columns schema) t) error) → StandsFor registry source old → error ≡ no_memory
 relaxing_refused registry source old table schema input predicate at error got below there refused is =
     let f = filtered_is old.expr_arena old.lp_arena old.lp_top.0 input predicate table schema got below is.typed.tree is.typed.denotes in

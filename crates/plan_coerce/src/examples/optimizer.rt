@@ -98,7 +98,7 @@ pub fn nodes_beside_other_roots()
     ensures no_root { LeadsToNoNumber (said (is_strict_node [] []) [] []) None [] [] (Literal (Int (pos 5)) ∷ []) [] 0 }
 {}
 
-/// Coercion is refused as an expression's typing is, or for want of memory, and over typed roots for that alone, or
+/// Coercion is refused as an expression's typing is, or as out of memory, and over typed roots for that alone, or
 /// over numbers that stand apart.
 pub fn refusals_of_coercion()
     ensures no_such_column { IsCoercionRefusal (said (is_strict_node [] []) [] []) (Some 1) [] [] a_items a_items (0 ∷ []) (at_top ColumnNotFound) }

@@ -62,7 +62,7 @@ pub fn types_that_operands_are_taken_to()
     ensures listed { (types : Vec DataType) → types.items ≡ Int8 ∷ Int16 ∷ Int32 ∷ [] → kept_types (Listed types) ≡ Int8 ∷ Int16 ∷ Int32 ∷ [] }
 {}
 
-/// A refusal of an expression is the kind that its typing gives, at the top, or want of memory.
+/// A refusal of an expression is the kind that its typing gives, at the top, or out of memory.
 pub fn refusals_of_expressions()
     ensures no_such_column { AreRefused ColumnNotFound ((one_column int8, c) ∷ []) }
     ensures memory { IsRefusal (typing [] (one_column int8) a) no_memory }

@@ -22,7 +22,7 @@ ghost use Rattle.plan_json.specs.declared.forms.Leaf.TheVariants as leaves;
 ghost use Rattle.plan_json.specs.declared.forms.SmallLeaf.TheVariants as smalls;
 ghost use Rattle.plan_json.specs.declared.read.Query.{Query};
 
-/// An error of a value itself has the empty path, and the name of its kind. An error tells a fault of the value by kind and pointer, want of memory tells none.
+/// An error of a value itself has the empty path, and the name of its kind. An error tells a fault of the value by kind and pointer, out of memory tells none.
 pub fn error_examples()
     ensures own { (path : String Global) → string_bytes path ≡ [] → IsOwn BadShape (Shape path) × IsOwn BadFloat (Float path) × IsOwn BadName (Name path) }
     ensures of_another_kind { (path : String Global) → ¬ (IsOwn BadShape (Float path)) × ¬ (IsOwn BadFloat (Shape path)) × ¬ (IsOwn BadName (Shape path)) }
@@ -32,7 +32,7 @@ pub fn error_examples()
     ensures of_a_list { (path : String Global) → string_bytes path ≡ codes "/0" → IsListErrorOf (leaves.Small smalls.Flag) (list (null ∷ [])) (Shape path) }
     ensures not_told { (path : String Global) → ¬ (IsErrorOf a_text (word "a") (Shape path)) }
     ensures memory { IsErrorOf a_text (word "a") NoMemory × ¬ (IsErrorOf a_text null NotJson) }
-    // The error of a part is told with the step to the part in front of its path, or as want of memory.
+    // The error of a part is told with the step to the part in front of its path, or as out of memory.
     ensures item { (path longer : String Global) → string_bytes path ≡ codes "/bin/0" → string_bytes longer ≡ codes "/12/bin/0" → IsBelow (number 12) (Shape path) (Shape longer) }
     ensures member { (path longer : String Global) → string_bytes path ≡ [] → string_bytes longer ≡ codes "/lit" → IsBelow (key (codes "lit")) (Float path) (Float longer) }
     ensures table { (path longer : String Global) → string_bytes path ≡ codes "/scan" → string_bytes longer ≡ codes "/plan/scan" → IsBelow (key (codes "plan")) (Name path) (Name longer) }

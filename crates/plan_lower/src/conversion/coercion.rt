@@ -51,7 +51,7 @@ pub(crate) fn coerce_all(
     coerce_stacked(optimizer, inliner, start, arena, schema, udfs, types)
 }
 
-/// The same of each node that a root reaches.
+/// Puts casts round the operands of each node that a root reaches, but for those that can be told beforehand.
 pub(crate) fn coerce_root(
     root: Node,
     start: usize,
@@ -94,7 +94,7 @@ fn stacked_root(root: Node, alloc: Global) -> Result<ConversionOptimizer, PlanEr
     Ok(optimizer)
 }
 
-// The same of what the roots reach that were stacked for each rule. Nobody counts the steps.
+// Puts casts round the operands of what the roots reach that were stacked for each rule. Nobody counts the steps.
 fn coerce_stacked(
     optimizer: ConversionOptimizer,
     inliner: ConversionOptimizer,
@@ -121,7 +121,7 @@ fn coerce_stacked(
     )
 }
 
-// The same, with ledgers of its own.
+// Puts casts round the operands of what the roots reach that were stacked for each rule, with ledgers of its own.
 fn coerce_by<M: Ledger, L: Ledger>(
     optimizer: ConversionOptimizer,
     inliner: ConversionOptimizer,

@@ -162,7 +162,7 @@ fn add_filter(
     }
 }
 
-// The same of a select.
+// Adds a select's nodes, its input's first.
 #[cycle(plans)]
 fn add_select(
     input: Box<DslPlan>,
@@ -185,7 +185,7 @@ fn add_select(
     Ok(lowered)
 }
 
-// The same of an hstack.
+// Adds an hstack's nodes, its input's first.
 #[cycle(plans)]
 fn add_hstack(
     input: Box<DslPlan>,
@@ -208,7 +208,7 @@ fn add_hstack(
     Ok(lowered)
 }
 
-// The same of a group-by.
+// Adds a group-by's nodes, its input's first.
 #[cycle(plans)]
 fn add_groups(
     input: Box<DslPlan>,
@@ -232,7 +232,7 @@ fn add_groups(
     Ok(lowered)
 }
 
-// The same of a function.
+// Adds a function's nodes, its input's first.
 #[cycle(plans)]
 fn add_function(
     input: Box<DslPlan>,

@@ -48,8 +48,8 @@ pub fn to_expr_ir(expr: Expr, arena: &mut Arena<AExpr>) -> Result<ExprIR, PlanEr
     Ok(expr_ir)
 }
 
-/// The same without names of aliases. A number without a type at the top, or directly under an alias there, gets the one
-/// that it has alone.
+/// Adds an expression's nodes without its aliases, and answers the top one with the name that it has without them. A
+/// number without a type at the top, or directly under an alias there, gets the one that it has alone.
 pub fn to_expr_ir_ignore_alias(expr: Expr, arena: &mut Arena<AExpr>) -> Result<ExprIR, PlanError>
     ensures name { IfOk result (λ expr_ir. (named_node expr_ir).label ≡ label_of (core (plain_tree expr))) }
     ensures denotes { IfOk result (λ expr_ir. Denotes (HoldsFrom (length arena.old) arena.new) (named_node expr_ir).expression (core (settled_at_top (plain_tree expr)))) }
@@ -269,7 +269,7 @@ pub(crate) fn add_nodes(expr: Expr, keep: bool, arena: &mut Arena<AExpr>) -> Res
     }
 }
 
-// The same of what is no column and no operator.
+// Adds the nodes of an expression that is no column and no operator, inputs first.
 #[cycle(nodes)]
 #[inline(never)]
 fn add_rarer(expr: Expr, keep: bool, arena: &mut Arena<AExpr>) -> Result<Node, PlanError>
@@ -354,7 +354,7 @@ fn has_several(expr: &Expr) -> bool
     )
 }
 
-// The same of an expression over none, over one, or over one and lists.
+// The item of an expression over none, over one, or over one and lists, whose inputs are added first.
 #[cycle(nodes)]
 fn add_others(expr: Expr, keep: bool, arena: &mut Arena<AExpr>) -> Result<AExpr, PlanError>
     requires plain { is_plain (tree_of expr) ≡ true }
@@ -402,7 +402,7 @@ fn add_others(expr: Expr, keep: bool, arena: &mut Arena<AExpr>) -> Result<AExpr,
     )
 }
 
-// The same of an expression over two inputs or three that is no operator.
+// The item of an expression over two inputs or three that is no operator, whose inputs are added first.
 #[cycle(nodes)]
 fn add_several(expr: Expr, keep: bool, arena: &mut Arena<AExpr>) -> Result<AExpr, PlanError>
     requires plain { is_plain (tree_of expr) ≡ true }

@@ -74,7 +74,7 @@ fn expanded_beside(
     Ok(Exprs { items })
 }
 
-// The same of what was expanded.
+// Adds the nodes of keys and aggregates that were expanded, types them, and puts casts round their operands.
 fn group_expanded(
     keys: Exprs,
     aggs: Exprs,
@@ -126,7 +126,8 @@ fn aggregate_in(
     aggregate_coerced(aggs, schema, arena, udfs, &mut types, keys)
 }
 
-// The same, with a table that is right.
+// Adds aggregates' nodes, with a table of types that is right, and puts their columns in groups behind those of the
+// keys.
 fn aggregate_coerced(
     aggs: Exprs,
     schema: &Schema,

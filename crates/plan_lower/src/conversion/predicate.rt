@@ -41,7 +41,7 @@ pub(crate) fn lower_predicate(
     Ok(expr_ir)
 }
 
-// The same of a predicate that is expanded.
+// Adds the nodes of a predicate that is expanded, asks for the type of truth values, and puts casts round operands.
 fn lower_plain(
     predicate: Expr,
     schema: &Schema,
@@ -59,7 +59,8 @@ fn lower_plain(
     lower_typed(predicate, schema, arena, udfs, &mut types)
 }
 
-// The same, with a table of types.
+// Adds the nodes of a predicate that is expanded, asks for the type of truth values, and puts casts round operands. The
+// table of types is lent.
 fn lower_typed(
     predicate: Expr,
     schema: &Schema,

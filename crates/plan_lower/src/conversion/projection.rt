@@ -91,7 +91,7 @@ pub(crate) fn room_for(count: usize, arena: &mut Arena<AExpr>) -> Result<TypeTab
     Ok(types)
 }
 
-/// The same, with a table that keeps nothing yet.
+/// Adds plain expressions' nodes, types them and puts casts round operands, with a table that keeps nothing yet.
 pub(crate) fn project_in(
     exprs: Exprs,
     schema: &Schema,
@@ -112,7 +112,7 @@ pub(crate) fn project_in(
     project_coerced(exprs, schema, arena, udfs, twice, &mut types)
 }
 
-// The same, with a table that is right.
+// Adds plain expressions' nodes, types them and puts casts round operands, with a table that is right.
 fn project_coerced(
     exprs: Exprs,
     schema: &Schema,
@@ -236,7 +236,7 @@ pub(crate) fn add_typed(
     }
 }
 
-// The same under the alias, or under the expression's name without aliases.
+// Adds an expression's nodes and types them, under the alias, or under the expression's name without aliases.
 fn add_named(
     expr: Expr,
     alias: Option<OutputName>,

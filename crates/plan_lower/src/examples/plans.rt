@@ -16,7 +16,7 @@ ghost use Rattle.plan_lower.specs.Lowering.{IsBuilt, StandsFor, IsPlanRefusal, A
 ghost use Rattle.plan_infer.specs.Samples.{int8, int32, one_column, two_columns, a, c, sum, a_items, refused};
 ghost use Rattle.plan_lower.specs.Samples.{truths, keep, keep_items, node_named, scan_of, select_over, filter_over, query, lowered_query, scan_layer, select_layer, ForPlans, ForScan, ForSum};
 
-/// A plan is refused by a kind of rule that is broken at a place, or for want of memory.
+/// A plan is refused by a kind of rule that is broken at a place, or as out of memory.
 pub fn refusals_of_plans()
     ensures memory { IsPlanRefusal [] (scan_of (one_column int8)) no_memory }
     ensures below { IsPlanRefusal [] (filter_over (resolved_select (c ∷ []) (scan_of (one_column int8))) c) (refused ColumnNotFound (0 ∷ [])) }

@@ -80,7 +80,7 @@ pub fn columns_that_are_no_frame()
         ∷ Int (pos 86400000000000) ∷ [] → map frame_fault ((column_with "a" Date days ∷ []) ∷ (column_with "a" Time times ∷ []) ∷ []) ≡ Some (Misfit (codes "a") 2) ∷ Some (Misfit (codes "a") 1) ∷ [] }
 {}
 
-/// A refusal names the rule at the top, where the rule is broken, or is want of memory, which names no place.
+/// A refusal names the rule at the top, where the rule is broken, or is out of memory, which names no place.
 pub fn refusals_of_calls()
     ensures at_top { no_memory ∷ at_top Twice ∷ [] ≡ record { kind = NoMemory; place = [] } ∷ record { kind = Twice; place = [] } ∷ [] }
     ensures memory { IsMemoryOr Twice (true ≡ false) no_memory }
@@ -92,7 +92,7 @@ pub fn refusals_of_calls()
     ensures refused_otherwise { ¬ (IsRefusal {A = Ty} (Err SchemaMismatch) (at_top Twice)) }
 {}
 
-/// A cast is refused where a value fails, and columns with the fault that they have, or each for want of memory.
+/// A cast is refused where a value fails, and columns with the fault that they have, or each as out of memory.
 pub fn refusals_of_casts_and_columns()
     ensures casts { IsCastError Fails Failing × IsCastError (Gives null) NoRoom × IsPartsError None Failing × IsPartsError (Some no_value) NoRoom }
     ensures given { ¬ (IsCastError (Gives null) Failing) }
