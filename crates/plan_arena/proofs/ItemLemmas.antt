@@ -51,7 +51,7 @@ pub expression_grown : (items added : List AExpr) (n : ℕ) (op : Op) (inputs : 
 expression_grown items added n op inputs h =
     ap (λ l. slice_get l n) (map-append expression_layer items added) ∙ slice_get-append (map expression_layer items) (map expression_layer added) n _ h
 
--- the same of an arena that has grown
+-- what an arena holds, one that has grown from it holds
 pub grown_held : (old new : List AExpr) → Grows old new → (n : ℕ) (op : Op) (inputs : List ℕ) → HoldsExpression old n op inputs → HoldsExpression new n op inputs
 grown_held old new g n op inputs h = subst (λ l. HoldsExpression l n op inputs) (sym g.longer) (expression_grown old g.added n op inputs h)
 

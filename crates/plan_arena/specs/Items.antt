@@ -111,7 +111,7 @@ node_name item = kind_text (op_of (plan_layer item)).kind
 abbrev pub HoldsExpression : List AExpr → ℕ → Op → List ℕ → Type 0
 HoldsExpression expressions n op inputs = slice_get (map expression_layer expressions) n ≡ Some (layer op inputs)
 
--- the same, of a node from that number on
+-- the expression at the node, which is from that number on, does this, over these inputs
 abbrev pub HoldsFrom : ℕ → List AExpr → ℕ → Op → List ℕ → Type 0
 HoldsFrom first expressions n op inputs = (first ≤ n) × HoldsExpression expressions n op inputs
 

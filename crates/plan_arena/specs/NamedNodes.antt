@@ -14,7 +14,7 @@ pub record NamedNode : Type 0 where
   pub node : Node
   pub output_name : OutputName
 
--- the same node with the same name, from the same
+-- whether two are one node with one name, from one source
 abbrev pub same_named : NamedNode → NamedNode → Bool
 same_named = eq_of_both (on (λ e. e.node) (node_eq.ghosts).eq) (on (λ e. e.output_name) (name_eq.ghosts).eq)
 

@@ -234,7 +234,7 @@ becomes_of table n from target k ready other =
     (λ kept. absurd (false≢true (sym other ∙ ap (λ (d : DataType). same_type (ty d) target) (sym one) ∙ ap (λ t. same_type t target) kept ∙ same_type_own target)))
     (λ can. can) ready.becomes)
 
--- the same of the type at a place of a list, and of a copy of it
+-- an operand can become of the type at a place of a list, and of a copy of it
 pub ready_becomes : (table : TypeTable) (n : ℕ) (targets : List DataType) (i : ℕ) (from target : DataType) (copy : Ty) → IsReadyAt table n targets i → slice_get targets i ≡ Some target → copy ≡ ty target → Keeps table n from → same_type (ty from) (ty target) ≡ false → CanBecome (ty from) copy
 ready_becomes table n targets i from target copy at there copied keeps other =
     let is = some_same (slice_get targets i) at.target target at.there there in

@@ -46,7 +46,7 @@ pub record IsReady (table : TypeTable) (n : ℕ) (target : Ty) : Type 0 where
   pub keeps : Keeps table n dtype
   pub becomes : (ty dtype ≡ target) ⊎ CanBecome (ty dtype) target
 
--- the same of the type at a place of a list
+-- the operand at a node has the type at a place of a list, or can be made of it
 pub record IsReadyAt (table : TypeTable) (n : ℕ) (targets : List DataType) (index : ℕ) : Type 0 where
   pub target : DataType
   pub there : slice_get targets index ≡ Some target
@@ -74,7 +74,7 @@ pub record IsChanged (old new : List AExpr) (table : TypeTable) (operand : Opera
   pub stays : same_type operand.from operand.target ≡ true → operand.changed ≡ operand.input
   pub fresh : same_type operand.from operand.target ≡ false → length old ≤ operand.changed
 
--- the same of each input, taken to these types
+-- the nodes stand for the inputs, each taken to its type
 pub record AreChanged (old new : List AExpr) (table : TypeTable) (inputs changed : List ℕ) (targets : List Ty) : Type 0 where
   pub operands : List Operand
   pub inputs_are : map (λ o. o.input) operands ≡ inputs
@@ -89,7 +89,7 @@ pub record KeepsStrict (table : TypeTable) (n : ℕ) : Type 0 where
   pub none : own.operands ≡ []
   pub known : is_known (ty own.dtype) ≡ true
 
--- the same of each node of an arena from a number on
+-- the table keeps so of each node of an arena from a number on
 abbrev pub AllStrictFrom : ℕ → List AExpr → TypeTable → Type 0
 AllStrictFrom start items table = (n : ℕ) → start ≤ n → n < length items → KeepsStrict table n
 

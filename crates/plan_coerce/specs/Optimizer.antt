@@ -33,7 +33,7 @@ stacked optimizer = numbers optimizer.scratch.items
 abbrev pub with_inputs : List AExpr → ℕ → List ℕ
 with_inputs items n = n ∷ reverse (unwrap_or (option_map passed (slice_get (map expression_layer items) n)) [])
 
--- the same of each in turn
+-- each node in turn with its inputs
 abbrev pub all_with_inputs : List AExpr → List ℕ → List ℕ
 all_with_inputs items [] = []
 all_with_inputs items (n ∷ ns) = with_inputs items n ++ all_with_inputs items ns

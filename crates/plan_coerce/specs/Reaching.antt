@@ -58,7 +58,7 @@ abbrev pub IsMadeOnce : List AExpr → List AExpr → ℕ → ℕ → Type 0
 IsMadeOnce old new input made =
     (t : Expression) (ns : List ℕ) → HasNodes old input t ns → AreOnce ns → (u : Expression) × (ms : List ℕ) × HasNodes new made u ms × AreOnce ms × ((m : ℕ) → Among ms m → Among ns m ⊎ (length old ≤ m))
 
--- the same of several, side by side
+-- several nodes that stand for operands, side by side, lead to such nodes alone, to none twice
 abbrev pub AreMadeOnce : List AExpr → List AExpr → List ℕ → List ℕ → Type 0
 AreMadeOnce old new inputs made =
     (ts : Trees Op) (ns : List ℕ) → HaveNodes old inputs ts ns → AreOnce ns → (us : Trees Op) × (ms : List ℕ) × HaveNodes new made us ms × AreOnce ms × ((m : ℕ) → Among ms m → Among ns m ⊎ (length old ≤ m))

@@ -31,7 +31,7 @@ strict_sum = binary Plus wide b
 abbrev pub cast_of : ℕ → DataType → AExpr
 cast_of n dtype = Cast (at n) dtype NonStrict
 
--- the same, with the first column cast
+-- the items of a sum over two columns of which the first is cast
 abbrev pub strict_items : List AExpr
 strict_items = columns_and (pair 3 Plus 1 ∷ cast_of 0 dtype.Int32 ∷ [])
 

@@ -31,7 +31,7 @@ module _ {A : Type 0} (f : A → Name) (p : A → Bool) where
       let later = distinct_kept items parts.1 in
       elim (p item) as (λ b. repeats (map f (cond b (item ∷ filter p items) (filter p items))) ≡ false) [ true ↦ or_from (is_among (f item) (map f (filter p items))) _ (absent_kept (f item) items parts.0) later | false ↦ later ]
 
--- the same of names
+-- of distinct names, those that are kept are distinct
 names_kept : (p : Name → Bool) (names : List Name) → repeats names ≡ false → repeats (filter p names) ≡ false
 names_kept p names none =
     let whole : repeats (map (λ name. name) names) ≡ false = ap repeats (map-id names) ∙ none in

@@ -98,7 +98,7 @@ module _ (registry : Registry) where
   drop_resolved selectors strict input schema columns there is =
       resolved_as (drop_op selectors strict) input schema (Ok (SimpleProjectionKind columns)) there (ap (λ r. then_ok r (λ own. Ok (SimpleProjectionKind own))) is)
 
-  -- the same where they are refused
+  -- queries' plans whose node is refused, resolved
   pub select_unresolved : (sources : List Source) (input : SourcePlan) (schema : Columns) (kinds : List ErrorKind) → schema_of registry (resolved registry input) ≡ Some schema → expansions [] schema sources ≡ Err kinds → resolved registry (source_select sources input) ≡ node (op_of (Err kinds) None) (more (resolved registry input) no_more)
   select_unresolved sources input schema kinds there is =
       resolved_as (select_op sources None) input schema (Err kinds) there (ap (λ r. then_ok r (λ outputs. Ok (SelectKind (map named outputs)))) is)

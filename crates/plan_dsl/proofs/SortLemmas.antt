@@ -48,7 +48,7 @@ fits_from_each : (values : List Val) (type : Ty) → AllByRecursion (λ value. f
 fits_from_each [] type h = refl
 fits_from_each (value ∷ values) type h = and_from (fits value type) (all_fit values type) h.0 (fits_from_each values type h.1)
 
--- the same values have the same typing
+-- values that are a permutation of others have the typing of these
 permuted_of : (typed : Typed) (values found : List Val) → IsPermutation values found → AreOf typed values → AreOf typed found
 permuted_of typed values found same of = record {
   fitting = fits_from_each found typed.type (permuted_each (λ value. fits value typed.type ≡ true) values found same (each_fits values typed.type of.fitting));

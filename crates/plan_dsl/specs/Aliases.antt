@@ -71,7 +71,7 @@ abbrev mutual
   all_pruned keep no_more = no_more
   all_pruned keep (more child rest) = more (pruned keep child) (all_pruned keep rest)
 
--- the same of what stands under a node that is not written out
+-- what stands under a node that is not written out, with its aliases or without
 abbrev pub inputs_pruned : Bool → Expression → Expression
 inputs_pruned keep (node op children) =
     node (with_names op (fold_all op_label children)) (all_pruned (keep && lets_aliases op (tree_count children)) children)

@@ -18,7 +18,7 @@ have_names schema names = list_all (λ name. is_among name (names_of schema)) na
 abbrev pub columns_but : List Name → Columns → Columns
 columns_but names schema = filter (λ column. not (is_among column.0 names)) schema
 
--- the same, unless a name must stand and doesn't
+-- the columns but those of these names, unless a name must stand and doesn't
 abbrev pub left_but : Bool → Columns → List Name → Result Columns (List ErrorKind)
 left_but strict schema names = if strict && not (have_names schema names) then Err (ColumnNotFound ∷ []) else Ok (columns_but names schema)
 

@@ -12,7 +12,7 @@ abbrev pub each_ok : {A B : Type 0} → (A → Result B ErrorKind) → List A �
 each_ok definition [] = Ok []
 each_ok definition (first ∷ rest) = then_ok (definition first) (λ found. then_ok (each_ok definition rest) (λ others. Ok (found ∷ others)))
 
--- the same, with its kind as a list of kinds
+-- an answer, with its kind as a list of kinds
 abbrev pub with_kinds : {A : Type 0} → Result A ErrorKind → Result A (List ErrorKind)
 with_kinds (Ok found) = Ok found
 with_kinds (Err kind) = Err (kind ∷ [])

@@ -42,7 +42,7 @@ use Rattle.plan_dsl.specs.PlanKernels.{Series}
 abbrev pub Gives : {Case Answer : Type 0} → (Case → Answer) → List (Case × Answer) → Type 0
 Gives definition table = map (λ row. definition row.0) table ≡ map (λ row. row.1) table
 
--- the same of a definition of two
+-- a definition of two gives each pair of cases the answer that stands beside it
 abbrev pub GivesOfTwo : {First Second Answer : Type 0} → (First → Second → Answer) → List (First × Second × Answer) → Type 0
 GivesOfTwo definition table = map (λ row. definition row.0 row.1) table ≡ map (λ row. row.2) table
 
@@ -463,7 +463,7 @@ beside left right rows = frame_with ((codes "a", left) ∷ (codes "b", right) �
 abbrev pub Mean : Operator → Ty → Ty → List (Val × Val × Val) → Type 0
 Mean operator left right table = means (beside left right (map (λ row. (row.0, row.1)) table)) (binary operator a b) ≡ Done (map (λ row. row.2) table)
 
--- the same, as it runs where it is written
+-- what an operator gives between two columns of these types, as it runs where it is written
 abbrev pub Run : Operator → Ty → Ty → List (Val × Val × Val) → Type 0
 Run operator left right table = runs (beside left right (map (λ row. (row.0, row.1)) table)) (binary operator a b) ≡ Done (map (λ row. row.2) table)
 
@@ -492,7 +492,7 @@ two_widths =
     (number 2 ∷ null ∷ []) ∷
     (number 3 ∷ negative 200 ∷ []) ∷ [])
 
--- the same, of which some are 0
+-- numbers of two types, of which some are 0
 abbrev pub some_zeros : Frame
 some_zeros =
     frame_with ((codes "a", int8) ∷ (codes "b", int64) ∷ []) (

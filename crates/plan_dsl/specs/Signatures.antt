@@ -85,7 +85,7 @@ asked_at signature place = signature.rest
 abbrev pub takes : Asked → Asked → Asked → OwnType → Many → Result Signature ErrorKind
 takes first second rest own many = Ok (record { first = first; second = second; rest = rest; own = own; many = many; sharing = Alone })
 
--- the same where the first operand has a common type with another, which is the own type
+-- what is asked where the first operand has a common type with another, which is the own type
 abbrev pub shares : Sharing → Asked → Asked → Asked → Many → Result Signature ErrorKind
 shares sharing first second rest many = Ok (record { first = first; second = second; rest = rest; own = First; many = many; sharing = sharing })
 

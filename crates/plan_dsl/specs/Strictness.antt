@@ -81,7 +81,7 @@ abbrev pub changed : Ty → Ty → Expression → Expression
 changed (Untyped number) target tree = renamed tree (number_as number target)
 changed from target tree = cast_to target tree
 
--- the same, where the types aren't one
+-- an expression of the first type, made one of the second, where the types aren't one
 abbrev pub as_operand : Ty → Ty → Expression → Expression
 as_operand from target tree = if same_type from target then tree else changed from target tree
 

@@ -24,7 +24,7 @@ same_expression_is_equivalence = on_equiv tree_of (equivalence_from_exact same_s
 pub same_expression_hash : (a b : Expr) → same_source (tree_of a) (tree_of b) ≡ true → source_writes (tree_of a) ≡ source_writes (tree_of b)
 same_expression_hash a b h = ap source_writes (same_source_exact (tree_of a) (tree_of b) h)
 
--- the same of aggregates
+-- equality of aggregates, of which equal ones are hashed alike
 pub same_aggregate_is_equivalence : IsEquivalence (on agg_tree same_source)
 same_aggregate_is_equivalence = on_equiv agg_tree (equivalence_from_exact same_source same_source_exact same_source_own)
 

@@ -30,7 +30,7 @@ module _ {A B : Type 0} (definition : A → Result B ErrorKind) where
   each_refused found item rest error answer is (broken kind told by) =
       broken kind told (is ∙ ap (λ r. behind found (then_ok r (λ first. then_ok (each_ok definition rest) (λ others. Ok (first ∷ others))))) by)
 
-  -- the same, of the item at a place
+  -- lists that are made item by item, by the item at a place
   pub each_more : (found grown : List B) (items : List A) (i : ℕ) (d : A) (made : B) (answer : Result (List B) ErrorKind) → i < length items → definition (get_or items i d) ≡ Ok made → grown ≡ found ++ made ∷ [] → answer ≡ behind found (each_ok definition (drop i items)) → answer ≡ behind grown (each_ok definition (drop (i + 1) items))
   each_more found grown items i d made answer within h more before =
       before ∙ ap (λ l. behind found (each_ok definition l)) (drop_more items i d within) ∙ each_step found grown (get_or items i d) (drop (i + 1) items) made h more

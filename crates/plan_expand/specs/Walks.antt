@@ -30,7 +30,7 @@ is_of_plans op = false
 abbrev pub operands_in : Source → Option (List Source)
 operands_in (node op children) = if is_marker op then None else Some (children_of children)
 
--- the same, of which a marker has none
+-- the operands as a list, of which a marker has none
 abbrev pub operand_list : Source → List Source
 operand_list source = unwrap_or (operands_in source) []
 

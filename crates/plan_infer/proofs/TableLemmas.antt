@@ -102,7 +102,7 @@ module _ (old new : TypeTable) (at : ℕ) (own : Inferred) (place : at ≡ old.f
       inl (from, item_earlier old.entries.items (Some own) (Some other) (n - old.first) lt got))
       (same_or_other n at)
 
--- the same places
+-- a table that has its entries at the places of another keeps what that keeps
 pub places_same : (old new : TypeTable) → new.first ≡ old.first → new.entries.items ≡ old.entries.items → (n : ℕ) (own : Inferred) → KeepsEntry old n own ↔ KeepsEntry new n own
 places_same old new first same n own =
     let place = ap (λ m. n - m) first in
@@ -472,7 +472,7 @@ all_taken P (m ∷ ns) (suc i) k n e all lt p = subst (λ k. AllByRecursion P (n
 pub all_whole : (P : ℕ → Type 0) (ns : List Node) (i : ℕ) → i ≡ length ns → AllByRecursion P (numbers (take i ns)) → AllByRecursion P (numbers ns)
 all_whole P ns i whole all = subst (λ (l : List Node). AllByRecursion P (numbers l)) (ap (λ k. take k ns) whole ∙ take-length ns) all
 
--- the same of numbers
+-- what all of the first numbers of a list have, and the next one, all of one more have
 pub all_more : (P : ℕ → Type 0) (ns : List ℕ) (i n : ℕ) → slice_get ns i ≡ Some n → AllByRecursion P (take i ns) → P n → AllByRecursion P (take (i + 1) ns)
 all_more P ns i n at all p =
     let next : i + 1 ≡ suc i = omega arith in
@@ -493,7 +493,7 @@ module _ (registry : Registry) (schema : Columns) (items : List AExpr) (table : 
       let rest = child_refused ns i n all.1 (omega (arith, lt)) refused ts d.1 in
       refused_so _ _ error (λ kind e. ap (λ r. typed_before r (typing_all registry schema ts)) here ∙ ap (typed_before (Ok (typed_of all.0.own))) e) rest
 
-  -- the same of numbers
+  -- a node whose input at a place, by its number, is refused is refused so
   place_refused : (ns : List ℕ) (i n : ℕ) → AllByRecursion (IsKept table) (take i ns) → slice_get ns i ≡ Some n → AllRefused items registry schema n error → (ts : Trees Op) → DenoteAll (HoldsExpression items) ns ts → IsRefusal (typing_all registry schema ts) error
   place_refused [] i n all at refused ts d = cc
   place_refused (m ∷ ns) i n all at refused no_more d = absurd d

@@ -131,7 +131,7 @@ pub record IsTypedNode (registry : Registry) (schema : Columns) (items : List AE
 pub record IsRight (registry : Registry) (schema : Columns) (items : List AExpr) (table : TypeTable) : Type 0 where
   pub each : (n : ℕ) (own : Inferred) → KeepsEntry table n own → IsTypedNode registry schema items table n own
 
--- the same, over the frames of some schema
+-- each entry that the table keeps is right of its node, over the frames of some schema
 pub record HasRightTypes (items : List AExpr) (table : TypeTable) : Type 0 where
   pub registry : Registry
   pub schema : Columns

@@ -29,7 +29,7 @@ pub record DenotesTyped (registry : Registry) (schema : Columns) (first : ℕ) (
   pub typed : Typed
   pub is : typing registry schema tree ≡ Ok typed
 
--- the same, of a type of columns
+-- the node denotes an expression of nodes from that number on, of a type of columns
 pub record DenotesKnown (registry : Registry) (schema : Columns) (first : ℕ) (items : List AExpr) (n : ℕ) : Type 0 where
   pub tree : Expression
   pub denotes : Denotes (HoldsFrom first items) n tree

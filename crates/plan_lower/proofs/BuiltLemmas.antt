@@ -193,7 +193,7 @@ module _ (registry : Registry) where
       over_built (select_op (source_outputs outputs) None) (select_op (map lowered_named outputs) (Some own)) source lowered schema own built (select_columns schema None outputs each distinct) here refl (each_strict schema outputs each, tt) (each_named schema outputs each, tt) tt refl (only_within schema outputs each)
       (λ tables input meets. selected_agrees (by_running registry) (by_meaning registry) (map lowered_named outputs) (source_outputs outputs) schema input (agree schema outputs each) meets)
 
-  -- the same of a select of expressions that become the outputs
+  -- a select of expressions that become the outputs, over an input that is built, is built
   pub select_built : (source lowered : Plan) (schema : Columns) (trees : List Expression) (outputs : List Lowered) → IsBuilt registry source lowered schema → SelectsTo registry schema trees outputs → IsBuilt registry (resolved_select trees source) (lowered_select outputs lowered) (map lowered_column outputs)
   select_built source lowered schema trees outputs built selects =
       let same_outputs = map-map named (λ (o : Lowered). o.tree) outputs in
@@ -209,7 +209,7 @@ module _ (registry : Registry) where
       over_built (hstack_op (source_outputs outputs) None) (hstack_op (map lowered_named outputs) (Some own)) source lowered schema own built there here refl (each_strict schema outputs each, tt) (each_named schema outputs each, tt) tt refl (only_within schema outputs each)
       (λ tables input meets. hstacked_agrees (by_running registry) (by_meaning registry) (map lowered_named outputs) (source_outputs outputs) schema input (agree schema outputs each) meets)
 
-  -- the same of an hstack of expressions that become the outputs
+  -- an hstack of expressions that become the outputs, over an input that is built, is built
   pub hstack_built : (source lowered : Plan) (schema : Columns) (trees : List Expression) (outputs : List Lowered) → IsBuilt registry source lowered schema → SelectsTo registry schema trees outputs → IsBuilt registry (resolved_hstack trees source) (lowered_hstack schema outputs lowered) (with_columns schema (map lowered_column outputs))
   hstack_built source lowered schema trees outputs built selects =
       let expressions = sym (map-map named (λ (o : Lowered). o.tree) outputs) ∙ ap (map named) selects.trees_are in
@@ -243,7 +243,7 @@ module _ (registry : Registry) where
         bounds = split_bounded registry schema (named o.tree) (lowered_named o) source lowered built.source_schema built.lowered_schema (each_within schema (o ∷ []) (is, tt)) condition predicates built.bounds;
       }
 
-  -- the same of a filter by an expression that becomes the output
+  -- a filter by an expression that becomes the output, over an input that is built, is built
   pub filter_built : (source lowered : Plan) (schema : Columns) (tree : Expression) (output : Lowered) → IsBuilt registry source lowered schema → FiltersBy registry schema tree output → IsBuilt registry (resolved_filter tree source) (lowered_filter output lowered) schema
   filter_built source lowered schema tree output built filters =
       subst (λ t. IsBuilt registry (resolved_filter t source) (lowered_filter output lowered) schema) filters.tree_is (filter_over source lowered schema built output filters.is filters.truth)

@@ -58,7 +58,7 @@ pub names_end : (schema : Columns) (names rest : List Name) (name : Name) (all :
 names_end schema names rest name all is absent so_far =
     sym (ap (λ b. b && have_names schema rest) (sym (named_there schema name) ∙ absent)) ∙ sym (ap (have_names schema) is) ∙ so_far
 
--- the same of the column of a number
+-- what is kept of columns, by the column of a number
 pub kept_at : (names : List Name) (own new whole : Columns) (i : ℕ) (column : Name × Ty) → HasDistinctNames whole → slice_get whole i ≡ Some column → own ++ columns_but names (drop i whole) ≡ columns_but names whole → new ≡ cond (is_among column.0 names) own (with_column own column.0 column.1) → new ++ columns_but names (drop (i + 1) whole) ≡ columns_but names whole
 kept_at names own new whole i column distinct at so_far next =
     let left = item_left whole i column column (slice_get_within whole i column at) (sym (get_or_from_slice_get whole i column column at)) in
@@ -131,7 +131,7 @@ module _ (registry : Registry) where
   dropped_refused items plans input schema selectors strict source plan error s refused same =
       unresolved_refused registry (drop_op selectors strict) source schema plan error s.built.source_schema (unexpanded_then (drop_leaves schema selectors strict) (λ own. Ok (SimpleProjectionKind own)) error refused) same
 
-  -- the same of any function
+  -- the node that a function leaves stands for it, whatever the function
   pub function_stands : (items : List AExpr) (plans new : List IR) (input n : ℕ) (schema own : Columns) (function : DslFunction) (source : SourcePlan) (plan : Plan) → Grows plans new → StandsFor registry items plans input schema (resolved registry source) → IsFunctionAt schema function new n input own → plan ≡ resolved registry (source_function function source) → StandsFor registry items new n own plan
   function_stands items plans new input n schema own (Drop function) source plan grows s is same =
       drop_stands items plans new input n schema own (selector_trees function.to_drop) function.strict source plan grows s is same

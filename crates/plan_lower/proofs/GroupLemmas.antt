@@ -297,7 +297,7 @@ module _ (registry : Registry) where
       (all_within registry schema _ _ _ _ (each_within registry schema keys each) (all_within registry schema _ _ [] [] (each_within registry schema aggs also) (nothing_within registry schema)))
       (λ tables input meets. grouped_agrees (by_running registry) (by_meaning registry) (map lowered_named keys) (source_outputs keys) (map lowered_named aggs) (source_outputs aggs) schema input (agree registry schema keys each) (agree registry schema aggs also) meets)
 
-  -- the same of a group-by of expressions that become keys and aggregates
+  -- a group-by of expressions that become keys and aggregates, over an input that is built, is built
   groups_built : (source lowered : Plan) (schema : Columns) (keys aggs : List Expression) (outputs others : List Lowered) → IsBuilt registry source lowered schema → GroupsTo registry schema keys aggs outputs others → IsBuilt registry (resolved_groups keys aggs source) (lowered_groups outputs others lowered) (group_columns_of outputs others)
   groups_built source lowered schema keys aggs outputs others built groups =
       let first = sym (map-map named (λ (o : Lowered). o.tree) outputs) ∙ ap (map named) groups.keys_are in

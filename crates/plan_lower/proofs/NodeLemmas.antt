@@ -126,7 +126,7 @@ unwritten_listed {tree} {op} {first} exprs listed =
     let rest = all_unwritten_from (map tree_of exprs) ∙ ap children_from (map-map unwritten tree_of exprs) in
     ap unwritten listed.is ∙ ap (λ others. node op (more (unwritten first) others)) rest
 
--- the same of a list in two parts
+-- what is written over a list in two parts, as a plan has it
 pub unwritten_both : {tree : Source} {op : Op} {first : Source} (orders : List Source) (exprs : List Expr) → IsListed tree (Plain op) first (orders ++ map tree_of exprs)
     → unwritten tree ≡ node op (more (unwritten first) (children_from (map unwritten orders ++ map plain_tree exprs)))
 unwritten_both {tree} {op} {first} orders exprs listed =

@@ -14,7 +14,7 @@ settles_own tree = true
 abbrev pub settled_own : Expression → Expression
 settled_own (node op children) = node (settled_op op) children
 
--- the same of a number at the top, or directly under an alias there
+-- whether a number at the top, or directly under an alias there, has a type, and the expression in which it gets it
 abbrev pub settles_at_top : Expression → Bool
 settles_at_top (node (AliasOp name) (more tree no_more)) = settles_own tree
 settles_at_top tree = settles_own tree

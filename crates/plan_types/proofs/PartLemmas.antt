@@ -28,7 +28,7 @@ struct_values parts =
     let row = row_of (Struct parts) in
     ap StructValue (row_list row.0 row.1 ∙ ap values_in (items_hidden-the_row-Value-0 parts.items))
 
--- the same, of the items that a slice shows
+-- the values of a list or a struct, by the items that a slice shows
 pub list_of : (value : Value) (parts : Parts) (items : Many Value) → value ≡ List parts → items ≡ parts.items.items → val_of value ≡ ListValue (values_in items)
 list_of value parts items is shown = ap val_of is ∙ list_values parts ∙ ap (λ l. ListValue (values_in l)) (sym shown)
 

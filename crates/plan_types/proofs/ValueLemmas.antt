@@ -107,7 +107,7 @@ text_to_fits text (Integer signed bits) options =
 text_to_fits text TextType options = refl
 text_to_fits text target options = no_place_fits options target
 
--- the same of the values of a list, and of those of a struct
+-- what a cast gives of the values of a list, and of those of a struct, fits
 abbrev ItemsFit : Ty → Option Vals → Type 0
 ItemsFit type None = Unit {0}
 ItemsFit type (Some values) = IsTrue (items_fit values type)

@@ -19,7 +19,7 @@ use Rattle.plan_types.specs.declared.dtype.TimeUnit.TheVariants.{Nanoseconds, Mi
 abbrev pub Maps : {A B : Type 0} → (A → B) → List (A × B) → Type 0
 Maps f cases = map (λ c. f c.0) cases ≡ map (λ c. c.1) cases
 
--- the same of two arguments
+-- what a definition gives for the first two of each three is the third
 abbrev pub MapsPairs : {A B C : Type 0} → (A → B → C) → List (A × B × C) → Type 0
 MapsPairs f cases = map (λ c. f c.0 c.1) cases ≡ map (λ c. c.2) cases
 
@@ -192,7 +192,7 @@ number_or_none options (Some number) = Gives (IntValue number)
 abbrev pub CastsNumbers : Ty → Ty → List (ℤ × Option ℤ) → Type 0
 CastsNumbers from target cases = (options : CastOptions) → map (λ c. cast (IntValue c.0) from target options) cases ≡ map (λ c. number_or_none options c.1) cases
 
--- the same of texts, each beside the type that it is cast to
+-- in any way to cast texts, each to the type beside it, they become numbers or have no place
 abbrev pub ReadsNumbers : List (String × Ty × Option ℤ) → Type 0
 ReadsNumbers cases = (options : CastOptions) → map (λ c. cast (text c.0) TextType c.1 options) cases ≡ map (λ c. number_or_none options c.2) cases
 

@@ -40,7 +40,7 @@ abbrev pub IsCastError : Converted → CastError → Type 0
 IsCastError converted NoMemory = Unit {0}
 IsCastError converted Failing = converted ≡ Fails
 
--- the same of the values of a list or a struct, one of which fails
+-- the refusal is out of memory, or a value of a list or a struct fails
 abbrev pub IsPartsError : Option Vals → CastError → Type 0
 IsPartsError converted NoMemory = Unit {0}
 IsPartsError converted Failing = converted ≡ None
