@@ -1,4 +1,4 @@
--- What the rule leaves of a root that is typed: the same expression without strict casts that have no fault.
+-- What the rule leaves of a root that is typed: the expression without strict casts to the type that their operand has.
 use Rattle.std.proofs.Common.{◌≡◌, ℕ, true, false, cond, not, List, [], ◌∷◌, map, Result, Ok, Err, pos, refl, sym, ap, ◌∙◌, subst}
 use Rattle.std.specs.List.{AllByRecursion}
 use Rattle.std.proofs.lemmas.Bool.{false≢true}

@@ -1,4 +1,4 @@
-//! A rule of one's own: strict casts that have no fault are made casts that aren't strict.
+//! A rule of one's own: strict casts to the type that their operand has are made casts that aren't strict.
 ghost use Rattle.std.specs.Prelude.{◌≡◌, [], ◌∷◌, true, false, Some, MatchOption};
 ghost use Rattle.plan_types.specs.Types.{ty};
 ghost use Rattle.plan_dsl.specs.Ops.{CastOp};

@@ -1,6 +1,6 @@
 -- Filters that are split: a predicate's parts, and filters one over the other.
 -- A predicate whose top says that both of two are true has the parts of both. A filter by it keeps the rows that filters by
--- its parts keep one after the other, where none of them can have a fault.
+-- its parts keep one after the other, where each of its nodes is taken to go by row and to have no fault.
 use Rattle.std.specs.Prelude.{◌≡◌, ◌&&◌, Bool, true, false, not, IsTrue, List, [], ◌∷◌, ◌++◌, map, Some, Ok, if◌then◌else◌}
 use Rattle.std.specs.List.{AllByRecursion}
 use Rattle.plan_types.specs.Frames.{Frame, IsFrameOf, row_numbers}

@@ -109,7 +109,7 @@ pub fn meanings_by_rows()
 {}
 
 /// A predicate's parts are those of both operands, where its top joins two. A filter is split to them, under their own names,
-/// where no part can have a fault.
+/// where each of its nodes is taken to go by row and to have no fault.
 pub fn predicates_in_parts()
     ensures conjunctions { Gives is_conjunction ((BinaryOp And, true) ∷ (BinaryOp LogicalAnd, true) ∷ (BinaryOp Or, false) ∷ (BinaryOp Eq, false) ∷ (LenOp, false) ∷ []) }
     ensures parts { Gives conjuncts (

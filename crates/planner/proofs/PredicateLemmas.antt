@@ -1,5 +1,5 @@
--- Predicates without strict casts that have no fault: they are typed as before, strict where they were, and have no alias
--- where they had none. The names of their functions' operands stay right.
+-- Predicates without strict casts to the type that their operand has: they are typed as before, strict where they were,
+-- and have no alias where they had none. The names of their functions' operands stay right.
 use Rattle.std.proofs.Common.{◌≡◌, true, false, cond, ◌&&◌, List, [], ◌∷◌, Result, Ok, Err, refl, sym, ap, ◌∙◌, subst}
 use Rattle.plan_types.specs.Types.{Ty, same_type}
 use Rattle.plan_types.specs.Schemas.{Columns}

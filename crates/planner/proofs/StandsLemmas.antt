@@ -1,4 +1,4 @@
--- A filter of a scan that stands for a query's plan does so without strict casts that have no fault, split.
+-- A filter of a scan that stands for a query's plan does so without strict casts to the type that their operand has, split.
 use Rattle.std.proofs.Common.{◌≡◌, ℕ, true, false, List, [], ◌∷◌, map, Option, Some, None, Ok, slice_get, refl, sym, ap, ◌∙◌, subst, inl, inr, ⊎_elim, arith}
 use Rattle.std.specs.List.{Contains}
 use Rattle.plan_types.specs.Errors.{IsRefusal, no_memory, no_room, broken}

@@ -55,7 +55,7 @@ pub record IsFilteredScan (lowering : IRPlan) : Type 0 where
   pub schema : Columns
   pub denotes : DenotesPlan lowering (filtered_scan predicate table schema)
 
--- a predicate without strict casts that have no fault, under its name
+-- a predicate without strict casts to the type that their operand has, under its name
 abbrev pub with_relaxed : Registry → Columns → Named Expression → Named Expression
 with_relaxed registry schema predicate = record { label = predicate.label; expression = relaxed registry schema predicate.expression }
 

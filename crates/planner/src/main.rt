@@ -1,5 +1,6 @@
 //! A planner. It builds a plan call by call and lowers it. Then it hands a rule of its own to the loop of coercion, by which
-//! strict casts that have no fault needn't be strict, and splits a filter that is left without any. It prints both reports.
+//! strict casts to the type that their operand has needn't be strict, and splits a filter where no strict cast is left in it.
+//! It prints both reports.
 #![tactic(auto)]
 
 ghost use Rattle.std.specs.Prelude.{◌≡◌, ℕ, Option, map, IfErr, IfOk};
