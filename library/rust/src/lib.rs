@@ -158,9 +158,7 @@ fn call(query: &[u8], buffer: &mut [u8]) -> (u8, usize) {
     let mut written = 0;
     // SAFETY: the pointers of slices and references aren't null, and what lies behind them is as long as is said. The
     // borrows keep it there and from other threads during the call, after which the library keeps none of it.
-    let status = unsafe {
-        lowerq_lower(query.as_ptr(), query.len(), buffer.as_mut_ptr(), buffer.len(), &mut written)
-    };
+    let status = unsafe { lowerq_lower(query.as_ptr(), query.len(), buffer.as_mut_ptr(), buffer.len(), &mut written) };
     (status, written)
 }
 
@@ -196,8 +194,7 @@ pub fn lower(query: &str) -> Result<String, Refusal> {
     if status == LOWERED {
         return Ok(text);
     }
-    Err(Refusal::of(status, &text)
-        .unwrap_or_else(|| panic!("the library answered status {status} and {text:?}")))
+    Err(Refusal::of(status, &text).unwrap_or_else(|| panic!("the library answered status {status} and {text:?}")))
 }
 
 #[cfg(test)]
