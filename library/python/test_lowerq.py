@@ -1,4 +1,4 @@
-"""Tries the module lowerq: the queries of examples/ and of the case files against the texts beside them, and its parts."""
+"""Tries the module lowerq: queries of examples/ and of the case files against the texts beside them, and its parts."""
 
 import doctest
 import pathlib
@@ -105,7 +105,8 @@ class Lowering(unittest.TestCase):
 
     def test_not_a_report(self) -> None:
         for text in ("", "casts 1", "casts x\n", ". df\ncasts 0\n", ". df (\ncasts 0\n", '. df ("a")\ncasts 0\n',
-                     '. df ("a" Int8) \ncasts 0\n', '. df ("a" Int8"b" Int8)\ncasts 0\n', '. df ("a" List(Int8\ncasts 0\n'):
+                     '. df ("a" Int8) \ncasts 0\n', '. df ("a" Int8"b" Int8)\ncasts 0\n',
+                     '. df ("a" List(Int8\ncasts 0\n'):
             self.assertRaises(ValueError, lowerq.Report.parse, text)
 
     def test_documents(self) -> None:

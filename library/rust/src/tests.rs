@@ -1,4 +1,4 @@
-//! The crate and the library in it, tried: on the queries of `examples/`, which have their texts beside them, and others.
+//! The crate and the library in it, tried on the queries of `examples/`, whose texts lie beside them, and on others.
 
 use std::path::{Path, PathBuf};
 use std::{fs, thread};
