@@ -52,6 +52,11 @@ IsFull s = s.room ≤ length s.written
 abbrev pub plain_faults : PlainSinkState → ℕ
 plain_faults s = if nat_le s.room (length s.written) then s.refused else 0
 
+-- a sink that grows: the bytes written, and how many writes failed
+pub record GrowingSinkState : Type 0 where
+  pub written : List ℕ
+  pub faults : ℕ
+
 -- a reader or a writer of std, and how many of its calls failed
 pub record AdapterState (I : Type 0) : Type 0 where
   pub inner : I

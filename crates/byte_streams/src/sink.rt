@@ -1,10 +1,10 @@
-//! Sinks of bytes: the trait, two sinks in memory, and an adapter over any writer.
+//! Sinks of bytes: the trait, three sinks in memory, and an adapter over any writer.
 
 ghost use Rattle.std.specs.Prelude.{◌≡◌, ◌⊎◌, ◌↔◌, ℕ, ◌+◌, ◌-◌, ◌<◌, ◌≤◌, ◌++◌, min, List, [], length, take, vec_len, vec_capacity, if◌then◌else◌, is_ok, Some, Ok, IsErr, IsTrue, IfOk, OnErr, Contains};
 ghost use Rattle.std.specs.declared.option.Option.{Option};
 ghost use Rattle.std.specs.Io.{WritesAtMost};
 ghost use Rattle.std.specs.Io.KnownBytes.{WriteAppends};
-ghost use Rattle.byte_streams.specs.Streams.{AdapterState, HasCause, IsFull, PlainSinkState, SinkState, TakesSome, one_more, plain_faults};
+ghost use Rattle.byte_streams.specs.Streams.{AdapterState, GrowingSinkState, HasCause, IsFull, PlainSinkState, SinkState, TakesSome, one_more, plain_faults};
 
 use crate::faults::{Failed, FaultPlan, counted};
 use std::alloc::{AllocError, Global};
@@ -234,6 +234,82 @@ impl Sink for PlainSink {
         }
         append(&mut self.bytes, &piece[..count]);
         Ok(count)
+    }
+}
+
+/// Bytes in memory that grow with what is written. A write fails only for want of memory, and then
+/// takes nothing.
+#[derive(Debug, Drop)]
+pub struct GrowingSink {
+    bytes: Vec<u8>,
+    faults: u64,
+}
+
+impl Model for GrowingSink {
+    ghost Value = { GrowingSinkState };
+
+    ghost view = { λ s. record { written = s.bytes.items; faults = s.faults } };
+}
+
+impl GrowingSink {
+    /// A sink without bytes, which holds no memory yet.
+    pub fn new(alloc: Global) -> Self
+        ensures { result ≡ record { written = []; faults = 0 } }
+    {
+        GrowingSink {
+            bytes: Vec::new(alloc),
+            faults: 0,
+        }
+    }
+
+    /// The bytes written.
+    pub fn written(&self) -> &[u8]
+        ensures { result.now ≡ self.now.written }
+    {
+        self.bytes.as_slice()
+    }
+
+    /// The bytes written, for the caller to keep.
+    pub fn into_bytes(self) -> Vec<u8>
+        ensures { result.items ≡ self.written }
+    {
+        self.bytes
+    }
+
+    /// How many writes failed.
+    pub fn faults(&self) -> u64
+        ensures { result ≡ self.now.faults }
+    {
+        self.faults
+    }
+}
+
+impl Sink for GrowingSink {
+    ghost written = { λ s. Some s.written };
+
+    ghost faults = { λ s. s.faults };
+
+    fn write(&mut self, piece: &[u8]) -> Result<usize, Failed>
+        ensures bound { WritesAtMost result piece.now }
+        ensures bytes { WriteAppends (Some self.old.written) (Some self.new.written)
+            result piece.now }
+        ensures progress { TakesSome result piece.now }
+        ensures cause { HasCause self.old.faults self.new.faults result }
+
+        // It takes the whole piece, or fails and takes nothing.
+        ensures count { IfOk result (λ n. n ≡ length piece.now) }
+        ensures ok { IfOk result (λ _. self.new
+            ≡ record self.old { written = self.old.written ++ piece.now }) }
+        ensures err { OnErr result (self.new
+            ≡ record self.old { faults = one_more self.old.faults }) }
+    {
+        match self.bytes.extend_from_slice(piece) {
+            Ok(()) => Ok(piece.len()),
+            Err(_) => {
+                self.faults = self.faults.saturating_add(1);
+                Err(Failed)
+            }
+        }
     }
 }
 
