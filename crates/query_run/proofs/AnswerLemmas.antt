@@ -69,6 +69,10 @@ lower_small (suc (suc (suc (suc (suc k))))) d lt = absurd (omega (arith, lt))
 lower_ascii : IsAscii (codes "lower")
 lower_ascii = IsAscii-from_all (codes "lower") lower_small
 
+-- the characters of the word
+pub lower_word : chars (codes "lower") ≡ codes "lower"
+lower_word = chars-IsAscii (codes "lower") lower_ascii
+
 -- comparing the bytes of the only word tells whether the words are right
 pub right_by_bytes : (words : List Name) (word : Name) (bytes : List ℕ) (equal : Bool) → length words ≡ 1 → word ≡ get_or words 0 word → chars bytes ≡ word → IsUtf8 bytes → equal ≡ bytes_eq bytes (codes "lower") → IsTrue equal ↔ (words ≡ right_words)
 right_by_bytes words word bytes equal long is seen of_text compared =

@@ -1,5 +1,5 @@
 //! How a run ended.
-ghost use Rattle.std.specs.Prelude.{◌≡◌};
+ghost use Rattle.std.specs.Prelude.{◌≡◌, ◌↔◌, IsTrue};
 ghost use Rattle.std.specs.Process.{exit_status};
 ghost use Rattle.query_run.specs.Answers.{status_number};
 
@@ -44,6 +44,13 @@ impl Status {
             Status::NoMemory => 6,
             Status::TooLong => 7,
         }
+    }
+
+    /// Tells whether a write failed.
+    pub(crate) fn is_write_fault(&self) -> bool
+        ensures { IsTrue result ↔ (self.now ≡ Status.WriteFault) }
+    {
+        matches!(self, Status::WriteFault)
     }
 
     /// What the process ends with.
