@@ -6,6 +6,7 @@ use byte_streams::source::{MemSource, PlainSource, Source};
 use plan_dsl::udfs::Udfs;
 use plan_types::text::PlSmallStr;
 use query_run::run::run;
+use query_run::text::{Told, run_to_text};
 use std::alloc::Global;
 use std::process::Abort;
 
@@ -93,4 +94,13 @@ fn a_failing_write_leaves_the_front_of_the_text(rt: HostRuntime) {
     }
     assert_front(&rt, rt.alloc(), MISSING, b"refused ColumnNotFound .\n", 9);
     assert_front(&rt, rt.alloc(), b"{\"tables\":[", b"bad query NotJson\n", 0)
+}
+
+#[test]
+fn a_run_hands_out_its_text(rt: HostRuntime) {
+    let udfs = Udfs::new(rt.alloc());
+    let Told { done, text } = run_to_text(rt.alloc(), EMPTY, &udfs);
+    let number = done.number();
+    assert!(rt; number == 0);
+    assert!(rt; text.as_slice() == EMPTY_REPORT);
 }

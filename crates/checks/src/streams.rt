@@ -2,7 +2,7 @@
 
 use crate::fixtures::NO_MEMORY;
 use byte_streams::faults::Failed;
-use byte_streams::sink::WriteAdapter;
+use byte_streams::sink::{GrowingSink, WriteAdapter};
 use byte_streams::source::{MemSource, ReadAdapter};
 use byte_streams::stream::{ReadOutcome, read_all, write_all};
 use std::alloc::Global;
@@ -142,4 +142,17 @@ fn a_full_page_takes_no_more(rt: HostRuntime) {
     assert!(rt; write_all(&mut writer, b"sca") == Ok(()));
     assert!(rt; write_all(&mut writer, b"n t") == Err(Failed));
     assert!(rt; writer.faults() == 1);
+}
+
+#[test]
+fn a_growing_sink_takes_all_texts(rt: HostRuntime) {
+    let text = vec![in rt.alloc(); b'a'; 100_000].expect(&rt, NO_MEMORY);
+    let mut sink = GrowingSink::new(rt.alloc());
+    assert!(rt; write_all(&mut sink, TEXT) == Ok(()));
+    assert!(rt; write_all(&mut sink, text.as_slice()) == Ok(()));
+    assert!(rt; sink.faults() == 0);
+    let bytes = sink.into_bytes();
+    assert!(rt; bytes.len() == TEXT.len() + 100_000);
+    assert!(rt; &bytes.as_slice()[..TEXT.len()] == TEXT);
+    drop(bytes);
 }
