@@ -80,7 +80,7 @@ impl MemSink {
         })
     }
 
-    /// The same sink, which takes at most `step` bytes a write.
+    /// The sink, which takes at most `step` bytes a write.
     pub fn in_steps(mut self, step: usize) -> Self
         requires { 0 < step }
         ensures { result ≡ record self { step = step } }

@@ -75,7 +75,7 @@ impl<'a> MemSource<'a> {
         }
     }
 
-    /// The same source, with at most `step` bytes a read.
+    /// The source, with at most `step` bytes a read.
     pub fn in_steps(mut self, step: usize) -> Self
         requires { 0 < step }
         ensures { result ≡ record self.entry { step = step } }
