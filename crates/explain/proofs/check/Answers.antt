@@ -1,8 +1,8 @@
 use Rattle.std.proofs.Common.{subst}
 use Rattle.plan_dsl.specs.Registry.{registry}
-use Rattle.schema_checker.specs.Verdicts.{RefusesText, no_query}
-use Rattle.schema_checker.proofs.VerdictLemmas.{fault_told}
-use Rattle.schema_checker.proofs.check.Goals as goal
+use Rattle.explain.specs.Verdicts.{RefusesText, no_query}
+use Rattle.explain.proofs.VerdictLemmas.{fault_told}
+use Rattle.explain.proofs.check.Goals as goal
 
 pub returns-in_ok-text_in_words-in-Err-Text : goal.returns-in_ok-text_in_words-in-Err-Text
 returns-in_ok-text_in_words-in-Err-Text c =

@@ -4,7 +4,7 @@
 
 ghost use Rattle.std.specs.Prelude.{◌≡◌, None, Some, IfOk, IfErr, MatchOption, string_bytes};
 ghost use Rattle.plan_dsl.specs.Registry.{registry};
-ghost use Rattle.schema_checker.specs.Verdicts.{StandsForText, RefusesText, IsVerdict, place_words, plan_words, rule_words, text_words};
+ghost use Rattle.explain.specs.Verdicts.{StandsForText, RefusesText, IsVerdict, place_words, plan_words, rule_words, text_words};
 
 use plan_arena::plan::IRPlan;
 use plan_dsl::udfs::Udfs;
@@ -26,7 +26,7 @@ pub enum Refusal {
 
 impl From<JsonError> for Refusal {
     ghost use Rattle.std.specs.Prelude.{◌≡◌};
-    ghost use Rattle.schema_checker.specs.declared.Refusal.TheVariants as refusals;
+    ghost use Rattle.explain.specs.declared.Refusal.TheVariants as refusals;
 
     ghost from_gives = { λ error refusal. refusal ≡ refusals.Text error };
 
@@ -37,7 +37,7 @@ impl From<JsonError> for Refusal {
 
 impl From<PlanError> for Refusal {
     ghost use Rattle.std.specs.Prelude.{◌≡◌};
-    ghost use Rattle.schema_checker.specs.declared.Refusal.TheVariants as refusals;
+    ghost use Rattle.explain.specs.declared.Refusal.TheVariants as refusals;
 
     ghost from_gives = { λ error refusal. refusal ≡ refusals.Plan error };
 

@@ -6,7 +6,7 @@ use Rattle.plan_dsl.specs.Resolving.{resolved}
 use Rattle.plan_json.specs.Bytes.{WritesQuery}
 use Rattle.plan_json.specs.Queries.{QueryModel}
 use Rattle.plan_lower.specs.Lowering.{IsPlanRefusal, out_of_memory, broken}
-use Rattle.schema_checker.specs.Verdicts.{TellsFault, WritesBroken, broken as breaks_rule, plan_words}
+use Rattle.explain.specs.Verdicts.{TellsFault, WritesBroken, broken as breaks_rule, plan_words}
 
 module _ (registry : Registry) (text said : List ℕ) where
   no_words : None ≡ Some said → ⊥

@@ -16,10 +16,10 @@ use Rattle.plan_json.specs.declared.error.JsonError.{JsonError}
 use Rattle.plan_json.specs.declared.error.JsonError.TheVariants as json
 use Rattle.plan_lower.specs.Lowering.{IsPlanRefusal, IsTyped, IsSound, GivesSameFrame}
 use Rattle.plan_report.specs.Report.{report_text}
-use Rattle.schema_checker.specs.declared.Refusal.{Refusal}
-use Rattle.schema_checker.specs.declared.Refusal.TheVariants.{Text, Plan as BrokenPlan}
-use Rattle.schema_checker.specs.declared.Verdict.{Verdict}
-use Rattle.schema_checker.specs.declared.Verdict.TheVariants.{Schemas, Broken}
+use Rattle.explain.specs.declared.Refusal.{Refusal}
+use Rattle.explain.specs.declared.Refusal.TheVariants.{Text, Plan as BrokenPlan}
+use Rattle.explain.specs.declared.Verdict.{Verdict}
+use Rattle.explain.specs.declared.Verdict.TheVariants.{Schemas, Broken}
 
 -- the text writes a query, whose plan is well formed and which the typed one stands for: it is accepted and strict, on fitting tables
 -- it is never stuck, and it gives the frame that the query means
