@@ -1,4 +1,4 @@
--- What a user of the library may rest on, and what the checker says.
+-- What a user of the library may rest on, and what is said of a text.
 use Rattle.std.specs.Prelude.{◌≡◌, ℕ, List, ◌++◌, Option, Some, None, codes, decimal, flat_map, string_bytes}
 use Rattle.std.specs.Option.{option_map}
 use Rattle.plan_types.specs.declared.error.ErrorKind.{ErrorKind}
@@ -16,10 +16,10 @@ use Rattle.plan_json.specs.declared.error.JsonError.{JsonError}
 use Rattle.plan_json.specs.declared.error.JsonError.TheVariants as json
 use Rattle.plan_lower.specs.Lowering.{IsPlanRefusal, IsTyped, IsSound, GivesSameFrame}
 use Rattle.plan_report.specs.Report.{report_text}
-use Rattle.explain.specs.declared.Refusal.{Refusal}
-use Rattle.explain.specs.declared.Refusal.TheVariants.{Text, Plan as BrokenPlan}
-use Rattle.explain.specs.declared.Verdict.{Verdict}
-use Rattle.explain.specs.declared.Verdict.TheVariants.{Schemas, Broken}
+use Rattle.explain.specs.declared.answers.Refusal.{Refusal}
+use Rattle.explain.specs.declared.answers.Refusal.TheVariants.{Text, Plan as BrokenPlan}
+use Rattle.explain.specs.declared.answers.Verdict.{Verdict}
+use Rattle.explain.specs.declared.answers.Verdict.TheVariants.{Typed, Broken}
 
 -- the text writes a query, whose plan is well formed and which the typed one stands for: it is accepted and strict, on fitting tables
 -- it is never stuck, and it gives the frame that the query means
@@ -94,6 +94,7 @@ pub data TellsFault (registry : Registry) (text said : List ℕ) : Type 0 where
   no_query : (error : JsonError) → IsRefusalOf text error → text_words error ≡ Some said → TellsFault registry text said
   broken : (kind : ErrorKind) (place : List ℕ) → BreaksAt registry text kind place → plan_words kind place ≡ Some said → TellsFault registry text said
 
+-- of the notes on nodes and of the detail of a fault nothing is said
 abbrev pub IsVerdict : Registry → List ℕ → Verdict → Type 0
-IsVerdict registry text (Schemas said) = TellsSchemas registry text (string_bytes said)
-IsVerdict registry text (Broken said) = TellsFault registry text (string_bytes said)
+IsVerdict registry text (Typed report notes) = TellsSchemas registry text (string_bytes report)
+IsVerdict registry text (Broken words detail) = TellsFault registry text (string_bytes words)

@@ -2,8 +2,8 @@ use Rattle.plan_types.proofs.ResultLemmas.{passed_on}
 use Rattle.plan_dsl.specs.Registry.{registry}
 use Rattle.plan_json.specs.Queries.{query_model}
 use Rattle.explain.specs.Verdicts.{RefusesText}
-use Rattle.explain.specs.declared.Refusal.TheVariants.{Plan as BrokenPlan}
-use Rattle.explain.proofs.lower_text.Goals as goal
+use Rattle.explain.specs.declared.answers.Refusal.TheVariants.{Plan as BrokenPlan}
+use Rattle.explain.proofs.check.lower_text.Goals as goal
 
 pub returns-clause-ok : goal.returns-clause-ok
 returns-clause-ok c = record {

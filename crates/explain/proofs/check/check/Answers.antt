@@ -2,7 +2,7 @@ use Rattle.std.proofs.Common.{subst}
 use Rattle.plan_dsl.specs.Registry.{registry}
 use Rattle.explain.specs.Verdicts.{RefusesText, no_query}
 use Rattle.explain.proofs.VerdictLemmas.{fault_told}
-use Rattle.explain.proofs.check.Goals as goal
+use Rattle.explain.proofs.check.check.Goals as goal
 
 pub returns-in_ok-text_in_words-in-Err-Text : goal.returns-in_ok-text_in_words-in-Err-Text
 returns-in_ok-text_in_words-in-Err-Text c =
