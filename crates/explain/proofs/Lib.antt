@@ -1,1 +1,2 @@
+pub mod LoweredLemmas
 pub mod VerdictLemmas

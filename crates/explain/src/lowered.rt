@@ -62,8 +62,7 @@ fn push_note(
     requires { DenotesTree (HoldsPlan plan.now.expr_arena plan.now.lp_arena) node.0 }
     ensures { IfOk result (λ next. IfSome next (λ input. DenotesTree (HoldsPlan plan.now.expr_arena plan.now.lp_arena) input.0)) }
 {
-    let item = plan.lp_arena.get(node);
-    let Some(input) = only_input(item) else {
+    let Some(input) = input_of(plan, node) else {
         return Ok(None);
     };
     let site = Site {
@@ -71,7 +70,7 @@ fn push_note(
         schema: schema_at(plan, input),
         udfs,
     };
-    match item {
+    match plan.lp_arena.get(node) {
         IR::Filter { predicate, .. } => {
             push_line(alloc, note, site, predicate, Context::Default, false)?;
         }
@@ -86,7 +85,15 @@ fn push_note(
     Ok(Some(input))
 }
 
-// The only input of a node that has one.
+// The input of a node that has one.
+fn input_of(plan: &IRPlan, node: Node) -> Option<Node>
+    requires { DenotesTree (HoldsPlan plan.now.expr_arena plan.now.lp_arena) node.0 }
+    ensures { IfSome result (λ input. DenotesTree (HoldsPlan plan.now.expr_arena plan.now.lp_arena) input.0) }
+{
+    only_input(plan.lp_arena.get(node))
+}
+
+// The only input of an item that has one.
 fn only_input(item: &IR) -> Option<Node>
     ensures { IfSome result (λ input. inputs_of (plan_layer item.now) ≡ input.0 ∷ []) }
 {

@@ -1,0 +1,7 @@
+use Rattle.std.specs.Prelude.{IfSome}
+use Rattle.plan_arena.specs.Denotation.{DenotesTree}
+use Rattle.plan_arena.specs.Items.{HoldsPlan}
+use Rattle.explain.proofs.lowered.notes.Given as goal
+
+abbrev pub invariant-loop-level : goal.invariant-loop-level
+invariant-loop-level l = IfSome l.next (λ n. DenotesTree (HoldsPlan l.plan.now.expr_arena l.plan.now.lp_arena) n.0)
