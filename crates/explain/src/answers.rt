@@ -39,13 +39,7 @@ impl From<PlanError> for Refusal {
 pub enum Verdict {
     /// Its typed plan: the report, with the place, the name and the schema of each node, and behind each node's line the
     /// node's expressions, of which no clause says anything.
-    Typed {
-        report: String,
-        notes: Vec<String>,
-    },
+    Typed { report: String, notes: Vec<String> },
     /// Why it has no typed plan, in words, and by what, of which no clause says anything.
-    Broken {
-        words: String,
-        detail: String,
-    },
+    Broken { words: String, detail: String },
 }

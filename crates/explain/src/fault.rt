@@ -236,7 +236,9 @@ impl<'a> Asked<'a> {
         words.push_str(fault.operands.as_str())?;
         words.push_str(fault.repeated.as_str())?;
         if let Answer::Gives(columns, _) = self.ask(input)? {
-            words.push_str(format!(in self.alloc; "  the columns there are {columns}\n")?.as_str())?;
+            words.push_str(format!(in self.alloc;
+                "  the columns there are {columns}\n"
+            )?.as_str())?;
         }
         Ok(words)
     }

@@ -183,7 +183,10 @@ fn is_word(name: &[u8]) -> bool {
     match name.first() {
         None => false,
         Some(first) => {
-            !first.is_ascii_digit() && name.iter().all(|byte| byte.is_ascii_alphanumeric() || *byte == b'_')
+            !first.is_ascii_digit()
+                && name
+                    .iter()
+                    .all(|byte| byte.is_ascii_alphanumeric() || *byte == b'_')
         }
     }
 }

@@ -32,11 +32,7 @@ struct Site<'a> {
 }
 
 /// For each node of a lowered plan, a node before those below it, a line for each of its expressions.
-pub(crate) fn notes(
-    alloc: Global,
-    plan: &IRPlan,
-    udfs: &Udfs,
-) -> Result<Vec<String>, AllocError>
+pub(crate) fn notes(alloc: Global, plan: &IRPlan, udfs: &Udfs) -> Result<Vec<String>, AllocError>
     requires { DenotesTree (HoldsPlan plan.now.expr_arena plan.now.lp_arena) plan.now.lp_top.0 }
 {
     let mut notes = Vec::new(alloc);

@@ -54,12 +54,7 @@ fn text_of(alloc: Global, verdict: &Verdict) -> Result<String, AllocError> {
 }
 
 // Prints the verdict on a query, and answers whether it is well formed.
-fn explain(
-    rt: &impl Print,
-    alloc: Global,
-    query: &[u8],
-    udfs: &Udfs,
-) -> anyhow::Result<bool> {
+fn explain(rt: &impl Print, alloc: Global, query: &[u8], udfs: &Udfs) -> anyhow::Result<bool> {
     let verdict = check(alloc, query, udfs)?;
     rt.print(text_of(alloc, &verdict)?.as_str())?;
     Ok(matches!(verdict, Verdict::Typed { .. }))
