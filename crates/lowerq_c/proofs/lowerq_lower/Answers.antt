@@ -1,4 +1,4 @@
-use Rattle.std.proofs.Common.{◌≡◌, ℕ, ◌∷◌, [], ◌∙◌, sym, ap, subst, length, Contains, arith}
+use Rattle.std.proofs.Common.{◌≡◌, ◌∷◌, [], ◌∙◌, sym, ap, subst, length, Contains, arith}
 use Rattle.lowerq_c.specs.Calls.{IsComplaint, IsRefusal, IsReport, overwritten}
 use Rattle.lowerq_c.proofs.CallLemmas.{handed, is_lowered, is_refused, is_bad_query, listed}
 use Rattle.lowerq_c.proofs.lowerq_lower.Goals as goal
