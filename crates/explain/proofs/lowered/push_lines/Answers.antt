@@ -1,4 +1,3 @@
-use Rattle.std.proofs.Common.{map}
 use Rattle.plan_report.proofs.CastLemmas.{named_there, named_tree}
 use Rattle.explain.proofs.lowered.push_lines.Goals as goal
 
