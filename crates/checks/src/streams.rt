@@ -153,6 +153,6 @@ fn a_growing_sink_takes_all_texts(rt: HostRuntime) {
     assert!(rt; sink.faults() == 0);
     let bytes = sink.into_bytes();
     assert!(rt; bytes.len() == TEXT.len() + 100_000);
-    assert!(rt; &bytes.as_slice()[..TEXT.len()] == TEXT);
+    assert!(rt; bytes.as_slice().starts_with(TEXT));
     drop(bytes);
 }
