@@ -33,6 +33,7 @@ use Rattle.plan_arena.specs.Items.{HoldsPlan, Grows, plan_layer}
 use Rattle.plan_arena.specs.Layers.{layer}
 use Rattle.plan_arena.proofs.ItemLemmas.{plan_added, plan_stays, plan_tree_kept}
 use Rattle.plan_lower.specs.Lowering.{IsBuilt, IsPlanRefusal, StandsFor, IsDropAt, IsFunctionAt, IsFunctionRefusal, IsEmptyTableAt}
+use Rattle.plan_lower.specs.Nodes.{KeepsExpressions}
 use Rattle.plan_lower.proofs.BuiltLemmas.{over_schema, over_built, unexpanded_then, unresolved_refused}
 use Rattle.plan_lower.proofs.PlanLemmas.{empty_denoted}
 
@@ -115,14 +116,14 @@ module _ (registry : Registry) where
       subst (λ k. Denotes (HoldsPlan items plans) k t) (sym (something positive)) d
 
   -- a drop over what its input becomes
-  pub drop_stands : (items : List AExpr) (plans new : List IR) (input n : ℕ) (schema own : Columns) (selectors : List Source) (strict : Bool) (source : SourcePlan) (plan : Plan) → Grows plans new → StandsFor registry items plans input schema (resolved registry source) → IsDropAt schema selectors strict new n input own → plan ≡ resolved registry (source_drop selectors strict source) → StandsFor registry items new n own plan
-  drop_stands items plans new input n schema own selectors strict source plan grows s is same =
-      let kept = plan_tree_kept items items plans new (λ k op inputs h. h) grows input s.lowered s.denotes in
+  pub drop_stands : (items items' : List AExpr) (plans new : List IR) (input n : ℕ) (schema own : Columns) (selectors : List Source) (strict : Bool) (source : SourcePlan) (plan : Plan) → KeepsExpressions items items' → Grows plans new → StandsFor registry items plans input schema (resolved registry source) → IsDropAt schema selectors strict new n input own → plan ≡ resolved registry (source_drop selectors strict source) → StandsFor registry items' new n own plan
+  drop_stands items items' plans new input n schema own selectors strict source plan keeps grows s is same =
+      let kept = plan_tree_kept items items' plans new keeps grows input s.lowered s.denotes in
       let rule = drop_rule selectors strict schema own is.distinct is.left in
       let there = same ∙ drop_resolved registry selectors strict source schema own s.built.source_schema is.left in
       record {
         lowered = lowered_projection own s.lowered;
-        denotes = (is.below ∷ [], record { flat = simple_projection_op own (Some own); item = is.item; denotes = record { same_recorded = refl; kind = refl } }, (under_denoted items new is.below input own s.lowered is.nothing is.something kept, tt));
+        denotes = (is.below ∷ [], record { flat = simple_projection_op own (Some own); item = is.item; denotes = record { same_recorded = refl; kind = refl } }, (under_denoted items' new is.below input own s.lowered is.nothing is.something kept, tt));
         built = subst (λ p. IsBuilt registry p (lowered_projection own s.lowered) own) (sym there) (projection_built (resolved registry source) s.lowered schema own s.built rule);
       }
 
@@ -132,9 +133,9 @@ module _ (registry : Registry) where
       unresolved_refused registry (drop_op selectors strict) source schema plan error s.built.source_schema (unexpanded_then (drop_leaves schema selectors strict) (λ own. Ok (SimpleProjectionKind own)) error refused) same
 
   -- the node that a function leaves stands for it, whatever the function
-  pub function_stands : (items : List AExpr) (plans new : List IR) (input n : ℕ) (schema own : Columns) (function : DslFunction) (source : SourcePlan) (plan : Plan) → Grows plans new → StandsFor registry items plans input schema (resolved registry source) → IsFunctionAt schema function new n input own → plan ≡ resolved registry (source_function function source) → StandsFor registry items new n own plan
-  function_stands items plans new input n schema own (Drop function) source plan grows s is same =
-      drop_stands items plans new input n schema own (selector_trees function.to_drop) function.strict source plan grows s is same
+  pub function_stands : (items items' : List AExpr) (plans new : List IR) (input n : ℕ) (schema own : Columns) (function : DslFunction) (source : SourcePlan) (plan : Plan) → KeepsExpressions items items' → Grows plans new → StandsFor registry items plans input schema (resolved registry source) → IsFunctionAt schema function new n input own → plan ≡ resolved registry (source_function function source) → StandsFor registry items' new n own plan
+  function_stands items items' plans new input n schema own (Drop function) source plan keeps grows s is same =
+      drop_stands items items' plans new input n schema own (selector_trees function.to_drop) function.strict source plan keeps grows s is same
 
   pub function_refused : (items : List AExpr) (plans : List IR) (input : ℕ) (schema : Columns) (function : DslFunction) (source : SourcePlan) (plan : Plan) (error : PlanError) → StandsFor registry items plans input schema (resolved registry source) → IsFunctionRefusal schema function error → plan ≡ resolved registry (source_function function source) → IsPlanRefusal registry plan error
   function_refused items plans input schema (Drop function) source plan error s refused same =

@@ -15,7 +15,7 @@ use Rattle.plan_types.proofs.ListLemmas.{item_left, map-map}
 use Rattle.plan_types.proofs.SchemaLemmas.{repeated_test}
 use Rattle.plan_dsl.specs.Registry.{Registry}
 use Rattle.plan_dsl.specs.Trees.{node, no_more, more}
-use Rattle.plan_dsl.specs.Ops.{Op, Expression}
+use Rattle.plan_dsl.specs.Ops.{Expression}
 use Rattle.plan_dsl.specs.Aliases.{core}
 use Rattle.plan_dsl.specs.Literals.{settled}
 use Rattle.plan_dsl.specs.Names.{name_of}
@@ -36,7 +36,7 @@ use Rattle.plan_arena.specs.declared.aexpr.AExpr.{AExpr}
 use Rattle.plan_arena.specs.declared.ir.IR.{IR}
 use Rattle.plan_arena.specs.Layers.{layer}
 use Rattle.plan_arena.specs.declared.expr_ir.ExprIR.{ExprIR}
-use Rattle.plan_arena.specs.Items.{Grows, HoldsExpression, named_node, plan_layer}
+use Rattle.plan_arena.specs.Items.{Grows, named_node, plan_layer}
 use Rattle.plan_arena.specs.Runs.{by_running}
 use Rattle.plan_arena.proofs.ItemLemmas.{any_node, named_kept, plan_added, plan_tree_kept}
 use Rattle.plan_dsl.specs.PlanMeaning.{by_meaning}
@@ -48,6 +48,7 @@ use Rattle.plan_infer.specs.declared.type_table.TypeTable.{TypeTable}
 use Rattle.plan_infer.proofs.TableLemmas.{keeps_one, kept_typing}
 use Rattle.plan_lower.specs.Groups.{GroupsTo, HasAggregates, HasExpandedGroups, HasGroups, IsAggregateRefusal, not_typed, twice, IsGroupRefusal, short, without_keys, of_keys, of_aggregates, IsUngrouped, keys_unexpanded, aggregates_unexpanded, not_grouped, group_column, group_columns_of, lowered_groups, named_in_groups}
 use Rattle.plan_lower.specs.Lowering.{IsBuilt, IsGroupByAt, IsPlanRefusal, out_of_memory, StandsFor, resolved_groups}
+use Rattle.plan_lower.specs.Nodes.{KeepsExpressions}
 use Rattle.plan_lower.specs.Outputs.{HasOutputs, IsLowered, Lowered, lowered_column, lowered_named}
 use Rattle.plan_lower.specs.Projection.{IsOutput, IsOutputRefusal, no_room, untyped, repeated, IsProjectionRefusal, out_of_memory as no_space, refused, Output, output_node, Projects}
 use Rattle.plan_lower.proofs.BuiltLemmas.{agree, each_after_typed, each_named, each_strict, each_typed, each_within, output_label, output_typed, over_built, refused_over, unexpanded_then, unresolved_refused}
@@ -173,7 +174,7 @@ no_outputs : (outputs : List Lowered) (trees : List Expression) → map (λ (l :
 no_outputs outputs trees are some e = some (sym are ∙ ap (map (λ (l : Lowered). l.tree)) e)
 
 -- keys, and aggregates behind them
-pub has_groups : (registry : Registry) (schema : Columns) (items items' : List AExpr) (keys aggs : List Expression) (nodes others : List (Named ℕ)) (own whole : Columns) → ((n : ℕ) (op : Op) (inputs : List ℕ) → HoldsExpression items n op inputs → HoldsExpression items' n op inputs) → HasOutputs registry schema items keys nodes own → HasAggregates registry schema items' aggs others own whole → HasDistinctNames whole → ¬ (keys ≡ []) → HasGroups registry schema items' keys aggs nodes others whole
+pub has_groups : (registry : Registry) (schema : Columns) (items items' : List AExpr) (keys aggs : List Expression) (nodes others : List (Named ℕ)) (own whole : Columns) → KeepsExpressions items items' → HasOutputs registry schema items keys nodes own → HasAggregates registry schema items' aggs others own whole → HasDistinctNames whole → ¬ (keys ≡ []) → HasGroups registry schema items' keys aggs nodes others whole
 has_groups registry schema items items' keys aggs nodes others own whole keeps h a distinct some =
     let columns = a.columns_are ∙ ap (λ l. l ++ map group_column a.outputs) h.columns_are in
     record {
@@ -306,7 +307,7 @@ module _ (registry : Registry) where
       subst (λ es. IsBuilt registry (node (group_by_op (source_outputs outputs) es None) (more source no_more)) (lowered_groups outputs others lowered) (group_columns_of outputs others)) later (grouped_over source lowered schema built outputs others groups.each_key groups.each_agg groups.distinct groups.some))
 
   -- a group-by over what its input becomes
-  pub groups_stand : (items items' : List AExpr) (plans new : List IR) (input n : ℕ) (schema own : Columns) (keys aggs : List Source) (source : SourcePlan) (plan : Plan) → ((k : ℕ) (op : Op) (inputs : List ℕ) → HoldsExpression items k op inputs → HoldsExpression items' k op inputs) → Grows plans new → StandsFor registry items plans input schema (resolved registry source) → IsGroupByAt registry schema items' new n input keys aggs own → plan ≡ resolved registry (source_group_by keys aggs source) → StandsFor registry items' new n own plan
+  pub groups_stand : (items items' : List AExpr) (plans new : List IR) (input n : ℕ) (schema own : Columns) (keys aggs : List Source) (source : SourcePlan) (plan : Plan) → KeepsExpressions items items' → Grows plans new → StandsFor registry items plans input schema (resolved registry source) → IsGroupByAt registry schema items' new n input keys aggs own → plan ≡ resolved registry (source_group_by keys aggs source) → StandsFor registry items' new n own plan
   groups_stand items items' plans new input n schema own keys aggs source plan keeps grows s is same =
       let has = is.has.lowered in
       let lowered = lowered_groups has.key_outputs has.agg_outputs s.lowered in

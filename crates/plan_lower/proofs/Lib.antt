@@ -10,4 +10,5 @@ pub mod PlanLemmas
 pub mod ProjectionLemmas
 pub mod RecordedLemmas
 mod RecordingLemmas
+mod StepLemmas
 mod TopNumberLemmas

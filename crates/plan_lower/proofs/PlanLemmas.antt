@@ -6,7 +6,7 @@ use Rattle.plan_types.specs.Errors.{no_memory, IsMemoryOr}
 use Rattle.plan_types.specs.declared.error.PlanError.{PlanError}
 use Rattle.plan_dsl.specs.Registry.{Registry}
 use Rattle.plan_dsl.specs.Trees.{node, no_more, more}
-use Rattle.plan_dsl.specs.Ops.{Op, Expression}
+use Rattle.plan_dsl.specs.Ops.{Expression}
 use Rattle.plan_dsl.specs.Plans.{PlanOp, Plan, SourcePlan, Named, named, SelectKind, HStackKind, FilterKind, source_select, source_hstack, source_filter, scan_op, select_op, hstack_op, filter_op, empty_table}
 use Rattle.plan_dsl.specs.PlanRules.{with_columns}
 use Rattle.plan_dsl.specs.Sources.{Source}
@@ -20,12 +20,13 @@ use Rattle.plan_arena.specs.declared.ir.IR.{IR}
 use Rattle.plan_arena.specs.declared.plan.IRPlan.{IRPlan}
 use Rattle.plan_arena.specs.Denotation.{Denotes}
 use Rattle.plan_arena.specs.Layers.{layer}
-use Rattle.plan_arena.specs.Items.{HoldsExpression, HoldsPlan, DenotesPlan, DenoteNamed, Grows, named_node, plan_layer}
+use Rattle.plan_arena.specs.Items.{HoldsPlan, DenotesPlan, DenoteNamed, Grows, named_node, plan_layer}
 use Rattle.plan_arena.proofs.DenotationLemmas.{denotes_one}
 use Rattle.plan_arena.proofs.ItemLemmas.{plan_added, plan_stays, plan_tree_kept, plan_laws}
 use Rattle.plan_arena.proofs.RunLemmas.{runs_soundly}
 use Rattle.plan_bounds.specs.LoweredPlans.{IsWidePlan}
 use Rattle.plan_bounds.proofs.WideLemmas.{strict_plan_wide}
+use Rattle.plan_lower.specs.Nodes.{KeepsExpressions}
 use Rattle.plan_lower.specs.Outputs.{Lowered, lowered_named, lowered_column, over, lowered_select, lowered_hstack, HasExpandedOutputs}
 use Rattle.plan_lower.specs.Predicates.{HasExpandedPredicate, IsUnfiltered, not_expanded as unreduced, no_predicate, lowered_filter}
 use Rattle.plan_lower.specs.Projection.{IsUnprojected, not_expanded, not_projected}
@@ -92,7 +93,7 @@ module _ (registry : Registry) where
       subst (λ p. IsPlanRefusal registry p error) (sym same) (scan_refused_at registry table schema error h)
 
   -- a select over what its input becomes
-  pub select_stands : (items items' : List AExpr) (plans new : List IR) (input n : ℕ) (schema own : Columns) (sources : List Source) (source : SourcePlan) (plan : Plan) → ((k : ℕ) (op : Op) (inputs : List ℕ) → HoldsExpression items k op inputs → HoldsExpression items' k op inputs) → Grows plans new → StandsFor registry items plans input schema (resolved registry source) → IsSelectAt registry schema items' new n input sources own → plan ≡ resolved registry (source_select sources source) → StandsFor registry items' new n own plan
+  pub select_stands : (items items' : List AExpr) (plans new : List IR) (input n : ℕ) (schema own : Columns) (sources : List Source) (source : SourcePlan) (plan : Plan) → KeepsExpressions items items' → Grows plans new → StandsFor registry items plans input schema (resolved registry source) → IsSelectAt registry schema items' new n input sources own → plan ≡ resolved registry (source_select sources source) → StandsFor registry items' new n own plan
   select_stands items items' plans new input n schema own sources source plan keeps grows s is same =
       let has = is.has.lowered in
       let outputs = has.outputs in
@@ -117,7 +118,7 @@ module _ (registry : Registry) where
       subst (λ p. IsPlanRefusal registry p error) (sym there) (select_refused_at registry (resolved registry source) schema trees error s.built.source_schema r)
 
   -- an hstack over what its input becomes
-  pub hstack_stands : (items items' : List AExpr) (plans new : List IR) (input n : ℕ) (schema own : Columns) (sources : List Source) (source : SourcePlan) (plan : Plan) → ((k : ℕ) (op : Op) (inputs : List ℕ) → HoldsExpression items k op inputs → HoldsExpression items' k op inputs) → Grows plans new → StandsFor registry items plans input schema (resolved registry source) → IsHStackAt registry schema items' new n input sources own → plan ≡ resolved registry (source_hstack sources source) → StandsFor registry items' new n own plan
+  pub hstack_stands : (items items' : List AExpr) (plans new : List IR) (input n : ℕ) (schema own : Columns) (sources : List Source) (source : SourcePlan) (plan : Plan) → KeepsExpressions items items' → Grows plans new → StandsFor registry items plans input schema (resolved registry source) → IsHStackAt registry schema items' new n input sources own → plan ≡ resolved registry (source_hstack sources source) → StandsFor registry items' new n own plan
   hstack_stands items items' plans new input n schema own sources source plan keeps grows s is same =
       let has = is.has.lowered in
       let outputs = has.outputs in
@@ -140,7 +141,7 @@ module _ (registry : Registry) where
       subst (λ p. IsPlanRefusal registry p error) (sym there) (hstack_refused_at registry (resolved registry source) schema trees error s.built.source_schema r)
 
   -- a filter over what its input becomes
-  pub filter_stands : (items items' : List AExpr) (plans new : List IR) (input n : ℕ) (schema own : Columns) (predicate : Source) (source : SourcePlan) (plan : Plan) → ((k : ℕ) (op : Op) (inputs : List ℕ) → HoldsExpression items k op inputs → HoldsExpression items' k op inputs) → Grows plans new → StandsFor registry items plans input schema (resolved registry source) → IsFilterAt registry schema items' new n input predicate → own ≡ schema → plan ≡ resolved registry (source_filter predicate source) → StandsFor registry items' new n own plan
+  pub filter_stands : (items items' : List AExpr) (plans new : List IR) (input n : ℕ) (schema own : Columns) (predicate : Source) (source : SourcePlan) (plan : Plan) → KeepsExpressions items items' → Grows plans new → StandsFor registry items plans input schema (resolved registry source) → IsFilterAt registry schema items' new n input predicate → own ≡ schema → plan ≡ resolved registry (source_filter predicate source) → StandsFor registry items' new n own plan
   filter_stands items items' plans new input n schema own predicate source plan keeps grows s is copy same =
       let has = is.has.lowered in
       let output = has.output in

@@ -11,7 +11,7 @@ use Rattle.plan_types.specs.declared.error.ErrorKind.TheVariants.{InvalidOperati
 use Rattle.plan_types.specs.declared.error.PlanError.{PlanError}
 use Rattle.plan_types.proofs.SchemaLemmas.{with_column-new, HasDistinctNames-push}
 use Rattle.plan_dsl.specs.Registry.{Registry}
-use Rattle.plan_dsl.specs.Ops.{Op, Expression}
+use Rattle.plan_dsl.specs.Ops.{Expression}
 use Rattle.plan_dsl.specs.Strictness.{IsStrict}
 use Rattle.plan_dsl.specs.Names.{Label, label_of, name_of}
 use Rattle.plan_dsl.specs.Plans.{Named}
@@ -33,6 +33,7 @@ use Rattle.plan_coerce.specs.Optimizer.{AreWrittenOut, IsWrittenOut}
 use Rattle.plan_coerce.proofs.NameLemmas.{written_names}
 use Rattle.plan_infer.proofs.TableLemmas.{still_kept}
 use Rattle.plan_infer.specs.KeptTypes.{IsKept, Extends}
+use Rattle.plan_lower.specs.Nodes.{KeepsExpressions}
 use Rattle.plan_lower.specs.Outputs.{Lowered, lowered_named, lowered_column, IsLowered, HasOutputs}
 use Rattle.plan_infer.specs.declared.type_table.TypeTable.{TypeTable}
 use Rattle.plan_arena.proofs.NumberLemmas.{all_weaker, all_joined}
@@ -238,7 +239,7 @@ not_false true h = refl
 not_false false h = cc
 
 -- earlier items stay
-pub earlier_kept : (old mid new : List AExpr) → Grows old mid → KeepsBelow (length old) mid new → (n : ℕ) (op : Op) (inputs : List ℕ) → HoldsExpression old n op inputs → HoldsExpression new n op inputs
+pub earlier_kept : (old mid new : List AExpr) → Grows old mid → KeepsBelow (length old) mid new → KeepsExpressions old new
 earlier_kept old mid new g below n op inputs h =
     let within = (expression_laws old).below n op inputs h in
     let short : length (shape_of (map expression_layer old)) ≡ length old = length-map (map expression_layer old) inputs_of ∙ length-map old expression_layer in

@@ -9,7 +9,11 @@ use Rattle.plan_dsl.specs.Ops.{Op, FunctionOp, Expression}
 use Rattle.plan_arena.specs.declared.aexpr.AExpr.{AExpr}
 use Rattle.plan_arena.specs.Denotation.{DenoteAll}
 use Rattle.plan_arena.specs.Layers.{op_of, inputs_of}
-use Rattle.plan_arena.specs.Items.{HoldsFrom, expression_layer}
+use Rattle.plan_arena.specs.Items.{HoldsExpression, HoldsFrom, expression_layer}
+
+-- each expression's item is there after as before
+abbrev pub KeepsExpressions : List AExpr → List AExpr → Type 0
+KeepsExpressions old new = (n : ℕ) (op : Op) (inputs : List ℕ) → HoldsExpression old n op inputs → HoldsExpression new n op inputs
 
 -- an expression over its operands as nodes have them, with their aliases or without: a function has their names, and none
 -- of their aliases

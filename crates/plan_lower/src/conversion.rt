@@ -10,3 +10,4 @@ mod horizontals;
 mod predicate;
 mod projection;
 mod put_copy;
+mod steps;

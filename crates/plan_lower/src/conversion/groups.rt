@@ -5,15 +5,15 @@ ghost use Rattle.plan_types.specs.Errors.{no_memory, IsMemoryOr};
 ghost use Rattle.plan_types.specs.Schemas.{columns, names_of, repeats, type_at};
 ghost use Rattle.plan_dsl.specs.Expansion.{expansions, key_names};
 ghost use Rattle.plan_dsl.specs.Expressions.{plain_trees, trees_of};
-ghost use Rattle.plan_dsl.specs.Ops.{Op};
 ghost use Rattle.plan_dsl.specs.PlanRules.{type_in_groups};
 ghost use Rattle.plan_dsl.specs.Registry.{registry};
 ghost use Rattle.plan_dsl.specs.Sources.{is_plain};
 ghost use Rattle.plan_dsl.specs.Typing.{Typed};
-ghost use Rattle.plan_arena.specs.Items.{named_node, HoldsExpression};
+ghost use Rattle.plan_arena.specs.Items.{named_node};
 ghost use Rattle.plan_infer.specs.KeptTypes.{AllKept, IsKept, IsRight, typed_of};
 ghost use Rattle.plan_expand.specs.Refusals.{IsUnexpanded};
 ghost use Rattle.plan_lower.specs.Groups.{HasAggregates, HasExpandedGroups, HasGroups, IsAggregateRefusal, IsGroupRefusal, IsUngrouped, named_in_groups};
+ghost use Rattle.plan_lower.specs.Nodes.{KeepsExpressions};
 
 use crate::conversion::coercion::coerce_all;
 use crate::conversion::projection::{Projection, expanded, project, project_in, room_for};
@@ -48,8 +48,7 @@ pub(crate) fn group_strictly(
 ) -> Result<Groups, PlanError>
     ensures ok { IfOk result (λ groups. HasExpandedGroups (registry udfs.now) (columns schema.now) arena.new
         (trees_of keys) (trees_of aggs) (map named_node groups.keys.items.items) (map named_node groups.aggs.items.items) (columns groups.schema)) }
-    ensures kept { (n : ℕ) (op : Op) (inputs : List ℕ) →
-        HoldsExpression arena.old n op inputs → HoldsExpression arena.new n op inputs }
+    ensures kept { KeepsExpressions arena.old arena.new }
     ensures err { IfErr result (IsUngrouped (registry udfs.now) (columns schema.now) (trees_of keys) (trees_of aggs)) }
 {
     let keys = expanded(keys, schema, udfs, arena.allocator())?;
@@ -86,8 +85,7 @@ fn group_expanded(
     requires aggs { list_all is_plain (trees_of aggs) ≡ true }
     ensures ok { IfOk result (λ groups. HasGroups (registry udfs.now) (columns schema.now) arena.new
         (plain_trees keys) (plain_trees aggs) (map named_node groups.keys.items.items) (map named_node groups.aggs.items.items) (columns groups.schema)) }
-    ensures kept { (n : ℕ) (op : Op) (inputs : List ℕ) →
-        HoldsExpression arena.old n op inputs → HoldsExpression arena.new n op inputs }
+    ensures kept { KeepsExpressions arena.old arena.new }
     ensures err { IfErr result (IsGroupRefusal (registry udfs.now) (columns schema.now) (plain_trees keys) (plain_trees aggs)) }
 {
     if keys.items.is_empty() {
@@ -118,8 +116,7 @@ fn aggregate_in(
     requires empty { (n : ℕ) → ¬ (IsKept types n) }
     ensures ok { IfOk result (λ projection. HasAggregates (registry udfs.now) (columns schema.now) arena.new
         (plain_trees aggs) (map named_node projection.expr.items.items) (columns keys) (columns projection.schema)) }
-    ensures kept { (n : ℕ) (op : Op) (inputs : List ℕ) →
-        HoldsExpression arena.old n op inputs → HoldsExpression arena.new n op inputs }
+    ensures kept { KeepsExpressions arena.old arena.new }
     ensures err { IfErr result (IsAggregateRefusal (registry udfs.now) (columns schema.now) (names_of (columns keys)) (plain_trees aggs)) }
 {
     let mut types = types;
@@ -140,8 +137,7 @@ fn aggregate_coerced(
     requires right { IsRight (registry udfs.now) (columns schema.now) arena.old types.old }
     ensures ok { IfOk result (λ projection. HasAggregates (registry udfs.now) (columns schema.now) arena.new
         (plain_trees aggs) (map named_node projection.expr.items.items) (columns keys) (columns projection.schema)) }
-    ensures kept { (n : ℕ) (op : Op) (inputs : List ℕ) →
-        HoldsExpression arena.old n op inputs → HoldsExpression arena.new n op inputs }
+    ensures kept { KeepsExpressions arena.old arena.new }
     ensures err { IfErr result (IsAggregateRefusal (registry udfs.now) (columns schema.now) (names_of (columns keys)) (plain_trees aggs)) }
 {
     let start = arena.len();

@@ -1,12 +1,12 @@
 //! The predicate of a filter.
-ghost use Rattle.std.specs.Prelude.{◌≡◌, ℕ, List, true, IfOk, IfErr};
+ghost use Rattle.std.specs.Prelude.{◌≡◌, true, IfOk, IfErr};
 ghost use Rattle.plan_types.specs.Schemas.{columns};
 ghost use Rattle.plan_dsl.specs.Expressions.{plain_tree, tree_of};
-ghost use Rattle.plan_dsl.specs.Ops.{Op};
 ghost use Rattle.plan_dsl.specs.Registry.{registry};
 ghost use Rattle.plan_dsl.specs.Sources.{is_plain};
-ghost use Rattle.plan_arena.specs.Items.{named_node, HoldsExpression};
+ghost use Rattle.plan_arena.specs.Items.{named_node};
 ghost use Rattle.plan_infer.specs.KeptTypes.{IsRight};
+ghost use Rattle.plan_lower.specs.Nodes.{KeepsExpressions};
 ghost use Rattle.plan_lower.specs.Predicates.{HasExpandedPredicate, HasPredicate, IsPredicateRefusal, IsUnfiltered};
 
 use crate::conversion::coercion::coerce_root;
@@ -32,8 +32,7 @@ pub(crate) fn lower_predicate(
 ) -> Result<ExprIR, PlanError>
     ensures ok { IfOk result (λ expr_ir. HasExpandedPredicate (registry udfs.now) (columns schema.now) arena.new
         (tree_of predicate) (named_node expr_ir)) }
-    ensures kept { (n : ℕ) (op : Op) (inputs : List ℕ) →
-        HoldsExpression arena.old n op inputs → HoldsExpression arena.new n op inputs }
+    ensures kept { KeepsExpressions arena.old arena.new }
     ensures err { IfErr result (IsUnfiltered (registry udfs.now) (columns schema.now) (tree_of predicate)) }
 {
     let expanded = expand_filter(arena.allocator(), predicate, schema, udfs)?;
@@ -51,8 +50,7 @@ fn lower_plain(
     requires plain { is_plain (tree_of predicate) ≡ true }
     ensures ok { IfOk result (λ expr_ir. HasPredicate (registry udfs.now) (columns schema.now) arena.new
         (plain_tree predicate) (named_node expr_ir)) }
-    ensures kept { (n : ℕ) (op : Op) (inputs : List ℕ) →
-        HoldsExpression arena.old n op inputs → HoldsExpression arena.new n op inputs }
+    ensures kept { KeepsExpressions arena.old arena.new }
     ensures err { IfErr result (IsPredicateRefusal (registry udfs.now) (columns schema.now) (plain_tree predicate)) }
 {
     let mut types = TypeTable::new(arena.allocator());
@@ -72,8 +70,7 @@ fn lower_typed(
     requires right { IsRight (registry udfs.now) (columns schema.now) arena.old types.old }
     ensures ok { IfOk result (λ expr_ir. HasPredicate (registry udfs.now) (columns schema.now) arena.new
         (plain_tree predicate) (named_node expr_ir)) }
-    ensures kept { (n : ℕ) (op : Op) (inputs : List ℕ) →
-        HoldsExpression arena.old n op inputs → HoldsExpression arena.new n op inputs }
+    ensures kept { KeepsExpressions arena.old arena.new }
     ensures err { IfErr result (IsPredicateRefusal (registry udfs.now) (columns schema.now) (plain_tree predicate)) }
 {
     let start = arena.len();

@@ -1,5 +1,5 @@
 //! The expressions of one node, lowered together.
-ghost use Rattle.std.specs.Prelude.{◌≡◌, ◌≢◌, ℕ, List, [], true, Ok, OnOk, IfOk, IfErr, IfSome, length, map};
+ghost use Rattle.std.specs.Prelude.{◌≡◌, ◌≢◌, ℕ, [], true, Ok, OnOk, IfOk, IfErr, IfSome, length, map};
 ghost use Rattle.std.specs.List.{AllByRecursion, list_all};
 ghost use Rattle.std.specs.Option.{option_map_or};
 ghost use Rattle.plan_types.specs.Errors.{no_memory, IsRefusal};
@@ -9,7 +9,7 @@ ghost use Rattle.plan_dsl.specs.Expansion.{expansions};
 ghost use Rattle.plan_dsl.specs.Expressions.{plain_tree, plain_trees, tree_of, trees_of};
 ghost use Rattle.plan_dsl.specs.Literals.{settled};
 ghost use Rattle.plan_dsl.specs.Names.{label_of};
-ghost use Rattle.plan_dsl.specs.Ops.{Expression, Op};
+ghost use Rattle.plan_dsl.specs.Ops.{Expression};
 ghost use Rattle.plan_dsl.specs.Registry.{registry};
 ghost use Rattle.plan_dsl.specs.Sources.{is_plain};
 ghost use Rattle.plan_dsl.specs.Typing.{typing};
@@ -17,6 +17,7 @@ ghost use Rattle.plan_arena.specs.Denotation.{Denotes};
 ghost use Rattle.plan_arena.specs.Items.{named_node, output_label, Grows, HoldsExpression, HoldsFrom};
 ghost use Rattle.plan_infer.specs.KeptTypes.{Extends, HasRightTypes, IsKept, IsRight};
 ghost use Rattle.plan_expand.specs.Refusals.{IsUnexpanded};
+ghost use Rattle.plan_lower.specs.Nodes.{KeepsExpressions};
 ghost use Rattle.plan_lower.specs.Outputs.{HasExpandedOutputs, HasOutputs};
 ghost use Rattle.plan_lower.specs.Projection.{Projects, AddsOutput, IsOutputRefusal, IsProjectionRefusal, IsUnprojected};
 
@@ -54,8 +55,7 @@ pub(crate) fn project_strictly(
 ) -> Result<Projection, PlanError>
     ensures ok { IfOk result (λ projection. HasExpandedOutputs (registry udfs.now) (columns schema.now) arena.new
         (trees_of exprs) (map named_node projection.expr.items.items) (columns projection.schema)) }
-    ensures kept { (n : ℕ) (op : Op) (inputs : List ℕ) →
-        HoldsExpression arena.old n op inputs → HoldsExpression arena.new n op inputs }
+    ensures kept { KeepsExpressions arena.old arena.new }
     ensures err { IfErr result (IsUnprojected (registry udfs.now) (columns schema.now) twice (trees_of exprs)) }
 {
     let exprs = expanded(exprs, schema, udfs, arena.allocator())?;
@@ -104,8 +104,7 @@ pub(crate) fn project_in(
     requires empty { (n : ℕ) → ¬ (IsKept types n) }
     ensures ok { IfOk result (λ projection. HasOutputs (registry udfs.now) (columns schema.now) arena.new
         (plain_trees exprs) (map named_node projection.expr.items.items) (columns projection.schema)) }
-    ensures kept { (n : ℕ) (op : Op) (inputs : List ℕ) →
-        HoldsExpression arena.old n op inputs → HoldsExpression arena.new n op inputs }
+    ensures kept { KeepsExpressions arena.old arena.new }
     ensures err { IfErr result (IsProjectionRefusal (registry udfs.now) (columns schema.now) twice (plain_trees exprs)) }
 {
     let mut types = types;
@@ -125,8 +124,7 @@ fn project_coerced(
     requires right { IsRight (registry udfs.now) (columns schema.now) arena.old types.old }
     ensures ok { IfOk result (λ projection. HasOutputs (registry udfs.now) (columns schema.now) arena.new
         (plain_trees exprs) (map named_node projection.expr.items.items) (columns projection.schema)) }
-    ensures kept { (n : ℕ) (op : Op) (inputs : List ℕ) →
-        HoldsExpression arena.old n op inputs → HoldsExpression arena.new n op inputs }
+    ensures kept { KeepsExpressions arena.old arena.new }
     ensures err { IfErr result (IsProjectionRefusal (registry udfs.now) (columns schema.now) twice (plain_trees exprs)) }
 {
     let start = arena.len();

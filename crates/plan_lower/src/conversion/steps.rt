@@ -1,0 +1,342 @@
+//! Plan nodes over an input that is lowered.
+ghost use Rattle.std.specs.Prelude.{◌≡◌, ◌<◌, ◌++◌, [], ◌∷◌, map, OnOk, IfOk, IfErr};
+ghost use Rattle.plan_types.specs.Errors.{no_memory};
+ghost use Rattle.plan_types.specs.Schemas.{columns};
+ghost use Rattle.plan_dsl.specs.Drops.{drop_leaves};
+ghost use Rattle.plan_dsl.specs.Expressions.{selector_trees, tree_of, trees_of};
+ghost use Rattle.plan_dsl.specs.Plans.{OrderOption, ProjectionOption};
+ghost use Rattle.plan_dsl.specs.PlanRules.{with_columns};
+ghost use Rattle.plan_dsl.specs.Registry.{registry};
+ghost use Rattle.plan_arena.specs.Items.{Grows, named_node};
+ghost use Rattle.plan_arena.specs.Options.{options_of};
+ghost use Rattle.plan_expand.specs.Refusals.{IsUnexpanded};
+ghost use Rattle.plan_lower.specs.Groups.{IsUngrouped};
+ghost use Rattle.plan_lower.specs.Lowering.{AreFilters, IsDropAt, IsEmptyTableAt, IsFilterAt, IsFunctionAt, IsFunctionRefusal, IsGroupByAt, IsHStackAt, IsSelectAt, Records, columns_at};
+ghost use Rattle.plan_lower.specs.Nodes.{KeepsExpressions};
+ghost use Rattle.plan_lower.specs.Predicates.{IsUnfiltered};
+ghost use Rattle.plan_lower.specs.Projection.{IsUnprojected};
+ghost use Rattle.plan_lower.specs.Steps.{IsStepAt, IsStepRefusal, options_behind};
+
+use crate::conversion::drops::columns_left;
+use crate::conversion::groups::group_strictly;
+use crate::conversion::predicate::lower_predicate;
+use crate::conversion::projection::project_strictly;
+use crate::conversion::put_copy::put_copy;
+use plan_arena::aexpr::AExpr;
+use plan_arena::arena::{Arena, Node};
+use plan_arena::expr_ir::ExprIR;
+use plan_arena::ir::IR;
+use plan_dsl::expr::{Expr, Exprs};
+use plan_dsl::function::{DropFunction, DslFunction};
+use plan_dsl::plan::ProjectionOptions;
+use plan_dsl::udfs::Udfs;
+use plan_properties::splitting::split_predicate;
+use plan_types::error::{ErrorKind, PlanError};
+use plan_types::schema::Schema;
+use std::alloc::Global;
+
+/// What a plan's node does over its only input.
+#[derive(Drop)]
+pub(crate) enum Step {
+    Filter(Expr),
+    Select(Exprs, ProjectionOptions),
+    HStack(Exprs, ProjectionOptions),
+    /// Keys, aggregates, and whether the order of groups is kept.
+    GroupBy(Exprs, Exprs, bool),
+    Function(DslFunction),
+}
+
+/// A node, and the one that records the schema of its frame: itself, or one below.
+#[derive(Clone, Copy)]
+pub(crate) struct LoweredNode {
+    pub(crate) node: Node,
+    pub(crate) schema_node: Node,
+}
+
+// The schema that a node records.
+fn recorded_schema(lp_arena: &Arena<IR>, node: Node) -> &Schema
+    requires { Records lp_arena.now node.0 }
+    ensures { columns result.now ≡ columns_at lp_arena.now node.0 }
+{
+    lp_arena.get(node).recorded_schema()
+}
+
+/// Adds a node over a lowered input.
+pub(crate) fn lower_step(
+    input: LoweredNode,
+    step: Step,
+    expr_arena: &mut Arena<AExpr>,
+    lp_arena: &mut Arena<IR>,
+    udfs: &Udfs,
+) -> Result<LoweredNode, PlanError>
+    requires { Records lp_arena.old input.schema_node.0 }
+    ensures ok { IfOk result (λ lowered. IsStepAt (registry udfs.now) (columns_at lp_arena.old input.schema_node.0) expr_arena.new lp_arena.new
+        lowered.node.0 input.node.0 step (columns_at lp_arena.new lowered.schema_node.0)) }
+    ensures recorded { IfOk result (λ lowered. Records lp_arena.new lowered.schema_node.0) }
+    ensures err { IfErr result (IsStepRefusal (registry udfs.now) (columns_at lp_arena.old input.schema_node.0) step) }
+    ensures kept { KeepsExpressions expr_arena.old expr_arena.new }
+    ensures grows { Grows lp_arena.old lp_arena.new }
+    ensures options { OnOk result (options_of lp_arena.new ≡ options_behind step (options_of lp_arena.old)) }
+{
+    match step {
+        Step::Filter(predicate) => lower_filter(input, predicate, expr_arena, lp_arena, udfs),
+        Step::Select(expr, options) => {
+            lower_select(expr, input, options, expr_arena, lp_arena, udfs)
+        }
+        Step::HStack(exprs, options) => {
+            lower_hstack(exprs, input, options, expr_arena, lp_arena, udfs)
+        }
+        Step::GroupBy(keys, aggs, maintain_order) => {
+            lower_groups(
+                input,
+                keys,
+                aggs,
+                maintain_order,
+                expr_arena,
+                lp_arena,
+                udfs,
+            )
+        }
+        Step::Function(function) => lower_function(input, function, lp_arena),
+    }
+}
+
+// Adds the filters to which one is split over a lowered input, whose schema they have.
+fn lower_filter(
+    input: LoweredNode,
+    predicate: Expr,
+    expr_arena: &mut Arena<AExpr>,
+    lp_arena: &mut Arena<IR>,
+    udfs: &Udfs,
+) -> Result<LoweredNode, PlanError>
+    requires { Records lp_arena.old input.schema_node.0 }
+    ensures ok { IfOk result (λ lowered. IsFilterAt (registry udfs.now) (columns_at lp_arena.old input.schema_node.0) expr_arena.new lp_arena.new
+        lowered.node.0 input.node.0 (tree_of predicate)) }
+    ensures schema { IfOk result (λ lowered. columns_at lp_arena.new lowered.schema_node.0 ≡ columns_at lp_arena.old input.schema_node.0) }
+    ensures recorded { IfOk result (λ lowered. Records lp_arena.new lowered.schema_node.0) }
+    ensures err { IfErr result (IsUnfiltered (registry udfs.now) (columns_at lp_arena.old input.schema_node.0) (tree_of predicate)) }
+    ensures kept { KeepsExpressions expr_arena.old expr_arena.new }
+    ensures grows { Grows lp_arena.old lp_arena.new }
+    ensures options { OnOk result (options_of lp_arena.new ≡ options_of lp_arena.old) }
+{
+    let schema = recorded_schema(lp_arena, input.schema_node);
+    let predicate = lower_predicate(predicate, schema, expr_arena, udfs)?;
+    let predicates = split_predicate(predicate, expr_arena, udfs)?;
+    let node = add_filters(input.node, predicates, lp_arena)?;
+    Ok(LoweredNode {
+        node,
+        schema_node: input.schema_node,
+    })
+}
+
+// Adds filters over an input, the last of them first.
+fn add_filters(
+    input: Node,
+    predicates: Vec<ExprIR>,
+    lp_arena: &mut Arena<IR>,
+) -> Result<Node, PlanError>
+    ensures ok { IfOk result (λ node. AreFilters lp_arena.new node.0 (map named_node predicates.items) input.0) }
+    ensures err { IfErr result (λ error. error ≡ no_memory) }
+    ensures grows { Grows lp_arena.old lp_arena.new }
+    ensures options { OnOk result (options_of lp_arena.new ≡ options_of lp_arena.old) }
+{
+    let mut node = input;
+    let mut predicates = predicates;
+    while let Some(predicate) = predicates.pop() {
+        node = lp_arena.add(IR::Filter {
+            input: node,
+            predicate,
+        })?;
+    }
+    Ok(node)
+}
+
+// Adds a select over a lowered input.
+fn lower_select(
+    expr: Exprs,
+    input: LoweredNode,
+    options: ProjectionOptions,
+    expr_arena: &mut Arena<AExpr>,
+    lp_arena: &mut Arena<IR>,
+    udfs: &Udfs,
+) -> Result<LoweredNode, PlanError>
+    requires { Records lp_arena.old input.schema_node.0 }
+    ensures ok { IfOk result (λ lowered. IsSelectAt (registry udfs.now) (columns_at lp_arena.old input.schema_node.0) expr_arena.new lp_arena.new
+        lowered.node.0 input.node.0 (trees_of expr) (columns_at lp_arena.new lowered.schema_node.0)) }
+    ensures recorded { IfOk result (λ lowered. Records lp_arena.new lowered.schema_node.0) }
+    ensures err { IfErr result (IsUnprojected (registry udfs.now) (columns_at lp_arena.old input.schema_node.0) ErrorKind.Duplicate (trees_of expr)) }
+    ensures kept { KeepsExpressions expr_arena.old expr_arena.new }
+    ensures grows { Grows lp_arena.old lp_arena.new }
+    ensures options { OnOk result (options_of lp_arena.new ≡ options_of lp_arena.old ++ ProjectionOption options ∷ []) }
+{
+    let schema = recorded_schema(lp_arena, input.schema_node);
+    let projection = project_strictly(expr, schema, expr_arena, udfs, ErrorKind::Duplicate)?;
+    let input = input_of(projection.expr.items.len(), input.node, lp_arena)?;
+    let node = lp_arena.add(IR::Select {
+        expr: projection.expr,
+        input,
+        schema: projection.schema,
+        options,
+    })?;
+    Ok(LoweredNode {
+        node,
+        schema_node: node,
+    })
+}
+
+// Adds an hstack over a lowered input.
+fn lower_hstack(
+    exprs: Exprs,
+    input: LoweredNode,
+    options: ProjectionOptions,
+    expr_arena: &mut Arena<AExpr>,
+    lp_arena: &mut Arena<IR>,
+    udfs: &Udfs,
+) -> Result<LoweredNode, PlanError>
+    requires { Records lp_arena.old input.schema_node.0 }
+    ensures ok { IfOk result (λ lowered. IsHStackAt (registry udfs.now) (columns_at lp_arena.old input.schema_node.0) expr_arena.new lp_arena.new
+        lowered.node.0 input.node.0 (trees_of exprs) (columns_at lp_arena.new lowered.schema_node.0)) }
+    ensures recorded { IfOk result (λ lowered. Records lp_arena.new lowered.schema_node.0) }
+    ensures err { IfErr result (IsUnprojected (registry udfs.now) (columns_at lp_arena.old input.schema_node.0) ErrorKind.ComputeError (trees_of exprs)) }
+    ensures kept { KeepsExpressions expr_arena.old expr_arena.new }
+    ensures grows { Grows lp_arena.old lp_arena.new }
+    ensures options { OnOk result (options_of lp_arena.new ≡ options_of lp_arena.old ++ ProjectionOption options ∷ []) }
+{
+    let before = recorded_schema(lp_arena, input.schema_node);
+    let projection = project_strictly(exprs, before, expr_arena, udfs, ErrorKind::ComputeError)?;
+    let schema = schema_with(before, &projection.schema, expr_arena.allocator())?;
+    let node = lp_arena.add(IR::HStack {
+        exprs: projection.expr,
+        input: input.node,
+        schema,
+        options,
+    })?;
+    Ok(LoweredNode {
+        node,
+        schema_node: node,
+    })
+}
+
+// Adds a group-by over a lowered input.
+fn lower_groups(
+    input: LoweredNode,
+    keys: Exprs,
+    aggs: Exprs,
+    maintain_order: bool,
+    expr_arena: &mut Arena<AExpr>,
+    lp_arena: &mut Arena<IR>,
+    udfs: &Udfs,
+) -> Result<LoweredNode, PlanError>
+    requires { Records lp_arena.old input.schema_node.0 }
+    ensures ok { IfOk result (λ lowered. IsGroupByAt (registry udfs.now) (columns_at lp_arena.old input.schema_node.0) expr_arena.new lp_arena.new
+        lowered.node.0 input.node.0 (trees_of keys) (trees_of aggs) (columns_at lp_arena.new lowered.schema_node.0)) }
+    ensures recorded { IfOk result (λ lowered. Records lp_arena.new lowered.schema_node.0) }
+    ensures err { IfErr result (IsUngrouped (registry udfs.now) (columns_at lp_arena.old input.schema_node.0) (trees_of keys) (trees_of aggs)) }
+    ensures kept { KeepsExpressions expr_arena.old expr_arena.new }
+    ensures grows { Grows lp_arena.old lp_arena.new }
+    ensures options { OnOk result (options_of lp_arena.new ≡ options_of lp_arena.old ++ OrderOption maintain_order ∷ []) }
+{
+    let schema = recorded_schema(lp_arena, input.schema_node);
+    let groups = group_strictly(keys, aggs, schema, expr_arena, udfs)?;
+    let node = lp_arena.add(IR::GroupBy {
+        input: input.node,
+        keys: groups.keys,
+        aggs: groups.aggs,
+        schema: groups.schema,
+        maintain_order,
+    })?;
+    Ok(LoweredNode {
+        node,
+        schema_node: node,
+    })
+}
+
+// Adds a function over a lowered input.
+fn lower_function(
+    input: LoweredNode,
+    function: DslFunction,
+    lp_arena: &mut Arena<IR>,
+) -> Result<LoweredNode, PlanError>
+    requires { Records lp_arena.old input.schema_node.0 }
+    ensures ok { IfOk result (λ lowered. IsFunctionAt (columns_at lp_arena.old input.schema_node.0) function lp_arena.new
+        lowered.node.0 input.node.0 (columns_at lp_arena.new lowered.schema_node.0)) }
+    ensures recorded { IfOk result (λ lowered. Records lp_arena.new lowered.schema_node.0) }
+    ensures err { IfErr result (IsFunctionRefusal (columns_at lp_arena.old input.schema_node.0) function) }
+    ensures grows { Grows lp_arena.old lp_arena.new }
+    ensures options { OnOk result (options_of lp_arena.new ≡ options_of lp_arena.old) }
+{
+    match function {
+        DslFunction::Drop(function) => lower_drop(input, function, lp_arena),
+    }
+}
+
+// Adds a drop over a lowered input: a simple projection of what it leaves.
+fn lower_drop(
+    input: LoweredNode,
+    function: DropFunction,
+    lp_arena: &mut Arena<IR>,
+) -> Result<LoweredNode, PlanError>
+    requires { Records lp_arena.old input.schema_node.0 }
+    ensures ok { IfOk result (λ lowered. IsDropAt (columns_at lp_arena.old input.schema_node.0) (selector_trees function.to_drop) function.strict lp_arena.new
+        lowered.node.0 input.node.0 (columns_at lp_arena.new lowered.schema_node.0)) }
+    ensures recorded { IfOk result (λ lowered. Records lp_arena.new lowered.schema_node.0) }
+    ensures err { IfErr result (IsUnexpanded (drop_leaves (columns_at lp_arena.old input.schema_node.0) (selector_trees function.to_drop) function.strict)) }
+    ensures grows { Grows lp_arena.old lp_arena.new }
+    ensures options { OnOk result (options_of lp_arena.new ≡ options_of lp_arena.old) }
+{
+    let schema = recorded_schema(lp_arena, input.schema_node);
+    let columns = columns_left(lp_arena.allocator(), function, schema)?;
+    let under = input_of(columns.len(), input.node, lp_arena)?;
+    let node = lp_arena.add(IR::SimpleProjection {
+        input: under,
+        columns,
+    })?;
+    Ok(LoweredNode {
+        node,
+        schema_node: node,
+    })
+}
+
+// A copy of the schema with the columns of another.
+fn schema_with(schema: &Schema, others: &Schema, alloc: Global) -> Result<Schema, PlanError>
+    ensures ok { IfOk result (λ whole. columns whole ≡ with_columns (columns schema.now) (columns others.now)) }
+    ensures err { IfErr result (λ error. error ≡ no_memory) }
+{
+    let mut whole = schema.try_clone(alloc)?;
+    for index in 0..others.len() {
+        if let Some((name, dtype)) = others.get_at_index(index) {
+            put_copy(&mut whole, name, dtype, alloc)?;
+        }
+    }
+    Ok(whole)
+}
+
+// The input of a node of so many columns: the empty table where there are none.
+fn input_of(width: usize, input: Node, lp_arena: &mut Arena<IR>) -> Result<Node, PlanError>
+    ensures nothing { IfOk result (λ node. width ≡ 0 → IsEmptyTableAt lp_arena.new node.0) }
+    ensures something { IfOk result (λ node. 0 < width → node.0 ≡ input.0) }
+    ensures grows { Grows lp_arena.old lp_arena.new }
+    ensures options { OnOk result (options_of lp_arena.new ≡ options_of lp_arena.old) }
+    ensures err { IfErr result (λ error. error ≡ no_memory) }
+{
+    if width == 0 {
+        let node = add_empty_table(lp_arena)?;
+        return Ok(node);
+    }
+    Ok(input)
+}
+
+// Adds the empty table without columns.
+fn add_empty_table(arena: &mut Arena<IR>) -> Result<Node, PlanError>
+    ensures ok { IfOk result (λ node. IsEmptyTableAt arena.new node.0) }
+    ensures grows { Grows arena.old arena.new }
+    ensures options { OnOk result (options_of arena.new ≡ options_of arena.old) }
+    ensures err { IfErr result (λ error. error ≡ no_memory) }
+{
+    let schema = Schema::new(arena.allocator());
+    let node = arena.add(IR::DataFrameScan {
+        table: None,
+        schema,
+    })?;
+    Ok(node)
+}
