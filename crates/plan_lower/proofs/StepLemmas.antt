@@ -12,8 +12,8 @@ use Rattle.plan_arena.specs.declared.aexpr.AExpr.{AExpr}
 use Rattle.plan_arena.specs.declared.ir.IR.{IR}
 use Rattle.plan_arena.specs.Items.{Grows}
 use Rattle.plan_arena.proofs.OptionLemmas.{options_over}
-use Rattle.plan_lower.specs.declared.conversion.steps.Step.{Step}
-use Rattle.plan_lower.specs.declared.conversion.steps.Step.TheVariants.{Filter, Function, GroupBy, HStack, Select}
+use Rattle.plan_lower.specs.declared.conversion.step.Step.{Step}
+use Rattle.plan_lower.specs.declared.conversion.step.Step.TheVariants.{Filter, Function, GroupBy, HStack, Select}
 use Rattle.plan_lower.specs.Lowering.{IsPlanRefusal, StandsFor}
 use Rattle.plan_lower.specs.Nodes.{KeepsExpressions}
 use Rattle.plan_lower.specs.Steps.{IsStepAt, IsStepRefusal, options_above, options_behind, source_step}

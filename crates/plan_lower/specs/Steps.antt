@@ -8,8 +8,8 @@ use Rattle.plan_dsl.specs.Plans.{PlanOption, OrderOption, ProjectionOption, Sour
 use Rattle.plan_dsl.specs.Registry.{Registry}
 use Rattle.plan_arena.specs.declared.aexpr.AExpr.{AExpr}
 use Rattle.plan_arena.specs.declared.ir.IR.{IR}
-use Rattle.plan_lower.specs.declared.conversion.steps.Step.{Step}
-use Rattle.plan_lower.specs.declared.conversion.steps.Step.TheVariants.{Filter, Function, GroupBy, HStack, Select}
+use Rattle.plan_lower.specs.declared.conversion.step.Step.{Step}
+use Rattle.plan_lower.specs.declared.conversion.step.Step.TheVariants.{Filter, Function, GroupBy, HStack, Select}
 use Rattle.plan_lower.specs.Groups.{IsUngrouped}
 use Rattle.plan_lower.specs.Lowering.{IsFilterAt, IsFunctionAt, IsFunctionRefusal, IsGroupByAt, IsHStackAt, IsSelectAt}
 use Rattle.plan_lower.specs.Predicates.{IsUnfiltered}

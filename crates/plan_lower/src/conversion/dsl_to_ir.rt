@@ -12,7 +12,8 @@ ghost use Rattle.plan_lower.specs.Lowering.{StandsFor, IsPlanRefusal, Records, r
 ghost use Rattle.plan_lower.specs.Nodes.{KeepsExpressions};
 ghost use Rattle.plan_lower.specs.Steps.{options_above, source_step};
 
-use crate::conversion::steps::{LoweredNode, Step, lower_step};
+use crate::conversion::nodes::{LoweredNode, lower_step};
+use crate::conversion::step::Step;
 use plan_arena::aexpr::AExpr;
 use plan_arena::arena::Arena;
 use plan_arena::ir::IR;

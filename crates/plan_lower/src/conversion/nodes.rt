@@ -22,6 +22,7 @@ use crate::conversion::groups::group_strictly;
 use crate::conversion::predicate::lower_predicate;
 use crate::conversion::projection::project_strictly;
 use crate::conversion::put_copy::put_copy;
+use crate::conversion::step::Step;
 use plan_arena::aexpr::AExpr;
 use plan_arena::arena::{Arena, Node};
 use plan_arena::expr_ir::ExprIR;
@@ -34,17 +35,6 @@ use plan_properties::splitting::split_predicate;
 use plan_types::error::{ErrorKind, PlanError};
 use plan_types::schema::Schema;
 use std::alloc::Global;
-
-/// What a plan's node does over its only input.
-#[derive(Drop)]
-pub(crate) enum Step {
-    Filter(Expr),
-    Select(Exprs, ProjectionOptions),
-    HStack(Exprs, ProjectionOptions),
-    /// Keys, aggregates, and whether the order of groups is kept.
-    GroupBy(Exprs, Exprs, bool),
-    Function(DslFunction),
-}
 
 /// A node, and the one that records the schema of its frame: itself, or one below.
 #[derive(Clone, Copy)]

@@ -2,7 +2,7 @@ use Rattle.std.proofs.Common.{[], ◌∷◌, refl, ◌∙◌}
 use Rattle.plan_arena.proofs.ItemLemmas.{grows_then}
 use Rattle.plan_arena.proofs.OptionLemmas.{options_stay}
 use Rattle.plan_lower.proofs.FilterLemmas.{one_added}
-use Rattle.plan_lower.proofs.conversion.steps.add_filters.Goals as goal
+use Rattle.plan_lower.proofs.conversion.nodes.add_filters.Goals as goal
 
 pub loop-predicate-preserved : goal.loop-predicate-preserved
 loop-predicate-preserved c =

@@ -7,7 +7,7 @@ use Rattle.plan_lower.specs.Lowering.{columns_at}
 use Rattle.plan_lower.specs.Predicates.{HasExpandedPredicate}
 use Rattle.plan_lower.proofs.PlanLemmas.{filter_at}
 use Rattle.plan_lower.proofs.RecordedLemmas.{columns_stay, records_stay}
-use Rattle.plan_lower.proofs.conversion.steps.lower_filter.Goals as goal
+use Rattle.plan_lower.proofs.conversion.nodes.lower_filter.Goals as goal
 
 pub split_predicate-requires : goal.split_predicate-requires
 split_predicate-requires c =

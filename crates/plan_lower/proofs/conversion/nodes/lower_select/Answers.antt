@@ -10,7 +10,7 @@ use Rattle.plan_lower.specs.Outputs.{HasExpandedOutputs}
 use Rattle.plan_lower.proofs.PlanLemmas.{select_at}
 use Rattle.plan_lower.proofs.RecordedLemmas.{recorded_added, columns_of_recorded}
 use Rattle.plan_arena.proofs.OptionLemmas.{options_added}
-use Rattle.plan_lower.proofs.conversion.steps.lower_select.Goals as goal
+use Rattle.plan_lower.proofs.conversion.nodes.lower_select.Goals as goal
 
 pub returns-clause-ok : goal.returns-clause-ok
 returns-clause-ok c =

@@ -9,7 +9,7 @@ use Rattle.plan_lower.specs.Lowering.{IsDropAt, columns_at}
 use Rattle.plan_lower.proofs.DropLemmas.{drop_at}
 use Rattle.plan_lower.proofs.RecordedLemmas.{recorded_added, columns_of_recorded}
 use Rattle.plan_arena.proofs.OptionLemmas.{options_stay}
-use Rattle.plan_lower.proofs.conversion.steps.lower_drop.Goals as goal
+use Rattle.plan_lower.proofs.conversion.nodes.lower_drop.Goals as goal
 
 pub returns-clause-ok : goal.returns-clause-ok
 returns-clause-ok c =

@@ -1,6 +1,6 @@
 use Rattle.std.proofs.Common.{◌∙◌, sym, subst, is_some, IsTrue}
 use Rattle.plan_lower.proofs.RecordedLemmas.{records_within, recorded_got, columns_of_recorded}
-use Rattle.plan_lower.proofs.conversion.steps.recorded_schema.Goals as goal
+use Rattle.plan_lower.proofs.conversion.nodes.recorded_schema.Goals as goal
 
 pub get-requires : goal.get-requires
 get-requires c = records_within c.args.lp_arena.now c.args.node.0 c.requires

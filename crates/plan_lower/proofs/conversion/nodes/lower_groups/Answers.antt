@@ -8,7 +8,7 @@ use Rattle.plan_lower.specs.Lowering.{IsGroupByAt, columns_at}
 use Rattle.plan_lower.proofs.GroupLemmas.{groups_at}
 use Rattle.plan_lower.proofs.RecordedLemmas.{recorded_added, columns_of_recorded}
 use Rattle.plan_arena.proofs.OptionLemmas.{options_added}
-use Rattle.plan_lower.proofs.conversion.steps.lower_groups.Goals as goal
+use Rattle.plan_lower.proofs.conversion.nodes.lower_groups.Goals as goal
 
 pub returns-clause-ok : goal.returns-clause-ok
 returns-clause-ok c =

@@ -2,7 +2,7 @@ use Rattle.std.proofs.Common.{◌≡◌, vec_len}
 use Rattle.plan_arena.specs.Items.{Grows}
 use Rattle.plan_arena.specs.Options.{options_of}
 use Rattle.plan_lower.proofs.FilterLemmas.{Adding}
-use Rattle.plan_lower.proofs.conversion.steps.add_filters.Given as goal
+use Rattle.plan_lower.proofs.conversion.nodes.add_filters.Given as goal
 
 abbrev pub invariant-loop-predicate : goal.invariant-loop-predicate
 invariant-loop-predicate l =
